@@ -1,0 +1,2 @@
+//! The formats of the disk and of the log.
+#![tactic(auto)]
