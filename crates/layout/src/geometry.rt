@@ -1,0 +1,88 @@
+//! The three numbers of an image that never change.
+
+use std::marker::Model;
+
+/// The sizes of an image: its blocks, its inodes and the bytes of one half of its NVRAM, each within its limits.
+#[derive(Clone, Copy, Debug, PartialEq, Eq)]
+pub struct Geometry {
+    blocks: u32,
+    inodes: u32,
+    half: u32,
+}
+
+impl Model for Geometry {
+    ghost use Rattle.layout.specs.Limits.{Sizes, AreSizes};
+
+    ghost Value = { Sizes };
+
+    ghost view = { λ g. record { blocks = g.blocks; inodes = g.inodes; half = g.half } };
+
+    ghost invariant = { λ g. AreSizes (record { blocks = g.blocks; inodes = g.inodes; half = g.half }) };
+
+    ghost inverse = { λ s. record { blocks = s.blocks; inodes = s.inodes; half = s.half } };
+}
+
+ghost use Rattle.std.specs.Prelude.{◌≡◌, ◌*◌, IsSome, IfSome, ◌↔◌};
+ghost use Rattle.layout.specs.Limits.{AreSizes};
+
+impl Geometry {
+    /// The geometry of these numbers; None where one is out of its limits: `blocks` from 64 to 1,048,576, `inodes` from
+    /// 32 to 65,536, `half` from 131,072 to 8,388,608 bytes.
+    pub fn new(blocks: u32, inodes: u32, half: u32) -> Option<Geometry>
+        ensures within { IsSome result ↔ AreSizes (record { blocks = blocks; inodes = inodes; half = half }) }
+        ensures value { IfSome result (λ g. g ≡ record { blocks = blocks; inodes = inodes; half = half }) }
+    {
+        let blocks_fit = (64..=1_048_576).contains(&blocks);
+        let inodes_fit = (32..=65_536).contains(&inodes);
+        let half_fits = (131_072..=8_388_608).contains(&half);
+        if blocks_fit && inodes_fit && half_fits {
+            Some(Geometry {
+                blocks,
+                inodes,
+                half,
+            })
+        } else {
+            None
+        }
+    }
+
+    /// Blocks of the disk.
+    pub fn blocks(&self) -> u32
+        ensures value { result ≡ self.now.blocks }
+        ensures within { AreSizes self.now }
+    {
+        self.blocks
+    }
+
+    /// Inode numbers, from 0 on.
+    pub fn inodes(&self) -> u32
+        ensures value { result ≡ self.now.inodes }
+        ensures within { AreSizes self.now }
+    {
+        self.inodes
+    }
+
+    /// Bytes of one half of the NVRAM.
+    pub fn half(&self) -> u32
+        ensures value { result ≡ self.now.half }
+        ensures within { AreSizes self.now }
+    {
+        self.half
+    }
+
+    /// Sectors of the disk: eight a block.
+    pub fn sectors(&self) -> u32
+        ensures value { result ≡ 8 * self.now.blocks }
+        ensures within { AreSizes self.now }
+    {
+        8 * self.blocks
+    }
+
+    /// Bytes of the NVRAM: two halves.
+    pub fn nvram_bytes(&self) -> u32
+        ensures value { result ≡ 2 * self.now.half }
+        ensures within { AreSizes self.now }
+    {
+        2 * self.half
+    }
+}

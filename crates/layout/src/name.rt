@@ -1,0 +1,22 @@
+//! Names and texts.
+
+ghost use Rattle.std.specs.Prelude.{◌↔◌, IsTrue};
+ghost use Rattle.layout.specs.Name.{IsName, IsLinkText};
+
+/// Whether these bytes are a name in a directory: 1 to 255 bytes, none of them `/` or zero, and not `.` or `..`.
+pub fn is_name(name: &[u8]) -> bool
+    ensures { IsTrue result ↔ IsName name.now }
+{
+    !name.is_empty()
+        && name.len() <= 255
+        && name.iter().all(|byte| *byte != 0 && *byte != b'/')
+        && name != b".".as_slice()
+        && name != b"..".as_slice()
+}
+
+/// Whether these bytes are the text of a symbolic link: 1 to 1,023 bytes, none of them zero.
+pub fn is_link_text(text: &[u8]) -> bool
+    ensures { IsTrue result ↔ IsLinkText text.now }
+{
+    !text.is_empty() && text.len() <= 1023 && text.iter().all(|byte| *byte != 0)
+}

@@ -1,0 +1,60 @@
+//! The records of the log: the calls that change something, with their numbers resolved.
+
+ghost use Rattle.std.specs.Prelude.{◌≡◌, ◌≤◌, ◌<◌, ◌+◌, ◌^◌, length};
+
+use crate::InodeNumber;
+use model::Mode;
+
+/// What a record makes.
+#[derive(Clone, Copy, Debug)]
+pub enum NewObject<'a> {
+    File { mode: Mode },
+    Directory { mode: Mode },
+    /// A symbolic link, with its text; its mode is always 0777.
+    Link { text: &'a [u8] },
+}
+
+/// A record of the log.
+#[derive(Clone, Copy, Debug)]
+pub enum Record<'a> {
+    /// Makes the object, with this name in the directory `parent`.
+    Create {
+        number: InodeNumber,
+        parent: InodeNumber,
+        object: NewObject<'a>,
+        name: &'a [u8],
+    },
+    /// Gives the file one more name.
+    Link {
+        number: InodeNumber,
+        parent: InodeNumber,
+        name: &'a [u8],
+    },
+    /// Takes the name away, and what has no other name.
+    Unname {
+        parent: InodeNumber,
+        name: &'a [u8],
+    },
+    /// Moves the object of a name to the new name.
+    Rename {
+        parent: InodeNumber,
+        name: &'a [u8],
+        new_parent: InodeNumber,
+        new_name: &'a [u8],
+    },
+    /// Writes the bytes into the file, from the offset on.
+    Write {
+        number: InodeNumber,
+        offset: u64,
+        bytes: &'a [u8],
+    },
+    /// Gives the file this size.
+    Cut {
+        number: InodeNumber,
+        size: u64,
+    },
+    ChangeMode {
+        number: InodeNumber,
+        mode: Mode,
+    },
+}
