@@ -22,7 +22,8 @@ pub use geometry::Geometry;
 pub use inode::{Body, Inode};
 pub use kind::Kind;
 pub use log::{
-    CLOSED, EPOCH_AT, FIRST_GATE, Gate, HEADER_BYTES, Header, OPEN, RECORD_HEAD_BYTES, read_gate,
+    CLOSED, EPOCH_AT, FIRST_GATE, Gate, HEADER_BYTES, HEADER_GATE, Header, OPEN, RECORD_HEAD_BYTES,
+    read_gate,
 };
 pub use name::{is_link_text, is_name};
 pub use numbers::{BlockNumber, Epoch, Generation, InodeNumber};

@@ -13,6 +13,9 @@ pub const CLOSED: u8 = 0;
 /// An open gate.
 pub const OPEN: u8 = 1;
 
+/// Where the header's gate stands in a half.
+pub const HEADER_GATE: u32 = 0;
+
 /// Where the epoch stands in a half, behind the header's gate.
 pub const EPOCH_AT: u32 = 1;
 

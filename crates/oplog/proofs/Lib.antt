@@ -1,0 +1,6 @@
+pub mod Halves
+mod Bodies
+mod Steps
+mod Writes
+pub mod Keeps
+pub mod Appends

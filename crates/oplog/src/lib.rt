@@ -1,0 +1,9 @@
+//! The log in the NVRAM: what came since the last root. Each epoch's records stand in one half of the NVRAM, the half
+//! of its parity; a record counts once its gate is open.
+#![tactic(auto)]
+
+mod log;
+mod saved;
+
+pub use log::{Log, LogError};
+pub use saved::SavedLog;

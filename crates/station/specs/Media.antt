@@ -1,0 +1,30 @@
+-- What changes in the media of a station in memory.
+use Rattle.std.specs.Prelude.{◌≡◌, ℕ, Bool, List, [], ◌∷◌, ◌++◌}
+use Rattle.std.specs.Global.{Vec}
+use Rattle.station.specs.declared.history.Call.{Call}
+use Rattle.station.specs.declared.history.Call.TheVariants.{Write, NvWrite}
+use Rattle.station.specs.declared.media.Media.{Media}
+
+-- the same station, with these calls
+pub record HasCalls (old new : Media) (list : List Call) : Type 0 where
+  pub sectors : new.sectors ≡ old.sectors
+  pub nvram_bytes : new.nvram_bytes ≡ old.nvram_bytes
+  pub disk : new.first_disk.items ≡ old.first_disk.items
+  pub nvram : new.first_nvram.items ≡ old.first_nvram.items
+  pub calls : new.calls.items ≡ list
+
+-- no call was added
+abbrev pub Same : Media → Media → Type 0
+Same old new = HasCalls old new old.calls.items
+
+-- a call was added
+abbrev pub Adds : Media → Media → Call → Type 0
+Adds old new call = HasCalls old new (old.calls.items ++ call ∷ [])
+
+-- a write of these bytes from sector first on was added
+abbrev pub AddsWrite : Media → Media → ℕ → List ℕ → Bool → Type 0
+AddsWrite old new first bytes done = (v : Vec ℕ) × (v.items ≡ bytes) × Adds old new (Write first v done)
+
+-- an NVRAM write from byte at on was added, of which so many bytes are kept
+abbrev pub AddsNvWrite : Media → Media → ℕ → List ℕ → ℕ → Type 0
+AddsNvWrite old new at bytes kept = (v : Vec ℕ) × (v.items ≡ bytes) × Adds old new (NvWrite at v kept)

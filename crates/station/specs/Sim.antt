@@ -1,0 +1,41 @@
+-- What is known of a station in memory.
+use Rattle.std.specs.Prelude.{◌≡◌, ◌↔◌, ℕ, length, Result}
+use Rattle.station.specs.Images.{Images}
+use Rattle.station.specs.Moments.{Meaning, CountsRead, CountsWrite}
+use Rattle.station.specs.declared.sim.Sim.{Sim}
+
+abbrev pub meaning_of : Sim → Meaning
+meaning_of s = record {
+  sectors = s.media.sectors;
+  nvram_bytes = s.media.nvram_bytes;
+  failed_reads = s.failed_reads;
+  failed_writes = s.failed_writes;
+  is_honest = ⊥;
+  seen = record { disk = λ n. s.media.disk.items; nvram = s.media.nvram.items };
+  moment = length s.media.calls.items;
+  left_at = λ t c. ⊥;
+}
+
+-- no failure was counted
+pub record SameCounts (old new : Sim) : Type 0 where
+  pub reads : new.failed_reads ≡ old.failed_reads
+  pub writes : new.failed_writes ≡ old.failed_writes
+
+-- a read was counted if it failed
+abbrev pub HasCountedRead : {T E : Type 0} → Sim → Sim → Result T E → Type 0
+HasCountedRead old new result = CountsRead (meaning_of old) (meaning_of new) result
+
+-- a write or a sync was counted if it failed
+abbrev pub HasCountedWrite : {T E : Type 0} → Sim → Sim → Result T E → Type 0
+HasCountedWrite old new result = CountsWrite (meaning_of old) (meaning_of new) result
+
+-- nothing of what is known changes
+pub record KnowsSame (old new : Meaning) : Type 0 where
+  pub sectors : new.sectors ≡ old.sectors
+  pub nvram_bytes : new.nvram_bytes ≡ old.nvram_bytes
+  pub failed_reads : new.failed_reads ≡ old.failed_reads
+  pub failed_writes : new.failed_writes ≡ old.failed_writes
+  pub honest : old.is_honest ↔ new.is_honest
+  pub seen : new.seen ≡ old.seen
+  pub moment : new.moment ≡ old.moment
+  pub left_at : (t : ℕ) (c : Images) → new.left_at t c ↔ old.left_at t c
