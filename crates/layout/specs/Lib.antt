@@ -1,6 +1,9 @@
-pub mod Limits
-pub mod Name
-pub mod Record
+pub mod Bytes
 pub mod Fresh
-pub mod Log
 pub mod Gates
+pub mod Limits
+pub mod Log
+pub mod Name
+pub mod Reading
+pub mod Record
+pub mod RecordReading

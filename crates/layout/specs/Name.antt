@@ -1,5 +1,5 @@
 -- Names and the texts of links.
-use Rattle.std.specs.Prelude.{ℕ, ◌≡◌, ◌≢◌, ◌≤◌, List, [], ◌∷◌, length, All}
+use Rattle.std.specs.Prelude.{ℕ, ◌≢◌, ◌≤◌, List, [], ◌∷◌, length, All}
 
 -- a name in a directory: neither `/` (47) nor zero in it, and not `.` (46) or `..`
 pub record IsName (name : List ℕ) : Type 0 where

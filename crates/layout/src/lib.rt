@@ -11,11 +11,13 @@ mod log;
 mod name;
 mod numbers;
 mod pointer;
+mod reading;
 mod record;
 mod record_read;
 mod record_write;
 mod root;
 mod version;
+mod writing;
 
 pub use fresh::{fresh_block, fresh_blocks, fresh_root};
 pub use geometry::Geometry;

@@ -1,95 +1,87 @@
 //! Records as they are read.
 
-ghost use Rattle.std.specs.Prelude.{◌≡◌, ◌≤◌, length, IfSome, IsSome};
+ghost use Rattle.std.specs.Prelude.{◌≡◌, ◌↔◌, IsTrue, IfSome, IsSomeAnd};
+ghost use Rattle.std.specs.Option.{option_map};
+ghost use Rattle.layout.specs.Record.{Change, IsChange, KeepsLimits, KeepsMadeLimits, change_bytes, change_of, made_of};
+ghost use Rattle.layout.specs.RecordReading.{create_in, link_in, unname_in, rename_in, write_in, cut_in, change_mode_in, made_in, change_in};
 
 use crate::InodeNumber;
 use crate::name::{is_link_text, is_name};
+use crate::reading::{contents_at, name_at, text_at, u8_at, u16_at, u32_at, u64_at};
 use crate::record::{NewObject, Record};
-use byteorder::{ByteOrder, LittleEndian};
 use model::Mode;
 
 impl<'a> Record<'a> {
     /// The record whose body these bytes are, all of them; None where no record has this body.
-    pub fn read(bytes: &'a [u8]) -> Option<Record<'a>> {
-        let (op, fields) = bytes.split_first()?;
-        match *op {
-            1 => read_create(fields),
-            2 => read_link(fields),
-            3 => read_unname(fields),
-            4 => read_rename(fields),
-            5 => read_write(fields),
-            6 => read_cut(fields),
-            7 => read_change_mode(fields),
-            _ => None,
+    pub fn read(bytes: &'a [u8]) -> Option<Record<'a>>
+        ensures found { IfSome result (λ r. IsChange (change_of r) × (bytes.now ≡ change_bytes (change_of r))) }
+        ensures only { (c : Change) → IsChange c → bytes.now ≡ change_bytes c → IsSomeAnd result (λ r. change_of r ≡ c) }
+    {
+        let Some(record) = read_fields(bytes) else {
+            return None;
+        };
+        if record.keeps_limits() {
+            Some(record)
+        } else {
+            None
+        }
+    }
+
+    // Whether its names, its text and its bytes are within their limits.
+    fn keeps_limits(&self) -> bool
+        ensures { IsTrue result ↔ KeepsLimits (change_of self.now) }
+    {
+        match *self {
+            Record::Create {
+                ref object,
+                name,
+                ..
+            } => object_keeps_limits(object) && is_name(name),
+            Record::Link { name, .. } | Record::Unname { name, .. } => is_name(name),
+            Record::Rename { name, new_name, .. } => is_name(name) && is_name(new_name),
+            Record::Write { bytes, .. } => !bytes.is_empty() && bytes.len() <= 65_536,
+            Record::Cut { .. } | Record::ChangeMode { .. } => true,
         }
     }
 }
 
-// The number of 16 bits in front, and the bytes behind it.
-fn u16_at(bytes: &[u8]) -> Option<(u16, &[u8])> {
-    if bytes.len() < 2 {
-        return None;
-    }
-    let (number, rest) = bytes.split_at(2);
-    Some((LittleEndian::read_u16(number), rest))
-}
-
-// The number of 32 bits in front, and the bytes behind it.
-fn u32_at(bytes: &[u8]) -> Option<(u32, &[u8])> {
-    if bytes.len() < 4 {
-        return None;
-    }
-    let (number, rest) = bytes.split_at(4);
-    Some((LittleEndian::read_u32(number), rest))
-}
-
-// The number of 64 bits in front, and the bytes behind it.
-fn u64_at(bytes: &[u8]) -> Option<(u64, &[u8])> {
-    if bytes.len() < 8 {
-        return None;
-    }
-    let (number, rest) = bytes.split_at(8);
-    Some((LittleEndian::read_u64(number), rest))
-}
-
-// The name in front, behind its length of one byte, and the bytes behind it.
-fn name_at(bytes: &[u8]) -> Option<(&[u8], &[u8])> {
-    let (length, rest) = bytes.split_first()?;
-    let length = *length as usize;
-    if rest.len() < length {
-        return None;
-    }
-    let (name, rest) = rest.split_at(length);
-    if is_name(name) {
-        Some((name, rest))
-    } else {
-        None
+fn object_keeps_limits(object: &NewObject<'_>) -> bool
+    ensures { IsTrue result ↔ KeepsMadeLimits (made_of object.now) }
+{
+    match object {
+        NewObject::File { .. } | NewObject::Directory { .. } => true,
+        NewObject::Link { text } => is_link_text(text),
     }
 }
 
-// The name that all of the bytes are, behind its length.
-fn last_name(bytes: &[u8]) -> Option<&[u8]> {
-    let (name, rest) = name_at(bytes)?;
-    if rest.is_empty() { Some(name) } else { None }
-}
-
-// The link's text that all of the bytes are, behind its length of two bytes.
-fn last_text(bytes: &[u8]) -> Option<&[u8]> {
-    let (length, text) = u16_at(bytes)?;
-    if text.len() == length as usize && is_link_text(text) {
-        Some(text)
-    } else {
-        None
+#[tactic(auto, unfolding(crate::specs::RecordReading::change_in))]
+fn read_fields(bytes: &[u8]) -> Option<Record<'_>>
+    ensures { option_map change_of result ≡ change_in bytes.now }
+{
+    let (op, fields) = u8_at(bytes)?;
+    match op {
+        1 => read_create(fields),
+        2 => read_link(fields),
+        3 => read_unname(fields),
+        4 => read_rename(fields),
+        5 => read_write(fields),
+        6 => read_cut(fields),
+        7 => read_change_mode(fields),
+        _ => None,
     }
 }
 
-fn read_create(bytes: &[u8]) -> Option<Record<'_>> {
+#[tactic(auto, unfolding(crate::specs::RecordReading::create_in))]
+fn read_create(bytes: &[u8]) -> Option<Record<'_>>
+    ensures { option_map change_of result ≡ create_in bytes.now }
+{
     let (number, bytes) = u32_at(bytes)?;
     let (parent, bytes) = u32_at(bytes)?;
-    let (kind, bytes) = bytes.split_first()?;
+    let (kind, bytes) = u8_at(bytes)?;
     let (bits, bytes) = u16_at(bytes)?;
     let (name, bytes) = name_at(bytes)?;
-    let Some(object) = read_object(*kind, bits, bytes) else {
+    let mode = Mode::new(bits)?;
+    let Some(object) = read_object(kind, mode, bytes) else {
         return None;
     };
     Some(Record::Create {
@@ -101,23 +93,35 @@ fn read_create(bytes: &[u8]) -> Option<Record<'_>> {
 }
 
 // What is made: a link's text stands in the last bytes, and behind the others nothing does.
-fn read_object(kind: u8, bits: u16, bytes: &[u8]) -> Option<NewObject<'_>> {
-    let mode = Mode::new(bits)?;
+#[tactic(auto, unfolding(crate::specs::RecordReading::made_in))]
+fn read_object(kind: u8, mode: Mode, bytes: &[u8]) -> Option<NewObject<'_>>
+    ensures { option_map made_of result ≡ made_in kind mode bytes.now }
+{
     match kind {
         1 if bytes.is_empty() => Some(NewObject::File { mode }),
         2 if bytes.is_empty() => Some(NewObject::Directory { mode }),
-        3 if bits == 0o777 => {
-            let text = last_text(bytes)?;
-            Some(NewObject::Link { text })
+        3 if mode.bits() == 0o777 => {
+            let (text, bytes) = text_at(bytes)?;
+            if bytes.is_empty() {
+                Some(NewObject::Link { text })
+            } else {
+                None
+            }
         }
         _ => None,
     }
 }
 
-fn read_link(bytes: &[u8]) -> Option<Record<'_>> {
+#[tactic(auto, unfolding(crate::specs::RecordReading::link_in))]
+fn read_link(bytes: &[u8]) -> Option<Record<'_>>
+    ensures { option_map change_of result ≡ link_in bytes.now }
+{
     let (number, bytes) = u32_at(bytes)?;
     let (parent, bytes) = u32_at(bytes)?;
-    let name = last_name(bytes)?;
+    let (name, bytes) = name_at(bytes)?;
+    if !bytes.is_empty() {
+        return None;
+    }
     Some(Record::Link {
         number: InodeNumber::new(number),
         parent: InodeNumber::new(parent),
@@ -125,20 +129,32 @@ fn read_link(bytes: &[u8]) -> Option<Record<'_>> {
     })
 }
 
-fn read_unname(bytes: &[u8]) -> Option<Record<'_>> {
+#[tactic(auto, unfolding(crate::specs::RecordReading::unname_in))]
+fn read_unname(bytes: &[u8]) -> Option<Record<'_>>
+    ensures { option_map change_of result ≡ unname_in bytes.now }
+{
     let (parent, bytes) = u32_at(bytes)?;
-    let name = last_name(bytes)?;
+    let (name, bytes) = name_at(bytes)?;
+    if !bytes.is_empty() {
+        return None;
+    }
     Some(Record::Unname {
         parent: InodeNumber::new(parent),
         name,
     })
 }
 
-fn read_rename(bytes: &[u8]) -> Option<Record<'_>> {
+#[tactic(auto, unfolding(crate::specs::RecordReading::rename_in))]
+fn read_rename(bytes: &[u8]) -> Option<Record<'_>>
+    ensures { option_map change_of result ≡ rename_in bytes.now }
+{
     let (parent, bytes) = u32_at(bytes)?;
     let (name, bytes) = name_at(bytes)?;
     let (new_parent, bytes) = u32_at(bytes)?;
-    let new_name = last_name(bytes)?;
+    let (new_name, bytes) = name_at(bytes)?;
+    if !bytes.is_empty() {
+        return None;
+    }
     Some(Record::Rename {
         parent: InodeNumber::new(parent),
         name,
@@ -147,44 +163,50 @@ fn read_rename(bytes: &[u8]) -> Option<Record<'_>> {
     })
 }
 
-fn read_write(bytes: &[u8]) -> Option<Record<'_>> {
+#[tactic(auto, unfolding(crate::specs::RecordReading::write_in))]
+fn read_write(bytes: &[u8]) -> Option<Record<'_>>
+    ensures { option_map change_of result ≡ write_in bytes.now }
+{
     let (number, bytes) = u32_at(bytes)?;
     let (offset, bytes) = u64_at(bytes)?;
-    let (length, bytes) = u32_at(bytes)?;
-    if 1 <= length && length <= 65_536 && bytes.len() == length as usize {
-        Some(Record::Write {
-            number: InodeNumber::new(number),
-            offset,
-            bytes,
-        })
-    } else {
-        None
+    let (contents, bytes) = contents_at(bytes)?;
+    if !bytes.is_empty() {
+        return None;
     }
+    Some(Record::Write {
+        number: InodeNumber::new(number),
+        offset,
+        bytes: contents,
+    })
 }
 
-fn read_cut(bytes: &[u8]) -> Option<Record<'_>> {
+#[tactic(auto, unfolding(crate::specs::RecordReading::cut_in))]
+fn read_cut(bytes: &[u8]) -> Option<Record<'_>>
+    ensures { option_map change_of result ≡ cut_in bytes.now }
+{
     let (number, bytes) = u32_at(bytes)?;
     let (size, bytes) = u64_at(bytes)?;
-    if bytes.is_empty() {
-        Some(Record::Cut {
-            number: InodeNumber::new(number),
-            size,
-        })
-    } else {
-        None
+    if !bytes.is_empty() {
+        return None;
     }
+    Some(Record::Cut {
+        number: InodeNumber::new(number),
+        size,
+    })
 }
 
-fn read_change_mode(bytes: &[u8]) -> Option<Record<'_>> {
+#[tactic(auto, unfolding(crate::specs::RecordReading::change_mode_in))]
+fn read_change_mode(bytes: &[u8]) -> Option<Record<'_>>
+    ensures { option_map change_of result ≡ change_mode_in bytes.now }
+{
     let (number, bytes) = u32_at(bytes)?;
     let (bits, bytes) = u16_at(bytes)?;
-    let mode = Mode::new(bits)?;
-    if bytes.is_empty() {
-        Some(Record::ChangeMode {
-            number: InodeNumber::new(number),
-            mode,
-        })
-    } else {
-        None
+    if !bytes.is_empty() {
+        return None;
     }
+    let mode = Mode::new(bits)?;
+    Some(Record::ChangeMode {
+        number: InodeNumber::new(number),
+        mode,
+    })
 }

@@ -1,26 +1,27 @@
 //! Records as they are written.
 
-ghost use Rattle.std.specs.Prelude.{◌≡◌, ◌≤◌, ◌<◌, ◌+◌, length};
+ghost use Rattle.std.specs.Prelude.{◌≡◌, ◌≤◌, ◌+◌, length};
 ghost use Rattle.layout.specs.Name.{IsName};
-ghost use Rattle.layout.specs.Record.{IsNewObject, IsRecord, object_length, record_length};
+ghost use Rattle.layout.specs.Bytes.{Writes, little};
+ghost use Rattle.layout.specs.Record.{KeepsLimits, KeepsMadeLimits, change_bytes, change_of, create, link, unname, rename, write, cut, change_mode, made_of, kind_of_made, mode_of_made, name_bytes, text_bytes};
 
 use crate::InodeNumber;
 use crate::record::{NewObject, Record};
-use byteorder::{ByteOrder, LittleEndian};
+use crate::writing::{put_byte, put_bytes, put_u8, put_u16, put_u32, put_u64};
 use model::Mode;
 
 impl Record<'_> {
     /// How many bytes its body has.
     pub fn encoded_len(&self) -> usize
-        requires { IsRecord self.now }
-        ensures { result ≡ record_length self.now }
+        requires { KeepsLimits (change_of self.now) }
+        ensures { result ≡ length (change_bytes (change_of self.now)) }
     {
         match self {
-            Record::Create { object, name, .. } => 13 + name.len() + object_len(object),
-            Record::Link { name, .. } => 10 + name.len(),
-            Record::Unname { name, .. } => 6 + name.len(),
-            Record::Rename { name, new_name, .. } => 11 + name.len() + new_name.len(),
-            Record::Write { bytes, .. } => 17 + bytes.len(),
+            Record::Create { object, name, .. } => 13 + count_of(name) + object_len(object),
+            Record::Link { name, .. } => 10 + count_of(name),
+            Record::Unname { name, .. } => 6 + count_of(name),
+            Record::Rename { name, new_name, .. } => 11 + count_of(name) + count_of(new_name),
+            Record::Write { bytes, .. } => 17 + count_of(bytes),
             Record::Cut { .. } => 13,
             Record::ChangeMode { .. } => 7,
         }
@@ -28,8 +29,9 @@ impl Record<'_> {
 
     /// Writes the record's body, and answers how many bytes it has.
     pub fn write(&self, out: &mut [u8]) -> usize
-        requires fits { IsRecord self.now }
-        requires room { record_length self.now ≤ length out.old }
+        requires fits { KeepsLimits (change_of self.now) }
+        requires room { length (change_bytes (change_of self.now)) ≤ length out.old }
+        ensures { Writes 0 result (change_bytes (change_of self.now)) out.old out.new }
     {
         match self {
             Record::Create {
@@ -58,12 +60,20 @@ impl Record<'_> {
             Record::Cut { number, size } => write_cut(*number, *size, out),
             Record::ChangeMode { number, mode } => write_change_mode(*number, *mode, out),
         }
-        self.encoded_len()
     }
 }
 
+fn count_of(bytes: &[u8]) -> usize
+    ensures { result ≡ length bytes.now }
+{
+    bytes.len()
+}
+
 // The kind's code, and the mode: that of a link is 0777.
-fn kind_and_mode(object: &NewObject<'_>) -> (u8, u16) {
+fn kind_and_mode(object: &NewObject<'_>) -> (u8, u16)
+    ensures kind { result.0 ≡ kind_of_made (made_of object.now) }
+    ensures mode { result.1 ≡ mode_of_made (made_of object.now) }
+{
     match object {
         NewObject::File { mode } => (1, mode.bits()),
         NewObject::Directory { mode } => (2, mode.bits()),
@@ -73,31 +83,38 @@ fn kind_and_mode(object: &NewObject<'_>) -> (u8, u16) {
 
 // How many bytes stand behind the name.
 fn object_len(object: &NewObject<'_>) -> usize
-    requires { IsNewObject object.now }
-    ensures { result ≡ object_length object.now }
+    requires { KeepsMadeLimits (made_of object.now) }
+    ensures value { result ≡ length (text_bytes (made_of object.now)) }
+    ensures short { result ≤ 1025 }
 {
-    match object {
+    match *object {
         NewObject::File { .. } | NewObject::Directory { .. } => 0,
         NewObject::Link { text } => 2 + text.len(),
     }
 }
 
-// The name behind its length.
-fn write_name(name: &[u8], out: &mut [u8])
-    requires fits { length name.now ≤ 255 }
-    requires room { 1 + length name.now ≤ length out.old }
+fn put_number(out: &mut [u8], at: usize, number: InodeNumber)
+    requires { at + 4 ≤ length out.old }
+    ensures { Writes at (at + 4) (little 4 number) out.old out.new }
 {
-    out[0] = name.len() as u8;
-    out[1..1 + name.len()].copy_from_slice(name);
+    put_u32(out, at, number.get());
 }
 
-// The text behind its length.
-fn write_text(text: &[u8], out: &mut [u8])
-    requires fits { length text.now ≤ 1023 }
-    requires room { 2 + length text.now ≤ length out.old }
+fn put_mode(out: &mut [u8], at: usize, mode: Mode)
+    requires { at + 2 ≤ length out.old }
+    ensures { Writes at (at + 2) (little 2 mode) out.old out.new }
 {
-    LittleEndian::write_u16(out, text.len() as u16);
-    out[2..2 + text.len()].copy_from_slice(text);
+    put_u16(out, at, mode.bits());
+}
+
+// The name behind its length, from a place on.
+fn put_name(out: &mut [u8], at: usize, name: &[u8])
+    requires fits { length name.now ≤ 255 }
+    requires room { at + 1 + length name.now ≤ length out.old }
+    ensures { Writes at (at + 1 + length name.now) (name_bytes name.now) out.old out.new }
+{
+    put_u8(out, at, name.len() as u8);
+    put_bytes(out, at + 1, name);
 }
 
 fn write_create(
@@ -106,40 +123,56 @@ fn write_create(
     object: &NewObject<'_>,
     name: &[u8],
     out: &mut [u8],
-)
-    requires object { IsNewObject object.now }
-    requires name { IsName name.now }
-    requires room { 13 + length name.now + object_length object.now ≤ length out.old }
+) -> usize
+    requires object { KeepsMadeLimits (made_of object.now) }
+    requires name { length name.now ≤ 255 }
+    requires room { 13 + length name.now + length (text_bytes (made_of object.now)) ≤ length out.old }
+    ensures { Writes 0 result (change_bytes (create number parent (made_of object.now) name.now)) out.old out.new }
 {
     let (kind, mode) = kind_and_mode(object);
-    out[0] = 1;
-    LittleEndian::write_u32(&mut out[1..], number.get());
-    LittleEndian::write_u32(&mut out[5..], parent.get());
-    out[9] = kind;
-    LittleEndian::write_u16(&mut out[10..], mode);
-    write_name(name, &mut out[12..]);
-    if let NewObject::Link { text } = object {
-        write_text(text, &mut out[13 + name.len()..]);
+    put_byte(out, 0, 1);
+    put_number(out, 1, number);
+    put_number(out, 5, parent);
+    put_u8(out, 9, kind);
+    put_u16(out, 10, mode);
+    put_name(out, 12, name);
+    put_text(out, 13 + name.len(), object);
+    13 + name.len() + object_len(object)
+}
+
+// The text of a link behind its length, from a place on, and nothing for the others.
+fn put_text(out: &mut [u8], at: usize, object: &NewObject<'_>)
+    requires fits { KeepsMadeLimits (made_of object.now) }
+    requires room { at + length (text_bytes (made_of object.now)) ≤ length out.old }
+    ensures { Writes at (at + length (text_bytes (made_of object.now))) (text_bytes (made_of object.now)) out.old out.new }
+{
+    if let NewObject::Link { text } = *object {
+        put_u16(out, at, text.len() as u16);
+        put_bytes(out, at + 2, text);
     }
 }
 
-fn write_link(number: InodeNumber, parent: InodeNumber, name: &[u8], out: &mut [u8])
-    requires name { IsName name.now }
+fn write_link(number: InodeNumber, parent: InodeNumber, name: &[u8], out: &mut [u8]) -> usize
+    requires name { length name.now ≤ 255 }
     requires room { 10 + length name.now ≤ length out.old }
+    ensures { Writes 0 result (change_bytes (link number parent name.now)) out.old out.new }
 {
-    out[0] = 2;
-    LittleEndian::write_u32(&mut out[1..], number.get());
-    LittleEndian::write_u32(&mut out[5..], parent.get());
-    write_name(name, &mut out[9..]);
+    put_byte(out, 0, 2);
+    put_number(out, 1, number);
+    put_number(out, 5, parent);
+    put_name(out, 9, name);
+    10 + name.len()
 }
 
-fn write_unname(parent: InodeNumber, name: &[u8], out: &mut [u8])
-    requires name { IsName name.now }
+fn write_unname(parent: InodeNumber, name: &[u8], out: &mut [u8]) -> usize
+    requires name { length name.now ≤ 255 }
     requires room { 6 + length name.now ≤ length out.old }
+    ensures { Writes 0 result (change_bytes (unname parent name.now)) out.old out.new }
 {
-    out[0] = 3;
-    LittleEndian::write_u32(&mut out[1..], parent.get());
-    write_name(name, &mut out[5..]);
+    put_byte(out, 0, 3);
+    put_number(out, 1, parent);
+    put_name(out, 5, name);
+    6 + name.len()
 }
 
 fn write_rename(
@@ -148,42 +181,50 @@ fn write_rename(
     new_parent: InodeNumber,
     new_name: &[u8],
     out: &mut [u8],
-)
-    requires name { IsName name.now }
-    requires new_name { IsName new_name.now }
+) -> usize
+    requires name { length name.now ≤ 255 }
+    requires new_name { length new_name.now ≤ 255 }
     requires room { 11 + length name.now + length new_name.now ≤ length out.old }
+    ensures { Writes 0 result (change_bytes (rename parent name.now new_parent new_name.now)) out.old out.new }
 {
-    out[0] = 4;
-    LittleEndian::write_u32(&mut out[1..], parent.get());
-    write_name(name, &mut out[5..]);
-    let next = &mut out[6 + name.len()..];
-    LittleEndian::write_u32(next, new_parent.get());
-    write_name(new_name, &mut next[4..]);
+    put_byte(out, 0, 4);
+    put_number(out, 1, parent);
+    put_name(out, 5, name);
+    let next = 6 + name.len();
+    put_number(out, next, new_parent);
+    put_name(out, next + 4, new_name);
+    next + 5 + new_name.len()
 }
 
-fn write_write(number: InodeNumber, offset: u64, bytes: &[u8], out: &mut [u8])
+fn write_write(number: InodeNumber, offset: u64, bytes: &[u8], out: &mut [u8]) -> usize
     requires fits { length bytes.now ≤ 65536 }
     requires room { 17 + length bytes.now ≤ length out.old }
+    ensures { Writes 0 result (change_bytes (write number offset bytes.now)) out.old out.new }
 {
-    out[0] = 5;
-    LittleEndian::write_u32(&mut out[1..], number.get());
-    LittleEndian::write_u64(&mut out[5..], offset);
-    LittleEndian::write_u32(&mut out[13..], bytes.len() as u32);
-    out[17..17 + bytes.len()].copy_from_slice(bytes);
+    put_byte(out, 0, 5);
+    put_number(out, 1, number);
+    put_u64(out, 5, offset);
+    put_u32(out, 13, bytes.len() as u32);
+    put_bytes(out, 17, bytes);
+    17 + bytes.len()
 }
 
-fn write_cut(number: InodeNumber, size: u64, out: &mut [u8])
+fn write_cut(number: InodeNumber, size: u64, out: &mut [u8]) -> usize
     requires { 13 ≤ length out.old }
+    ensures { Writes 0 result (change_bytes (cut number size)) out.old out.new }
 {
-    out[0] = 6;
-    LittleEndian::write_u32(&mut out[1..], number.get());
-    LittleEndian::write_u64(&mut out[5..], size);
+    put_byte(out, 0, 6);
+    put_number(out, 1, number);
+    put_u64(out, 5, size);
+    13
 }
 
-fn write_change_mode(number: InodeNumber, mode: Mode, out: &mut [u8])
+fn write_change_mode(number: InodeNumber, mode: Mode, out: &mut [u8]) -> usize
     requires { 7 ≤ length out.old }
+    ensures { Writes 0 result (change_bytes (change_mode number mode)) out.old out.new }
 {
-    out[0] = 7;
-    LittleEndian::write_u32(&mut out[1..], number.get());
-    LittleEndian::write_u16(&mut out[5..], mode.bits());
+    put_byte(out, 0, 7);
+    put_number(out, 1, number);
+    put_mode(out, 5, mode);
+    7
 }

@@ -1,2 +1,7 @@
 pub mod Moments
 mod MediaLemmas
+mod DiskLemmas
+mod DeviceLemmas
+mod GoesLemmas
+mod TiedLemmas
+mod SimLemmas

@@ -1,5 +1,8 @@
 pub mod Images
 pub mod Moments
-pub mod Sim
 pub mod Writes
+pub mod Device
+pub mod Tied
 pub mod Media
+pub mod Sim
+pub mod DeviceLaws

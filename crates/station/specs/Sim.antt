@@ -1,20 +1,27 @@
 -- What is known of a station in memory.
-use Rattle.std.specs.Prelude.{◌≡◌, ◌↔◌, ℕ, length, Result}
+use Rattle.std.specs.Prelude.{◌≡◌, ◌↔◌, ℕ, ◌*◌, List, length, Result}
 use Rattle.station.specs.Images.{Images}
 use Rattle.station.specs.Moments.{Meaning, CountsRead, CountsWrite}
+use Rattle.station.specs.Device.{Device, fresh, reads_of, after_all, LeftAt}
+use Rattle.station.specs.declared.history.Call.{Call}
 use Rattle.station.specs.declared.sim.Sim.{Sim}
 
-abbrev pub meaning_of : Sim → Meaning
-meaning_of s = record {
-  sectors = s.media.sectors;
-  nvram_bytes = s.media.nvram_bytes;
-  failed_reads = s.failed_reads;
-  failed_writes = s.failed_writes;
-  is_honest = ⊥;
-  seen = record { disk = λ n. s.media.disk.items; nvram = s.media.nvram.items };
-  moment = length s.media.calls.items;
-  left_at = λ t c. ⊥;
+-- a station of these sizes and counts of failures that was so first, after these calls: even moments lie between calls,
+-- odd ones within one
+abbrev pub known : (sectors nvram_bytes failed_reads failed_writes : ℕ) → Device → List Call → Meaning
+known sectors nvram_bytes failed_reads failed_writes first calls = record {
+  sectors = sectors;
+  nvram_bytes = nvram_bytes;
+  failed_reads = failed_reads;
+  failed_writes = failed_writes;
+  is_honest = Unit {0};
+  seen = reads_of (after_all first calls);
+  moment = 2 * length calls;
+  left_at = LeftAt first calls;
 }
+
+abbrev pub meaning_of : Sim → Meaning
+meaning_of s = known s.media.sectors s.media.nvram_bytes s.failed_reads s.failed_writes (fresh s.media.first_disk.items s.media.first_nvram.items) s.media.calls.items
 
 -- no failure was counted
 pub record SameCounts (old new : Sim) : Type 0 where

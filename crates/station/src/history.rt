@@ -2,7 +2,9 @@
 
 ghost use Rattle.std.specs.Prelude.{◌≡◌, ℕ, ◌+◌, ◌-◌, ◌*◌, ◌/◌, ◌^◌, ◌<◌, ◌≤◌, ◌++◌, ◌∷◌, [], take, drop, length, vec_len, vec_capacity, All, OnOk, OnErr};
 ghost use Rattle.station.specs.declared.history.Call.TheVariants.{Write};
-ghost use Rattle.station.specs.Writes.{parts_of, IsInRange};
+ghost use Rattle.station.specs.Images.{nvram_with};
+ghost use Rattle.station.specs.Device.{sectors_of};
+ghost use Rattle.station.specs.Writes.{parts_of, IsInRange, kept_value};
 
 use crate::{Keep, SECTOR_BYTES};
 use std::alloc::{AllocError, Global};
@@ -93,6 +95,7 @@ fn sector_write(sector: u32, bytes: &[u8], part: usize) -> SectorWrite
 pub(crate) fn apply_kept(disk: &mut Vec<u8>, unsynced: &[SectorWrite], keep: &Keep)
     requires { All (IsInRange (length disk.old.items)) unsynced.now }
     ensures length { length disk.new.items ≡ length disk.old.items }
+    ensures sectors { (n : ℕ) → sectors_of disk.new.items n ≡ kept_value keep.now 0 unsynced.now n (sectors_of disk.old.items n) }
 {
     for (place, write) in unsynced.iter().enumerate() {
         if keep.keeps(place) {
@@ -104,7 +107,7 @@ pub(crate) fn apply_kept(disk: &mut Vec<u8>, unsynced: &[SectorWrite], keep: &Ke
 /// Writes these bytes over what is there.
 pub(crate) fn put(image: &mut Vec<u8>, at: usize, bytes: &[u8])
     requires { at + length bytes.now ≤ length image.old.items }
-    ensures after { image.new.items ≡ take at image.old.items ++ bytes.now ++ drop (at + length bytes.now) image.old.items }
+    ensures after { image.new.items ≡ nvram_with at bytes.now image.old.items }
     ensures length { length image.new.items ≡ length image.old.items }
 {
     image[at..at + bytes.len()].copy_from_slice(bytes);

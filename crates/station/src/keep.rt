@@ -14,8 +14,13 @@ pub enum Keep {
 }
 
 impl Keep {
+    ghost use Rattle.std.specs.Prelude.{◌≡◌};
+    ghost use Rattle.station.specs.Writes.{keeps};
+
     /// Whether the write at this place, counted from 0, is kept.
-    pub(crate) fn keeps(&self, place: usize) -> bool {
+    pub(crate) fn keeps(&self, place: usize) -> bool
+        ensures { result ≡ keeps self.now place }
+    {
         match self {
             Keep::Nothing => false,
             Keep::Everything => true,

@@ -1,6 +1,8 @@
 //! The disk and the NVRAM of a station in memory, with the calls that made them.
 
 ghost use Rattle.std.specs.Prelude.{◌≡◌, ℕ, ◌+◌, ◌-◌, ◌*◌, ◌/◌, ◌%◌, ◌^◌, ◌<◌, ◌≤◌, ◌++◌, ◌∷◌, [], take, drop, false, length, All, IfOk, OnOk, OnErr};
+ghost use Rattle.station.specs.Device.{fresh, after_all};
+ghost use Rattle.station.specs.Tied.{IsTied};
 ghost use Rattle.station.specs.Writes.{IsInRange};
 
 use crate::history::{Call, SectorWrite, apply_kept, note_write, put};
@@ -30,6 +32,7 @@ pub(crate) struct Media {
     ghost settled_size: { length settled.items ≡ 512 * sectors },
     ghost nvram_size: { length nvram.items ≡ nvram_bytes },
     ghost in_range: { All (IsInRange (512 * sectors)) unsynced.items },
+    ghost tied: { IsTied (after_all (fresh first_disk.items first_nvram.items) calls.items) disk.items nvram.items settled.items unsynced.items is_cut keep },
 }
 
 impl Media {

@@ -227,12 +227,13 @@ impl Sim {
 
 impl Station for Sim {
     ghost use Rattle.station.specs.Sim.{meaning_of};
+    ghost use Rattle.station.specs.DeviceLaws as laws;
 
     ghost meaning = { meaning_of };
 
-    ghost seen_may_be_left = { λ s honest. absurd honest };
+    ghost seen_may_be_left = { λ s honest. laws.seen_may_be_left s };
 
-    ghost nvram_length = { λ s c honest left. absurd honest };
+    ghost nvram_length = { λ s c honest left. laws.nvram_length s c left };
 
     fn sectors(&self) -> u32 {
         self.media.sectors

@@ -1,6 +1,8 @@
-use Rattle.std.proofs.Common.{◌*◌, ◌/◌, length, arith}
+use Rattle.std.proofs.Common.{◌*◌, ◌/◌, ◌∙◌, ap, length, arith}
 use Rattle.std.proofs.lemmas.List.Elements.{All-append}
 use Rattle.station.specs.Writes.{IsInRange}
+use Rattle.station.specs.Images.{nvram_with}
+use Rattle.station.proofs.TiedLemmas.{tied_with-write, tied_with-write_failed}
 use Rattle.station.proofs.MediaLemmas.{parts_of-in_range}
 use Rattle.station.proofs.media.Media.write.Goals as goal
 
@@ -11,3 +13,16 @@ invariant_of-self-then-done-clause-in_range c = rw c.in_ok-note_write.ensures.pa
 pub invariant_of-self-else-done-clause-in_range : goal.invariant_of-self-else-done-clause-in_range
 invariant_of-self-else-done-clause-in_range c = rw c.in_ok-note_write.ensures.parts (All-append (IsInRange (512 * c.args.self.now.sectors)) _ _ c.args.self.now.in_range
     (parts_of-in_range _ c.args.first c.args.bytes.now (length c.args.bytes.now / 512) (omega arith) (omega arith)))
+
+pub invariant_of-self-then-done-clause-tied : goal.invariant_of-self-then-done-clause-tied
+invariant_of-self-then-done-clause-tied c =
+    let call = c.in_ok-note_write.ensures.call in
+    tied_with-write _ _ _ _ _ _ _ _ _ c.args.self.now.tied c.args.first call.0 c.args.bytes.now _ _ c.args.done
+    call.2 call.1 c.in_ok-note_write.ensures.parts c.requires.power c.if-done.true
+    (c.put.ensures.after ∙ ap (λ at. nvram_with at c.args.bytes.now c.args.self.now.disk.items) (omega arith)) (omega arith) c.requires.whole
+
+pub invariant_of-self-else-done-clause-tied : goal.invariant_of-self-else-done-clause-tied
+invariant_of-self-else-done-clause-tied c =
+    let call = c.in_ok-note_write.ensures.call in
+    tied_with-write_failed _ _ _ _ _ _ _ _ _ c.args.self.now.tied c.args.first call.0 c.args.bytes.now _ c.args.done
+    call.2 call.1 c.in_ok-note_write.ensures.parts c.requires.power c.if-done.false c.requires.whole

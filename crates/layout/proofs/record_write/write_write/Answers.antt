@@ -1,0 +1,6 @@
+use Rattle.layout.proofs.WritingLaws.{writes_both}
+use Rattle.layout.proofs.record_write.write_write.Goals as goal
+
+pub returns : goal.returns
+returns c =
+    writes_both c.put_byte.ensures (writes_both c.put_number.ensures (writes_both c.put_u64.ensures (writes_both c.put_u32.ensures c.put_bytes.ensures)))

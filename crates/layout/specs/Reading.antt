@@ -1,0 +1,28 @@
+-- Reading from the front: a value and the bytes behind it, or nothing.
+use Rattle.std.specs.Prelude.{ℕ, List, length, take, drop, Option, Some, None, nat_lt, ◌==◌, if◌then◌else◌}
+use Rattle.layout.specs.Bytes.{number}
+
+infixl 10 ◌>>=◌
+abbrev pub ◌>>=◌ : {A B : Type 0} → Option A → (A → Option B) → Option B
+None >>= f = None
+(Some x) >>= f = f x
+
+-- a number of n bytes
+abbrev pub number_at : ℕ → List ℕ → Option (ℕ × List ℕ)
+number_at n bytes = if nat_lt (length bytes) n then None else Some (number n bytes, drop n bytes)
+
+-- n bytes
+abbrev pub part_at : ℕ → List ℕ → Option (List ℕ × List ℕ)
+part_at n bytes = if nat_lt (length bytes) n then None else Some (take n bytes, drop n bytes)
+
+-- a length of n bytes, and so many bytes
+abbrev pub counted_at : ℕ → List ℕ → Option (List ℕ × List ℕ)
+counted_at n bytes = number_at n bytes >>= λ x. part_at x.0 x.1
+
+-- one value behind another
+abbrev pub then_at : {A B : Type 0} → (List ℕ → Option (A × List ℕ)) → (List ℕ → Option (B × List ℕ)) → List ℕ → Option ((A × B) × List ℕ)
+then_at p q bytes = p bytes >>= λ x. q x.1 >>= λ y. Some ((x.0, y.0), y.1)
+
+-- a value that all of the bytes are
+abbrev pub all_of : {A : Type 0} → (List ℕ → Option (A × List ℕ)) → List ℕ → Option A
+all_of p bytes = p bytes >>= λ x. if length x.1 == 0 then Some x.0 else None

@@ -1,0 +1,51 @@
+-- Reading the body of a record, before its limits are looked at.
+use Rattle.std.specs.Prelude.{ℕ, List, length, Option, Some, None, nat_le, ◌==◌, if◌then◌else◌}
+use Rattle.layout.specs.Reading.{◌>>=◌, number_at, counted_at, then_at, all_of}
+use Rattle.layout.specs.Record.{Made, file, directory, symbolic_link, Change, create, link, unname, rename, write, cut, change_mode}
+
+unfoldable pub link_in : List ℕ → Option Change
+link_in bytes = all_of (then_at (number_at 4) (then_at (number_at 4) (counted_at 1))) bytes >>= λ v. Some (link v.0 v.1.0 v.1.1)
+
+unfoldable pub unname_in : List ℕ → Option Change
+unname_in bytes = all_of (then_at (number_at 4) (counted_at 1)) bytes >>= λ v. Some (unname v.0 v.1)
+
+unfoldable pub rename_in : List ℕ → Option Change
+rename_in bytes =
+    all_of (then_at (number_at 4) (then_at (counted_at 1) (then_at (number_at 4) (counted_at 1)))) bytes
+    >>= λ v. Some (rename v.0 v.1.0 v.1.1.0 v.1.1.1)
+
+unfoldable pub write_in : List ℕ → Option Change
+write_in bytes = all_of (then_at (number_at 4) (then_at (number_at 8) (counted_at 4))) bytes >>= λ v. Some (write v.0 v.1.0 v.1.1)
+
+unfoldable pub cut_in : List ℕ → Option Change
+cut_in bytes = all_of (then_at (number_at 4) (number_at 8)) bytes >>= λ v. Some (cut v.0 v.1)
+
+unfoldable pub change_mode_in : List ℕ → Option Change
+change_mode_in bytes =
+    all_of (then_at (number_at 4) (number_at 2)) bytes >>= λ v. if nat_le v.1 4095 then Some (change_mode v.0 v.1) else None
+
+-- what is made, of this kind and mode: only a link has more bytes
+unfoldable pub made_in : ℕ → ℕ → List ℕ → Option Made
+made_in kind mode bytes =
+    if kind == 1 then (if length bytes == 0 then Some (file mode) else None)
+    else (if kind == 2 then (if length bytes == 0 then Some (directory mode) else None)
+    else (if kind == 3 then (if mode == 511 then (all_of (counted_at 2) bytes >>= λ text. Some (symbolic_link text)) else None)
+    else None))
+
+unfoldable pub create_in : List ℕ → Option Change
+create_in bytes =
+    then_at (number_at 4) (then_at (number_at 4) (then_at (number_at 1) (then_at (number_at 2) (counted_at 1)))) bytes
+    >>= λ x. (if nat_le x.0.1.1.1.0 4095 then made_in x.0.1.1.0 x.0.1.1.1.0 x.1 else None)
+    >>= λ made. Some (create x.0.0 x.0.1.0 made x.0.1.1.1.1)
+
+unfoldable pub change_in : List ℕ → Option Change
+change_in bytes =
+    number_at 1 bytes >>= λ x.
+    if x.0 == 1 then create_in x.1
+    else (if x.0 == 2 then link_in x.1
+    else (if x.0 == 3 then unname_in x.1
+    else (if x.0 == 4 then rename_in x.1
+    else (if x.0 == 5 then write_in x.1
+    else (if x.0 == 6 then cut_in x.1
+    else (if x.0 == 7 then change_mode_in x.1
+    else None))))))

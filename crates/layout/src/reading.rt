@@ -1,0 +1,82 @@
+//! Reading from the front of bytes: a value, and the bytes behind it.
+
+ghost use Rattle.std.specs.Prelude.{◌≡◌};
+ghost use Rattle.std.specs.Option.{option_map};
+ghost use Rattle.layout.specs.Reading.{number_at, part_at, counted_at};
+
+use byteorder::{ByteOrder, LittleEndian};
+
+/// A byte.
+pub(crate) fn u8_at(bytes: &[u8]) -> Option<(u8, &[u8])>
+    ensures { option_map (λ x. (x.0, x.1.now)) result ≡ number_at 1 bytes.now }
+{
+    let (byte, rest) = bytes.split_first()?;
+    Some((*byte, rest))
+}
+
+/// A number of 16 bits.
+pub(crate) fn u16_at(bytes: &[u8]) -> Option<(u16, &[u8])>
+    ensures { option_map (λ x. (x.0, x.1.now)) result ≡ number_at 2 bytes.now }
+{
+    if bytes.len() < 2 {
+        return None;
+    }
+    let (_, rest) = bytes.split_at(2);
+    Some((LittleEndian::read_u16(bytes), rest))
+}
+
+/// A number of 32 bits.
+pub(crate) fn u32_at(bytes: &[u8]) -> Option<(u32, &[u8])>
+    ensures { option_map (λ x. (x.0, x.1.now)) result ≡ number_at 4 bytes.now }
+{
+    if bytes.len() < 4 {
+        return None;
+    }
+    let (_, rest) = bytes.split_at(4);
+    Some((LittleEndian::read_u32(bytes), rest))
+}
+
+/// A number of 64 bits.
+pub(crate) fn u64_at(bytes: &[u8]) -> Option<(u64, &[u8])>
+    ensures { option_map (λ x. (x.0, x.1.now)) result ≡ number_at 8 bytes.now }
+{
+    if bytes.len() < 8 {
+        return None;
+    }
+    let (_, rest) = bytes.split_at(8);
+    Some((LittleEndian::read_u64(bytes), rest))
+}
+
+/// So many bytes.
+pub(crate) fn part_at(bytes: &[u8], count: usize) -> Option<(&[u8], &[u8])>
+    ensures { option_map (λ x. (x.0.now, x.1.now)) result ≡ part_at count bytes.now }
+{
+    if bytes.len() < count {
+        return None;
+    }
+    Some(bytes.split_at(count))
+}
+
+/// A name: its length in one byte, and its bytes.
+pub(crate) fn name_at(bytes: &[u8]) -> Option<(&[u8], &[u8])>
+    ensures { option_map (λ x. (x.0.now, x.1.now)) result ≡ counted_at 1 bytes.now }
+{
+    let (length, bytes) = u8_at(bytes)?;
+    part_at(bytes, length as usize)
+}
+
+/// The text of a link: its length in two bytes, and its bytes.
+pub(crate) fn text_at(bytes: &[u8]) -> Option<(&[u8], &[u8])>
+    ensures { option_map (λ x. (x.0.now, x.1.now)) result ≡ counted_at 2 bytes.now }
+{
+    let (length, bytes) = u16_at(bytes)?;
+    part_at(bytes, length as usize)
+}
+
+/// What a record writes: its length in four bytes, and its bytes.
+pub(crate) fn contents_at(bytes: &[u8]) -> Option<(&[u8], &[u8])>
+    ensures { option_map (λ x. (x.0.now, x.1.now)) result ≡ counted_at 4 bytes.now }
+{
+    let (length, bytes) = u32_at(bytes)?;
+    part_at(bytes, length as usize)
+}

@@ -1,0 +1,5 @@
+mod Examples
+pub mod TreeLemmas
+mod PlainLemmas
+mod ListingLemmas
+mod PlainCalls

@@ -1,0 +1,8 @@
+pub mod Paths
+pub mod Trees
+pub mod Resolution
+pub mod Calls
+pub mod States
+pub mod Runs
+pub mod Plain
+pub mod PlainStates

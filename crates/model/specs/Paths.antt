@@ -1,0 +1,76 @@
+-- Paths, and the texts that name them (POSIX.1-2017, Base Definitions 3.271, "Pathname").
+use Rattle.std.specs.Prelude.{ℕ, ◌-◌, ◌≤◌, ◌≡◌, ◌==◌, nat_lt, not, ◌&&◌, ◌||◌, if◌then◌else◌, Bool, List, [], ◌∷◌, length, filter, slice_index, slice_index_or, codes, bytes_eq, Option, Some, None}
+use Rattle.std.specs.List.{slice_split, list_any}
+use Rattle.model.specs.declared.errno.Errno.{Errno}
+use Rattle.model.specs.declared.errno.Errno.TheVariants.{ENOENT, EINVAL, ENAMETOOLONG}
+
+-- a file's name in its directory, as bytes
+abbrev pub Name : Type 0
+Name = List ℕ
+
+-- the names from the root down; the root's path is empty
+abbrev pub Path : Type 0
+Path = List Name
+
+abbrev pub is_slash : ℕ → Bool
+is_slash byte = byte == 47
+
+abbrev pub is_dot : Name → Bool
+is_dot part = bytes_eq part (codes ".")
+
+abbrev pub is_dot_dot : Name → Bool
+is_dot_dot part = bytes_eq part (codes "..")
+
+abbrev pub is_empty : {X : Type 0} → List X → Bool
+is_empty xs = length xs == 0
+
+-- a name that a file may have: 1 to 255 bytes, none of them a slash or zero, and not `.` or `..`
+pub record IsName (name : Name) : Type 0 where
+  pub some : 1 ≤ length name
+  pub short : length name ≤ 255
+  pub bytes : list_any (λ b. is_slash b || b == 0) name ≡ Bool.false
+  pub dots : (is_dot name || is_dot_dot name) ≡ Bool.false
+
+-- the parts of a text: what stands between its slashes. Runs of slashes count as one
+abbrev pub parts : List ℕ → List Name
+parts text = filter (λ part. not (is_empty part)) (slice_split is_slash text)
+
+abbrev pub starts_with_slash : List ℕ → Bool
+starts_with_slash text = is_slash (slice_index text 0)
+
+abbrev pub ends_with_slash : List ℕ → Bool
+ends_with_slash text = is_slash (slice_index text (length text - 1))
+
+abbrev pub is_too_long : Name → Bool
+is_too_long part = nat_lt 255 (length part)
+
+abbrev pub last_part : List ℕ → Name
+last_part text = slice_index_or (parts text) (length (parts text) - 1) []
+
+-- tests in order, each with the refusal that it gives where it holds
+abbrev pub Tests : Type 0
+Tests = List (Bool × Errno)
+
+-- the refusal of the first test that holds
+abbrev pub first_refusal : Tests → Option Errno
+first_refusal [] = None
+first_refusal (test ∷ tests) = if test.0 then Some test.1 else first_refusal tests
+
+-- the tests of a path's text, followed by more
+abbrev pub text_tests_then : Tests → List ℕ → Tests
+text_tests_then more text =
+    (is_empty text, ENOENT)
+    ∷ (list_any (λ byte. byte == 0) text, EINVAL)
+    ∷ (nat_lt 1023 (length text), ENAMETOOLONG)
+    ∷ (not (starts_with_slash text), EINVAL)
+    ∷ (ends_with_slash text && nat_lt 1 (length text), EINVAL)
+    ∷ (list_any is_too_long (parts text), ENAMETOOLONG)
+    ∷ more
+
+-- a text that names something that is there
+abbrev pub text_tests : List ℕ → Tests
+text_tests = text_tests_then []
+
+-- a text that names something to be made or taken away: its last part is a name
+abbrev pub new_text_tests : List ℕ → Tests
+new_text_tests text = text_tests_then ((is_dot (last_part text) || is_dot_dot (last_part text), EINVAL) ∷ []) text

@@ -1,0 +1,76 @@
+-- The tree of a file system: what stands at each path, and what each file holds.
+use Rattle.std.specs.Prelude.{ℕ, ◌≡◌, ◌≢◌, ◌⊎◌, ◌↔◌, ◌≤◌, ◌==◌, if◌then◌else◌, Bool, true, false, IsTrue, IsSome, List, [], ◌++◌, All, Option, Some, None, bytes_eq, IfSome}
+use Rattle.std.specs.Cmp.Lexicographic.{pointwise}
+use Rattle.model.specs.Paths.{Path, IsName}
+
+-- what can stand at a path, with its inode number
+pub data Object : Type 0 where
+  directory : ℕ → Object
+  symlink : ℕ → List ℕ → Object  -- and its text
+  file : ℕ → Object
+
+abbrev pub number : Object → ℕ
+number (directory n) = n
+number (symlink n text) = n
+number (file n) = n
+
+abbrev pub is_directory : Option Object → Bool
+is_directory (Some (directory n)) = true
+is_directory _ = false
+
+-- an open file description (POSIX.1-2017, Base Definitions 3.258)
+pub record Description : Type 0 where
+  pub number : ℕ
+  pub offset : ℕ
+  pub reads : Bool
+  pub writes : Bool
+  pub appends : Bool
+
+pub record Tree : Type 0 where
+  pub objects : Path → Option Object
+  pub bytes : ℕ → Option (List ℕ)  -- of the files, by their numbers
+  pub mode : ℕ → Option ℕ  -- of the files and the directories
+  pub descriptors : ℕ → Option Description
+
+-- an object of this number and kind stands at a path
+abbrev pub Stands : Tree → (ℕ → Object) → ℕ → Type 0
+Stands t kind n = (p : Path) × (t.objects p ≡ Some (kind n))
+
+-- the number stands at a path
+abbrev pub HasPath : Tree → ℕ → Type 0
+HasPath t n = (p : Path) × (o : Object) × (t.objects p ≡ Some o) × (number o ≡ n)
+
+-- the number stands in a descriptor
+abbrev pub IsOpen : Tree → ℕ → Type 0
+IsOpen t n = (d : ℕ) × (f : Description) × (t.descriptors d ≡ Some f) × (f.number ≡ n)
+
+pub record IsTree (t : Tree) : Type 0 where
+  pub root : t.objects [] ≡ Some (directory 3)
+  pub above : (p q : Path) → q ≢ [] → IsSome (t.objects (p ++ q)) → IsTrue (is_directory (t.objects p))
+  pub names : (p : Path) → IsSome (t.objects p) → All IsName p
+  -- only a file may stand at several paths
+  pub single : (p q : Path) (o r : Object) → t.objects p ≡ Some o → t.objects q ≡ Some r → number o ≡ number r → (p ≡ q) ⊎ ((o ≡ file (number o)) × (r ≡ o))
+  pub bytes : (n : ℕ) → IsSome (t.bytes n) ↔ (Stands t file n ⊎ IsOpen t n)
+  pub mode : (n : ℕ) → IsSome (t.mode n) ↔ (Stands t directory n ⊎ Stands t file n ⊎ IsOpen t n)
+  pub bits : (n : ℕ) → IfSome (t.mode n) (λ mode. mode ≤ 4095)
+  pub opened : (n : ℕ) (p : Path) (o : Object) → IsOpen t n → t.objects p ≡ Some o → number o ≡ n → o ≡ file n
+
+abbrev pub path_eq : Path → Path → Bool
+path_eq = pointwise bytes_eq
+
+-- the tree with an object at a path
+abbrev pub with_object : Path → Object → Tree → Tree
+with_object p o t = record t { objects = λ q. if path_eq q p then Some o else t.objects q }
+
+-- the tree with a directory of this number and mode at a path
+abbrev pub with_directory : Path → ℕ → ℕ → Tree → Tree
+with_directory p n mode t = record (with_object p (directory n) t) { mode = λ k. if k == n then Some mode else t.mode k }
+
+-- the tree of a root directory alone
+abbrev pub root_alone : ℕ → Tree
+root_alone mode = record {
+  objects = λ p. if path_eq p [] then Some (directory 3) else None;
+  bytes = λ n. None;
+  mode = λ n. if n == 3 then Some mode else None;
+  descriptors = λ d. None;
+}

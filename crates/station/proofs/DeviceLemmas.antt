@@ -1,0 +1,43 @@
+-- What the calls of a device leave, and what a power cut may leave at a moment of them.
+use Rattle.std.proofs.Common.{◌≡◌, ◌⊎◌, inl, inr, ⊎_elim, ℕ, zero, suc, ◌+◌, ◌*◌, ◌<◌, ◌≤◌, Bool, true, false, List, [], ◌∷◌, ◌++◌, length, take, refl, ap, sym, subst, ◌∙◌, arith, add-suc, add-one, length-append}
+use Rattle.std.specs.Prelude.{if◌then◌else◌, fold}
+use Rattle.std.proofs.lemmas.List.Sums.{fold-append}
+use Rattle.station.specs.Images.{Images, part_of, reaches, disk_with, nvram_with, Unchanged, MayWrite, MayNvWrite, Reaches}
+use Rattle.station.specs.Device.{Device, fresh, sectors_of, after, after_all, IsOneOf, MayBeLeft, LeftWithin, LeftAt}
+use Rattle.station.specs.DeviceLaws.{LeftAt-end}
+use Rattle.station.specs.declared.history.Call.{Call}
+use Rattle.station.specs.declared.history.Call.TheVariants.{Read, Write, NvWrite, Sync}
+
+-- one call more
+pub after_all-push : (d : Device) (calls : List Call) (call : Call) → after_all d (calls ++ call ∷ []) ≡ after (after_all d calls) call
+unfolding after_all
+after_all-push d calls call = fold-append after d calls (call ∷ [])
+
+-- a call more changes no earlier moment
+pub LeftAt-push_early : (d : Device) (calls : List Call) (call : Call) (t : ℕ) (c : Images) → t ≤ 2 * length calls → LeftAt d (calls ++ call ∷ []) t c → LeftAt d calls t c
+unfolding LeftAt
+LeftAt-push_early d [] call zero c le left = left
+LeftAt-push_early d [] call (suc t) c le left = absurd (omega arith)
+LeftAt-push_early d (x ∷ calls) call zero c le left = left
+LeftAt-push_early d (x ∷ calls) call (suc zero) c le left = left
+LeftAt-push_early d (x ∷ calls) call (suc (suc t)) c le left = LeftAt-push_early (after d x) calls call t c (omega arith) left
+
+-- within the last call
+pub LeftAt-push_within : (d : Device) (calls : List Call) (call : Call) (c : Images) → LeftAt d (calls ++ call ∷ []) (suc (2 * length calls)) c → LeftWithin (after_all d calls) call c
+unfolding LeftAt after_all
+LeftAt-push_within d [] call c left = left
+LeftAt-push_within d (x ∷ calls) call c left = LeftAt-push_within (after d x) calls call c (subst (λ t. LeftAt d (x ∷ calls ++ call ∷ []) t c) (twice-suc (length calls)) left)
+  where
+    twice-suc : (n : ℕ) → suc (2 * suc n) ≡ suc (suc (suc (2 * n)))
+    twice-suc n = omega arith
+
+-- after the last call
+pub LeftAt-push_after : (d : Device) (calls : List Call) (call : Call) (c : Images) → LeftAt d (calls ++ call ∷ []) (2 * length (calls ++ call ∷ [])) c → MayBeLeft (after (after_all d calls) call) c
+LeftAt-push_after d calls call c left = subst (λ e. MayBeLeft e c) (after_all-push d calls call) (LeftAt-end d (calls ++ call ∷ []) c left)
+
+pub IsOneOf-append : (x : List ℕ) (xs : List (List ℕ)) (y : List ℕ) → IsOneOf x (xs ++ y ∷ []) → IsOneOf x xs ⊎ (x ≡ y)
+IsOneOf-append x [] y one = elim one [ inl e ↦ inr e | inr none ↦ absurd none ]
+IsOneOf-append x (z ∷ xs) y one = elim one [
+  | inl e ↦ inl (inl e)
+  | inr later ↦ elim (IsOneOf-append x xs y later) [ inl old ↦ inl (inr old) | inr e ↦ inr e ]
+]

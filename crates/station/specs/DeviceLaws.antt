@@ -1,0 +1,74 @@
+-- What holds of a device after any calls: the proofs of the laws of a station in memory.
+use Rattle.std.specs.Prelude.{◌≡◌, ℕ, zero, suc, ◌*◌, Bool, true, false, List, [], ◌∷◌, ◌++◌, length, refl, if◌then◌else◌}
+use Rattle.std.proofs.Common.{inl, inr, ap, subst, ◌∙◌, arith}
+use Rattle.station.specs.Images.{Images, part_of, reaches}
+use Rattle.station.specs.Device.{Device, fresh, reads_of, after, after_all, IsOneOf, MayBeLeft, LeftAt}
+use Rattle.station.specs.Sim.{meaning_of}
+use Rattle.station.specs.Moments.{MayLeave}
+use Rattle.station.specs.declared.history.Call.{Call}
+use Rattle.station.specs.declared.history.Call.TheVariants.{Read, Write, NvWrite, Sync}
+use Rattle.station.specs.declared.sim.Sim.{Sim}
+
+-- what may be left at the end of these calls
+pub LeftAt-end : (d : Device) (calls : List Call) (c : Images) → LeftAt d calls (2 * length calls) c → MayBeLeft (after_all d calls) c
+unfolding LeftAt after_all
+LeftAt-end d [] c left = left
+LeftAt-end d (call ∷ calls) c left = LeftAt-end (after d call) calls c (subst (λ t. LeftAt d (call ∷ calls) t c) (twice-suc (length calls)) left)
+  where
+    twice-suc : (n : ℕ) → 2 * suc n ≡ suc (suc (2 * n))
+    twice-suc n = omega arith
+
+pub LeftAt-at_end : (d : Device) (calls : List Call) (c : Images) → MayBeLeft (after_all d calls) c → LeftAt d calls (2 * length calls) c
+unfolding LeftAt after_all
+LeftAt-at_end d [] c left = left
+LeftAt-at_end d (call ∷ calls) c left = subst (λ t. LeftAt d (call ∷ calls) t c) (suc-twice (length calls)) (LeftAt-at_end (after d call) calls c left)
+  where
+    suc-twice : (n : ℕ) → suc (suc (2 * n)) ≡ 2 * suc n
+    suc-twice n = omega arith
+
+-- what reads give is among what a cut may leave
+abbrev pub SeenIsHeld : Device → Type 0
+SeenIsHeld d = (n : ℕ) → IsOneOf (d.seen n) (d.held n)
+
+pub IsOneOf-old : (x : List ℕ) (xs : List (List ℕ)) (y : List ℕ) → IsOneOf x xs → IsOneOf x (xs ++ y ∷ [])
+IsOneOf-old x (z ∷ xs) y one = elim one [ inl e ↦ inl e | inr later ↦ inr (IsOneOf-old x xs y later) ]
+IsOneOf-old x [] y one = absurd one
+
+pub IsOneOf-last : (x : List ℕ) (xs : List (List ℕ)) → IsOneOf x (xs ++ x ∷ [])
+IsOneOf-last x [] = inl refl
+IsOneOf-last x (z ∷ xs) = inr (IsOneOf-last x xs)
+
+pub SeenIsHeld-after : (d : Device) (call : Call) → SeenIsHeld d → SeenIsHeld (after d call)
+unfolding after
+SeenIsHeld-after d Read held = held
+SeenIsHeld-after d (NvWrite at bytes kept) held = held
+SeenIsHeld-after d (Sync true) held = λ n. inl refl
+SeenIsHeld-after d (Sync false) held = held
+SeenIsHeld-after d (Write first bytes true) held = λ n.
+    elim (reaches first bytes.items n) as (λ b. IsOneOf (if b then part_of first bytes.items n else d.seen n) (if b then d.held n ++ part_of first bytes.items n ∷ [] else d.held n)) [
+      | true ↦ IsOneOf-last (part_of first bytes.items n) (d.held n)
+      | false ↦ held n
+    ]
+SeenIsHeld-after d (Write first bytes false) held = λ n.
+    elim (reaches first bytes.items n) as (λ b. IsOneOf (d.seen n) (if b then d.held n ++ part_of first bytes.items n ∷ [] else d.held n)) [
+      | true ↦ IsOneOf-old (d.seen n) (d.held n) (part_of first bytes.items n) (held n)
+      | false ↦ held n
+    ]
+
+pub SeenIsHeld-after_all : (d : Device) (calls : List Call) → SeenIsHeld d → SeenIsHeld (after_all d calls)
+unfolding after_all
+SeenIsHeld-after_all d [] held = held
+SeenIsHeld-after_all d (call ∷ calls) held = SeenIsHeld-after_all (after d call) calls (SeenIsHeld-after d call held)
+
+pub SeenIsHeld-fresh : (disk nvram : List ℕ) → SeenIsHeld (fresh disk nvram)
+SeenIsHeld-fresh disk nvram = λ n. inl refl
+
+pub seen_is_held : (s : Sim) → SeenIsHeld (after_all (fresh s.media.first_disk.items s.media.first_nvram.items) s.media.calls.items)
+seen_is_held s = SeenIsHeld-after_all _ s.media.calls.items (SeenIsHeld-fresh s.media.first_disk.items s.media.first_nvram.items)
+
+-- the two laws
+pub seen_may_be_left : (s : Sim) → MayLeave (meaning_of s) (meaning_of s).seen
+seen_may_be_left s = LeftAt-at_end _ s.media.calls.items _ record { disk = seen_is_held s; nvram = refl }
+
+pub nvram_length : (s : Sim) (c : Images) → MayLeave (meaning_of s) c → length c.nvram ≡ s.media.nvram_bytes
+nvram_length s c left = ap length ((LeftAt-end _ s.media.calls.items c left).nvram ∙ s.media.tied.nvram_is) ∙ s.media.nvram_size

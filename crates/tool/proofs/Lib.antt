@@ -1,0 +1,4 @@
+mod LineLemmas
+mod SplitLemmas
+mod WordLemmas
+pub mod Sizes

@@ -1,0 +1,78 @@
+-- Words spell one command at most.
+use Rattle.std.proofs.Common.{◌≡◌, inl, ℕ, ◌+◌, ◌/◌, ◌%◌, ◌<◌, ◌≤◌, ◌==◌, Bool, true, false, List, [], ◌∷◌, length, map, get_or, codes, cond, Result, Ok, Err, arith, refl, sym, ◌∙◌, ap, subst}
+use Rattle.model.specs.declared.command.Command.{Command}
+use Rattle.model.specs.declared.command.Command.TheVariants as command
+use Rattle.model.specs.declared.command.PathCall.TheVariants as call
+use Rattle.tool.specs.declared.script.ScriptError.{ScriptError}
+use Rattle.tool.specs.declared.script.ScriptError.TheVariants.{NotACommand}
+use Rattle.tool.specs.declared.script.readers.Verb.{Verb}
+use Rattle.tool.specs.declared.script.readers.Verb.TheVariants as verb
+use Rattle.tool.specs.Lines.{command_words, mode_words, verb_name, IsCommand, ReadsWords}
+use Rattle.tool.specs.Words.{mode_word, text_word}
+use Rattle.tool.proofs.WordLemmas.{IsBytes, text_word-unique}
+
+pub one_field : {X : Type 0} (v : X → List ℕ) (xs : List X) (d : X) → 1 ≤ length xs → length xs < 2 → map v xs ≡ v (get_or xs 0 d) ∷ []
+one_field v [] d some few = absurd (omega (arith, some))
+one_field v (x ∷ []) d some few = refl
+one_field v (x ∷ y ∷ xs) d some few = absurd (omega (arith, few))
+
+-- a mode has one word
+pub mode_word-unique : (m n : ℕ) → mode_word m ≡ mode_word n → m ≡ n
+mode_word-unique m n e =
+    let a : 48 + m / 512 ≡ 48 + n / 512 = grind (arith, e) in
+    let b : 48 + m / 64 % 8 ≡ 48 + n / 64 % 8 = grind (arith, e) in
+    let c : 48 + m / 8 % 8 ≡ 48 + n / 8 % 8 = grind (arith, e) in
+    let d : 48 + m % 8 ≡ 48 + n % 8 = grind (arith, e) in
+    omega (arith, a, b, c, d)
+
+mode_words-unique : (m n : ℕ) → mode_words 493 m ≡ mode_words 493 n → m ≡ n
+mode_words-unique m n e = by_default (m == 493) (n == 493) m n refl refl e
+  where
+    by_default : (p q : Bool) (m n : ℕ) → (m == 493) ≡ p → (n == 493) ≡ q → cond p [] (mode_word m ∷ []) ≡ cond q [] (mode_word n ∷ []) → m ≡ n
+    by_default true true m n mp nq e = grind (arith, mp, nq)
+    by_default true false m n mp nq e = absurd (grind (arith, e))
+    by_default false true m n mp nq e = absurd (grind (arith, e))
+    by_default false false m n mp nq e = mode_word-unique m n (grind (arith, e))
+
+list_only : (t : List ℕ) (c : Command) → IsBytes t → IsCommand c → codes "list" ∷ text_word t ∷ [] ≡ command_words c → command.Path (call.List t) ≡ c
+list_only t (command.Path (call.List p)) bytes good e = ap (λ q. command.Path (call.List q)) (text_word-unique t p bytes good (grind (arith, e)))
+list_only t (command.Path (call.Mkdir p m)) bytes good e = absurd (grind (arith, e))
+
+mkdir_only : (t : List ℕ) (m : ℕ) (c : Command) → IsBytes t → IsCommand c → codes "mkdir" ∷ text_word t ∷ mode_words 493 m ≡ command_words c → command.Path (call.Mkdir t m) ≡ c
+mkdir_only t m (command.Path (call.List p)) bytes good e = absurd (grind (arith, e))
+mkdir_only t m (command.Path (call.Mkdir p n)) bytes good e =
+    let path : text_word t ≡ text_word p = grind (arith, e) in
+    let modes : mode_words 493 m ≡ mode_words 493 n = grind (arith, e) in
+    let same = text_word-unique t p bytes good.0 path in
+    let mode = mode_words-unique m n modes in
+    ap (λ q. command.Path (call.Mkdir q m)) same ∙ ap (λ k. command.Path (call.Mkdir p k)) mode
+
+-- `list` and a text's word
+pub reads_list : (t : List ℕ) (fields : List (List ℕ)) → IsBytes t → fields ≡ text_word t ∷ [] → ReadsWords (codes "list" ∷ fields) (Ok (command.Path (call.List t)))
+reads_list t fields bytes e = record {
+  spelled = ap (λ f. codes "list" ∷ f) e;
+  read = λ c good words. inl (ap Ok (list_only t c bytes good (sym (ap (λ f. codes "list" ∷ f) e) ∙ words)));
+}
+
+-- `mkdir`, a text's word, and the mode's, where it isn't the default
+pub reads_mkdir : (t : List ℕ) (m : ℕ) (fields : List (List ℕ)) → IsBytes t → fields ≡ text_word t ∷ mode_words 493 m → ReadsWords (codes "mkdir" ∷ fields) (Ok (command.Path (call.Mkdir t m)))
+reads_mkdir t m fields bytes e = record {
+  spelled = ap (λ f. codes "mkdir" ∷ f) e;
+  read = λ c good words. inl (ap Ok (mkdir_only t m c bytes good (sym (ap (λ f. codes "mkdir" ∷ f) e) ∙ words)));
+}
+
+-- a first word that begins no command
+pub reads_none : {X : Type 0} (v : X → List ℕ) (xs : List X) (d : X) → 1 ≤ length xs → ((w : Verb) → v (get_or xs 0 d) ≡ verb_name w → ⊥) → ReadsWords (map v xs) (Err NotACommand)
+reads_none v [] d some none = absurd (omega (arith, some))
+reads_none v (x ∷ xs) d some none = record {
+  spelled = tt;
+  read = λ c good e. absurd (begins v x xs c none e);
+}
+  where
+    begins : {X : Type 0} (v : X → List ℕ) (x : X) (xs : List X) (c : Command) → ((w : Verb) → v x ≡ verb_name w → ⊥) → v x ∷ map v xs ≡ command_words c → ⊥
+    begins v x xs (command.Path (call.List p)) none e = none verb.List (grind (arith, e))
+    begins v x xs (command.Path (call.Mkdir p m)) none e = none verb.Mkdir (grind (arith, e))
+
+-- `mkdir` with one field
+pub reads_one : {X : Type 0} (v : X → List ℕ) (xs : List X) (d : X) (r : Result Command ScriptError) → 1 ≤ length xs → length xs < 2 → ReadsWords (codes "mkdir" ∷ v (get_or xs 0 d) ∷ []) r → ReadsWords (codes "mkdir" ∷ map v xs) r
+reads_one v xs d r some few reads = subst (λ ws. ReadsWords (codes "mkdir" ∷ ws) r) (sym (one_field v xs d some few)) reads

@@ -1,0 +1,24 @@
+-- How texts and modes are spelled as words of a line.
+use Rattle.std.specs.Prelude.{ℕ, ◌+◌, ◌/◌, ◌%◌, ◌==◌, Bool, nat_lt, nat_le, ◌&&◌, not, List, [], ◌∷◌, if◌then◌else◌, codes}
+use Rattle.std.specs.List.{flat_map}
+
+-- a byte that stands for itself: '!' to '~', but '%'
+abbrev pub is_plain : ℕ → Bool
+is_plain b = nat_le 33 b && nat_le b 126 && not (b == 37)
+
+-- a number below 16 as a lower-case hexadecimal digit
+abbrev pub hex_digit : ℕ → ℕ
+hex_digit v = if nat_lt v 10 then 48 + v else 87 + v
+
+-- a byte that isn't plain is '%' and two digits
+abbrev pub byte_word : ℕ → List ℕ
+byte_word b = if is_plain b then b ∷ [] else 37 ∷ hex_digit (b / 16) ∷ hex_digit (b % 16) ∷ []
+
+-- the empty text is '%' alone
+abbrev pub text_word : List ℕ → List ℕ
+text_word [] = codes "%"
+text_word (b ∷ bs) = flat_map byte_word (b ∷ bs)
+
+-- four octal digits
+abbrev pub mode_word : ℕ → List ℕ
+mode_word m = (48 + m / 512) ∷ (48 + m / 64 % 8) ∷ (48 + m / 8 % 8) ∷ (48 + m % 8) ∷ []

@@ -1,0 +1,85 @@
+//! The command, its subcommands and their arguments, with what help says of them.
+
+use clap::{Arg, Command, value_parser};
+use std::alloc::{AllocError, Global};
+
+/// `wafl` with its subcommands.
+pub(super) fn wafl_command<'a>(alloc: Global) -> Result<Command<'a>, AllocError> {
+    Command::new(alloc, "wafl")
+        .about("A copy-on-write file system on a disk image and an NVRAM image")
+        .subcommand_required(true)
+        .subcommand(make_command(alloc)?)?
+        .subcommand(run_command(alloc)?)
+}
+
+fn make_command<'a>(alloc: Global) -> Result<Command<'a>, AllocError> {
+    Command::new(alloc, "make")
+        .about("Make an empty image")
+        .after_help(
+            "Files that are there are replaced, once the new ones are whole. Nothing is printed.\n\nExample:\n  wafl make disk nvram --blocks 64 --inodes 32 --half 131072",
+        )
+        .arg(place(alloc, "disk", "DISK").help("The disk's file, of 4096 bytes a block"))?
+        .arg(place(alloc, "nvram", "NVRAM").help("The NVRAM's file, of two halves"))?
+        .arg(
+            number(alloc, "blocks")
+                .required(true)
+                .help("Blocks of the disk: 64 to 1048576, as in --blocks 64"),
+        )?
+        .arg(
+            number(alloc, "inodes").required(true).help(
+                "Inodes, four of them the system's own: 32 to 65536, as in --inodes 32",
+            ),
+        )?
+        .arg(
+            number(alloc, "half").required(true).help(
+                "Bytes of each half of the NVRAM: 131072 to 8388608, as in --half 131072",
+            ),
+        )
+}
+
+fn run_command<'a>(alloc: Global) -> Result<Command<'a>, AllocError> {
+    Command::new(alloc, "run")
+        .about("Mount an image and run a script: one command a line, one reply a line")
+        .after_help(
+            "Commands: list PATH, mkdir PATH [MODE], as in list / and mkdir /a 0700.\n\nExamples:\n  wafl run disk nvram script\n  wafl run disk nvram - --cut 5 --bytes 1 < script",
+        )
+        .arg(place(alloc, "disk", "DISK").help("The disk's file"))?
+        .arg(place(alloc, "nvram", "NVRAM").help("The NVRAM's file"))?
+        .arg(place(alloc, "script", "SCRIPT").help("The script's file; - is standard input"))?
+        .arg(cut_option(alloc))?
+        .arg(
+            Arg::new(alloc, "keep")
+                .long("keep")
+                .value_name("none|all|BITS")
+                .default_value("none")
+                .help(
+                    "Which sector writes since the last sync a cut keeps; with BITS those at a 1, as in --keep 10",
+                ),
+        )?
+        .arg(
+            number(alloc, "bytes").default_value("0").help(
+                "Bytes that an NVRAM write keeps when it is cut, as in --bytes 1",
+            ),
+        )
+}
+
+fn cut_option<'a>(alloc: Global) -> Arg<'a> {
+    Arg::new(alloc, "cut")
+        .long("cut")
+        .value_name("N")
+        .value_parser(value_parser!(u32).range(1..))
+        .help("Cut the power within device write N of this run, from 1, as in --cut 5")
+}
+
+/// An argument known by its place.
+fn place<'a>(alloc: Global, id: &'a str, name: &'a str) -> Arg<'a> {
+    Arg::new(alloc, id).value_name(name).required(true)
+}
+
+/// An option whose value is a number.
+fn number<'a>(alloc: Global, name: &'a str) -> Arg<'a> {
+    Arg::new(alloc, name)
+        .long(name)
+        .value_name("N")
+        .value_parser(value_parser!(u32))
+}

@@ -1,0 +1,155 @@
+//! Scripts: each command and each reply is one line of words, one space apart, and has one spelling.
+
+ghost use Rattle.std.specs.Prelude.{◌≡◌, ◌⊎◌, ◌≢◌, ◌≤◌, ◌++◌, ℕ, IfOk, IfErr, OnOk, codes, map};
+ghost use Rattle.tool.specs.declared.script.ScriptError.TheVariants.{NoMemory};
+ghost use Rattle.tool.specs.Lines.{command_line, errno_name, line_of, mode_words, path_call_words, reply_line, spaced, IsCommand};
+ghost use Rattle.tool.specs.Words.{mode_word, text_word};
+ghost use Rattle.model.specs.declared.command.Command.{Command};
+
+mod readers;
+mod words;
+
+use model::{Command, Errno, Mode, Names, PathCall, Reply};
+use readers::read_words;
+use std::alloc::{AllocError, AllocFailed, Global};
+use thiserror::Error;
+use words::{mode_word, push_text, split_words};
+
+/// Why a line isn't read or written.
+#[derive(Clone, Copy, Debug, PartialEq, Eq, Error)]
+pub enum ScriptError {
+    /// No memory was left.
+    #[error("no memory")]
+    NoMemory = 1,
+    /// The line is no command's spelling.
+    #[error("not a command")]
+    NotACommand = 2,
+}
+
+impl From<AllocError> for ScriptError {
+    ghost from_gives = { λ _ e. e ≡ NoMemory };
+
+    fn from(_error: AllocError) -> ScriptError {
+        ScriptError::NoMemory
+    }
+}
+
+impl<T: Drop> From<AllocFailed<T>> for ScriptError {
+    ghost from_gives = { λ _ e. e ≡ NoMemory };
+
+    fn from(_error: AllocFailed<T>) -> ScriptError {
+        ScriptError::NoMemory
+    }
+}
+
+/// The command that a line spells, without the line's end. A command has one spelling; anything else is
+/// `NotACommand`, as an empty line and one that begins with `#` are. `NoMemory` where a growth was refused.
+pub fn read_command(alloc: Global, line: &[u8]) -> Result<Command, ScriptError>
+    ensures spelled { IfOk result (λ command. line.now ≡ command_line command) }
+    ensures read { (command : Command) → IsCommand command → line.now ≡ command_line command
+        → (result ≡ Ok command) ⊎ (result ≡ Err ScriptError.NoMemory) }
+{
+    let words = split_words(alloc, line)?;
+    read_words(alloc, words.as_slice())
+}
+
+/// The line that spells a command, without a line's end. `NoMemory` where a growth was refused.
+pub fn write_command(alloc: Global, command: &Command) -> Result<Vec<u8>, ScriptError>
+    ensures line { IfOk result (λ line. line.items ≡ command_line command.now) }
+    ensures error { IfErr result (λ e. e ≡ ScriptError.NoMemory) }
+{
+    let mut line = Vec::new(alloc);
+    match command {
+        Command::Path(call) => push_path_call(&mut line, call)?,
+    }
+    Ok(line)
+}
+
+fn push_path_call(line: &mut Vec<u8>, call: &PathCall) -> Result<(), AllocError>
+    ensures { OnOk result (line.new.items ≡ line.old.items ++ line_of (path_call_words call.now)) }
+{
+    match call {
+        PathCall::List { path } => {
+            line.extend_from_slice(b"list ")?;
+            push_text(line, path.as_bytes())
+        }
+        PathCall::Mkdir { path, mode } => {
+            line.extend_from_slice(b"mkdir ")?;
+            push_text(line, path.as_bytes())?;
+            push_mode(line, *mode, Mode::NEW_DIRECTORY)
+        }
+    }
+}
+
+/// Adds a mode as a line's last word, which the default isn't.
+fn push_mode(line: &mut Vec<u8>, mode: Mode, default: Mode) -> Result<(), AllocError>
+    ensures { OnOk result (line.new.items ≡ line.old.items ++ spaced (mode_words default mode)) }
+{
+    if mode == default {
+        return Ok(());
+    }
+    line.extend_from_slice(b" ")?;
+    line.extend_from_slice(&mode_word(mode))
+}
+
+/// The line that a reply is shown as, without a line's end. `NoMemory` where a growth was refused.
+pub fn write_reply(alloc: Global, reply: &Reply) -> Result<Vec<u8>, ScriptError>
+    ensures line { IfOk result (λ line. line.items ≡ reply_line reply.now) }
+    ensures error { IfErr result (λ e. e ≡ ScriptError.NoMemory) }
+{
+    let mut line = Vec::new(alloc);
+    match reply {
+        Reply::Done => line.extend_from_slice(b"ok")?,
+        Reply::Names(names) => push_names(&mut line, names)?,
+        Reply::Refused(errno) => {
+            line.extend_from_slice(b"err ")?;
+            line.extend_from_slice(errno_name(*errno))?;
+        }
+    }
+    Ok(line)
+}
+
+fn push_names(line: &mut Vec<u8>, names: &Names) -> Result<(), AllocError>
+    ensures { OnOk result (line.new.items ≡ line.old.items ++ codes "names" ++ spaced (map text_word names.now)) }
+{
+    line.extend_from_slice(b"names")?;
+    for name in names.as_slice() {
+        line.extend_from_slice(b" ")?;
+        push_text(line, name.as_slice())?;
+    }
+    Ok(())
+}
+
+fn errno_name(errno: Errno) -> &'static [u8]
+    ensures { result.now ≡ errno_name errno }
+{
+    match errno {
+        Errno::ENOENT => b"ENOENT",
+        Errno::ENOTDIR => b"ENOTDIR",
+        Errno::EISDIR => b"EISDIR",
+        Errno::EEXIST => b"EEXIST",
+        Errno::EINVAL => b"EINVAL",
+        Errno::ENAMETOOLONG => b"ENAMETOOLONG",
+        Errno::ELOOP => b"ELOOP",
+        Errno::EPERM => b"EPERM",
+        Errno::EBUSY => b"EBUSY",
+        Errno::ENOTEMPTY => b"ENOTEMPTY",
+        Errno::EBADF => b"EBADF",
+        Errno::EMFILE => b"EMFILE",
+        Errno::EFBIG => b"EFBIG",
+        Errno::EOVERFLOW => b"EOVERFLOW",
+        Errno::EROFS => b"EROFS",
+        Errno::EMLINK => b"EMLINK",
+        Errno::DIRFULL => b"DIRFULL",
+        Errno::NONUMBER => b"NONUMBER",
+        Errno::ENOSPC => b"ENOSPC",
+        Errno::ENOMEM => b"ENOMEM",
+        Errno::EIO => b"EIO",
+        Errno::DAMAGED => b"DAMAGED",
+        Errno::FAILED => b"FAILED",
+        Errno::BADNAME => b"BADNAME",
+        Errno::SNAPEXISTS => b"SNAPEXISTS",
+        Errno::NOSNAP => b"NOSNAP",
+        Errno::SNAPFULL => b"SNAPFULL",
+    }
+}

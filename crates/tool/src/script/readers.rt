@@ -1,0 +1,89 @@
+//! Reading a command from its words: the first says which it is, and the others are its fields in order.
+
+ghost use Rattle.std.specs.Prelude.{◌≡◌, ◌≢◌, ◌≤◌, ◌∷◌, ℕ, IfOk, IfErr, IfSome, IfNone, codes, map};
+ghost use Rattle.tool.specs.Lines.{mode_words, verb_name, ReadsWords};
+ghost use Rattle.tool.specs.Words.{mode_word};
+
+use super::ScriptError;
+use super::words::{read_mode, read_text};
+use model::{Command, Mode, PathCall};
+use std::alloc::Global;
+
+/// The first word of a command.
+#[derive(Clone, Copy)]
+enum Verb {
+    List,
+    Mkdir,
+}
+
+/// The command that words spell.
+pub(super) fn read_words(alloc: Global, words: &[&[u8]]) -> Result<Command, ScriptError>
+    ensures { ReadsWords (map (λ word. word.now) words.now) result }
+{
+    let [verb, fields @ ..] = words else {
+        return Err(ScriptError::NotACommand);
+    };
+    match read_verb(verb) {
+        Some(Verb::List) => read_list(alloc, fields),
+        Some(Verb::Mkdir) => read_mkdir(alloc, fields),
+        None => Err(ScriptError::NotACommand),
+    }
+}
+
+fn read_verb(word: &[u8]) -> Option<Verb>
+    ensures some { IfSome result (λ verb. word.now ≡ verb_name verb) }
+    ensures none { IfNone result ((verb : Verb) → word.now ≢ verb_name verb) }
+{
+    match word {
+        b"list" => Some(Verb::List),
+        b"mkdir" => Some(Verb::Mkdir),
+        _ => None,
+    }
+}
+
+/// `list P`.
+fn read_list(alloc: Global, fields: &[&[u8]]) -> Result<Command, ScriptError>
+    ensures { ReadsWords (codes "list" ∷ map (λ word. word.now) fields.now) result }
+{
+    let [path] = fields else {
+        return Err(ScriptError::NotACommand);
+    };
+    Ok(Command::Path(PathCall::List {
+        path: read_text(alloc, path)?,
+    }))
+}
+
+/// `mkdir P [MODE]`.
+fn read_mkdir(alloc: Global, fields: &[&[u8]]) -> Result<Command, ScriptError>
+    ensures { ReadsWords (codes "mkdir" ∷ map (λ word. word.now) fields.now) result }
+{
+    match fields {
+        [path] => mkdir_command(alloc, path, Mode::NEW_DIRECTORY),
+        [path, mode] => {
+            let mode = read_written_mode(mode, Mode::NEW_DIRECTORY)?;
+            mkdir_command(alloc, path, mode)
+        }
+        _ => Err(ScriptError::NotACommand),
+    }
+}
+
+fn mkdir_command(alloc: Global, path: &[u8], mode: Mode) -> Result<Command, ScriptError>
+    ensures { ReadsWords (codes "mkdir" ∷ path.now ∷ mode_words 493 mode) result }
+{
+    Ok(Command::Path(PathCall::Mkdir {
+        path: read_text(alloc, path)?,
+        mode,
+    }))
+}
+
+/// A mode that is written, which the default isn't.
+fn read_written_mode(word: &[u8], default: Mode) -> Result<Mode, ScriptError>
+    ensures spelled { IfOk result (λ mode. (mode ≤ 4095) × (mode ≢ default) × (mode_word mode ≡ word.now)) }
+    ensures error { IfErr result (λ e. e ≡ ScriptError.NotACommand) }
+    ensures refused { IfErr result (λ _. (mode : ℕ) → mode ≤ 4095 → mode ≢ default → mode_word mode ≢ word.now) }
+{
+    match read_mode(word) {
+        Some(mode) if mode != default => Ok(mode),
+        _ => Err(ScriptError::NotACommand),
+    }
+}

@@ -1,0 +1,149 @@
+//! A session: a script run over a mounted station.
+
+ghost use Rattle.std.specs.Prelude.{◌≡◌};
+
+use crate::mount::{MountError, RunError, mount};
+use crate::{ScriptError, Status, read_command, write_reply};
+use model::{Command, Errno, Reply};
+use station::Station;
+use std::alloc::{AllocError, AllocFailed, Global};
+use std::io::Write;
+
+/// Why a script isn't run.
+#[derive(Clone, Copy, Debug, PartialEq, Eq)]
+enum ScriptFault {
+    NoMemory,
+    /// The first line that is no command, counted from 1.
+    Line(u64),
+}
+
+impl<T: Drop> From<AllocFailed<T>> for ScriptFault {
+    fn from(_error: AllocFailed<T>) -> ScriptFault {
+        ScriptFault::NoMemory
+    }
+}
+
+/// Mounts the station, runs the script's commands, and writes one line to `out` for each reply.
+///
+/// Where the power was cut, the line `cut` stands in place of the reply to the command under way, and ends them. A fault
+/// goes to `err`. Answers the exit status: that of `Done`, `Cut`, `NotMounted`, `NotACommand` or `NoMemory`, or `FileFault`
+/// where `out` can't be written. `was_cut` says of the station whether its power was cut.
+pub fn session<S: Station, C: Fn(&S) -> bool, O: Write, E: Write>(
+    alloc: Global,
+    station: S,
+    script: &[u8],
+    was_cut: C,
+    out: &mut O,
+    err: &mut E,
+) -> (u8, S)
+    requires { C.IsAlwaysCallable was_cut }
+{
+    let commands = match read_script(alloc, script) {
+        Ok(commands) => commands,
+        Err(fault) => return (tell_script_fault(alloc, fault, err).number(), station),
+    };
+    let mut fs = match mount(alloc, station) {
+        Ok(fs) => fs,
+        Err((error, station)) => return (tell_mount_error(error, err).number(), station),
+    };
+    let ran = fs.run(commands.as_slice());
+    let station = fs.into_station();
+    let cut = was_cut(&station);
+    let status = match ran {
+        Ok(replies) => show_replies(alloc, replies.as_slice(), cut, out),
+        Err(RunError::NoMemory) => Status::NoMemory,
+    };
+    (status.number(), station)
+}
+
+/// The commands of a script's lines, but for empty lines and those that begin with `#`.
+fn read_script(alloc: Global, script: &[u8]) -> Result<Vec<Command>, ScriptFault> {
+    let mut commands = Vec::new(alloc);
+    let mut number = 0u64;
+    for line in script.split(|byte| *byte == b'\n') {
+        number = number.saturating_add(1);
+        if is_skipped(line) {
+            continue;
+        }
+        match read_command(alloc, line) {
+            Ok(command) => commands.push(command)?,
+            Err(ScriptError::NoMemory) => return Err(ScriptFault::NoMemory),
+            Err(ScriptError::NotACommand) => return Err(ScriptFault::Line(number)),
+        }
+    }
+    Ok(commands)
+}
+
+/// An empty line, or a comment.
+fn is_skipped(line: &[u8]) -> bool {
+    match line {
+        [] => true,
+        [first, ..] => *first == b'#',
+    }
+}
+
+/// Says which line is no command. Where `err` can't be written, the status alone says what it can.
+fn tell_script_fault<E: Write>(alloc: Global, fault: ScriptFault, err: &mut E) -> Status {
+    match fault {
+        ScriptFault::NoMemory => Status::NoMemory,
+        ScriptFault::Line(number) => {
+            if let Ok(text) = line_text(alloc, number) {
+                let _ = err.write_all(text.as_bytes());
+            }
+            Status::NotACommand
+        }
+    }
+}
+
+fn line_text(alloc: Global, number: u64) -> Result<String, AllocError> {
+    format!(in alloc; "wafl: line {number}\n")
+}
+
+/// Says why the station isn't mounted.
+fn tell_mount_error<E: Write>(error: MountError, err: &mut E) -> Status {
+    let text = match error {
+        MountError::NoMemory => "wafl: mount NOMEMORY\n",
+        MountError::Device => "wafl: mount DEVICE\n",
+        MountError::NoRoot => "wafl: mount NOROOT\n",
+        MountError::Damaged => "wafl: mount DAMAGED\n",
+    };
+    let _ = err.write_all(text.as_bytes());
+    Status::NotMounted
+}
+
+/// Writes the replies. The command that a cut interrupts is the first that answers EIO.
+fn show_replies<O: Write>(alloc: Global, replies: &[Reply], cut: bool, out: &mut O) -> Status {
+    for reply in replies {
+        if cut && is_failed_call(reply) {
+            break;
+        }
+        match show_reply(alloc, reply, out) {
+            Status::Done => {}
+            status => return status,
+        }
+    }
+    if !cut {
+        return Status::Done;
+    }
+    match out.write_all(b"cut\n") {
+        Ok(()) => Status::Cut,
+        Err(_) => Status::FileFault,
+    }
+}
+
+fn is_failed_call(reply: &Reply) -> bool {
+    matches!(reply, Reply::Refused(Errno::EIO))
+}
+
+fn show_reply<O: Write>(alloc: Global, reply: &Reply, out: &mut O) -> Status {
+    let Ok(mut line) = write_reply(alloc, reply) else {
+        return Status::NoMemory;
+    };
+    if line.push(b'\n').is_err() {
+        return Status::NoMemory;
+    }
+    match out.write_all(line.as_slice()) {
+        Ok(()) => Status::Done,
+        Err(_) => Status::FileFault,
+    }
+}

@@ -1,0 +1,95 @@
+//! Running a script: on the files themselves, or in memory where the power is to be cut.
+
+use crate::tell;
+use station::{Keep, Sim};
+use std::alloc::{AllocError, Global};
+use std::io::Read;
+use tool::files::{FileError, load_station, open_station, store_image};
+use tool::session::session;
+use tool::{Kept, Status};
+
+/// Runs a script on the image's files.
+pub fn run_on_files(rt: &HostRuntime, disk: &str, nvram: &str, script: &str) -> u8 {
+    let script = match script_bytes(rt, script) {
+        Ok(script) => script,
+        Err(error) => return tell(rt, &error).number(),
+    };
+    let station = match open_station(rt, disk, nvram) {
+        Ok(station) => station,
+        Err(error) => return tell(rt, &error).number(),
+    };
+    let (status, _station) = session(
+        rt.alloc(),
+        station,
+        script.as_slice(),
+        |_| false,
+        &mut rt.stdout(),
+        &mut rt.stderr(),
+    );
+    status
+}
+
+/// Runs a script on a station in memory whose power is cut within a device write, and stores what that leaves.
+pub fn run_with_cut(
+    rt: &HostRuntime,
+    disk: &str,
+    nvram: &str,
+    script: &str,
+    cut: u32,
+    keep: Kept<'_>,
+    bytes: u32,
+) -> u8 {
+    let loaded = load_run(rt, disk, nvram, script, keep);
+    let (script, mut sim, keep) = match loaded {
+        Ok(loaded) => loaded,
+        Err(error) => return tell(rt, &error).number(),
+    };
+    sim.cut_at(cut, keep, bytes);
+    let (status, sim) = session(
+        rt.alloc(),
+        sim,
+        script.as_slice(),
+        |sim: &Sim| sim.is_cut(),
+        &mut rt.stdout(),
+        &mut rt.stderr(),
+    );
+    if status != Status::Done.number() && status != Status::Cut.number() {
+        return status;
+    }
+    let (disk_bytes, nvram_bytes) = sim.images();
+    match store_image(rt, disk, nvram, disk_bytes, nvram_bytes) {
+        Ok(()) => status,
+        Err(error) => tell(rt, &error).number(),
+    }
+}
+
+/// What a run in memory starts from.
+fn load_run(
+    rt: &HostRuntime,
+    disk: &str,
+    nvram: &str,
+    script: &str,
+    keep: Kept<'_>,
+) -> Result<(Vec<u8>, Sim, Keep), FileError> {
+    let script = script_bytes(rt, script)?;
+    let sim = load_station(rt, disk, nvram)?;
+    Ok((script, sim, keep_of(rt.alloc(), keep)?))
+}
+
+/// The whole script: a file's bytes, or those of standard input where the name is `-`.
+fn script_bytes(rt: &HostRuntime, script: &str) -> Result<Vec<u8>, FileError> {
+    if script != "-" {
+        return Ok(std::fs::read(rt, script)?);
+    }
+    let mut bytes = Vec::new(rt.alloc());
+    rt.reader().read_to_end(&mut bytes)?;
+    Ok(bytes)
+}
+
+fn keep_of(alloc: Global, kept: Kept<'_>) -> Result<Keep, AllocError> {
+    match kept {
+        Kept::Nothing => Ok(Keep::Nothing),
+        Kept::Everything => Ok(Keep::Everything),
+        Kept::Bits(text) => Ok(Keep::Bits(text.bytes().map(|byte| byte == b'1').collect(alloc)?)),
+    }
+}
