@@ -229,7 +229,9 @@ impl PlainState {
         parent: u32,
         name: &[u8],
         mode: Mode,
-    ) -> Result<Option<NewDirectory>, AllocError> {
+    ) -> Result<Option<NewDirectory>, AllocError>
+        ensures { IfOk result (λ planned. IfSome planned (IsFree self.now)) }
+    {
         if number < FIRST_NUMBER || number >= self.inodes || self.has_number(number) {
             return Ok(None);
         }

@@ -4,7 +4,7 @@ ghost use Rattle.std.specs.Prelude.{◌≡◌, ◌⊎◌, ℕ, ◌+◌, ◌*◌,
 ghost use Rattle.station.specs.Images.{Images};
 ghost use Rattle.station.specs.Moments.{MayLeave, LeavesOnly, IsSameStation, CountsWrite, HasGrown};
 ghost use Rattle.oplog.specs.Ends.{LogEnd, StandsAt, KeepsDisk, IsBehind, at_place, unopened, HoldsNone, WithOrWithout};
-ghost use Rattle.layout.specs.Record.{IsRecord, record_length};
+ghost use Rattle.layout.specs.Record.{KeepsLimits, change_bytes, change_of};
 
 use byteorder::{ByteOrder, LittleEndian};
 use layout::{CLOSED, EPOCH_AT, Epoch, FIRST_GATE, HEADER_GATE, OPEN, RECORD_HEAD_BYTES, Record};
@@ -121,7 +121,9 @@ impl Log {
         entry: &Record,
     ) -> Result<(), LogError>
         requires size { (S.meaning station.old).nvram_bytes ≡ 2 * self.old.half }
-        requires fits { IsRecord entry.now }
+        requires fits { KeepsLimits (change_of entry.now) }
+        ensures same { IsSameStation (S.meaning station.old) (S.meaning station.new) }
+        ensures half { self.new.half ≡ self.old.half }
     {
         if self.is_stopped {
             return Err(LogError::Device);
@@ -200,8 +202,9 @@ impl Log {
 
 /// What stands behind a record's gate: its body's length, its body and the next gate, closed.
 fn behind_the_gate(alloc: Global, entry: &Record) -> Result<Vec<u8>, AllocError>
-    requires { IsRecord entry.now }
-    ensures { IfOk result (λ v. length v.items ≡ record_length entry.now + 5) }
+    requires fits { KeepsLimits (change_of entry.now) }
+    requires short { length (change_bytes (change_of entry.now)) ≤ 8388608 }
+    ensures { IfOk result (λ v. length v.items ≡ length (change_bytes (change_of entry.now)) + 5) }
 {
     let length = entry.encoded_len();
     let mut bytes = vec![in alloc; CLOSED; length + RECORD_HEAD_BYTES]?;

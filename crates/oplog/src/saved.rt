@@ -1,6 +1,6 @@
 //! Reading the log back.
 
-ghost use Rattle.std.specs.Prelude.{◌≡◌, ◌+◌, ◌*◌, ◌<◌, ◌≤◌, length};
+ghost use Rattle.std.specs.Prelude.{◌≡◌, ◌+◌, ◌*◌, ◌<◌, ◌≤◌, length, IfOk};
 ghost use Rattle.station.specs.Moments.{IsSameStation};
 ghost use Rattle.oplog.specs.Saved.{Saved};
 
@@ -43,6 +43,7 @@ impl SavedLog {
         requires most { half ≤ 8388608 }
         requires size { (S.meaning station.old).nvram_bytes ≡ 2 * half }
         ensures same { IsSameStation (S.meaning station.old) (S.meaning station.new) }
+        ensures half { IfOk result (λ saved. saved.half ≡ half) }
     {
         let epoch = generation.epoch_after(1);
         let even = is_present(read_header(station, 0)?, 0, epoch)?;

@@ -4,14 +4,20 @@ use Rattle.std.specs.Prelude.{OnOk, OnErr}
 use Rattle.std.specs.Global.{Vec}
 use Rattle.station.specs.Images.{Images, disk_with, nvram_with, Unchanged, MayWrite, Writes, NvWrites, MayNvWrite}
 use Rattle.station.specs.Moments.{Goes, MayLeave, After, LeavesJust}
-use Rattle.station.specs.Device.{Device, fresh, reads_of, after, after_all, MayBeLeft}
+use Rattle.station.specs.Device.{Device, fresh, reads_of, images_of, sectors_of, after, after_all, MayBeLeft}
 use Rattle.station.specs.DeviceLaws.{LeftAt-end, LeftAt-at_end, SeenIsHeld, seen_is_held}
-use Rattle.station.specs.Media.{HasCalls, Same, Adds, AddsWrite, AddsNvWrite}
-use Rattle.station.specs.Sim.{meaning_of}
+use Rattle.station.specs.Media.{IsLoadedFrom, HasCalls, Same, Adds, AddsWrite, AddsNvWrite}
+use Rattle.station.specs.Sim.{known, meaning_of, IsLoaded}
+use Rattle.station.specs.Plan.{kept_of}
+use Rattle.station.specs.declared.faults.Fate.{Fate}
+use Rattle.station.specs.declared.faults.Fate.TheVariants.{Done, Fails, IsCut}
+use Rattle.station.specs.declared.faults.Faults.{Faults}
 use Rattle.station.specs.declared.history.Call.{Call}
 use Rattle.station.specs.declared.history.Call.TheVariants.{Read, Write, NvWrite, Sync}
 use Rattle.station.specs.declared.media.Media.{Media}
 use Rattle.station.specs.declared.sim.Sim.{Sim}
+use Rattle.std.proofs.Math.Path.{fun_ext}
+use Rattle.station.proofs.TiedLemmas.{tied-may_be_left}
 use Rattle.station.proofs.DeviceLemmas.{after_all-push}
 use Rattle.station.proofs.GoesLemmas.{IsStep, goes_stays, goes_call, is_step-read, is_step-sync, is_step-write, is_step-nv_write, left_after_sync, left_after_nv_write}
 
@@ -73,11 +79,11 @@ module _ (old new : Sim) where
       let same : nvram_with at [] c.nvram ≡ c.nvram = rw (append-nil, add-zero) (take-append-drop at c.nvram) in
       record { kept = 0; within = omega arith; writes = λ i. record { disk = c.disk; nvram = sym same i } }
 
-  pub goes-nv_write : {T E : Type 0} (at : ℕ) (bytes : List ℕ) (result : Result T E) → OnOk result (AddsNvWrite old.media new.media at bytes (length bytes)) → OnErr result (Same old.media new.media ⊎ ((kept : ℕ) × (kept ≤ length bytes) × AddsNvWrite old.media new.media at bytes kept)) → Goes (MayNvWrite at bytes) (meaning_of old) (meaning_of new)
-  goes-nv_write at bytes (Ok x) ok err = goes-nv_write_of at bytes (length bytes) (omega arith) ok
-  goes-nv_write at bytes (Err e) ok err = elim err [
+  pub goes-nv_write : {T E : Type 0} (at : ℕ) (bytes : List ℕ) (kept : ℕ) (result : Result T E) → kept ≤ length bytes → OnOk result (AddsNvWrite old.media new.media at bytes (length bytes)) → OnErr result (Same old.media new.media ⊎ AddsNvWrite old.media new.media at bytes kept) → Goes (MayNvWrite at bytes) (meaning_of old) (meaning_of new)
+  goes-nv_write at bytes kept (Ok x) within ok err = goes-nv_write_of at bytes (length bytes) (omega arith) ok
+  goes-nv_write at bytes kept (Err e) within ok err = elim err [
     | inl same ↦ stays (MayNvWrite at bytes) (may_write_nothing at bytes) same
-    | inr adds ↦ goes-nv_write_of at bytes adds.0 adds.1 adds.2
+    | inr adds ↦ goes-nv_write_of at bytes kept within adds
   ]
 
   -- an NVRAM write that succeeded
@@ -105,3 +111,35 @@ sector-read old new n from size disk media power is start whole = rw (is, start,
 
 pub nvram-read : (old new : Sim) → Same old.media new.media ⊎ Adds old.media new.media Read → new.media.nvram.items ≡ (meaning_of old).seen.nvram
 nvram-read old new media = sym new.media.tied.nvram_is ∙ ap (λ c. c.nvram) ((goes-read old new media).seen)
+
+-- what a cut may leave now
+pub may_leave-images : (s : Sim) (disk nvram : List ℕ) → disk ≡ s.media.disk.items → nvram ≡ s.media.nvram.items → MayLeave (meaning_of s) (images_of disk nvram)
+may_leave-images s disk nvram d n = rw (d, n) (LeftAt-at_end _ s.media.calls.items _ (tied-may_be_left (device_of s) _ _ _ _ _ s.media.is_cut (seen_is_held s) s.media.tied))
+
+-- right after the load
+pub is_loaded : (disk nvram : List ℕ) (m : Media) → IsLoadedFrom disk nvram m → IsLoaded disk nvram (known m.sectors m.nvram_bytes 0 0 (fresh m.first_disk.items m.first_nvram.items) m.calls.items)
+unfolding after_all
+is_loaded disk nvram m from = record {
+  sectors = from.sectors;
+  nvram_bytes = from.nvram_bytes;
+  failed_reads = refl;
+  failed_writes = refl;
+  moment = rw from.calls refl;
+  honest = tt;
+  seen = ap reads_of device;
+  left = λ c left. left_fresh c (subst (λ d. MayBeLeft d c) device (LeftAt-end _ m.calls.items c left));
+}
+  where
+    device : after_all (fresh m.first_disk.items m.first_nvram.items) m.calls.items ≡ fresh disk nvram
+    device = rw (from.calls, from.first_disk, from.first_nvram) refl
+
+    left_fresh : (c : Images) → MayBeLeft (fresh disk nvram) c → c ≡ images_of disk nvram
+    left_fresh c left =
+        let each : c.disk ≡ sectors_of disk = fun_ext (λ n. elim (left.disk n) [ inl e ↦ e | inr none ↦ absurd none ]) in
+        λ i. record { disk = each i; nvram = left.nvram i }
+
+-- no more than all
+pub kept_of-le : (f : Faults) (fate : Fate) (n : ℕ) → kept_of f fate n ≤ n
+kept_of-le f Done n = omega arith
+kept_of-le f Fails n = omega arith
+kept_of-le f IsCut n = omega arith

@@ -2,7 +2,7 @@
 -- A disk writes a sector whole or not at all, and in any order until it is told to sync; an NVRAM keeps each byte that
 -- reached it. An NVRAM behind a file system on such a disk is described by Hitz, Lau and Malcolm, "File System Design
 -- for an NFS File Server Appliance", USENIX Winter 1994.
-use Rattle.std.specs.Prelude.{◌≡◌, ◌⊎◌, ℕ, zero, suc, ◌*◌, ◌≤◌, List, [], ◌∷◌, ◌++◌, length, take, drop, fold, if◌then◌else◌}
+use Rattle.std.specs.Prelude.{◌≡◌, ◌⊎◌, ℕ, zero, suc, ◌*◌, ◌/◌, ◌%◌, ◌^◌, ◌<◌, ◌≤◌, List, [], ◌∷◌, ◌++◌, length, take, drop, fold, if◌then◌else◌}
 use Rattle.station.specs.Images.{Images, part_of, reaches, disk_with, nvram_with}
 use Rattle.station.specs.declared.history.Call.{Call}
 use Rattle.station.specs.declared.history.Call.TheVariants.{Read, Write, NvWrite, Sync}
@@ -18,6 +18,10 @@ pub record Device : Type 0 where
 abbrev pub sectors_of : List ℕ → ℕ → List ℕ
 sectors_of disk n = take 512 (drop (512 * n) disk)
 
+-- these bytes are too many, or no whole sectors
+abbrev pub IsBadSize : List ℕ → List ℕ → Type 0
+IsBadSize disk nvram = (0 < length disk % 512) ⊎ (2 ^ 32 ≤ length disk / 512) ⊎ (2 ^ 32 ≤ length nvram)
+
 -- before any call, all settled
 abbrev pub fresh : List ℕ → List ℕ → Device
 fresh disk nvram = record { seen = sectors_of disk; held = λ n. sectors_of disk n ∷ []; nvram = nvram }
@@ -25,6 +29,10 @@ fresh disk nvram = record { seen = sectors_of disk; held = λ n. sectors_of disk
 -- what reads give
 abbrev pub reads_of : Device → Images
 reads_of d = record { disk = d.seen; nvram = d.nvram }
+
+-- the images of these bytes
+abbrev pub images_of : List ℕ → List ℕ → Images
+images_of disk nvram = record { disk = sectors_of disk; nvram = nvram }
 
 -- what a call leaves
 unfoldable pub after : Device → Call → Device

@@ -3,6 +3,7 @@ pub mod Moments
 pub mod Writes
 pub mod Device
 pub mod Tied
+pub mod Plan
 pub mod Media
 pub mod Sim
 pub mod DeviceLaws

@@ -1,9 +1,24 @@
 -- What changes in the media of a station in memory.
-use Rattle.std.specs.Prelude.{◌≡◌, ℕ, Bool, List, [], ◌∷◌, ◌++◌}
+use Rattle.std.specs.Prelude.{◌≡◌, ℕ, ◌*◌, Bool, true, false, length, List, [], ◌∷◌, ◌++◌}
 use Rattle.std.specs.Global.{Vec}
 use Rattle.station.specs.declared.history.Call.{Call}
 use Rattle.station.specs.declared.history.Call.TheVariants.{Write, NvWrite}
+use Rattle.station.specs.declared.keep.Keep.{Keep}
 use Rattle.station.specs.declared.media.Media.{Media}
+
+-- these bytes, before any call
+pub record IsLoadedFrom (disk nvram : List ℕ) (m : Media) : Type 0 where
+  pub sectors : 512 * m.sectors ≡ length disk
+  pub nvram_bytes : m.nvram_bytes ≡ length nvram
+  pub first_disk : m.first_disk.items ≡ disk
+  pub first_nvram : m.first_nvram.items ≡ nvram
+  pub calls : m.calls.items ≡ []
+  pub power : m.is_cut ≡ false
+
+-- the power was cut, which kept these of the unsynced sector writes
+pub record WasCut (m : Media) (keep : Keep) : Type 0 where
+  pub power : m.is_cut ≡ true
+  pub kept : m.keep ≡ keep
 
 -- the same station, with these calls
 pub record HasCalls (old new : Media) (list : List Call) : Type 0 where

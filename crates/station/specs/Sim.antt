@@ -1,8 +1,9 @@
 -- What is known of a station in memory.
-use Rattle.std.specs.Prelude.{◌≡◌, ◌↔◌, ℕ, ◌*◌, List, length, Result}
+use Rattle.std.specs.Prelude.{◌≡◌, ◌↔◌, ℕ, ◌*◌, Bool, List, length, Result}
 use Rattle.station.specs.Images.{Images}
-use Rattle.station.specs.Moments.{Meaning, CountsRead, CountsWrite}
-use Rattle.station.specs.Device.{Device, fresh, reads_of, after_all, LeftAt}
+use Rattle.station.specs.Moments.{Meaning, CountsRead, CountsWrite, LeavesJust}
+use Rattle.station.specs.Device.{Device, fresh, reads_of, images_of, after_all, LeftAt}
+use Rattle.station.specs.Plan.{Plan, planned}
 use Rattle.station.specs.declared.history.Call.{Call}
 use Rattle.station.specs.declared.sim.Sim.{Sim}
 
@@ -22,6 +23,25 @@ known sectors nvram_bytes failed_reads failed_writes first calls = record {
 
 abbrev pub meaning_of : Sim → Meaning
 meaning_of s = known s.media.sectors s.media.nvram_bytes s.failed_reads s.failed_writes (fresh s.media.first_disk.items s.media.first_nvram.items) s.media.calls.items
+
+-- its power was cut
+abbrev pub was_cut : Sim → Bool
+was_cut s = s.media.is_cut
+
+-- what is to befall its calls
+abbrev pub plan_of : Sim → Plan
+plan_of s = planned s.faults
+
+-- a station before any call, with these bytes, all settled
+pub record IsLoaded (disk nvram : List ℕ) (m : Meaning) : Type 0 where
+  pub sectors : 512 * m.sectors ≡ length disk
+  pub nvram_bytes : m.nvram_bytes ≡ length nvram
+  pub failed_reads : m.failed_reads ≡ 0
+  pub failed_writes : m.failed_writes ≡ 0
+  pub moment : m.moment ≡ 0
+  pub honest : m.is_honest
+  pub seen : m.seen ≡ images_of disk nvram
+  pub left : LeavesJust m (images_of disk nvram)
 
 -- no failure was counted
 pub record SameCounts (old new : Sim) : Type 0 where

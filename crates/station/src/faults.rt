@@ -1,7 +1,9 @@
 //! Which of a station's calls are to fail, and where its power is to be cut.
 
-ghost use Rattle.std.specs.Prelude.{◌≡◌, ◌≤◌};
-ghost use Rattle.station.specs.declared.faults.Fate.TheVariants.{Done};
+ghost use Rattle.std.specs.Prelude.{◌≡◌, ◌≤◌, Some, None};
+ghost use Rattle.station.specs.declared.keep.Keep.TheVariants.{Nothing};
+ghost use Rattle.station.specs.Moments.{counted};
+ghost use Rattle.station.specs.Plan.{planned, no_plan, is_next, fate_of_read, fate_of_write, fate_of_sync, kept_of};
 
 use crate::Keep;
 use std::mem;
@@ -32,7 +34,12 @@ pub(crate) struct Faults {
 
 impl Faults {
     /// No call is to fail.
-    pub(crate) fn new() -> Self {
+    pub(crate) fn new() -> Self
+        ensures calls { result.calls ≡ 0 }
+        ensures writes { result.writes ≡ 0 }
+        ensures syncs { result.syncs ≡ 0 }
+        ensures plan { planned result ≡ no_plan }
+    {
         Faults {
             cut_write: None,
             keep: Keep::Nothing,
@@ -46,21 +53,26 @@ impl Faults {
     }
 
     /// The power is to be cut within this device write; of an NVRAM write so many bytes are kept.
-    pub(crate) fn cut_at(&mut self, write: u32, keep: Keep, bytes: u32) {
+    pub(crate) fn cut_at(&mut self, write: u32, keep: Keep, bytes: u32)
+        ensures { self.new ≡ record self.old { cut_write = Some write; keep = keep; kept_bytes = bytes } }
+    {
         self.cut_write = Some(write);
         self.keep = keep;
         self.kept_bytes = bytes;
     }
 
     /// Which unsynced sector writes the cut is to keep.
-    pub(crate) fn take_keep(&mut self) -> Keep {
+    pub(crate) fn take_keep(&mut self) -> Keep
+        ensures taken { result ≡ self.old.keep }
+        ensures left { self.new ≡ record self.old { keep = Nothing } }
+    {
         mem::replace(&mut self.keep, Keep::Nothing)
     }
 
     /// How many of so many bytes an NVRAM write keeps.
     pub(crate) fn kept_of(&self, fate: Fate, length: usize) -> usize
+        ensures kept { result ≡ kept_of self.now fate length }
         ensures within { result ≤ length }
-        ensures done { fate ≡ Done → result ≡ length }
     {
         match fate {
             Fate::Done => length,
@@ -70,17 +82,23 @@ impl Faults {
     }
 
     /// This call is to fail.
-    pub(crate) fn fail_at(&mut self, call: u32) {
+    pub(crate) fn fail_at(&mut self, call: u32)
+        ensures { self.new ≡ record self.old { failing_call = Some call } }
+    {
         self.failing_call = Some(call);
     }
 
     /// This sync is to fail.
-    pub(crate) fn fail_sync_at(&mut self, sync: u32) {
+    pub(crate) fn fail_sync_at(&mut self, sync: u32)
+        ensures { self.new ≡ record self.old { failing_sync = Some sync } }
+    {
         self.failing_sync = Some(sync);
     }
 
     /// What is to come of the next call, if it is a read.
-    pub(crate) fn of_read(&self) -> Fate {
+    pub(crate) fn of_read(&self) -> Fate
+        ensures { result ≡ fate_of_read self.now }
+    {
         if is_next(self.failing_call, self.calls) {
             Fate::Fails
         } else {
@@ -89,7 +107,9 @@ impl Faults {
     }
 
     /// What is to come of the next call, if it is a device write.
-    pub(crate) fn of_write(&self) -> Fate {
+    pub(crate) fn of_write(&self) -> Fate
+        ensures { result ≡ fate_of_write self.now }
+    {
         if is_next(self.cut_write, self.writes) {
             Fate::IsCut
         } else {
@@ -98,7 +118,9 @@ impl Faults {
     }
 
     /// What is to come of the next call, if it is a sync.
-    pub(crate) fn of_sync(&self) -> Fate {
+    pub(crate) fn of_sync(&self) -> Fate
+        ensures { result ≡ fate_of_sync self.now }
+    {
         if is_next(self.failing_sync, self.syncs) {
             Fate::Fails
         } else {
@@ -107,25 +129,33 @@ impl Faults {
     }
 
     /// There was a read.
-    pub(crate) fn count_read(&mut self) {
+    pub(crate) fn count_read(&mut self)
+        ensures { self.new ≡ record self.old { calls = counted self.old.calls } }
+    {
         self.calls = self.calls.saturating_add(1);
     }
 
     /// There was a device write.
-    pub(crate) fn count_write(&mut self) {
+    pub(crate) fn count_write(&mut self)
+        ensures { self.new ≡ record self.old { calls = counted self.old.calls; writes = counted self.old.writes } }
+    {
         self.calls = self.calls.saturating_add(1);
         self.writes = self.writes.saturating_add(1);
     }
 
     /// There was a sync.
-    pub(crate) fn count_sync(&mut self) {
+    pub(crate) fn count_sync(&mut self)
+        ensures { self.new ≡ record self.old { calls = counted self.old.calls; syncs = counted self.old.syncs } }
+    {
         self.calls = self.calls.saturating_add(1);
         self.syncs = self.syncs.saturating_add(1);
     }
 }
 
 /// Whether this number, counted from 1, comes next after so many.
-fn is_next(number: Option<u32>, so_far: u64) -> bool {
+fn is_next(number: Option<u32>, so_far: u64) -> bool
+    ensures { result ≡ is_next number so_far }
+{
     match number {
         Some(number) => so_far.checked_add(1) == Some(u64::from(number)),
         None => false,

@@ -1,7 +1,7 @@
 //! The disk and the NVRAM of a station in memory, with the calls that made them.
 
-ghost use Rattle.std.specs.Prelude.{◌≡◌, ℕ, ◌+◌, ◌-◌, ◌*◌, ◌/◌, ◌%◌, ◌^◌, ◌<◌, ◌≤◌, ◌++◌, ◌∷◌, [], take, drop, false, length, All, IfOk, OnOk, OnErr};
-ghost use Rattle.station.specs.Device.{fresh, after_all};
+ghost use Rattle.std.specs.Prelude.{◌≡◌, ℕ, ◌+◌, ◌-◌, ◌*◌, ◌/◌, ◌%◌, ◌^◌, ◌<◌, ◌≤◌, ◌++◌, ◌∷◌, [], take, drop, true, false, length, ◌↔◌, All, IfOk, OnOk, OnErr, IsErrOf};
+ghost use Rattle.station.specs.Device.{fresh, after_all, IsBadSize};
 ghost use Rattle.station.specs.Tied.{IsTied};
 ghost use Rattle.station.specs.Writes.{IsInRange};
 
@@ -36,13 +36,13 @@ pub(crate) struct Media {
 }
 
 impl Media {
-    ghost use Rattle.station.specs.Media.{Same, Adds};
+    ghost use Rattle.station.specs.Media.{IsLoadedFrom, Same, Adds};
     ghost use Rattle.station.specs.declared.history.Call.TheVariants.{Read, Write, NvWrite, Sync};
 
     /// These bytes, all settled.
     pub(crate) fn load(alloc: Global, disk: Vec<u8>, nvram: Vec<u8>) -> Result<Media, LoadError>
-        ensures sectors { IfOk result (λ m. 512 * m.sectors ≡ length disk.items) }
-        ensures nvram { IfOk result (λ m. m.nvram_bytes ≡ length nvram.items) }
+        ensures loaded { IfOk result (IsLoadedFrom disk.items nvram.items) }
+        ensures bad_size { IsErrOf result LoadError.BadSize ↔ IsBadSize disk.items nvram.items }
     {
         if disk.len() % SECTOR_BYTES != 0 {
             return Err(LoadError::BadSize);
@@ -138,7 +138,9 @@ impl Media {
     /// The power is cut: the disk becomes what that leaves of it.
     pub(crate) fn cut(&mut self, keep: Keep)
         requires { self.old.is_cut ≡ false }
-        ensures { Same self.old self.new }
+        ensures same { Same self.old self.new }
+        ensures power { self.new.is_cut ≡ true }
+        ensures keep { self.new.keep ≡ keep }
     {
         self.disk.copy_from_slice(&self.settled);
         apply_kept(&mut self.disk, &self.unsynced, &keep);

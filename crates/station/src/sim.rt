@@ -1,6 +1,9 @@
 //! A station in memory whose power can be cut at any write.
 
-ghost use Rattle.std.specs.Prelude.{◌≡◌, ◌⊎◌, ℕ, ◌+◌, ◌*◌, ◌%◌, ◌≤◌, length, true, false, IfOk, OnOk, OnErr};
+ghost use Rattle.std.specs.Prelude.{◌≡◌, ◌≢◌, ◌⊎◌, ℕ, ◌+◌, ◌*◌, ◌%◌, ◌≤◌, ◌↔◌, length, true, false, Some, IfOk, OnOk, OnErr, IsErrOf};
+ghost use Rattle.station.specs.Moments.{MayLeave};
+ghost use Rattle.station.specs.Device.{images_of, IsBadSize};
+ghost use Rattle.station.specs.Plan.{IsNumbered};
 
 use crate::faults::{Fate, Faults};
 use crate::media::Media;
@@ -39,18 +42,23 @@ pub struct Sim {
     faults: Faults,
     failed_reads: u64,
     failed_writes: u64,
+    ghost numbered: { IsNumbered faults media.calls.items },
 }
 
 impl Sim {
     ghost use Rattle.station.specs.declared.history.Call.TheVariants.{Read, Sync};
-    ghost use Rattle.station.specs.Media.{Same, Adds, AddsWrite, AddsNvWrite};
-    ghost use Rattle.station.specs.Sim.{meaning_of, KnowsSame, SameCounts, HasCountedRead, HasCountedWrite};
+    ghost use Rattle.station.specs.declared.faults.Fate.TheVariants.{Done, IsCut};
+    ghost use Rattle.station.specs.Plan.{fate_of_read, fate_of_write, fate_of_sync, kept_of, no_plan};
+    ghost use Rattle.station.specs.Media.{WasCut, Same, Adds, AddsWrite, AddsNvWrite};
+    ghost use Rattle.station.specs.Sim.{meaning_of, plan_of, was_cut, IsLoaded, KnowsSame, SameCounts, HasCountedRead, HasCountedWrite};
 
     /// A station with these images, all settled. BadSize exactly where the disk is no whole number of sectors, or a
     /// count (of sectors, of NVRAM bytes) is past `u32::MAX`; NoMemory where a growth was refused.
     pub fn load(alloc: Global, disk: Vec<u8>, nvram: Vec<u8>) -> Result<Sim, LoadError>
-        ensures sectors { IfOk result (λ s. 512 * (meaning_of s).sectors ≡ length disk.items) }
-        ensures nvram { IfOk result (λ s. (meaning_of s).nvram_bytes ≡ length nvram.items) }
+        ensures loaded { IfOk result (λ s. IsLoaded disk.items nvram.items (meaning_of s)) }
+        ensures power { IfOk result (λ s. was_cut s ≡ false) }
+        ensures plan { IfOk result (λ s. plan_of s ≡ no_plan) }
+        ensures bad_size { IsErrOf result LoadError.BadSize ↔ IsBadSize disk.items nvram.items }
     {
         Ok(Sim {
             media: Media::load(alloc, disk, nvram)?,
@@ -63,7 +71,9 @@ impl Sim {
     /// The power is to be cut within device write number `write`, counted from 1 since the load. Where it is an NVRAM
     /// write, its first `bytes` bytes are kept, all of them if it is shorter.
     pub fn cut_at(&mut self, write: u32, keep: Keep, bytes: u32)
-        ensures { KnowsSame (meaning_of self.old) (meaning_of self.new) }
+        ensures plan { plan_of self.new ≡ record (plan_of self.old) { cut_write = Some write; keep = keep; kept_bytes = bytes } }
+        ensures same { KnowsSame (meaning_of self.old) (meaning_of self.new) }
+        ensures power { was_cut self.new ≡ was_cut self.old }
     {
         self.faults.cut_at(write, keep, bytes);
     }
@@ -71,27 +81,35 @@ impl Sim {
     /// Call number `call` of any kind, counted from 1 since the load, is to fail. A disk write that fails counts as
     /// unsynced and is in no read; an NVRAM write that fails keeps none of its bytes.
     pub fn fail_at(&mut self, call: u32)
-        ensures { KnowsSame (meaning_of self.old) (meaning_of self.new) }
+        ensures plan { plan_of self.new ≡ record (plan_of self.old) { failing_call = Some call } }
+        ensures same { KnowsSame (meaning_of self.old) (meaning_of self.new) }
+        ensures power { was_cut self.new ≡ was_cut self.old }
     {
         self.faults.fail_at(call);
     }
 
     /// Sync number `sync`, counted from 1 since the load, is to fail.
     pub fn fail_sync_at(&mut self, sync: u32)
-        ensures { KnowsSame (meaning_of self.old) (meaning_of self.new) }
+        ensures plan { plan_of self.new ≡ record (plan_of self.old) { failing_sync = Some sync } }
+        ensures same { KnowsSame (meaning_of self.old) (meaning_of self.new) }
+        ensures power { was_cut self.new ≡ was_cut self.old }
     {
         self.faults.fail_sync_at(sync);
     }
 
     /// Whether the power was cut.
-    pub fn is_cut(&self) -> bool {
+    pub fn is_cut(&self) -> bool
+        ensures { result ≡ was_cut self.now }
+    {
         self.media.is_cut
     }
 
     /// The disk and the NVRAM: what reads give, or after the cut what it left.
     pub fn images(&self) -> (&[u8], &[u8])
-        ensures disk { length result.0.now ≡ 512 * (meaning_of self.now).sectors }
-        ensures nvram { length result.1.now ≡ (meaning_of self.now).nvram_bytes }
+        ensures disk_size { length result.0.now ≡ 512 * (meaning_of self.now).sectors }
+        ensures nvram_size { length result.1.now ≡ (meaning_of self.now).nvram_bytes }
+        ensures seen { was_cut self.now ≡ false → images_of result.0.now result.1.now ≡ (meaning_of self.now).seen }
+        ensures left { MayLeave (meaning_of self.now) (images_of result.0.now result.1.now) }
     {
         (&self.media.disk, &self.media.nvram)
     }
@@ -99,10 +117,11 @@ impl Sim {
     /// Keeps a read, and tells whether it succeeds.
     fn try_read(&mut self) -> Result<(), DeviceFault>
         ensures media { Same self.old.media self.new.media ⊎ Adds self.old.media self.new.media Read }
+        ensures fate { OnOk result (fate_of_read self.old.faults ≡ Done) }
         ensures power { OnOk result (self.new.media.is_cut ≡ false) }
         ensures counts { SameCounts self.old self.new }
     {
-        if self.media.is_cut {
+        if self.is_cut() {
             return Err(DeviceFault);
         }
         let fate = self.faults.of_read();
@@ -135,9 +154,12 @@ impl Sim {
         requires whole { length bytes.now % 512 ≡ 0 }
         ensures ok { OnOk result (AddsWrite self.old.media self.new.media first bytes.now true) }
         ensures err { OnErr result (Same self.old.media self.new.media ⊎ AddsWrite self.old.media self.new.media first bytes.now false) }
+        ensures fate { OnOk result (fate_of_write self.old.faults ≡ Done) }
+        ensures power { fate_of_write self.old.faults ≢ IsCut → self.new.media.is_cut ≡ self.old.media.is_cut }
+        ensures cut { fate_of_write self.old.faults ≡ IsCut → WasCut self.new.media self.old.faults.keep ⊎ Same self.old.media self.new.media }
         ensures counts { SameCounts self.old self.new }
     {
-        if self.media.is_cut {
+        if self.is_cut() {
             return Err(DeviceFault);
         }
         let fate = self.faults.of_write();
@@ -145,6 +167,7 @@ impl Sim {
         let Ok(()) = self.media.write(first, bytes, done) else {
             return Err(DeviceFault);
         };
+        self.faults.count_write();
         self.end_write(fate);
         if done { Ok(()) } else { Err(DeviceFault) }
     }
@@ -165,10 +188,13 @@ impl Sim {
     fn try_nv_write(&mut self, at: u32, bytes: &[u8]) -> Result<(), DeviceFault>
         requires { at + length bytes.now ≤ self.old.media.nvram_bytes }
         ensures ok { OnOk result (AddsNvWrite self.old.media self.new.media at bytes.now (length bytes.now)) }
-        ensures err { OnErr result (Same self.old.media self.new.media ⊎ ((kept : ℕ) × (kept ≤ length bytes.now) × AddsNvWrite self.old.media self.new.media at bytes.now kept)) }
+        ensures err { OnErr result (Same self.old.media self.new.media ⊎ AddsNvWrite self.old.media self.new.media at bytes.now (kept_of self.old.faults (fate_of_write self.old.faults) (length bytes.now))) }
+        ensures fate { OnOk result (fate_of_write self.old.faults ≡ Done) }
+        ensures power { fate_of_write self.old.faults ≢ IsCut → self.new.media.is_cut ≡ self.old.media.is_cut }
+        ensures cut { fate_of_write self.old.faults ≡ IsCut → WasCut self.new.media self.old.faults.keep ⊎ Same self.old.media self.new.media }
         ensures counts { SameCounts self.old self.new }
     {
-        if self.media.is_cut {
+        if self.is_cut() {
             return Err(DeviceFault);
         }
         let fate = self.faults.of_write();
@@ -176,6 +202,7 @@ impl Sim {
         let Ok(()) = self.media.nv_write(at, bytes, kept) else {
             return Err(DeviceFault);
         };
+        self.faults.count_write();
         self.end_write(fate);
         match fate {
             Fate::Done => Ok(()),
@@ -183,13 +210,14 @@ impl Sim {
         }
     }
 
-    /// Numbers a device write, and cuts the power where that is its fate.
+    /// Cuts the power where that is a write's fate.
     fn end_write(&mut self, fate: Fate)
         requires { self.old.media.is_cut ≡ false }
         ensures media { Same self.old.media self.new.media }
+        ensures power { fate ≢ IsCut → self.new.media.is_cut ≡ self.old.media.is_cut }
+        ensures cut { fate ≡ IsCut → WasCut self.new.media self.old.faults.keep }
         ensures counts { SameCounts self.old self.new }
     {
-        self.faults.count_write();
         if fate == Fate::IsCut {
             self.media.cut(self.faults.take_keep());
         }
@@ -199,9 +227,11 @@ impl Sim {
     fn try_sync(&mut self) -> Result<(), DeviceFault>
         ensures ok { OnOk result (Adds self.old.media self.new.media (Sync true)) }
         ensures err { OnErr result (Same self.old.media self.new.media ⊎ Adds self.old.media self.new.media (Sync false)) }
+        ensures fate { OnOk result (fate_of_sync self.old.faults ≡ Done) }
+        ensures power { self.new.media.is_cut ≡ self.old.media.is_cut }
         ensures counts { SameCounts self.old self.new }
     {
-        if self.media.is_cut {
+        if self.is_cut() {
             return Err(DeviceFault);
         }
         let done = self.faults.of_sync() == Fate::Done;

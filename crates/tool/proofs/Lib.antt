@@ -1,4 +1,4 @@
 mod LineLemmas
+mod ScriptLemmas
 mod SplitLemmas
 mod WordLemmas
-pub mod Sizes

@@ -1,2 +1,4 @@
 pub mod Lines
+pub mod Scripts
+pub mod Statuses
 pub mod Words

@@ -4,7 +4,6 @@
 mod file_station;
 pub mod files;
 mod line;
-pub mod mount;
 mod script;
 pub mod session;
 mod status;
@@ -13,3 +12,6 @@ pub use file_station::{FileStation, SizeError};
 pub use line::{Kept, Line, LineError, read_line};
 pub use script::{ScriptError, read_command, write_command, write_reply};
 pub use status::Status;
+
+#[cfg(test)]
+mod tests;

@@ -1,10 +1,13 @@
 //! A session: a script run over a mounted station.
 
-ghost use Rattle.std.specs.Prelude.{◌≡◌};
+ghost use Rattle.std.specs.Prelude.{◌≡◌, ◌≢◌, ◌⊎◌, ◌==◌, ℕ, IfOk, IfErr, map};
+ghost use Rattle.std.specs.List.{slice_split};
+ghost use Rattle.tool.specs.Scripts.{fault_status, is_skipped, lines_of, IsFaultOf, IsScriptOf, RefusesScript};
+ghost use Rattle.tool.specs.declared.session.ScriptFault.TheVariants.{NoMemory};
 
-use crate::mount::{MountError, RunError, mount};
 use crate::{ScriptError, Status, read_command, write_reply};
 use model::{Command, Errno, Reply};
+use mount::{MountError, RunError, mount};
 use station::Station;
 use std::alloc::{AllocError, AllocFailed, Global};
 use std::io::Write;
@@ -13,12 +16,33 @@ use std::io::Write;
 #[derive(Clone, Copy, Debug, PartialEq, Eq)]
 enum ScriptFault {
     NoMemory,
-    /// The first line that is no command, counted from 1.
-    Line(u64),
+    /// The first line that is no command, counted from 0.
+    Line(usize),
+}
+
+impl ScriptFault {
+    fn status(self) -> Status
+        ensures { result ≡ fault_status self }
+    {
+        match self {
+            ScriptFault::NoMemory => Status::NoMemory,
+            ScriptFault::Line(_) => Status::NotACommand,
+        }
+    }
 }
 
 impl<T: Drop> From<AllocFailed<T>> for ScriptFault {
+    ghost from_gives = { λ _ e. e ≡ NoMemory };
+
     fn from(_error: AllocFailed<T>) -> ScriptFault {
+        ScriptFault::NoMemory
+    }
+}
+
+impl From<AllocError> for ScriptFault {
+    ghost from_gives = { λ _ e. e ≡ NoMemory };
+
+    fn from(_error: AllocError) -> ScriptFault {
         ScriptFault::NoMemory
     }
 }
@@ -37,10 +61,14 @@ pub fn session<S: Station, C: Fn(&S) -> bool, O: Write, E: Write>(
     err: &mut E,
 ) -> (u8, S)
     requires { C.IsAlwaysCallable was_cut }
+    ensures { result.0 ≡ 5 → RefusesScript script.now station result.1 }
 {
     let commands = match read_script(alloc, script) {
         Ok(commands) => commands,
-        Err(fault) => return (tell_script_fault(alloc, fault, err).number(), station),
+        Err(fault) => {
+            tell_script_fault(alloc, fault, err);
+            return (fault.status().number(), station);
+        }
     };
     let mut fs = match mount(alloc, station) {
         Ok(fs) => fs,
@@ -57,25 +85,36 @@ pub fn session<S: Station, C: Fn(&S) -> bool, O: Write, E: Write>(
 }
 
 /// The commands of a script's lines, but for empty lines and those that begin with `#`.
-fn read_script(alloc: Global, script: &[u8]) -> Result<Vec<Command>, ScriptFault> {
+fn read_script(alloc: Global, script: &[u8]) -> Result<Vec<Command>, ScriptFault>
+    ensures commands { IfOk result (λ commands. IsScriptOf script.now commands.items) }
+    ensures fault { IfErr result (IsFaultOf script.now) }
+{
+    let lines = split_lines(alloc, script)?;
     let mut commands = Vec::new(alloc);
-    let mut number = 0u64;
-    for line in script.split(|byte| *byte == b'\n') {
-        number = number.saturating_add(1);
+    for (i, line) in lines.iter().enumerate() {
         if is_skipped(line) {
             continue;
         }
         match read_command(alloc, line) {
             Ok(command) => commands.push(command)?,
             Err(ScriptError::NoMemory) => return Err(ScriptFault::NoMemory),
-            Err(ScriptError::NotACommand) => return Err(ScriptFault::Line(number)),
+            Err(ScriptError::NotACommand) => return Err(ScriptFault::Line(i)),
         }
     }
     Ok(commands)
 }
 
+/// The parts of a script between its line ends. Behind the last line's end stands an empty one.
+fn split_lines<'a>(alloc: Global, script: &'a [u8]) -> Result<Vec<&'a [u8]>, AllocError>
+    ensures { IfOk result (λ lines. map (λ line. line.now) lines.items ≡ lines_of script.now) }
+{
+    script.split(|byte| *byte == b'\n').collect(alloc)
+}
+
 /// An empty line, or a comment.
-fn is_skipped(line: &[u8]) -> bool {
+fn is_skipped(line: &[u8]) -> bool
+    ensures { result ≡ is_skipped line.now }
+{
     match line {
         [] => true,
         [first, ..] => *first == b'#',
@@ -83,24 +122,23 @@ fn is_skipped(line: &[u8]) -> bool {
 }
 
 /// Says which line is no command. Where `err` can't be written, the status alone says what it can.
-fn tell_script_fault<E: Write>(alloc: Global, fault: ScriptFault, err: &mut E) -> Status {
-    match fault {
-        ScriptFault::NoMemory => Status::NoMemory,
-        ScriptFault::Line(number) => {
-            if let Ok(text) = line_text(alloc, number) {
-                let _ = err.write_all(text.as_bytes());
-            }
-            Status::NotACommand
+fn tell_script_fault<E: Write>(alloc: Global, fault: ScriptFault, err: &mut E) {
+    if let ScriptFault::Line(i) = fault {
+        if let Ok(text) = line_text(alloc, i) {
+            let _ = err.write_all(text.as_bytes());
         }
     }
 }
 
-fn line_text(alloc: Global, number: u64) -> Result<String, AllocError> {
+fn line_text(alloc: Global, i: usize) -> Result<String, AllocError> {
+    let number = i.saturating_add(1);
     format!(in alloc; "wafl: line {number}\n")
 }
 
 /// Says why the station isn't mounted.
-fn tell_mount_error<E: Write>(error: MountError, err: &mut E) -> Status {
+fn tell_mount_error<E: Write>(error: MountError, err: &mut E) -> Status
+    ensures { result ≡ Status.NotMounted }
+{
     let text = match error {
         MountError::NoMemory => "wafl: mount NOMEMORY\n",
         MountError::Device => "wafl: mount DEVICE\n",
@@ -112,7 +150,9 @@ fn tell_mount_error<E: Write>(error: MountError, err: &mut E) -> Status {
 }
 
 /// Writes the replies. The command that a cut interrupts is the first that answers EIO.
-fn show_replies<O: Write>(alloc: Global, replies: &[Reply], cut: bool, out: &mut O) -> Status {
+fn show_replies<O: Write>(alloc: Global, replies: &[Reply], cut: bool, out: &mut O) -> Status
+    ensures { result ≢ Status.NotACommand }
+{
     for reply in replies {
         if cut && is_failed_call(reply) {
             break;
@@ -135,7 +175,9 @@ fn is_failed_call(reply: &Reply) -> bool {
     matches!(reply, Reply::Refused(Errno::EIO))
 }
 
-fn show_reply<O: Write>(alloc: Global, reply: &Reply, out: &mut O) -> Status {
+fn show_reply<O: Write>(alloc: Global, reply: &Reply, out: &mut O) -> Status
+    ensures { result ≢ Status.NotACommand }
+{
     let Ok(mut line) = write_reply(alloc, reply) else {
         return Status::NoMemory;
     };

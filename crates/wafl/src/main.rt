@@ -86,7 +86,7 @@ fn show_help(rt: &HostRuntime, text: &str) -> Status {
 }
 
 /// Says on standard error what is wrong with a file. Where that can't be written, the status alone says what it can.
-fn tell(rt: &HostRuntime, error: &FileError) -> Status {
+fn tell(rt: &HostRuntime, error: &FileError<'_>) -> Status {
     let _ = eprintln!(rt; "wafl: {error}");
     error.status()
 }

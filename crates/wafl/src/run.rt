@@ -3,14 +3,13 @@
 use crate::tell;
 use station::{Keep, Sim};
 use std::alloc::{AllocError, Global};
-use std::io::Read;
-use tool::files::{FileError, load_station, open_station, store_image};
+use tool::files::{FileError, load_station, open_station, read_script, store_image};
 use tool::session::session;
 use tool::{Kept, Status};
 
 /// Runs a script on the image's files.
 pub fn run_on_files(rt: &HostRuntime, disk: &str, nvram: &str, script: &str) -> u8 {
-    let script = match script_bytes(rt, script) {
+    let script = match read_script(rt, script) {
         Ok(script) => script,
         Err(error) => return tell(rt, &error).number(),
     };
@@ -64,26 +63,16 @@ pub fn run_with_cut(
 }
 
 /// What a run in memory starts from.
-fn load_run(
+fn load_run<'a>(
     rt: &HostRuntime,
-    disk: &str,
-    nvram: &str,
-    script: &str,
+    disk: &'a str,
+    nvram: &'a str,
+    script: &'a str,
     keep: Kept<'_>,
-) -> Result<(Vec<u8>, Sim, Keep), FileError> {
-    let script = script_bytes(rt, script)?;
+) -> Result<(Vec<u8>, Sim, Keep), FileError<'a>> {
+    let script = read_script(rt, script)?;
     let sim = load_station(rt, disk, nvram)?;
     Ok((script, sim, keep_of(rt.alloc(), keep)?))
-}
-
-/// The whole script: a file's bytes, or those of standard input where the name is `-`.
-fn script_bytes(rt: &HostRuntime, script: &str) -> Result<Vec<u8>, FileError> {
-    if script != "-" {
-        return Ok(std::fs::read(rt, script)?);
-    }
-    let mut bytes = Vec::new(rt.alloc());
-    rt.reader().read_to_end(&mut bytes)?;
-    Ok(bytes)
 }
 
 fn keep_of(alloc: Global, kept: Kept<'_>) -> Result<Keep, AllocError> {

@@ -1,6 +1,6 @@
 use Rattle.std.proofs.Common.{◌≡◌, ◌*◌}
 use Rattle.station.specs.Moments.{IsSameStation}
-use Rattle.tool.proofs.mount.write_blocks.Given as goal
+use Rattle.mount.proofs.image.check_blocks.Given as goal
 
 abbrev pub invariant-loop-b : goal.invariant-loop-b
 invariant-loop-b g l = IsSameStation (g.S.Station.meaning l.fn.station) (g.S.Station.meaning l.station)

@@ -1,0 +1,5 @@
+use Rattle.station.proofs.SimLemmas.{may_leave-images}
+use Rattle.station.proofs.sim.Sim.images.Goals as goal
+
+pub returns-clause-left : goal.returns-clause-left
+returns-clause-left c = may_leave-images c.args.self.now _ _ c.deref.ensures.value c.deref-2.ensures.value
