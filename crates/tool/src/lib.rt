@@ -14,4 +14,6 @@ pub use script::{ScriptError, read_command, write_command, write_reply};
 pub use status::Status;
 
 #[cfg(test)]
+mod session_tests;
+#[cfg(test)]
 mod tests;

@@ -1,0 +1,310 @@
+//! Sessions over a station in memory: worked examples of replies, of power cuts and of the images' bytes.
+
+use crate::session::session;
+use mount::make;
+use station::{Keep, Sim};
+use std::alloc::Global;
+use std::process::Abort;
+use std::test::Fail;
+
+/// What a session answers, and the station that it leaves.
+struct Ran {
+    status: u8,
+    out: Vec<u8>,
+    err: Vec<u8>,
+    sim: Sim,
+}
+
+/// A fresh image of 64 blocks and 32 inodes, on a station that held other bytes before.
+fn fresh(rt: &impl Abort, alloc: Global) -> Result<Sim, Fail> {
+    let disk = vec![in alloc; 0xaa; 262_144]?;
+    let nvram = vec![in alloc; 0x55; 262_144]?;
+    match make(Sim::load(alloc, disk, nvram)?, 64, 32, 131_072) {
+        Ok(sim) => Ok(sim),
+        Err((error, _)) => panic!(rt; "{error}"),
+    }
+}
+
+/// The images that a station leaves, as another one.
+fn restarted(alloc: Global, sim: &Sim) -> Result<Sim, Fail> {
+    let (disk, nvram) = sim.images();
+    Ok(Sim::load(
+        alloc,
+        Vec::from_slice(alloc, disk)?,
+        Vec::from_slice(alloc, nvram)?,
+    )?)
+}
+
+fn ran(alloc: Global, sim: Sim, script: &[u8]) -> Ran {
+    let mut out = Vec::new(alloc);
+    let mut err = Vec::new(alloc);
+    let (status, sim) = session(
+        alloc,
+        sim,
+        script,
+        |sim: &Sim| sim.is_cut(),
+        &mut out,
+        &mut err,
+    );
+    Ran {
+        status,
+        out,
+        err,
+        sim,
+    }
+}
+
+/// A run that tells faults on neither side: its status and its lines.
+fn expect(rt: &impl Abort, ran: Ran, status: u8, out: &[u8]) -> Sim {
+    let Ran {
+        status: answered,
+        out: lines,
+        err,
+        sim,
+    } = ran;
+    assert_eq!(rt; answered, status);
+    assert_eq!(rt; lines.as_slice(), out);
+    assert!(rt; err.is_empty());
+    sim
+}
+
+#[test]
+fn a_directory_is_made_and_listed(rt: HostRuntime) -> Result<(), Fail> {
+    let script = b"mkdir /a\nlist /\nmkdir /a\n";
+    let sim = expect(
+        &rt,
+        ran(rt.alloc(), fresh(&rt, rt.alloc())?, script),
+        0,
+        b"ok\nnames a\nerr EEXIST\n",
+    );
+    expect(
+        &rt,
+        ran(rt.alloc(), restarted(rt.alloc(), &sim)?, b"list /"),
+        0,
+        b"names a\n",
+    );
+    Ok(())
+}
+
+#[test]
+fn an_empty_script_changes_nothing(rt: HostRuntime) -> Result<(), Fail> {
+    let sim = fresh(&rt, rt.alloc())?;
+    let before = restarted(rt.alloc(), &sim)?;
+    let sim = expect(&rt, ran(rt.alloc(), sim, b""), 0, b"");
+    assert_eq!(rt; sim.images().0, before.images().0);
+    assert_eq!(rt; sim.images().1, before.images().1);
+    Ok(())
+}
+
+/// `mkdir /a` with a power cut within a device write, and then `list /`.
+fn expect_after_cut(
+    rt: &impl Abort,
+    alloc: Global,
+    write: u32,
+    bytes: u32,
+    listed: &[u8],
+) -> Result<(), Fail> {
+    let mut sim = restarted(alloc, &fresh(rt, alloc)?)?;
+    sim.cut_at(write, Keep::Nothing, bytes);
+    let sim = expect(rt, ran(alloc, sim, b"mkdir /a\n"), 3, b"cut\n");
+    expect(
+        rt,
+        ran(alloc, restarted(alloc, &sim)?, b"list /\n"),
+        0,
+        listed,
+    );
+    Ok(())
+}
+
+#[test]
+fn a_cut_leaves_the_directory_or_none(rt: HostRuntime) -> Result<(), Fail> {
+    for write in 1..5 {
+        for bytes in [0, 1, 5, 9, 40] {
+            expect_after_cut(&rt, rt.alloc(), write, bytes, b"names\n")?;
+        }
+    }
+    expect_after_cut(&rt, rt.alloc(), 5, 0, b"names\n")?;
+    expect_after_cut(&rt, rt.alloc(), 5, 1, b"names a\n")
+}
+
+#[test]
+fn names_are_tested(rt: HostRuntime) -> Result<(), Fail> {
+    let alloc = rt.alloc();
+    let mut script = Vec::from_slice(alloc, b"mkdir /a/.\nmkdir /\n")?;
+    for length in [255, 256] {
+        script.extend_from_slice(b"mkdir /")?;
+        for _ in 0..length {
+            script.push(b'a')?;
+        }
+        script.push(b'\n')?;
+    }
+    expect(
+        &rt,
+        ran(rt.alloc(), fresh(&rt, rt.alloc())?, &script),
+        0,
+        b"err EINVAL\nerr EEXIST\nok\nerr ENAMETOOLONG\n",
+    );
+    Ok(())
+}
+
+#[test]
+fn numbers_run_out(rt: HostRuntime) -> Result<(), Fail> {
+    let alloc = rt.alloc();
+    let mut script = Vec::new(alloc);
+    let mut replies = Vec::new(alloc);
+    for name in b'A'..b'A' + 28 {
+        script.extend_from_slice(b"mkdir /")?;
+        script.push(name)?;
+        script.push(b'\n')?;
+        replies.extend_from_slice(b"ok\n")?;
+    }
+    script.extend_from_slice(b"mkdir /more\n")?;
+    replies.extend_from_slice(b"err NONUMBER\n")?;
+    expect(
+        &rt,
+        ran(rt.alloc(), fresh(&rt, rt.alloc())?, &script),
+        0,
+        &replies,
+    );
+    Ok(())
+}
+
+fn expect_refused(
+    rt: &impl Abort,
+    alloc: Global,
+    sim: Sim,
+    script: &[u8],
+    status: u8,
+    fault: &[u8],
+) {
+    let Ran {
+        status: answered,
+        out,
+        err,
+        sim: _,
+    } = ran(alloc, sim, script);
+    assert_eq!(rt; answered, status);
+    assert!(rt; out.is_empty());
+    assert_eq!(rt; err.as_slice(), fault);
+}
+
+#[test]
+fn other_images_are_not_mounted(rt: HostRuntime) -> Result<(), Fail> {
+    let alloc = rt.alloc();
+    let zeros = Sim::load(
+        alloc,
+        vec![in alloc; 0; 262_144]?,
+        vec![in alloc; 0; 262_144]?,
+    )?;
+    expect_refused(
+        &rt,
+        rt.alloc(),
+        zeros,
+        b"list /",
+        4,
+        b"wafl: mount NOROOT\n",
+    );
+
+    let sim = fresh(&rt, rt.alloc())?;
+    let mut disk = Vec::from_slice(alloc, sim.images().0)?;
+    let nvram = Vec::from_slice(alloc, sim.images().1)?;
+    assert_eq!(rt; disk.len(), 262_144);
+    for i in 0..512 {
+        disk[4096 + i] = disk[i];
+    }
+    expect_refused(
+        &rt,
+        rt.alloc(),
+        Sim::load(alloc, disk, nvram)?,
+        b"list /",
+        4,
+        b"wafl: mount DAMAGED\n",
+    );
+
+    let disk = Vec::from_slice(alloc, sim.images().0)?;
+    let nvram = vec![in alloc; 0; 131_072]?;
+    expect_refused(
+        &rt,
+        rt.alloc(),
+        Sim::load(alloc, disk, nvram)?,
+        b"list /",
+        4,
+        b"wafl: mount DAMAGED\n",
+    );
+    Ok(())
+}
+
+#[test]
+fn a_line_that_is_no_command_runs_nothing(rt: HostRuntime) -> Result<(), Fail> {
+    let sim = fresh(&rt, rt.alloc())?;
+    expect_refused(
+        &rt,
+        rt.alloc(),
+        sim,
+        b"mkdir /a\nmake /b\n",
+        5,
+        b"wafl: line 2\n",
+    );
+    Ok(())
+}
+
+/// Whether bytes begin with these, given in hexadecimal digits, and zeros stand from there to `end`.
+fn expect_bytes(rt: &impl Abort, bytes: &[u8], at: usize, expected: &[u8], end: usize) {
+    assert!(rt; at <= end);
+    assert!(rt; end <= bytes.len());
+    assert!(rt; expected.len() <= end - at);
+    let (start, rest) = bytes[at..end].split_at(expected.len());
+    assert_eq!(rt; start, expected);
+    assert!(rt; rest.iter().all(|byte| *byte == 0));
+}
+
+#[test]
+fn images_hold_the_worked_bytes(rt: HostRuntime) -> Result<(), Fail> {
+    let sim = expect(
+        &rt,
+        ran(rt.alloc(), fresh(&rt, rt.alloc())?, b"mkdir /a"),
+        0,
+        b"ok\n",
+    );
+    let (disk, nvram) = sim.images();
+    expect_bytes(
+        &rt,
+        disk,
+        0,
+        b"WAFLROOT\x01\0\0\0\x01\0\0\0\0\0\0\0\x40\0\0\0\x20\0\0\0\0\0\x02\0\x04\0\0\0\x01\0\0\0\0\x20\0\0\0\0\0\0\x01",
+        96,
+    );
+    expect_bytes(&rt, disk, 96, b"\x02", 512);
+    // Slot B.
+    expect_bytes(&rt, disk, 4096, b"", 4608);
+    // The inode block: the inode map, the block map and the root directory.
+    expect_bytes(&rt, disk, 8192, b"", 8384);
+    expect_bytes(&rt, disk, 8384, b"\x05\0\0\0\x01\0\0\0\x04", 8448);
+    expect_bytes(&rt, disk, 8448, b"\x0f", 8576);
+    expect_bytes(
+        &rt,
+        disk,
+        8576,
+        b"\x06\0\0\0\x01\0\0\0\0\x01\0\0\0\0\0\0\x01",
+        8640,
+    );
+    expect_bytes(&rt, disk, 8640, b"\x03", 8768);
+    expect_bytes(&rt, disk, 8768, b"\x02\0\xed\x01\x01", 12_288);
+    // The block map.
+    expect_bytes(
+        &rt,
+        disk,
+        12_288,
+        b"\0\0\0\x80\0\0\0\x80\x01\0\0\0\x01",
+        16_384,
+    );
+    expect_bytes(
+        &rt,
+        nvram,
+        0,
+        b"\x01\x02\0\0\0\0\0\0\0\x01\x0e\0\0\0\x01\x04\0\0\0\x03\0\0\0\x02\xed\x01\x01a",
+        29,
+    );
+    assert_eq!(rt; nvram[131_072], 0);
+    Ok(())
+}
