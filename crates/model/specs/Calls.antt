@@ -41,6 +41,7 @@ ListsAt t (refused errno) reply = reply ≡ Refused errno
 ListsAt t (missing p name) reply = reply ≡ Refused ENOENT
 ListsAt t (named p) reply = MatchBool (is_directory (t.objects p)) ((names : List Name) × IsListing t p names × (reply ≡ Names names)) (reply ≡ Refused ENOTDIR)
 
+-- the reply of `list`
 abbrev pub Lists : Tree → List ℕ → Reply → Type 0
 Lists t text reply = ListsAt t (resolve_tested (text_tests text) t true text) reply
 
@@ -52,6 +53,7 @@ Creates inodes make old (missing p name) reply new =
     (names : List Name) × IsListing old p names × MatchBool (nat_le 65536 (length names)) (IsRefused DIRFULL old reply new)
     ((HasNoFresh inodes old × IsRefused NONUMBER old reply new) ⊎ ((n : ℕ) × IsFresh inodes old n × (reply ≡ Done) × (new ≡ make (p ++ name ∷ []) n old)))
 
+-- `mkdir` (POSIX.1-2017, mkdir()): a final link isn't followed
 abbrev pub MakesDirectory : ℕ → Tree → List ℕ → ℕ → Reply → Tree → Type 0
 MakesDirectory inodes old text mode reply new =
     Creates inodes (λ p n. with_directory p n mode) old (resolve_tested (new_text_tests text) old false text) reply new

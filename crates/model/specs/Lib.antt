@@ -1,3 +1,4 @@
+pub mod Errnos
 pub mod Paths
 pub mod Trees
 pub mod Resolution

@@ -1,5 +1,5 @@
--- Paths, and the texts that name them (POSIX.1-2017, Base Definitions 3.271, "Pathname").
-use Rattle.std.specs.Prelude.{ℕ, ◌-◌, ◌≤◌, ◌≡◌, ◌==◌, nat_lt, not, ◌&&◌, ◌||◌, if◌then◌else◌, Bool, List, [], ◌∷◌, length, filter, slice_index, slice_index_or, codes, bytes_eq, Option, Some, None}
+-- Paths, and the texts that name them (POSIX.1-2017, Base Definitions, "Pathname").
+use Rattle.std.specs.Prelude.{ℕ, ◌-◌, ◌≤◌, ◌≡◌, ◌==◌, nat_lt, not, ◌&&◌, ◌||◌, if◌then◌else◌, Bool, false, List, [], ◌∷◌, length, filter, slice_index, slice_index_or, codes, bytes_eq, Option, Some, None}
 use Rattle.std.specs.List.{slice_split, list_any}
 use Rattle.model.specs.declared.errno.Errno.{Errno}
 use Rattle.model.specs.declared.errno.Errno.TheVariants.{ENOENT, EINVAL, ENAMETOOLONG}
@@ -28,8 +28,8 @@ is_empty xs = length xs == 0
 pub record IsName (name : Name) : Type 0 where
   pub some : 1 ≤ length name
   pub short : length name ≤ 255
-  pub bytes : list_any (λ b. is_slash b || b == 0) name ≡ Bool.false
-  pub dots : (is_dot name || is_dot_dot name) ≡ Bool.false
+  pub bytes : list_any (λ b. is_slash b || b == 0) name ≡ false
+  pub dots : (is_dot name || is_dot_dot name) ≡ false
 
 -- the parts of a text: what stands between its slashes. Runs of slashes count as one
 abbrev pub parts : List ℕ → List Name

@@ -13,6 +13,10 @@ IsWithin s command t = (t ≡ s) ⊎ ((reply : Reply) × WouldStep s command rep
 abbrev pub MayStand : State → Command → State → State → Type 0
 MayStand s command new t = elim new.mark [ going ↦ (t ≡ s) ⊎ (t ≡ new) | failed ↦ IsWithin s command t ]
 
+-- the states that a cut may leave at its answer
+abbrev pub MayRemain : State → Command → State → State → Type 0
+MayRemain s command new t = elim new.mark [ going ↦ t ≡ new | failed ↦ IsWithin s command t ]
+
 -- each command in turn gives its reply and the next state, under circumstances with P
 abbrev pub Runs : (Circumstances → Type 0) → State → List (Command × Reply) → State → Type 0
 Runs P s [] new = new ≡ s

@@ -1,5 +1,5 @@
 -- The state of a file system, and which reply and which new state each command may give.
-use Rattle.std.specs.Prelude.{ℕ, ◌≡◌, ◌⊎◌, Bool, false, MatchBool, IsTrue, List, [], None}
+use Rattle.std.specs.Prelude.{ℕ, ◌≡◌, ◌⊎◌, ◌≢◌, ◌≤◌, All, AllPairs, length, Bool, false, MatchBool, IsTrue, List, [], None}
 use Rattle.model.specs.declared.errno.Errno.TheVariants.{ENOSPC, ENOMEM, EIO, FAILED}
 use Rattle.model.specs.declared.reply.Reply.{Reply}
 use Rattle.model.specs.declared.reply.Reply.TheVariants.{Done, Refused}
@@ -7,7 +7,7 @@ use Rattle.model.specs.declared.command.Command.{Command}
 use Rattle.model.specs.declared.command.Command.TheVariants as command
 use Rattle.model.specs.declared.command.PathCall.TheVariants as call
 use Rattle.model.specs.Paths.{Name}
-use Rattle.model.specs.Trees.{Tree, HasPath, root_alone}
+use Rattle.model.specs.Trees.{Tree, IsTree, HasPath, root_alone}
 use Rattle.model.specs.Calls.{IsRefused, Lists, MakesDirectory}
 
 pub data Mark : Type 0 where
@@ -20,6 +20,13 @@ pub record State : Type 0 where
   pub snapshots : List (Name × Tree)  -- each with the tree as it was taken, oldest first
   pub mark : Mark
 
+-- what makes these a state: at most 20 snapshots, each name once
+pub record IsState (s : State) : Type 0 where
+  pub tree : IsTree s.tree
+  pub frozen : All (λ snapshot. IsTree snapshot.1) s.snapshots
+  pub few : length s.snapshots ≤ 20
+  pub once : AllPairs (λ a b. a.0 ≢ b.0) s.snapshots
+
 -- a file system as it is made: a root directory of mode 0755, and no snapshots
 abbrev pub empty : ℕ → State
 empty n = record { inodes = n; tree = root_alone 0o755; snapshots = []; mark = going }
@@ -30,7 +37,7 @@ with_tree t s = record s { tree = t }
 abbrev pub as_failed : State → State
 as_failed s = record s { mark = failed }
 
--- The tree without its descriptors and its nameless files
+-- the tree without its descriptors, and without the files that have no name
 pub record ForgetsOpenFiles (old new : Tree) : Type 0 where
   pub objects : new.objects ≡ old.objects
   pub descriptors : new.descriptors ≡ (λ d. None)

@@ -18,7 +18,7 @@ abbrev pub is_directory : Option Object → Bool
 is_directory (Some (directory n)) = true
 is_directory _ = false
 
--- an open file description (POSIX.1-2017, Base Definitions 3.258)
+-- an open file description (POSIX.1-2017, Base Definitions, "Open File Description")
 pub record Description : Type 0 where
   pub number : ℕ
   pub offset : ℕ
@@ -26,6 +26,7 @@ pub record Description : Type 0 where
   pub writes : Bool
   pub appends : Bool
 
+-- four maps; `IsTree` says what they keep
 pub record Tree : Type 0 where
   pub objects : Path → Option Object
   pub bytes : ℕ → Option (List ℕ)  -- of the files, by their numbers
@@ -44,6 +45,7 @@ HasPath t n = (p : Path) × (o : Object) × (t.objects p ≡ Some o) × (number 
 abbrev pub IsOpen : Tree → ℕ → Type 0
 IsOpen t n = (d : ℕ) × (f : Description) × (t.descriptors d ≡ Some f) × (f.number ≡ n)
 
+-- what makes the four maps a tree
 pub record IsTree (t : Tree) : Type 0 where
   pub root : t.objects [] ≡ Some (directory 3)
   pub above : (p q : Path) → q ≢ [] → IsSome (t.objects (p ++ q)) → IsTrue (is_directory (t.objects p))
@@ -53,6 +55,7 @@ pub record IsTree (t : Tree) : Type 0 where
   pub bytes : (n : ℕ) → IsSome (t.bytes n) ↔ (Stands t file n ⊎ IsOpen t n)
   pub mode : (n : ℕ) → IsSome (t.mode n) ↔ (Stands t directory n ⊎ Stands t file n ⊎ IsOpen t n)
   pub bits : (n : ℕ) → IfSome (t.mode n) (λ mode. mode ≤ 4095)
+  pub table : (d : ℕ) → 32 ≤ d → t.descriptors d ≡ None
   pub opened : (n : ℕ) (p : Path) (o : Object) → IsOpen t n → t.objects p ≡ Some o → number o ≡ n → o ≡ file n
 
 abbrev pub path_eq : Path → Path → Bool

@@ -90,8 +90,14 @@ pub enum Errno {
 }
 
 impl Errno {
+    ghost use Rattle.std.specs.Prelude.{◌≡◌, ◌-◌, ◌≤◌, Some, slice_get};
+    ghost use Rattle.model.specs.Errnos.{errnos};
+
     /// Its number, from 1 to 27.
-    pub fn number(self) -> u8 {
+    pub fn number(self) -> u8
+        ensures positive { 1 ≤ result }
+        ensures place { slice_get errnos (result - 1) ≡ Some self }
+    {
         self as u8
     }
 }

@@ -1,11 +1,10 @@
-use Rattle.std.proofs.Common.{◌∙◌}
 use Rattle.station.proofs.TiedLemmas.{tied_with-sync, tied_with-sync_failed}
 use Rattle.station.proofs.media.Media.sync.Goals as goal
 
 pub invariant_of-self-then-done-clause-tied : goal.invariant_of-self-then-done-clause-tied
 invariant_of-self-then-done-clause-tied c = tied_with-sync _ _ _ _ _ _ _ _ _ c.args.self.now.tied _ _ c.args.done
     c.in_ok-push.ensures.items c.requires c.if-done.true
-    (c.copy_from_slice.ensures.items ∙ c.deref.ensures.value) c.clear.ensures.items
+    (cc) (cc)
 
 pub invariant_of-self-else-done-clause-tied : goal.invariant_of-self-else-done-clause-tied
 invariant_of-self-else-done-clause-tied c = tied_with-sync_failed _ _ _ _ _ _ _ _ _ c.args.self.now.tied c.args.done
