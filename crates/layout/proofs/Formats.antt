@@ -1,7 +1,7 @@
 -- A format has a reader and a spelling: what is read is spelled so, and what is spelled so is read.
-use Rattle.std.proofs.Common.{◌≡◌, ℕ, ◌+◌, ◌*◌, ◌^◌, ◌<◌, ◌≤◌, Bool, true, false, cond, eqb, ltb, List, [], ◌∷◌, ◌++◌, length, take, drop, Option, Some, None, refl, sym, ap, subst, ◌∙◌, append_assoc, arith}
-use Rattle.std.proofs.lemmas.Bool.{ltb-false, le-ltb, eqb-true}
-use Rattle.std.proofs.lemmas.List.{take_at, drop_at, take-append-drop, length-append, length-take, get_or-drop, append-nil, nil_from_length}
+use Rattle.std.proofs.Common.{◌≡◌, ℕ, ◌+◌, ◌*◌, ◌^◌, ◌<◌, ◌≤◌, Bool, true, false, cond, eqb, ltb, List, [], ◌∷◌, ◌++◌, length, get_or, take, drop, Option, Some, None, ◌⊎◌, inl, inr, refl, sym, ap, subst, ◌∙◌, append_assoc, arith}
+use Rattle.std.proofs.lemmas.Bool.{cases_lt, ltb-false, le-ltb, eqb-true}
+use Rattle.std.proofs.lemmas.List.{get_or_append_left, get_or_past, take_at, drop_at, take-append-drop, length-append, length-take, get_or-drop, append-nil, nil_from_length}
 use Rattle.layout.specs.Bytes.{little, number, IsBytes}
 use Rattle.layout.specs.Reading.{◌>>=◌, number_at, part_at, counted_at, then_at, all_of}
 use Rattle.layout.proofs.NumberLaws.{length-little, number-spelled, number-little, number-lt}
@@ -23,6 +23,16 @@ unless_some false x y e = (refl, cc)
 pub if_some : {A : Type 0} (b : Bool) (x y : A) → cond b (Some x) None ≡ Some y → (b ≡ true) × (x ≡ y)
 if_some true x y e = (refl, cc)
 if_some false x y e = absurd cc
+
+-- the value behind a test
+pub if_then : {A : Type 0} (b : Bool) (x : Option A) (y : A) → cond b x None ≡ Some y → (b ≡ true) × (x ≡ Some y)
+if_then true x y e = (refl, e)
+if_then false x y e = absurd cc
+
+-- the value by the outcome of a test
+pub chosen : {A : Type 0} (b : Bool) (x y : Option A) (z : A) → cond b x y ≡ Some z → ((b ≡ true) × (x ≡ Some z)) ⊎ ((b ≡ false) × (y ≡ Some z))
+chosen true x y z e = inl (refl, e)
+chosen false x y z e = inr (refl, e)
 
 -- the bytes are this text and these bytes behind it
 pub record Takes (bytes text rest : List ℕ) : Type 0 where
@@ -121,3 +131,23 @@ byte_again byte rest =
     let long : ltb (length (byte ∷ rest)) 1 ≡ false = le-ltb _ _ (omega arith) in
     let same : byte + 256 * number 0 rest ≡ byte = omega arith in
     rw long (ap (λ (n : ℕ). Some (n, rest)) same)
+
+pub whole_takes : {A : Type 0} {p : List ℕ → Option (A × List ℕ)} {s : A → List ℕ} {F : A → Type 0} → IsFormat p s F → (bytes : List ℕ) (v : A) → IsBytes bytes → all_of p bytes ≡ Some v → (bytes ≡ s v) × F v
+whole_takes {A} {p} {s} {F} format bytes v fits e =
+    let t = all_takes format (λ x. x) bytes v fits (ap (λ (o : Option A). o >>= λ x. Some x) e) in
+    subst (λ (y : A). (bytes ≡ s y) × F y) t.made (t.spelled, t.fits)
+
+pub whole_again : {A : Type 0} {p : List ℕ → Option (A × List ℕ)} {s : A → List ℕ} {F : A → Type 0} → IsFormat p s F → (v : A) → F v → all_of p (s v) ≡ Some v
+whole_again {A} {p} {s} {F} format v fits =
+    let read = bind_some (all_of p (s v)) (λ x. Some x) v (all_again format (λ x. x) v fits) in
+    read.1 ∙ read.2
+
+pub IsBytes-behind : (front bytes : List ℕ) → IsBytes (front ++ bytes) → IsBytes bytes
+IsBytes-behind front bytes fits i = subst (λ (r : List ℕ). get_or r i 0 < 256) (drop_at front bytes (length front) refl) (IsBytes-drop (length front) (front ++ bytes) fits i)
+
+pub IsBytes-front : (front bytes : List ℕ) → IsBytes (front ++ bytes) → IsBytes front
+IsBytes-front front bytes fits i =
+    elim (cases_lt i (length front)) [
+      | inl lt ↦ rw (get_or_append_left front bytes 0 i lt) at (fits i)
+      | inr le ↦ rw (get_or_past front i 0 le) (omega arith)
+    ]

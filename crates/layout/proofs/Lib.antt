@@ -5,3 +5,7 @@ pub mod RecordLengths
 pub mod WritingLaws
 pub mod LogLemmas
 pub mod OneSpelling
+pub mod WordLaws
+pub mod InodeLaws
+pub mod RootLaws
+pub mod FreshLaws

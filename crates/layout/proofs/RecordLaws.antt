@@ -1,22 +1,12 @@
 -- The body of a record: what is read is spelled so, and what is spelled so is read.
-use Rattle.std.proofs.Common.{◌≡◌, ℕ, ◌^◌, ◌<◌, ◌≤◌, Bool, true, false, cond, eqb, leb, List, [], ◌∷◌, ◌++◌, length, Option, Some, None, ◌⊎◌, inl, inr, refl, sym, ap, subst, ◌∙◌, arith}
+use Rattle.std.proofs.Common.{◌≡◌, ℕ, ◌^◌, ◌<◌, ◌≤◌, true, cond, eqb, leb, List, [], ◌∷◌, ◌++◌, length, Option, Some, None, inl, inr, refl, sym, ap, subst, ◌∙◌, arith}
 use Rattle.std.proofs.lemmas.Bool.{eqb-true, le-leb, leb-true}
 use Rattle.std.proofs.lemmas.List.{nil_from_length}
 use Rattle.layout.specs.Bytes.{little, number, IsBytes}
 use Rattle.layout.specs.Reading.{◌>>=◌, number_at, counted_at, then_at, all_of}
 use Rattle.layout.specs.Record.{Made, file, directory, symbolic_link, Change, create, link, unname, rename, write, cut, change_mode, kind_of_made, mode_of_made, name_bytes, text_bytes, change_bytes, KeepsMadeLimits, FitsFields, IsChange}
 use Rattle.layout.specs.RecordReading.{link_in, unname_in, rename_in, write_in, cut_in, change_mode_in, made_in, create_in, change_in}
-use Rattle.layout.proofs.Formats.{bind_some, some_is, if_some, number_format, counted_format, then_format, all_takes, all_again, byte_again}
-
--- the value behind a test
-if_then : {A : Type 0} (b : Bool) (x : Option A) (y : A) → cond b x None ≡ Some y → (b ≡ true) × (x ≡ Some y)
-if_then true x y e = (refl, e)
-if_then false x y e = absurd cc
-
--- the value by the outcome of a test
-chosen : {A : Type 0} (b : Bool) (x y : Option A) (z : A) → cond b x y ≡ Some z → ((b ≡ true) × (x ≡ Some z)) ⊎ ((b ≡ false) × (y ≡ Some z))
-chosen true x y z e = inl (refl, e)
-chosen false x y z e = inr (refl, e)
+use Rattle.layout.proofs.Formats.{bind_some, some_is, if_some, if_then, chosen, number_format, counted_format, then_format, all_takes, all_again, byte_again}
 
 -- the bytes of a record whose op this is, behind the op
 abbrev Spells : ℕ → List ℕ → Change → Type 0

@@ -1,5 +1,5 @@
 -- What the readers of a half's header and of a record's gate answer.
-use Rattle.std.specs.Prelude.{◌≡◌, ◌≢◌, ℕ, ◌<◌, ◌^◌, List, [], ◌∷◌, ◌++◌, length, Option, Some, None}
+use Rattle.std.specs.Prelude.{◌≡◌, ◌≢◌, ℕ, ◌<◌, ◌^◌, List, ◌∷◌, ◌++◌, length, Option, Some, None}
 use Rattle.layout.specs.declared.log.Header.{Header}
 use Rattle.layout.specs.declared.log.Header.TheVariants as header
 use Rattle.layout.specs.declared.log.Gate.{Gate}

@@ -1,9 +1,14 @@
 pub mod Bytes
 pub mod Fresh
 pub mod Gates
+pub mod Inode
+pub mod InodeReading
 pub mod Limits
 pub mod Log
 pub mod Name
+pub mod Pointer
 pub mod Reading
 pub mod Record
 pub mod RecordReading
+pub mod Root
+pub mod RootReading

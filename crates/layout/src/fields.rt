@@ -1,10 +1,14 @@
 //! Runs of zero bytes.
 
-ghost use Rattle.std.specs.Prelude.{◌≡◌, ◌↔◌, IsTrue, length, replicate};
+ghost use Rattle.std.specs.Prelude.{◌≡◌, ◌↔◌, IsTrue, length};
+ghost use Rattle.layout.specs.Bytes.{zeros};
+ghost use Rattle.layout.specs.InodeReading.{is_zero};
 
 /// Whether each byte is 0.
+#[tactic(auto, unfolding(crate::specs::Bytes::zeros))]
 pub(crate) fn is_zero(bytes: &[u8]) -> bool
-    ensures { IsTrue result ↔ (bytes.now ≡ replicate (length bytes.now) 0) }
+    ensures value { result ≡ is_zero bytes.now }
+    ensures zeros { IsTrue result ↔ (bytes.now ≡ zeros (length bytes.now)) }
 {
     bytes.iter().all(|byte| *byte == 0)
 }

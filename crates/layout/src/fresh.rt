@@ -1,14 +1,16 @@
 //! The image that a new file system has: an empty root directory, the inode map and the block map.
 
-ghost use Rattle.std.specs.Prelude.{◌≡◌, ◌≤◌, ◌<◌, ◌+◌, ◌*◌, length};
-ghost use Rattle.layout.specs.Limits.{Sizes};
-ghost use Rattle.layout.specs.Fresh.{inode_map_blocks, inode_block, block_map_at, block_map_end, made_blocks};
+ghost use Rattle.std.specs.Prelude.{◌≡◌, ◌≤◌, ◌<◌, ◌+◌, ◌∷◌, length};
+ghost use Rattle.layout.specs.Bytes.{Writes, zeros};
+ghost use Rattle.layout.specs.Root.{IsRoot};
+ghost use Rattle.layout.specs.Fresh.{block_map_at, block_map_end, entries_bytes, indirect_bytes, inode_block, inodes_bytes, made_block, made_block_map, made_blocks, made_directory, made_entry, made_inode_file, made_inode_map, made_root, map_start_bytes, own_inode, pointer_from, pointers_from, indirect_entry};
+ghost use Rattle.layout.specs.declared.inode.Body.TheVariants.{Inline};
 
+use crate::writing::{put_byte, put_u32, put_zeros};
 use crate::{
-    BODY_POINTERS, BlockNumber, Body, Generation, Geometry, INLINE_BYTES, INODE_BYTES, Inode, Kind,
+    BLOCK_BYTES, BODY_POINTERS, BlockNumber, Body, Generation, Geometry, INLINE_BYTES, Inode, Kind,
     Pointer, Root, SNAPSHOT_SLOTS,
 };
-use byteorder::{ByteOrder, LittleEndian};
 use model::Mode;
 
 /// The block map's entry of a block that holds a root.
@@ -17,23 +19,15 @@ const SYSTEM_ENTRY: u32 = 0x8000_0000;
 const ACTIVE_ENTRY: u32 = 1;
 
 /// The root that a new image has in its first slot.
-pub fn fresh_root(geometry: Geometry) -> Root {
-    // Sixteen pointers reach 336 inodes; past them block 0 of the inode file has an indirect block.
-    let place = inode_place(geometry);
-    let first = if geometry.inodes() <= 336 {
-        place
-    } else {
-        place + 1
-    };
-    let size = 4096 * u64::from(geometry.inodes().div_ceil(21));
+pub fn fresh_root(geometry: Geometry) -> Root
+    ensures value { result ≡ made_root geometry }
+    ensures grammar { IsRoot result }
+{
+    let _ = geometry.blocks();
     Root {
         generation: Generation::FIRST,
         geometry,
-        inode_file: own_inode(
-            Kind::InodeFile,
-            size,
-            Body::Pointers(pointers_from(first, 1)),
-        ),
+        inode_file: fresh_inode_file(geometry),
         snapshots: [Pointer::Hole; SNAPSHOT_SLOTS],
     }
 }
@@ -46,15 +40,16 @@ pub fn fresh_blocks(geometry: Geometry) -> u32
 }
 
 /// Gives `out` the bytes of a block of a new image, behind the two that hold the roots.
-pub fn fresh_block(geometry: Geometry, block: u32, out: &mut [u8; 4096])
+pub fn fresh_block(geometry: Geometry, block: u32, out: &mut [u8; BLOCK_BYTES])
     requires behind_roots { 2 ≤ block }
     requires made { block < made_blocks geometry }
+    ensures { out.new ≡ made_block geometry block }
 {
     let inodes_at = inode_place(geometry);
     let map_at = block_map_place(geometry);
     let map_end = block_map_past(geometry);
     if block < inodes_at {
-        write_map_block(block == 2, out);
+        write_map_start(block, out);
     } else if block == inodes_at {
         write_inodes(geometry, out);
     } else if block < map_at {
@@ -78,7 +73,7 @@ fn inode_place(geometry: Geometry) -> u32
     }
 }
 
-// Where the block map begins.
+// Where the block map begins. Sixteen pointers reach 336 inodes; past them block 0 of the inode file has an indirect block.
 fn block_map_place(geometry: Geometry) -> u32
     ensures { result ≡ block_map_at geometry }
 {
@@ -92,8 +87,75 @@ fn block_map_past(geometry: Geometry) -> u32
     block_map_place(geometry) + geometry.blocks().div_ceil(1024)
 }
 
+fn fresh_inode_file(geometry: Geometry) -> Inode
+    ensures { result ≡ made_inode_file geometry }
+{
+    let place = inode_place(geometry);
+    let first = place + if geometry.inodes() <= 336 { 0 } else { 1 };
+    let size = 4096 * u64::from(geometry.inodes().div_ceil(21));
+    own_inode(
+        Kind::InodeFile,
+        size,
+        Body::Pointers(pointers_from(first, 1)),
+    )
+}
+
+fn fresh_inode_map(geometry: Geometry) -> Inode
+    ensures { result ≡ made_inode_map geometry }
+{
+    let inodes = geometry.inodes();
+    let body = if inodes <= 1024 {
+        first_numbers_taken()
+    } else {
+        Body::Pointers(pointers_from(2, inodes.div_ceil(32_768)))
+    };
+    own_inode(Kind::InodeMap, u64::from(inodes.div_ceil(8)), body)
+}
+
+fn fresh_block_map(geometry: Geometry) -> Inode
+    ensures { result ≡ made_block_map geometry }
+{
+    let blocks = geometry.blocks();
+    let pointers = if blocks <= 16_384 {
+        pointers_from(block_map_place(geometry), blocks.div_ceil(1024))
+    } else {
+        pointers_from(block_map_past(geometry), 1)
+    };
+    own_inode(
+        Kind::BlockMap,
+        4 * u64::from(blocks),
+        Body::Pointers(pointers),
+    )
+}
+
+// The root directory, without a name in it.
+#[tactic(auto, unfolding(crate::specs::Bytes::zeros))]
+fn fresh_directory() -> Inode
+    ensures { result ≡ made_directory }
+{
+    Inode {
+        kind: Kind::Directory,
+        mode: Mode::NEW_DIRECTORY,
+        links: 1,
+        size: 0,
+        body: Body::Inline([0; INLINE_BYTES]),
+    }
+}
+
+// An inode map of up to 1,024 numbers, of which 0 to 3 are taken.
+#[tactic(auto, unfolding(crate::specs::Bytes::zeros))]
+fn first_numbers_taken() -> Body
+    ensures { result ≡ Inline (15 ∷ zeros 127) }
+{
+    let mut bits = [0; INLINE_BYTES];
+    bits[0] = 15;
+    Body::Inline(bits)
+}
+
 // An inode of the file system's own.
-fn own_inode(kind: Kind, size: u64, body: Body) -> Inode {
+fn own_inode(kind: Kind, size: u64, body: Body) -> Inode
+    ensures { result ≡ own_inode kind size body }
+{
     Inode {
         kind,
         mode: no_mode(),
@@ -112,99 +174,115 @@ fn no_mode() -> Mode
 // Pointers to `count` blocks from the first on, then holes.
 fn pointers_from(first: u32, count: u32) -> [Pointer; BODY_POINTERS]
     requires { first + count < 4294967296 }
+    ensures { result ≡ pointers_from first count }
 {
     let mut pointers = [Pointer::Hole; BODY_POINTERS];
     for i in 0..BODY_POINTERS {
-        if i < count as usize {
-            pointers[i] = Pointer::Block(BlockNumber::new(first + i as u32));
-        }
+        pointers[i] = pointer_from(first, count, i as u32);
     }
     pointers
 }
 
-// A block of the inode map: the first numbers, 0 to 3, are taken.
-fn write_map_block(is_first: bool, out: &mut [u8; 4096]) {
-    out.fill(0);
-    if is_first {
-        out[0] = 0x0f;
+fn pointer_from(first: u32, count: u32, i: u32) -> Pointer
+    requires { first + count < 4294967296 }
+    ensures { result ≡ pointer_from first count i }
+{
+    if i < count {
+        Pointer::Block(BlockNumber::new(first + i))
+    } else {
+        Pointer::Hole
+    }
+}
+
+// A block of the inode map: in its first, block 2, the numbers 0 to 3 are taken.
+fn write_map_start(block: u32, out: &mut [u8; BLOCK_BYTES])
+    ensures { out.new ≡ map_start_bytes block }
+{
+    put_map_start(out, block);
+}
+
+fn put_map_start(out: &mut [u8], block: u32)
+    requires { length out.old ≡ 4096 }
+    ensures { Writes 0 4096 (map_start_bytes block) out.old out.new }
+{
+    if block == 2 {
+        put_byte(out, 0, 15);
+        put_zeros(out, 1, 4095);
+    } else {
+        put_zeros(out, 0, 4096);
     }
 }
 
 // Block 0 of the inode file: the two maps and the root directory.
-fn write_inodes(geometry: Geometry, out: &mut [u8; 4096]) {
-    out.fill(0);
-    fresh_inode_map(geometry).write(&mut out[INODE_BYTES..2 * INODE_BYTES]);
-    fresh_block_map(geometry).write(&mut out[2 * INODE_BYTES..3 * INODE_BYTES]);
-    fresh_directory().write(&mut out[3 * INODE_BYTES..4 * INODE_BYTES]);
+fn write_inodes(geometry: Geometry, out: &mut [u8; BLOCK_BYTES])
+    ensures { out.new ≡ inodes_bytes geometry }
+{
+    put_inodes(out, geometry);
+}
+
+fn put_inodes(out: &mut [u8], geometry: Geometry)
+    requires { length out.old ≡ 4096 }
+    ensures { Writes 0 4096 (inodes_bytes geometry) out.old out.new }
+{
+    put_zeros(out, 0, 192);
+    fresh_inode_map(geometry).put(out, 192);
+    fresh_block_map(geometry).put(out, 384);
+    fresh_directory().put(out, 576);
+    put_zeros(out, 768, 3328);
 }
 
 // An indirect block of `count` pointers, to the blocks from the first on.
-fn write_indirect(first: u32, count: u32, out: &mut [u8; 4096])
-    requires few { count ≤ 1024 }
-    requires fit { first + count < 4294967296 }
+fn write_indirect(first: u32, count: u32, out: &mut [u8; BLOCK_BYTES])
+    requires { first + count < 4294967296 }
+    ensures { out.new ≡ indirect_bytes first count }
 {
-    out.fill(0);
-    for i in 0..count {
-        let place = 4 * i as usize;
-        LittleEndian::write_u32(&mut out[place..place + 4], first + i);
-    }
+    put_indirect(out, first, count);
 }
 
-// A block of the block map, whose entries are those of the blocks from the first on: the first two blocks hold the roots,
-// and those below `end` are in use.
-fn write_entries(first: u32, end: u32, out: &mut [u8; 4096])
-    requires { first + 1024 < 4294967296 }
+fn put_indirect(out: &mut [u8], first: u32, count: u32)
+    requires block { length out.old ≡ 4096 }
+    requires fit { first + count < 4294967296 }
+    ensures { Writes 0 4096 (indirect_bytes first count) out.old out.new }
 {
     for i in 0..1024u32 {
-        let place = 4 * i as usize;
-        LittleEndian::write_u32(&mut out[place..place + 4], fresh_entry(first + i, end));
+        put_u32(out, 4 * i as usize, indirect_entry(first, count, i));
     }
 }
 
-fn fresh_entry(block: u32, end: u32) -> u32 {
+fn indirect_entry(first: u32, count: u32, i: u32) -> u32
+    requires { first + count < 4294967296 }
+    ensures { result ≡ indirect_entry first count i }
+{
+    if i < count { first + i } else { 0 }
+}
+
+// A block of the block map, whose entries are those of the blocks from the first on.
+fn write_entries(first: u32, end: u32, out: &mut [u8; BLOCK_BYTES])
+    requires { first + 1024 < 4294967296 }
+    ensures { out.new ≡ entries_bytes first end }
+{
+    put_entries(out, first, end);
+}
+
+fn put_entries(out: &mut [u8], first: u32, end: u32)
+    requires block { length out.old ≡ 4096 }
+    requires fit { first + 1024 < 4294967296 }
+    ensures { Writes 0 4096 (entries_bytes first end) out.old out.new }
+{
+    for i in 0..1024u32 {
+        put_u32(out, 4 * i as usize, fresh_entry(first + i, end));
+    }
+}
+
+// The entry of a block: the first two hold the roots, and those below `end` are in use.
+fn fresh_entry(block: u32, end: u32) -> u32
+    ensures { result ≡ made_entry end block }
+{
     if block < 2 {
         SYSTEM_ENTRY
     } else if block < end {
         ACTIVE_ENTRY
     } else {
         0
-    }
-}
-
-fn fresh_inode_map(geometry: Geometry) -> Inode {
-    let inodes = geometry.inodes();
-    let body = if inodes <= 1024 {
-        let mut bits = [0; INLINE_BYTES];
-        bits[0] = 0x0f;
-        Body::Inline(bits)
-    } else {
-        Body::Pointers(pointers_from(2, inodes.div_ceil(32_768)))
-    };
-    own_inode(Kind::InodeMap, u64::from(inodes.div_ceil(8)), body)
-}
-
-fn fresh_block_map(geometry: Geometry) -> Inode {
-    let blocks = geometry.blocks();
-    let place = block_map_place(geometry);
-    let pointers = if blocks <= 16_384 {
-        pointers_from(place, blocks.div_ceil(1024))
-    } else {
-        pointers_from(block_map_past(geometry), 1)
-    };
-    own_inode(
-        Kind::BlockMap,
-        4 * u64::from(blocks),
-        Body::Pointers(pointers),
-    )
-}
-
-// The root directory, without a name in it.
-fn fresh_directory() -> Inode {
-    Inode {
-        kind: Kind::Directory,
-        mode: Mode::NEW_DIRECTORY,
-        links: 1,
-        size: 0,
-        body: Body::Inline([0; INLINE_BYTES]),
     }
 }

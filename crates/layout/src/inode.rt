@@ -1,13 +1,19 @@
 //! The inode: what an object is, and where its bytes are.
 
-ghost use Rattle.std.specs.Prelude.{◌≡◌, ◌≤◌, length};
+ghost use Rattle.std.specs.Prelude.{◌≡◌, ◌↔◌, ◌≤◌, ◌+◌, ◌-◌, ◌<◌, ◌++◌, IsTrue, IfSome, IfNone, Some, All, drop, length};
+ghost use Rattle.layout.specs.Bytes.{Writes, zeros};
+ghost use Rattle.layout.specs.Pointer.{PointsBelow, pointers_bytes};
+ghost use Rattle.layout.specs.declared.pointer.Pointer.TheVariants.{Hole};
+ghost use Rattle.layout.specs.Inode.{IsInode, IsSomeInode, FitsKind, FitsBody, body_bytes, inode_bytes, level_of, pointers_used};
+ghost use Rattle.layout.specs.Limits.{AreSizes};
+ghost use Rattle.layout.specs.InodeReading.{likely_blocks, likely_inodes, likely_sizes, body_of, inode_of, inode_in};
+ghost use Rattle.layout.specs.declared.inode.Inode.{Inode};
 
 use crate::fields::is_zero;
-use crate::pointer::{are_holes, pointers_fit, read_pointers, write_pointers};
-use crate::{
-    BLOCK_BYTES, BLOCK_POINTERS, BODY_POINTERS, Geometry, INLINE_BYTES, INODE_BYTES, Kind, Pointer,
-};
-use byteorder::{ByteOrder, LittleEndian};
+use crate::pointer::{are_holes, pointers_fit, put_pointers, read_pointers};
+use crate::reading::{part_at, u8_at, u16_at, u32_at, u64_at};
+use crate::writing::{put_bytes, put_u8, put_u16, put_u32, put_u64, put_zeros};
+use crate::{BODY_POINTERS, Geometry, INLINE_BYTES, INODE_BYTES, Kind, Pointer};
 use model::Mode;
 
 /// The bytes of a small object, or where a larger one's blocks are.
@@ -33,7 +39,9 @@ pub struct Inode {
 
 /// The level of a file of so many bytes: 0 has the bytes in the inode, 1 has pointers to them, 2 has one indirect block
 /// between.
-pub fn level_of(size: u64) -> u8 {
+pub fn level_of(size: u64) -> u8
+    ensures { result ≡ level_of size }
+{
     if size <= 128 {
         0
     } else if size <= 65_536 {
@@ -45,24 +53,12 @@ pub fn level_of(size: u64) -> u8 {
 
 impl Inode {
     /// The inode that these bytes spell; None where none does, in an image of any geometry.
-    pub fn read(bytes: &[u8]) -> Option<Inode> {
-        if bytes.len() != INODE_BYTES {
+    pub fn read(bytes: &[u8]) -> Option<Inode>
+        ensures found { IfSome result (λ i. IsSomeInode i × (bytes.now ≡ inode_bytes i)) }
+        ensures only { (i : Inode) → IsSomeInode i → bytes.now ≡ inode_bytes i → result ≡ Some i }
+    {
+        let Some(inode) = read_fields(bytes) else {
             return None;
-        }
-        let kind = Kind::from_code(LittleEndian::read_u16(&bytes[..2]))?;
-        let mode = Mode::new(LittleEndian::read_u16(&bytes[2..4]))?;
-        let links = LittleEndian::read_u32(&bytes[4..8]);
-        let size = LittleEndian::read_u64(&bytes[8..16]);
-        if bytes[16] != level_of(size) || !is_zero(&bytes[17..64]) {
-            return None;
-        }
-        let body = read_body(size, &bytes[64..])?;
-        let inode = Inode {
-            kind,
-            mode,
-            links,
-            size,
-            body,
         };
         if inode.fits_some() { Some(inode) } else { None }
     }
@@ -70,53 +66,146 @@ impl Inode {
     /// Writes the inode's 192 bytes, and answers how many they are.
     pub fn write(&self, out: &mut [u8]) -> usize
         requires { 192 ≤ length out.old }
+        ensures length { result ≡ 192 }
+        ensures wrote { Writes 0 192 (inode_bytes self.now) out.old out.new }
     {
-        LittleEndian::write_u16(&mut out[..2], self.kind.code());
-        LittleEndian::write_u16(&mut out[2..4], self.mode.bits());
-        LittleEndian::write_u32(&mut out[4..8], self.links);
-        LittleEndian::write_u64(&mut out[8..16], self.size);
-        out[16] = level_of(self.size);
-        out[17..64].fill(0);
-        write_body(&self.body, &mut out[64..192]);
+        self.put(out, 0);
         INODE_BYTES
     }
 
-    /// Whether it is in the grammar of an image of this geometry.
-    pub fn fits(&self, geometry: Geometry) -> bool {
-        kind_fits(self, geometry) && body_fits(self, geometry.blocks())
+    /// Writes the inode's bytes at a place.
+    pub(crate) fn put(&self, out: &mut [u8], at: usize)
+        requires { at + 192 ≤ length out.old }
+        ensures { Writes at (at + 192) (inode_bytes self.now) out.old out.new }
+    {
+        put_u16(out, at, self.kind.code());
+        put_u16(out, at + 2, self.mode.bits());
+        put_u32(out, at + 4, self.links);
+        put_u64(out, at + 8, self.size);
+        put_u8(out, at + 16, level_of(self.size));
+        put_zeros(out, at + 17, 47);
+        put_body(out, at + 64, &self.body);
     }
 
-    // Whether it is in the grammar of an image of some geometry: of the one whose maps and inode file have its size, if it
-    // is one of these, and else of the greatest.
-    fn fits_some(&self) -> bool {
-        let blocks = match self.kind {
-            Kind::BlockMap => self.size / 4,
-            _ => 1_048_576,
-        };
-        let inodes = match self.kind {
-            Kind::InodeFile => (self.size / 4096).min(3121) * 21,
-            Kind::InodeMap => self.size.min(8192) * 8,
-            _ => 65_536,
-        };
-        if blocks > 1_048_576 {
-            return false;
-        }
-        match Geometry::new(blocks as u32, inodes.min(65_536) as u32, 131_072) {
+    /// Whether it is in the grammar of an image of this geometry.
+    pub fn fits(&self, geometry: Geometry) -> bool
+        ensures { IsTrue result ↔ IsInode geometry self.now }
+    {
+        let _ = self.mode.bits();
+        self.size <= 67_108_864
+            && kind_fits(self, geometry)
+            && body_fits(&self.body, geometry.blocks(), self.size)
+    }
+
+    // Whether it is in the grammar of an image of some geometry.
+    fn fits_some(&self) -> bool
+        ensures { IsTrue result ↔ IsSomeInode self.now }
+    {
+        match likely_geometry(self.kind, self.size) {
             Some(geometry) => self.fits(geometry),
             None => false,
         }
     }
 }
 
+// The geometry of an image that has an inode of this kind and size, if one has: of the one whose map or inode file has this
+// size, and for other files of the greatest.
+fn likely_geometry(kind: Kind, size: u64) -> Option<Geometry>
+    ensures found { IfSome result (λ g. (g ≡ likely_sizes kind size) × (size ≤ 67108864) × AreSizes g) }
+    ensures none { IfNone result (size ≤ 67108864 → AreSizes (likely_sizes kind size) → ⊥) }
+{
+    if size > 67_108_864 {
+        return None;
+    }
+    let size = size as u32;
+    let geometry = Geometry::new(
+        likely_blocks(kind, size),
+        likely_inodes(kind, size),
+        131_072,
+    )?;
+    let _ = geometry.blocks();
+    Some(geometry)
+}
+
+fn likely_blocks(kind: Kind, size: u32) -> u32
+    ensures { result ≡ likely_blocks kind size }
+{
+    match kind {
+        Kind::BlockMap => size / 4,
+        _ => 1_048_576,
+    }
+}
+
+fn likely_inodes(kind: Kind, size: u32) -> u32
+    requires { size ≤ 67108864 }
+    ensures { result ≡ likely_inodes kind size }
+{
+    match kind {
+        Kind::InodeFile => (21 * (size / 4096)).min(65_536),
+        Kind::InodeMap => (8 * size).min(65_536),
+        _ => 65_536,
+    }
+}
+
+#[tactic(auto, unfolding(crate::specs::InodeReading::inode_in))]
+fn read_fields(bytes: &[u8]) -> Option<Inode>
+    ensures { result ≡ inode_in bytes.now }
+{
+    let (kind, bytes) = u16_at(bytes)?;
+    let (mode, bytes) = u16_at(bytes)?;
+    let (links, bytes) = u32_at(bytes)?;
+    let (size, bytes) = u64_at(bytes)?;
+    let (level, bytes) = u8_at(bytes)?;
+    let (behind, bytes) = part_at(bytes, 47)?;
+    let (body, bytes) = part_at(bytes, 128)?;
+    if !bytes.is_empty() {
+        return None;
+    }
+    made_inode(kind, mode, links, size, level, behind, body)
+}
+
+// The inode of these fields; `behind` is what stands between the level and the body.
+#[tactic(auto, unfolding(crate::specs::InodeReading::inode_of))]
+fn made_inode(
+    kind: u16,
+    mode: u16,
+    links: u32,
+    size: u64,
+    level: u8,
+    behind: &[u8],
+    body: &[u8],
+) -> Option<Inode>
+    requires { length body.now ≡ 128 }
+    ensures { result ≡ inode_of kind mode links size level behind.now body.now }
+{
+    let kind = Kind::from_code(kind)?;
+    let body = read_body(size, body)?;
+    let mode = Mode::new(mode)?;
+    if level == level_of(size) && is_zero(behind) {
+        Some(Inode {
+            kind,
+            mode,
+            links,
+            size,
+            body,
+        })
+    } else {
+        None
+    }
+}
+
+#[tactic(auto, unfolding(crate::specs::InodeReading::body_of))]
 fn read_body(size: u64, bytes: &[u8]) -> Option<Body>
     requires { length bytes.now ≡ 128 }
+    ensures { result ≡ body_of size bytes.now }
 {
-    if level_of(size) == 0 {
+    if size <= 128 {
         let mut inline = [0; INLINE_BYTES];
         inline.copy_from_slice(bytes);
         return Some(Body::Inline(inline));
     }
-    if !is_zero(&bytes[64..]) {
+    let (_, behind) = bytes.split_at(64);
+    if !is_zero(behind) {
         return None;
     }
     let mut pointers = [Pointer::Hole; BODY_POINTERS];
@@ -124,75 +213,103 @@ fn read_body(size: u64, bytes: &[u8]) -> Option<Body>
     Some(Body::Pointers(pointers))
 }
 
-fn write_body(body: &Body, out: &mut [u8])
-    requires { length out.old ≡ 128 }
+fn put_body(out: &mut [u8], at: usize, body: &Body)
+    requires { at + 128 ≤ length out.old }
+    ensures { Writes at (at + 128) (body_bytes body.now) out.old out.new }
 {
     match body {
-        Body::Inline(bytes) => write_inline(bytes, out),
-        Body::Pointers(pointers) => write_pointer_body(pointers, out),
+        Body::Inline(bytes) => put_inline(out, at, bytes),
+        Body::Pointers(pointers) => put_pointer_body(out, at, pointers),
     }
 }
 
-fn write_inline(bytes: &[u8; INLINE_BYTES], out: &mut [u8])
-    requires { length out.old ≡ 128 }
+fn put_inline(out: &mut [u8], at: usize, bytes: &[u8; INLINE_BYTES])
+    requires { at + 128 ≤ length out.old }
+    ensures { Writes at (at + 128) bytes.now out.old out.new }
 {
-    out.copy_from_slice(bytes);
+    put_bytes(out, at, bytes);
 }
 
-fn write_pointer_body(pointers: &[Pointer; BODY_POINTERS], out: &mut [u8])
-    requires { length out.old ≡ 128 }
+fn put_pointer_body(out: &mut [u8], at: usize, pointers: &[Pointer; BODY_POINTERS])
+    requires { at + 128 ≤ length out.old }
+    ensures { Writes at (at + 128) (pointers_bytes pointers.now ++ zeros 64) out.old out.new }
 {
-    write_pointers(pointers, out);
-    out[64..].fill(0);
+    put_pointers(out, at, pointers);
+    put_zeros(out, at + 64, 64);
 }
 
 // Whether mode, links and size are those of an object of its kind.
-fn kind_fits(inode: &Inode, geometry: Geometry) -> bool {
+fn kind_fits(inode: &Inode, geometry: Geometry) -> bool
+    ensures { IsTrue result ↔ FitsKind inode.now.kind geometry inode.now.mode inode.now.links inode.now.size }
+{
     let mode = inode.mode.bits();
     let links = inode.links;
     let size = inode.size;
     let inodes = geometry.inodes();
+    let blocks = geometry.blocks();
     match inode.kind {
         Kind::Free => mode == 0 && links == 0 && size == 0,
-        Kind::File => links <= 1000 && size <= 67_108_864,
-        Kind::Directory => links == 1 && size <= 67_108_864 && size % 4096 == 0,
+        Kind::File => links <= 1000,
+        Kind::Directory => links == 1 && size % 4096 == 0,
         Kind::Link => mode == 0o777 && links == 1 && 1 <= size && size <= 1023,
         Kind::InodeFile => mode == 0 && links == 1 && size == 4096 * u64::from(inodes.div_ceil(21)),
         Kind::InodeMap => mode == 0 && links == 1 && size == u64::from(inodes.div_ceil(8)),
-        Kind::BlockMap => mode == 0 && links == 1 && size == 4 * u64::from(geometry.blocks()),
+        Kind::BlockMap => mode == 0 && links == 1 && size == 4 * u64::from(blocks),
     }
 }
 
 // Whether the body is of the size's level, with nothing past the size and no pointer past the disk.
-fn body_fits(inode: &Inode, blocks: u32) -> bool {
-    match &inode.body {
-        Body::Inline(bytes) => inline_fits(bytes, inode.size),
-        Body::Pointers(pointers) => pointer_body_fits(pointers, inode.size, blocks),
+fn body_fits(body: &Body, blocks: u32, size: u64) -> bool
+    ensures { IsTrue result ↔ FitsBody body.now blocks size }
+{
+    match body {
+        Body::Inline(bytes) => inline_fits(bytes, size),
+        Body::Pointers(pointers) => pointer_body_fits(pointers, blocks, size),
     }
 }
 
 // Whether these are the bytes of a file of this size, with zeros behind them.
-fn inline_fits(bytes: &[u8; INLINE_BYTES], size: u64) -> bool {
+fn inline_fits(bytes: &[u8; INLINE_BYTES], size: u64) -> bool
+    ensures { IsTrue result ↔ ((size ≤ 128) × (length bytes.now ≡ 128) × (drop size bytes.now ≡ zeros (128 - size))) }
+{
+    if size > 128 {
+        return false;
+    }
     let bytes: &[u8] = bytes;
-    size <= 128 && is_zero(&bytes[size as usize..])
+    let (_, behind) = bytes.split_at(size as usize);
+    is_zero(behind)
 }
 
 // Whether these point to the blocks of a file of this size, with holes behind them.
-fn pointer_body_fits(pointers: &[Pointer; BODY_POINTERS], size: u64, blocks: u32) -> bool {
+fn pointer_body_fits(pointers: &[Pointer; BODY_POINTERS], blocks: u32, size: u64) -> bool
+    ensures { IsTrue result ↔ ((128 < size) × (length pointers.now ≡ 16) × All (PointsBelow blocks) pointers.now × All (λ p. p ≡ Hole) (drop (pointers_used size) pointers.now)) }
+{
+    if size <= 128 {
+        return false;
+    }
     let pointers: &[Pointer] = pointers;
-    let used = pointers_used(size);
-    128 < size
-        && used <= 16
-        && pointers_fit(pointers, blocks)
-        && are_holes(&pointers[used as usize..])
+    pointers_fit(pointers, blocks) && holes_behind(pointers, pointers_used(size))
+}
+
+// Whether each pointer from this place on is a hole.
+fn holes_behind(pointers: &[Pointer], used: u64) -> bool
+    ensures { IsTrue result ↔ All (λ p. p ≡ Hole) (drop used pointers.now) }
+{
+    if used >= pointers.len() as u64 {
+        return true;
+    }
+    let (_, behind) = pointers.split_at(used as usize);
+    are_holes(behind)
 }
 
 // How many pointers of the body a file of so many bytes, more than 128, may use.
-fn pointers_used(size: u64) -> u64 {
-    let blocks = size.div_ceil(BLOCK_BYTES as u64);
-    if level_of(size) <= 1 {
+fn pointers_used(size: u64) -> u64
+    ensures { result ≡ pointers_used size }
+{
+    let blocks = size.div_ceil(4096);
+    if size <= 65_536 {
         blocks
     } else {
-        blocks.div_ceil(BLOCK_POINTERS as u64)
+        blocks.div_ceil(1024)
     }
 }

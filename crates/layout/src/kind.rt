@@ -1,5 +1,7 @@
 //! The kinds of inodes.
 
+ghost use Rattle.std.specs.Prelude.{◌≡◌};
+
 /// What an inode is.
 #[derive(Clone, Copy, Debug, PartialEq, Eq)]
 pub enum Kind {
@@ -19,8 +21,14 @@ pub enum Kind {
 }
 
 impl Kind {
+    ghost use Rattle.layout.specs.Inode.{kind_code};
+    ghost use Rattle.layout.specs.InodeReading.{kind_of};
+
     /// The kind of this code; None above 6.
-    pub fn from_code(code: u16) -> Option<Kind> {
+    #[tactic(auto, unfolding(crate::specs::InodeReading::kind_of))]
+    pub fn from_code(code: u16) -> Option<Kind>
+        ensures { result ≡ kind_of code }
+    {
         match code {
             0 => Some(Kind::Free),
             1 => Some(Kind::File),
@@ -34,7 +42,9 @@ impl Kind {
     }
 
     /// Its code, from 0 to 6.
-    pub fn code(self) -> u16 {
+    pub fn code(self) -> u16
+        ensures { result ≡ kind_code self }
+    {
         self as u16
     }
 }

@@ -1,6 +1,6 @@
 //! Reading from the front of bytes: a value, and the bytes behind it.
 
-ghost use Rattle.std.specs.Prelude.{◌≡◌};
+ghost use Rattle.std.specs.Prelude.{◌≡◌, IfSome, length};
 ghost use Rattle.std.specs.Option.{option_map};
 ghost use Rattle.layout.specs.Reading.{number_at, part_at, counted_at};
 
@@ -49,7 +49,8 @@ pub(crate) fn u64_at(bytes: &[u8]) -> Option<(u64, &[u8])>
 
 /// So many bytes.
 pub(crate) fn part_at(bytes: &[u8], count: usize) -> Option<(&[u8], &[u8])>
-    ensures { option_map (λ x. (x.0.now, x.1.now)) result ≡ part_at count bytes.now }
+    ensures value { option_map (λ x. (x.0.now, x.1.now)) result ≡ part_at count bytes.now }
+    ensures count { IfSome result (λ x. length x.0.now ≡ count) }
 {
     if bytes.len() < count {
         return None;

@@ -1,15 +1,23 @@
 //! The root: one sector, from which all else of an image is found.
 
-ghost use Rattle.std.specs.Prelude.{◌≡◌, ◌≤◌, length};
+ghost use Rattle.std.specs.Prelude.{◌≡◌, ◌↔◌, ◌≤◌, ◌+◌, ℕ, All, IsTrue, IfSome, Some, length};
+ghost use Rattle.std.specs.Option.{option_map};
+ghost use Rattle.layout.specs.Bytes.{Writes};
+ghost use Rattle.layout.specs.Limits.{Sizes};
+ghost use Rattle.layout.specs.Pointer.{PointsBelow, pointers_bytes, pointers_in};
+ghost use Rattle.layout.specs.Root.{IsHead, IsRoot, head_bytes, root_bytes};
+ghost use Rattle.layout.specs.RootReading.{head_in, parts_in};
+ghost use Rattle.layout.specs.declared.root.Root.{Root};
 
 use crate::fields::is_zero;
-use crate::pointer::{pointers_fit, read_pointers, write_pointers};
+use crate::pointer::{pointers_fit, put_pointers, read_pointers};
+use crate::reading::{part_at, u32_at, u64_at};
 use crate::version::VERSION;
-use crate::{Generation, Geometry, Inode, Kind, Pointer, ROOT_BYTES, SNAPSHOT_SLOTS};
-use byteorder::{ByteOrder, LittleEndian};
+use crate::writing::{put_u32, put_u64, put_zeros};
+use crate::{Generation, Geometry, INODE_BYTES, Inode, Kind, Pointer, ROOT_BYTES, SNAPSHOT_SLOTS};
 
-/// The first eight bytes of a root.
-pub const ROOT_MAGIC: [u8; 8] = *b"WAFLROOT";
+/// The first eight bytes of a root, `WAFLROOT`, as a number.
+const MAGIC: u64 = 0x544f_4f52_4c46_4157;
 
 /// A root.
 #[derive(Clone, Copy, Debug, PartialEq, Eq)]
@@ -24,20 +32,27 @@ pub struct Root {
 
 impl Root {
     /// The root that these bytes spell; None where none does.
-    pub fn read(bytes: &[u8]) -> Option<Root> {
-        if bytes.len() != ROOT_BYTES || !is_framed(bytes) {
+    pub fn read(bytes: &[u8]) -> Option<Root>
+        ensures found { IfSome result (λ r. IsRoot r × (bytes.now ≡ root_bytes r)) }
+        ensures only { (r : Root) → IsRoot r → bytes.now ≡ root_bytes r → result ≡ Some r }
+    {
+        let Some(parts) = split(bytes) else {
+            return None;
+        };
+        let Some(head) = read_head(parts.head) else {
+            return None;
+        };
+        let Some(inode_file) = Inode::read(parts.inode) else {
+            return None;
+        };
+        if !is_zero(parts.behind) {
             return None;
         }
-        let generation = Generation::new(LittleEndian::read_u64(&bytes[12..20]))?;
-        let geometry = read_geometry(&bytes[20..32])?;
-        let inode_file = Inode::read(&bytes[32..224])?;
-        let mut snapshots = [Pointer::Hole; SNAPSHOT_SLOTS];
-        read_pointers(&bytes[224..304], &mut snapshots);
         let root = Root {
-            generation,
-            geometry,
+            generation: head.generation,
+            geometry: head.geometry,
             inode_file,
-            snapshots,
+            snapshots: read_snapshots(parts.snapshots),
         };
         if root.fits() { Some(root) } else { None }
     }
@@ -45,47 +60,149 @@ impl Root {
     /// Writes the root's 512 bytes, and answers how many they are.
     pub fn write(&self, out: &mut [u8]) -> usize
         requires { 512 ≤ length out.old }
+        ensures length { result ≡ 512 }
+        ensures wrote { Writes 0 512 (root_bytes self.now) out.old out.new }
     {
-        out[..8].copy_from_slice(&ROOT_MAGIC);
-        LittleEndian::write_u32(&mut out[8..12], VERSION);
-        LittleEndian::write_u64(&mut out[12..20], self.generation.get());
-        write_geometry(&self.geometry, &mut out[20..32]);
-        self.inode_file.write(&mut out[32..224]);
-        write_pointers(&self.snapshots, &mut out[224..304]);
-        out[304..512].fill(0);
+        put_head(out, self.generation, &self.geometry);
+        self.inode_file.put(out, 32);
+        put_snapshots(out, 224, &self.snapshots);
+        put_zeros(out, 304, 208);
         ROOT_BYTES
     }
 
     /// Whether it is in the grammar: its inode is of the inode file of its geometry, and its pointers stay on the disk.
-    pub fn fits(&self) -> bool {
+    pub fn fits(&self) -> bool
+        ensures { IsTrue result ↔ IsRoot self.now }
+    {
+        let _ = self.generation.get();
+        let blocks = self.geometry.blocks();
         self.inode_file.kind == Kind::InodeFile
             && self.inode_file.fits(self.geometry)
-            && pointers_fit(&self.snapshots, self.geometry.blocks())
+            && snapshots_fit(&self.snapshots, blocks)
     }
 }
 
-// Whether the bytes that are the same in each root are there.
-fn is_framed(bytes: &[u8]) -> bool
-    requires { length bytes.now ≡ 512 }
-{
-    &bytes[..8] == ROOT_MAGIC.as_slice()
-        && LittleEndian::read_u32(&bytes[8..12]) == VERSION
-        && is_zero(&bytes[304..])
+// The parts of a root's bytes.
+#[derive(Clone, Copy)]
+struct Parts<'a> {
+    head: &'a [u8],
+    inode: &'a [u8],
+    snapshots: &'a [u8],
+    behind: &'a [u8],
 }
 
-fn read_geometry(bytes: &[u8]) -> Option<Geometry>
-    requires { length bytes.now ≡ 12 }
+#[tactic(auto, unfolding(crate::specs::RootReading::parts_in))]
+fn split(bytes: &[u8]) -> Option<Parts<'_>>
+    ensures value { option_map (λ p. (p.head.now, (p.inode.now, (p.snapshots.now, p.behind.now)))) result ≡ parts_in bytes.now }
+    ensures lengths { IfSome result (λ p. length p.snapshots.now ≡ 80) }
 {
-    let blocks = LittleEndian::read_u32(&bytes[..4]);
-    let inodes = LittleEndian::read_u32(&bytes[4..8]);
-    let half = LittleEndian::read_u32(&bytes[8..]);
-    Geometry::new(blocks, inodes, half)
+    let (head, bytes) = part_at(bytes, 32)?;
+    let (inode, bytes) = part_at(bytes, INODE_BYTES)?;
+    let (snapshots, bytes) = part_at(bytes, 80)?;
+    let (behind, bytes) = part_at(bytes, 208)?;
+    if !bytes.is_empty() {
+        return None;
+    }
+    Some(Parts {
+        head,
+        inode,
+        snapshots,
+        behind,
+    })
 }
 
-fn write_geometry(geometry: &Geometry, out: &mut [u8])
-    requires { length out.old ≡ 12 }
+// The numbers of a root's head.
+#[derive(Clone, Copy)]
+struct Numbers {
+    magic: u64,
+    version: u32,
+    generation: u64,
+    blocks: u32,
+    inodes: u32,
+    half: u32,
+}
+
+#[tactic(auto, unfolding(crate::specs::RootReading::head_in))]
+fn read_numbers(bytes: &[u8]) -> Option<Numbers>
+    ensures { option_map (λ h. (h.magic, (h.version, (h.generation, (h.blocks, (h.inodes, h.half)))))) result ≡ head_in bytes.now }
 {
-    LittleEndian::write_u32(&mut out[..4], geometry.blocks());
-    LittleEndian::write_u32(&mut out[4..8], geometry.inodes());
-    LittleEndian::write_u32(&mut out[8..], geometry.half());
+    let (magic, bytes) = u64_at(bytes)?;
+    let (version, bytes) = u32_at(bytes)?;
+    let (generation, bytes) = u64_at(bytes)?;
+    let (blocks, bytes) = u32_at(bytes)?;
+    let (inodes, bytes) = u32_at(bytes)?;
+    let (half, bytes) = u32_at(bytes)?;
+    if !bytes.is_empty() {
+        return None;
+    }
+    Some(Numbers {
+        magic,
+        version,
+        generation,
+        blocks,
+        inodes,
+        half,
+    })
+}
+
+// What a root's head says, once its magic and version are right.
+#[derive(Clone, Copy)]
+struct Head {
+    generation: Generation,
+    geometry: Geometry,
+}
+
+fn read_head(bytes: &[u8]) -> Option<Head>
+    ensures found { IfSome result (λ h. IsHead h.generation h.geometry × (bytes.now ≡ head_bytes h.generation h.geometry)) }
+    ensures only { (generation : ℕ) (s : Sizes) → IsHead generation s → bytes.now ≡ head_bytes generation s → result ≡ Some (record { generation = generation; geometry = s }) }
+{
+    let numbers = read_numbers(bytes)?;
+    if numbers.magic != MAGIC || numbers.version != VERSION {
+        return None;
+    }
+    let Some(generation) = Generation::new(numbers.generation) else {
+        return None;
+    };
+    let Some(geometry) = Geometry::new(numbers.blocks, numbers.inodes, numbers.half) else {
+        return None;
+    };
+    let _ = (generation.get(), geometry.blocks());
+    Some(Head {
+        generation,
+        geometry,
+    })
+}
+
+fn put_head(out: &mut [u8], generation: Generation, geometry: &Geometry)
+    requires { 32 ≤ length out.old }
+    ensures { Writes 0 32 (head_bytes generation geometry.now) out.old out.new }
+{
+    put_u64(out, 0, MAGIC);
+    put_u32(out, 8, VERSION);
+    put_u64(out, 12, generation.get());
+    put_u32(out, 20, geometry.blocks());
+    put_u32(out, 24, geometry.inodes());
+    put_u32(out, 28, geometry.half());
+}
+
+fn read_snapshots(bytes: &[u8]) -> [Pointer; SNAPSHOT_SLOTS]
+    requires { length bytes.now ≡ 80 }
+    ensures { result ≡ pointers_in 20 bytes.now }
+{
+    let mut pointers = [Pointer::Hole; SNAPSHOT_SLOTS];
+    read_pointers(bytes, &mut pointers);
+    pointers
+}
+
+fn put_snapshots(out: &mut [u8], at: usize, snapshots: &[Pointer; SNAPSHOT_SLOTS])
+    requires { at + 80 ≤ length out.old }
+    ensures { Writes at (at + 80) (pointers_bytes snapshots.now) out.old out.new }
+{
+    put_pointers(out, at, snapshots);
+}
+
+fn snapshots_fit(snapshots: &[Pointer; SNAPSHOT_SLOTS], blocks: u32) -> bool
+    ensures { IsTrue result ↔ ((length snapshots.now ≡ 20) × All (PointsBelow blocks) snapshots.now) }
+{
+    pointers_fit(snapshots, blocks)
 }

@@ -115,7 +115,10 @@ fn places_of_20000_blocks(rt: HostRuntime) -> Result<(), Fail> {
 #[test]
 fn record_of_a_directory(rt: HostRuntime) -> Result<(), Fail> {
     let body = [1, 4, 0, 0, 0, 3, 0, 0, 0, 2, 0xed, 1, 1, 0x61];
-    let record = Record::read(&body).ok_or("a record")?;
+    let Some(record) = Record::read(&body) else {
+        assert!(rt; false, "it is a record");
+        return Ok(());
+    };
     assert_eq!(rt; record.encoded_len(), 14);
     let mut bytes = [0xff; 16];
     assert_eq!(rt; record.write(&mut bytes), 14);

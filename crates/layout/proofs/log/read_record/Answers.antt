@@ -1,4 +1,4 @@
-use Rattle.std.proofs.Common.{◌≡◌, ◌∷◌, ◌++◌, ℕ, List, length, take, drop, sym, ap, ◌∙◌, subst, arith, take-append-drop}
+use Rattle.std.proofs.Common.{◌≡◌, ◌∷◌, ◌++◌, ℕ, List, sym, ◌∙◌, subst, arith, take-append-drop}
 use Rattle.layout.specs.Log.{HoldsBodies}
 use Rattle.layout.proofs.LogLemmas.{cut_short, body_short}
 use Rattle.layout.proofs.log.read_record.Goals as goal

@@ -1,0 +1,139 @@
+-- Numbers of four bytes, one behind the other, and pointers.
+use Rattle.std.proofs.Common.{◌≡◌, ℕ, zero, suc, ◌+◌, ◌-◌, ◌*◌, ◌^◌, ◌<◌, ◌≤◌, List, [], ◌∷◌, ◌++◌, length, get_or, take, drop, map, refl, sym, ap, ◌∙◌, append_assoc, arith}
+use Rattle.std.specs.List.{AllByRecursion}
+use Rattle.std.specs.Prelude.{All}
+use Rattle.std.proofs.lemmas.List.{length-append, length-drop, length-map, drop_at, drop-drop, same_lists, take-append-drop, take_more, map_push, append-nil}
+use Rattle.std.proofs.lemmas.List.Elements.{All-head, All-tail}
+use Rattle.layout.specs.Bytes.{little, number, IsBytes, Writes}
+use Rattle.layout.specs.Pointer.{pointer_number, pointer_of, PointsBelow, words_bytes, words_in, pointers_bytes, pointers_in}
+use Rattle.layout.specs.declared.pointer.Pointer.{Pointer}
+use Rattle.layout.specs.declared.pointer.Pointer.TheVariants.{Hole, Block}
+use Rattle.layout.proofs.NumberLaws.{length-little, number-spelled, number-little}
+use Rattle.layout.proofs.Formats.{IsBytes-drop}
+
+pub length-words_bytes : (words : List ℕ) → length (words_bytes words) ≡ 4 * length words
+unfolding words_bytes
+length-words_bytes [] = refl
+length-words_bytes (word ∷ words) =
+    omega (arith, length-append (little 4 word) (words_bytes words), length-little 4 word, length-words_bytes words)
+
+pub length-words_in : (n : ℕ) (bytes : List ℕ) → length (words_in n bytes) ≡ n
+unfolding words_in
+length-words_in zero bytes = refl
+length-words_in (suc n) bytes = ap suc (length-words_in n (drop 4 bytes))
+
+-- what is read is spelled so
+pub words_spelled : (n : ℕ) (bytes : List ℕ) → 4 * n ≤ length bytes → IsBytes bytes → bytes ≡ words_bytes (words_in n bytes) ++ drop (4 * n) bytes
+unfolding words_bytes words_in
+words_spelled zero bytes long fits = refl
+words_spelled (suc n) bytes long fits =
+    let front = number-spelled 4 bytes (omega arith) fits in
+    let rest = words_spelled n (drop 4 bytes) (omega (arith, length-drop 4 bytes)) (IsBytes-drop 4 bytes fits) in
+    let far : drop (4 * n) (drop 4 bytes) ≡ drop (4 * suc n) bytes = drop-drop (4 * n) 4 bytes ∙ ap (λ (k : ℕ). drop k bytes) (omega arith) in
+    front
+    ∙ ap (λ (r : List ℕ). little 4 (number 4 bytes) ++ r) (rest ∙ ap (λ (r : List ℕ). words_bytes (words_in n (drop 4 bytes)) ++ r) far)
+    ∙ sym (append_assoc (little 4 (number 4 bytes)) (words_bytes (words_in n (drop 4 bytes))) (drop (4 * suc n) bytes))
+
+-- what is spelled so is read
+pub words_again : (words : List ℕ) (rest : List ℕ) → AllByRecursion (λ word. word < 2 ^ 32) words → words_in (length words) (words_bytes words ++ rest) ≡ words
+unfolding words_bytes words_in
+words_again [] rest fits = refl
+words_again (word ∷ words) rest fits =
+    let regrouped : words_bytes (word ∷ words) ++ rest ≡ little 4 word ++ (words_bytes words ++ rest) = append_assoc (little 4 word) (words_bytes words) rest in
+    let first : number 4 (little 4 word ++ (words_bytes words ++ rest)) ≡ word = number-little 4 word (words_bytes words ++ rest) fits.0 in
+    let behind : drop 4 (little 4 word ++ (words_bytes words ++ rest)) ≡ words_bytes words ++ rest = drop_at (little 4 word) (words_bytes words ++ rest) 4 (length-little 4 word) in
+    ap (words_in (suc (length words))) regrouped ∙ rw (first, behind, words_again words rest fits.1) refl
+
+words_at : (n : ℕ) (bytes : List ℕ) (k d : ℕ) → k < n → get_or (words_in n bytes) k d ≡ number 4 (drop (4 * k) bytes)
+unfolding words_in
+words_at zero bytes k d lt = absurd (omega arith)
+words_at (suc n) bytes zero d lt = refl
+words_at (suc n) bytes (suc k) d lt =
+    words_at n (drop 4 bytes) k d (omega arith) ∙ ap (number 4) (drop-drop (4 * k) 4 bytes ∙ ap (λ (j : ℕ). drop j bytes) (omega arith))
+
+pointers_at : (n : ℕ) (bytes : List ℕ) (k : ℕ) (d : Pointer) → k < n → get_or (pointers_in n bytes) k d ≡ pointer_of (number 4 (drop (4 * k) bytes))
+unfolding words_in
+pointers_at zero bytes k d lt = absurd (omega arith)
+pointers_at (suc n) bytes zero d lt = refl
+pointers_at (suc n) bytes (suc k) d lt =
+    pointers_at n (drop 4 bytes) k d (omega arith) ∙ ap (λ (r : List ℕ). pointer_of (number 4 r)) (drop-drop (4 * k) 4 bytes ∙ ap (λ (j : ℕ). drop j bytes) (omega arith))
+
+-- the end of a loop that reads pointers
+pub pointers_read : (n : ℕ) (bytes : List ℕ) (pointers : List Pointer) → length pointers ≡ n
+    → ((k : ℕ) (d : Pointer) → k < n → get_or pointers k d ≡ pointer_of (number 4 (drop (4 * k) bytes))) → pointers ≡ pointers_in n bytes
+pointers_read n bytes pointers len each =
+    let same : length pointers ≡ length (pointers_in n bytes) = omega (arith, len, length-map (words_in n bytes) pointer_of, length-words_in n bytes) in
+    same_lists pointers (pointers_in n bytes) same (λ k d lt. let below : k < n = omega arith in each k d below ∙ sym (pointers_at n bytes k d below))
+
+number-pointer_of : (n : ℕ) → pointer_number (pointer_of n) ≡ n
+number-pointer_of zero = refl
+number-pointer_of (suc n) = refl
+
+numbers-pointers_of : (words : List ℕ) → map pointer_number (map pointer_of words) ≡ words
+numbers-pointers_of [] = refl
+numbers-pointers_of (word ∷ words) =
+    ap (λ (w : ℕ). w ∷ map pointer_number (map pointer_of words)) (number-pointer_of word) ∙ ap (λ (ws : List ℕ). word ∷ ws) (numbers-pointers_of words)
+
+pub pointers_spelled : (n : ℕ) (bytes : List ℕ) → 4 * n ≤ length bytes → IsBytes bytes → bytes ≡ pointers_bytes (pointers_in n bytes) ++ drop (4 * n) bytes
+pointers_spelled n bytes long fits =
+    words_spelled n bytes long fits ∙ ap (λ (words : List ℕ). words_bytes words ++ drop (4 * n) bytes) (sym (numbers-pointers_of (words_in n bytes)))
+
+pointer_of-number : (blocks : ℕ) (p : Pointer) → PointsBelow blocks p → pointer_of (pointer_number p) ≡ p
+pointer_of-number blocks Hole fits = refl
+pointer_of-number blocks (Block b) fits =
+    let positive : b ≡ suc (b - 1) = omega arith in
+    ap pointer_of positive ∙ ap (λ (n : ℕ). Block n) (sym positive)
+
+pointer_fits : (blocks : ℕ) (p : Pointer) → blocks ≤ 2 ^ 32 → PointsBelow blocks p → pointer_number p < 2 ^ 32
+pointer_fits blocks Hole limit fits = omega arith
+pointer_fits blocks (Block b) limit fits = omega arith
+
+pointers_of-numbers : (blocks : ℕ) (ps : List Pointer) → All (PointsBelow blocks) ps → map pointer_of (map pointer_number ps) ≡ ps
+pointers_of-numbers blocks [] fits = refl
+pointers_of-numbers blocks (p ∷ ps) fits =
+    let first = pointer_of-number blocks p (All-head (PointsBelow blocks) p ps fits) in
+    let others = pointers_of-numbers blocks ps (All-tail (PointsBelow blocks) p ps fits) in
+    ap (λ (q : Pointer). q ∷ map pointer_of (map pointer_number ps)) first ∙ ap (λ (qs : List Pointer). p ∷ qs) others
+
+numbers_fit : (blocks : ℕ) (ps : List Pointer) → blocks ≤ 2 ^ 32 → All (PointsBelow blocks) ps → AllByRecursion (λ word. word < 2 ^ 32) (map pointer_number ps)
+numbers_fit blocks [] limit fits = tt
+numbers_fit blocks (p ∷ ps) limit fits =
+    (pointer_fits blocks p limit (All-head (PointsBelow blocks) p ps fits), numbers_fit blocks ps limit (All-tail (PointsBelow blocks) p ps fits))
+
+pub length-pointers_bytes : (ps : List Pointer) → length (pointers_bytes ps) ≡ 4 * length ps
+length-pointers_bytes ps = omega (arith, length-words_bytes (map pointer_number ps), length-map ps pointer_number)
+
+pub pointers_again : (n blocks : ℕ) (ps : List Pointer) (rest : List ℕ) → length ps ≡ n → blocks ≤ 2 ^ 32 → All (PointsBelow blocks) ps → pointers_in n (pointers_bytes ps ++ rest) ≡ ps
+pointers_again n blocks ps rest len limit fits =
+    let count : n ≡ length (map pointer_number ps) = omega (arith, length-map ps pointer_number, len) in
+    ap (λ (k : ℕ). pointers_in k (pointers_bytes ps ++ rest)) count
+    ∙ ap (map pointer_of) (words_again (map pointer_number ps) rest (numbers_fit blocks ps limit fits))
+    ∙ pointers_of-numbers blocks ps fits
+
+words_bytes-append : (xs ys : List ℕ) → words_bytes (xs ++ ys) ≡ words_bytes xs ++ words_bytes ys
+unfolding words_bytes
+words_bytes-append [] ys = refl
+words_bytes-append (x ∷ xs) ys =
+    ap (λ (r : List ℕ). little 4 x ++ r) (words_bytes-append xs ys) ∙ sym (append_assoc (little 4 x) (words_bytes xs) (words_bytes ys))
+
+pub words_push : (words : List ℕ) (word : ℕ) → words_bytes (words ++ word ∷ []) ≡ words_bytes words ++ little 4 word
+unfolding words_bytes
+words_push words word =
+    words_bytes-append words (word ∷ []) ∙ ap (λ (r : List ℕ). words_bytes words ++ r) (append-nil (little 4 word))
+
+-- one more pointer at the end
+pub pointers_bytes_push : (ps : List Pointer) (p : Pointer) → pointers_bytes (ps ++ p ∷ []) ≡ pointers_bytes ps ++ little 4 (pointer_number p)
+unfolding words_bytes
+pointers_bytes_push ps p =
+    ap words_bytes (map_push pointer_number ps p) ∙ words_bytes-append (map pointer_number ps) (pointer_number p ∷ [])
+    ∙ ap (λ (r : List ℕ). words_bytes (map pointer_number ps) ++ r) (append-nil (little 4 (pointer_number p)))
+
+pub none_written : (at : ℕ) (out : List ℕ) → at ≤ length out → Writes at (at + 0) (pointers_bytes []) out out
+unfolding words_bytes
+none_written at out within =
+    let here : at + 0 ≡ at = omega arith in
+    record { length_is = refl; within = omega arith; bytes_are = rw here (sym (take-append-drop at out)) }
+
+pub pointers_more : (ps : List Pointer) (i : ℕ) (p : Pointer) → i < length ps → p ≡ get_or ps i p → pointers_bytes (take (i + 1) ps) ≡ pointers_bytes (take i ps) ++ little 4 (pointer_number p)
+pointers_more ps i p lt is =
+    ap pointers_bytes (take_more ps i p lt ∙ ap (λ (q : Pointer). take i ps ++ q ∷ []) (sym is)) ∙ pointers_bytes_push (take i ps) p

@@ -1,0 +1,9 @@
+use Rattle.layout.proofs.RootLaws.{head_is}
+use Rattle.layout.proofs.WritingLaws.{writes_both}
+use Rattle.layout.proofs.root.put_head.Goals as goal
+
+pub returns : goal.returns
+returns c =
+    rw (← head_is c.args.generation c.args.geometry.now)
+    (rw (← c.get.ensures.value, ← c.blocks-2.ensures.value, ← c.inodes.ensures.value, ← c.half.ensures.value)
+    (writes_both c.put_u64.ensures (writes_both c.put_u32.ensures (writes_both c.put_u64-2.ensures (writes_both c.put_u32-2.ensures (writes_both c.put_u32-3.ensures c.put_u32-4.ensures))))))
