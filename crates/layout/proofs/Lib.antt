@@ -9,3 +9,5 @@ pub mod WordLaws
 pub mod InodeLaws
 pub mod RootLaws
 pub mod FreshLaws
+pub mod EntryLaws
+pub mod SnapshotLaws

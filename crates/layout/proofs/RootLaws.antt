@@ -74,7 +74,7 @@ length-head : (generation : ℕ) (s : Sizes) → length (head_bytes generation s
 unfolding head_bytes
 length-head generation s = simp (length-append, length-little) (omega arith)
 
-length-inode : (i : Inode) (s : Sizes) → IsInode s i → length (inode_bytes i) ≡ 192
+pub length-inode : (i : Inode) (s : Sizes) → IsInode s i → length (inode_bytes i) ≡ 192
 length-inode i s is =
     let body = length-body i.body s.blocks i.size is.body in
     simp (length-append, length-little, length-zeros) (omega arith)

@@ -3,6 +3,7 @@ use Rattle.std.specs.Prelude.{ℕ, ◌≡◌, ◌-◌, ◌*◌, ◌%◌, ◌<◌
 use Rattle.std.specs.Int.{div_ceil}
 use Rattle.layout.specs.Bytes.{little, zeros}
 use Rattle.layout.specs.Limits.{Sizes, AreSizes}
+use Rattle.layout.specs.Version.{greatest_size}
 use Rattle.layout.specs.Pointer.{PointsBelow, pointers_bytes}
 use Rattle.layout.specs.declared.kind.Kind.{Kind}
 use Rattle.layout.specs.declared.kind.Kind.TheVariants as kinds
@@ -56,7 +57,7 @@ FitsBody (Pointers pointers) blocks size =
 -- an inode of an image of these sizes
 pub record IsInode (s : Sizes) (i : Inode) : Type 0 where
   pub mode : i.mode ≤ 4095
-  pub size : i.size ≤ 67108864
+  pub size : i.size ≤ greatest_size 1
   pub kind : FitsKind i.kind s i.mode i.links i.size
   pub body : FitsBody i.body s.blocks i.size
 

@@ -12,3 +12,7 @@ pub mod Record
 pub mod RecordReading
 pub mod Root
 pub mod RootReading
+pub mod Directory
+pub mod Maps
+pub mod Version
+pub mod SnapRoot

@@ -12,6 +12,7 @@ ghost use Rattle.layout.specs.declared.inode.Inode.{Inode};
 use crate::fields::is_zero;
 use crate::pointer::{are_holes, pointers_fit, put_pointers, read_pointers};
 use crate::reading::{part_at, u8_at, u16_at, u32_at, u64_at};
+use crate::version::{VERSION, greatest_size};
 use crate::writing::{put_bytes, put_u8, put_u16, put_u32, put_u64, put_zeros};
 use crate::{BODY_POINTERS, Geometry, INLINE_BYTES, INODE_BYTES, Kind, Pointer};
 use model::Mode;
@@ -92,7 +93,7 @@ impl Inode {
         ensures { IsTrue result ↔ IsInode geometry self.now }
     {
         let _ = self.mode.bits();
-        self.size <= 67_108_864
+        self.size <= greatest_size(VERSION)
             && kind_fits(self, geometry)
             && body_fits(&self.body, geometry.blocks(), self.size)
     }

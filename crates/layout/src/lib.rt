@@ -2,12 +2,14 @@
 //! byte of one again. Nothing here knows a device. All numbers are little-endian.
 #![tactic(auto)]
 
+mod entry;
 mod fields;
 mod fresh;
 mod geometry;
 mod inode;
 mod kind;
 mod log;
+mod maps;
 mod name;
 mod numbers;
 mod pointer;
@@ -16,9 +18,11 @@ mod record;
 mod record_read;
 mod record_write;
 mod root;
+mod snap_root;
 mod version;
 mod writing;
 
+pub use entry::Entry;
 pub use fresh::{fresh_block, fresh_blocks, fresh_root};
 pub use geometry::Geometry;
 pub use inode::{Body, Inode};
@@ -27,11 +31,14 @@ pub use log::{
     CLOSED, EPOCH_AT, FIRST_GATE, Gate, HEADER_BYTES, HEADER_GATE, Header, OPEN, RECORD_HEAD_BYTES,
     read_gate,
 };
+pub use maps::{indirect_pointer, is_taken, map_entry};
 pub use name::{is_link_text, is_name};
 pub use numbers::{BlockNumber, Epoch, Generation, InodeNumber};
 pub use pointer::Pointer;
 pub use record::{NewObject, Record};
 pub use root::Root;
+pub use snap_root::SnapRoot;
+pub use version::{VERSION, greatest_level, greatest_size, snapshot_slots};
 
 /// Bytes of a sector of the disk.
 pub const SECTOR_BYTES: usize = 512;

@@ -4,3 +4,4 @@ mod Steps
 mod Writes
 pub mod Keeps
 pub mod Appends
+pub mod Joins

@@ -1,6 +1,7 @@
 //! Appending to the log.
 
-ghost use Rattle.std.specs.Prelude.{◌≡◌, ◌⊎◌, ℕ, ◌+◌, ◌*◌, ◌%◌, ◌<◌, ◌≤◌, ◌^◌, Bool, true, false, List, [], ◌∷◌, ◌++◌, length, IsTrue, IsErrOf, OnOk, OnErr, IfOk, ◌↔◌};
+ghost use Rattle.std.specs.Prelude.{◌≡◌, ◌⊎◌, ℕ, ◌+◌, ◌*◌, ◌%◌, ◌<◌, ◌≤◌, ◌^◌, Bool, true, false, List, [], ◌∷◌, ◌++◌, length, IsTrue, IsFalse, IsErrOf, OnOk, OnErr, IfOk, ◌↔◌};
+ghost use Rattle.byteorder.specs.Endian.{little_bytes};
 ghost use Rattle.station.specs.Images.{Images};
 ghost use Rattle.station.specs.Moments.{MayLeave, LeavesOnly, IsSameStation, CountsWrite, HasGrown};
 ghost use Rattle.oplog.specs.Ends.{LogEnd, StandsAt, KeepsDisk, IsBehind, at_place, unopened, HoldsNone, WithOrWithout};
@@ -60,7 +61,7 @@ impl Model for Log {
 
     ghost view = { λ l. record { half = l.half; epoch = l.epoch; is_open = l.is_open; next = l.next; is_stopped = l.is_stopped } };
 
-    ghost invariant = { λ l. (9 ≤ l.next) × (l.next < l.half) × (l.half ≤ 8388608) };
+    ghost invariant = { λ l. (10 ≤ l.half) × (9 ≤ l.next) × (l.next < l.half) × (l.half ≤ 8388608) × (IsFalse l.is_open → l.next ≡ 9) };
 }
 
 impl Log {
@@ -112,8 +113,9 @@ impl Log {
         left >= RECORD_HEAD_BYTES + 1 && length <= left - (RECORD_HEAD_BYTES + 1)
     }
 
-    /// Appends a record, and opens the epoch first where it isn't open. The record counts from the moment that its
-    /// gate is written, with a write of its own.
+    /// Appends a record, and opens the epoch first where it isn't open. The record counts from the moment that its gate
+    /// is written, with a write of its own. `LogFull` where it doesn't fit what is left of the half and `NoMemory`
+    /// change nothing; after `Device` the log has stopped.
     pub fn append<S: Station>(
         &mut self,
         alloc: Global,
@@ -122,8 +124,32 @@ impl Log {
     ) -> Result<(), LogError>
         requires size { (S.meaning station.old).nvram_bytes ≡ 2 * self.old.half }
         requires fits { KeepsLimits (change_of entry.now) }
+
         ensures same { IsSameStation (S.meaning station.old) (S.meaning station.new) }
+        ensures reads { (S.meaning station.new).failed_reads ≡ (S.meaning station.old).failed_reads }
+
+        // A log that has stopped answers Device, and makes no device call.
+        ensures stopped { IsTrue self.old.is_stopped → (result ≡ Err LogError.Device) × (station.new ≡ station.old) × (self.new ≡ self.old) }
+        ensures device { IsErrOf result LogError.Device → IsTrue self.new.is_stopped
+            × (IsTrue self.old.is_stopped ⊎ HasGrown (S.meaning station.old).failed_writes (S.meaning station.new).failed_writes) }
+
+        // The other refusals change nothing.
+        ensures full { IsErrOf result LogError.LogFull ↔ (IsFalse self.old.is_stopped × (self.old.half < self.old.next + 6 + length (change_bytes (change_of entry.now)))) }
+        ensures full_changes_nothing { IsErrOf result LogError.LogFull → (station.new ≡ station.old) × (self.new ≡ self.old) }
+        ensures no_memory { IsErrOf result LogError.NoMemory → (station.new ≡ station.old) × (self.new ≡ self.old) }
+        ensures not_damaged { IsErrOf result LogError.Damaged → ⊥ }
+
         ensures half { self.new.half ≡ self.old.half }
+        ensures end { OnOk result (self.new ≡ at_place self.old (self.old.next + 5 + length (change_bytes (change_of entry.now)))) }
+
+        // A cut at any moment leaves the records that were there, with this one or without it; at the answer, with it.
+        ensures any_moment { (S.meaning station.old).is_honest → (g : ℕ) (bodies : List (List ℕ))
+            → ((c : Images) → MayLeave (S.meaning station.old) c → StandsAt self.old g bodies c.nvram)
+            → LeavesOnly (S.meaning station.old) (S.meaning station.new) (KeepsDisk (S.meaning station.old) (WithOrWithout self.old.half g bodies (change_bytes (change_of entry.now)))) }
+        ensures appended { (S.meaning station.old).is_honest → (g : ℕ) (bodies : List (List ℕ))
+            → ((c : Images) → MayLeave (S.meaning station.old) c → StandsAt self.old g bodies c.nvram)
+            → OnOk result ((c : Images) → MayLeave (S.meaning station.new) c
+            → KeepsDisk (S.meaning station.old) (StandsAt self.new g (bodies ++ change_bytes (change_of entry.now) ∷ [])) c) }
     {
         if self.is_stopped {
             return Err(LogError::Device);
@@ -132,14 +158,73 @@ impl Log {
             return Err(LogError::LogFull);
         }
         let behind = behind_the_gate(alloc, entry)?;
-        if !self.is_open {
-            let Ok(()) = self.open_half(station) else {
-                self.is_stopped = true;
-                return Err(LogError::Device);
-            };
-            self.is_open = true;
+        self.append_behind(station, &behind)
+    }
+
+    /// Appends a record of which this is to stand behind its gate.
+    fn append_behind<S: Station>(&mut self, station: &mut S, behind: &[u8]) -> Result<(), LogError>
+        requires size { (S.meaning station.old).nvram_bytes ≡ 2 * self.old.half }
+        requires some { 1 ≤ length behind.now }
+        requires room { self.old.next + 1 + length behind.now ≤ self.old.half }
+        ensures same { IsSameStation (S.meaning station.old) (S.meaning station.new) }
+        ensures counts { CountsWrite (S.meaning station.old) (S.meaning station.new) result }
+        ensures ok { OnOk result (self.new ≡ at_place self.old (self.old.next + length behind.now)) }
+        ensures err { OnErr result ((result ≡ Err LogError.Device) × IsTrue self.new.is_stopped × (self.new.half ≡ self.old.half)) }
+        ensures any_moment { (S.meaning station.old).is_honest → (g : ℕ) (bodies : List (List ℕ)) (body : List ℕ) → IsBehind body behind.now
+            → ((c : Images) → MayLeave (S.meaning station.old) c → StandsAt self.old g bodies c.nvram)
+            → LeavesOnly (S.meaning station.old) (S.meaning station.new) (KeepsDisk (S.meaning station.old) (WithOrWithout self.old.half g bodies body)) }
+        ensures appended { (S.meaning station.old).is_honest → (g : ℕ) (bodies : List (List ℕ)) (body : List ℕ) → IsBehind body behind.now
+            → ((c : Images) → MayLeave (S.meaning station.old) c → StandsAt self.old g bodies c.nvram)
+            → OnOk result ((c : Images) → MayLeave (S.meaning station.new) c → KeepsDisk (S.meaning station.old) (StandsAt self.new g (bodies ++ body ∷ [])) c) }
+    {
+        if self.is_open {
+            return self.add(station, behind);
         }
-        let Ok(()) = self.add_record(station, &behind) else {
+        self.open(station)?;
+        self.add(station, behind)
+    }
+
+    /// Opens the epoch's half, or stops.
+    fn open<S: Station>(&mut self, station: &mut S) -> Result<(), LogError>
+        requires size { (S.meaning station.old).nvram_bytes ≡ 2 * self.old.half }
+        ensures same { IsSameStation (S.meaning station.old) (S.meaning station.new) }
+        ensures counts { CountsWrite (S.meaning station.old) (S.meaning station.new) result }
+        ensures ok { OnOk result (self.new ≡ record self.old { is_open = true }) }
+        ensures err { OnErr result ((result ≡ Err LogError.Device) × (self.new ≡ record self.old { is_stopped = true })) }
+        ensures any_moment { (S.meaning station.old).is_honest → (g : ℕ)
+            → ((c : Images) → MayLeave (S.meaning station.old) c → StandsAt (unopened self.old) g [] c.nvram)
+            → LeavesOnly (S.meaning station.old) (S.meaning station.new) (KeepsDisk (S.meaning station.old) (HoldsNone self.old.half g)) }
+        ensures opened { (S.meaning station.old).is_honest → (g : ℕ)
+            → ((c : Images) → MayLeave (S.meaning station.old) c → StandsAt (unopened self.old) g [] c.nvram)
+            → OnOk result ((c : Images) → MayLeave (S.meaning station.new) c → KeepsDisk (S.meaning station.old) (StandsAt (at_place self.old 9) g []) c) }
+    {
+        let Ok(()) = self.open_half(station) else {
+            self.is_stopped = true;
+            return Err(LogError::Device);
+        };
+        self.is_open = true;
+        Ok(())
+    }
+
+    /// Adds a record to the open epoch, or stops.
+    fn add<S: Station>(&mut self, station: &mut S, behind: &[u8]) -> Result<(), LogError>
+        requires size { (S.meaning station.old).nvram_bytes ≡ 2 * self.old.half }
+        requires some { 1 ≤ length behind.now }
+        requires room { self.old.next + 1 + length behind.now ≤ self.old.half }
+        requires is_open { IsTrue self.old.is_open }
+        ensures same { IsSameStation (S.meaning station.old) (S.meaning station.new) }
+        ensures counts { CountsWrite (S.meaning station.old) (S.meaning station.new) result }
+        ensures ok { OnOk result (self.new ≡ at_place self.old (self.old.next + length behind.now)) }
+        ensures err { OnErr result ((result ≡ Err LogError.Device) × (self.new ≡ record self.old { is_stopped = true })) }
+        ensures any_moment { (S.meaning station.old).is_honest → (g : ℕ) (bodies : List (List ℕ)) (body : List ℕ) → IsBehind body behind.now
+            → ((c : Images) → MayLeave (S.meaning station.old) c → StandsAt (at_place self.old self.old.next) g bodies c.nvram)
+            → LeavesOnly (S.meaning station.old) (S.meaning station.new) (KeepsDisk (S.meaning station.old) (WithOrWithout self.old.half g bodies body)) }
+        ensures added { (S.meaning station.old).is_honest → (g : ℕ) (bodies : List (List ℕ)) (body : List ℕ) → IsBehind body behind.now
+            → ((c : Images) → MayLeave (S.meaning station.old) c → StandsAt (at_place self.old self.old.next) g bodies c.nvram)
+            → OnOk result ((c : Images) → MayLeave (S.meaning station.new) c
+            → KeepsDisk (S.meaning station.old) (StandsAt (at_place self.old (self.old.next + length behind.now)) g (bodies ++ body ∷ [])) c) }
+    {
+        let Ok(()) = self.add_record(station, behind) else {
             self.is_stopped = true;
             return Err(LogError::Device);
         };
@@ -204,11 +289,23 @@ impl Log {
 fn behind_the_gate(alloc: Global, entry: &Record) -> Result<Vec<u8>, AllocError>
     requires fits { KeepsLimits (change_of entry.now) }
     requires short { length (change_bytes (change_of entry.now)) ≤ 8388608 }
-    ensures { IfOk result (λ v. length v.items ≡ length (change_bytes (change_of entry.now)) + 5) }
+    ensures length { IfOk result (λ v. length v.items ≡ length (change_bytes (change_of entry.now)) + 5) }
+    ensures spelled { IfOk result (λ v. IsBehind (change_bytes (change_of entry.now)) v.items) }
 {
-    let length = entry.encoded_len();
-    let mut bytes = vec![in alloc; CLOSED; length + RECORD_HEAD_BYTES]?;
-    LittleEndian::write_u32(&mut bytes, length as u32);
-    entry.write(&mut bytes[4..]);
+    let mut bytes = vec![in alloc; CLOSED; entry.encoded_len() + 4]?;
+    put_record(entry, &mut bytes);
+    bytes.push(CLOSED)?;
     Ok(bytes)
+}
+
+/// Writes a record's length and body.
+fn put_record(entry: &Record, out: &mut [u8])
+    requires fits { KeepsLimits (change_of entry.now) }
+    requires short { length (change_bytes (change_of entry.now)) ≤ 8388608 }
+    requires room { length out.old ≡ length (change_bytes (change_of entry.now)) + 4 }
+    ensures { out.new ≡ little_bytes 4 (length (change_bytes (change_of entry.now))) ++ change_bytes (change_of entry.now) }
+{
+    let (head, body) = out.split_at_mut(4);
+    LittleEndian::write_u32(head, entry.encoded_len() as u32);
+    entry.write(body);
 }

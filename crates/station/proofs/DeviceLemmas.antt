@@ -1,12 +1,10 @@
 -- What the calls of a device leave, and what a power cut may leave at a moment of them.
-use Rattle.std.proofs.Common.{◌≡◌, ◌⊎◌, inl, inr, ⊎_elim, ℕ, zero, suc, ◌+◌, ◌*◌, ◌<◌, ◌≤◌, Bool, true, false, List, [], ◌∷◌, ◌++◌, length, take, refl, ap, sym, subst, ◌∙◌, arith, add-suc, add-one, length-append}
-use Rattle.std.specs.Prelude.{if◌then◌else◌, fold}
+use Rattle.std.proofs.Common.{◌≡◌, ◌⊎◌, inl, inr, ℕ, zero, suc, ◌*◌, ◌≤◌, List, [], ◌∷◌, ◌++◌, length, subst, arith}
 use Rattle.std.proofs.lemmas.List.Sums.{fold-append}
-use Rattle.station.specs.Images.{Images, part_of, reaches, disk_with, nvram_with, Unchanged, MayWrite, MayNvWrite, Reaches}
-use Rattle.station.specs.Device.{Device, fresh, sectors_of, after, after_all, IsOneOf, MayBeLeft, LeftWithin, LeftAt}
+use Rattle.station.specs.Images.{Images}
+use Rattle.station.specs.Device.{Device, after, after_all, IsOneOf, MayBeLeft, LeftWithin, LeftAt}
 use Rattle.station.specs.DeviceLaws.{LeftAt-end}
 use Rattle.station.specs.declared.history.Call.{Call}
-use Rattle.station.specs.declared.history.Call.TheVariants.{Read, Write, NvWrite, Sync}
 
 -- one call more
 pub after_all-push : (d : Device) (calls : List Call) (call : Call) → after_all d (calls ++ call ∷ []) ≡ after (after_all d calls) call

@@ -1,17 +1,17 @@
 -- How the calls of a station in memory go on from what they found.
-use Rattle.std.proofs.Common.{◌≡◌, ◌⊎◌, inl, inr, ⊎_elim, ℕ, zero, suc, ◌+◌, ◌*◌, ◌<◌, ◌≤◌, Bool, true, false, List, [], ◌∷◌, ◌++◌, length, take, refl, ap, sym, subst, ◌∙◌, arith, add-suc, add-one, length-append}
+use Rattle.std.proofs.Common.{◌≡◌, ◌⊎◌, inl, inr, ℕ, suc, ◌+◌, ◌*◌, ◌<◌, ◌≤◌, Bool, true, false, List, [], ◌∷◌, ◌++◌, length, refl, ap, sym, subst, ◌∙◌, arith, length-append}
 use Rattle.std.proofs.Math.Seq.{take-length}
 use Rattle.std.proofs.lemmas.Bool.{cases_eq}
 use Rattle.std.specs.Global.{Vec}
 use Rattle.std.specs.Prelude.{if◌then◌else◌}
 use Rattle.std.proofs.Math.Path.{fun_ext}
-use Rattle.station.specs.Images.{Images, part_of, reaches, disk_with, nvram_with, Unchanged, MayWrite, NvWrites, MayNvWrite, Reaches, Writes}
+use Rattle.station.specs.Images.{Images, part_of, reaches, disk_with, nvram_with, Unchanged, MayWrite, NvWrites, MayNvWrite, Reaches}
 use Rattle.station.specs.Moments.{Goes}
 use Rattle.station.specs.Device.{Device, reads_of, after, after_all, IsOneOf, MayBeLeft, LeftWithin, LeftAt}
 use Rattle.station.specs.Sim.{known}
 use Rattle.station.specs.declared.history.Call.{Call}
 use Rattle.station.specs.declared.history.Call.TheVariants.{Read, Write, NvWrite, Sync}
-use Rattle.station.specs.DeviceLaws.{LeftAt-end, LeftAt-at_end, SeenIsHeld}
+use Rattle.station.specs.DeviceLaws.{LeftAt-at_end, SeenIsHeld}
 use Rattle.station.proofs.DeviceLemmas.{after_all-push, LeftAt-push_early, LeftAt-push_within, LeftAt-push_after, IsOneOf-append}
 use Rattle.station.proofs.DiskLemmas.{cases_reach}
 

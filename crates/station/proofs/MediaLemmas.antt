@@ -1,9 +1,8 @@
 -- Facts on what changes in the media of a station in memory.
-use Rattle.std.proofs.Common.{◌≡◌, ◌∙◌, ℕ, zero, suc, Bool, ◌+◌, ◌*◌, ◌≤◌, List, [], ◌∷◌, length, take, drop, arith, length-take, length-drop}
+use Rattle.std.proofs.Common.{◌≡◌, ◌∙◌, ℕ, zero, suc, Bool, ◌+◌, ◌*◌, ◌≤◌, List, length, take, drop, arith, length-take, length-drop}
 use Rattle.std.specs.Prelude.{All}
 use Rattle.std.proofs.lemmas.List.Elements.{All-nil, All-push}
 use Rattle.station.specs.declared.history.Call.{Call}
-use Rattle.station.specs.declared.history.SectorWrite.{SectorWrite}
 use Rattle.station.specs.declared.media.Media.{Media}
 use Rattle.station.specs.Media.{HasCalls, Same, AddsWrite, AddsNvWrite}
 use Rattle.station.specs.Writes.{parts_of, IsInRange}

@@ -1,11 +1,10 @@
 -- What each call of a station in memory is, in the words of its meaning.
-use Rattle.std.proofs.Common.{◌≡◌, ◌⊎◌, inl, inr, ⊎_elim, ℕ, ◌+◌, ◌*◌, ◌≤◌, Bool, true, false, List, [], ◌∷◌, ◌++◌, length, take, drop, refl, ap, sym, subst, ◌∙◌, arith, Result, Ok, Err, take_all, append-nil, take-append-drop, add-zero}
+use Rattle.std.proofs.Common.{◌≡◌, ◌⊎◌, inl, inr, ℕ, ◌*◌, ◌≤◌, Bool, true, false, List, [], length, take, drop, refl, ap, sym, subst, ◌∙◌, arith, Result, Ok, Err, take_all, append-nil, take-append-drop, add-zero}
 use Rattle.std.specs.Prelude.{OnOk, OnErr}
-use Rattle.std.specs.Global.{Vec}
 use Rattle.station.specs.Images.{Images, disk_with, nvram_with, Unchanged, MayWrite, Writes, NvWrites, MayNvWrite}
 use Rattle.station.specs.Moments.{Goes, MayLeave, After, LeavesJust}
 use Rattle.station.specs.Device.{Device, fresh, reads_of, images_of, sectors_of, after, after_all, MayBeLeft}
-use Rattle.station.specs.DeviceLaws.{LeftAt-end, LeftAt-at_end, SeenIsHeld, seen_is_held}
+use Rattle.station.specs.DeviceLaws.{LeftAt-end, LeftAt-at_end, seen_is_held}
 use Rattle.station.specs.Media.{IsLoadedFrom, HasCalls, Same, Adds, AddsWrite, AddsNvWrite}
 use Rattle.station.specs.Sim.{known, meaning_of, IsLoaded}
 use Rattle.station.specs.Plan.{kept_of}
@@ -19,7 +18,7 @@ use Rattle.station.specs.declared.sim.Sim.{Sim}
 use Rattle.std.proofs.Math.Path.{fun_ext}
 use Rattle.station.proofs.TiedLemmas.{tied-may_be_left}
 use Rattle.station.proofs.DeviceLemmas.{after_all-push}
-use Rattle.station.proofs.GoesLemmas.{IsStep, goes_stays, goes_call, is_step-read, is_step-sync, is_step-write, is_step-nv_write, left_after_sync, left_after_nv_write}
+use Rattle.station.proofs.GoesLemmas.{IsStep, goes_stays, goes_call, is_step-read, is_step-sync, is_step-write, is_step-nv_write, left_after_sync}
 
 -- the device that a station stands for
 abbrev pub device_of : Sim → Device

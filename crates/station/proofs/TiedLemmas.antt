@@ -1,8 +1,8 @@
 -- The arrays of a station in memory stand for the device after each call.
-use Rattle.std.proofs.Common.{◌≡◌, ℕ, zero, suc, ◌+◌, ◌*◌, ◌/◌, ◌%◌, ◌≤◌, Bool, true, false, List, [], ◌∷◌, ◌++◌, length, take, refl, ap, sym, subst, ◌∙◌, append-nil}
+use Rattle.std.proofs.Common.{◌≡◌, ℕ, ◌+◌, ◌*◌, ◌/◌, ◌%◌, ◌≤◌, Bool, true, false, List, [], ◌∷◌, ◌++◌, length, take, refl, ap, sym, subst, ◌∙◌, append-nil}
 use Rattle.std.specs.Global.{Vec}
 use Rattle.std.specs.Prelude.{if◌then◌else◌}
-use Rattle.station.specs.Images.{Images, part_of, reaches, disk_with, nvram_with}
+use Rattle.station.specs.Images.{part_of, reaches, nvram_with}
 use Rattle.station.specs.Device.{Device, fresh, sectors_of, after, after_all, IsOneOf, MayBeLeft}
 use Rattle.station.specs.Tied.{IsTied}
 use Rattle.station.specs.Writes.{parts_of, written_to, kept_value}

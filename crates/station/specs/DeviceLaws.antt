@@ -1,8 +1,8 @@
 -- What holds of a device after any calls: the proofs of the laws of a station in memory.
-use Rattle.std.specs.Prelude.{◌≡◌, ℕ, zero, suc, ◌*◌, Bool, true, false, List, [], ◌∷◌, ◌++◌, length, refl, if◌then◌else◌}
+use Rattle.std.specs.Prelude.{◌≡◌, ℕ, suc, ◌*◌, true, false, List, [], ◌∷◌, ◌++◌, length, refl, if◌then◌else◌}
 use Rattle.std.proofs.Common.{inl, inr, ap, subst, ◌∙◌, arith}
 use Rattle.station.specs.Images.{Images, part_of, reaches}
-use Rattle.station.specs.Device.{Device, fresh, reads_of, after, after_all, IsOneOf, MayBeLeft, LeftAt}
+use Rattle.station.specs.Device.{Device, fresh, after, after_all, IsOneOf, MayBeLeft, LeftAt}
 use Rattle.station.specs.Sim.{meaning_of}
 use Rattle.station.specs.Moments.{MayLeave}
 use Rattle.station.specs.declared.history.Call.{Call}

@@ -1,6 +1,6 @@
 //! Which of a station's calls are to fail, and where its power is to be cut.
 
-ghost use Rattle.std.specs.Prelude.{◌≡◌, ◌≤◌, Some, None};
+ghost use Rattle.std.specs.Prelude.{◌≡◌, ◌≤◌, Some};
 ghost use Rattle.station.specs.declared.keep.Keep.TheVariants.{Nothing};
 ghost use Rattle.station.specs.Moments.{counted};
 ghost use Rattle.station.specs.Plan.{planned, no_plan, is_next, fate_of_read, fate_of_write, fate_of_sync, kept_of};

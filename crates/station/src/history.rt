@@ -1,6 +1,6 @@
 //! The calls of a station in memory, as it keeps them.
 
-ghost use Rattle.std.specs.Prelude.{◌≡◌, ℕ, ◌+◌, ◌-◌, ◌*◌, ◌/◌, ◌^◌, ◌<◌, ◌≤◌, ◌++◌, ◌∷◌, [], take, drop, length, vec_len, vec_capacity, All, OnOk, OnErr};
+ghost use Rattle.std.specs.Prelude.{◌≡◌, ℕ, ◌+◌, ◌*◌, ◌/◌, ◌^◌, ◌≤◌, ◌++◌, ◌∷◌, [], take, drop, length, vec_len, vec_capacity, All, OnOk, OnErr};
 ghost use Rattle.station.specs.declared.history.Call.TheVariants.{Write};
 ghost use Rattle.station.specs.Images.{nvram_with};
 ghost use Rattle.station.specs.Device.{sectors_of};

@@ -1,6 +1,6 @@
 //! The disk and the NVRAM of a station in memory, with the calls that made them.
 
-ghost use Rattle.std.specs.Prelude.{◌≡◌, ℕ, ◌+◌, ◌-◌, ◌*◌, ◌/◌, ◌%◌, ◌^◌, ◌<◌, ◌≤◌, ◌++◌, ◌∷◌, [], take, drop, true, false, length, ◌↔◌, All, IfOk, OnOk, OnErr, IsErrOf};
+ghost use Rattle.std.specs.Prelude.{◌≡◌, ◌+◌, ◌*◌, ◌%◌, ◌^◌, ◌<◌, ◌≤◌, true, false, length, ◌↔◌, All, IfOk, OnOk, OnErr, IsErrOf};
 ghost use Rattle.station.specs.Device.{fresh, after_all, IsBadSize};
 ghost use Rattle.station.specs.Tied.{IsTied};
 ghost use Rattle.station.specs.Writes.{IsInRange};

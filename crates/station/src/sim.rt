@@ -1,6 +1,6 @@
 //! A station in memory whose power can be cut at any write.
 
-ghost use Rattle.std.specs.Prelude.{◌≡◌, ◌≢◌, ◌⊎◌, ℕ, ◌+◌, ◌*◌, ◌%◌, ◌≤◌, ◌↔◌, length, true, false, Some, IfOk, OnOk, OnErr, IsErrOf};
+ghost use Rattle.std.specs.Prelude.{◌≡◌, ◌≢◌, ◌⊎◌, ◌+◌, ◌*◌, ◌%◌, ◌≤◌, ◌↔◌, length, true, false, Some, IfOk, OnOk, OnErr, IsErrOf};
 ghost use Rattle.station.specs.Moments.{MayLeave};
 ghost use Rattle.station.specs.Device.{images_of, IsBadSize};
 ghost use Rattle.station.specs.Plan.{IsNumbered};
