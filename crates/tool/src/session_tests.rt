@@ -8,7 +8,8 @@ use std::process::Abort;
 use std::test::Fail;
 
 /// What a session answers, and the station that it leaves.
-struct Ran {
+#[derive(Drop)]
+struct Outcome {
     status: u8,
     out: Vec<u8>,
     err: Vec<u8>,
@@ -35,7 +36,7 @@ fn restarted(alloc: Global, sim: &Sim) -> Result<Sim, Fail> {
     )?)
 }
 
-fn ran(alloc: Global, sim: Sim, script: &[u8]) -> Ran {
+fn ran(alloc: Global, sim: Sim, script: &[u8]) -> Outcome {
     let mut out = Vec::new(alloc);
     let mut err = Vec::new(alloc);
     let (status, sim) = session(
@@ -46,7 +47,7 @@ fn ran(alloc: Global, sim: Sim, script: &[u8]) -> Ran {
         &mut out,
         &mut err,
     );
-    Ran {
+    Outcome {
         status,
         out,
         err,
@@ -55,8 +56,8 @@ fn ran(alloc: Global, sim: Sim, script: &[u8]) -> Ran {
 }
 
 /// A run that tells faults on neither side: its status and its lines.
-fn expect(rt: &impl Abort, ran: Ran, status: u8, out: &[u8]) -> Sim {
-    let Ran {
+fn expect(rt: &impl Abort, ran: Outcome, status: u8, out: &[u8]) -> Sim {
+    let Outcome {
         status: answered,
         out: lines,
         err,
@@ -177,7 +178,7 @@ fn expect_refused(
     status: u8,
     fault: &[u8],
 ) {
-    let Ran {
+    let Outcome {
         status: answered,
         out,
         err,
@@ -206,21 +207,6 @@ fn other_images_are_not_mounted(rt: HostRuntime) -> Result<(), Fail> {
     );
 
     let sim = fresh(&rt, rt.alloc())?;
-    let mut disk = Vec::from_slice(alloc, sim.images().0)?;
-    let nvram = Vec::from_slice(alloc, sim.images().1)?;
-    assert_eq!(rt; disk.len(), 262_144);
-    for i in 0..512 {
-        disk[4096 + i] = disk[i];
-    }
-    expect_refused(
-        &rt,
-        rt.alloc(),
-        Sim::load(alloc, disk, nvram)?,
-        b"list /",
-        4,
-        b"wafl: mount DAMAGED\n",
-    );
-
     let disk = Vec::from_slice(alloc, sim.images().0)?;
     let nvram = vec![in alloc; 0; 131_072]?;
     expect_refused(
@@ -305,6 +291,52 @@ fn images_hold_the_worked_bytes(rt: HostRuntime) -> Result<(), Fail> {
         b"\x01\x02\0\0\0\0\0\0\0\x01\x0e\0\0\0\x01\x04\0\0\0\x03\0\0\0\x02\xed\x01\x01a",
         29,
     );
-    assert_eq!(rt; nvram[131_072], 0);
+    expect_bytes(&rt, nvram, 131_072, b"", 131_073);
+    Ok(())
+}
+
+/// Whether a session under want of memory told so: by a line, by the mount's refusal or by its status. A refused growth
+/// of the station in memory is a failed device call.
+fn tells_want_of_memory(ran: &Outcome) -> bool {
+    match ran.status {
+        0 => is_reply_of_want(&ran.out) && ran.err.is_empty(),
+        4 => {
+            ran.err.as_slice() == b"wafl: mount NOMEMORY\n".as_slice()
+                || ran.err.as_slice() == b"wafl: mount DEVICE\n".as_slice()
+        }
+        status => status == 7,
+    }
+}
+
+/// The replies to `mkdir /a` and `list /` with none refused, or with one of them refused.
+fn is_reply_of_want(out: &[u8]) -> bool {
+    let allowed: [&[u8]; 5] = [
+        b"ok\nnames a\n",
+        b"err ENOMEM\nnames\n",
+        b"ok\nerr ENOMEM\n",
+        b"err EIO\nerr FAILED\n",
+        b"err EIO\nnames\n",
+    ];
+    allowed.iter().any(|lines| *lines == out)
+}
+
+// With each allocation refused in turn this shows that want of memory has its name wherever it strikes.
+#[test]
+fn want_of_memory_has_its_name(rt: HostRuntime) -> Result<(), Fail> {
+    let alloc = rt.alloc();
+    let disk = vec![in alloc; 0; 262_144]?;
+    let nvram = vec![in alloc; 0; 262_144]?;
+    let Ok(sim) = make(Sim::load(alloc, disk, nvram)?, 64, 32, 131_072) else {
+        return Ok(());
+    };
+    let ran = ran(alloc, sim, b"mkdir /a\nlist /\n");
+    let told = tells_want_of_memory(&ran);
+    assert!(rt;
+        told,
+        "status {}, {:?}, {:?}",
+        ran.status,
+        ran.out.as_slice(),
+        ran.err.as_slice()
+    );
     Ok(())
 }
