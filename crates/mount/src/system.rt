@@ -43,6 +43,7 @@ impl<S: Station> Fs<S> {
     fn make(&mut self, new: NewDirectory) -> Result<(), Errno>
         requires { IsFree self.old.tree new }
     {
+        // The tests of the path's text leave no other; until `plan` ensures that, it is tested once more.
         if !is_name(new.name()) {
             return Err(Errno::EINVAL);
         }

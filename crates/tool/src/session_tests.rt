@@ -320,7 +320,8 @@ fn is_reply_of_want(out: &[u8]) -> bool {
     allowed.iter().any(|lines| *lines == out)
 }
 
-// With each allocation refused in turn this shows that want of memory has its name wherever it strikes.
+// Run with one allocation refused, for each in turn, this shows that want of memory has its name wherever it strikes. Run with
+// none refused, as the gate does, it shows little.
 #[test]
 fn want_of_memory_has_its_name(rt: HostRuntime) -> Result<(), Fail> {
     let alloc = rt.alloc();
