@@ -1,11 +1,13 @@
--- An entry of a directory: what is read is spelled so, and what is spelled so is read, whatever stands behind it.
-use Rattle.std.proofs.Common.{◌≡◌, ℕ, ◌+◌, List, ◌++◌, length, Option, Some, ap, ◌∙◌, arith}
-use Rattle.std.proofs.lemmas.List.{length-append}
-use Rattle.layout.specs.Bytes.{IsBytes}
+-- An entry of a directory: what is read is spelled so, and what is spelled so is read, whatever stands behind it. And blocks
+-- of entries: their first entry is what their bytes begin with.
+use Rattle.std.proofs.Common.{◌≡◌, ◌≢◌, ℕ, zero, suc, ◌+◌, ◌^◌, ◌≤◌, ◌↔◌, List, [], ◌∷◌, ◌++◌, length, Option, Some, refl, sym, ap, subst, ◌∙◌, append_assoc, arith}
+use Rattle.std.proofs.lemmas.List.{length-append, append_cancel_left}
+use Rattle.layout.specs.Bytes.{little, number, zeros, IsBytes}
 use Rattle.layout.specs.Reading.{◌>>=◌, number_at, counted_at, then_at}
-use Rattle.layout.specs.Directory.{Named, entry_bytes, IsEntry, entry_in}
+use Rattle.layout.specs.Record.{name_bytes}
+use Rattle.layout.specs.Directory.{Named, entry_bytes, IsEntry, HoldsEntries, entry_in}
 use Rattle.layout.proofs.Formats.{bind_some, some_is, number_format, counted_format, then_format}
-use Rattle.layout.proofs.NumberLaws.{length-little}
+use Rattle.layout.proofs.NumberLaws.{length-little, number-little}
 
 pub entry_takes : (bytes : List ℕ) (e : Named) → IsBytes bytes → entry_in bytes ≡ Some e → (rest : List ℕ) × (bytes ≡ entry_bytes e ++ rest)
 unfolding entry_in
@@ -14,11 +16,57 @@ entry_takes bytes e fits read =
     let t = (then_format (number_format 4) (counted_format 1)).takes bytes w.0 fits w.1 in
     (w.0.1, t.0.parts ∙ ap (λ (n : Named). entry_bytes n ++ w.0.1) (some_is (record { number = w.0.0.0; name = w.0.0.1 }) e w.2))
 
-pub entry_again : (e : Named) (rest : List ℕ) → IsEntry 65536 e → entry_in (entry_bytes e ++ rest) ≡ Some e
+pub entry_again : (inodes : ℕ) (e : Named) (rest : List ℕ) → inodes ≤ 2 ^ 32 → IsEntry inodes e → entry_in (entry_bytes e ++ rest) ≡ Some e
 unfolding entry_in
-entry_again e rest is =
+entry_again inodes e rest limit is =
     ap (λ (o : Option ((ℕ × List ℕ) × List ℕ)). o >>= λ x. Some (record { number = x.0.0; name = x.0.1 }))
     ((then_format (number_format 4) (counted_format 1)).again (e.number, e.name) rest (omega (arith, is.below), omega (arith, is.name.short)))
 
 pub length-entry_bytes : (e : Named) → length (entry_bytes e) ≡ 5 + length e.name
 length-entry_bytes e = simp (length-append, length-little) (omega arith)
+
+-- ---- entries one behind the other
+
+number-zeros : (n count : ℕ) → number n (zeros count) ≡ 0
+unfolding number zeros
+number-zeros zero count = refl
+number-zeros (suc n) zero = refl
+number-zeros (suc n) (suc count) = let rest = number-zeros n count in omega arith
+
+-- an entry is not zeros
+pub not_zeros : (inodes : ℕ) (bytes rest : List ℕ) (e : Named) (count : ℕ) → inodes ≤ 2 ^ 32 → IsEntry inodes e → bytes ≡ entry_bytes e ++ rest → bytes ≢ zeros count
+not_zeros inodes bytes rest e count limit is spelled none =
+    let regrouped : bytes ≡ little 4 e.number ++ (name_bytes e.name ++ rest) = spelled ∙ append_assoc (little 4 e.number) (name_bytes e.name) rest in
+    let first : number 4 bytes ≡ e.number = ap (number 4) regrouped ∙ number-little 4 e.number (name_bytes e.name ++ rest) (omega (arith, is.below)) in
+    let nothing : number 4 bytes ≡ 0 = ap (number 4) none ∙ number-zeros 4 count in
+    omega (arith, is.ordinary)
+
+-- the first of the entries, where there are some
+pub record First (inodes : ℕ) (bytes : List ℕ) : Type 0 where
+  pub entry : Named
+  pub rest : List ℕ
+  pub is : IsEntry inodes entry
+  pub spelled : bytes ≡ entry_bytes entry ++ rest
+  pub read : entry_in bytes ≡ Some entry
+  pub entries : List Named
+  pub holds : HoldsEntries inodes rest entries
+
+pub first_entry : (inodes : ℕ) (bytes : List ℕ) (entries : List Named) → inodes ≤ 2 ^ 32 → HoldsEntries inodes bytes entries → bytes ≢ zeros (length bytes) → First inodes bytes
+first_entry inodes bytes [] limit holds some = absurd (some holds)
+first_entry inodes bytes (e ∷ entries) limit holds some =
+    record { entry = e; rest = holds.0; is = holds.1; spelled = holds.2; read = ap entry_in holds.2 ∙ entry_again inodes e holds.0 limit holds.1; entries = entries; holds = holds.3 }
+
+-- bytes that hold some entries
+abbrev pub HoldsSome : ℕ → List ℕ → Type 0
+HoldsSome inodes bytes = (entries : List Named) × HoldsEntries inodes bytes entries
+
+-- bytes behind an entry are entries exactly where all of them are
+pub holds_more : (inodes : ℕ) (bytes rest : List ℕ) (e : Named) → inodes ≤ 2 ^ 32 → IsEntry inodes e → bytes ≡ entry_bytes e ++ rest → HoldsSome inodes bytes ↔ HoldsSome inodes rest
+holds_more inodes bytes rest e limit is spelled = (
+  (λ all.
+      let f = first_entry inodes bytes all.0 limit all.1 (not_zeros inodes bytes rest e (length bytes) limit is spelled) in
+      let same : f.entry ≡ e = some_is f.entry e (sym f.read ∙ ap entry_in spelled ∙ entry_again inodes e rest limit is) in
+      let behind : f.rest ≡ rest = append_cancel_left (entry_bytes e) f.rest rest (ap (λ (n : Named). entry_bytes n ++ f.rest) (sym same) ∙ sym f.spelled ∙ spelled) in
+      (f.entries, subst (λ (r : List ℕ). HoldsEntries inodes r f.entries) behind f.holds)),
+  (λ others. (e ∷ others.0, (rest, is, spelled, others.1))),
+)

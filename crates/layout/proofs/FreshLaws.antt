@@ -1,22 +1,23 @@
 -- A new image: its blocks as they are written, and its inodes within the grammar.
-use Rattle.std.proofs.Common.{◌≡◌, ℕ, ◌+◌, ◌*◌, ◌<◌, ◌≤◌, Bool, true, false, cond, ltb, leb, List, [], ◌++◌, length, get_or, drop, map, inl, inr, refl, ap, subst, ◌∙◌, arith}
+use Rattle.std.proofs.Common.{◌≡◌, ℕ, zero, suc, ◌+◌, ◌-◌, ◌*◌, ◌^◌, ◌<◌, ◌≤◌, Bool, true, false, cond, ltb, leb, List, [], ◌∷◌, ◌++◌, length, get_or, drop, map, replicate, inl, inr, refl, ap, subst, ◌∙◌, arith}
 use Rattle.std.specs.Int.{div_ceil}
 use Rattle.std.specs.List.{range_with_len}
-use Rattle.std.proofs.lemmas.Bool.{cases_lt, lt-ltb, le-ltb}
-use Rattle.std.proofs.lemmas.List.{length-drop, get_or-drop, drop_all, append-nil}
+use Rattle.std.proofs.lemmas.Bool.{cases_lt, lt-ltb, le-ltb, lt-leb, le-leb}
+use Rattle.std.proofs.lemmas.List.{length-drop, get_or-drop, drop_all, append-nil, drop-replicate}
 use Rattle.std.proofs.lemmas.List.FromFn.{map-range_with_len_more, get_or-map-range_with_len, length-map-range_with_len, fill_by_all}
-use Rattle.layout.specs.Bytes.{little, Writes}
+use Rattle.layout.specs.Bytes.{little, zeros, Writes}
 use Rattle.layout.specs.Limits.{Sizes, AreSizes}
 use Rattle.layout.specs.Pointer.{PointsBelow, words_bytes, words_of}
 use Rattle.layout.specs.Inode.{pointers_used, FitsBody, IsInode}
 use Rattle.std.proofs.lemmas.List.Elements.{All-replicate}
 use Rattle.layout.specs.Root.{IsRoot}
-use Rattle.layout.specs.Fresh.{made_root, pointer_from, pointers_from, inode_block, made_inode_file}
+use Rattle.layout.specs.Fresh.{made_root, pointer_from, pointers_from, inode_block, made_inode_file, made_inode_map, made_block_map, made_directory, block_map_at, block_map_end}
 use Rattle.layout.specs.declared.inode.Body.TheVariants.{Pointers}
 use Rattle.layout.specs.declared.pointer.Pointer.{Pointer}
 use Rattle.layout.specs.declared.pointer.Pointer.TheVariants.{Hole}
 use Rattle.layout.proofs.WritingLaws.{writes_both, written_to}
 use Rattle.layout.proofs.WordLaws.{words_push}
+use Rattle.layout.proofs.InodeLaws.{length-zeros}
 
 pub words_none : (f : ℕ → ℕ) (out : List ℕ) → Writes 0 0 (words_of f 0) out out
 unfolding words_of words_bytes
@@ -105,12 +106,60 @@ inode_file_fits s are =
           (omega (arith, inode_block_below s are, extra, are.least_blocks)) large (one_used (4096 * div_ceil s.inodes 21) large);
     }
 
--- the root of a new image is one
-pub root_fits : (s : Sizes) → AreSizes s → IsRoot (made_root s)
-root_fits s are = record {
-  head = record { first = omega arith; last = omega arith; sizes = are };
+-- a root of a new image is one, of any generation
+pub root_fits : (generation : ℕ) (s : Sizes) → 1 ≤ generation → generation < 2 ^ 62 → AreSizes s → IsRoot (record (made_root s) { generation = generation })
+root_fits generation s first last are = record {
+  head = record { first = first; last = last; sizes = are };
   kind = refl;
   inode_file = inode_file_fits s are;
   slots = refl;
   snapshots = All-replicate (PointsBelow s.blocks) 20 Hole tt;
 }
+
+-- ---- the inodes of a new image
+
+-- the numbers 0 to 3 alone, in a body of 128 bytes
+first_numbers_behind : (size : ℕ) → 1 ≤ size → drop size (15 ∷ zeros 127) ≡ zeros (128 - size)
+unfolding zeros
+first_numbers_behind zero some = absurd (omega arith)
+first_numbers_behind (suc n) some = drop-replicate n 127 0 ∙ ap (λ (k : ℕ). replicate k 0) (omega arith)
+
+inode_map_body : (s : Sizes) → AreSizes s → FitsBody (made_inode_map s).body s.blocks (div_ceil s.inodes 8)
+inode_map_body s are =
+    let least = are.least_inodes in
+    let most = are.most_inodes in
+    elim (cases_lt 1024 s.inodes) [
+      | inl lt ↦
+          let no : leb s.inodes 1024 ≡ false = lt-leb _ _ lt in
+          let low : leb (div_ceil s.inodes 8) 65536 ≡ true = le-leb _ _ (omega arith) in
+          let used : div_ceil s.inodes 32768 ≤ pointers_used (div_ceil s.inodes 8) = rw low (omega arith) in
+          rw no (pointers_from_fit 2 (div_ceil s.inodes 32768) s.blocks (div_ceil s.inodes 8) (omega arith) (omega (arith, are.least_blocks)) (omega arith) used)
+      | inr le ↦
+          let yes : leb s.inodes 1024 ≡ true = le-leb _ _ le in
+          rw yes (omega arith, ap suc (length-zeros 127), first_numbers_behind (div_ceil s.inodes 8) (omega arith))
+    ]
+
+block_map_body : (s : Sizes) → AreSizes s → FitsBody (made_block_map s).body s.blocks (4 * s.blocks)
+block_map_body s are =
+    let least = are.least_blocks in
+    let before = inode_block_below s are in
+    let extra = cond_le (leb s.inodes 336) 1 2 2 (omega arith) (omega arith) in
+    elim (cases_lt 16384 s.blocks) [
+      | inl lt ↦
+          let no : leb s.blocks 16384 ≡ false = lt-leb _ _ lt in
+          rw no (pointers_from_fit (block_map_end s) 1 s.blocks (4 * s.blocks) (omega arith) (omega arith) (omega arith) (one_used (4 * s.blocks) (omega arith)))
+      | inr le ↦
+          let yes : leb s.blocks 16384 ≡ true = le-leb _ _ le in
+          let low : leb (4 * s.blocks) 65536 ≡ true = le-leb _ _ (omega arith) in
+          let used : div_ceil s.blocks 1024 ≤ pointers_used (4 * s.blocks) = rw low (omega arith) in
+          rw yes (pointers_from_fit (block_map_at s) (div_ceil s.blocks 1024) s.blocks (4 * s.blocks) (omega arith) (omega arith) (omega arith) used)
+    ]
+
+-- the inodes of the inode map, the block map and the root directory are in the grammar
+pub made_inodes_fit : (s : Sizes) → AreSizes s → IsInode s (made_inode_map s) × IsInode s (made_block_map s) × IsInode s made_directory
+unfolding zeros
+made_inodes_fit s are = (
+  record { mode = omega arith; size = omega (arith, are.most_inodes); kind = (refl, refl, refl); body = inode_map_body s are },
+  record { mode = omega arith; size = omega (arith, are.most_blocks); kind = (refl, refl, refl); body = block_map_body s are },
+  record { mode = omega arith; size = omega arith; kind = (refl, refl); body = (omega arith, refl, refl) },
+)

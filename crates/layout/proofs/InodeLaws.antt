@@ -9,7 +9,8 @@ use Rattle.layout.specs.Bytes.{little, zeros, IsBytes}
 use Rattle.layout.specs.Limits.{Sizes, AreSizes}
 use Rattle.layout.specs.Pointer.{PointsBelow, pointers_bytes, pointers_in}
 use Rattle.layout.specs.Reading.{number_at, part_at, then_at, all_of}
-use Rattle.layout.specs.Inode.{kind_code, level_of, body_bytes, inode_bytes, FitsKind, FitsBody, IsInode, IsSomeInode}
+use Rattle.layout.specs.Version.{level_of}
+use Rattle.layout.specs.Inode.{kind_code, body_bytes, inode_bytes, FitsKind, FitsBody, IsInode, IsSomeInode}
 use Rattle.layout.specs.InodeReading.{is_zero, kind_of, body_of, inode_of, inode_in, likely_sizes}
 use Rattle.layout.specs.declared.kind.Kind.{Kind}
 use Rattle.layout.specs.declared.kind.Kind.TheVariants as kinds

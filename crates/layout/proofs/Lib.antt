@@ -4,10 +4,10 @@ pub mod RecordLaws
 pub mod RecordLengths
 pub mod WritingLaws
 pub mod LogLemmas
-pub mod OneSpelling
 pub mod WordLaws
 pub mod InodeLaws
 pub mod RootLaws
 pub mod FreshLaws
 pub mod EntryLaws
 pub mod SnapshotLaws
+pub mod OpenLaws

@@ -3,7 +3,7 @@ use Rattle.std.proofs.Common.{◌≡◌, ◌≢◌, ℕ, suc, ◌<◌, ◌^◌, 
 use Rattle.byteorder.specs.Endian.{little_number, little_bytes}
 use Rattle.byteorder.specs.Numbers.{little_from-take, little_number-reads_back, length-bytes_low_first}
 use Rattle.layout.specs.Log.{record_of, HoldsBodies, opened}
-use Rattle.layout.proofs.OneSpelling.{little_bytes-number}
+use Rattle.layout.proofs.NumberLaws.{little_bytes-number}
 
 head-append : (xs ys zs ws : List ℕ) → length xs ≡ length zs → xs ++ ys ≡ zs ++ ws → (xs ≡ zs) × (ys ≡ ws)
 head-append [] ys [] ws same e = (refl, e)

@@ -2,7 +2,8 @@
 use Rattle.std.proofs.Common.{◌≡◌, ℕ, zero, suc, ◌+◌, ◌*◌, ◌/◌, ◌%◌, ◌^◌, ◌<◌, ◌≤◌, List, [], ◌∷◌, ◌++◌, length, get_or, drop, refl, sym, ap, ◌∙◌, arith}
 use Rattle.std.proofs.Math.Nat.{div-div-eq-div-mul, div-one, pow-suc}
 use Rattle.std.specs.Int.{byte_at, bytes_low_first}
-use Rattle.byteorder.specs.Endian.{little_from}
+use Rattle.std.proofs.lemmas.List.{append-nil, drop_all}
+use Rattle.byteorder.specs.Endian.{little_from, little_number, little_bytes}
 use Rattle.layout.specs.Bytes.{little, number, IsBytes}
 
 pub length-little : (n x : ℕ) → length (little n x) ≡ n
@@ -74,6 +75,15 @@ bytes-from j (suc n) x =
 -- byteorder writes the same bytes
 pub little-written : (n x : ℕ) → bytes_low_first 0 n x ≡ little n x
 little-written n x = bytes-from 0 n x ∙ ap (little n) (div-one x)
+
+-- the bytes that byteorder writes of a number are those that it was read from
+pub little_bytes-number : (bytes : List ℕ) → IsBytes bytes → little_bytes (length bytes) (little_number (length bytes) bytes) ≡ bytes
+little_bytes-number bytes fits =
+    let n = length bytes in
+    let none : drop n bytes ≡ [] = drop_all n bytes (omega arith) in
+    let spelled : bytes ≡ little n (number n bytes) =
+    number-spelled n bytes (omega arith) fits ∙ ap (λ (r : List ℕ). little n (number n bytes) ++ r) none ∙ append-nil (little n (number n bytes)) in
+    little-written n (little_number n bytes) ∙ ap (little n) (number-read n bytes (omega arith)) ∙ sym spelled
 
 -- numbers as they are read and written
 pub ruleset number_laws = (number-read, little-written)

@@ -1,11 +1,12 @@
 -- Directories: blocks of entries.
-use Rattle.std.specs.Prelude.{ℕ, ◌≡◌, ◌-◌, ◌≤◌, ◌<◌, List, [], ◌∷◌, ◌++◌, length, Option, Some}
-use Rattle.std.specs.List.{AllByRecursion}
+use Rattle.std.specs.Prelude.{ℕ, ◌≡◌, ◌≢◌, ◌≤◌, ◌<◌, List, [], ◌∷◌, ◌++◌, length, AllPairs, Option, Some}
 use Rattle.layout.specs.Bytes.{little, zeros}
 use Rattle.layout.specs.Reading.{◌>>=◌, number_at, counted_at, then_at}
-use Rattle.layout.specs.Name.{IsName}
+use Rattle.model.specs.Paths.{IsName}
 use Rattle.layout.specs.Record.{name_bytes}
 use Rattle.layout.specs.declared.entry.Entry.{Entry}
+use Rattle.layout.specs.declared.directory.NextEntry.{NextEntry}
+use Rattle.layout.specs.declared.directory.NextEntry.TheVariants as next
 
 -- an entry without where its name lies in memory
 pub record Named : Type 0 where
@@ -25,15 +26,26 @@ pub record IsEntry (inodes : ℕ) (e : Named) : Type 0 where
   pub below : e.number < inodes
   pub name : IsName e.name
 
-abbrev pub entries_bytes : List Named → List ℕ
-entries_bytes [] = []
-entries_bytes (e ∷ es) = entry_bytes e ++ entries_bytes es
+-- the bytes are these entries, one behind the other, and zeros behind the last
+abbrev pub HoldsEntries : ℕ → List ℕ → List Named → Type 0
+HoldsEntries inodes bytes [] = bytes ≡ zeros (length bytes)
+HoldsEntries inodes bytes (e ∷ entries) =
+    (rest : List ℕ) × IsEntry inodes e × (bytes ≡ entry_bytes e ++ rest) × HoldsEntries inodes rest entries
 
--- a block of a directory: its entries, and zeros behind them
+-- a block of a directory
 pub record IsDirectoryBlock (inodes : ℕ) (bytes : List ℕ) (entries : List Named) : Type 0 where
-  pub each : AllByRecursion (IsEntry inodes) entries
-  pub room : length (entries_bytes entries) ≤ 4096
-  pub bytes_are : bytes ≡ entries_bytes entries ++ zeros (4096 - length (entries_bytes entries))
+  pub size : length bytes ≡ 4096
+  pub holds : HoldsEntries inodes bytes entries
+
+-- no name stands twice
+abbrev pub HasDistinctNames : List Named → Type 0
+HasDistinctNames entries = AllPairs (λ e other. e.name ≢ other.name) entries
+
+-- what bytes of a directory's block begin with, at an entry's place
+abbrev pub NextEntryIs : ℕ → List ℕ → NextEntry → Type 0
+NextEntryIs inodes bytes next.End = bytes ≡ zeros (length bytes)
+NextEntryIs inodes bytes (next.Entry e rest) = IsEntry inodes (named_of e) × (bytes ≡ entry_bytes (named_of e) ++ rest.now)
+NextEntryIs inodes bytes next.Malformed = (entries : List Named) → HoldsEntries inodes bytes entries → ⊥
 
 -- the number and the name that the bytes begin with, before their limits are looked at
 unfoldable pub entry_in : List ℕ → Option Named

@@ -3,7 +3,7 @@ use Rattle.std.specs.Prelude.{ℕ, ◌≡◌, ◌-◌, ◌*◌, ◌%◌, ◌<◌
 use Rattle.std.specs.Int.{div_ceil}
 use Rattle.layout.specs.Bytes.{little, zeros}
 use Rattle.layout.specs.Limits.{Sizes, AreSizes}
-use Rattle.layout.specs.Version.{greatest_size}
+use Rattle.layout.specs.Version.{level_of, greatest_size}
 use Rattle.layout.specs.Pointer.{PointsBelow, pointers_bytes}
 use Rattle.layout.specs.declared.kind.Kind.{Kind}
 use Rattle.layout.specs.declared.kind.Kind.TheVariants as kinds
@@ -20,10 +20,6 @@ kind_code kinds.Link = 3
 kind_code kinds.InodeFile = 4
 kind_code kinds.InodeMap = 5
 kind_code kinds.BlockMap = 6
-
--- the level of a file of this size: inline, direct or single indirect
-abbrev pub level_of : ℕ → ℕ
-level_of size = if nat_le size 128 then 0 else (if nat_le size 65536 then 1 else 2)
 
 abbrev pub body_bytes : Body → List ℕ
 body_bytes (Inline bytes) = bytes

@@ -4,7 +4,7 @@ use Rattle.std.specs.List.{list_all}
 use Rattle.layout.specs.Reading.{◌>>=◌, number_at, part_at, then_at, all_of}
 use Rattle.layout.specs.Limits.{Sizes}
 use Rattle.layout.specs.Pointer.{pointers_in}
-use Rattle.layout.specs.Inode.{level_of}
+use Rattle.layout.specs.Version.{level_of}
 use Rattle.layout.specs.declared.kind.Kind.{Kind}
 use Rattle.layout.specs.declared.kind.Kind.TheVariants as kinds
 use Rattle.layout.specs.declared.inode.Body.{Body}

@@ -5,7 +5,7 @@ pub mod Inode
 pub mod InodeReading
 pub mod Limits
 pub mod Log
-pub mod Name
+pub mod LinkText
 pub mod Pointer
 pub mod Reading
 pub mod Record
@@ -16,3 +16,4 @@ pub mod Directory
 pub mod Maps
 pub mod Version
 pub mod SnapRoot
+pub mod Opens

@@ -1,5 +1,5 @@
 -- The blocks of the inode map and of the block map, and indirect blocks.
-use Rattle.std.specs.Prelude.{ℕ, ◌≡◌, ◌*◌, ◌/◌, ◌%◌, ◌^◌, ◌<◌, ◌≤◌, List, length, drop, slice_index}
+use Rattle.std.specs.Prelude.{ℕ, ◌≡◌, ◌+◌, ◌*◌, ◌/◌, ◌%◌, ◌^◌, ◌<◌, ◌≤◌, List, length, drop, slice_index}
 use Rattle.layout.specs.Bytes.{number}
 use Rattle.layout.specs.Pointer.{PointsBelow, pointer_of}
 use Rattle.layout.specs.declared.pointer.Pointer.{Pointer}
@@ -9,10 +9,11 @@ use Rattle.layout.specs.declared.pointer.Pointer.TheVariants.{Hole}
 abbrev pub IsTaken : List ℕ → ℕ → Type 0
 IsTaken bytes n = slice_index bytes (n / 8) / 2 ^ (n % 8) % 2 ≡ 1
 
--- an inode map of so many inodes: the numbers 0 to 3 are taken, and none past the last inode
-pub record IsInodeMap (inodes : ℕ) (bytes : List ℕ) : Type 0 where
-  pub first : (n : ℕ) → n < 4 → IsTaken bytes n
-  pub past : (n : ℕ) → inodes ≤ n → n < 8 * length bytes → slice_index bytes (n / 8) / 2 ^ (n % 8) % 2 ≡ 0
+-- Bytes of an inode map of so many inodes, bit i being that of number `first + i`: the numbers 0 to 3 are taken, and none from
+-- `inodes` on. A map of several blocks is one such part after the other.
+pub record IsInodeMap (first inodes : ℕ) (bytes : List ℕ) : Type 0 where
+  pub own : (i : ℕ) → i < 8 * length bytes → first + i < 4 → IsTaken bytes i
+  pub past : (i : ℕ) → i < 8 * length bytes → inodes ≤ first + i → IsTaken bytes i → ⊥
 
 -- entry i of a block of the block map
 abbrev pub map_entry : List ℕ → ℕ → ℕ
@@ -22,10 +23,14 @@ map_entry bytes i = number 4 (drop (4 * i) bytes)
 abbrev pub indirect_pointer : List ℕ → ℕ → Pointer
 indirect_pointer bytes i = pointer_of (number 4 (drop (4 * i) bytes))
 
+-- the pointers of an indirect block lead to blocks of the disk, and those behind the first `used` are holes
+abbrev pub PointsWithin : ℕ → ℕ → List ℕ → Type 0
+PointsWithin blocks used bytes =
+    (i : ℕ) → i < 1024 → PointsBelow blocks (indirect_pointer bytes i) × (used ≤ i → indirect_pointer bytes i ≡ Hole)
+
 -- an indirect block over so many blocks of a file: no pointer leads past the disk, those behind the file's end are holes, and
 -- not all are
 pub record IsIndirectBlock (blocks used : ℕ) (bytes : List ℕ) : Type 0 where
   pub size : length bytes ≡ 4096
-  pub on_disk : (i : ℕ) → i < 1024 → PointsBelow blocks (indirect_pointer bytes i)
-  pub past : (i : ℕ) → used ≤ i → i < 1024 → indirect_pointer bytes i ≡ Hole
+  pub within : PointsWithin blocks used bytes
   pub some : (i : ℕ) × (i < 1024) × (indirect_pointer bytes i ≡ Hole → ⊥)

@@ -1,7 +1,8 @@
 -- The body of a record of the log.
 use Rattle.std.specs.Prelude.{ℕ, ◌≤◌, ◌<◌, ◌^◌, List, [], ◌∷◌, ◌++◌, length}
 use Rattle.layout.specs.Bytes.{little}
-use Rattle.layout.specs.Name.{IsName, IsLinkText}
+use Rattle.model.specs.Paths.{IsName}
+use Rattle.layout.specs.LinkText.{IsLinkText}
 use Rattle.layout.specs.declared.record.NewObject.{NewObject}
 use Rattle.layout.specs.declared.record.NewObject.TheVariants as objects
 use Rattle.layout.specs.declared.record.Record.{Record}

@@ -1,13 +1,17 @@
 -- What differs from one version of the layout to the next. Only version 1 is read and written.
-use Rattle.std.specs.Prelude.{ℕ}
+use Rattle.std.specs.Prelude.{ℕ, nat_le, if◌then◌else◌}
 
--- the greatest level of a file: 2 is single indirect
-abbrev pub greatest_level : ℕ → ℕ
-greatest_level version = 2
+-- the level of a file of this size: inline, direct or single indirect
+abbrev pub level_of : ℕ → ℕ
+level_of size = if nat_le size 128 then 0 else (if nat_le size 65536 then 1 else 2)
 
 -- the greatest size of a file, in bytes
 abbrev pub greatest_size : ℕ → ℕ
 greatest_size version = 67108864
+
+-- the greatest level of a file
+abbrev pub greatest_level : ℕ → ℕ
+greatest_level version = level_of (greatest_size version)
 
 -- the slots of snapshots in a root
 abbrev pub snapshot_slots : ℕ → ℕ

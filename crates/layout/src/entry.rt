@@ -61,7 +61,7 @@ impl<'a> Entry<'a> {
 }
 
 #[tactic(auto, unfolding(crate::specs::Directory::entry_in))]
-fn read_fields(bytes: &[u8]) -> Option<Entry<'_>>
+pub(crate) fn read_fields(bytes: &[u8]) -> Option<Entry<'_>>
     ensures { option_map named_of result ≡ entry_in bytes.now }
 {
     let (number, bytes) = u32_at(bytes)?;

@@ -2,6 +2,7 @@
 
 ghost use Rattle.std.specs.Prelude.{◌≡◌, ◌≤◌, ◌<◌, ◌+◌, ◌∷◌, length};
 ghost use Rattle.layout.specs.Bytes.{Writes, zeros};
+ghost use Rattle.layout.specs.Inode.{IsInode};
 ghost use Rattle.layout.specs.Root.{IsRoot};
 ghost use Rattle.layout.specs.Fresh.{block_map_at, block_map_end, entries_bytes, indirect_bytes, inode_block, inodes_bytes, made_block, made_block_map, made_blocks, made_directory, made_entry, made_inode_file, made_inode_map, made_root, map_start_bytes, own_inode, pointer_from, pointers_from, indirect_entry};
 ghost use Rattle.layout.specs.declared.inode.Body.TheVariants.{Inline};
@@ -18,10 +19,12 @@ const SYSTEM_ENTRY: u32 = 0x8000_0000;
 /// The block map's entry of a block of the active tree alone.
 const ACTIVE_ENTRY: u32 = 1;
 
-/// The root that a new image has in its first slot.
+/// The root that a new image has in its first slot. It is in the grammar, and so are the inodes in the image's blocks: those of
+/// the two maps and of the root directory.
 pub fn fresh_root(geometry: Geometry) -> Root
     ensures value { result ≡ made_root geometry }
     ensures grammar { IsRoot result }
+    ensures inodes { IsInode geometry (made_inode_map geometry) × IsInode geometry (made_block_map geometry) × IsInode geometry made_directory }
 {
     let _ = geometry.blocks();
     Root {

@@ -4,15 +4,16 @@ ghost use Rattle.std.specs.Prelude.{◌≡◌, ◌↔◌, ◌≤◌, ◌+◌, �
 ghost use Rattle.layout.specs.Bytes.{Writes, zeros};
 ghost use Rattle.layout.specs.Pointer.{PointsBelow, pointers_bytes};
 ghost use Rattle.layout.specs.declared.pointer.Pointer.TheVariants.{Hole};
-ghost use Rattle.layout.specs.Inode.{IsInode, IsSomeInode, FitsKind, FitsBody, body_bytes, inode_bytes, level_of, pointers_used};
+ghost use Rattle.layout.specs.Inode.{IsInode, IsSomeInode, FitsKind, FitsBody, body_bytes, inode_bytes, pointers_used};
 ghost use Rattle.layout.specs.Limits.{AreSizes};
+ghost use Rattle.layout.specs.Version.{greatest_size};
 ghost use Rattle.layout.specs.InodeReading.{likely_blocks, likely_inodes, likely_sizes, body_of, inode_of, inode_in};
 ghost use Rattle.layout.specs.declared.inode.Inode.{Inode};
 
 use crate::fields::is_zero;
 use crate::pointer::{are_holes, pointers_fit, put_pointers, read_pointers};
 use crate::reading::{part_at, u8_at, u16_at, u32_at, u64_at};
-use crate::version::{VERSION, greatest_size};
+use crate::version::{VERSION, greatest_size, level_of};
 use crate::writing::{put_bytes, put_u8, put_u16, put_u32, put_u64, put_zeros};
 use crate::{BODY_POINTERS, Geometry, INLINE_BYTES, INODE_BYTES, Kind, Pointer};
 use model::Mode;
@@ -36,20 +37,6 @@ pub struct Inode {
     /// Bytes of the object.
     pub size: u64,
     pub body: Body,
-}
-
-/// The level of a file of so many bytes: 0 has the bytes in the inode, 1 has pointers to them, 2 has one indirect block
-/// between.
-pub fn level_of(size: u64) -> u8
-    ensures { result ≡ level_of size }
-{
-    if size <= 128 {
-        0
-    } else if size <= 65_536 {
-        1
-    } else {
-        2
-    }
 }
 
 impl Inode {
@@ -112,10 +99,10 @@ impl Inode {
 // The geometry of an image that has an inode of this kind and size, if one has: of the one whose map or inode file has this
 // size, and for other files of the greatest.
 fn likely_geometry(kind: Kind, size: u64) -> Option<Geometry>
-    ensures found { IfSome result (λ g. (g ≡ likely_sizes kind size) × (size ≤ 67108864) × AreSizes g) }
-    ensures none { IfNone result (size ≤ 67108864 → AreSizes (likely_sizes kind size) → ⊥) }
+    ensures found { IfSome result (λ g. (g ≡ likely_sizes kind size) × (size ≤ greatest_size VERSION) × AreSizes g) }
+    ensures none { IfNone result (size ≤ greatest_size VERSION → AreSizes (likely_sizes kind size) → ⊥) }
 {
-    if size > 67_108_864 {
+    if size > greatest_size(VERSION) {
         return None;
     }
     let size = size as u32;
@@ -138,7 +125,7 @@ fn likely_blocks(kind: Kind, size: u32) -> u32
 }
 
 fn likely_inodes(kind: Kind, size: u32) -> u32
-    requires { size ≤ 67108864 }
+    requires { size ≤ greatest_size VERSION }
     ensures { result ≡ likely_inodes kind size }
 {
     match kind {

@@ -2,6 +2,7 @@
 //! byte of one again. Nothing here knows a device. All numbers are little-endian.
 #![tactic(auto)]
 
+mod directory;
 mod entry;
 mod fields;
 mod fresh;
@@ -12,6 +13,7 @@ mod log;
 mod maps;
 mod name;
 mod numbers;
+mod opens;
 mod pointer;
 mod reading;
 mod record;
@@ -22,6 +24,7 @@ mod snap_root;
 mod version;
 mod writing;
 
+pub use directory::{NextEntry, is_directory_block, next_entry};
 pub use entry::Entry;
 pub use fresh::{fresh_block, fresh_blocks, fresh_root};
 pub use geometry::Geometry;
@@ -31,14 +34,17 @@ pub use log::{
     CLOSED, EPOCH_AT, FIRST_GATE, Gate, HEADER_BYTES, HEADER_GATE, Header, OPEN, RECORD_HEAD_BYTES,
     read_gate,
 };
-pub use maps::{indirect_pointer, is_taken, map_entry};
+pub use maps::{indirect_pointer, is_indirect_block, is_inode_map, is_taken, map_entry};
 pub use name::{is_link_text, is_name};
 pub use numbers::{BlockNumber, Epoch, Generation, InodeNumber};
+pub use opens::opens_once;
 pub use pointer::Pointer;
 pub use record::{NewObject, Record};
 pub use root::Root;
 pub use snap_root::SnapRoot;
-pub use version::{VERSION, greatest_level, greatest_size, snapshot_slots};
+pub use version::{
+    SNAPSHOT_SLOTS, VERSION, greatest_level, greatest_size, level_of, snapshot_slots,
+};
 
 /// Bytes of a sector of the disk.
 pub const SECTOR_BYTES: usize = 512;
@@ -56,8 +62,6 @@ pub const BODY_POINTERS: usize = 16;
 pub const BLOCK_POINTERS: usize = 1024;
 /// Greatest number of bytes that an inode holds itself.
 pub const INLINE_BYTES: usize = 128;
-/// Slots of snapshots in a root.
-pub const SNAPSHOT_SLOTS: usize = 20;
 
 #[cfg(test)]
 mod tests;

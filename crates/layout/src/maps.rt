@@ -1,10 +1,11 @@
 //! What stands in the blocks of the two maps and in indirect blocks.
 
-ghost use Rattle.std.specs.Prelude.{◌≡◌, ◌↔◌, ◌<◌, ◌*◌, IsTrue, length};
-ghost use Rattle.layout.specs.Maps.{IsTaken, indirect_pointer, map_entry};
+ghost use Rattle.std.specs.Prelude.{◌≡◌, ◌↔◌, ◌<◌, ◌+◌, ◌*◌, ◌^◌, ℕ, IsTrue, length};
+ghost use Rattle.layout.specs.Maps.{IsIndirectBlock, IsInodeMap, IsTaken, PointsWithin, indirect_pointer, map_entry};
+ghost use Rattle.layout.specs.declared.pointer.Pointer.TheVariants.{Hole};
 
 use crate::pointer::word_at;
-use crate::{BLOCK_BYTES, Pointer};
+use crate::{BLOCK_BYTES, BLOCK_POINTERS, Pointer};
 
 /// Whether an inode number is taken, in these bytes of an inode map from its beginning on.
 pub fn is_taken(bytes: &[u8], number: u32) -> bool
@@ -13,6 +14,22 @@ pub fn is_taken(bytes: &[u8], number: u32) -> bool
 {
     let byte = bytes[(number / 8) as usize];
     (byte >> (number % 8)) % 2 == 1
+}
+
+/// Whether these are bytes of an inode map of so many inodes, the first bit being that of number `first`: 0 to 3 are taken,
+/// and none from `inodes` on. A map of several blocks is looked at block by block.
+pub fn is_inode_map(bytes: &[u8], first: u32, inodes: u32) -> bool
+    requires { first + 8 * length bytes.now < 2 ^ 32 }
+    ensures { IsTrue result ↔ IsInodeMap first inodes bytes.now }
+{
+    for bit in 0..8 * bytes.len() as u32 {
+        let number = first + bit;
+        let taken = is_taken(bytes, bit);
+        if (number < 4 && !taken) || (inodes <= number && taken) {
+            return false;
+        }
+    }
+    true
 }
 
 /// Entry `index` of a block of the block map: bit 0 the active tree, bits 1 to 20 the snapshots, bit 31 the system's own.
@@ -29,4 +46,40 @@ pub fn indirect_pointer(bytes: &[u8; BLOCK_BYTES], index: u32) -> Pointer
     ensures { result ≡ indirect_pointer bytes.now index }
 {
     Pointer::from_number(word_at(bytes, index as usize))
+}
+
+/// Whether these bytes are a stored indirect block, in an image of so many blocks, over so many blocks of a file: each
+/// pointer is a hole or stays on the disk, those from `used` on are holes, and one is none.
+pub fn is_indirect_block(bytes: &[u8; BLOCK_BYTES], blocks: u32, used: u32) -> bool
+    ensures { IsTrue result ↔ IsIndirectBlock blocks used bytes.now }
+{
+    points_within(bytes, blocks, used) && has_block(bytes)
+}
+
+fn points_within(bytes: &[u8; BLOCK_BYTES], blocks: u32, used: u32) -> bool
+    ensures { IsTrue result ↔ PointsWithin blocks used bytes.now }
+{
+    for i in 0..BLOCK_POINTERS as u32 {
+        let within = if i < used {
+            indirect_pointer(bytes, i).fits(blocks)
+        } else {
+            indirect_pointer(bytes, i).is_hole()
+        };
+        if !within {
+            return false;
+        }
+    }
+    true
+}
+
+// Whether a pointer is no hole.
+fn has_block(bytes: &[u8; BLOCK_BYTES]) -> bool
+    ensures { IsTrue result ↔ ((i : ℕ) × (i < 1024) × (indirect_pointer bytes.now i ≡ Hole → ⊥)) }
+{
+    for i in 0..BLOCK_POINTERS as u32 {
+        if !indirect_pointer(bytes, i).is_hole() {
+            return true;
+        }
+    }
+    false
 }

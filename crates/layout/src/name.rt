@@ -1,7 +1,8 @@
 //! Names and texts.
 
 ghost use Rattle.std.specs.Prelude.{◌↔◌, IsTrue};
-ghost use Rattle.layout.specs.Name.{IsName, IsLinkText};
+ghost use Rattle.model.specs.Paths.{IsName};
+ghost use Rattle.layout.specs.LinkText.{IsLinkText};
 
 /// Whether these bytes are a name in a directory: 1 to 255 bytes, none of them `/` or zero, and not `.` or `..`.
 pub fn is_name(name: &[u8]) -> bool

@@ -6,7 +6,7 @@ use crate::InodeNumber;
 use model::Mode;
 
 /// What a record makes.
-#[derive(Clone, Copy, Debug)]
+#[derive(Clone, Copy, Debug, PartialEq, Eq)]
 pub enum NewObject<'a> {
     File { mode: Mode },
     Directory { mode: Mode },
@@ -15,7 +15,7 @@ pub enum NewObject<'a> {
 }
 
 /// A record of the log.
-#[derive(Clone, Copy, Debug)]
+#[derive(Clone, Copy, Debug, PartialEq, Eq)]
 pub enum Record<'a> {
     /// Makes the object, with this name in the directory `parent`.
     Create {

@@ -6,6 +6,7 @@ ghost use Rattle.layout.specs.Bytes.{Writes};
 ghost use Rattle.layout.specs.Limits.{Sizes};
 ghost use Rattle.layout.specs.Pointer.{PointsBelow, pointers_bytes, pointers_in};
 ghost use Rattle.layout.specs.Root.{IsHead, IsRoot, head_bytes, root_bytes};
+ghost use Rattle.layout.specs.Version.{snapshot_slots};
 ghost use Rattle.layout.specs.RootReading.{head_in, parts_in};
 ghost use Rattle.layout.specs.declared.root.Root.{Root};
 
@@ -15,6 +16,15 @@ use crate::reading::{part_at, u32_at, u64_at};
 use crate::version::VERSION;
 use crate::writing::{put_u32, put_u64, put_zeros};
 use crate::{Generation, Geometry, INODE_BYTES, Inode, Kind, Pointer, ROOT_BYTES, SNAPSHOT_SLOTS};
+
+/// Bytes of the pointers to snapshots, one for each slot.
+const SNAPSHOTS_BYTES: usize = 4 * SNAPSHOT_SLOTS;
+
+/// Where they stand, behind the root inode.
+const SNAPSHOTS_AT: usize = 224;
+
+/// Where the zeros behind them begin, to the root's end.
+const BEHIND_AT: usize = SNAPSHOTS_AT + SNAPSHOTS_BYTES;
 
 /// The first eight bytes of a root, `WAFLROOT`, as a number.
 const MAGIC: u64 = 0x544f_4f52_4c46_4157;
@@ -65,8 +75,8 @@ impl Root {
     {
         put_head(out, self.generation, &self.geometry);
         self.inode_file.put(out, 32);
-        put_snapshots(out, 224, &self.snapshots);
-        put_zeros(out, 304, 208);
+        put_snapshots(out, SNAPSHOTS_AT, &self.snapshots);
+        put_zeros(out, BEHIND_AT, ROOT_BYTES - BEHIND_AT);
         ROOT_BYTES
     }
 
@@ -94,12 +104,12 @@ struct Parts<'a> {
 #[tactic(auto, unfolding(crate::specs::RootReading::parts_in))]
 fn split(bytes: &[u8]) -> Option<Parts<'_>>
     ensures value { option_map (λ p. (p.head.now, (p.inode.now, (p.snapshots.now, p.behind.now)))) result ≡ parts_in bytes.now }
-    ensures lengths { IfSome result (λ p. length p.snapshots.now ≡ 80) }
+    ensures lengths { IfSome result (λ p. length p.snapshots.now ≡ SNAPSHOTS_BYTES) }
 {
     let (head, bytes) = part_at(bytes, 32)?;
     let (inode, bytes) = part_at(bytes, INODE_BYTES)?;
-    let (snapshots, bytes) = part_at(bytes, 80)?;
-    let (behind, bytes) = part_at(bytes, 208)?;
+    let (snapshots, bytes) = part_at(bytes, SNAPSHOTS_BYTES)?;
+    let (behind, bytes) = part_at(bytes, ROOT_BYTES - BEHIND_AT)?;
     if !bytes.is_empty() {
         return None;
     }
@@ -186,8 +196,8 @@ fn put_head(out: &mut [u8], generation: Generation, geometry: &Geometry)
 }
 
 fn read_snapshots(bytes: &[u8]) -> [Pointer; SNAPSHOT_SLOTS]
-    requires { length bytes.now ≡ 80 }
-    ensures { result ≡ pointers_in 20 bytes.now }
+    requires { length bytes.now ≡ SNAPSHOTS_BYTES }
+    ensures { result ≡ pointers_in SNAPSHOT_SLOTS bytes.now }
 {
     let mut pointers = [Pointer::Hole; SNAPSHOT_SLOTS];
     read_pointers(bytes, &mut pointers);
@@ -195,14 +205,14 @@ fn read_snapshots(bytes: &[u8]) -> [Pointer; SNAPSHOT_SLOTS]
 }
 
 fn put_snapshots(out: &mut [u8], at: usize, snapshots: &[Pointer; SNAPSHOT_SLOTS])
-    requires { at + 80 ≤ length out.old }
-    ensures { Writes at (at + 80) (pointers_bytes snapshots.now) out.old out.new }
+    requires { at + SNAPSHOTS_BYTES ≤ length out.old }
+    ensures { Writes at (at + SNAPSHOTS_BYTES) (pointers_bytes snapshots.now) out.old out.new }
 {
     put_pointers(out, at, snapshots);
 }
 
 fn snapshots_fit(snapshots: &[Pointer; SNAPSHOT_SLOTS], blocks: u32) -> bool
-    ensures { IsTrue result ↔ ((length snapshots.now ≡ 20) × All (PointsBelow blocks) snapshots.now) }
+    ensures { IsTrue result ↔ ((length snapshots.now ≡ snapshot_slots VERSION) × All (PointsBelow blocks) snapshots.now) }
 {
     pointers_fit(snapshots, blocks)
 }

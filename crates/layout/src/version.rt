@@ -1,18 +1,26 @@
 //! What differs from one version of the layout to the next, in one place. Only version 1 is read and written.
 
 ghost use Rattle.std.specs.Prelude.{◌≡◌};
-ghost use Rattle.layout.specs.Version.{greatest_level, greatest_size, snapshot_slots};
+ghost use Rattle.layout.specs.Version.{greatest_level, greatest_size, level_of, snapshot_slots};
 
 /// The version that is read and written.
 pub const VERSION: u32 = 1;
 
-/// The greatest level of a file: 2 is single indirect.
-pub fn greatest_level(version: u32) -> u8
-    requires { version ≡ VERSION }
-    ensures { result ≡ greatest_level version }
+/// The slots of snapshots in a root of this version.
+pub const SNAPSHOT_SLOTS: usize = 20;
+
+/// The level of a file of so many bytes: 0 has the bytes in the inode, 1 has pointers to them, 2 has one indirect block
+/// between.
+pub fn level_of(size: u64) -> u8
+    ensures { result ≡ level_of size }
 {
-    let _ = version;
-    2
+    if size <= 128 {
+        0
+    } else if size <= 65_536 {
+        1
+    } else {
+        2
+    }
 }
 
 /// The greatest size of a file, in bytes.
@@ -24,11 +32,19 @@ pub fn greatest_size(version: u32) -> u64
     67_108_864
 }
 
+/// The greatest level of a file: that of the greatest size.
+pub fn greatest_level(version: u32) -> u8
+    requires { version ≡ VERSION }
+    ensures { result ≡ greatest_level version }
+{
+    level_of(greatest_size(version))
+}
+
 /// The slots of snapshots in a root.
 pub fn snapshot_slots(version: u32) -> usize
     requires { version ≡ VERSION }
     ensures { result ≡ snapshot_slots version }
 {
     let _ = version;
-    20
+    SNAPSHOT_SLOTS
 }

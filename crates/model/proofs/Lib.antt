@@ -1,5 +1,5 @@
 mod Examples
+pub mod AdditionLemmas
+mod NameLemmas
 pub mod TreeLemmas
-mod PlainLemmas
-mod ListingLemmas
-mod PlainCalls
+pub mod ReplyLemmas

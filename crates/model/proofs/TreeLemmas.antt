@@ -8,7 +8,9 @@ use Rattle.std.proofs.Math.Numerals.{add-one}
 use Rattle.std.proofs.lemmas.List.{map-append, length-map, take_all, take-take, take-append-le}
 use Rattle.std.proofs.lemmas.Slice.Eq.{bytes_eq-Decides, slice_eq-Decides}
 use Rattle.model.specs.declared.errno.Errno.TheVariants.{ENOENT, ENOTDIR, ENAMETOOLONG}
-use Rattle.model.specs.Paths.{Name, Path, parts, Tests, first_refusal, is_dot, is_dot_dot, is_empty, is_too_long}
+use Rattle.std.specs.List.{AllByRecursion}
+use Rattle.model.specs.Paths.{Name, Path, IsName, parts, Tests, first_refusal, text_tests_then, is_dot, is_dot_dot, is_empty, is_too_long}
+use Rattle.model.proofs.NameLemmas.{IsPart, passed_parts, part_is_name}
 use Rattle.model.specs.Trees.{Tree, Object, directory, path_eq, is_directory}
 use Rattle.model.specs.Resolution.{Next, into, over, link, nothing, too_long, Stop, named, missing, refused, walk, next, found, at, at_link, parent, go_on, resolve_within, resolve, resolve_tested}
 
@@ -21,7 +23,7 @@ pub path_eq-longer : (p : Path) (n : Name) → path_eq (p ++ n ∷ []) [] ≡ fa
 path_eq-longer [] n = refl
 path_eq-longer (x ∷ p) n = refl
 
-path_eq-empty : (q : Path) (n : Name) → path_eq [] (q ++ n ∷ []) ≡ false
+pub path_eq-empty : (q : Path) (n : Name) → path_eq [] (q ++ n ∷ []) ≡ false
 path_eq-empty [] n = refl
 path_eq-empty (y ∷ q) n = refl
 
@@ -44,7 +46,7 @@ abbrev pub HasDirectoriesOnly : Tree → Type 0
 HasDirectoriesOnly t = (q : Path) → (t.objects q ≡ None) ⊎ ((n : ℕ) × (t.objects q ≡ Some (directory n)))
 
 -- what a walk does after its next part
-abbrev after : Tree → Bool → Path → Name → List Name → Next → Stop
+abbrev pub after : Tree → Bool → Path → Name → List Name → Next → Stop
 after t follow p part rest (into q) = walk t follow q rest
 after t follow p part rest (over q) = at (cond (is_empty rest) (named q) (refused ENOTDIR))
 after t follow p part rest (link text) =
@@ -77,7 +79,7 @@ module _ (t : Tree) (follow : Bool) (p : Path) (part : Name) (rest : List Name) 
   pub walk-into : (n : ℕ) → is_dot part ≡ false → is_dot_dot part ≡ false → is_too_long part ≡ false → t.objects (p ++ part ∷ []) ≡ Some (directory n) → walk t follow p (part ∷ rest) ≡ walk t follow (p ++ part ∷ []) rest
   walk-into n d e l is = walk-next (into (p ++ part ∷ [])) (next-found (Some (directory n)) d e l is)
 
-pub none_from : (o : Option Object) → is_some o ≡ false → o ≡ None
+pub none_from : {X : Type 0} (o : Option X) → is_some o ≡ false → o ≡ None
 none_from None e = refl
 none_from (Some o) e = cc
 
@@ -129,9 +131,12 @@ stands_child t p n whole here k =
     ]
 
 -- what is true of where a walk in a tree of directories ends, and of its next part
+abbrev Misses : Tree → Path → Name → Type 0
+Misses t p n = StandsWhole t p × (is_some (t.objects (p ++ n ∷ [])) ≡ false) × IsName n
+
 abbrev EndsWell : Tree → Stop → Type 0
 EndsWell t (at (named q)) = StandsWhole t q
-EndsWell t (at (missing p n)) = is_some (t.objects (p ++ n ∷ [])) ≡ false
+EndsWell t (at (missing p n)) = Misses t p n
 EndsWell t (at (refused errno)) = Unit {0}
 EndsWell t (at_link p text rest) = ⊥
 
@@ -139,53 +144,63 @@ abbrev GoesWell : Tree → Path → Name → Next → Type 0
 GoesWell t p part (into q) = StandsWhole t q
 GoesWell t p part (over q) = ⊥
 GoesWell t p part (link text) = ⊥
-GoesWell t p part nothing = is_some (t.objects (p ++ part ∷ [])) ≡ false
+GoesWell t p part nothing = Misses t p part
 GoesWell t p part too_long = Unit {0}
 
-finds_well : (t : Tree) → HasDirectoriesOnly t → (p : Path) (part : Name) → StandsWhole t p → GoesWell t p part (found (p ++ part ∷ []) (t.objects (p ++ part ∷ [])))
-finds_well t only p part whole =
+finds_well : (t : Tree) → HasDirectoriesOnly t → (p : Path) (part : Name) → IsName part → StandsWhole t p → GoesWell t p part (found (p ++ part ∷ []) (t.objects (p ++ part ∷ [])))
+finds_well t only p part name whole =
     elim (only (p ++ part ∷ [])) [
-      | inl none ↦ subst (λ o. GoesWell t p part (found (p ++ part ∷ []) o)) (sym none) (ap is_some none)
+      | inl none ↦ subst (λ o. GoesWell t p part (found (p ++ part ∷ []) o)) (sym none) (whole, ap is_some none, name)
       | inr there ↦ subst (λ o. GoesWell t p part (found (p ++ part ∷ []) o)) (sym there.1) (stands_child t p part whole (ap is_some there.1))
     ]
 
-goes_well : (t : Tree) → HasDirectoriesOnly t → (p : Path) (part : Name) → StandsWhole t p → GoesWell t p part (next t p part)
-goes_well t only p part whole =
+goes_well : (t : Tree) → HasDirectoriesOnly t → (p : Path) (part : Name) → IsPart part → StandsWhole t p → GoesWell t p part (next t p part)
+goes_well t only p part plain whole =
     cond_both (is_dot part) _ _ (GoesWell t p part) (λ e. whole) (λ e.
     cond_both (is_dot_dot part) _ _ (GoesWell t p part) (λ f. stands_parent t p whole) (λ f.
-    cond_both (is_too_long part) _ _ (GoesWell t p part) (λ g. tt) (λ g. finds_well t only p part whole)))
+    cond_both (is_too_long part) _ _ (GoesWell t p part) (λ g. tt) (λ g. finds_well t only p part (part_is_name part plain e f g) whole)))
 
-ends_well : (t : Tree) → HasDirectoriesOnly t → (follow : Bool) (names : List Name) (p : Path) → StandsWhole t p → EndsWell t (walk t follow p names)
-ends_well t only follow [] p whole = whole
-ends_well t only follow (part ∷ rest) p whole =
+ends_well : (t : Tree) → HasDirectoriesOnly t → (follow : Bool) (names : List Name) (p : Path) → AllByRecursion IsPart names → StandsWhole t p → EndsWell t (walk t follow p names)
+ends_well t only follow [] p plain whole = whole
+ends_well t only follow (part ∷ rest) p plain whole =
     elim (next t p part) as (λ n. GoesWell t p part n → EndsWell t (after t follow p part rest n)) [
-      | into q ↦ λ well. ends_well t only follow rest q well
+      | into q ↦ λ well. ends_well t only follow rest q plain.1 well
       | over q ↦ λ well. absurd well
       | link text ↦ λ well. absurd well
       | nothing ↦ λ well. cond_both (is_empty rest) (missing p part) (refused ENOENT) (λ r. EndsWell t (at r)) (λ e. well) (λ e. tt)
       | too_long ↦ λ well. tt
-    ] (goes_well t only p part whole)
+    ] (goes_well t only p part plain.0 whole)
 
-resolves_well : (t : Tree) → HasDirectoriesOnly t → is_some (t.objects []) ≡ true → (follow : Bool) (text : List ℕ) → EndsWell t (at (resolve t follow text))
-resolves_well t only root follow text =
+resolves_well : (t : Tree) → HasDirectoriesOnly t → is_some (t.objects []) ≡ true → (follow : Bool) (text : List ℕ) → AllByRecursion IsPart (parts text) → EndsWell t (at (resolve t follow text))
+resolves_well t only root follow text plain =
     elim (walk t follow [] (parts text)) as (λ s. EndsWell t s → EndsWell t (at (go_on (resolve_within 7 t follow) s))) [
       | at r ↦ λ well. well
       | at_link p more rest ↦ λ well. absurd well
-    ] (ends_well t only follow (parts text) [] (λ k. subst (λ q. is_some (t.objects q) ≡ true) (sym (take_all k [] (omega arith))) root))
+    ] (ends_well t only follow (parts text) [] plain (λ k. subst (λ q. is_some (t.objects q) ≡ true) (sym (take_all k [] (omega arith))) root))
 
-tested_well : (t : Tree) → HasDirectoriesOnly t → is_some (t.objects []) ≡ true → (tests : Tests) (follow : Bool) (text : List ℕ) → EndsWell t (at (resolve_tested tests t follow text))
-tested_well t only root tests follow text =
-    elim (first_refusal tests) as (λ o. EndsWell t (at (elim o [ Some errno ↦ refused errno | None ↦ resolve t follow text ]))) [
-      | Some errno ↦ tt
-      | None ↦ resolves_well t only root follow text
-    ]
+tested_well : (t : Tree) → HasDirectoriesOnly t → is_some (t.objects []) ≡ true → (more : Tests) (follow : Bool) (text : List ℕ) → EndsWell t (at (resolve_tested (text_tests_then more text) t follow text))
+tested_well t only root more follow text =
+    elim (first_refusal (text_tests_then more text)) as (λ o. first_refusal (text_tests_then more text) ≡ o → EndsWell t (at (elim o [ Some errno ↦ refused errno | None ↦ resolve t follow text ]))) [
+      | Some errno ↦ λ e. tt
+      | None ↦ λ e. resolves_well t only root follow text (passed_parts more text e)
+    ] refl
 
--- in a tree of directories, what a text names is a directory, and what it doesn't find isn't there
-module _ (t : Tree) (only : HasDirectoriesOnly t) (root : is_some (t.objects []) ≡ true) (tests : Tests) (follow : Bool) (text : List ℕ) where
-  pub names_directory : (q : Path) → resolve_tested tests t follow text ≡ named q → is_directory (t.objects q) ≡ true
+-- In a tree of directories, what a text names is a directory. What it doesn't find isn't there, and is a name in a
+-- directory that is.
+module _ (t : Tree) (only : HasDirectoriesOnly t) (root : is_some (t.objects []) ≡ true) (more : Tests) (follow : Bool) (text : List ℕ) where
+  pub names_directory : (q : Path) → resolve_tested (text_tests_then more text) t follow text ≡ named q → is_directory (t.objects q) ≡ true
   names_directory q e =
-      let there : (n : ℕ) × (t.objects q ≡ Some (directory n)) = directory_from t only q (stands t q (subst (λ r. EndsWell t (at r)) e (tested_well t only root tests follow text))) in
+      let there : (n : ℕ) × (t.objects q ≡ Some (directory n)) = directory_from t only q (stands t q (subst (λ r. EndsWell t (at r)) e (tested_well t only root more follow text))) in
       ap is_directory there.1
 
-  pub misses : (p : Path) (n : Name) → resolve_tested tests t follow text ≡ missing p n → is_some (t.objects (p ++ n ∷ [])) ≡ false
-  misses p n e = subst (λ r. EndsWell t (at r)) e (tested_well t only root tests follow text)
+  missed : (p : Path) (n : Name) → resolve_tested (text_tests_then more text) t follow text ≡ missing p n → Misses t p n
+  missed p n e = subst (λ r. EndsWell t (at r)) e (tested_well t only root more follow text)
+
+  pub misses : (p : Path) (n : Name) → resolve_tested (text_tests_then more text) t follow text ≡ missing p n → is_some (t.objects (p ++ n ∷ [])) ≡ false
+  misses p n e = (missed p n e).1
+
+  pub misses_name : (p : Path) (n : Name) → resolve_tested (text_tests_then more text) t follow text ≡ missing p n → IsName n
+  misses_name p n e = (missed p n e).2
+
+  pub misses_in : (p : Path) (n : Name) → resolve_tested (text_tests_then more text) t follow text ≡ missing p n → is_some (t.objects p) ≡ true
+  misses_in p n e = stands t p (missed p n e).0

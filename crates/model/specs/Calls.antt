@@ -1,5 +1,5 @@
 -- What each call answers and changes where nothing fails: its tests in order, then what it is for.
-use Rattle.std.specs.Prelude.{ℕ, ◌≡◌, ◌⊎◌, ◌↔◌, ◌<◌, ◌≤◌, nat_le, true, false, IsSome, MatchBool, Contains, List, [], ◌∷◌, ◌++◌, length}
+use Rattle.std.specs.Prelude.{ℕ, ◌≡◌, ◌⊎◌, ◌↔◌, ◌<◌, ◌≤◌, nat_le, true, false, IsSome, Some, None, MatchBool, Contains, List, [], ◌∷◌, ◌++◌, length}
 use Rattle.std.specs.Ordering.{nat_cmp}
 use Rattle.std.specs.Cmp.Lexicographic.{slice_cmp}
 use Rattle.std.specs.List.Sorted.{IsStrictlySortedBy}
@@ -8,7 +8,7 @@ use Rattle.model.specs.declared.errno.Errno.TheVariants.{ENOENT, ENOTDIR, EEXIST
 use Rattle.model.specs.declared.reply.Reply.{Reply}
 use Rattle.model.specs.declared.reply.Reply.TheVariants.{Done, Names, Refused}
 use Rattle.model.specs.Paths.{Name, Path, text_tests, new_text_tests}
-use Rattle.model.specs.Trees.{Tree, HasPath, IsOpen, is_directory, with_directory}
+use Rattle.model.specs.Trees.{Tree, HasPath, IsOpen, directory, is_directory, with_directory}
 use Rattle.model.specs.Resolution.{Resolution, named, missing, refused, resolve_tested}
 
 -- the number stands at a path or in a descriptor
@@ -57,3 +57,17 @@ Creates inodes make old (missing p name) reply new =
 abbrev pub MakesDirectory : ℕ → Tree → List ℕ → ℕ → Reply → Tree → Type 0
 MakesDirectory inodes old text mode reply new =
     Creates inodes (λ p n. with_directory p n mode) old (resolve_tested (new_text_tests text) old false text) reply new
+
+-- A directory is made by its numbers, as a log tells it: this number is free, and this name too in the directory of the
+-- number parent, which has room for one more.
+pub record AddsDirectory (inodes number parent : ℕ) (name : Name) (mode : ℕ) (old new : Tree) : Type 0 where
+  pub path : Path
+  pub stands : old.objects path ≡ Some (directory parent)
+  pub low : 4 ≤ number
+  pub high : number < inodes
+  pub free : ¬ IsUsed old number
+  pub missing : old.objects (path ++ name ∷ []) ≡ None
+  pub names : List Name
+  pub listing : IsListing old path names
+  pub room : length names < 65536
+  pub becomes : new ≡ with_directory (path ++ name ∷ []) number mode old

@@ -5,5 +5,3 @@ pub mod Resolution
 pub mod Calls
 pub mod States
 pub mod Runs
-pub mod Plain
-pub mod PlainStates

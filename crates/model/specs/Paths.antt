@@ -1,5 +1,5 @@
 -- Paths, and the texts that name them (POSIX.1-2017, Base Definitions, "Pathname").
-use Rattle.std.specs.Prelude.{ℕ, ◌-◌, ◌≤◌, ◌≡◌, ◌==◌, nat_lt, not, ◌&&◌, ◌||◌, if◌then◌else◌, Bool, false, List, [], ◌∷◌, length, filter, slice_index, slice_index_or, codes, bytes_eq, Option, Some, None}
+use Rattle.std.specs.Prelude.{ℕ, ◌-◌, ◌≤◌, ◌≢◌, ◌==◌, nat_lt, not, ◌&&◌, ◌||◌, if◌then◌else◌, Bool, List, [], ◌∷◌, length, All, filter, slice_index, slice_index_or, codes, bytes_eq, Option, Some, None}
 use Rattle.std.specs.List.{slice_split, list_any}
 use Rattle.model.specs.declared.errno.Errno.{Errno}
 use Rattle.model.specs.declared.errno.Errno.TheVariants.{ENOENT, EINVAL, ENAMETOOLONG}
@@ -24,12 +24,13 @@ is_dot_dot part = bytes_eq part (codes "..")
 abbrev pub is_empty : {X : Type 0} → List X → Bool
 is_empty xs = length xs == 0
 
--- a name that a file may have: 1 to 255 bytes, none of them a slash or zero, and not `.` or `..`
+-- a name that a file may have: 1 to 255 bytes, none of them zero or a slash (47), and not `.` (46) or `..`
 pub record IsName (name : Name) : Type 0 where
   pub some : 1 ≤ length name
   pub short : length name ≤ 255
-  pub bytes : list_any (λ b. is_slash b || b == 0) name ≡ false
-  pub dots : (is_dot name || is_dot_dot name) ≡ false
+  pub plain : All (λ byte. (byte ≢ 0) × (byte ≢ 47)) name
+  pub here : name ≢ 46 ∷ []
+  pub above : name ≢ 46 ∷ 46 ∷ []
 
 -- the parts of a text: what stands between its slashes. Runs of slashes count as one
 abbrev pub parts : List ℕ → List Name

@@ -4,13 +4,11 @@
 mod command;
 mod errno;
 mod mode;
-mod plain;
 mod reply;
 mod text;
 
 pub use command::{Command, PathCall};
 pub use errno::Errno;
 pub use mode::Mode;
-pub use plain::{NewDirectory, PlainState, Plan};
 pub use reply::Reply;
 pub use text::{Names, Text};

@@ -1,5 +1,5 @@
 -- What stands behind an open gate is shorter.
-use Rattle.std.proofs.Common.{◌≡◌, ℕ, ◌<◌, ◌≤◌, List, [], ◌∷◌, ◌++◌, length, ap, arith, length-append}
+use Rattle.std.proofs.Common.{◌≡◌, ℕ, ◌<◌, ◌≤◌, List, ◌++◌, length, ap, arith, length-append}
 use Rattle.layout.specs.Log.{record_of, IsClosed}
 
 pub shorter_behind : (bytes body rest : List ℕ) → bytes ≡ record_of body ++ rest → length rest < length bytes

@@ -1,2 +1,12 @@
 pub mod Sizes
 pub mod Gates
+mod SlotLemmas
+mod MadeLemmas
+mod ReplayLemmas
+mod RootLemmas
+mod StationLemmas
+mod RefusalLemmas
+mod MountLemmas
+mod SystemLemmas
+mod ApplyLemmas
+mod RunLemmas

@@ -42,19 +42,23 @@ pub enum RunError {
     NoMemory = 1,
 }
 
-impl From<DeviceFault> for MakeError {
-    fn from(_: DeviceFault) -> MakeError {
-        MakeError::Device
-    }
-}
-
 impl From<DeviceFault> for MountError {
+    ghost use Rattle.std.specs.Prelude.{◌≡◌};
+    ghost use Rattle.mount.specs.declared.error.MountError.TheVariants.{Device};
+
+    ghost from_gives = { λ _ e. e ≡ Device };
+
     fn from(_: DeviceFault) -> MountError {
         MountError::Device
     }
 }
 
 impl From<LogError> for MountError {
+    ghost use Rattle.std.specs.Prelude.{◌≡◌};
+    ghost use Rattle.mount.specs.Refusals.{refusal_of_log};
+
+    ghost from_gives = { λ log e. e ≡ refusal_of_log log };
+
     fn from(error: LogError) -> MountError {
         match error {
             LogError::NoMemory => MountError::NoMemory,
@@ -65,6 +69,11 @@ impl From<LogError> for MountError {
 }
 
 impl From<ReplayError> for MountError {
+    ghost use Rattle.std.specs.Prelude.{◌≡◌};
+    ghost use Rattle.mount.specs.Refusals.{refusal_of_replay};
+
+    ghost from_gives = { λ replay e. e ≡ refusal_of_replay replay };
+
     fn from(error: ReplayError) -> MountError {
         match error {
             ReplayError::NoMemory => MountError::NoMemory,

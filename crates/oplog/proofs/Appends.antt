@@ -1,15 +1,19 @@
 -- A cut at any moment of an append, or of the opening of an epoch.
-use Rattle.std.proofs.Common.{◌≡◌, ◌⊎◌, inl, inr, ⊎_elim, ℕ, zero, suc, ◌+◌, ◌*◌, ◌%◌, ◌<◌, ◌≤◌, ◌^◌, Bool, true, false, List, [], ◌∷◌, ◌++◌, length, take, refl, sym, ap, ◌∙◌, subst, arith, length-append, length-take}
+use Rattle.std.proofs.Common.{◌≡◌, inl, inr, ℕ, zero, suc, ◌+◌, ◌*◌, ◌%◌, ◌<◌, ◌≤◌, ◌^◌, List, [], ◌∷◌, ◌++◌, length, take, refl, sym, ap, ◌∙◌, subst, arith, length-append, length-take}
 use Rattle.byteorder.specs.Endian.{little_bytes}
 use Rattle.byteorder.specs.Numbers.{length-bytes_low_first}
 use Rattle.station.specs.Images.{Images, nvram_with, NvWrites, MayNvWrite}
 use Rattle.station.specs.Moments.{Meaning, MayLeave, After, Goes, LeavesOnly}
 use Rattle.station.proofs.Moments.{started, goes_on}
-use Rattle.layout.specs.Log.{LogHolds}
-use Rattle.oplog.specs.Ends.{LogEnd, StandsAt, KeepsDisk, at_place, unopened, HoldsNone, WithOrWithout}
+use Rattle.oplog.specs.Ends.{LogEnd, StandsAt, KeepsDisk, at_place, WithOrWithout}
+use Rattle.oplog.specs.Parts.{IsBehind, unopened, HoldsNone}
 use Rattle.oplog.proofs.Steps.{none_written}
 use Rattle.oplog.proofs.Writes.{IsShut, behind_stays, gate_opens, header_closes, epoch_written, header_opens}
 use Rattle.oplog.proofs.Keeps.{kept, weaker, some_written, all_written}
+
+-- a write that succeeded
+abbrev pub Wrote : ℕ → List ℕ → Meaning → Meaning → Type 0
+Wrote at new old mid = Goes (MayNvWrite at new) old mid × ((c : Images) → MayLeave mid c → After (NvWrites at new) old c)
 
 -- a write of one byte happened or it didn't
 one_byte : (P : List ℕ → Type 0) (byte k : ℕ) → k ≤ 1 → P [] → P (byte ∷ []) → P (take k (byte ∷ []))
@@ -32,7 +36,7 @@ module _ (log : LogEnd) (g : ℕ) (bodies : List (List ℕ)) (body behind : List
   some_behind n k le s = behind_stays log g bodies next n (take k behind) s (omega (arith, length-take k behind))
 
   -- while the bytes behind the gate are written
-  pub first_write : (m1 : Meaning) → Goes (MayNvWrite (log.half * (log.epoch % 2) + (next + 1)) behind) m0 m1 → LeavesOnly m0 m1 (KeepsDisk m0 (WithOrWithout log.half g bodies body))
+  first_write : (m1 : Meaning) → Goes (MayNvWrite (log.half * (log.epoch % 2) + (next + 1)) behind) m0 m1 → LeavesOnly m0 m1 (KeepsDisk m0 (WithOrWithout log.half g bodies body))
   first_write m1 goes =
       let at_start = started m0 (KeepsDisk m0 (WithOrWithout log.half g bodies body)) (λ c left. weaker m0 (StandsAt (at_place log next) g bodies) (WithOrWithout log.half g bodies body) without c (kept m0 (StandsAt (at_place log next) g bodies) stands c left)) in
       goes_on m0 m0 m1 (MayNvWrite (log.half * (log.epoch % 2) + (next + 1)) behind) (KeepsDisk m0 (WithOrWithout log.half g bodies body)) at_start goes (λ c after.
@@ -60,16 +64,35 @@ module _ (log : LogEnd) (g : ℕ) (bodies : List (List ℕ)) (body behind : List
         (inr (opened_now n w).holds)
 
     -- while the gate is written
-    pub second_write : (m2 : Meaning) → Goes (MayNvWrite (log.half * (log.epoch % 2) + next) (1 ∷ [])) m1 m2 → LeavesOnly m0 m2 (KeepsDisk m0 (WithOrWithout log.half g bodies body))
+    second_write : (m2 : Meaning) → Goes (MayNvWrite (log.half * (log.epoch % 2) + next) (1 ∷ [])) m1 m2 → LeavesOnly m0 m2 (KeepsDisk m0 (WithOrWithout log.half g bodies body))
     second_write m2 goes2 =
         goes_on m0 m1 m2 (MayNvWrite (log.half * (log.epoch % 2) + next) (1 ∷ [])) (KeepsDisk m0 (WithOrWithout log.half g bodies body)) (first_write m1 goes) goes2
         (some_written m0 m1 (log.half * (log.epoch % 2) + next) (1 ∷ []) (Written log g bodies next behind) (WithOrWithout log.half g bodies body) staged some_gate)
 
     -- once it is written
-    pub added : (m2 : Meaning) → ((c : Images) → MayLeave m2 c → After (NvWrites (log.half * (log.epoch % 2) + next) (1 ∷ [])) m1 c) → (c : Images) → MayLeave m2 c
+    added : (m2 : Meaning) → ((c : Images) → MayLeave m2 c → After (NvWrites (log.half * (log.epoch % 2) + next) (1 ∷ [])) m1 c) → (c : Images) → MayLeave m2 c
         → KeepsDisk m0 (StandsAt (at_place log (next + length behind)) g (bodies ++ body ∷ [])) c
     added m2 written2 c left =
         all_written m0 m1 (log.half * (log.epoch % 2) + next) (1 ∷ []) (Written log g bodies next behind) (StandsAt (at_place log (next + length behind)) g (bodies ++ body ∷ [])) staged opened_now c (written2 c left)
+
+-- What an append's two writes leave, where they go to these places: the bytes behind the gate, and the gate.
+pub record Adds (log : LogEnd) (g : ℕ) (bodies : List (List ℕ)) (body behind : List ℕ) (m0 : Meaning) (place gate : ℕ) : Type 1 where
+  pub first : (m1 : Meaning) → Goes (MayNvWrite place behind) m0 m1 → LeavesOnly m0 m1 (KeepsDisk m0 (WithOrWithout log.half g bodies body))
+  pub second : (m1 m2 : Meaning) → Wrote place behind m0 m1 → Goes (MayNvWrite gate (1 ∷ [])) m1 m2 → LeavesOnly m0 m2 (KeepsDisk m0 (WithOrWithout log.half g bodies body))
+  pub last : (m1 m2 : Meaning) → Wrote place behind m0 m1 → Wrote gate (1 ∷ []) m1 m2 → (c : Images) → MayLeave m2 c → KeepsDisk m0 (StandsAt (at_place log (log.next + length behind)) g (bodies ++ body ∷ [])) c
+
+-- the places that are computed from the log
+pub adds : (log : LogEnd) (g : ℕ) (bodies : List (List ℕ)) (body behind : List ℕ) (m0 : Meaning) → log.next + 1 + length behind ≤ log.half → IsBehind body behind
+    → ((c : Images) → MayLeave m0 c → StandsAt (at_place log log.next) g bodies c.nvram)
+    → (inside : LogEnd) (start : ℕ) → inside ≡ log → start ≡ log.half * (log.epoch % 2) → Adds log g bodies body behind m0 (start + (inside.next + 1)) (start + inside.next)
+adds log g bodies body behind m0 fits is stands inside start same place =
+    subst (λ (n : ℕ). Adds log g bodies body behind m0 (n + (inside.next + 1)) (n + inside.next)) (sym place)
+    (subst (λ (l : LogEnd). Adds log g bodies body behind m0 (log.half * (log.epoch % 2) + (l.next + 1)) (log.half * (log.epoch % 2) + l.next)) (sym same)
+    record {
+      first = λ m1 goes. first_write log g bodies body behind log.next m0 fits is.short is.spelled stands m1 goes;
+      second = λ m1 m2 wrote goes. second_write log g bodies body behind log.next m0 fits is.short is.spelled stands m1 wrote.0 wrote.1 m2 goes;
+      last = λ m1 m2 wrote gate. added log g bodies body behind log.next m0 fits is.short is.spelled stands m1 wrote.0 wrote.1 m2 gate.1;
+    })
 
 abbrev EpochWritten : LogEnd → ℕ → List ℕ → Type 0
 EpochWritten log g n = (d : List ℕ) × IsShut log g d × (n ≡ nvram_with (log.half * (log.epoch % 2) + 1) (little_bytes 8 log.epoch ++ 0 ∷ []) d)
@@ -86,7 +109,7 @@ module _ (log : LogEnd) (g : ℕ) (m0 : Meaning) (room : 10 ≤ log.half) (stand
       (header_closes log g room n s).stands.holds
 
   -- while the header's gate is closed
-  pub close_write : (m1 : Meaning) → Goes (MayNvWrite (log.half * (log.epoch % 2) + 0) (0 ∷ [])) m0 m1 → LeavesOnly m0 m1 (KeepsDisk m0 (HoldsNone log.half g))
+  close_write : (m1 : Meaning) → Goes (MayNvWrite (log.half * (log.epoch % 2) + 0) (0 ∷ [])) m0 m1 → LeavesOnly m0 m1 (KeepsDisk m0 (HoldsNone log.half g))
   close_write m1 goes =
       goes_on m0 m0 m1 (MayNvWrite (log.half * (log.epoch % 2) + 0) (0 ∷ [])) (KeepsDisk m0 (HoldsNone log.half g)) begin goes
       (some_written m0 m0 (log.half * (log.epoch % 2) + 0) (0 ∷ []) (StandsAt (unopened log) g []) (HoldsNone log.half g) (kept m0 (StandsAt (unopened log) g []) stands) some_close)
@@ -104,7 +127,7 @@ module _ (log : LogEnd) (g : ℕ) (m0 : Meaning) (room : 10 ≤ log.half) (stand
         (epoch_written log g room n (take k (little_bytes 8 log.epoch ++ 0 ∷ [])) s (omega (arith, nine, room, length-take k (little_bytes 8 log.epoch ++ 0 ∷ [])))).stands.holds
 
     -- while the epoch is written
-    pub epoch_write : (m2 : Meaning) → Goes (MayNvWrite (log.half * (log.epoch % 2) + 1) (little_bytes 8 log.epoch ++ 0 ∷ [])) m1 m2 → LeavesOnly m0 m2 (KeepsDisk m0 (HoldsNone log.half g))
+    epoch_write : (m2 : Meaning) → Goes (MayNvWrite (log.half * (log.epoch % 2) + 1) (little_bytes 8 log.epoch ++ 0 ∷ [])) m1 m2 → LeavesOnly m0 m2 (KeepsDisk m0 (HoldsNone log.half g))
     epoch_write m2 goes2 =
         goes_on m0 m1 m2 (MayNvWrite (log.half * (log.epoch % 2) + 1) (little_bytes 8 log.epoch ++ 0 ∷ [])) (KeepsDisk m0 (HoldsNone log.half g)) (close_write m1 goes) goes2
         (some_written m0 m1 (log.half * (log.epoch % 2) + 1) (little_bytes 8 log.epoch ++ 0 ∷ []) (IsShut log g) (HoldsNone log.half g) shut some_epoch)
@@ -128,12 +151,36 @@ module _ (log : LogEnd) (g : ℕ) (m0 : Meaning) (room : 10 ≤ log.half) (stand
           (opened_now2 n w).holds
 
       -- while the header's gate is opened
-      pub open_write : (m3 : Meaning) → Goes (MayNvWrite (log.half * (log.epoch % 2) + 0) (1 ∷ [])) m2 m3 → LeavesOnly m0 m3 (KeepsDisk m0 (HoldsNone log.half g))
+      open_write : (m3 : Meaning) → Goes (MayNvWrite (log.half * (log.epoch % 2) + 0) (1 ∷ [])) m2 m3 → LeavesOnly m0 m3 (KeepsDisk m0 (HoldsNone log.half g))
       open_write m3 goes3 =
           goes_on m0 m2 m3 (MayNvWrite (log.half * (log.epoch % 2) + 0) (1 ∷ [])) (KeepsDisk m0 (HoldsNone log.half g)) (epoch_write m2 goes2) goes3
           (some_written m0 m2 (log.half * (log.epoch % 2) + 0) (1 ∷ []) (EpochWritten log g) (HoldsNone log.half g) epoch_there some_open)
 
       -- once it is open
-      pub opened : (m3 : Meaning) → ((c : Images) → MayLeave m3 c → After (NvWrites (log.half * (log.epoch % 2) + 0) (1 ∷ [])) m2 c) → (c : Images) → MayLeave m3 c → KeepsDisk m0 (StandsAt (at_place log 9) g []) c
+      opened : (m3 : Meaning) → ((c : Images) → MayLeave m3 c → After (NvWrites (log.half * (log.epoch % 2) + 0) (1 ∷ [])) m2 c) → (c : Images) → MayLeave m3 c → KeepsDisk m0 (StandsAt (at_place log 9) g []) c
       opened m3 written3 c left =
           all_written m0 m2 (log.half * (log.epoch % 2) + 0) (1 ∷ []) (EpochWritten log g) (StandsAt (at_place log 9) g []) epoch_there opened_now2 c (written3 c left)
+
+-- What the three writes that open an epoch leave, in a half that begins at this place: the header's gate closed, the
+-- bytes behind it, and the gate opened.
+pub record Opens (log : LogEnd) (g : ℕ) (m0 : Meaning) (start : ℕ) (behind : List ℕ) : Type 1 where
+  pub first : (m1 : Meaning) → Goes (MayNvWrite (start + 0) (0 ∷ [])) m0 m1 → LeavesOnly m0 m1 (KeepsDisk m0 (HoldsNone log.half g))
+  pub second : (m1 m2 : Meaning) → Wrote (start + 0) (0 ∷ []) m0 m1 → Goes (MayNvWrite (start + 1) behind) m1 m2 → LeavesOnly m0 m2 (KeepsDisk m0 (HoldsNone log.half g))
+  pub third : (m1 m2 m3 : Meaning) → Wrote (start + 0) (0 ∷ []) m0 m1 → Wrote (start + 1) behind m1 m2 → Goes (MayNvWrite (start + 0) (1 ∷ [])) m2 m3 → LeavesOnly m0 m3 (KeepsDisk m0 (HoldsNone log.half g))
+  pub last : (m1 m2 m3 : Meaning) → Wrote (start + 0) (0 ∷ []) m0 m1 → Wrote (start + 1) behind m1 m2 → Wrote (start + 0) (1 ∷ []) m2 m3
+      → (c : Images) → MayLeave m3 c → KeepsDisk m0 (StandsAt (at_place log 9) g []) c
+
+-- the place and the bytes that are computed from the log
+pub opens : (log : LogEnd) (g : ℕ) (m0 : Meaning) → 10 ≤ log.half → ((c : Images) → MayLeave m0 c → StandsAt (unopened log) g [] c.nvram)
+    → (inside : LogEnd) (start epoch : ℕ) (behind : List ℕ) → inside ≡ log → start ≡ log.half * (log.epoch % 2) → epoch ≡ inside.epoch → behind ≡ little_bytes 8 epoch ++ 0 ∷ []
+    → Opens log g m0 start behind
+opens log g m0 room stands inside start epoch behind same place is spelled =
+    let number : epoch ≡ log.epoch = is ∙ ap (λ (l : LogEnd). l.epoch) same in
+    subst (λ (n : ℕ). Opens log g m0 n behind) (sym place)
+    (subst (λ (l : List ℕ). Opens log g m0 (log.half * (log.epoch % 2)) l) (sym (spelled ∙ ap (λ (e : ℕ). little_bytes 8 e ++ 0 ∷ []) number))
+    record {
+      first = λ m1 goes. close_write log g m0 room stands m1 goes;
+      second = λ m1 m2 closed goes. epoch_write log g m0 room stands m1 closed.0 closed.1 m2 goes;
+      third = λ m1 m2 m3 closed wrote goes. open_write log g m0 room stands m1 closed.0 closed.1 m2 wrote.0 wrote.1 m3 goes;
+      last = λ m1 m2 m3 closed wrote gate. opened log g m0 room stands m1 closed.0 closed.1 m2 wrote.0 wrote.1 m3 gate.1;
+    })

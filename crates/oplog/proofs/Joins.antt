@@ -1,11 +1,12 @@
 -- An append that opens its epoch first.
-use Rattle.std.proofs.Common.{◌≡◌, inl, ℕ, ◌+◌, ◌*◌, ◌%◌, Bool, true, false, List, [], ◌∷◌, ◌++◌, length, refl, sym, ◌∙◌, subst}
+use Rattle.std.proofs.Common.{◌≡◌, inl, ℕ, ◌%◌, true, false, List, [], refl, sym, ◌∙◌, subst}
 use Rattle.std.specs.Prelude.{Result, Ok, Err, OnOk}
 use Rattle.station.specs.Images.{Images}
 use Rattle.station.specs.Moments.{Meaning, MayLeave, LeavesOnly}
 use Rattle.station.proofs.Moments.{weaker, joined}
 use Rattle.layout.specs.Log.{half_at, LogHolds}
-use Rattle.oplog.specs.Ends.{LogEnd, EndsAt, StandsAt, KeepsDisk, at_place, unopened, HoldsNone, WithOrWithout}
+use Rattle.oplog.specs.Ends.{LogEnd, EndsAt, StandsAt, KeepsDisk, at_place, WithOrWithout}
+use Rattle.oplog.specs.Parts.{unopened, HoldsNone}
 
 -- an open log goes on where it is
 pub at_place_same : (log : LogEnd) → log.is_open ≡ true → at_place log log.next ≡ log

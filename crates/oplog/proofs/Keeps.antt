@@ -1,5 +1,5 @@
 -- What NVRAM writes leave of the images: the disk stays.
-use Rattle.std.proofs.Common.{◌≡◌, ℕ, ◌≤◌, List, length, take, refl, sym, ap, ◌∙◌, subst}
+use Rattle.std.proofs.Common.{ℕ, ◌≤◌, List, length, take, refl, sym, ap, ◌∙◌, subst}
 use Rattle.station.specs.Images.{Images, NvWrites, MayNvWrite, nvram_with}
 use Rattle.station.specs.Moments.{Meaning, MayLeave, After}
 use Rattle.oplog.specs.Ends.{KeepsDisk}

@@ -5,3 +5,5 @@ mod Writes
 pub mod Keeps
 pub mod Appends
 pub mod Joins
+mod Headers
+mod Reading

@@ -1,13 +1,13 @@
 -- What each write of an append does to the half of the epoch.
-use Rattle.std.proofs.Common.{◌≡◌, ◌⊎◌, inl, inr, ℕ, zero, suc, ◌+◌, ◌<◌, ◌≤◌, ◌^◌, Bool, true, false, List, [], ◌∷◌, ◌++◌, length, take, drop, refl, sym, ap, ◌∙◌, subst, arith, append_assoc, length-append, take-append-drop}
+use Rattle.std.proofs.Common.{◌≡◌, ℕ, ◌+◌, ◌<◌, ◌≤◌, ◌^◌, true, List, [], ◌∷◌, ◌++◌, length, take, drop, refl, sym, ap, ◌∙◌, subst, arith, append_assoc, length-append, take-append-drop}
 use Rattle.std.proofs.lemmas.List.{append-nil}
 use Rattle.byteorder.specs.Numbers.{length-bytes_low_first}
 use Rattle.byteorder.specs.Endian.{little_bytes}
 use Rattle.station.specs.Images.{nvram_with}
-use Rattle.layout.specs.Log.{opened, record_of, records_of, HoldsBodies, IsClosed, IsOpenFor}
+use Rattle.layout.specs.Log.{opened, record_of, records_of, IsClosed}
 use Rattle.oplog.specs.Ends.{EndsAt}
 use Rattle.oplog.proofs.Halves.{behind}
-use Rattle.oplog.proofs.Bodies.{spelled, behind_closed, one_more, length-record_of, length-records_of}
+use Rattle.oplog.proofs.Bodies.{spelled, behind_closed, one_more, length-records_of}
 
 pub length-opened : (epoch : ℕ) → length (opened epoch) ≡ 9
 length-opened epoch = omega (arith, length-bytes_low_first 0 8 epoch)

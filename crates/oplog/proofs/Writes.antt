@@ -1,14 +1,15 @@
 -- What a write to the epoch's half leaves of the log.
-use Rattle.std.proofs.Common.{◌≡◌, ◌≢◌, ◌⊎◌, inl, inr, ℕ, zero, suc, ◌+◌, ◌*◌, ◌%◌, ◌<◌, ◌≤◌, ◌^◌, Bool, true, false, List, [], ◌∷◌, ◌++◌, length, take, drop, refl, sym, ap, ◌∙◌, subst, arith, append_assoc, length-append}
+use Rattle.std.proofs.Common.{◌≡◌, inl, inr, ℕ, ◌+◌, ◌*◌, ◌%◌, ◌<◌, ◌≤◌, ◌^◌, Bool, true, false, List, [], ◌∷◌, ◌++◌, length, drop, refl, sym, ap, ◌∙◌, subst, arith, length-append}
 use Rattle.std.proofs.lemmas.Bool.{cases_eq}
 use Rattle.byteorder.specs.Endian.{little_bytes}
 use Rattle.station.specs.Images.{nvram_with}
-use Rattle.layout.specs.Log.{half_at, opened, records_of, record_of, IsOpenFor, IsClosed, IsSoundHalf, HoldsBodies, EpochHolds, LogHolds}
-use Rattle.oplog.specs.Ends.{LogEnd, EndsAt, StandsAt, at_place, unopened}
+use Rattle.layout.specs.Log.{half_at, opened, IsOpenFor, IsClosed, IsSoundHalf, EpochHolds}
+use Rattle.oplog.specs.Ends.{LogEnd, EndsAt, StandsAt, at_place}
+use Rattle.oplog.specs.Parts.{unopened}
 use Rattle.oplog.proofs.Halves.{same_half, other_half, size_stays, length-half_at}
 use Rattle.byteorder.specs.Numbers.{length-bytes_low_first}
 use Rattle.oplog.proofs.Bodies.{spelled}
-use Rattle.oplog.proofs.Steps.{front, written_behind, none_written, stays, opens, closes, still_closed, opens_empty}
+use Rattle.oplog.proofs.Steps.{front, written_behind, stays, opens, closes, still_closed, opens_empty}
 
 parity : (n : ℕ) → n % 2 < 2
 parity n = omega arith

@@ -1,8 +1,7 @@
 -- Where the log ends, and what an append does to it.
-use Rattle.std.specs.Prelude.{◌≡◌, ◌⊎◌, ℕ, ◌+◌, ◌%◌, ◌<◌, ◌≤◌, ◌^◌, Bool, true, false, List, [], ◌∷◌, ◌++◌, length, Result, OnOk}
-use Rattle.byteorder.specs.Endian.{little_bytes}
+use Rattle.std.specs.Prelude.{◌≡◌, ◌⊎◌, ℕ, ◌+◌, ◌%◌, Bool, true, false, List, [], ◌∷◌, ◌++◌, length}
 use Rattle.station.specs.Images.{Images}
-use Rattle.station.specs.Moments.{Meaning, MayLeave, LeavesOnly}
+use Rattle.station.specs.Moments.{Meaning, MayLeave}
 use Rattle.layout.specs.Log.{half_at, records_of, IsOpenFor, HoldsBodies, LogHolds}
 
 -- where the next record goes: to an epoch, of which `is_open` says whether its half is open, with its gate at place
@@ -34,19 +33,6 @@ KeepsDisk old P c = (d : Images) × MayLeave old d × (c.disk ≡ d.disk) × P c
 -- the log with its epoch open, whose next record goes to this place
 abbrev pub at_place : LogEnd → ℕ → LogEnd
 at_place log next = record log { is_open = true; next = next }
-
--- the log whose epoch isn't open yet
-abbrev pub unopened : LogEnd → LogEnd
-unopened log = record log { is_open = false; next = 9 }
-
--- what stands behind the gate of a record with this body: its length, the body, and the next gate, closed
-pub record IsBehind (body bytes : List ℕ) : Type 0 where
-  pub short : length body < 2 ^ 32
-  pub spelled : bytes ≡ little_bytes 4 (length body) ++ body ++ 0 ∷ []
-
--- the log holds nothing
-abbrev pub HoldsNone : ℕ → ℕ → List ℕ → Type 0
-HoldsNone half g nvram = LogHolds half g nvram []
 
 -- the log holds these bodies, or one more
 abbrev pub WithOrWithout : ℕ → ℕ → List (List ℕ) → List ℕ → List ℕ → Type 0

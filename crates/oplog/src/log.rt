@@ -4,7 +4,8 @@ ghost use Rattle.std.specs.Prelude.{◌≡◌, ◌⊎◌, ℕ, ◌+◌, ◌*◌,
 ghost use Rattle.byteorder.specs.Endian.{little_bytes};
 ghost use Rattle.station.specs.Images.{Images};
 ghost use Rattle.station.specs.Moments.{MayLeave, LeavesOnly, IsSameStation, CountsWrite, HasGrown};
-ghost use Rattle.oplog.specs.Ends.{LogEnd, StandsAt, KeepsDisk, IsBehind, at_place, unopened, HoldsNone, WithOrWithout};
+ghost use Rattle.oplog.specs.Ends.{LogEnd, StandsAt, KeepsDisk, at_place, WithOrWithout};
+ghost use Rattle.oplog.specs.Parts.{IsBehind, unopened, HoldsNone};
 ghost use Rattle.layout.specs.Record.{KeepsLimits, change_bytes, change_of};
 
 use byteorder::{ByteOrder, LittleEndian};
@@ -127,6 +128,7 @@ impl Log {
 
         ensures same { IsSameStation (S.meaning station.old) (S.meaning station.new) }
         ensures reads { (S.meaning station.new).failed_reads ≡ (S.meaning station.old).failed_reads }
+        ensures writes { OnOk result ((S.meaning station.new).failed_writes ≡ (S.meaning station.old).failed_writes) }
 
         // A log that has stopped answers Device, and makes no device call.
         ensures stopped { IsTrue self.old.is_stopped → (result ≡ Err LogError.Device) × (station.new ≡ station.old) × (self.new ≡ self.old) }

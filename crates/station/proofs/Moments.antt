@@ -1,7 +1,7 @@
 -- How a run of device calls goes on, for the crates above: one line for each call carries a proof of "at any moment".
-use Rattle.std.proofs.Common.{◌≡◌, ◌⊎◌, inl, inr, ⊎_elim, ℕ, ◌<◌, ◌≤◌, arith, refl, subst}
+use Rattle.std.proofs.Common.{◌≡◌, ◌⊎◌, inl, inr, ⊎_elim, ℕ, ◌<◌, ◌≤◌, arith, refl, sym, ◌∙◌, subst}
 use Rattle.std.proofs.lemmas.Bool.{cases_lt}
-use Rattle.station.specs.Images.{Images}
+use Rattle.station.specs.Images.{Images, Unchanged}
 use Rattle.station.specs.Moments.{Meaning, MayLeave, LeftBetween, After, Goes, LeavesOnly}
 
 -- the one moment from n to n
@@ -46,4 +46,31 @@ joined old mid new P first second = record {
     | inl later ↦ second.each c (left.0, omega (arith, later), left.2, left.3)
     | inr early ↦ first.each c (left.0, left.1, early, second.kept left.0 c early left.3)
   ];
+}
+
+-- no call
+pub unchanged_none : (m : Meaning) → Goes Unchanged m m
+unchanged_none m = record {
+  later = omega arith;
+  kept = λ t c le left. left;
+  added = λ t c late soon left. absurd (omega arith);
+  now = λ c left. (c, left, refl);
+  seen = refl;
+}
+
+-- two calls that change nothing are one
+pub unchanged_twice : (old mid new : Meaning) → Goes Unchanged old mid → Goes Unchanged mid new → Goes Unchanged old new
+unchanged_twice old mid new first second = record {
+  later = omega (arith, first.later, second.later);
+  kept = λ t c le left. first.kept t c le (second.kept t c (omega (arith, first.later, le)) left);
+  added = λ t c late soon left. elim (cases_lt mid.moment t) [
+    | inl later ↦
+        let step = second.added t c later soon left in
+        subst (After Unchanged old) (sym step.2) (first.now step.0 step.1)
+    | inr early ↦ first.added t c late early (second.kept t c early left)
+  ];
+  now = λ c left.
+      let step = second.now c left in
+      subst (After Unchanged old) (sym step.2) (first.now step.0 step.1);
+  seen = second.seen ∙ first.seen;
 }

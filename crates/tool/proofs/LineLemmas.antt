@@ -51,13 +51,15 @@ mkdir_only t m (command.Path (call.Mkdir p n)) bytes good e =
 pub reads_list : (t : List ℕ) (fields : List (List ℕ)) → IsBytes t → fields ≡ text_word t ∷ [] → ReadsWords (codes "list" ∷ fields) (Ok (command.Path (call.List t)))
 reads_list t fields bytes e = record {
   spelled = ap (λ f. codes "list" ∷ f) e;
+  bounded = bytes;
   read = λ c good words. inl (ap Ok (list_only t c bytes good (sym (ap (λ f. codes "list" ∷ f) e) ∙ words)));
 }
 
 -- `mkdir`, a text's word, and the mode's, where it isn't the default
-pub reads_mkdir : (t : List ℕ) (m : ℕ) (fields : List (List ℕ)) → IsBytes t → fields ≡ text_word t ∷ mode_words 493 m → ReadsWords (codes "mkdir" ∷ fields) (Ok (command.Path (call.Mkdir t m)))
-reads_mkdir t m fields bytes e = record {
+pub reads_mkdir : (t : List ℕ) (m : ℕ) (fields : List (List ℕ)) → IsBytes t → m ≤ 4095 → fields ≡ text_word t ∷ mode_words 493 m → ReadsWords (codes "mkdir" ∷ fields) (Ok (command.Path (call.Mkdir t m)))
+reads_mkdir t m fields bytes mode e = record {
   spelled = ap (λ f. codes "mkdir" ∷ f) e;
+  bounded = (bytes, mode);
   read = λ c good words. inl (ap Ok (mkdir_only t m c bytes good (sym (ap (λ f. codes "mkdir" ∷ f) e) ∙ words)));
 }
 
@@ -66,6 +68,7 @@ pub reads_none : {X : Type 0} (v : X → List ℕ) (xs : List X) (d : X) → 1 �
 reads_none v [] d some none = absurd (omega (arith, some))
 reads_none v (x ∷ xs) d some none = record {
   spelled = tt;
+  bounded = tt;
   read = λ c good e. absurd (begins v x xs c none e);
 }
   where

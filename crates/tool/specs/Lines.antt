@@ -5,8 +5,7 @@ use Rattle.model.specs.declared.command.Command.{Command}
 use Rattle.model.specs.declared.command.Command.TheVariants as command
 use Rattle.model.specs.declared.command.PathCall.{PathCall}
 use Rattle.model.specs.declared.command.PathCall.TheVariants as call
-use Rattle.model.specs.declared.errno.Errno.{Errno}
-use Rattle.model.specs.declared.errno.Errno.TheVariants.{ENOENT, ENOTDIR, EISDIR, EEXIST, EINVAL, ENAMETOOLONG, ELOOP, EPERM, EBUSY, ENOTEMPTY, EBADF, EMFILE, EFBIG, EOVERFLOW, EROFS, EMLINK, DIRFULL, NONUMBER, ENOSPC, ENOMEM, EIO, DAMAGED, FAILED, BADNAME, SNAPEXISTS, NOSNAP, SNAPFULL}
+use Rattle.model.specs.Errnos.{errno_name}
 use Rattle.model.specs.declared.reply.Reply.{Reply}
 use Rattle.model.specs.declared.reply.Reply.TheVariants.{Done, Names, Refused}
 use Rattle.tool.specs.declared.script.ScriptError.{ScriptError}
@@ -58,37 +57,8 @@ verb_name verb.Mkdir = codes "mkdir"
 -- words are read as the command that they spell, and as none where they spell none, but for memory
 pub record ReadsWords (words : List (List ℕ)) (result : Result Command ScriptError) : Type 0 where
   pub spelled : IfOk result (λ c. words ≡ command_words c)
+  pub bounded : IfOk result IsCommand
   pub read : (c : Command) → IsCommand c → words ≡ command_words c → (result ≡ Ok c) ⊎ (result ≡ Err NoMemory)
-
--- the name of a refusal
-abbrev pub errno_name : Errno → List ℕ
-errno_name ENOENT = codes "ENOENT"
-errno_name ENOTDIR = codes "ENOTDIR"
-errno_name EISDIR = codes "EISDIR"
-errno_name EEXIST = codes "EEXIST"
-errno_name EINVAL = codes "EINVAL"
-errno_name ENAMETOOLONG = codes "ENAMETOOLONG"
-errno_name ELOOP = codes "ELOOP"
-errno_name EPERM = codes "EPERM"
-errno_name EBUSY = codes "EBUSY"
-errno_name ENOTEMPTY = codes "ENOTEMPTY"
-errno_name EBADF = codes "EBADF"
-errno_name EMFILE = codes "EMFILE"
-errno_name EFBIG = codes "EFBIG"
-errno_name EOVERFLOW = codes "EOVERFLOW"
-errno_name EROFS = codes "EROFS"
-errno_name EMLINK = codes "EMLINK"
-errno_name DIRFULL = codes "DIRFULL"
-errno_name NONUMBER = codes "NONUMBER"
-errno_name ENOSPC = codes "ENOSPC"
-errno_name ENOMEM = codes "ENOMEM"
-errno_name EIO = codes "EIO"
-errno_name DAMAGED = codes "DAMAGED"
-errno_name FAILED = codes "FAILED"
-errno_name BADNAME = codes "BADNAME"
-errno_name SNAPEXISTS = codes "SNAPEXISTS"
-errno_name NOSNAP = codes "NOSNAP"
-errno_name SNAPFULL = codes "SNAPFULL"
 
 -- the line of a reply
 abbrev pub reply_line : Reply → List ℕ

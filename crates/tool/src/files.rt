@@ -1,5 +1,8 @@
 //! The files of an image: opening and reading them, and replacing both so that a fault leaves no file half written.
 
+ghost use Rattle.std.specs.Prelude.{◌≡◌};
+ghost use Rattle.tool.specs.Statuses.{IsSystemFault};
+
 use crate::{FileStation, SizeError, Status};
 use mount::{MakeError, make};
 use station::{LoadError, Sim};
@@ -54,7 +57,10 @@ impl From<AllocError> for FileError<'_> {
 
 impl FileError<'_> {
     /// What the program ends with where a script or an image isn't read or stored.
-    pub fn status(&self) -> Status {
+    pub fn status(&self) -> Status
+        ensures system { IsSystemFault result }
+        ensures memory { self.now ≡ FileError.NoMemory → result ≡ Status.NoMemory }
+    {
         match self {
             FileError::NoMemory => Status::NoMemory,
             FileError::Io { error, .. } if error.kind() == io::ErrorKind::OutOfMemory =>

@@ -14,6 +14,14 @@ pub use script::{ScriptError, read_command, write_command, write_reply};
 pub use status::Status;
 
 #[cfg(test)]
+mod file_tests;
+#[cfg(test)]
+mod fixtures;
+#[cfg(test)]
+mod hostile_tests;
+#[cfg(test)]
+mod memory_tests;
+#[cfg(test)]
 mod session_tests;
 #[cfg(test)]
 mod tests;

@@ -1,6 +1,7 @@
 //! The program's command line, which `clap` reads.
 
 ghost use Rattle.std.specs.Prelude.{◌≡◌};
+ghost use Rattle.tool.specs.Statuses.{line_error_number};
 ghost use Rattle.tool.specs.declared.line.LineError.TheVariants.{NoMemory};
 
 mod arguments;
@@ -63,7 +64,9 @@ pub enum LineError {
 
 impl LineError {
     /// Its number: 1 for want of memory, 2 for words that aren't understood.
-    pub fn number(&self) -> u8 {
+    pub fn number(&self) -> u8
+        ensures { result ≡ line_error_number self.now }
+    {
         match self {
             LineError::NoMemory => 1,
             LineError::NotUnderstood(_) => 2,

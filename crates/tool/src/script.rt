@@ -2,14 +2,14 @@
 
 ghost use Rattle.std.specs.Prelude.{◌≡◌, ◌⊎◌, ◌≢◌, ◌≤◌, ◌++◌, ℕ, IfOk, IfErr, OnOk, codes, map};
 ghost use Rattle.tool.specs.declared.script.ScriptError.TheVariants.{NoMemory};
-ghost use Rattle.tool.specs.Lines.{command_line, errno_name, line_of, mode_words, path_call_words, reply_line, spaced, IsCommand};
+ghost use Rattle.tool.specs.Lines.{command_line, line_of, mode_words, path_call_words, reply_line, spaced, IsCommand};
 ghost use Rattle.tool.specs.Words.{mode_word, text_word};
 ghost use Rattle.model.specs.declared.command.Command.{Command};
 
 mod readers;
 mod words;
 
-use model::{Command, Errno, Mode, Names, PathCall, Reply};
+use model::{Command, Mode, Names, PathCall, Reply};
 use readers::read_words;
 use std::alloc::{AllocError, AllocFailed, Global};
 use thiserror::Error;
@@ -46,6 +46,7 @@ impl<T: Drop> From<AllocFailed<T>> for ScriptError {
 /// `NotACommand`, as an empty line and one that begins with `#` are. `NoMemory` where a growth was refused.
 pub fn read_command(alloc: Global, line: &[u8]) -> Result<Command, ScriptError>
     ensures spelled { IfOk result (λ command. line.now ≡ command_line command) }
+    ensures bounded { IfOk result IsCommand }
     ensures read { (command : Command) → IsCommand command → line.now ≡ command_line command
         → (result ≡ Ok command) ⊎ (result ≡ Err ScriptError.NoMemory) }
 {
@@ -103,7 +104,7 @@ pub fn write_reply(alloc: Global, reply: &Reply) -> Result<Vec<u8>, ScriptError>
         Reply::Names(names) => push_names(&mut line, names)?,
         Reply::Refused(errno) => {
             line.extend_from_slice(b"err ")?;
-            line.extend_from_slice(errno_name(*errno))?;
+            line.extend_from_slice(errno.name().as_bytes())?;
         }
     }
     Ok(line)
@@ -118,38 +119,4 @@ fn push_names(line: &mut Vec<u8>, names: &Names) -> Result<(), AllocError>
         push_text(line, name.as_slice())?;
     }
     Ok(())
-}
-
-fn errno_name(errno: Errno) -> &'static [u8]
-    ensures { result.now ≡ errno_name errno }
-{
-    match errno {
-        Errno::ENOENT => b"ENOENT",
-        Errno::ENOTDIR => b"ENOTDIR",
-        Errno::EISDIR => b"EISDIR",
-        Errno::EEXIST => b"EEXIST",
-        Errno::EINVAL => b"EINVAL",
-        Errno::ENAMETOOLONG => b"ENAMETOOLONG",
-        Errno::ELOOP => b"ELOOP",
-        Errno::EPERM => b"EPERM",
-        Errno::EBUSY => b"EBUSY",
-        Errno::ENOTEMPTY => b"ENOTEMPTY",
-        Errno::EBADF => b"EBADF",
-        Errno::EMFILE => b"EMFILE",
-        Errno::EFBIG => b"EFBIG",
-        Errno::EOVERFLOW => b"EOVERFLOW",
-        Errno::EROFS => b"EROFS",
-        Errno::EMLINK => b"EMLINK",
-        Errno::DIRFULL => b"DIRFULL",
-        Errno::NONUMBER => b"NONUMBER",
-        Errno::ENOSPC => b"ENOSPC",
-        Errno::ENOMEM => b"ENOMEM",
-        Errno::EIO => b"EIO",
-        Errno::DAMAGED => b"DAMAGED",
-        Errno::FAILED => b"FAILED",
-        Errno::BADNAME => b"BADNAME",
-        Errno::SNAPEXISTS => b"SNAPEXISTS",
-        Errno::NOSNAP => b"NOSNAP",
-        Errno::SNAPFULL => b"SNAPFULL",
-    }
 }

@@ -1,8 +1,9 @@
 //! A session: a script run over a mounted station.
 
-ghost use Rattle.std.specs.Prelude.{◌≡◌, ◌≢◌, ◌⊎◌, ◌==◌, ℕ, IfOk, IfErr, map};
-ghost use Rattle.std.specs.List.{slice_split};
-ghost use Rattle.tool.specs.Scripts.{fault_status, is_skipped, lines_of, IsFaultOf, IsScriptOf, RefusesScript};
+ghost use Rattle.std.specs.Fn.{FnReturnsAt};
+ghost use Rattle.std.specs.Prelude.{◌≡◌, ◌⊎◌, true, false, IfOk, IfErr, IsErrOf, map, string_bytes};
+ghost use Rattle.tool.specs.Scripts.{fault_status, is_skipped, line_fault, lines_of, HasBadLine, IsBadLine, IsFaultOf, IsLineOf, IsScriptOf, RefusesScript};
+ghost use Rattle.tool.specs.Statuses.{IsSystemFault, IsEndOf};
 ghost use Rattle.tool.specs.declared.session.ScriptFault.TheVariants.{NoMemory};
 
 use crate::{ScriptError, Status, read_command, write_reply};
@@ -16,7 +17,7 @@ use std::io::Write;
 #[derive(Clone, Copy, Debug, PartialEq, Eq)]
 enum ScriptFault {
     NoMemory,
-    /// The first line that is no command, counted from 0.
+    /// The first line that is no command, counted from 1.
     Line(usize),
 }
 
@@ -61,7 +62,10 @@ pub fn session<S: Station, C: Fn(&S) -> bool, O: Write, E: Write>(
     err: &mut E,
 ) -> (u8, S)
     requires { C.IsAlwaysCallable was_cut }
-    ensures { result.0 ≡ 5 → RefusesScript script.now station result.1 }
+    ensures bad_line { HasBadLine script.now → (result.0 ≡ 5) ⊎ (result.0 ≡ 7) }
+    ensures refused { result.0 ≡ 5 → RefusesScript script.now station result.1 }
+    ensures cut { result.0 ≡ 3 → FnReturnsAt C.Fn was_cut result.1 true }
+    ensures done { result.0 ≡ 0 → FnReturnsAt C.Fn was_cut result.1 false }
 {
     let commands = match read_script(alloc, script) {
         Ok(commands) => commands,
@@ -77,11 +81,7 @@ pub fn session<S: Station, C: Fn(&S) -> bool, O: Write, E: Write>(
     let ran = fs.run(commands.as_slice());
     let station = fs.into_station();
     let cut = was_cut(&station);
-    let status = match ran {
-        Ok(replies) => show_replies(alloc, replies.as_slice(), cut, out),
-        Err(RunError::NoMemory) => Status::NoMemory,
-    };
-    (status.number(), station)
+    (show_run(alloc, ran, cut, out).number(), station)
 }
 
 /// The commands of a script's lines, but for empty lines and those that begin with `#`.
@@ -92,16 +92,25 @@ fn read_script(alloc: Global, script: &[u8]) -> Result<Vec<Command>, ScriptFault
     let lines = split_lines(alloc, script)?;
     let mut commands = Vec::new(alloc);
     for (i, line) in lines.iter().enumerate() {
-        if is_skipped(line) {
-            continue;
-        }
-        match read_command(alloc, line) {
-            Ok(command) => commands.push(command)?,
+        match read_script_line(alloc, line) {
+            Ok(Some(command)) => commands.push(command)?,
+            Ok(None) => continue,
             Err(ScriptError::NoMemory) => return Err(ScriptFault::NoMemory),
-            Err(ScriptError::NotACommand) => return Err(ScriptFault::Line(i)),
+            Err(ScriptError::NotACommand) => return Err(ScriptFault::Line(i + 1)),
         }
     }
     Ok(commands)
+}
+
+/// The command that a line of a script is, or none where the line is skipped.
+fn read_script_line(alloc: Global, line: &[u8]) -> Result<Option<Command>, ScriptError>
+    ensures command { IfOk result (IsLineOf line.now) }
+    ensures bad { IsErrOf result ScriptError.NotACommand → IsBadLine line.now }
+{
+    if is_skipped(line) {
+        return Ok(None);
+    }
+    Ok(Some(read_command(alloc, line)?))
 }
 
 /// The parts of a script between its line ends. Behind the last line's end stands an empty one.
@@ -123,15 +132,16 @@ fn is_skipped(line: &[u8]) -> bool
 
 /// Says which line is no command. Where `err` can't be written, the status alone says what it can.
 fn tell_script_fault<E: Write>(alloc: Global, fault: ScriptFault, err: &mut E) {
-    if let ScriptFault::Line(i) = fault {
-        if let Ok(text) = line_text(alloc, i) {
+    if let ScriptFault::Line(number) = fault {
+        if let Ok(text) = line_text(alloc, number) {
             let _ = err.write_all(text.as_bytes());
         }
     }
 }
 
-fn line_text(alloc: Global, i: usize) -> Result<String, AllocError> {
-    let number = i.saturating_add(1);
+fn line_text(alloc: Global, number: usize) -> Result<String, AllocError>
+    ensures { IfOk result (λ text. string_bytes text ≡ line_fault number) }
+{
     format!(in alloc; "wafl: line {number}\n")
 }
 
@@ -149,17 +159,31 @@ fn tell_mount_error<E: Write>(error: MountError, err: &mut E) -> Status
     Status::NotMounted
 }
 
+/// Shows what a run answered, and says what the program ends with.
+fn show_run<O: Write>(
+    alloc: Global,
+    ran: Result<Vec<Reply>, RunError>,
+    cut: bool,
+    out: &mut O,
+) -> Status
+    ensures { IsEndOf cut result }
+{
+    match ran {
+        Ok(replies) => show_replies(alloc, replies.as_slice(), cut, out),
+        Err(RunError::NoMemory) => Status::NoMemory,
+    }
+}
+
 /// Writes the replies. The command that a cut interrupts is the first that answers EIO.
 fn show_replies<O: Write>(alloc: Global, replies: &[Reply], cut: bool, out: &mut O) -> Status
-    ensures { result ≢ Status.NotACommand }
+    ensures { IsEndOf cut result }
 {
     for reply in replies {
         if cut && is_failed_call(reply) {
             break;
         }
-        match show_reply(alloc, reply, out) {
-            Status::Done => {}
-            status => return status,
+        if let Err(status) = show_reply(alloc, reply, out) {
+            return status;
         }
     }
     if !cut {
@@ -175,17 +199,18 @@ fn is_failed_call(reply: &Reply) -> bool {
     matches!(reply, Reply::Refused(Errno::EIO))
 }
 
-fn show_reply<O: Write>(alloc: Global, reply: &Reply, out: &mut O) -> Status
-    ensures { result ≢ Status.NotACommand }
+/// Writes a reply's line, or says what the program ends with where that fails.
+fn show_reply<O: Write>(alloc: Global, reply: &Reply, out: &mut O) -> Result<(), Status>
+    ensures { IfErr result IsSystemFault }
 {
     let Ok(mut line) = write_reply(alloc, reply) else {
-        return Status::NoMemory;
+        return Err(Status::NoMemory);
     };
     if line.push(b'\n').is_err() {
-        return Status::NoMemory;
+        return Err(Status::NoMemory);
     }
     match out.write_all(line.as_slice()) {
-        Ok(()) => Status::Done,
-        Err(_) => Status::FileFault,
+        Ok(()) => Ok(()),
+        Err(_) => Err(Status::FileFault),
     }
 }

@@ -1,73 +1,10 @@
 //! Sessions over a station in memory: worked examples of replies, of power cuts and of the images' bytes.
 
-use crate::session::session;
-use mount::make;
+use crate::fixtures::{expect, expect_refused, fresh, ran, restarted};
 use station::{Keep, Sim};
 use std::alloc::Global;
 use std::process::Abort;
 use std::test::Fail;
-
-/// What a session answers, and the station that it leaves.
-#[derive(Drop)]
-struct Outcome {
-    status: u8,
-    out: Vec<u8>,
-    err: Vec<u8>,
-    sim: Sim,
-}
-
-/// A fresh image of 64 blocks and 32 inodes, on a station that held other bytes before.
-fn fresh(rt: &impl Abort, alloc: Global) -> Result<Sim, Fail> {
-    let disk = vec![in alloc; 0xaa; 262_144]?;
-    let nvram = vec![in alloc; 0x55; 262_144]?;
-    match make(Sim::load(alloc, disk, nvram)?, 64, 32, 131_072) {
-        Ok(sim) => Ok(sim),
-        Err((error, _)) => panic!(rt; "{error}"),
-    }
-}
-
-/// The images that a station leaves, as another one.
-fn restarted(alloc: Global, sim: &Sim) -> Result<Sim, Fail> {
-    let (disk, nvram) = sim.images();
-    Ok(Sim::load(
-        alloc,
-        Vec::from_slice(alloc, disk)?,
-        Vec::from_slice(alloc, nvram)?,
-    )?)
-}
-
-fn ran(alloc: Global, sim: Sim, script: &[u8]) -> Outcome {
-    let mut out = Vec::new(alloc);
-    let mut err = Vec::new(alloc);
-    let (status, sim) = session(
-        alloc,
-        sim,
-        script,
-        |sim: &Sim| sim.is_cut(),
-        &mut out,
-        &mut err,
-    );
-    Outcome {
-        status,
-        out,
-        err,
-        sim,
-    }
-}
-
-/// A run that tells faults on neither side: its status and its lines.
-fn expect(rt: &impl Abort, ran: Outcome, status: u8, out: &[u8]) -> Sim {
-    let Outcome {
-        status: answered,
-        out: lines,
-        err,
-        sim,
-    } = ran;
-    assert_eq!(rt; answered, status);
-    assert_eq!(rt; lines.as_slice(), out);
-    assert!(rt; err.is_empty());
-    sim
-}
 
 #[test]
 fn a_directory_is_made_and_listed(rt: HostRuntime) -> Result<(), Fail> {
@@ -170,56 +107,6 @@ fn numbers_run_out(rt: HostRuntime) -> Result<(), Fail> {
     Ok(())
 }
 
-fn expect_refused(
-    rt: &impl Abort,
-    alloc: Global,
-    sim: Sim,
-    script: &[u8],
-    status: u8,
-    fault: &[u8],
-) {
-    let Outcome {
-        status: answered,
-        out,
-        err,
-        sim: _,
-    } = ran(alloc, sim, script);
-    assert_eq!(rt; answered, status);
-    assert!(rt; out.is_empty());
-    assert_eq!(rt; err.as_slice(), fault);
-}
-
-#[test]
-fn other_images_are_not_mounted(rt: HostRuntime) -> Result<(), Fail> {
-    let alloc = rt.alloc();
-    let zeros = Sim::load(
-        alloc,
-        vec![in alloc; 0; 262_144]?,
-        vec![in alloc; 0; 262_144]?,
-    )?;
-    expect_refused(
-        &rt,
-        rt.alloc(),
-        zeros,
-        b"list /",
-        4,
-        b"wafl: mount NOROOT\n",
-    );
-
-    let sim = fresh(&rt, rt.alloc())?;
-    let disk = Vec::from_slice(alloc, sim.images().0)?;
-    let nvram = vec![in alloc; 0; 131_072]?;
-    expect_refused(
-        &rt,
-        rt.alloc(),
-        Sim::load(alloc, disk, nvram)?,
-        b"list /",
-        4,
-        b"wafl: mount DAMAGED\n",
-    );
-    Ok(())
-}
-
 #[test]
 fn a_line_that_is_no_command_runs_nothing(rt: HostRuntime) -> Result<(), Fail> {
     let sim = fresh(&rt, rt.alloc())?;
@@ -230,8 +117,7 @@ fn a_line_that_is_no_command_runs_nothing(rt: HostRuntime) -> Result<(), Fail> {
         b"mkdir /a\nmake /b\n",
         5,
         b"wafl: line 2\n",
-    );
-    Ok(())
+    )
 }
 
 /// Whether bytes begin with these, given in hexadecimal digits, and zeros stand from there to `end`.
@@ -292,52 +178,5 @@ fn images_hold_the_worked_bytes(rt: HostRuntime) -> Result<(), Fail> {
         29,
     );
     expect_bytes(&rt, nvram, 131_072, b"", 131_073);
-    Ok(())
-}
-
-/// Whether a session under want of memory told so: by a line, by the mount's refusal or by its status. A refused growth
-/// of the station in memory is a failed device call.
-fn tells_want_of_memory(ran: &Outcome) -> bool {
-    match ran.status {
-        0 => is_reply_of_want(&ran.out) && ran.err.is_empty(),
-        4 => {
-            ran.err.as_slice() == b"wafl: mount NOMEMORY\n".as_slice()
-                || ran.err.as_slice() == b"wafl: mount DEVICE\n".as_slice()
-        }
-        status => status == 7,
-    }
-}
-
-/// The replies to `mkdir /a` and `list /` with none refused, or with one of them refused.
-fn is_reply_of_want(out: &[u8]) -> bool {
-    let allowed: [&[u8]; 5] = [
-        b"ok\nnames a\n",
-        b"err ENOMEM\nnames\n",
-        b"ok\nerr ENOMEM\n",
-        b"err EIO\nerr FAILED\n",
-        b"err EIO\nnames\n",
-    ];
-    allowed.iter().any(|lines| *lines == out)
-}
-
-// Run with one allocation refused, for each in turn, this shows that want of memory has its name wherever it strikes. Run with
-// none refused, as the gate does, it shows little.
-#[test]
-fn want_of_memory_has_its_name(rt: HostRuntime) -> Result<(), Fail> {
-    let alloc = rt.alloc();
-    let disk = vec![in alloc; 0; 262_144]?;
-    let nvram = vec![in alloc; 0; 262_144]?;
-    let Ok(sim) = make(Sim::load(alloc, disk, nvram)?, 64, 32, 131_072) else {
-        return Ok(());
-    };
-    let ran = ran(alloc, sim, b"mkdir /a\nlist /\n");
-    let told = tells_want_of_memory(&ran);
-    assert!(rt;
-        told,
-        "status {}, {:?}, {:?}",
-        ran.status,
-        ran.out.as_slice(),
-        ran.err.as_slice()
-    );
     Ok(())
 }

@@ -1,13 +1,9 @@
-//! What no contract says: outside examples of spellings, of command lines and of files.
+//! What no contract says: outside examples of spellings and of command lines.
 
-use crate::files::{FileError, load_station, open_station, store_image};
 use crate::{
-    FileStation, Kept, Line, LineError, ScriptError, Status, read_command, read_line,
-    write_command, write_reply,
+    Kept, Line, LineError, ScriptError, read_command, read_line, write_command, write_reply,
 };
 use model::{Errno, Names, Reply};
-use station::Station;
-use std::fs;
 use std::process::Abort;
 use std::test::Fail;
 
@@ -191,56 +187,5 @@ fn other_words_are_not_understood(rt: HostRuntime) -> Result<(), Fail> {
             _ => assert!(rt; false, "at {words:?}"),
         }
     }
-    Ok(())
-}
-
-/// The path of a file of this test alone.
-fn scratch(rt: &HostRuntime, name: &str) -> Result<String, Fail> {
-    let process = std::process::id(rt.process());
-    Ok(format!(in rt.alloc(); "/tmp/wafl-{process}-{name}")?)
-}
-
-#[test]
-fn files_keep_what_a_station_writes(rt: HostRuntime) -> Result<(), Fail> {
-    let (disk, nvram) = (scratch(&rt, "disk")?, scratch(&rt, "nvram")?);
-    let (disk, nvram) = (disk.as_str(), nvram.as_str());
-    store_image(&rt, disk, nvram, &[0; 8192], &[0; 300])
-        .ok()
-        .ok_or("stored")?;
-    let mut station = open_station(&rt, disk, nvram).ok().ok_or("opened")?;
-    assert_eq!(rt; (station.sectors(), station.nv_bytes()), (16, 300));
-    station.write_sector(3, &[3; 512])?;
-    station.write_block(1, &[1; 4096])?;
-    station.nv_write(290, b"0123456789")?;
-    station.sync()?;
-    let mut sector = [0; 512];
-    station.read_sector(8, &mut sector)?;
-    assert!(rt; sector.iter().all(|byte| *byte == 1));
-    let mut bytes = [0; 3];
-    station.nv_read(295, &mut bytes)?;
-    assert_eq!(rt; bytes, *b"567");
-    let written = fs::read(&rt, disk)?;
-    let ends = [1535, 1536, 2047, 2048].map(|at| written.get(at).copied());
-    assert_eq!(rt; ends, [Some(0), Some(3), Some(3), Some(0)]);
-    fs::remove_file(&rt, disk)?;
-    fs::remove_file(&rt, nvram)?;
-    Ok(())
-}
-
-#[test]
-fn odd_sizes_are_no_station(rt: HostRuntime) -> Result<(), Fail> {
-    let (disk, nvram) = (scratch(&rt, "odd")?, scratch(&rt, "odd-nvram")?);
-    let (disk, nvram) = (disk.as_str(), nvram.as_str());
-    store_image(&rt, disk, nvram, &[0; 513], &[0; 300])
-        .ok()
-        .ok_or("stored")?;
-    assert!(rt;
-        open_station(&rt, disk, nvram).is_err_and(|error| error.status() == Status::FileFault)
-    );
-    fs::remove_file(&rt, disk)?;
-    assert!(rt;
-        load_station(&rt, disk, nvram).is_err_and(|error| error.status() == Status::FileFault)
-    );
-    fs::remove_file(&rt, nvram)?;
     Ok(())
 }

@@ -29,6 +29,7 @@ pub(super) fn push_text(line: &mut Vec<u8>, text: &[u8]) -> Result<(), AllocErro
 {
     if text.is_empty() {
         line.push(b'%')?;
+        return Ok(());
     }
     for byte in text {
         push_byte(line, *byte)?;

@@ -1,5 +1,9 @@
-use Rattle.layout.proofs.FreshLaws.{root_fits}
+use Rattle.std.proofs.Common.{arith}
+use Rattle.layout.proofs.FreshLaws.{root_fits, made_inodes_fit}
 use Rattle.layout.proofs.fresh.fresh_root.Goals as goal
 
 pub returns-clause-grammar : goal.returns-clause-grammar
-returns-clause-grammar c = rw c.fresh_inode_file.ensures (root_fits c.args.geometry c.blocks-2.ensures.within)
+returns-clause-grammar c = rw c.fresh_inode_file.ensures (root_fits _ c.args.geometry (omega arith) (omega arith) c.blocks-2.ensures.within)
+
+pub returns-clause-inodes : goal.returns-clause-inodes
+returns-clause-inodes c = made_inodes_fit c.args.geometry c.blocks-2.ensures.within

@@ -8,7 +8,7 @@ use Rattle.layout.proofs.entry.Entry.read.Goals as goal
 
 pub returns-in_default-clause-only : goal.returns-in_default-clause-only
 returns-in_default-clause-only c = λ e rest is bytes.
-    none-some e (c.in_default.ensures ∙ ap entry_in bytes ∙ entry_again e rest is)
+    none-some e (c.in_default.ensures ∙ ap entry_in bytes ∙ entry_again 65536 e rest (omega arith) is)
 
 pub returns-then-fits-clause-found : goal.returns-then-fits-clause-found
 returns-then-fits-clause-found c =
@@ -16,9 +16,9 @@ returns-then-fits-clause-found c =
 
 pub returns-then-fits-clause-only : goal.returns-then-fits-clause-only
 returns-then-fits-clause-only c = λ e rest is bytes.
-    some_is (named_of c.in-Some.entry) e (c.in-Some.ensures ∙ ap entry_in bytes ∙ entry_again e rest is)
+    some_is (named_of c.in-Some.entry) e (c.in-Some.ensures ∙ ap entry_in bytes ∙ entry_again 65536 e rest (omega arith) is)
 
 pub returns-else-fits-clause-only : goal.returns-else-fits-clause-only
 returns-else-fits-clause-only c = λ e rest is bytes.
-    let same = some_is (named_of c.in-Some.entry) e (c.in-Some.ensures ∙ ap entry_in bytes ∙ entry_again e rest is) in
+    let same = some_is (named_of c.in-Some.entry) e (c.in-Some.ensures ∙ ap entry_in bytes ∙ entry_again 65536 e rest (omega arith) is) in
     absurd (false≢true (c.if-fits.ensures.1 (subst (λ (n : Named). IsEntry 65536 n) (sym same) is)))

@@ -1,6 +1,6 @@
 use Rattle.std.proofs.Common.{sym, subst}
 use Rattle.layout.specs.Record.{change_bytes, change_of}
-use Rattle.oplog.specs.Ends.{IsBehind}
+use Rattle.oplog.specs.Parts.{IsBehind}
 use Rattle.oplog.proofs.log.Log.append.Goals as goal
 
 pub returns-clause-any_moment : goal.returns-clause-any_moment

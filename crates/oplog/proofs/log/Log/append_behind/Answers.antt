@@ -1,7 +1,8 @@
 use Rattle.std.proofs.Common.{◌≡◌, ℕ, ◌+◌, ◌++◌, ◌∷◌, [], List, length, sym, ap, subst, ◌∙◌, true, false}
 use Rattle.station.specs.Images.{Images}
-use Rattle.station.specs.Moments.{Meaning, MayLeave, LeavesOnly}
-use Rattle.oplog.specs.Ends.{LogEnd, StandsAt, KeepsDisk, IsBehind, at_place, unopened, HoldsNone, WithOrWithout}
+use Rattle.station.specs.Moments.{MayLeave, LeavesOnly}
+use Rattle.oplog.specs.Ends.{LogEnd, StandsAt, KeepsDisk, at_place, WithOrWithout}
+use Rattle.oplog.specs.Parts.{unopened}
 use Rattle.oplog.proofs.Joins.{at_place_same, unopened_from, on_ok_both, through, while_opened, opened_and_added}
 use Rattle.oplog.proofs.log.Log.append_behind.Goals as goal
 

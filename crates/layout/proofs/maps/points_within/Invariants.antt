@@ -1,0 +1,9 @@
+use Rattle.std.proofs.Common.{◌≡◌, ℕ, ◌<◌, ◌≤◌}
+use Rattle.layout.specs.Pointer.{PointsBelow}
+use Rattle.layout.specs.Maps.{indirect_pointer}
+use Rattle.layout.specs.declared.pointer.Pointer.TheVariants.{Hole}
+use Rattle.layout.proofs.maps.points_within.Given as goal
+
+abbrev pub invariant-loop-i : goal.invariant-loop-i
+invariant-loop-i l =
+    (k : ℕ) → k < l.i → PointsBelow l.blocks (indirect_pointer l.bytes k) × (l.used ≤ k → indirect_pointer l.bytes k ≡ Hole)

@@ -1,0 +1,58 @@
+-- A new image opens to an empty state.
+use Rattle.std.proofs.Common.{◌≡◌, inl, inr, ℕ, ◌+◌, ◌*◌, List, [], ◌∷◌, length, refl, ap, sym, ◌∙◌, subst, arith}
+use Rattle.std.specs.Prelude.{replicate, slice_index}
+use Rattle.station.specs.Images.{Images}
+use Rattle.model.specs.Trees.{root_alone}
+use Rattle.model.specs.States.{empty}
+use Rattle.model.proofs.AdditionLemmas.{root_is_tree, forgets_itself}
+use Rattle.layout.specs.Limits.{Sizes}
+use Rattle.layout.specs.Root.{root_bytes, head_bytes}
+use Rattle.layout.specs.Fresh.{made_root}
+use Rattle.layout.specs.Log.{LogHolds, IsOpenFor, IsClosed, half_at}
+use Rattle.layout.specs.Opens.{Opens, HoldsNewImage, HoldsMadeBlocks}
+use Rattle.layout.specs.declared.root.Root.{Root}
+use Rattle.mount.specs.Making.{HasClosedHalves, HasSlots, HoldsMade}
+
+-- a root begins with a letter, so no root is all zeros
+zeros_no_root : (r : Root) → replicate 512 0 ≡ root_bytes r → {X : Type 0} → X
+unfolding head_bytes
+zeros_no_root r e = let first : 0 ≡ 87 = ap (λ (l : List ℕ). slice_index l 0) e in absurd (omega (arith, first))
+
+closed_not_open : (epoch : ℕ) (bytes rest : List ℕ) → IsClosed bytes → IsOpenFor epoch bytes rest → ⊥
+closed_not_open epoch bytes rest shut is = let e : 0 ∷ shut.0 ≡ bytes = sym shut.1 in cc
+
+-- the slots over the blocks and the closed halves
+pub slots_over : (s : Sizes) (old c : Images) → HoldsMadeBlocks s old.disk → HasClosedHalves s.half old.nvram → HasSlots s old c → HoldsMade s c
+slots_over s old c blocks closed slots = record {
+  first = slots.first;
+  second = slots.second;
+  blocks = λ b i low below within. slots.others (8 * b + i) (λ e. absurd (omega (arith, e))) (λ e. absurd (omega (arith, e))) ∙ blocks b i low below within;
+  halves = subst (HasClosedHalves s.half) (sym slots.nvram) closed;
+}
+
+module _ (s : Sizes) (c : Images) (size : length c.nvram ≡ 2 * s.half) (holds : HoldsMade s c) where
+  image : HoldsNewImage (8 * s.blocks) c.disk (made_root s)
+  image = record {
+    newest = inl (holds.first, λ other it. zeros_no_root other (sym holds.second ∙ it.spelled));
+    size = refl;
+    made = refl;
+    blocks = holds.blocks;
+  }
+
+  log : LogHolds s.half 1 c.nvram []
+  log = record {
+    size = size;
+    halves = λ r low. inl (holds.halves r low);
+    next = inr ((λ rest is. closed_not_open 2 (half_at s.half 0 c.nvram) rest (holds.halves 0 (omega arith)) is), refl);
+  }
+
+  pub made_opens : Opens (8 * s.blocks) c.disk c.nvram (empty s.inodes)
+  made_opens = record {
+    root = made_root s;
+    image = image;
+    bodies = [];
+    log = log;
+    tree = root_alone 0o755;
+    replays = refl;
+    state = record { tree = forgets_itself (root_alone 0o755) root_is_tree refl; rest = refl };
+  }

@@ -1,0 +1,102 @@
+-- The records of the log replayed one after the other.
+use Rattle.std.proofs.Common.{◌≡◌, ℕ, ◌+◌, ◌<◌, ◌^◌, List, [], ◌∷◌, ◌++◌, length, refl, sym, ap, subst, ◌∙◌, arith, append_assoc, length-append, append-nil}
+use Rattle.std.specs.Prelude.{Result, Ok, Err, OnOk, MatchResult, ⊤}
+use Rattle.model.specs.Trees.{Tree, IsTree}
+use Rattle.layout.specs.Log.{record_of, records_of, HoldsBodies, IsClosed}
+use Rattle.layout.specs.Opens.{ReplaysOne, Replays}
+use Rattle.layout.proofs.OpenLaws.{one_keeps, one_once, record_once}
+use Rattle.mount.specs.Replaying.{IsReplayed}
+use Rattle.mount.specs.declared.replay.ReplayError.{ReplayError}
+use Rattle.mount.specs.declared.replay.ReplayError.TheVariants.{NoMemory}
+
+-- so far these records, in front of the rest, have led from one tree to another, and no others can
+pub record HasReplayed (inodes : ℕ) (old now : Tree) (records rest : List ℕ) : Type 0 where
+  pub tree : IsTree now
+  pub bodies : List (List ℕ)
+  pub joins : (more : List (List ℕ)) → HoldsBodies rest more → HoldsBodies records (bodies ++ more)
+  pub length_is : length (records_of bodies) + length rest ≡ length records
+  pub replays : Replays inodes bodies old now
+  pub only : (all : List (List ℕ)) (t : Tree) → HoldsBodies records all → Replays inodes all old t → (more : List (List ℕ)) × HoldsBodies rest more × Replays inodes more now t
+
+-- before the first
+pub none_replayed : (inodes : ℕ) (old : Tree) (records : List ℕ) → IsTree old → HasReplayed inodes old old records records
+none_replayed inodes old records tree = record {
+  tree = tree;
+  bodies = [];
+  joins = λ more holds. holds;
+  length_is = omega arith;
+  replays = refl;
+  only = λ all t holds replays. (all, holds, replays);
+}
+
+length-push : (bodies : List (List ℕ)) (body : List ℕ) → length (records_of (bodies ++ body ∷ [])) ≡ length (records_of bodies) + length (record_of body)
+length-push [] body = omega (arith, length-append (record_of body) [])
+length-push (first ∷ bodies) body =
+    omega (arith, length-append (record_of first) (records_of (bodies ++ body ∷ [])), length-append (record_of first) (records_of bodies), length-push bodies body)
+
+pub replays_push : (inodes : ℕ) (bodies : List (List ℕ)) (body : List ℕ) (old now next : Tree) → Replays inodes bodies old now → ReplaysOne inodes body now next → Replays inodes (bodies ++ body ∷ []) old next
+replays_push inodes [] body old now next replays one = (next, subst (λ (t : Tree). ReplaysOne inodes body t next) replays one, refl)
+replays_push inodes (first ∷ bodies) body old now next replays one = (replays.0, replays.1, replays_push inodes bodies body replays.0 now next replays.2 one)
+
+-- the bodies behind an open gate begin with its body
+behind_open : (rest body after : List ℕ) (all : List (List ℕ)) → length body < 2 ^ 32 → rest ≡ record_of body ++ after → HoldsBodies rest all → (more : List (List ℕ)) × (all ≡ body ∷ more) × HoldsBodies after more
+behind_open rest body after [] short is holds = let e : 0 ∷ holds.0 ≡ record_of body ++ after = sym holds.1 ∙ is in absurd (cc)
+behind_open rest body after (first ∷ more) short is holds =
+    let same = record_once first body holds.0 after holds.1 short (sym holds.2 ∙ is) in
+    (more, (λ i. same.0 i ∷ more), subst (λ (l : List ℕ). HoldsBodies l more) same.1 holds.3)
+
+module _ (inodes : ℕ) (old now : Tree) (records rest body after : List ℕ) (short : length body < 2 ^ 32) (is : rest ≡ record_of body ++ after) (so_far : HasReplayed inodes old now records rest) where
+  -- what the rest holds, where it leads anywhere
+  pub leads : (all : List (List ℕ)) (t : Tree) → HoldsBodies records all → Replays inodes all old t → (more : List (List ℕ)) × HoldsBodies after more × ((next : Tree) × ReplaysOne inodes body now next × Replays inodes more next t)
+  leads all t holds replays =
+      let back = so_far.only all t holds replays in
+      let behind = behind_open rest body after back.0 short is back.1 in
+      let steps = subst (λ (l : List (List ℕ)). Replays inodes l now t) behind.1 back.2 in
+      (behind.0, behind.2, steps)
+
+  -- one record more
+  pub one_more : (next : Tree) → ReplaysOne inodes body now next → HasReplayed inodes old next records after
+  one_more next one = record {
+    tree = one_keeps inodes body now next so_far.tree one;
+    bodies = so_far.bodies ++ body ∷ [];
+    joins = λ more holds. subst (λ (l : List (List ℕ)). HoldsBodies records l) (sym (append_assoc so_far.bodies (body ∷ []) more)) (so_far.joins (body ∷ more) (after, short, is, holds));
+    length_is = omega (arith, so_far.length_is, length-push so_far.bodies body, ap length is, length-append (record_of body) after);
+    replays = replays_push inodes so_far.bodies body old now next so_far.replays one;
+    only = λ all t holds replays.
+        let back = leads all t holds replays in
+        let same : back.2.0 ≡ next = one_once inodes body now next back.2.0 so_far.tree one back.2.1 in
+        (back.0, back.1, subst (λ (u : Tree). Replays inodes back.0 u t) same back.2.2);
+  }
+
+  -- a record that doesn't apply
+  pub none_more : ((next : Tree) → ReplaysOne inodes body now next → ⊥) → (all : List (List ℕ)) (t : Tree) → HoldsBodies records all → Replays inodes all old t → ⊥
+  none_more never all t holds replays = let back = leads all t holds replays in never back.2.0 back.2.1
+
+module _ (inodes : ℕ) (old now : Tree) (records rest : List ℕ) (so_far : HasReplayed inodes old now records rest) where
+  -- behind the last record
+  pub all_replayed : IsClosed rest → IsReplayed inodes records (length rest) old now
+  all_replayed shut = record {
+    bodies = so_far.bodies;
+    held = subst (λ (l : List (List ℕ)). HoldsBodies records l) (append-nil so_far.bodies) (so_far.joins [] shut);
+    left_is = omega (arith, so_far.length_is);
+    replays = so_far.replays;
+  }
+
+  pub all_lead_here : IsClosed rest → (all : List (List ℕ)) (t : Tree) → HoldsBodies records all → Replays inodes all old t → t ≡ now
+  all_lead_here shut all t holds replays =
+      let back = so_far.only all t holds replays in
+      ends back.0 back.1 back.2
+    where
+      ends : (more : List (List ℕ)) → HoldsBodies rest more → Replays inodes more now t → t ≡ now
+      ends [] holds replays = replays
+      ends (body ∷ more) holds replays = let e : 0 ∷ shut.0 ≡ record_of body ++ holds.0 = sym shut.1 ∙ holds.2 in absurd (cc)
+
+  -- no records stand in the rest
+  pub none_stand : ((more : List (List ℕ)) → HoldsBodies rest more → ⊥) → (all : List (List ℕ)) (t : Tree) → HoldsBodies records all → Replays inodes all old t → ⊥
+  none_stand never all t holds replays = let back = so_far.only all t holds replays in never back.0 back.1
+
+-- a record's answer is about the one tree that it leads to
+pub only_one : (inodes : ℕ) (body : List ℕ) (old new t : Tree) (r : Result (Unit {0}) ReplayError) → IsTree old → OnOk r (ReplaysOne inodes body old new) → ReplaysOne inodes body old t
+    → MatchResult r (λ _. ⊤) (λ e. e ≡ NoMemory) → MatchResult r (λ _. t ≡ new) (λ e. e ≡ NoMemory)
+only_one inodes body old new t (Ok x) tree one other fine = one_once inodes body old new t tree one other
+only_one inodes body old new t (Err e) tree one other refused = refused

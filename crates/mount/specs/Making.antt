@@ -1,0 +1,37 @@
+-- What `make` asks of a station, and what it leaves on one.
+use Rattle.std.specs.Prelude.{ℕ, ◌≡◌, ◌≢◌, ◌*◌, ◌<◌, List, replicate}
+use Rattle.station.specs.Images.{Images}
+use Rattle.station.specs.Moments.{Meaning}
+use Rattle.layout.specs.Limits.{Sizes, AreSizes}
+use Rattle.layout.specs.Fresh.{made_root}
+use Rattle.layout.specs.Log.{half_at, IsClosed}
+use Rattle.model.specs.States.{State}
+use Rattle.layout.specs.Opens.{HoldsRoot, HoldsMadeBlocks, Opens}
+
+-- the numbers are in range, and the station is of just their size
+pub record Suits (m : Meaning) (s : Sizes) : Type 0 where
+  pub sizes : AreSizes s
+  pub sectors : m.sectors ≡ 8 * s.blocks
+  pub nvram : m.nvram_bytes ≡ 2 * s.half
+
+-- what stands on a station opens to this state
+abbrev pub OpensTo : Meaning → State → Images → Type 0
+OpensTo m s c = Opens m.sectors c.disk c.nvram s
+
+-- the gates of both halves are closed
+abbrev pub HasClosedHalves : ℕ → List ℕ → Type 0
+HasClosedHalves half nvram = (r : ℕ) → r < 2 → IsClosed (half_at half r nvram)
+
+-- a new image: the root in slot A, nothing in slot B, the blocks, and an empty log
+pub record HoldsMade (s : Sizes) (c : Images) : Type 0 where
+  pub first : HoldsRoot (c.disk 0) (made_root s)
+  pub second : c.disk 8 ≡ replicate 512 0
+  pub blocks : HoldsMadeBlocks s c.disk
+  pub halves : HasClosedHalves s.half c.nvram
+
+-- the slots of a new image, and all else as it was
+pub record HasSlots (s : Sizes) (old c : Images) : Type 0 where
+  pub first : HoldsRoot (c.disk 0) (made_root s)
+  pub second : c.disk 8 ≡ replicate 512 0
+  pub others : (n : ℕ) → n ≢ 0 → n ≢ 8 → c.disk n ≡ old.disk n
+  pub nvram : c.nvram ≡ old.nvram

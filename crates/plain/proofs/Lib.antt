@@ -1,0 +1,4 @@
+mod ListLemmas
+mod ListingLemmas
+mod CallLemmas
+mod CreationLemmas

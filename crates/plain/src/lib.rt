@@ -1,0 +1,11 @@
+//! A slow file system of plain lists, in memory and without devices: what each command means, as a program. It is also
+//! the running tree of this version.
+#![tactic(auto)]
+
+mod directory;
+mod state;
+#[cfg(test)]
+mod tests;
+mod texts;
+
+pub use state::{NewDirectory, PlainState, Plan};
