@@ -1,5 +1,4 @@
 pub mod Sizes
-pub mod Gates
 mod SlotLemmas
 mod MadeLemmas
 mod ReplayLemmas

@@ -18,17 +18,6 @@ pub record HasReplayed (inodes : ℕ) (old now : Tree) (records rest : List ℕ)
   pub replays : Replays inodes bodies old now
   pub only : (all : List (List ℕ)) (t : Tree) → HoldsBodies records all → Replays inodes all old t → (more : List (List ℕ)) × HoldsBodies rest more × Replays inodes more now t
 
--- before the first
-pub none_replayed : (inodes : ℕ) (old : Tree) (records : List ℕ) → IsTree old → HasReplayed inodes old old records records
-none_replayed inodes old records tree = record {
-  tree = tree;
-  bodies = [];
-  joins = λ more holds. holds;
-  length_is = omega arith;
-  replays = refl;
-  only = λ all t holds replays. (all, holds, replays);
-}
-
 length-push : (bodies : List (List ℕ)) (body : List ℕ) → length (records_of (bodies ++ body ∷ [])) ≡ length (records_of bodies) + length (record_of body)
 length-push [] body = omega (arith, length-append (record_of body) [])
 length-push (first ∷ bodies) body =
@@ -68,10 +57,6 @@ module _ (inodes : ℕ) (old now : Tree) (records rest body after : List ℕ) (s
         (back.0, back.1, subst (λ (u : Tree). Replays inodes back.0 u t) same back.2.2);
   }
 
-  -- a record that doesn't apply
-  pub none_more : ((next : Tree) → ReplaysOne inodes body now next → ⊥) → (all : List (List ℕ)) (t : Tree) → HoldsBodies records all → Replays inodes all old t → ⊥
-  none_more never all t holds replays = let back = leads all t holds replays in never back.2.0 back.2.1
-
 module _ (inodes : ℕ) (old now : Tree) (records rest : List ℕ) (so_far : HasReplayed inodes old now records rest) where
   -- behind the last record
   pub all_replayed : IsClosed rest → IsReplayed inodes records (length rest) old now
@@ -90,10 +75,6 @@ module _ (inodes : ℕ) (old now : Tree) (records rest : List ℕ) (so_far : Has
       ends : (more : List (List ℕ)) → HoldsBodies rest more → Replays inodes more now t → t ≡ now
       ends [] holds replays = replays
       ends (body ∷ more) holds replays = let e : 0 ∷ shut.0 ≡ record_of body ++ holds.0 = sym shut.1 ∙ holds.2 in absurd (cc)
-
-  -- no records stand in the rest
-  pub none_stand : ((more : List (List ℕ)) → HoldsBodies rest more → ⊥) → (all : List (List ℕ)) (t : Tree) → HoldsBodies records all → Replays inodes all old t → ⊥
-  none_stand never all t holds replays = let back = so_far.only all t holds replays in never back.0 back.1
 
 -- a record's answer is about the one tree that it leads to
 pub only_one : (inodes : ℕ) (body : List ℕ) (old new t : Tree) (r : Result (Unit {0}) ReplayError) → IsTree old → OnOk r (ReplaysOne inodes body old new) → ReplaysOne inodes body old t
