@@ -1,6 +1,9 @@
 //! A copy-on-write file system with snapshots, over a disk image and an NVRAM image: the program.
 #![tactic(auto)]
 
+ghost use Rattle.std.specs.Prelude.{◌≡◌};
+ghost use Rattle.wafl.specs.Words.{refusal_status};
+
 mod run;
 
 use run::{run_on_files, run_with_cut};
@@ -37,7 +40,9 @@ fn program_words(rt: &HostRuntime) -> io::Result<Vec<String>> {
     Ok(env::args(rt)?.collect(rt.alloc())?)
 }
 
-fn status_of(error: &LineError) -> Status {
+fn status_of(error: &LineError) -> Status
+    ensures { result ≡ refusal_status error.now }
+{
     match error {
         LineError::NoMemory => Status::NoMemory,
         LineError::NotUnderstood(_) => Status::NotUnderstood,

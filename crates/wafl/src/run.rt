@@ -1,5 +1,8 @@
 //! Running a script: on the files themselves, or in memory where the power is to be cut.
 
+ghost use Rattle.std.specs.Prelude.{IfOk};
+ghost use Rattle.wafl.specs.Words.{Keeps};
+
 use crate::tell;
 use station::{Keep, Sim};
 use std::alloc::{AllocError, Global};
@@ -75,7 +78,10 @@ fn load_run<'a>(
     Ok((script, sim, keep_of(rt.alloc(), keep)?))
 }
 
-fn keep_of(alloc: Global, kept: Kept<'_>) -> Result<Keep, AllocError> {
+/// Which writes a cut keeps, by the word for it.
+fn keep_of(alloc: Global, kept: Kept<'_>) -> Result<Keep, AllocError>
+    ensures { IfOk result (Keeps kept.entry) }
+{
     match kept {
         Kept::Nothing => Ok(Keep::Nothing),
         Kept::Everything => Ok(Keep::Everything),
