@@ -1,44 +1,52 @@
 -- An entry of a directory: what is read is spelled so, and what is spelled so is read, whatever stands behind it. And blocks
 -- of entries: their first entry is what their bytes begin with.
-use Rattle.std.proofs.Common.{◌≡◌, ◌≢◌, ℕ, zero, suc, ◌+◌, ◌^◌, ◌≤◌, ◌↔◌, List, [], ◌∷◌, ◌++◌, length, Option, Some, refl, sym, ap, subst, ◌∙◌, append_assoc, arith}
-use Rattle.std.proofs.lemmas.List.{length-append, append_cancel_left}
+use Rattle.std.proofs.Common.{◌≡◌, ◌≢◌, ℕ, ◌+◌, ◌^◌, ◌≤◌, ◌↔◌, List, [], ◌∷◌, ◌++◌, length, get_or, replicate, Some, inl, inr, refl, sym, ap, subst, ◌∙◌, append_assoc, arith}
+use Rattle.std.proofs.lemmas.Bool.{cases_lt}
+use Rattle.std.proofs.lemmas.List.{length-append, length-replicate, append_cancel_left, get_or-replicate, get_or_past}
 use Rattle.layout.specs.Bytes.{little, number, zeros, IsBytes}
-use Rattle.layout.specs.Reading.{◌>>=◌, number_at, counted_at, then_at}
-use Rattle.layout.specs.Record.{name_bytes}
-use Rattle.layout.specs.Directory.{Named, entry_bytes, IsEntry, HoldsEntries, entry_in}
-use Rattle.layout.proofs.Formats.{bind_some, some_is, number_format, counted_format, then_format}
+use Rattle.layout.specs.Format.{counted}
+use Rattle.layout.specs.Directory.{Named, entry_fields, entry_bytes, IsEntry, HoldsEntries, entry_in}
+use Rattle.layout.proofs.Formats.{bind_some, some_is, IsExact, num_exact, counted_exact, then_exact}
 use Rattle.layout.proofs.NumberLaws.{length-little, number-little}
+
+entry_exact : IsExact entry_fields
+entry_exact = then_exact (num_exact 4) (counted_exact 1)
 
 pub entry_takes : (bytes : List ℕ) (e : Named) → IsBytes bytes → entry_in bytes ≡ Some e → (rest : List ℕ) × (bytes ≡ entry_bytes e ++ rest)
 unfolding entry_in
 entry_takes bytes e fits read =
-    let w = bind_some (then_at (number_at 4) (counted_at 1) bytes) (λ x. Some (record { number = x.0.0; name = x.0.1 })) e read in
-    let t = (then_format (number_format 4) (counted_format 1)).takes bytes w.0 fits w.1 in
+    let w = bind_some (entry_fields.at bytes) (λ x. Some (record { number = x.0.0; name = x.0.1 })) e read in
+    let t = entry_exact.takes bytes w.0 fits w.1 in
     (w.0.1, t.0.parts ∙ ap (λ (n : Named). entry_bytes n ++ w.0.1) (some_is (record { number = w.0.0.0; name = w.0.0.1 }) e w.2))
 
 pub entry_again : (inodes : ℕ) (e : Named) (rest : List ℕ) → inodes ≤ 2 ^ 32 → IsEntry inodes e → entry_in (entry_bytes e ++ rest) ≡ Some e
 unfolding entry_in
 entry_again inodes e rest limit is =
-    ap (λ (o : Option ((ℕ × List ℕ) × List ℕ)). o >>= λ x. Some (record { number = x.0.0; name = x.0.1 }))
-    ((then_format (number_format 4) (counted_format 1)).again (e.number, e.name) rest (omega (arith, is.below), omega (arith, is.name.short)))
+    rw (entry_exact.again (e.number, e.name) rest (omega (arith, is.below), omega (arith, is.name.short))) refl
 
 pub length-entry_bytes : (e : Named) → length (entry_bytes e) ≡ 5 + length e.name
 length-entry_bytes e = simp (length-append, length-little) (omega arith)
 
 -- ---- entries one behind the other
 
-number-zeros : (n count : ℕ) → number n (zeros count) ≡ 0
-unfolding number zeros
-number-zeros zero count = refl
-number-zeros (suc n) zero = refl
-number-zeros (suc n) (suc count) = let rest = number-zeros n count in omega arith
+zero_byte : (i count : ℕ) → get_or (zeros count) i 0 ≡ 0
+unfolding zeros
+zero_byte i count =
+    elim (cases_lt i count) [
+      | inl lt ↦ get_or-replicate {A = ℕ} count i 0 0 lt
+      | inr le ↦ get_or_past (replicate count 0) i 0 (omega (arith, length-replicate {A = ℕ} count 0))
+    ]
+
+number-zeros : (count : ℕ) → number 4 (zeros count) ≡ 0
+unfolding number
+number-zeros count = rw (zero_byte 0 count, zero_byte 1 count, zero_byte 2 count, zero_byte 3 count) refl
 
 -- an entry is not zeros
 pub not_zeros : (inodes : ℕ) (bytes rest : List ℕ) (e : Named) (count : ℕ) → inodes ≤ 2 ^ 32 → IsEntry inodes e → bytes ≡ entry_bytes e ++ rest → bytes ≢ zeros count
 not_zeros inodes bytes rest e count limit is spelled none =
-    let regrouped : bytes ≡ little 4 e.number ++ (name_bytes e.name ++ rest) = spelled ∙ append_assoc (little 4 e.number) (name_bytes e.name) rest in
-    let first : number 4 bytes ≡ e.number = ap (number 4) regrouped ∙ number-little 4 e.number (name_bytes e.name ++ rest) (omega (arith, is.below)) in
-    let nothing : number 4 bytes ≡ 0 = ap (number 4) none ∙ number-zeros 4 count in
+    let regrouped : bytes ≡ little 4 e.number ++ ((counted 1).text e.name ++ rest) = spelled ∙ append_assoc (little 4 e.number) ((counted 1).text e.name) rest in
+    let first : number 4 bytes ≡ e.number = ap (number 4) regrouped ∙ number-little 4 e.number ((counted 1).text e.name ++ rest) (omega (arith, is.below)) in
+    let nothing : number 4 bytes ≡ 0 = ap (number 4) none ∙ number-zeros count in
     omega (arith, is.ordinary)
 
 -- the first of the entries, where there are some

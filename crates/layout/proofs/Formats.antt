@@ -1,9 +1,10 @@
--- A format has a reader and a spelling: what is read is spelled so, and what is spelled so is read.
-use Rattle.std.proofs.Common.{◌≡◌, ℕ, ◌+◌, ◌*◌, ◌^◌, ◌<◌, ◌≤◌, Bool, true, false, cond, eqb, ltb, List, [], ◌∷◌, ◌++◌, length, get_or, take, drop, Option, Some, None, ◌⊎◌, inl, inr, refl, sym, ap, subst, ◌∙◌, append_assoc, arith}
-use Rattle.std.proofs.lemmas.Bool.{cases_lt, ltb-false, le-ltb, eqb-true}
-use Rattle.std.proofs.lemmas.List.{get_or_append_left, get_or_past, take_at, drop_at, take-append-drop, length-append, length-take, get_or-drop, append-nil, nil_from_length}
-use Rattle.layout.specs.Bytes.{little, number, IsBytes}
-use Rattle.layout.specs.Reading.{◌>>=◌, number_at, part_at, counted_at, then_at, all_of}
+-- Formats are exact: what is read is spelled so, and what is spelled so is read.
+use Rattle.std.proofs.Common.{◌≡◌, ℕ, zero, suc, ◌+◌, ◌-◌, ◌*◌, ◌^◌, ◌<◌, ◌≤◌, Bool, true, false, cond, eqb, ltb, leb, ◌&&◌, List, [], ◌∷◌, ◌++◌, length, get_or, take, drop, Option, Some, None, inl, inr, refl, sym, ap, subst, ◌∙◌, append_assoc, arith}
+use Rattle.std.proofs.lemmas.Bool.{cases_lt, ltb-false, le-ltb, le-leb, leb-true, eqb-true, and_parts}
+use Rattle.std.proofs.lemmas.List.{get_or_append_left, get_or_past, take_at, drop_at, take-append-drop, length-append, length-take, length-replicate, get_or-drop, append-nil, nil_from_length}
+use Rattle.layout.specs.Bytes.{little, number, zeros, IsBytes}
+use Rattle.layout.specs.Format.{Format, num, ranged, part, blank, counted, padded, ◌▸◌}
+use Rattle.layout.specs.Reading.{◌>>=◌, number_at, ranged_at, part_at, is_zero, zeros_at, counted_at, padded_at, then_at, all_of}
 use Rattle.layout.proofs.NumberLaws.{length-little, number-spelled, number-little, number-lt}
 
 pub IsBytes-drop : (n : ℕ) (bytes : List ℕ) → IsBytes bytes → IsBytes (drop n bytes)
@@ -16,23 +17,19 @@ bind_some None f y e = absurd cc
 pub some_is : {A : Type 0} (x y : A) → ◌≡◌ {A = Option A} (Some x) (Some y) → x ≡ y
 some_is x y e = cc
 
-pub unless_some : {A : Type 0} (b : Bool) (x y : A) → cond b None (Some x) ≡ Some y → (b ≡ false) × (x ≡ y)
-unless_some true x y e = absurd cc
-unless_some false x y e = (refl, cc)
-
-pub if_some : {A : Type 0} (b : Bool) (x y : A) → cond b (Some x) None ≡ Some y → (b ≡ true) × (x ≡ y)
-if_some true x y e = (refl, cc)
-if_some false x y e = absurd cc
-
 -- the value behind a test
+pub unless_then : {A : Type 0} (b : Bool) (x : Option A) (y : A) → cond b None x ≡ Some y → (b ≡ false) × (x ≡ Some y)
+unless_then true x y e = absurd cc
+unless_then false x y e = (refl, e)
+
 pub if_then : {A : Type 0} (b : Bool) (x : Option A) (y : A) → cond b x None ≡ Some y → (b ≡ true) × (x ≡ Some y)
 if_then true x y e = (refl, e)
 if_then false x y e = absurd cc
 
--- the value by the outcome of a test
-pub chosen : {A : Type 0} (b : Bool) (x y : Option A) (z : A) → cond b x y ≡ Some z → ((b ≡ true) × (x ≡ Some z)) ⊎ ((b ≡ false) × (y ≡ Some z))
-chosen true x y z e = inl (refl, e)
-chosen false x y z e = inr (refl, e)
+-- what follows from either outcome of a test
+pub tried : {A P : Type 0} (b : Bool) (x y : Option A) (z : A) → cond b x y ≡ Some z → (b ≡ true → x ≡ Some z → P) → (y ≡ Some z → P) → P
+tried true x y z e f g = f refl e
+tried false x y z e f g = g e
 
 -- the bytes are this text and these bytes behind it
 pub record Takes (bytes text rest : List ℕ) : Type 0 where
@@ -42,105 +39,148 @@ pub record Takes (bytes text rest : List ℕ) : Type 0 where
 Takes-then : (a x b y c : List ℕ) → Takes a x b → Takes b y c → Takes a (x ++ y) c
 Takes-then a x b y c p q = record { parts = p.parts ∙ ap (λ (t : List ℕ). x ++ t) q.parts ∙ sym (append_assoc x y c); rest_fits = q.rest_fits }
 
-pub record IsFormat {A : Type 0} (at : List ℕ → Option (A × List ℕ)) (text : A → List ℕ) (Fits : A → Type 0) : Type 0 where
-  pub takes : (bytes : List ℕ) (x : A × List ℕ) → IsBytes bytes → at bytes ≡ Some x → Takes bytes (text x.0) x.1 × Fits x.0
-  pub again : (v : A) (rest : List ℕ) → Fits v → at (text v ++ rest) ≡ Some (v, rest)
+-- a format reads exactly what it spells
+pub record IsExact {A : Type 0} (f : Format A) : Type 0 where
+  pub takes : (bytes : List ℕ) (x : A × List ℕ) → IsBytes bytes → f.at bytes ≡ Some x → Takes bytes (f.text x.0) x.1 × f.Fits x.0
+  pub again : (v : A) (rest : List ℕ) → f.Fits v → f.at (f.text v ++ rest) ≡ Some (v, rest)
 
-pub number_format : (n : ℕ) → IsFormat (number_at n) (little n) (λ x. x < 256 ^ n)
-number_format n = record {
+pub num_exact : (n : ℕ) → IsExact (num n)
+num_exact n = record {
   takes = λ bytes x fits e.
-      let g = unless_some (ltb (length bytes) n) (number n bytes, drop n bytes) x e in
+      let g = unless_then (ltb (length bytes) n) (Some (number n bytes, drop n bytes)) x e in
       let long : n ≤ length bytes = ltb-false _ _ g.0 in
       let parts : Takes bytes (little n (number n bytes)) (drop n bytes) = record { parts = number-spelled n bytes long fits; rest_fits = IsBytes-drop n bytes fits } in
-      subst (λ (y : ℕ × List ℕ). Takes bytes (little n y.0) y.1 × (y.0 < 256 ^ n)) g.1 (parts, number-lt n bytes fits);
+      subst (λ (y : ℕ × List ℕ). Takes bytes (little n y.0) y.1 × (y.0 < 256 ^ n)) (some_is _ x g.1) (parts, number-lt n bytes fits);
   again = λ v rest fits.
       let long : ltb (length (little n v ++ rest)) n ≡ false = le-ltb _ _ (omega (arith, length-append (little n v) rest, length-little n v)) in
       rw (long, number-little n v rest fits, drop_at (little n v) rest n (length-little n v)) refl;
 }
 
-part_takes : (n : ℕ) (bytes : List ℕ) (x : List ℕ × List ℕ) → IsBytes bytes → part_at n bytes ≡ Some x → Takes bytes x.0 x.1 × (length x.0 ≡ n)
-part_takes n bytes x fits e =
-    let g = unless_some (ltb (length bytes) n) (take n bytes, drop n bytes) x e in
-    let long : n ≤ length bytes = ltb-false _ _ g.0 in
-    let parts : Takes bytes (take n bytes) (drop n bytes) = record { parts = sym (take-append-drop n bytes); rest_fits = IsBytes-drop n bytes fits } in
-    subst (λ (y : List ℕ × List ℕ). Takes bytes y.0 y.1 × (length y.0 ≡ n)) g.1 (parts, omega (arith, length-take n bytes))
+pub ranged_exact : (n least most : ℕ) → most < 256 ^ n → IsExact (ranged n least most)
+ranged_exact n least most small = record {
+  takes = λ bytes x fits e.
+      let a = bind_some (number_at n bytes) (λ y. cond (leb least y.0 && leb y.0 most) (Some y) None) x e in
+      let g = if_then (leb least a.0.0 && leb a.0.0 most) (Some a.0) x a.2 in
+      let both = and_parts (leb least a.0.0) (leb a.0.0 most) g.0 in
+      subst (λ (y : ℕ × List ℕ). Takes bytes (little n y.0) y.1 × ((least ≤ y.0) × (y.0 ≤ most))) (some_is a.0 x g.1)
+      (((num_exact n).takes bytes a.0 fits a.1).0, (leb-true _ _ both.0, leb-true _ _ both.1));
+  again = λ v rest fits.
+      let low : leb least v ≡ true = le-leb _ _ fits.0 in
+      let high : leb v most ≡ true = le-leb _ _ fits.1 in
+      rw ((num_exact n).again v rest (omega arith), low, high) refl;
+}
 
-part_again : (n : ℕ) (v rest : List ℕ) → length v ≡ n → part_at n (v ++ rest) ≡ Some (v, rest)
-part_again n v rest len =
-    let long : ltb (length (v ++ rest)) n ≡ false = le-ltb _ _ (omega (arith, length-append v rest)) in
-    rw (long, take_at v rest n len, drop_at v rest n len) refl
+pub part_exact : (n : ℕ) → IsExact (part n)
+part_exact n = record {
+  takes = λ bytes x fits e.
+      let g = unless_then (ltb (length bytes) n) (Some (take n bytes, drop n bytes)) x e in
+      let long : n ≤ length bytes = ltb-false _ _ g.0 in
+      let parts : Takes bytes (take n bytes) (drop n bytes) = record { parts = sym (take-append-drop n bytes); rest_fits = IsBytes-drop n bytes fits } in
+      subst (λ (y : List ℕ × List ℕ). Takes bytes y.0 y.1 × (length y.0 ≡ n)) (some_is _ x g.1) (parts, omega (arith, length-take n bytes));
+  again = λ v rest len.
+      let long : ltb (length (v ++ rest)) n ≡ false = le-ltb _ _ (omega (arith, length-append v rest)) in
+      rw (long, take_at v rest n len, drop_at v rest n len) refl;
+}
 
-pub part_format : (n : ℕ) → IsFormat (part_at n) (λ v. v) (λ v. length v ≡ n)
-part_format n = record { takes = part_takes n; again = part_again n }
+pub zeros_are : (bytes : List ℕ) → is_zero bytes ≡ true → bytes ≡ zeros (length bytes)
+unfolding zeros
+zeros_are [] e = refl
+zeros_are (byte ∷ bytes) e =
+    let both = and_parts (eqb byte 0) (is_zero bytes) e in
+    ap (λ (b : ℕ). b ∷ bytes) (eqb-true _ _ both.0) ∙ ap (λ (r : List ℕ). 0 ∷ r) (zeros_are bytes both.1)
 
-pub counted_format : (n : ℕ) → IsFormat (counted_at n) (λ v. little n (length v) ++ v) (λ v. length v < 256 ^ n)
-counted_format n = record {
+pub is_zero-zeros : (n : ℕ) → is_zero (zeros n) ≡ true
+unfolding zeros
+is_zero-zeros zero = refl
+is_zero-zeros (suc n) = is_zero-zeros n
+
+pub length-zeros : (n : ℕ) → length (zeros n) ≡ n
+unfolding zeros
+length-zeros n = length-replicate {A = ℕ} n 0
+
+pub blank_exact : (n : ℕ) → IsExact (blank n)
+blank_exact n = record {
+  takes = λ bytes x fits e.
+      let a = bind_some (part_at n bytes) (λ y. cond (is_zero y.0) (Some (tt, y.1)) None) x e in
+      let g = if_then (is_zero a.0.0) (Some (tt, a.0.1)) x a.2 in
+      let t = (part_exact n).takes bytes a.0 fits a.1 in
+      let none : a.0.0 ≡ zeros n = zeros_are a.0.0 g.0 ∙ ap zeros t.1 in
+      (subst (λ (y : Unit {0} × List ℕ). Takes bytes (zeros n) y.1) (some_is (tt, a.0.1) x g.1) (subst (λ (z : List ℕ). Takes bytes z a.0.1) none t.0), tt);
+  again = λ v rest fits. rw ((part_exact n).again (zeros n) rest (length-zeros n), is_zero-zeros n) refl;
+}
+
+pub counted_exact : (n : ℕ) → IsExact (counted n)
+counted_exact n = record {
   takes = λ bytes x fits e.
       let a = bind_some (number_at n bytes) (λ y. part_at y.0 y.1) x e in
-      let first = (number_format n).takes bytes a.0 fits a.1 in
-      let second = part_takes a.0.0 a.0.1 x first.0.rest_fits a.2 in
+      let first = (num_exact n).takes bytes a.0 fits a.1 in
+      let second = (part_exact a.0.0).takes a.0.1 x first.0.rest_fits a.2 in
       let both = Takes-then bytes (little n a.0.0) a.0.1 x.0 x.1 first.0 second.0 in
       (subst (λ (k : ℕ). Takes bytes (little n k ++ x.0) x.1) (sym second.1) both, omega (arith, second.1, first.1));
   again = λ v rest fits.
       let regrouped : (little n (length v) ++ v) ++ rest ≡ little n (length v) ++ (v ++ rest) = append_assoc (little n (length v)) v rest in
-      ap (counted_at n) regrouped ∙ rw ((number_format n).again (length v) (v ++ rest) fits) (part_again (length v) v rest refl);
+      ap (counted_at n) regrouped ∙ rw ((num_exact n).again (length v) (v ++ rest) fits) ((part_exact (length v)).again v rest refl);
 }
 
-pub then_format : {A B : Type 0} {p : List ℕ → Option (A × List ℕ)} {s : A → List ℕ} {F : A → Type 0} {q : List ℕ → Option (B × List ℕ)} {t : B → List ℕ} {G : B → Type 0}
-    → IsFormat p s F → IsFormat q t G → IsFormat (then_at p q) (λ v. s v.0 ++ t v.1) (λ v. F v.0 × G v.1)
-then_format {A} {B} {p} {s} {F} {q} {t} {G} first second = record {
+pub then_exact : {A B : Type 0} {f : Format A} {g : Format B} → IsExact f → IsExact g → IsExact (f ▸ g)
+then_exact {A} {B} {f} {g} first second = record {
   takes = λ bytes x fits e.
-      let a = bind_some (p bytes) (λ y. q y.1 >>= λ z. Some ((y.0, z.0), z.1)) x e in
-      let b = bind_some (q a.0.1) (λ z. Some ((a.0.0, z.0), z.1)) x a.2 in
+      let a = bind_some (f.at bytes) (λ y. g.at y.1 >>= λ z. Some ((y.0, z.0), z.1)) x e in
+      let b = bind_some (g.at a.0.1) (λ z. Some ((a.0.0, z.0), z.1)) x a.2 in
       let one = first.takes bytes a.0 fits a.1 in
       let two = second.takes a.0.1 b.0 one.0.rest_fits b.1 in
-      let both = Takes-then bytes (s a.0.0) a.0.1 (t b.0.0) b.0.1 one.0 two.0 in
-      subst (λ (y : (A × B) × List ℕ). Takes bytes (s y.0.0 ++ t y.0.1) y.1 × (F y.0.0 × G y.0.1)) (some_is ((a.0.0, b.0.0), b.0.1) x b.2) (both, (one.1, two.1));
+      let both = Takes-then bytes (f.text a.0.0) a.0.1 (g.text b.0.0) b.0.1 one.0 two.0 in
+      subst (λ (y : (A × B) × List ℕ). Takes bytes (f.text y.0.0 ++ g.text y.0.1) y.1 × (f.Fits y.0.0 × g.Fits y.0.1)) (some_is ((a.0.0, b.0.0), b.0.1) x b.2) (both, (one.1, two.1));
   again = λ v rest fits.
-      let regrouped : (s v.0 ++ t v.1) ++ rest ≡ s v.0 ++ (t v.1 ++ rest) = append_assoc (s v.0) (t v.1) rest in
-      ap (then_at p q) regrouped ∙ rw (first.again v.0 (t v.1 ++ rest) fits.0, second.again v.1 rest fits.1) refl;
+      let regrouped : (f.text v.0 ++ g.text v.1) ++ rest ≡ f.text v.0 ++ (g.text v.1 ++ rest) = append_assoc (f.text v.0) (g.text v.1) rest in
+      ap (then_at f.at g.at) regrouped ∙ rw (first.again v.0 (g.text v.1 ++ rest) fits.0, second.again v.1 rest fits.1) refl;
 }
 
--- all of the bytes are the value that f makes of what was read
-pub record TakesAll {A C : Type 0} (s : A → List ℕ) (F : A → Type 0) (f : A → C) (bytes : List ℕ) (c : C) : Type 0 where
-  pub value : A
-  pub spelled : bytes ≡ s value
-  pub fits : F value
-  pub made : f value ≡ c
+pub padded_exact : (n : ℕ) → n < 256 → IsExact (padded n)
+padded_exact n small = record {
+  takes = λ bytes x fits e.
+      let a = bind_some (ranged_at 1 0 n bytes) (λ x. part_at x.0 x.1 >>= λ y. zeros_at (n - x.0) y.1 >>= λ z. Some (y.0, z.1)) x e in
+      let b = bind_some (part_at a.0.0 a.0.1) (λ y. zeros_at (n - a.0.0) y.1 >>= λ z. Some (y.0, z.1)) x a.2 in
+      let c = bind_some (zeros_at (n - a.0.0) b.0.1) (λ z. Some (b.0.0, z.1)) x b.2 in
+      let one = (ranged_exact 1 0 n (omega arith)).takes bytes a.0 fits a.1 in
+      let two = (part_exact a.0.0).takes a.0.1 b.0 one.0.rest_fits b.1 in
+      let three = (blank_exact (n - a.0.0)).takes b.0.1 c.0 two.0.rest_fits c.1 in
+      let rest = Takes-then a.0.1 b.0.0 b.0.1 (zeros (n - a.0.0)) c.0.1 two.0 three.0 in
+      let all = Takes-then bytes (little 1 a.0.0) a.0.1 (b.0.0 ++ zeros (n - a.0.0)) c.0.1 one.0 rest in
+      subst (λ (y : List ℕ × List ℕ). Takes bytes (little 1 (length y.0) ++ (y.0 ++ zeros (n - length y.0))) y.1 × (length y.0 ≤ n)) (some_is (b.0.0, c.0.1) x c.2)
+      (subst (λ (k : ℕ). Takes bytes (little 1 k ++ (b.0.0 ++ zeros (n - k))) c.0.1) (sym two.1) all, omega (arith, two.1, one.1));
+  again = λ v rest fits.
+      let pad = zeros (n - length v) in
+      let regrouped : (little 1 (length v) ++ (v ++ pad)) ++ rest ≡ little 1 (length v) ++ (v ++ (pad ++ rest)) =
+      append_assoc (little 1 (length v)) (v ++ pad) rest ∙ ap (λ (r : List ℕ). little 1 (length v) ++ r) (append_assoc v pad rest) in
+      ap (padded_at n) regrouped
+      ∙ rw ((ranged_exact 1 0 n (omega arith)).again (length v) (v ++ (pad ++ rest)) (omega arith, fits), (part_exact (length v)).again v (pad ++ rest) refl, (blank_exact (n - length v)).again tt rest tt) refl;
+}
 
-pub all_takes : {A C : Type 0} {p : List ℕ → Option (A × List ℕ)} {s : A → List ℕ} {F : A → Type 0} → IsFormat p s F
-    → (f : A → C) (bytes : List ℕ) (c : C) → IsBytes bytes → (all_of p bytes >>= λ v. Some (f v)) ≡ Some c → TakesAll s F f bytes c
-all_takes {A} {C} {p} {s} {F} format f bytes c fits e =
-    let w = bind_some (all_of p bytes) (λ v. Some (f v)) c e in
-    let a = bind_some (p bytes) (λ x. cond (eqb (length x.1) 0) (Some x.0) None) w.0 w.1 in
-    let g = if_some (eqb (length a.0.1) 0) a.0.0 w.0 a.2 in
-    let one = format.takes bytes a.0 fits a.1 in
+pub whole_takes : {A : Type 0} {f : Format A} → IsExact f → (bytes : List ℕ) (v : A) → IsBytes bytes → all_of f.at bytes ≡ Some v → (bytes ≡ f.text v) × f.Fits v
+whole_takes {A} {f} exact bytes v fits e =
+    let a = bind_some (f.at bytes) (λ x. cond (eqb (length x.1) 0) (Some x.0) None) v e in
+    let g = if_then (eqb (length a.0.1) 0) (Some a.0.0) v a.2 in
+    let one = exact.takes bytes a.0 fits a.1 in
     let nothing : a.0.1 ≡ [] = nil_from_length a.0.1 (eqb-true _ _ g.0) in
-    let whole : bytes ≡ s a.0.0 = one.0.parts ∙ ap (λ (r : List ℕ). s a.0.0 ++ r) nothing ∙ append-nil (s a.0.0) in
-    record { value = a.0.0; spelled = whole; fits = one.1; made = ap f g.1 ∙ some_is (f w.0) c w.2 }
+    let whole : bytes ≡ f.text a.0.0 = one.0.parts ∙ ap (λ (r : List ℕ). f.text a.0.0 ++ r) nothing ∙ append-nil (f.text a.0.0) in
+    subst (λ (y : A). (bytes ≡ f.text y) × f.Fits y) (some_is a.0.0 v g.1) (whole, one.1)
 
-pub all_again : {A C : Type 0} {p : List ℕ → Option (A × List ℕ)} {s : A → List ℕ} {F : A → Type 0} → IsFormat p s F
-    → (f : A → C) (v : A) → F v → (all_of p (s v) >>= λ v. Some (f v)) ≡ Some (f v)
-all_again {A} {C} {p} {s} {F} format f v fits =
-    ap (λ (bytes : List ℕ). all_of p bytes >>= λ v. Some (f v)) (sym (append-nil (s v))) ∙ rw (format.again v [] fits) refl
+pub whole_again : {A : Type 0} {f : Format A} → IsExact f → (v : A) → f.Fits v → all_of f.at (f.text v) ≡ Some v
+whole_again {A} {f} exact v fits =
+    ap (λ (bytes : List ℕ). all_of f.at bytes) (sym (append-nil (f.text v))) ∙ rw (exact.again v [] fits) refl
+
+-- the value that a function makes of what was read
+pub made_again : {A C : Type 0} {f : Format A} → IsExact f → (make : A → C) (v : A) → f.Fits v → (all_of f.at (f.text v) >>= λ v. Some (make v)) ≡ Some (make v)
+made_again exact make v fits = rw (whole_again exact v fits) refl
 
 -- a byte in front
 pub byte_again : (byte : ℕ) (rest : List ℕ) → number_at 1 (byte ∷ rest) ≡ Some (byte, rest)
 unfolding number
 byte_again byte rest =
     let long : ltb (length (byte ∷ rest)) 1 ≡ false = le-ltb _ _ (omega arith) in
-    let same : byte + 256 * number 0 rest ≡ byte = omega arith in
+    let same : byte + 256 * 0 ≡ byte = omega arith in
     rw long (ap (λ (n : ℕ). Some (n, rest)) same)
-
-pub whole_takes : {A : Type 0} {p : List ℕ → Option (A × List ℕ)} {s : A → List ℕ} {F : A → Type 0} → IsFormat p s F → (bytes : List ℕ) (v : A) → IsBytes bytes → all_of p bytes ≡ Some v → (bytes ≡ s v) × F v
-whole_takes {A} {p} {s} {F} format bytes v fits e =
-    let t = all_takes format (λ x. x) bytes v fits (ap (λ (o : Option A). o >>= λ x. Some x) e) in
-    subst (λ (y : A). (bytes ≡ s y) × F y) t.made (t.spelled, t.fits)
-
-pub whole_again : {A : Type 0} {p : List ℕ → Option (A × List ℕ)} {s : A → List ℕ} {F : A → Type 0} → IsFormat p s F → (v : A) → F v → all_of p (s v) ≡ Some v
-whole_again {A} {p} {s} {F} format v fits =
-    let read = bind_some (all_of p (s v)) (λ x. Some x) v (all_again format (λ x. x) v fits) in
-    read.1 ∙ read.2
 
 pub IsBytes-behind : (front bytes : List ℕ) → IsBytes (front ++ bytes) → IsBytes bytes
 IsBytes-behind front bytes fits i = subst (λ (r : List ℕ). get_or r i 0 < 256) (drop_at front bytes (length front) refl) (IsBytes-drop (length front) (front ++ bytes) fits i)

@@ -10,6 +10,7 @@ use Rattle.layout.specs.Limits.{Sizes, AreSizes}
 use Rattle.layout.specs.Pointer.{PointsBelow, words_bytes, words_of}
 use Rattle.layout.specs.Inode.{pointers_used, FitsBody, IsInode}
 use Rattle.std.proofs.lemmas.List.Elements.{All-replicate}
+use Rattle.layout.specs.declared.version.TheConstants.{VERSION}
 use Rattle.layout.specs.Root.{IsRoot}
 use Rattle.layout.specs.Fresh.{made_root, pointer_from, pointers_from, inode_block, made_inode_file, made_inode_map, made_block_map, made_directory, block_map_at, block_map_end}
 use Rattle.layout.specs.declared.inode.Body.TheVariants.{Pointers}
@@ -17,7 +18,7 @@ use Rattle.layout.specs.declared.pointer.Pointer.{Pointer}
 use Rattle.layout.specs.declared.pointer.Pointer.TheVariants.{Hole}
 use Rattle.layout.proofs.WritingLaws.{writes_both, written_to}
 use Rattle.layout.proofs.WordLaws.{words_push}
-use Rattle.layout.proofs.InodeLaws.{length-zeros}
+use Rattle.layout.proofs.Formats.{length-zeros}
 
 pub words_none : (f : ℕ → ℕ) (out : List ℕ) → Writes 0 0 (words_of f 0) out out
 unfolding words_of words_bytes
@@ -94,7 +95,7 @@ inode_block_below s are =
     let map_blocks = cond_le (leb s.inodes 1024) 0 (div_ceil s.inodes 32768) 2 (omega arith) (omega (arith, are.most_inodes)) in
     omega (arith, map_blocks)
 
-inode_file_fits : (s : Sizes) → AreSizes s → IsInode s (made_inode_file s)
+inode_file_fits : (s : Sizes) → AreSizes s → IsInode VERSION s (made_inode_file s)
 inode_file_fits s are =
     let extra = cond_le (leb s.inodes 336) 0 1 1 (omega arith) (omega arith) in
     let large : 128 < 4096 * div_ceil s.inodes 21 = omega (arith, are.least_inodes) in
@@ -156,7 +157,7 @@ block_map_body s are =
     ]
 
 -- the inodes of the inode map, the block map and the root directory are in the grammar
-pub made_inodes_fit : (s : Sizes) → AreSizes s → IsInode s (made_inode_map s) × IsInode s (made_block_map s) × IsInode s made_directory
+pub made_inodes_fit : (s : Sizes) → AreSizes s → IsInode VERSION s (made_inode_map s) × IsInode VERSION s (made_block_map s) × IsInode VERSION s made_directory
 unfolding zeros
 made_inodes_fit s are = (
   record { mode = omega arith; size = omega (arith, are.most_inodes); kind = (refl, refl, refl); body = inode_map_body s are },

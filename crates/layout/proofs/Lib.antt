@@ -5,6 +5,7 @@ pub mod RecordLengths
 pub mod WritingLaws
 pub mod LogLemmas
 pub mod WordLaws
+pub mod MapLaws
 pub mod InodeLaws
 pub mod RootLaws
 pub mod FreshLaws

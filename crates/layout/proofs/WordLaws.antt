@@ -1,11 +1,14 @@
 -- Numbers of four bytes, one behind the other, and pointers.
-use Rattle.std.proofs.Common.{◌≡◌, ℕ, zero, suc, ◌+◌, ◌-◌, ◌*◌, ◌^◌, ◌<◌, ◌≤◌, List, [], ◌∷◌, ◌++◌, length, get_or, take, drop, map, refl, sym, ap, ◌∙◌, append_assoc, arith}
+use Rattle.std.proofs.Common.{◌≡◌, ℕ, zero, suc, ◌+◌, ◌-◌, ◌*◌, ◌^◌, ◌<◌, ◌≤◌, List, [], ◌∷◌, ◌++◌, length, get_or, take, drop, map, inl, inr, refl, sym, ap, ◌∙◌, append_assoc, arith}
 use Rattle.std.specs.List.{AllByRecursion}
 use Rattle.std.specs.Prelude.{All}
-use Rattle.std.proofs.lemmas.List.{length-append, length-drop, length-map, drop_at, drop-drop, same_lists, take-append-drop, take_more, map_push, append-nil}
+use Rattle.std.proofs.lemmas.List.{length-append, length-drop, length-take, length-map, drop-append-le, drop_at, drop-drop, same_lists, take-append-drop, take_more, map_push, append-nil}
 use Rattle.std.proofs.lemmas.List.Elements.{All-head, All-tail}
+use Rattle.std.proofs.lemmas.Bool.{cases_lt}
+use Rattle.byteorder.specs.Numbers.{little_from-append}
 use Rattle.layout.specs.Bytes.{little, number, IsBytes, Writes}
 use Rattle.layout.specs.Pointer.{pointer_number, pointer_of, PointsBelow, words_bytes, words_in, pointers_bytes, pointers_in}
+use Rattle.layout.specs.Maps.{word, indirect_pointer, SetsWord}
 use Rattle.layout.specs.declared.pointer.Pointer.{Pointer}
 use Rattle.layout.specs.declared.pointer.Pointer.TheVariants.{Hole, Block}
 use Rattle.layout.proofs.NumberLaws.{length-little, number-spelled, number-little}
@@ -137,3 +140,52 @@ none_written at out within =
 pub pointers_more : (ps : List Pointer) (i : ℕ) (p : Pointer) → i < length ps → p ≡ get_or ps i p → pointers_bytes (take (i + 1) ps) ≡ pointers_bytes (take i ps) ++ little 4 (pointer_number p)
 pointers_more ps i p lt is =
     ap pointers_bytes (take_more ps i p lt ∙ ap (λ (q : Pointer). take i ps ++ q ∷ []) (sym is)) ∙ pointers_bytes_push (take i ps) p
+
+-- ---- one number among others
+
+-- a number of n bytes is in the first n bytes
+number-append : (n : ℕ) (xs ys : List ℕ) → n ≤ length xs → number n (xs ++ ys) ≡ number n xs
+unfolding number
+number-append n xs ys long = little_from-append n xs ys long
+
+module _ (i x : ℕ) (old new : List ℕ) (fits : x < 2 ^ 32) (w : Writes (4 * i) (4 * i + 4) (little 4 x) old new) where
+  abbrev front : List ℕ
+  front = take (4 * i) old
+
+  abbrev behind : List ℕ
+  behind = drop (4 * i + 4) old
+
+  length-front : length front ≡ 4 * i
+  length-front = omega (arith, length-take (4 * i) old, w.within)
+
+  word_there : word new i ≡ x
+  word_there =
+      ap (λ (l : List ℕ). number 4 (drop (4 * i) l)) w.bytes_are
+      ∙ ap (number 4) (drop_at front (little 4 x ++ behind) (4 * i) length-front) ∙ number-little 4 x behind fits
+
+  word_before : (k : ℕ) → k < i → word new k ≡ word old k
+  word_before k lt =
+      let long : 4 ≤ length (drop (4 * k) front) = omega (arith, length-drop (4 * k) front, length-front) in
+      let both = λ (rest : List ℕ). ap (number 4) (drop-append-le (4 * k) front rest (omega (arith, length-front))) ∙ number-append 4 (drop (4 * k) front) rest long in
+      ap (λ (l : List ℕ). word l k) w.bytes_are ∙ both (little 4 x ++ behind) ∙ sym (ap (λ (l : List ℕ). word l k) (sym (take-append-drop (4 * i) old)) ∙ both (drop (4 * i) old))
+
+  word_behind : (k : ℕ) → i < k → word new k ≡ word old k
+  word_behind k lt =
+      let place : length (front ++ little 4 x) ≡ 4 * i + 4 = omega (arith, length-append front (little 4 x), length-front, length-little 4 x) in
+      let shape : new ≡ (front ++ little 4 x) ++ behind = w.bytes_are ∙ sym (append_assoc front (little 4 x) behind) in
+      let more = 4 * (k - i) - 4 in
+      let at : (l : List ℕ) → drop more (drop (4 * i + 4) l) ≡ drop (4 * k) l = λ l. drop-drop more (4 * i + 4) l ∙ ap (λ (n : ℕ). drop n l) (omega arith) in
+      ap (number 4) (sym (at new) ∙ ap (drop more) (ap (drop (4 * i + 4)) shape ∙ drop_at (front ++ little 4 x) behind (4 * i + 4) place) ∙ at old)
+
+  pub word_set : SetsWord i x old new
+  word_set = record {
+    there = word_there;
+    others = λ k long other. elim (cases_lt k i) [
+      | inl lt ↦ word_before k lt
+      | inr le ↦ word_behind k (omega (arith, other))
+    ];
+  }
+
+-- a pointer that was set
+pub pointer_set : (blocks i : ℕ) (p : Pointer) (old new : List ℕ) → PointsBelow blocks p → SetsWord i (pointer_number p) old new → indirect_pointer new i ≡ p
+pointer_set blocks i p old new fits sets = ap pointer_of sets.there ∙ pointer_of-number blocks p fits

@@ -4,7 +4,7 @@ use Rattle.std.proofs.lemmas.List.{length-append, length-take, length-drop, drop
 use borrow.Rule.Slice.PartMut.{put_mid}
 use Rattle.std.specs.Int.{bytes_low_first}
 use Rattle.layout.specs.Bytes.{little, Writes}
-use Rattle.layout.proofs.NumberLaws.{length-little, little-written}
+use Rattle.layout.proofs.NumberLaws.{length-little}
 
 pub length-written : {from to : ℕ} {bytes old new : List ℕ} → Writes from to bytes old new → length new ≡ length old
 length-written {from} {to} {bytes} {old} {new} w =
@@ -39,8 +39,9 @@ written_to {from} {to} {end} {bytes} {old} {new} e w = subst (λ (k : ℕ). Writ
 -- a number that byteorder wrote there
 pub number_written : (n at x : ℕ) (old buf : List ℕ) → at + n ≤ length old → buf ≡ bytes_low_first 0 n x ++ drop n (take (at + n - at) (drop at old))
     → Writes at (at + n) (little n x) old (put_mid at (at + n - at) old buf)
+unfolding little
 number_written n at x old buf within e =
     let count : at + n - at ≡ n = omega arith in
     let none : drop n (take (at + n - at) (drop at old)) ≡ [] = drop_all n (take (at + n - at) (drop at old)) (omega (arith, length-take (at + n - at) (drop at old))) in
-    let buf-is : buf ≡ little n x = e ∙ rw (little-written n x, none) (append-nil (little n x)) in
-    rw buf-is (mid_written at (at + n) old (little n x) (omega (arith, length-little n x)) within)
+    let buf-is : buf ≡ bytes_low_first 0 n x = e ∙ rw none (append-nil (bytes_low_first 0 n x)) in
+    rw buf-is (mid_written at (at + n) old (bytes_low_first 0 n x) (omega (arith, length-little n x)) within)

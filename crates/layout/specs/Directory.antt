@@ -1,9 +1,11 @@
 -- Directories: blocks of entries.
 use Rattle.std.specs.Prelude.{ℕ, ◌≡◌, ◌≢◌, ◌≤◌, ◌<◌, List, [], ◌∷◌, ◌++◌, length, AllPairs, Option, Some}
-use Rattle.layout.specs.Bytes.{little, zeros}
-use Rattle.layout.specs.Reading.{◌>>=◌, number_at, counted_at, then_at}
+use Rattle.layout.specs.Bytes.{zeros}
+use Rattle.layout.specs.Format.{Format, num, counted, ◌▸◌}
+use Rattle.layout.specs.Reading.{◌>>=◌}
 use Rattle.model.specs.Paths.{IsName}
-use Rattle.layout.specs.Record.{name_bytes}
+use Rattle.layout.specs.declared.TheConstants.{BLOCK_BYTES}
+use Rattle.layout.specs.declared.numbers.TheConstants.{FIRST_NUMBER}
 use Rattle.layout.specs.declared.entry.Entry.{Entry}
 use Rattle.layout.specs.declared.directory.NextEntry.{NextEntry}
 use Rattle.layout.specs.declared.directory.NextEntry.TheVariants as next
@@ -17,12 +19,19 @@ abbrev pub named_of : Entry → Named
 named_of e = record { number = e.number; name = e.name.now }
 
 -- the one spelling of an entry: the number, and the name behind its length
+abbrev pub entry_fields : Format (ℕ × List ℕ)
+entry_fields = num 4 ▸ counted 1
+
 abbrev pub entry_bytes : Named → List ℕ
-entry_bytes e = little 4 e.number ++ name_bytes e.name
+entry_bytes e = entry_fields.text (e.number, e.name)
+
+-- the bytes begin with this entry
+abbrev pub BeginsWith : List ℕ → Named → Type 0
+BeginsWith bytes e = (rest : List ℕ) × (bytes ≡ entry_bytes e ++ rest)
 
 -- an entry of an image of so many inodes: an ordinary number, and a name
 pub record IsEntry (inodes : ℕ) (e : Named) : Type 0 where
-  pub ordinary : 4 ≤ e.number
+  pub ordinary : FIRST_NUMBER ≤ e.number
   pub below : e.number < inodes
   pub name : IsName e.name
 
@@ -34,7 +43,7 @@ HoldsEntries inodes bytes (e ∷ entries) =
 
 -- a block of a directory
 pub record IsDirectoryBlock (inodes : ℕ) (bytes : List ℕ) (entries : List Named) : Type 0 where
-  pub size : length bytes ≡ 4096
+  pub size : length bytes ≡ BLOCK_BYTES
   pub holds : HoldsEntries inodes bytes entries
 
 -- no name stands twice
@@ -49,4 +58,4 @@ NextEntryIs inodes bytes next.Malformed = (entries : List Named) → HoldsEntrie
 
 -- the number and the name that the bytes begin with, before their limits are looked at
 unfoldable pub entry_in : List ℕ → Option Named
-entry_in bytes = then_at (number_at 4) (counted_at 1) bytes >>= λ x. Some (record { number = x.0.0; name = x.0.1 })
+entry_in bytes = entry_fields.at bytes >>= λ x. Some (record { number = x.0.0; name = x.0.1 })

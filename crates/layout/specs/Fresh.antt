@@ -6,6 +6,8 @@ use Rattle.std.specs.Int.{div_ceil}
 use Rattle.std.specs.List.{range_with_len}
 use Rattle.layout.specs.Bytes.{zeros}
 use Rattle.layout.specs.Limits.{Sizes}
+use Rattle.layout.specs.Version.{snapshot_slots}
+use Rattle.layout.specs.declared.version.TheConstants.{VERSION}
 use Rattle.layout.specs.Pointer.{words_of}
 use Rattle.layout.specs.Inode.{inode_bytes}
 use Rattle.layout.specs.declared.kind.Kind.{Kind}
@@ -15,6 +17,7 @@ use Rattle.layout.specs.declared.inode.Body.TheVariants.{Inline, Pointers}
 use Rattle.layout.specs.declared.inode.Inode.{Inode}
 use Rattle.layout.specs.declared.pointer.Pointer.{Pointer}
 use Rattle.layout.specs.declared.pointer.Pointer.TheVariants.{Hole, Block}
+use Rattle.layout.specs.declared.numbers.TheConstants.{FIRST_GENERATION}
 use Rattle.layout.specs.declared.root.Root.{Root}
 
 -- ---- places
@@ -70,7 +73,7 @@ abbrev pub made_directory : Inode
 made_directory = record { kind = Directory; mode = 493; links = 1; size = 0; body = Inline (zeros 128) }
 
 abbrev pub made_root : Sizes → Root
-made_root s = record { generation = 1; geometry = s; inode_file = made_inode_file s; snapshots = replicate 20 Hole }
+made_root s = record { generation = FIRST_GENERATION; geometry = s; inode_file = made_inode_file s; snapshots = replicate (snapshot_slots VERSION) Hole }
 
 -- ---- blocks
 

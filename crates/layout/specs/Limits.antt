@@ -1,5 +1,6 @@
 -- The limits of an image's sizes.
 use Rattle.std.specs.Prelude.{ℕ, ◌≤◌}
+use Rattle.layout.specs.declared.geometry.TheConstants.{LEAST_BLOCKS, MOST_BLOCKS, LEAST_INODES, MOST_INODES, LEAST_HALF, MOST_HALF}
 
 -- the blocks of the disk, the inode numbers, and the bytes of one half of the NVRAM
 pub record Sizes : Type 0 where
@@ -7,10 +8,13 @@ pub record Sizes : Type 0 where
   pub inodes : ℕ
   pub half : ℕ
 
+abbrev pub sizes : ℕ → ℕ → ℕ → Sizes
+sizes blocks inodes half = record { blocks = blocks; inodes = inodes; half = half }
+
 pub record AreSizes (s : Sizes) : Type 0 where
-  pub least_blocks : 64 ≤ s.blocks
-  pub most_blocks : s.blocks ≤ 1048576
-  pub least_inodes : 32 ≤ s.inodes
-  pub most_inodes : s.inodes ≤ 65536
-  pub least_half : 131072 ≤ s.half
-  pub most_half : s.half ≤ 8388608
+  pub least_blocks : LEAST_BLOCKS ≤ s.blocks
+  pub most_blocks : s.blocks ≤ MOST_BLOCKS
+  pub least_inodes : LEAST_INODES ≤ s.inodes
+  pub most_inodes : s.inodes ≤ MOST_INODES
+  pub least_half : LEAST_HALF ≤ s.half
+  pub most_half : s.half ≤ MOST_HALF

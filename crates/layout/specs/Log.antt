@@ -1,12 +1,16 @@
 -- The two halves of the NVRAM, half 0 from byte 0 on and half 1 from byte `half` on. A half is a gate, an epoch in eight
 -- bytes, and records; a record is a gate, its body's length in four bytes, and its body. A gate is 1 where it is open
 -- and 0 where it is closed. Epoch e stands in half e mod 2.
-use Rattle.std.specs.Prelude.{◌≡◌, ◌⊎◌, ℕ, ◌+◌, ◌*◌, ◌%◌, ◌<◌, ◌≤◌, ◌^◌, List, [], ◌∷◌, ◌++◌, length, take, drop}
+use Rattle.std.specs.Prelude.{◌≡◌, ◌⊎◌, ℕ, ◌+◌, ◌*◌, ◌%◌, ◌<◌, ◌^◌, List, [], ◌∷◌, ◌++◌, length, take, drop}
 use Rattle.byteorder.specs.Endian.{little_bytes}
 
 -- half r of an NVRAM, where r is 0 or 1
 abbrev pub half_at : ℕ → ℕ → List ℕ → List ℕ
 half_at half r nvram = take half (drop (half * r) nvram)
+
+-- the half of an epoch
+abbrev pub half_of : ℕ → ℕ → List ℕ → List ℕ
+half_of half epoch nvram = half_at half (epoch % 2) nvram
 
 -- a half that is open for an epoch
 abbrev pub opened : ℕ → List ℕ
@@ -33,19 +37,23 @@ IsOpenFor epoch bytes rest = bytes ≡ opened epoch ++ rest
 abbrev pub IsClosed : List ℕ → Type 0
 IsClosed bytes = (rest : List ℕ) × (bytes ≡ 0 ∷ rest)
 
--- what may stand in the half of this parity over a root of generation g: nothing; an epoch that the root covers, whose
--- records are no matter; or the next epoch
-abbrev pub IsSoundHalf : ℕ → ℕ → List ℕ → Type 0
-IsSoundHalf g parity bytes = IsClosed bytes ⊎ ((epoch : ℕ) × (epoch ≤ g + 1) × (epoch % 2 ≡ parity) × (rest : List ℕ) × IsOpenFor epoch bytes rest)
+-- the half of an epoch isn't open for it: it is closed, or open for an earlier one of its parity, whose records are no
+-- matter
+pub record IsUnopened (epoch : ℕ) (bytes : List ℕ) : Type 0 where
+  pub earlier : IsClosed bytes ⊎ ((e : ℕ) × (e < epoch) × (e % 2 ≡ epoch % 2) × (rest : List ℕ) × IsOpenFor e bytes rest)
+  pub not_open : (rest : List ℕ) → IsOpenFor epoch bytes rest → ⊥
 
--- the records of an epoch that stand in its half: none where the half isn't open for it
+-- the half of an epoch holds these bodies of it, and nothing of a later one
 abbrev pub EpochHolds : ℕ → List ℕ → List (List ℕ) → Type 0
 EpochHolds epoch bytes bodies =
-    ((rest : List ℕ) × IsOpenFor epoch bytes rest × HoldsBodies rest bodies)
-    ⊎ (((rest : List ℕ) → IsOpenFor epoch bytes rest → ⊥) × (bodies ≡ []))
+    ((rest : List ℕ) × IsOpenFor epoch bytes rest × HoldsBodies rest bodies) ⊎ (IsUnopened epoch bytes × (bodies ≡ []))
 
--- The log over a root of generation g holds these bodies, which the root doesn't cover.
+-- The log over a root of generation g holds these bodies, which the root doesn't cover: those of the next epoch, and then
+-- those of the one after it. No later epoch has begun.
 pub record LogHolds (half g : ℕ) (nvram : List ℕ) (bodies : List (List ℕ)) : Type 0 where
   pub size : length nvram ≡ 2 * half
-  pub halves : (r : ℕ) → r < 2 → IsSoundHalf g r (half_at half r nvram)
-  pub next : EpochHolds (g + 1) (half_at half ((g + 1) % 2) nvram) bodies
+  pub first : List (List ℕ)
+  pub second : List (List ℕ)
+  pub in_order : bodies ≡ first ++ second
+  pub first_held : EpochHolds (g + 1) (half_of half (g + 1) nvram) first
+  pub second_held : EpochHolds (g + 2) (half_of half (g + 2) nvram) second

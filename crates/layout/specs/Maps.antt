@@ -1,7 +1,9 @@
 -- The blocks of the inode map and of the block map, and indirect blocks.
-use Rattle.std.specs.Prelude.{ℕ, ◌≡◌, ◌+◌, ◌*◌, ◌/◌, ◌%◌, ◌^◌, ◌<◌, ◌≤◌, List, length, drop, slice_index}
+use Rattle.std.specs.Prelude.{ℕ, Bool, IsTrue, ◌↔◌, ◌≡◌, ◌≢◌, ◌+◌, ◌*◌, ◌/◌, ◌%◌, ◌^◌, ◌<◌, ◌≤◌, List, length, drop, slice_index}
 use Rattle.layout.specs.Bytes.{number}
 use Rattle.layout.specs.Pointer.{PointsBelow, pointer_of}
+use Rattle.layout.specs.declared.TheConstants.{BLOCK_BYTES, BLOCK_POINTERS}
+use Rattle.layout.specs.declared.numbers.TheConstants.{FIRST_NUMBER}
 use Rattle.layout.specs.declared.pointer.Pointer.{Pointer}
 use Rattle.layout.specs.declared.pointer.Pointer.TheVariants.{Hole}
 
@@ -9,28 +11,42 @@ use Rattle.layout.specs.declared.pointer.Pointer.TheVariants.{Hole}
 abbrev pub IsTaken : List ℕ → ℕ → Type 0
 IsTaken bytes n = slice_index bytes (n / 8) / 2 ^ (n % 8) % 2 ≡ 1
 
+-- new is old but for the bit of number n, which says whether it is taken
+pub record SetsTaken (n : ℕ) (taken : Bool) (old new : List ℕ) : Type 0 where
+  pub there : IsTaken new n ↔ IsTrue taken
+  pub others : (k : ℕ) → k ≢ n → IsTaken new k ↔ IsTaken old k
+
 -- Bytes of an inode map of so many inodes, bit i being that of number `first + i`: the numbers 0 to 3 are taken, and none from
 -- `inodes` on. A map of several blocks is one such part after the other.
 pub record IsInodeMap (first inodes : ℕ) (bytes : List ℕ) : Type 0 where
-  pub own : (i : ℕ) → i < 8 * length bytes → first + i < 4 → IsTaken bytes i
+  pub own : (i : ℕ) → i < 8 * length bytes → first + i < FIRST_NUMBER → IsTaken bytes i
   pub past : (i : ℕ) → i < 8 * length bytes → inodes ≤ first + i → IsTaken bytes i → ⊥
+
+-- number i of those of four bytes that stand one behind the other
+abbrev pub word : List ℕ → ℕ → ℕ
+word bytes i = number 4 (drop (4 * i) bytes)
 
 -- entry i of a block of the block map
 abbrev pub map_entry : List ℕ → ℕ → ℕ
-map_entry bytes i = number 4 (drop (4 * i) bytes)
+map_entry bytes i = word bytes i
 
 -- pointer i of an indirect block
 abbrev pub indirect_pointer : List ℕ → ℕ → Pointer
-indirect_pointer bytes i = pointer_of (number 4 (drop (4 * i) bytes))
+indirect_pointer bytes i = pointer_of (word bytes i)
+
+-- new is old but for number i, which is x
+pub record SetsWord (i x : ℕ) (old new : List ℕ) : Type 0 where
+  pub there : word new i ≡ x
+  pub others : (k : ℕ) → 4 * k + 4 ≤ length old → k ≢ i → word new k ≡ word old k
 
 -- the pointers of an indirect block lead to blocks of the disk, and those behind the first `used` are holes
 abbrev pub PointsWithin : ℕ → ℕ → List ℕ → Type 0
 PointsWithin blocks used bytes =
-    (i : ℕ) → i < 1024 → PointsBelow blocks (indirect_pointer bytes i) × (used ≤ i → indirect_pointer bytes i ≡ Hole)
+    (i : ℕ) → i < BLOCK_POINTERS → PointsBelow blocks (indirect_pointer bytes i) × (used ≤ i → indirect_pointer bytes i ≡ Hole)
 
 -- an indirect block over so many blocks of a file: no pointer leads past the disk, those behind the file's end are holes, and
 -- not all are
 pub record IsIndirectBlock (blocks used : ℕ) (bytes : List ℕ) : Type 0 where
-  pub size : length bytes ≡ 4096
+  pub size : length bytes ≡ BLOCK_BYTES
   pub within : PointsWithin blocks used bytes
-  pub some : (i : ℕ) × (i < 1024) × (indirect_pointer bytes i ≡ Hole → ⊥)
+  pub some : (i : ℕ) × (i < BLOCK_POINTERS) × (indirect_pointer bytes i ≡ Hole → ⊥)

@@ -1,28 +1,14 @@
 -- The body of a record of the log.
 use Rattle.std.specs.Prelude.{ℕ, ◌≤◌, ◌<◌, ◌^◌, List, [], ◌∷◌, ◌++◌, length}
-use Rattle.layout.specs.Bytes.{little}
+use Rattle.layout.specs.Format.{Format, num, counted, mode_bits, ◌▸◌}
 use Rattle.model.specs.Paths.{IsName}
+pub use Rattle.model.specs.Records.{Made, file, directory, symbolic_link, Change, create, link, unname, rename, write, cut, change_mode}
 use Rattle.layout.specs.LinkText.{IsLinkText}
+use Rattle.layout.specs.declared.record.TheConstants.{WRITE_BYTES}
 use Rattle.layout.specs.declared.record.NewObject.{NewObject}
 use Rattle.layout.specs.declared.record.NewObject.TheVariants as objects
 use Rattle.layout.specs.declared.record.Record.{Record}
 use Rattle.layout.specs.declared.record.Record.TheVariants as records
-
--- what is made
-pub data Made : Type 0 where
-  file : (mode : ℕ) → Made
-  directory : (mode : ℕ) → Made
-  symbolic_link : (text : List ℕ) → Made
-
--- what a record says
-pub data Change : Type 0 where
-  create : (number parent : ℕ) → (made : Made) → (name : List ℕ) → Change
-  link : (number parent : ℕ) → (name : List ℕ) → Change
-  unname : (parent : ℕ) → (name : List ℕ) → Change
-  rename : (parent : ℕ) → (name : List ℕ) → (new_parent : ℕ) → (new_name : List ℕ) → Change
-  write : (number offset : ℕ) → (bytes : List ℕ) → Change
-  cut : (number size : ℕ) → Change
-  change_mode : (number mode : ℕ) → Change
 
 -- the kind, the mode, and what stands behind the name
 abbrev pub kind_of_made : Made → ℕ
@@ -37,24 +23,46 @@ mode_of_made (symbolic_link text) = 511
 
 -- a name behind its length
 abbrev pub name_bytes : List ℕ → List ℕ
-name_bytes name = little 1 (length name) ++ name
+name_bytes name = (counted 1).text name
 
 abbrev pub text_bytes : Made → List ℕ
 text_bytes (file mode) = []
 text_bytes (directory mode) = []
-text_bytes (symbolic_link text) = little 2 (length text) ++ text
+text_bytes (symbolic_link text) = (counted 2).text text
 
--- the one spelling of each record
+-- The fields behind the op, in their order.
+abbrev pub create_head : Format (ℕ × (ℕ × (ℕ × (ℕ × List ℕ))))
+create_head = num 4 ▸ num 4 ▸ num 1 ▸ mode_bits ▸ counted 1  -- number, parent, kind, mode, name; then the text
+
+abbrev pub link_fields : Format (ℕ × (ℕ × List ℕ))
+link_fields = num 4 ▸ num 4 ▸ counted 1  -- number, parent, name
+
+abbrev pub unname_fields : Format (ℕ × List ℕ)
+unname_fields = num 4 ▸ counted 1  -- parent, name
+
+abbrev pub rename_fields : Format (ℕ × (List ℕ × (ℕ × List ℕ)))
+rename_fields = num 4 ▸ counted 1 ▸ num 4 ▸ counted 1  -- parent, name, new parent, new name
+
+abbrev pub write_fields : Format (ℕ × (ℕ × List ℕ))
+write_fields = num 4 ▸ num 8 ▸ counted 4  -- number, offset, bytes
+
+abbrev pub cut_fields : Format (ℕ × ℕ)
+cut_fields = num 4 ▸ num 8  -- number, size
+
+abbrev pub change_mode_fields : Format (ℕ × ℕ)
+change_mode_fields = num 4 ▸ mode_bits  -- number, mode
+
+-- the one spelling of each record: its op, and its fields
 abbrev pub change_bytes : Change → List ℕ
 change_bytes (create number parent made name) =
-    1 ∷ (little 4 number ++ (little 4 parent ++ (little 1 (kind_of_made made) ++ (little 2 (mode_of_made made) ++ name_bytes name)))) ++ text_bytes made
-change_bytes (link number parent name) = 2 ∷ little 4 number ++ (little 4 parent ++ name_bytes name)
-change_bytes (unname parent name) = 3 ∷ little 4 parent ++ name_bytes name
+    1 ∷ create_head.text (number, (parent, (kind_of_made made, (mode_of_made made, name)))) ++ text_bytes made
+change_bytes (link number parent name) = 2 ∷ link_fields.text (number, (parent, name))
+change_bytes (unname parent name) = 3 ∷ unname_fields.text (parent, name)
 change_bytes (rename parent name new_parent new_name) =
-    4 ∷ little 4 parent ++ (name_bytes name ++ (little 4 new_parent ++ name_bytes new_name))
-change_bytes (write number offset bytes) = 5 ∷ little 4 number ++ (little 8 offset ++ (little 4 (length bytes) ++ bytes))
-change_bytes (cut number size) = 6 ∷ little 4 number ++ little 8 size
-change_bytes (change_mode number mode) = 7 ∷ little 4 number ++ little 2 mode
+    4 ∷ rename_fields.text (parent, (name, (new_parent, new_name)))
+change_bytes (write number offset bytes) = 5 ∷ write_fields.text (number, (offset, bytes))
+change_bytes (cut number size) = 6 ∷ cut_fields.text (number, size)
+change_bytes (change_mode number mode) = 7 ∷ change_mode_fields.text (number, mode)
 
 -- the limits of what a record says
 abbrev pub KeepsMadeLimits : Made → Type 0
@@ -67,19 +75,19 @@ KeepsLimits (create number parent made name) = KeepsMadeLimits made × IsName na
 KeepsLimits (link number parent name) = IsName name
 KeepsLimits (unname parent name) = IsName name
 KeepsLimits (rename parent name new_parent new_name) = IsName name × IsName new_name
-KeepsLimits (write number offset bytes) = (1 ≤ length bytes) × (length bytes ≤ 65536)
+KeepsLimits (write number offset bytes) = (1 ≤ length bytes) × (length bytes ≤ WRITE_BYTES)
 KeepsLimits (cut number size) = Unit {0}
 KeepsLimits (change_mode number mode) = Unit {0}
 
--- each number fits its field
+-- each value fits its field
 abbrev pub FitsFields : Change → Type 0
 FitsFields (create number parent made name) = (number < 2 ^ 32) × (parent < 2 ^ 32) × (mode_of_made made ≤ 4095)
-FitsFields (link number parent name) = (number < 2 ^ 32) × (parent < 2 ^ 32)
-FitsFields (unname parent name) = parent < 2 ^ 32
-FitsFields (rename parent name new_parent new_name) = (parent < 2 ^ 32) × (new_parent < 2 ^ 32)
-FitsFields (write number offset bytes) = (number < 2 ^ 32) × (offset < 2 ^ 64)
-FitsFields (cut number size) = (number < 2 ^ 32) × (size < 2 ^ 64)
-FitsFields (change_mode number mode) = (number < 2 ^ 32) × (mode ≤ 4095)
+FitsFields (link number parent name) = link_fields.Fits (number, (parent, name))
+FitsFields (unname parent name) = unname_fields.Fits (parent, name)
+FitsFields (rename parent name new_parent new_name) = rename_fields.Fits (parent, (name, (new_parent, new_name)))
+FitsFields (write number offset bytes) = write_fields.Fits (number, (offset, bytes))
+FitsFields (cut number size) = cut_fields.Fits (number, size)
+FitsFields (change_mode number mode) = change_mode_fields.Fits (number, mode)
 
 -- what can stand in the log
 pub record IsChange (c : Change) : Type 0 where
@@ -100,3 +108,11 @@ change_of (records.Rename parent name new_parent new_name) = rename parent name.
 change_of (records.Write number offset bytes) = write number offset bytes.now
 change_of (records.Cut number size) = cut number size
 change_of (records.ChangeMode number mode) = change_mode number mode
+
+-- the body of a record: its bytes in the log
+abbrev pub body_of : Record → List ℕ
+body_of change = change_bytes (change_of change)
+
+-- what stands behind the name of what a record makes
+abbrev pub text_of : NewObject → List ℕ
+text_of object = text_bytes (made_of object)

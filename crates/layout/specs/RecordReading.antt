@@ -1,28 +1,25 @@
 -- Reading the body of a record, before its limits are looked at.
-use Rattle.std.specs.Prelude.{ℕ, List, length, Option, Some, None, nat_le, ◌==◌, if◌then◌else◌}
-use Rattle.layout.specs.Reading.{◌>>=◌, number_at, counted_at, then_at, all_of}
-use Rattle.layout.specs.Record.{Made, file, directory, symbolic_link, Change, create, link, unname, rename, write, cut, change_mode}
+use Rattle.std.specs.Prelude.{ℕ, List, length, Option, Some, None, ◌==◌, if◌then◌else◌}
+use Rattle.layout.specs.Reading.{◌>>=◌, number_at, counted_at, all_of}
+use Rattle.layout.specs.Record.{Made, file, directory, symbolic_link, Change, create, link, unname, rename, write, cut, change_mode, create_head, link_fields, unname_fields, rename_fields, write_fields, cut_fields, change_mode_fields}
 
 unfoldable pub link_in : List ℕ → Option Change
-link_in bytes = all_of (then_at (number_at 4) (then_at (number_at 4) (counted_at 1))) bytes >>= λ v. Some (link v.0 v.1.0 v.1.1)
+link_in bytes = all_of link_fields.at bytes >>= λ v. Some (link v.0 v.1.0 v.1.1)
 
 unfoldable pub unname_in : List ℕ → Option Change
-unname_in bytes = all_of (then_at (number_at 4) (counted_at 1)) bytes >>= λ v. Some (unname v.0 v.1)
+unname_in bytes = all_of unname_fields.at bytes >>= λ v. Some (unname v.0 v.1)
 
 unfoldable pub rename_in : List ℕ → Option Change
-rename_in bytes =
-    all_of (then_at (number_at 4) (then_at (counted_at 1) (then_at (number_at 4) (counted_at 1)))) bytes
-    >>= λ v. Some (rename v.0 v.1.0 v.1.1.0 v.1.1.1)
+rename_in bytes = all_of rename_fields.at bytes >>= λ v. Some (rename v.0 v.1.0 v.1.1.0 v.1.1.1)
 
 unfoldable pub write_in : List ℕ → Option Change
-write_in bytes = all_of (then_at (number_at 4) (then_at (number_at 8) (counted_at 4))) bytes >>= λ v. Some (write v.0 v.1.0 v.1.1)
+write_in bytes = all_of write_fields.at bytes >>= λ v. Some (write v.0 v.1.0 v.1.1)
 
 unfoldable pub cut_in : List ℕ → Option Change
-cut_in bytes = all_of (then_at (number_at 4) (number_at 8)) bytes >>= λ v. Some (cut v.0 v.1)
+cut_in bytes = all_of cut_fields.at bytes >>= λ v. Some (cut v.0 v.1)
 
 unfoldable pub change_mode_in : List ℕ → Option Change
-change_mode_in bytes =
-    all_of (then_at (number_at 4) (number_at 2)) bytes >>= λ v. if nat_le v.1 4095 then Some (change_mode v.0 v.1) else None
+change_mode_in bytes = all_of change_mode_fields.at bytes >>= λ v. Some (change_mode v.0 v.1)
 
 -- what is made, of this kind and mode: only a link has more bytes
 unfoldable pub made_in : ℕ → ℕ → List ℕ → Option Made
@@ -34,8 +31,8 @@ made_in kind mode bytes =
 
 unfoldable pub create_in : List ℕ → Option Change
 create_in bytes =
-    then_at (number_at 4) (then_at (number_at 4) (then_at (number_at 1) (then_at (number_at 2) (counted_at 1)))) bytes
-    >>= λ x. (if nat_le x.0.1.1.1.0 4095 then made_in x.0.1.1.0 x.0.1.1.1.0 x.1 else None)
+    create_head.at bytes
+    >>= λ x. made_in x.0.1.1.0 x.0.1.1.1.0 x.1
     >>= λ made. Some (create x.0.0 x.0.1.0 made x.0.1.1.1.1)
 
 unfoldable pub change_in : List ℕ → Option Change

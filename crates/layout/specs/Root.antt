@@ -1,20 +1,56 @@
 -- The root: 512 bytes.
-use Rattle.std.specs.Prelude.{ℕ, ◌≡◌, ◌<◌, ◌≤◌, ◌^◌, List, ◌++◌, length, All, codes}
-use Rattle.layout.specs.Bytes.{little, zeros}
+use Rattle.std.specs.Prelude.{ℕ, ◌≡◌, ◌<◌, ◌≤◌, ◌^◌, ◌-◌, List, ◌++◌, length, All, codes, Some, None, ◌==◌, if◌then◌else◌}
+use Rattle.layout.specs.Bytes.{zeros}
+use Rattle.layout.specs.Format.{Format, ranged, part, blank, ◌▸◌}
+use Rattle.layout.specs.Reading.{◌>>=◌, number_at}
 use Rattle.layout.specs.Limits.{Sizes, AreSizes}
 use Rattle.layout.specs.Pointer.{PointsBelow, pointers_bytes}
 use Rattle.layout.specs.Inode.{IsInode, inode_bytes}
 use Rattle.layout.specs.declared.kind.Kind.TheVariants.{InodeFile}
+use Rattle.layout.specs.Version.{snapshot_slots}
+use Rattle.layout.specs.declared.TheConstants.{INODE_BYTES, ROOT_BYTES}
+use Rattle.layout.specs.declared.geometry.TheConstants.{LEAST_BLOCKS, MOST_BLOCKS, LEAST_INODES, MOST_INODES, LEAST_HALF, MOST_HALF}
+use Rattle.layout.specs.declared.numbers.TheConstants.{FIRST_GENERATION, LAST_GENERATION}
+use Rattle.layout.specs.declared.root.TheConstants.{MAGIC, SNAPSHOTS_BYTES, BEHIND_AT}
+use Rattle.layout.specs.declared.version.TheConstants.{VERSION}
 use Rattle.layout.specs.declared.root.Root.{Root}
 
--- magic, version, generation, blocks, inodes and half
+-- the first eight bytes of a root
+abbrev pub magic : Format (Unit {0})
+magic = record {
+  at = λ bytes. number_at 8 bytes >>= λ x. if x.0 == MAGIC then Some (tt, x.1) else None;
+  text = λ v. codes "WAFLROOT";
+  Fits = λ v. Unit {0};
+}
+
+abbrev pub generation_field : Format ℕ
+generation_field = ranged 8 FIRST_GENERATION LAST_GENERATION
+
+abbrev pub blocks_field : Format ℕ
+blocks_field = ranged 4 LEAST_BLOCKS MOST_BLOCKS
+
+abbrev pub inodes_field : Format ℕ
+inodes_field = ranged 4 LEAST_INODES MOST_INODES
+
+abbrev pub half_field : Format ℕ
+half_field = ranged 4 LEAST_HALF MOST_HALF
+
+abbrev pub root_head : Format (Unit {0} × (ℕ × (ℕ × (ℕ × (ℕ × ℕ)))))
+root_head =
+    magic ▸ ranged 4 VERSION VERSION ▸ generation_field ▸ blocks_field ▸ inodes_field ▸ half_field
+
+-- the head, the inode of the inode file, the pointers to snapshots, and zeros
+abbrev pub root_fields : Format ((Unit {0} × (ℕ × (ℕ × (ℕ × (ℕ × ℕ))))) × (List ℕ × (List ℕ × Unit {0})))
+root_fields = root_head ▸ part INODE_BYTES ▸ part SNAPSHOTS_BYTES ▸ blank (ROOT_BYTES - BEHIND_AT)
+
 unfoldable pub head_bytes : ℕ → Sizes → List ℕ
-head_bytes generation s =
-    codes "WAFLROOT" ++ (little 4 1 ++ (little 8 generation ++ (little 4 s.blocks ++ (little 4 s.inodes ++ little 4 s.half))))
+head_bytes generation s = root_head.text (tt, (VERSION, (generation, (s.blocks, (s.inodes, s.half)))))
 
 -- the one spelling of each root
 abbrev pub root_bytes : Root → List ℕ
-root_bytes r = head_bytes r.generation r.geometry ++ (inode_bytes r.inode_file ++ (pointers_bytes r.snapshots ++ zeros 208))
+root_bytes r =
+    head_bytes r.generation r.geometry
+    ++ (inode_bytes r.inode_file ++ (pointers_bytes r.snapshots ++ zeros (ROOT_BYTES - BEHIND_AT)))
 
 pub record IsHead (generation : ℕ) (s : Sizes) : Type 0 where
   pub first : 1 ≤ generation
@@ -25,6 +61,6 @@ pub record IsHead (generation : ℕ) (s : Sizes) : Type 0 where
 pub record IsRoot (r : Root) : Type 0 where
   pub head : IsHead r.generation r.geometry
   pub kind : r.inode_file.kind ≡ InodeFile
-  pub inode_file : IsInode r.geometry r.inode_file
-  pub slots : length r.snapshots ≡ 20
+  pub inode_file : IsInode VERSION r.geometry r.inode_file
+  pub slots : length r.snapshots ≡ snapshot_slots VERSION
   pub snapshots : All (PointsBelow r.geometry.blocks) r.snapshots

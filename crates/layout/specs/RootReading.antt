@@ -1,12 +1,27 @@
--- The parts of a root, before they are looked at.
-use Rattle.std.specs.Prelude.{ℕ, List, Option}
-use Rattle.layout.specs.Reading.{number_at, part_at, then_at, all_of}
+-- Reading a root, before its limits are looked at.
+use Rattle.std.specs.Prelude.{ℕ, List, Option, Some}
+use Rattle.layout.specs.Reading.{◌>>=◌, all_of}
+use Rattle.layout.specs.Pointer.{pointers_in}
+use Rattle.layout.specs.InodeReading.{inode_in}
+use Rattle.layout.specs.Root.{root_fields}
+use Rattle.layout.specs.Limits.{Sizes, sizes}
+use Rattle.layout.specs.Version.{snapshot_slots}
+use Rattle.layout.specs.declared.version.TheConstants.{VERSION}
+use Rattle.layout.specs.declared.root.Head.{Head}
+use Rattle.layout.specs.declared.root.Root.{Root}
 
--- magic, version, generation, blocks, inodes and half
-unfoldable pub head_in : List ℕ → Option (ℕ × (ℕ × (ℕ × (ℕ × (ℕ × ℕ)))))
-head_in bytes =
-    all_of (then_at (number_at 8) (then_at (number_at 4) (then_at (number_at 8) (then_at (number_at 4) (then_at (number_at 4) (number_at 4)))))) bytes
+-- the values of a head's fields, and its sizes
+abbrev pub head_of : Head → Unit {0} × (ℕ × (ℕ × (ℕ × (ℕ × ℕ))))
+head_of h = (tt, (h.version, (h.generation, (h.blocks, (h.inodes, h.half)))))
 
--- the head, the inode, the pointers and what stands behind them
-unfoldable pub parts_in : List ℕ → Option (List ℕ × (List ℕ × (List ℕ × List ℕ)))
-parts_in bytes = all_of (then_at (part_at 32) (then_at (part_at 192) (then_at (part_at 80) (part_at 208)))) bytes
+abbrev pub sizes_of : Head → Sizes
+sizes_of h = sizes h.blocks h.inodes h.half
+
+unfoldable pub root_in : List ℕ → Option Root
+root_in bytes =
+    all_of root_fields.at bytes >>= λ v. inode_in v.1.0 >>= λ inode. Some (record {
+      generation = v.0.1.1.0;
+      geometry = sizes v.0.1.1.1.0 v.0.1.1.1.1.0 v.0.1.1.1.1.1;
+      inode_file = inode;
+      snapshots = pointers_in (snapshot_slots VERSION) v.1.1.0;
+    })

@@ -1,8 +1,13 @@
 -- The root block of a snapshot: 4,096 bytes.
-use Rattle.std.specs.Prelude.{ℕ, ◌≡◌, ◌-◌, ◌<◌, ◌≤◌, ◌^◌, List, ◌++◌, length, Option}
-use Rattle.layout.specs.Bytes.{little, zeros}
+use Rattle.std.specs.Prelude.{ℕ, ◌≡◌, ◌-◌, ◌<◌, ◌≤◌, ◌^◌, List, length, Option, Some}
+use Rattle.layout.specs.Format.{Format, ranged, part, blank, padded, ◌▸◌}
+use Rattle.layout.specs.Reading.{◌>>=◌, all_of}
 use Rattle.layout.specs.Inode.{IsSomeInode, inode_bytes}
-use Rattle.layout.specs.Reading.{number_at, part_at, then_at, all_of}
+use Rattle.layout.specs.InodeReading.{inode_in}
+use Rattle.layout.specs.declared.TheConstants.{BLOCK_BYTES, INODE_BYTES}
+use Rattle.layout.specs.declared.numbers.TheConstants.{FIRST_GENERATION, LAST_GENERATION}
+use Rattle.layout.specs.declared.snap_root.TheConstants.{NAME_BYTES, BEHIND_AT}
+use Rattle.layout.specs.declared.version.TheConstants.{VERSION}
 use Rattle.layout.specs.declared.inode.Inode.{Inode}
 use Rattle.layout.specs.declared.kind.Kind.TheVariants.{InodeFile}
 use Rattle.layout.specs.declared.snap_root.SnapRoot.{SnapRoot}
@@ -16,22 +21,25 @@ pub record Snapshot : Type 0 where
 abbrev pub snapshot_of : SnapRoot → Snapshot
 snapshot_of r = record { order = r.order; name = r.name.now; inode_file = r.inode_file }
 
--- a name in 63 bytes, with zeros behind it
-abbrev pub padded : List ℕ → List ℕ
-padded name = name ++ zeros (63 - length name)
+-- order, name, the inode of the inode file, and zeros
+abbrev pub snapshot_fields : Format (ℕ × (List ℕ × (List ℕ × Unit {0})))
+snapshot_fields =
+    ranged 8 FIRST_GENERATION LAST_GENERATION ▸ padded NAME_BYTES ▸ part INODE_BYTES ▸ blank (BLOCK_BYTES - BEHIND_AT)
 
--- the one spelling of each: order, the name behind its length, and the inode of the inode file
+-- the one spelling of each
 abbrev pub snapshot_bytes : Snapshot → List ℕ
-snapshot_bytes v = little 8 v.order ++ (little 1 (length v.name) ++ (padded v.name ++ (inode_bytes v.inode_file ++ zeros 3832)))
+snapshot_bytes v = snapshot_fields.text (v.order, (v.name, (inode_bytes v.inode_file, tt)))
 
 pub record IsSnapshot (v : Snapshot) : Type 0 where
   pub first : 1 ≤ v.order
   pub last : v.order < 2 ^ 62
   pub some : 1 ≤ length v.name
-  pub short : length v.name ≤ 63
+  pub short : length v.name ≤ NAME_BYTES
   pub kind : v.inode_file.kind ≡ InodeFile
-  pub inode_file : IsSomeInode v.inode_file
+  pub inode_file : IsSomeInode VERSION v.inode_file
 
--- order, length of the name, the name and what pads it, the inode, and what stands behind it
-unfoldable pub snapshot_parts : List ℕ → Option (ℕ × (ℕ × (List ℕ × (List ℕ × List ℕ))))
-snapshot_parts bytes = all_of (then_at (number_at 8) (then_at (number_at 1) (then_at (part_at 63) (then_at (part_at 192) (part_at 3832))))) bytes
+-- what the bytes spell, before the limits of its name and its inode are looked at
+unfoldable pub snapshot_in : List ℕ → Option Snapshot
+snapshot_in bytes =
+    all_of snapshot_fields.at bytes >>= λ v.
+    inode_in v.1.1.0 >>= λ inode. Some (record { order = v.0; name = v.1.0; inode_file = inode })

@@ -1,9 +1,10 @@
 -- What differs from one version of the layout to the next. Only version 1 is read and written.
 use Rattle.std.specs.Prelude.{ℕ, nat_le, if◌then◌else◌}
+use Rattle.layout.specs.declared.TheConstants.{DIRECT_BYTES, INLINE_BYTES}
 
--- the level of a file of this size: inline, direct or single indirect
+-- The level of a file of this size: inline, direct or single indirect. Versions differ in the greatest size alone.
 abbrev pub level_of : ℕ → ℕ
-level_of size = if nat_le size 128 then 0 else (if nat_le size 65536 then 1 else 2)
+level_of size = if nat_le size INLINE_BYTES then 0 else (if nat_le size DIRECT_BYTES then 1 else 2)
 
 -- the greatest size of a file, in bytes
 abbrev pub greatest_size : ℕ → ℕ

@@ -3,10 +3,12 @@
 ghost use Rattle.std.specs.Prelude.{◌≡◌, ◌≤◌, ◌+◌, ◌++◌, ℕ, List, ◌↔◌, IsTrue, IfSome, IsSomeAnd, length};
 ghost use Rattle.std.specs.Option.{option_map};
 ghost use Rattle.layout.specs.Bytes.{Writes};
-ghost use Rattle.layout.specs.Directory.{IsEntry, Named, entry_bytes, named_of, entry_in};
+ghost use Rattle.layout.specs.Directory.{BeginsWith, IsEntry, Named, entry_bytes, entry_fields, entry_in, named_of};
 
 use crate::InodeNumber;
+use crate::geometry::MOST_INODES;
 use crate::name::is_name;
+use crate::numbers::FIRST_NUMBER;
 use crate::reading::{name_at, u32_at};
 use crate::writing::{put_bytes, put_u8, put_u32};
 
@@ -21,13 +23,15 @@ pub struct Entry<'a> {
 impl<'a> Entry<'a> {
     /// The entry that the bytes begin with; None where they begin with none in an image of any geometry.
     pub fn read(bytes: &'a [u8]) -> Option<Entry<'a>>
-        ensures found { IfSome result (λ e. IsEntry 65536 (named_of e) × ((rest : List ℕ) × (bytes.now ≡ entry_bytes (named_of e) ++ rest))) }
-        ensures only { (e : Named) (rest : List ℕ) → IsEntry 65536 e → bytes.now ≡ entry_bytes e ++ rest → IsSomeAnd result (λ x. named_of x ≡ e) }
+        ensures found { IfSome result (λ e. IsEntry MOST_INODES (named_of e)
+            × BeginsWith bytes.now (named_of e)) }
+        ensures only { (e : Named) → IsEntry MOST_INODES e → BeginsWith bytes.now e
+            → IsSomeAnd result (λ x. named_of x ≡ e) }
     {
         let Some(entry) = read_fields(bytes) else {
             return None;
         };
-        if entry.fits(65_536) {
+        if entry.fits(MOST_INODES) {
             Some(entry)
         } else {
             None
@@ -39,7 +43,7 @@ impl<'a> Entry<'a> {
         ensures { IsTrue result ↔ IsEntry inodes (named_of self.now) }
     {
         let number = self.number.get();
-        4 <= number && number < inodes && is_name(self.name)
+        FIRST_NUMBER <= number && number < inodes && is_name(self.name)
     }
 
     /// Bytes of the entry: five, and the name.
@@ -75,7 +79,7 @@ pub(crate) fn read_fields(bytes: &[u8]) -> Option<Entry<'_>>
 fn write_entry(number: InodeNumber, name: &[u8], out: &mut [u8]) -> usize
     requires fits { length name.now ≤ 255 }
     requires room { 5 + length name.now ≤ length out.old }
-    ensures { Writes 0 result (entry_bytes (record { number = number; name = name.now })) out.old out.new }
+    ensures { Writes 0 result (entry_fields.text (number, name.now)) out.old out.new }
 {
     put_u32(out, 0, number.get());
     put_u8(out, 4, name.len() as u8);

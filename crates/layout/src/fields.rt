@@ -2,7 +2,7 @@
 
 ghost use Rattle.std.specs.Prelude.{◌≡◌, ◌↔◌, IsTrue, length};
 ghost use Rattle.layout.specs.Bytes.{zeros};
-ghost use Rattle.layout.specs.InodeReading.{is_zero};
+ghost use Rattle.layout.specs.Reading.{is_zero};
 
 /// Whether each byte is 0.
 #[tactic(auto, unfolding(crate::specs::Bytes::zeros))]

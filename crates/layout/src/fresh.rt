@@ -7,6 +7,7 @@ ghost use Rattle.layout.specs.Root.{IsRoot};
 ghost use Rattle.layout.specs.Fresh.{block_map_at, block_map_end, entries_bytes, indirect_bytes, inode_block, inodes_bytes, made_block, made_block_map, made_blocks, made_directory, made_entry, made_inode_file, made_inode_map, made_root, map_start_bytes, own_inode, pointer_from, pointers_from, indirect_entry};
 ghost use Rattle.layout.specs.declared.inode.Body.TheVariants.{Inline};
 
+use crate::version::VERSION;
 use crate::writing::{put_byte, put_u32, put_zeros};
 use crate::{
     BLOCK_BYTES, BODY_POINTERS, BlockNumber, Body, Generation, Geometry, INLINE_BYTES, Inode, Kind,
@@ -24,7 +25,9 @@ const ACTIVE_ENTRY: u32 = 1;
 pub fn fresh_root(geometry: Geometry) -> Root
     ensures value { result ≡ made_root geometry }
     ensures grammar { IsRoot result }
-    ensures inodes { IsInode geometry (made_inode_map geometry) × IsInode geometry (made_block_map geometry) × IsInode geometry made_directory }
+    ensures inode_map { IsInode VERSION geometry (made_inode_map geometry) }
+    ensures block_map { IsInode VERSION geometry (made_block_map geometry) }
+    ensures directory { IsInode VERSION geometry made_directory }
 {
     let _ = geometry.blocks();
     Root {

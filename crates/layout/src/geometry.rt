@@ -2,6 +2,19 @@
 
 use std::marker::Model;
 
+/// The fewest blocks of a disk.
+pub const LEAST_BLOCKS: u32 = 64;
+/// The most blocks of a disk.
+pub const MOST_BLOCKS: u32 = 1_048_576;
+/// The fewest inode numbers.
+pub const LEAST_INODES: u32 = 32;
+/// The most inode numbers.
+pub const MOST_INODES: u32 = 65_536;
+/// The fewest bytes of a half of the NVRAM.
+pub const LEAST_HALF: u32 = 131_072;
+/// The most bytes of a half of the NVRAM.
+pub const MOST_HALF: u32 = 8_388_608;
+
 /// The sizes of an image: its blocks, its inodes and the bytes of one half of its NVRAM, each within its limits.
 #[derive(Clone, Copy, Debug, PartialEq, Eq)]
 pub struct Geometry {
@@ -23,18 +36,18 @@ impl Model for Geometry {
 }
 
 ghost use Rattle.std.specs.Prelude.{◌≡◌, ◌*◌, IsSome, IfSome, ◌↔◌};
-ghost use Rattle.layout.specs.Limits.{AreSizes};
+ghost use Rattle.layout.specs.Limits.{AreSizes, sizes};
 
 impl Geometry {
     /// The geometry of these numbers; None where one is out of its limits: `blocks` from 64 to 1,048,576, `inodes` from
     /// 32 to 65,536, `half` from 131,072 to 8,388,608 bytes.
     pub fn new(blocks: u32, inodes: u32, half: u32) -> Option<Geometry>
-        ensures within { IsSome result ↔ AreSizes (record { blocks = blocks; inodes = inodes; half = half }) }
-        ensures value { IfSome result (λ g. g ≡ record { blocks = blocks; inodes = inodes; half = half }) }
+        ensures within { IsSome result ↔ AreSizes (sizes blocks inodes half) }
+        ensures value { IfSome result (λ g. g ≡ sizes blocks inodes half) }
     {
-        let blocks_fit = (64..=1_048_576).contains(&blocks);
-        let inodes_fit = (32..=65_536).contains(&inodes);
-        let half_fits = (131_072..=8_388_608).contains(&half);
+        let blocks_fit = (LEAST_BLOCKS..=MOST_BLOCKS).contains(&blocks);
+        let inodes_fit = (LEAST_INODES..=MOST_INODES).contains(&inodes);
+        let half_fits = (LEAST_HALF..=MOST_HALF).contains(&half);
         if blocks_fit && inodes_fit && half_fits {
             Some(Geometry {
                 blocks,

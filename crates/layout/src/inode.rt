@@ -4,19 +4,23 @@ ghost use Rattle.std.specs.Prelude.{◌≡◌, ◌↔◌, ◌≤◌, ◌+◌, �
 ghost use Rattle.layout.specs.Bytes.{Writes, zeros};
 ghost use Rattle.layout.specs.Pointer.{PointsBelow, pointers_bytes};
 ghost use Rattle.layout.specs.declared.pointer.Pointer.TheVariants.{Hole};
-ghost use Rattle.layout.specs.Inode.{IsInode, IsSomeInode, FitsKind, FitsBody, body_bytes, inode_bytes, pointers_used};
+ghost use Rattle.layout.specs.Inode.{IsInode, IsSomeInode, FitsKind, FitsBody, FitsInline, FitsPointers, body_bytes, inode_bytes, pointers_used};
 ghost use Rattle.layout.specs.Limits.{AreSizes};
 ghost use Rattle.layout.specs.Version.{greatest_size};
-ghost use Rattle.layout.specs.InodeReading.{likely_blocks, likely_inodes, likely_sizes, body_of, inode_of, inode_in};
+ghost use Rattle.layout.specs.InodeReading.{likely_blocks, likely_inodes, likely_sizes, body_in, inode_of, inode_in};
 ghost use Rattle.layout.specs.declared.inode.Inode.{Inode};
 
 use crate::fields::is_zero;
+use crate::geometry::{LEAST_HALF, MOST_BLOCKS, MOST_INODES};
 use crate::pointer::{are_holes, pointers_fit, put_pointers, read_pointers};
-use crate::reading::{part_at, u8_at, u16_at, u32_at, u64_at};
+use crate::reading::{mode_at, part_at, u8_at, u16_at, u32_at, u64_at, zeros_at};
 use crate::version::{VERSION, greatest_size, level_of};
 use crate::writing::{put_bytes, put_u8, put_u16, put_u32, put_u64, put_zeros};
-use crate::{BODY_POINTERS, Geometry, INLINE_BYTES, INODE_BYTES, Kind, Pointer};
+use crate::{BODY_POINTERS, DIRECT_BYTES, Geometry, INLINE_BYTES, INODE_BYTES, Kind, Pointer};
 use model::Mode;
+
+/// The most names of a file.
+pub const MOST_LINKS: u32 = 1000;
 
 /// The bytes of a small object, or where a larger one's blocks are.
 #[derive(Clone, Copy, Debug, PartialEq, Eq)]
@@ -42,8 +46,9 @@ pub struct Inode {
 impl Inode {
     /// The inode that these bytes spell; None where none does, in an image of any geometry.
     pub fn read(bytes: &[u8]) -> Option<Inode>
-        ensures found { IfSome result (λ i. IsSomeInode i × (bytes.now ≡ inode_bytes i)) }
-        ensures only { (i : Inode) → IsSomeInode i → bytes.now ≡ inode_bytes i → result ≡ Some i }
+        ensures found { IfSome result (λ i. IsSomeInode VERSION i × (bytes.now ≡ inode_bytes i)) }
+        ensures only { (i : Inode) → IsSomeInode VERSION i → bytes.now ≡ inode_bytes i
+            → result ≡ Some i }
     {
         let Some(inode) = read_fields(bytes) else {
             return None;
@@ -77,7 +82,7 @@ impl Inode {
 
     /// Whether it is in the grammar of an image of this geometry.
     pub fn fits(&self, geometry: Geometry) -> bool
-        ensures { IsTrue result ↔ IsInode geometry self.now }
+        ensures { IsTrue result ↔ IsInode VERSION geometry self.now }
     {
         let _ = self.mode.bits();
         self.size <= greatest_size(VERSION)
@@ -85,9 +90,9 @@ impl Inode {
             && body_fits(&self.body, geometry.blocks(), self.size)
     }
 
-    // Whether it is in the grammar of an image of some geometry.
-    fn fits_some(&self) -> bool
-        ensures { IsTrue result ↔ IsSomeInode self.now }
+    /// Whether it is in the grammar of an image of some geometry.
+    pub(crate) fn fits_some(&self) -> bool
+        ensures { IsTrue result ↔ IsSomeInode VERSION self.now }
     {
         match likely_geometry(self.kind, self.size) {
             Some(geometry) => self.fits(geometry),
@@ -99,8 +104,9 @@ impl Inode {
 // The geometry of an image that has an inode of this kind and size, if one has: of the one whose map or inode file has this
 // size, and for other files of the greatest.
 fn likely_geometry(kind: Kind, size: u64) -> Option<Geometry>
-    ensures found { IfSome result (λ g. (g ≡ likely_sizes kind size) × (size ≤ greatest_size VERSION) × AreSizes g) }
-    ensures none { IfNone result (size ≤ greatest_size VERSION → AreSizes (likely_sizes kind size) → ⊥) }
+    ensures found { IfSome result (λ g. (g ≡ likely_sizes kind size) × AreSizes g) }
+    ensures none { IfNone result (size ≤ greatest_size VERSION
+        → AreSizes (likely_sizes kind size) → ⊥) }
 {
     if size > greatest_size(VERSION) {
         return None;
@@ -109,7 +115,7 @@ fn likely_geometry(kind: Kind, size: u64) -> Option<Geometry>
     let geometry = Geometry::new(
         likely_blocks(kind, size),
         likely_inodes(kind, size),
-        131_072,
+        LEAST_HALF,
     )?;
     let _ = geometry.blocks();
     Some(geometry)
@@ -120,7 +126,7 @@ fn likely_blocks(kind: Kind, size: u32) -> u32
 {
     match kind {
         Kind::BlockMap => size / 4,
-        _ => 1_048_576,
+        _ => MOST_BLOCKS,
     }
 }
 
@@ -129,47 +135,40 @@ fn likely_inodes(kind: Kind, size: u32) -> u32
     ensures { result ≡ likely_inodes kind size }
 {
     match kind {
-        Kind::InodeFile => (21 * (size / 4096)).min(65_536),
-        Kind::InodeMap => (8 * size).min(65_536),
-        _ => 65_536,
+        Kind::InodeFile => (21 * (size / 4096)).min(MOST_INODES),
+        Kind::InodeMap => (8 * size).min(MOST_INODES),
+        _ => MOST_INODES,
     }
 }
 
+/// The inode that these bytes spell, before its limits are looked at.
 #[tactic(auto, unfolding(crate::specs::InodeReading::inode_in))]
-fn read_fields(bytes: &[u8]) -> Option<Inode>
+pub(crate) fn read_fields(bytes: &[u8]) -> Option<Inode>
     ensures { result ≡ inode_in bytes.now }
 {
     let (kind, bytes) = u16_at(bytes)?;
-    let (mode, bytes) = u16_at(bytes)?;
+    let (mode, bytes) = mode_at(bytes)?;
     let (links, bytes) = u32_at(bytes)?;
     let (size, bytes) = u64_at(bytes)?;
     let (level, bytes) = u8_at(bytes)?;
-    let (behind, bytes) = part_at(bytes, 47)?;
-    let (body, bytes) = part_at(bytes, 128)?;
+    let bytes = zeros_at(bytes, 47)?;
+    let (body, bytes) = part_at(bytes, INLINE_BYTES)?;
     if !bytes.is_empty() {
         return None;
     }
-    made_inode(kind, mode, links, size, level, behind, body)
+    let mode = Mode::new(mode).unwrap();
+    made_inode(kind, mode, links, size, level, body)
 }
 
-// The inode of these fields; `behind` is what stands between the level and the body.
+// The inode of these fields.
 #[tactic(auto, unfolding(crate::specs::InodeReading::inode_of))]
-fn made_inode(
-    kind: u16,
-    mode: u16,
-    links: u32,
-    size: u64,
-    level: u8,
-    behind: &[u8],
-    body: &[u8],
-) -> Option<Inode>
+fn made_inode(kind: u16, mode: Mode, links: u32, size: u64, level: u8, body: &[u8]) -> Option<Inode>
     requires { length body.now ≡ 128 }
-    ensures { result ≡ inode_of kind mode links size level behind.now body.now }
+    ensures { result ≡ inode_of kind mode links size level body.now }
 {
     let kind = Kind::from_code(kind)?;
     let body = read_body(size, body)?;
-    let mode = Mode::new(mode)?;
-    if level == level_of(size) && is_zero(behind) {
+    if level == level_of(size) {
         Some(Inode {
             kind,
             mode,
@@ -182,10 +181,10 @@ fn made_inode(
     }
 }
 
-#[tactic(auto, unfolding(crate::specs::InodeReading::body_of))]
+#[tactic(auto, unfolding(crate::specs::InodeReading::body_in))]
 fn read_body(size: u64, bytes: &[u8]) -> Option<Body>
     requires { length bytes.now ≡ 128 }
-    ensures { result ≡ body_of size bytes.now }
+    ensures { result ≡ body_in size bytes.now }
 {
     if size <= 128 {
         let mut inline = [0; INLINE_BYTES];
@@ -228,7 +227,7 @@ fn put_pointer_body(out: &mut [u8], at: usize, pointers: &[Pointer; BODY_POINTER
 
 // Whether mode, links and size are those of an object of its kind.
 fn kind_fits(inode: &Inode, geometry: Geometry) -> bool
-    ensures { IsTrue result ↔ FitsKind inode.now.kind geometry inode.now.mode inode.now.links inode.now.size }
+    ensures { let i = inode.now in IsTrue result ↔ FitsKind i.kind geometry i.mode i.links i.size }
 {
     let mode = inode.mode.bits();
     let links = inode.links;
@@ -237,7 +236,7 @@ fn kind_fits(inode: &Inode, geometry: Geometry) -> bool
     let blocks = geometry.blocks();
     match inode.kind {
         Kind::Free => mode == 0 && links == 0 && size == 0,
-        Kind::File => links <= 1000,
+        Kind::File => links <= MOST_LINKS,
         Kind::Directory => links == 1 && size % 4096 == 0,
         Kind::Link => mode == 0o777 && links == 1 && 1 <= size && size <= 1023,
         Kind::InodeFile => mode == 0 && links == 1 && size == 4096 * u64::from(inodes.div_ceil(21)),
@@ -258,7 +257,7 @@ fn body_fits(body: &Body, blocks: u32, size: u64) -> bool
 
 // Whether these are the bytes of a file of this size, with zeros behind them.
 fn inline_fits(bytes: &[u8; INLINE_BYTES], size: u64) -> bool
-    ensures { IsTrue result ↔ ((size ≤ 128) × (length bytes.now ≡ 128) × (drop size bytes.now ≡ zeros (128 - size))) }
+    ensures { IsTrue result ↔ FitsInline bytes.now size }
 {
     if size > 128 {
         return false;
@@ -270,7 +269,7 @@ fn inline_fits(bytes: &[u8; INLINE_BYTES], size: u64) -> bool
 
 // Whether these point to the blocks of a file of this size, with holes behind them.
 fn pointer_body_fits(pointers: &[Pointer; BODY_POINTERS], blocks: u32, size: u64) -> bool
-    ensures { IsTrue result ↔ ((128 < size) × (length pointers.now ≡ 16) × All (PointsBelow blocks) pointers.now × All (λ p. p ≡ Hole) (drop (pointers_used size) pointers.now)) }
+    ensures { IsTrue result ↔ FitsPointers pointers.now blocks size }
 {
     if size <= 128 {
         return false;
@@ -295,7 +294,7 @@ fn pointers_used(size: u64) -> u64
     ensures { result ≡ pointers_used size }
 {
     let blocks = size.div_ceil(4096);
-    if size <= 65_536 {
+    if size <= DIRECT_BYTES {
         blocks
     } else {
         blocks.div_ceil(1024)

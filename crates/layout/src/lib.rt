@@ -27,19 +27,27 @@ mod writing;
 pub use directory::{NextEntry, is_directory_block, next_entry};
 pub use entry::Entry;
 pub use fresh::{fresh_block, fresh_blocks, fresh_root};
-pub use geometry::Geometry;
-pub use inode::{Body, Inode};
+pub use geometry::{
+    Geometry, LEAST_BLOCKS, LEAST_HALF, LEAST_INODES, MOST_BLOCKS, MOST_HALF, MOST_INODES,
+};
+pub use inode::{Body, Inode, MOST_LINKS};
 pub use kind::Kind;
 pub use log::{
-    CLOSED, EPOCH_AT, FIRST_GATE, Gate, HEADER_BYTES, HEADER_GATE, Header, OPEN, RECORD_HEAD_BYTES,
-    read_gate,
+    CLOSED, EPOCH_AT, FIRST_GATE, Gate, HEADER_BYTES, HEADER_GATE, Header, LENGTH_BYTES, OPEN,
+    RECORD_HEAD_BYTES, read_gate,
 };
-pub use maps::{indirect_pointer, is_indirect_block, is_inode_map, is_taken, map_entry};
+pub use maps::{
+    indirect_pointer, is_indirect_block, is_inode_map, is_taken, map_entry, set_map_entry,
+    set_pointer,
+};
 pub use name::{is_link_text, is_name};
-pub use numbers::{BlockNumber, Epoch, Generation, InodeNumber};
+pub use numbers::{
+    BlockNumber, Epoch, FIRST_GENERATION, FIRST_NUMBER, Generation, InodeNumber, LAST_GENERATION,
+    ROOT_NUMBER,
+};
 pub use opens::opens_once;
 pub use pointer::Pointer;
-pub use record::{NewObject, Record};
+pub use record::{NewObject, Record, WRITE_BYTES};
 pub use root::Root;
 pub use snap_root::SnapRoot;
 pub use version::{
@@ -50,6 +58,10 @@ pub use version::{
 pub const SECTOR_BYTES: usize = 512;
 /// Bytes of a block: eight sectors.
 pub const BLOCK_BYTES: usize = 4096;
+/// The sector of slot A, which holds a root: the first of block 0.
+pub const SLOT_A: u32 = 0;
+/// The sector of slot B, which holds another one: the first of block 1.
+pub const SLOT_B: u32 = 8;
 /// Bytes of a root: one sector.
 pub const ROOT_BYTES: usize = 512;
 /// Bytes of an inode.
@@ -62,6 +74,5 @@ pub const BODY_POINTERS: usize = 16;
 pub const BLOCK_POINTERS: usize = 1024;
 /// Greatest number of bytes that an inode holds itself.
 pub const INLINE_BYTES: usize = 128;
-
-#[cfg(test)]
-mod tests;
+/// Greatest number of bytes of a file to whose blocks its inode points: sixteen blocks.
+pub const DIRECT_BYTES: u64 = 65_536;

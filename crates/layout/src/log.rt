@@ -25,6 +25,9 @@ pub const FIRST_GATE: u32 = 9;
 /// Bytes of a half's header: its gate and its epoch.
 pub const HEADER_BYTES: usize = 9;
 
+/// Bytes of a record's length, behind its gate.
+pub const LENGTH_BYTES: usize = 4;
+
 /// Bytes of a record's gate and length.
 pub const RECORD_HEAD_BYTES: usize = 5;
 
@@ -88,10 +91,10 @@ fn read_behind(gate: u8, behind: &[u8]) -> Gate<'_>
 fn read_record(behind: &[u8]) -> Gate<'_>
     ensures { GateIs (1 ∷ behind.now) result }
 {
-    if behind.len() < 4 {
+    if behind.len() < LENGTH_BYTES {
         return Gate::Malformed;
     }
-    let (head, behind) = behind.split_at(4);
+    let (head, behind) = behind.split_at(LENGTH_BYTES);
     let length = LittleEndian::read_u32(head) as usize;
     if length > behind.len() {
         return Gate::Malformed;

@@ -1,10 +1,14 @@
 //! What stands in the blocks of the two maps and in indirect blocks.
 
-ghost use Rattle.std.specs.Prelude.{◌≡◌, ◌↔◌, ◌<◌, ◌+◌, ◌*◌, ◌^◌, ℕ, IsTrue, length};
-ghost use Rattle.layout.specs.Maps.{IsIndirectBlock, IsInodeMap, IsTaken, PointsWithin, indirect_pointer, map_entry};
+ghost use Rattle.std.specs.Prelude.{◌≡◌, ◌≢◌, ◌↔◌, ◌<◌, ◌≤◌, ◌+◌, ◌*◌, ◌^◌, ℕ, IsTrue, if◌then◌else◌, length};
+ghost use Rattle.layout.specs.Maps.{IsIndirectBlock, IsInodeMap, IsTaken, PointsWithin, SetsTaken, SetsWord, indirect_pointer, map_entry};
+ghost use Rattle.std.specs.Int.{bit_at};
+ghost use Rattle.layout.specs.Pointer.{PointsBelow, pointer_number};
 ghost use Rattle.layout.specs.declared.pointer.Pointer.TheVariants.{Hole};
 
+use crate::numbers::FIRST_NUMBER;
 use crate::pointer::word_at;
+use crate::writing::put_u32;
 use crate::{BLOCK_BYTES, BLOCK_POINTERS, Pointer};
 
 /// Whether an inode number is taken, in these bytes of an inode map from its beginning on.
@@ -16,6 +20,28 @@ pub fn is_taken(bytes: &[u8], number: u32) -> bool
     (byte >> (number % 8)) % 2 == 1
 }
 
+/// Marks an inode number as taken or as free, in these bytes of an inode map from its beginning on.
+pub fn set_taken(bytes: &mut [u8], number: u32, taken: bool)
+    requires { number < 8 * length bytes.old }
+    ensures { SetsTaken number taken bytes.old bytes.new }
+{
+    let place = (number / 8) as usize;
+    bytes[place] = with_bit(bytes[place], number % 8, taken);
+}
+
+// The byte with this bit set or cleared.
+fn with_bit(byte: u8, bit: u32, set: bool) -> u8
+    requires { bit < 8 }
+    ensures there { bit_at result bit ≡ (if set then 1 else 0) }
+    ensures others { (i : ℕ) → i < 8 → i ≢ bit → bit_at result i ≡ bit_at byte i }
+{
+    if set {
+        byte | 1 << bit
+    } else {
+        byte & !(1 << bit)
+    }
+}
+
 /// Whether these are bytes of an inode map of so many inodes, the first bit being that of number `first`: 0 to 3 are taken,
 /// and none from `inodes` on. A map of several blocks is looked at block by block.
 pub fn is_inode_map(bytes: &[u8], first: u32, inodes: u32) -> bool
@@ -25,7 +51,7 @@ pub fn is_inode_map(bytes: &[u8], first: u32, inodes: u32) -> bool
     for bit in 0..8 * bytes.len() as u32 {
         let number = first + bit;
         let taken = is_taken(bytes, bit);
-        if (number < 4 && !taken) || (inodes <= number && taken) {
+        if (number < FIRST_NUMBER && !taken) || (inodes <= number && taken) {
             return false;
         }
     }
@@ -34,15 +60,43 @@ pub fn is_inode_map(bytes: &[u8], first: u32, inodes: u32) -> bool
 
 /// Entry `index` of a block of the block map: bit 0 the active tree, bits 1 to 20 the snapshots, bit 31 the system's own.
 pub fn map_entry(bytes: &[u8; BLOCK_BYTES], index: u32) -> u32
-    requires { index < 1024 }
+    requires { index < BLOCK_POINTERS }
     ensures { result ≡ map_entry bytes.now index }
 {
     word_at(bytes, index as usize)
 }
 
+/// Gives entry `index` of a block of the block map this value.
+pub fn set_map_entry(bytes: &mut [u8; BLOCK_BYTES], index: u32, entry: u32)
+    requires { index < BLOCK_POINTERS }
+    ensures { SetsWord index entry bytes.old bytes.new }
+{
+    put_word(bytes, index as usize, entry);
+}
+
+/// Gives pointer `index` of an indirect block this value.
+pub fn set_pointer(bytes: &mut [u8; BLOCK_BYTES], index: u32, pointer: Pointer)
+    requires { index < BLOCK_POINTERS }
+    ensures words { SetsWord index (pointer_number pointer) bytes.old bytes.new }
+    ensures there { (blocks : ℕ) → PointsBelow blocks pointer
+        → indirect_pointer bytes.new index ≡ pointer }
+    ensures others { (k : ℕ) → k < BLOCK_POINTERS → k ≢ index
+        → indirect_pointer bytes.new k ≡ indirect_pointer bytes.old k }
+{
+    put_word(bytes, index as usize, pointer.number());
+}
+
+// Writes a number into the four bytes at place `4 * index`.
+fn put_word(bytes: &mut [u8], index: usize, number: u32)
+    requires { 4 * index + 4 ≤ length bytes.old }
+    ensures { SetsWord index number bytes.old bytes.new }
+{
+    put_u32(bytes, 4 * index, number);
+}
+
 /// Pointer `index` of an indirect block.
 pub fn indirect_pointer(bytes: &[u8; BLOCK_BYTES], index: u32) -> Pointer
-    requires { index < 1024 }
+    requires { index < BLOCK_POINTERS }
     ensures { result ≡ indirect_pointer bytes.now index }
 {
     Pointer::from_number(word_at(bytes, index as usize))
@@ -74,7 +128,8 @@ fn points_within(bytes: &[u8; BLOCK_BYTES], blocks: u32, used: u32) -> bool
 
 // Whether a pointer is no hole.
 fn has_block(bytes: &[u8; BLOCK_BYTES]) -> bool
-    ensures { IsTrue result ↔ ((i : ℕ) × (i < 1024) × (indirect_pointer bytes.now i ≡ Hole → ⊥)) }
+    ensures { IsTrue result
+        ↔ ((i : ℕ) × (i < BLOCK_POINTERS) × (indirect_pointer bytes.now i ≡ Hole → ⊥)) }
 {
     for i in 0..BLOCK_POINTERS as u32 {
         if !indirect_pointer(bytes, i).is_hole() {

@@ -4,6 +4,16 @@ ghost use Rattle.std.specs.Prelude.{◌≡◌, ℕ, ◌+◌, ◌≤◌, ◌<◌,
 
 use std::marker::Model;
 
+/// The generation that an image is made with, and the first order of a snapshot.
+pub const FIRST_GENERATION: u64 = 1;
+/// The last generation of a root, and the last order of a snapshot.
+pub const LAST_GENERATION: u64 = (1 << 62) - 1;
+
+/// The number of the root directory.
+pub const ROOT_NUMBER: u32 = 3;
+/// The first number that an object may have; those before it are the file system's own.
+pub const FIRST_NUMBER: u32 = 4;
+
 /// The number of an inode.
 #[derive(Clone, Copy, Debug, PartialEq, Eq, PartialOrd, Ord)]
 pub struct InodeNumber {
@@ -78,14 +88,16 @@ impl Model for Generation {
 
 impl Generation {
     /// The generation that an image is made with.
-    pub const FIRST: Generation = Generation { number: 1 };
+    pub const FIRST: Generation = Generation {
+        number: FIRST_GENERATION,
+    };
 
     /// The generation of this number; None for 0 and from 2^62 on.
     pub fn new(number: u64) -> Option<Generation>
         ensures within { IsSome result ↔ ((1 ≤ number) × (number < 2 ^ 62)) }
         ensures value { IfSome result (λ g. g ≡ number) }
     {
-        if 1 <= number && number < 1 << 62 {
+        if FIRST_GENERATION <= number && number <= LAST_GENERATION {
             Some(Generation { number })
         } else {
             None

@@ -82,7 +82,8 @@ pub(crate) fn read_pointers(bytes: &[u8], out: &mut [Pointer])
 /// Writes the pointers at a place, four bytes each.
 pub(crate) fn put_pointers(out: &mut [u8], at: usize, pointers: &[Pointer])
     requires { at + 4 * length pointers.now ≤ length out.old }
-    ensures { Writes at (at + 4 * length pointers.now) (pointers_bytes pointers.now) out.old out.new }
+    ensures { Writes at (at + 4 * length pointers.now) (pointers_bytes pointers.now)
+        out.old out.new }
 {
     for i in 0..pointers.len() {
         put_u32(out, at + 4 * i, pointers[i].number());

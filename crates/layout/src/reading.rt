@@ -1,9 +1,11 @@
 //! Reading from the front of bytes: a value, and the bytes behind it.
 
-ghost use Rattle.std.specs.Prelude.{◌≡◌, IfSome, length};
+ghost use Rattle.std.specs.Prelude.{◌≡◌, ◌≤◌, IfSome, length};
 ghost use Rattle.std.specs.Option.{option_map};
-ghost use Rattle.layout.specs.Reading.{number_at, part_at, counted_at};
+ghost use Rattle.layout.specs.Reading.{number_at, ranged_at, part_at, zeros_at, counted_at, padded_at};
+ghost use Rattle.layout.specs.Format.{mode_bits};
 
+use crate::fields::is_zero;
 use byteorder::{ByteOrder, LittleEndian};
 
 /// A byte.
@@ -15,6 +17,7 @@ pub(crate) fn u8_at(bytes: &[u8]) -> Option<(u8, &[u8])>
 }
 
 /// A number of 16 bits.
+#[tactic(auto, unfolding(crate::specs::Bytes::number))]
 pub(crate) fn u16_at(bytes: &[u8]) -> Option<(u16, &[u8])>
     ensures { option_map (λ x. (x.0, x.1.now)) result ≡ number_at 2 bytes.now }
 {
@@ -26,6 +29,7 @@ pub(crate) fn u16_at(bytes: &[u8]) -> Option<(u16, &[u8])>
 }
 
 /// A number of 32 bits.
+#[tactic(auto, unfolding(crate::specs::Bytes::number))]
 pub(crate) fn u32_at(bytes: &[u8]) -> Option<(u32, &[u8])>
     ensures { option_map (λ x. (x.0, x.1.now)) result ≡ number_at 4 bytes.now }
 {
@@ -37,6 +41,7 @@ pub(crate) fn u32_at(bytes: &[u8]) -> Option<(u32, &[u8])>
 }
 
 /// A number of 64 bits.
+#[tactic(auto, unfolding(crate::specs::Bytes::number))]
 pub(crate) fn u64_at(bytes: &[u8]) -> Option<(u64, &[u8])>
     ensures { option_map (λ x. (x.0, x.1.now)) result ≡ number_at 8 bytes.now }
 {
@@ -80,4 +85,64 @@ pub(crate) fn contents_at(bytes: &[u8]) -> Option<(&[u8], &[u8])>
 {
     let (length, bytes) = u32_at(bytes)?;
     part_at(bytes, length as usize)
+}
+
+/// A number of 32 bits within limits.
+pub(crate) fn u32_within(bytes: &[u8], least: u32, most: u32) -> Option<(u32, &[u8])>
+    ensures value { option_map (λ x. (x.0, x.1.now)) result ≡ ranged_at 4 least most bytes.now }
+    ensures within { IfSome result (λ x. (least ≤ x.0) × (x.0 ≤ most)) }
+{
+    let (number, bytes) = u32_at(bytes)?;
+    if least <= number && number <= most {
+        Some((number, bytes))
+    } else {
+        None
+    }
+}
+
+/// A number of 64 bits within limits.
+pub(crate) fn u64_within(bytes: &[u8], least: u64, most: u64) -> Option<(u64, &[u8])>
+    ensures value { option_map (λ x. (x.0, x.1.now)) result ≡ ranged_at 8 least most bytes.now }
+    ensures within { IfSome result (λ x. (least ≤ x.0) × (x.0 ≤ most)) }
+{
+    let (number, bytes) = u64_at(bytes)?;
+    if least <= number && number <= most {
+        Some((number, bytes))
+    } else {
+        None
+    }
+}
+
+/// The bits of a mode.
+pub(crate) fn mode_at(bytes: &[u8]) -> Option<(u16, &[u8])>
+    ensures value { option_map (λ x. (x.0, x.1.now)) result ≡ mode_bits.at bytes.now }
+    ensures within { IfSome result (λ x. x.0 ≤ 4095) }
+{
+    let (bits, bytes) = u16_at(bytes)?;
+    if bits <= 4095 {
+        Some((bits, bytes))
+    } else {
+        None
+    }
+}
+
+/// So many bytes that are 0; what stands behind them.
+pub(crate) fn zeros_at(bytes: &[u8], count: usize) -> Option<&[u8]>
+    ensures { option_map (λ rest. (tt, rest.now)) result ≡ zeros_at count bytes.now }
+{
+    let (zeros, bytes) = part_at(bytes, count)?;
+    if is_zero(zeros) { Some(bytes) } else { None }
+}
+
+/// A name of up to 63 bytes: its length in one byte, and its bytes, with zeros behind them to 63.
+pub(crate) fn padded_at(bytes: &[u8]) -> Option<(&[u8], &[u8])>
+    ensures { option_map (λ x. (x.0.now, x.1.now)) result ≡ padded_at 63 bytes.now }
+{
+    let (length, bytes) = u8_at(bytes)?;
+    if length > 63 {
+        return None;
+    }
+    let (name, bytes) = part_at(bytes, length as usize)?;
+    let bytes = zeros_at(bytes, 63 - length as usize)?;
+    Some((name, bytes))
 }

@@ -2,20 +2,21 @@
 
 ghost use Rattle.std.specs.Prelude.{◌≡◌, ◌↔◌, IsTrue, IfSome, IsSomeAnd};
 ghost use Rattle.std.specs.Option.{option_map};
-ghost use Rattle.layout.specs.Record.{Change, IsChange, KeepsLimits, KeepsMadeLimits, change_bytes, change_of, made_of};
+ghost use Rattle.layout.specs.Record.{Change, IsChange, KeepsLimits, KeepsMadeLimits, body_of, change_bytes, change_of, made_of};
 ghost use Rattle.layout.specs.RecordReading.{create_in, link_in, unname_in, rename_in, write_in, cut_in, change_mode_in, made_in, change_in};
 
 use crate::InodeNumber;
 use crate::name::{is_link_text, is_name};
-use crate::reading::{contents_at, name_at, text_at, u8_at, u16_at, u32_at, u64_at};
-use crate::record::{NewObject, Record};
+use crate::reading::{contents_at, mode_at, name_at, text_at, u8_at, u32_at, u64_at};
+use crate::record::{NewObject, Record, WRITE_BYTES};
 use model::Mode;
 
 impl<'a> Record<'a> {
     /// The record whose body these bytes are, all of them; None where no record has this body.
     pub fn read(bytes: &'a [u8]) -> Option<Record<'a>>
-        ensures found { IfSome result (λ r. IsChange (change_of r) × (bytes.now ≡ change_bytes (change_of r))) }
-        ensures only { (c : Change) → IsChange c → bytes.now ≡ change_bytes c → IsSomeAnd result (λ r. change_of r ≡ c) }
+        ensures found { IfSome result (λ r. IsChange (change_of r) × (bytes.now ≡ body_of r)) }
+        ensures only { (c : Change) → IsChange c → bytes.now ≡ change_bytes c
+            → IsSomeAnd result (λ r. change_of r ≡ c) }
     {
         let Some(record) = read_fields(bytes) else {
             return None;
@@ -39,7 +40,7 @@ impl<'a> Record<'a> {
             } => object_keeps_limits(object) && is_name(name),
             Record::Link { name, .. } | Record::Unname { name, .. } => is_name(name),
             Record::Rename { name, new_name, .. } => is_name(name) && is_name(new_name),
-            Record::Write { bytes, .. } => !bytes.is_empty() && bytes.len() <= 65_536,
+            Record::Write { bytes, .. } => !bytes.is_empty() && bytes.len() <= WRITE_BYTES,
             Record::Cut { .. } | Record::ChangeMode { .. } => true,
         }
     }
@@ -78,9 +79,9 @@ fn read_create(bytes: &[u8]) -> Option<Record<'_>>
     let (number, bytes) = u32_at(bytes)?;
     let (parent, bytes) = u32_at(bytes)?;
     let (kind, bytes) = u8_at(bytes)?;
-    let (bits, bytes) = u16_at(bytes)?;
+    let (bits, bytes) = mode_at(bytes)?;
     let (name, bytes) = name_at(bytes)?;
-    let mode = Mode::new(bits)?;
+    let mode = Mode::new(bits).unwrap();
     let Some(object) = read_object(kind, mode, bytes) else {
         return None;
     };
@@ -200,13 +201,12 @@ fn read_change_mode(bytes: &[u8]) -> Option<Record<'_>>
     ensures { option_map change_of result ≡ change_mode_in bytes.now }
 {
     let (number, bytes) = u32_at(bytes)?;
-    let (bits, bytes) = u16_at(bytes)?;
+    let (bits, bytes) = mode_at(bytes)?;
     if !bytes.is_empty() {
         return None;
     }
-    let mode = Mode::new(bits)?;
     Some(Record::ChangeMode {
         number: InodeNumber::new(number),
-        mode,
+        mode: Mode::new(bits).unwrap(),
     })
 }

@@ -3,10 +3,10 @@
 ghost use Rattle.std.specs.Prelude.{◌≡◌, ◌≤◌, ◌+◌, length};
 ghost use Rattle.model.specs.Paths.{IsName};
 ghost use Rattle.layout.specs.Bytes.{Writes, little};
-ghost use Rattle.layout.specs.Record.{KeepsLimits, KeepsMadeLimits, change_bytes, change_of, create, link, unname, rename, write, cut, change_mode, made_of, kind_of_made, mode_of_made, name_bytes, text_bytes};
+ghost use Rattle.layout.specs.Record.{KeepsLimits, KeepsMadeLimits, change_bytes, change_of, create, link, unname, rename, write, cut, change_mode, made_of, kind_of_made, mode_of_made, name_bytes, body_of, text_of};
 
 use crate::InodeNumber;
-use crate::record::{NewObject, Record};
+use crate::record::{NewObject, Record, WRITE_BYTES};
 use crate::writing::{put_byte, put_bytes, put_u8, put_u16, put_u32, put_u64};
 use model::Mode;
 
@@ -14,7 +14,7 @@ impl Record<'_> {
     /// How many bytes its body has.
     pub fn encoded_len(&self) -> usize
         requires { KeepsLimits (change_of self.now) }
-        ensures { result ≡ length (change_bytes (change_of self.now)) }
+        ensures { result ≡ length (body_of self.now) }
     {
         match self {
             Record::Create { object, name, .. } => 13 + count_of(name) + object_len(object),
@@ -30,8 +30,8 @@ impl Record<'_> {
     /// Writes the record's body, and answers how many bytes it has.
     pub fn write(&self, out: &mut [u8]) -> usize
         requires fits { KeepsLimits (change_of self.now) }
-        requires room { length (change_bytes (change_of self.now)) ≤ length out.old }
-        ensures { Writes 0 result (change_bytes (change_of self.now)) out.old out.new }
+        requires room { length (body_of self.now) ≤ length out.old }
+        ensures { Writes 0 result (body_of self.now) out.old out.new }
     {
         match self {
             Record::Create {
@@ -84,7 +84,7 @@ fn kind_and_mode(object: &NewObject<'_>) -> (u8, u16)
 // How many bytes stand behind the name.
 fn object_len(object: &NewObject<'_>) -> usize
     requires { KeepsMadeLimits (made_of object.now) }
-    ensures value { result ≡ length (text_bytes (made_of object.now)) }
+    ensures value { result ≡ length (text_of object.now) }
     ensures short { result ≤ 1025 }
 {
     match *object {
@@ -126,8 +126,9 @@ fn write_create(
 ) -> usize
     requires object { KeepsMadeLimits (made_of object.now) }
     requires name { length name.now ≤ 255 }
-    requires room { 13 + length name.now + length (text_bytes (made_of object.now)) ≤ length out.old }
-    ensures { Writes 0 result (change_bytes (create number parent (made_of object.now) name.now)) out.old out.new }
+    requires room { 13 + length name.now + length (text_of object.now) ≤ length out.old }
+    ensures { let made = made_of object.now in
+        Writes 0 result (change_bytes (create number parent made name.now)) out.old out.new }
 {
     let (kind, mode) = kind_and_mode(object);
     put_byte(out, 0, 1);
@@ -143,8 +144,8 @@ fn write_create(
 // The text of a link behind its length, from a place on, and nothing for the others.
 fn put_text(out: &mut [u8], at: usize, object: &NewObject<'_>)
     requires fits { KeepsMadeLimits (made_of object.now) }
-    requires room { at + length (text_bytes (made_of object.now)) ≤ length out.old }
-    ensures { Writes at (at + length (text_bytes (made_of object.now))) (text_bytes (made_of object.now)) out.old out.new }
+    requires room { at + length (text_of object.now) ≤ length out.old }
+    ensures { Writes at (at + length (text_of object.now)) (text_of object.now) out.old out.new }
 {
     if let NewObject::Link { text } = *object {
         put_u16(out, at, text.len() as u16);
@@ -185,7 +186,8 @@ fn write_rename(
     requires name { length name.now ≤ 255 }
     requires new_name { length new_name.now ≤ 255 }
     requires room { 11 + length name.now + length new_name.now ≤ length out.old }
-    ensures { Writes 0 result (change_bytes (rename parent name.now new_parent new_name.now)) out.old out.new }
+    ensures { let said = rename parent name.now new_parent new_name.now in
+        Writes 0 result (change_bytes said) out.old out.new }
 {
     put_byte(out, 0, 4);
     put_number(out, 1, parent);
@@ -197,7 +199,7 @@ fn write_rename(
 }
 
 fn write_write(number: InodeNumber, offset: u64, bytes: &[u8], out: &mut [u8]) -> usize
-    requires fits { length bytes.now ≤ 65536 }
+    requires fits { length bytes.now ≤ WRITE_BYTES }
     requires room { 17 + length bytes.now ≤ length out.old }
     ensures { Writes 0 result (change_bytes (write number offset bytes.now)) out.old out.new }
 {

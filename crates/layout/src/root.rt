@@ -1,21 +1,25 @@
 //! The root: one sector, from which all else of an image is found.
 
-ghost use Rattle.std.specs.Prelude.{◌≡◌, ◌↔◌, ◌≤◌, ◌+◌, ℕ, All, IsTrue, IfSome, Some, length};
+ghost use Rattle.std.specs.Prelude.{◌≡◌, ◌↔◌, ◌≤◌, ◌+◌, All, IsTrue, IfSome, Some, length};
 ghost use Rattle.std.specs.Option.{option_map};
 ghost use Rattle.layout.specs.Bytes.{Writes};
-ghost use Rattle.layout.specs.Limits.{Sizes};
 ghost use Rattle.layout.specs.Pointer.{PointsBelow, pointers_bytes, pointers_in};
-ghost use Rattle.layout.specs.Root.{IsHead, IsRoot, head_bytes, root_bytes};
+ghost use Rattle.layout.specs.Root.{IsHead, IsRoot, magic, root_head, head_bytes, root_bytes};
 ghost use Rattle.layout.specs.Version.{snapshot_slots};
-ghost use Rattle.layout.specs.RootReading.{head_in, parts_in};
+ghost use Rattle.layout.specs.RootReading.{head_of, root_in, sizes_of};
 ghost use Rattle.layout.specs.declared.root.Root.{Root};
 
-use crate::fields::is_zero;
+use crate::geometry::{
+    LEAST_BLOCKS, LEAST_HALF, LEAST_INODES, MOST_BLOCKS, MOST_HALF, MOST_INODES,
+};
+use crate::numbers::{FIRST_GENERATION, LAST_GENERATION};
 use crate::pointer::{pointers_fit, put_pointers, read_pointers};
-use crate::reading::{part_at, u32_at, u64_at};
+use crate::reading::{part_at, u32_within, u64_at, u64_within, zeros_at};
 use crate::version::VERSION;
 use crate::writing::{put_u32, put_u64, put_zeros};
-use crate::{Generation, Geometry, INODE_BYTES, Inode, Kind, Pointer, ROOT_BYTES, SNAPSHOT_SLOTS};
+use crate::{
+    Generation, Geometry, INODE_BYTES, Inode, Kind, Pointer, ROOT_BYTES, SNAPSHOT_SLOTS, inode,
+};
 
 /// Bytes of the pointers to snapshots, one for each slot.
 const SNAPSHOTS_BYTES: usize = 4 * SNAPSHOT_SLOTS;
@@ -46,23 +50,8 @@ impl Root {
         ensures found { IfSome result (λ r. IsRoot r × (bytes.now ≡ root_bytes r)) }
         ensures only { (r : Root) → IsRoot r → bytes.now ≡ root_bytes r → result ≡ Some r }
     {
-        let Some(parts) = split(bytes) else {
+        let Some(root) = read_fields(bytes) else {
             return None;
-        };
-        let Some(head) = read_head(parts.head) else {
-            return None;
-        };
-        let Some(inode_file) = Inode::read(parts.inode) else {
-            return None;
-        };
-        if !is_zero(parts.behind) {
-            return None;
-        }
-        let root = Root {
-            generation: head.generation,
-            geometry: head.geometry,
-            inode_file,
-            snapshots: read_snapshots(parts.snapshots),
         };
         if root.fits() { Some(root) } else { None }
     }
@@ -92,39 +81,30 @@ impl Root {
     }
 }
 
-// The parts of a root's bytes.
-#[derive(Clone, Copy)]
-struct Parts<'a> {
-    head: &'a [u8],
-    inode: &'a [u8],
-    snapshots: &'a [u8],
-    behind: &'a [u8],
-}
-
-#[tactic(auto, unfolding(crate::specs::RootReading::parts_in))]
-fn split(bytes: &[u8]) -> Option<Parts<'_>>
-    ensures value { option_map (λ p. (p.head.now, (p.inode.now, (p.snapshots.now, p.behind.now)))) result ≡ parts_in bytes.now }
-    ensures lengths { IfSome result (λ p. length p.snapshots.now ≡ SNAPSHOTS_BYTES) }
+// The root that these bytes spell, before its inode and its pointers are looked at.
+#[tactic(auto, unfolding(crate::specs::RootReading::root_in))]
+fn read_fields(bytes: &[u8]) -> Option<Root>
+    ensures { result ≡ root_in bytes.now }
 {
-    let (head, bytes) = part_at(bytes, 32)?;
+    let (head, bytes) = read_head(bytes)?;
     let (inode, bytes) = part_at(bytes, INODE_BYTES)?;
     let (snapshots, bytes) = part_at(bytes, SNAPSHOTS_BYTES)?;
-    let (behind, bytes) = part_at(bytes, ROOT_BYTES - BEHIND_AT)?;
+    let bytes = zeros_at(bytes, ROOT_BYTES - BEHIND_AT)?;
     if !bytes.is_empty() {
         return None;
     }
-    Some(Parts {
-        head,
-        inode,
-        snapshots,
-        behind,
+    let inode_file = inode::read_fields(inode)?;
+    Some(Root {
+        generation: Generation::new(head.generation).unwrap(),
+        geometry: Geometry::new(head.blocks, head.inodes, head.half).unwrap(),
+        inode_file,
+        snapshots: read_snapshots(snapshots),
     })
 }
 
-// The numbers of a root's head.
+// The numbers of a root's head, behind its magic.
 #[derive(Clone, Copy)]
-struct Numbers {
-    magic: u64,
+struct Head {
     version: u32,
     generation: u64,
     blocks: u32,
@@ -132,55 +112,31 @@ struct Numbers {
     half: u32,
 }
 
-#[tactic(auto, unfolding(crate::specs::RootReading::head_in))]
-fn read_numbers(bytes: &[u8]) -> Option<Numbers>
-    ensures { option_map (λ h. (h.magic, (h.version, (h.generation, (h.blocks, (h.inodes, h.half)))))) result ≡ head_in bytes.now }
+fn read_head(bytes: &[u8]) -> Option<(Head, &[u8])>
+    ensures value { option_map (λ x. (head_of x.0, x.1.now)) result ≡ root_head.at bytes.now }
+    ensures within { IfSome result (λ x. IsHead x.0.generation (sizes_of x.0)) }
 {
-    let (magic, bytes) = u64_at(bytes)?;
-    let (version, bytes) = u32_at(bytes)?;
-    let (generation, bytes) = u64_at(bytes)?;
-    let (blocks, bytes) = u32_at(bytes)?;
-    let (inodes, bytes) = u32_at(bytes)?;
-    let (half, bytes) = u32_at(bytes)?;
-    if !bytes.is_empty() {
-        return None;
-    }
-    Some(Numbers {
-        magic,
+    let bytes = magic_at(bytes)?;
+    let (version, bytes) = u32_within(bytes, VERSION, VERSION)?;
+    let (generation, bytes) = u64_within(bytes, FIRST_GENERATION, LAST_GENERATION)?;
+    let (blocks, bytes) = u32_within(bytes, LEAST_BLOCKS, MOST_BLOCKS)?;
+    let (inodes, bytes) = u32_within(bytes, LEAST_INODES, MOST_INODES)?;
+    let (half, bytes) = u32_within(bytes, LEAST_HALF, MOST_HALF)?;
+    let head = Head {
         version,
         generation,
         blocks,
         inodes,
         half,
-    })
+    };
+    Some((head, bytes))
 }
 
-// What a root's head says, once its magic and version are right.
-#[derive(Clone, Copy)]
-struct Head {
-    generation: Generation,
-    geometry: Geometry,
-}
-
-fn read_head(bytes: &[u8]) -> Option<Head>
-    ensures found { IfSome result (λ h. IsHead h.generation h.geometry × (bytes.now ≡ head_bytes h.generation h.geometry)) }
-    ensures only { (generation : ℕ) (s : Sizes) → IsHead generation s → bytes.now ≡ head_bytes generation s → result ≡ Some (record { generation = generation; geometry = s }) }
+fn magic_at(bytes: &[u8]) -> Option<&[u8]>
+    ensures { option_map (λ rest. (tt, rest.now)) result ≡ magic.at bytes.now }
 {
-    let numbers = read_numbers(bytes)?;
-    if numbers.magic != MAGIC || numbers.version != VERSION {
-        return None;
-    }
-    let Some(generation) = Generation::new(numbers.generation) else {
-        return None;
-    };
-    let Some(geometry) = Geometry::new(numbers.blocks, numbers.inodes, numbers.half) else {
-        return None;
-    };
-    let _ = (generation.get(), geometry.blocks());
-    Some(Head {
-        generation,
-        geometry,
-    })
+    let (number, bytes) = u64_at(bytes)?;
+    if number == MAGIC { Some(bytes) } else { None }
 }
 
 fn put_head(out: &mut [u8], generation: Generation, geometry: &Geometry)
@@ -212,7 +168,9 @@ fn put_snapshots(out: &mut [u8], at: usize, snapshots: &[Pointer; SNAPSHOT_SLOTS
 }
 
 fn snapshots_fit(snapshots: &[Pointer; SNAPSHOT_SLOTS], blocks: u32) -> bool
-    ensures { IsTrue result ↔ ((length snapshots.now ≡ snapshot_slots VERSION) × All (PointsBelow blocks) snapshots.now) }
+    ensures { IsTrue result
+        ↔ ((length snapshots.now ≡ snapshot_slots VERSION)
+        × All (PointsBelow blocks) snapshots.now) }
 {
     pointers_fit(snapshots, blocks)
 }

@@ -1,15 +1,24 @@
 //! The root block of a snapshot: its name, and the inode file as it was.
 
-ghost use Rattle.std.specs.Prelude.{◌≡◌, ◌↔◌, ◌≤◌, ◌<◌, ◌^◌, ◌++◌, IsTrue, IfSome, IsSomeAnd, length};
+ghost use Rattle.std.specs.Prelude.{◌≡◌, ◌↔◌, ◌≤◌, IsTrue, IfSome, IsSomeAnd, length};
 ghost use Rattle.std.specs.Option.{option_map};
-ghost use Rattle.layout.specs.Bytes.{Writes, little};
-ghost use Rattle.layout.specs.SnapRoot.{IsSnapshot, Snapshot, padded, snapshot_bytes, snapshot_of, snapshot_parts};
-ghost use Rattle.layout.specs.declared.kind.Kind.TheVariants.{InodeFile};
+ghost use Rattle.layout.specs.Bytes.{Writes};
+ghost use Rattle.layout.specs.Format.{padded};
+ghost use Rattle.layout.specs.SnapRoot.{IsSnapshot, Snapshot, snapshot_bytes, snapshot_in, snapshot_of};
 
-use crate::fields::is_zero;
-use crate::reading::{part_at, u8_at, u64_at};
+use crate::numbers::{FIRST_GENERATION, LAST_GENERATION};
+use crate::reading::{padded_at, part_at, u64_within, zeros_at};
 use crate::writing::{put_bytes, put_u8, put_u64, put_zeros};
-use crate::{BLOCK_BYTES, INODE_BYTES, Inode, Kind};
+use crate::{BLOCK_BYTES, INODE_BYTES, Inode, Kind, inode};
+
+/// The most bytes of a snapshot's name.
+const NAME_BYTES: usize = 63;
+
+/// Where the inode stands, behind the order and the name.
+const INODE_AT: usize = 9 + NAME_BYTES;
+
+/// Where the zeros behind the inode begin, to the block's end.
+const BEHIND_AT: usize = INODE_AT + INODE_BYTES;
 
 /// The root of a snapshot.
 #[derive(Clone, Copy, Debug)]
@@ -25,95 +34,71 @@ pub struct SnapRoot<'a> {
 impl<'a> SnapRoot<'a> {
     /// The root that these bytes spell; None where none does, in an image of any geometry.
     pub fn read(bytes: &'a [u8]) -> Option<SnapRoot<'a>>
-        ensures found { IfSome result (λ r. IsSnapshot (snapshot_of r) × (bytes.now ≡ snapshot_bytes (snapshot_of r))) }
-        ensures only { (v : Snapshot) → IsSnapshot v → bytes.now ≡ snapshot_bytes v → IsSomeAnd result (λ r. snapshot_of r ≡ v) }
+        ensures found { IfSome result (λ r. let v = snapshot_of r in
+            IsSnapshot v × (bytes.now ≡ snapshot_bytes v)) }
+        ensures only { (v : Snapshot) → IsSnapshot v → bytes.now ≡ snapshot_bytes v
+            → IsSomeAnd result (λ r. snapshot_of r ≡ v) }
     {
-        let Some(parts) = split(bytes) else {
+        let Some(root) = read_fields(bytes) else {
             return None;
         };
-        let length = parts.length as usize;
-        if length > 63 {
-            return None;
-        }
-        let (name, padding) = parts.name.split_at(length);
-        if !is_zero(padding) {
-            return None;
-        }
-        if !is_zero(parts.behind) {
-            return None;
-        }
-        let Some(inode_file) = Inode::read(parts.inode) else {
-            return None;
-        };
-        if !keeps_limits(parts.order, name, inode_file.kind) {
-            return None;
-        }
-        Some(SnapRoot {
-            order: parts.order,
-            name,
-            inode_file,
-        })
+        if root.fits() { Some(root) } else { None }
     }
 
     /// Writes the root's 4,096 bytes, and answers how many they are.
     pub fn write(&self, out: &mut [u8]) -> usize
-        requires fits { length self.now.name.now ≤ 63 }
+        requires fits { length self.now.name.now ≤ NAME_BYTES }
         requires room { 4096 ≤ length out.old }
         ensures length { result ≡ 4096 }
         ensures wrote { Writes 0 4096 (snapshot_bytes (snapshot_of self.now)) out.old out.new }
     {
         put_u64(out, 0, self.order);
         put_name(out, self.name);
-        self.inode_file.put(out, 72);
-        put_zeros(out, 264, 3832);
+        self.inode_file.put(out, INODE_AT);
+        put_zeros(out, BEHIND_AT, BLOCK_BYTES - BEHIND_AT);
         BLOCK_BYTES
+    }
+
+    // Whether it is in the grammar of an image of some geometry.
+    fn fits(&self) -> bool
+        ensures { IsTrue result ↔ IsSnapshot (snapshot_of self.now) }
+    {
+        let length = self.name.len();
+        FIRST_GENERATION <= self.order
+            && self.order <= LAST_GENERATION
+            && 1 <= length
+            && length <= NAME_BYTES
+            && self.inode_file.kind == Kind::InodeFile
+            && self.inode_file.fits_some()
     }
 }
 
 fn put_name(out: &mut [u8], name: &[u8])
-    requires fits { length name.now ≤ 63 }
-    requires room { 72 ≤ length out.old }
-    ensures { Writes 8 72 (little 1 (length name.now) ++ padded name.now) out.old out.new }
+    requires fits { length name.now ≤ NAME_BYTES }
+    requires room { INODE_AT ≤ length out.old }
+    ensures { Writes 8 INODE_AT ((padded NAME_BYTES).text name.now) out.old out.new }
 {
     put_u8(out, 8, name.len() as u8);
     put_bytes(out, 9, name);
-    put_zeros(out, 9 + name.len(), 63 - name.len());
+    put_zeros(out, 9 + name.len(), NAME_BYTES - name.len());
 }
 
-fn keeps_limits(order: u64, name: &[u8], kind: Kind) -> bool
-    ensures { IsTrue result ↔ ((1 ≤ order) × (order < 2 ^ 62) × (1 ≤ length name.now) × (length name.now ≤ 63) × (kind ≡ InodeFile)) }
+// The root that these bytes spell, before the limits of its name and its inode are looked at.
+#[tactic(auto, unfolding(crate::specs::SnapRoot::snapshot_in))]
+fn read_fields(bytes: &[u8]) -> Option<SnapRoot<'_>>
+    ensures { option_map snapshot_of result ≡ snapshot_in bytes.now }
 {
-    1 <= order && order < 1 << 62 && !name.is_empty() && name.len() <= 63 && kind == Kind::InodeFile
-}
-
-// The parts of the bytes.
-#[derive(Clone, Copy)]
-struct SnapParts<'a> {
-    order: u64,
-    length: u8,
-    name: &'a [u8],
-    inode: &'a [u8],
-    behind: &'a [u8],
-}
-
-#[tactic(auto, unfolding(crate::specs::SnapRoot::snapshot_parts))]
-fn split(bytes: &[u8]) -> Option<SnapParts<'_>>
-    ensures value { option_map (λ p. (p.order, (p.length, (p.name.now, (p.inode.now, p.behind.now))))) result ≡ snapshot_parts bytes.now }
-    ensures name { IfSome result (λ p. length p.name.now ≡ 63) }
-{
-    let (order, bytes) = u64_at(bytes)?;
-    let (length, bytes) = u8_at(bytes)?;
-    let (name, bytes) = part_at(bytes, 63)?;
+    let (order, bytes) = u64_within(bytes, FIRST_GENERATION, LAST_GENERATION)?;
+    let (name, bytes) = padded_at(bytes)?;
     let (inode, bytes) = part_at(bytes, INODE_BYTES)?;
-    let (behind, bytes) = part_at(bytes, 3832)?;
+    let bytes = zeros_at(bytes, BLOCK_BYTES - BEHIND_AT)?;
     if !bytes.is_empty() {
         return None;
     }
-    Some(SnapParts {
+    let inode_file = inode::read_fields(inode)?;
+    Some(SnapRoot {
         order,
-        length,
         name,
-        inode,
-        behind,
+        inode_file,
     })
 }

@@ -3,6 +3,8 @@
 ghost use Rattle.std.specs.Prelude.{◌≡◌};
 ghost use Rattle.layout.specs.Version.{greatest_level, greatest_size, level_of, snapshot_slots};
 
+use crate::{DIRECT_BYTES, INLINE_BYTES};
+
 /// The version that is read and written.
 pub const VERSION: u32 = 1;
 
@@ -14,9 +16,9 @@ pub const SNAPSHOT_SLOTS: usize = 20;
 pub fn level_of(size: u64) -> u8
     ensures { result ≡ level_of size }
 {
-    if size <= 128 {
+    if size <= INLINE_BYTES as u64 {
         0
-    } else if size <= 65_536 {
+    } else if size <= DIRECT_BYTES {
         1
     } else {
         2

@@ -1,5 +1,26 @@
 mod Examples
+mod RowExamples
+pub mod CountLemmas
+pub mod WalkLemmas
+pub mod NameLemmas
+pub mod ListingLemmas
 pub mod AdditionLemmas
-mod NameLemmas
-pub mod TreeLemmas
-pub mod ReplyLemmas
+pub mod OwnLemmas
+pub mod VolumeLemmas
+pub mod KeptLemmas
+pub mod PutLemmas
+pub mod LinkLemmas
+pub mod SweepLemmas
+pub mod FreshLemmas
+pub mod UnnameLemmas
+pub mod RenameLemmas
+pub mod FindingLemmas
+pub mod ExtendLemmas
+pub mod OnceLemmas
+pub mod MountedLemmas
+pub mod AddLemmas
+pub mod LimitLemmas
+pub mod MoveLemmas
+pub mod RecordLemmas
+pub mod RunLemmas
+pub mod MountLemmas

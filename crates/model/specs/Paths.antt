@@ -1,6 +1,8 @@
 -- Paths, and the texts that name them (POSIX.1-2017, Base Definitions, "Pathname").
-use Rattle.std.specs.Prelude.{ℕ, ◌-◌, ◌≤◌, ◌≢◌, ◌==◌, nat_lt, not, ◌&&◌, ◌||◌, if◌then◌else◌, Bool, List, [], ◌∷◌, length, All, filter, slice_index, slice_index_or, codes, bytes_eq, Option, Some, None}
+use Rattle.std.specs.Prelude.{ℕ, ◌-◌, ◌≤◌, ◌≢◌, ◌==◌, nat_lt, not, ◌&&◌, ◌||◌, if◌then◌else◌, Bool, List, [], ◌∷◌, length, All, filter, slice_index, slice_index_or, codes, bytes_eq, Option, Some, None, is_some}
+use Rattle.std.specs.Cmp.Lexicographic.{pointwise}
 use Rattle.std.specs.List.{slice_split, list_any}
+use Rattle.model.specs.declared.limits.TheConstants.{NAME_BYTES, PATH_BYTES}
 use Rattle.model.specs.declared.errno.Errno.{Errno}
 use Rattle.model.specs.declared.errno.Errno.TheVariants.{ENOENT, EINVAL, ENAMETOOLONG}
 
@@ -27,10 +29,16 @@ is_empty xs = length xs == 0
 -- a name that a file may have: 1 to 255 bytes, none of them zero or a slash (47), and not `.` (46) or `..`
 pub record IsName (name : Name) : Type 0 where
   pub some : 1 ≤ length name
-  pub short : length name ≤ 255
+  pub short : length name ≤ NAME_BYTES
   pub plain : All (λ byte. (byte ≢ 0) × (byte ≢ 47)) name
   pub here : name ≢ 46 ∷ []
   pub above : name ≢ 46 ∷ 46 ∷ []
+
+-- what a symbolic link may hold: 1 to 1,023 bytes, none of them zero
+pub record IsLinkText (text : List ℕ) : Type 0 where
+  pub some : 1 ≤ length text
+  pub short : length text ≤ PATH_BYTES
+  pub plain : All (λ byte. byte ≢ 0) text
 
 -- the parts of a text: what stands between its slashes. Runs of slashes count as one
 abbrev pub parts : List ℕ → List Name
@@ -43,7 +51,7 @@ abbrev pub ends_with_slash : List ℕ → Bool
 ends_with_slash text = is_slash (slice_index text (length text - 1))
 
 abbrev pub is_too_long : Name → Bool
-is_too_long part = nat_lt 255 (length part)
+is_too_long part = nat_lt NAME_BYTES (length part)
 
 abbrev pub last_part : List ℕ → Name
 last_part text = slice_index_or (parts text) (length (parts text) - 1) []
@@ -62,7 +70,7 @@ abbrev pub text_tests_then : Tests → List ℕ → Tests
 text_tests_then more text =
     (is_empty text, ENOENT)
     ∷ (list_any (λ byte. byte == 0) text, EINVAL)
-    ∷ (nat_lt 1023 (length text), ENAMETOOLONG)
+    ∷ (nat_lt PATH_BYTES (length text), ENAMETOOLONG)
     ∷ (not (starts_with_slash text), EINVAL)
     ∷ (ends_with_slash text && nat_lt 1 (length text), EINVAL)
     ∷ (list_any is_too_long (parts text), ENAMETOOLONG)
@@ -75,3 +83,20 @@ text_tests = text_tests_then []
 -- a text that names something to be made or taken away: its last part is a name
 abbrev pub new_text_tests : List ℕ → Tests
 new_text_tests text = text_tests_then ((is_dot (last_part text) || is_dot_dot (last_part text), EINVAL) ∷ []) text
+
+-- the path `/` alone, as a text that passed its tests
+abbrev pub is_root_text : List ℕ → Bool
+is_root_text text = bytes_eq text (codes "/")
+
+-- what stands behind `front` in a path that begins with it
+abbrev pub behind : Path → Path → Option Path
+behind [] p = Some p
+behind (x ∷ front) [] = None
+behind (x ∷ front) (y ∷ p) = if bytes_eq x y then behind front p else None
+
+-- one path begins with another, or is it
+abbrev pub begins_with : Path → Path → Bool
+begins_with p front = is_some (behind front p)
+
+abbrev pub path_eq : Path → Path → Bool
+path_eq = pointwise bytes_eq

@@ -1,7 +1,8 @@
 -- The tree of a file system: what stands at each path, and what each file holds.
-use Rattle.std.specs.Prelude.{ℕ, ◌≡◌, ◌≢◌, ◌⊎◌, ◌↔◌, ◌≤◌, ◌==◌, if◌then◌else◌, Bool, true, false, IsTrue, IsSome, List, [], ◌++◌, All, Option, Some, None, bytes_eq, IfSome}
-use Rattle.std.specs.Cmp.Lexicographic.{pointwise}
-use Rattle.model.specs.Paths.{Path, IsName}
+use Rattle.std.specs.Prelude.{ℕ, ◌≡◌, ◌≢◌, ◌⊎◌, ◌↔◌, ◌≤◌, ◌<◌, ◌==◌, if◌then◌else◌, Bool, true, false, IsTrue, IsSome, List, [], ◌∷◌, ◌++◌, length, All, Option, Some, None, IfSome}
+use Rattle.model.specs.declared.limits.TheConstants.{ROOT_NUMBER, FIRST_NUMBER, MODE_BITS, GREATEST_FILE, GREATEST_OFFSET, OPEN_FILES, FILE_NAMES, DIRECTORY_NAMES}
+use Rattle.model.specs.Counting.{CountsUpTo}
+use Rattle.model.specs.Paths.{Path, IsName, IsLinkText, path_eq}
 
 -- what can stand at a path, with its inode number
 pub data Object : Type 0 where
@@ -45,35 +46,35 @@ HasPath t n = (p : Path) × (o : Object) × (t.objects p ≡ Some o) × (number 
 abbrev pub IsOpen : Tree → ℕ → Type 0
 IsOpen t n = (d : ℕ) × (f : Description) × (t.descriptors d ≡ Some f) × (f.number ≡ n)
 
--- what makes the four maps a tree
-pub record IsTree (t : Tree) : Type 0 where
-  pub root : t.objects [] ≡ Some (directory 3)
+-- the number stands at a path or in a descriptor
+abbrev pub IsUsed : Tree → ℕ → Type 0
+IsUsed t n = HasPath t n ⊎ IsOpen t n
+
+-- what makes the four maps a tree of so many inodes
+pub record IsTree (inodes : ℕ) (t : Tree) : Type 0 where
+  pub root : t.objects [] ≡ Some (directory ROOT_NUMBER)
   pub above : (p q : Path) → q ≢ [] → IsSome (t.objects (p ++ q)) → IsTrue (is_directory (t.objects p))
   pub names : (p : Path) → IsSome (t.objects p) → All IsName p
   -- only a file may stand at several paths
   pub single : (p q : Path) (o r : Object) → t.objects p ≡ Some o → t.objects q ≡ Some r → number o ≡ number r → (p ≡ q) ⊎ ((o ≡ file (number o)) × (r ≡ o))
   pub bytes : (n : ℕ) → IsSome (t.bytes n) ↔ (Stands t file n ⊎ IsOpen t n)
   pub mode : (n : ℕ) → IsSome (t.mode n) ↔ (Stands t directory n ⊎ Stands t file n ⊎ IsOpen t n)
-  pub bits : (n : ℕ) → IfSome (t.mode n) (λ mode. mode ≤ 4095)
-  pub table : (d : ℕ) → 32 ≤ d → t.descriptors d ≡ None
   pub opened : (n : ℕ) (p : Path) (o : Object) → IsOpen t n → t.objects p ≡ Some o → number o ≡ n → o ≡ file n
-
-abbrev pub path_eq : Path → Path → Bool
-path_eq = pointwise bytes_eq
-
--- the tree with an object at a path
-abbrev pub with_object : Path → Object → Tree → Tree
-with_object p o t = record t { objects = λ q. if path_eq q p then Some o else t.objects q }
-
--- the tree with a directory of this number and mode at a path
-abbrev pub with_directory : Path → ℕ → ℕ → Tree → Tree
-with_directory p n mode t = record (with_object p (directory n) t) { mode = λ k. if k == n then Some mode else t.mode k }
+  -- and the limits
+  pub numbers : (n : ℕ) → IsUsed t n → (n ≡ ROOT_NUMBER) ⊎ ((FIRST_NUMBER ≤ n) × (n < inodes))
+  pub texts : (p : Path) (n : ℕ) (text : List ℕ) → t.objects p ≡ Some (symlink n text) → IsLinkText text
+  pub children : (p : Path) → IsTrue (is_directory (t.objects p)) → CountsUpTo DIRECTORY_NAMES (λ name. IsSome (t.objects (p ++ name ∷ [])))
+  pub links : (n : ℕ) → CountsUpTo FILE_NAMES (λ p. t.objects p ≡ Some (file n))
+  pub sizes : (n : ℕ) → IfSome (t.bytes n) (λ bytes. length bytes ≤ GREATEST_FILE)
+  pub bits : (n : ℕ) → IfSome (t.mode n) (λ mode. mode ≤ MODE_BITS)
+  pub table : (d : ℕ) → OPEN_FILES ≤ d → t.descriptors d ≡ None
+  pub offsets : (d : ℕ) (f : Description) → t.descriptors d ≡ Some f → f.offset ≤ GREATEST_OFFSET
 
 -- the tree of a root directory alone
 abbrev pub root_alone : ℕ → Tree
 root_alone mode = record {
-  objects = λ p. if path_eq p [] then Some (directory 3) else None;
+  objects = λ p. if path_eq p [] then Some (directory ROOT_NUMBER) else None;
   bytes = λ n. None;
-  mode = λ n. if n == 3 then Some mode else None;
+  mode = λ n. if n == ROOT_NUMBER then Some mode else None;
   descriptors = λ d. None;
 }

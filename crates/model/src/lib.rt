@@ -3,12 +3,26 @@
 
 mod command;
 mod errno;
+mod laws;
+mod limits;
 mod mode;
 mod reply;
 mod text;
 
-pub use command::{Command, PathCall};
+pub use command::{Access, Command, Flags, PathCall, Whence};
 pub use errno::Errno;
+pub use laws::{
+    commands_have_one_outcome, commands_refuse_by_their_own, mounts_find_volumes,
+    mounts_forget_open_files, numbers_tell_what_lies_below, records_change_trees,
+    records_keep_volumes, refusals_change_nothing, replays_cost_the_same, replays_end_same,
+    replays_follow, replays_keep_volumes, resolution_is_by_numbers, sweeps_keep_volumes,
+    trails_tell_what_lies_below, volumes_are_trees, volumes_tell_fresh_numbers, volumes_tell_links,
+};
+pub use limits::{
+    DIRECTORY_NAMES, FILE_NAMES, FIRST_NUMBER, GREATEST_FILE, GREATEST_OFFSET, LINKS_FOLLOWED,
+    MODE_BITS, NAME_BYTES, OPEN_FILES, PATH_BYTES, ROOT_NUMBER, SNAPSHOT_NAME_BYTES, SNAPSHOTS,
+    TRANSFER_BYTES,
+};
 pub use mode::Mode;
-pub use reply::Reply;
+pub use reply::{Kind, Reply, Stat};
 pub use text::{Names, Text};

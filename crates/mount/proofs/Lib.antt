@@ -8,4 +8,5 @@ mod RefusalLemmas
 mod MountLemmas
 mod SystemLemmas
 mod ApplyLemmas
+mod SpanLemmas
 mod RunLemmas

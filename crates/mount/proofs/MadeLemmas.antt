@@ -1,5 +1,5 @@
 -- A new image opens to an empty state.
-use Rattle.std.proofs.Common.{◌≡◌, inl, inr, ℕ, ◌+◌, ◌*◌, List, [], ◌∷◌, length, refl, ap, sym, ◌∙◌, subst, arith}
+use Rattle.std.proofs.Common.{◌≡◌, inl, inr, ℕ, ◌+◌, ◌*◌, ◌<◌, List, [], ◌∷◌, length, refl, ap, sym, ◌∙◌, subst, arith}
 use Rattle.std.specs.Prelude.{replicate, slice_index}
 use Rattle.station.specs.Images.{Images}
 use Rattle.model.specs.Trees.{root_alone}
@@ -8,8 +8,8 @@ use Rattle.model.proofs.AdditionLemmas.{root_is_tree, forgets_itself}
 use Rattle.layout.specs.Limits.{Sizes}
 use Rattle.layout.specs.Root.{root_bytes, head_bytes}
 use Rattle.layout.specs.Fresh.{made_root}
-use Rattle.layout.specs.Log.{LogHolds, IsOpenFor, IsClosed, half_at}
-use Rattle.layout.specs.Opens.{Opens, HoldsNewImage, HoldsMadeBlocks}
+use Rattle.layout.specs.Log.{LogHolds, IsUnopened, IsOpenFor, IsClosed, half_at}
+use Rattle.layout.specs.Opens.{Opens, HoldsTree, HoldsMadeBlocks}
 use Rattle.layout.specs.declared.root.Root.{Root}
 use Rattle.mount.specs.Making.{HasClosedHalves, HasSlots, HoldsMade}
 
@@ -31,28 +31,34 @@ slots_over s old c blocks closed slots = record {
 }
 
 module _ (s : Sizes) (c : Images) (size : length c.nvram ≡ 2 * s.half) (holds : HoldsMade s c) where
-  image : HoldsNewImage (8 * s.blocks) c.disk (made_root s)
-  image = record {
-    newest = inl (holds.first, λ other it. zeros_no_root other (sym holds.second ∙ it.spelled));
-    size = refl;
-    made = refl;
-    blocks = holds.blocks;
+  tree : HoldsTree (8 * s.blocks) c.disk (made_root s) (root_alone 0o755)
+  tree = record { size = refl; made = refl; blocks = holds.blocks; tree_is = refl }
+
+  unopened : (epoch r : ℕ) → r < 2 → IsUnopened epoch (half_at s.half r c.nvram)
+  unopened epoch r low = record {
+    earlier = inl (holds.halves r low);
+    not_open = λ rest is. closed_not_open epoch (half_at s.half r c.nvram) rest (holds.halves r low) is;
   }
 
   log : LogHolds s.half 1 c.nvram []
   log = record {
     size = size;
-    halves = λ r low. inl (holds.halves r low);
-    next = inr ((λ rest is. closed_not_open 2 (half_at s.half 0 c.nvram) rest (holds.halves 0 (omega arith)) is), refl);
+    first = [];
+    second = [];
+    in_order = refl;
+    first_held = inr (unopened 2 0 (omega arith), refl);
+    second_held = inr (unopened 3 1 (omega arith), refl);
   }
 
   pub made_opens : Opens (8 * s.blocks) c.disk c.nvram (empty s.inodes)
   made_opens = record {
     root = made_root s;
-    image = image;
+    newest = inl (holds.first, λ other it. zeros_no_root other (sym holds.second ∙ it.spelled));
+    first = root_alone 0o755;
+    holds = tree;
     bodies = [];
     log = log;
     tree = root_alone 0o755;
     replays = refl;
-    state = record { tree = forgets_itself (root_alone 0o755) root_is_tree refl; rest = refl };
+    state = record { tree = forgets_itself s.inodes (root_alone 0o755) (root_is_tree s.inodes) refl; rest = refl };
   }

@@ -1,31 +1,36 @@
 -- What a mount found is what every cut leaves from then on.
-use Rattle.std.proofs.Common.{◌≡◌, [], sym, subst, ◌∙◌}
+use Rattle.std.proofs.Common.{◌≡◌, [], sym, subst, refl}
 use Rattle.station.specs.Images.{Images, Unchanged}
-use Rattle.station.specs.Moments.{Meaning, MayLeave, Goes}
-use Rattle.station.proofs.Moments.{unchanged_twice}
-use Rattle.model.specs.Trees.{Tree}
+use Rattle.station.specs.Moments.{Meaning, MayLeave, LeavesJust, Went}
+use Rattle.model.specs.Trees.{Tree, root_alone}
 use Rattle.model.specs.States.{State, Forgets, going}
+use Rattle.model.proofs.AdditionLemmas.{root_is_tree}
 use Rattle.plain.specs.States.{state_of}
 use Rattle.plain.specs.declared.state.PlainState.{PlainState}
 use Rattle.layout.specs.Opens.{HoldsNewImage}
 use Rattle.layout.specs.declared.root.Root.{Root}
-use Rattle.oplog.specs.Ends.{LogEnd}
+use Rattle.layout.proofs.OpenLaws.{image_holds}
+use Rattle.oplog.specs.LogEnd.{LogEnd}
 use Rattle.mount.specs.Systems.{IsFound, HoldsLog, IsKept}
+use Rattle.mount.proofs.StationLemmas.{left_before}
 
-module _ (settled : Images) (mid far new : Meaning) (just : (c : Images) → MayLeave mid c → c ≡ settled) (first : Goes Unchanged mid far) (second : Goes Unchanged far new) (root : Root) (image : HoldsNewImage new.sectors settled.disk root) where
+module _ (settled : Images) (mid far new : Meaning) (mid_honest : mid.is_honest) (just : LeavesJust mid settled) (first : Went Unchanged mid far) (second : Went Unchanged far new)
+    (root : Root) (image : HoldsNewImage new.sectors settled.disk root) where
   left_is : (c : Images) → MayLeave new c → c ≡ settled
-  left_is c left =
-      let step = (unchanged_twice mid far new first second).now c left in
-      step.2 ∙ just step.0 step.1
+  left_is c left = just mid_honest c (left_before mid far first c (left_before far new second c left))
 
   -- what was found, each cut leaves
-  pub all_kept : (log : LogEnd) (found : PlainState) → log.half ≡ root.geometry.half → IsFound root settled.nvram log found → IsKept new log found.inodes (state_of found).tree
+  pub all_kept : (log : LogEnd) (found : PlainState) → log.half ≡ root.geometry.half → IsFound root (root_alone 0o755) settled.nvram log found → IsKept new log found.inodes (state_of found).tree
   all_kept log found half is = record {
     root = root;
+    first = root_alone 0o755;
     bodies = is.bodies;
     half = half;
     inodes_are = is.inodes;
-    each = λ c left. subst (HoldsLog new log root is.bodies) (sym (left_is c left)) (record { image = image; log_stands = is.log_stands });
+    first_is = (root_is_tree found.inodes, refl);
+    each = λ honest c left.
+        subst (HoldsLog new log root (root_alone 0o755) is.bodies) (sym (left_is c left))
+        (record { newest = image.newest; holds = image_holds new.sectors settled.disk root image; log_stands = is.log_stands });
     replays = is.replays;
   }
 

@@ -1,8 +1,10 @@
 -- The records of the log replayed one after the other.
 use Rattle.std.proofs.Common.{◌≡◌, ℕ, ◌+◌, ◌<◌, ◌^◌, List, [], ◌∷◌, ◌++◌, length, refl, sym, ap, subst, ◌∙◌, arith, append_assoc, length-append, append-nil}
 use Rattle.std.specs.Prelude.{Result, Ok, Err, OnOk, MatchResult, ⊤}
-use Rattle.model.specs.Trees.{Tree, IsTree}
-use Rattle.layout.specs.Log.{record_of, records_of, HoldsBodies, IsClosed}
+use Rattle.model.specs.Trees.{Tree, IsTree, root_alone}
+use Rattle.model.specs.States.{State, empty}
+use Rattle.oplog.specs.SavedLog.{Saved, TellsLog}
+use Rattle.layout.specs.Log.{record_of, records_of, HoldsBodies, IsClosed, LogHolds}
 use Rattle.layout.specs.Opens.{ReplaysOne, Replays}
 use Rattle.layout.proofs.OpenLaws.{one_keeps, one_once, record_once}
 use Rattle.mount.specs.Replaying.{IsReplayed}
@@ -11,7 +13,7 @@ use Rattle.mount.specs.declared.replay.ReplayError.TheVariants.{NoMemory}
 
 -- so far these records, in front of the rest, have led from one tree to another, and no others can
 pub record HasReplayed (inodes : ℕ) (old now : Tree) (records rest : List ℕ) : Type 0 where
-  pub tree : IsTree now
+  pub tree : IsTree inodes now
   pub bodies : List (List ℕ)
   pub joins : (more : List (List ℕ)) → HoldsBodies rest more → HoldsBodies records (bodies ++ more)
   pub length_is : length (records_of bodies) + length rest ≡ length records
@@ -62,8 +64,10 @@ module _ (inodes : ℕ) (old now : Tree) (records rest : List ℕ) (so_far : Has
   pub all_replayed : IsClosed rest → IsReplayed inodes records (length rest) old now
   all_replayed shut = record {
     bodies = so_far.bodies;
-    held = subst (λ (l : List (List ℕ)). HoldsBodies records l) (append-nil so_far.bodies) (so_far.joins [] shut);
-    left_is = omega (arith, so_far.length_is);
+    holds = record {
+      held = subst (λ (l : List (List ℕ)). HoldsBodies records l) (append-nil so_far.bodies) (so_far.joins [] shut);
+      left_is = omega (arith, so_far.length_is);
+    };
     replays = so_far.replays;
   }
 
@@ -77,7 +81,40 @@ module _ (inodes : ℕ) (old now : Tree) (records rest : List ℕ) (so_far : Has
       ends (body ∷ more) holds replays = let e : 0 ∷ shut.0 ≡ record_of body ++ holds.0 = sym shut.1 ∙ holds.2 in absurd (cc)
 
 -- a record's answer is about the one tree that it leads to
-pub only_one : (inodes : ℕ) (body : List ℕ) (old new t : Tree) (r : Result (Unit {0}) ReplayError) → IsTree old → OnOk r (ReplaysOne inodes body old new) → ReplaysOne inodes body old t
+pub only_one : (inodes : ℕ) (body : List ℕ) (old new t : Tree) (r : Result (Unit {0}) ReplayError) → IsTree inodes old → OnOk r (ReplaysOne inodes body old new) → ReplaysOne inodes body old t
     → MatchResult r (λ _. ⊤) (λ e. e ≡ NoMemory) → MatchResult r (λ _. t ≡ new) (λ e. e ≡ NoMemory)
 only_one inodes body old new t (Ok x) tree one other fine = one_once inodes body old new t tree one other
 only_one inodes body old new t (Err e) tree one other refused = refused
+
+-- records in two parts
+pub replays_parts : (inodes : ℕ) (first second : List (List ℕ)) (old new : Tree) → Replays inodes (first ++ second) old new → (mid : Tree) × Replays inodes first old mid × Replays inodes second mid new
+replays_parts inodes [] second old new replays = (old, refl, replays)
+replays_parts inodes (body ∷ first) second old new replays =
+    let rest = replays_parts inodes first second replays.0 new replays.2 in
+    (rest.0, (replays.0, replays.1, rest.1), rest.2)
+
+pub replays_joined : (inodes : ℕ) (first second : List (List ℕ)) (old mid new : Tree) → Replays inodes first old mid → Replays inodes second mid new → Replays inodes (first ++ second) old new
+replays_joined inodes [] second old mid new one two = subst (λ (t : Tree). Replays inodes second t new) one two
+replays_joined inodes (body ∷ first) second old mid new one two = (one.0, one.1, replays_joined inodes first second one.0 mid new one.2 two)
+
+-- records of two epochs, one after the other, that lead from one tree to another
+pub record LeadsBoth (inodes : ℕ) (first_records second_records : List ℕ) (old new : Tree) : Type 0 where
+  pub first : List (List ℕ)
+  pub second : List (List ℕ)
+  pub mid : Tree
+  pub held : HoldsBodies first_records first
+  pub held_too : HoldsBodies second_records second
+  pub one : Replays inodes first old mid
+  pub two : Replays inodes second mid new
+
+-- what was read of the log over a root leads where the log's records do
+pub both_lead : (saved : Saved) (half g : ℕ) (nvram : List ℕ) (inodes : ℕ) (old new : Tree) (bodies : List (List ℕ)) → TellsLog nvram saved → saved.half ≡ half → saved.generation ≡ g
+    → LogHolds half g nvram bodies → Replays inodes bodies old new → LeadsBoth inodes saved.first.records saved.second.records old new
+both_lead saved half g nvram inodes old new bodies tells half_is generation_is holds replays =
+    let there = tells.held bodies (subst (λ (n : ℕ). LogHolds saved.half n nvram bodies) (sym generation_is) (subst (λ (n : ℕ). LogHolds n g nvram bodies) (sym half_is) holds)) in
+    let parts = replays_parts inodes there.0 there.1 old new (subst (λ (l : List (List ℕ)). Replays inodes l old new) there.2 replays) in
+    record { first = there.0; second = there.1; mid = parts.0; held = there.3; held_too = there.4; one = parts.1; two = parts.2 }
+
+-- the same from the state that an empty one is
+pub both_lead_from : (state : State) (inodes : ℕ) (first second : List ℕ) (new : Tree) → state ≡ empty inodes → LeadsBoth inodes first second (root_alone 0o755) new → LeadsBoth state.inodes first second state.tree new
+both_lead_from state inodes first second new is both = subst (λ (s : State). LeadsBoth s.inodes first second s.tree new) (sym is) both

@@ -1,12 +1,20 @@
 -- A run of commands, one after the other.
 use Rattle.std.proofs.Common.{◌≡◌, ℕ, ◌+◌, ◌<◌, List, [], ◌∷◌, ◌++◌, length, take, get_or, refl, sym, ap, subst, ◌∙◌, arith}
 use Rattle.std.specs.List.{zip}
-use Rattle.std.specs.Prelude.{⊤}
 use Rattle.std.proofs.lemmas.List.{take_more, length-take-le}
+use Rattle.station.specs.Images.{Images}
+use Rattle.station.specs.declared.station.Station.{Ghosts}
+use Rattle.station.specs.Moments.{Meaning, MayLeave, LeftBetween, IsSameStation}
 use Rattle.model.specs.declared.command.Command.{Command}
 use Rattle.model.specs.declared.reply.Reply.{Reply}
-use Rattle.model.specs.States.{State, Circumstances, Allowed}
-use Rattle.model.specs.Runs.{Runs}
+use Rattle.model.specs.States.{going, failed}
+use Rattle.model.specs.Runs.{IsPrefix}
+use Rattle.mount.specs.Making.{OpensTo, OpensToSome}
+use Rattle.mount.specs.Systems.{System, meaning_of, shown, Serves}
+use Rattle.mount.specs.Applying.{Between, IsApplied, HasRun, ReadsCut}
+use Rattle.mount.proofs.StationLemmas.{on_none, on_twice}
+use Rattle.mount.proofs.SpanLemmas.{spans_later, spans_push, spans_prefix, spans_failed}
+use Rattle.mount.proofs.ApplyLemmas.{moved, served_now}
 
 zip_push : {X Y : Type 0} (xs : List X) (ys : List Y) (x : X) (y : Y) → length xs ≡ length ys → zip (xs ++ x ∷ []) (ys ++ y ∷ []) ≡ zip xs ys ++ (x, y) ∷ []
 zip_push [] [] x y same = refl
@@ -14,16 +22,46 @@ zip_push [] (w ∷ ys) x y same = absurd (omega arith)
 zip_push (v ∷ xs) [] x y same = absurd (omega arith)
 zip_push {X} {Y} (v ∷ xs) (w ∷ ys) x y same = ap (λ (l : List (X × Y)). (v, w) ∷ l) (zip_push xs ys x y (omega arith))
 
-runs_push : (s : State) (steps : List (Command × Reply)) (t u : State) (command : Command) (reply : Reply) (c : Circumstances) → Runs (λ _. ⊤) s steps t → Allowed c t command reply u → Runs (λ _. ⊤) s (steps ++ (command, reply) ∷ []) u
-runs_push s [] t u command reply c runs allowed = (c, tt, (u, subst (λ (x : State). Allowed c x command reply u) runs allowed, refl))
-runs_push s (step ∷ steps) t u command reply c runs allowed = (runs.0, runs.1, (runs.2.0, runs.2.1, runs_push runs.2.0 steps t u command reply c runs.2.2 allowed))
+module _ {S : Type 0} {G : Ghosts S} where
+  -- no command so far
+  pub run_none : (f : System S G) → Serves f → HasRun f f []
+  run_none f serves = record { goes_on = on_none (meaning_of f); spans = (refl, served_now f serves) }
 
--- one command more, which is at place i
-pub runs_more : (s t u : State) (commands : List Command) (replies : List Reply) (i : ℕ) (command : Command) (reply : Reply) (c : Circumstances)
-    → i < length commands → length replies ≡ i → command ≡ get_or commands i command → Runs (λ _. ⊤) s (zip (take i commands) replies) t → Allowed c t command reply u
-    → Runs (λ _. ⊤) s (zip (take (i + 1) commands) (replies ++ reply ∷ [])) u
-runs_more s t u commands replies i command reply c below count is runs allowed =
-    let front : take (i + 1) commands ≡ take i commands ++ command ∷ [] = take_more commands i command below ∙ ap (λ (x : Command). take i commands ++ x ∷ []) (sym is) in
-    let same : length (take i commands) ≡ length replies = length-take-le i commands (omega arith) ∙ sym count in
-    subst (λ (l : List (Command × Reply)). Runs (λ _. ⊤) s l u) (sym (ap (λ (l : List Command). zip l (replies ++ reply ∷ [])) front ∙ zip_push (take i commands) replies command reply same))
-    (runs_push s (zip (take i commands) replies) t u command reply c runs allowed)
+  -- one command more
+  run_push : (f g new : System S G) (steps : List (Command × Reply)) (command : Command) (reply : Reply) → HasRun f g steps → IsSameStation (meaning_of g) (meaning_of new) → IsApplied g new command reply
+      → HasRun f new (steps ++ (command, reply) ∷ [])
+  run_push f g new steps command reply run same applied =
+      let old = meaning_of g in
+      let m = meaning_of new in
+      let so_far = spans_later shown Between old.left_at m.left_at (λ c t. OpensTo old t c) (λ c t. OpensTo m t c) old.moment applied.goes_on.kept (λ c t opens. moved old m t c same.sectors opens)
+      f steps g (meaning_of f).moment old.moment run.goes_on.later (omega arith) run.spans in
+      record {
+        goes_on = on_twice (meaning_of f) old m run.goes_on applied.goes_on;
+        spans = spans_push shown Between m.left_at (λ c t. OpensTo m t c) f steps g new (command, reply) (meaning_of f).moment old.moment m.moment run.goes_on.later applied.goes_on.later so_far
+            applied.leads applied.any_moment (served_now new applied.serves);
+      }
+
+  -- the command at place i
+  pub run_more : (f g new : System S G) (commands : List Command) (replies : List Reply) (i : ℕ) (command : Command) (reply : Reply) → i < length commands → length replies ≡ i → command ≡ get_or commands i command
+      → HasRun f g (zip (take i commands) replies) → IsSameStation (meaning_of g) (meaning_of new) → IsApplied g new command reply → HasRun f new (zip (take (i + 1) commands) (replies ++ reply ∷ []))
+  run_more f g new commands replies i command reply below count is run same applied =
+      let front : take (i + 1) commands ≡ take i commands ++ command ∷ [] = take_more commands i command below ∙ ap (λ (x : Command). take i commands ++ x ∷ []) (sym is) in
+      let long : length (take i commands) ≡ length replies = length-take-le i commands (omega arith) ∙ sym count in
+      subst (HasRun f new) (sym (ap (λ (l : List Command). zip l (replies ++ reply ∷ [])) front ∙ zip_push (take i commands) replies command reply long))
+      (run_push f g new (zip (take i commands) replies) command reply run same applied)
+
+  -- a second station that reads what a cut within a run might have left opens to a prefix of it
+  pub run_opens : (old new : System S G) (steps : List (Command × Reply)) (other : Meaning) → old.state.mark ≡ going → HasRun old new steps → ReadsCut (meaning_of old) (meaning_of new) other
+      → OpensToSome other (IsPrefix shown Between old steps) other.seen
+  run_opens old new steps other is run reads =
+      let m = meaning_of new in
+      let there = spans_prefix shown Between m.left_at (λ c t. OpensTo m t c) old steps new (meaning_of old).moment m.moment run.spans is reads.left.0 other.seen reads.left.1 reads.left.2 reads.left.3 in
+      (there.0, moved m other there.0 other.seen reads.sectors there.1, there.2)
+
+  -- a failed system leaves no more than before
+  pub run_failed : (old new : System S G) (steps : List (Command × Reply)) → old.state.mark ≡ failed → HasRun old new steps → (c : Images)
+      → LeftBetween (meaning_of new) (meaning_of old).moment (meaning_of new).moment c → MayLeave (meaning_of old) c
+  run_failed old new steps is run c left =
+      let m = meaning_of new in
+      let start = (meaning_of old).moment in
+      (run.goes_on.kept start c (omega arith)).0 (spans_failed shown Between m.left_at (λ d t. OpensTo m t d) old steps new start m.moment run.spans is left.0 c left.1 left.2 left.3)

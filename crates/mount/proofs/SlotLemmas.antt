@@ -2,9 +2,10 @@
 use Rattle.std.proofs.Common.{◌≡◌, ◌≢◌, inl, inr, ℕ, ◌+◌, ◌-◌, ◌*◌, ◌<◌, ◌≤◌, true, false, List, [], ◌∷◌, length, take, drop, refl, ap, sym, ◌∙◌, subst, arith, take_all}
 use Rattle.std.proofs.lemmas.Bool.{cases_eq, cond-true, cond-false}
 use Rattle.std.proofs.lemmas.Bool.Decides.{nat_tests}
-use Rattle.station.specs.Images.{Images, part_of, reaches, disk_with, nvram_with, Writes}
+use Rattle.station.specs.Images.{Images, part_of, reaches, disk_with, nvram_with, SectorsWritten}
 use Rattle.layout.specs.Limits.{Sizes}
 use Rattle.layout.specs.Log.{half_at, IsClosed}
+use Rattle.layout.specs.declared.TheConstants.{SLOT_A, SLOT_B}
 use Rattle.oplog.proofs.Halves.{same_half, other_half, length-nvram_with}
 use Rattle.mount.specs.Making.{HasClosedHalves}
 
@@ -27,7 +28,7 @@ written_elsewhere n k bytes disk size other = cond-false (reaches n bytes k) (pa
 
 -- both slots written, one after the other
 pub slots_written : (s : Sizes) (old mid between new : Images) (empty root : List ℕ) → length empty ≡ 512 → length root ≡ 512
-    → Writes 8 empty old mid → between ≡ mid → Writes 0 root between new
+    → SectorsWritten SLOT_B empty old mid → between ≡ mid → SectorsWritten SLOT_A root between new
     → (new.disk 0 ≡ root) × (new.disk 8 ≡ empty) × ((n : ℕ) → n ≢ 0 → n ≢ 8 → new.disk n ≡ old.disk n) × (new.nvram ≡ old.nvram)
 slots_written s old mid between new empty root size size_too first same second =
     let disk : (n : ℕ) → new.disk n ≡ disk_with 0 root (disk_with 8 empty old.disk) n =

@@ -1,17 +1,18 @@
 -- What a going file system keeps, through calls that change nothing and through appends.
-use Rattle.std.proofs.Common.{◌≡◌, ◌⊎◌, inl, inr, ℕ, List, [], ◌∷◌, ◌++◌, refl, sym, ap, subst, ◌∙◌}
+use Rattle.std.proofs.Common.{◌≡◌, ◌⊎◌, inl, inr, ℕ, List, [], ◌∷◌, ◌++◌, sym, ap, subst, ◌∙◌, append_assoc, None}
 use Rattle.station.specs.Images.{Images}
-use Rattle.station.specs.Moments.{Meaning, MayLeave, LeavesOnly}
-use Rattle.station.proofs.Moments.{started, weaker}
-use Rattle.model.specs.Trees.{Tree, root_alone}
+use Rattle.station.specs.Moments.{Meaning, EachCut, LeavesOnly, KeepsDisk}
+use Rattle.station.proofs.Moments.{weaker}
+use Rattle.model.specs.Trees.{Tree, IsTree}
 use Rattle.model.specs.States.{State, going}
-use Rattle.model.proofs.AdditionLemmas.{root_is_tree, forgets_itself}
+use Rattle.model.proofs.AdditionLemmas.{forgets_itself}
 use Rattle.layout.specs.Log.{LogHolds}
 use Rattle.layout.specs.Record.{Change, create, link, unname, rename, write, cut, change_mode, file, directory, symbolic_link}
-use Rattle.layout.specs.Opens.{HoldsNewImage, Applies, ReplaysOne, Replays}
+use Rattle.layout.specs.Opens.{IsNewest, HoldsTree, Applies, ReplaysOne, Replays}
+use Rattle.layout.specs.declared.TheConstants.{SLOT_A, SLOT_B}
 use Rattle.layout.specs.declared.root.Root.{Root}
 use Rattle.layout.proofs.OpenLaws.{replays_keep}
-use Rattle.oplog.specs.Ends.{LogEnd, StandsAt, KeepsDisk, WithOrWithout}
+use Rattle.oplog.specs.LogEnd.{LogEnd, Bodies, all_of, with_body, StandsAt, LogStands, WithOrWithout}
 use Rattle.mount.specs.Making.{OpensTo}
 use Rattle.mount.specs.Systems.{IsKept}
 use Rattle.mount.proofs.ReplayLemmas.{replays_push}
@@ -36,66 +37,83 @@ replays_closed inodes [] old new one = ap (λ (t : Tree). t.descriptors) one
 replays_closed inodes (body ∷ bodies) old new one = replays_closed inodes bodies one.0 new one.2 ∙ applies_closed inodes one.1.change old one.0 one.1.applies
 
 -- images with these records open to the tree that they lead to
-pub opens_with : (m : Meaning) (root : Root) (bodies : List (List ℕ)) (inodes : ℕ) (tree : Tree) (c : Images) → inodes ≡ root.geometry.inodes
-    → HoldsNewImage m.sectors c.disk root → LogHolds root.geometry.half root.generation c.nvram bodies → Replays inodes bodies (root_alone 0o755) tree → OpensTo m (a_state inodes tree) c
-opens_with m root bodies inodes tree c same image log replays = record {
+pub opens_with : (m : Meaning) (root : Root) (first : Tree) (bodies : List (List ℕ)) (inodes : ℕ) (tree : Tree) (c : Images) → inodes ≡ root.geometry.inodes
+    → IsTree inodes first → first.descriptors ≡ (λ d. None) → IsNewest root (c.disk SLOT_A) (c.disk SLOT_B) → HoldsTree m.sectors c.disk root first
+    → LogHolds root.geometry.half root.generation c.nvram bodies → Replays inodes bodies first tree → OpensTo m (a_state inodes tree) c
+opens_with m root first bodies inodes tree c same is closed newest holds log replays = record {
   root = root;
-  image = image;
+  newest = newest;
+  first = first;
+  holds = holds;
   bodies = bodies;
   log = log;
   tree = tree;
-  replays = subst (λ (n : ℕ). Replays n bodies (root_alone 0o755) tree) same replays;
+  replays = subst (λ (n : ℕ). Replays n bodies first tree) same replays;
   state = record {
-    tree = forgets_itself tree (replays_keep inodes bodies (root_alone 0o755) tree root_is_tree replays) (replays_closed inodes bodies (root_alone 0o755) tree replays);
+    tree = forgets_itself inodes tree (replays_keep inodes bodies first tree is replays) (replays_closed inodes bodies first tree replays ∙ closed);
     rest = λ i. a_state (sym same i) tree;
   };
 }
 
+-- the records with one more
+all_with : (bodies : Bodies) (body : List ℕ) → all_of (with_body bodies body) ≡ all_of bodies ++ body ∷ []
+all_with bodies body = sym (append_assoc bodies.older bodies.newest (body ∷ []))
+
 module _ (m : Meaning) (log : LogEnd) (inodes : ℕ) (tree : Tree) (kept : IsKept m log inodes tree) where
-  root_half : (half : ℕ) (n : List ℕ) (bodies : List (List ℕ)) → half ≡ log.half → LogHolds half kept.root.generation n bodies → LogHolds kept.root.geometry.half kept.root.generation n bodies
-  root_half half n bodies same holds = subst (λ (h : ℕ). LogHolds h kept.root.generation n bodies) (same ∙ kept.half) holds
+  opens_behind : (bodies : List (List ℕ)) (next : Tree) (c : Images) → IsNewest kept.root (c.disk SLOT_A) (c.disk SLOT_B) → HoldsTree m.sectors c.disk kept.root kept.first
+      → LogHolds log.half kept.root.generation c.nvram bodies → Replays inodes bodies kept.first next → OpensTo m (a_state inodes next) c
+  opens_behind bodies next c newest holds log_holds replays =
+      opens_with m kept.root kept.first bodies inodes next c kept.inodes_are kept.first_is.0 kept.first_is.1 newest holds
+      (subst (λ (h : ℕ). LogHolds h kept.root.generation c.nvram bodies) kept.half log_holds) replays
 
   -- a going system's images open to its state
-  pub kept_opens : (c : Images) → MayLeave m c → OpensTo m (a_state inodes tree) c
-  kept_opens c left =
-      let holds = kept.each c left in
-      opens_with m kept.root kept.bodies inodes tree c kept.inodes_are holds.image (root_half log.half c.nvram kept.bodies refl holds.log_stands.holds) kept.replays
-
-  pub nothing_called : LeavesOnly m m (OpensTo m (a_state inodes tree))
-  nothing_called = started m (OpensTo m (a_state inodes tree)) kept_opens
+  pub kept_opens : EachCut m (OpensTo m (a_state inodes tree))
+  kept_opens honest c left =
+      let here = kept.each honest c left in
+      opens_behind (all_of kept.bodies) tree c here.newest here.holds here.log_stands.holds kept.replays
 
   module _ (new : Meaning) (body : List ℕ) (next : Tree) (one : ReplaysOne inodes body tree next) where
-    both : (c : Images) → KeepsDisk m (WithOrWithout log.half kept.root.generation kept.bodies body) c → OpensTo m (a_state inodes tree) c ⊎ OpensTo m (a_state inodes next) c
-    both c (d, left, same, inl without) =
-        let image = subst (λ (k : ℕ → List ℕ). HoldsNewImage m.sectors k kept.root) (sym same) (kept.each d left).image in
-        inl (opens_with m kept.root kept.bodies inodes tree c kept.inodes_are image (root_half log.half c.nvram kept.bodies refl without) kept.replays)
-    both c (d, left, same, inr with_it) =
-        let image = subst (λ (k : ℕ → List ℕ). HoldsNewImage m.sectors k kept.root) (sym same) (kept.each d left).image in
-        inr (opens_with m kept.root (kept.bodies ++ body ∷ []) inodes next c kept.inodes_are image (root_half log.half c.nvram (kept.bodies ++ body ∷ []) refl with_it)
-        (replays_push inodes kept.bodies body (root_alone 0o755) tree next kept.replays one))
+    replays_more : Replays inodes (all_of (with_body kept.bodies body)) kept.first next
+    replays_more =
+        subst (λ (l : List (List ℕ)). Replays inodes l kept.first next) (sym (all_with kept.bodies body))
+        (replays_push inodes (all_of kept.bodies) body kept.first tree next kept.replays one)
+
+    both : m.is_honest → (c : Images) → KeepsDisk m (WithOrWithout log.half kept.root.generation kept.bodies body) c → OpensTo m (a_state inodes tree) c ⊎ OpensTo m (a_state inodes next) c
+    both honest c (d, left, same, log_holds) =
+        let here = kept.each honest d left in
+        let newest = subst (λ (k : ℕ → List ℕ). IsNewest kept.root (k SLOT_A) (k SLOT_B)) (sym same) here.newest in
+        let holds = subst (λ (k : ℕ → List ℕ). HoldsTree m.sectors k kept.root kept.first) (sym same) here.holds in
+        elim log_holds [
+          | inl without ↦ inl (opens_behind (all_of kept.bodies) tree c newest holds without kept.replays)
+          | inr with_it ↦ inr (opens_behind (all_of (with_body kept.bodies body)) next c newest holds with_it replays_more)
+        ]
 
     -- whatever an append may leave at any moment
-    pub appending : ((g : ℕ) (bodies : List (List ℕ)) → ((c : Images) → MayLeave m c → StandsAt log g bodies c.nvram) → LeavesOnly m new (KeepsDisk m (WithOrWithout log.half g bodies body)))
+    pub appending : ((g : ℕ) (bodies : Bodies) → LogStands m log g bodies → LeavesOnly m new (KeepsDisk m (WithOrWithout log.half g bodies body)))
         → LeavesOnly m new (λ c. OpensTo m (a_state inodes tree) c ⊎ OpensTo m (a_state inodes next) c)
-    appending any_moment =
+    appending any_moment honest =
         weaker m new _ (λ c. OpensTo m (a_state inodes tree) c ⊎ OpensTo m (a_state inodes next) c)
-        (any_moment kept.root.generation kept.bodies (λ c left. (kept.each c left).log_stands)) both
+        (any_moment kept.root.generation kept.bodies (λ is c left. (kept.each is c left).log_stands)) (both honest) honest
 
     -- what is kept behind it
-    pub appended : (end : LogEnd) → end.half ≡ log.half → new.sectors ≡ m.sectors
-        → ((g : ℕ) (bodies : List (List ℕ)) → ((c : Images) → MayLeave m c → StandsAt log g bodies c.nvram) → (c : Images) → MayLeave new c → KeepsDisk m (StandsAt end g (bodies ++ body ∷ [])) c)
+    pub appended : m.is_honest → (end : LogEnd) → end.half ≡ log.half → new.sectors ≡ m.sectors
+        → ((g : ℕ) (bodies : Bodies) → LogStands m log g bodies → EachCut new (KeepsDisk m (StandsAt end g (with_body bodies body))))
         → IsKept new end inodes next
-    appended end half sectors keeps = record {
+    appended is_honest end half sectors keeps = record {
       root = kept.root;
-      bodies = kept.bodies ++ body ∷ [];
+      first = kept.first;
+      bodies = with_body kept.bodies body;
       half = half ∙ kept.half;
       inodes_are = kept.inodes_are;
-      each = λ c left.
-          let after = keeps kept.root.generation kept.bodies (λ d here. (kept.each d here).log_stands) c left in
+      first_is = kept.first_is;
+      each = λ honest c left.
+          let after = keeps kept.root.generation kept.bodies (λ is d here. (kept.each is d here).log_stands) honest c left in
+          let here = kept.each is_honest after.0 after.1 in
           record {
-            image = subst (λ (n : ℕ). HoldsNewImage n c.disk kept.root) (sym sectors)
-                (subst (λ (k : ℕ → List ℕ). HoldsNewImage m.sectors k kept.root) (sym after.2) (kept.each after.0 after.1).image);
+            newest = subst (λ (k : ℕ → List ℕ). IsNewest kept.root (k SLOT_A) (k SLOT_B)) (sym after.2) here.newest;
+            holds = subst (λ (n : ℕ). HoldsTree n c.disk kept.root kept.first) (sym sectors)
+                (subst (λ (k : ℕ → List ℕ). HoldsTree m.sectors k kept.root kept.first) (sym after.2) here.holds);
             log_stands = after.3;
           };
-      replays = replays_push inodes kept.bodies body (root_alone 0o755) tree next kept.replays one;
+      replays = replays_more;
     }

@@ -7,6 +7,11 @@ use Rattle.layout.specs.Fresh.{made_root}
 use Rattle.layout.specs.Log.{half_at, IsClosed}
 use Rattle.model.specs.States.{State}
 use Rattle.layout.specs.Opens.{HoldsRoot, HoldsMadeBlocks, Opens}
+use Rattle.layout.specs.declared.TheConstants.{SLOT_A, SLOT_B}
+
+-- the sizes of an image
+abbrev pub sizes : ℕ → ℕ → ℕ → Sizes
+sizes blocks inodes half = record { blocks = blocks; inodes = inodes; half = half }
 
 -- the numbers are in range, and the station is of just their size
 pub record Suits (m : Meaning) (s : Sizes) : Type 0 where
@@ -18,20 +23,24 @@ pub record Suits (m : Meaning) (s : Sizes) : Type 0 where
 abbrev pub OpensTo : Meaning → State → Images → Type 0
 OpensTo m s c = Opens m.sectors c.disk c.nvram s
 
+-- what stands on a station opens to a state with P
+abbrev pub OpensToSome : Meaning → (State → Type 0) → Images → Type 0
+OpensToSome m P c = (s : State) × OpensTo m s c × P s
+
 -- the gates of both halves are closed
 abbrev pub HasClosedHalves : ℕ → List ℕ → Type 0
 HasClosedHalves half nvram = (r : ℕ) → r < 2 → IsClosed (half_at half r nvram)
 
 -- a new image: the root in slot A, nothing in slot B, the blocks, and an empty log
 pub record HoldsMade (s : Sizes) (c : Images) : Type 0 where
-  pub first : HoldsRoot (c.disk 0) (made_root s)
-  pub second : c.disk 8 ≡ replicate 512 0
+  pub first : HoldsRoot (c.disk SLOT_A) (made_root s)
+  pub second : c.disk SLOT_B ≡ replicate 512 0
   pub blocks : HoldsMadeBlocks s c.disk
   pub halves : HasClosedHalves s.half c.nvram
 
 -- the slots of a new image, and all else as it was
 pub record HasSlots (s : Sizes) (old c : Images) : Type 0 where
-  pub first : HoldsRoot (c.disk 0) (made_root s)
-  pub second : c.disk 8 ≡ replicate 512 0
-  pub others : (n : ℕ) → n ≢ 0 → n ≢ 8 → c.disk n ≡ old.disk n
+  pub first : HoldsRoot (c.disk SLOT_A) (made_root s)
+  pub second : c.disk SLOT_B ≡ replicate 512 0
+  pub others : (n : ℕ) → n ≢ SLOT_A → n ≢ SLOT_B → c.disk n ≡ old.disk n
   pub nvram : c.nvram ≡ old.nvram

@@ -1,15 +1,14 @@
 -- What the refusals of the log and of a replay are to a mount.
-use Rattle.oplog.specs.declared.log.LogError.{LogError}
-use Rattle.oplog.specs.declared.log.LogError.TheVariants as log
+use Rattle.oplog.specs.declared.saved.SavedLogError.{SavedLogError}
+use Rattle.oplog.specs.declared.saved.SavedLogError.TheVariants as log
 use Rattle.mount.specs.declared.replay.ReplayError.{ReplayError}
 use Rattle.mount.specs.declared.replay.ReplayError.TheVariants as replay
 use Rattle.mount.specs.declared.error.MountError.{MountError}
 use Rattle.mount.specs.declared.error.MountError.TheVariants.{NoMemory, Device, Damaged}
 
-abbrev pub refusal_of_log : LogError → MountError
+abbrev pub refusal_of_log : SavedLogError → MountError
 refusal_of_log log.NoMemory = NoMemory
 refusal_of_log log.Device = Device
-refusal_of_log log.LogFull = Damaged
 refusal_of_log log.Damaged = Damaged
 
 abbrev pub refusal_of_replay : ReplayError → MountError

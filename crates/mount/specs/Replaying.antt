@@ -1,12 +1,11 @@
 -- What the records of the log come to.
-use Rattle.std.specs.Prelude.{ℕ, ◌≡◌, ◌+◌, List, length}
+use Rattle.std.specs.Prelude.{ℕ, List}
 use Rattle.model.specs.Trees.{Tree}
-use Rattle.layout.specs.Log.{records_of, HoldsBodies}
 use Rattle.layout.specs.Opens.{Replays}
+use Rattle.oplog.specs.SavedLog.{HoldsLeaving}
 
 -- These bytes are records that lead from one tree to another; so many bytes are left from the closed gate behind them on.
 pub record IsReplayed (inodes : ℕ) (records : List ℕ) (left : ℕ) (old new : Tree) : Type 0 where
   pub bodies : List (List ℕ)
-  pub held : HoldsBodies records bodies
-  pub left_is : left + length (records_of bodies) ≡ length records
+  pub holds : HoldsLeaving records bodies left
   pub replays : Replays inodes bodies old new

@@ -1,7 +1,7 @@
 //! Why a call was refused.
 
 use crate::replay::ReplayError;
-use oplog::LogError;
+use oplog::SavedLogError;
 use station::DeviceFault;
 use thiserror::Error;
 
@@ -53,17 +53,17 @@ impl From<DeviceFault> for MountError {
     }
 }
 
-impl From<LogError> for MountError {
+impl From<SavedLogError> for MountError {
     ghost use Rattle.std.specs.Prelude.{◌≡◌};
     ghost use Rattle.mount.specs.Refusals.{refusal_of_log};
 
     ghost from_gives = { λ log e. e ≡ refusal_of_log log };
 
-    fn from(error: LogError) -> MountError {
+    fn from(error: SavedLogError) -> MountError {
         match error {
-            LogError::NoMemory => MountError::NoMemory,
-            LogError::Device => MountError::Device,
-            LogError::LogFull | LogError::Damaged => MountError::Damaged,
+            SavedLogError::NoMemory => MountError::NoMemory,
+            SavedLogError::Device => MountError::Device,
+            SavedLogError::Damaged => MountError::Damaged,
         }
     }
 }

@@ -1,9 +1,9 @@
 //! What the records of the log do to the running tree.
 
-ghost use Rattle.std.specs.Prelude.{◌≡◌, ◌≤◌, ℕ, List, OnOk, IfOk, MatchResult, ⊤};
+ghost use Rattle.std.specs.Prelude.{◌≡◌, ◌≤◌, ℕ, List, length, OnOk, IfOk, MatchResult, ⊤};
 ghost use Rattle.model.specs.Paths.{IsName};
 ghost use Rattle.model.specs.Trees.{Tree, IsTree};
-ghost use Rattle.model.specs.Calls.{AddsDirectory};
+ghost use Rattle.model.specs.Additions.{AddsDirectory};
 ghost use Rattle.plain.specs.States.{state_of};
 ghost use Rattle.layout.specs.Log.{HoldsBodies};
 ghost use Rattle.layout.specs.Record.{change_of, create, directory, IsChange};
@@ -18,7 +18,8 @@ use std::alloc::{AllocError, Global};
 /// The record that makes a directory.
 pub fn creation(new: &NewDirectory) -> Record<'_>
     ensures fits { IsName new.now.directory.name.items → IsChange (change_of result) }
-    ensures says { change_of result ≡ create new.now.directory.number new.now.parent (directory new.now.directory.mode) new.now.directory.name.items }
+    ensures says { change_of result ≡ create new.now.directory.number new.now.parent
+        (directory new.now.directory.mode) new.now.directory.name.items }
 {
     Record::Create {
         number: InodeNumber::new(new.number()),
@@ -53,12 +54,16 @@ pub fn replay_all(
     tree: &mut PlainState,
     records: &[u8],
 ) -> Result<usize, ReplayError>
-    requires tree { IsTree (state_of tree.old).tree }
+    requires tree { IsTree tree.old.inodes (state_of tree.old).tree }
     ensures inodes { tree.new.inodes ≡ tree.old.inodes }
-    ensures some { IfOk result (λ left. 1 ≤ left) }
-    ensures replayed { IfOk result (λ left. IsReplayed tree.old.inodes records.now left (state_of tree.old).tree (state_of tree.new).tree) }
-    ensures only { (bodies : List (List ℕ)) (t : Tree) → HoldsBodies records.now bodies → Replays tree.old.inodes bodies (state_of tree.old).tree t
-        → MatchResult result (λ left. t ≡ (state_of tree.new).tree) (λ e. e ≡ ReplayError.NoMemory) }
+    ensures some { IfOk result (λ left. (1 ≤ left) × (left ≤ length records.now)) }
+    ensures replayed { IfOk result
+        (λ left. IsReplayed tree.old.inodes records.now left
+        (state_of tree.old).tree (state_of tree.new).tree) }
+    ensures only { (bodies : List (List ℕ)) (t : Tree) → HoldsBodies records.now bodies
+        → Replays tree.old.inodes bodies (state_of tree.old).tree t
+        → MatchResult result (λ left. t ≡ (state_of tree.new).tree)
+        (λ e. e ≡ ReplayError.NoMemory) }
 {
     let mut rest = records;
     loop {
@@ -75,9 +80,10 @@ pub fn replay_all(
 
 /// Does what the record with this body says to the tree.
 fn replay(alloc: Global, tree: &mut PlainState, body: &[u8]) -> Result<(), ReplayError>
-    requires tree { IsTree (state_of tree.old).tree }
+    requires tree { IsTree tree.old.inodes (state_of tree.old).tree }
     ensures inodes { tree.new.inodes ≡ tree.old.inodes }
-    ensures replayed { OnOk result (ReplaysOne tree.old.inodes body.now (state_of tree.old).tree (state_of tree.new).tree) }
+    ensures replayed { OnOk result (ReplaysOne tree.old.inodes body.now
+        (state_of tree.old).tree (state_of tree.new).tree) }
     ensures only { (t : Tree) → ReplaysOne tree.old.inodes body.now (state_of tree.old).tree t
         → MatchResult result (λ _. t ≡ (state_of tree.new).tree) (λ e. e ≡ ReplayError.NoMemory) }
 {
@@ -89,9 +95,12 @@ fn replay(alloc: Global, tree: &mut PlainState, body: &[u8]) -> Result<(), Repla
 
 /// Does what a record says to the tree. This version makes directories alone: any other record doesn't apply.
 fn apply(alloc: Global, tree: &mut PlainState, entry: &Record) -> Result<(), ReplayError>
+    requires fits { IsChange (change_of entry.now) }
     ensures inodes { tree.new.inodes ≡ tree.old.inodes }
-    ensures applied { OnOk result (Applies tree.old.inodes (change_of entry.now) (state_of tree.old).tree (state_of tree.new).tree) }
-    ensures only { (t : Tree) → Applies tree.old.inodes (change_of entry.now) (state_of tree.old).tree t
+    ensures applied { OnOk result (Applies tree.old.inodes (change_of entry.now)
+        (state_of tree.old).tree (state_of tree.new).tree) }
+    ensures only { (t : Tree)
+        → Applies tree.old.inodes (change_of entry.now) (state_of tree.old).tree t
         → MatchResult result (λ _. ⊤) (λ e. e ≡ ReplayError.NoMemory) }
 {
     match entry {
@@ -114,9 +123,12 @@ fn add_directory(
     name: &[u8],
     mode: Mode,
 ) -> Result<(), ReplayError>
+    requires name { IsName name.now }
     ensures inodes { tree.new.inodes ≡ tree.old.inodes }
-    ensures added { OnOk result (AddsDirectory tree.old.inodes number parent name.now mode (state_of tree.old).tree (state_of tree.new).tree) }
-    ensures only { (t : Tree) → AddsDirectory tree.old.inodes number parent name.now mode (state_of tree.old).tree t
+    ensures added { OnOk result (AddsDirectory tree.old.inodes number parent name.now mode
+        (state_of tree.old).tree (state_of tree.new).tree) }
+    ensures only { (t : Tree)
+        → AddsDirectory tree.old.inodes number parent name.now mode (state_of tree.old).tree t
         → MatchResult result (λ _. ⊤) (λ e. e ≡ ReplayError.NoMemory) }
 {
     let planned = tree.plan_creation(alloc, number, parent, name, mode)?;

@@ -1,118 +1,97 @@
 -- Writes to one half of the NVRAM: what they do to that half, and that the other half stays.
-use Rattle.std.proofs.Common.{◌≡◌, ◌≢◌, inl, inr, ℕ, ◌+◌, ◌*◌, ◌<◌, ◌≤◌, List, ◌++◌, length, take, drop, sym, ap, ◌∙◌, subst, arith, append_assoc, length-append, take-append-drop, length-take, length-drop}
+use Rattle.std.proofs.Common.{◌≡◌, ◌≢◌, inl, inr, ℕ, ◌+◌, ◌*◌, ◌<◌, ◌≤◌, List, ◌++◌, length, take, drop, sym, ap, ◌∙◌, arith, append_assoc, length-append, take-append-drop, length-take, length-drop}
 use Rattle.std.proofs.Math.Nat.{mul-le-mul_left}
 use Rattle.std.proofs.lemmas.Bool.{cases_eq}
-use Rattle.std.proofs.lemmas.List.{take_at, drop_at, take-append-le, drop-append-le, take_all, length-take-le}
+use Rattle.std.proofs.lemmas.List.{take_at, drop_at, take-append-le, drop-append-le, length-take-le}
 use Rattle.std.proofs.Math.Seq.{take-append-add, drop-append-add}
 use Rattle.station.specs.Images.{nvram_with}
 use Rattle.layout.specs.Log.{half_at}
-
--- bytes written behind a beginning
-pub behind : (pre tail bytes : List ℕ) (at : ℕ) → length pre ≡ at → nvram_with at bytes (pre ++ tail) ≡ pre ++ (bytes ++ drop (length bytes) tail)
-behind pre tail bytes at here =
-    let front : take at (pre ++ tail) ≡ pre = take_at pre tail at here in
-    let back : drop (at + length bytes) (pre ++ tail) ≡ drop (length bytes) tail =
-    ap (λ (n : ℕ). drop (n + length bytes) (pre ++ tail)) (sym here) ∙ drop-append-add pre tail (length bytes) in
-    (λ i. (front i ++ bytes) ++ back i) ∙ append_assoc pre bytes (drop (length bytes) tail)
 
 pub length-nvram_with : (at : ℕ) (bytes nvram : List ℕ) → at + length bytes ≤ length nvram → length (nvram_with at bytes nvram) ≡ length nvram
 length-nvram_with at bytes nvram fits =
     omega (arith, length-append (take at nvram ++ bytes) (drop (at + length bytes) nvram), length-append (take at nvram) bytes, length-take at nvram, length-drop (at + length bytes) nvram)
 
--- bytes written within the first of two parts
-within_first : (a b bytes : List ℕ) (at : ℕ) → at + length bytes ≤ length a → nvram_with at bytes (a ++ b) ≡ nvram_with at bytes a ++ b
-within_first a b bytes at fits =
-    let front : take at (a ++ b) ≡ take at a = take-append-le at a b (omega arith) in
-    let back : drop (at + length bytes) (a ++ b) ≡ drop (at + length bytes) a ++ b = drop-append-le (at + length bytes) a b fits in
-    (λ i. (front i ++ bytes) ++ back i) ∙ sym (append_assoc (take at a ++ bytes) (drop (at + length bytes) a) b)
-
--- and within the second
-within_second : (a b bytes : List ℕ) (at : ℕ) → nvram_with (length a + at) bytes (a ++ b) ≡ a ++ nvram_with at bytes b
-within_second a b bytes at =
-    let front : take (length a + at) (a ++ b) ≡ a ++ take at b = take-append-add a b at in
-    let place : length a + at + length bytes ≡ length a + (at + length bytes) = omega arith in
-    let back : drop (length a + at + length bytes) (a ++ b) ≡ drop (at + length bytes) b = ap (λ (n : ℕ). drop n (a ++ b)) place ∙ drop-append-add a b (at + length bytes) in
-    (λ i. (front i ++ bytes) ++ back i)
-    ∙ append_assoc (a ++ take at b) bytes (drop (at + length bytes) b)
-    ∙ append_assoc a (take at b) (bytes ++ drop (at + length bytes) b)
-    ∙ ap (λ (l : List ℕ). a ++ l) (sym (append_assoc (take at b) bytes (drop (at + length bytes) b)))
-
-module _ (half : ℕ) (a b : List ℕ) (sized : length a ≡ half) (sized_too : length b ≡ half) where
-  part : (r : ℕ) → r ≡ 0 → half_at half r (a ++ b) ≡ a
-  part r is =
-      let none : half * r ≡ 0 = ap (λ (n : ℕ). half * n) is ∙ omega arith in
-      ap (λ (n : ℕ). take half (drop n (a ++ b))) none ∙ take_at a b half sized
-
-  part_two : (r : ℕ) → r ≡ 1 → half_at half r (a ++ b) ≡ b
-  part_two r is =
-      let one : half * r ≡ half = ap (λ (n : ℕ). half * n) is ∙ omega arith in
-      ap (λ (n : ℕ). take half (drop n (a ++ b))) one ∙ ap (λ (l : List ℕ). take half l) (drop_at a b half sized) ∙ take_all half b (omega arith)
-
--- a write to half r, of an NVRAM of two halves
-module _ (half at : ℕ) (a b bytes : List ℕ) (sized : length a ≡ half) (sized_too : length b ≡ half) (fits : at + length bytes ≤ half) where
-  to_first : (r : ℕ) → r ≡ 0 → nvram_with (half * r + at) bytes (a ++ b) ≡ nvram_with at bytes a ++ b
-  to_first r is =
-      let place : half * r + at ≡ at = ap (λ (n : ℕ). half * n + at) is ∙ omega arith in
-      ap (λ (n : ℕ). nvram_with n bytes (a ++ b)) place ∙ within_first a b bytes at (omega arith)
-
-  to_second : (r : ℕ) → r ≡ 1 → nvram_with (half * r + at) bytes (a ++ b) ≡ a ++ nvram_with at bytes b
-  to_second r is =
-      let place : half * r + at ≡ length a + at = ap (λ (n : ℕ). half * n + at) is ∙ omega arith in
-      ap (λ (n : ℕ). nvram_with n bytes (a ++ b)) place ∙ within_second a b bytes at
-
-  same_part : (r : ℕ) → r < 2 → half_at half r (nvram_with (half * r + at) bytes (a ++ b)) ≡ nvram_with at bytes (half_at half r (a ++ b))
-  same_part r low = elim (cases_eq r 0) [
-    | inl zeroth ↦
-        ap (half_at half r) (to_first r zeroth)
-        ∙ part half (nvram_with at bytes a) b (length-nvram_with at bytes a (omega arith) ∙ sized) sized_too r zeroth
-        ∙ ap (λ (l : List ℕ). nvram_with at bytes l) (sym (part half a b sized sized_too r zeroth))
-    | inr other ↦
-        let one : r ≡ 1 = omega arith in
-        ap (half_at half r) (to_second r one)
-        ∙ part_two half a (nvram_with at bytes b) sized (length-nvram_with at bytes b (omega arith) ∙ sized_too) r one
-        ∙ ap (λ (l : List ℕ). nvram_with at bytes l) (sym (part_two half a b sized sized_too r one))
-  ]
-
-  other_part : (r q : ℕ) → r < 2 → q < 2 → q ≢ r → half_at half q (nvram_with (half * r + at) bytes (a ++ b)) ≡ half_at half q (a ++ b)
-  other_part r q low low_too differ = elim (cases_eq r 0) [
-    | inl zeroth ↦
-        let one : q ≡ 1 = omega arith in
-        ap (half_at half q) (to_first r zeroth)
-        ∙ part_two half (nvram_with at bytes a) b (length-nvram_with at bytes a (omega arith) ∙ sized) sized_too q one
-        ∙ sym (part_two half a b sized sized_too q one)
-    | inr other ↦
-        let one : r ≡ 1 = omega arith in
-        let none : q ≡ 0 = omega arith in
-        ap (half_at half q) (to_second r one)
-        ∙ part half a (nvram_with at bytes b) sized (length-nvram_with at bytes b (omega arith) ∙ sized_too) q none
-        ∙ sym (part half a b sized sized_too q none)
-  ]
-
--- a write to half r of any NVRAM
-module _ (half at r : ℕ) (nvram bytes : List ℕ) (size : length nvram ≡ 2 * half) (fits : at + length bytes ≤ half) (low : r < 2) where
-  whole : take half nvram ++ drop half nvram ≡ nvram
-  whole = take-append-drop half nvram
-
-  sized : length (take half nvram) ≡ half
-  sized = length-take-le half nvram (omega arith)
-
-  sized_too : length (drop half nvram) ≡ half
-  sized_too = omega (arith, length-drop half nvram)
-
-  pub same_half : half_at half r (nvram_with (half * r + at) bytes nvram) ≡ nvram_with at bytes (half_at half r nvram)
-  same_half = subst (λ (l : List ℕ). half_at half r (nvram_with (half * r + at) bytes l) ≡ nvram_with at bytes (half_at half r l)) whole
-      (same_part half at (take half nvram) (drop half nvram) bytes sized sized_too fits r low)
-
-  pub other_half : (q : ℕ) → q < 2 → q ≢ r → half_at half q (nvram_with (half * r + at) bytes nvram) ≡ half_at half q nvram
-  other_half q low_too differ = subst (λ (l : List ℕ). half_at half q (nvram_with (half * r + at) bytes l) ≡ half_at half q l) whole
-      (other_part half at (take half nvram) (drop half nvram) bytes sized sized_too fits r q low low_too differ)
-
-  pub size_stays : length (nvram_with (half * r + at) bytes nvram) ≡ 2 * half
-  size_stays =
-      let within : half * r ≤ half * 1 = mul-le-mul_left half (omega arith) in
-      length-nvram_with (half * r + at) bytes nvram (omega arith) ∙ size
+-- bytes written within the second of three parts
+within : (before part after bytes : List ℕ) (start at : ℕ) → length before ≡ start → at + length bytes ≤ length part → nvram_with (start + at) bytes (before ++ (part ++ after)) ≡ before ++ (nvram_with at bytes part ++ after)
+within before part after bytes start at begins fits =
+    let place : start + at ≡ length before + at = omega arith in
+    let end : start + at + length bytes ≡ length before + (at + length bytes) = omega arith in
+    let front : take (start + at) (before ++ (part ++ after)) ≡ before ++ take at part =
+    ap (λ (n : ℕ). take n (before ++ (part ++ after))) place ∙ take-append-add before (part ++ after) at ∙ ap (λ (l : List ℕ). before ++ l) (take-append-le at part after (omega arith)) in
+    let back : drop (start + at + length bytes) (before ++ (part ++ after)) ≡ drop (at + length bytes) part ++ after =
+    ap (λ (n : ℕ). drop n (before ++ (part ++ after))) end ∙ drop-append-add before (part ++ after) (at + length bytes) ∙ drop-append-le (at + length bytes) part after fits in
+    (λ i. (front i ++ bytes) ++ back i) ∙ simp append_assoc
 
 pub length-half_at : (half r : ℕ) (nvram : List ℕ) → length nvram ≡ 2 * half → r < 2 → length (half_at half r nvram) ≡ half
 length-half_at half r nvram size low =
-    let within : half * r ≤ half * 1 = mul-le-mul_left half (omega arith) in
+    let within_it : half * r ≤ half * 1 = mul-le-mul_left half (omega arith) in
     length-take-le half (drop (half * r) nvram) (omega (arith, length-drop (half * r) nvram))
+
+-- a write to half r of an NVRAM
+module _ (half at r : ℕ) (nvram bytes : List ℕ) (size : length nvram ≡ 2 * half) (fits : at + length bytes ≤ half) (low : r < 2) where
+  abbrev before : List ℕ
+  before = take (half * r) nvram
+
+  abbrev after : List ℕ
+  after = drop half (drop (half * r) nvram)
+
+  start_within : half * r ≤ half
+  start_within = let least : half * r ≤ half * 1 = mul-le-mul_left half (omega arith) in omega arith
+
+  whole : before ++ (half_at half r nvram ++ after) ≡ nvram
+  whole = ap (λ (l : List ℕ). before ++ l) (take-append-drop half (drop (half * r) nvram)) ∙ take-append-drop (half * r) nvram
+
+  begins : length (before) ≡ half * r
+  begins = length-take-le (half * r) nvram (omega (arith, start_within))
+
+  sized : length (half_at half r nvram) ≡ half
+  sized = length-half_at half r nvram size low
+
+  shape : nvram_with (half * r + at) bytes nvram ≡ before ++ (nvram_with at bytes (half_at half r nvram) ++ after)
+  shape =
+      ap (λ (l : List ℕ). nvram_with (half * r + at) bytes l) (sym whole)
+      ∙ within (before) (half_at half r nvram) (after) bytes (half * r) at begins (omega (arith, sized))
+
+  sized_still : length (nvram_with at bytes (half_at half r nvram)) ≡ half
+  sized_still = length-nvram_with at bytes (half_at half r nvram) (omega (arith, sized)) ∙ sized
+
+  pub same_half : half_at half r (nvram_with (half * r + at) bytes nvram) ≡ nvram_with at bytes (half_at half r nvram)
+  same_half =
+      let part = nvram_with at bytes (half_at half r nvram) in
+      ap (λ (l : List ℕ). take half (drop (half * r) l)) shape
+      ∙ ap (λ (l : List ℕ). take half l) (drop_at (before) (part ++ after) (half * r) begins)
+      ∙ take_at part after half sized_still
+
+  -- the other half is the first part or the third
+  other_part : (q : ℕ) (part : List ℕ) → q < 2 → q ≢ r → length part ≡ half
+      → half_at half q (before ++ (part ++ after)) ≡ half_at half q (before ++ (half_at half r nvram ++ after))
+  other_part q part low_too differ long = elim (cases_eq r 0) [
+    | inl zeroth ↦
+        let none : half * r ≡ half * 0 = ap (λ (n : ℕ). half * n) zeroth in
+        let one : q ≡ 1 = omega arith in
+        let place : half * q ≡ half * 1 = ap (λ (n : ℕ). half * n) one in
+        ap (λ (l : List ℕ). take half l) (last part long (half * q) (omega (arith, none, place)) ∙ sym (last (half_at half r nvram) sized (half * q) (omega (arith, none, place))))
+    | inr other ↦
+        let one : r ≡ 1 = omega arith in
+        let all : half * r ≡ half * 1 = ap (λ (n : ℕ). half * n) one in
+        let none : q ≡ 0 = omega arith in
+        let place : half * q ≡ half * 0 = ap (λ (n : ℕ). half * n) none in
+        first part (half * q) (omega (arith, place)) (omega (arith, all)) ∙ sym (first (half_at half r nvram) (half * q) (omega (arith, place)) (omega (arith, all)))
+  ]
+    where
+      last : (p : List ℕ) → length p ≡ half → (n : ℕ) → n ≡ half * r + half → drop n (before ++ (p ++ after)) ≡ after
+      last p sized_p n is =
+          ap (λ (l : List ℕ). drop n l) (sym (append_assoc (before) p (after)))
+          ∙ drop_at (before ++ p) (after) n (omega (arith, length-append (before) p, begins, sized_p, is))
+
+      first : (p : List ℕ) (n : ℕ) → n ≡ 0 → half * r ≡ half → take half (drop n (before ++ (p ++ after))) ≡ before
+      first p n none all =
+          ap (λ (m : ℕ). take half (drop m (before ++ (p ++ after)))) none
+          ∙ take_at (before) (p ++ after) half (begins ∙ all)
+
+  pub other_half : (q : ℕ) → q < 2 → q ≢ r → half_at half q (nvram_with (half * r + at) bytes nvram) ≡ half_at half q nvram
+  other_half q low_too differ =
+      ap (half_at half q) shape ∙ other_part q (nvram_with at bytes (half_at half r nvram)) low_too differ sized_still ∙ ap (half_at half q) whole
+
+  pub size_stays : length (nvram_with (half * r + at) bytes nvram) ≡ 2 * half
+  size_stays = length-nvram_with (half * r + at) bytes nvram (omega (arith, start_within)) ∙ size

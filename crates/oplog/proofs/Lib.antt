@@ -1,9 +1,7 @@
 pub mod Halves
-mod Bodies
-mod Steps
+mod Records
+mod Runs
 mod Writes
-pub mod Keeps
-pub mod Appends
-pub mod Joins
-mod Headers
+mod Openings
+mod Covering
 mod Reading

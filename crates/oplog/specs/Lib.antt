@@ -1,3 +1,3 @@
-pub mod Ends
-pub mod Saved
-pub mod Parts
+pub mod LogEnd
+pub mod SavedLog
+pub mod Internal

@@ -2,8 +2,9 @@
 //! of its parity; a record counts once its gate is open.
 #![tactic(auto)]
 
+mod append;
 mod log;
 mod saved;
 
-pub use log::{Log, LogError};
-pub use saved::SavedLog;
+pub use log::{AppendError, Log};
+pub use saved::{SavedLog, SavedLogError};

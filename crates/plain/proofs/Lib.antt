@@ -1,3 +1,4 @@
+mod TreeLemmas
 mod ListLemmas
 mod ListingLemmas
 mod CallLemmas

@@ -13,10 +13,11 @@ use Rattle.std.proofs.lemmas.List.Quantifiers.{all_pairs_push}
 use Rattle.std.proofs.Math.Bool.{or-true}
 use Rattle.plain.specs.declared.directory.Directory.{Directory}
 use Rattle.model.specs.Paths.{Name, Path}
-use Rattle.model.specs.Trees.{Tree, Object, path_eq, directory, number, root_alone}
-use Rattle.model.specs.Calls.{IsUsed}
+use Rattle.model.specs.Paths.{path_eq}
+use Rattle.model.specs.Trees.{Tree, Object, IsUsed, directory, number, root_alone}
 use Rattle.plain.specs.Lists.{parent_of, path_of, with_made, tree_of, has_number, HasDistinctPaths, HasDistinctNumbers}
-use Rattle.model.proofs.TreeLemmas.{path_eq-longer, path_eq-empty, path_eq-push, path_eq-same, same_path, HasDirectoriesOnly}
+use Rattle.model.proofs.WalkLemmas.{path_eq-same, same_path}
+use Rattle.plain.proofs.TreeLemmas.{path_eq-longer, path_eq-empty, path_eq-push, HasDirectoriesOnly}
 
 none_some : {X Y : Type 0} {x : X} → None ≡ Some x → Y
 none_some e = cc

@@ -16,8 +16,8 @@ use Rattle.std.proofs.lemmas.Cmp.{nat_list_eq_equiv}
 use Rattle.std.proofs.lemmas.Map.Views.{list_any-from_Contains, Contains-from_any}
 use Rattle.plain.specs.declared.directory.Directory.{Directory}
 use Rattle.model.specs.Paths.{Name}
-use Rattle.model.specs.Trees.{path_eq}
-use Rattle.model.specs.Calls.{IsListing}
+use Rattle.model.specs.Paths.{path_eq}
+use Rattle.model.specs.Outcomes.{IsListing}
 use Rattle.plain.specs.Lists.{path_of, tree_of}
 use Rattle.plain.proofs.ListLemmas.{compared-names, compared-parents, list_any-map, has_name}
 

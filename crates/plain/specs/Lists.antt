@@ -1,12 +1,14 @@
 -- What the lists of `PlainState` stand for.
-use Rattle.std.specs.Prelude.{◌≢◌, ℕ, ◌==◌, ◌||◌, Bool, List, [], ◌∷◌, ◌++◌, map, fold, All, AllPairs}
+use Rattle.std.specs.Prelude.{◌≢◌, ℕ, ◌==◌, ◌||◌, Bool, Some, None, List, [], ◌∷◌, ◌++◌, map, fold, All, AllPairs}
 use Rattle.std.specs.List.{list_any}
 use Rattle.plain.specs.declared.directory.Directory.{Directory}
 use Rattle.plain.specs.declared.state.Place.{Place}
 use Rattle.plain.specs.declared.state.Place.TheVariants.{Named, Missing, Refused}
-use Rattle.model.specs.Paths.{Path}
-use Rattle.model.specs.Trees.{Tree, with_directory, root_alone}
-use Rattle.model.specs.Resolution.{Resolution, named, missing, refused}
+use Rattle.model.specs.declared.limits.TheConstants.{ROOT_NUMBER}
+use Rattle.model.specs.Paths.{Path, Tests, first_refusal}
+use Rattle.model.specs.Trees.{Tree, root_alone}
+use Rattle.model.specs.Edits.{with_directory}
+use Rattle.model.specs.Resolution.{Resolution, named, missing, refused, resolve}
 
 -- the path of the directory that it is made in
 abbrev pub parent_of : Directory → Path
@@ -26,15 +28,20 @@ tree_of made = fold with_made (root_alone 0o755) made
 abbrev pub HasDistinctPaths : List Directory → Type 0
 HasDistinctPaths made = AllPairs (λ d e. path_of d ≢ path_of e) made
 
--- no number was given twice, nor the root's, which is 3
+-- no number was given twice, nor the root's
 abbrev pub HasDistinctNumbers : List Directory → Type 0
-HasDistinctNumbers made = AllPairs (λ d e. d.number ≢ e.number) made × All (λ d. d.number ≢ 3) made
+HasDistinctNumbers made = AllPairs (λ d e. d.number ≢ e.number) made × All (λ d. d.number ≢ ROOT_NUMBER) made
 
--- whether a directory has this number; the root has 3
+-- whether a directory has this number
 abbrev pub has_number : List Directory → ℕ → Bool
-has_number made n = n == 3 || list_any (λ d. d.number == n) made
+has_number made n = n == ROOT_NUMBER || list_any (λ d. d.number == n) made
 
 abbrev pub resolution_of : Place → Resolution
 resolution_of (Named path) = named (map (λ name. name.items) path.items)
 resolution_of (Missing parent name) = missing (map (λ name. name.items) parent.items) name.items
 resolution_of (Refused errno) = refused errno
+
+-- where a text leads, once it has passed these tests
+abbrev pub resolve_tested : Tests → Tree → Bool → List ℕ → Resolution
+resolve_tested tests t follow text =
+    elim (first_refusal tests) [ Some errno ↦ refused errno | None ↦ resolve t follow text ]

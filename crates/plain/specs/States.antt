@@ -8,8 +8,11 @@ use Rattle.plain.specs.declared.state.Plan.TheVariants.{Answer, Make}
 use Rattle.plain.specs.declared.state.PlainState.{PlainState}
 use Rattle.model.specs.Paths.{IsName}
 use Rattle.model.specs.Trees.{Tree}
-use Rattle.model.specs.Calls.{MakesDirectory, AddsDirectory}
-use Rattle.model.specs.States.{State, going, with_tree, WouldStep}
+use Rattle.model.specs.Room.{Room, nothing, logs, adds_name}
+use Rattle.model.specs.Changing.{makes_directory}
+use Rattle.model.specs.Additions.{AddsDirectory}
+use Rattle.model.specs.States.{State, going, with_tree}
+use Rattle.model.specs.Steps.{WouldStep}
 use Rattle.plain.specs.Lists.{path_of, has_number, tree_of}
 
 abbrev pub state_of : PlainState → State
@@ -35,16 +38,18 @@ pub record IsAddition (p : PlainState) (new : NewDirectory) : Type 0 where
 
 -- what `mkdir` comes to
 abbrev pub PlansDirectory : PlainState → List ℕ → ℕ → Plan → Type 0
-PlansDirectory p text mode (Answer reply) = MakesDirectory p.inodes (state_of p).tree text mode reply (state_of p).tree
+PlansDirectory p text mode (Answer reply) = makes_directory p.inodes (state_of p).tree text mode reply (state_of p).tree nothing
 PlansDirectory p text mode (Make new) =
-    MakesDirectory p.inodes (state_of p).tree text mode Done (tree_with p new) × IsFree p new × IsAddition p new
+    makes_directory p.inodes (state_of p).tree text mode Done (tree_with p new) (logs adds_name) × IsFree p new × IsAddition p new
 
--- what a command comes to
+-- what a command comes to, whatever the room
 abbrev pub Plans : PlainState → Command → Plan → Type 0
-Plans p command (Answer reply) = WouldStep (state_of p) command reply (state_of p)
-Plans p command (Make new) = WouldStep (state_of p) command Done (with_tree (tree_with p new) (state_of p)) × IsFree p new × IsAddition p new
+Plans p command (Answer reply) = (room : Room) → WouldStep room (state_of p) command reply (state_of p) nothing
+Plans p command (Make new) =
+    ((room : Room) → WouldStep room (state_of p) command Done (with_tree (tree_with p new) (state_of p)) (logs adds_name)) × IsFree p new × IsAddition p new
 
 -- what a record that makes a directory comes to: None where it doesn't apply
 abbrev pub PlansCreation : PlainState → ℕ → ℕ → List ℕ → ℕ → Option NewDirectory → Type 0
 PlansCreation p number parent name mode None = (t : Tree) → AddsDirectory p.inodes number parent name mode (state_of p).tree t → ⊥
-PlansCreation p number parent name mode (Some new) = IsFree p new × AddsDirectory p.inodes number parent name mode (state_of p).tree (tree_with p new)
+PlansCreation p number parent name mode (Some new) =
+    IsFree p new × IsAddition p new × AddsDirectory p.inodes number parent name mode (state_of p).tree (tree_with p new)

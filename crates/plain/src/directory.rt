@@ -16,7 +16,7 @@ pub(crate) struct Directory {
 
 impl Directory {
     ghost use Rattle.std.specs.Prelude.{◌≡◌, ◌++◌, ◌∷◌, [], map, IfOk};
-    ghost use Rattle.model.specs.Trees.{path_eq};
+    ghost use Rattle.model.specs.Paths.{path_eq};
     ghost use Rattle.plain.specs.Lists.{path_of};
 
     pub(crate) fn has_path(&self, parent: &[Vec<u8>], name: &[u8]) -> bool

@@ -4,8 +4,6 @@
 
 mod directory;
 mod state;
-#[cfg(test)]
-mod tests;
 mod texts;
 
 pub use state::{NewDirectory, PlainState, Plan};

@@ -8,18 +8,12 @@ ghost use Rattle.plain.specs.Lists.{HasDistinctPaths, HasDistinctNumbers};
 
 use crate::directory::Directory;
 use crate::texts::{ITSELF, PARENT, parts, refusal_of_new_text, refusal_of_text};
-use model::{Command, Errno, Mode, Names, PathCall, Reply};
+use model::{
+    Command, DIRECTORY_NAMES, Errno, FIRST_NUMBER, Mode, NAME_BYTES, Names, PathCall, ROOT_NUMBER,
+    Reply,
+};
 use std::alloc::{AllocError, Global};
 use std::collections::BTreeSet;
-
-/// A directory takes no more names than these.
-const MAX_NAMES: usize = 65_536;
-
-/// The least number that a new object may take: those below it are the file system's own.
-const FIRST_NUMBER: u32 = 4;
-
-/// The root directory's number.
-const ROOT_NUMBER: u32 = 3;
 
 /// A directory that is to be made where nothing stands.
 #[derive(Debug, Drop)]
@@ -90,17 +84,22 @@ impl PlainState {
     ghost use Rattle.std.specs.Prelude.{◌==◌};
     ghost use Rattle.std.specs.List.{list_any};
     ghost use Rattle.model.specs.Paths.{Path, text_tests, new_text_tests};
-    ghost use Rattle.model.specs.Resolution.{resolve_tested, walk, at};
-    ghost use Rattle.model.specs.Calls.{Lists, MakesDirectory, IsListing, IsFresh, HasNoFresh};
-    ghost use Rattle.model.specs.States.{empty, clear, with_tree, Allowed};
+    ghost use Rattle.model.specs.Paths.{IsName};
+    ghost use Rattle.model.specs.Resolution.{walk, at};
+    ghost use Rattle.model.specs.Room.{nothing};
+    ghost use Rattle.model.specs.Outcomes.{IsListing, IsFresh, HasNoFresh};
+    ghost use Rattle.model.specs.Reading.{lists};
+    ghost use Rattle.model.specs.States.{IsState, empty, with_tree};
+    ghost use Rattle.model.specs.Served.{IsServed};
     ghost use Rattle.model.specs.Trees.{directory};
-    ghost use Rattle.plain.specs.Lists.{tree_of, resolution_of};
-    ghost use Rattle.plain.specs.States.{state_of, tree_with, Plans, PlansDirectory, PlansCreation, HasRoom, IsFree};
+    ghost use Rattle.plain.specs.Lists.{tree_of, resolution_of, resolve_tested};
+    ghost use Rattle.plain.specs.States.{state_of, tree_with, Plans, PlansDirectory, PlansCreation, HasRoom, IsFree, IsAddition};
     ghost use Rattle.model.specs.declared.command.Command.{Command};
 
     /// A root directory of mode 0755 and nothing else; new objects take numbers below `inodes`.
     pub fn new(alloc: Global, inodes: u32) -> PlainState
-        ensures { state_of result ≡ empty inodes }
+        ensures empty { state_of result ≡ empty inodes }
+        ensures good { IsState (state_of result) }
     {
         PlainState {
             inodes,
@@ -108,41 +107,24 @@ impl PlainState {
         }
     }
 
-    /// Does a command. Where there is no memory nothing changes.
-    pub fn step(&mut self, alloc: Global, command: &Command) -> Result<Reply, AllocError>
-        ensures allowed { IfOk result (λ reply. Allowed clear (state_of self.old) command.now reply (state_of self.new)) }
-        ensures no_memory { OnErr result (state_of self.new ≡ state_of self.old) }
-    {
-        match self.plan(alloc, command)? {
-            Plan::Answer(reply) => Ok(reply),
-            Plan::Make(new) => {
-                self.reserve()?;
-                self.make(new);
-                Ok(Reply::Done)
-            }
-        }
-    }
-
     /// What a command comes to. Nothing changes.
     pub fn plan(&self, alloc: Global, command: &Command) -> Result<Plan, AllocError>
+        requires { IsServed command.now }
         ensures { IfOk result (Plans self.now command.now) }
     {
         match command {
-            Command::Path(call) => self.plan_by_path(alloc, call),
-        }
-    }
-
-    fn plan_by_path(&self, alloc: Global, call: &PathCall) -> Result<Plan, AllocError>
-        ensures { IfOk result (Plans self.now (Command.Path call.now)) }
-    {
-        match call {
-            PathCall::List { path } => Ok(Plan::Answer(self.list(alloc, path.as_bytes())?)),
-            PathCall::Mkdir { path, mode } => self.plan_directory(alloc, path.as_bytes(), *mode),
+            Command::Path(PathCall::List { path }) => {
+                Ok(Plan::Answer(self.list(alloc, path.as_bytes())?))
+            }
+            Command::Path(PathCall::Mkdir { path, mode }) => {
+                self.plan_directory(alloc, path.as_bytes(), *mode)
+            }
+            _ => unreachable!(),
         }
     }
 
     fn list(&self, alloc: Global, text: &[u8]) -> Result<Reply, AllocError>
-        ensures { IfOk result (λ reply. Lists (state_of self.now).tree text.now reply) }
+        ensures { let t = (state_of self.now).tree in IfOk result (λ reply. lists t text.now reply t nothing) }
     {
         match self.resolve(alloc, text)? {
             Place::Refused(errno) => Ok(Reply::Refused(errno)),
@@ -162,7 +144,7 @@ impl PlainState {
             Place::Named(_) => Ok(Plan::Answer(Reply::Refused(Errno::EEXIST))),
             Place::Missing(parent, name) => {
                 let names = self.listing(alloc, parent.as_slice())?;
-                if names.len() >= MAX_NAMES {
+                if names.len() >= DIRECTORY_NAMES {
                     return Ok(Plan::Answer(Reply::Refused(Errno::DIRFULL)));
                 }
                 let Some(number) = self.fresh_number() else {
@@ -191,6 +173,7 @@ impl PlainState {
         name: &[u8],
         mode: Mode,
     ) -> Result<Option<NewDirectory>, AllocError>
+        requires { IsName name.now }
         ensures { IfOk result (PlansCreation self.now number parent name.now mode) }
     {
         if number < FIRST_NUMBER || number >= self.inodes || self.has_number(number) {
@@ -203,7 +186,7 @@ impl PlainState {
             return Ok(None);
         }
         let names = self.listing(alloc, path.as_slice())?;
-        if names.len() >= MAX_NAMES {
+        if names.len() >= DIRECTORY_NAMES {
             return Ok(None);
         }
         let name = Vec::from_slice(alloc, name)?;
@@ -231,11 +214,15 @@ impl PlainState {
     pub fn make(&mut self, new: NewDirectory)
         requires room { HasRoom self.old }
         requires free { IsFree self.old new }
+        requires addition { IsAddition self.old new }
         ensures made { self.new.directories.items ≡ self.old.directories.items ++ new.directory ∷ [] }
         ensures inodes { self.new.inodes ≡ self.old.inodes }
         ensures state { state_of self.new ≡ with_tree (tree_with self.old new) (state_of self.old) }
+        ensures good { IsState (state_of self.old) → IsState (state_of self.new) }
     {
         let NewDirectory { directory, .. } = new;
+        // That these are twelve bits is a part of what a tree keeps.
+        let _bits = directory.mode.bits();
         self.directories.push(directory).unwrap();
     }
 
@@ -302,7 +289,7 @@ impl PlainState {
                 path.pop();
                 continue;
             }
-            if part.len() > 255 {
+            if part.len() > NAME_BYTES {
                 return Ok(Place::Refused(Errno::ENAMETOOLONG));
             }
             let name = Vec::from_slice(alloc, part)?;

@@ -5,7 +5,7 @@ ghost use Rattle.std.specs.Prelude.{◌==◌};
 ghost use Rattle.std.specs.List.{list_any};
 ghost use Rattle.model.specs.Paths.{parts as parts_of, is_too_long, first_refusal, text_tests, new_text_tests};
 
-use model::Errno;
+use model::{Errno, NAME_BYTES, PATH_BYTES};
 use std::alloc::{AllocError, Global};
 
 /// The name of a directory in itself.
@@ -32,7 +32,7 @@ fn has_zero(text: &[u8]) -> bool
 fn has_long_part(parts: &[&[u8]]) -> bool
     ensures { result ≡ list_any is_too_long (map (λ part. part.now) parts.now) }
 {
-    parts.iter().any(|part| part.len() > 255)
+    parts.iter().any(|part| part.len() > NAME_BYTES)
 }
 
 /// Why a path's text, with these parts, is refused.
@@ -44,7 +44,7 @@ pub(crate) fn refusal_of_text(text: &[u8], parts: &[&[u8]]) -> Option<Errno>
         Some(Errno::ENOENT)
     } else if has_zero(text) {
         Some(Errno::EINVAL)
-    } else if text.len() > 1023 {
+    } else if text.len() > PATH_BYTES {
         Some(Errno::ENAMETOOLONG)
     } else if text[0] != b'/' {
         Some(Errno::EINVAL)

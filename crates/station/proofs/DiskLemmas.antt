@@ -6,7 +6,7 @@ use Rattle.std.proofs.lemmas.Bool.Decides.{nat_tests}
 use Rattle.std.proofs.lemmas.List.{same_lists, places, take_more}
 use Rattle.station.specs.Images.{part_of, reaches, disk_with, nvram_with}
 use Rattle.station.specs.Device.{sectors_of, IsOneOf}
-use Rattle.station.specs.Writes.{parts_of, written_to, keeps, kept_value, IsInRange}
+use Rattle.station.specs.Unsynced.{parts_of, written_to, keeps, kept_value, IsInRange}
 use Rattle.station.specs.declared.history.SectorWrite.{SectorWrite}
 use Rattle.station.specs.declared.keep.Keep.{Keep}
 

@@ -5,8 +5,8 @@ use Rattle.std.proofs.lemmas.Bool.{cases_eq}
 use Rattle.std.specs.Global.{Vec}
 use Rattle.std.specs.Prelude.{if◌then◌else◌}
 use Rattle.std.proofs.Math.Path.{fun_ext}
-use Rattle.station.specs.Images.{Images, part_of, reaches, disk_with, nvram_with, Unchanged, MayWrite, NvWrites, MayNvWrite, Reaches}
-use Rattle.station.specs.Moments.{Goes}
+use Rattle.station.specs.Images.{Images, Sector, part_of, reaches, disk_with, nvram_with, Unchanged, SomeSectorsWritten, NvramWritten, NvramPrefixWritten, Reaches}
+use Rattle.station.specs.Moments.{Went}
 use Rattle.station.specs.Device.{Device, reads_of, after, after_all, IsOneOf, MayBeLeft, LeftWithin, LeftAt}
 use Rattle.station.specs.Sim.{known}
 use Rattle.station.specs.declared.history.Call.{Call}
@@ -22,20 +22,22 @@ pub record IsStep (step : Images → Images → Type 0) (d : Device) (call : Cal
   pub seen : step (reads_of d) (reads_of (after d call))
 
 -- no call
-pub goes_stays : (step : Images → Images → Type 0) (s n r w s' n' r' w' : ℕ) (first first' : Device) (calls calls' : List Call) → first' ≡ first → calls' ≡ calls → ((c : Images) → step c c) → Goes step (known s n r w first calls) (known s' n' r' w' first' calls')
+pub goes_stays : (step : Images → Images → Type 0) (s n r w s' n' r' w' : ℕ) (first first' : Device) (calls calls' : List Call) → first' ≡ first → calls' ≡ calls → ((c : Images) → step c c) → Went step (known s n r w first calls) (known s' n' r' w' first' calls')
 goes_stays step s n r w s' n' r' w' first first' calls calls' e f same = rw (e, f) record {
+  honest = tt;
   later = omega arith;
-  kept = λ t c le left. left;
+  kept = λ t c le. (λ left. left, λ left. left);
   added = λ t c early late left. absurd (omega arith);
   now = λ c left. (c, left, same c);
   seen = same _;
 }
 
 -- one call
-pub goes_call : (step : Images → Images → Type 0) (s n r w s' n' r' w' : ℕ) (first first' : Device) (calls calls' : List Call) (call : Call) → first' ≡ first → calls' ≡ calls ++ call ∷ [] → IsStep step (after_all first calls) call → Goes step (known s n r w first calls) (known s' n' r' w' first' calls')
+pub goes_call : (step : Images → Images → Type 0) (s n r w s' n' r' w' : ℕ) (first first' : Device) (calls calls' : List Call) (call : Call) → first' ≡ first → calls' ≡ calls ++ call ∷ [] → IsStep step (after_all first calls) call → Went step (known s n r w first calls) (known s' n' r' w' first' calls')
 goes_call step s n r w s' n' r' w' first first' calls calls' call e f is = rw (e, f) record {
+  honest = tt;
   later = omega (arith, length-append calls (call ∷ []));
-  kept = λ t c le left. LeftAt-push_early first calls call t c le left;
+  kept = λ t c le. LeftAt-push_early first calls call t c le;
   added = λ t c early late left. elim (cases_two (2 * length calls) t early (omega (arith, length-append calls (call ∷ [])))) [
     | inl odd ↦ before (is.within c (LeftAt-push_within first calls call c (subst (λ u. LeftAt first (calls ++ call ∷ []) u c) odd left)))
     | inr even ↦ before (is.now c (LeftAt-push_after first calls call c (subst (λ u. LeftAt first (calls ++ call ∷ []) u c) (even ∙ twice) left)))
@@ -62,7 +64,7 @@ is_step-read d = record {
 }
 
 -- the one value of a settled sector
-IsOneOf-single : (x y : List ℕ) → IsOneOf x (y ∷ []) → x ≡ y
+IsOneOf-single : (x y : Sector) → IsOneOf x (y ∷ []) → x ≡ y
 IsOneOf-single x y one = elim one [ inl e ↦ e | inr none ↦ absurd none ]
 
 pub is_step-sync : (d : Device) (done : Bool) → SeenIsHeld d → IsStep Unchanged d (Sync done)
@@ -85,7 +87,7 @@ left_after_sync d c left =
     let disk : c.disk ≡ d.seen = fun_ext (λ n. IsOneOf-single _ _ (left.disk n)) in
     λ i. record { disk = disk i; nvram = left.nvram i }
 
-pub is_step-nv_write : (d : Device) (at : ℕ) (bytes : Vec ℕ) (kept : ℕ) → kept ≤ length bytes.items → IsStep (MayNvWrite at bytes.items) d (NvWrite at bytes kept)
+pub is_step-nv_write : (d : Device) (at : ℕ) (bytes : Vec ℕ) (kept : ℕ) → kept ≤ length bytes.items → IsStep (NvramPrefixWritten at bytes.items) d (NvWrite at bytes kept)
 unfolding after LeftWithin
 is_step-nv_write d at bytes kept le = record {
   within = λ c left. keeps_some c left.0 left.1 left.2;
@@ -93,11 +95,11 @@ is_step-nv_write d at bytes kept le = record {
   seen = record { kept = kept; within = le; writes = refl };
 }
   where
-    keeps_some : (c : Images) (k : ℕ) → k ≤ length bytes.items → MayBeLeft (after d (NvWrite at bytes k)) c → (e : Images) × MayBeLeft d e × MayNvWrite at bytes.items e c
+    keeps_some : (c : Images) (k : ℕ) → k ≤ length bytes.items → MayBeLeft (after d (NvWrite at bytes k)) c → (e : Images) × MayBeLeft d e × NvramPrefixWritten at bytes.items e c
     keeps_some c k within left = (record { disk = c.disk; nvram = d.nvram }, record { disk = left.disk; nvram = refl }, record { kept = k; within = within; writes = λ i. record { disk = c.disk; nvram = left.nvram i } })
 
 -- an NVRAM write that keeps all its bytes
-pub left_after_nv_write : (d : Device) (at : ℕ) (bytes : Vec ℕ) (c : Images) → MayBeLeft (after d (NvWrite at bytes (length bytes.items))) c → (e : Images) × MayBeLeft d e × NvWrites at bytes.items e c
+pub left_after_nv_write : (d : Device) (at : ℕ) (bytes : Vec ℕ) (c : Images) → MayBeLeft (after d (NvWrite at bytes (length bytes.items))) c → (e : Images) × MayBeLeft d e × NvramWritten at bytes.items e c
 unfolding after
 left_after_nv_write d at bytes c left = (
   record { disk = c.disk; nvram = d.nvram },
@@ -106,12 +108,12 @@ left_after_nv_write d at bytes c left = (
 )
 
 -- a sector that a write may have reached, as it was before
-record Earlier (d : Device) (first : ℕ) (bytes : List ℕ) (x : List ℕ) (n : ℕ) : Type 0 where
-  pub value : List ℕ
+record Earlier (d : Device) (first : ℕ) (bytes : List ℕ) (x : Sector) (n : ℕ) : Type 0 where
+  pub value : Sector
   pub held : IsOneOf value (d.held n)
   pub is : (x ≡ value) ⊎ (Reaches first bytes n × (x ≡ part_of first bytes n))
 
-earlier : (d : Device) (first : ℕ) (bytes : List ℕ) (x : List ℕ) (n : ℕ) → SeenIsHeld d → IsOneOf x (if reaches first bytes n then d.held n ++ part_of first bytes n ∷ [] else d.held n) → Earlier d first bytes x n
+earlier : (d : Device) (first : ℕ) (bytes : List ℕ) (x : Sector) (n : ℕ) → SeenIsHeld d → IsOneOf x (if reaches first bytes n then d.held n ++ part_of first bytes n ∷ [] else d.held n) → Earlier d first bytes x n
 earlier d first bytes x n held one = elim (cases_reach first bytes n) [
   | inl within ↦ elim (IsOneOf-append x (d.held n) (part_of first bytes n) (rw within.2 at one)) [
     | inl old ↦ record { value = x; held = old; is = inl refl }
@@ -120,7 +122,7 @@ earlier d first bytes x n held one = elim (cases_reach first bytes n) [
   | inr off ↦ record { value = x; held = rw off.1 at one; is = inl refl }
 ]
 
-pub is_step-write : (d : Device) (first : ℕ) (bytes : Vec ℕ) (done : Bool) → SeenIsHeld d → IsStep (MayWrite first bytes.items) d (Write first bytes done)
+pub is_step-write : (d : Device) (first : ℕ) (bytes : Vec ℕ) (done : Bool) → SeenIsHeld d → IsStep (SomeSectorsWritten first bytes.items) d (Write first bytes done)
 unfolding after LeftWithin
 is_step-write d first bytes done held = record {
   within = may_write;
@@ -128,7 +130,7 @@ is_step-write d first bytes done held = record {
   seen = record { nvram = refl; disk = λ n. seen_is done n };
 }
   where
-    may_write : (c : Images) → MayBeLeft (after d (Write first bytes done)) c → (e : Images) × MayBeLeft d e × MayWrite first bytes.items e c
+    may_write : (c : Images) → MayBeLeft (after d (Write first bytes done)) c → (e : Images) × MayBeLeft d e × SomeSectorsWritten first bytes.items e c
     may_write c left = (
       record { disk = λ n. (earlier d first bytes.items (c.disk n) n held (left.disk n)).value; nvram = c.nvram },
       record { disk = λ n. (earlier d first bytes.items (c.disk n) n held (left.disk n)).held; nvram = left.nvram },

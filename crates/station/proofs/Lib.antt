@@ -1,6 +1,7 @@
 pub mod Moments
+pub mod Calls
 mod MediaLemmas
-mod DiskLemmas
+pub mod DiskLemmas
 mod DeviceLemmas
 mod GoesLemmas
 mod TiedLemmas

@@ -5,7 +5,7 @@ use Rattle.std.specs.Prelude.{if◌then◌else◌}
 use Rattle.station.specs.Images.{part_of, reaches, nvram_with}
 use Rattle.station.specs.Device.{Device, fresh, sectors_of, after, after_all, IsOneOf, MayBeLeft}
 use Rattle.station.specs.Tied.{IsTied}
-use Rattle.station.specs.Writes.{parts_of, written_to, kept_value}
+use Rattle.station.specs.Unsynced.{parts_of, written_to, kept_value}
 use Rattle.station.specs.declared.history.Call.{Call}
 use Rattle.station.specs.declared.history.Call.TheVariants.{Read, Write, NvWrite, Sync}
 use Rattle.station.specs.declared.history.SectorWrite.{SectorWrite}

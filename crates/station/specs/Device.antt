@@ -2,29 +2,34 @@
 -- A disk writes a sector whole or not at all, and in any order until it is told to sync; an NVRAM keeps each byte that
 -- reached it. An NVRAM behind a file system on such a disk is described by Hitz, Lau and Malcolm, "File System Design
 -- for an NFS File Server Appliance", USENIX Winter 1994.
-use Rattle.std.specs.Prelude.{◌≡◌, ◌⊎◌, ℕ, zero, suc, ◌*◌, ◌/◌, ◌%◌, ◌^◌, ◌<◌, ◌≤◌, List, [], ◌∷◌, ◌++◌, length, take, drop, fold, if◌then◌else◌}
-use Rattle.station.specs.Images.{Images, part_of, reaches, disk_with, nvram_with}
+use Rattle.std.specs.Prelude.{◌≡◌, ◌⊎◌, ℕ, zero, suc, ◌*◌, ◌/◌, ◌%◌, ◌^◌, ◌<◌, ◌≤◌, List, [], ◌∷◌, ◌++◌, length, get_or, take, drop, fold, if◌then◌else◌}
+use Rattle.station.specs.Images.{Images, Sector, sector_with, part_of, reaches, disk_with, nvram_with}
 use Rattle.station.specs.declared.history.Call.{Call}
 use Rattle.station.specs.declared.history.Call.TheVariants.{Read, Write, NvWrite, Sync}
 
 pub record Device : Type 0 where
   -- what a read of each sector gives
-  pub seen : ℕ → List ℕ
+  pub seen : ℕ → Sector
   -- what a cut may leave in each sector: its settled value and each one written since the last sync that succeeded
-  pub held : ℕ → List (List ℕ)
+  pub held : ℕ → List Sector
   pub nvram : List ℕ
 
 -- the sectors of a disk of these bytes
-abbrev pub sectors_of : List ℕ → ℕ → List ℕ
-sectors_of disk n = take 512 (drop (512 * n) disk)
+abbrev pub sectors_of : List ℕ → ℕ → Sector
+sectors_of disk n = sector_with (take 512 (drop (512 * n) disk))
 
 -- these bytes are too many, or no whole sectors
 abbrev pub IsBadSize : List ℕ → List ℕ → Type 0
-IsBadSize disk nvram = (0 < length disk % 512) ⊎ (2 ^ 32 ≤ length disk / 512) ⊎ (2 ^ 32 ≤ length nvram)
+IsBadSize disk nvram =
+    (0 < length disk % 512) ⊎ (2 ^ 32 ≤ length disk / 512) ⊎ (2 ^ 32 ≤ length nvram)
 
 -- before any call, all settled
 abbrev pub fresh : List ℕ → List ℕ → Device
-fresh disk nvram = record { seen = sectors_of disk; held = λ n. sectors_of disk n ∷ []; nvram = nvram }
+fresh disk nvram = record {
+  seen = sectors_of disk;
+  held = λ n. sectors_of disk n ∷ [];
+  nvram = nvram;
+}
 
 -- what reads give
 abbrev pub reads_of : Device → Images
@@ -39,7 +44,8 @@ unfoldable pub after : Device → Call → Device
 after d Read = d
 after d (Write first bytes done) = record {
   seen = if done then disk_with first bytes.items d.seen else d.seen;
-  held = λ n. if reaches first bytes.items n then d.held n ++ part_of first bytes.items n ∷ [] else d.held n;
+  held = λ n.
+      if reaches first bytes.items n then d.held n ++ part_of first bytes.items n ∷ [] else d.held n;
   nvram = d.nvram;
 }
 after d (NvWrite at bytes kept) = record d { nvram = nvram_with at (take kept bytes.items) d.nvram }
@@ -49,7 +55,11 @@ after d (Sync done) = if done then record d { held = λ n. d.seen n ∷ [] } els
 unfoldable pub after_all : Device → List Call → Device
 after_all d calls = fold after d calls
 
-abbrev pub IsOneOf : List ℕ → List (List ℕ) → Type 0
+-- the settled value of each sector
+abbrev pub settled_of : Device → ℕ → Sector
+settled_of d n = get_or (d.held n) 0 (sector_with [])
+
+abbrev pub IsOneOf : Sector → List Sector → Type 0
 IsOneOf x [] = ⊥
 IsOneOf x (y ∷ ys) = (x ≡ y) ⊎ IsOneOf x ys
 
@@ -62,7 +72,8 @@ pub record MayBeLeft (d : Device) (c : Images) : Type 0 where
 unfoldable pub LeftWithin : Device → Call → Images → Type 0
 LeftWithin d Read c = MayBeLeft d c
 LeftWithin d (Write first bytes done) c = MayBeLeft (after d (Write first bytes done)) c
-LeftWithin d (NvWrite at bytes kept) c = (k : ℕ) × (k ≤ length bytes.items) × MayBeLeft (after d (NvWrite at bytes k)) c
+LeftWithin d (NvWrite at bytes kept) c =
+    (k : ℕ) × (k ≤ length bytes.items) × MayBeLeft (after d (NvWrite at bytes k)) c
 LeftWithin d (Sync done) c = MayBeLeft d c
 
 -- a power cut at this moment of these calls may leave them: moment 0 is before the first call, 1 within it, 2 after it

@@ -1,11 +1,14 @@
 -- What holds of a device after any calls: the proofs of the laws of a station in memory.
-use Rattle.std.specs.Prelude.{◌≡◌, ℕ, suc, ◌*◌, true, false, List, [], ◌∷◌, ◌++◌, length, refl, if◌then◌else◌}
-use Rattle.std.proofs.Common.{inl, inr, ap, subst, ◌∙◌, arith}
-use Rattle.station.specs.Images.{Images, part_of, reaches}
-use Rattle.station.specs.Device.{Device, fresh, after, after_all, IsOneOf, MayBeLeft, LeftAt}
+use Rattle.std.specs.Prelude.{◌≡◌, ℕ, suc, ◌*◌, true, false, List, [], ◌∷◌, ◌++◌, length, refl, if◌then◌else◌, ◌==◌, All}
+use Rattle.std.proofs.Common.{inl, inr, ap, subst, ◌∙◌, arith, length-take, length-drop}
+use Rattle.std.proofs.lemmas.List.Elements.{All-head, All-tail}
+use Rattle.station.specs.Images.{Images, Sector, sector_bytes, sector_with, part_of, reaches}
+use Rattle.station.specs.Device.{Device, sectors_of, fresh, after, after_all, IsOneOf, MayBeLeft, LeftAt}
 use Rattle.station.specs.Sim.{meaning_of}
-use Rattle.station.specs.Moments.{MayLeave}
+use Rattle.station.specs.Moments.{MayLeave, EachCut, HasSizes}
+use Rattle.station.specs.Unsynced.{written_to, IsInRange}
 use Rattle.station.specs.declared.history.Call.{Call}
+use Rattle.station.specs.declared.history.SectorWrite.{SectorWrite}
 use Rattle.station.specs.declared.history.Call.TheVariants.{Read, Write, NvWrite, Sync}
 use Rattle.station.specs.declared.sim.Sim.{Sim}
 
@@ -30,11 +33,11 @@ LeftAt-at_end d (call ∷ calls) c left = subst (λ t. LeftAt d (call ∷ calls)
 abbrev pub SeenIsHeld : Device → Type 0
 SeenIsHeld d = (n : ℕ) → IsOneOf (d.seen n) (d.held n)
 
-pub IsOneOf-old : (x : List ℕ) (xs : List (List ℕ)) (y : List ℕ) → IsOneOf x xs → IsOneOf x (xs ++ y ∷ [])
+pub IsOneOf-old : (x : Sector) (xs : List Sector) (y : Sector) → IsOneOf x xs → IsOneOf x (xs ++ y ∷ [])
 IsOneOf-old x (z ∷ xs) y one = elim one [ inl e ↦ inl e | inr later ↦ inr (IsOneOf-old x xs y later) ]
 IsOneOf-old x [] y one = absurd one
 
-pub IsOneOf-last : (x : List ℕ) (xs : List (List ℕ)) → IsOneOf x (xs ++ x ∷ [])
+pub IsOneOf-last : (x : Sector) (xs : List Sector) → IsOneOf x (xs ++ x ∷ [])
 IsOneOf-last x [] = inl refl
 IsOneOf-last x (z ∷ xs) = inr (IsOneOf-last x xs)
 
@@ -66,9 +69,29 @@ SeenIsHeld-fresh disk nvram = λ n. inl refl
 pub seen_is_held : (s : Sim) → SeenIsHeld (after_all (fresh s.media.first_disk.items s.media.first_nvram.items) s.media.calls.items)
 seen_is_held s = SeenIsHeld-after_all _ s.media.calls.items (SeenIsHeld-fresh s.media.first_disk.items s.media.first_nvram.items)
 
--- the two laws
+-- all that sector n may hold are 512 bytes, where its settled value is and each write is of whole sectors
+IsOneOf-whole : (size n : ℕ) (x v : Sector) (ws : List SectorWrite) → length (sector_bytes v) ≡ 512 → All (IsInRange size) ws → IsOneOf x (v ∷ written_to n ws) → length (sector_bytes x) ≡ 512
+unfolding written_to
+IsOneOf-whole size n x v [] whole each one = elim one [ inl e ↦ ap length e ∙ whole | inr none ↦ absurd none ]
+IsOneOf-whole size n x v (w ∷ ws) whole each one =
+    let first = All-head (IsInRange size) w ws each in
+    let later = All-tail (IsInRange size) w ws each in
+    elim (w.sector == n) as (λ b. IsOneOf x (v ∷ (if b then sector_with w.bytes ∷ written_to n ws else written_to n ws)) → length (sector_bytes x) ≡ 512) [
+      | true ↦ λ it. elim it [ inl e ↦ ap length e ∙ whole | inr rest ↦ IsOneOf-whole size n x w.bytes ws first.1 later rest ]
+      | false ↦ λ it. IsOneOf-whole size n x v ws whole later it
+    ] one
+
+-- the laws
 pub seen_may_be_left : (s : Sim) → MayLeave (meaning_of s) (meaning_of s).seen
 seen_may_be_left s = LeftAt-at_end _ s.media.calls.items _ record { disk = seen_is_held s; nvram = refl }
 
-pub nvram_length : (s : Sim) (c : Images) → MayLeave (meaning_of s) c → length c.nvram ≡ s.media.nvram_bytes
-nvram_length s c left = ap length ((LeftAt-end _ s.media.calls.items c left).nvram ∙ s.media.tied.nvram_is) ∙ s.media.nvram_size
+pub sized : (s : Sim) → EachCut (meaning_of s) (HasSizes (meaning_of s))
+sized s honest c left =
+    let now = LeftAt-end _ s.media.calls.items c left in
+    record {
+      nvram = ap length (now.nvram ∙ s.media.tied.nvram_is) ∙ s.media.nvram_size;
+      sector = λ n below.
+          let one : IsOneOf (c.disk n) (sectors_of s.media.settled.items n ∷ written_to n s.media.unsynced.items) = rw s.media.tied.held at (now.disk n) in
+          let whole : length (sectors_of s.media.settled.items n) ≡ 512 = simp (length-take, length-drop) (omega (arith, s.media.settled_size, below)) in
+          IsOneOf-whole (512 * s.media.sectors) n (c.disk n) (sectors_of s.media.settled.items n) s.media.unsynced.items whole s.media.in_range one;
+    }

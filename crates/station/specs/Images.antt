@@ -1,14 +1,26 @@
 -- What stands on a disk and an NVRAM, and the steps from one such state to the next.
 use Rattle.std.specs.Prelude.{◌≡◌, ◌⊎◌, ℕ, ◌+◌, ◌-◌, ◌*◌, ◌<◌, ◌≤◌, List, ◌++◌, length, take, drop, if◌then◌else◌, Bool, nat_lt, nat_le, ◌&&◌}
 
--- the bytes of each sector of the disk, and the bytes of the NVRAM
+-- what a sector holds: its bytes
+abbrev pub Sector : Type 0
+Sector = List ℕ
+
+-- the bytes that a read of a sector gives
+abbrev pub sector_bytes : Sector → List ℕ
+sector_bytes sector = sector
+
+-- a sector that was written with these bytes
+abbrev pub sector_with : List ℕ → Sector
+sector_with bytes = bytes
+
+-- what each sector of the disk holds, and the bytes of the NVRAM
 pub record Images : Type 0 where
-  pub disk : ℕ → List ℕ
+  pub disk : ℕ → Sector
   pub nvram : List ℕ
 
--- sector n's part of bytes that were written from sector first on
-abbrev pub part_of : ℕ → List ℕ → ℕ → List ℕ
-part_of first bytes n = take 512 (drop (512 * (n - first)) bytes)
+-- sector n with its part of bytes that were written from sector first on
+abbrev pub part_of : ℕ → List ℕ → ℕ → Sector
+part_of first bytes n = sector_with (take 512 (drop (512 * (n - first)) bytes))
 
 -- these bytes reach sector n, where the first of them is the first of sector first
 abbrev pub Reaches : ℕ → List ℕ → ℕ → Type 0
@@ -19,7 +31,7 @@ abbrev pub reaches : ℕ → List ℕ → ℕ → Bool
 reaches first bytes n = nat_le first n && nat_lt (512 * (n - first)) (length bytes)
 
 -- the disk with these bytes from sector first on
-abbrev pub disk_with : ℕ → List ℕ → (ℕ → List ℕ) → ℕ → List ℕ
+abbrev pub disk_with : ℕ → List ℕ → (ℕ → Sector) → ℕ → Sector
 disk_with first bytes disk n = if reaches first bytes n then part_of first bytes n else disk n
 
 -- the NVRAM with these bytes at this offset
@@ -31,20 +43,24 @@ abbrev pub Unchanged : Images → Images → Type 0
 Unchanged old new = new ≡ old
 
 -- the bytes are written, whole sectors from sector first on
-abbrev pub Writes : ℕ → List ℕ → Images → Images → Type 0
-Writes first bytes old new = new ≡ record { disk = disk_with first bytes old.disk; nvram = old.nvram }
+abbrev pub SectorsWritten : ℕ → List ℕ → Images → Images → Type 0
+SectorsWritten first bytes old new =
+    new ≡ record { disk = disk_with first bytes old.disk; nvram = old.nvram }
 
--- each sector that the bytes reach keeps what it had or takes its part of them, and the others stay
-pub record MayWrite (first : ℕ) (bytes : List ℕ) (old new : Images) : Type 0 where
+-- any of the sectors are written: each that the bytes reach keeps what it had or takes its part of them, and the
+-- others stay
+pub record SomeSectorsWritten (first : ℕ) (bytes : List ℕ) (old new : Images) : Type 0 where
   pub nvram : new.nvram ≡ old.nvram
-  pub disk : (n : ℕ) → (new.disk n ≡ old.disk n) ⊎ (Reaches first bytes n × (new.disk n ≡ part_of first bytes n))
+  pub disk : (n : ℕ) → (new.disk n ≡ old.disk n)
+      ⊎ (Reaches first bytes n × (new.disk n ≡ part_of first bytes n))
 
 -- the bytes are written to the NVRAM
-abbrev pub NvWrites : ℕ → List ℕ → Images → Images → Type 0
-NvWrites at bytes old new = new ≡ record { disk = old.disk; nvram = nvram_with at bytes old.nvram }
+abbrev pub NvramWritten : ℕ → List ℕ → Images → Images → Type 0
+NvramWritten at bytes old new =
+    new ≡ record { disk = old.disk; nvram = nvram_with at bytes old.nvram }
 
 -- a beginning of the bytes is written to the NVRAM: none, some or all of them
-pub record MayNvWrite (at : ℕ) (bytes : List ℕ) (old new : Images) : Type 0 where
+pub record NvramPrefixWritten (at : ℕ) (bytes : List ℕ) (old new : Images) : Type 0 where
   pub kept : ℕ
   pub within : kept ≤ length bytes
-  pub writes : NvWrites at (take kept bytes) old new
+  pub writes : NvramWritten at (take kept bytes) old new

@@ -1,9 +1,10 @@
 pub mod Images
 pub mod Moments
-pub mod Writes
+pub mod Calls
+pub mod Unsynced
 pub mod Device
 pub mod Tied
-pub mod Plan
+pub mod FaultPlan
 pub mod Media
 pub mod Sim
 pub mod DeviceLaws

@@ -1,6 +1,8 @@
 -- What changes in the media of a station in memory.
-use Rattle.std.specs.Prelude.{◌≡◌, ℕ, ◌*◌, Bool, true, false, length, List, [], ◌∷◌, ◌++◌}
+use Rattle.std.specs.Prelude.{◌≡◌, ℕ, ◌*◌, Bool, true, false, length, List, [], ◌∷◌, ◌++◌, Result, OnOk, is_ok}
 use Rattle.std.specs.Global.{Vec}
+use Rattle.station.specs.FaultPlan.{is_done, cuts}
+use Rattle.station.specs.declared.faults.Fate.{Fate}
 use Rattle.station.specs.declared.history.Call.{Call}
 use Rattle.station.specs.declared.history.Call.TheVariants.{Write, NvWrite}
 use Rattle.station.specs.declared.keep.Keep.{Keep}
@@ -14,11 +16,6 @@ pub record IsLoadedFrom (disk nvram : List ℕ) (m : Media) : Type 0 where
   pub first_nvram : m.first_nvram.items ≡ nvram
   pub calls : m.calls.items ≡ []
   pub power : m.is_cut ≡ false
-
--- the power was cut, which kept these of the unsynced sector writes
-pub record WasCut (m : Media) (keep : Keep) : Type 0 where
-  pub power : m.is_cut ≡ true
-  pub kept : m.keep ≡ keep
 
 -- the same station, with these calls
 pub record HasCalls (old new : Media) (list : List Call) : Type 0 where
@@ -38,8 +35,25 @@ Adds old new call = HasCalls old new (old.calls.items ++ call ∷ [])
 
 -- a write of these bytes from sector first on was added
 abbrev pub AddsWrite : Media → Media → ℕ → List ℕ → Bool → Type 0
-AddsWrite old new first bytes done = (v : Vec ℕ) × (v.items ≡ bytes) × Adds old new (Write first v done)
+AddsWrite old new first bytes done =
+    (v : Vec ℕ) × (v.items ≡ bytes) × Adds old new (Write first v done)
 
 -- an NVRAM write from byte at on was added, of which so many bytes are kept
 abbrev pub AddsNvWrite : Media → Media → ℕ → List ℕ → ℕ → Type 0
-AddsNvWrite old new at bytes kept = (v : Vec ℕ) × (v.items ≡ bytes) × Adds old new (NvWrite at v kept)
+AddsNvWrite old new at bytes kept =
+    (v : Vec ℕ) × (v.items ≡ bytes) × Adds old new (NvWrite at v kept)
+
+-- a call came to nothing: the power was off, or there was no memory to keep it
+pub record CameToNothing {T E : Type 0} (old new : Media) (result : Result T E) : Type 0 where
+  pub err : OnOk result ⊥
+  pub same : Same old new
+  pub power : new.is_cut ≡ old.is_cut
+  pub kept : old.is_cut ≡ true → new.keep ≡ old.keep
+
+-- a call was kept, and came to this; a cut kept these of the unsynced sector writes
+pub record CameTo {T E : Type 0} (fate : Fate) (keep : Keep) (old new : Media)
+    (result : Result T E) : Type 0 where
+  pub was_on : old.is_cut ≡ false
+  pub answer : is_ok result ≡ is_done fate
+  pub power : new.is_cut ≡ cuts fate
+  pub kept : cuts fate ≡ true → new.keep ≡ keep

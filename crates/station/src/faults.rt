@@ -1,11 +1,11 @@
 //! Which of a station's calls are to fail, and where its power is to be cut.
 
-ghost use Rattle.std.specs.Prelude.{◌≡◌, ◌≤◌, Some};
+ghost use Rattle.std.specs.Prelude.{◌≡◌, ◌≤◌, Some, is_ok};
 ghost use Rattle.station.specs.declared.keep.Keep.TheVariants.{Nothing};
 ghost use Rattle.station.specs.Moments.{counted};
-ghost use Rattle.station.specs.Plan.{planned, no_plan, is_next, fate_of_read, fate_of_write, fate_of_sync, kept_of};
+ghost use Rattle.station.specs.FaultPlan.{planned, no_plan, is_next, fate_of_read, fate_of_write, fate_of_sync, kept_of, is_done, cuts};
 
-use crate::Keep;
+use crate::{DeviceFault, Keep};
 use std::mem;
 
 /// What is to come of a call.
@@ -17,6 +17,38 @@ pub(crate) enum Fate {
     Fails,
     /// The power is cut within it.
     IsCut,
+}
+
+impl Fate {
+    /// Whether the call succeeds.
+    pub(crate) fn is_done(self) -> bool
+        ensures { result ≡ is_done self }
+    {
+        match self {
+            Fate::Done => true,
+            Fate::Fails | Fate::IsCut => false,
+        }
+    }
+
+    /// Whether the power is cut within it.
+    pub(crate) fn cuts(self) -> bool
+        ensures { result ≡ cuts self }
+    {
+        match self {
+            Fate::IsCut => true,
+            Fate::Done | Fate::Fails => false,
+        }
+    }
+
+    /// What the call answers.
+    pub(crate) fn answer(self) -> Result<(), DeviceFault>
+        ensures { is_ok result ≡ is_done self }
+    {
+        match self {
+            Fate::Done => Ok(()),
+            Fate::Fails | Fate::IsCut => Err(DeviceFault),
+        }
+    }
 }
 
 /// Which calls are to fail, each counted from 1, and how many there were.
@@ -54,7 +86,8 @@ impl Faults {
 
     /// The power is to be cut within this device write; of an NVRAM write so many bytes are kept.
     pub(crate) fn cut_at(&mut self, write: u32, keep: Keep, bytes: u32)
-        ensures { self.new ≡ record self.old { cut_write = Some write; keep = keep; kept_bytes = bytes } }
+        ensures { self.new
+            ≡ record self.old { cut_write = Some write; keep = keep; kept_bytes = bytes } }
     {
         self.cut_write = Some(write);
         self.keep = keep;
@@ -71,7 +104,7 @@ impl Faults {
 
     /// How many of so many bytes an NVRAM write keeps.
     pub(crate) fn kept_of(&self, fate: Fate, length: usize) -> usize
-        ensures kept { result ≡ kept_of self.now fate length }
+        ensures kept { result ≡ kept_of (planned self.now) fate length }
         ensures within { result ≤ length }
     {
         match fate {
@@ -97,7 +130,7 @@ impl Faults {
 
     /// What is to come of the next call, if it is a read.
     pub(crate) fn of_read(&self) -> Fate
-        ensures { result ≡ fate_of_read self.now }
+        ensures { result ≡ fate_of_read (planned self.now) self.now.calls }
     {
         if is_next(self.failing_call, self.calls) {
             Fate::Fails
@@ -108,7 +141,7 @@ impl Faults {
 
     /// What is to come of the next call, if it is a device write.
     pub(crate) fn of_write(&self) -> Fate
-        ensures { result ≡ fate_of_write self.now }
+        ensures { result ≡ fate_of_write (planned self.now) self.now.calls self.now.writes }
     {
         if is_next(self.cut_write, self.writes) {
             Fate::IsCut
@@ -119,7 +152,7 @@ impl Faults {
 
     /// What is to come of the next call, if it is a sync.
     pub(crate) fn of_sync(&self) -> Fate
-        ensures { result ≡ fate_of_sync self.now }
+        ensures { result ≡ fate_of_sync (planned self.now) self.now.calls self.now.syncs }
     {
         if is_next(self.failing_sync, self.syncs) {
             Fate::Fails
@@ -137,7 +170,8 @@ impl Faults {
 
     /// There was a device write.
     pub(crate) fn count_write(&mut self)
-        ensures { self.new ≡ record self.old { calls = counted self.old.calls; writes = counted self.old.writes } }
+        ensures { self.new
+            ≡ record self.old { calls = counted self.old.calls; writes = counted self.old.writes } }
     {
         self.calls = self.calls.saturating_add(1);
         self.writes = self.writes.saturating_add(1);
@@ -145,7 +179,8 @@ impl Faults {
 
     /// There was a sync.
     pub(crate) fn count_sync(&mut self)
-        ensures { self.new ≡ record self.old { calls = counted self.old.calls; syncs = counted self.old.syncs } }
+        ensures { self.new
+            ≡ record self.old { calls = counted self.old.calls; syncs = counted self.old.syncs } }
     {
         self.calls = self.calls.saturating_add(1);
         self.syncs = self.syncs.saturating_add(1);

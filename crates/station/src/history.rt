@@ -4,7 +4,7 @@ ghost use Rattle.std.specs.Prelude.{◌≡◌, ℕ, ◌+◌, ◌*◌, ◌/◌, �
 ghost use Rattle.station.specs.declared.history.Call.TheVariants.{Write};
 ghost use Rattle.station.specs.Images.{nvram_with};
 ghost use Rattle.station.specs.Device.{sectors_of};
-ghost use Rattle.station.specs.Writes.{parts_of, IsInRange, kept_value};
+ghost use Rattle.station.specs.Unsynced.{parts_of, IsInRange, kept_value};
 
 use crate::{Keep, SECTOR_BYTES};
 use std::alloc::{AllocError, Global};
@@ -49,8 +49,10 @@ pub(crate) fn note_write(
     done: bool,
 ) -> Result<(), AllocError>
     requires { first + length bytes.now / 512 ≤ 2 ^ 32 }
-    ensures call { OnOk result ((v : _) × (v.items ≡ bytes.now) × (calls.new.items ≡ calls.old.items ++ Write first v done ∷ [])) }
-    ensures parts { OnOk result (unsynced.new.items ≡ unsynced.old.items ++ parts_of first bytes.now (length bytes.now / 512)) }
+    ensures call { OnOk result ((v : _) × (v.items ≡ bytes.now)
+        × (calls.new.items ≡ calls.old.items ++ Write first v done ∷ [])) }
+    ensures parts { OnOk result (unsynced.new.items
+        ≡ unsynced.old.items ++ parts_of first bytes.now (length bytes.now / 512)) }
     ensures same_calls { OnErr result (calls.new.items ≡ calls.old.items) }
     ensures same_parts { OnErr result (unsynced.new.items ≡ unsynced.old.items) }
 {
@@ -69,7 +71,8 @@ pub(crate) fn note_write(
 fn push_parts(unsynced: &mut Vec<SectorWrite>, first: u32, bytes: &[u8])
     requires place { first + length bytes.now / 512 ≤ 2 ^ 32 }
     requires room { vec_len unsynced.old + length bytes.now / 512 ≤ vec_capacity unsynced.old }
-    ensures { unsynced.new.items ≡ unsynced.old.items ++ parts_of first bytes.now (length bytes.now / 512) }
+    ensures { unsynced.new.items
+        ≡ unsynced.old.items ++ parts_of first bytes.now (length bytes.now / 512) }
 {
     for part in 0..bytes.len() / SECTOR_BYTES {
         let sector = first + part as u32;
@@ -95,7 +98,8 @@ fn sector_write(sector: u32, bytes: &[u8], part: usize) -> SectorWrite
 pub(crate) fn apply_kept(disk: &mut Vec<u8>, unsynced: &[SectorWrite], keep: &Keep)
     requires { All (IsInRange (length disk.old.items)) unsynced.now }
     ensures length { length disk.new.items ≡ length disk.old.items }
-    ensures sectors { (n : ℕ) → sectors_of disk.new.items n ≡ kept_value keep.now 0 unsynced.now n (sectors_of disk.old.items n) }
+    ensures sectors { (n : ℕ) → sectors_of disk.new.items n
+        ≡ kept_value keep.now 0 unsynced.now n (sectors_of disk.old.items n) }
 {
     for (place, write) in unsynced.iter().enumerate() {
         if keep.keeps(place) {

@@ -15,7 +15,7 @@ pub enum Keep {
 
 impl Keep {
     ghost use Rattle.std.specs.Prelude.{◌≡◌};
-    ghost use Rattle.station.specs.Writes.{keeps};
+    ghost use Rattle.station.specs.Unsynced.{keeps};
 
     /// Whether the write at this place, counted from 0, is kept.
     pub(crate) fn keeps(&self, place: usize) -> bool

@@ -12,6 +12,3 @@ mod station;
 pub use keep::Keep;
 pub use sim::{LoadError, Sim};
 pub use station::{BLOCK_BYTES, DeviceFault, SECTOR_BYTES, Station};
-
-#[cfg(test)]
-mod tests;

@@ -3,7 +3,7 @@
 ghost use Rattle.std.specs.Prelude.{◌≡◌, ◌+◌, ◌*◌, ◌%◌, ◌^◌, ◌<◌, ◌≤◌, true, false, length, ◌↔◌, All, IfOk, OnOk, OnErr, IsErrOf};
 ghost use Rattle.station.specs.Device.{fresh, after_all, IsBadSize};
 ghost use Rattle.station.specs.Tied.{IsTied};
-ghost use Rattle.station.specs.Writes.{IsInRange};
+ghost use Rattle.station.specs.Unsynced.{IsInRange, unsynced_writes};
 
 use crate::history::{Call, SectorWrite, apply_kept, note_write, put};
 use crate::{Keep, LoadError, SECTOR_BYTES};
@@ -28,16 +28,19 @@ pub(crate) struct Media {
     pub(crate) is_cut: bool,
     keep: Keep,
     ghost fits: { sectors < 2 ^ 32 },
+    ghost nvram_fits: { nvram_bytes < 2 ^ 32 },
     ghost disk_size: { length disk.items ≡ 512 * sectors },
     ghost settled_size: { length settled.items ≡ 512 * sectors },
     ghost nvram_size: { length nvram.items ≡ nvram_bytes },
     ghost in_range: { All (IsInRange (512 * sectors)) unsynced.items },
-    ghost tied: { IsTied (after_all (fresh first_disk.items first_nvram.items) calls.items) disk.items nvram.items settled.items unsynced.items is_cut keep },
+    ghost listed: { unsynced.items ≡ unsynced_writes calls.items },
+    ghost tied: { IsTied (after_all (fresh first_disk.items first_nvram.items) calls.items)
+        disk.items nvram.items settled.items unsynced.items is_cut keep },
 }
 
 impl Media {
-    ghost use Rattle.station.specs.Media.{IsLoadedFrom, Same, Adds};
-    ghost use Rattle.station.specs.declared.history.Call.TheVariants.{Read, Write, NvWrite, Sync};
+    ghost use Rattle.station.specs.Media.{IsLoadedFrom, Same, Adds, AddsWrite, AddsNvWrite};
+    ghost use Rattle.station.specs.declared.history.Call.TheVariants.{Read, Sync};
 
     /// These bytes, all settled.
     pub(crate) fn load(alloc: Global, disk: Vec<u8>, nvram: Vec<u8>) -> Result<Media, LoadError>
@@ -84,7 +87,7 @@ impl Media {
         requires place { 512 * first + length bytes.now ≤ 512 * self.old.sectors }
         requires whole { length bytes.now % 512 ≡ 0 }
         requires power { self.old.is_cut ≡ false }
-        ensures ok { OnOk result ((v : _) × (v.items ≡ bytes.now) × Adds self.old self.new (Write first v done)) }
+        ensures ok { OnOk result (AddsWrite self.old self.new first bytes.now done) }
         ensures err { OnErr result (Same self.old self.new) }
         ensures power { self.new.is_cut ≡ false }
     {
@@ -106,7 +109,7 @@ impl Media {
     pub(crate) fn nv_write(&mut self, at: u32, bytes: &[u8], kept: usize) -> Result<(), AllocError>
         requires place { at + length bytes.now ≤ self.old.nvram_bytes }
         requires kept { kept ≤ length bytes.now }
-        ensures ok { OnOk result ((v : _) × (v.items ≡ bytes.now) × Adds self.old self.new (NvWrite at v kept)) }
+        ensures ok { OnOk result (AddsNvWrite self.old self.new at bytes.now kept) }
         ensures err { OnErr result (Same self.old self.new) }
         ensures power { self.new.is_cut ≡ self.old.is_cut }
     {

@@ -1,9 +1,9 @@
 //! A station in memory whose power can be cut at any write.
 
-ghost use Rattle.std.specs.Prelude.{◌≡◌, ◌≢◌, ◌⊎◌, ◌+◌, ◌*◌, ◌%◌, ◌≤◌, ◌↔◌, length, true, false, Some, IfOk, OnOk, OnErr, IsErrOf};
+ghost use Rattle.std.specs.Prelude.{◌≡◌, ◌+◌, ◌*◌, ◌%◌, ◌<◌, ◌≤◌, ◌↔◌, length, true, false, Some, IfOk, IsErrOf};
 ghost use Rattle.station.specs.Moments.{MayLeave};
 ghost use Rattle.station.specs.Device.{images_of, IsBadSize};
-ghost use Rattle.station.specs.Plan.{IsNumbered};
+ghost use Rattle.station.specs.FaultPlan.{IsNumbered};
 
 use crate::faults::{Fate, Faults};
 use crate::media::Media;
@@ -46,11 +46,10 @@ pub struct Sim {
 }
 
 impl Sim {
-    ghost use Rattle.station.specs.declared.history.Call.TheVariants.{Read, Sync};
-    ghost use Rattle.station.specs.declared.faults.Fate.TheVariants.{Done, IsCut};
-    ghost use Rattle.station.specs.Plan.{fate_of_read, fate_of_write, fate_of_sync, kept_of, no_plan};
-    ghost use Rattle.station.specs.Media.{WasCut, Same, Adds, AddsWrite, AddsNvWrite};
-    ghost use Rattle.station.specs.Sim.{meaning_of, plan_of, was_cut, IsLoaded, KnowsSame, SameCounts, HasCountedRead, HasCountedWrite};
+    ghost use Rattle.station.specs.FaultPlan.{no_plan, cuts};
+    ghost use Rattle.station.specs.Media.{Same};
+    ghost use Rattle.station.specs.Sim.{meaning_of, plan_of, calls_of, was_cut, IsLeftByCut, IsLoaded, KnowsSame, SameCounts};
+    ghost use Rattle.station.specs.Sim.{FollowsRead, FollowsWrite, FollowsNvWrite, FollowsSync, HasCountedRead, HasCountedWrite};
 
     /// A station with these images, all settled. BadSize exactly where the disk is no whole number of sectors, or a
     /// count (of sectors, of NVRAM bytes) is past `u32::MAX`; NoMemory where a growth was refused.
@@ -71,8 +70,10 @@ impl Sim {
     /// The power is to be cut within device write number `write`, counted from 1 since the load. Where it is an NVRAM
     /// write, its first `bytes` bytes are kept, all of them if it is shorter.
     pub fn cut_at(&mut self, write: u32, keep: Keep, bytes: u32)
-        ensures plan { plan_of self.new ≡ record (plan_of self.old) { cut_write = Some write; keep = keep; kept_bytes = bytes } }
+        ensures plan { plan_of self.new
+            ≡ record (plan_of self.old) { cut_write = Some write; keep = keep; kept_bytes = bytes } }
         ensures same { KnowsSame (meaning_of self.old) (meaning_of self.new) }
+        ensures calls { calls_of self.new ≡ calls_of self.old }
         ensures power { was_cut self.new ≡ was_cut self.old }
     {
         self.faults.cut_at(write, keep, bytes);
@@ -83,6 +84,7 @@ impl Sim {
     pub fn fail_at(&mut self, call: u32)
         ensures plan { plan_of self.new ≡ record (plan_of self.old) { failing_call = Some call } }
         ensures same { KnowsSame (meaning_of self.old) (meaning_of self.new) }
+        ensures calls { calls_of self.new ≡ calls_of self.old }
         ensures power { was_cut self.new ≡ was_cut self.old }
     {
         self.faults.fail_at(call);
@@ -92,6 +94,7 @@ impl Sim {
     pub fn fail_sync_at(&mut self, sync: u32)
         ensures plan { plan_of self.new ≡ record (plan_of self.old) { failing_sync = Some sync } }
         ensures same { KnowsSame (meaning_of self.old) (meaning_of self.new) }
+        ensures calls { calls_of self.new ≡ calls_of self.old }
         ensures power { was_cut self.new ≡ was_cut self.old }
     {
         self.faults.fail_sync_at(sync);
@@ -108,17 +111,18 @@ impl Sim {
     pub fn images(&self) -> (&[u8], &[u8])
         ensures disk_size { length result.0.now ≡ 512 * (meaning_of self.now).sectors }
         ensures nvram_size { length result.1.now ≡ (meaning_of self.now).nvram_bytes }
-        ensures seen { was_cut self.now ≡ false → images_of result.0.now result.1.now ≡ (meaning_of self.now).seen }
+        ensures seen { was_cut self.now ≡ false
+            → images_of result.0.now result.1.now ≡ (meaning_of self.now).seen }
         ensures left { MayLeave (meaning_of self.now) (images_of result.0.now result.1.now) }
+        ensures kept { was_cut self.now ≡ true
+            → IsLeftByCut self.now (images_of result.0.now result.1.now) }
     {
         (&self.media.disk, &self.media.nvram)
     }
 
     /// Keeps a read, and tells whether it succeeds.
     fn try_read(&mut self) -> Result<(), DeviceFault>
-        ensures media { Same self.old.media self.new.media ⊎ Adds self.old.media self.new.media Read }
-        ensures fate { OnOk result (fate_of_read self.old.faults ≡ Done) }
-        ensures power { OnOk result (self.new.media.is_cut ≡ false) }
+        ensures follows { FollowsRead self.old self.new result }
         ensures counts { SameCounts self.old self.new }
     {
         if self.is_cut() {
@@ -129,16 +133,12 @@ impl Sim {
             return Err(DeviceFault);
         };
         self.faults.count_read();
-        match fate {
-            Fate::Done => Ok(()),
-            _ => Err(DeviceFault),
-        }
+        fate.answer()
     }
 
     /// Keeps a read, and counts it if it fails.
     fn begin_read(&mut self) -> Result<(), DeviceFault>
-        ensures media { Same self.old.media self.new.media ⊎ Adds self.old.media self.new.media Read }
-        ensures power { OnOk result (self.new.media.is_cut ≡ false) }
+        ensures follows { FollowsRead self.old self.new result }
         ensures counts { HasCountedRead self.old self.new result }
     {
         let answer = self.try_read();
@@ -152,32 +152,26 @@ impl Sim {
     fn try_write(&mut self, first: u32, bytes: &[u8]) -> Result<(), DeviceFault>
         requires place { 512 * first + length bytes.now ≤ 512 * self.old.media.sectors }
         requires whole { length bytes.now % 512 ≡ 0 }
-        ensures ok { OnOk result (AddsWrite self.old.media self.new.media first bytes.now true) }
-        ensures err { OnErr result (Same self.old.media self.new.media ⊎ AddsWrite self.old.media self.new.media first bytes.now false) }
-        ensures fate { OnOk result (fate_of_write self.old.faults ≡ Done) }
-        ensures power { fate_of_write self.old.faults ≢ IsCut → self.new.media.is_cut ≡ self.old.media.is_cut }
-        ensures cut { fate_of_write self.old.faults ≡ IsCut → WasCut self.new.media self.old.faults.keep ⊎ Same self.old.media self.new.media }
+        ensures follows { FollowsWrite first bytes.now self.old self.new result }
         ensures counts { SameCounts self.old self.new }
     {
         if self.is_cut() {
             return Err(DeviceFault);
         }
         let fate = self.faults.of_write();
-        let done = fate == Fate::Done;
-        let Ok(()) = self.media.write(first, bytes, done) else {
+        let Ok(()) = self.media.write(first, bytes, fate.is_done()) else {
             return Err(DeviceFault);
         };
         self.faults.count_write();
         self.end_write(fate);
-        if done { Ok(()) } else { Err(DeviceFault) }
+        fate.answer()
     }
 
     /// Writes whole sectors from sector `first` on, and counts that if it fails.
     fn write_sectors(&mut self, first: u32, bytes: &[u8]) -> Result<(), DeviceFault>
         requires place { 512 * first + length bytes.now ≤ 512 * self.old.media.sectors }
         requires whole { length bytes.now % 512 ≡ 0 }
-        ensures ok { OnOk result (AddsWrite self.old.media self.new.media first bytes.now true) }
-        ensures err { OnErr result (Same self.old.media self.new.media ⊎ AddsWrite self.old.media self.new.media first bytes.now false) }
+        ensures follows { FollowsWrite first bytes.now self.old self.new result }
         ensures counts { HasCountedWrite self.old self.new result }
     {
         let answer = self.try_write(first, bytes);
@@ -187,11 +181,7 @@ impl Sim {
     /// Writes to the NVRAM, and tells whether that succeeds.
     fn try_nv_write(&mut self, at: u32, bytes: &[u8]) -> Result<(), DeviceFault>
         requires { at + length bytes.now ≤ self.old.media.nvram_bytes }
-        ensures ok { OnOk result (AddsNvWrite self.old.media self.new.media at bytes.now (length bytes.now)) }
-        ensures err { OnErr result (Same self.old.media self.new.media ⊎ AddsNvWrite self.old.media self.new.media at bytes.now (kept_of self.old.faults (fate_of_write self.old.faults) (length bytes.now))) }
-        ensures fate { OnOk result (fate_of_write self.old.faults ≡ Done) }
-        ensures power { fate_of_write self.old.faults ≢ IsCut → self.new.media.is_cut ≡ self.old.media.is_cut }
-        ensures cut { fate_of_write self.old.faults ≡ IsCut → WasCut self.new.media self.old.faults.keep ⊎ Same self.old.media self.new.media }
+        ensures follows { FollowsNvWrite at bytes.now self.old self.new result }
         ensures counts { SameCounts self.old self.new }
     {
         if self.is_cut() {
@@ -204,48 +194,44 @@ impl Sim {
         };
         self.faults.count_write();
         self.end_write(fate);
-        match fate {
-            Fate::Done => Ok(()),
-            _ => Err(DeviceFault),
-        }
+        fate.answer()
     }
 
     /// Cuts the power where that is a write's fate.
     fn end_write(&mut self, fate: Fate)
         requires { self.old.media.is_cut ≡ false }
         ensures media { Same self.old.media self.new.media }
-        ensures power { fate ≢ IsCut → self.new.media.is_cut ≡ self.old.media.is_cut }
-        ensures cut { fate ≡ IsCut → WasCut self.new.media self.old.faults.keep }
+        ensures power { self.new.media.is_cut ≡ cuts fate }
+        ensures cut { cuts fate ≡ true → self.new.media.keep ≡ self.old.faults.keep }
+        ensures plan { cuts fate ≡ false → plan_of self.new ≡ plan_of self.old }
         ensures counts { SameCounts self.old self.new }
     {
-        if fate == Fate::IsCut {
+        if fate.cuts() {
             self.media.cut(self.faults.take_keep());
         }
     }
 
     /// Settles what reads give, and tells whether that succeeds.
     fn try_sync(&mut self) -> Result<(), DeviceFault>
-        ensures ok { OnOk result (Adds self.old.media self.new.media (Sync true)) }
-        ensures err { OnErr result (Same self.old.media self.new.media ⊎ Adds self.old.media self.new.media (Sync false)) }
-        ensures fate { OnOk result (fate_of_sync self.old.faults ≡ Done) }
-        ensures power { self.new.media.is_cut ≡ self.old.media.is_cut }
+        ensures follows { FollowsSync self.old self.new result }
         ensures counts { SameCounts self.old self.new }
     {
         if self.is_cut() {
             return Err(DeviceFault);
         }
-        let done = self.faults.of_sync() == Fate::Done;
-        let Ok(()) = self.media.sync(done) else {
+        let fate = self.faults.of_sync();
+        let Ok(()) = self.media.sync(fate.is_done()) else {
             return Err(DeviceFault);
         };
         self.faults.count_sync();
-        if done { Ok(()) } else { Err(DeviceFault) }
+        fate.answer()
     }
 
     /// Counts a write or a sync that failed.
     fn count_write(&mut self, answer: Result<(), DeviceFault>) -> Result<(), DeviceFault>
         ensures same { result ≡ answer }
         ensures media { self.new.media ≡ self.old.media }
+        ensures faults { self.new.faults ≡ self.old.faults }
         ensures counts { HasCountedWrite self.old self.new result }
     {
         if answer.is_err() {
@@ -255,15 +241,23 @@ impl Sim {
     }
 }
 
+/// Each call also follows the plan: it fails, or the power is cut within it, just where that was planned, or where the
+/// power was off before or there is no memory to keep it.
 impl Station for Sim {
-    ghost use Rattle.station.specs.Sim.{meaning_of};
+    ghost use Rattle.std.specs.Prelude.{ℕ, take, drop, OnOk};
+    ghost use Rattle.station.specs.Images.{Unchanged, SectorsWritten, SomeSectorsWritten, NvramWritten, NvramPrefixWritten, sector_bytes};
+    ghost use Rattle.station.specs.Moments.{Shows, LeavesJust, SeenGoes, LeftGoes};
+    ghost use Rattle.station.specs.Calls.{ReadCall, WriteCall};
+    ghost use Rattle.station.specs.Sim.{meaning_of, FollowsRead, FollowsWrite, FollowsNvWrite, FollowsSync};
     ghost use Rattle.station.specs.DeviceLaws as laws;
 
     ghost meaning = { meaning_of };
 
+    ghost sizes_fit = { λ s. record { sectors = s.media.fits; nvram = s.media.nvram_fits } };
+
     ghost seen_may_be_left = { λ s honest. laws.seen_may_be_left s };
 
-    ghost nvram_length = { λ s c honest left. laws.nvram_length s c left };
+    ghost sized = { laws.sized };
 
     fn sectors(&self) -> u32 {
         self.media.sectors
@@ -273,34 +267,74 @@ impl Station for Sim {
         self.media.nvram_bytes
     }
 
-    fn read_sector(&mut self, n: u32, out: &mut [u8; 512]) -> Result<(), DeviceFault> {
+    fn read_sector(&mut self, n: u32, out: &mut [u8; 512]) -> Result<(), DeviceFault>
+        requires { n < (meaning_of self.old).sectors }
+        ensures call { ReadCall (meaning_of self.old) (meaning_of self.new) result }
+        ensures bytes { OnOk result
+            (Shows (meaning_of self.old) (λ c. out.new ≡ sector_bytes (c.disk n))) }
+        ensures planned { FollowsRead self.old self.new result }
+    {
         self.begin_read()?;
         let at = n as usize * SECTOR_BYTES;
         out.copy_from_slice(&self.media.disk[at..at + SECTOR_BYTES]);
         Ok(())
     }
 
-    fn write_sector(&mut self, n: u32, bytes: &[u8; 512]) -> Result<(), DeviceFault> {
+    fn write_sector(&mut self, n: u32, bytes: &[u8; 512]) -> Result<(), DeviceFault>
+        requires { n < (meaning_of self.old).sectors }
+        ensures call { WriteCall (SomeSectorsWritten n bytes.now)
+            (meaning_of self.old) (meaning_of self.new) result }
+        ensures written { OnOk result
+            (SeenGoes (SectorsWritten n bytes.now) (meaning_of self.old) (meaning_of self.new)) }
+        ensures planned { FollowsWrite n bytes.now self.old self.new result }
+    {
         self.write_sectors(n, bytes)
     }
 
-    fn write_block(&mut self, b: u32, bytes: &[u8; 4096]) -> Result<(), DeviceFault> {
+    fn write_block(&mut self, b: u32, bytes: &[u8; 4096]) -> Result<(), DeviceFault>
+        requires { 8 * b + 8 ≤ (meaning_of self.old).sectors }
+        ensures call { WriteCall (SomeSectorsWritten (8 * b) bytes.now)
+            (meaning_of self.old) (meaning_of self.new) result }
+        ensures written { OnOk result (SeenGoes (SectorsWritten (8 * b) bytes.now)
+            (meaning_of self.old) (meaning_of self.new)) }
+        ensures planned { FollowsWrite (8 * b) bytes.now self.old self.new result }
+    {
         self.write_sectors(8 * b, bytes)
     }
 
-    fn sync(&mut self) -> Result<(), DeviceFault> {
+    fn sync(&mut self) -> Result<(), DeviceFault>
+        ensures call { WriteCall Unchanged (meaning_of self.old) (meaning_of self.new) result }
+        ensures settled { OnOk result
+            (LeavesJust (meaning_of self.new) (meaning_of self.old).seen) }
+        ensures planned { FollowsSync self.old self.new result }
+    {
         let answer = self.try_sync();
         self.count_write(answer)
     }
 
-    fn nv_read(&mut self, at: u32, out: &mut [u8]) -> Result<(), DeviceFault> {
+    fn nv_read(&mut self, at: u32, out: &mut [u8]) -> Result<(), DeviceFault>
+        requires { at + length out.old ≤ (meaning_of self.old).nvram_bytes }
+        ensures call { ReadCall (meaning_of self.old) (meaning_of self.new) result }
+        ensures bytes { OnOk result
+            (Shows (meaning_of self.old) (λ c. out.new ≡ take (length out.old) (drop at c.nvram))) }
+        ensures planned { FollowsRead self.old self.new result }
+    {
         self.begin_read()?;
         let at = at as usize;
         out.copy_from_slice(&self.media.nvram[at..at + out.len()]);
         Ok(())
     }
 
-    fn nv_write(&mut self, at: u32, bytes: &[u8]) -> Result<(), DeviceFault> {
+    fn nv_write(&mut self, at: u32, bytes: &[u8]) -> Result<(), DeviceFault>
+        requires { at + length bytes.now ≤ (meaning_of self.old).nvram_bytes }
+        ensures call { WriteCall (NvramPrefixWritten at bytes.now)
+            (meaning_of self.old) (meaning_of self.new) result }
+        ensures written { OnOk result
+            (SeenGoes (NvramWritten at bytes.now) (meaning_of self.old) (meaning_of self.new)) }
+        ensures kept { OnOk result
+            (LeftGoes (NvramWritten at bytes.now) (meaning_of self.old) (meaning_of self.new)) }
+        ensures planned { FollowsNvWrite at bytes.now self.old self.new result }
+    {
         let answer = self.try_nv_write(at, bytes);
         self.count_write(answer)
     }

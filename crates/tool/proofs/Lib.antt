@@ -1,4 +1,5 @@
 mod LineLemmas
 mod ScriptLemmas
+mod SessionLemmas
 mod SplitLemmas
 mod WordLemmas

@@ -1,8 +1,10 @@
 -- Words spell one command at most.
-use Rattle.std.proofs.Common.{◌≡◌, inl, ℕ, ◌+◌, ◌/◌, ◌%◌, ◌<◌, ◌≤◌, ◌==◌, Bool, true, false, List, [], ◌∷◌, length, map, get_or, codes, cond, Result, Ok, Err, arith, refl, sym, ◌∙◌, ap, subst}
+use Rattle.std.proofs.Common.{◌≡◌, inl, ℕ, ◌+◌, ◌/◌, ◌%◌, ◌<◌, ◌≤◌, ◌==◌, Bool, true, false, List, [], ◌∷◌, All, length, map, get_or, codes, cond, Result, Ok, Err, IfOk, arith, refl, sym, ◌∙◌, ap, subst}
+use Rattle.std.proofs.lemmas.List.Elements.{All-cons, All-head, All-nil, All-tail}
 use Rattle.model.specs.declared.command.Command.{Command}
 use Rattle.model.specs.declared.command.Command.TheVariants as command
 use Rattle.model.specs.declared.command.PathCall.TheVariants as call
+use Rattle.model.specs.Served.{IsServed}
 use Rattle.tool.specs.declared.script.ScriptError.{ScriptError}
 use Rattle.tool.specs.declared.script.ScriptError.TheVariants.{NotACommand}
 use Rattle.tool.specs.declared.script.readers.Verb.{Verb}
@@ -37,6 +39,7 @@ mode_words-unique m n e = by_default (m == 493) (n == 493) m n refl refl e
 list_only : (t : List ℕ) (c : Command) → IsBytes t → IsCommand c → codes "list" ∷ text_word t ∷ [] ≡ command_words c → command.Path (call.List t) ≡ c
 list_only t (command.Path (call.List p)) bytes good e = ap (λ q. command.Path (call.List q)) (text_word-unique t p bytes good (grind (arith, e)))
 list_only t (command.Path (call.Mkdir p m)) bytes good e = absurd (grind (arith, e))
+list_only t c bytes good e = absurd good
 
 mkdir_only : (t : List ℕ) (m : ℕ) (c : Command) → IsBytes t → IsCommand c → codes "mkdir" ∷ text_word t ∷ mode_words 493 m ≡ command_words c → command.Path (call.Mkdir t m) ≡ c
 mkdir_only t m (command.Path (call.List p)) bytes good e = absurd (grind (arith, e))
@@ -46,6 +49,7 @@ mkdir_only t m (command.Path (call.Mkdir p n)) bytes good e =
     let same = text_word-unique t p bytes good.0 path in
     let mode = mode_words-unique m n modes in
     ap (λ q. command.Path (call.Mkdir q m)) same ∙ ap (λ k. command.Path (call.Mkdir p k)) mode
+mkdir_only t m c bytes good e = absurd good
 
 -- `list` and a text's word
 pub reads_list : (t : List ℕ) (fields : List (List ℕ)) → IsBytes t → fields ≡ text_word t ∷ [] → ReadsWords (codes "list" ∷ fields) (Ok (command.Path (call.List t)))
@@ -69,13 +73,29 @@ reads_none v [] d some none = absurd (omega (arith, some))
 reads_none v (x ∷ xs) d some none = record {
   spelled = tt;
   bounded = tt;
-  read = λ c good e. absurd (begins v x xs c none e);
+  read = λ c good e. absurd (begins v x xs c good none e);
 }
   where
-    begins : {X : Type 0} (v : X → List ℕ) (x : X) (xs : List X) (c : Command) → ((w : Verb) → v x ≡ verb_name w → ⊥) → v x ∷ map v xs ≡ command_words c → ⊥
-    begins v x xs (command.Path (call.List p)) none e = none verb.List (grind (arith, e))
-    begins v x xs (command.Path (call.Mkdir p m)) none e = none verb.Mkdir (grind (arith, e))
+    begins : {X : Type 0} (v : X → List ℕ) (x : X) (xs : List X) (c : Command) → IsCommand c → ((w : Verb) → v x ≡ verb_name w → ⊥) → v x ∷ map v xs ≡ command_words c → ⊥
+    begins v x xs (command.Path (call.List p)) good none e = none verb.List (grind (arith, e))
+    begins v x xs (command.Path (call.Mkdir p m)) good none e = none verb.Mkdir (grind (arith, e))
+    begins v x xs c good none e = good
 
 -- `mkdir` with one field
 pub reads_one : {X : Type 0} (v : X → List ℕ) (xs : List X) (d : X) (r : Result Command ScriptError) → 1 ≤ length xs → length xs < 2 → ReadsWords (codes "mkdir" ∷ v (get_or xs 0 d) ∷ []) r → ReadsWords (codes "mkdir" ∷ map v xs) r
 reads_one v xs d r some few reads = subst (λ ws. ReadsWords (codes "mkdir" ∷ ws) r) (sym (one_field v xs d some few)) reads
+
+-- what is read is served
+is_served : (c : Command) → IsCommand c → IsServed c
+is_served (command.Path (call.List p)) good = tt
+is_served (command.Path (call.Mkdir p m)) good = tt
+is_served c good = absurd good
+
+pub all_served : (r : Result Command ScriptError) → IfOk r IsCommand → IfOk r IsServed
+all_served (Ok c) good = is_served c good
+all_served (Err e) good = tt
+
+-- and so is each of what is read
+pub each_served : (cs : List Command) → All IsCommand cs → All IsServed cs
+each_served [] good = All-nil IsServed
+each_served (c ∷ cs) good = All-cons IsServed c cs (is_served c (All-head IsCommand c cs good)) (each_served cs (All-tail IsCommand c cs good))

@@ -8,10 +8,7 @@ use Rattle.tool.specs.declared.session.ScriptFault.{ScriptFault}
 use Rattle.tool.specs.declared.session.ScriptFault.TheVariants.{NoMemory, Line}
 use Rattle.tool.specs.Lines.{command_line, IsCommand}
 use Rattle.tool.specs.Scripts.{fault_status, is_skipped, lines_kept, AreCommandsOf, IsBadLine, IsFirstBadLine}
-use Rattle.tool.specs.Statuses.{status_number, IsEndOf}
-use Rattle.tool.specs.declared.status.Status.{Status}
-use Rattle.tool.specs.declared.status.Status.TheVariants as status
-use Rattle.tool.specs.declared.status.Status.TheVariants.{Done, NotUnderstood, FileFault, Cut, NotMounted, NotACommand}
+use Rattle.tool.specs.Statuses.{status_number}
 
 got : {X : Type 0} (v : X → List ℕ) (xs : List X) (i : ℕ) (d : X) (e : List ℕ) → i < length xs → get_or (map v xs) i e ≡ v (get_or xs i d)
 got v [] i d e within = absurd (omega (arith, within))
@@ -54,31 +51,3 @@ no_bad_line lines commands are i within bad = none_bad lines commands are.bounde
 pub fault_number : (f : ScriptFault) → (status_number (fault_status f) ≡ 5) ⊎ (status_number (fault_status f) ≡ 7)
 fault_number NoMemory = inr refl
 fault_number (Line i) = inl refl
-
--- a run ends with 3 only where the power was cut, and with 0 only where it wasn't
-pub cut_number : (cut : Bool) (s : Status) → IsEndOf cut s → status_number s ≡ 3 → cut ≡ true
-cut_number cut Done ends e = absurd (omega (arith, e))
-cut_number cut Cut ends e = ends
-cut_number cut FileFault ends e = absurd (omega (arith, e))
-cut_number cut status.NoMemory ends e = absurd (omega (arith, e))
-cut_number cut NotUnderstood ends e = absurd ends
-cut_number cut NotMounted ends e = absurd ends
-cut_number cut NotACommand ends e = absurd ends
-
-pub done_number : (cut : Bool) (s : Status) → IsEndOf cut s → status_number s ≡ 0 → cut ≡ false
-done_number cut Done ends e = ends
-done_number cut Cut ends e = absurd (omega (arith, e))
-done_number cut FileFault ends e = absurd (omega (arith, e))
-done_number cut status.NoMemory ends e = absurd (omega (arith, e))
-done_number cut NotUnderstood ends e = absurd ends
-done_number cut NotMounted ends e = absurd ends
-done_number cut NotACommand ends e = absurd ends
-
-pub not_refused_number : (cut : Bool) (s : Status) → IsEndOf cut s → status_number s ≡ 5 → ⊥
-not_refused_number cut Done ends e = omega (arith, e)
-not_refused_number cut Cut ends e = omega (arith, e)
-not_refused_number cut FileFault ends e = omega (arith, e)
-not_refused_number cut status.NoMemory ends e = omega (arith, e)
-not_refused_number cut NotUnderstood ends e = ends
-not_refused_number cut NotMounted ends e = ends
-not_refused_number cut NotACommand ends e = ends

@@ -7,7 +7,7 @@ use Rattle.std.proofs.lemmas.List.Splits.{join_with_byte-slice_split, slice_spli
 use Rattle.model.specs.declared.command.Command.{Command}
 use Rattle.model.specs.declared.command.Command.TheVariants as command
 use Rattle.model.specs.declared.command.PathCall.TheVariants as call
-use Rattle.tool.specs.Lines.{command_line, command_words, line_of, mode_words}
+use Rattle.tool.specs.Lines.{command_line, command_words, line_of, mode_words, IsCommand}
 use Rattle.tool.specs.Words.{byte_word, hex_digit, is_plain, mode_word, text_word}
 use Rattle.tool.specs.declared.script.ScriptError.{ScriptError}
 
@@ -67,6 +67,7 @@ modes_are_words m = by_default (m == 493) m
 command_has_words : (c : Command) → AreWords (command_words c)
 command_has_words (command.Path (call.List p)) = (letters_are_word (codes "list") refl, (text_is_word p, tt))
 command_has_words (command.Path (call.Mkdir p m)) = (letters_are_word (codes "mkdir") refl, (text_is_word p, modes_are_words m))
+command_has_words c = tt
 
 -- a line is cut at its spaces into its words
 split_line : (w : List ℕ) (ws : List (List ℕ)) → AreWords (w ∷ ws) → slice_split (λ b. eqb b 32) (line_of (w ∷ ws)) ≡ w ∷ ws
@@ -83,9 +84,10 @@ pub line_of_parts : (line : List ℕ) → line ≡ line_of (slice_split (λ b. e
 line_of_parts line = sym (join_with_byte-slice_split 32 line) ∙ join_words (slice_split (λ b. eqb b 32) line)
 
 -- the parts of a command's line are its words
-pub parts_of_command : (c : Command) → slice_split (λ b. eqb b 32) (command_line c) ≡ command_words c
-parts_of_command (command.Path (call.List p)) = split_line _ _ (command_has_words (command.Path (call.List p)))
-parts_of_command (command.Path (call.Mkdir p m)) = split_line _ _ (command_has_words (command.Path (call.Mkdir p m)))
+pub parts_of_command : (c : Command) → IsCommand c → slice_split (λ b. eqb b 32) (command_line c) ≡ command_words c
+parts_of_command (command.Path (call.List p)) good = split_line _ _ (command_has_words (command.Path (call.List p)))
+parts_of_command (command.Path (call.Mkdir p m)) good = split_line _ _ (command_has_words (command.Path (call.Mkdir p m)))
+parts_of_command c good = absurd good
 
 -- where the parts of a line are a command's words, the line is its line
 pub line_spelled : (line : List ℕ) (r : Result Command ScriptError) → IfOk r (λ c. slice_split (λ b. eqb b 32) line ≡ command_words c) → IfOk r (λ c. line ≡ command_line c)

@@ -1,4 +1,5 @@
 pub mod Lines
 pub mod Scripts
+pub mod Sessions
 pub mod Statuses
 pub mod Words

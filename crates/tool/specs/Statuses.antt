@@ -1,5 +1,5 @@
--- The exit statuses: their numbers, and what ends a run whose replies are shown.
-use Rattle.std.specs.Prelude.{◌≡◌, ℕ, Bool, true, false}
+-- The exit statuses: their numbers, and which say what the system refuses.
+use Rattle.std.specs.Prelude.{ℕ}
 use Rattle.tool.specs.declared.line.LineError.{LineError}
 use Rattle.tool.specs.declared.line.LineError.TheVariants as line_error
 use Rattle.tool.specs.declared.status.Status.{Status}
@@ -20,12 +20,6 @@ abbrev pub IsSystemFault : Status → Type 0
 IsSystemFault NoMemory = Unit {0}
 IsSystemFault FileFault = Unit {0}
 IsSystemFault _ = ⊥
-
--- what comes where the replies are shown, by whether the power was cut
-abbrev pub IsEndOf : Bool → Status → Type 0
-IsEndOf cut Done = cut ≡ false
-IsEndOf cut Cut = cut ≡ true
-IsEndOf cut status = IsSystemFault status
 
 -- the number of a refusal of the words
 abbrev pub line_error_number : LineError → ℕ

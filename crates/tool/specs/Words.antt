@@ -1,6 +1,7 @@
 -- How texts and modes are spelled as words of a line.
 use Rattle.std.specs.Prelude.{ℕ, ◌+◌, ◌/◌, ◌%◌, ◌==◌, Bool, nat_lt, nat_le, ◌&&◌, not, List, [], ◌∷◌, if◌then◌else◌, codes}
 use Rattle.std.specs.List.{flat_map}
+use Rattle.hex.specs.Hex.{encode_lower}
 
 -- a byte that stands for itself: '!' to '~', but '%'
 abbrev pub is_plain : ℕ → Bool
@@ -22,3 +23,8 @@ text_word (b ∷ bs) = flat_map byte_word (b ∷ bs)
 -- four octal digits
 abbrev pub mode_word : ℕ → List ℕ
 mode_word m = (48 + m / 512) ∷ (48 + m / 64 % 8) ∷ (48 + m / 8 % 8) ∷ (48 + m % 8) ∷ []
+
+-- two hexadecimal digits for each byte, and '-' for none
+abbrev pub data_word : List ℕ → List ℕ
+data_word [] = codes "-"
+data_word (b ∷ bs) = encode_lower (b ∷ bs)

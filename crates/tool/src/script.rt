@@ -2,15 +2,17 @@
 
 ghost use Rattle.std.specs.Prelude.{◌≡◌, ◌⊎◌, ◌≢◌, ◌≤◌, ◌++◌, ℕ, IfOk, IfErr, OnOk, codes, map};
 ghost use Rattle.tool.specs.declared.script.ScriptError.TheVariants.{NoMemory};
-ghost use Rattle.tool.specs.Lines.{command_line, line_of, mode_words, path_call_words, reply_line, spaced, IsCommand};
-ghost use Rattle.tool.specs.Words.{mode_word, text_word};
+ghost use Rattle.model.specs.Served.{IsServed};
 ghost use Rattle.model.specs.declared.command.Command.{Command};
+ghost use Rattle.tool.specs.Lines.{command_line, mode_words, reply_line, spaced, IsCommand};
 
 mod readers;
+mod replies;
 mod words;
 
-use model::{Command, Mode, Names, PathCall, Reply};
+use model::{Command, Mode, PathCall, Reply};
 use readers::read_words;
+use replies::push_reply;
 use std::alloc::{AllocError, AllocFailed, Global};
 use thiserror::Error;
 use words::{mode_word, push_text, split_words};
@@ -42,11 +44,12 @@ impl<T: Drop> From<AllocFailed<T>> for ScriptError {
     }
 }
 
-/// The command that a line spells, without the line's end. A command has one spelling; anything else is
-/// `NotACommand`, as an empty line and one that begins with `#` are. `NoMemory` where a growth was refused.
+/// The command that a line spells, without the line's end: one that this version serves. A command has one spelling;
+/// anything else is `NotACommand`, as an empty line and one that begins with `#` are. `NoMemory` where a growth was refused.
 pub fn read_command(alloc: Global, line: &[u8]) -> Result<Command, ScriptError>
     ensures spelled { IfOk result (λ command. line.now ≡ command_line command) }
     ensures bounded { IfOk result IsCommand }
+    ensures served { IfOk result IsServed }
     ensures read { (command : Command) → IsCommand command → line.now ≡ command_line command
         → (result ≡ Ok command) ⊎ (result ≡ Err ScriptError.NoMemory) }
 {
@@ -56,30 +59,24 @@ pub fn read_command(alloc: Global, line: &[u8]) -> Result<Command, ScriptError>
 
 /// The line that spells a command, without a line's end. `NoMemory` where a growth was refused.
 pub fn write_command(alloc: Global, command: &Command) -> Result<Vec<u8>, ScriptError>
+    requires { IsServed command.now }
     ensures line { IfOk result (λ line. line.items ≡ command_line command.now) }
     ensures error { IfErr result (λ e. e ≡ ScriptError.NoMemory) }
 {
     let mut line = Vec::new(alloc);
     match command {
-        Command::Path(call) => push_path_call(&mut line, call)?,
+        Command::Path(PathCall::List { path }) => {
+            line.extend_from_slice(b"list ")?;
+            push_text(&mut line, path.as_bytes())?;
+        }
+        Command::Path(PathCall::Mkdir { path, mode }) => {
+            line.extend_from_slice(b"mkdir ")?;
+            push_text(&mut line, path.as_bytes())?;
+            push_mode(&mut line, *mode, Mode::NEW_DIRECTORY)?;
+        }
+        _ => unreachable!(),
     }
     Ok(line)
-}
-
-fn push_path_call(line: &mut Vec<u8>, call: &PathCall) -> Result<(), AllocError>
-    ensures { OnOk result (line.new.items ≡ line.old.items ++ line_of (path_call_words call.now)) }
-{
-    match call {
-        PathCall::List { path } => {
-            line.extend_from_slice(b"list ")?;
-            push_text(line, path.as_bytes())
-        }
-        PathCall::Mkdir { path, mode } => {
-            line.extend_from_slice(b"mkdir ")?;
-            push_text(line, path.as_bytes())?;
-            push_mode(line, *mode, Mode::NEW_DIRECTORY)
-        }
-    }
 }
 
 /// Adds a mode as a line's last word, which the default isn't.
@@ -99,24 +96,6 @@ pub fn write_reply(alloc: Global, reply: &Reply) -> Result<Vec<u8>, ScriptError>
     ensures error { IfErr result (λ e. e ≡ ScriptError.NoMemory) }
 {
     let mut line = Vec::new(alloc);
-    match reply {
-        Reply::Done => line.extend_from_slice(b"ok")?,
-        Reply::Names(names) => push_names(&mut line, names)?,
-        Reply::Refused(errno) => {
-            line.extend_from_slice(b"err ")?;
-            line.extend_from_slice(errno.name().as_bytes())?;
-        }
-    }
+    push_reply(alloc, &mut line, reply)?;
     Ok(line)
-}
-
-fn push_names(line: &mut Vec<u8>, names: &Names) -> Result<(), AllocError>
-    ensures { OnOk result (line.new.items ≡ line.old.items ++ codes "names" ++ spaced (map text_word names.now)) }
-{
-    line.extend_from_slice(b"names")?;
-    for name in names.as_slice() {
-        line.extend_from_slice(b" ")?;
-        push_text(line, name.as_slice())?;
-    }
-    Ok(())
 }

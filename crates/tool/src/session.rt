@@ -1,14 +1,19 @@
 //! A session: a script run over a mounted station.
 
 ghost use Rattle.std.specs.Fn.{FnReturnsAt};
-ghost use Rattle.std.specs.Prelude.{◌≡◌, ◌⊎◌, true, false, IfOk, IfErr, IsErrOf, map, string_bytes};
+ghost use Rattle.std.specs.Prelude.{All, ◌≡◌, ◌⊎◌, ◌∷◌, ◌++◌, [], if◌then◌else◌, true, false, IfOk, IfErr, IsErrOf, MatchResult, OnOk, map, string_bytes};
+ghost use Rattle.std.specs.List.{before_first, position};
+ghost use Rattle.std.specs.Io.KnownBytes.{Appends};
+ghost use Rattle.model.specs.Served.{IsServed};
+ghost use Rattle.tool.specs.Lines.{reply_line};
 ghost use Rattle.tool.specs.Scripts.{fault_status, is_skipped, line_fault, lines_of, HasBadLine, IsBadLine, IsFaultOf, IsLineOf, IsScriptOf, RefusesScript};
-ghost use Rattle.tool.specs.Statuses.{IsSystemFault, IsEndOf};
+ghost use Rattle.tool.specs.Sessions.{is_failed_call, reply_lines, EndsRun, EndsShowing, EndsWith};
+ghost use Rattle.tool.specs.Statuses.{IsSystemFault};
 ghost use Rattle.tool.specs.declared.session.ScriptFault.TheVariants.{NoMemory};
 
 use crate::{ScriptError, Status, read_command, write_reply};
 use model::{Command, Errno, Reply};
-use mount::{MountError, RunError, mount};
+use mount::{Fs, MountError, RunError, mount};
 use station::Station;
 use std::alloc::{AllocError, AllocFailed, Global};
 use std::io::Write;
@@ -52,7 +57,8 @@ impl From<AllocError> for ScriptFault {
 ///
 /// Where the power was cut, the line `cut` stands in place of the reply to the command under way, and ends them. A fault
 /// goes to `err`. Answers the exit status: that of `Done`, `Cut`, `NotMounted`, `NotACommand` or `NoMemory`, or `FileFault`
-/// where `out` can't be written. `was_cut` says of the station whether its power was cut.
+/// where `out` can't be written. `was_cut` says of the station whether its power was cut. Where `err` can't be written,
+/// the status alone says what it can.
 pub fn session<S: Station, C: Fn(&S) -> bool, O: Write, E: Write>(
     alloc: Global,
     station: S,
@@ -66,6 +72,10 @@ pub fn session<S: Station, C: Fn(&S) -> bool, O: Write, E: Write>(
     ensures refused { result.0 ≡ 5 → RefusesScript script.now station result.1 }
     ensures cut { result.0 ≡ 3 → FnReturnsAt C.Fn was_cut result.1 true }
     ensures done { result.0 ≡ 0 → FnReturnsAt C.Fn was_cut result.1 false }
+    ensures ends { EndsWith S.Station script.now station result.1
+        (O.contents out.old) (O.contents out.new) result.0 }
+    // Standard error gains nothing but of a mount that was refused and of a bad line.
+    ensures told { (result.0 ≡ 4) ⊎ (result.0 ≡ 5) ⊎ (err.new ≡ err.old) }
 {
     let commands = match read_script(alloc, script) {
         Ok(commands) => commands,
@@ -74,14 +84,37 @@ pub fn session<S: Station, C: Fn(&S) -> bool, O: Write, E: Write>(
             return (fault.status().number(), station);
         }
     };
-    let mut fs = match mount(alloc, station) {
-        Ok(fs) => fs,
-        Err((error, station)) => return (tell_mount_error(error, err).number(), station),
-    };
-    let ran = fs.run(commands.as_slice());
+    match mount(alloc, station) {
+        Ok(fs) => {
+            let (status, station) = run_mounted(alloc, fs, commands.as_slice(), was_cut, out);
+            (status.number(), station)
+        }
+        Err((error, station)) => {
+            tell_mount_error(error, err);
+            (Status::NotMounted.number(), station)
+        }
+    }
+}
+
+/// Runs commands on a mounted file system, and shows the replies.
+fn run_mounted<S: Station, C: Fn(&S) -> bool, O: Write>(
+    alloc: Global,
+    mut fs: Fs<S>,
+    commands: &[Command],
+    was_cut: C,
+    out: &mut O,
+) -> (Status, S)
+    requires callable { C.IsAlwaysCallable was_cut }
+    requires served { All IsServed commands.now }
+    ensures cut { (result.0 ≡ Status.Cut) → FnReturnsAt C.Fn was_cut result.1 true }
+    ensures done { (result.0 ≡ Status.Done) → FnReturnsAt C.Fn was_cut result.1 false }
+    ensures ends { EndsRun fs commands.now result.1
+        (O.contents out.old) (O.contents out.new) result.0 }
+{
+    let ran = fs.run(commands);
     let station = fs.into_station();
     let cut = was_cut(&station);
-    (show_run(alloc, ran, cut, out).number(), station)
+    (show_run(alloc, ran, cut, out), station)
 }
 
 /// The commands of a script's lines, but for empty lines and those that begin with `#`.
@@ -130,8 +163,10 @@ fn is_skipped(line: &[u8]) -> bool
     }
 }
 
-/// Says which line is no command. Where `err` can't be written, the status alone says what it can.
-fn tell_script_fault<E: Write>(alloc: Global, fault: ScriptFault, err: &mut E) {
+/// Says which line is no command.
+fn tell_script_fault<E: Write>(alloc: Global, fault: ScriptFault, err: &mut E)
+    ensures { fault ≡ ScriptFault.NoMemory → err.new ≡ err.old }
+{
     if let ScriptFault::Line(number) = fault {
         if let Ok(text) = line_text(alloc, number) {
             let _ = err.write_all(text.as_bytes());
@@ -146,9 +181,7 @@ fn line_text(alloc: Global, number: usize) -> Result<String, AllocError>
 }
 
 /// Says why the station isn't mounted.
-fn tell_mount_error<E: Write>(error: MountError, err: &mut E) -> Status
-    ensures { result ≡ Status.NotMounted }
-{
+fn tell_mount_error<E: Write>(error: MountError, err: &mut E) {
     let text = match error {
         MountError::NoMemory => "wafl: mount NOMEMORY\n",
         MountError::Device => "wafl: mount DEVICE\n",
@@ -156,7 +189,6 @@ fn tell_mount_error<E: Write>(error: MountError, err: &mut E) -> Status
         MountError::Damaged => "wafl: mount DAMAGED\n",
     };
     let _ = err.write_all(text.as_bytes());
-    Status::NotMounted
 }
 
 /// Shows what a run answered, and says what the program ends with.
@@ -166,7 +198,9 @@ fn show_run<O: Write>(
     cut: bool,
     out: &mut O,
 ) -> Status
-    ensures { IsEndOf cut result }
+    ensures { MatchResult ran
+        (λ replies. EndsShowing cut replies.items (O.contents out.old) (O.contents out.new) result)
+        (λ _. result ≡ Status.NoMemory) }
 {
     match ran {
         Ok(replies) => show_replies(alloc, replies.as_slice(), cut, out),
@@ -174,17 +208,12 @@ fn show_run<O: Write>(
     }
 }
 
-/// Writes the replies. The command that a cut interrupts is the first that answers EIO.
+/// Writes the replies, and `cut` in place of that to the command under way.
 fn show_replies<O: Write>(alloc: Global, replies: &[Reply], cut: bool, out: &mut O) -> Status
-    ensures { IsEndOf cut result }
+    ensures { EndsShowing cut replies.now (O.contents out.old) (O.contents out.new) result }
 {
-    for reply in replies {
-        if cut && is_failed_call(reply) {
-            break;
-        }
-        if let Err(status) = show_reply(alloc, reply, out) {
-            return status;
-        }
+    if let Err(status) = show_lines(alloc, answered(replies, cut), out) {
+        return status;
     }
     if !cut {
         return Status::Done;
@@ -195,13 +224,48 @@ fn show_replies<O: Write>(alloc: Global, replies: &[Reply], cut: bool, out: &mut
     }
 }
 
-fn is_failed_call(reply: &Reply) -> bool {
+/// The replies that came: where the power was cut, those before the first call that failed, which the cut interrupted.
+fn answered(replies: &[Reply], cut: bool) -> &[Reply]
+    ensures { result.now ≡ if cut then before_first is_failed_call replies.now else replies.now }
+{
+    if !cut {
+        return replies;
+    }
+    match first_failed_call(replies) {
+        Some(i) => &replies[..i],
+        None => replies,
+    }
+}
+
+fn first_failed_call(replies: &[Reply]) -> Option<usize>
+    ensures { result ≡ position is_failed_call replies.now }
+{
+    replies.iter().position(|reply| is_failed_call(reply))
+}
+
+fn is_failed_call(reply: &Reply) -> bool
+    ensures { result ≡ is_failed_call reply.now }
+{
     matches!(reply, Reply::Refused(Errno::EIO))
 }
 
-/// Writes a reply's line, or says what the program ends with where that fails.
-fn show_reply<O: Write>(alloc: Global, reply: &Reply, out: &mut O) -> Result<(), Status>
-    ensures { IfErr result IsSystemFault }
+/// Writes a line for each reply, or says what the program ends with where that fails.
+fn show_lines<O: Write>(alloc: Global, replies: &[Reply], out: &mut O) -> Result<(), Status>
+    ensures shown { OnOk result
+        (Appends (O.contents out.old) (O.contents out.new) (reply_lines replies.now)) }
+    ensures fault { IfErr result IsSystemFault }
+{
+    for reply in replies {
+        show_line(alloc, reply, out)?;
+    }
+    Ok(())
+}
+
+/// Writes a reply's line.
+fn show_line<O: Write>(alloc: Global, reply: &Reply, out: &mut O) -> Result<(), Status>
+    ensures shown { OnOk result
+        (Appends (O.contents out.old) (O.contents out.new) (reply_line reply.now ++ 10 ∷ [])) }
+    ensures fault { IfErr result IsSystemFault }
 {
     let Ok(mut line) = write_reply(alloc, reply) else {
         return Err(Status::NoMemory);

@@ -9,7 +9,7 @@ mod run;
 use run::{run_on_files, run_with_cut};
 use std::process::ExitCode;
 use std::{env, io};
-use tool::files::{FileError, make_image};
+use tool::images::{FileError, make_image};
 use tool::{Line, LineError, Status, read_line};
 
 fn main(rt: HostRuntime) -> ExitCode {
@@ -20,8 +20,10 @@ fn main(rt: HostRuntime) -> ExitCode {
 fn obey_words(rt: &HostRuntime) -> u8 {
     let words = match program_words(rt) {
         Ok(words) => words,
-        Err(error) if error.kind() == io::ErrorKind::OutOfMemory =>
-            return Status::NoMemory.number(),
+        Err(error) if error.kind() == io::ErrorKind::OutOfMemory => {
+            let _ = eprintln!(rt; "wafl: no memory");
+            return Status::NoMemory.number();
+        }
         Err(error) => {
             let _ = eprintln!(rt; "wafl: {error}");
             return Status::NotUnderstood.number();

@@ -1,12 +1,12 @@
 //! Running a script: on the files themselves, or in memory where the power is to be cut.
 
 ghost use Rattle.std.specs.Prelude.{IfOk};
-ghost use Rattle.wafl.specs.Words.{Keeps};
+ghost use Rattle.wafl.specs.Words.{IsCutAt, Keeps};
 
 use crate::tell;
 use station::{Keep, Sim};
 use std::alloc::{AllocError, Global};
-use tool::files::{FileError, load_station, open_station, read_script, store_image};
+use tool::images::{FileError, load_station, open_station, read_script, store_image};
 use tool::session::session;
 use tool::{Kept, Status};
 
@@ -41,12 +41,11 @@ pub fn run_with_cut(
     keep: Kept<'_>,
     bytes: u32,
 ) -> u8 {
-    let loaded = load_run(rt, disk, nvram, script, keep);
-    let (script, mut sim, keep) = match loaded {
+    let loaded = load_run(rt, disk, nvram, script, cut, keep, bytes);
+    let (script, sim) = match loaded {
         Ok(loaded) => loaded,
         Err(error) => return tell(rt, &error).number(),
     };
-    sim.cut_at(cut, keep, bytes);
     let (status, sim) = session(
         rt.alloc(),
         sim,
@@ -65,17 +64,22 @@ pub fn run_with_cut(
     }
 }
 
-/// What a run in memory starts from.
+/// What a run in memory starts from: the script, and a station whose power is to be cut.
 fn load_run<'a>(
     rt: &HostRuntime,
     disk: &'a str,
     nvram: &'a str,
     script: &'a str,
+    cut: u32,
     keep: Kept<'_>,
-) -> Result<(Vec<u8>, Sim, Keep), FileError<'a>> {
+    bytes: u32,
+) -> Result<(Vec<u8>, Sim), FileError<'a>>
+    ensures { IfOk result (λ run. IsCutAt cut keep.entry bytes run.1) }
+{
     let script = read_script(rt, script)?;
-    let sim = load_station(rt, disk, nvram)?;
-    Ok((script, sim, keep_of(rt.alloc(), keep)?))
+    let mut sim = load_station(rt, disk, nvram)?;
+    sim.cut_at(cut, keep_of(rt.alloc(), keep)?, bytes);
+    Ok((script, sim))
 }
 
 /// Which writes a cut keeps, by the word for it.

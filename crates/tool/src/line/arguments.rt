@@ -7,6 +7,9 @@ use std::alloc::{AllocError, Global};
 pub(super) fn wafl_command<'a>(alloc: Global) -> Result<Command<'a>, AllocError> {
     Command::new(alloc, "wafl")
         .about("A copy-on-write file system on a disk image and an NVRAM image")
+        .after_help(
+            "The script ./wafl proves the program before it runs it for the first time. With WAFL_UNPROVED=1 in the environment it runs a build without proofs instead.",
+        )
         .subcommand_required(true)
         .subcommand(make_command(alloc)?)?
         .subcommand(run_command(alloc)?)

@@ -68,7 +68,7 @@ fn read_mkdir(alloc: Global, fields: &[&[u8]]) -> Result<Command, ScriptError>
 }
 
 fn mkdir_command(alloc: Global, path: &[u8], mode: Mode) -> Result<Command, ScriptError>
-    ensures { ReadsWords (codes "mkdir" ∷ path.now ∷ mode_words 493 mode) result }
+    ensures { ReadsWords (codes "mkdir" ∷ path.now ∷ mode_words 0o755 mode) result }
 {
     Ok(Command::Path(PathCall::Mkdir {
         path: read_text(alloc, path)?,

@@ -3,8 +3,8 @@ use Rattle.layout.specs.Log.{HoldsBodies}
 use Rattle.layout.proofs.LogLemmas.{cut_short, body_short}
 use Rattle.layout.proofs.log.read_record.Goals as goal
 
-pub returns-then-behind-lt4 : goal.returns-then-behind-lt4
-returns-then-behind-lt4 c bodies holds = cut_short c.args.behind.now bodies (omega arith) holds
+pub returns-then-behind-lt-LENGTH_BYTES : goal.returns-then-behind-lt-LENGTH_BYTES
+returns-then-behind-lt-LENGTH_BYTES c bodies holds = cut_short c.args.behind.now bodies (omega arith) holds
 
 pub returns-then-length-behind : goal.returns-then-length-behind
 returns-then-length-behind c bodies holds =

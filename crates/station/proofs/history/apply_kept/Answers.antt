@@ -1,5 +1,5 @@
 use Rattle.std.proofs.Common.{[], refl, sym, ◌∙◌, arith, rules}
-use Rattle.station.specs.Writes.{kept_value}
+use Rattle.station.specs.Unsynced.{kept_value}
 use Rattle.station.proofs.DiskLemmas.{sectors_of-kept, sectors_of-not_kept}
 use Rattle.station.proofs.history.apply_kept.Goals as goal
 use Rattle.station.proofs.history.apply_kept.Goals.{then-keeps, else-keeps}

@@ -1,6 +1,6 @@
 use Rattle.std.proofs.Common.{◌≡◌, ℕ, length, take}
 use Rattle.station.specs.Device.{sectors_of}
-use Rattle.station.specs.Writes.{kept_value}
+use Rattle.station.specs.Unsynced.{kept_value}
 use Rattle.station.proofs.history.apply_kept.Given as goal
 
 abbrev pub invariant-loop-place : goal.invariant-loop-place

@@ -1,6 +1,6 @@
 use Rattle.std.proofs.Common.{◌≡◌, ◌+◌, ◌/◌, ◌≤◌, ◌++◌, length, vec_len}
 use Rattle.std.specs.Prelude.{vec_capacity}
-use Rattle.station.specs.Writes.{parts_of}
+use Rattle.station.specs.Unsynced.{parts_of}
 use Rattle.station.proofs.history.push_parts.Given as goal
 
 abbrev pub invariant-loop-part : goal.invariant-loop-part

@@ -1,6 +1,7 @@
 use Rattle.std.proofs.Common.{◌≡◌, ◌∙◌, ap, subst, map, IfOk, eqb}
 use Rattle.std.specs.List.{slice_split}
 use Rattle.tool.specs.Lines.{command_words}
+use Rattle.tool.proofs.LineLemmas.{all_served}
 use Rattle.tool.proofs.SplitLemmas.{line_spelled, parts_of_command}
 use Rattle.tool.proofs.script.read_command.Goals as goal
 
@@ -11,4 +12,7 @@ returns-clause-spelled c =
 
 pub returns-clause-read : goal.returns-clause-read
 returns-clause-read c = λ command good e.
-    c.read_words.ensures.read command good (ap (λ ws. map (λ word. word.now) ws) c.as_slice.ensures.value ∙ c.in_ok-words.ensures ∙ ap (λ line. slice_split (λ b. eqb b 32) line) e ∙ parts_of_command command)
+    c.read_words.ensures.read command good (ap (λ ws. map (λ word. word.now) ws) c.as_slice.ensures.value ∙ c.in_ok-words.ensures ∙ ap (λ line. slice_split (λ b. eqb b 32) line) e ∙ parts_of_command command good)
+
+pub returns-clause-served : goal.returns-clause-served
+returns-clause-served c = all_served c.read_words.result c.read_words.ensures.bounded

@@ -1,16 +1,24 @@
-use Rattle.std.proofs.lemmas.Fn.{says_at}
+use Rattle.std.proofs.Common.{◌∙◌, sym}
 use Rattle.tool.specs.Scripts.{lines_of}
-use Rattle.tool.proofs.ScriptLemmas.{cut_number, done_number, no_bad_line}
+use Rattle.tool.proofs.ScriptLemmas.{no_bad_line}
+use Rattle.tool.proofs.SessionLemmas.{cut_number, done_number, ends_session}
 use Rattle.tool.proofs.session.session.Goals as goal
 
 pub returns-in-Err-mount-clause-bad_line : goal.returns-in-Err-mount-clause-bad_line
 returns-in-Err-mount-clause-bad_line g c = λ bad. absurd (no_bad_line (lines_of c.args.script.now) c.in-Ok.commands.items c.in-Ok.ensures.commands bad.0 bad.1 bad.2)
 
-pub returns-clause-bad_line : goal.returns-clause-bad_line
-returns-clause-bad_line g c = λ bad. absurd (no_bad_line (lines_of c.args.script.now) c.in-Ok.commands.items c.in-Ok.ensures.commands bad.0 bad.1 bad.2)
+pub returns-in-Ok-mount-clause-bad_line : goal.returns-in-Ok-mount-clause-bad_line
+returns-in-Ok-mount-clause-bad_line g c = λ bad. absurd (no_bad_line (lines_of c.args.script.now) c.in-Ok.commands.items c.in-Ok.ensures.commands bad.0 bad.1 bad.2)
 
-pub returns-clause-cut : goal.returns-clause-cut
-returns-clause-cut g c = λ e. says_at g.C.Fn c.was_cut-cut.ensures (cut_number c.was_cut-cut.result c.show_run.result c.show_run.ensures (search))
+pub returns-in-Ok-mount-clause-cut : goal.returns-in-Ok-mount-clause-cut
+returns-in-Ok-mount-clause-cut g c = λ e. c.run_mounted-status.ensures.cut (cut_number c.run_mounted-status.result.0 (sym c.number-in-Ok-mount.ensures ∙ e))
 
-pub returns-clause-done : goal.returns-clause-done
-returns-clause-done g c = λ e. says_at g.C.Fn c.was_cut-cut.ensures (done_number c.was_cut-cut.result c.show_run.result c.show_run.ensures (search))
+pub returns-in-Ok-mount-clause-done : goal.returns-in-Ok-mount-clause-done
+returns-in-Ok-mount-clause-done g c = λ e. c.run_mounted-status.ensures.done (done_number c.run_mounted-status.result.0 (sym c.number-in-Ok-mount.ensures ∙ e))
+
+pub returns-in-Ok-mount-clause-ends : goal.returns-in-Ok-mount-clause-ends
+returns-in-Ok-mount-clause-ends g c = (
+  c.run_mounted-status.result.0,
+  c.number-in-Ok-mount.ensures,
+  ends_session c.args.script.now c.in-Ok-mount.fs c.in-Ok.commands.items _ _ _ _ c.run_mounted-status.result.0 c.in-Ok.ensures.commands c.in-Ok-mount.ensures.serves c.in-Ok-mount.ensures.opens c.in-Ok-mount.ensures.goes (rw c.as_slice.ensures.value at c.run_mounted-status.ensures.ends),
+)

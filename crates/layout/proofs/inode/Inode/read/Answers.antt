@@ -1,5 +1,6 @@
 use Rattle.std.proofs.Common.{refl, sym, ap, subst, ◌∙◌, arith}
 use Rattle.std.proofs.lemmas.Bool.{false≢true}
+use Rattle.layout.specs.declared.version.TheConstants.{VERSION}
 use Rattle.layout.specs.Inode.{IsSomeInode}
 use Rattle.layout.specs.InodeReading.{inode_in}
 use Rattle.layout.proofs.InodeLaws.{inode_takes, inode_again}
@@ -20,4 +21,4 @@ returns-then-fits_some-clause-only c = λ i is e. c.in-Some.ensures ∙ ap inode
 pub returns-else-fits_some-clause-only : goal.returns-else-fits_some-clause-only
 returns-else-fits_some-clause-only c = λ i is e.
     let same = some_is c.in-Some.inode i (c.in-Some.ensures ∙ ap inode_in e ∙ inode_again i is) in
-    absurd (false≢true (c.if-fits_some.ensures.1 (subst IsSomeInode (sym same) is)))
+    absurd (false≢true (c.if-fits_some.ensures.1 (subst (IsSomeInode VERSION) (sym same) is)))

@@ -1,24 +1,31 @@
-use Rattle.std.proofs.Common.{◌≡◌, ◌%◌, ◌∙◌, ◌∷◌, [], List, ℕ, ap, rules, drop, false}
+use Rattle.std.proofs.Common.{◌≡◌, ◌+◌, ◌*◌, ◌∙◌, ℕ, List, length, ap, rules, subst, sym}
 use Rattle.station.specs.Images.{Images}
-use Rattle.layout.specs.Log.{half_at}
-use Rattle.oplog.proofs.Reading.{tells_none, tells_some}
+use Rattle.layout.specs.Log.{half_of}
+use Rattle.oplog.specs.Internal.{TellsEpoch}
+use Rattle.oplog.proofs.Reading.{tells_log, first_unheld, second_unheld}
 use Rattle.oplog.proofs.saved.SavedLog.load.Goals as goal
 
-pub returns-then-not-branch-clause-tells : goal.returns-then-not-branch-clause-tells
-returns-then-not-branch-clause-tells g c honest =
-    let m0 = g.S.Station.meaning c.args.station.now in
-    let size = g.met.S.Station.nvram_length c.args.station.now m0.seen honest (g.met.S.Station.seen_may_be_left c.args.station.now honest) ∙ c.requires.size in
-    let next = c.in_ok-is_next_open.ensures.tells honest in
-    let closed : c.in_ok-is_next_open.field-0 ≡ false = c.if-not-branch.true in
-    let gate : c.in_ok-records.records.items ≡ 0 ∷ [] = search rules in
-    tells_none c.args.half c.args.generation m0.seen.nvram size next.sound c.epoch_after-epoch.result c.in_ok-records.records.items c.epoch_after-epoch.ensures (next.absent closed) gate
+pub returns-in_err-first-clause-damaged : goal.returns-in_err-first-clause-damaged
+returns-in_err-first-clause-damaged g c damaged honest =
+    first_unheld c.args.geometry.half c.args.generation _ _ (g.S.Station.meaning c.args.station.now).seen.nvram c.half-half.ensures.value c.epoch_after.ensures (c.in_err-first.ensures.damaged (search rules) honest)
+
+pub returns-in_err-second-clause-damaged : goal.returns-in_err-second-clause-damaged
+returns-in_err-second-clause-damaged g c damaged honest =
+    let went = c.read_half.ensures.reads.goes honest in
+    second_unheld c.args.geometry.half c.args.generation _ _ _ (g.S.Station.meaning c.args.station.now).seen.nvram c.half-half.ensures.value c.epoch_after-2.ensures (ap (λ (i : Images). i.nvram) went.seen)
+    (c.in_err-second.ensures.damaged (search rules) went.honest)
 
 pub returns-clause-tells : goal.returns-clause-tells
 returns-clause-tells g c honest =
     let m0 = g.S.Station.meaning c.args.station.now in
-    let size = g.met.S.Station.nvram_length c.args.station.now m0.seen honest (g.met.S.Station.seen_may_be_left c.args.station.now honest) ∙ c.requires.size in
-    let next = c.in_ok-is_next_open.ensures.tells honest in
-    let same = ap (λ (i : Images). i.nvram) (c.is_next_open.ensures.reads.goes honest).seen in
-    let read = c.in_ok-records-2.ensures.bytes (c.is_next_open.ensures.reads.same.honest.0 honest) in
-    tells_some c.args.half c.args.generation m0.seen.nvram size next.sound c.epoch_after-epoch.result c.in_ok-records-2.records.items c.epoch_after-epoch.ensures (next.present c.if-not-branch.false)
-    (read ∙ ap (λ (l : List ℕ). drop 9 (half_at c.args.half (c.epoch_after-epoch.result % 2) l)) same)
+    let nvram = m0.seen.nvram in
+    let half = c.half-half.result in
+    let generation = c.args.generation in
+    let size : length nvram ≡ 2 * half = (g.met.S.Station.sized c.args.station.now honest m0.seen (g.met.S.Station.seen_may_be_left c.args.station.now honest)).nvram ∙ c.requires.size ∙ ap (λ (h : ℕ). 2 * h) (sym c.half-half.ensures.value) in
+    let went = c.read_half.ensures.reads.goes honest in
+    let first = c.in_ok-first.first in
+    let second = c.in_ok-second.second in
+    let one = subst (λ (e : ℕ). TellsEpoch e (half_of half e nvram) first.is_open first.records.items) c.epoch_after.ensures (c.in_ok-first.ensures.tells honest) in
+    let two = subst (λ (l : List ℕ). TellsEpoch (generation + 2) (half_of half (generation + 2) l) second.is_open second.records.items) (ap (λ (i : Images). i.nvram) went.seen)
+    (subst (λ (e : ℕ). TellsEpoch e (half_of half e (g.S.Station.meaning c.read_half.new.station).seen.nvram) second.is_open second.records.items) c.epoch_after-2.ensures (c.in_ok-second.ensures.tells went.honest)) in
+    tells_log half generation nvram size first.records.items second.records.items first.is_open second.is_open one two

@@ -1,5 +1,5 @@
 use Rattle.std.proofs.Common.{ℕ, ◌<◌, ◌≤◌}
-use Rattle.model.specs.Calls.{IsUsed}
+use Rattle.model.specs.Trees.{IsUsed}
 use Rattle.plain.specs.Lists.{tree_of}
 use Rattle.plain.proofs.state.PlainState.fresh_number.Given as goal
 

@@ -2,7 +2,7 @@ use Rattle.std.proofs.Common.{rules, ◌∙◌, sym, map, ◌++◌, ◌∷◌, [
 use borrow.Author.Tests.{tests}
 use Rattle.std.proofs.lemmas.Iterator.{YieldsList-from_slice}
 use Rattle.std.proofs.lemmas.Iterator.Search.{any_from_yields_List}
-use Rattle.model.specs.Trees.{path_eq}
+use Rattle.model.specs.Paths.{path_eq}
 use Rattle.plain.specs.Lists.{path_of}
 use Rattle.plain.proofs.ListLemmas.{has_name}
 use Rattle.plain.proofs.state.PlainState.has.Goals as goal

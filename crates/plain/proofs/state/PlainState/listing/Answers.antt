@@ -3,7 +3,7 @@ use Rattle.std.specs.Cmp.Lexicographic.{pointwise}
 use Rattle.std.proofs.lemmas.Iterator.{items_from_collect}
 use Rattle.std.proofs.lemmas.Iterator.Consumers.{YieldsList-from_rest}
 use Rattle.std.proofs.lemmas.Result.{IfOk-weaker}
-use Rattle.model.specs.Calls.{IsListing}
+use Rattle.model.specs.Outcomes.{IsListing}
 use Rattle.plain.specs.Lists.{tree_of}
 use Rattle.plain.proofs.ListingLemmas.{shows, has_child, listed, adds_child, skips_other}
 use Rattle.plain.proofs.state.PlainState.listing.Goals as goal

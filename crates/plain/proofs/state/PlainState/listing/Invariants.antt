@@ -1,7 +1,7 @@
 use Rattle.std.proofs.Common.{◌≡◌, ◌++◌, ◌∷◌, [], map, take, bytes_eq}
 use Rattle.std.specs.List.{list_any}
 use Rattle.model.specs.Paths.{Name}
-use Rattle.model.specs.Trees.{path_eq}
+use Rattle.model.specs.Paths.{path_eq}
 use Rattle.plain.specs.Lists.{path_of}
 use Rattle.plain.proofs.state.PlainState.listing.Given as goal
 

@@ -1,6 +1,7 @@
 use Rattle.std.proofs.Common.{◌≡◌, ◌∙◌, sym, subst, map, take, take_all, Some, false}
 use Rattle.std.specs.List.{list_any}
-use Rattle.model.specs.Trees.{path_eq, directory}
+use Rattle.model.specs.Paths.{path_eq}
+use Rattle.model.specs.Trees.{directory}
 use Rattle.plain.specs.Lists.{path_of, tree_of, HasDistinctPaths}
 use Rattle.plain.proofs.ListLemmas.{found_at, root_only}
 use Rattle.plain.proofs.state.PlainState.number_at.Goals as goal

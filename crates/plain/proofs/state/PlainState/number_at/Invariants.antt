@@ -1,6 +1,6 @@
 use Rattle.std.proofs.Common.{◌≡◌, map, take, false}
 use Rattle.std.specs.List.{list_any}
-use Rattle.model.specs.Trees.{path_eq}
+use Rattle.model.specs.Paths.{path_eq}
 use Rattle.plain.specs.Lists.{path_of}
 use Rattle.plain.proofs.state.PlainState.number_at.Given as goal
 

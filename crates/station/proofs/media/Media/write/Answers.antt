@@ -1,9 +1,9 @@
 use Rattle.std.proofs.Common.{◌*◌, ◌/◌, ◌∙◌, ap, length, arith}
 use Rattle.std.proofs.lemmas.List.Elements.{All-append}
-use Rattle.station.specs.Writes.{IsInRange}
+use Rattle.station.specs.Unsynced.{IsInRange}
 use Rattle.station.specs.Images.{nvram_with}
 use Rattle.station.proofs.TiedLemmas.{tied_with-write, tied_with-write_failed}
-use Rattle.station.proofs.MediaLemmas.{parts_of-in_range}
+use Rattle.station.proofs.MediaLemmas.{parts_of-in_range, listed-write}
 use Rattle.station.proofs.media.Media.write.Goals as goal
 
 pub invariant_of-self-then-done-clause-in_range : goal.invariant_of-self-then-done-clause-in_range
@@ -26,3 +26,13 @@ invariant_of-self-else-done-clause-tied c =
     let call = c.in_ok-note_write.ensures.call in
     tied_with-write_failed _ _ _ _ _ _ _ _ _ c.args.self.now.tied c.args.first call.0 c.args.bytes.now _ c.args.done
     call.2 call.1 c.in_ok-note_write.ensures.parts c.requires.power c.if-done.false c.requires.whole
+
+pub invariant_of-self-then-done-clause-listed : goal.invariant_of-self-then-done-clause-listed
+invariant_of-self-then-done-clause-listed c =
+    let call = c.in_ok-note_write.ensures.call in
+    listed-write _ _ _ c.args.self.now.listed c.args.first call.0 c.args.bytes.now c.args.done _ call.2 call.1 c.in_ok-note_write.ensures.parts
+
+pub invariant_of-self-else-done-clause-listed : goal.invariant_of-self-else-done-clause-listed
+invariant_of-self-else-done-clause-listed c =
+    let call = c.in_ok-note_write.ensures.call in
+    listed-write _ _ _ c.args.self.now.listed c.args.first call.0 c.args.bytes.now c.args.done _ call.2 call.1 c.in_ok-note_write.ensures.parts

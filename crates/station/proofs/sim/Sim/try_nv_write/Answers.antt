@@ -1,19 +1,17 @@
-use Rattle.std.proofs.Common.{inr, ◌∙◌, ap, rules, length}
-use Rattle.station.specs.Plan.{kept_of}
+use Rattle.std.proofs.Common.{◌∙◌, sym, ap, length}
+use Rattle.station.specs.FaultPlan.{planned, kept_of}
+use Rattle.station.specs.declared.faults.Fate.{Fate}
+use Rattle.station.specs.declared.faults.Faults.{Faults}
+use Rattle.station.specs.Sim.{plan_of}
 use Rattle.station.proofs.MediaLemmas.{nv_write_after}
+use Rattle.station.proofs.SimLemmas.{next_write_is, write_follows}
 use Rattle.station.proofs.sim.Sim.try_nv_write.Goals as goal
 
-pub returns-in-Done-clause-ok : goal.returns-in-Done-clause-ok
-returns-in-Done-clause-ok c = nv_write_after _ c.nv_write.new.self _ _ _ _ _ c.in-Ok.ensures.ok
-    (c.kept_of-kept.ensures.kept ∙ ap (λ f. kept_of c.args.self.now.faults f (length c.args.bytes.now)) c.in-Done.is) c.end_write.ensures.media
-
-pub returns-in_default-fate : goal.returns-in_default-fate
-returns-in_default-fate c = record {
-  ok = tt;
-  err = inr (nv_write_after _ c.nv_write.new.self _ _ _ _ _ c.in-Ok.ensures.ok
-      (c.kept_of-kept.ensures.kept ∙ ap (λ f. kept_of c.args.self.now.faults f (length c.args.bytes.now)) c.of_write-fate.ensures) c.end_write.ensures.media);
-  fate = tt;
-  power = search rules;
-  cut = search rules;
-  counts = search rules;
-}
+pub returns-clause-follows : goal.returns-clause-follows
+returns-clause-follows c =
+    let is = next_write_is c.args.self.now c.of_write-fate.result c.of_write-fate.ensures in
+    write_follows c.args.self.now c.end_write.new.self c.of_write-fate.result _ c.answer.result (sym c.if-is_cut.ensures) is c.answer.ensures c.end_write.ensures.power
+    (λ cut. c.end_write.ensures.cut cut ∙ ap (λ (f : Faults). f.keep) c.count_write.ensures)
+    (λ off. c.end_write.ensures.plan off ∙ ap planned c.count_write.ensures)
+    (nv_write_after _ c.nv_write.new.self _ _ _ _ _ c.in-Ok.ensures.ok
+    (c.kept_of-kept.ensures.kept ∙ ap (λ (f : Fate). kept_of (plan_of c.args.self.now) f (length c.args.bytes.now)) is) c.end_write.ensures.media)

@@ -1,9 +1,14 @@
-use Rattle.std.proofs.Common.{inr}
+use Rattle.std.proofs.Common.{◌∙◌, sym, ap}
+use Rattle.station.specs.FaultPlan.{planned, is_done}
+use Rattle.station.specs.declared.faults.Faults.{Faults}
 use Rattle.station.proofs.MediaLemmas.{write_after}
+use Rattle.station.proofs.SimLemmas.{next_write_is, write_follows}
 use Rattle.station.proofs.sim.Sim.try_write.Goals as goal
 
-pub returns-then-done-clause-ok : goal.returns-then-done-clause-ok
-returns-then-done-clause-ok c = write_after _ c.write.new.self _ _ _ _ _ c.in-Ok.ensures.ok c.if-done.true c.end_write.ensures.media
-
-pub returns-else-done-clause-err : goal.returns-else-done-clause-err
-returns-else-done-clause-err c = inr (write_after _ c.write.new.self _ _ _ _ _ c.in-Ok.ensures.ok c.if-done.false c.end_write.ensures.media)
+pub returns-clause-follows : goal.returns-clause-follows
+returns-clause-follows c =
+    let is = next_write_is c.args.self.now c.of_write-fate.result c.of_write-fate.ensures in
+    write_follows c.args.self.now c.end_write.new.self c.of_write-fate.result _ c.answer.result (sym c.if-is_cut.ensures) is c.answer.ensures c.end_write.ensures.power
+    (λ cut. c.end_write.ensures.cut cut ∙ ap (λ (f : Faults). f.keep) c.count_write.ensures)
+    (λ off. c.end_write.ensures.plan off ∙ ap planned c.count_write.ensures)
+    (write_after _ c.write.new.self _ _ _ _ _ c.in-Ok.ensures.ok (c.is_done.ensures ∙ ap is_done is) c.end_write.ensures.media)

@@ -1,7 +1,12 @@
+use Rattle.station.specs.FaultPlan.{is_done}
+use Rattle.station.specs.Media.{AddsWrite}
+use Rattle.station.specs.Sim.{next_write}
+use Rattle.station.specs.declared.media.Media.{Media}
+use Rattle.station.proofs.SimLemmas.{follows_after}
 use Rattle.station.proofs.sim.Sim.write_sectors.Goals as goal
 
-pub returns-clause-ok : goal.returns-clause-ok
-returns-clause-ok c = rw (c.count_write.ensures.same, c.count_write.ensures.media) c.try_write-answer.ensures.ok
-
-pub returns-clause-err : goal.returns-clause-err
-returns-clause-err c = rw (c.count_write.ensures.same, c.count_write.ensures.media) c.try_write-answer.ensures.err
+pub returns-clause-follows : goal.returns-clause-follows
+returns-clause-follows c =
+    let s = c.args.self.now in
+    follows_after s c.try_write-answer.new.self c.count_write.new.self (next_write s) (λ (m : Media). AddsWrite s.media m c.args.first c.args.bytes.now (is_done (next_write s)))
+    c.try_write-answer.result c.count_write.result c.count_write.ensures.same c.count_write.ensures.media c.count_write.ensures.faults c.try_write-answer.ensures.follows

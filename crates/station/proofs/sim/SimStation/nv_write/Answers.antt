@@ -1,13 +1,27 @@
-use Rattle.std.proofs.Common.{length}
-use Rattle.station.specs.Plan.{kept_of, fate_of_write}
-use Rattle.station.proofs.SimLemmas.{on_ok, kept_of-le, goes-nv_write, written-nv_write}
+use Rattle.std.proofs.Common.{length, rules}
+use Rattle.station.specs.FaultPlan.{kept_of}
+use Rattle.station.specs.Media.{AddsNvWrite}
+use Rattle.station.specs.Sim.{FollowsNvWrite, plan_of, next_write}
+use Rattle.station.specs.declared.media.Media.{Media}
+use Rattle.station.proofs.SimLemmas.{follows_after, does-nv_write, done-nv_write, left-nv_write}
 use Rattle.station.proofs.sim.SimStation.nv_write.Goals as goal
+use Rattle.station.proofs.sim.SimStation.nv_write.Goals.{After-count_write}
 
-pub returns-clause-goes : goal.returns-clause-goes
-returns-clause-goes c = λ _. goes-nv_write c.args.self.now c.count_write.new.self c.args.at c.args.bytes.now (kept_of c.args.self.now.faults (fate_of_write c.args.self.now.faults) (length c.args.bytes.now)) c.count_write.result (kept_of-le c.args.self.now.faults _ _)
-    (rw (c.count_write.ensures.same, c.count_write.ensures.media) c.try_nv_write-answer.ensures.ok)
-    (rw (c.count_write.ensures.same, c.count_write.ensures.media) c.try_nv_write-answer.ensures.err)
+follows : (c : After-count_write) → FollowsNvWrite c.args.at c.args.bytes.now c.args.self.now c.count_write.new.self c.count_write.result
+follows c =
+    let s = c.args.self.now in
+    follows_after s c.try_nv_write-answer.new.self c.count_write.new.self (next_write s)
+    (λ (m : Media). AddsNvWrite s.media m c.args.at c.args.bytes.now (kept_of (plan_of s) (next_write s) (length c.args.bytes.now)))
+    c.try_nv_write-answer.result c.count_write.result c.count_write.ensures.same c.count_write.ensures.media c.count_write.ensures.faults c.try_nv_write-answer.ensures.follows
+
+pub returns-clause-call : goal.returns-clause-call
+returns-clause-call c = does-nv_write c.args.self.now c.count_write.new.self c.args.at c.args.bytes.now c.count_write.result (follows (goal.at.returns-clause-call c).After-count_write) (search rules)
 
 pub returns-clause-written : goal.returns-clause-written
-returns-clause-written c = λ _. on_ok c.count_write.result (written-nv_write c.args.self.now c.count_write.new.self c.args.at c.args.bytes.now)
-    (rw (c.count_write.ensures.same, c.count_write.ensures.media) c.try_nv_write-answer.ensures.ok)
+returns-clause-written c = done-nv_write c.args.self.now c.count_write.new.self c.args.at c.args.bytes.now c.count_write.result (follows (goal.at.returns-clause-written c).After-count_write)
+
+pub returns-clause-kept : goal.returns-clause-kept
+returns-clause-kept c = left-nv_write c.args.self.now c.count_write.new.self c.args.at c.args.bytes.now c.count_write.result (follows (goal.at.returns-clause-kept c).After-count_write)
+
+pub returns-clause-planned : goal.returns-clause-planned
+returns-clause-planned c = follows (goal.at.returns-clause-planned c).After-count_write

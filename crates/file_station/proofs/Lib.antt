@@ -1,0 +1,3 @@
+mod FileLemmas
+mod StationLemmas
+mod MemoryLemmas

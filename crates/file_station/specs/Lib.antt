@@ -1,0 +1,5 @@
+pub mod Files
+pub mod Stations
+pub mod Laws
+pub mod Memory
+pub mod MemoryMeaning

@@ -1,0 +1,29 @@
+-- The station that two files make: sector n begins at byte 512 * n of the disk's file.
+use Rattle.std.specs.Prelude.{◌≡◌, ◌⊎◌, ℕ, ◌/◌, ◌%◌, ◌^◌, ◌<◌, ◌≤◌, List}
+use Rattle.station.specs.Device.{images_of}
+use Rattle.station.specs.Moments.{Meaning}
+use Rattle.file_station.specs.Files.{FilesMeaning}
+
+-- the files are whole sectors and few enough for a station
+pub record FitStation (m : FilesMeaning) : Type 0 where
+  pub whole : m.disk.length % 512 ≡ 0
+  pub sectors : m.disk.length / 512 < 2 ^ 32
+  pub nvram : m.nvram.length < 2 ^ 32
+
+-- they aren't
+abbrev pub IsBadSize : FilesMeaning → Type 0
+IsBadSize m = (0 < m.disk.length % 512) ⊎ (2 ^ 32 ≤ m.disk.length / 512) ⊎ (2 ^ 32 ≤ m.nvram.length)
+
+-- these files as a station, with these counts of calls that failed
+abbrev pub station_of : FilesMeaning → ℕ → ℕ → Meaning
+station_of m failed_reads failed_writes = record {
+  sectors = m.disk.length / 512;
+  nvram_bytes = m.nvram.length;
+  failed_reads = failed_reads;
+  failed_writes = failed_writes;
+  is_honest = m.is_honest;
+  seen = images_of m.disk.seen m.nvram.seen;
+  moment = m.moment;
+  left_at = λ t c.
+      (d : List ℕ) × (n : List ℕ) × m.disk.left_at t d × m.nvram.left_at t n × (c ≡ images_of d n);
+}

@@ -1,0 +1,174 @@
+//! A station over the two files of an image.
+
+ghost use Rattle.std.specs.Prelude.{◌≡◌, ◌↔◌, ◌+◌, ◌≤◌, length, is_ok, IfOk, OnOk, OnErr, IsErrOf};
+ghost use Rattle.station.specs.Moments.{counted};
+ghost use Rattle.file_station.specs.Files.{AreSameFiles, FilesGo, Keeps, PrefixKept, Shows, LeavesJust, file_with};
+ghost use Rattle.file_station.specs.Stations.{FitStation, IsBadSize};
+ghost use Rattle.file_station.specs.declared.image_files.Part.TheVariants.{Disk, Nvram};
+
+use crate::{ImageFiles, Part};
+use station::{BLOCK_BYTES, DeviceFault, SECTOR_BYTES, Station};
+use std::io;
+use thiserror::Error;
+
+/// Why two files are no station.
+#[derive(Clone, Copy, Debug, PartialEq, Eq, Error)]
+pub enum SizeError {
+    /// A file's size can't be read.
+    #[error("the file's size can't be read")]
+    Unreadable,
+    /// The disk's size is no multiple of 512 bytes, or a count of sectors or bytes doesn't fit 32 bits.
+    #[error("no station has a file of this size")]
+    BadSize,
+}
+
+/// A station over two files: the disk's sectors one after the other, and the NVRAM's bytes. It is honest where the
+/// files are. Each NVRAM write is followed by a sync of the NVRAM's file, since a station keeps what such a write
+/// wrote. A sync is one of both files, so that an NVRAM write whose own sync failed is settled by the next sync.
+#[derive(Drop)]
+pub struct FileStation<M: ImageFiles> {
+    files: M,
+    failed_reads: u64,
+    failed_writes: u64,
+    ghost fits: { FitStation (M.meaning files) },
+}
+
+impl<M: ImageFiles + Drop> FileStation<M> {
+    /// A station over these files. BadSize exactly where the disk's file is no whole number of sectors, or a count
+    /// (of sectors, of NVRAM bytes) is past `u32::MAX`.
+    pub fn over(files: M) -> Result<FileStation<M>, SizeError>
+        ensures files { IfOk result (λ s. s.files ≡ files) }
+        ensures no_fault { IfOk result (λ s. (s.failed_reads ≡ 0) × (s.failed_writes ≡ 0)) }
+        ensures bad_size { IsErrOf result SizeError.BadSize ↔ IsBadSize (M.meaning files) }
+        ensures readable { IsErrOf result SizeError.Unreadable → ⊥ }
+    {
+        let disk = files.len(Part::Disk);
+        if disk % SECTOR_BYTES as u64 != 0 || u32::try_from(disk / SECTOR_BYTES as u64).is_err() {
+            return Err(SizeError::BadSize);
+        }
+        if u32::try_from(files.len(Part::Nvram)).is_err() {
+            return Err(SizeError::BadSize);
+        }
+        Ok(FileStation {
+            files,
+            failed_reads: 0,
+            failed_writes: 0,
+        })
+    }
+
+    /// Syncs both files, as `sync` does, and answers with the error. It isn't counted.
+    pub fn sync_both(&mut self) -> io::Result<()>
+        ensures same { AreSameFiles (M.meaning self.old.files) (M.meaning self.new.files) }
+        ensures reads { self.new.failed_reads ≡ self.old.failed_reads }
+        ensures writes { self.new.failed_writes ≡ self.old.failed_writes }
+        ensures goes { FilesGo Keeps Keeps (M.meaning self.old.files) (M.meaning self.new.files) }
+        ensures disk { OnOk result
+            (Shows (M.meaning self.old.files) Disk (LeavesJust (M.meaning self.new.files) Disk)) }
+        ensures nvram { OnOk result
+            (Shows (M.meaning self.old.files) Nvram (LeavesJust (M.meaning self.new.files) Nvram)) }
+    {
+        sync_files(&mut self.files)
+    }
+}
+
+/// Syncs both files.
+fn sync_files<M: ImageFiles>(files: &mut M) -> io::Result<()>
+    ensures same { AreSameFiles (M.meaning files.old) (M.meaning files.new) }
+    ensures goes { FilesGo Keeps Keeps (M.meaning files.old) (M.meaning files.new) }
+    ensures disk { OnOk result
+        (Shows (M.meaning files.old) Disk (LeavesJust (M.meaning files.new) Disk)) }
+    ensures nvram { OnOk result
+        (Shows (M.meaning files.old) Nvram (LeavesJust (M.meaning files.new) Nvram)) }
+{
+    files.sync(Part::Disk)?;
+    files.sync(Part::Nvram)
+}
+
+/// Writes to the NVRAM's file and syncs it.
+fn write_nvram<M: ImageFiles>(files: &mut M, at: u64, bytes: &[u8]) -> io::Result<()>
+    requires { at + length bytes.now ≤ (M.meaning files.old).nvram.length }
+    ensures same { AreSameFiles (M.meaning files.old) (M.meaning files.new) }
+    ensures goes { FilesGo Keeps (PrefixKept at bytes.now)
+        (M.meaning files.old) (M.meaning files.new) }
+    ensures written { OnOk result (Shows (M.meaning files.old) Nvram
+        (λ file. (M.meaning files.new).nvram.seen ≡ file_with at bytes.now file)) }
+    ensures kept { OnOk result (Shows (M.meaning files.old) Nvram
+        (λ file. LeavesJust (M.meaning files.new) Nvram (file_with at bytes.now file))) }
+{
+    let file = Part::Nvram;
+    files.write(file, at, bytes)?;
+    files.sync(file)
+}
+
+/// Counts a call that failed.
+fn note(failed: &mut u64, done: io::Result<()>) -> Result<(), DeviceFault>
+    ensures answer { is_ok result ≡ is_ok done }
+    ensures ok { OnOk result (failed.new ≡ failed.old) }
+    ensures err { OnErr result (failed.new ≡ counted failed.old) }
+{
+    if done.is_err() {
+        *failed = failed.saturating_add(1);
+        return Err(DeviceFault);
+    }
+    Ok(())
+}
+
+impl<M: ImageFiles + Drop> Station for FileStation<M> {
+    ghost use Rattle.file_station.specs.Stations.{station_of};
+    ghost use Rattle.file_station.specs.Laws as laws;
+
+    ghost meaning = { λ s. station_of (M.meaning s.files) s.failed_reads s.failed_writes };
+
+    ghost sizes_fit = { λ s. record { sectors = s.fits.sectors; nvram = s.fits.nvram } };
+
+    ghost seen_may_be_left = { λ s honest.
+        laws.seen_may_be_left (M.meaning s.files) s.failed_reads s.failed_writes
+        (M.seen_may_be_left s.files Disk honest) (M.seen_may_be_left s.files Nvram honest) };
+
+    ghost sized = { λ s. laws.sized (M.meaning s.files) s.failed_reads s.failed_writes s.fits
+        (M.lengths s.files Disk) (M.lengths s.files Nvram) };
+
+    fn sectors(&self) -> u32 {
+        (self.files.len(Part::Disk) / SECTOR_BYTES as u64) as u32
+    }
+
+    fn nv_bytes(&self) -> u32 {
+        self.files.len(Part::Nvram) as u32
+    }
+
+    fn read_sector(&mut self, n: u32, out: &mut [u8; 512]) -> Result<(), DeviceFault> {
+        let done = self
+            .files
+            .read(Part::Disk, SECTOR_BYTES as u64 * u64::from(n), out);
+        note(&mut self.failed_reads, done)
+    }
+
+    fn write_sector(&mut self, n: u32, bytes: &[u8; 512]) -> Result<(), DeviceFault> {
+        let done = self
+            .files
+            .write(Part::Disk, SECTOR_BYTES as u64 * u64::from(n), bytes);
+        note(&mut self.failed_writes, done)
+    }
+
+    fn write_block(&mut self, b: u32, bytes: &[u8; 4096]) -> Result<(), DeviceFault> {
+        let done = self
+            .files
+            .write(Part::Disk, BLOCK_BYTES as u64 * u64::from(b), bytes);
+        note(&mut self.failed_writes, done)
+    }
+
+    fn sync(&mut self) -> Result<(), DeviceFault> {
+        let done = sync_files(&mut self.files);
+        note(&mut self.failed_writes, done)
+    }
+
+    fn nv_read(&mut self, at: u32, out: &mut [u8]) -> Result<(), DeviceFault> {
+        let done = self.files.read(Part::Nvram, u64::from(at), out);
+        note(&mut self.failed_reads, done)
+    }
+
+    fn nv_write(&mut self, at: u32, bytes: &[u8]) -> Result<(), DeviceFault> {
+        let done = write_nvram(&mut self.files, u64::from(at), bytes);
+        note(&mut self.failed_writes, done)
+    }
+}

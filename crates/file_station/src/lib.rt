@@ -1,0 +1,12 @@
+//! A station over the two files of an image, a disk's and an NVRAM's.
+#![tactic(auto)]
+
+mod file_station;
+mod image_files;
+mod memory_files;
+mod open_files;
+
+pub use file_station::{FileStation, SizeError};
+pub use image_files::{ImageFiles, Part};
+pub use memory_files::MemoryFiles;
+pub use open_files::OpenFiles;

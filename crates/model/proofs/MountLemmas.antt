@@ -1,0 +1,52 @@
+-- What a mount finds: the replayed volume without files that have no name.
+use Rattle.std.proofs.Common.{◌≡◌, inl, inr, ℕ, [], ◌∷◌, false, Option, Some, None, refl, sym, ap, subst}
+use Rattle.model.specs.Trees.{Description, HasPath, IsUsed}
+use Rattle.model.specs.States.{ForgetsOpenFiles}
+use Rattle.model.specs.Volumes.{Volume, bytes_of, mode_of, tree_of, IsVolume}
+use Rattle.model.specs.Records.{applied, without_nameless}
+use Rattle.model.specs.Laws.{ReplaysKeepVolumes, MountsFind, MountsForget}
+use Rattle.model.proofs.SweepLemmas.{objects-swept, used_stays, not_unused, none_from}
+use Rattle.model.proofs.ExtendLemmas.{same_in_the_end}
+use Rattle.model.proofs.RecordLemmas.{swept_twice}
+use Rattle.model.proofs.MoveLemmas.{records_keep_volumes, volume-swept}
+
+pub replays_keep_volumes : ReplaysKeepVolumes
+replays_keep_volumes inodes v [] w volume replays = subst (IsVolume inodes) (sym replays) volume
+replays_keep_volumes inodes v (change ∷ changes) w volume replays =
+    replays_keep_volumes inodes (applied change v) changes w (records_keep_volumes inodes v change volume replays.0) replays.1
+
+abbrev closed : ℕ → Option Description
+closed d = None
+
+none_some : {X Y : Type 0} {x : X} → None ≡ Some x → Y
+none_some e = cc
+
+pub mounts_find : MountsFind
+mounts_find inodes w volume = (
+  volume-swept inodes w closed volume,
+  record {
+    files = λ d f is. none_some is;
+    is_swept = λ n. swept_twice false (w n);
+    bounded = λ d past. refl;
+    offsets = λ d f is. none_some is;
+  },
+)
+
+-- what is used where no file is open stands at a path
+path_of_used : (v : Volume) (n : ℕ) → IsUsed (tree_of v closed) n → HasPath (tree_of v closed) n
+path_of_used v n (inl there) = there
+path_of_used v n (inr (d, f, is, same)) = none_some is
+
+pub mounts_forget : MountsForget
+mounts_forget inodes running replayed table volume extends =
+    subst (λ (w : Volume). ForgetsOpenFiles (tree_of running table) (tree_of w closed)) (sym (same_in_the_end running replayed extends))
+    record {
+      objects = objects-swept running volume.graph closed (λ d past. refl);
+      descriptors = refl;
+      kept = λ n there.
+          let same : without_nameless running n ≡ running n = used_stays running volume.graph closed (λ d past. refl) n (inl there) in
+          (ap bytes_of same, ap mode_of same);
+      gone = λ n nowhere.
+          let none : without_nameless running n ≡ None = none_from (without_nameless running n) (λ stays. nowhere (path_of_used running n (not_unused running volume.graph closed (λ d past. refl) n stays))) in
+          (ap bytes_of none, ap mode_of none);
+    }

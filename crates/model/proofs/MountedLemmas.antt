@@ -1,0 +1,253 @@
+-- The tree of a volume is a tree.
+use Rattle.std.proofs.Common.{◌≡◌, ◌≢◌, ◌⊎◌, inl, inr, ◌↔◌, ℕ, zero, suc, ◌≤◌, List, [], ◌∷◌, ◌++◌, fold, length, true, false, Option, Some, None, is_some, IsSome, IfSome, All, refl, sym, ap, subst, ◌∙◌, length-append, arith, lit≤}
+use Rattle.std.proofs.lemmas.Bool.{cases_Bool, false≢true}
+use Rattle.std.proofs.lemmas.List.Sums.{fold-append}
+use Rattle.std.proofs.lemmas.List.Elements.{All-nil, All-push}
+use Rattle.model.specs.declared.limits.TheConstants.{ROOT_NUMBER, FILE_NAMES, DIRECTORY_NAMES, GREATEST_FILE, MODE_BITS}
+use Rattle.model.specs.Counting.{CountsUpTo}
+use Rattle.model.specs.Paths.{Name, Path, IsName, IsLinkText}
+use Rattle.model.specs.Trees.{Tree, Object, directory, symlink, file, number, is_directory, Description, Stands, IsOpen, IsUsed, IsTree}
+use Rattle.model.specs.Volumes.{Node, directory_node, file_node, link_node, Volume, Entries, entries, enter, number_at, object_of, object_at, bytes_of, mode_of, tree_of, is_file_node, is_directory_node, IsNode, IsVolume, IsMounted}
+use Rattle.model.proofs.CountLemmas.{same_count}
+use Rattle.model.proofs.WalkLemmas.{number_at-push}
+use Rattle.model.proofs.VolumeLemmas.{ends, alone, enters_directory, directory_no_file, directory_some, last_step}
+use Rattle.model.proofs.LinkLemmas.{links_are}
+use Rattle.model.proofs.SweepLemmas.{found_number, not_unused}
+
+none_some : {X Y : Type 0} {x : X} → None ≡ Some x → Y
+none_some e = cc
+
+some_same : {X : Type 0} {x y : X} → Some x ≡ Some y → x ≡ y
+some_same e = cc
+
+-- what an object shows of its node
+object_directory : (n : ℕ) (o : Option Node) → is_directory (object_of n o) ≡ true → is_directory_node o ≡ true
+object_directory n None e = e
+object_directory n (Some (directory_node mode names)) e = refl
+object_directory n (Some (file_node mode links bytes)) e = e
+object_directory n (Some (link_node text)) e = e
+
+pub node_directory : (n : ℕ) (o : Option Node) → is_directory_node o ≡ true → object_of n o ≡ Some (directory n)
+node_directory n None e = cc
+node_directory n (Some (directory_node mode names)) e = refl
+node_directory n (Some (file_node mode links bytes)) e = cc
+node_directory n (Some (link_node text)) e = cc
+
+object_file : (n : ℕ) (o : Option Node) (k : ℕ) → object_of n o ≡ Some (file k) → is_file_node o ≡ true
+object_file n None k e = cc
+object_file n (Some (directory_node mode names)) k e = cc
+object_file n (Some (file_node mode links bytes)) k e = refl
+object_file n (Some (link_node text)) k e = cc
+
+pub node_file : (n : ℕ) (o : Option Node) → is_file_node o ≡ true → object_of n o ≡ Some (file n)
+node_file n None e = cc
+node_file n (Some (directory_node mode names)) e = cc
+node_file n (Some (file_node mode links bytes)) e = refl
+node_file n (Some (link_node text)) e = cc
+
+object_link : (n : ℕ) (o : Option Node) (k : ℕ) (text : List ℕ) → object_of n o ≡ Some (symlink k text) → o ≡ Some (link_node text)
+object_link n None k text e = cc
+object_link n (Some (directory_node mode names)) k text e = cc
+object_link n (Some (file_node mode links bytes)) k text e = cc
+object_link n (Some (link_node other)) k text e = let same : other ≡ text = cc in ap (λ t. Some (link_node t)) same
+
+object_some : (n : ℕ) (o : Option Node) → is_some (object_of n o) ≡ is_some o
+object_some n None = refl
+object_some n (Some (directory_node mode names)) = refl
+object_some n (Some (file_node mode links bytes)) = refl
+object_some n (Some (link_node text)) = refl
+
+file_bytes : (o : Option Node) → is_some (bytes_of o) ≡ is_file_node o
+file_bytes None = refl
+file_bytes (Some (directory_node mode names)) = refl
+file_bytes (Some (file_node mode links bytes)) = refl
+file_bytes (Some (link_node text)) = refl
+
+mode_kinds : (o : Option Node) → IsSome (mode_of o) → (is_directory_node o ≡ true) ⊎ (is_file_node o ≡ true)
+mode_kinds None some = absurd (false≢true some)
+mode_kinds (Some (directory_node mode names)) some = inl refl
+mode_kinds (Some (file_node mode links bytes)) some = inr refl
+mode_kinds (Some (link_node text)) some = absurd (false≢true some)
+
+directory_mode : (o : Option Node) → is_directory_node o ≡ true → IsSome (mode_of o)
+directory_mode None e = e
+directory_mode (Some (directory_node mode names)) e = refl
+directory_mode (Some (file_node mode links bytes)) e = refl
+directory_mode (Some (link_node text)) e = e
+
+file_mode : (o : Option Node) → is_file_node o ≡ true → IsSome (mode_of o)
+file_mode None e = e
+file_mode (Some (directory_node mode names)) e = refl
+file_mode (Some (file_node mode links bytes)) e = refl
+file_mode (Some (link_node text)) e = e
+
+file_some : (o : Option Node) → is_file_node o ≡ true → IsSome o
+file_some None e = e
+file_some (Some o) e = refl
+
+-- the limits of one object
+size_kept : (o : Option Node) → IfSome o IsNode → IfSome (bytes_of o) (λ bytes. length bytes ≤ GREATEST_FILE)
+size_kept None good = tt
+size_kept (Some (directory_node mode names)) good = tt
+size_kept (Some (file_node mode links bytes)) good = good.2
+size_kept (Some (link_node text)) good = tt
+
+bits_kept : (o : Option Node) → IfSome o IsNode → IfSome (mode_of o) (λ mode. mode ≤ MODE_BITS)
+bits_kept None good = tt
+bits_kept (Some (directory_node mode names)) good = good
+bits_kept (Some (file_node mode links bytes)) good = good.0
+bits_kept (Some (link_node text)) good = tt
+
+-- a walk that got nowhere stays there
+nowhere : (e : Entries) (q : Path) → fold (enter e) None q ≡ None
+nowhere e [] = refl
+nowhere e (x ∷ q) = nowhere e q
+
+module _ (inodes : ℕ) (v : Volume) (volume : IsVolume inodes v) (table : ℕ → Option Description) (mounted : IsMounted v table) where
+  abbrev t : Tree
+  t = tree_of v table
+
+  -- what stands at a path, by its number
+  at_path : (p : Path) (o : Object) → t.objects p ≡ Some o → number_at (entries v) p ≡ Some (number o)
+  at_path p o is = found_number v (number_at (entries v) p) o (number o) is refl
+
+  object_is : (p : Path) (n : ℕ) → number_at (entries v) p ≡ Some n → t.objects p ≡ object_of n (v n)
+  object_is p n at_p = ap (object_at v) at_p
+
+  numbered : (o : Option ℕ) → IsSome (object_at v o) → (n : ℕ) × (o ≡ Some n)
+  numbered None some = absurd (false≢true some)
+  numbered (Some n) some = (n, refl)
+
+  children_of : (o : Option ℕ) (x : Name) (q : Path) → IsSome (object_at v (fold (enter (entries v)) (enter (entries v) o x) q)) → is_directory (object_at v o) ≡ true
+  children_of None x q some = absurd (false≢true (sym (ap (λ r. is_some (object_at v r)) (nowhere (entries v) q)) ∙ some))
+  children_of (Some d) x q some = by_entry (entries v d x) refl
+    where
+      by_entry : (r : Option ℕ) → entries v d x ≡ r → is_directory (object_of d (v d)) ≡ true
+      by_entry None is = absurd (false≢true (sym (ap (λ r. is_some (object_at v (fold (enter (entries v)) r q))) is ∙ ap (λ r. is_some (object_at v r)) (nowhere (entries v) q)) ∙ some))
+      by_entry (Some m) is = ap is_directory (node_directory d (v d) (enters_directory (v d) x m is))
+
+  above_is : (p q : Path) → q ≢ [] → IsSome (t.objects (p ++ q)) → is_directory (t.objects p) ≡ true
+  above_is p [] longer some = absurd (longer refl)
+  above_is p (x ∷ q) longer some = children_of (number_at (entries v) p) x q (sym (ap (λ o. is_some (object_at v o)) (fold-append (enter (entries v)) (Some ROOT_NUMBER) p (x ∷ q))) ∙ some)
+
+  names_upto : (bound : ℕ) (p : Path) (n : ℕ) → length p ≤ bound → number_at (entries v) p ≡ Some n → All IsName p
+  names_upto zero [] n short at_p = All-nil IsName
+  names_upto zero (x ∷ p) n short at_p = absurd (omega arith)
+  names_upto (suc bound) p n short at_p =
+      elim (ends p) [
+        | inl e ↦ subst (All IsName) (sym e) (All-nil IsName)
+        | inr (u, x, e) ↦
+            let last = last_step (entries v) u x n (ap (number_at (entries v)) (sym e) ∙ at_p) in
+            let size : length p ≡ length (u ++ x ∷ []) = ap length e in
+            subst (All IsName) (sym e)
+            (All-push IsName u x (names_upto bound u last.0 (omega (arith, short, size, length-append u (x ∷ []))) last.1) (volume.graph.names last.0 x (ap is_some last.2)))
+      ]
+
+  names_are : (p : Path) → IsSome (t.objects p) → All IsName p
+  names_are p some = let n = numbered (number_at (entries v) p) some in names_upto (length p) p n.0 (omega arith) n.1
+
+  single_is : (p q : Path) (o r : Object) → t.objects p ≡ Some o → t.objects q ≡ Some r → number o ≡ number r → (p ≡ q) ⊎ ((o ≡ file (number o)) × (r ≡ o))
+  single_is p q o r at_p at_q same =
+      let n : ℕ = number o in
+      let p_is : number_at (entries v) p ≡ Some n = at_path p o at_p in
+      let q_is : number_at (entries v) q ≡ Some n = at_path q r at_q ∙ ap (λ m. Some m) (sym same) in
+      elim (cases_Bool (is_file_node (v n))) [
+        | inl a_file ↦
+            let is_file : object_of n (v n) ≡ Some (file n) = node_file n (v n) a_file in
+            let o_is : o ≡ file n = some_same (sym at_p ∙ object_is p n p_is ∙ is_file) in
+            inr (o_is, some_same (sym at_q ∙ object_is q n q_is ∙ is_file) ∙ sym o_is)
+        | inr other ↦ inl (alone v volume.graph p q n p_is q_is other)
+      ]
+
+  -- a file that stands somewhere or is open
+  file_used : (n : ℕ) → is_file_node (v n) ≡ true → Stands t file n ⊎ IsOpen t n
+  file_used n a_file =
+      elim (not_unused v volume.graph table mounted.bounded n (λ none. false≢true (sym (ap is_some (sym (mounted.is_swept n) ∙ none)) ∙ file_some (v n) a_file))) [
+        | inl there ↦ inl (there.0, object_is there.0 n (found_number v (number_at (entries v) there.0) there.1 n there.2 there.3) ∙ node_file n (v n) a_file)
+        | inr open_file ↦ inr open_file
+      ]
+
+  used_file : (n : ℕ) → Stands t file n ⊎ IsOpen t n → is_file_node (v n) ≡ true
+  used_file n (inl there) = object_file n (v n) n (sym (object_is there.0 n (at_path there.0 (file n) there.1)) ∙ there.1)
+  used_file n (inr (d, f, is, same)) = ap (λ k. is_file_node (v k)) (sym same) ∙ mounted.files d f is
+
+  bytes_are : (n : ℕ) → IsSome (t.bytes n) ↔ (Stands t file n ⊎ IsOpen t n)
+  bytes_are n = (λ some. file_used n (sym (file_bytes (v n)) ∙ some), λ used. file_bytes (v n) ∙ used_file n used)
+
+  directory_stands : (n : ℕ) → is_directory_node (v n) ≡ true → Stands t directory n
+  directory_stands n is = let path = volume.graph.reached n (directory_some (v n) is) (directory_no_file (v n) is) in (path.0, object_is path.0 n path.1 ∙ node_directory n (v n) is)
+
+  modes_are : (n : ℕ) → IsSome (t.mode n) ↔ (Stands t directory n ⊎ Stands t file n ⊎ IsOpen t n)
+  modes_are n = (
+    λ some. elim (mode_kinds (v n) some) [
+      | inl is ↦ inl (directory_stands n is)
+      | inr is ↦ inr (file_used n is)
+    ],
+    λ used. elim used [
+      | inl there ↦ directory_mode (v n) (object_directory n (v n) (ap is_directory (sym (object_is there.0 n (at_path there.0 (directory n) there.1)) ∙ there.1)))
+      | inr others ↦ file_mode (v n) (used_file n others)
+    ],
+  )
+
+  opened_is : (n : ℕ) (p : Path) (o : Object) → IsOpen t n → t.objects p ≡ Some o → number o ≡ n → o ≡ file n
+  opened_is n p o open_file at_p same =
+      some_same (sym at_p ∙ object_is p n (at_path p o at_p ∙ ap (λ m. Some m) same) ∙ node_file n (v n) (used_file n (inr open_file)))
+
+  used_some : (n : ℕ) → IsUsed t n → IsSome (v n)
+  used_some n (inl there) =
+      sym (object_some n (v n)) ∙ ap is_some (sym (object_is there.0 n (found_number v (number_at (entries v) there.0) there.1 n there.2 there.3)) ∙ there.2)
+  used_some n (inr open_file) = file_some (v n) (used_file n (inr open_file))
+
+  texts_are : (p : Path) (n : ℕ) (text : List ℕ) → t.objects p ≡ Some (symlink n text) → IsLinkText text
+  texts_are p n text is =
+      let o_is : v n ≡ Some (link_node text) = object_link n (v n) n text (sym (object_is p n (at_path p (symlink n text) is)) ∙ is) in
+      let good : IfSome (Some (link_node text)) IsNode = subst (λ o. IfSome o IsNode) o_is (volume.limits.nodes n) in
+      good
+
+  entry_some : (o : Option ℕ) → ((n : ℕ) → o ≡ Some n → IsSome (v n)) → is_some (object_at v o) ≡ is_some o
+  entry_some None used = refl
+  entry_some (Some n) used = object_some n (v n) ∙ used n refl
+
+  children_are : (p : Path) → is_directory (t.objects p) ≡ true → CountsUpTo DIRECTORY_NAMES (λ x. IsSome (t.objects (p ++ x ∷ [])))
+  children_are p is = by_number (number_at (entries v) p) refl
+    where
+      by_number : (o : Option ℕ) → number_at (entries v) p ≡ o → CountsUpTo DIRECTORY_NAMES (λ x. IsSome (t.objects (p ++ x ∷ [])))
+      by_number None at_p = absurd (false≢true (sym (ap (λ o. is_directory (object_at v o)) at_p) ∙ is))
+      by_number (Some d) at_p =
+          let counts = volume.limits.children d in (
+            counts.0,
+            same_count (λ x. IsSome (entries v d x)) (λ x. IsSome (t.objects (p ++ x ∷ []))) counts.0
+                (λ x. let same : is_some (t.objects (p ++ x ∷ [])) ≡ is_some (entries v d x) = ap (λ o. is_some (object_at v o)) (number_at-push (entries v) p x ∙ ap (λ o. enter (entries v) o x) at_p) ∙ entry_some (entries v d x) (λ n there. volume.graph.used d n x there) in
+                (λ some. same ∙ some, λ some. sym same ∙ some)) counts.1,
+            counts.2,
+          )
+
+  no_links : (n : ℕ) → is_file_node (v n) ≡ false → CountsUpTo FILE_NAMES (λ p. t.objects p ≡ Some (file n))
+  no_links n other = (0, (λ p is. false≢true (sym other ∙ used_file n (inl (p, is)))), lit≤ tt)
+
+  links_of : (n : ℕ) (o : Option Node) → v n ≡ o → CountsUpTo FILE_NAMES (λ p. t.objects p ≡ Some (file n))
+  links_of n (Some (file_node mode links bytes)) is =
+      let good : IfSome (Some (file_node mode links bytes)) IsNode = subst (λ o. IfSome o IsNode) is (volume.limits.nodes n) in
+      (links, links_are v volume.graph table n (ap is_file_node is) links (volume.graph.counts n mode links bytes is), good.1)
+  links_of n None is = no_links n (ap is_file_node is)
+  links_of n (Some (directory_node mode names)) is = no_links n (ap is_file_node is)
+  links_of n (Some (link_node text)) is = no_links n (ap is_file_node is)
+
+  pub tree_of_is_tree : IsTree inodes t
+  tree_of_is_tree = record {
+    root = node_directory ROOT_NUMBER (v ROOT_NUMBER) volume.graph.root;
+    above = above_is;
+    names = names_are;
+    single = single_is;
+    bytes = bytes_are;
+    mode = modes_are;
+    opened = opened_is;
+    numbers = λ n used. volume.limits.numbers n (used_some n used);
+    texts = texts_are;
+    children = children_are;
+    links = λ n. links_of n (v n) refl;
+    sizes = λ n. size_kept (v n) (volume.limits.nodes n);
+    bits = λ n. bits_kept (v n) (volume.limits.nodes n);
+    table = mounted.bounded;
+    offsets = mounted.offsets;
+  }

@@ -1,0 +1,307 @@
+-- A record that applies, by the paths of its directories; and that it keeps a volume.
+use Rattle.std.proofs.Common.{◌≡◌, ◌≢◌, inl, inr, ℕ, ◌+◌, ◌-◌, ◌≤◌, ◌<◌, List, [], ◌∷◌, ◌++◌, fold, length, take, drop, replicate, true, Option, Some, None, is_some, IsSome, IfSome, refl, sym, ap, subst, ◌∙◌, length-append, length-take, length-drop, arith, lit≤}
+use Rattle.std.proofs.lemmas.Bool.{cases_eq}
+use Rattle.std.proofs.lemmas.List.{same_from_push, length-replicate}
+use Rattle.std.proofs.lemmas.List.Sums.{fold-append}
+use Rattle.model.specs.declared.limits.TheConstants.{ROOT_NUMBER, FILE_NAMES, GREATEST_FILE, MODE_BITS}
+use Rattle.model.specs.Counting.{Counts}
+use Rattle.model.specs.Paths.{Name, Path, IsName, behind}
+use Rattle.model.specs.Trees.{Description}
+use Rattle.model.specs.Edits.{written, resized}
+use Rattle.model.specs.Volumes.{Node, directory_node, file_node, link_node, Volume, Entries, names_in, entries, enter, number_at, with_node, with_edge, with_entry, is_file_node, is_directory_node, IsGraph, IsNode, IsVolume, with_name_more, released, created, linked, unnamed, renamed, swept}
+use Rattle.model.specs.Records.{Made, file, directory, symbolic_link, create, link, unname, rename, write, cut, change_mode, node_of, with_file_bytes, with_node_mode, IsMade, CanReplace, CanRename}
+use Rattle.model.specs.Laws.{RecordsKeepVolumes, SweepsKeepVolumes}
+use Rattle.model.proofs.WalkLemmas.{behind-is, edge_other}
+use Rattle.model.proofs.VolumeLemmas.{directory_some, directory_no_file, enters_directory}
+use Rattle.model.proofs.KeptLemmas.{volume-renamed, entries-renamed}
+use Rattle.model.proofs.PutLemmas.{entries-node}
+use Rattle.model.proofs.UnnameLemmas.{edges-unnamed, volume-unnamed}
+use Rattle.model.proofs.AddLemmas.{edges-linked, edges-created, graph-linked, graph-created, graph-altered, graph-swept, same_swept, SameLinks}
+use Rattle.model.proofs.LimitLemmas.{HasFew, good_node, good_entry, good_released, numbers_node, numbers_entry, numbers_released, few_more, few_same, few_less, one_removed, same_in_other, limits_swept}
+
+-- the path of a directory
+pub path_to : (v : Volume) → IsGraph v → (d : ℕ) → is_directory_node (v d) ≡ true → (p : Path) × (number_at (entries v) p ≡ Some d)
+path_to v graph d is = graph.reached d (directory_some (v d) is) (directory_no_file (v d) is)
+
+-- An object n goes from the name a in the directory d at u to the name b in the directory k at w.
+pub record IsMove (v : Volume) (u w : Path) (a b : Name) (d k n : ℕ) : Type 0 where
+  pub at_d : number_at (entries v) u ≡ Some d
+  pub at_k : number_at (entries v) w ≡ Some k
+  pub there : entries v d a ≡ Some n
+  pub d_is : is_directory_node (v d) ≡ true
+  pub k_is : is_directory_node (v k) ≡ true
+  pub empty : (m : ℕ) (x : Name) → entries v k b ≡ Some m → entries v m x ≡ None
+  pub outside : behind (u ++ a ∷ []) w ≡ None
+  pub other : u ++ a ∷ [] ≢ w ++ b ∷ []
+  pub distinct : entries v k b ≢ Some n
+  pub name : IsName b
+
+module _ (v : Volume) (graph : IsGraph v) (d : ℕ) (a : Name) (k : ℕ) (b : Name) (can : CanRename v d a k b) where
+  abbrev n : ℕ
+  n = can.number
+
+  moved_from : is_directory_node (v d) ≡ true
+  moved_from = enters_directory (v d) a n can.there
+
+  pub from_path : (p : Path) × (number_at (entries v) p ≡ Some d)
+  from_path = path_to v graph d moved_from
+
+  pub to_path : (p : Path) × (number_at (entries v) p ≡ Some k)
+  to_path = path_to v graph k can.directory
+
+  replaced_empty : (o : Option ℕ) → CanReplace v d k b n o → (m : ℕ) (x : Name) → o ≡ Some m → entries v m x ≡ None
+  replaced_empty None replaces m x is = cc
+  replaced_empty (Some t) replaces m x is = let same : t ≡ m = cc in subst (λ j. entries v j x ≡ None) same (replaces.2 x)
+
+  replaced_other : (o : Option ℕ) → CanReplace v d k b n o → o ≢ Some n
+  replaced_other None replaces is = cc
+  replaced_other (Some t) replaces is = replaces.0 (cc)
+
+  not_behind : (u w : Path) → number_at (entries v) u ≡ Some d → number_at (entries v) w ≡ Some k → (o : Option Path) → behind (u ++ a ∷ []) w ≡ o → o ≡ None
+  not_behind u w at_d at_k None is = refl
+  not_behind u w at_d at_k (Some s) is =
+      absurd (can.outside (s, ap (λ o. fold (enter (entries v)) o s) (sym at_n) ∙ sym (fold-append (enter (entries v)) (Some ROOT_NUMBER) (u ++ a ∷ []) s) ∙ ap (number_at (entries v)) (sym (behind-is (u ++ a ∷ []) w s is)) ∙ at_k))
+    where
+      at_n : number_at (entries v) (u ++ a ∷ []) ≡ Some n
+      at_n = fold-append (enter (entries v)) (Some ROOT_NUMBER) u (a ∷ []) ∙ ap (λ o. enter (entries v) o a) at_d ∙ can.there
+
+  two_names : (u w : Path) → number_at (entries v) u ≡ Some d → number_at (entries v) w ≡ Some k → u ++ a ∷ [] ≢ w ++ b ∷ []
+  two_names u w at_d at_k is =
+      let back = same_from_push u w a b is in
+      let same : Some d ≡ Some k = sym at_d ∙ ap (number_at (entries v)) back.0 ∙ at_k in
+      let one : d ≡ k = cc in
+      replaced_other (entries v k b) can.replaces (ap (λ j. entries v j b) (sym one) ∙ ap (entries v d) (sym back.1) ∙ can.there)
+
+  -- what its record asks is what the move by paths needs
+  pub is_move : IsMove v from_path.0 to_path.0 a b d k n
+  is_move = record {
+    at_d = from_path.1;
+    at_k = to_path.1;
+    there = can.there;
+    d_is = moved_from;
+    k_is = can.directory;
+    empty = λ m x is. replaced_empty (entries v k b) can.replaces m x is;
+    outside = not_behind from_path.0 to_path.0 from_path.1 to_path.1 (behind (from_path.0 ++ a ∷ []) to_path.0) refl;
+    other = two_names from_path.0 to_path.0 from_path.1 to_path.1;
+    distinct = replaced_other (entries v k b) can.replaces;
+    name = can.name;
+  }
+
+  pub graph-moved : IsGraph (renamed d a k b v)
+  graph-moved =
+      let m = is_move in
+      volume-renamed v graph from_path.0 to_path.0 a b d k n m.at_d m.at_k m.there m.d_is m.k_is m.empty m.outside m.other m.distinct m.name
+
+  edges-moved : entries (renamed d a k b v) ≡ with_edge k b (Some n) (with_edge d a None (entries v))
+  edges-moved =
+      let m = is_move in
+      entries-renamed v graph from_path.0 to_path.0 a b d k n m.at_d m.at_k m.there m.d_is m.k_is m.empty m.outside m.other
+
+  module _ (few : HasFew (entries v)) where
+    abbrev without : Entries
+    without = with_edge d a None (entries v)
+
+    few_without : HasFew without
+    few_without = few_less (entries v) d a None few refl
+
+    -- the place of the new name, once the old one is gone
+    still_target : (m : ℕ) → entries v k b ≡ Some m → without k b ≡ Some m
+    still_target m is =
+        edge_other d k a b None (entries v) (λ same name. is_move.distinct (ap (λ j. entries v j b) same ∙ ap (entries v d) name ∙ can.there)) ∙ is
+
+    still_free : entries v k b ≡ None → without k b ≡ None
+    still_free is =
+        edge_other d k a b None (entries v) (λ in_d name. let there : None ≡ Some n = sym is ∙ ap (λ i. entries v i b) in_d ∙ ap (entries v d) name ∙ can.there in cc) ∙ is
+
+    room_for : (o : Option ℕ) → entries v k b ≡ o → CanReplace v d k b n o → HasFew (with_edge k b (Some n) without)
+    room_for (Some m) is replaces = few_same without k b (Some n) few_without (sym (ap is_some (still_target m is)))
+    room_for None is (inl same) =
+        let counts = few d in
+        let less = one_removed (entries v) d a None counts.0 refl (ap is_some can.there) counts.1 in
+        few_more without k b (Some n) few_without refl (still_free is) less.0 (subst (λ j. Counts (λ x. IsSome (without j x)) less.0) same less.2) (omega (arith, counts.2, less.1))
+    room_for None is (inr takes) =
+        let free : without k b ≡ None = still_free is in
+        elim (cases_eq d k) [
+          | inl same ↦
+              let less = one_removed (entries v) d a None takes.count refl (ap is_some can.there) (subst (λ j. Counts (λ x. IsSome (entries v j x)) takes.count) (sym same) takes.counts) in
+              few_more without k b (Some n) few_without refl free less.0 (subst (λ j. Counts (λ x. IsSome (without j x)) less.0) same less.2) (omega (arith, takes.room, less.1))
+          | inr apart ↦
+              few_more without k b (Some n) few_without refl free takes.count
+              (same_in_other (entries v) d a None k takes.count (λ same. apart (sym same)) takes.counts) takes.room
+        ]
+
+    pub few-moved : HasFew (entries (renamed d a k b v))
+    few-moved = subst HasFew (sym edges-moved) (room_for (entries v k b) refl can.replaces)
+
+-- the limits of what is made and of what changes
+made_good : (made : Made) → IsMade made → IsNode (node_of made)
+made_good (file mode) good = (good, lit≤ tt, lit≤ tt)
+made_good (directory mode) good = good
+made_good (symbolic_link text) good = good
+
+pub made_bare : (made : Made) (x : Name) → names_in (Some (node_of made)) x ≡ None
+made_bare (file mode) x = refl
+made_bare (directory mode) x = refl
+made_bare (symbolic_link text) x = refl
+
+made_links : (made : Made) (mode links : ℕ) (bytes : List ℕ) → Some (node_of made) ≡ Some (file_node mode links bytes) → links ≡ 1
+made_links (file m) mode links bytes is = cc
+made_links (directory m) mode links bytes is = cc
+made_links (symbolic_link text) mode links bytes is = cc
+
+more_good : (o : Option Node) (mode links : ℕ) (bytes : List ℕ) → o ≡ Some (file_node mode links bytes) → links < FILE_NAMES → IfSome o IsNode → IfSome (with_name_more o) IsNode
+more_good None mode links bytes is few good = tt
+more_good (Some (directory_node m names)) mode links bytes is few good = good
+more_good (Some (file_node m l b)) mode links bytes is few good = let same : l ≡ links = cc in (good.0, omega (arith, few, same), good.2)
+more_good (Some (link_node text)) mode links bytes is few good = good
+
+-- one object changes but for its kind, its names and its links
+module _ (inodes : ℕ) (v : Volume) (volume : IsVolume inodes v) (n : ℕ) (o : Option Node) (names : (x : Name) → names_in o x ≡ names_in (v n) x) (file : is_file_node o ≡ is_file_node (v n)) (directory : is_directory_node o ≡ is_directory_node (v n)) (some : is_some o ≡ is_some (v n)) (same_links : SameLinks (v n) o) (good : IfSome o IsNode) where
+  pub volume-altered : IsVolume inodes (with_node n o v)
+  volume-altered = record {
+    graph = graph-altered v volume.graph n o names file directory some same_links;
+    limits = record {
+      nodes = good_node v n o volume.limits.nodes good;
+      numbers = numbers_node inodes v n o volume.limits.numbers (λ is. volume.limits.numbers n (sym some ∙ is));
+      children = subst HasFew (sym (entries-node n o v names)) volume.limits.children;
+    };
+  }
+
+pub bytes_names : (f : List ℕ → List ℕ) (o : Option Node) (x : Name) → names_in (with_file_bytes f o) x ≡ names_in o x
+bytes_names f None x = refl
+bytes_names f (Some (directory_node mode names)) x = refl
+bytes_names f (Some (file_node mode links bytes)) x = refl
+bytes_names f (Some (link_node text)) x = refl
+
+pub bytes_by : {X : Type 0} (test : Option Node → X) → ((mode links : ℕ) (a b : List ℕ) → test (Some (file_node mode links a)) ≡ test (Some (file_node mode links b))) → (f : List ℕ → List ℕ) (o : Option Node) → test (with_file_bytes f o) ≡ test o
+bytes_by test alike f None = refl
+bytes_by test alike f (Some (directory_node mode names)) = refl
+bytes_by test alike f (Some (file_node mode links bytes)) = alike mode links (f bytes) bytes
+bytes_by test alike f (Some (link_node text)) = refl
+
+bytes_links : (f : List ℕ → List ℕ) (o : Option Node) → SameLinks o (with_file_bytes f o)
+bytes_links f None mode links bytes is = cc
+bytes_links f (Some (directory_node m names)) mode links bytes is = cc
+bytes_links f (Some (file_node m l b)) mode links bytes is = let same : l ≡ links = cc in (m, b, ap (λ c. Some (file_node m c b)) same)
+bytes_links f (Some (link_node text)) mode links bytes is = cc
+
+bytes_good : (f : List ℕ → List ℕ) (o : Option Node) → ((bytes : List ℕ) → length bytes ≤ GREATEST_FILE → length (f bytes) ≤ GREATEST_FILE) → IfSome o IsNode → IfSome (with_file_bytes f o) IsNode
+bytes_good f None short good = tt
+bytes_good f (Some (directory_node mode names)) short good = good
+bytes_good f (Some (file_node mode links bytes)) short good = (good.0, good.1, short bytes good.2)
+bytes_good f (Some (link_node text)) short good = good
+
+volume-bytes : (inodes : ℕ) (v : Volume) → IsVolume inodes v → (n : ℕ) (f : List ℕ → List ℕ) → ((bytes : List ℕ) → length bytes ≤ GREATEST_FILE → length (f bytes) ≤ GREATEST_FILE) → IsVolume inodes (with_node n (with_file_bytes f (v n)) v)
+volume-bytes inodes v volume n f short =
+    volume-altered inodes v volume n (with_file_bytes f (v n)) (bytes_names f (v n)) (bytes_by is_file_node (λ mode links a b. refl) f (v n)) (bytes_by is_directory_node (λ mode links a b. refl) f (v n)) (bytes_by is_some (λ mode links a b. refl) f (v n)) (bytes_links f (v n)) (bytes_good f (v n) short (volume.limits.nodes n))
+
+pub mode_names : (bits : ℕ) (o : Option Node) (x : Name) → names_in (with_node_mode bits o) x ≡ names_in o x
+mode_names bits None x = refl
+mode_names bits (Some (directory_node mode names)) x = refl
+mode_names bits (Some (file_node mode links bytes)) x = refl
+mode_names bits (Some (link_node text)) x = refl
+
+pub mode_file : (bits : ℕ) (o : Option Node) → is_file_node (with_node_mode bits o) ≡ is_file_node o
+mode_file bits None = refl
+mode_file bits (Some (directory_node mode names)) = refl
+mode_file bits (Some (file_node mode links bytes)) = refl
+mode_file bits (Some (link_node text)) = refl
+
+pub mode_directory : (bits : ℕ) (o : Option Node) → is_directory_node (with_node_mode bits o) ≡ is_directory_node o
+mode_directory bits None = refl
+mode_directory bits (Some (directory_node mode names)) = refl
+mode_directory bits (Some (file_node mode links bytes)) = refl
+mode_directory bits (Some (link_node text)) = refl
+
+pub mode_some : (bits : ℕ) (o : Option Node) → is_some (with_node_mode bits o) ≡ is_some o
+mode_some bits None = refl
+mode_some bits (Some (directory_node mode names)) = refl
+mode_some bits (Some (file_node mode links bytes)) = refl
+mode_some bits (Some (link_node text)) = refl
+
+mode_links : (bits : ℕ) (o : Option Node) → SameLinks o (with_node_mode bits o)
+mode_links bits None mode links bytes is = cc
+mode_links bits (Some (directory_node m names)) mode links bytes is = cc
+mode_links bits (Some (file_node m l b)) mode links bytes is = let same : l ≡ links = cc in (m, b, ap (λ c. Some (file_node m c b)) same)
+mode_links bits (Some (link_node text)) mode links bytes is = cc
+
+mode_good : (bits : ℕ) (o : Option Node) → bits ≤ MODE_BITS → IfSome o IsNode → IfSome (with_node_mode bits o) IsNode
+mode_good bits None few good = tt
+mode_good bits (Some (directory_node mode names)) few good = few
+mode_good bits (Some (file_node mode links bytes)) few good = (few, good.1, good.2)
+mode_good bits (Some (link_node text)) few good = good
+
+written_short : (offset : ℕ) (given bytes : List ℕ) → offset + length given ≤ GREATEST_FILE → length bytes ≤ GREATEST_FILE → length (written offset given bytes) ≤ GREATEST_FILE
+written_short offset given bytes fits short =
+    omega (arith, length-append (resized offset bytes ++ given) (drop (offset + length given) bytes), length-append (resized offset bytes) given, length-append (take offset bytes) (replicate (offset - length bytes) 0), length-take offset bytes, length-replicate {A = ℕ} (offset - length bytes) 0, length-drop (offset + length given) bytes)
+
+resized_short : (size : ℕ) (bytes : List ℕ) → size ≤ GREATEST_FILE → length bytes ≤ GREATEST_FILE → length (resized size bytes) ≤ GREATEST_FILE
+resized_short size bytes fits short =
+    omega (arith, length-append (take size bytes) (replicate (size - length bytes) 0), length-take size bytes, length-replicate {A = ℕ} (size - length bytes) 0)
+
+-- a record that applies keeps a volume
+pub records_keep_volumes : RecordsKeepVolumes
+records_keep_volumes inodes v (create number parent made name) volume can =
+    let path = path_to v volume.graph parent can.takes.directory in
+    let limits = volume.limits in
+    let edges : entries (created number parent name (node_of made) v) ≡ with_edge parent name (Some number) (entries v) =
+    edges-created v volume.graph parent name number (node_of made) can.takes.directory can.vacant (made_bare made) in
+    record {
+      graph = graph-created v volume.graph path.0 name parent number (node_of made) path.1 can.takes.directory can.takes.missing can.takes.name can.vacant (made_bare made) (made_links made);
+      limits = record {
+        nodes = good_entry (with_node number (Some (node_of made)) v) parent name (Some number) (good_node v number (Some (node_of made)) limits.nodes (made_good made can.good));
+        numbers = numbers_entry inodes (with_node number (Some (node_of made)) v) parent name (Some number) (numbers_node inodes v number (Some (node_of made)) limits.numbers (λ some. inr (can.low, can.high)));
+        children = subst HasFew (sym edges) (few_more (entries v) parent name (Some number) limits.children refl can.takes.missing can.takes.count can.takes.counts can.takes.room);
+      };
+    }
+records_keep_volumes inodes v (link number parent name) volume can =
+    let path = path_to v volume.graph parent can.takes.directory in
+    let limits = volume.limits in
+    let edges : entries (linked number parent name v) ≡ with_edge parent name (Some number) (entries v) =
+    edges-linked v parent name number can.takes.directory in
+    record {
+      graph = graph-linked v volume.graph path.0 name parent number can.mode can.links can.bytes path.1 can.takes.directory can.takes.missing can.takes.name can.file;
+      limits = record {
+        nodes = good_entry (with_node number (with_name_more (v number)) v) parent name (Some number) (good_node v number (with_name_more (v number)) limits.nodes (more_good (v number) can.mode can.links can.bytes can.file can.few (limits.nodes number)));
+        numbers = numbers_entry inodes (with_node number (with_name_more (v number)) v) parent name (Some number) (numbers_node inodes v number (with_name_more (v number)) limits.numbers (λ some. limits.numbers number (ap is_some can.file)));
+        children = subst HasFew (sym edges) (few_more (entries v) parent name (Some number) limits.children refl can.takes.missing can.takes.count can.takes.counts can.takes.room);
+      };
+    }
+records_keep_volumes inodes v (unname parent name) volume can =
+    let is = enters_directory (v parent) name can.number can.there in
+    let path = path_to v volume.graph parent is in
+    let limits = volume.limits in
+    let edges : entries (unnamed parent name v) ≡ with_edge parent name None (entries v) = edges-unnamed v parent name can.number is can.there can.empty in
+    record {
+      graph = volume-unnamed v volume.graph path.0 name parent can.number path.1 is can.there can.empty;
+      limits = record {
+        nodes = good_entry (released (entries v parent name) v) parent name None (good_released (entries v parent name) v limits.nodes);
+        numbers = numbers_entry inodes (released (entries v parent name) v) parent name None (numbers_released inodes (entries v parent name) v limits.numbers);
+        children = subst HasFew (sym edges) (few_less (entries v) parent name None limits.children refl);
+      };
+    }
+records_keep_volumes inodes v (rename parent name new_parent new_name) volume can =
+    let limits = volume.limits in
+    let target : Option ℕ = entries v new_parent new_name in
+    record {
+      graph = graph-moved v volume.graph parent name new_parent new_name can;
+      limits = record {
+        nodes = good_entry (with_entry parent name None (released target v)) new_parent new_name (entries v parent name) (good_entry (released target v) parent name None (good_released target v limits.nodes));
+        numbers = numbers_entry inodes (with_entry parent name None (released target v)) new_parent new_name (entries v parent name) (numbers_entry inodes (released target v) parent name None (numbers_released inodes target v limits.numbers));
+        children = few-moved v volume.graph parent name new_parent new_name can limits.children;
+      };
+    }
+records_keep_volumes inodes v (write number offset bytes) volume can = volume-bytes inodes v volume number (written offset bytes) (λ old short. written_short offset bytes old can.3 short)
+records_keep_volumes inodes v (cut number size) volume can = volume-bytes inodes v volume number (resized size) (λ old short. resized_short size old can.1 short)
+records_keep_volumes inodes v (change_mode number mode) volume can =
+    volume-altered inodes v volume number (with_node_mode mode (v number)) (mode_names mode (v number)) (mode_file mode (v number)) (mode_directory mode (v number)) (mode_some mode (v number)) (mode_links mode (v number)) (mode_good mode (v number) can.1 (volume.limits.nodes number))
+
+-- and so does a sweep
+pub volume-swept : (inodes : ℕ) (v : Volume) (table : ℕ → Option Description) → IsVolume inodes v → IsVolume inodes (swept table v)
+volume-swept inodes v table volume = record {
+  graph = graph-swept v volume.graph table;
+  limits = limits_swept inodes v table (same_swept v volume.graph table) volume.limits;
+}
+
+pub sweeps_keep_volumes : SweepsKeepVolumes
+sweeps_keep_volumes = volume-swept

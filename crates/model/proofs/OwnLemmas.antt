@@ -1,0 +1,397 @@
+-- The calls' own refusals: none of a call is one that tells of devices, memory or room.
+use Rattle.std.proofs.Common.{◌≡◌, ℕ, ℤ, zero, suc, List, [], ◌∷◌, ◌++◌, Bool, true, false, not, ◌&&◌, ◌||◌, cond, is_none, Option, Some, None, refl, sym, ap, subst, ◌∙◌}
+use Rattle.std.specs.Prelude.{if◌then◌else◌, nat_abs, nat_le, nat_lt, length, ◌+◌}
+use Rattle.std.proofs.lemmas.Bool.{cond_both}
+use Rattle.model.specs.declared.limits.TheConstants.{LINKS_FOLLOWED, DIRECTORY_NAMES, OPEN_FILES, GREATEST_FILE}
+use Rattle.model.specs.declared.errno.Errno.{Errno}
+use Rattle.model.specs.declared.errno.Errno.TheVariants.{ENOENT, ENOTDIR, EISDIR, EEXIST, EINVAL, ENAMETOOLONG, ELOOP, EPERM, EBUSY, EBADF, EMFILE, ENOTEMPTY, EFBIG, EOVERFLOW, EMLINK, EROFS, NOSNAP, DIRFULL, NONUMBER}
+use Rattle.model.specs.declared.reply.Reply.{Reply}
+use Rattle.model.specs.declared.reply.Reply.TheVariants as reply
+use Rattle.model.specs.declared.command.Command.{Command}
+use Rattle.model.specs.declared.command.Command.TheVariants as command
+use Rattle.model.specs.declared.command.Flags.{Flags}
+use Rattle.model.specs.declared.command.Whence.{Whence}
+use Rattle.model.specs.declared.command.PathCall.{PathCall}
+use Rattle.model.specs.declared.command.PathCall.TheVariants as call
+use Rattle.model.specs.Paths.{Name, Path, parts, is_empty, is_dot, is_dot_dot, last_part, starts_with_slash, is_root_text, Tests, first_refusal, text_tests_then, text_tests, new_text_tests}
+use Rattle.model.specs.Trees.{Tree, Object, directory, symlink, file, Description}
+use Rattle.model.specs.Edits.{contents, with_object, with_directory}
+use Rattle.model.specs.Resolution.{Resolution, named, missing, refused, Next, into, over, link, absent, too_long, next, Stop, at, at_link, walk, go_on, resolve_within, resolve}
+use Rattle.model.specs.Room.{Room, Need, nothing}
+use Rattle.model.specs.Outcomes.{Outcome, answers, refuses, changes, changes_swept, tested, either, leads, leads_to, with_names, with_place, at_number, with_fresh, with_links, lowest_free, described}
+use Rattle.model.specs.Reading as reading
+use Rattle.model.specs.Changing as changing
+use Rattle.model.specs.Descriptors as descriptors
+use Rattle.model.specs.States.{State, with_tree}
+use Rattle.model.specs.Steps.{Step, says, passing, on_tree, calls, is_reading_call, frozen, take_tests, views, WouldStep}
+use Rattle.model.specs.Laws.{is_own, RefusesByItsOwn, RefusalsChangeNothing}
+
+-- a refusal is one of its own, and nothing changes
+abbrev Own : Tree → Outcome → Type 0
+Own t outcome =
+    (answer : Reply) (new : Tree) (need : Need) → outcome answer new need → (errno : Errno) → answer ≡ reply.Refused errno
+    → (is_own errno ≡ true) × (new ≡ t) × (need ≡ nothing)
+
+-- resolution
+
+abbrev AnswersOwn : Resolution → Type 0
+AnswersOwn (named p) = Unit {0}
+AnswersOwn (missing p n) = Unit {0}
+AnswersOwn (refused errno) = is_own errno ≡ true
+
+abbrev StopsOwn : Stop → Type 0
+StopsOwn (at r) = AnswersOwn r
+StopsOwn (at_link p text rest) = Unit {0}
+
+abbrev after : Tree → Bool → Path → Name → List Name → Next → Stop
+after t follow p part rest (into q) = walk t follow q rest
+after t follow p part rest (over q) = at (cond (is_empty rest) (named q) (refused ENOTDIR))
+after t follow p part rest (link text) = cond (is_empty rest && not follow) (at (named (p ++ part ∷ []))) (at_link p text rest)
+after t follow p part rest absent = at (cond (is_empty rest) (missing p part) (refused ENOENT))
+after t follow p part rest too_long = at (refused ENAMETOOLONG)
+
+walk_own : (t : Tree) (follow : Bool) (names : List Name) (p : Path) → StopsOwn (walk t follow p names)
+walk_own t follow [] p = tt
+walk_own t follow (part ∷ rest) p =
+    elim (next t p part) as (λ n. StopsOwn (after t follow p part rest n)) [
+      | into q ↦ walk_own t follow rest q
+      | over q ↦ cond_both (is_empty rest) (named q) (refused ENOTDIR) AnswersOwn (λ e. tt) (λ e. refl)
+      | link text ↦ cond_both (is_empty rest && not follow) (at (named (p ++ part ∷ []))) (at_link p text rest) StopsOwn (λ e. tt) (λ e. tt)
+      | absent ↦ cond_both (is_empty rest) (missing p part) (refused ENOENT) AnswersOwn (λ e. tt) (λ e. refl)
+      | too_long ↦ refl
+    ]
+
+go_on_own : (f : Path → List Name → Resolution) → ((p : Path) (names : List Name) → AnswersOwn (f p names)) → (s : Stop) → StopsOwn s → AnswersOwn (go_on f s)
+go_on_own f own (at r) stops = stops
+go_on_own f own (at_link p text rest) stops = own (if starts_with_slash text then [] else p) (parts text ++ rest)
+
+within_own : (links : ℕ) (t : Tree) (follow : Bool) (p : Path) (names : List Name) → AnswersOwn (resolve_within links t follow p names)
+within_own zero t follow p names = go_on_own (λ _ _. refused ELOOP) (λ _ _. refl) (walk t follow p names) (walk_own t follow names p)
+within_own (suc links) t follow p names = go_on_own (resolve_within links t follow) (within_own links t follow) (walk t follow p names) (walk_own t follow names p)
+
+resolve_own : (t : Tree) (follow : Bool) (text : List ℕ) → AnswersOwn (resolve t follow text)
+resolve_own t follow text = within_own LINKS_FOLLOWED t follow [] (parts text)
+
+-- the steps
+
+refused_same : (a b : Errno) → reply.Refused a ≡ reply.Refused b → a ≡ b
+refused_same a b e = cc
+
+own_refuses : (t : Tree) (e : Errno) → is_own e ≡ true → Own t (refuses t e)
+own_refuses t e own answer new need done errno is = (ap is_own (refused_same errno e (sym is ∙ done.0)) ∙ own, done.1, done.2)
+
+-- a reply that refuses nothing
+abbrev IsGood : Reply → Type 0
+IsGood (reply.Refused errno) = ⊥
+IsGood _ = Unit {0}
+
+good_own : {X : Type 0} (r : Reply) → IsGood r → (errno : Errno) → r ≡ reply.Refused errno → X
+good_own r good errno is = absurd (subst IsGood is good)
+
+own_answers : (t : Tree) (r : Reply) → IsGood r → Own t (answers t r)
+own_answers t r good answer new need done errno is = good_own r good errno (sym done.0 ∙ is)
+
+own_changes : (old : Tree) (r : Reply) (t : Tree) (n : Need) → IsGood r → Own old (changes r t n)
+own_changes old r t n good answer new need done errno is = good_own r good errno (sym done.0 ∙ is)
+
+own_swept : (old : Tree) (r : Reply) (t : Tree) (n : Need) → IsGood r → Own old (changes_swept r t n)
+own_swept old r t n good answer new need done errno is = good_own r good errno (sym done.0 ∙ is)
+
+abbrev TestsOwn : Tests → Type 0
+TestsOwn [] = Unit {0}
+TestsOwn (test ∷ tests) = (is_own test.1 ≡ true) × TestsOwn tests
+
+abbrev RefusesOwn : Option Errno → Type 0
+RefusesOwn None = Unit {0}
+RefusesOwn (Some errno) = is_own errno ≡ true
+
+first_own : (tests : Tests) → TestsOwn tests → RefusesOwn (first_refusal tests)
+first_own [] own = tt
+first_own (test ∷ tests) own = cond_both test.0 (Some test.1) (first_refusal tests) RefusesOwn (λ e. own.0) (λ e. first_own tests own.1)
+
+own_tested : (t : Tree) (tests : Tests) (rest : Outcome) → TestsOwn tests → Own t rest → Own t (tested t tests rest)
+own_tested t tests rest own more =
+    elim (first_refusal tests) as (λ o. RefusesOwn o → Own t (elim o as (λ _. Outcome) [ Some errno ↦ refuses t errno | None ↦ rest ])) [
+      | Some errno ↦ λ is. own_refuses t errno is
+      | None ↦ λ is. more
+    ] (first_own tests own)
+
+own_test : (t : Tree) (b : Bool) (e : Errno) (rest : Outcome) → is_own e ≡ true → Own t rest → Own t (tested t ((b, e) ∷ []) rest)
+own_test t b e rest own more = own_tested t ((b, e) ∷ []) rest (own, tt) more
+
+own_two : (t : Tree) (a b : Bool) (e f : Errno) (rest : Outcome) → is_own e ≡ true → is_own f ≡ true → Own t rest → Own t (tested t ((a, e) ∷ (b, f) ∷ []) rest)
+own_two t a b e f rest own other more = own_tested t ((a, e) ∷ (b, f) ∷ []) rest (own, (other, tt)) more
+
+own_three : (t : Tree) (a b d : Bool) (e f g : Errno) (rest : Outcome) → is_own e ≡ true → is_own f ≡ true → is_own g ≡ true → Own t rest → Own t (tested t ((a, e) ∷ (b, f) ∷ (d, g) ∷ []) rest)
+own_three t a b d e f g rest own other third more = own_tested t ((a, e) ∷ (b, f) ∷ (d, g) ∷ []) rest (own, (other, (third, tt))) more
+
+own_either : (t : Tree) (b : Bool) (x y : Outcome) → Own t x → Own t y → Own t (either b x y)
+own_either t true x y own other = own
+own_either t false x y own other = other
+
+own_leads : (t : Tree) (r : Resolution) (there : Path → Object → Outcome) (gone : Path → Name → Outcome) → AnswersOwn r → ((p : Path) (o : Object) → Own t (there p o)) → ((p : Path) (name : Name) → Own t (gone p name)) → Own t (leads t r there gone)
+own_leads t (refused errno) there gone own at_there at_gone = own_refuses t errno own
+own_leads t (missing p name) there gone own at_there at_gone = at_gone p name
+own_leads t (named p) there gone own at_there at_gone =
+    elim (t.objects p) as (λ o. Own t (elim o as (λ _. Outcome) [ Some o ↦ there p o | None ↦ λ _ _ _. ⊥ ])) [
+      | Some o ↦ at_there p o
+      | None ↦ λ answer new need never. absurd never
+    ]
+
+own_leads_to : (t : Tree) (follow : Bool) (text : List ℕ) (there : Path → Object → Outcome) → ((p : Path) (o : Object) → Own t (there p o)) → Own t (leads_to t (resolve t follow text) there)
+own_leads_to t follow text there own = own_leads t (resolve t follow text) there (λ p name. refuses t ENOENT) (resolve_own t follow text) own (λ p name. own_refuses t ENOENT refl)
+
+own_names : (t : Tree) (p : Path) (rest : List Name → Outcome) → ((names : List Name) → Own t (rest names)) → Own t (with_names t p rest)
+own_names t p rest own answer new need (names, listing, done) = own names answer new need done
+
+own_place : (t : Tree) (p : Path) (rest : Outcome) → Own t rest → Own t (with_place t p rest)
+own_place t p rest own = own_names t p _ (λ names. own_test t (nat_le DIRECTORY_NAMES (length names)) DIRFULL rest refl own)
+
+own_number : (t : Tree) (rest : ℕ → Outcome) (found : Option ℕ) → ((n : ℕ) → Own t (rest n)) → Own t (at_number t rest found)
+own_number t rest None own = own_refuses t NONUMBER refl
+own_number t rest (Some n) own = own n
+
+own_fresh : (inodes : ℕ) (t : Tree) (rest : ℕ → Outcome) → ((n : ℕ) → Own t (rest n)) → Own t (with_fresh inodes t rest)
+own_fresh inodes t rest own answer new need (found, is, done) = own_number t rest found own answer new need done
+
+own_links : (t : Tree) (o : Object) (rest : ℕ → Outcome) → ((n : ℕ) → Own t (rest n)) → Own t (with_links t o rest)
+own_links t o rest own answer new need (count, is, done) = own count answer new need done
+
+never : (t : Tree) → Own t (λ _ _ _. ⊥)
+never t answer new need done = absurd done
+
+own_described : (t : Tree) (fd : ℕ) (rest : Description → Outcome) → ((f : Description) → Own t (rest f)) → Own t (described t fd rest)
+own_described t fd rest own =
+    elim (t.descriptors fd) as (λ o. Own t (elim o as (λ _. Outcome) [ Some f ↦ rest f | None ↦ refuses t EBADF ])) [
+      | Some f ↦ own f
+      | None ↦ own_refuses t EBADF refl
+    ]
+
+-- an outcome by what stands there
+by_kind : (t : Tree) (o : Object) (a : ℕ → Outcome) (b : ℕ → List ℕ → Outcome) (c : ℕ → Outcome) → ((n : ℕ) → Own t (a n)) → ((n : ℕ) (text : List ℕ) → Own t (b n text)) → ((n : ℕ) → Own t (c n)) → Own t (elim o as (λ _. Outcome) [ directory n ↦ a n | symlink n text ↦ b n text | file n ↦ c n ])
+by_kind t (directory n) a b c own_a own_b own_c = own_a n
+by_kind t (symlink n text) a b c own_a own_b own_c = own_b n text
+by_kind t (file n) a b c own_a own_b own_c = own_c n
+
+tests_append : (a b : Tests) → TestsOwn a → TestsOwn b → TestsOwn (a ++ b)
+tests_append [] b own more = more
+tests_append (test ∷ a) b own more = (own.0, tests_append a b own.1 more)
+
+text_own : (more : Tests) (text : List ℕ) → TestsOwn more → TestsOwn (text_tests_then more text)
+text_own more text own = (refl, (refl, (refl, (refl, (refl, (refl, own))))))
+
+plain_own : (text : List ℕ) → TestsOwn (text_tests text)
+plain_own text = text_own [] text tt
+
+new_own : (text : List ℕ) → TestsOwn (new_text_tests text)
+new_own text = text_own ((is_dot (last_part text) || is_dot_dot (last_part text), EINVAL) ∷ []) text (refl, tt)
+
+-- the calls
+
+own_tells : (t : Tree) (o : Object) → Own t (reading.tells_stat t o)
+own_tells t o = own_links t o _ (λ links. own_answers t _ tt)
+
+own_stat : (t : Tree) (follow : Bool) (path : List ℕ) → Own t (reading.stats t follow path)
+own_stat t follow path = own_tested t (text_tests path) _ (plain_own path) (own_leads_to t follow path _ (λ p o. own_tells t o))
+
+own_list : (t : Tree) (path : List ℕ) → Own t (reading.lists t path)
+own_list t path =
+    own_tested t (text_tests path) _ (plain_own path)
+    (own_leads_to t true path _ (λ p o. by_kind t o _ _ _ (λ n. own_names t p _ (λ names. own_answers t _ tt)) (λ n text. own_refuses t ENOTDIR refl) (λ n. own_refuses t ENOTDIR refl)))
+
+own_readlink : (t : Tree) (path : List ℕ) → Own t (reading.reads_link t path)
+own_readlink t path =
+    own_tested t (text_tests path) _ (plain_own path)
+    (own_leads_to t false path _ (λ p o. by_kind t o _ _ _ (λ n. own_refuses t EINVAL refl) (λ n text. own_answers t _ tt) (λ n. own_refuses t EINVAL refl)))
+
+own_get : (t : Tree) (path : List ℕ) (offset : ℤ) (count : ℕ) → Own t (reading.gets t path offset count)
+own_get t path offset count =
+    own_tested t (text_tests_then ((reading.is_negative offset || reading.is_too_many count, EINVAL) ∷ []) path) _ (text_own ((reading.is_negative offset || reading.is_too_many count, EINVAL) ∷ []) path (refl, tt))
+    (own_leads_to t true path _ (λ p o. by_kind t o _ _ _ (λ n. own_refuses t EISDIR refl) (λ n text. never t) (λ n. own_answers t _ tt)))
+
+own_creates : (inodes : ℕ) (t : Tree) (path : List ℕ) (make : Path → ℕ → Tree → Tree) → Own t (changing.creates inodes t path make)
+own_creates inodes t path make =
+    own_tested t (new_text_tests path) _ (new_own path)
+    (own_leads t (resolve t false path) _ _ (resolve_own t false path) (λ p o. own_refuses t EEXIST refl) (λ p name. own_place t p _ (own_fresh inodes t _ (λ n. own_changes _ _ _ _ tt))))
+
+own_symlink : (inodes : ℕ) (t : Tree) (text path : List ℕ) → Own t (changing.makes_symlink inodes t text path)
+own_symlink inodes t text path =
+    own_tested t (changing.link_text_tests text) _ (refl, (refl, (refl, tt))) (own_creates inodes t path (λ p n. with_object p (symlink n text)))
+
+own_removes : (t : Tree) (p : Path) → Own t (changing.removes t p)
+own_removes t p = own_swept _ _ _ _ tt
+
+own_rmdir : (t : Tree) (path : List ℕ) → Own t (changing.removes_directory t path)
+own_rmdir t path =
+    own_tested t (new_text_tests path ++ (is_root_text path, EBUSY) ∷ []) _ (tests_append (new_text_tests path) ((is_root_text path, EBUSY) ∷ []) (new_own path) (refl, tt))
+    (own_leads_to t false path _ (λ p o. by_kind t o _ _ _ (λ n. own_names t p _ (λ names. own_test t _ ENOTEMPTY _ refl (own_removes t p))) (λ n text. own_refuses t ENOTDIR refl) (λ n. own_refuses t ENOTDIR refl)))
+
+own_unlink : (t : Tree) (path : List ℕ) → Own t (changing.unlinks t path)
+own_unlink t path =
+    own_tested t (new_text_tests path) _ (new_own path)
+    (own_leads_to t false path _ (λ p o. own_test t _ EPERM _ refl (own_removes t p)))
+
+own_link : (t : Tree) (old path : List ℕ) → Own t (changing.links t old path)
+own_link t old path =
+    own_tested t (text_tests old ++ new_text_tests path) _ (tests_append (text_tests old) (new_text_tests path) (plain_own old) (new_own path))
+    (own_leads_to t false old _ (λ p o. by_kind t o _ _ _ (λ n. own_refuses t EPERM refl) (λ n text. own_refuses t EPERM refl) (λ n.
+    own_leads t (resolve t false path) _ _ (resolve_own t false path) (λ q r. own_refuses t EEXIST refl) (λ q name.
+    own_links t (file n) _ (λ count. own_test t _ EMLINK _ refl (own_place t q _ (own_changes _ _ _ _ tt)))))))
+
+own_target : (t : Tree) (p q : Path) (r : Option Object) (rest : Outcome) → Own t rest → Own t (changing.with_target t p q r rest)
+own_target t p q None rest own = own_either t _ rest _ own (own_place t _ rest own)
+own_target t p q (Some (directory n)) rest own = own_names t q _ (λ names. own_test t (not (is_empty names)) ENOTEMPTY rest refl own)
+own_target t p q (Some (symlink n text)) rest own = own
+own_target t p q (Some (file n)) rest own = own
+
+own_moves : (t : Tree) (p : Path) (o : Object) (q : Path) → Own t (changing.moves t p o q)
+own_moves t p o q =
+    own_either t _ _ _ (own_answers t _ tt) (own_tested t (changing.move_tests p o q (t.objects q)) _ (refl, (refl, (refl, tt))) (own_target t p q (t.objects q) _ (own_swept _ _ _ _ tt)))
+
+own_rename : (t : Tree) (old path : List ℕ) → Own t (changing.renames t old path)
+own_rename t old path =
+    own_tested t (new_text_tests old ++ new_text_tests path ++ (is_root_text old || is_root_text path, EBUSY) ∷ []) _ (tests_append (new_text_tests old ++ new_text_tests path) ((is_root_text old || is_root_text path, EBUSY) ∷ []) (tests_append (new_text_tests old) (new_text_tests path) (new_own old) (new_own path)) (refl, tt))
+    (own_leads_to t false old _ (λ p o. own_leads t (resolve t false path) _ _ (resolve_own t false path) (λ q r. own_moves t p o q) (λ q name. own_moves t p o (q ++ name ∷ []))))
+
+own_chmod : (t : Tree) (path : List ℕ) (mode : ℕ) → Own t (changing.changes_mode t path mode)
+own_chmod t path mode =
+    own_tested t (text_tests path) _ (plain_own path)
+    (own_leads_to t true path _ (λ p o. by_kind t o _ _ _ (λ n. own_changes _ _ _ _ tt) (λ n text. never t) (λ n. own_changes _ _ _ _ tt)))
+
+own_truncate : (t : Tree) (path : List ℕ) (size : ℤ) → Own t (changing.truncates t path size)
+own_truncate t path size =
+    own_tested t (text_tests_then (changing.size_tests size) path) _ (text_own (changing.size_tests size) path (refl, (refl, tt)))
+    (own_leads_to t true path _ (λ p o. by_kind t o _ _ _ (λ n. own_refuses t EISDIR refl) (λ n text. never t) (λ n. own_changes _ _ _ _ tt)))
+
+own_opens_object : (t : Tree) (o : Object) (flags : Flags) (fd : ℕ) → Own t (descriptors.opens_object t o flags fd)
+own_opens_object t o flags fd =
+    own_test t _ EEXIST _ refl (by_kind t o _ _ _ (λ n. own_refuses t EISDIR refl) (λ n text. never t) (λ n. own_either t _ _ _ (own_changes _ _ _ _ tt) (own_changes _ _ _ _ tt)))
+
+own_opens_new : (inodes : ℕ) (t : Tree) (p : Path) (name : Name) (flags : Flags) (mode fd : ℕ) → Own t (descriptors.opens_new inodes t p name flags mode fd)
+own_opens_new inodes t p name flags mode fd =
+    own_test t _ ENOENT _ refl (own_place t p _ (own_fresh inodes t _ (λ n. own_changes _ _ _ _ tt)))
+
+own_open : (inodes : ℕ) (t : Tree) (path : List ℕ) (flags : Flags) (mode : ℕ) → Own t (descriptors.opens inodes t path flags mode)
+own_open inodes t path flags mode =
+    own_tested t (text_tests_then (descriptors.open_tests flags) path) _ (text_own (descriptors.open_tests flags) path (refl, (refl, tt)))
+    (elim (lowest_free t.descriptors OPEN_FILES) as (λ o. Own t (elim o as (λ _. Outcome) [
+      | None ↦ refuses t EMFILE
+      | Some fd ↦ leads t (resolve t (not (flags.creates && flags.exclusive)) path) (λ p o. descriptors.opens_object t o flags fd) (λ p name. descriptors.opens_new inodes t p name flags mode fd)
+    ])) [
+      | None ↦ own_refuses t EMFILE refl
+      | Some fd ↦ own_leads t (resolve t (not (flags.creates && flags.exclusive)) path) _ _ (resolve_own t (not (flags.creates && flags.exclusive)) path) (λ p o. own_opens_object t o flags fd) (λ p name. own_opens_new inodes t p name flags mode fd)
+    ])
+
+own_puts : (t : Tree) (n offset : ℕ) (given : List ℕ) (also : Tree → Tree) → Own t (descriptors.puts t n offset given also)
+own_puts t n offset given also = own_either t _ _ _ (own_answers t _ tt) (own_test t _ EFBIG _ refl (own_changes _ _ _ _ tt))
+
+own_close : (t : Tree) (fd : ℕ) → Own t (descriptors.closes t fd)
+own_close t fd = own_described t fd _ (λ f. own_swept _ _ _ _ tt)
+
+own_read : (t : Tree) (fd count : ℕ) → Own t (descriptors.reads t fd count)
+own_read t fd count = own_described t fd _ (λ f. own_two t _ _ EBADF EINVAL _ refl refl (own_changes _ _ _ _ tt))
+
+own_write : (t : Tree) (fd : ℕ) (given : List ℕ) → Own t (descriptors.writes t fd given)
+own_write t fd given =
+    own_described t fd _ (λ f.
+    let offset = if f.appends then length (contents t f.number) else f.offset in
+    own_two t (not f.writes) (reading.is_too_many (length given)) EBADF EINVAL (descriptors.puts t f.number offset given (descriptors.with_offset fd f (offset + length given))) refl refl
+    (own_puts t f.number offset given (descriptors.with_offset fd f (offset + length given))))
+
+own_pread : (t : Tree) (fd : ℕ) (offset : ℤ) (count : ℕ) → Own t (descriptors.reads_from t fd offset count)
+own_pread t fd offset count = own_described t fd _ (λ f. own_two t _ _ EBADF EINVAL _ refl refl (own_answers t _ tt))
+
+own_pwrite : (t : Tree) (fd : ℕ) (offset : ℤ) (given : List ℕ) → Own t (descriptors.writes_to t fd offset given)
+own_pwrite t fd offset given =
+    own_described t fd _ (λ f.
+    own_two t (not f.writes) (reading.is_negative offset || reading.is_too_many (length given)) EBADF EINVAL (descriptors.puts t f.number (nat_abs offset) given (λ after. after)) refl refl
+    (own_puts t f.number (nat_abs offset) given (λ after. after)))
+
+own_seek : (t : Tree) (fd : ℕ) (from : Whence) (offset : ℤ) → Own t (descriptors.seeks t fd from offset)
+own_seek t fd from offset = own_described t fd _ (λ f. own_two t _ _ EINVAL EOVERFLOW _ refl refl (own_changes _ _ _ _ tt))
+
+own_ftruncate : (t : Tree) (fd : ℕ) (size : ℤ) → Own t (descriptors.truncates_open t fd size)
+own_ftruncate t fd size = own_described t fd _ (λ f. own_three t (not f.writes) (reading.is_negative size) (nat_lt GREATEST_FILE (nat_abs size)) EINVAL EINVAL EFBIG (changing.cuts t f.number (nat_abs size)) refl refl refl (own_changes _ _ _ _ tt))
+
+own_fstat : (t : Tree) (fd : ℕ) → Own t (descriptors.stats_open t fd)
+own_fstat t fd = own_described t fd _ (λ f. own_tells t (file f.number))
+
+own_fsync : (t : Tree) (fd : ℕ) → Own t (descriptors.syncs_open t fd)
+own_fsync t fd = own_described t fd _ (λ f. own_answers t _ tt)
+
+own_path : (inodes : ℕ) (t : Tree) (c : PathCall) → Own t (calls inodes t c)
+own_path inodes t (call.List path) = own_list t path
+own_path inodes t (call.Stat path) = own_stat t true path
+own_path inodes t (call.Lstat path) = own_stat t false path
+own_path inodes t (call.Readlink path) = own_readlink t path
+own_path inodes t (call.Get path offset count) = own_get t path offset count
+own_path inodes t (call.Mkdir path mode) = own_creates inodes t path (λ p n. with_directory p n mode)
+own_path inodes t (call.Rmdir path) = own_rmdir t path
+own_path inodes t (call.Unlink path) = own_unlink t path
+own_path inodes t (call.Link old path) = own_link t old path
+own_path inodes t (call.Symlink text path) = own_symlink inodes t text path
+own_path inodes t (call.Rename old path) = own_rename t old path
+own_path inodes t (call.Chmod path mode) = own_chmod t path mode
+own_path inodes t (call.Truncate path size) = own_truncate t path size
+
+-- the commands
+
+abbrev OwnStep : State → Step → Type 0
+OwnStep s step =
+    (answer : Reply) (new : State) (need : Need) → step answer new need → (errno : Errno) → answer ≡ reply.Refused errno
+    → (is_own errno ≡ true) × (new ≡ s) × (need ≡ nothing)
+
+own_on_tree : (s : State) (outcome : Outcome) → Own s.tree outcome → OwnStep s (on_tree s outcome)
+own_on_tree s outcome own answer new need done errno is =
+    let refusal = own answer new.tree need done.0 errno is in
+    (refusal.0, done.1 ∙ ap (λ x. with_tree x s) refusal.1, refusal.2)
+
+own_says : (s : State) (r : Reply) → IsGood r → OwnStep s (says s r)
+own_says s r good answer new need done errno is = good_own r good errno (sym done.0 ∙ is)
+
+own_refusal : (s : State) (e : Errno) → is_own e ≡ true → OwnStep s (says s (reply.Refused e))
+own_refusal s e own answer new need done errno is = (ap is_own (refused_same errno e (sym is ∙ done.0)) ∙ own, done.1, done.2)
+
+own_passing : (s : State) (tests : Tests) (rest : Step) → TestsOwn tests → OwnStep s rest → OwnStep s (passing s tests rest)
+own_passing s tests rest own more =
+    elim (first_refusal tests) as (λ o. RefusesOwn o → OwnStep s (elim o as (λ _. Step) [ Some errno ↦ says s (reply.Refused errno) | None ↦ rest ])) [
+      | Some errno ↦ λ is. own_refusal s errno is
+      | None ↦ λ is. more
+    ] (first_own tests own)
+
+own_views : (s : State) (name : Name) (c : PathCall) → OwnStep s (views s name c)
+own_views s name c =
+    elim (frozen s name) as (λ o. OwnStep s (elim o as (λ _. Step) [
+      | None ↦ says s (reply.Refused NOSNAP)
+      | Some pair ↦ passing s ((not (is_reading_call c), EROFS) ∷ []) (λ answer new need. calls s.inodes pair.1 c answer pair.1 need × (new ≡ s))
+    ])) [
+      | None ↦ own_refusal s NOSNAP refl
+      | Some pair ↦ own_passing s ((not (is_reading_call c), EROFS) ∷ []) _ (refl, tt) (λ answer new need done errno is. let refusal = own_path s.inodes pair.1 c answer pair.1 need done.0 errno is in (refusal.0, done.1, refusal.2))
+    ]
+
+own_step : (room : Room) (s : State) (c : Command) → OwnStep s (WouldStep room s c)
+own_step room s (command.Path c) = own_on_tree s (calls s.inodes s.tree c) (own_path s.inodes s.tree c)
+own_step room s (command.Open path flags mode) = own_on_tree s (descriptors.opens s.inodes s.tree path flags mode) (own_open s.inodes s.tree path flags mode)
+own_step room s (command.Close fd) = own_on_tree s (descriptors.closes s.tree fd) (own_close s.tree fd)
+own_step room s (command.Read fd count) = own_on_tree s (descriptors.reads s.tree fd count) (own_read s.tree fd count)
+own_step room s (command.Write fd given) = own_on_tree s (descriptors.writes s.tree fd given) (own_write s.tree fd given)
+own_step room s (command.Pread fd offset count) = own_on_tree s (descriptors.reads_from s.tree fd offset count) (own_pread s.tree fd offset count)
+own_step room s (command.Pwrite fd offset given) = own_on_tree s (descriptors.writes_to s.tree fd offset given) (own_pwrite s.tree fd offset given)
+own_step room s (command.Lseek fd from offset) = own_on_tree s (descriptors.seeks s.tree fd from offset) (own_seek s.tree fd from offset)
+own_step room s (command.Ftruncate fd size) = own_on_tree s (descriptors.truncates_open s.tree fd size) (own_ftruncate s.tree fd size)
+own_step room s (command.Fstat fd) = own_on_tree s (descriptors.stats_open s.tree fd) (own_fstat s.tree fd)
+own_step room s (command.Fsync fd) = own_on_tree s (descriptors.syncs_open s.tree fd) (own_fsync s.tree fd)
+own_step room s command.Sync = own_says s _ tt
+own_step room s command.Df = own_says s _ tt
+own_step room s (command.SnapTake name) = own_passing s (take_tests s name) _ (refl, (refl, (refl, tt))) (λ answer new need done errno is. good_own reply.Done tt errno (sym done.0 ∙ is))
+own_step room s (command.SnapDelete name) = own_passing s ((is_none (frozen s name), NOSNAP) ∷ []) _ (refl, tt) (λ answer new need done errno is. good_own reply.Done tt errno (sym done.0 ∙ is))
+own_step room s command.SnapList = own_says s _ tt
+own_step room s (command.Within name c) = own_views s name c
+
+pub refuses_by_its_own : RefusesByItsOwn
+refuses_by_its_own room s new c need errno done = (own_step room s c (reply.Refused errno) new need done errno refl).0
+
+pub refusals_change_nothing : RefusalsChangeNothing
+refusals_change_nothing room s new c need errno done =
+    let refusal = own_step room s c (reply.Refused errno) new need done errno refl in
+    (refusal.1, refusal.2)

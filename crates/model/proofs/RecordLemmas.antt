@@ -1,0 +1,369 @@
+-- What a record does to a volume is what it says of the tree.
+use Rattle.std.proofs.Common.{◌≡◌, ◌≢◌, ◌⊎◌, inl, inr, ℕ, zero, suc, ◌+◌, ◌≤◌, ◌<◌, ◌==◌, arith, List, [], ◌∷◌, ◌++◌, Bool, true, false, ◌||◌, Option, Some, None, refl, sym, ap, ◌∙◌}
+use Rattle.std.specs.Prelude.{if◌then◌else◌, unwrap_or}
+use Rattle.std.proofs.Math.Path.{fun_ext}
+use Rattle.std.proofs.lemmas.Bool.{cases_eq, cases_lt, cond_both, eqb-true, false≢true}
+use Rattle.model.specs.Paths.{Name, Path}
+use Rattle.model.specs.Trees as trees
+use Rattle.model.specs.Trees.{Tree, Object, number, Description, IsUsed}
+use Rattle.model.specs.Edits.{contents, resized, written, put_at, without_object}
+use Rattle.model.specs.Volumes.{Node, directory_node, file_node, link_node, Volume, names_in, entries, number_at, object_of, object_at, bytes_of, mode_of, tree_of, with_node, set_name, with_entry, is_file_node, is_directory_node, is_nameless, IsGraph, IsVolume, with_name_more, released, created, linked, unnamed, is_open, swept_node, swept, IsMounted}
+use Rattle.model.specs.Records.{Made, file, directory, symbolic_link, Change, create, link, unname, rename, write, cut, change_mode, node_of, with_file_bytes, with_node_mode, applied, CanCreate, CanLink, Applies}
+use Rattle.model.specs.Changes.{IsAt, with_made, ChangesTree, TakesFreeNumber}
+use Rattle.model.specs.Laws.{RecordsChangeTrees, VolumesAreTrees}
+use Rattle.model.proofs.VolumeLemmas.{enters_directory}
+use Rattle.model.proofs.KeptLemmas.{Kept, kept_through, entry_keeps, released_keeps, keeps, node-here, node-other}
+use Rattle.model.proofs.PutLemmas.{objects-created, objects-linked, objects-unnamed, entries-node}
+use Rattle.model.proofs.UnnameLemmas.{volume-unnamed, unnamed_used}
+use Rattle.model.proofs.SweepLemmas.{swept_from, stays_open, found_open}
+use Rattle.model.proofs.RenameLemmas.{renamed_swept}
+use Rattle.model.proofs.OnceLemmas.{trees_same}
+use Rattle.model.proofs.AddLemmas.{more_kept, vacant_unnamed}
+use Rattle.model.proofs.MoveLemmas.{path_to, from_path, to_path, is_move, made_bare, bytes_names, bytes_by, mode_names, mode_file}
+use Rattle.model.proofs.MountedLemmas.{tree_of_is_tree, node_directory, node_file}
+
+-- what stays swept
+
+swept_as : (b : Bool) (o r : Option Node) → is_nameless r ≡ is_nameless o → swept_node b o ≡ o → swept_node b r ≡ r
+swept_as b o None same is = refl
+swept_as b o (Some (directory_node mode names)) same is = refl
+swept_as true o (Some (file_node mode zero bytes)) same is = refl
+swept_as false o (Some (file_node mode zero bytes)) same is = absurd (gone o (sym same) is)
+  where
+    gone : (o : Option Node) → is_nameless o ≡ true → swept_node false o ≡ o → ⊥
+    gone None nameless is = false≢true nameless
+    gone (Some (directory_node mode names)) nameless is = false≢true nameless
+    gone (Some (file_node mode zero bytes)) nameless is = cc
+    gone (Some (file_node mode (suc links) bytes)) nameless is = false≢true nameless
+    gone (Some (link_node text)) nameless is = false≢true nameless
+swept_as b o (Some (file_node mode (suc links) bytes)) same is = refl
+swept_as b o (Some (link_node text)) same is = refl
+
+stays_named : (b : Bool) (o : Option Node) → is_nameless o ≡ false → swept_node b o ≡ o
+stays_named b o named = swept_as b None o named refl
+
+pub swept_twice : (b : Bool) (o : Option Node) → swept_node b (swept_node b o) ≡ swept_node b o
+swept_twice b None = refl
+swept_twice b (Some (directory_node mode names)) = refl
+swept_twice true (Some (file_node mode zero bytes)) = refl
+swept_twice false (Some (file_node mode zero bytes)) = refl
+swept_twice b (Some (file_node mode (suc links) bytes)) = refl
+swept_twice b (Some (link_node text)) = refl
+
+-- where each object is swept, so is the volume
+same_volume : (v w : Volume) → ((n : ℕ) → v n ≡ w n) → v ≡ w
+same_volume v w same = fun_ext {f = v} {g = w} same
+
+set_nameless : (x : Name) (to : Option ℕ) (o : Option Node) → is_nameless (set_name x to o) ≡ is_nameless o
+set_nameless x to None = refl
+set_nameless x to (Some (directory_node mode names)) = refl
+set_nameless x to (Some (file_node mode zero bytes)) = refl
+set_nameless x to (Some (file_node mode (suc links) bytes)) = refl
+set_nameless x to (Some (link_node text)) = refl
+
+entry_nameless : (v : Volume) (d : ℕ) (x : Name) (to : Option ℕ) (m : ℕ) → is_nameless (with_entry d x to v m) ≡ is_nameless (v m)
+entry_nameless v d x to m =
+    elim (cases_eq m d) [
+      | inl is ↦ ap (λ k. is_nameless (with_entry d x to v k)) is ∙ ap is_nameless (node-here d (set_name x to (v d)) v) ∙ set_nameless x to (v d) ∙ ap (λ k. is_nameless (v k)) (sym is)
+      | inr other ↦ ap is_nameless (node-other d m (set_name x to (v d)) v other)
+    ]
+
+more_named : (o : Option Node) → is_nameless (with_name_more o) ≡ false
+more_named None = refl
+more_named (Some (directory_node mode names)) = refl
+more_named (Some (file_node mode links bytes)) = named (links + 1) (omega arith)
+  where
+    named : (n : ℕ) → 1 ≤ n → is_nameless (Some (file_node mode n bytes)) ≡ false
+    named zero low = absurd (omega (arith, low))
+    named (suc n) low = refl
+more_named (Some (link_node text)) = refl
+
+made_named : (made : Made) → is_nameless (Some (node_of made)) ≡ false
+made_named (file mode) = refl
+made_named (directory mode) = refl
+made_named (symbolic_link text) = refl
+
+bytes_nameless : (f : List ℕ → List ℕ) (o : Option Node) → is_nameless (with_file_bytes f o) ≡ is_nameless o
+bytes_nameless f None = refl
+bytes_nameless f (Some (directory_node mode names)) = refl
+bytes_nameless f (Some (file_node mode zero bytes)) = refl
+bytes_nameless f (Some (file_node mode (suc links) bytes)) = refl
+bytes_nameless f (Some (link_node text)) = refl
+
+mode_nameless : (bits : ℕ) (o : Option Node) → is_nameless (with_node_mode bits o) ≡ is_nameless o
+mode_nameless bits None = refl
+mode_nameless bits (Some (directory_node mode names)) = refl
+mode_nameless bits (Some (file_node mode zero bytes)) = refl
+mode_nameless bits (Some (file_node mode (suc links) bytes)) = refl
+mode_nameless bits (Some (link_node text)) = refl
+
+-- a choice by a test, through a function
+chosen : {X Y : Type 0} (f : X → Y) (b : Bool) (x y : X) → f (if b then x else y) ≡ (if b then f x else f y)
+chosen f true x y = refl
+chosen f false x y = refl
+
+-- what is open is a file still
+module _ (v new : Volume) (table : ℕ → Option Description) (mounted : IsMounted v table) (files : (n : ℕ) → is_file_node (v n) ≡ true → is_file_node (new n) ≡ true) where
+  open_stays : (n : ℕ) → is_open table 32 n ≡ true → swept table new n ≡ new n
+  open_stays n is = ap (λ b. swept_node b (new n)) is ∙ stays_open (new n)
+
+  pub still_mounted : IsMounted (swept table new) table
+  still_mounted = record {
+    files = λ d f is.
+        let low : d < 32 = elim (cases_lt d 32) [ inl below ↦ below | inr past ↦ let none : None ≡ Some f = sym (mounted.bounded d past) ∙ is in cc ] in
+        ap is_file_node (open_stays f.number (found_open table 32 d f.number f low is refl)) ∙ files f.number (mounted.files d f is);
+    is_swept = λ n. swept_twice (is_open table 32 n) (new n);
+    bounded = mounted.bounded;
+    offsets = mounted.offsets;
+  }
+
+-- nothing is dropped where nothing became nameless
+unswept : (v new : Volume) (table : ℕ → Option Description) → IsMounted v table → ((n : ℕ) → (is_nameless (new n) ≡ false) ⊎ (is_nameless (new n) ≡ is_nameless (v n))) → swept table new ≡ new
+unswept v new table mounted named =
+    same_volume (swept table new) new (λ n.
+    elim (named n) [
+      | inl is ↦ stays_named (is_open table 32 n) (new n) is
+      | inr same ↦ swept_as (is_open table 32 n) (v n) (new n) same (mounted.is_swept n)
+    ])
+
+module _ (inodes : ℕ) (v : Volume) (volume : IsVolume inodes v) (table : ℕ → Option Description) (mounted : IsMounted v table) where
+  abbrev graph : IsGraph v
+  graph = volume.graph
+
+  abbrev t : Tree
+  t = tree_of v table
+
+  -- a directory stands at its path
+  is_at : (p : Path) (d : ℕ) → number_at (entries v) p ≡ Some d → is_directory_node (v d) ≡ true → IsAt t p d
+  is_at p d at_d d_is = ap (object_at v) at_d ∙ node_directory d (v d) d_is
+
+  -- a new object
+  module _ (number parent : ℕ) (made : Made) (name : Name) (can : CanCreate inodes v number parent made name) (free : v number ≡ None) where
+    abbrev new : Volume
+    new = created number parent name (node_of made) v
+
+    abbrev more : Volume
+    more = with_node number (Some (node_of made)) v
+
+    abbrev place : (p : Path) × (number_at (entries v) p ≡ Some parent)
+    place = path_to v graph parent can.takes.directory
+
+    abbrev q : Path
+    q = place.0 ++ name ∷ []
+
+    other_than_parent : number ≢ parent
+    other_than_parent e = false≢true (sym (ap is_directory_node free) ∙ ap (λ n. is_directory_node (v n)) e ∙ can.takes.directory)
+
+    not_root : number ≢ 3
+    not_root e = false≢true (sym (ap is_directory_node free) ∙ ap (λ n. is_directory_node (v n)) e ∙ graph.root)
+
+    objects : (tree_of new table).objects ≡ put_at q (object_of number (Some (node_of made))) t.objects
+    objects =
+        objects-created v graph place.0 name parent table place.1 can.takes.directory number (node_of made) can.takes.missing other_than_parent (λ x. ap (λ o. names_in o x) free) (made_bare made)
+        (vacant_unnamed v graph number can.vacant) not_root
+
+    -- what the nodes show: of the new one, and of the others as before
+    shown : {X : Type 0} (f : Option Node → X) → ((m : ℕ) → f (new m) ≡ f (more m)) → (m : ℕ) → f (new m) ≡ (if m == number then f (Some (node_of made)) else f (v m))
+    shown f same m = same m ∙ chosen f (m == number) (Some (node_of made)) (v m)
+
+    bytes : (m : ℕ) → bytes_of (new m) ≡ (if m == number then bytes_of (Some (node_of made)) else bytes_of (v m))
+    bytes = shown bytes_of (λ m. (entry_keeps parent name (Some number) more m).bytes)
+
+    modes : (m : ℕ) → mode_of (new m) ≡ (if m == number then mode_of (Some (node_of made)) else mode_of (v m))
+    modes = shown mode_of (λ m. (entry_keeps parent name (Some number) more m).mode)
+
+    as_before : {X : Type 0} (f : Option Node → Option X) → f None ≡ None → f (Some (node_of made)) ≡ None → (m : ℕ) → (if m == number then f (Some (node_of made)) else f (v m)) ≡ f (v m)
+    as_before f none same m =
+        cond_both (m == number) (f (Some (node_of made))) (f (v m)) (λ o. o ≡ f (v m)) (λ e. same ∙ sym none ∙ ap f (sym free) ∙ ap (λ n. f (v n)) (sym (eqb-true m number e))) (λ e. refl)
+
+    created_named : (m : ℕ) → (is_nameless (new m) ≡ false) ⊎ (is_nameless (new m) ≡ is_nameless (v m))
+    created_named m =
+        elim (cases_eq m number) [
+          | inl is ↦ inl (entry_nameless more parent name (Some number) m ∙ ap (λ k. is_nameless (more k)) is ∙ ap is_nameless (node-here number (Some (node_of made)) v) ∙ made_named made)
+          | inr other ↦ inr (entry_nameless more parent name (Some number) m ∙ ap is_nameless (node-other number m (Some (node_of made)) v other))
+        ]
+
+    pub created_swept : swept table new ≡ new
+    created_swept = unswept v new table mounted created_named
+
+    pub created_files : (n : ℕ) → is_file_node (v n) ≡ true → is_file_node (new n) ≡ true
+    created_files n is =
+        (entry_keeps parent name (Some number) more n).file
+        ∙ ap is_file_node (node-other number n (Some (node_of made)) v (λ e. false≢true (sym (ap is_file_node free) ∙ ap (λ k. is_file_node (v k)) (sym e) ∙ is))) ∙ is
+
+  makes_tree : (number parent : ℕ) (made : Made) (name : Name) (can : CanCreate inodes v number parent made name) (free : v number ≡ None) → tree_of (created number parent name (node_of made) v) table ≡ with_made made (q number parent made name can free) number t
+  makes_tree number parent (file mode) name can free =
+      trees_same (tree_of (created number parent name (node_of (file mode)) v) table) (with_made (file mode) (q number parent (file mode) name can free) number t)
+      (objects number parent (file mode) name can free) (fun_ext (bytes number parent (file mode) name can free)) (fun_ext (modes number parent (file mode) name can free)) refl
+  makes_tree number parent (directory mode) name can free =
+      trees_same (tree_of (created number parent name (node_of (directory mode)) v) table) (with_made (directory mode) (q number parent (directory mode) name can free) number t)
+      (objects number parent (directory mode) name can free) (fun_ext (λ m. bytes number parent (directory mode) name can free m ∙ as_before number parent (directory mode) name can free bytes_of refl refl m)) (fun_ext (modes number parent (directory mode) name can free)) refl
+  makes_tree number parent (symbolic_link text) name can free =
+      trees_same (tree_of (created number parent name (node_of (symbolic_link text)) v) table) (with_made (symbolic_link text) (q number parent (symbolic_link text) name can free) number t)
+      (objects number parent (symbolic_link text) name can free) (fun_ext (λ m. bytes number parent (symbolic_link text) name can free m ∙ as_before number parent (symbolic_link text) name can free bytes_of refl refl m))
+      (fun_ext (λ m. modes number parent (symbolic_link text) name can free m ∙ as_before number parent (symbolic_link text) name can free mode_of refl refl m)) refl
+
+  -- one more name
+  module _ (number parent : ℕ) (name : Name) (can : CanLink v number parent name) where
+    abbrev linked_now : Volume
+    linked_now = linked number parent name v
+
+    link_place : (p : Path) × (number_at (entries v) p ≡ Some parent)
+    link_place = path_to v graph parent can.takes.directory
+
+    link_kept : (m : ℕ) → Kept (v m) (linked_now m)
+    link_kept m = kept_through (v m) (with_node number (with_name_more (v number)) v m) (linked_now m) (more_kept v number m) (entry_keeps parent name (Some number) (with_node number (with_name_more (v number)) v) m)
+
+    links_tree : (p : Path) × IsAt t p parent × (tree_of linked_now table ≡ record t { objects = put_at (p ++ name ∷ []) (Some (trees.file number)) t.objects })
+    links_tree = (
+      link_place.0,
+      is_at link_place.0 parent link_place.1 can.takes.directory,
+      trees_same (tree_of linked_now table) (record t { objects = put_at (link_place.0 ++ name ∷ []) (Some (trees.file number)) t.objects })
+          (objects-linked v graph link_place.0 name parent table link_place.1 can.takes.directory number can.takes.missing (ap is_file_node can.file)
+          ∙ ap (λ o. put_at (link_place.0 ++ name ∷ []) o t.objects) (node_file number (v number) (ap is_file_node can.file)))
+          (fun_ext (λ m. (link_kept m).bytes)) (fun_ext (λ m. (link_kept m).mode)) refl,
+    )
+
+    linked_named : (m : ℕ) → (is_nameless (linked_now m) ≡ false) ⊎ (is_nameless (linked_now m) ≡ is_nameless (v m))
+    linked_named m =
+        elim (cases_eq m number) [
+          | inl is ↦ inl (entry_nameless (with_node number (with_name_more (v number)) v) parent name (Some number) m ∙ ap (λ k. is_nameless (with_node number (with_name_more (v number)) v k)) is ∙ ap is_nameless (node-here number (with_name_more (v number)) v) ∙ more_named (v number))
+          | inr other ↦ inr (entry_nameless (with_node number (with_name_more (v number)) v) parent name (Some number) m ∙ ap is_nameless (node-other number m (with_name_more (v number)) v other))
+        ]
+
+    linked_swept : swept table linked_now ≡ linked_now
+    linked_swept = unswept v linked_now table mounted linked_named
+
+  -- one object changes but for its kind, its names and its links
+  module _ (n : ℕ) (o : Option Node) (names : (x : Name) → names_in o x ≡ names_in (v n) x) (object : (m : ℕ) → object_of m o ≡ object_of m (v n)) (nameless : is_nameless o ≡ is_nameless (v n)) where
+    abbrev altered : Volume
+    altered = with_node n o v
+
+    by_node : {X : Type 0} (f : Option Node → X) → f o ≡ f (v n) → (m : ℕ) → f (altered m) ≡ f (v m)
+    by_node f same m =
+        elim (cases_eq m n) [
+          | inl is ↦ ap (λ k. f (altered k)) is ∙ ap f (node-here n o v) ∙ same ∙ ap (λ k. f (v k)) (sym is)
+          | inr other ↦ ap f (node-other n m o v other)
+        ]
+
+    altered_at : (r : Option ℕ) → object_at altered r ≡ object_at v r
+    altered_at None = refl
+    altered_at (Some m) = by_node (object_of m) (object m) m
+
+    altered_objects : (tree_of altered table).objects ≡ t.objects
+    altered_objects = fun_ext (λ r. ap (λ e. object_at altered (number_at e r)) (entries-node n o v names) ∙ altered_at (number_at (entries v) r))
+
+    altered_swept : swept table altered ≡ altered
+    altered_swept = unswept v altered table mounted (λ m. inr (by_node is_nameless nameless m))
+
+  bytes_object : (f : List ℕ → List ℕ) (o : Option Node) (m : ℕ) → object_of m (with_file_bytes f o) ≡ object_of m o
+  bytes_object f o m = bytes_by (object_of m) (λ mode links a b. refl) f o
+
+  bytes_here : (f : List ℕ → List ℕ) (o : Option Node) → is_file_node o ≡ true → bytes_of (with_file_bytes f o) ≡ Some (f (unwrap_or (bytes_of o) []))
+  bytes_here f None is = absurd (false≢true is)
+  bytes_here f (Some (directory_node mode names)) is = absurd (false≢true is)
+  bytes_here f (Some (file_node mode links bytes)) is = refl
+  bytes_here f (Some (link_node text)) is = absurd (false≢true is)
+
+  bytes_mode : (f : List ℕ → List ℕ) (o : Option Node) → mode_of (with_file_bytes f o) ≡ mode_of o
+  bytes_mode f o = bytes_by mode_of (λ mode links a b. refl) f o
+
+  -- a file's bytes change
+  module _ (n : ℕ) (f : List ℕ → List ℕ) (is : is_file_node (v n) ≡ true) where
+    bytes_swept : swept table (with_node n (with_file_bytes f (v n)) v) ≡ with_node n (with_file_bytes f (v n)) v
+    bytes_swept = altered_swept n (with_file_bytes f (v n)) (bytes_names f (v n)) (bytes_object f (v n)) (bytes_nameless f (v n))
+
+    bytes_tree : tree_of (with_node n (with_file_bytes f (v n)) v) table ≡ record t { bytes = λ k. if k == n then Some (f (contents t n)) else t.bytes k }
+    bytes_tree =
+        trees_same (tree_of (with_node n (with_file_bytes f (v n)) v) table) (record t { bytes = λ k. if k == n then Some (f (contents t n)) else t.bytes k })
+        (altered_objects n (with_file_bytes f (v n)) (bytes_names f (v n)) (bytes_object f (v n)) (bytes_nameless f (v n)))
+        (fun_ext (λ k. chosen bytes_of (k == n) (with_file_bytes f (v n)) (v k) ∙ ap (λ b. if k == n then b else t.bytes k) (bytes_here f (v n) is)))
+        (fun_ext (λ k. by_node n (with_file_bytes f (v n)) (bytes_names f (v n)) (bytes_object f (v n)) (bytes_nameless f (v n)) mode_of (bytes_mode f (v n)) k)) refl
+
+  mode_object : (bits : ℕ) (o : Option Node) (m : ℕ) → object_of m (with_node_mode bits o) ≡ object_of m o
+  mode_object bits None m = refl
+  mode_object bits (Some (directory_node mode names)) m = refl
+  mode_object bits (Some (file_node mode links bytes)) m = refl
+  mode_object bits (Some (link_node text)) m = refl
+
+  mode_here : (bits : ℕ) (o : Option Node) → (is_file_node o || is_directory_node o) ≡ true → mode_of (with_node_mode bits o) ≡ Some bits
+  mode_here bits None is = absurd (false≢true is)
+  mode_here bits (Some (directory_node mode names)) is = refl
+  mode_here bits (Some (file_node mode links bytes)) is = refl
+  mode_here bits (Some (link_node text)) is = absurd (false≢true is)
+
+  mode_bytes : (bits : ℕ) (o : Option Node) → bytes_of (with_node_mode bits o) ≡ bytes_of o
+  mode_bytes bits None = refl
+  mode_bytes bits (Some (directory_node mode names)) = refl
+  mode_bytes bits (Some (file_node mode links bytes)) = refl
+  mode_bytes bits (Some (link_node text)) = refl
+
+  -- a mode changes
+  module _ (n bits : ℕ) (is : (is_file_node (v n) || is_directory_node (v n)) ≡ true) where
+    modes_swept : swept table (with_node n (with_node_mode bits (v n)) v) ≡ with_node n (with_node_mode bits (v n)) v
+    modes_swept = altered_swept n (with_node_mode bits (v n)) (mode_names bits (v n)) (mode_object bits (v n)) (mode_nameless bits (v n))
+
+    modes_tree : tree_of (with_node n (with_node_mode bits (v n)) v) table ≡ record t { mode = λ k. if k == n then Some bits else t.mode k }
+    modes_tree =
+        trees_same (tree_of (with_node n (with_node_mode bits (v n)) v) table) (record t { mode = λ k. if k == n then Some bits else t.mode k })
+        (altered_objects n (with_node_mode bits (v n)) (mode_names bits (v n)) (mode_object bits (v n)) (mode_nameless bits (v n)))
+        (fun_ext (λ k. by_node n (with_node_mode bits (v n)) (mode_names bits (v n)) (mode_object bits (v n)) (mode_nameless bits (v n)) bytes_of (mode_bytes bits (v n)) k))
+        (fun_ext (λ k. chosen mode_of (k == n) (with_node_mode bits (v n)) (v k) ∙ ap (λ b. if k == n then b else t.mode k) (mode_here bits (v n) is))) refl
+
+  -- what a record does to the tree
+  changes_tree : (change : Change) → Applies inodes v change → TakesFreeNumber v change → ChangesTree change t (tree_of (swept table (applied change v)) table)
+  changes_tree (create number parent made name) can free =
+      let place = path_to v graph parent can.takes.directory in
+      (place.0, is_at place.0 parent place.1 can.takes.directory, ap (λ w. tree_of w table) (created_swept number parent made name can free) ∙ makes_tree number parent made name can free)
+  changes_tree (link number parent name) can free =
+      let one = links_tree number parent name can in
+      (one.0, one.1, ap (λ w. tree_of w table) (linked_swept number parent name can) ∙ one.2)
+  changes_tree (unname parent name) can free =
+      let is = enters_directory (v parent) name can.number can.there in
+      let place = path_to v graph parent is in (
+        place.0,
+        is_at place.0 parent place.1 is,
+        swept_from (unnamed parent name v) (volume-unnamed v graph place.0 name parent can.number place.1 is can.there can.empty) table mounted.bounded (without_object (place.0 ++ name ∷ []) t)
+            (objects-unnamed v graph place.0 name parent table place.1 is can.number can.there can.empty) refl
+            (λ m used. let same = unnamed_used v graph place.0 name parent can.number place.1 is can.there can.empty table mounted.files m used in (same.bytes, same.mode)),
+      )
+  changes_tree (rename parent name new_parent new_name) can free =
+      let from = from_path v graph parent name new_parent new_name can in
+      let to = to_path v graph parent name new_parent new_name can in
+      let m = is_move v graph parent name new_parent new_name can in (
+        from.0,
+        to.0,
+        is_at from.0 parent from.1 m.d_is,
+        is_at to.0 new_parent to.1 m.k_is,
+        renamed_swept v graph table mounted.bounded mounted.files from.0 to.0 name new_name parent new_parent can.number m.at_d m.at_k m.there m.d_is m.k_is m.empty m.outside m.other m.distinct m.name,
+      )
+  changes_tree (write number offset bytes) can free = ap (λ w. tree_of w table) (bytes_swept number (written offset bytes) can.0) ∙ bytes_tree number (written offset bytes) can.0
+  changes_tree (cut number size) can free = ap (λ w. tree_of w table) (bytes_swept number (resized size) can.0) ∙ bytes_tree number (resized size) can.0
+  changes_tree (change_mode number mode) can free = ap (λ w. tree_of w table) (modes_swept number mode can.0) ∙ modes_tree number mode can.0
+
+  -- what was a file is one still
+  files_stay : (change : Change) → Applies inodes v change → TakesFreeNumber v change → (n : ℕ) → is_file_node (v n) ≡ true → is_file_node (applied change v n) ≡ true
+  files_stay (create number parent made name) can free n is = created_files number parent made name can free n is
+  files_stay (link number parent name) can free n is = (link_kept number parent name can n).file ∙ is
+  files_stay (unname parent name) can free n is =
+      (kept_through (v n) (released (entries v parent name) v n) (unnamed parent name v n) (released_keeps (entries v parent name) v n (λ there. is)) (entry_keeps parent name None (released (entries v parent name) v) n)).file ∙ is
+  files_stay (rename parent name new_parent new_name) can free n is =
+      let from = from_path v graph parent name new_parent new_name can in
+      let to = to_path v graph parent name new_parent new_name can in
+      let m = is_move v graph parent name new_parent new_name can in
+      (keeps v graph from.0 to.0 name new_name parent new_parent can.number m.at_d m.at_k m.there m.d_is m.k_is m.empty m.outside m.other n (λ there. is)).file ∙ is
+  files_stay (write number offset bytes) can free n is =
+      by_node number (with_file_bytes (written offset bytes) (v number)) (bytes_names (written offset bytes) (v number)) (bytes_object (written offset bytes) (v number)) (bytes_nameless (written offset bytes) (v number)) is_file_node (bytes_by is_file_node (λ mode links a b. refl) (written offset bytes) (v number)) n ∙ is
+  files_stay (cut number size) can free n is =
+      by_node number (with_file_bytes (resized size) (v number)) (bytes_names (resized size) (v number)) (bytes_object (resized size) (v number)) (bytes_nameless (resized size) (v number)) is_file_node (bytes_by is_file_node (λ mode links a b. refl) (resized size) (v number)) n ∙ is
+  files_stay (change_mode number mode) can free n is =
+      by_node number (with_node_mode mode (v number)) (mode_names mode (v number)) (mode_object mode (v number)) (mode_nameless mode (v number)) is_file_node (mode_file mode (v number)) n ∙ is
+
+pub records_change_trees : RecordsChangeTrees
+records_change_trees inodes v table change volume mounted can free = (
+  still_mounted v (applied change v) table mounted (files_stay inodes v volume table mounted change can free),
+  changes_tree inodes v volume table mounted change can free,
+)
+
+pub volumes_are_trees : VolumesAreTrees
+volumes_are_trees inodes v table volume mounted = tree_of_is_tree inodes v volume table mounted

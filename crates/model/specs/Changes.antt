@@ -1,0 +1,36 @@
+-- What a record says of a tree.
+use Rattle.std.specs.Prelude.{ℕ, ◌≡◌, Some, None, [], ◌∷◌, ◌++◌}
+use Rattle.model.specs.Paths.{Path}
+use Rattle.model.specs.Trees.{Tree}
+use Rattle.model.specs.Trees as trees
+use Rattle.model.specs.Edits.{contents, resized, written, with_object, without_object, with_mode, with_bytes, with_directory, with_file, moved, IsSwept}
+use Rattle.model.specs.Volumes.{Volume}
+use Rattle.model.specs.Records.{Made, file, directory, symbolic_link, Change, create, link, unname, rename, write, cut, change_mode}
+
+-- a directory of this number stands at the path
+abbrev pub IsAt : Tree → Path → ℕ → Type 0
+IsAt t p n = t.objects p ≡ Some (trees.directory n)
+
+abbrev pub with_made : Made → Path → ℕ → Tree → Tree
+with_made (file mode) p n = with_file p n mode
+with_made (directory mode) p n = with_directory p n mode
+with_made (symbolic_link text) p n = with_object p (trees.symlink n text)
+
+-- the tree that a record leaves, by paths: in the words of the calls
+abbrev pub ChangesTree : Change → Tree → Tree → Type 0
+ChangesTree (create number parent made name) old new =
+    (p : Path) × IsAt old p parent × (new ≡ with_made made (p ++ name ∷ []) number old)
+ChangesTree (link number parent name) old new =
+    (p : Path) × IsAt old p parent × (new ≡ with_object (p ++ name ∷ []) (trees.file number) old)
+ChangesTree (unname parent name) old new =
+    (p : Path) × IsAt old p parent × IsSwept (without_object (p ++ name ∷ []) old) new
+ChangesTree (rename parent name new_parent new_name) old new =
+    (p q : Path) × IsAt old p parent × IsAt old q new_parent × IsSwept (moved (p ++ name ∷ []) (q ++ new_name ∷ []) old) new
+ChangesTree (write number offset bytes) old new = new ≡ with_bytes number (written offset bytes (contents old number)) old
+ChangesTree (cut number size) old new = new ≡ with_bytes number (resized size (contents old number)) old
+ChangesTree (change_mode number mode) old new = new ≡ with_mode number mode old
+
+-- nothing has the number of what is made
+abbrev pub TakesFreeNumber : Volume → Change → Type 0
+TakesFreeNumber v (create number parent made name) = v number ≡ None
+TakesFreeNumber v change = Unit {0}

@@ -1,0 +1,119 @@
+-- The calls that change a tree by a path (POSIX.1-2017, mkdir(), symlink(), rmdir(), unlink(), link(), rename(), chmod(),
+-- truncate()), each with its tests in order.
+use Rattle.std.specs.Prelude.{ℕ, ℤ, nat_abs, ◌==◌, nat_le, nat_lt, not, ◌&&◌, ◌||◌, if◌then◌else◌, Bool, true, false, List, [], ◌∷◌, ◌++◌, length, Option, Some, None, is_some}
+use Rattle.std.specs.List.{list_any}
+use Rattle.model.specs.declared.limits.TheConstants.{PATH_BYTES, FILE_NAMES, GREATEST_FILE}
+use Rattle.model.specs.declared.errno.Errno.TheVariants.{ENOENT, ENOTDIR, EISDIR, EEXIST, EINVAL, ENAMETOOLONG, EPERM, EBUSY, ENOTEMPTY, EFBIG, EMLINK}
+use Rattle.model.specs.declared.reply.Reply.TheVariants.{Done}
+use Rattle.model.specs.Paths.{Path, Tests, text_tests, text_tests_then, new_text_tests, is_empty, is_root_text, begins_with, path_eq}
+use Rattle.model.specs.Trees.{Tree, Object, directory, symlink, file, is_directory}
+use Rattle.model.specs.Edits.{contents, resized, with_object, without_object, with_mode, with_bytes, with_directory, moved}
+use Rattle.model.specs.Resolution.{parent, resolve}
+use Rattle.model.specs.Room.{Need, nothing, logs, adds_name, removes_name, changes_size, changes_bits}
+use Rattle.model.specs.Outcomes.{Outcome, answers, refuses, changes, changes_swept, tested, either, leads, leads_to, with_names, with_place, with_fresh, with_links}
+use Rattle.model.specs.Reading.{is_negative}
+
+-- an object is made where nothing is: by `make`, given its path and its number
+abbrev pub creates : ℕ → Tree → List ℕ → (Path → ℕ → Tree → Tree) → Outcome
+creates inodes t path make =
+    tested t (new_text_tests path) (leads t (resolve t false path)
+    (λ p o. refuses t EEXIST)
+    (λ p name. with_place t p (with_fresh inodes t (λ n. changes Done (make (p ++ name ∷ []) n t) (logs adds_name)))))
+
+abbrev pub makes_directory : ℕ → Tree → List ℕ → ℕ → Outcome
+makes_directory inodes t path mode = creates inodes t path (λ p n. with_directory p n mode)
+
+-- the tests of a link's text
+abbrev pub link_text_tests : List ℕ → Tests
+link_text_tests text =
+    (is_empty text, ENOENT) ∷ (list_any (λ byte. byte == 0) text, EINVAL) ∷ (nat_lt PATH_BYTES (length text), ENAMETOOLONG) ∷ []
+
+abbrev pub makes_symlink : ℕ → Tree → List ℕ → List ℕ → Outcome
+makes_symlink inodes t text path =
+    tested t (link_text_tests text) (creates inodes t path (λ p n. with_object p (symlink n text)))
+
+-- a name is taken away
+abbrev pub removes : Tree → Path → Outcome
+removes t p = changes_swept Done (without_object p t) (logs removes_name)
+
+abbrev pub removes_directory : Tree → List ℕ → Outcome
+removes_directory t path =
+    tested t (new_text_tests path ++ (is_root_text path, EBUSY) ∷ [])
+    (leads_to t (resolve t false path) (λ p o. elim o [
+      | directory n ↦ with_names t p (λ names. tested t ((not (is_empty names), ENOTEMPTY) ∷ []) (removes t p))
+      | symlink n text ↦ refuses t ENOTDIR
+      | file n ↦ refuses t ENOTDIR
+    ]))
+
+abbrev pub unlinks : Tree → List ℕ → Outcome
+unlinks t path =
+    tested t (new_text_tests path) (leads_to t (resolve t false path) (λ p o. tested t ((is_directory (Some o), EPERM) ∷ []) (removes t p)))
+
+abbrev pub links : Tree → List ℕ → List ℕ → Outcome
+links t old path =
+    tested t (text_tests old ++ new_text_tests path) (leads_to t (resolve t false old) (λ p o. elim o [
+      | file n ↦ leads t (resolve t false path)
+          (λ q r. refuses t EEXIST)
+          (λ q name. with_links t (file n) (λ count. tested t ((nat_le FILE_NAMES count, EMLINK) ∷ []) (with_place t q (changes Done (with_object (q ++ name ∷ []) (file n) t) (logs adds_name)))))
+      | directory n ↦ refuses t EPERM
+      | symlink n text ↦ refuses t EPERM
+    ]))
+
+-- both are one file
+abbrev pub is_same_file : Object → Option Object → Bool
+is_same_file (file n) (Some (file k)) = n == k
+is_same_file o r = false
+
+-- the tests of a move of the object o from p to q, where r stands or nothing does
+abbrev pub move_tests : Path → Object → Path → Option Object → Tests
+move_tests p o q r =
+    (is_directory (Some o) && begins_with q p, EINVAL)
+    ∷ (is_directory (Some o) && is_some r && not (is_directory r), ENOTDIR)
+    ∷ (not (is_directory (Some o)) && is_directory r, EISDIR)
+    ∷ []
+
+-- a directory that is replaced is empty, and one that takes a new name has a place for it
+abbrev pub with_target : Tree → Path → Path → Option Object → Outcome → Outcome
+with_target t p q None rest = either (path_eq (parent p) (parent q)) rest (with_place t (parent q) rest)
+with_target t p q (Some (directory n)) rest = with_names t q (λ names. tested t ((not (is_empty names), ENOTEMPTY) ∷ []) rest)
+with_target t p q (Some r) rest = rest
+
+abbrev pub moves : Tree → Path → Object → Path → Outcome
+moves t p o q =
+    either (path_eq p q || is_same_file o (t.objects q)) (answers t Done)
+    (tested t (move_tests p o q (t.objects q)) (with_target t p q (t.objects q) (changes_swept Done (moved p q t) (logs adds_name))))
+
+abbrev pub renames : Tree → List ℕ → List ℕ → Outcome
+renames t old path =
+    tested t (new_text_tests old ++ new_text_tests path ++ (is_root_text old || is_root_text path, EBUSY) ∷ [])
+    (leads_to t (resolve t false old) (λ p o. leads t (resolve t false path) (λ q r. moves t p o q) (λ q name. moves t p o (q ++ name ∷ []))))
+
+abbrev pub changes_mode : Tree → List ℕ → ℕ → Outcome
+changes_mode t path mode =
+    tested t (text_tests path) (leads_to t (resolve t true path) (λ p o. elim o [
+      | directory n ↦ changes Done (with_mode n mode t) (logs changes_bits)
+      | file n ↦ changes Done (with_mode n mode t) (logs changes_bits)
+      | symlink n text ↦ λ _ _ _. ⊥  -- a final link is followed
+    ]))
+
+-- a file cut, or filled with zeros, to a size
+abbrev pub cut_to : ℕ → ℕ → Tree → Tree
+cut_to n size t = if size == length (contents t n) then t else with_bytes n (resized size (contents t n)) t
+
+-- what that needs: nothing where the file has the size
+abbrev pub need_of_cut : ℕ → ℕ → Tree → Need
+need_of_cut n size t = if size == length (contents t n) then nothing else logs (changes_size (length (contents t n)) size)
+
+abbrev pub cuts : Tree → ℕ → ℕ → Outcome
+cuts t n size = changes Done (cut_to n size t) (need_of_cut n size t)
+
+abbrev pub size_tests : ℤ → Tests
+size_tests size = (is_negative size, EINVAL) ∷ (nat_lt GREATEST_FILE (nat_abs size), EFBIG) ∷ []
+
+abbrev pub truncates : Tree → List ℕ → ℤ → Outcome
+truncates t path size =
+    tested t (text_tests_then (size_tests size) path) (leads_to t (resolve t true path) (λ p o. elim o [
+      | file n ↦ cuts t n (nat_abs size)
+      | directory n ↦ refuses t EISDIR
+      | symlink n text ↦ λ _ _ _. ⊥  -- a final link is followed
+    ]))

@@ -1,0 +1,87 @@
+-- Which reply and which new state a command may give, under what may come in its way.
+use Rattle.std.specs.Prelude.{◌≡◌, ◌⊎◌, ◌≢◌, Bool, false, MatchBool, IsTrue, Some, None}
+use Rattle.model.specs.declared.errno.Errno.TheVariants.{ENOSPC, ENOMEM, EIO, DAMAGED, FAILED}
+use Rattle.model.specs.declared.reply.Reply.{Reply}
+use Rattle.model.specs.declared.reply.Reply.TheVariants.{Done, Refused}
+use Rattle.model.specs.declared.command.Command.{Command}
+use Rattle.model.specs.declared.command.Command.TheVariants as command
+use Rattle.model.specs.Trees.{HasPath}
+use Rattle.model.specs.States.{State, going, failed, as_failed}
+use Rattle.model.specs.Room.{Room, Need, nothing, IsShort}
+use Rattle.model.specs.Steps.{WouldStep}
+
+-- what may come in the way of a command
+pub record Circumstances : Type 0 where
+  pub read_failed : Bool
+  pub write_failed : Bool  -- or a sync
+  -- no cause is told: of the answers ENOMEM and NoMemory no theorem says that a growth was refused
+  pub memory_refused : Bool
+  -- until room is reckoned: a record doesn't fit what is left of the log, or a consistency point found too few blocks
+  pub lacks_place : Bool
+  pub room : Room
+
+-- nothing comes in the way
+abbrev pub clear : Room → Circumstances
+clear room = record { read_failed = false; write_failed = false; memory_refused = false; lacks_place = false; room = room }
+
+-- a command is done
+abbrev pub IsDone : Circumstances → State → Command → Reply → State → Type 0
+IsDone c s command reply new = (need : Need) × WouldStep c.room s command reply new need
+
+-- It takes no memory and calls no device, so it is always done: `lseek`, `fsync`, `df`, and `close` but of a file that
+-- has no name.
+abbrev pub IsSure : State → Command → Type 0
+IsSure s (command.Lseek fd whence offset) = Unit {0}
+IsSure s (command.Fsync fd) = Unit {0}
+IsSure s command.Df = Unit {0}
+IsSure s (command.Close fd) = elim (s.tree.descriptors fd) [ Some f ↦ HasPath s.tree f.number | None ↦ Unit {0} ]
+IsSure s c = ⊥
+
+-- it is answered behind a consistency point
+abbrev pub IsSettling : Command → Type 0
+IsSettling command.Sync = Unit {0}
+IsSettling (command.SnapTake name) = Unit {0}
+IsSettling (command.SnapDelete name) = Unit {0}
+IsSettling c = ⊥
+
+-- behind such an answer the settled root has all that was done
+abbrev pub Settles : Circumstances → Command → Reply → Type 0
+Settles c command reply = IsSettling command → reply ≡ Done → IsTrue c.room.is_covered
+
+-- it stores something: it would log a record, or store all that changed
+abbrev pub IsStoring : Room → State → Command → Type 0
+IsStoring room s command =
+    (reply : Reply) × (new : State) × (need : Need) × WouldStep room s command reply new need
+    × ((need ≢ nothing) ⊎ (IsSettling command × (reply ≡ Done)))
+
+-- the room isn't enough for what the command would do
+abbrev pub IsShortFor : Room → State → Command → Type 0
+IsShortFor room s command =
+    (reply : Reply) × (new : State) × (need : Need) × WouldStep room s command reply new need × IsShort room need
+
+-- a reply that comes in place of the command's own
+abbrev pub IsExcused : Circumstances → State → Command → Reply → Type 0
+IsExcused c s command (Refused EIO) = IsTrue c.read_failed
+IsExcused c s command (Refused ENOMEM) = IsTrue c.memory_refused
+IsExcused c s command (Refused ENOSPC) = IsShortFor c.room s command ⊎ (IsTrue c.lacks_place × IsStoring c.room s command)
+IsExcused c s command reply = ⊥
+
+-- what a command that may fail comes to: a failed write fails the system; else the command is done, or nothing changes
+abbrev pub IsAnswered : Circumstances → State → Command → Reply → State → Type 0
+IsAnswered c s command reply new =
+    MatchBool c.write_failed ((reply ≡ Refused EIO) × (new ≡ as_failed s))
+    ((IsDone c s command reply new × Settles c command reply) ⊎ (IsExcused c s command reply × (new ≡ s)))
+
+-- The reply and the new state of a command, under these circumstances. A failed system answers FAILED and stays so.
+abbrev pub Allowed : Circumstances → State → Command → Reply → State → Type 0
+Allowed c s command reply new =
+    elim s.mark [
+      | failed ↦ (reply ≡ Refused FAILED) × (new ≡ s)
+      | going ↦ (IsSure s command × IsDone c s command reply new) ⊎ ((¬ IsSure s command) × IsAnswered c s command reply new)
+    ]
+
+-- What a command comes to on images that may open to no state: as the definitions allow, or a going system says DAMAGED
+-- and nothing changes.
+abbrev pub AllowedOrDamaged : Circumstances → State → Command → Reply → State → Type 0
+AllowedOrDamaged c s command reply new =
+    Allowed c s command reply new ⊎ ((s.mark ≡ going) × (reply ≡ Refused DAMAGED) × (new ≡ s))

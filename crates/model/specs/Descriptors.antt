@@ -1,0 +1,117 @@
+-- The calls on descriptors (POSIX.1-2017, open(), close(), read(), write(), lseek(), ftruncate(), fstat(), fsync()).
+use Rattle.std.specs.Prelude.{ℕ, ℤ, pos, nat_abs, ◌+ℤ◌, ◌+◌, nat_lt, not, ◌&&◌, ◌||◌, if◌then◌else◌, Bool, true, false, List, [], ◌∷◌, ◌++◌, length, Some, None}
+use Rattle.model.specs.declared.limits.TheConstants.{OPEN_FILES, GREATEST_FILE, GREATEST_OFFSET}
+use Rattle.model.specs.declared.errno.Errno.TheVariants.{ENOENT, EISDIR, EEXIST, EINVAL, EBADF, EMFILE, EFBIG, EOVERFLOW}
+use Rattle.model.specs.declared.reply.Reply.TheVariants as reply
+use Rattle.model.specs.declared.command.Flags.{Flags}
+use Rattle.model.specs.declared.command.Access.{Access}
+use Rattle.model.specs.declared.command.Access.TheVariants as access
+use Rattle.model.specs.declared.command.Whence.{Whence}
+use Rattle.model.specs.declared.command.Whence.TheVariants as whence
+use Rattle.model.specs.Paths.{Name, Path, Tests, text_tests_then, is_empty}
+use Rattle.model.specs.Trees.{Tree, Object, directory, symlink, file, Description}
+use Rattle.model.specs.Edits.{contents, read_at, written, with_bytes, with_file, with_descriptor}
+use Rattle.model.specs.Resolution.{resolve}
+use Rattle.model.specs.Room.{nothing, logs, adds_name, puts_bytes}
+use Rattle.model.specs.Outcomes.{Outcome, answers, refuses, changes, changes_swept, tested, either, leads, with_place, with_fresh, lowest_free, described}
+use Rattle.model.specs.Reading.{is_negative, is_too_many, tells_stat}
+use Rattle.model.specs.Changing.{cut_to, need_of_cut, cuts, size_tests}
+
+abbrev pub is_reading : Access → Bool
+is_reading access.Writing = false
+is_reading _ = true
+
+abbrev pub is_writing : Access → Bool
+is_writing access.Reading = false
+is_writing _ = true
+
+-- a new description of the file n, at offset 0
+abbrev pub described_by : ℕ → Flags → Description
+described_by n flags = record { number = n; offset = 0; reads = is_reading flags.access; writes = is_writing flags.access; appends = flags.appends }
+
+abbrev pub with_offset : ℕ → Description → ℕ → Tree → Tree
+with_offset fd f offset t = with_descriptor fd (Some (record f { offset = offset })) t
+
+-- an object stands there: a file is opened, and cut to no bytes where the flags say so
+abbrev pub opens_object : Tree → Object → Flags → ℕ → Outcome
+opens_object t o flags fd =
+    tested t ((flags.creates && flags.exclusive, EEXIST) ∷ []) (elim o [
+      | directory n ↦ refuses t EISDIR
+      | symlink n text ↦ λ _ _ _. ⊥  -- a final link is followed
+      | file n ↦ either flags.truncates
+          (changes (reply.Fd fd) (with_descriptor fd (Some (described_by n flags)) (cut_to n 0 t)) (need_of_cut n 0 t))
+          (changes (reply.Fd fd) (with_descriptor fd (Some (described_by n flags)) t) nothing)
+    ])
+
+-- nothing stands there: a file is made where the flags say so
+abbrev pub opens_new : ℕ → Tree → Path → Name → Flags → ℕ → ℕ → Outcome
+opens_new inodes t p name flags mode fd =
+    tested t ((not flags.creates, ENOENT) ∷ [])
+    (with_place t p (with_fresh inodes t (λ n. changes (reply.Fd fd) (with_descriptor fd (Some (described_by n flags)) (with_file (p ++ name ∷ []) n mode t)) (logs adds_name))))
+
+abbrev pub open_tests : Flags → Tests
+open_tests flags = (flags.exclusive && not flags.creates, EINVAL) ∷ (flags.truncates && not (is_writing flags.access), EINVAL) ∷ []
+
+abbrev pub opens : ℕ → Tree → List ℕ → Flags → ℕ → Outcome
+opens inodes t path flags mode =
+    tested t (text_tests_then (open_tests flags) path) (elim (lowest_free t.descriptors OPEN_FILES) [
+      | None ↦ refuses t EMFILE
+      | Some fd ↦ leads t (resolve t (not (flags.creates && flags.exclusive)) path)
+          (λ p o. opens_object t o flags fd)
+          (λ p name. opens_new inodes t p name flags mode fd)
+    ])
+
+abbrev pub closes : Tree → ℕ → Outcome
+closes t fd = described t fd (λ f. changes_swept reply.Done (with_descriptor fd None t) nothing)
+
+-- bytes from the offset on, which moves behind them
+abbrev pub reads : Tree → ℕ → ℕ → Outcome
+reads t fd count =
+    described t fd (λ f. tested t ((not f.reads, EBADF) ∷ (is_too_many count, EINVAL) ∷ [])
+    (let given = read_at f.offset count (contents t f.number) in changes (reply.Data given) (with_offset fd f (f.offset + length given) t) nothing))
+
+abbrev pub reads_from : Tree → ℕ → ℤ → ℕ → Outcome
+reads_from t fd offset count =
+    described t fd (λ f. tested t ((not f.reads, EBADF) ∷ (is_negative offset || is_too_many count, EINVAL) ∷ [])
+    (answers t (reply.Data (read_at (nat_abs offset) count (contents t f.number)))))
+
+-- data goes to an offset: where there is any and the file holds it, it is written, and what else changes is `also`
+abbrev pub puts : Tree → ℕ → ℕ → List ℕ → (Tree → Tree) → Outcome
+puts t n offset given also =
+    either (is_empty given) (answers t (reply.Wrote 0))
+    (tested t ((nat_lt GREATEST_FILE (offset + length given), EFBIG) ∷ [])
+    (changes (reply.Wrote (length given)) (also (with_bytes n (written offset given (contents t n)) t)) (logs (puts_bytes (length (contents t n)) offset (length given)))))
+
+-- to the offset, or behind the last byte; the offset moves behind the data
+abbrev pub writes : Tree → ℕ → List ℕ → Outcome
+writes t fd given =
+    described t fd (λ f. tested t ((not f.writes, EBADF) ∷ (is_too_many (length given), EINVAL) ∷ [])
+    (let offset = if f.appends then length (contents t f.number) else f.offset in puts t f.number offset given (with_offset fd f (offset + length given))))
+
+-- to this offset, also under append; the descriptor's own doesn't move
+abbrev pub writes_to : Tree → ℕ → ℤ → List ℕ → Outcome
+writes_to t fd offset given =
+    described t fd (λ f. tested t ((not f.writes, EBADF) ∷ (is_negative offset || is_too_many (length given), EINVAL) ∷ [])
+    (puts t f.number (nat_abs offset) given (λ after. after)))
+
+-- from where an offset counts
+abbrev pub base_of : Tree → Description → Whence → ℕ
+base_of t f whence.Set = 0
+base_of t f whence.Cur = f.offset
+base_of t f whence.End = length (contents t f.number)
+
+abbrev pub seeks : Tree → ℕ → Whence → ℤ → Outcome
+seeks t fd from offset =
+    described t fd (λ f. let place = pos (base_of t f from) +ℤ offset in
+    tested t ((is_negative place, EINVAL) ∷ (nat_lt GREATEST_OFFSET (nat_abs place), EOVERFLOW) ∷ [])
+    (changes (reply.At (nat_abs place)) (with_offset fd f (nat_abs place) t) nothing))
+
+abbrev pub truncates_open : Tree → ℕ → ℤ → Outcome
+truncates_open t fd size = described t fd (λ f. tested t ((not f.writes, EINVAL) ∷ size_tests size) (cuts t f.number (nat_abs size)))
+
+abbrev pub stats_open : Tree → ℕ → Outcome
+stats_open t fd = described t fd (λ f. tells_stat t (file f.number))
+
+-- every answered call is kept already
+abbrev pub syncs_open : Tree → ℕ → Outcome
+syncs_open t fd = described t fd (λ f. answers t reply.Done)

@@ -1,0 +1,66 @@
+-- What the changing calls make of a tree and of a file's bytes.
+use Rattle.std.specs.Prelude.{ℕ, ◌≡◌, ◌==◌, ◌+◌, ◌-◌, if◌then◌else◌, List, [], ◌++◌, length, take, drop, replicate, Option, Some, None, unwrap_or}
+use Rattle.model.specs.Paths.{Path, path_eq, behind}
+use Rattle.model.specs.Trees.{Tree, Object, directory, file, Description, IsUsed}
+
+-- the bytes cut, or filled with zeros, to this size
+abbrev pub resized : ℕ → List ℕ → List ℕ
+resized size bytes = take size bytes ++ replicate (size - length bytes) 0
+
+-- the bytes with data written at an offset; a gap before it is filled with zeros
+abbrev pub written : ℕ → List ℕ → List ℕ → List ℕ
+written offset given bytes = resized offset bytes ++ given ++ drop (offset + length given) bytes
+
+-- so many bytes from an offset on, as far as there are any
+abbrev pub read_at : ℕ → ℕ → List ℕ → List ℕ
+read_at offset count bytes = take count (drop offset bytes)
+
+-- a file's bytes
+abbrev pub contents : Tree → ℕ → List ℕ
+contents t n = unwrap_or (t.bytes n) []
+
+-- with o at p, or with nothing there
+abbrev pub put_at : {X : Type 0} → Path → Option X → (Path → Option X) → Path → Option X
+put_at p o f q = if path_eq q p then o else f q
+
+abbrev pub with_object : Path → Object → Tree → Tree
+with_object p o t = record t { objects = put_at p (Some o) t.objects }
+
+abbrev pub without_object : Path → Tree → Tree
+without_object p t = record t { objects = put_at p None t.objects }
+
+abbrev pub with_mode : ℕ → ℕ → Tree → Tree
+with_mode n mode t = record t { mode = λ k. if k == n then Some mode else t.mode k }
+
+abbrev pub with_bytes : ℕ → List ℕ → Tree → Tree
+with_bytes n bytes t = record t { bytes = λ k. if k == n then Some bytes else t.bytes k }
+
+abbrev pub with_descriptor : ℕ → Option Description → Tree → Tree
+with_descriptor d f t = record t { descriptors = λ k. if k == d then f else t.descriptors k }
+
+-- a new directory at a path, with its number and mode
+abbrev pub with_directory : Path → ℕ → ℕ → Tree → Tree
+with_directory p n mode t = with_object p (directory n) (with_mode n mode t)
+
+-- a new file, of no bytes
+abbrev pub with_file : Path → ℕ → ℕ → Tree → Tree
+with_file p n mode t = with_object p (file n) (with_mode n mode (with_bytes n [] t))
+
+abbrev pub relocate : {X : Type 0} → Option Path → Option Path → Path → (Path → Option X) → Path → Option X
+relocate (Some rest) o p f r = f (p ++ rest)
+relocate None (Some rest) p f r = None
+relocate None None p f r = f r
+
+-- what stood at p and below it stands at q and below it, in place of what stood there
+abbrev pub relocated : {X : Type 0} → Path → Path → (Path → Option X) → Path → Option X
+relocated p q f r = relocate (behind q r) (behind p r) p f r
+
+abbrev pub moved : Path → Path → Tree → Tree
+moved p q t = record t { objects = relocated p q t.objects }
+
+-- what has neither path nor descriptor any more has no bytes and no mode
+pub record IsSwept (old new : Tree) : Type 0 where
+  pub objects : new.objects ≡ old.objects
+  pub descriptors : new.descriptors ≡ old.descriptors
+  pub kept : (n : ℕ) → IsUsed old n → (new.bytes n ≡ old.bytes n) × (new.mode n ≡ old.mode n)
+  pub gone : (n : ℕ) → ¬ IsUsed old n → (new.bytes n ≡ None) × (new.mode n ≡ None)

@@ -1,0 +1,145 @@
+-- Laws of the definitions, which the functions of `laws.rt` name.
+use Rattle.std.specs.Prelude.{ℕ, ◌≡◌, ◌↔◌, ◌≤◌, ◌<◌, Bool, true, false, IsTrue, IsFalse, IsSome, Contains, List, [], length, Option, Some, None}
+use Rattle.model.specs.declared.limits.TheConstants.{LINKS_FOLLOWED, FIRST_NUMBER}
+use Rattle.model.specs.declared.errno.Errno.{Errno}
+use Rattle.model.specs.declared.errno.Errno.TheVariants.{ENOSPC, ENOMEM, EIO, DAMAGED, FAILED}
+use Rattle.model.specs.declared.reply.Reply.{Reply}
+use Rattle.model.specs.declared.reply.Reply.TheVariants.{Refused}
+use Rattle.model.specs.declared.command.Command.{Command}
+use Rattle.model.specs.Paths.{Path, parts, begins_with}
+use Rattle.model.specs.Trees.{Description, IsTree, file}
+use Rattle.model.specs.Resolution.{resolve}
+use Rattle.model.specs.Outcomes.{IsFresh, HasLinks}
+use Rattle.model.specs.Circumstances.{Circumstances}
+use Rattle.model.specs.Runs.{Runs, Spans}
+use Rattle.model.specs.Finding.{Trails, find_within, IsPlaceOf}
+use Rattle.model.specs.Room.{Room, Need, nothing}
+use Rattle.model.specs.States.{State, ForgetsOpenFiles}
+use Rattle.model.specs.Steps.{WouldStep}
+use Rattle.model.specs.Volumes.{Volume, file_node, entries, number_at, is_file_node, IsVolume, tree_of, swept, IsMounted}
+use Rattle.model.specs.Changes.{TakesFreeNumber, ChangesTree}
+use Rattle.model.specs.Records.{Change, applied, IsBelow, Applies, Replays, without_nameless, Extends, work_of}
+
+-- a refusal that tells of the command and the tree, and not of devices, memory or room
+abbrev pub is_own : Errno → Bool
+is_own ENOSPC = false
+is_own ENOMEM = false
+is_own EIO = false
+is_own DAMAGED = false
+is_own FAILED = false
+is_own _ = true
+
+-- where nothing comes in its way, a command refuses by its own errnos alone
+abbrev pub RefusesByItsOwn : Type 0
+RefusesByItsOwn =
+    (room : Room) (s new : State) (command : Command) (need : Need) (errno : Errno)
+    → WouldStep room s command (Refused errno) new need → IsTrue (is_own errno)
+
+-- and a refusal changes nothing
+abbrev pub RefusalsChangeNothing : Type 0
+RefusalsChangeNothing =
+    (room : Room) (s new : State) (command : Command) (need : Need) (errno : Errno)
+    → WouldStep room s command (Refused errno) new need → (new ≡ s) × (need ≡ nothing)
+
+-- A replayed volume follows the running one: a record that applies to this applies to that, and what the running volume
+-- drops at once, the replayed one may keep.
+abbrev pub ReplayFollows : Type 0
+ReplayFollows =
+    (inodes : ℕ) (running replayed : Volume) (table : ℕ → Option Description) (change : Change)
+    → Extends running replayed → Applies inodes running change
+    → Applies inodes replayed change × Extends (swept table (applied change running)) (applied change replayed)
+
+-- and once the files without names are dropped, both are the same
+abbrev pub ReplayEndsSame : Type 0
+ReplayEndsSame = (running replayed : Volume) → Extends running replayed → without_nameless replayed ≡ without_nameless running
+
+-- where nothing comes in its way, a command has at most one outcome
+abbrev pub HasOneOutcome : Type 0
+HasOneOutcome =
+    (room : Room) (s : State) (command : Command) (a b : Reply) (t u : State) (m n : Need)
+    → WouldStep room s command a t m → WouldStep room s command b u n → (a ≡ b) × (t ≡ u) × (m ≡ n)
+
+-- a record that applies leaves a volume
+abbrev pub RecordsKeepVolumes : Type 0
+RecordsKeepVolumes =
+    (inodes : ℕ) (v : Volume) (change : Change) → IsVolume inodes v → Applies inodes v change → IsVolume inodes (applied change v)
+
+-- and so does dropping what became nameless
+abbrev pub SweepsKeepVolumes : Type 0
+SweepsKeepVolumes = (inodes : ℕ) (v : Volume) (table : ℕ → Option Description) → IsVolume inodes v → IsVolume inodes (swept table v)
+
+-- Of a mounted volume, a record that applies leaves a mounted one once what became nameless is dropped, and it does to the
+-- tree what the call in whose words it is said does. A new object takes a number that nothing has.
+abbrev pub RecordsChangeTrees : Type 0
+RecordsChangeTrees =
+    (inodes : ℕ) (v : Volume) (table : ℕ → Option Description) (change : Change)
+    → IsVolume inodes v → IsMounted v table → Applies inodes v change → TakesFreeNumber v change
+    → IsMounted (swept table (applied change v)) table
+    × ChangesTree change (tree_of v table) (tree_of (swept table (applied change v)) table)
+
+-- the tree of a mounted volume is a tree
+abbrev pub VolumesAreTrees : Type 0
+VolumesAreTrees =
+    (inodes : ℕ) (v : Volume) (table : ℕ → Option Description) → IsVolume inodes v → IsMounted v table → IsTree inodes (tree_of v table)
+
+-- in a volume, resolution by numbers leads where resolution by paths does
+abbrev pub ResolvesByNumbers : Type 0
+ResolvesByNumbers =
+    (inodes : ℕ) (v : Volume) (table : ℕ → Option Description) (follow : Bool) (text : List ℕ)
+    → IsVolume inodes v → IsPlaceOf v (find_within LINKS_FOLLOWED v follow [] (parts text)) (resolve (tree_of v table) follow text)
+
+-- what isn't a file and isn't the root lies on the trail to a directory just where its path is a beginning of that one's
+abbrev pub TrailsTellBelow : Type 0
+TrailsTellBelow =
+    (inodes : ℕ) (v : Volume) (p w : Path) (trail : List ℕ) (n : ℕ)
+    → IsVolume inodes v → Trails (entries v) w trail → number_at (entries v) p ≡ Some n → IsFalse (is_file_node (v n)) → 1 ≤ length p
+    → Contains trail n ↔ IsTrue (begins_with w p)
+
+-- what lies below an object by its number is what lies below its path
+abbrev pub BelowIsByPaths : Type 0
+BelowIsByPaths =
+    (inodes : ℕ) (v : Volume) (p w : Path) (n k : ℕ)
+    → IsVolume inodes v → number_at (entries v) p ≡ Some n → number_at (entries v) w ≡ Some k → IsFalse (is_file_node (v k))
+    → IsBelow (entries v) n k ↔ IsTrue (begins_with w p)
+
+-- of a mounted volume, the least number that no object has is that of a new object
+abbrev pub VolumesTellFresh : Type 0
+VolumesTellFresh =
+    (inodes : ℕ) (v : Volume) (table : ℕ → Option Description) (n : ℕ) → IsVolume inodes v → IsMounted v table
+    → FIRST_NUMBER ≤ n → n < inodes → v n ≡ None → ((k : ℕ) → FIRST_NUMBER ≤ k → k < n → IsSome (v k)) → IsFresh inodes (tree_of v table) n
+
+-- and a file's count of names is its count of paths
+abbrev pub VolumesTellLinks : Type 0
+VolumesTellLinks =
+    (inodes : ℕ) (v : Volume) (table : ℕ → Option Description) (n mode links : ℕ) (bytes : List ℕ) → IsVolume inodes v
+    → v n ≡ Some (file_node mode links bytes) → HasLinks (tree_of v table) (file n) links
+
+-- a record costs the same in a replay
+abbrev pub ReplaysCostTheSame : Type 0
+ReplaysCostTheSame =
+    (inodes : ℕ) (running replayed : Volume) (change : Change)
+    → Extends running replayed → Applies inodes running change → work_of replayed change ≡ work_of running change
+
+-- commands that span a time are a run
+module _ {System : Type 0} (state_of : System → State) (Between : System → Command → System → Circumstances → Type 0) {Images : Type 0} (left_at : ℕ → Images → Type 0) (Opens : Images → State → Type 0) where
+  abbrev pub SpansAreRuns : Type 0
+  SpansAreRuns =
+      (steps : List (Command × Reply)) (f last : System) (a b : ℕ)
+      → Spans left_at Opens state_of Between f steps last a b → Runs state_of Between f steps last
+
+-- records that apply one after the other leave a volume
+abbrev pub ReplaysKeepVolumes : Type 0
+ReplaysKeepVolumes =
+    (inodes : ℕ) (v : Volume) (changes : List Change) (w : Volume) → IsVolume inodes v → Replays inodes v changes w → IsVolume inodes w
+
+-- a mount finds a mounted volume, with no file open
+abbrev pub MountsFind : Type 0
+MountsFind =
+    (inodes : ℕ) (w : Volume) → IsVolume inodes w
+    → IsVolume inodes (without_nameless w) × IsMounted (without_nameless w) (λ d. None)
+
+-- and its tree is that of the running volume with its open files forgotten
+abbrev pub MountsForget : Type 0
+MountsForget =
+    (inodes : ℕ) (running replayed : Volume) (table : ℕ → Option Description) → IsVolume inodes running → Extends running replayed
+    → ForgetsOpenFiles (tree_of running table) (tree_of (without_nameless replayed) (λ d. None))

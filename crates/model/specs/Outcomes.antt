@@ -1,0 +1,104 @@
+-- What a call comes to, step by step: its tests in order, what stands where its path leads, and at last its reply.
+use Rattle.std.specs.Prelude.{ℕ, zero, suc, ◌≡◌, ◌↔◌, ◌<◌, ◌≤◌, nat_le, is_none, if◌then◌else◌, Bool, true, false, IsSome, Option, Some, None, MatchOption, Contains, List, [], ◌∷◌, ◌++◌, length}
+use Rattle.std.specs.Ordering.{nat_cmp}
+use Rattle.std.specs.Cmp.Lexicographic.{slice_cmp}
+use Rattle.std.specs.List.Sorted.{IsStrictlySortedBy}
+use Rattle.model.specs.declared.limits.TheConstants.{DIRECTORY_NAMES, FIRST_NUMBER}
+use Rattle.model.specs.declared.errno.Errno.{Errno}
+use Rattle.model.specs.declared.errno.Errno.TheVariants.{ENOENT, EBADF, DIRFULL, NONUMBER}
+use Rattle.model.specs.declared.reply.Reply.{Reply}
+use Rattle.model.specs.declared.reply.Reply.TheVariants.{Refused}
+use Rattle.model.specs.Counting.{Counts}
+use Rattle.model.specs.Paths.{Name, Path, Tests, first_refusal}
+use Rattle.model.specs.Trees.{Tree, Object, directory, symlink, file, Description, IsUsed}
+use Rattle.model.specs.Edits.{IsSwept}
+use Rattle.model.specs.Resolution.{Resolution, named, missing, refused}
+use Rattle.model.specs.Room.{Need, nothing}
+
+-- a reply, the tree that the call leaves, and what it needs
+abbrev pub Outcome : Type 1
+Outcome = Reply → Tree → Need → Type 0
+
+-- this reply, and nothing changes
+abbrev pub answers : Tree → Reply → Outcome
+answers t answer reply new need = (reply ≡ answer) × (new ≡ t) × (need ≡ nothing)
+
+abbrev pub refuses : Tree → Errno → Outcome
+refuses t errno = answers t (Refused errno)
+
+-- this reply and this tree
+abbrev pub changes : Reply → Tree → Need → Outcome
+changes answer t cost reply new need = (reply ≡ answer) × (new ≡ t) × (need ≡ cost)
+
+-- this reply, and this tree without what has neither path nor descriptor any more
+abbrev pub changes_swept : Reply → Tree → Need → Outcome
+changes_swept answer t cost reply new need = (reply ≡ answer) × IsSwept t new × (need ≡ cost)
+
+-- the first of these tests that holds refuses the call
+abbrev pub tested : Tree → Tests → Outcome → Outcome
+tested t tests rest = elim (first_refusal tests) [ Some errno ↦ refuses t errno | None ↦ rest ]
+
+-- the one where the test holds, else the other
+abbrev pub either : Bool → Outcome → Outcome → Outcome
+either test this other = elim test [ true ↦ this | false ↦ other ]
+
+-- where a text leads: to what stands at a path, or to a name that is missing in a directory
+abbrev pub leads : Tree → Resolution → (Path → Object → Outcome) → (Path → Name → Outcome) → Outcome
+leads t (refused errno) there gone = refuses t errno
+leads t (missing p name) there gone = gone p name
+leads t (named p) there gone = elim (t.objects p) [ Some o ↦ there p o | None ↦ λ _ _ _. ⊥ ]  -- something stands there
+
+-- the same, and nothing may be missing
+abbrev pub leads_to : Tree → Resolution → (Path → Object → Outcome) → Outcome
+leads_to t r there = leads t r there (λ p name. refuses t ENOENT)
+
+-- the names in the directory at p, sorted by their bytes, each once
+pub record IsListing (t : Tree) (p : Path) (names : List Name) : Type 0 where
+  pub sorted : IsStrictlySortedBy (slice_cmp nat_cmp) names
+  pub whole : (name : Name) → Contains names name ↔ IsSome (t.objects (p ++ name ∷ []))
+
+-- with the names in a directory
+abbrev pub with_names : Tree → Path → (List Name → Outcome) → Outcome
+with_names t p rest reply new need = (names : List Name) × IsListing t p names × rest names reply new need
+
+-- a directory takes one more name
+abbrev pub with_place : Tree → Path → Outcome → Outcome
+with_place t p rest = with_names t p (λ names. tested t ((nat_le DIRECTORY_NAMES (length names), DIRFULL) ∷ []) rest)
+
+-- the number of a new object: the least one that it may take and that isn't used, of a file system of so many inodes
+pub record IsFresh (inodes : ℕ) (t : Tree) (n : ℕ) : Type 0 where
+  pub low : FIRST_NUMBER ≤ n
+  pub high : n < inodes
+  pub free : ¬ IsUsed t n
+  pub least : (k : ℕ) → FIRST_NUMBER ≤ k → k < n → IsUsed t k
+
+-- a new object finds no number
+abbrev pub HasNoFresh : ℕ → Tree → Type 0
+HasNoFresh inodes t = (k : ℕ) → FIRST_NUMBER ≤ k → k < inodes → IsUsed t k
+
+abbrev pub at_number : Tree → (ℕ → Outcome) → Option ℕ → Outcome
+at_number t rest None = refuses t NONUMBER
+at_number t rest (Some n) = rest n
+
+-- with the number of a new object
+abbrev pub with_fresh : ℕ → Tree → (ℕ → Outcome) → Outcome
+with_fresh inodes t rest reply new need =
+    (free : Option ℕ) × MatchOption free (HasNoFresh inodes t) (IsFresh inodes t) × at_number t rest free reply new need
+
+-- so many paths lead to an object: those of a file; a directory and a link show 1
+abbrev pub HasLinks : Tree → Object → ℕ → Type 0
+HasLinks t (directory n) count = count ≡ 1
+HasLinks t (symlink n text) count = count ≡ 1
+HasLinks t (file n) count = Counts (λ p. t.objects p ≡ Some (file n)) count
+
+abbrev pub with_links : Tree → Object → (ℕ → Outcome) → Outcome
+with_links t o rest reply new need = (count : ℕ) × HasLinks t o count × rest count reply new need
+
+-- the lowest descriptor that is free, of the first so many
+abbrev pub lowest_free : (ℕ → Option Description) → ℕ → Option ℕ
+lowest_free table zero = None
+lowest_free table (suc d) = elim (lowest_free table d) [ Some k ↦ Some k | None ↦ if is_none (table d) then Some d else None ]
+
+-- with the description of an open descriptor
+abbrev pub described : Tree → ℕ → (Description → Outcome) → Outcome
+described t d rest = elim (t.descriptors d) [ Some f ↦ rest f | None ↦ refuses t EBADF ]

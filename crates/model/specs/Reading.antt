@@ -1,0 +1,60 @@
+-- The calls that read by a path (POSIX.1-2017, stat(), readlink(), read()): the reply is a function of the tree.
+use Rattle.std.specs.Prelude.{ℕ, ℤ, pos, negsuc, nat_abs, true, false, Bool, nat_lt, ◌||◌, List, [], ◌∷◌, length, unwrap_or}
+use Rattle.model.specs.declared.limits.TheConstants.{TRANSFER_BYTES}
+use Rattle.model.specs.declared.errno.Errno.TheVariants.{ENOTDIR, EISDIR, EINVAL}
+use Rattle.model.specs.declared.reply.Reply.TheVariants as reply
+use Rattle.model.specs.declared.reply.Stat.{Stat}
+use Rattle.model.specs.declared.reply.Kind.TheVariants as kind
+use Rattle.model.specs.Paths.{text_tests, text_tests_then}
+use Rattle.model.specs.Trees.{Tree, Object, directory, symlink, file, number}
+use Rattle.model.specs.Edits.{contents, read_at}
+use Rattle.model.specs.Resolution.{resolve}
+use Rattle.model.specs.Outcomes.{Outcome, answers, refuses, tested, leads_to, with_names, with_links}
+
+abbrev pub is_negative : ℤ → Bool
+is_negative (pos n) = false
+is_negative (negsuc n) = true
+
+-- no more bytes at once
+abbrev pub is_too_many : ℕ → Bool
+is_too_many count = nat_lt TRANSFER_BYTES count
+
+abbrev pub shown_mode : Tree → Object → ℕ
+shown_mode t (symlink n text) = 0o777
+shown_mode t o = unwrap_or (t.mode (number o)) 0
+
+abbrev pub stat_of : Tree → Object → ℕ → Stat
+stat_of t (directory n) links = record { number = n; kind = kind.Dir; mode = shown_mode t (directory n); links = links; size = 0 }
+stat_of t (symlink n text) links = record { number = n; kind = kind.Link; mode = shown_mode t (symlink n text); links = links; size = length text }
+stat_of t (file n) links = record { number = n; kind = kind.File; mode = shown_mode t (file n); links = links; size = length (contents t n) }
+
+abbrev pub tells_stat : Tree → Object → Outcome
+tells_stat t o = with_links t o (λ links. answers t (reply.Stat (stat_of t o links)))
+
+abbrev pub stats : Tree → Bool → List ℕ → Outcome
+stats t follow path = tested t (text_tests path) (leads_to t (resolve t follow path) (λ p o. tells_stat t o))
+
+abbrev pub reads_link : Tree → List ℕ → Outcome
+reads_link t path =
+    tested t (text_tests path) (leads_to t (resolve t false path) (λ p o. elim o [
+      | symlink n text ↦ answers t (reply.Text text)
+      | directory n ↦ refuses t EINVAL
+      | file n ↦ refuses t EINVAL
+    ]))
+
+abbrev pub lists : Tree → List ℕ → Outcome
+lists t path =
+    tested t (text_tests path) (leads_to t (resolve t true path) (λ p o. elim o [
+      | directory n ↦ with_names t p (λ names. answers t (reply.Names names))
+      | symlink n text ↦ refuses t ENOTDIR
+      | file n ↦ refuses t ENOTDIR
+    ]))
+
+abbrev pub gets : Tree → List ℕ → ℤ → ℕ → Outcome
+gets t path offset count =
+    tested t (text_tests_then ((is_negative offset || is_too_many count, EINVAL) ∷ []) path)
+    (leads_to t (resolve t true path) (λ p o. elim o [
+      | file n ↦ answers t (reply.Data (read_at (nat_abs offset) count (contents t n)))
+      | directory n ↦ refuses t EISDIR
+      | symlink n text ↦ λ _ _ _. ⊥  -- a final link is followed
+    ]))

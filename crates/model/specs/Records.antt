@@ -1,0 +1,172 @@
+-- What the records of the log do to a volume, and when each applies.
+use Rattle.std.specs.Prelude.{ℕ, zero, suc, ◌≡◌, ◌≢◌, ◌⊎◌, ◌+◌, ◌*◌, ◌≤◌, ◌<◌, IsSome, Bool, true, false, IsTrue, ◌||◌, if◌then◌else◌, List, [], ◌∷◌, length, fold, unwrap_or, Option, Some, None}
+use Rattle.model.specs.declared.limits.TheConstants.{FIRST_NUMBER, FILE_NAMES, DIRECTORY_NAMES, TRANSFER_BYTES, GREATEST_FILE, MODE_BITS}
+use Rattle.model.specs.Counting.{Counts}
+use Rattle.model.specs.Paths.{Name, Path, IsName, IsLinkText}
+use Rattle.model.specs.Edits.{written, resized}
+use Rattle.model.specs.Room.{Room, Work, adds_name, removes_name, puts_bytes, changes_size, changes_bits, cost}
+use Rattle.model.specs.Volumes.{Node, directory_node, file_node, link_node, Volume, Entries, entries, enter, bytes_of, with_node, is_file_node, is_directory_node, is_nameless, created, linked, unnamed, renamed, swept_node}
+
+-- what is made
+pub data Made : Type 0 where
+  file : (mode : ℕ) → Made
+  directory : (mode : ℕ) → Made
+  symbolic_link : (text : List ℕ) → Made
+
+-- what a record says
+pub data Change : Type 0 where
+  create : (number parent : ℕ) → (made : Made) → (name : List ℕ) → Change
+  link : (number parent : ℕ) → (name : List ℕ) → Change
+  unname : (parent : ℕ) → (name : List ℕ) → Change
+  rename : (parent : ℕ) → (name : List ℕ) → (new_parent : ℕ) → (new_name : List ℕ) → Change
+  write : (number offset : ℕ) → (bytes : List ℕ) → Change
+  cut : (number size : ℕ) → Change
+  change_mode : (number mode : ℕ) → Change
+
+-- the object that is made, with its one name; a directory is empty
+abbrev pub node_of : Made → Node
+node_of (file mode) = file_node mode 1 []
+node_of (directory mode) = directory_node mode (λ x. None)
+node_of (symbolic_link text) = link_node text
+
+abbrev pub with_file_bytes : (List ℕ → List ℕ) → Option Node → Option Node
+with_file_bytes f (Some (file_node mode links bytes)) = Some (file_node mode links (f bytes))
+with_file_bytes f o = o
+
+abbrev pub with_node_mode : ℕ → Option Node → Option Node
+with_node_mode mode (Some (directory_node old names)) = Some (directory_node mode names)
+with_node_mode mode (Some (file_node old links bytes)) = Some (file_node mode links bytes)
+with_node_mode mode o = o
+
+-- the volume that a record leaves. A file without names stays in it
+abbrev pub applied : Change → Volume → Volume
+applied (create number parent made name) v = created number parent name (node_of made) v
+applied (link number parent name) v = linked number parent name v
+applied (unname parent name) v = unnamed parent name v
+applied (rename parent name new_parent new_name) v = renamed parent name new_parent new_name v
+applied (write number offset bytes) v = with_node number (with_file_bytes (written offset bytes) (v number)) v
+applied (cut number size) v = with_node number (with_file_bytes (resized size) (v number)) v
+applied (change_mode number mode) v = with_node number (with_node_mode mode (v number)) v
+
+-- the number k lies below n, or is it
+abbrev pub IsBelow : Entries → ℕ → ℕ → Type 0
+IsBelow e n k = (p : Path) × (fold (enter e) (Some n) p ≡ Some k)
+
+-- a directory that has no such name yet, and has place for one more
+pub record TakesName (v : Volume) (d : ℕ) (x : Name) : Type 0 where
+  pub directory : IsTrue (is_directory_node (v d))
+  pub missing : entries v d x ≡ None
+  pub name : IsName x
+  pub count : ℕ
+  pub counts : Counts (λ y. IsSome (entries v d y)) count
+  pub room : count < DIRECTORY_NAMES
+
+-- no names are in it
+abbrev pub IsEmpty : Volume → ℕ → Type 0
+IsEmpty v n = (x : Name) → entries v n x ≡ None
+
+-- the limits of what is made
+abbrev pub IsMade : Made → Type 0
+IsMade (file mode) = mode ≤ MODE_BITS
+IsMade (directory mode) = mode ≤ MODE_BITS
+IsMade (symbolic_link text) = IsLinkText text
+
+-- nothing has the number, or a file that has no name any more
+abbrev pub is_vacant : Option Node → Bool
+is_vacant None = true
+is_vacant o = is_nameless o
+
+pub record CanCreate (inodes : ℕ) (v : Volume) (number parent : ℕ) (made : Made) (name : Name) : Type 0 where
+  pub low : FIRST_NUMBER ≤ number
+  pub high : number < inodes
+  pub vacant : IsTrue (is_vacant (v number))
+  pub takes : TakesName v parent name
+  pub good : IsMade made
+
+pub record CanLink (v : Volume) (number parent : ℕ) (name : Name) : Type 0 where
+  pub mode : ℕ
+  pub links : ℕ
+  pub bytes : List ℕ
+  pub file : v number ≡ Some (file_node mode links bytes)
+  pub few : links < FILE_NAMES
+  pub takes : TakesName v parent name
+
+pub record CanUnname (v : Volume) (parent : ℕ) (name : Name) : Type 0 where
+  pub number : ℕ
+  pub there : entries v parent name ≡ Some number
+  pub empty : IsEmpty v number
+
+-- what may have the name before: nothing, where the directory has the object already or takes one more name; or another
+-- object of the kind, a directory only where it is empty
+abbrev pub CanReplace : Volume → ℕ → ℕ → Name → ℕ → Option ℕ → Type 0
+CanReplace v d k y n None = (d ≡ k) ⊎ TakesName v k y
+CanReplace v d k y n (Some m) = (m ≢ n) × (is_directory_node (v m) ≡ is_directory_node (v n)) × IsEmpty v m
+
+pub record CanRename (v : Volume) (d : ℕ) (x : Name) (k : ℕ) (y : Name) : Type 0 where
+  pub number : ℕ
+  pub there : entries v d x ≡ Some number
+  pub directory : IsTrue (is_directory_node (v k))
+  pub name : IsName y
+  pub outside : ¬ IsBelow (entries v) number k
+  pub replaces : CanReplace v d k y number (entries v k y)
+
+-- a record applies
+abbrev pub Applies : ℕ → Volume → Change → Type 0
+Applies inodes v (create number parent made name) = CanCreate inodes v number parent made name
+Applies inodes v (link number parent name) = CanLink v number parent name
+Applies inodes v (unname parent name) = CanUnname v parent name
+Applies inodes v (rename parent name new_parent new_name) = CanRename v parent name new_parent new_name
+Applies inodes v (write number offset bytes) =
+    IsTrue (is_file_node (v number)) × (1 ≤ length bytes) × (length bytes ≤ TRANSFER_BYTES) × (offset + length bytes ≤ GREATEST_FILE)
+Applies inodes v (cut number size) = IsTrue (is_file_node (v number)) × (size ≤ GREATEST_FILE)
+Applies inodes v (change_mode number mode) =
+    IsTrue (is_file_node (v number) || is_directory_node (v number)) × (mode ≤ MODE_BITS)
+
+-- records that apply one after the other lead from one volume to another
+abbrev pub Replays : ℕ → Volume → List Change → Volume → Type 0
+Replays inodes v [] w = w ≡ v
+Replays inodes v (change ∷ changes) w = Applies inodes v change × Replays inodes (applied change v) changes w
+
+-- behind the last record, no file is open
+abbrev pub without_nameless : Volume → Volume
+without_nameless v n = swept_node false (v n)
+
+-- A replayed volume has what the running one has, and beside it files without names, which the running one dropped when
+-- they were closed.
+pub record Extends (running replayed : Volume) : Type 0 where
+  pub kept : (n : ℕ) → IsSome (running n) → replayed n ≡ running n
+  pub rest : (n : ℕ) → running n ≡ None → IsTrue (is_vacant (replayed n))
+
+-- what a record makes a consistency point store
+abbrev pub work_of : Volume → Change → Work
+work_of v (create number parent made name) = adds_name
+work_of v (link number parent name) = adds_name
+work_of v (unname parent name) = removes_name
+work_of v (rename parent name new_parent new_name) = adds_name
+work_of v (write number offset bytes) = puts_bytes (length (unwrap_or (bytes_of (v number)) [])) offset (length bytes)
+work_of v (cut number size) = changes_size (length (unwrap_or (bytes_of (v number)) [])) size
+work_of v (change_mode number mode) = changes_bits
+
+-- what records cost that change a volume one after the other
+abbrev pub costs : Volume → List Change → ℕ
+costs v [] = 0
+costs v (change ∷ changes) = cost (work_of v change) + costs (applied change v) changes
+
+-- the files without names among the first so many numbers
+abbrev pub count_nameless : ℕ → Volume → ℕ
+count_nameless zero v = 0
+count_nameless (suc n) v = count_nameless n v + (if is_nameless (v n) then 1 else 0)
+
+-- the blocks that a consistency point may store for what the settled root doesn't cover: these records, and 4 for each file
+-- without names in the settled root's volume
+abbrev pub pledged_for : ℕ → Volume → List Change → ℕ
+pledged_for inodes settled changes = 4 * count_nameless inodes settled + costs settled changes
+
+-- the settled root has the volume as it is now, and covers every record
+abbrev pub IsCovered : Volume → Volume → List Change → Type 0
+IsCovered settled now changes = (settled ≡ now) × (changes ≡ [])
+
+-- the room that a system tells, whose settled root has one volume, with these records beside it, and which is another now
+pub record TellsRoom (inodes : ℕ) (settled now : Volume) (changes : List Change) (room : Room) : Type 0 where
+  pub pledged : room.pledged ≡ pledged_for inodes settled changes
+  pub covered : IsTrue room.is_covered → IsCovered settled now changes

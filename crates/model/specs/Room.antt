@@ -1,0 +1,53 @@
+-- The room of the disk: what a call asks of the blocks that are left.
+use Rattle.std.specs.Prelude.{ℕ, ◌+◌, ◌-◌, ◌*◌, ◌/◌, ◌<◌, nat_lt, if◌then◌else◌, Bool, IsTrue}
+
+-- what a record of the log makes a consistency point store
+pub data Work : Type 0 where
+  adds_name : Work  -- it creates, links or renames
+  removes_name : Work
+  puts_bytes : (size offset count : ℕ) → Work  -- so many bytes at an offset, into a file of this size
+  changes_size : (size to : ℕ) → Work
+  changes_bits : Work  -- of a mode
+
+-- the blocks of 4,096 bytes that so many bytes at an offset touch
+abbrev pub touched : ℕ → ℕ → ℕ
+touched offset count = (offset + count + 4095) / 4096 - offset / 4096
+
+-- the most blocks that a consistency point stores for a record
+abbrev pub cost : Work → ℕ
+cost adds_name = 24
+cost removes_name = 24
+cost (puts_bytes size offset count) = 2 * touched offset count + 6
+cost (changes_size size to) = 6
+cost changes_bits = 2
+
+-- the blocks that stay free behind it, so that files can still be taken away
+abbrev pub keep : Work → ℕ
+keep adds_name = 16
+keep removes_name = 0
+keep (puts_bytes size offset count) = 16
+keep (changes_size size to) = if nat_lt size to then 16 else 0
+keep changes_bits = 0
+
+-- the blocks that each consistency point stores whatever changed, on a disk of so many blocks
+abbrev pub fixed_of : ℕ → ℕ
+fixed_of blocks = (blocks + 1023) / 1024 + 4
+
+-- what a call asks of the room that is left
+pub data Need : Type 0 where
+  nothing : Need  -- it logs no record
+  logs : Work → Need
+  a_snapshot : Need  -- it takes one
+
+-- the room of the disk at an answer
+pub record Room : Type 0 where
+  pub blocks : ℕ
+  pub free : ℕ  -- the zero entries of the settled root's block map
+  pub pledged : ℕ  -- blocks that a consistency point may store for what the settled root doesn't cover
+  pub is_covered : Bool  -- the settled root has the tree as it is now, and no record stands beside it
+
+-- the room isn't enough, although the settled root covers all that was done
+abbrev pub IsShort : Room → Need → Type 0
+IsShort room nothing = ⊥
+IsShort room (logs work) = IsTrue room.is_covered × (room.free < room.pledged + cost work + fixed_of room.blocks + keep work)
+IsShort room a_snapshot = IsTrue room.is_covered × (room.free < room.pledged + 2 * fixed_of room.blocks + 1)

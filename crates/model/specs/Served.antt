@@ -1,0 +1,10 @@
+-- The commands that this version serves.
+use Rattle.model.specs.declared.command.Command.{Command}
+use Rattle.model.specs.declared.command.Command.TheVariants as command
+use Rattle.model.specs.declared.command.PathCall.TheVariants as call
+
+-- `list` and `mkdir`
+abbrev pub IsServed : Command → Type 0
+IsServed (command.Path (call.List path)) = Unit {0}
+IsServed (command.Path (call.Mkdir path mode)) = Unit {0}
+IsServed c = ⊥

@@ -1,0 +1,113 @@
+-- Which reply and which new state each command gives, where nothing comes in its way.
+use Rattle.std.specs.Prelude.{ℕ, ◌≡◌, nat_le, nat_lt, not, ◌&&◌, ◌||◌, ◌==◌, length, Bool, true, false, List, [], ◌∷◌, ◌++◌, map, find, filter, bytes_eq, Option, Some, None, is_none}
+use Rattle.std.specs.List.{list_any}
+use Rattle.model.specs.declared.limits.TheConstants.{SNAPSHOTS, SNAPSHOT_NAME_BYTES}
+use Rattle.model.specs.declared.errno.Errno.TheVariants.{EROFS, BADNAME, SNAPEXISTS, NOSNAP, SNAPFULL}
+use Rattle.model.specs.declared.reply.Reply.{Reply}
+use Rattle.model.specs.declared.reply.Reply.TheVariants.{Done, Snaps, Space, Refused}
+use Rattle.model.specs.declared.command.Command.{Command}
+use Rattle.model.specs.declared.command.Command.TheVariants as command
+use Rattle.model.specs.declared.command.PathCall.{PathCall}
+use Rattle.model.specs.declared.command.PathCall.TheVariants as call
+use Rattle.model.specs.Paths.{Name, Tests, first_refusal}
+use Rattle.model.specs.Trees.{Tree}
+use Rattle.model.specs.States.{State, with_tree, with_snapshots, ForgetsOpenFiles}
+use Rattle.model.specs.Room.{Need, nothing, a_snapshot, Room}
+use Rattle.model.specs.Outcomes.{Outcome}
+use Rattle.model.specs.Reading.{lists, stats, reads_link, gets}
+use Rattle.model.specs.Changing.{makes_directory, makes_symlink, removes_directory, unlinks, links, renames, changes_mode, truncates}
+use Rattle.model.specs.Descriptors.{opens, closes, reads, reads_from, writes, writes_to, seeks, truncates_open, stats_open, syncs_open}
+
+-- a reply, the state that a command leaves, and what it needs
+abbrev pub Step : Type 1
+Step = Reply → State → Need → Type 0
+
+-- this reply, and nothing changes
+abbrev pub says : State → Reply → Step
+says s answer reply new need = (reply ≡ answer) × (new ≡ s) × (need ≡ nothing)
+
+-- the first of these tests that holds refuses the command
+abbrev pub passing : State → Tests → Step → Step
+passing s tests rest = elim (first_refusal tests) [ Some errno ↦ says s (Refused errno) | None ↦ rest ]
+
+-- a call changes the tree alone
+abbrev pub on_tree : State → Outcome → Step
+on_tree s outcome reply new need = outcome reply new.tree need × (new ≡ with_tree new.tree s)
+
+-- the calls by path
+abbrev pub calls : ℕ → Tree → PathCall → Outcome
+calls inodes t (call.List path) = lists t path
+calls inodes t (call.Stat path) = stats t true path
+calls inodes t (call.Lstat path) = stats t false path
+calls inodes t (call.Readlink path) = reads_link t path
+calls inodes t (call.Get path offset count) = gets t path offset count
+calls inodes t (call.Mkdir path mode) = makes_directory inodes t path mode
+calls inodes t (call.Rmdir path) = removes_directory t path
+calls inodes t (call.Unlink path) = unlinks t path
+calls inodes t (call.Link old path) = links t old path
+calls inodes t (call.Symlink text path) = makes_symlink inodes t text path
+calls inodes t (call.Rename old path) = renames t old path
+calls inodes t (call.Chmod path mode) = changes_mode t path mode
+calls inodes t (call.Truncate path size) = truncates t path size
+
+-- a call that only reads
+abbrev pub is_reading_call : PathCall → Bool
+is_reading_call (call.List path) = true
+is_reading_call (call.Stat path) = true
+is_reading_call (call.Lstat path) = true
+is_reading_call (call.Readlink path) = true
+is_reading_call (call.Get path offset count) = true
+is_reading_call _ = false
+
+-- the frozen tree of this name
+abbrev pub frozen : State → Name → Option (Name × Tree)
+frozen s name = find (λ pair. bytes_eq pair.0 name) s.snapshots
+
+-- a letter, a digit, or one of `.`, `_` and `-`
+abbrev pub is_name_byte : ℕ → Bool
+is_name_byte b =
+    (nat_le 48 b && nat_le b 57) || (nat_le 65 b && nat_le b 90) || (nat_le 97 b && nat_le b 122) || b == 45 || b == 46 || b == 95
+
+abbrev pub is_bad_name : List ℕ → Bool
+is_bad_name name = length name == 0 || nat_lt SNAPSHOT_NAME_BYTES (length name) || list_any (λ b. not (is_name_byte b)) name
+
+abbrev pub take_tests : State → Name → Tests
+take_tests s name =
+    (is_bad_name name, BADNAME) ∷ (not (is_none (frozen s name)), SNAPEXISTS) ∷ (nat_le SNAPSHOTS (length s.snapshots), SNAPFULL) ∷ []
+
+-- the tree without descriptors and nameless files is put behind the others
+abbrev pub takes : State → Name → Step
+takes s name = passing s (take_tests s name) (λ reply new need.
+    (reply ≡ Done) × ((t : Tree) × ForgetsOpenFiles s.tree t × (new ≡ with_snapshots (s.snapshots ++ (name, t) ∷ []) s)) × (need ≡ a_snapshot))
+
+abbrev pub deletes : State → Name → Step
+deletes s name = passing s ((is_none (frozen s name), NOSNAP) ∷ [])
+    (λ reply new need. (reply ≡ Done) × (new ≡ with_snapshots (filter (λ pair. not (bytes_eq pair.0 name)) s.snapshots) s) × (need ≡ nothing))
+
+-- a call on a snapshot: it reads the frozen tree
+abbrev pub views : State → Name → PathCall → Step
+views s name c = elim (frozen s name) [
+  | None ↦ says s (Refused NOSNAP)
+  | Some pair ↦ passing s ((not (is_reading_call c), EROFS) ∷ [])
+      (λ reply new need. calls s.inodes pair.1 c reply pair.1 need × (new ≡ s))
+]
+
+-- the reply, the new state and the need of a command, where nothing comes in its way; `df` tells the room at the answer
+abbrev pub WouldStep : Room → State → Command → Step
+WouldStep room s (command.Path c) = on_tree s (calls s.inodes s.tree c)
+WouldStep room s (command.Open path flags mode) = on_tree s (opens s.inodes s.tree path flags mode)
+WouldStep room s (command.Close fd) = on_tree s (closes s.tree fd)
+WouldStep room s (command.Read fd count) = on_tree s (reads s.tree fd count)
+WouldStep room s (command.Write fd given) = on_tree s (writes s.tree fd given)
+WouldStep room s (command.Pread fd offset count) = on_tree s (reads_from s.tree fd offset count)
+WouldStep room s (command.Pwrite fd offset given) = on_tree s (writes_to s.tree fd offset given)
+WouldStep room s (command.Lseek fd whence offset) = on_tree s (seeks s.tree fd whence offset)
+WouldStep room s (command.Ftruncate fd size) = on_tree s (truncates_open s.tree fd size)
+WouldStep room s (command.Fstat fd) = on_tree s (stats_open s.tree fd)
+WouldStep room s (command.Fsync fd) = on_tree s (syncs_open s.tree fd)
+WouldStep room s command.Sync = says s Done
+WouldStep room s command.Df = says s (Space room.blocks room.free room.pledged)
+WouldStep room s (command.SnapTake name) = takes s name
+WouldStep room s (command.SnapDelete name) = deletes s name
+WouldStep room s command.SnapList = says s (Snaps (map (λ pair. pair.0) s.snapshots))
+WouldStep room s (command.Within name c) = views s name c

@@ -1,0 +1,174 @@
+-- The tree as numbered objects: what the file system has, and the tree that it stands for.
+use Rattle.std.specs.Prelude.{ℕ, zero, suc, ◌||◌, ◌≡◌, ◌≢◌, ◌⊎◌, ◌+◌, ◌-◌, ◌≤◌, ◌<◌, ◌==◌, ◌&&◌, if◌then◌else◌, IsSome, IfSome, Bool, true, false, IsTrue, IsFalse, List, length, fold, bytes_eq, Option, Some, None}
+use Rattle.model.specs.declared.limits.TheConstants.{ROOT_NUMBER, FIRST_NUMBER, FILE_NAMES, DIRECTORY_NAMES, GREATEST_FILE, GREATEST_OFFSET, MODE_BITS, OPEN_FILES}
+use Rattle.model.specs.Counting.{Counts, CountsUpTo}
+use Rattle.model.specs.Paths.{Name, Path, IsName, IsLinkText}
+use Rattle.model.specs.Trees.{Tree, Object, directory, symlink, file, Description}
+
+-- an object: a directory with its mode and the numbers of its names, a file with its mode, its count of names and its
+-- bytes, or a link with its text
+pub data Node : Type 0 where
+  directory_node : ℕ → (Name → Option ℕ) → Node
+  file_node : ℕ → ℕ → List ℕ → Node
+  link_node : List ℕ → Node
+
+-- each number's object
+abbrev pub Volume : Type 0
+Volume = ℕ → Option Node
+
+-- which number each directory has at each name
+abbrev pub Entries : Type 0
+Entries = ℕ → Name → Option ℕ
+
+abbrev pub names_in : Option Node → Name → Option ℕ
+names_in (Some (directory_node mode names)) x = names x
+names_in _ x = None
+
+abbrev pub entries : Volume → Entries
+entries v n x = names_in (v n) x
+
+abbrev pub enter : Entries → Option ℕ → Name → Option ℕ
+enter e None x = None
+enter e (Some n) x = e n x
+
+-- the number at a path: from the root on, name by name
+abbrev pub number_at : Entries → Path → Option ℕ
+number_at e p = fold (enter e) (Some ROOT_NUMBER) p
+
+abbrev pub object_of : ℕ → Option Node → Option Object
+object_of n None = None
+object_of n (Some (directory_node mode names)) = Some (directory n)
+object_of n (Some (file_node mode links bytes)) = Some (file n)
+object_of n (Some (link_node text)) = Some (symlink n text)
+
+abbrev pub object_at : Volume → Option ℕ → Option Object
+object_at v None = None
+object_at v (Some n) = object_of n (v n)
+
+abbrev pub bytes_of : Option Node → Option (List ℕ)
+bytes_of (Some (file_node mode links bytes)) = Some bytes
+bytes_of _ = None
+
+abbrev pub mode_of : Option Node → Option ℕ
+mode_of (Some (directory_node mode names)) = Some mode
+mode_of (Some (file_node mode links bytes)) = Some mode
+mode_of _ = None
+
+-- the tree of a volume, with these descriptors
+abbrev pub tree_of : Volume → (ℕ → Option Description) → Tree
+tree_of v table = record {
+  objects = λ p. object_at v (number_at (entries v) p);
+  bytes = λ n. bytes_of (v n);
+  mode = λ n. mode_of (v n);
+  descriptors = table;
+}
+
+-- what changes: one object, or one name of a directory
+abbrev pub with_node : ℕ → Option Node → Volume → Volume
+with_node n node v k = if k == n then node else v k
+
+abbrev pub with_edge : ℕ → Name → Option ℕ → Entries → Entries
+with_edge d x to e n y = if n == d && bytes_eq y x then to else e n y
+
+abbrev pub set_name : Name → Option ℕ → Option Node → Option Node
+set_name x to (Some (directory_node mode names)) = Some (directory_node mode (λ y. if bytes_eq y x then to else names y))
+set_name x to o = o
+
+abbrev pub with_entry : ℕ → Name → Option ℕ → Volume → Volume
+with_entry d x to v = with_node d (set_name x to (v d)) v
+
+abbrev pub is_file_node : Option Node → Bool
+is_file_node (Some (file_node mode links bytes)) = true
+is_file_node _ = false
+
+abbrev pub is_directory_node : Option Node → Bool
+is_directory_node (Some (directory_node mode names)) = true
+is_directory_node _ = false
+
+-- so many names lead to n
+abbrev pub HasNames : Entries → ℕ → ℕ → Type 0
+HasNames e n count = Counts (λ (place : ℕ × Name). e place.0 place.1 ≡ Some n) count
+
+-- what names and numbers keep
+pub record IsGraph (v : Volume) : Type 0 where
+  pub root : IsTrue (is_directory_node (v ROOT_NUMBER))
+  pub not_root : (d : ℕ) (x : Name) → entries v d x ≢ Some ROOT_NUMBER
+  pub used : (d n : ℕ) (x : Name) → entries v d x ≡ Some n → IsSome (v n)
+  -- only a file may have several names
+  pub once : (d k n : ℕ) (x y : Name) → entries v d x ≡ Some n → entries v k y ≡ Some n → IsFalse (is_file_node (v n)) → (d ≡ k) × (x ≡ y)
+  pub names : (d : ℕ) (x : Name) → IsSome (entries v d x) → IsName x
+  pub counts : (n mode links : ℕ) (bytes : List ℕ) → v n ≡ Some (file_node mode links bytes) → HasNames (entries v) n links
+  pub reached : (n : ℕ) → IsSome (v n) → IsFalse (is_file_node (v n)) → (p : Path) × (number_at (entries v) p ≡ Some n)
+
+-- the limits of one object
+abbrev pub IsNode : Node → Type 0
+IsNode (directory_node mode names) = mode ≤ MODE_BITS
+IsNode (file_node mode links bytes) = (mode ≤ MODE_BITS) × (links ≤ FILE_NAMES) × (length bytes ≤ GREATEST_FILE)
+IsNode (link_node text) = IsLinkText text
+
+-- the limits of all, with so many inodes
+pub record KeepsLimits (inodes : ℕ) (v : Volume) : Type 0 where
+  pub nodes : (n : ℕ) → IfSome (v n) IsNode
+  pub numbers : (n : ℕ) → IsSome (v n) → (n ≡ ROOT_NUMBER) ⊎ ((FIRST_NUMBER ≤ n) × (n < inodes))
+  pub children : (d : ℕ) → CountsUpTo DIRECTORY_NAMES (λ x. IsSome (entries v d x))
+
+-- what makes numbered objects a volume. Images that open to no state may name none: where this is needed, it is a premise
+pub record IsVolume (inodes : ℕ) (v : Volume) : Type 0 where
+  pub graph : IsGraph v
+  pub limits : KeepsLimits inodes v
+
+-- a name of a file is one fewer; another object is gone with its name
+abbrev pub with_name_less : Option Node → Option Node
+with_name_less (Some (file_node mode links bytes)) = Some (file_node mode (links - 1) bytes)
+with_name_less _ = None
+
+abbrev pub with_name_more : Option Node → Option Node
+with_name_more (Some (file_node mode links bytes)) = Some (file_node mode (links + 1) bytes)
+with_name_more o = o
+
+-- what the name led to, if to anything, has a name less
+abbrev pub released : Option ℕ → Volume → Volume
+released None v = v
+released (Some n) v = with_node n (with_name_less (v n)) v
+
+-- the records' changes of names
+abbrev pub created : ℕ → ℕ → Name → Node → Volume → Volume
+created n d x node v = with_entry d x (Some n) (with_node n (Some node) v)
+
+abbrev pub linked : ℕ → ℕ → Name → Volume → Volume
+linked n d x v = with_entry d x (Some n) (with_node n (with_name_more (v n)) v)
+
+abbrev pub unnamed : ℕ → Name → Volume → Volume
+unnamed d x v = with_entry d x None (released (entries v d x) v)
+
+abbrev pub renamed : ℕ → Name → ℕ → Name → Volume → Volume
+renamed d x k y v = with_entry k y (entries v d x) (with_entry d x None (released (entries v k y) v))
+
+abbrev pub is_numbered : Option Description → ℕ → Bool
+is_numbered None n = false
+is_numbered (Some f) n = f.number == n
+
+-- a number stands in one of the first so many descriptors
+abbrev pub is_open : (ℕ → Option Description) → ℕ → ℕ → Bool
+is_open table zero n = false
+is_open table (suc d) n = is_numbered (table d) n || is_open table d n
+
+-- a file without names
+abbrev pub is_nameless : Option Node → Bool
+is_nameless (Some (file_node mode zero bytes)) = true
+is_nameless _ = false
+
+-- a file without names is dropped, unless it is open
+abbrev pub swept_node : Bool → Option Node → Option Node
+swept_node open_now (Some (file_node mode zero bytes)) = if open_now then Some (file_node mode zero bytes) else None
+swept_node open_now o = o
+
+abbrev pub swept : (ℕ → Option Description) → Volume → Volume
+swept table v n = swept_node (is_open table OPEN_FILES n) (v n)
+
+-- the descriptors fit the volume: what is open is a file, and files without names are open
+pub record IsMounted (v : Volume) (table : ℕ → Option Description) : Type 0 where
+  pub files : (d : ℕ) (f : Description) → table d ≡ Some f → IsTrue (is_file_node (v f.number))
+  pub is_swept : (n : ℕ) → swept table v n ≡ v n
+  pub bounded : (d : ℕ) → OPEN_FILES ≤ d → table d ≡ None
+  pub offsets : (d : ℕ) (f : Description) → table d ≡ Some f → f.offset ≤ GREATEST_OFFSET

@@ -1,0 +1,97 @@
+//! Laws of the definitions. Each function's contract is one; it does nothing.
+
+ghost use Rattle.model.specs.Laws.{RefusesByItsOwn, RefusalsChangeNothing, HasOneOutcome, RecordsKeepVolumes, SweepsKeepVolumes};
+ghost use Rattle.model.specs.Laws.{VolumesAreTrees, RecordsChangeTrees, VolumesTellFresh, VolumesTellLinks};
+ghost use Rattle.model.specs.Laws.{ResolvesByNumbers, TrailsTellBelow, BelowIsByPaths};
+ghost use Rattle.model.specs.Laws.{ReplayFollows, ReplayEndsSame, ReplaysCostTheSame};
+ghost use Rattle.model.specs.Laws.{ReplaysKeepVolumes, MountsFind, MountsForget};
+
+/// Where nothing comes in its way, a command refuses by its own errnos alone: none that tells of devices, memory or room.
+pub fn commands_refuse_by_their_own()
+    ensures { RefusesByItsOwn }
+{}
+
+/// Where nothing comes in its way, a command has at most one outcome.
+pub fn commands_have_one_outcome()
+    ensures { HasOneOutcome }
+{}
+
+/// A record that applies leaves a volume.
+pub fn records_keep_volumes()
+    ensures { RecordsKeepVolumes }
+{}
+
+/// Dropping the files without names that no descriptor has open leaves a volume.
+pub fn sweeps_keep_volumes()
+    ensures { SweepsKeepVolumes }
+{}
+
+/// The tree of a mounted volume is a tree, with its limits.
+pub fn volumes_are_trees()
+    ensures { VolumesAreTrees }
+{}
+
+/// Each record does to the tree what the call does in whose words it is said.
+pub fn records_change_trees()
+    ensures { RecordsChangeTrees }
+{}
+
+/// A record that applies to the running volume applies to the replayed one, which keeps following it.
+pub fn replays_follow()
+    ensures { ReplayFollows }
+{}
+
+/// Once the files without names are dropped, the replayed volume is the running one without them.
+pub fn replays_end_same()
+    ensures { ReplayEndsSame }
+{}
+
+/// Resolution by the numbers of a volume leads where resolution by the paths of its tree does.
+pub fn resolution_is_by_numbers()
+    ensures { ResolvesByNumbers }
+{}
+
+/// What lies on the trail to a directory is what that directory lies below.
+pub fn trails_tell_what_lies_below()
+    ensures { TrailsTellBelow }
+{}
+
+/// The least number that no object of a mounted volume has is the number of a new object.
+pub fn volumes_tell_fresh_numbers()
+    ensures { VolumesTellFresh }
+{}
+
+/// A file's count of names is its count of paths.
+pub fn volumes_tell_links()
+    ensures { VolumesTellLinks }
+{}
+
+/// Records that apply one after the other leave a volume.
+pub fn replays_keep_volumes()
+    ensures { ReplaysKeepVolumes }
+{}
+
+/// Behind the last record, without the files that have no name, a volume is a mounted one with no file open.
+pub fn mounts_find_volumes()
+    ensures { MountsFind }
+{}
+
+/// What a mount finds is the tree of the running volume with its open files forgotten.
+pub fn mounts_forget_open_files()
+    ensures { MountsForget }
+{}
+
+/// A record costs the same in a replay as when it was logged.
+pub fn replays_cost_the_same()
+    ensures { ReplaysCostTheSame }
+{}
+
+/// What lies below an object by its number is what lies below its path.
+pub fn numbers_tell_what_lies_below()
+    ensures { BelowIsByPaths }
+{}
+
+/// Where nothing comes in its way, a command that is refused changes nothing and needs nothing.
+pub fn refusals_change_nothing()
+    ensures { RefusalsChangeNothing }
+{}

@@ -1,0 +1,43 @@
+//! The limits of the file system, and the numbers that are its own.
+
+/// The root directory's inode number.
+pub const ROOT_NUMBER: u32 = 3;
+
+/// The least inode number that a new object may take: those below are the file system's own.
+pub const FIRST_NUMBER: u32 = 4;
+
+/// Greatest length of a name in bytes.
+pub const NAME_BYTES: usize = 255;
+
+/// Greatest length in bytes of a path, and of a symbolic link's text, which is one.
+pub const PATH_BYTES: usize = 1023;
+
+/// So many symbolic links are followed in one resolution, and no more.
+pub const LINKS_FOLLOWED: u32 = 8;
+
+/// Greatest number of names of one file.
+pub const FILE_NAMES: u32 = 1000;
+
+/// Greatest number of names in one directory.
+pub const DIRECTORY_NAMES: usize = 65_536;
+
+/// Descriptors are below this number.
+pub const OPEN_FILES: u32 = 32;
+
+/// Greatest number of bytes that one call reads or writes.
+pub const TRANSFER_BYTES: usize = 65_536;
+
+/// Greatest length of a file in bytes.
+pub const GREATEST_FILE: u64 = 67_108_864;
+
+/// Greatest offset of an open file.
+pub const GREATEST_OFFSET: u64 = 9_223_372_036_854_775_807;
+
+/// Greatest number of snapshots.
+pub const SNAPSHOTS: usize = 20;
+
+/// Greatest length of a snapshot's name in bytes.
+pub const SNAPSHOT_NAME_BYTES: usize = 63;
+
+/// The twelve mode bits, as in `st_mode` of POSIX.1-2017.
+pub const MODE_BITS: u16 = 0o7777;

@@ -1,0 +1,163 @@
+//! What a row works on: its images, and the run that is being read.
+
+use crate::choices::Choices;
+use crate::fault::Fault;
+use crate::files::obey_file;
+use crate::image::obey;
+use crate::run::{Images, Run};
+use crate::text::{is_one_of, random_bytes};
+use mount::make;
+use station::Sim;
+use std::alloc::Global;
+use tool::{LineError, read_line};
+
+/// A row under way.
+#[derive(Drop)]
+pub struct Bench<'a> {
+    alloc: Global,
+    choices: Choices,
+    images: Images,
+    run: Option<Run<'a>>,
+}
+
+impl<'a> Bench<'a> {
+    pub fn new(alloc: Global, choice: u64) -> Bench<'a> {
+        Bench {
+            alloc,
+            choices: Choices::new(choice),
+            images: Images {
+                disk: Vec::new(alloc),
+                nvram: Vec::new(alloc),
+            },
+            run: None,
+        }
+    }
+
+    /// Does what a line says.
+    pub fn take(&mut self, rt: &HostRuntime, line: &'a str) -> Result<(), Fault> {
+        if line.is_empty() || line.starts_with('#') {
+            return Ok(());
+        }
+        if let Some(text) = line.strip_prefix("  ") {
+            return match &mut self.run {
+                Some(run) => run.add_line(self.alloc, text),
+                None => Err(Fault::misread(self.alloc, line)),
+            };
+        }
+        let (verb, words) = line.split_once(' ').unwrap_or((line, ""));
+        if self.is_about_run(verb, words) {
+            return Ok(());
+        }
+        self.end_run()?;
+        let is_known = match obey_file(rt, verb, words)? {
+            Some(is_known) => is_known,
+            None => self.begin(verb, words)?,
+        };
+        if !is_known {
+            return Err(Fault::misread(self.alloc, line));
+        }
+        Ok(())
+    }
+
+    /// Ends the row: how many choices it has.
+    pub fn finish(mut self) -> Result<u64, Fault> {
+        self.end_run()?;
+        Ok(self.choices.count())
+    }
+
+    /// Whether a line says what is expected of the run above it.
+    fn is_about_run(&mut self, verb: &str, words: &'a str) -> bool {
+        let Some(run) = &mut self.run else {
+            return false;
+        };
+        match verb {
+            "status" => run.expect_status(words),
+            "says" => run.expect_fault(words),
+            "unchanged" => run.expect_unchanged(),
+            _ => return false,
+        }
+        true
+    }
+
+    fn end_run(&mut self) -> Result<(), Fault> {
+        match self.run.take() {
+            Some(run) => run.finish(self.alloc, &mut self.images),
+            None => Ok(()),
+        }
+    }
+
+    /// Does what a line says that isn't about a run. False where it isn't understood.
+    fn begin(&mut self, verb: &str, words: &'a str) -> Result<bool, Fault> {
+        match verb {
+            "run" => {
+                self.run = Some(Run::new(self.alloc, words, &mut self.choices)?);
+                Ok(true)
+            }
+            "image" => self.make_image(words),
+            "random" => self.randomize(words),
+            "disk" => obey(self.alloc, &mut self.choices, &mut self.images.disk, words),
+            "nvram" => obey(self.alloc, &mut self.choices, &mut self.images.nvram, words),
+            "words" => compare_words(self.alloc, words),
+            _ => Ok(false),
+        }
+    }
+
+    /// `image BLOCKS INODES HALF`: a new image, on a station that held other bytes before.
+    fn make_image(&mut self, words: &str) -> Result<bool, Fault> {
+        let [Some(blocks), Some(inodes), Some(half)] = self.choices.numbers(words) else {
+            return Ok(false);
+        };
+        let disk = vec![in self.alloc; 0xaa; 4096_usize.saturating_mul(blocks as usize)]?;
+        let nvram = vec![in self.alloc; 0x55; 2_usize.saturating_mul(half as usize)]?;
+        let Ok(sim) = Sim::load(self.alloc, disk, nvram) else {
+            return Ok(false);
+        };
+        let Ok(sim) = make(sim, blocks, inodes, half) else {
+            return Ok(false);
+        };
+        let (disk, nvram) = sim.images();
+        self.images = Images {
+            disk: Vec::from_slice(self.alloc, disk)?,
+            nvram: Vec::from_slice(self.alloc, nvram)?,
+        };
+        Ok(true)
+    }
+
+    /// `random SEED DISK NVRAM`: images of so many bytes that follow no format.
+    fn randomize(&mut self, words: &str) -> Result<bool, Fault> {
+        let [Some(seed), Some(disk), Some(nvram)] = self.choices.numbers(words) else {
+            return Ok(false);
+        };
+        self.images = Images {
+            disk: random_bytes(self.alloc, seed, disk)?,
+            nvram: random_bytes(self.alloc, seed, nvram)?,
+        };
+        Ok(true)
+    }
+}
+
+/// `words WORDS -> LINE`: what the program's words are read as; `nothing` where they aren't understood.
+fn compare_words(alloc: Global, text: &str) -> Result<bool, Fault> {
+    let Some((words, expected)) = text.split_once(" -> ") else {
+        return Ok(false);
+    };
+    let came = line_of(alloc, words)?;
+    if !is_one_of(alloc, came.as_bytes(), expected)? {
+        return Err(Fault::differs(alloc, "words", came.as_bytes(), expected));
+    }
+    Ok(true)
+}
+
+/// What words with a space between are read as.
+fn line_of(alloc: Global, text: &str) -> Result<String, Fault> {
+    let words: Vec<&str> = text.split(' ').collect(alloc)?;
+    shown_line(alloc, words.as_slice())
+}
+
+fn shown_line(alloc: Global, words: &[&str]) -> Result<String, Fault> {
+    match read_line(alloc, words) {
+        Ok(line) => Ok(format!(in alloc; "{line:?}")?),
+        Err(LineError::NotUnderstood(_)) => Ok(String::from_str(alloc, "nothing")?),
+        Err(LineError::NoMemory) => Err(Fault::NoMemory),
+    }
+}

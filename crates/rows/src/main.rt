@@ -1,0 +1,74 @@
+//! Reads files of rows, worked examples written as text, runs each over a station in memory, and says which don't hold.
+//! The head of `data/sessions.rows` says how a row is written.
+#![tactic(auto)]
+
+mod bench;
+mod choices;
+mod fault;
+mod files;
+mod image;
+mod run;
+mod text;
+
+use bench::Bench;
+use fault::Fault;
+use std::process::ExitCode;
+use std::{env, fs, io};
+
+fn main(rt: HostRuntime) -> ExitCode {
+    match check_all(&rt) {
+        Ok(true) => ExitCode::SUCCESS,
+        Ok(false) => ExitCode::FAILURE,
+        Err(error) => {
+            let _ = eprintln!(rt; "rows: {error}");
+            ExitCode::from(2)
+        }
+    }
+}
+
+/// Checks the files that the program's words name. Whether all their rows hold.
+fn check_all(rt: &HostRuntime) -> io::Result<bool> {
+    let mut all_hold = true;
+    for name in env::args(rt)?.skip(1) {
+        let text = fs::read_to_string(rt, name.as_str())?;
+        all_hold &= check_file(rt, name.as_str(), text.as_str())?;
+    }
+    Ok(all_hold)
+}
+
+/// Checks the rows of a file's text and prints each that fails, and then how many there are.
+fn check_file(rt: &HostRuntime, name: &str, text: &str) -> io::Result<bool> {
+    let mut rows = 0_u64;
+    let mut failed = 0_u64;
+    // What stands before the first row is about the file itself.
+    for row in text.split("\nrow ").skip(1) {
+        rows = rows.saturating_add(1);
+        if let Err(fault) = check_row(rt, row) {
+            failed = failed.saturating_add(1);
+            let title = row.lines().next().unwrap_or("");
+            println!(rt; "{name}: {title}: {fault}")?;
+        }
+    }
+    println!(rt; "{name}: {rows} rows")?;
+    Ok(failed == 0)
+}
+
+/// Checks a row once for each of its choices.
+fn check_row(rt: &HostRuntime, row: &str) -> Result<(), Fault> {
+    let count = check_choice(rt, row, 0)?;
+    for choice in 1..count {
+        if let Err(fault) = check_choice(rt, row, choice) {
+            return Err(fault.at_choice(rt.alloc(), choice));
+        }
+    }
+    Ok(())
+}
+
+/// Checks a row for one of its choices, and says how many it has.
+fn check_choice(rt: &HostRuntime, row: &str, choice: u64) -> Result<u64, Fault> {
+    let mut bench = Bench::new(rt.alloc(), choice);
+    for line in row.lines().skip(1) {
+        bench.take(rt, line)?;
+    }
+    bench.finish()
+}

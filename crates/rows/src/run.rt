@@ -1,0 +1,238 @@
+//! One run of a row: a script over a station in memory, and what is expected of it.
+
+use crate::choices::Choices;
+use crate::fault::Fault;
+use crate::text::{bytes_of, is_one_of, push_text};
+use station::{Keep, Sim};
+use std::alloc::{AllocError, Global};
+use tool::session::session;
+
+/// What fails in a run, by the numbers that a station counts.
+#[derive(Drop)]
+struct FaultPlan<'a> {
+    /// The device write within which the power is cut, what of the unsynced sectors stays, and the bytes of an NVRAM write.
+    cut: Option<u32>,
+    keep: &'a str,
+    bytes: u32,
+    /// The device call that fails.
+    call: Option<u32>,
+    /// The sync that fails.
+    sync: Option<u32>,
+}
+
+/// A run that is being read.
+#[derive(Drop)]
+pub struct Run<'a> {
+    plan: FaultPlan<'a>,
+    script: Vec<u8>,
+    /// The reply to each line that brings one, in order.
+    replies: Vec<&'a str>,
+    /// The exit statuses that may come.
+    statuses: Option<&'a str>,
+    /// What stands on standard error where the status is 4 or 5.
+    says: &'a str,
+    is_unchanged: bool,
+}
+
+/// Both images.
+#[derive(Drop)]
+pub struct Images {
+    pub disk: Vec<u8>,
+    pub nvram: Vec<u8>,
+}
+
+impl<'a> Run<'a> {
+    /// A run by the words behind `run`: none, or some of `cut=N`, `keep=none|all|BITS`, `bytes=K`, `fail=N`, `fail-sync=N`.
+    pub fn new(alloc: Global, words: &'a str, choices: &mut Choices) -> Result<Run<'a>, Fault> {
+        let mut run = Run {
+            plan: FaultPlan {
+                cut: None,
+                keep: "none",
+                bytes: 0,
+                call: None,
+                sync: None,
+            },
+            script: Vec::new(alloc),
+            replies: Vec::new(alloc),
+            statuses: None,
+            says: "",
+            is_unchanged: false,
+        };
+        for word in words.split_ascii_whitespace() {
+            let is_known = match word.split_once('=') {
+                Some((name, value)) => run.plan.set(name, value, choices),
+                None => false,
+            };
+            if !is_known {
+                return Err(Fault::misread(alloc, words));
+            }
+        }
+        Ok(run)
+    }
+
+    /// Adds `COMMAND -> REPLY`, or behind `| ` a line that brings no reply, and behind `|- ` one without its end.
+    pub fn add_line(&mut self, alloc: Global, line: &'a str) -> Result<(), Fault> {
+        if let Some(text) = line.strip_prefix("|- ") {
+            return push_text(alloc, &mut self.script, text);
+        }
+        let text = match line.strip_prefix("|") {
+            Some(text) => text.strip_prefix(" ").unwrap_or(text),
+            None => {
+                let Some((command, reply)) = line.split_once(" -> ") else {
+                    return Err(Fault::misread(alloc, line));
+                };
+                self.replies.push(reply)?;
+                command
+            }
+        };
+        push_text(alloc, &mut self.script, text)?;
+        self.script.push(b'\n')?;
+        Ok(())
+    }
+
+    /// The exit statuses that may come, with ` | ` between.
+    pub fn expect_status(&mut self, statuses: &'a str) {
+        self.statuses = Some(statuses);
+    }
+
+    pub fn expect_fault(&mut self, text: &'a str) {
+        self.says = text;
+    }
+
+    /// The images are to stay as they are.
+    pub fn expect_unchanged(&mut self) {
+        self.is_unchanged = true;
+    }
+
+    /// Runs it on these images, compares what it gives, and leaves the images that it left.
+    pub fn finish(&self, alloc: Global, images: &mut Images) -> Result<(), Fault> {
+        let mut out = Vec::new(alloc);
+        let mut err = Vec::new(alloc);
+        let (status, sim) = session(
+            alloc,
+            self.plan.station(alloc, images)?,
+            &self.script,
+            |sim: &Sim| sim.is_cut(),
+            &mut out,
+            &mut err,
+        );
+        let is_refused = status == 4 || status == 5;
+        self.compare_status(alloc, status)?;
+        self.compare_replies(alloc, &out, is_refused)?;
+        self.compare_fault(alloc, &err, is_refused)?;
+        let (disk, nvram) = sim.images();
+        let is_same = disk == images.disk.as_slice() && nvram == images.nvram.as_slice();
+        if !is_same && (self.is_unchanged || is_refused) {
+            return Err(Fault::differs(alloc, "images", b"others", "the same"));
+        }
+        *images = Images {
+            disk: Vec::from_slice(alloc, disk)?,
+            nvram: Vec::from_slice(alloc, nvram)?,
+        };
+        Ok(())
+    }
+
+    /// Where nothing else is said, the status is 3 if the last reply is `cut`, and else 0.
+    fn compare_status(&self, alloc: Global, status: u8) -> Result<(), Fault> {
+        let came = format!(in alloc; "{status}")?;
+        let by_reply = match self.replies.last() {
+            Some(reply) if **reply == *"cut" => "3",
+            _ => "0",
+        };
+        let expected = self.statuses.unwrap_or(by_reply);
+        if !is_one_of(alloc, came.as_bytes(), expected)? {
+            return Err(Fault::differs(alloc, "status", came.as_bytes(), expected));
+        }
+        Ok(())
+    }
+
+    fn compare_replies(&self, alloc: Global, out: &[u8], is_refused: bool) -> Result<(), Fault> {
+        let mut lines = out.split(|byte| *byte == b'\n');
+        // Where nothing was run there is no reply.
+        let count = if is_refused { 0 } else { self.replies.len() };
+        let expected = &self.replies.as_slice()[..count];
+        for reply in expected {
+            let Some(came) = lines.next() else {
+                return Err(Fault::differs(alloc, "reply", b"nothing", reply));
+            };
+            if !is_one_of(alloc, came, reply)? {
+                return Err(Fault::differs(alloc, "reply", came, reply));
+            }
+            // A cut ends the replies.
+            if came == b"cut".as_slice() {
+                break;
+            }
+        }
+        // Behind the last line's end stands nothing.
+        for rest in lines {
+            if !rest.is_empty() {
+                return Err(Fault::differs(alloc, "reply", rest, "no more"));
+            }
+        }
+        Ok(())
+    }
+
+    fn compare_fault(&self, alloc: Global, err: &[u8], is_refused: bool) -> Result<(), Fault> {
+        let mut expected = Vec::new(alloc);
+        if is_refused {
+            expected = bytes_of(alloc, self.says)?;
+            expected.push(b'\n')?;
+        }
+        if err != expected.as_slice() {
+            return Err(Fault::differs(alloc, "standard error", err, self.says));
+        }
+        Ok(())
+    }
+}
+
+impl<'a> FaultPlan<'a> {
+    /// Sets what a word names. False where there is no such word, or its value isn't one.
+    fn set(&mut self, name: &str, value: &'a str, choices: &mut Choices) -> bool {
+        if name == "keep" {
+            let Some(word) = choices.word(value) else {
+                return false;
+            };
+            self.keep = word;
+            return true;
+        }
+        let Some(number) = choices.number(value) else {
+            return false;
+        };
+        match name {
+            "cut" => self.cut = Some(number),
+            "bytes" => self.bytes = number,
+            "fail" => self.call = Some(number),
+            "fail-sync" => self.sync = Some(number),
+            _ => return false,
+        }
+        true
+    }
+
+    /// A station in memory on these images, with what is to fail.
+    fn station(&self, alloc: Global, images: &Images) -> Result<Sim, Fault> {
+        let disk = Vec::from_slice(alloc, &images.disk)?;
+        let nvram = Vec::from_slice(alloc, &images.nvram)?;
+        let mut sim = match Sim::load(alloc, disk, nvram) {
+            Ok(sim) => sim,
+            Err(_) => return Err(Fault::misread(alloc, "no station has these sizes")),
+        };
+        if let Some(write) = self.cut {
+            sim.cut_at(write, keep_of(alloc, self.keep)?, self.bytes);
+        }
+        if let Some(call) = self.call {
+            sim.fail_at(call);
+        }
+        if let Some(sync) = self.sync {
+            sim.fail_sync_at(sync);
+        }
+        Ok(sim)
+    }
+}
+
+fn keep_of(alloc: Global, word: &str) -> Result<Keep, AllocError> {
+    match word {
+        "none" => Ok(Keep::Nothing),
+        "all" => Ok(Keep::Everything),
+        bits => Ok(Keep::Bits(bits.bytes().map(|byte| byte == b'1').collect(alloc)?)),
+    }
+}
