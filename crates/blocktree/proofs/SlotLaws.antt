@@ -1,0 +1,52 @@
+-- What a change of the slots does to a file's blocks.
+use Rattle.std.proofs.Common.{◌≡◌, ℕ, ◌<◌, ◌≤◌, List, refl, Bool, true, false, None, arith, if◌then◌else◌, nat_lt, ltb, min}
+use Rattle.std.proofs.lemmas.Grind.{common_steps}
+use Rattle.std.proofs.lemmas.Bool.Decides.{nat_tests}
+use Rattle.std.proofs.lemmas.Map.Entries.{lookup-filter-keys}
+use Rattle.std.specs.List.{filter}
+use Rattle.std.specs.Ordering.{nat_cmp}
+use Rattle.std.specs.BTreeMap.{BTreeMap, get, is_at, ContainsKey}
+use Rattle.layout.specs.Bytes.{zeros}
+use Rattle.layout.specs.declared.pointer.Pointer.{Pointer}
+use Rattle.blocktree.specs.Places.{pointed, place}
+use Rattle.blocktree.specs.Trees.{slot_bytes, settled_block}
+use Rattle.blocktree.specs.declared.tree.Slot.{Slot}
+
+below_true : (i n : ℕ) → i < n → ltb i n ≡ true
+below_true i n lt = grind (arith, nat_tests)
+
+below_false : (i n : ℕ) → n ≤ i → ltb i n ≡ false
+below_false i n le = grind (arith, nat_tests)
+
+-- a settled block past those that count
+pub settled_past : (disk : ℕ → List ℕ) (pointers : List Pointer) (depth kept i : ℕ) → kept ≤ i → settled_block disk pointers depth kept i ≡ zeros 4096
+unfolding settled_block
+settled_past disk pointers depth kept i past = rw (below_false i kept past) refl
+
+-- a settled block that counts
+pub settled_within : (disk : ℕ → List ℕ) (pointers : List Pointer) (depth kept i : ℕ) (p : Pointer) → i < kept → p ≡ place disk pointers depth i → settled_block disk pointers depth kept i ≡ pointed disk p
+unfolding settled_block
+settled_within disk pointers depth kept i p within is = rw (below_true i kept within, is) refl
+
+trimmed_slot : (m n : BTreeMap ℕ Slot) (count : ℕ) → n.entries ≡ filter (λ e. nat_lt e.0 count) m.entries → (j : ℕ) → get nat_cmp n j ≡ (if nat_lt j count then get nat_cmp m j else None)
+trimmed_slot m n count e j =
+    rw e (lookup-filter-keys (is_at (nat_cmp j)) (λ (k : ℕ). nat_lt k count) (nat_lt j count) (λ k at. found_key j k at) m.entries)
+  where
+    found_key : (j k : ℕ) → is_at (nat_cmp j) k ≡ true → nat_lt k count ≡ nat_lt j count
+    found_key j k at = grind (arith, common_steps, nat_tests)
+
+-- the blocks below `count` stay, the others are gone
+pub trimmed_block : (disk : ℕ → List ℕ) (pointers : List Pointer) (depth kept new_kept count : ℕ) (m n : BTreeMap ℕ Slot) → n.entries ≡ filter (λ e. nat_lt e.0 count) m.entries → new_kept ≡ min kept count → (j : ℕ)
+    → slot_bytes (get nat_cmp n j) (settled_block disk pointers depth new_kept j) ≡ (if nat_lt j count then slot_bytes (get nat_cmp m j) (settled_block disk pointers depth kept j) else zeros 4096)
+unfolding settled_block
+trimmed_block disk pointers depth kept new_kept count m n e k j = rw (trimmed_slot m n count e j, k) (each (ltb j count) refl)
+  where
+    narrow : (b : Bool) → ltb j count ≡ b → ltb j (min kept count) ≡ (if b then ltb j kept else false)
+    narrow b e = grind (arith, nat_tests)
+
+    each : (b : Bool) → ltb j count ≡ b → slot_bytes (if b then get nat_cmp m j else None) (if ltb j (min kept count) then pointed disk (place disk pointers depth j) else zeros 4096) ≡ (if b then slot_bytes (get nat_cmp m j) (if ltb j kept then pointed disk (place disk pointers depth j) else zeros 4096) else zeros 4096)
+    each true e = rw (narrow true e) refl
+    each false e = rw (narrow false e) refl
+
+pub trimmed_room : (m n : BTreeMap ℕ Slot) (count : ℕ) → n.entries ≡ filter (λ e. nat_lt e.0 count) m.entries → (j : ℕ) → j < count → ContainsKey nat_cmp m j → ContainsKey nat_cmp n j
+trimmed_room m n count e j lt had = rw (trimmed_slot m n count e j, below_true j count lt) had

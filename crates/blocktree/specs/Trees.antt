@@ -1,0 +1,88 @@
+-- A file's blocks: those of its settled inode, and over them the changed ones.
+use Rattle.std.specs.Prelude.{ℕ, ◌≡◌, ◌<◌, List, Bool, true, false, ◌||◌, nat_le, filter, nat_lt, if◌then◌else◌, Option, Some, None}
+use Rattle.std.specs.List.{range_with_len}
+use Rattle.std.specs.Ordering.{nat_cmp}
+use Rattle.std.specs.BTreeMap as tree
+use Rattle.layout.specs.Bytes.{zeros}
+use Rattle.layout.specs.declared.pointer.Pointer.{Pointer}
+use Rattle.blocktree.specs.Places.{pointed, place, IsPath}
+use Rattle.blocktree.specs.declared.tree.Slot.{Slot}
+use Rattle.blocktree.specs.declared.tree.Slot.TheVariants.{AsSettled, Changed}
+use Rattle.blocktree.specs.declared.tree.Location.{Location}
+use Rattle.blocktree.specs.declared.tree.Location.TheVariants as locations
+use Rattle.blocktree.specs.declared.tree.BlockTree.{BlockTree}
+
+-- block i as an inode with these pointers has it, of which the first `kept` count
+unfoldable pub settled_block : (ℕ → List ℕ) → List Pointer → ℕ → ℕ → ℕ → List ℕ
+settled_block disk pointers depth kept i = if nat_lt i kept then pointed disk (place disk pointers depth i) else zeros 4096
+
+-- a block with what is in memory of it over what stands below
+abbrev pub slot_bytes : Option Slot → List ℕ → List ℕ
+slot_bytes (Some (Changed block)) below = block
+slot_bytes (Some AsSettled) below = below
+slot_bytes None below = below
+
+-- block i
+abbrev pub tree_block : (ℕ → List ℕ) → BlockTree → ℕ → List ℕ
+tree_block disk t i = slot_bytes (tree.get nat_cmp t.slots i) (settled_block disk t.pointers t.depth t.kept i)
+
+-- block i has room for a change
+abbrev pub HasRoom : BlockTree → ℕ → Type 0
+HasRoom t i = tree.ContainsKey nat_cmp t.slots i
+
+-- no block differs, whatever the disk
+abbrev pub SameBlocks : BlockTree → BlockTree → Type 0
+SameBlocks old new = (disk : ℕ → List ℕ) (i : ℕ) → tree_block disk new i ≡ tree_block disk old i
+
+-- what a consistency point settled of a file is the same
+pub record SameSettled (old new : BlockTree) : Type 0 where
+  pub pointers : new.pointers ≡ old.pointers
+  pub depth : new.depth ≡ old.depth
+  pub count : new.count ≡ old.count
+
+-- room that was there is there still
+abbrev pub KeepsRoom : BlockTree → BlockTree → Type 0
+KeepsRoom old new = (i : ℕ) → HasRoom old i → HasRoom new i
+
+abbrev pub IsChangedSlot : Option Slot → Type 0
+IsChangedSlot (Some (Changed block)) = Unit {0}
+IsChangedSlot (Some AsSettled) = ⊥
+IsChangedSlot None = ⊥
+
+-- block i is changed
+abbrev pub IsChanged : BlockTree → ℕ → Type 0
+IsChanged t i = IsChangedSlot (tree.get nat_cmp t.slots i)
+
+-- what stands on a disk of so many blocks over block i, where the settled inode counts for it, is in the grammar
+abbrev pub IsSoundAt : ℕ → (ℕ → List ℕ) → BlockTree → ℕ → Type 0
+IsSoundAt blocks disk t i = (IsChanged t i → ⊥) → i < t.kept → IsPath blocks disk t.pointers t.depth t.count i
+
+-- what was in the grammar is so still
+abbrev pub KeepsSound : BlockTree → BlockTree → Type 0
+KeepsSound old new = (blocks : ℕ) (disk : ℕ → List ℕ) (i : ℕ) → IsSoundAt blocks disk old i → IsSoundAt blocks disk new i
+
+-- block i is there
+abbrev pub IsAt : (ℕ → List ℕ) → BlockTree → ℕ → Location → Type 0
+IsAt disk t i locations.Changed = IsChanged t i
+IsAt disk t i locations.Hole = tree_block disk t i ≡ zeros 4096
+IsAt disk t i (locations.Disk place) = tree_block disk t i ≡ disk place
+
+-- a fact of the place, where it is on the disk
+abbrev pub OnDisk : Location → (ℕ → Type 0) → Type 0
+OnDisk locations.Changed P = Unit {0}
+OnDisk locations.Hole P = Unit {0}
+OnDisk (locations.Disk place) P = P place
+
+-- what memory has of a block is a change
+abbrev pub is_changed_slot : Option Slot → Bool
+is_changed_slot (Some (Changed block)) = true
+is_changed_slot (Some AsSettled) = false
+is_changed_slot None = false
+
+-- block i is no more as the settled inode has it
+abbrev pub is_old : BlockTree → ℕ → Bool
+is_old t i = nat_le t.kept i || is_changed_slot (tree.get nat_cmp t.slots i)
+
+-- the blocks of the settled file that are no more as its inode has them
+abbrev pub old_indexes : BlockTree → List ℕ
+old_indexes t = filter (is_old t) (range_with_len 0 t.count)

@@ -1,0 +1,139 @@
+//! Where a file's blocks lie, from the inode down.
+
+ghost use Rattle.std.specs.Prelude.{◌≡◌, ℕ, ◌*◌, ◌^◌, ◌<◌, List, OnOk, OnErr, IfOk, IfErr, IsErrOf, slice_index_or};
+ghost use Rattle.buffers.specs.Failures.{HasGrown};
+ghost use Rattle.layout.specs.Maps.{indirect_pointer, IsIndirectBlock};
+ghost use Rattle.layout.specs.Pointer.{PointsBelow};
+ghost use Rattle.layout.specs.declared.pointer.Pointer.TheVariants.{Hole};
+ghost use Rattle.blocktree.specs.Places.{follow, place, IsNode, IsPath};
+
+use crate::ReadError;
+use buffers::Blocks;
+use layout::{BODY_POINTERS, BlockNumber, Pointer, indirect_pointer, is_indirect_block};
+
+/// The pointer to node `i` of `count` at this depth under an inode's pointers. Depth 0 is that of the pointers themselves.
+pub(crate) fn find_place<B: Blocks>(
+    blocks: &mut B,
+    pointers: &[Pointer; BODY_POINTERS],
+    depth: u32,
+    count: u32,
+    i: u32,
+) -> Result<Pointer, ReadError>
+    requires { i < 16 * 1024 ^ depth }
+    ensures count { B.count blocks.new ≡ B.count blocks.old }
+    ensures counted { OnOk result (B.failed blocks.new ≡ B.failed blocks.old) }
+    ensures device { IsErrOf result ReadError.Device
+        → HasGrown (B.failed blocks.old) (B.failed blocks.new) }
+    ensures reads { (start : B) → B.ReadsOn start blocks.old → B.ReadsOn start blocks.new }
+    ensures same { (disk : ℕ → List ℕ) → B.Shows blocks.old disk → B.Shows blocks.new disk }
+    ensures within { IfOk result (PointsBelow (B.count blocks.old)) }
+    ensures place { (disk : ℕ → List ℕ) → B.Shows blocks.old disk
+        → IfOk result (λ p. p ≡ place disk pointers.now depth i) }
+    ensures sound { (disk : ℕ → List ℕ) → B.Shows blocks.old disk
+        → OnOk result (IsPath (B.count blocks.old) disk pointers.now depth count i) }
+    ensures damaged { (disk : ℕ → List ℕ) → B.Shows blocks.old disk
+        → IsErrOf result ReadError.Damaged
+        → IsPath (B.count blocks.old) disk pointers.now depth count i → ⊥ }
+{
+    if depth == 0 {
+        let own = own_pointer(pointers, blocks.count(), i)?;
+        return Ok(own);
+    }
+    let above = find_place(blocks, pointers, depth - 1, count.div_ceil(1024), i / 1024)?;
+    let used = count.saturating_sub(1024 * (i / 1024));
+    let next = follow(blocks, above, used, i % 1024)?;
+    Ok(next)
+}
+
+/// Pointer `i` of an inode, on a disk of so many blocks.
+fn own_pointer(
+    pointers: &[Pointer; BODY_POINTERS],
+    blocks: u32,
+    i: u32,
+) -> Result<Pointer, ReadError>
+    requires { i < 16 }
+    ensures pointer { IfOk result (λ p. p ≡ slice_index_or pointers.now i Hole) }
+    ensures within { OnOk result (PointsBelow blocks (slice_index_or pointers.now i Hole)) }
+    ensures damaged { OnErr result (PointsBelow blocks (slice_index_or pointers.now i Hole) → ⊥) }
+    ensures only { IfErr result (λ e. e ≡ ReadError.Damaged) }
+{
+    within(pointers[i as usize], blocks)
+}
+
+/// An inode's pointer, on a disk of so many blocks.
+fn within(pointer: Pointer, blocks: u32) -> Result<Pointer, ReadError>
+    ensures pointer { IfOk result (λ p. p ≡ pointer) }
+    ensures within { OnOk result (PointsBelow blocks pointer) }
+    ensures damaged { OnErr result (PointsBelow blocks pointer → ⊥) }
+    ensures only { IfErr result (λ e. e ≡ ReadError.Damaged) }
+{
+    match pointer {
+        Pointer::Hole => Ok(Pointer::Hole),
+        Pointer::Block(block) if 2 <= block.get() && block.get() < blocks => Ok(Pointer::Block(
+            block,
+        )),
+        Pointer::Block(_) => Err(ReadError::Damaged),
+    }
+}
+
+/// What pointer `i` is under one to an indirect block over `used` nodes.
+fn follow<B: Blocks>(
+    blocks: &mut B,
+    above: Pointer,
+    used: u32,
+    i: u32,
+) -> Result<Pointer, ReadError>
+    requires above { PointsBelow (B.count blocks.old) above }
+    requires index { i < 1024 }
+    ensures count { B.count blocks.new ≡ B.count blocks.old }
+    ensures counted { OnOk result (B.failed blocks.new ≡ B.failed blocks.old) }
+    ensures device { IsErrOf result ReadError.Device
+        → HasGrown (B.failed blocks.old) (B.failed blocks.new) }
+    ensures reads { (start : B) → B.ReadsOn start blocks.old → B.ReadsOn start blocks.new }
+    ensures same { (disk : ℕ → List ℕ) → B.Shows blocks.old disk → B.Shows blocks.new disk }
+    ensures within { IfOk result (PointsBelow (B.count blocks.old)) }
+    ensures pointer { (disk : ℕ → List ℕ) → B.Shows blocks.old disk
+        → IfOk result (λ p. p ≡ follow disk above i) }
+    ensures sound { (disk : ℕ → List ℕ) → B.Shows blocks.old disk
+        → OnOk result (IsNode (B.count blocks.old) disk used above) }
+    ensures damaged { (disk : ℕ → List ℕ) → B.Shows blocks.old disk
+        → IsErrOf result ReadError.Damaged
+        → IsNode (B.count blocks.old) disk used above → ⊥ }
+{
+    match above {
+        Pointer::Hole => Ok(Pointer::Hole),
+        Pointer::Block(node) => read_pointer(blocks, node, used, i),
+    }
+}
+
+/// Pointer `i` of an indirect block over `used` nodes.
+fn read_pointer<B: Blocks>(
+    blocks: &mut B,
+    node: BlockNumber,
+    used: u32,
+    i: u32,
+) -> Result<Pointer, ReadError>
+    requires place { node < B.count blocks.old }
+    requires index { i < 1024 }
+    ensures count { B.count blocks.new ≡ B.count blocks.old }
+    ensures counted { OnOk result (B.failed blocks.new ≡ B.failed blocks.old) }
+    ensures device { IsErrOf result ReadError.Device
+        → HasGrown (B.failed blocks.old) (B.failed blocks.new) }
+    ensures reads { (start : B) → B.ReadsOn start blocks.old → B.ReadsOn start blocks.new }
+    ensures same { (disk : ℕ → List ℕ) → B.Shows blocks.old disk → B.Shows blocks.new disk }
+    ensures within { IfOk result (PointsBelow (B.count blocks.old)) }
+    ensures pointer { (disk : ℕ → List ℕ) → B.Shows blocks.old disk
+        → IfOk result (λ p. p ≡ indirect_pointer (disk node) i) }
+    ensures sound { (disk : ℕ → List ℕ) → B.Shows blocks.old disk
+        → OnOk result (IsIndirectBlock (B.count blocks.old) used (disk node)) }
+    ensures damaged { (disk : ℕ → List ℕ) → B.Shows blocks.old disk
+        → IsErrOf result ReadError.Damaged
+        → IsIndirectBlock (B.count blocks.old) used (disk node) → ⊥ }
+{
+    blocks.make_resident(node)?;
+    let bytes = blocks.bytes(node);
+    if !is_indirect_block(bytes, blocks.count(), used) {
+        return Err(ReadError::Damaged);
+    }
+    Ok(indirect_pointer(bytes, i))
+}

@@ -1,0 +1,371 @@
+//! A file's blocks, settled ones and changed ones.
+
+ghost use Rattle.std.specs.Prelude.{◌≡◌, ℕ, ◌+◌, ◌*◌, ◌^◌, ◌<◌, ◌≤◌, List, length, slice_index, OnOk, IfOk, IsErrOf};
+ghost use Rattle.layout.specs.Bytes.{zeros};
+ghost use Rattle.layout.specs.Version.{greatest_size};
+ghost use Rattle.buffers.specs.Failures.{HasGrown};
+ghost use Rattle.buffers.specs.Positions.{IsPart};
+ghost use Rattle.blocktree.specs.Names.{IsNamed, IsListed};
+ghost use Rattle.blocktree.specs.Places.{block_count, depth_of, IsPath};
+
+use crate::ReadError;
+use crate::names::{list_nodes, name_nodes};
+use crate::place::find_place;
+use buffers::{Block, Blocks};
+use layout::{BLOCK_BYTES, BODY_POINTERS, BlockNumber, Pointer, level_of};
+use std::alloc::{AllocError, Global};
+use std::collections::BTreeMap;
+
+/// What memory has of a block.
+#[derive(Debug, Drop)]
+pub enum Slot {
+    /// Room for a change; the block is as the settled inode has it.
+    AsSettled,
+    Changed(Block),
+}
+
+/// Where a block of a file is.
+#[derive(Clone, Copy, Debug, PartialEq, Eq)]
+pub enum Location {
+    /// In memory, changed and without a place on the disk.
+    Changed,
+    /// Nowhere: it reads as zeros.
+    Hole,
+    /// At this place on the disk, and resident.
+    Disk(BlockNumber),
+}
+
+/// The blocks of a file, by index: those of its settled inode, and over them the changed ones.
+#[derive(Debug, Drop)]
+pub struct BlockTree {
+    /// The pointers of the settled inode.
+    pointers: [Pointer; BODY_POINTERS],
+    /// How many indirect blocks stand between one of these and a block.
+    depth: u32,
+    /// How many blocks the settled file has.
+    count: u32,
+    /// Blocks from here on are no more as the settled inode has them.
+    kept: u32,
+    slots: BTreeMap<u32, Slot>,
+    ghost fits: { (count ≤ 16 * 1024 ^ depth) × (kept ≤ count) },
+}
+
+/// How many blocks hold so many bytes.
+fn block_count(size: u64) -> u32
+    requires { size ≤ greatest_size 1 }
+    ensures { result ≡ block_count size }
+{
+    size.div_ceil(4096) as u32
+}
+
+static ZERO_BLOCK: [u8; BLOCK_BYTES] = [0; BLOCK_BYTES];
+
+/// What a hole reads as.
+#[tactic(auto, unfolding(layout::specs::Bytes::zeros))]
+fn zero_block() -> &'static [u8; BLOCK_BYTES]
+    ensures { result.now ≡ zeros 4096 }
+{
+    &ZERO_BLOCK
+}
+
+impl BlockTree {
+    ghost use Rattle.std.specs.Prelude.{if◌then◌else◌, ◌==◌, ◌↔◌, nat_lt, IfSome, IfNone, Contains};
+    ghost use Rattle.std.specs.Ordering.{nat_cmp};
+    ghost use Rattle.std.specs.BTreeMap as tree;
+    ghost use Rattle.buffers.specs.Positions.{laid};
+    ghost use Rattle.blocktree.specs.Trees.{tree_block, slot_bytes, settled_block, HasRoom, KeepsRoom, SameBlocks, SameSettled, IsChanged, IsSoundAt, KeepsSound, IsAt, OnDisk, is_changed_slot, is_old, old_indexes};
+
+    /// The blocks of a settled file of this size with these pointers in its inode.
+    pub fn settled(alloc: Global, pointers: [Pointer; BODY_POINTERS], size: u64) -> BlockTree
+        requires { size ≤ greatest_size 1 }
+        ensures { (disk : ℕ → List ℕ) (i : ℕ)
+            → tree_block disk result i
+            ≡ settled_block disk pointers (depth_of size) (block_count size) i }
+    {
+        let count = block_count(size);
+        BlockTree {
+            pointers,
+            depth: u32::from(level_of(size).saturating_sub(1)),
+            count,
+            kept: count,
+            slots: BTreeMap::new(alloc),
+        }
+    }
+
+    /// The blocks of an empty file.
+    pub fn empty(alloc: Global) -> BlockTree
+        ensures { (disk : ℕ → List ℕ) (i : ℕ) → tree_block disk result i ≡ zeros 4096 }
+    {
+        BlockTree::settled(alloc, [Pointer::Hole; BODY_POINTERS], 0)
+    }
+
+    /// The blocks of a file that has only a changed block 0.
+    pub fn of_block(alloc: Global, block: Block) -> Result<BlockTree, AllocError>
+        ensures { IfOk result (λ t. (disk : ℕ → List ℕ) (i : ℕ)
+            → tree_block disk t i ≡ (if i == 0 then block else zeros 4096)) }
+    {
+        let mut tree = BlockTree::empty(alloc);
+        tree.make_room(0)?;
+        tree.set(0, block);
+        Ok(tree)
+    }
+
+    /// The changed block `i`, if it is changed.
+    pub fn changed(&self, i: u32) -> Option<&Block>
+        ensures some { IfSome result (λ b. (disk : ℕ → List ℕ)
+            → tree_block disk self.now i ≡ b.now) }
+        ensures is { IfSome result (λ b. IsChanged self.now i) }
+        ensures none { IfNone result ((disk : ℕ → List ℕ)
+            → tree_block disk self.now i
+            ≡ settled_block disk self.now.pointers self.now.depth self.now.kept i) }
+        ensures not { IfNone result (IsChanged self.now i → ⊥) }
+    {
+        match self.slots.get(&i) {
+            Some(Slot::Changed(block)) => Some(block),
+            Some(Slot::AsSettled) => None,
+            None => None,
+        }
+    }
+
+    /// Finds block `i`, and makes it resident where it is on the disk.
+    pub fn locate<B: Blocks>(&self, blocks: &mut B, i: u32) -> Result<Location, ReadError>
+        ensures count { B.count blocks.new ≡ B.count blocks.old }
+        ensures counted { OnOk result (B.failed blocks.new ≡ B.failed blocks.old) }
+        ensures device { IsErrOf result ReadError.Device
+            → HasGrown (B.failed blocks.old) (B.failed blocks.new) }
+        ensures reads { (start : B) → B.ReadsOn start blocks.old → B.ReadsOn start blocks.new }
+        ensures same { (disk : ℕ → List ℕ) → B.Shows blocks.old disk → B.Shows blocks.new disk }
+        ensures resident { IfOk result (λ l. OnDisk l (B.IsResident blocks.new)) }
+        ensures found { (disk : ℕ → List ℕ) → B.Shows blocks.old disk
+            → IfOk result (IsAt disk self.now i) }
+        ensures sound { (disk : ℕ → List ℕ) → B.Shows blocks.old disk
+            → OnOk result (IsSoundAt (B.count blocks.old) disk self.now i) }
+        ensures damaged { (disk : ℕ → List ℕ) → B.Shows blocks.old disk
+            → IsErrOf result ReadError.Damaged
+            → IsSoundAt (B.count blocks.old) disk self.now i → ⊥ }
+    {
+        if let Some(_) = self.changed(i) {
+            return Ok(Location::Changed);
+        }
+        if i >= self.kept {
+            return Ok(Location::Hole);
+        }
+        match find_place(blocks, &self.pointers, self.depth, self.count, i)? {
+            Pointer::Hole => Ok(Location::Hole),
+            Pointer::Block(place) => {
+                blocks.make_resident(place)?;
+                Ok(Location::Disk(place))
+            }
+        }
+    }
+
+    /// The bytes of block `i`, which `locate` found there.
+    pub fn bytes<'a, B: Blocks>(
+        &'a self,
+        blocks: &'a B,
+        i: u32,
+        location: Location,
+    ) -> &'a [u8; BLOCK_BYTES]
+        requires { OnDisk location (B.IsResident blocks.now) }
+        ensures { (disk : ℕ → List ℕ) → B.Shows blocks.now disk → IsAt disk self.now i location
+            → result.now ≡ tree_block disk self.now i }
+    {
+        match location {
+            Location::Changed => match self.changed(i) {
+                Some(block) => block.bytes(),
+                None => zero_block(),
+            },
+            Location::Hole => zero_block(),
+            Location::Disk(place) => blocks.bytes(place),
+        }
+    }
+
+    /// Reads bytes of block `i`, from one place in it on.
+    pub fn read<B: Blocks>(
+        &self,
+        blocks: &mut B,
+        i: u32,
+        at: usize,
+        out: &mut [u8],
+    ) -> Result<(), ReadError>
+        requires { at + length out.old ≤ 4096 }
+        ensures count { B.count blocks.new ≡ B.count blocks.old }
+        ensures counted { OnOk result (B.failed blocks.new ≡ B.failed blocks.old) }
+        ensures device { IsErrOf result ReadError.Device
+            → HasGrown (B.failed blocks.old) (B.failed blocks.new) }
+        ensures reads { (start : B) → B.ReadsOn start blocks.old → B.ReadsOn start blocks.new }
+        ensures same { (disk : ℕ → List ℕ) → B.Shows blocks.old disk → B.Shows blocks.new disk }
+        ensures bytes { (disk : ℕ → List ℕ) → B.Shows blocks.old disk
+            → OnOk result (IsPart (slice_index (tree_block disk self.now i)) at out.new) }
+        ensures damaged { (disk : ℕ → List ℕ) → B.Shows blocks.old disk
+            → IsErrOf result ReadError.Damaged
+            → IsSoundAt (B.count blocks.old) disk self.now i → ⊥ }
+    {
+        let location = self.locate(blocks, i)?;
+        let bytes = self.bytes(blocks, i, location);
+        out.copy_from_slice(&bytes[at..at + out.len()]);
+        Ok(())
+    }
+
+    /// A copy of block `i`.
+    pub fn copy<B: Blocks>(&self, alloc: Global, blocks: &mut B, i: u32) -> Result<Block, ReadError>
+        ensures count { B.count blocks.new ≡ B.count blocks.old }
+        ensures counted { OnOk result (B.failed blocks.new ≡ B.failed blocks.old) }
+        ensures device { IsErrOf result ReadError.Device
+            → HasGrown (B.failed blocks.old) (B.failed blocks.new) }
+        ensures reads { (start : B) → B.ReadsOn start blocks.old → B.ReadsOn start blocks.new }
+        ensures same { (disk : ℕ → List ℕ) → B.Shows blocks.old disk → B.Shows blocks.new disk }
+        ensures bytes { (disk : ℕ → List ℕ) → B.Shows blocks.old disk
+            → IfOk result (λ b. b ≡ tree_block disk self.now i) }
+        ensures damaged { (disk : ℕ → List ℕ) → B.Shows blocks.old disk
+            → IsErrOf result ReadError.Damaged
+            → IsSoundAt (B.count blocks.old) disk self.now i → ⊥ }
+    {
+        let location = self.locate(blocks, i)?;
+        let block = Block::copy_of(alloc, self.bytes(blocks, i, location))?;
+        Ok(block)
+    }
+
+    /// The blocks that the settled inode names: those of the file's bytes and the indirect ones, from the blocks up, each
+    /// at its index's turn.
+    pub fn named<B: Blocks>(
+        &self,
+        alloc: Global,
+        blocks: &mut B,
+    ) -> Result<Vec<BlockNumber>, ReadError>
+        ensures count { B.count blocks.new ≡ B.count blocks.old }
+        ensures counted { OnOk result (B.failed blocks.new ≡ B.failed blocks.old) }
+        ensures device { IsErrOf result ReadError.Device
+            → HasGrown (B.failed blocks.old) (B.failed blocks.new) }
+        ensures reads { (start : B) → B.ReadsOn start blocks.old → B.ReadsOn start blocks.new }
+        ensures same { (disk : ℕ → List ℕ) → B.Shows blocks.old disk → B.Shows blocks.new disk }
+        ensures damaged { (disk : ℕ → List ℕ) → B.Shows blocks.old disk
+            → IsErrOf result ReadError.Damaged
+            → ((i : ℕ) → i < self.now.count
+            → IsPath (B.count blocks.old) disk self.now.pointers self.now.depth self.now.count i)
+            → ⊥ }
+        ensures named { (disk : ℕ → List ℕ) → B.Shows blocks.old disk
+            → IfOk result (λ names. (p : ℕ)
+            → Contains names.items p
+            ↔ IsNamed disk self.now.pointers self.now.depth self.now.count p) }
+    {
+        let mut names = Vec::new(alloc);
+        name_nodes(blocks, &self.pointers, self.depth, self.count, &mut names)?;
+        Ok(names)
+    }
+
+    /// Whether block `i` is no more as the settled inode has it.
+    fn is_old(&self, i: u32) -> bool
+        ensures { result ≡ is_old self.now i }
+    {
+        i >= self.kept || self.is_changed(i)
+    }
+
+    fn is_changed(&self, i: u32) -> bool
+        ensures { result ≡ is_changed_slot (tree.get nat_cmp self.now.slots i) }
+    {
+        match self.slots.get(&i) {
+            Some(Slot::Changed(_)) => true,
+            Some(Slot::AsSettled) => false,
+            None => false,
+        }
+    }
+
+    /// Those blocks of the settled file that are no more as its inode has them.
+    fn old_indexes(&self, alloc: Global) -> Result<Vec<u32>, AllocError>
+        ensures { IfOk result (λ old. old.items ≡ old_indexes self.now) }
+    {
+        (0..self.count).filter(|i| self.is_old(*i)).collect(alloc)
+    }
+
+    /// The blocks that the settled inode names and the next one won't: those that changed or were cut off, and the indirect
+    /// ones over them, which may stand there more than once.
+    pub fn old_blocks<B: Blocks>(
+        &self,
+        alloc: Global,
+        blocks: &mut B,
+    ) -> Result<Vec<BlockNumber>, ReadError>
+        ensures count { B.count blocks.new ≡ B.count blocks.old }
+        ensures counted { OnOk result (B.failed blocks.new ≡ B.failed blocks.old) }
+        ensures device { IsErrOf result ReadError.Device
+            → HasGrown (B.failed blocks.old) (B.failed blocks.new) }
+        ensures reads { (start : B) → B.ReadsOn start blocks.old → B.ReadsOn start blocks.new }
+        ensures same { (disk : ℕ → List ℕ) → B.Shows blocks.old disk → B.Shows blocks.new disk }
+        ensures damaged { (disk : ℕ → List ℕ) → B.Shows blocks.old disk
+            → IsErrOf result ReadError.Damaged
+            → ((i : ℕ) → i < self.now.count
+            → IsPath (B.count blocks.old) disk self.now.pointers self.now.depth self.now.count i)
+            → ⊥ }
+        ensures old { (disk : ℕ → List ℕ) → B.Shows blocks.old disk → IfOk result (λ names. (p : ℕ)
+            → Contains names.items p
+            ↔ IsListed disk self.now.pointers self.now.depth (old_indexes self.now) p) }
+    {
+        let indexes = self.old_indexes(alloc)?;
+        let mut names = Vec::new(alloc);
+        list_nodes(
+            alloc,
+            blocks,
+            &self.pointers,
+            self.depth,
+            self.count,
+            &indexes,
+            &mut names,
+        )?;
+        Ok(names)
+    }
+
+    /// Makes room for a change of block `i`. No block changes by it.
+    pub fn make_room(&mut self, i: u32) -> Result<(), AllocError>
+        ensures same { SameBlocks self.old self.new }
+        ensures room { OnOk result (HasRoom self.new i) }
+        ensures keeps { KeepsRoom self.old self.new }
+        ensures sound { KeepsSound self.old self.new }
+        ensures settled { SameSettled self.old self.new }
+    {
+        if !self.slots.contains_key(&i) {
+            return match self.slots.insert(i, Slot::AsSettled) {
+                Ok(_) => Ok(()),
+                Err(_) => Err(AllocError),
+            };
+        }
+        Ok(())
+    }
+
+    /// Changes block `i`, for which there is room.
+    pub fn set(&mut self, i: u32, block: Block)
+        requires { HasRoom self.old i }
+        ensures blocks { (disk : ℕ → List ℕ) (j : ℕ)
+            → tree_block disk self.new j ≡ (if j == i then block else tree_block disk self.old j) }
+        ensures keeps { KeepsRoom self.old self.new }
+        ensures settled { SameSettled self.old self.new }
+    {
+        let _ = self.slots.insert(i, Slot::Changed(block));
+    }
+
+    /// Cuts off the blocks from `count` on.
+    pub fn trim(&mut self, count: u32)
+        ensures blocks { (disk : ℕ → List ℕ) (j : ℕ)
+            → tree_block disk self.new j
+            ≡ (if nat_lt j count then tree_block disk self.old j else zeros 4096) }
+        ensures keeps { (j : ℕ) → j < count → HasRoom self.old j → HasRoom self.new j }
+        ensures settled { SameSettled self.old self.new }
+    {
+        self.slots.retain(|i, _| *i < count);
+        self.kept = self.kept.min(count);
+    }
+
+    /// Changes the blocks from `first` on, for each of which there is room.
+    pub fn install(&mut self, first: u32, pieces: Vec<Block>)
+        requires room { (j : ℕ) → j < length pieces.items → HasRoom self.old (first + j) }
+        requires most { first + length pieces.items < 2 ^ 32 }
+        ensures blocks { (disk : ℕ → List ℕ) (j : ℕ)
+            → tree_block disk self.new j ≡ laid (tree_block disk self.old) first pieces.items j }
+        ensures keeps { KeepsRoom self.old self.new }
+        ensures settled { SameSettled self.old self.new }
+    {
+        let mut rest = pieces;
+        while let Some(block) = rest.pop() {
+            self.set(first + rest.len() as u32, block);
+        }
+    }
+}

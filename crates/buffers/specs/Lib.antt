@@ -1,0 +1,4 @@
+pub mod Disks
+pub mod Failures
+pub mod Positions
+pub mod Readings

@@ -1,0 +1,69 @@
+//! The bytes of a block in memory.
+
+ghost use Rattle.std.specs.Prelude.{◌≡◌, ℕ, ◌+◌, ◌<◌, ◌≤◌, length, slice_index, IfOk};
+ghost use Rattle.layout.specs.Bytes.{zeros};
+ghost use Rattle.buffers.specs.Positions.{written, cut};
+
+use layout::BLOCK_BYTES;
+use std::alloc::{AllocError, Global};
+use std::marker::Model;
+
+/// The 4,096 bytes of a block, in memory.
+#[derive(Debug, Drop)]
+pub struct Block {
+    bytes: Box<[u8; BLOCK_BYTES]>,
+}
+
+impl Model for Block {
+    ghost use Rattle.std.specs.Prelude.{◌≡◌, List, ℕ, length};
+
+    ghost Value = { List ℕ };
+
+    ghost view = { λ b. b.bytes.value };
+
+    ghost invariant = { λ b. length b.bytes.value ≡ 4096 };
+}
+
+impl Block {
+    /// A block of zeros.
+    #[tactic(auto, unfolding(layout::specs::Bytes::zeros))]
+    pub fn zeroed(alloc: Global) -> Result<Block, AllocError>
+        ensures { IfOk result (λ b. b ≡ zeros 4096) }
+    {
+        let bytes = Box::new(alloc, [0; BLOCK_BYTES])?;
+        Ok(Block { bytes })
+    }
+
+    /// A copy of these bytes.
+    pub fn copy_of(alloc: Global, bytes: &[u8; BLOCK_BYTES]) -> Result<Block, AllocError>
+        ensures { IfOk result (λ b. b ≡ bytes.now) }
+    {
+        let bytes = Box::new(alloc, *bytes)?;
+        Ok(Block { bytes })
+    }
+
+    pub fn bytes(&self) -> &[u8; BLOCK_BYTES]
+        ensures { result.now ≡ self.now }
+    {
+        &self.bytes
+    }
+
+    /// Writes bytes from one place on.
+    pub fn put(&mut self, at: usize, bytes: &[u8])
+        requires { at + length bytes.now ≤ 4096 }
+        ensures bytes { (k : ℕ)
+            → slice_index self.new k ≡ written (slice_index self.old) at bytes.now k }
+        ensures length { length self.new ≡ 4096 }
+    {
+        self.bytes[at..at + bytes.len()].copy_from_slice(bytes);
+    }
+
+    /// Writes zeros from one place on.
+    pub fn cut(&mut self, at: usize)
+        requires { at ≤ 4096 }
+        ensures bytes { (k : ℕ) → slice_index self.new k ≡ cut (slice_index self.old) at k }
+        ensures length { length self.new ≡ 4096 }
+    {
+        self.bytes[at..].fill(0);
+    }
+}

@@ -1,0 +1,48 @@
+//! The blocks of the disk as the layers above read them.
+
+ghost use Rattle.std.specs.Prelude.{◌≡◌, ℕ, ◌<◌, List, OnOk, IsErrOf};
+ghost use Rattle.buffers.specs.Failures.{HasGrown};
+
+use crate::BufferError;
+use layout::{BLOCK_BYTES, BlockNumber};
+
+/// The blocks of a disk. A place reads as the disk does, whatever of it is kept in memory.
+pub trait Blocks {
+    /// The disk is known: each of its blocks reads so.
+    ghost Shows: { Self → (ℕ → List ℕ) → Type 0 };
+
+    /// From one moment to another nothing was done but reading.
+    ghost ReadsOn: { Self → Self → Type 0 };
+
+    /// The block at this place is in memory.
+    ghost IsResident: { Self → ℕ → Type 0 };
+
+    /// How many reads of the device failed so far.
+    ghost failed: { Self → ℕ };
+
+    /// How many blocks the disk has.
+    ghost count: { Self → ℕ };
+
+    /// How many blocks the disk has.
+    fn count(&self) -> u32
+        ensures { result ≡ count self.now };
+
+    /// Reads the block at a place into memory, where it isn't there. A place that was resident stays so.
+    fn make_resident(&mut self, place: BlockNumber) -> Result<(), BufferError>
+        requires { place < count self.old }
+        ensures count { count self.new ≡ count self.old }
+        ensures counted { OnOk result (failed self.new ≡ failed self.old) }
+        ensures device { IsErrOf result BufferError.Device
+            → HasGrown (failed self.old) (failed self.new) }
+        ensures reads { (start : Self) → ReadsOn start self.old → ReadsOn start self.new }
+        ensures same { (disk : ℕ → List ℕ) → Shows self.old disk → Shows self.new disk }
+        ensures resident { OnOk result (IsResident self.new place) }
+        ensures stays { (p : ℕ) → IsResident self.old p → IsResident self.new p };
+
+    /// The bytes of a resident block.
+    fn bytes(&self, place: BlockNumber) -> &[u8; BLOCK_BYTES]
+        requires { IsResident self.now place }
+        ensures { (disk : ℕ → List ℕ) → Shows self.now disk → result.now ≡ disk place };
+
+    ghost reads_nothing: { (s : Self) → ReadsOn s s };
+}

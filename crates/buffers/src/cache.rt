@@ -1,0 +1,147 @@
+//! A station's disk with blocks of it kept in memory.
+
+ghost use Rattle.std.specs.Prelude.{◌≡◌, ℕ, ◌+◌, ◌*◌, ◌/◌, ◌%◌, ◌<◌, ◌≤◌, ◌^◌, List, length, slice_index, OnOk, IfOk, IfErr};
+ghost use Rattle.std.specs.Ordering.{nat_cmp};
+ghost use Rattle.std.specs.BTreeMap as tree;
+ghost use Rattle.station.specs.Images.{SomeSectorsWritten};
+ghost use Rattle.station.specs.Moments.{HasGrown};
+ghost use Rattle.station.specs.Calls.{WriteCall};
+ghost use Rattle.buffers.specs.Disks.{IsBlock, IsDisk, ShowsDisk, ReadsOn, disk_with};
+
+use crate::{Block, Blocks, BufferError};
+use layout::{BLOCK_BYTES, BlockNumber, SECTOR_BYTES};
+use station::Station;
+use std::alloc::Global;
+use std::collections::BTreeMap;
+
+/// A station, and those blocks of its disk that are kept in memory. Every block that was read stays for now.
+#[derive(Drop)]
+pub struct Buffers<S> {
+    /// Its disk is to be written by `store` alone: what is kept would not change with it.
+    pub station: S,
+    kept: BTreeMap<u32, Block>,
+    alloc: Global,
+}
+
+/// Reads a block.
+fn read_block<S: Station>(alloc: Global, station: &mut S, place: u32) -> Result<Block, BufferError>
+    requires within { 8 * place + 8 ≤ (S.meaning station.old).sectors }
+    requires fits { 8 * place + 8 < 2 ^ 32 }
+    ensures reads { ReadsOn (S.meaning station.old) (S.meaning station.new) }
+    ensures counted { OnOk result
+        ((S.meaning station.new).failed_reads ≡ (S.meaning station.old).failed_reads) }
+    ensures device { IfErr result (λ e. e ≡ BufferError.Device
+        → HasGrown (S.meaning station.old).failed_reads (S.meaning station.new).failed_reads) }
+    ensures block { (S.meaning station.old).is_honest
+        → IfOk result (IsBlock (S.meaning station.old).seen.disk place) }
+{
+    let mut block = Block::zeroed(alloc)?;
+    for i in 0..8u32 {
+        let mut sector = [0u8; SECTOR_BYTES];
+        let Ok(()) = station.read_sector(8 * place + i, &mut sector) else {
+            return Err(BufferError::Device);
+        };
+        block.put(512 * i as usize, &sector);
+    }
+    Ok(block)
+}
+
+impl<S: Station> Blocks for Buffers<S> {
+    ghost use Rattle.buffers.specs.Readings.{reads_none};
+
+    ghost Shows = { λ b disk. ShowsDisk (S.meaning b.station) b.kept disk };
+
+    ghost ReadsOn = { λ a b. ReadsOn (S.meaning a.station) (S.meaning b.station) };
+
+    ghost IsResident = { λ b place. tree.ContainsKey nat_cmp b.kept place };
+
+    ghost failed = { λ b. (S.meaning b.station).failed_reads };
+
+    ghost count = { λ b. (S.meaning b.station).sectors / 8 };
+
+    fn count(&self) -> u32 {
+        self.station.sectors() / 8
+    }
+
+    fn make_resident(&mut self, place: BlockNumber) -> Result<(), BufferError> {
+        let place = place.get();
+        if self.kept.contains_key(&place) {
+            return Ok(());
+        }
+        let _ = self.station.sectors();
+        let block = read_block(self.alloc, &mut self.station, place)?;
+        match self.kept.insert(place, block) {
+            Ok(_) => Ok(()),
+            Err(_) => Err(BufferError::NoMemory),
+        }
+    }
+
+    fn bytes(&self, place: BlockNumber) -> &[u8; BLOCK_BYTES] {
+        match self.kept.get(&place.get()) {
+            Some(block) => block.bytes(),
+            None => unreachable!(),
+        }
+    }
+
+    ghost reads_nothing = { λ s. reads_none (S.meaning s.station) };
+}
+
+impl<S: Station> Buffers<S> {
+    /// A station of which nothing is kept.
+    pub fn new(alloc: Global, station: S) -> Buffers<S>
+        ensures station { result.station ≡ station }
+        ensures shows { (disk : ℕ → List ℕ) → (S.meaning station).is_honest
+            → IsDisk (S.meaning station) disk
+            → ShowsDisk (S.meaning result.station) result.kept disk }
+    {
+        Buffers {
+            station,
+            kept: BTreeMap::new(alloc),
+            alloc,
+        }
+    }
+
+    /// Writes a block to its place, which then reads so. It takes no memory. Where it fails, the place may read either way.
+    pub fn store(
+        &mut self,
+        place: BlockNumber,
+        bytes: &[u8; BLOCK_BYTES],
+    ) -> Result<(), BufferError>
+        requires { 8 * place + 8 ≤ (S.meaning self.old.station).sectors }
+        ensures call { WriteCall (SomeSectorsWritten (8 * place) bytes.now)
+            (S.meaning self.old.station) (S.meaning self.new.station) result }
+        ensures device { IfErr result (λ e. e ≡ BufferError.Device) }
+        ensures shows { (disk : ℕ → List ℕ)
+            → ShowsDisk (S.meaning self.old.station) self.old.kept disk
+            → OnOk result
+            (ShowsDisk (S.meaning self.new.station) self.new.kept
+            (disk_with place bytes.now disk)) }
+    {
+        let place = place.get();
+        let _ = self.kept.remove(&place);
+        match self.station.write_block(place, bytes) {
+            Ok(()) => Ok(()),
+            Err(_) => Err(BufferError::Device),
+        }
+    }
+
+    /// Lets go of the blocks that a command made resident: they may have to be made resident again.
+    pub fn let_go(&mut self)
+        ensures station { self.new.station ≡ self.old.station }
+        ensures shows { (disk : ℕ → List ℕ)
+            → ShowsDisk (S.meaning self.old.station) self.old.kept disk
+            → ShowsDisk (S.meaning self.new.station) self.new.kept disk }
+    {}
+
+    /// The station.
+    pub fn into_station(self) -> S
+        ensures { result ≡ self.station }
+    {
+        let Buffers {
+            station,
+            kept: _kept,
+            alloc: _alloc,
+        } = self;
+        station
+    }
+}

@@ -1,0 +1,14 @@
+//! Blocks of the disk in memory. A block is named by its place on the disk, or it is changed, has no place yet, and is
+//! owned by whoever changed it; so two files can't share a changed block. A place reads as the disk does, whatever of it
+//! is kept. Only `make_resident` reads the device.
+#![tactic(auto)]
+
+mod block;
+mod blocks;
+mod cache;
+mod error;
+
+pub use block::Block;
+pub use blocks::Blocks;
+pub use cache::Buffers;
+pub use error::BufferError;

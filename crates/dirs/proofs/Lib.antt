@@ -1,0 +1,6 @@
+pub mod EntryLists
+pub mod NameLaws
+pub mod CountLaws
+pub mod SurveyLaws
+pub mod HoldLaws
+pub mod ListingLaws

@@ -1,0 +1,46 @@
+use Rattle.std.proofs.Common.{◌≡◌, ◌∙◌, ◌||◌, inl, inr, ◌<◌, ◌/◌, map, is_some, ap, sym, subst, add-one, arith}
+use Rattle.std.proofs.lemmas.Bool.{cases_eq}
+use Rattle.layout.specs.Directory.{HoldsEntries}
+use Rattle.inode.specs.Files.{file_block}
+use Rattle.dirs.specs.Entries.{number_of}
+use Rattle.dirs.specs.Directory.{first_entries}
+use Rattle.dirs.specs.Listings.{lists}
+use Rattle.dirs.proofs.ListingLaws.{stands-append, or_comm, listing}
+use Rattle.dirs.proofs.directory.list.Goals as goal
+
+pub loop-i-preserved : goal.loop-i-preserved
+loop-i-preserved g c =
+    let so_far = c.loop-i.invariant in
+    let located = c.in_ok-location.ensures in
+    let i = c.loop-i.i in
+    let below : i < c.args.file.now.size / 4096 = subst (λ s. i < s / 4096) c.size.ensures.value c.loop-i-test.true in
+    record {
+      count = located.count ∙ so_far.count;
+      failed = located.counted ∙ so_far.failed;
+      reads = λ start so. located.reads start (so_far.reads start so);
+      same = λ disk shows. located.same disk (so_far.same disk shows);
+      sound = λ disk shows j before.
+          let now = so_far.same disk shows in
+          let bytes = c.bytes.ensures disk (located.same disk now) (located.found disk now) in
+          let held = c.in_ok-add_names.ensures.sound in
+          elim (cases_eq j i) [
+            | inl here ↦ (held.0, subst (λ k. HoldsEntries c.args.inodes (file_block disk c.args.file.now k) held.0) (sym here) (subst (λ b. HoldsEntries c.args.inodes b held.0) bytes held.1))
+            | inr else ↦ so_far.sound disk shows j (omega (arith, before, else))
+          ];
+      lists = λ disk entries shows holds name.
+          let now = so_far.same disk shows in
+          let bytes = c.bytes.ensures disk (located.same disk now) (located.found disk now) in
+          let here = c.in_ok-add_names.ensures.names (entries i) (subst (λ b. HoldsEntries c.args.inodes b (entries i)) (sym bytes) (holds i below)) name in
+          subst (λ k. lists (map (λ n. n.items) c.add_names.new.names.keys) name ≡ is_some (number_of name (first_entries entries k))) (sym (add-one i))
+          (here ∙ ap (λ l. l || is_some (number_of name (entries i))) (so_far.lists disk entries shows holds name)
+          ∙ or_comm (is_some (number_of name (first_entries entries i))) (is_some (number_of name (entries i)))
+          ∙ sym (stands-append name (entries i) (first_entries entries i)));
+    }
+
+pub returns-clause-listed : goal.returns-clause-listed
+returns-clause-listed g c = λ disk names shows is.
+    let end : c.size.result / 4096 ≡ c.args.file.now.size / 4096 = ap (λ s. s / 4096) c.size.ensures.value in
+    let all : c.loop-i.i ≡ c.args.file.now.size / 4096 = omega (arith, end) in
+    listing c.args.inodes (c.args.file.now.size / 4096) (file_block disk c.args.file.now) names c.in_ok-in_order.field-0 is.holds c.in_ok-in_order.ensures.sorted
+    (λ name. ap (λ l. lists l name) c.in_ok-in_order.ensures.same ∙ c.loop-i.invariant.lists disk is.holds.entries shows is.holds.holds name
+    ∙ ap (λ k. is_some (number_of name (first_entries is.holds.entries k))) all)

@@ -1,0 +1,16 @@
+use Rattle.std.proofs.Common.{◌≡◌, ◌∙◌, ℕ, ◌*◌, ◌/◌, ◌%◌, ◌≤◌, List, slice_index, ap, arith, ltb}
+use Rattle.std.proofs.lemmas.Bool.{le-ltb, cond-false}
+use Rattle.layout.specs.Bytes.{zeros}
+use Rattle.blocktree.specs.Places.{block_count}
+use Rattle.inode.specs.Files.{file_block}
+use Rattle.inode.proofs.BytePositions.{slice_index-zeros}
+use Rattle.dirs.proofs.edit.Edit.commit.Goals as goal
+
+pub returns-clause-ends : goal.returns-clause-ends
+returns-clause-ends c = λ disk p past.
+    let size = 4096 * c.from.result in
+    let is : c.set_size.new.self.size ≡ size = c.set_size.ensures.size in
+    let beyond : block_count size ≤ p / 4096 = omega (arith, past, is) in
+    let gone : file_block disk c.set_size.new.self (p / 4096) ≡ zeros 4096 =
+    c.set_size.ensures.blocks disk (p / 4096) ∙ cond-false (ltb (p / 4096) (block_count size)) (file_block disk c.loop-i.file (p / 4096)) (zeros 4096) (le-ltb (p / 4096) (block_count size) beyond) in
+    ap (λ (b : List ℕ). slice_index b (p % 4096)) gone ∙ slice_index-zeros 4096 (p % 4096)

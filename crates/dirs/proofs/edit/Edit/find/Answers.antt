@@ -1,0 +1,17 @@
+use Rattle.std.proofs.Common.{rules, sym, subst}
+use Rattle.dirs.specs.Edits.{IsPlaced, edited_block}
+use Rattle.dirs.proofs.HoldLaws.{missing_name}
+use Rattle.dirs.proofs.edit.Edit.find.Goals as goal
+
+pub returns-in_err-place-clause-damaged : goal.returns-in_err-place-clause-damaged
+returns-in_err-place-clause-damaged g c = λ disk names shows is reached has. c.in_err-place.ensures.damaged disk has.entries shows (search rules) reached has.holds
+
+pub returns-in-Some-clause-found : goal.returns-in-Some-clause-found
+returns-in-Some-clause-found g c = λ disk names shows has.
+    let placed = subst (IsPlaced has.entries c.args.self.now.count c.args.name.now) c.in-Some.is (c.in_ok-place.ensures.placed disk has.entries shows has.holds) in
+    sym (has.are.found c.in-Some.place.block c.args.name.now c.in-Some.place.number placed.1)
+
+pub returns-in-None-clause-found : goal.returns-in-None-clause-found
+returns-in-None-clause-found g c = λ disk names shows has.
+    let placed = subst (IsPlaced has.entries c.args.self.now.count c.args.name.now) c.in-None.is (c.in_ok-place.ensures.placed disk has.entries shows has.holds) in
+    sym (missing_name c.args.inodes c.args.self.now.count (edited_block disk c.args.file.now c.args.self.now) names c.args.name.now has placed)

@@ -1,0 +1,31 @@
+use Rattle.std.proofs.Common.{◌≡◌, ◌∙◌, inl, inr, ◌-◌, ◌<◌, ℕ, arith, subst, []}
+use Rattle.std.proofs.lemmas.Bool.{cases_lt}
+use Rattle.std.proofs.lemmas.List.{nil_from_length}
+use Rattle.dirs.proofs.edit.Edit.trimmed.Goals as goal
+
+pub returns-then-look-gt0-clause-empty : goal.returns-then-look-gt0-clause-empty
+returns-then-look-gt0-clause-empty g c = λ disk entries shows holds i from below.
+    c.loop-i.invariant.empty disk entries shows holds i (omega (arith, from)) below
+
+pub loop-i-preserved : goal.loop-i-preserved
+loop-i-preserved g c =
+    let so_far = c.loop-i.invariant in
+    let look = c.in_ok-look.ensures in
+    record {
+      count = look.count ∙ so_far.count;
+      failed = look.counted ∙ so_far.failed;
+      reads = λ start so. look.reads start (so_far.reads start so);
+      same = λ disk shows. look.same disk (so_far.same disk shows);
+      empty = λ disk entries shows holds j from below. elim (cases_lt j c.loop-i.i) [
+        | inl here ↦
+            let is : c.loop-i.i - 1 ≡ j = omega (arith, from, here) in
+            let within : c.loop-i.i - 1 < c.args.end = omega (arith, is, below) in
+            let names = (look.tells disk (so_far.same disk shows)).names (entries (c.loop-i.i - 1)) (holds (c.loop-i.i - 1) within) in
+            subst (λ (k : ℕ). entries k ≡ []) is (nil_from_length (entries (c.loop-i.i - 1)) (omega (arith, names)))
+        | inr behind ↦ so_far.empty disk entries shows holds j behind below
+      ];
+    }
+
+pub returns-clause-empty : goal.returns-clause-empty
+returns-clause-empty g c = λ disk entries shows holds i from below.
+    c.loop-i.invariant.empty disk entries shows holds i (omega arith) below

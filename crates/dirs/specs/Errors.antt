@@ -1,0 +1,10 @@
+-- Errors of the layer below, as those of this one.
+use Rattle.blocktree.specs.declared.error.ReadError.{ReadError}
+use Rattle.blocktree.specs.declared.error.ReadError.TheVariants as below
+use Rattle.dirs.specs.declared.error.AddError.{AddError}
+use Rattle.dirs.specs.declared.error.AddError.TheVariants.{NoMemory, Device, Damaged}
+
+abbrev pub add_error : ReadError → AddError
+add_error below.NoMemory = NoMemory
+add_error below.Device = Device
+add_error below.Damaged = Damaged

@@ -1,0 +1,7 @@
+pub mod Entries
+pub mod Directory
+pub mod Errors
+pub mod Looks
+pub mod Edits
+pub mod Listings
+pub mod Surveys

@@ -1,0 +1,134 @@
+//! Looking into a directory.
+
+ghost use Rattle.std.specs.Prelude.{◌≡◌, ◌<◌, ◌/◌, ◌||◌, ℕ, List, OnOk, OnErr, IfOk, IfErr, IsErrOf, map, is_some};
+ghost use Rattle.std.specs.Ordering.{nat_cmp};
+ghost use Rattle.std.specs.Cmp.Lexicographic.{slice_cmp};
+ghost use Rattle.std.specs.List.Sorted.{IsStrictlySortedBy};
+ghost use Rattle.layout.specs.Directory.{Named, HoldsEntries};
+ghost use Rattle.buffers.specs.Failures.{HasGrown};
+ghost use Rattle.blocktree.specs.Trees.{IsSoundAt};
+ghost use Rattle.blocktree.specs.declared.error.ReadError.TheVariants.{NoMemory, Damaged};
+ghost use Rattle.inode.specs.Files.{file_block};
+ghost use Rattle.model.specs.Paths.{Name};
+ghost use Rattle.dirs.specs.Entries.{number_of};
+ghost use Rattle.dirs.specs.Directory.{NameMap};
+ghost use Rattle.dirs.specs.Edits.{IsDirectory, IsReached};
+ghost use Rattle.dirs.specs.Listings.{IsListing, lists};
+
+use crate::Edit;
+use blocktree::ReadError;
+use buffers::Blocks;
+use inode::File;
+use layout::{BLOCK_BYTES, NextEntry, is_directory_block, next_entry};
+use model::Names;
+use std::alloc::{AllocError, Global};
+use std::collections::BTreeSet;
+
+/// The number that a name of a directory stands for; None where it is none of its names.
+pub fn find<B: Blocks>(
+    alloc: Global,
+    file: &File,
+    blocks: &mut B,
+    inodes: u32,
+    name: &[u8],
+) -> Result<Option<u32>, ReadError>
+    ensures count { B.count blocks.new ≡ B.count blocks.old }
+    ensures counted { OnOk result (B.failed blocks.new ≡ B.failed blocks.old) }
+    ensures device { IsErrOf result ReadError.Device →
+        HasGrown (B.failed blocks.old) (B.failed blocks.new) }
+    ensures reads { (start : B) → B.ReadsOn start blocks.old → B.ReadsOn start blocks.new }
+    ensures same { (disk : ℕ → List ℕ) → B.Shows blocks.old disk → B.Shows blocks.new disk }
+    ensures found { (disk : ℕ → List ℕ) (names : NameMap) → B.Shows blocks.old disk →
+        IsDirectory inodes disk file.now names → IfOk result (λ number. number ≡ names name.now) }
+    ensures damaged { (disk : ℕ → List ℕ) (names : NameMap) → B.Shows blocks.old disk →
+        IsErrOf result ReadError.Damaged →
+        IsReached (B.count blocks.old) disk file.now (file.now.size / 4096) →
+        IsDirectory inodes disk file.now names → ⊥ }
+{
+    let edit = Edit::of(alloc, file);
+    edit.find(file, blocks, inodes, name)
+}
+
+/// The names of a directory, sorted by their bytes.
+pub fn list<B: Blocks>(
+    alloc: Global,
+    file: &File,
+    blocks: &mut B,
+    inodes: u32,
+) -> Result<Names, ReadError>
+    ensures count { B.count blocks.new ≡ B.count blocks.old }
+    ensures counted { OnOk result (B.failed blocks.new ≡ B.failed blocks.old) }
+    ensures device { IsErrOf result ReadError.Device →
+        HasGrown (B.failed blocks.old) (B.failed blocks.new) }
+    ensures reads { (start : B) → B.ReadsOn start blocks.old → B.ReadsOn start blocks.new }
+    ensures same { (disk : ℕ → List ℕ) → B.Shows blocks.old disk → B.Shows blocks.new disk }
+    ensures listed { (disk : ℕ → List ℕ) (names : NameMap) → B.Shows blocks.old disk →
+        IsDirectory inodes disk file.now names → IfOk result (IsListing names) }
+    ensures sound { (disk : ℕ → List ℕ) → B.Shows blocks.old disk →
+        OnOk result ((i : ℕ) → i < file.now.size / 4096 → (entries : List Named) ×
+        HoldsEntries inodes (file_block disk file.now i) entries) }
+    ensures damaged { (disk : ℕ → List ℕ) (names : NameMap) → B.Shows blocks.old disk →
+        IsErrOf result ReadError.Damaged →
+        IsReached (B.count blocks.old) disk file.now (file.now.size / 4096) →
+        IsDirectory inodes disk file.now names → ⊥ }
+{
+    let mut names = BTreeSet::new(alloc);
+    for i in 0..(file.size() / BLOCK_BYTES as u64) as u32 {
+        let location = file.locate(blocks, i)?;
+        add_names(alloc, &mut names, file.bytes(blocks, i, location), inodes)?;
+    }
+    Ok(in_order(alloc, names)?)
+}
+
+// Adds the names of a block to others; Damaged where it is outside its grammar.
+fn add_names(
+    alloc: Global,
+    names: &mut BTreeSet<Vec<u8>>,
+    bytes: &[u8; BLOCK_BYTES],
+    inodes: u32,
+) -> Result<(), ReadError>
+    ensures names { (entries : List Named) → HoldsEntries inodes bytes.now entries →
+        OnOk result ((name : Name) → lists (map (λ n. n.items) names.new.keys) name
+        ≡ (lists (map (λ n. n.items) names.old.keys) name || is_some (number_of name entries))) }
+    ensures sound { OnOk result ((entries : List Named) × HoldsEntries inodes bytes.now entries) }
+    ensures damaged { IsErrOf result ReadError.Damaged → (entries : List Named) →
+        HoldsEntries inodes bytes.now entries → ⊥ }
+    ensures device { IsErrOf result ReadError.Device → ⊥ }
+{
+    if !is_directory_block(bytes, inodes) {
+        return Err(ReadError::Damaged);
+    }
+    add_each(alloc, names, bytes, inodes)?;
+    Ok(())
+}
+
+// Adds the names of these entries to others.
+fn add_each(
+    alloc: Global,
+    names: &mut BTreeSet<Vec<u8>>,
+    bytes: &[u8],
+    inodes: u32,
+) -> Result<(), AllocError>
+    ensures { (entries : List Named) → HoldsEntries inodes bytes.now entries →
+        OnOk result ((name : Name) → lists (map (λ n. n.items) names.new.keys) name
+        ≡ (lists (map (λ n. n.items) names.old.keys) name || is_some (number_of name entries))) }
+{
+    match next_entry(bytes, inodes) {
+        NextEntry::End => Ok(()),
+        NextEntry::Malformed => Ok(()),
+        NextEntry::Entry { entry, rest } => {
+            names.insert(Vec::from_slice(alloc, entry.name)?)?;
+            add_each(alloc, names, rest, inodes)?;
+            Ok(())
+        }
+    }
+}
+
+// The names of a set, in its order.
+fn in_order(alloc: Global, names: BTreeSet<Vec<u8>>) -> Result<Names, AllocError>
+    ensures same { IfOk result (λ l. l ≡ map (λ n. n.items) names.keys) }
+    ensures sorted { IfOk result (IsStrictlySortedBy (slice_cmp nat_cmp)) }
+{
+    let names: Vec<Vec<u8>> = names.into_iter().collect(alloc)?;
+    Ok(Names::new(names))
+}

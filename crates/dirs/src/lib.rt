@@ -1,0 +1,20 @@
+//! Directories: a map from names to numbers, in blocks of entries. What is changed of a directory is prepared as one edit, which
+//! may take names away and add one, and is committed without failing. Nothing here knows where a block lies.
+#![tactic(auto)]
+
+mod directory;
+mod edit;
+mod entries;
+mod error;
+mod look;
+mod survey;
+
+pub use directory::{find, list};
+pub use edit::Edit;
+pub use error::AddError;
+
+/// Names in one directory at most.
+pub const MOST_NAMES: u32 = 65_536;
+
+/// Blocks that the greatest file has.
+const MOST_BLOCKS: u32 = 16_384;

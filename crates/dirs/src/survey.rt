@@ -1,0 +1,76 @@
+//! A survey of a directory, before a name is added to it.
+
+ghost use Rattle.std.specs.Prelude.{◌≡◌, ◌+◌, ◌*◌, ◌^◌, ◌<◌, ◌≤◌, ℕ, List, IfOk, OnOk, IsErrOf};
+ghost use Rattle.layout.specs.Directory.{Named, HoldsEntries};
+ghost use Rattle.buffers.specs.Failures.{HasGrown};
+ghost use Rattle.dirs.specs.Directory.{NameMap};
+ghost use Rattle.dirs.specs.Edits.{edited_block, HasNames, IsReached};
+ghost use Rattle.dirs.specs.Surveys.{Finds, IsFull, next_room};
+
+use crate::Edit;
+use crate::look::Look;
+use blocktree::ReadError;
+use buffers::Blocks;
+use inode::File;
+use layout::BLOCK_BYTES;
+
+/// What a survey tells.
+#[derive(Clone, Copy, Debug)]
+pub(crate) struct Survey {
+    /// NameMap of the directory.
+    pub(crate) names: u32,
+    /// The first block with room.
+    pub(crate) room: Option<u32>,
+}
+
+/// Counts the names of a directory, and finds the first block with room for an entry of so many bytes.
+pub(crate) fn survey_of<B: Blocks>(
+    edit: &Edit,
+    file: &File,
+    blocks: &mut B,
+    inodes: u32,
+    bytes: usize,
+) -> Result<Survey, ReadError>
+    requires { bytes ≤ 260 }
+    ensures count { B.count blocks.new ≡ B.count blocks.old }
+    ensures counted { OnOk result (B.failed blocks.new ≡ B.failed blocks.old) }
+    ensures device { IsErrOf result ReadError.Device →
+        HasGrown (B.failed blocks.old) (B.failed blocks.new) }
+    ensures reads { (start : B) → B.ReadsOn start blocks.old → B.ReadsOn start blocks.new }
+    ensures same { (disk : ℕ → List ℕ) → B.Shows blocks.old disk → B.Shows blocks.new disk }
+    ensures finds { (disk : ℕ → List ℕ) → B.Shows blocks.old disk →
+        IfOk result (Finds inodes (edited_block disk file.now edit.now) edit.now.count bytes) }
+    ensures full { IfOk result (λ s. IsFull edit.now.count s s.room) }
+    ensures damaged { (disk : ℕ → List ℕ) (names : NameMap) → B.Shows blocks.old disk →
+        IsErrOf result ReadError.Damaged →
+        IsReached (B.count blocks.old) disk file.now edit.now.count →
+        HasNames inodes disk file.now edit.now names → ⊥ }
+{
+    let mut survey = Survey {
+        names: 0,
+        room: None,
+    };
+    for i in 0..edit.count {
+        let look = edit.look(file, blocks, i, inodes, b"")?;
+        survey = with_block(survey, i, look, bytes);
+    }
+    Ok(survey)
+}
+
+// What is told with one more block.
+fn with_block(before: Survey, i: u32, look: Look, bytes: usize) -> Survey
+    requires names { before.names + look.names < 2 ^ 32 }
+    requires bytes { bytes ≤ 260 }
+    ensures names { result.names ≡ before.names + look.names }
+    ensures room { result.room ≡ next_room i (look.used + bytes) before.room }
+{
+    let room = match before.room {
+        Some(first) => Some(first),
+        None if look.used as usize + bytes <= BLOCK_BYTES => Some(i),
+        None => None,
+    };
+    Survey {
+        names: before.names + look.names,
+        room,
+    }
+}

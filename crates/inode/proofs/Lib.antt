@@ -1,0 +1,3 @@
+pub mod BytePositions
+pub mod EdgeLaws
+pub mod ComposingLaws

@@ -1,0 +1,20 @@
+use Rattle.std.proofs.Common.{◌≡◌, ◌∙◌, ap, sym, ℕ}
+use Rattle.buffers.specs.Positions.{cut, first_bytes}
+use Rattle.inode.specs.Files.{byte_at}
+use Rattle.inode.specs.Changes.{EndsAt}
+use Rattle.inode.proofs.ComposingLaws.{committed_byte, cut_ends}
+use Rattle.inode.proofs.EdgeLaws.{list_of_cut}
+use Rattle.std.proofs.Common.{subst}
+use Rattle.inode.proofs.file.File.resize.Goals as goal
+
+pub returns-clause-file : goal.returns-clause-file
+returns-clause-file g c = λ disk shows whole.
+    let size : c.args.size ≡ c.commit.new.self.size = sym (c.commit.ensures.size ∙ c.in_ok-change.ensures.size) in
+    subst (λ (n : ℕ). EndsAt n (byte_at disk c.commit.new.self)) size (cut_ends (byte_at disk c.args.self.now) (byte_at disk c.commit.new.self) c.args.size
+    (committed_byte disk c.args.self.now c.prepare_cut.new.self c.commit.new.self c.in_ok-change.change (cut (byte_at disk c.args.self.now) c.args.size) c.in_ok-change.ensures.same c.commit.ensures (c.in_ok-change.ensures.bytes disk shows whole)))
+
+pub returns-clause-list : goal.returns-clause-list
+returns-clause-list g c = λ disk shows whole.
+    ap (first_bytes (byte_at disk c.commit.new.self)) (c.commit.ensures.size ∙ c.in_ok-change.ensures.size)
+    ∙ list_of_cut (byte_at disk c.args.self.now) (byte_at disk c.commit.new.self) c.args.self.now.size c.args.size whole
+    (committed_byte disk c.args.self.now c.prepare_cut.new.self c.commit.new.self c.in_ok-change.change (cut (byte_at disk c.args.self.now) c.args.size) c.in_ok-change.ensures.same c.commit.ensures (c.in_ok-change.ensures.bytes disk shows whole))

@@ -1,0 +1,50 @@
+-- A file in memory, and a change of it that is prepared.
+use Rattle.std.specs.Prelude.{ℕ, ◌≡◌, ◌+◌, ◌<◌, List, length}
+use Rattle.buffers.specs.Positions.{first_bytes}
+use Rattle.blocktree.specs.Trees.{tree_block, HasRoom, SameBlocks}
+use Rattle.blocktree.specs.declared.tree.BlockTree.{BlockTree}
+use Rattle.inode.specs.Changes.{byte_in, changed_block, EndsAt}
+use Rattle.inode.specs.declared.file.File.{File}
+use Rattle.inode.specs.declared.change.Change.{Change}
+
+-- block i of a file
+abbrev pub file_block : (ℕ → List ℕ) → File → ℕ → List ℕ
+file_block disk f = tree_block disk f.tree
+
+-- the byte at a position of a file
+abbrev pub byte_at : (ℕ → List ℕ) → File → ℕ → ℕ
+byte_at disk f = byte_in (file_block disk f)
+
+-- all bytes past the size are 0
+abbrev pub IsFile : (ℕ → List ℕ) → File → Type 0
+IsFile disk f = EndsAt f.size (byte_at disk f)
+
+-- the bytes of a file
+abbrev pub bytes_of : (ℕ → List ℕ) → File → List ℕ
+bytes_of disk f = first_bytes (byte_at disk f) f.size
+
+-- block i of a file as if a change were in force
+abbrev pub block_with : (ℕ → List ℕ) → File → Change → ℕ → List ℕ
+block_with disk f w = changed_block (file_block disk f) w.size w.first w.pieces.items
+
+-- the byte at a position of a file as if a change were in force
+abbrev pub byte_with : (ℕ → List ℕ) → File → Change → ℕ → ℕ
+byte_with disk f w = byte_in (block_with disk f w)
+
+-- the bytes of a file as if a change were in force
+abbrev pub bytes_with : (ℕ → List ℕ) → File → Change → List ℕ
+bytes_with disk f w = first_bytes (byte_with disk f w) w.size
+
+-- there is room for each block of a change
+abbrev pub Fits : BlockTree → Change → Type 0
+Fits t w = (j : ℕ) → j < length w.pieces.items → HasRoom t (w.first + j)
+
+-- the same file, whatever the disk
+pub record IsSameFile (old new : File) : Type 0 where
+  pub size : new.size ≡ old.size
+  pub blocks : SameBlocks old.tree new.tree
+
+-- a prepared change was put in force
+pub record IsCommitted (old : File) (w : Change) (new : File) : Type 0 where
+  pub size : new.size ≡ w.size
+  pub blocks : (disk : ℕ → List ℕ) (i : ℕ) → file_block disk new i ≡ block_with disk old w i

@@ -1,0 +1,5 @@
+pub mod Errors
+pub mod Changes
+pub mod Bodies
+pub mod Edges
+pub mod Files

@@ -1,0 +1,16 @@
+//! A change of a file that is prepared.
+
+ghost use Rattle.std.specs.Prelude.{◌+◌, ◌≤◌, length};
+ghost use Rattle.layout.specs.Version.{greatest_size};
+ghost use Rattle.blocktree.specs.Places.{block_count};
+
+use buffers::Block;
+
+/// A prepared change: the new size in bytes, and new blocks, one behind the other.
+#[derive(Debug, Drop)]
+pub struct Change {
+    pub(crate) size: u64,
+    pub(crate) first: u32,
+    pub(crate) pieces: Vec<Block>,
+    ghost fits: { (size ≤ greatest_size 1) × (first + length pieces.items ≤ block_count size) },
+}

@@ -1,0 +1,15 @@
+//! Files in memory: an inode that a consistency point settled, and the changes since. Inside, a file is a function from a
+//! block's index to 4,096 bytes, and a size past which every byte is 0; above, it is its list of bytes. A change is prepared,
+//! which takes all memory and does all reads and changes nothing, and then put in force, which can't fail.
+#![tactic(auto)]
+
+mod change;
+mod error;
+mod file;
+mod inline;
+mod object;
+
+pub use change::Change;
+pub use error::ChangeError;
+pub use file::File;
+pub use object::{Attributes, Object};

@@ -1,0 +1,49 @@
+//! What an inode says beside a file's bytes.
+
+ghost use Rattle.std.specs.Prelude.{◌≡◌, ℕ, ◌≤◌, List, IfOk};
+ghost use Rattle.layout.specs.Version.{greatest_size};
+ghost use Rattle.inode.specs.Bodies.{inode_block};
+
+use crate::File;
+use layout::{Inode, Kind};
+use model::Mode;
+use std::alloc::{AllocError, Global};
+
+/// What an object is, beside its bytes.
+#[derive(Clone, Copy, Debug, PartialEq, Eq)]
+pub struct Attributes {
+    pub kind: Kind,
+    pub mode: Mode,
+    /// Names of a regular file, 1 for any other object.
+    pub links: u32,
+}
+
+/// An object in memory.
+#[derive(Debug, Drop)]
+pub struct Object {
+    pub attributes: Attributes,
+    pub file: File,
+}
+
+impl Object {
+    ghost use Rattle.inode.specs.Files.{file_block};
+
+    /// The object of a settled inode.
+    pub fn load(alloc: Global, inode: Inode) -> Result<Object, AllocError>
+        requires { inode.size ≤ greatest_size 1 }
+        ensures attributes { IfOk result
+            (λ o. o.attributes
+            ≡ record { kind = inode.kind; mode = inode.mode; links = inode.links }) }
+        ensures size { IfOk result (λ o. o.file.size ≡ inode.size) }
+        ensures blocks { IfOk result (λ o. (disk : ℕ → List ℕ) (i : ℕ)
+            → file_block disk o.file i ≡ inode_block disk inode i) }
+    {
+        let attributes = Attributes {
+            kind: inode.kind,
+            mode: inode.mode,
+            links: inode.links,
+        };
+        let file = File::load(alloc, inode)?;
+        Ok(Object { attributes, file })
+    }
+}

@@ -1,0 +1,109 @@
+//! Which inode numbers are taken.
+
+use layout::is_taken;
+
+/// The first number that an object may take; 0 to 3 belong to the file system itself.
+pub const FIRST_NUMBER: u32 = 4;
+
+/// The inode map in memory: a bit for each inode number, set where the number is taken.
+#[derive(Debug, Drop)]
+pub struct Numbers {
+    bytes: Vec<u8>,
+    /// How many inode numbers there are.
+    inodes: u32,
+    /// No number from the first on to this one is free.
+    least: u32,
+    ghost size: { inodes ≤ 8 * vec_len bytes },
+    ghost low: { 4 ≤ least },
+    ghost high: { least ≤ inodes },
+    ghost full: { (k : ℕ) → 4 ≤ k → k < least → IsTaken bytes.items k },
+}
+
+ghost use Rattle.std.specs.Prelude.{◌≡◌, ◌≢◌, ◌↔◌, ℕ, ◌*◌, ◌≤◌, ◌<◌, IsTrue, IfSome, IfNone, length, vec_len};
+ghost use Rattle.layout.specs.Maps.{IsTaken};
+
+impl Numbers {
+    /// The numbers that this inode map tells, of so many inodes.
+    pub fn new(bytes: Vec<u8>, inodes: u32) -> Numbers
+        requires size { inodes ≤ 8 * vec_len bytes }
+        requires some { FIRST_NUMBER ≤ inodes }
+        ensures bytes { result.bytes.items ≡ bytes.items }
+        ensures inodes { result.inodes ≡ inodes }
+    {
+        Numbers {
+            bytes,
+            inodes,
+            least: FIRST_NUMBER,
+        }
+    }
+
+    /// The bytes of the inode map.
+    pub fn bytes(&self) -> &[u8]
+        ensures { result.now ≡ self.now.bytes.items }
+    {
+        self.bytes.as_slice()
+    }
+
+    /// Whether a number is taken.
+    pub fn is_taken(&self, number: u32) -> bool
+        requires { number < self.now.inodes }
+        ensures { IsTrue result ↔ IsTaken self.now.bytes.items number }
+    {
+        is_taken(&self.bytes, number)
+    }
+
+    /// Takes a number, or sets it free.
+    pub fn set(&mut self, number: u32, taken: bool)
+        requires low { FIRST_NUMBER ≤ number }
+        requires high { number < self.old.inodes }
+        ensures inodes { self.new.inodes ≡ self.old.inodes }
+        ensures here { IsTaken self.new.bytes.items number ↔ IsTrue taken }
+        ensures others { (k : ℕ) → (k ≢ number) →
+            (IsTaken self.new.bytes.items k ↔ IsTaken self.old.bytes.items k) }
+    {
+        let bit = 1u8 << (number % 8);
+        let at = (number / 8) as usize;
+        if taken {
+            self.bytes[at] |= bit;
+        } else {
+            self.least = self.least.min(number);
+            self.bytes[at] &= !bit;
+        }
+    }
+
+    /// The least number from the first on that is free; None where all are taken.
+    pub fn least_free(&mut self) -> Option<u32>
+        ensures bytes { self.new.bytes.items ≡ self.old.bytes.items }
+        ensures inodes { self.new.inodes ≡ self.old.inodes }
+        ensures within { IfSome result (λ n. (FIRST_NUMBER ≤ n) × (n < self.old.inodes)) }
+        ensures free { IfSome result (λ n. IsTaken self.old.bytes.items n → ⊥) }
+        ensures least { IfSome result (λ n. (k : ℕ) → FIRST_NUMBER ≤ k → k < n →
+            IsTaken self.old.bytes.items k) }
+        ensures none { IfNone result ((k : ℕ) → FIRST_NUMBER ≤ k → k < self.old.inodes →
+            IsTaken self.old.bytes.items k) }
+    {
+        self.least = first_free(&self.bytes, self.least, self.inodes);
+        if self.least < self.inodes {
+            Some(self.least)
+        } else {
+            None
+        }
+    }
+}
+
+// The first number that is free from one to another, or that other one.
+fn first_free(bytes: &[u8], from: u32, to: u32) -> u32
+    requires size { to ≤ 8 * length bytes.now }
+    requires order { from ≤ to }
+    ensures from { from ≤ result }
+    ensures to { result ≤ to }
+    ensures taken { (k : ℕ) → from ≤ k → k < result → IsTaken bytes.now k }
+    ensures free { result < to → IsTaken bytes.now result → ⊥ }
+{
+    for number in from..to {
+        if !is_taken(bytes, number) {
+            return number;
+        }
+    }
+    to
+}

@@ -1,0 +1,38 @@
+//! One inode of a settled inode file.
+
+ghost use Rattle.std.specs.Prelude.{◌≡◌, ◌≤◌, ◌<◌, IfOk, IfErr, OnErr};
+ghost use Rattle.layout.specs.Inode.{IsInode, inode_bytes};
+ghost use Rattle.layout.specs.Version.{greatest_size};
+ghost use Rattle.layout.specs.declared.inode.Inode.{Inode};
+ghost use Rattle.layout.specs.declared.version.TheConstants.{VERSION};
+ghost use Rattle.blocktree.specs.declared.error.ReadError.TheVariants.{Damaged};
+ghost use Rattle.inofile.specs.Settled.{inode_part};
+
+use blocktree::ReadError;
+use layout::{BLOCK_BYTES, Geometry, INODE_BYTES, Inode};
+
+/// Reads inode `index` of a block of the inode file; Damaged where its bytes are no inode of an image of this geometry.
+pub(crate) fn read_inode(
+    bytes: &[u8; BLOCK_BYTES],
+    index: u32,
+    geometry: Geometry,
+) -> Result<Inode, ReadError>
+    requires { index < 21 }
+    ensures read { (i : Inode) → IsInode VERSION geometry i → inode_part bytes.now index ≡ inode_bytes i →
+        IfOk result (λ j. j ≡ i) }
+    ensures fits { IfOk result (IsInode VERSION geometry) }
+    ensures damaged { OnErr result ((i : Inode) → IsInode VERSION geometry i →
+        inode_part bytes.now index ≡ inode_bytes i → ⊥) }
+    ensures only { IfErr result (λ e. e ≡ Damaged) }
+{
+    let _ = geometry.inodes();
+    let at = INODE_BYTES * index as usize;
+    let Some(inode) = Inode::read(&bytes[at..at + INODE_BYTES]) else {
+        return Err(ReadError::Damaged);
+    };
+    if inode.fits(geometry) {
+        Ok(inode)
+    } else {
+        Err(ReadError::Damaged)
+    }
+}
