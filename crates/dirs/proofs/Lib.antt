@@ -4,3 +4,4 @@ pub mod CountLaws
 pub mod SurveyLaws
 pub mod HoldLaws
 pub mod ListingLaws
+mod LookLaws

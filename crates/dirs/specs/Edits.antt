@@ -41,3 +41,14 @@ IsReached blocks disk f count = (i : ℕ) → i < count → IsSoundAt blocks dis
 abbrev pub IsPlaced : (ℕ → List Named) → ℕ → Name → Option Place → Type 0
 IsPlaced entries count name (Some p) = (p.block < count) × (number_of name (entries p.block) ≡ Some p.number)
 IsPlaced entries count name None = (i : ℕ) → i < count → number_of name (entries i) ≡ None
+
+-- a block in its grammar, where a name stands for this number, or for none
+abbrev pub HasNumber : ℕ → List ℕ → Name → Option ℕ → Type 0
+HasNumber inodes bytes name number =
+    (entries : List Named) × HoldsEntries inodes bytes entries × (number_of name entries ≡ number)
+
+-- the number that a name has in the first block where it stands: up to there, or else all, the blocks are in their grammar
+abbrev pub IsFirst : ℕ → (ℕ → List ℕ) → ℕ → Name → Option ℕ → Type 0
+IsFirst inodes block count name (Some number) =
+    (at : ℕ) × (at < count) × ((i : ℕ) → i < at → HasNumber inodes (block i) name None) × HasNumber inodes (block at) name (Some number)
+IsFirst inodes block count name None = (i : ℕ) → i < count → HasNumber inodes (block i) name None

@@ -12,7 +12,7 @@ ghost use Rattle.inode.specs.Files.{file_block};
 ghost use Rattle.model.specs.Paths.{Name};
 ghost use Rattle.dirs.specs.Entries.{number_of};
 ghost use Rattle.dirs.specs.Directory.{NameMap};
-ghost use Rattle.dirs.specs.Edits.{IsDirectory, IsReached};
+ghost use Rattle.dirs.specs.Edits.{IsDirectory, IsReached, IsFirst};
 ghost use Rattle.dirs.specs.Listings.{IsListing, lists};
 
 use crate::Edit;
@@ -40,6 +40,8 @@ pub fn find<B: Blocks>(
     ensures same { (disk : ℕ → List ℕ) → B.Shows blocks.old disk → B.Shows blocks.new disk }
     ensures found { (disk : ℕ → List ℕ) (names : NameMap) → B.Shows blocks.old disk →
         IsDirectory inodes disk file.now names → IfOk result (λ number. number ≡ names name.now) }
+    ensures sound { (disk : ℕ → List ℕ) → B.Shows blocks.old disk →
+        IfOk result (IsFirst inodes (file_block disk file.now) (file.now.size / 4096) name.now) }
     ensures damaged { (disk : ℕ → List ℕ) (names : NameMap) → B.Shows blocks.old disk →
         IsErrOf result ReadError.Damaged →
         IsReached (B.count blocks.old) disk file.now (file.now.size / 4096) →

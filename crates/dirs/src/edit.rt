@@ -28,7 +28,8 @@ pub(crate) struct Place {
     pub(crate) number: u32,
 }
 
-ghost use Rattle.std.specs.Prelude.{◌*◌, ◌/◌, [], ◌∷◌, ◌++◌, ◌+◌, length, Some, ◌≢◌, IfSome, OnErr, ◌≤◌, ◌≡◌, ◌<◌, ℕ, List, IfOk, OnOk, IsErrOf, None};
+ghost use Rattle.std.specs.Prelude.{◌*◌, ◌/◌, [], ◌∷◌, ◌++◌, ◌+◌, length, Some, ◌≢◌, IfSome, OnErr, ◌≤◌, ◌≡◌, ◌<◌, ℕ, List, Option, IfOk, OnOk, IsErrOf, None};
+ghost use Rattle.std.specs.Option.{option_map};
 ghost use Rattle.std.specs.Ordering.{nat_cmp};
 ghost use Rattle.std.specs.BTreeMap as tree;
 ghost use Rattle.layout.specs.Directory.{Named, HoldsEntries, IsEntry, named_of, entry_bytes};
@@ -40,7 +41,7 @@ impl Edit {
     ghost use Rattle.inode.specs.Files.{IsFile, IsSameFile};
     ghost use Rattle.dirs.specs.Directory.{NameMap, AllHold, HasCount, with_name};
     ghost use Rattle.dirs.specs.Entries.{used_by};
-    ghost use Rattle.dirs.specs.Edits.{edited_block, HasNames, IsSound, IsReached, IsPlaced, FitsIn, IsDirectory};
+    ghost use Rattle.dirs.specs.Edits.{edited_block, HasNames, IsSound, IsReached, IsPlaced, IsFirst, FitsIn, IsDirectory};
     ghost use Rattle.dirs.specs.Looks.{Tells, IsLikely};
 
     /// An edit of this directory that changes nothing yet.
@@ -162,6 +163,9 @@ impl Edit {
         ensures placed { (disk : ℕ → List ℕ) (entries : ℕ → List Named) → B.Shows blocks.old disk →
             AllHold inodes self.now.count (edited_block disk file.now self.now) entries →
             IfOk result (IsPlaced entries self.now.count name.now) }
+        ensures first { (disk : ℕ → List ℕ) → B.Shows blocks.old disk →
+            IfOk result (λ place. IsFirst inodes (edited_block disk file.now self.now)
+            self.now.count name.now (option_map (λ p. p.number) place)) }
         ensures damaged { (disk : ℕ → List ℕ) (entries : ℕ → List Named) → B.Shows blocks.old disk →
             IsErrOf result ReadError.Damaged →
             IsReached (B.count blocks.old) disk file.now self.now.count →
@@ -193,6 +197,9 @@ impl Edit {
         ensures found { (disk : ℕ → List ℕ) (names : NameMap) → B.Shows blocks.old disk →
             HasNames inodes disk file.now self.now names →
             IfOk result (λ number. number ≡ names name.now) }
+        ensures sound { (disk : ℕ → List ℕ) → B.Shows blocks.old disk →
+            IfOk result (IsFirst inodes (edited_block disk file.now self.now)
+            self.now.count name.now) }
         ensures damaged { (disk : ℕ → List ℕ) (names : NameMap) → B.Shows blocks.old disk →
             IsErrOf result ReadError.Damaged →
             IsReached (B.count blocks.old) disk file.now self.now.count →
@@ -258,6 +265,9 @@ impl Edit {
         ensures removed { (disk : ℕ → List ℕ) (names : NameMap) → B.Shows blocks.old disk →
             HasNames inodes disk file.old self.old names →
             OnOk result (HasNames inodes disk file.new self.new (with_name name.now None names)) }
+        ensures sound { (disk : ℕ → List ℕ) → B.Shows blocks.old disk → OnOk result
+            ((number : Option ℕ) × IsFirst inodes (edited_block disk file.old self.old)
+            self.old.count name.now number) }
         ensures kept { (disk : ℕ → List ℕ) (names : NameMap) →
             HasNames inodes disk file.old self.old names →
             OnErr result (HasNames inodes disk file.new self.new names) }

@@ -17,7 +17,7 @@ use layout::BLOCK_BYTES;
 /// What a survey tells.
 #[derive(Clone, Copy, Debug)]
 pub(crate) struct Survey {
-    /// NameMap of the directory.
+    /// Names of the directory.
     pub(crate) names: u32,
     /// The first block with room.
     pub(crate) room: Option<u32>,

@@ -1,28 +1,23 @@
 //! The disk that the rows read.
 
+use hex::FromHexError;
 use layout::BLOCK_BYTES;
 use station::Sim;
 use std::alloc::Global;
 
 const BLOCKS: u8 = 64;
 
-/// A station whose block 2 points to block 8, to a hole and to block 9, and whose block 3 points past the disk.
-pub fn made_station(alloc: Global) -> anyhow::Result<Sim> {
+/// A disk of zeros up to block 7; block b from there on is full of the letter with the code 65 + b % 26.
+pub fn made_disk(alloc: Global) -> anyhow::Result<Vec<u8>> {
     let mut disk = Vec::new(alloc);
     for block in 0..BLOCKS {
-        disk.extend_from_slice(&block_bytes(block))?;
+        let letter = if block < 8 { 0 } else { 65 + block % 26 };
+        disk.extend_from_slice(&[letter; BLOCK_BYTES])?;
     }
-    Ok(Sim::load(alloc, disk, Vec::new(alloc))?)
+    Ok(disk)
 }
 
-fn block_bytes(block: u8) -> [u8; BLOCK_BYTES] {
-    let mut bytes = [if block < 8 { 0 } else { 65 + block % 26 }; BLOCK_BYTES];
-    if block == 2 {
-        bytes[0] = 8;
-        bytes[8] = 9;
-    }
-    if block == 3 {
-        bytes[0] = BLOCKS;
-    }
-    bytes
+/// A station with this disk.
+pub fn station_of(alloc: Global, disk: &[u8]) -> anyhow::Result<Sim> {
+    Ok(Sim::load(alloc, Vec::from_slice(alloc, disk)?, Vec::new(alloc))?)
 }

@@ -1,30 +1,78 @@
-//! Runs rows on a file over a station in memory: each line of the input is a row, and a line of the output is its answer.
-//! Block b of the disk, from 8 on, is full of the letter with the code 65 + b % 26.
+//! Runs rows on files, directories and inodes over a station in memory. A row is a line of the input with the answer that it is
+//! to have behind ` -> `, or `ok`. The rows from a line `group NAME` on are a group: it begins with a disk of zeros up to block
+//! 7, block b from there on full of the letter with the code 65 + b % 26, an empty file, two empty directories, `a` and `b`, and
+//! no object. The program names each row with another answer, and tells how many of a group's rows answered as they are to.
+//! Lines with `#` first, and empty ones, say nothing.
 //!
-//!     pointers SIZE P..   from here on the file is a settled one of so many bytes with these pointers
-//!     inline TEXT         the same, with its bytes in the inode; none without a text
-//!     read OFFSET COUNT   so many bytes from an offset on, each 0 as a dot
-//!     write OFFSET TEXT
-//!     size SIZE           cuts the file, or fills it up
-//!     fail N              device call N, counted from 1, is to fail
+//!     put BLOCK OFFSET HEX    these bytes lie on the disk
+//!     fail N                  device call N from the last `put` on, counted from 1, is to fail
+//!
+//! The rows on the file are told in `file_row`, those on directories in `directory_row`, those on inodes in `inode_row`.
 #![tactic(auto)]
 
+mod bodies;
+mod directory_row;
 mod disk;
-mod row;
+mod file_row;
+mod inode_row;
+mod world;
 
-use buffers::Buffers;
-use disk::made_station;
-use inode::File;
-use row::{empty_file, run_row};
+use std::alloc::{AllocError, Global};
+use world::World;
 
 fn main(rt: HostRuntime) -> anyhow::Result<()> {
     let alloc = rt.alloc();
-    let mut buffers = Buffers::new(alloc, made_station(alloc)?);
-    let mut file = empty_file(alloc)?;
+    let mut group = Group::new(alloc, "")?;
+    let mut world = World::new(alloc)?;
     for line in rt.lines(alloc) {
         let line = line?;
-        let answer = run_row(alloc, &mut buffers, &mut file, line.as_str())?;
-        println!(rt; "{answer}")?;
+        let line = line.as_str();
+        if line.is_empty() || line.starts_with('#') {
+            continue;
+        }
+        if let Some(name) = line.strip_prefix("group ") {
+            group.show(&rt)?;
+            group = Group::new(alloc, name)?;
+            world = World::new(alloc)?;
+            continue;
+        }
+        let (row, wanted) = line.split_once(" -> ").unwrap_or((line, "ok"));
+        let answer = world.run(alloc, row)?;
+        group.rows = group.rows.saturating_add(1);
+        if answer.as_str() == wanted {
+            group.right = group.right.saturating_add(1);
+        } else {
+            println!(rt;
+                "{}: '{row}' answers '{answer}' and not '{wanted}'",
+                group.name
+            )?;
+        }
     }
-    Ok(())
+    group.show(&rt)
+}
+
+/// A group of rows, and how many of them answered as they are to.
+#[derive(Debug, Drop)]
+struct Group {
+    name: String,
+    rows: u64,
+    right: u64,
+}
+
+impl Group {
+    fn new(alloc: Global, name: &str) -> Result<Group, AllocError> {
+        let name = format!(in alloc; "{name}")?;
+        Ok(Group {
+            name,
+            rows: 0,
+            right: 0,
+        })
+    }
+
+    fn show(&self, rt: &HostRuntime) -> anyhow::Result<()> {
+        if self.rows > 0 {
+            println!(rt; "{}: {} of {} rows", self.name, self.right, self.rows)?;
+        }
+        Ok(())
+    }
 }

@@ -1,5 +1,7 @@
-use Rattle.std.proofs.Common.{sym, subst}
-use Rattle.dirs.specs.Edits.{IsReached}
+use Rattle.std.proofs.Common.{◌≡◌, ℕ, ◌/◌, IfOk, unwrap_or, ap, sym, subst}
+use Rattle.inode.specs.Files.{file_block}
+use Rattle.dirs.specs.Edits.{IsReached, IsFirst, edited_block}
+use Rattle.dirs.proofs.LookLaws.{first_same_ok}
 use Rattle.dirs.proofs.directory.find.Goals as goal
 
 pub returns-clause-found : goal.returns-clause-found
@@ -8,3 +10,9 @@ returns-clause-found g c = λ disk names shows is. c.find.ensures.found disk nam
 pub returns-clause-damaged : goal.returns-clause-damaged
 returns-clause-damaged g c = λ disk names shows damaged reached is.
     c.find.ensures.damaged disk names shows damaged (subst (λ n. IsReached (g.B.Blocks.count c.args.blocks.now) disk c.args.file.now n) (sym c.of-edit.ensures.count) reached) (c.of-edit.ensures.same c.args.inodes disk names is)
+
+pub returns-clause-sound : goal.returns-clause-sound
+returns-clause-sound g c = λ disk shows.
+    let same : (i : ℕ) → file_block disk c.args.file.now i ≡ edited_block disk c.args.file.now c.of-edit.result i = λ i. sym (ap (λ o. unwrap_or o (file_block disk c.args.file.now i)) (c.of-edit.ensures.none i)) in
+    first_same_ok c.args.inodes (c.args.file.now.size / 4096) (edited_block disk c.args.file.now c.of-edit.result) (file_block disk c.args.file.now) c.args.name.now same c.find.result
+    (subst (λ n. IfOk c.find.result (IsFirst c.args.inodes (edited_block disk c.args.file.now c.of-edit.result) n c.args.name.now)) c.of-edit.ensures.count (c.find.ensures.sound disk shows))

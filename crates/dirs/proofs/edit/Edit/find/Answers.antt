@@ -1,5 +1,6 @@
 use Rattle.std.proofs.Common.{rules, sym, subst}
-use Rattle.dirs.specs.Edits.{IsPlaced, edited_block}
+use Rattle.std.specs.Option.{option_map}
+use Rattle.dirs.specs.Edits.{IsPlaced, IsFirst, edited_block}
 use Rattle.dirs.proofs.HoldLaws.{missing_name}
 use Rattle.dirs.proofs.edit.Edit.find.Goals as goal
 
@@ -15,3 +16,8 @@ pub returns-in-None-clause-found : goal.returns-in-None-clause-found
 returns-in-None-clause-found g c = λ disk names shows has.
     let placed = subst (IsPlaced has.entries c.args.self.now.count c.args.name.now) c.in-None.is (c.in_ok-place.ensures.placed disk has.entries shows has.holds) in
     sym (missing_name c.args.inodes c.args.self.now.count (edited_block disk c.args.file.now c.args.self.now) names c.args.name.now has placed)
+
+pub returns-in-None-clause-sound : goal.returns-in-None-clause-sound
+returns-in-None-clause-sound g c = λ disk shows.
+    subst (λ p. IsFirst c.args.inodes (edited_block disk c.args.file.now c.args.self.now) c.args.self.now.count c.args.name.now (option_map (λ q. q.number) p))
+    c.in-None.is (c.in_ok-place.ensures.first disk shows)

@@ -1,6 +1,6 @@
 use Rattle.std.proofs.Common.{◌≡◌, ◌<◌, ℕ, List, None}
 use Rattle.layout.specs.Directory.{Named, HoldsEntries}
-use Rattle.dirs.specs.Edits.{edited_block}
+use Rattle.dirs.specs.Edits.{edited_block, HasNumber}
 use Rattle.dirs.specs.Entries.{number_of}
 use Rattle.dirs.proofs.edit.Edit.locate.Given as goal
 
@@ -12,4 +12,5 @@ invariant-loop-i g l = record {
   same : (disk : ℕ → List ℕ) → g.B.Blocks.Shows l.initial.blocks disk → g.B.Blocks.Shows l.blocks disk;
   passed : (disk : ℕ → List ℕ) → g.B.Blocks.Shows l.initial.blocks disk → (j : ℕ) → j < l.i → (entries : List Named)
       → HoldsEntries l.inodes (edited_block disk l.file l.self j) entries → number_of l.name entries ≡ None;
+  first : (disk : ℕ → List ℕ) → g.B.Blocks.Shows l.initial.blocks disk → (j : ℕ) → j < l.i → HasNumber l.inodes (edited_block disk l.file l.self j) l.name None;
 }

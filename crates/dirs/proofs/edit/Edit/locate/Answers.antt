@@ -1,0 +1,35 @@
+use Rattle.std.proofs.Common.{◌∙◌, ◌≡◌, inl, inr, ◌+◌, ◌<◌, ◌≤◌, Some, None, sym, subst, arith}
+use Rattle.std.proofs.lemmas.Bool.{cases_eq}
+use Rattle.layout.specs.Directory.{HoldsEntries}
+use Rattle.dirs.specs.Edits.{edited_block, HasNumber}
+use Rattle.dirs.proofs.LookLaws.{number_told, none_more}
+use Rattle.dirs.proofs.edit.Edit.locate.Goals as goal
+
+pub returns-in-Some-clause-first : goal.returns-in-Some-clause-first
+returns-in-Some-clause-first g c = λ disk shows.
+    let block = edited_block disk c.args.file.now c.args.self.now in
+    let told = number_told c.args.inodes (block c.loop-i.i) c.args.name.now c.in_ok-look.look (c.in_ok-look.ensures.tells disk (c.loop-i.invariant.same disk shows)) in
+    (c.loop-i.i, c.loop-i-test.true, c.loop-i.invariant.first disk shows, subst (HasNumber c.args.inodes (block c.loop-i.i) c.args.name.now) c.in-Some.is told)
+
+pub loop-i-preserved : goal.loop-i-preserved
+loop-i-preserved g c =
+    let so_far = c.loop-i.invariant in
+    let look = c.in_ok-look.ensures in
+    let i = c.loop-i.i in
+    record {
+      count = look.count ∙ so_far.count;
+      failed = look.counted ∙ so_far.failed;
+      reads = λ start so. look.reads start (so_far.reads start so);
+      same = λ disk shows. look.same disk (so_far.same disk shows);
+      passed = λ disk shows j below entries holds. elim (cases_eq j i) [
+        | inl same ↦ sym ((look.tells disk (so_far.same disk shows)).number entries (subst (λ k. HoldsEntries c.args.inodes (edited_block disk c.args.file.now c.args.self.now k) entries) same holds)) ∙ c.in_default.is
+        | inr else ↦ so_far.passed disk shows j (omega (arith, below, else)) entries holds
+      ];
+      first = λ disk shows.
+          let block = edited_block disk c.args.file.now c.args.self.now in
+          let told = number_told c.args.inodes (block i) c.args.name.now c.in_ok-look.look (look.tells disk (so_far.same disk shows)) in
+          none_more c.args.inodes block i c.args.name.now (so_far.first disk shows) (subst (HasNumber c.args.inodes (block i) c.args.name.now) c.in_default.is told);
+    }
+
+pub returns-clause-first : goal.returns-clause-first
+returns-clause-first g c = λ disk shows j below. c.loop-i.invariant.first disk shows j (omega (arith, below, c.loop-i-test.false))
