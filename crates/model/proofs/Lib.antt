@@ -24,3 +24,12 @@ pub mod MoveLemmas
 pub mod RecordLemmas
 pub mod RunLemmas
 pub mod MountLemmas
+pub mod LeadLemmas
+pub mod LooseLemmas
+pub mod PlaceLemmas
+pub mod TakeLemmas
+pub mod RelocateLemmas
+pub mod StayLemmas
+pub mod CallLemmas
+pub mod ReplaceLemmas
+pub mod StateLemmas

@@ -1,11 +1,11 @@
 -- The parts of a text that passed its tests: each is a name, but for `.`, `..` and parts that are too long.
-use Rattle.std.proofs.Common.{◌≡◌, ◌≢◌, ℕ, ◌≤◌, ◌==◌, List, [], ◌∷◌, length, Bool, true, false, not, Option, Some, None, sym, ap, ◌∙◌, arith}
+use Rattle.std.proofs.Common.{◌≡◌, ◌≢◌, ℕ, ◌≤◌, ◌==◌, ◌||◌, List, [], ◌∷◌, length, Bool, true, false, not, Option, Some, None, refl, sym, ap, ◌∙◌, arith}
 use Rattle.std.specs.List.{list_any, slice_split, onto_first, filter, AllByRecursion}
-use Rattle.std.proofs.lemmas.Bool.{cond_both, or_parts, eqb-false, ltb-false, false≢true}
-use Rattle.std.proofs.lemmas.List.Elements.{All-from_recursion}
+use Rattle.std.proofs.lemmas.Bool.{cond_both, or_parts, eqb-false, ne_eqb, ltb-false, false≢true}
+use Rattle.std.proofs.lemmas.List.Elements.{All-from_recursion, recursion_from_All}
 use Rattle.model.specs.declared.errno.Errno.{Errno}
 use Rattle.model.specs.declared.errno.Errno.TheVariants.{ENOENT, EINVAL}
-use Rattle.model.specs.Paths.{Name, IsName, Tests, first_refusal, text_tests_then, parts, is_slash, is_empty, is_dot, is_dot_dot, is_too_long}
+use Rattle.model.specs.Paths.{Name, IsName, IsLinkText, Tests, first_refusal, text_tests_then, parts, is_slash, is_empty, is_dot, is_dot_dot, is_too_long}
 
 abbrev IsPlain : ℕ → Type 0
 IsPlain byte = (byte ≢ 0) × (byte ≢ 47)
@@ -44,6 +44,14 @@ no_zero more text =
 
 pub passed_parts : (more : Tests) (text : List ℕ) → first_refusal (text_tests_then more text) ≡ None → AllByRecursion IsPart (parts text)
 passed_parts more text passed = kept (slice_split is_slash text) (split_plain text (no_zero more text passed))
+
+zeros_none : (text : List ℕ) → AllByRecursion (λ byte. byte ≢ 0) text → list_any (λ byte. byte == 0) text ≡ false
+zeros_none [] all = refl
+zeros_none (x ∷ text) all = ap (λ b. b || list_any (λ byte. byte == 0) text) (ne_eqb x 0 all.0) ∙ zeros_none text all.1
+
+-- the parts of a link's text
+pub linked_parts : (text : List ℕ) → IsLinkText text → AllByRecursion IsPart (parts text)
+linked_parts text is = kept (slice_split is_slash text) (split_plain text (zeros_none text (recursion_from_All (λ byte. byte ≢ 0) text is.plain)))
 
 pub part_is_name : (part : Name) → IsPart part → is_dot part ≡ false → is_dot_dot part ≡ false → is_too_long part ≡ false → IsName part
 part_is_name part plain dot dots short = record {

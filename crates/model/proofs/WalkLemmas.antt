@@ -35,7 +35,7 @@ pub behind-append : (q w : Path) → behind q (q ++ w) ≡ Some w
 behind-append [] w = refl
 behind-append (x ∷ q) w = cond-true (bytes_eq x x) (behind q (q ++ w)) None (bytes_eq-same x) ∙ behind-append q w
 
-behind-empty : (q : Path) (x : Name) → behind (q ++ x ∷ []) [] ≡ None
+pub behind-empty : (q : Path) (x : Name) → behind (q ++ x ∷ []) [] ≡ None
 behind-empty [] x = refl
 behind-empty (y ∷ q) x = refl
 
@@ -162,7 +162,7 @@ module _ (e : Entries) (u v : Path) (a b : Name) (d k n : ℕ) (at_d : number_at
   pub number_at-moved : (r : Path) → number_at new r ≡ found r
   number_at-moved r = determined new found step starts r
 
-not_push : (v : Path) (b : Name) → v ≢ v ++ b ∷ []
+pub not_push : (v : Path) (b : Name) → v ≢ v ++ b ∷ []
 not_push v b e = let n : length v ≡ length (v ++ b ∷ []) = ap length e in omega (arith, length-append v (b ∷ []), n)
 
 -- The name b in the directory k at v comes to lead to something without names, or to nothing. So did it before.

@@ -1,20 +1,23 @@
 -- Laws of the definitions, which the functions of `laws.rt` name.
 use Rattle.std.specs.Prelude.{ℕ, ◌≡◌, ◌↔◌, ◌≤◌, ◌<◌, Bool, true, false, IsTrue, IsFalse, IsSome, Contains, List, [], length, Option, Some, None}
-use Rattle.model.specs.declared.limits.TheConstants.{LINKS_FOLLOWED, FIRST_NUMBER}
+use Rattle.model.specs.declared.limits.TheConstants.{LINKS_FOLLOWED, FIRST_NUMBER, MODE_BITS}
 use Rattle.model.specs.declared.errno.Errno.{Errno}
 use Rattle.model.specs.declared.errno.Errno.TheVariants.{ENOSPC, ENOMEM, EIO, DAMAGED, FAILED}
 use Rattle.model.specs.declared.reply.Reply.{Reply}
 use Rattle.model.specs.declared.reply.Reply.TheVariants.{Refused}
 use Rattle.model.specs.declared.command.Command.{Command}
+use Rattle.model.specs.declared.command.Command.TheVariants as command
+use Rattle.model.specs.declared.command.PathCall.{PathCall}
+use Rattle.model.specs.declared.command.PathCall.TheVariants as call
 use Rattle.model.specs.Paths.{Path, parts, begins_with}
 use Rattle.model.specs.Trees.{Description, IsTree, file}
 use Rattle.model.specs.Resolution.{resolve}
 use Rattle.model.specs.Outcomes.{IsFresh, HasLinks}
-use Rattle.model.specs.Circumstances.{Circumstances}
+use Rattle.model.specs.Circumstances.{Circumstances, Allowed}
 use Rattle.model.specs.Runs.{Runs, Spans}
 use Rattle.model.specs.Finding.{Trails, find_within, IsPlaceOf}
 use Rattle.model.specs.Room.{Room, Need, nothing}
-use Rattle.model.specs.States.{State, ForgetsOpenFiles}
+use Rattle.model.specs.States.{State, IsState, empty, ForgetsOpenFiles, Forgets}
 use Rattle.model.specs.Steps.{WouldStep}
 use Rattle.model.specs.Volumes.{Volume, file_node, entries, number_at, is_file_node, IsVolume, tree_of, swept, IsMounted}
 use Rattle.model.specs.Changes.{TakesFreeNumber, ChangesTree}
@@ -58,6 +61,35 @@ abbrev pub HasOneOutcome : Type 0
 HasOneOutcome =
     (room : Room) (s : State) (command : Command) (a b : Reply) (t u : State) (m n : Need)
     → WouldStep room s command a t m → WouldStep room s command b u n → (a ≡ b) × (t ≡ u) × (m ≡ n)
+
+-- what the types of a path call hold it to: a mode has twelve bits
+abbrev pub IsPathCall : PathCall → Type 0
+IsPathCall (call.Mkdir path mode) = mode ≤ MODE_BITS
+IsPathCall (call.Chmod path mode) = mode ≤ MODE_BITS
+IsPathCall c = Unit {0}
+
+-- and what the types of a command hold it to
+abbrev pub IsCommand : Command → Type 0
+IsCommand (command.Path c) = IsPathCall c
+IsCommand (command.Within name c) = IsPathCall c
+IsCommand (command.Open path flags mode) = mode ≤ MODE_BITS
+IsCommand c = Unit {0}
+
+-- where nothing comes in its way, each outcome of a command on a state is a state
+abbrev pub CommandsLeaveStates : Type 0
+CommandsLeaveStates =
+    (room : Room) (s new : State) (command : Command) (reply : Reply) (need : Need)
+    → IsState s → IsCommand command → WouldStep room s command reply new need → IsState new
+
+-- and so is each outcome that the definitions allow
+abbrev pub AllowedAreStates : Type 0
+AllowedAreStates =
+    (c : Circumstances) (s new : State) (command : Command) (reply : Reply)
+    → IsState s → IsCommand command → Allowed c s command reply new → IsState new
+
+-- a file system as it is made is a state, and so is what a mount finds of one
+abbrev pub MountsFindStates : Type 0
+MountsFindStates = ((inodes : ℕ) → IsState (empty inodes)) × ((old new : State) → IsState old → Forgets old new → IsState new)
 
 -- a record that applies leaves a volume
 abbrev pub RecordsKeepVolumes : Type 0

@@ -1,10 +1,13 @@
 //! Laws of the definitions. Each function's contract is one; it does nothing.
 
 ghost use Rattle.model.specs.Laws.{RefusesByItsOwn, RefusalsChangeNothing, HasOneOutcome, RecordsKeepVolumes, SweepsKeepVolumes};
+ghost use Rattle.model.specs.Laws.{IsPathCall, IsCommand, CommandsLeaveStates, AllowedAreStates, MountsFindStates};
 ghost use Rattle.model.specs.Laws.{VolumesAreTrees, RecordsChangeTrees, VolumesTellFresh, VolumesTellLinks};
 ghost use Rattle.model.specs.Laws.{ResolvesByNumbers, TrailsTellBelow, BelowIsByPaths};
 ghost use Rattle.model.specs.Laws.{ReplayFollows, ReplayEndsSame, ReplaysCostTheSame};
 ghost use Rattle.model.specs.Laws.{ReplaysKeepVolumes, MountsFind, MountsForget};
+
+use crate::{Command, PathCall};
 
 /// Where nothing comes in its way, a command refuses by its own errnos alone: none that tells of devices, memory or room.
 pub fn commands_refuse_by_their_own()
@@ -95,3 +98,40 @@ pub fn numbers_tell_what_lies_below()
 pub fn refusals_change_nothing()
     ensures { RefusalsChangeNothing }
 {}
+
+/// Each outcome of a command on a state is a state: where nothing comes in its way, and under whatever the definitions
+/// allow. So is a file system as it is made, and what a mount finds of a state.
+pub fn outcomes_are_states()
+    ensures done { CommandsLeaveStates }
+    ensures allowed { AllowedAreStates }
+    ensures mounted { MountsFindStates }
+{}
+
+/// The type of a mode holds each path call to the bounds that this asks of it.
+pub fn path_calls_are_bounded(call: &PathCall)
+    ensures { IsPathCall call.now }
+{
+    match call {
+        PathCall::Mkdir { mode, .. } => {
+            let _ = mode.bits();
+        }
+        PathCall::Chmod { mode, .. } => {
+            let _ = mode.bits();
+        }
+        _ => {}
+    }
+}
+
+/// And each command.
+pub fn commands_are_bounded(command: &Command)
+    ensures { IsCommand command.now }
+{
+    match command {
+        Command::Path(call) => path_calls_are_bounded(call),
+        Command::Within { call, .. } => path_calls_are_bounded(call),
+        Command::Open { mode, .. } => {
+            let _ = mode.bits();
+        }
+        _ => {}
+    }
+}

@@ -12,10 +12,11 @@ mod text;
 pub use command::{Access, Command, Flags, PathCall, Whence};
 pub use errno::Errno;
 pub use laws::{
-    commands_have_one_outcome, commands_refuse_by_their_own, mounts_find_volumes,
-    mounts_forget_open_files, numbers_tell_what_lies_below, records_change_trees,
-    records_keep_volumes, refusals_change_nothing, replays_cost_the_same, replays_end_same,
-    replays_follow, replays_keep_volumes, resolution_is_by_numbers, sweeps_keep_volumes,
+    commands_are_bounded, commands_have_one_outcome, commands_refuse_by_their_own,
+    mounts_find_volumes, mounts_forget_open_files, numbers_tell_what_lies_below,
+    outcomes_are_states, path_calls_are_bounded, records_change_trees, records_keep_volumes,
+    refusals_change_nothing, replays_cost_the_same, replays_end_same, replays_follow,
+    replays_keep_volumes, resolution_is_by_numbers, sweeps_keep_volumes,
     trails_tell_what_lies_below, volumes_are_trees, volumes_tell_fresh_numbers, volumes_tell_links,
 };
 pub use limits::{

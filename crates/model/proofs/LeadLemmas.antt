@@ -1,0 +1,261 @@
+-- Where a text leads in a tree: to what is there, or to a name that isn't in a directory that is.
+use Rattle.std.proofs.Common.{◌≡◌, ◌≢◌, inl, inr, ℕ, zero, suc, ◌-◌, List, [], ◌∷◌, ◌++◌, length, take, get_or, Bool, true, false, not, ◌&&◌, ◌||◌, cond, Option, Some, None, is_some, IsSome, refl, sym, ap, subst, ◌∙◌, length-append, arith}
+use Rattle.std.specs.Prelude.{if◌then◌else◌, nat_lt}
+use Rattle.std.specs.List.{AllByRecursion, slice_split, onto_first, filter}
+use Rattle.std.proofs.lemmas.Bool.{cases_Bool, cond_both, cond-true, cond-false, false≢true, ne_eqb, eqb-true, lt-ltb, or_parts}
+use Rattle.std.proofs.Math.Seq.{take-append_seam}
+use Rattle.std.proofs.lemmas.Slice.Eq.{bytes_eq-Decides}
+use Rattle.model.specs.declared.limits.TheConstants.{LINKS_FOLLOWED}
+use Rattle.model.specs.declared.errno.Errno.TheVariants.{ENOENT, ENOTDIR, ENAMETOOLONG, ELOOP, EINVAL}
+use Rattle.model.specs.Paths.{Name, Path, IsName, IsLinkText, Tests, first_refusal, text_tests_then, new_text_tests, parts, is_slash, is_empty, is_dot, is_dot_dot, is_too_long, last_part, starts_with_slash, ends_with_slash, is_root_text}
+use Rattle.model.specs.Trees.{Tree, Object, directory, symlink, file, is_directory, IsTree}
+use Rattle.model.specs.Resolution.{Resolution, named, missing, refused, Next, into, over, link, absent, too_long, next, found, parent, Stop, at, at_link, walk, go_on, resolve_within, resolve}
+use Rattle.model.proofs.VolumeLemmas.{ends}
+use Rattle.model.proofs.NameLemmas.{IsPart, passed_parts, part_is_name, linked_parts}
+
+-- the tests
+
+none_some : {X Y : Type 0} {x : X} → Some x ≡ None → Y
+none_some e = cc
+
+-- tests none of which holds
+abbrev pub AllPass : Tests → Type 0
+AllPass [] = Unit {0}
+AllPass (test ∷ tests) = (test.0 ≡ false) × AllPass tests
+
+pub all_passed : (tests : Tests) → first_refusal tests ≡ None → AllPass tests
+all_passed [] e = tt
+all_passed (test ∷ tests) e =
+    elim (cases_Bool test.0) [
+      | inl t ↦ none_some (sym (cond-true test.0 (Some test.1) (first_refusal tests) t) ∙ e)
+      | inr f ↦ (f, all_passed tests (sym (cond-false test.0 (Some test.1) (first_refusal tests) f) ∙ e))
+    ]
+
+pub passed_both : (a b : Tests) → first_refusal (a ++ b) ≡ None → (first_refusal a ≡ None) × (first_refusal b ≡ None)
+passed_both [] b e = (refl, e)
+passed_both (test ∷ a) b e =
+    elim (cases_Bool test.0) [
+      | inl t ↦ none_some (sym (cond-true test.0 (Some test.1) (first_refusal (a ++ b)) t) ∙ e)
+      | inr f ↦
+          let more = passed_both a b (sym (cond-false test.0 (Some test.1) (first_refusal (a ++ b)) f) ∙ e) in
+          (cond-false test.0 (Some test.1) (first_refusal a) f ∙ more.0, more.1)
+    ]
+
+-- the walk
+
+pub record Misses (t : Tree) (p : Path) (name : Name) : Type 0 where
+  pub directory : is_directory (t.objects p) ≡ true
+  pub free : t.objects (p ++ name ∷ []) ≡ None
+  pub good : IsName name
+
+abbrev pub AnswersWell : Tree → Resolution → Type 0
+AnswersWell t (named p) = IsSome (t.objects p)
+AnswersWell t (missing p name) = Misses t p name
+AnswersWell t (refused errno) = Unit {0}
+
+abbrev StopsWell : Tree → Stop → Type 0
+StopsWell t (at r) = AnswersWell t r
+StopsWell t (at_link p text rest) = (is_directory (t.objects p) ≡ true) × IsLinkText text × AllByRecursion IsPart rest
+
+abbrev GoesWell : Tree → Path → Name → Next → Type 0
+GoesWell t p part (into q) = is_directory (t.objects q) ≡ true
+GoesWell t p part (over q) = IsSome (t.objects q)
+GoesWell t p part (link text) = IsLinkText text × IsSome (t.objects (p ++ part ∷ []))
+GoesWell t p part absent = Misses t p part
+GoesWell t p part too_long = Unit {0}
+
+abbrev after : Tree → Bool → Path → Name → List Name → Next → Stop
+after t follow p part rest (into q) = walk t follow q rest
+after t follow p part rest (over q) = at (cond (is_empty rest) (named q) (refused ENOTDIR))
+after t follow p part rest (link text) = cond (is_empty rest && not follow) (at (named (p ++ part ∷ []))) (at_link p text rest)
+after t follow p part rest absent = at (cond (is_empty rest) (missing p part) (refused ENOENT))
+after t follow p part rest too_long = at (refused ENAMETOOLONG)
+
+pub directory_some : (o : Option Object) → is_directory o ≡ true → IsSome o
+directory_some None e = e
+directory_some (Some o) e = refl
+
+pub parent-push : (p : Path) (x : Name) → parent (p ++ x ∷ []) ≡ p
+parent-push p x = ap (λ k. take k (p ++ x ∷ [])) (omega (arith, length-append p (x ∷ []))) ∙ take-append_seam p (x ∷ [])
+
+pub push_filled : (p : Path) (x : Name) → p ++ x ∷ [] ≢ []
+push_filled p x e = let n : length (p ++ x ∷ []) ≡ 0 = ap length e in omega (arith, length-append p (x ∷ []), n)
+
+pushed_some : (p : Path) (x : Name) (y : List Name) → x ∷ y ≢ []
+pushed_some p x y e = cc
+
+-- the directory that something stands in
+pub stands_in : (inodes : ℕ) (t : Tree) → IsTree inodes t → (p : Path) (x : Name) → IsSome (t.objects (p ++ x ∷ [])) → is_directory (t.objects p) ≡ true
+stands_in inodes t tree p x some = tree.above p (x ∷ []) (pushed_some p x []) some
+
+module _ (inodes : ℕ) (t : Tree) (tree : IsTree inodes t) where
+  up_well : (p : Path) → is_directory (t.objects p) ≡ true → is_directory (t.objects (parent p)) ≡ true
+  up_well p here =
+      elim (ends p) [
+        | inl e ↦ subst (λ q. is_directory (t.objects (parent q)) ≡ true) (sym e) (ap is_directory tree.root)
+        | inr (u, x, e) ↦
+            subst (λ q. is_directory (t.objects q) ≡ true) (sym (ap parent e ∙ parent-push u x))
+            (stands_in inodes t tree u x (subst (λ q. IsSome (t.objects q)) e (directory_some (t.objects p) here)))
+      ]
+
+  found_well : (p : Path) (part : Name) → IsName part → is_directory (t.objects p) ≡ true → (o : Option Object) → t.objects (p ++ part ∷ []) ≡ o → GoesWell t p part (found (p ++ part ∷ []) o)
+  found_well p part name here None is = record { directory = here; free = is; good = name }
+  found_well p part name here (Some (directory n)) is = ap is_directory is
+  found_well p part name here (Some (symlink n text)) is = (tree.texts (p ++ part ∷ []) n text is, ap is_some is)
+  found_well p part name here (Some (file n)) is = ap is_some is
+
+  goes_well : (p : Path) (part : Name) → IsPart part → is_directory (t.objects p) ≡ true → GoesWell t p part (next t p part)
+  goes_well p part plain here =
+      cond_both (is_dot part) _ _ (GoesWell t p part) (λ e. here) (λ e.
+      cond_both (is_dot_dot part) _ _ (GoesWell t p part) (λ f. up_well p here) (λ f.
+      cond_both (is_too_long part) _ _ (GoesWell t p part) (λ g. tt) (λ g. found_well p part (part_is_name part plain e f g) here (t.objects (p ++ part ∷ [])) refl)))
+
+  walk_well : (follow : Bool) (names : List Name) (p : Path) → AllByRecursion IsPart names → is_directory (t.objects p) ≡ true → StopsWell t (walk t follow p names)
+  walk_well follow [] p plain here = directory_some (t.objects p) here
+  walk_well follow (part ∷ rest) p plain here =
+      elim (next t p part) as (λ n. GoesWell t p part n → StopsWell t (after t follow p part rest n)) [
+        | into q ↦ λ well. walk_well follow rest q plain.1 well
+        | over q ↦ λ well. cond_both (is_empty rest) (named q) (refused ENOTDIR) (AnswersWell t) (λ e. well) (λ e. tt)
+        | link text ↦ λ well. cond_both (is_empty rest && not follow) (at (named (p ++ part ∷ []))) (at_link p text rest) (StopsWell t) (λ e. well.1) (λ e. (here, well.0, plain.1))
+        | absent ↦ λ well. cond_both (is_empty rest) (missing p part) (refused ENOENT) (AnswersWell t) (λ e. well) (λ e. tt)
+        | too_long ↦ λ well. tt
+      ] (goes_well p part plain.0 here)
+
+  all_append : (a b : List Name) → AllByRecursion IsPart a → AllByRecursion IsPart b → AllByRecursion IsPart (a ++ b)
+  all_append [] b one other = other
+  all_append (x ∷ a) b one other = (one.0, all_append a b one.1 other)
+
+  go_well : (f : Path → List Name → Resolution) → ((p : Path) (names : List Name) → AllByRecursion IsPart names → is_directory (t.objects p) ≡ true → AnswersWell t (f p names)) → (s : Stop) → StopsWell t s → AnswersWell t (go_on f s)
+  go_well f well (at r) stops = stops
+  go_well f well (at_link p text rest) stops =
+      well (if starts_with_slash text then [] else p) (parts text ++ rest) (all_append (parts text) rest (linked_parts text stops.1) stops.2)
+      (cond_both (starts_with_slash text) [] p (λ q. is_directory (t.objects q) ≡ true) (λ e. ap is_directory tree.root) (λ e. stops.0))
+
+  within_well : (links : ℕ) (follow : Bool) (p : Path) (names : List Name) → AllByRecursion IsPart names → is_directory (t.objects p) ≡ true → AnswersWell t (resolve_within links t follow p names)
+  within_well zero follow p names plain here = go_well (λ _ _. refused ELOOP) (λ p names _ _. tt) (walk t follow p names) (walk_well follow names p plain here)
+  within_well (suc links) follow p names plain here = go_well (resolve_within links t follow) (within_well links follow) (walk t follow p names) (walk_well follow names p plain here)
+
+  -- where a text that passed its tests leads
+  pub resolves_well : (more : Tests) (follow : Bool) (text : List ℕ) → first_refusal (text_tests_then more text) ≡ None → AnswersWell t (resolve t follow text)
+  resolves_well more follow text e = within_well LINKS_FOLLOWED follow [] (parts text) (passed_parts more text e) (ap is_directory tree.root)
+
+-- a last part that is a name
+
+abbrev EndsPlain : List Name → Type 0
+EndsPlain [] = ⊥
+EndsPlain (x ∷ []) = (is_dot x ≡ false) × (is_dot_dot x ≡ false)
+EndsPlain (x ∷ (y ∷ rest)) = EndsPlain (y ∷ rest)
+
+plain_cons : (x : Name) (names : List Name) → EndsPlain names → EndsPlain (x ∷ names)
+plain_cons x [] plain = absurd plain
+plain_cons x (y ∷ names) plain = plain
+
+plain_append : (a b : List Name) → EndsPlain b → EndsPlain (a ++ b)
+plain_append [] b plain = plain
+plain_append (x ∷ a) b plain = plain_cons x (a ++ b) (plain_append a b plain)
+
+abbrev pub AnswersBelowRoot : Resolution → Type 0
+AnswersBelowRoot (named p) = p ≢ []
+AnswersBelowRoot _ = Unit {0}
+
+abbrev StopsBelowRoot : Stop → Type 0
+StopsBelowRoot (at r) = AnswersBelowRoot r
+StopsBelowRoot (at_link p text rest) = EndsPlain rest
+
+abbrev GoesBelowRoot : Name → Next → Type 0
+GoesBelowRoot part (into q) = is_dot part ≡ false → is_dot_dot part ≡ false → q ≢ []
+GoesBelowRoot part (over q) = q ≢ []
+GoesBelowRoot part _ = Unit {0}
+
+found_low : (p : Path) (part : Name) (o : Option Object) → GoesBelowRoot part (found (p ++ part ∷ []) o)
+found_low p part None = tt
+found_low p part (Some (directory n)) = λ e f. push_filled p part
+found_low p part (Some (symlink n text)) = tt
+found_low p part (Some (file n)) = push_filled p part
+
+module _ (t : Tree) where
+  goes_low : (p : Path) (part : Name) → GoesBelowRoot part (next t p part)
+  goes_low p part =
+      cond_both (is_dot part) _ _ (GoesBelowRoot part) (λ e f g. absurd (false≢true (sym f ∙ e))) (λ e.
+      cond_both (is_dot_dot part) _ _ (GoesBelowRoot part) (λ f g h. absurd (false≢true (sym h ∙ f))) (λ f.
+      cond_both (is_too_long part) _ _ (GoesBelowRoot part) (λ g. tt) (λ g. found_low p part (t.objects (p ++ part ∷ [])))))
+
+  walk_low : (names : List Name) (p : Path) → EndsPlain names → StopsBelowRoot (walk t false p names)
+  walk_low [] p plain = absurd plain
+  walk_low (part ∷ []) p plain =
+      elim (next t p part) as (λ n. GoesBelowRoot part n → StopsBelowRoot (after t false p part [] n)) [
+        | into q ↦ λ low. low plain.0 plain.1
+        | over q ↦ λ low. low
+        | link text ↦ λ low. push_filled p part
+        | absent ↦ λ low. tt
+        | too_long ↦ λ low. tt
+      ] (goes_low p part)
+  walk_low (part ∷ (y ∷ rest)) p plain =
+      elim (next t p part) as (λ n. GoesBelowRoot part n → StopsBelowRoot (after t false p part (y ∷ rest) n)) [
+        | into q ↦ λ low. walk_low (y ∷ rest) q plain
+        | over q ↦ λ low. cond_both (is_empty (y ∷ rest)) (named q) (refused ENOTDIR) AnswersBelowRoot (λ e. low) (λ e. tt)
+        | link text ↦ λ low. cond_both (is_empty (y ∷ rest) && not false) (at (named (p ++ part ∷ []))) (at_link p text (y ∷ rest)) StopsBelowRoot (λ e. push_filled p part) (λ e. plain)
+        | absent ↦ λ low. cond_both (is_empty (y ∷ rest)) (missing p part) (refused ENOENT) AnswersBelowRoot (λ e. tt) (λ e. tt)
+        | too_long ↦ λ low. tt
+      ] (goes_low p part)
+
+  go_low : (f : Path → List Name → Resolution) → ((p : Path) (names : List Name) → EndsPlain names → AnswersBelowRoot (f p names)) → (s : Stop) → StopsBelowRoot s → AnswersBelowRoot (go_on f s)
+  go_low f low (at r) stops = stops
+  go_low f low (at_link p text rest) stops = low (if starts_with_slash text then [] else p) (parts text ++ rest) (plain_append (parts text) rest stops)
+
+  within_low : (links : ℕ) (p : Path) (names : List Name) → EndsPlain names → AnswersBelowRoot (resolve_within links t false p names)
+  within_low zero p names plain = go_low (λ _ _. refused ELOOP) (λ p names _. tt) (walk t false p names) (walk_low names p plain)
+  within_low (suc links) p names plain = go_low (resolve_within links t false) (within_low links) (walk t false p names) (walk_low names p plain)
+
+back : {X : Type 0} (x d : X) (y : X) (rest : List X) → get_or (x ∷ (y ∷ rest)) (length (x ∷ (y ∷ rest)) - 1) d ≡ get_or (y ∷ rest) (length (y ∷ rest) - 1) d
+back x d y rest =
+    let one : length (x ∷ (y ∷ rest)) - 1 ≡ suc (length (y ∷ rest) - 1) = omega arith in
+    ap (λ k. get_or (x ∷ (y ∷ rest)) k d) one
+
+last_plain : (names : List Name) → names ≢ [] → is_dot (get_or names (length names - 1) []) ≡ false → is_dot_dot (get_or names (length names - 1) []) ≡ false → EndsPlain names
+last_plain [] some dot dots = absurd (some refl)
+last_plain (x ∷ []) some dot dots = (dot, dots)
+last_plain (x ∷ (y ∷ rest)) some dot dots =
+    let same = back x [] y rest in
+    last_plain (y ∷ rest) (pushed_some [] y rest) (ap is_dot (sym same) ∙ dot) (ap is_dot_dot (sym same) ∙ dots)
+
+-- a text that ends with no slash has parts
+
+onto_kept : (x : ℕ) (names : List Name) → filter (λ part. not (is_empty part)) (onto_first x names) ≢ []
+onto_kept x [] e = absurd (pushed_some [] (x ∷ []) [] e)
+onto_kept x (part ∷ names) e =
+    absurd (pushed_some [] (x ∷ part) (filter (λ part. not (is_empty part)) names) (sym (cond-true (not (is_empty (x ∷ part))) ((x ∷ part) ∷ filter (λ part. not (is_empty part)) names) _ (ap not (ne_eqb (length (x ∷ part)) 0 (λ z. omega (arith, z))))) ∙ e))
+
+last_byte : (text : List ℕ) → text ≢ [] → is_slash (get_or text (length text - 1) 0) ≡ false → parts text ≢ []
+last_byte [] some plain = absurd (some refl)
+last_byte (x ∷ []) some plain = subst (λ b. filter (λ part. not (is_empty part)) (if b then [] ∷ ([] ∷ []) else onto_first x ([] ∷ [])) ≢ []) (sym plain) (onto_kept x ([] ∷ []))
+last_byte (x ∷ (y ∷ text)) some plain =
+    cond_both (is_slash x) ([] ∷ slice_split is_slash (y ∷ text)) (onto_first x (slice_split is_slash (y ∷ text))) (λ names. filter (λ part. not (is_empty part)) names ≢ [])
+    (λ e. last_byte (y ∷ text) (λ z. cc) (ap is_slash (sym (back x 0 y text)) ∙ plain)) (λ e. onto_kept x (slice_split is_slash (y ∷ text)))
+
+not_false : (b : Bool) → not b ≡ false → b ≡ true
+not_false true e = refl
+not_false false e = sym e
+
+and_false : (a b : Bool) → b ≡ true → (a && b) ≡ false → a ≡ false
+and_false true b e f = absurd (false≢true (sym f ∙ e))
+and_false false b e f = refl
+
+-- a text that passed its tests and isn't `/` has parts
+has_parts : (more : Tests) (text : List ℕ) → first_refusal (text_tests_then more text) ≡ None → is_root_text text ≡ false → parts text ≢ []
+has_parts more text e other =
+    let pass = all_passed (text_tests_then more text) e in
+    by_text text pass.0 pass.1.1.1.0 pass.1.1.1.1.0 other
+  where
+    by_text : (text : List ℕ) → is_empty text ≡ false → not (starts_with_slash text) ≡ false → (ends_with_slash text && nat_lt 1 (length text)) ≡ false → is_root_text text ≡ false → parts text ≢ []
+    by_text [] filled starts ending other = absurd (false≢true (sym filled))
+    by_text (x ∷ []) filled starts ending other = absurd (false≢true (sym other ∙ (bytes_eq-Decides (x ∷ []) (47 ∷ [])).1 (ap (λ y. y ∷ []) (eqb-true x 47 (not_false (is_slash x) starts)))))
+    by_text (x ∷ (y ∷ text)) filled starts ending other =
+        last_byte (x ∷ (y ∷ text)) (λ z. cc)
+        (and_false (ends_with_slash (x ∷ (y ∷ text))) (nat_lt 1 (length (x ∷ (y ∷ text)))) (lt-ltb 1 (length (x ∷ (y ∷ text))) (omega arith)) ending)
+
+-- where a text that passed its tests, with a name for its last part, leads to something, it isn't the root
+pub resolves_below_root : (t : Tree) (text : List ℕ) → first_refusal (new_text_tests text) ≡ None → is_root_text text ≡ false → AnswersBelowRoot (resolve t false text)
+resolves_below_root t text e other =
+    let dots = or_parts (is_dot (last_part text)) (is_dot_dot (last_part text)) (all_passed (new_text_tests text) e).1.1.1.1.1.1.0 in
+    within_low t LINKS_FOLLOWED [] (parts text) (last_plain (parts text) (has_parts ((is_dot (last_part text) || is_dot_dot (last_part text), EINVAL) ∷ []) text e other) dots.0 dots.1)

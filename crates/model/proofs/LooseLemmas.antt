@@ -1,0 +1,350 @@
+-- Trees in which bytes and modes may be left over until they are swept.
+use Rattle.std.proofs.Common.{◌≡◌, ◌≢◌, ◌⊎◌, inl, inr, ℕ, zero, suc, ◌≤◌, ◌<◌, ◌==◌, List, [], ◌∷◌, ◌++◌, length, true, Option, Some, None, is_some, IsSome, IfSome, All, refl, sym, ap, subst, ◌∙◌, arith}
+use Rattle.std.proofs.lemmas.Bool.{cases_Bool, cases_eq, cases_lt, cond_both, cond-true, cond-false, false≢true, eq-eqb, ne_eqb}
+use Rattle.model.specs.declared.limits.TheConstants.{ROOT_NUMBER, FIRST_NUMBER, MODE_BITS, GREATEST_FILE, GREATEST_OFFSET, OPEN_FILES, FILE_NAMES, DIRECTORY_NAMES}
+use Rattle.model.specs.Counting.{Counts, CountsUpTo}
+use Rattle.model.specs.Paths.{Path, IsName, IsLinkText}
+use Rattle.model.specs.Trees.{Tree, Object, directory, symlink, file, number, is_directory, Description, Stands, IsOpen, IsUsed, IsTree}
+use Rattle.model.specs.Edits.{with_mode, with_bytes, with_descriptor, IsSwept}
+use Rattle.model.specs.Volumes.{is_open}
+use Rattle.model.proofs.SweepLemmas.{found_open, opened_by}
+use Rattle.model.proofs.OnceLemmas.{trees_same}
+
+-- a tree but that bytes and modes may stand for numbers that aren't used
+pub record IsLooseTree (inodes : ℕ) (t : Tree) : Type 0 where
+  pub root : t.objects [] ≡ Some (directory ROOT_NUMBER)
+  pub above : (p q : Path) → q ≢ [] → IsSome (t.objects (p ++ q)) → is_directory (t.objects p) ≡ true
+  pub names : (p : Path) → IsSome (t.objects p) → All IsName p
+  pub single : (p q : Path) (o r : Object) → t.objects p ≡ Some o → t.objects q ≡ Some r → number o ≡ number r → (p ≡ q) ⊎ ((o ≡ file (number o)) × (r ≡ o))
+  pub bytes : (n : ℕ) → (Stands t file n ⊎ IsOpen t n) → IsSome (t.bytes n)
+  pub mode : (n : ℕ) → (Stands t directory n ⊎ Stands t file n ⊎ IsOpen t n) → IsSome (t.mode n)
+  pub loose_bytes : (n : ℕ) → IsSome (t.bytes n) → (Stands t file n ⊎ IsOpen t n) ⊎ (¬ IsUsed t n)
+  pub loose_mode : (n : ℕ) → IsSome (t.mode n) → (Stands t directory n ⊎ Stands t file n ⊎ IsOpen t n) ⊎ (¬ IsUsed t n)
+  pub opened : (n : ℕ) (p : Path) (o : Object) → IsOpen t n → t.objects p ≡ Some o → number o ≡ n → o ≡ file n
+  pub numbers : (n : ℕ) → IsUsed t n → (n ≡ ROOT_NUMBER) ⊎ ((FIRST_NUMBER ≤ n) × (n < inodes))
+  pub texts : (p : Path) (n : ℕ) (text : List ℕ) → t.objects p ≡ Some (symlink n text) → IsLinkText text
+  pub children : (p : Path) → is_directory (t.objects p) ≡ true → CountsUpTo DIRECTORY_NAMES (λ name. IsSome (t.objects (p ++ name ∷ [])))
+  pub links : (n : ℕ) → CountsUpTo FILE_NAMES (λ p. t.objects p ≡ Some (file n))
+  pub sizes : (n : ℕ) → IfSome (t.bytes n) (λ bytes. length bytes ≤ GREATEST_FILE)
+  pub bits : (n : ℕ) → IfSome (t.mode n) (λ mode. mode ≤ MODE_BITS)
+  pub table : (d : ℕ) → OPEN_FILES ≤ d → t.descriptors d ≡ None
+  pub offsets : (d : ℕ) (f : Description) → t.descriptors d ≡ Some f → f.offset ≤ GREATEST_OFFSET
+
+pub tree_is_loose : (inodes : ℕ) (t : Tree) → IsTree inodes t → IsLooseTree inodes t
+tree_is_loose inodes t tree = record {
+  root = tree.root;
+  above = tree.above;
+  names = tree.names;
+  single = tree.single;
+  bytes = λ n stands. (tree.bytes n).1 stands;
+  mode = λ n stands. (tree.mode n).1 stands;
+  loose_bytes = λ n some. inl ((tree.bytes n).0 some);
+  loose_mode = λ n some. inl ((tree.mode n).0 some);
+  opened = tree.opened;
+  numbers = tree.numbers;
+  texts = tree.texts;
+  children = tree.children;
+  links = tree.links;
+  sizes = tree.sizes;
+  bits = tree.bits;
+  table = tree.table;
+  offsets = tree.offsets;
+}
+
+-- where nothing is left over, it is a tree
+pub loose_is_tree : (inodes : ℕ) (t : Tree) → IsLooseTree inodes t → ((n : ℕ) → IsSome (t.bytes n) → Stands t file n ⊎ IsOpen t n) → ((n : ℕ) → IsSome (t.mode n) → Stands t directory n ⊎ Stands t file n ⊎ IsOpen t n) → IsTree inodes t
+loose_is_tree inodes t loose bytes mode = record {
+  root = loose.root;
+  above = loose.above;
+  names = loose.names;
+  single = loose.single;
+  bytes = λ n. (bytes n, loose.bytes n);
+  mode = λ n. (mode n, loose.mode n);
+  opened = loose.opened;
+  numbers = loose.numbers;
+  texts = loose.texts;
+  children = loose.children;
+  links = loose.links;
+  sizes = loose.sizes;
+  bits = loose.bits;
+  table = loose.table;
+  offsets = loose.offsets;
+}
+
+same_some : {X : Type 0} (o r : Option X) → o ≡ r → IsSome r → IsSome o
+same_some o r is some = ap is_some is ∙ some
+
+-- it isn't there, and is
+pub absent : {X Y : Type 0} (o : Option X) → o ≡ None → IsSome o → Y
+absent o is some = absurd (false≢true (sym (ap is_some is) ∙ some))
+
+pub some_same : {X : Type 0} {x y : X} → Some x ≡ Some y → x ≡ y
+some_same e = cc
+
+pub none_some : {X Y : Type 0} {x : X} → None ≡ Some x → Y
+none_some e = cc
+
+-- it is there, or isn't
+some_or_none : {X : Type 0} (o : Option X) → IsSome o ⊎ (o ≡ None)
+some_or_none None = inr refl
+some_or_none (Some x) = inl refl
+
+if_some : {X : Type 0} (P : X → Type 0) (o r : Option X) → o ≡ r → IfSome r P → IfSome o P
+if_some P o r is holds = subst (λ q. IfSome q P) (sym is) holds
+
+if_none : {X : Type 0} (P : X → Type 0) (o : Option X) → o ≡ None → IfSome o P
+if_none P o is = if_some P o None is tt
+
+pub used_file : (t : Tree) (n : ℕ) → Stands t file n ⊎ IsOpen t n → IsUsed t n
+used_file t n (inl (p, is)) = inl (p, file n, is, refl)
+used_file t n (inr open_file) = inr open_file
+
+pub used_either : (t : Tree) (n : ℕ) → Stands t directory n ⊎ Stands t file n ⊎ IsOpen t n → IsUsed t n
+used_either t n (inl (p, is)) = inl (p, directory n, is, refl)
+used_either t n (inr others) = used_file t n others
+
+-- what a sweep leaves is a tree
+module _ (inodes : ℕ) (old new : Tree) (loose : IsLooseTree inodes old) (swept : IsSwept old new) where
+  abbrev left : Tree
+  left = record old { bytes = new.bytes; mode = new.mode }
+
+  bytes_left : (n : ℕ) → IsSome (new.bytes n) → Stands old file n ⊎ IsOpen old n
+  bytes_left n some =
+      elim (some_or_none (old.bytes n)) [
+        | inl there ↦ elim (loose.loose_bytes n there) [ inl stands ↦ stands | inr unused ↦ absent (new.bytes n) (swept.gone n unused).0 some ]
+        | inr none ↦ absent (new.bytes n) (swept.gone n (λ used. absent (new.bytes n) ((swept.kept n used).0 ∙ none) some)).0 some
+      ]
+
+  mode_left : (n : ℕ) → IsSome (new.mode n) → Stands old directory n ⊎ Stands old file n ⊎ IsOpen old n
+  mode_left n some =
+      elim (some_or_none (old.mode n)) [
+        | inl there ↦ elim (loose.loose_mode n there) [ inl stands ↦ stands | inr unused ↦ absent (new.mode n) (swept.gone n unused).1 some ]
+        | inr none ↦ absent (new.mode n) (swept.gone n (λ used. absent (new.mode n) ((swept.kept n used).1 ∙ none) some)).1 some
+      ]
+
+  left_is_tree : IsTree inodes left
+  left_is_tree = record {
+    root = loose.root;
+    above = loose.above;
+    names = loose.names;
+    single = loose.single;
+    bytes = λ n. (bytes_left n, λ stands. same_some (new.bytes n) (old.bytes n) (swept.kept n (used_file old n stands)).0 (loose.bytes n stands));
+    mode = λ n. (mode_left n, λ stands. same_some (new.mode n) (old.mode n) (swept.kept n (used_either old n stands)).1 (loose.mode n stands));
+    opened = loose.opened;
+    numbers = loose.numbers;
+    texts = loose.texts;
+    children = loose.children;
+    links = loose.links;
+    sizes = λ n. elim (some_or_none (new.bytes n)) [
+      | inl some ↦ if_some (λ (bytes : List ℕ). length bytes ≤ GREATEST_FILE) (new.bytes n) (old.bytes n) (swept.kept n (used_file old n (bytes_left n some))).0 (loose.sizes n)
+      | inr none ↦ if_none (λ (bytes : List ℕ). length bytes ≤ GREATEST_FILE) (new.bytes n) none
+    ];
+    bits = λ n. elim (some_or_none (new.mode n)) [
+      | inl some ↦ if_some (λ (mode : ℕ). mode ≤ MODE_BITS) (new.mode n) (old.mode n) (swept.kept n (used_either old n (mode_left n some))).1 (loose.bits n)
+      | inr none ↦ if_none (λ (mode : ℕ). mode ≤ MODE_BITS) (new.mode n) none
+    ];
+    table = loose.table;
+    offsets = loose.offsets;
+  }
+
+  pub swept_is_tree : IsTree inodes new
+  swept_is_tree = subst (IsTree inodes) (trees_same left new (sym swept.objects) refl refl (sym swept.descriptors)) left_is_tree
+
+-- whether a number is that of a file at a path, or open, can be found out
+find_open : (table : ℕ → Option Description) → ((d : ℕ) → OPEN_FILES ≤ d → table d ≡ None) → (n : ℕ) → ((d : ℕ) × (f : Description) × (table d ≡ Some f) × (f.number ≡ n)) ⊎ ((d : ℕ) (f : Description) → table d ≡ Some f → f.number ≢ n)
+find_open table past n =
+    elim (cases_Bool (is_open table 32 n)) [
+      | inl t ↦ inl (opened_by table 32 n t)
+      | inr f ↦ inr (λ d g is same. elim (cases_lt d 32) [
+        | inl below ↦ false≢true (sym f ∙ found_open table 32 d n g below is same)
+        | inr beyond ↦ none_some (sym (past d beyond) ∙ is)
+      ])
+    ]
+
+find_file : (t : Tree) (n count : ℕ) → Counts (λ p. t.objects p ≡ Some (file n)) count → Stands t file n ⊎ ((p : Path) → t.objects p ≢ Some (file n))
+find_file t n zero none = inr none
+find_file t n (suc count) (p, is, rest) = inl (p, is)
+
+pub decided : (t : Tree) (n : ℕ) → CountsUpTo FILE_NAMES (λ p. t.objects p ≡ Some (file n)) → ((d : ℕ) → OPEN_FILES ≤ d → t.descriptors d ≡ None) → ((p : Path) (o : Object) → t.objects p ≡ Some o → number o ≡ n → o ≡ file n) → (Stands t file n ⊎ IsOpen t n) ⊎ (¬ IsUsed t n)
+decided t n counts past files =
+    elim (find_file t n counts.0 counts.1) [
+      | inl stands ↦ inl (inl stands)
+      | inr nowhere ↦ elim (find_open t.descriptors past n) [
+        | inl open_file ↦ inl (inr open_file)
+        | inr closed ↦ inr (λ used. elim used [
+          | inl path ↦ nowhere path.0 (path.2 ∙ ap (λ o. Some o) (files path.0 path.1 path.2 path.3))
+          | inr open_file ↦ closed open_file.0 open_file.1 open_file.2 open_file.3
+        ])
+      ]
+    ]
+
+-- of a file or an open file, all that has its number is that file
+pub all_files : (inodes : ℕ) (t : Tree) → IsLooseTree inodes t → (n : ℕ) → Stands t file n ⊎ IsOpen t n → (p : Path) (o : Object) → t.objects p ≡ Some o → number o ≡ n → o ≡ file n
+all_files inodes t loose n (inl (q, is)) p o at_p same =
+    elim (loose.single q p (file n) o is at_p (sym same)) [
+      | inl one ↦ some_same (sym at_p ∙ ap t.objects (sym one) ∙ is)
+      | inr both ↦ both.1
+    ]
+all_files inodes t loose n (inr open_file) p o at_p same = loose.opened n p o open_file at_p same
+
+-- some files are closed
+module _ (inodes : ℕ) (old : Tree) (tree : IsTree inodes old) (table : ℕ → Option Description) (fewer : (d : ℕ) (f : Description) → table d ≡ Some f → old.descriptors d ≡ Some f) where
+  abbrev closed : Tree
+  closed = record old { descriptors = table }
+
+  was_open : (n : ℕ) → IsOpen closed n → IsOpen old n
+  was_open n (d, f, is, same) = (d, f, fewer d f is, same)
+
+  was_used : (n : ℕ) → IsUsed closed n → IsUsed old n
+  was_used n (inl path) = inl path
+  was_used n (inr open_file) = inr (was_open n open_file)
+
+  was_file : (n : ℕ) → Stands closed file n ⊎ IsOpen closed n → Stands old file n ⊎ IsOpen old n
+  was_file n (inl stands) = inl stands
+  was_file n (inr open_file) = inr (was_open n open_file)
+
+  past : (d : ℕ) → OPEN_FILES ≤ d → table d ≡ None
+  past d beyond = none_by (table d) refl
+    where
+      none_by : (o : Option Description) → table d ≡ o → table d ≡ None
+      none_by None is = is
+      none_by (Some f) is = none_some (sym (tree.table d beyond) ∙ fewer d f is)
+
+  still : (n : ℕ) → Stands old file n ⊎ IsOpen old n → (Stands closed file n ⊎ IsOpen closed n) ⊎ (¬ IsUsed closed n)
+  still n stands = decided closed n (tree.links n) past (λ p o at_p same. all_files inodes old (tree_is_loose inodes old tree) n stands p o at_p same)
+
+  mode_still : (n : ℕ) → Stands old directory n ⊎ Stands old file n ⊎ IsOpen old n → (Stands closed directory n ⊎ Stands closed file n ⊎ IsOpen closed n) ⊎ (¬ IsUsed closed n)
+  mode_still n (inl stands) = inl (inl stands)
+  mode_still n (inr others) = elim (still n others) [ inl stands ↦ inl (inr stands) | inr unused ↦ inr unused ]
+
+  pub closed_is_loose : IsLooseTree inodes closed
+  closed_is_loose = record {
+    root = tree.root;
+    above = tree.above;
+    names = tree.names;
+    single = tree.single;
+    bytes = λ n stands. (tree.bytes n).1 (was_file n stands);
+    mode = λ n stands. (tree.mode n).1 (elim stands [ inl there ↦ inl there | inr others ↦ inr (was_file n others) ]);
+    loose_bytes = λ n some. still n ((tree.bytes n).0 some);
+    loose_mode = λ n some. mode_still n ((tree.mode n).0 some);
+    opened = λ n p o open_file at_p same. tree.opened n p o (was_open n open_file) at_p same;
+    numbers = λ n used. tree.numbers n (was_used n used);
+    texts = tree.texts;
+    children = tree.children;
+    links = tree.links;
+    sizes = tree.sizes;
+    bits = tree.bits;
+    table = past;
+    offsets = λ d f is. tree.offsets d f (fewer d f is);
+  }
+
+-- a tree stays one where a file that is used gets other bytes, or an object that has a mode another mode
+pub bytes_keep : (inodes : ℕ) (t : Tree) (n : ℕ) (given : List ℕ) → IsTree inodes t → Stands t file n ⊎ IsOpen t n → length given ≤ GREATEST_FILE → IsTree inodes (with_bytes n given t)
+bytes_keep inodes t n given tree stands few = record {
+  root = tree.root;
+  above = tree.above;
+  names = tree.names;
+  single = tree.single;
+  bytes = λ k. (
+    λ some. elim (cases_eq k n) [
+      | inl is ↦ subst (λ j. Stands t file j ⊎ IsOpen t j) (sym is) stands
+      | inr other ↦ (tree.bytes k).0 (sym (ap is_some (cond-false (k == n) (Some given) (t.bytes k) (ne_eqb k n other))) ∙ some)
+    ],
+    λ there. cond_both (k == n) (Some given) (t.bytes k) IsSome (λ e. refl) (λ e. (tree.bytes k).1 there),
+  );
+  mode = tree.mode;
+  opened = tree.opened;
+  numbers = tree.numbers;
+  texts = tree.texts;
+  children = tree.children;
+  links = tree.links;
+  sizes = λ k. cond_both (k == n) (Some given) (t.bytes k) (λ o. IfSome o (λ bytes. length bytes ≤ GREATEST_FILE)) (λ e. few) (λ e. tree.sizes k);
+  bits = tree.bits;
+  table = tree.table;
+  offsets = tree.offsets;
+}
+
+pub mode_keeps : (inodes : ℕ) (t : Tree) (n mode : ℕ) → IsTree inodes t → Stands t directory n ⊎ Stands t file n ⊎ IsOpen t n → mode ≤ MODE_BITS → IsTree inodes (with_mode n mode t)
+mode_keeps inodes t n mode tree stands few = record {
+  root = tree.root;
+  above = tree.above;
+  names = tree.names;
+  single = tree.single;
+  bytes = tree.bytes;
+  mode = λ k. (
+    λ some. elim (cases_eq k n) [
+      | inl is ↦ subst (λ j. Stands t directory j ⊎ Stands t file j ⊎ IsOpen t j) (sym is) stands
+      | inr other ↦ (tree.mode k).0 (sym (ap is_some (cond-false (k == n) (Some mode) (t.mode k) (ne_eqb k n other))) ∙ some)
+    ],
+    λ there. cond_both (k == n) (Some mode) (t.mode k) IsSome (λ e. refl) (λ e. (tree.mode k).1 there),
+  );
+  opened = tree.opened;
+  numbers = tree.numbers;
+  texts = tree.texts;
+  children = tree.children;
+  links = tree.links;
+  sizes = tree.sizes;
+  bits = λ k. cond_both (k == n) (Some mode) (t.mode k) (λ o. IfSome o (λ bits. bits ≤ MODE_BITS)) (λ e. few) (λ e. tree.bits k);
+  table = tree.table;
+  offsets = tree.offsets;
+}
+
+-- a file that is used is opened at a free descriptor, or the offset of an open one moves
+module _ (inodes : ℕ) (t : Tree) (tree : IsTree inodes t) (fd : ℕ) (f : Description) (below : fd < OPEN_FILES) (stands : Stands t file f.number ⊎ IsOpen t f.number) (few : f.offset ≤ GREATEST_OFFSET) (was : (g : Description) → t.descriptors fd ≡ Some g → g.number ≡ f.number) where
+  abbrev held : Tree
+  held = with_descriptor fd (Some f) t
+
+  held_here : held.descriptors fd ≡ Some f
+  held_here = cond-true (fd == fd) (Some f) (t.descriptors fd) (eq-eqb fd fd refl)
+
+  held_other : (d : ℕ) → d ≢ fd → held.descriptors d ≡ t.descriptors d
+  held_other d other = cond-false (d == fd) (Some f) (t.descriptors d) (ne_eqb d fd other)
+
+  held_is : (d : ℕ) (g : Description) → held.descriptors d ≡ Some g → (g ≡ f) ⊎ (t.descriptors d ≡ Some g)
+  held_is d g is =
+      elim (cases_eq d fd) [
+        | inl same ↦ inl (some_same (sym is ∙ ap held.descriptors same ∙ held_here))
+        | inr other ↦ inr (sym (held_other d other) ∙ is)
+      ]
+
+  -- a file that is open now was used
+  opened_was : (n : ℕ) → IsOpen held n → Stands t file n ⊎ IsOpen t n
+  opened_was n (d, g, is, same) =
+      elim (held_is d g is) [
+        | inl new ↦ subst (λ k. Stands t file k ⊎ IsOpen t k) (sym (ap (λ (h : Description). h.number) new) ∙ same) stands
+        | inr old ↦ inr (d, g, old, same)
+      ]
+
+  file_was : (n : ℕ) → Stands held file n ⊎ IsOpen held n → Stands t file n ⊎ IsOpen t n
+  file_was n (inl there) = inl there
+  file_was n (inr open_file) = opened_was n open_file
+
+  file_stays : (n : ℕ) → Stands t file n ⊎ IsOpen t n → Stands held file n ⊎ IsOpen held n
+  file_stays n (inl there) = inl there
+  file_stays n (inr (d, g, is, same)) =
+      elim (cases_eq d fd) [
+        | inl here ↦ inr (fd, f, held_here, sym (was g (ap t.descriptors (sym here) ∙ is)) ∙ same)
+        | inr other ↦ inr (d, g, held_other d other ∙ is, same)
+      ]
+
+  pub held_is_tree : IsTree inodes held
+  held_is_tree = record {
+    root = tree.root;
+    above = tree.above;
+    names = tree.names;
+    single = tree.single;
+    bytes = λ n. (λ some. file_stays n ((tree.bytes n).0 some), λ there. (tree.bytes n).1 (file_was n there));
+    mode = λ n. (
+      λ some. elim ((tree.mode n).0 some) [ inl there ↦ inl there | inr others ↦ inr (file_stays n others) ],
+      λ there. (tree.mode n).1 (elim there [ inl here ↦ inl here | inr others ↦ inr (file_was n others) ]),
+    );
+    opened = λ n p o open_file at_p same. all_files inodes t (tree_is_loose inodes t tree) n (opened_was n open_file) p o at_p same;
+    numbers = λ n used. tree.numbers n (elim used [ inl path ↦ inl path | inr open_file ↦ used_file t n (opened_was n open_file) ]);
+    texts = tree.texts;
+    children = tree.children;
+    links = tree.links;
+    sizes = tree.sizes;
+    bits = tree.bits;
+    table = λ d past. held_other d (λ e. omega (arith, past, below, e)) ∙ tree.table d past;
+    offsets = λ d g is. elim (held_is d g is) [ inl new ↦ subst (λ (h : Description). h.offset ≤ GREATEST_OFFSET) (sym new) few | inr old ↦ tree.offsets d g old ];
+  }

@@ -1,0 +1,248 @@
+-- Each step of a call leaves a tree: the steps, the calls that change nothing, and those on descriptors, bytes and modes.
+use Rattle.std.proofs.Common.{◌≡◌, ◌⊎◌, inl, inr, ℕ, ℤ, pos, ◌+◌, ◌-◌, ◌≤◌, ◌<◌, List, [], ◌∷◌, ◌++◌, length, take, drop, replicate, Bool, true, false, not, ◌||◌, Option, Some, None, IfSome, refl, sym, ap, subst, ◌∙◌, length-append, length-take, length-drop, arith}
+use Rattle.std.specs.Prelude.{◌+ℤ◌, ◌==◌, if◌then◌else◌, nat_abs, nat_le, nat_lt, unwrap_or}
+use Rattle.std.proofs.lemmas.Bool.{cases_lt, cond_both, leb-false, ltb-false}
+use Rattle.std.proofs.lemmas.List.{length-replicate}
+use Rattle.model.specs.declared.limits.TheConstants.{MODE_BITS, GREATEST_FILE, GREATEST_OFFSET, OPEN_FILES, DIRECTORY_NAMES}
+use Rattle.model.specs.declared.errno.Errno.{Errno}
+use Rattle.model.specs.declared.errno.Errno.TheVariants.{ENOENT, ENOTDIR, EISDIR, EINVAL, EBADF, DIRFULL, NONUMBER, EFBIG, EOVERFLOW}
+use Rattle.model.specs.declared.reply.Reply.{Reply}
+use Rattle.model.specs.declared.reply.Reply.TheVariants as reply
+use Rattle.model.specs.declared.command.Whence.{Whence}
+use Rattle.model.specs.Paths.{Name, Path, Tests, first_refusal, text_tests_then, is_empty}
+use Rattle.model.specs.Trees.{Tree, Object, directory, symlink, file, Description, Stands, IsOpen, IsTree}
+use Rattle.model.specs.Edits.{contents, resized, written, read_at, with_mode, with_bytes, with_descriptor}
+use Rattle.model.specs.Resolution.{Resolution, named, missing, refused, resolve}
+use Rattle.model.specs.Room.{Need}
+use Rattle.model.specs.Outcomes.{Outcome, answers, refuses, changes, changes_swept, tested, either, leads, leads_to, IsListing, with_names, with_place, IsFresh, at_number, with_fresh, HasLinks, with_links, described}
+use Rattle.model.specs.Reading as reading
+use Rattle.model.specs.Changing as changing
+use Rattle.model.specs.Descriptors as descriptors
+use Rattle.model.proofs.LeadLemmas.{AllPass, all_passed, Misses, AnswersWell, resolves_well}
+use Rattle.model.proofs.LooseLemmas.{none_some, some_same, IsLooseTree, swept_is_tree, closed_is_loose, bytes_keep, mode_keeps, held_is_tree}
+
+-- sizes
+
+length-resized : (size : ℕ) (bytes : List ℕ) → length (resized size bytes) ≡ size
+length-resized size bytes = omega (arith, length-append (take size bytes) (replicate (size - length bytes) 0), length-take size bytes, length-replicate {A = ℕ} (size - length bytes) 0)
+
+length-written : (offset : ℕ) (given bytes : List ℕ) → length (written offset given bytes) ≡ (offset + length given) + (length bytes - (offset + length given))
+length-written offset given bytes =
+    let rest : List ℕ = drop (offset + length given) bytes in
+    length-append (resized offset bytes ++ given) rest
+    ∙ ap (λ k. k + length rest) (length-append (resized offset bytes) given ∙ ap (λ k. k + length given) (length-resized offset bytes))
+    ∙ ap (λ k. (offset + length given) + k) (length-drop (offset + length given) bytes)
+
+writes_within : (offset : ℕ) (given bytes : List ℕ) → offset + length given ≤ GREATEST_FILE → length bytes ≤ GREATEST_FILE → length (written offset given bytes) ≤ GREATEST_FILE
+writes_within offset given bytes few short = subst (λ k. k ≤ GREATEST_FILE) (sym (length-written offset given bytes)) (omega (arith, few, short))
+
+reads_within : (offset count : ℕ) (bytes : List ℕ) → offset ≤ GREATEST_OFFSET → length bytes ≤ GREATEST_FILE → offset + length (read_at offset count bytes) ≤ GREATEST_OFFSET
+reads_within offset count bytes few short = omega (arith, length-take count (drop offset bytes), length-drop offset bytes, few, short)
+
+-- what an outcome leaves is a tree
+abbrev pub LeavesTree : ℕ → Outcome → Type 0
+LeavesTree inodes outcome = (answer : Reply) (new : Tree) (need : Need) → outcome answer new need → IsTree inodes new
+
+module _ (inodes : ℕ) (t : Tree) (tree : IsTree inodes t) where
+  -- the steps
+
+  pub stays_same : (r : Reply) → LeavesTree inodes (answers t r)
+  stays_same r answer new need done = subst (IsTree inodes) (sym done.1) tree
+
+  pub stays_refused : (e : Errno) → LeavesTree inodes (refuses t e)
+  stays_refused e = stays_same (reply.Refused e)
+
+  pub stays_changed : (r : Reply) (u : Tree) (n : Need) → IsTree inodes u → LeavesTree inodes (changes r u n)
+  stays_changed r u n is answer new need done = subst (IsTree inodes) (sym done.1) is
+
+  pub stays_swept : (r : Reply) (u : Tree) (n : Need) → IsLooseTree inodes u → LeavesTree inodes (changes_swept r u n)
+  stays_swept r u n loose answer new need done = swept_is_tree inodes u new loose done.1
+
+  pub stays_tested : (tests : Tests) (rest : Outcome) → (first_refusal tests ≡ None → LeavesTree inodes rest) → LeavesTree inodes (tested t tests rest)
+  stays_tested tests rest leaves =
+      elim (first_refusal tests) as (λ o. first_refusal tests ≡ o → LeavesTree inodes (elim o as (λ _. Outcome) [ Some errno ↦ refuses t errno | None ↦ rest ])) [
+        | Some errno ↦ λ e. stays_refused errno
+        | None ↦ λ e. leaves e
+      ] refl
+
+  -- tests in a row, of which none holds
+  pub stays_passed : (tests : Tests) (rest : Outcome) → (AllPass tests → LeavesTree inodes rest) → LeavesTree inodes (tested t tests rest)
+  stays_passed tests rest leaves = stays_tested tests rest (λ e. leaves (all_passed tests e))
+
+  pub stays_either : (b : Bool) (x y : Outcome) → (b ≡ true → LeavesTree inodes x) → (b ≡ false → LeavesTree inodes y) → LeavesTree inodes (either b x y)
+  stays_either true x y one other = one refl
+  stays_either false x y one other = other refl
+
+  pub stays_leads : (r : Resolution) (there : Path → Object → Outcome) (gone : Path → Name → Outcome) → AnswersWell t r → ((p : Path) (o : Object) → r ≡ named p → t.objects p ≡ Some o → LeavesTree inodes (there p o)) → ((p : Path) (name : Name) → r ≡ missing p name → Misses t p name → LeavesTree inodes (gone p name)) → LeavesTree inodes (leads t r there gone)
+  stays_leads (refused errno) there gone well at_there at_gone = stays_refused errno
+  stays_leads (missing p name) there gone well at_there at_gone = at_gone p name refl well
+  stays_leads (named p) there gone well at_there at_gone =
+      elim (t.objects p) as (λ o. t.objects p ≡ o → LeavesTree inodes (elim o as (λ _. Outcome) [ Some o ↦ there p o | None ↦ λ _ _ _. ⊥ ])) [
+        | Some o ↦ λ e. at_there p o refl e
+        | None ↦ λ e answer new need never. absurd never
+      ] refl
+
+  pub stays_leads_to : (r : Resolution) (there : Path → Object → Outcome) → AnswersWell t r → ((p : Path) (o : Object) → r ≡ named p → t.objects p ≡ Some o → LeavesTree inodes (there p o)) → LeavesTree inodes (leads_to t r there)
+  stays_leads_to r there well at_there = stays_leads r there (λ p name. refuses t ENOENT) well at_there (λ p name is misses. stays_refused ENOENT)
+
+  pub stays_names : (p : Path) (rest : List Name → Outcome) → ((names : List Name) → IsListing t p names → LeavesTree inodes (rest names)) → LeavesTree inodes (with_names t p rest)
+  stays_names p rest leaves answer new need (names, listing, done) = leaves names listing answer new need done
+
+  pub stays_place : (p : Path) (rest : Outcome) → ((names : List Name) → IsListing t p names → length names < DIRECTORY_NAMES → LeavesTree inodes rest) → LeavesTree inodes (with_place t p rest)
+  stays_place p rest leaves =
+      stays_names p _ (λ names listing. stays_passed ((nat_le DIRECTORY_NAMES (length names), DIRFULL) ∷ []) rest (λ pass. leaves names listing (leb-false 65536 (length names) pass.0)))
+
+  stays_number : (rest : ℕ → Outcome) (found : Option ℕ) → ((n : ℕ) → found ≡ Some n → LeavesTree inodes (rest n)) → LeavesTree inodes (at_number t rest found)
+  stays_number rest None leaves = stays_refused NONUMBER
+  stays_number rest (Some n) leaves = leaves n refl
+
+  pub stays_fresh : (rest : ℕ → Outcome) → ((n : ℕ) → IsFresh inodes t n → LeavesTree inodes (rest n)) → LeavesTree inodes (with_fresh inodes t rest)
+  stays_fresh rest leaves answer new need (None, is, done) = stays_refused NONUMBER answer new need done
+  stays_fresh rest leaves answer new need (Some n, is, done) = leaves n is answer new need done
+
+  pub stays_links : (o : Object) (rest : ℕ → Outcome) → ((n : ℕ) → HasLinks t o n → LeavesTree inodes (rest n)) → LeavesTree inodes (with_links t o rest)
+  stays_links o rest leaves answer new need (count, is, done) = leaves count is answer new need done
+
+  pub stays_never : LeavesTree inodes (λ _ _ _. ⊥)
+  stays_never answer new need done = absurd done
+
+  pub stays_described : (fd : ℕ) (rest : Description → Outcome) → ((f : Description) → t.descriptors fd ≡ Some f → LeavesTree inodes (rest f)) → LeavesTree inodes (described t fd rest)
+  stays_described fd rest leaves =
+      elim (t.descriptors fd) as (λ o. t.descriptors fd ≡ o → LeavesTree inodes (elim o as (λ _. Outcome) [ Some f ↦ rest f | None ↦ refuses t EBADF ])) [
+        | Some f ↦ λ e. leaves f e
+        | None ↦ λ e. stays_refused EBADF
+      ] refl
+
+  -- by what stands there
+  pub stays_by_kind : (o : Object) (a : ℕ → Outcome) (b : ℕ → List ℕ → Outcome) (c : ℕ → Outcome) → ((n : ℕ) → o ≡ directory n → LeavesTree inodes (a n)) → ((n : ℕ) (text : List ℕ) → o ≡ symlink n text → LeavesTree inodes (b n text)) → ((n : ℕ) → o ≡ file n → LeavesTree inodes (c n)) → LeavesTree inodes (elim o as (λ _. Outcome) [ directory n ↦ a n | symlink n text ↦ b n text | file n ↦ c n ])
+  stays_by_kind (directory n) a b c one other third = one n refl
+  stays_by_kind (symlink n text) a b c one other third = other n text refl
+  stays_by_kind (file n) a b c one other third = third n refl
+
+  -- a path that passed its tests
+  pub stays_at : (more : Tests) (follow : Bool) (path : List ℕ) (there : Path → Object → Outcome) → ((p : Path) (o : Object) → AllPass (text_tests_then more path) → t.objects p ≡ Some o → LeavesTree inodes (there p o)) → LeavesTree inodes (tested t (text_tests_then more path) (leads_to t (resolve t follow path) there))
+  stays_at more follow path there leaves =
+      stays_tested (text_tests_then more path) _ (λ e. stays_leads_to (resolve t follow path) there (resolves_well inodes t tree more follow path e) (λ p o is at_p. leaves p o (all_passed (text_tests_then more path) e) at_p))
+
+  -- the calls that change nothing
+
+  stays_tells : (o : Object) → LeavesTree inodes (reading.tells_stat t o)
+  stays_tells o = stays_links o _ (λ links has. stays_same _)
+
+  pub stays_stat : (follow : Bool) (path : List ℕ) → LeavesTree inodes (reading.stats t follow path)
+  stays_stat follow path = stays_at [] follow path _ (λ p o pass at_p. stays_tells o)
+
+  pub stays_list : (path : List ℕ) → LeavesTree inodes (reading.lists t path)
+  stays_list path =
+      stays_at [] true path _ (λ p o pass at_p. stays_by_kind o _ _ _ (λ n is. stays_names p _ (λ names listing. stays_same _)) (λ n text is. stays_refused ENOTDIR) (λ n is. stays_refused ENOTDIR))
+
+  pub stays_readlink : (path : List ℕ) → LeavesTree inodes (reading.reads_link t path)
+  stays_readlink path = stays_at [] false path _ (λ p o pass at_p. stays_by_kind o _ _ _ (λ n is. stays_refused EINVAL) (λ n text is. stays_same _) (λ n is. stays_refused EINVAL))
+
+  pub stays_get : (path : List ℕ) (offset : ℤ) (count : ℕ) → LeavesTree inodes (reading.gets t path offset count)
+  stays_get path offset count =
+      stays_at ((reading.is_negative offset || reading.is_too_many count, EINVAL) ∷ []) true path _ (λ p o pass at_p. stays_by_kind o _ _ _ (λ n is. stays_refused EISDIR) (λ n text is. stays_never) (λ n is. stays_same _))
+
+  -- bytes and modes
+
+  few_bytes : (o : Option (List ℕ)) → IfSome o (λ bytes. length bytes ≤ GREATEST_FILE) → length (unwrap_or o []) ≤ GREATEST_FILE
+  few_bytes None few = omega arith
+  few_bytes (Some bytes) few = few
+
+  pub few_contents : (n : ℕ) → length (contents t n) ≤ GREATEST_FILE
+  few_contents n = few_bytes (t.bytes n) (tree.sizes n)
+
+  -- a file cut to a size stays where it is, and open where it is
+  pub record IsCut (u : Tree) : Type 0 where
+    pub is : IsTree inodes u
+    pub objects : u.objects ≡ t.objects
+    pub descriptors : u.descriptors ≡ t.descriptors
+
+  pub cut_is : (n size : ℕ) → Stands t file n ⊎ IsOpen t n → size ≤ GREATEST_FILE → IsCut (changing.cut_to n size t)
+  cut_is n size stands few =
+      cond_both (size == length (contents t n)) t (with_bytes n (resized size (contents t n)) t) IsCut (λ e. record { is = tree; objects = refl; descriptors = refl }) (λ e. record {
+        is = bytes_keep inodes t n (resized size (contents t n)) tree stands (subst (λ k. k ≤ GREATEST_FILE) (sym (length-resized size (contents t n))) few);
+        objects = refl;
+        descriptors = refl;
+      })
+
+  stays_cut : (n size : ℕ) → Stands t file n ⊎ IsOpen t n → size ≤ GREATEST_FILE → LeavesTree inodes (changing.cuts t n size)
+  stays_cut n size stands few = stays_changed reply.Done (changing.cut_to n size t) (changing.need_of_cut n size t) (cut_is n size stands few).is
+
+  pub stays_truncate : (path : List ℕ) (size : ℤ) → LeavesTree inodes (changing.truncates t path size)
+  stays_truncate path size =
+      stays_at (changing.size_tests size) true path _ (λ p o pass at_p. stays_by_kind o _ _ _ (λ n is. stays_refused EISDIR) (λ n text is. stays_never)
+      (λ n is. stays_cut n (nat_abs size) (inl (p, at_p ∙ ap (λ r. Some r) is)) (ltb-false GREATEST_FILE (nat_abs size) pass.1.1.1.1.1.1.1.0)))
+
+  pub stays_chmod : (path : List ℕ) (mode : ℕ) → mode ≤ MODE_BITS → LeavesTree inodes (changing.changes_mode t path mode)
+  stays_chmod path mode few =
+      stays_at [] true path _ (λ p o pass at_p. stays_by_kind o _ _ _
+      (λ n is. stays_changed _ (with_mode n mode t) _ (mode_keeps inodes t n mode tree (inl (p, at_p ∙ ap (λ r. Some r) is)) few))
+      (λ n text is. stays_never)
+      (λ n is. stays_changed _ (with_mode n mode t) _ (mode_keeps inodes t n mode tree (inr (inl (p, at_p ∙ ap (λ r. Some r) is))) few)))
+
+  -- descriptors
+
+  below_table : (fd : ℕ) (f : Description) → t.descriptors fd ≡ Some f → fd < OPEN_FILES
+  below_table fd f is = elim (cases_lt fd 32) [ inl below ↦ below | inr past ↦ none_some (sym (tree.table fd past) ∙ is) ]
+
+  -- the offset of an open file moves
+  offset_moves : (fd : ℕ) (f : Description) (offset : ℕ) → t.descriptors fd ≡ Some f → offset ≤ GREATEST_OFFSET → IsTree inodes (descriptors.with_offset fd f offset t)
+  offset_moves fd f offset is few =
+      held_is_tree inodes t tree fd (record f { offset = offset }) (below_table fd f is) (inr (fd, f, is, refl)) few (λ g at_g. ap (λ (h : Description). h.number) (some_same (sym at_g ∙ is)))
+
+  pub stays_close : (fd : ℕ) → LeavesTree inodes (descriptors.closes t fd)
+  stays_close fd =
+      stays_described fd _ (λ f at_fd.
+      stays_swept reply.Done (with_descriptor fd None t) _ (closed_is_loose inodes t tree (λ k. if k == fd then None else t.descriptors k)
+      (λ d g is. cond_both (d == fd) None (t.descriptors d) (λ o. o ≡ Some g → t.descriptors d ≡ Some g) (λ e none. none_some none) (λ e some. some) is)))
+
+  pub stays_read : (fd count : ℕ) → LeavesTree inodes (descriptors.reads t fd count)
+  stays_read fd count =
+      stays_described fd _ (λ f at_fd. stays_passed ((not f.reads, EBADF) ∷ (reading.is_too_many count, EINVAL) ∷ []) _ (λ pass.
+      stays_changed _ (descriptors.with_offset fd f (f.offset + length (read_at f.offset count (contents t f.number))) t) _
+      (offset_moves fd f _ at_fd (reads_within f.offset count (contents t f.number) (tree.offsets fd f at_fd) (few_contents f.number)))))
+
+  pub stays_pread : (fd : ℕ) (offset : ℤ) (count : ℕ) → LeavesTree inodes (descriptors.reads_from t fd offset count)
+  stays_pread fd offset count =
+      stays_described fd _ (λ f at_fd. stays_passed ((not f.reads, EBADF) ∷ (reading.is_negative offset || reading.is_too_many count, EINVAL) ∷ []) _ (λ pass. stays_same _))
+
+  stays_puts : (fd : ℕ) (f : Description) (offset : ℕ) (given : List ℕ) (also : Tree → Tree) → t.descriptors fd ≡ Some f → ((u : Tree) → IsTree inodes u → u.descriptors ≡ t.descriptors → offset + length given ≤ GREATEST_FILE → IsTree inodes (also u)) → LeavesTree inodes (descriptors.puts t f.number offset given also)
+  stays_puts fd f offset given also at_fd keeps =
+      stays_either (is_empty given) _ _ (λ e. stays_same _) (λ e. stays_passed ((nat_lt GREATEST_FILE (offset + length given), EFBIG) ∷ []) _ (λ pass.
+      let few : offset + length given ≤ GREATEST_FILE = ltb-false GREATEST_FILE (offset + length given) pass.0 in
+      let put : Tree = with_bytes f.number (written offset given (contents t f.number)) t in
+      stays_changed _ (also put) _ (keeps put (bytes_keep inodes t f.number (written offset given (contents t f.number)) tree (inr (fd, f, at_fd, refl)) (writes_within offset given (contents t f.number) few (few_contents f.number))) refl few)))
+
+  pub stays_write : (fd : ℕ) (given : List ℕ) → LeavesTree inodes (descriptors.writes t fd given)
+  stays_write fd given =
+      stays_described fd _ (λ f at_fd.
+      let offset : ℕ = if f.appends then length (contents t f.number) else f.offset in
+      stays_passed ((not f.writes, EBADF) ∷ (reading.is_too_many (length given), EINVAL) ∷ []) (descriptors.puts t f.number offset given (descriptors.with_offset fd f (offset + length given))) (λ pass.
+      stays_puts fd f offset given (descriptors.with_offset fd f (offset + length given)) at_fd (λ u is same few.
+      let open_now : u.descriptors fd ≡ Some f = ap (λ table. table fd) same ∙ at_fd in
+      held_is_tree inodes u is fd (record f { offset = offset + length given }) (below_table fd f at_fd) (inr (fd, f, open_now, refl)) (omega (arith, few)) (λ g at_g. ap (λ (h : Description). h.number) (some_same (sym at_g ∙ open_now))))))
+
+  pub stays_pwrite : (fd : ℕ) (offset : ℤ) (given : List ℕ) → LeavesTree inodes (descriptors.writes_to t fd offset given)
+  stays_pwrite fd offset given =
+      stays_described fd _ (λ f at_fd.
+      stays_passed ((not f.writes, EBADF) ∷ (reading.is_negative offset || reading.is_too_many (length given), EINVAL) ∷ []) (descriptors.puts t f.number (nat_abs offset) given (λ after. after)) (λ pass.
+      stays_puts fd f (nat_abs offset) given (λ after. after) at_fd (λ u is same few. is)))
+
+  pub stays_seek : (fd : ℕ) (from : Whence) (offset : ℤ) → LeavesTree inodes (descriptors.seeks t fd from offset)
+  stays_seek fd from offset =
+      stays_described fd _ (λ f at_fd.
+      let place : ℤ = pos (descriptors.base_of t f from) +ℤ offset in
+      stays_passed ((reading.is_negative place, EINVAL) ∷ (nat_lt GREATEST_OFFSET (nat_abs place), EOVERFLOW) ∷ []) _ (λ pass.
+      stays_changed _ (descriptors.with_offset fd f (nat_abs place) t) _ (offset_moves fd f (nat_abs place) at_fd (ltb-false GREATEST_OFFSET (nat_abs place) pass.1.0))))
+
+  pub stays_ftruncate : (fd : ℕ) (size : ℤ) → LeavesTree inodes (descriptors.truncates_open t fd size)
+  stays_ftruncate fd size =
+      stays_described fd _ (λ f at_fd. stays_passed ((not f.writes, EINVAL) ∷ changing.size_tests size) _ (λ pass.
+      stays_cut f.number (nat_abs size) (inr (fd, f, at_fd, refl)) (ltb-false GREATEST_FILE (nat_abs size) pass.1.1.0)))
+
+  pub stays_fstat : (fd : ℕ) → LeavesTree inodes (descriptors.stats_open t fd)
+  stays_fstat fd = stays_described fd _ (λ f at_fd. stays_tells (file f.number))
+
+  pub stays_fsync : (fd : ℕ) → LeavesTree inodes (descriptors.syncs_open t fd)
+  stays_fsync fd = stays_described fd _ (λ f at_fd. stays_same _)
