@@ -18,3 +18,6 @@ pub mod Maps
 pub mod Version
 pub mod SnapRoot
 pub mod Opens
+pub mod Places
+pub mod DirectoryNames
+pub mod FileBytes

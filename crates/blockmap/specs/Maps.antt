@@ -1,0 +1,32 @@
+-- The entries of the whole map, block by block of the disk.
+use Rattle.std.specs.Prelude.{ℕ, ◌≡◌, ◌≢◌, ◌/◌, ◌%◌, List, [], length, slice_index, slice_index_or, true, false}
+use Rattle.blockmap.specs.Parts.{Part}
+
+abbrev pub no_part : Part
+no_part = record { settled = []; entries = []; is_touched = false }
+
+-- the settled entry of a block
+abbrev pub settled_at : List Part → ℕ → ℕ
+settled_at parts b = slice_index (slice_index_or parts (b / 1024) no_part).settled (b % 1024)
+
+-- its entry as the next consistency point makes it
+abbrev pub entry_at : List Part → ℕ → ℕ
+entry_at parts b = slice_index (slice_index_or parts (b / 1024) no_part).entries (b % 1024)
+
+-- a block is free when its settled entry is 0
+abbrev pub IsFree : List Part → ℕ → Type 0
+IsFree parts b = settled_at parts b ≡ 0
+
+-- the next consistency point stores block j of the map
+abbrev pub IsTouched : List Part → ℕ → Type 0
+IsTouched parts j = (slice_index_or parts j no_part).is_touched ≡ true
+
+-- what no change of entries changes
+pub record KeepsSettled (old new : List Part) : Type 0 where
+  pub count : length new ≡ length old
+  pub settled : (b : ℕ) → settled_at new b ≡ settled_at old b
+  pub touched : (j : ℕ) → IsTouched old j → IsTouched new j
+
+-- no entry changes but that of one block
+abbrev pub OnlyChanges : ℕ → List Part → List Part → Type 0
+OnlyChanges b old new = (c : ℕ) → c ≢ b → entry_at new c ≡ entry_at old c

@@ -1,0 +1,26 @@
+-- The entries of one block of the map.
+use Rattle.std.specs.Prelude.{ℕ, ◌≡◌, ◌<◌, List, length, slice_index, Bool, Option, Some, None, is_some}
+use Rattle.layout.specs.Maps.{map_entry}
+use Rattle.layout.specs.declared.TheConstants.{BLOCK_POINTERS}
+
+-- the entries as they are settled, those that the next consistency point makes of them, and whether it stores them
+pub record Part : Type 0 where
+  pub settled : List ℕ
+  pub entries : List ℕ
+  pub is_touched : Bool
+
+pub record IsPart (p : Part) : Type 0 where
+  pub settled : length p.settled ≡ BLOCK_POINTERS
+  pub entries : length p.entries ≡ BLOCK_POINTERS
+
+abbrev pub or_else : Option (List ℕ) → List ℕ → List ℕ
+or_else (Some entries) settled = entries
+or_else None settled = settled
+
+abbrev pub part_of : List ℕ → Option (List ℕ) → Part
+part_of settled changed =
+    record { settled = settled; entries = or_else changed settled; is_touched = is_some changed }
+
+-- a block of the map that spells these entries
+abbrev pub Spells : List ℕ → List ℕ → Type 0
+Spells bytes entries = (i : ℕ) → i < BLOCK_POINTERS → map_entry bytes i ≡ slice_index entries i

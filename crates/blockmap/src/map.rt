@@ -1,0 +1,174 @@
+//! The whole block map.
+
+ghost use Rattle.std.specs.Prelude.{◌≡◌, ℕ, ◌*◌, ◌/◌, ◌<◌, ◌≤◌, true, false, IsTrue, OnOk, IfSome, IfNone, length, ◌+◌, ◌↔◌};
+ghost use Rattle.layout.specs.declared.geometry.TheConstants.{MOST_BLOCKS};
+ghost use Rattle.blockmap.specs.Bits.{SetsBit};
+ghost use Rattle.blockmap.specs.declared.map.TheConstants.{FIRST_BLOCK};
+
+use crate::bits::with_bit;
+use crate::part::MapPart;
+use layout::BlockNumber;
+use std::alloc::AllocError;
+
+/// Entries in a block of the map.
+const ENTRIES: u32 = 1024;
+
+/// The first block that isn't one of the two that hold the roots.
+const FIRST_BLOCK: u32 = 2;
+
+/// The block map: settled entries, and over them those that the next consistency point stores.
+#[derive(Debug, Drop)]
+pub struct BlockMap {
+    parts: Vec<MapPart>,
+    /// How many blocks the disk has.
+    count: u32,
+    /// Each free block below this one is given out, but for the two that hold the roots: these never are.
+    next: u32,
+    ghost covers: { count ≤ 1024 * length parts.items },
+    ghost most: { count ≤ MOST_BLOCKS },
+    ghost behind: { 2 ≤ next },
+}
+
+impl BlockMap {
+    ghost use Rattle.blockmap.specs.Maps.{settled_at, entry_at, IsFree, IsTouched, KeepsSettled, OnlyChanges};
+
+    /// The map of a disk of so many blocks, of which no free one is given out.
+    pub fn new(parts: Vec<MapPart>, count: u32) -> BlockMap
+        requires covers { count ≤ 1024 * length parts.items }
+        requires most { count ≤ MOST_BLOCKS }
+        ensures parts { result.parts.items ≡ parts.items }
+        ensures count { result.count ≡ count }
+        ensures next { result.next ≡ FIRST_BLOCK }
+    {
+        BlockMap {
+            parts,
+            count,
+            next: FIRST_BLOCK,
+        }
+    }
+
+    /// Whether a block is free under the settled root.
+    pub fn is_free(&self, block: BlockNumber) -> bool
+        requires { block < self.now.count }
+        ensures { IsTrue result ↔ IsFree self.now.parts.items block }
+    {
+        let b = block.get();
+        self.parts[(b / ENTRIES) as usize].settled(b % ENTRIES) == 0
+    }
+
+    /// Gives out the least block that is free under the settled root and wasn't given out yet; None where there is none.
+    pub fn allocate(&mut self) -> Option<BlockNumber>
+        ensures parts { self.new.parts.items ≡ self.old.parts.items }
+        ensures count { self.new.count ≡ self.old.count }
+        ensures next { self.old.next ≤ self.new.next }
+        ensures given { IfSome result (λ b. (self.old.next ≤ b) × (b < self.old.count)
+            × IsFree self.old.parts.items b × (self.new.next ≡ b + 1)) }
+        ensures least { IfSome result (λ b. (k : ℕ) → self.old.next ≤ k → k < b
+            → IsFree self.old.parts.items k → ⊥) }
+        ensures none { IfNone result ((k : ℕ) → self.old.next ≤ k → k < self.old.count
+            → IsFree self.old.parts.items k → ⊥) }
+    {
+        let found = self.free_from(self.next)?;
+        self.next = found + 1;
+        Some(BlockNumber::new(found))
+    }
+
+    /// The first block from one on that is free under the settled root.
+    fn free_from(&self, from: u32) -> Option<u32>
+        ensures found { IfSome result (λ b. (from ≤ b) × (b < self.now.count)
+            × IsFree self.now.parts.items b) }
+        ensures least { IfSome result (λ b. (k : ℕ) → from ≤ k → k < b
+            → IsFree self.now.parts.items k → ⊥) }
+        ensures none { IfNone result ((k : ℕ) → from ≤ k → k < self.now.count
+            → IsFree self.now.parts.items k → ⊥) }
+    {
+        let mut at = from;
+        while at < self.count {
+            let j = at / ENTRIES;
+            if let Some(i) = self.parts[j as usize].first_free(at % ENTRIES) {
+                let found = ENTRIES * j + i;
+                return if found < self.count {
+                    Some(found)
+                } else {
+                    None
+                };
+            }
+            at = ENTRIES * (j + 1);
+        }
+        None
+    }
+
+    /// How many blocks the map has.
+    pub fn part_count(&self) -> usize
+        ensures { result ≡ length self.now.parts.items }
+    {
+        self.parts.len()
+    }
+
+    /// Whether the next consistency point stores block `j` of the map.
+    pub fn is_touched(&self, j: usize) -> bool
+        requires { j < length self.now.parts.items }
+        ensures { IsTrue result ↔ IsTouched self.now.parts.items j }
+    {
+        self.parts[j].is_touched()
+    }
+
+    /// Makes room for changes of entries in block `j` of the map, which is stored then. No entry changes by it.
+    pub fn touch(&mut self, j: usize) -> Result<(), AllocError>
+        requires { j < length self.old.parts.items }
+        ensures count { self.new.count ≡ self.old.count }
+        ensures next { self.new.next ≡ self.old.next }
+        ensures settled { KeepsSettled self.old.parts.items self.new.parts.items }
+        ensures entries { (b : ℕ)
+            → entry_at self.new.parts.items b ≡ entry_at self.old.parts.items b }
+        ensures touched { OnOk result (IsTouched self.new.parts.items j) }
+    {
+        self.parts[j].touch()?;
+        Ok(())
+    }
+
+    /// Takes a block out of set 0: the active tree doesn't name it any more. There is room in the map.
+    pub fn release(&mut self, block: BlockNumber)
+        requires within { block < self.old.count }
+        requires room { IsTouched self.old.parts.items (block / 1024) }
+        ensures count { self.new.count ≡ self.old.count }
+        ensures next { self.new.next ≡ self.old.next }
+        ensures settled { KeepsSettled self.old.parts.items self.new.parts.items }
+        ensures out { SetsBit 0 false (entry_at self.old.parts.items block)
+            (entry_at self.new.parts.items block) }
+        ensures others { OnlyChanges block self.old.parts.items self.new.parts.items }
+    {
+        self.mark(block, false);
+    }
+
+    /// Puts a block into set 0: the active tree names it. There is room in the map.
+    pub fn retain(&mut self, block: BlockNumber)
+        requires within { block < self.old.count }
+        requires room { IsTouched self.old.parts.items (block / 1024) }
+        ensures count { self.new.count ≡ self.old.count }
+        ensures next { self.new.next ≡ self.old.next }
+        ensures settled { KeepsSettled self.old.parts.items self.new.parts.items }
+        ensures inside { SetsBit 0 true (entry_at self.old.parts.items block)
+            (entry_at self.new.parts.items block) }
+        ensures others { OnlyChanges block self.old.parts.items self.new.parts.items }
+    {
+        self.mark(block, true);
+    }
+
+    /// Puts a block into set 0 or takes it out. There is room in the map.
+    pub fn mark(&mut self, block: BlockNumber, is_in: bool)
+        requires within { block < self.old.count }
+        requires room { IsTouched self.old.parts.items (block / 1024) }
+        ensures count { self.new.count ≡ self.old.count }
+        ensures next { self.new.next ≡ self.old.next }
+        ensures settled { KeepsSettled self.old.parts.items self.new.parts.items }
+        ensures bit { SetsBit 0 is_in (entry_at self.old.parts.items block)
+            (entry_at self.new.parts.items block) }
+        ensures others { OnlyChanges block self.old.parts.items self.new.parts.items }
+    {
+        let b = block.get();
+        let part = &mut self.parts[(b / ENTRIES) as usize];
+        let entry = part.entry(b % ENTRIES);
+        part.set(b % ENTRIES, with_bit(entry, 0, is_in));
+    }
+}

@@ -1,0 +1,7 @@
+mod Writes
+mod Finishing
+mod Cuts
+mod DraftLemmas
+mod GroupLemmas
+mod ClosureLemmas
+mod MarkLemmas

@@ -1,0 +1,32 @@
+use Rattle.std.proofs.Common.{◌≡◌, ℕ, ◌<◌, length, length-set, sym, ◌∙◌, arith}
+use Rattle.std.proofs.lemmas.List.{get_or_default}
+use Rattle.layout.specs.declared.pointer.Pointer.TheVariants.{Hole}
+use Rattle.conspoint.specs.Groups.{pointer_at}
+use Rattle.conspoint.proofs.DraftLemmas.{grows_twice}
+use Rattle.conspoint.proofs.ClosureLemmas.{closed_more}
+use Rattle.conspoint.proofs.closure.reserve_map.Goals as goal
+
+pub move_node-requires : goal.move_node-requires
+move_node-requires c b is =
+    let lt : c.in-Some.k < length c.args.settled.now = omega (arith, c.in-Some.ensures.found.0, c.loop-k.invariant.size, c.requires.same) in
+    let settled_is = c.index-settled-k.is ∙ get_or_default c.args.settled.now c.in-Some.k c.index-settled-k.result Hole lt in
+    omega (arith, c.requires.within c.in-Some.k b (sym settled_is ∙ is), c.loop-k.invariant.grows.count)
+
+pub returns-in_err-move_node-clause-grows : goal.returns-in_err-move_node-clause-grows
+returns-in_err-move_node-clause-grows c = grows_twice c.args.draft.now c.loop-k.draft c.move_node.new.draft c.loop-k.invariant.grows c.move_node.ensures.grows
+
+pub loop-k-preserved : goal.loop-k-preserved
+loop-k-preserved c =
+    let so_far = c.loop-k.invariant in
+    let k = c.in-Some.k in
+    let settled = c.args.settled.now in
+    let now = c.move_node.ensures.grows in
+    let lt : k < length settled = omega (arith, c.in-Some.ensures.found.0, so_far.size, c.requires.same) in
+    let settled_is = c.index-settled-k.is ∙ get_or_default settled k c.index-settled-k.result Hole lt in
+    record {
+      grows = grows_twice c.args.draft.now c.loop-k.draft c.move_node.new.draft so_far.grows now;
+      size = length-set _ _ _ ∙ so_far.size;
+      closed = closed_more c.loop-k.draft c.move_node.new.draft settled c.loop-k.places k c.in_ok-move_node.field-0 now c.move_node.ensures.others so_far.closed
+          c.in-Some.ensures.found.0 c.in_ok-move_node.ensures.taken.from c.in_ok-move_node.ensures.reserved c.in_ok-move_node.ensures.new
+          (λ b is. c.in_ok-move_node.ensures.old b (settled_is ∙ is));
+    }

@@ -1,0 +1,35 @@
+use Rattle.std.proofs.Common.{◌≡◌, ℕ, ◌+◌, ◌<◌, List, length, length-append, ap, sym, subst, ◌∙◌, arith}
+use Rattle.layout.specs.declared.pointer.Pointer.{Pointer}
+use Rattle.layout.specs.declared.pointer.Pointer.TheVariants.{Hole}
+use Rattle.conspoint.specs.Groups.{pointer_at, group, IsGroup, ComesFrom, ArePlaced}
+use Rattle.std.proofs.lemmas.List.{get_or_default}
+use Rattle.conspoint.proofs.DraftLemmas.{grows_twice}
+use Rattle.conspoint.proofs.GroupLemmas.{placed_more, part_group, groups_more}
+use Rattle.conspoint.proofs.group.place_over.Goals as goal
+
+pub returns-in_err-place_group-clause-grows : goal.returns-in_err-place_group-clause-grows
+returns-in_err-place_group-clause-grows c = grows_twice c.args.draft.now c.loop-j.draft c.place_group.new.draft c.loop-j.invariant.grows c.place_group.ensures.grows
+
+pub returns-in_err-push-clause-grows : goal.returns-in_err-push-clause-grows
+returns-in_err-push-clause-grows c = grows_twice c.args.draft.now c.loop-j.draft c.place_group.new.draft c.loop-j.invariant.grows c.place_group.ensures.grows
+
+pub loop-j-preserved : goal.loop-j-preserved
+loop-j-preserved c =
+    let so_far = c.loop-j.invariant in
+    let j = c.loop-j.j in
+    let over = c.loop-j.over.items in
+    let p = c.in_ok-place_group.field-0 in
+    let settled = c.args.settled.now in
+    let now = c.place_group.ensures.grows in
+    let settled_is : c.index-settled-j.result ≡ pointer_at settled j = c.index-settled-j.is ∙ get_or_default settled j c.index-settled-j.result Hole c.loop-j-test.true in
+    let from = subst (λ (n : ℕ). ComesFrom c.loop-j.draft c.place_group.new.draft (pointer_at settled n) p) (sym so_far.count) (rw settled_is at c.in_ok-place_group.ensures.from) in
+    record {
+      grows = grows_twice c.args.draft.now c.loop-j.draft c.place_group.new.draft so_far.grows now;
+      groups = λ e has. rw c.in_ok-push.ensures.items (groups_more e settled c.args.old.now c.args.new.now over p j so_far.count (so_far.groups e (now.has e has))
+          (part_group e (pointer_at settled j) p c.args.old.now c.args.new.now j (rw settled_is at (c.in_ok-place_group.ensures.group e has))));
+      count = ap (λ (xs : List Pointer). length xs) c.in_ok-push.ensures.items ∙ length-append over _ ∙ omega (arith, so_far.count);
+      placed = rw c.in_ok-push.ensures.items (placed_more c.args.draft.now c.loop-j.draft c.place_group.new.draft settled over p so_far.grows now so_far.placed from c.in_ok-place_group.ensures.within);
+    }
+
+pub returns-clause-groups : goal.returns-clause-groups
+returns-clause-groups c e has j lt = c.loop-j.invariant.groups e has j (omega (arith, lt, c.loop-j-test.false))

@@ -1,0 +1,15 @@
+use Rattle.std.proofs.Common.{◌≡◌, ℕ, ◌<◌, List, length, All}
+use Rattle.layout.specs.Pointer.{PointsBelow}
+use Rattle.layout.specs.declared.geometry.TheConstants.{MOST_BLOCKS}
+use Rattle.layout.specs.declared.pointer.Pointer.TheVariants.{Block}
+use Rattle.conspoint.specs.Drafts.{Grows, OnEach}
+use Rattle.conspoint.specs.Groups.{pointer_at, group, IsGroup, ArePlaced}
+use Rattle.conspoint.proofs.group.place_over.Given as goal
+
+abbrev pub invariant-loop-j : goal.invariant-loop-j
+invariant-loop-j l = record {
+  grows : Grows l.fn.draft l.draft;
+  groups : OnEach l.draft (λ e. (j : ℕ) → j < l.j → IsGroup e (pointer_at l.settled j) (group l.old j) (group l.new j) (pointer_at l.over.items j));
+  count : length l.over.items ≡ l.j;
+  placed : ArePlaced l.fn.draft l.draft l.settled l.over.items;
+}

@@ -1,0 +1,18 @@
+use Rattle.std.proofs.Common.{◌∙◌}
+use Rattle.std.proofs.lemmas.List.{get_or_default}
+use Rattle.conspoint.proofs.DraftLemmas.{grows_twice}
+use Rattle.conspoint.proofs.MarkLemmas.{marks_more}
+use Rattle.conspoint.proofs.marks.mark_all.Goals as goal
+
+pub loop-i-preserved : goal.loop-i-preserved
+loop-i-preserved c =
+    let so_far = c.loop-i.invariant in
+    let parts = c.loop-i.draft.map.parts.items in
+    record {
+      grows = grows_twice c.args.draft.now c.loop-i.draft c.mark.new.self so_far.grows c.mark.ensures.grows;
+      next = c.mark.ensures.next ∙ so_far.next;
+      blocks = c.mark.ensures.blocks ∙ so_far.blocks;
+      others = λ p is. c.mark.ensures.others p (so_far.others p is);
+      marked = marks_more c.args.blocks.now c.loop-i.i c.index-blocks-i.result c.args.is_in c.args.draft.now.map.parts.items parts c.mark.new.self.map.parts.items
+          (c.index-blocks-i.is ∙ get_or_default c.args.blocks.now c.loop-i.i c.index-blocks-i.result 0 c.loop-i-test.true) so_far.marked c.in_ok-mark.ensures.bit c.in_ok-mark.ensures.stay;
+    }

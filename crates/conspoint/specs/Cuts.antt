@@ -1,0 +1,39 @@
+-- What a power cut may leave while the blocks of a plan are written, and then its root.
+use Rattle.std.specs.Prelude.{ℕ, ◌≡◌, ◌≢◌, ◌+◌, ◌*◌, ◌/◌, ◌≤◌, List, take, All, ⊤}
+use Rattle.station.specs.Images.{Images, Sector, sector_with}
+use Rattle.buffers.specs.Disks.{IsBlock}
+use Rattle.conspoint.specs.declared.plan.PlannedBlock.{PlannedBlock}
+use Rattle.conspoint.specs.Plans.{Planned}
+
+-- sector n lies in none of these blocks
+abbrev pub IsOutside : List PlannedBlock → ℕ → Type 0
+IsOutside blocks n = All (λ b. b.place ≢ n / 8) blocks
+
+-- Nothing changes but what lies in these blocks, and of that no more is said: none of them may be written, or some, or
+-- parts of some. So it holds of one write and of any number of them.
+pub record StaysOutside (blocks : List PlannedBlock) (old new : Images) : Type 0 where
+  pub nvram : new.nvram ≡ old.nvram
+  pub disk : (n : ℕ) → IsOutside blocks n → new.disk n ≡ old.disk n
+
+-- these blocks stand on a disk
+abbrev pub HoldsBlocks : List PlannedBlock → (ℕ → Sector) → Type 0
+HoldsBlocks blocks disk = All (λ b. IsBlock disk b.place b.bytes) blocks
+
+-- those that are written stand there
+abbrev pub HoldsWritten : Planned → Images → Type 0
+HoldsWritten p c = HoldsBlocks (take p.written p.blocks) c.disk
+
+-- the images of before, with all the planned blocks and the new root
+pub record HasNewRoot (p : Planned) (old new : Images) : Type 0 where
+  pub nvram : new.nvram ≡ old.nvram
+  pub disk : (n : ℕ) → IsOutside p.blocks n → n ≢ p.slot → new.disk n ≡ old.disk n
+  pub blocks : HoldsBlocks p.blocks new.disk
+  pub root : new.disk p.slot ≡ sector_with p.root
+
+-- each block of a disk of so many sectors reads so
+abbrev pub ReadsAs : ℕ → Images → (ℕ → List ℕ) → Type 0
+ReadsAs sectors c e = (b : ℕ) → 8 * b + 8 ≤ sectors → IsBlock c.disk b (e b)
+
+-- every error says that a device call failed
+abbrev pub IsAnyFault : {E : Type 0} → E → Type 0
+IsAnyFault e = ⊤

@@ -1,0 +1,41 @@
+-- Nodes of a file and the indirect blocks over them.
+use Rattle.std.specs.Prelude.{ℕ, ◌≡◌, ◌⊎◌, ◌+◌, ◌*◌, ◌<◌, List, length, All, slice_index_or}
+use Rattle.layout.specs.Maps.{indirect_pointer}
+use Rattle.layout.specs.Places.{Blocks}
+use Rattle.layout.specs.Pointer.{PointsBelow}
+use Rattle.layout.specs.declared.geometry.TheConstants.{MOST_BLOCKS}
+use Rattle.layout.specs.declared.TheConstants.{BLOCK_POINTERS}
+use Rattle.layout.specs.declared.pointer.Pointer.{Pointer}
+use Rattle.layout.specs.declared.pointer.Pointer.TheVariants.{Hole, Block}
+use Rattle.conspoint.specs.declared.draft.Draft.{Draft}
+use Rattle.conspoint.specs.Drafts.{WasTaken}
+
+-- pointer i of these, a hole past their end
+abbrev pub pointer_at : List Pointer → ℕ → Pointer
+pointer_at pointers i = slice_index_or pointers i Hole
+
+-- Of 1,024 nodes and the pointer over them, on a disk e: all are as they were, or a block spells the nodes, or all are holes.
+pub data IsGroup (e : Blocks) (settled : Pointer) (old new : ℕ → Pointer) (over : Pointer) : Type 0 where
+  keeps : (is : over ≡ settled) → (same : (i : ℕ) → i < BLOCK_POINTERS → new i ≡ old i)
+      → IsGroup e settled old new over
+  spells : (block : ℕ) → (is : over ≡ Block block)
+      → (under : (i : ℕ) → i < BLOCK_POINTERS → indirect_pointer (e block) i ≡ new i)
+      → IsGroup e settled old new over
+  none : (is : over ≡ Hole) → (under : (i : ℕ) → i < BLOCK_POINTERS → new i ≡ Hole)
+      → IsGroup e settled old new over
+
+-- the nodes of group j
+abbrev pub group : List Pointer → ℕ → ℕ → Pointer
+group pointers j i = pointer_at pointers (BLOCK_POINTERS * j + i)
+
+-- a pointer is as it was, or leads to a block that was given out since
+abbrev pub ComesFrom : Draft → Draft → Pointer → Pointer → Type 0
+ComesFrom old new settled p = (b : ℕ) → p ≡ Block b → (p ≡ settled) ⊎ WasTaken old new b
+
+-- the first nodes, which had settled pointers, have these now
+pub record ArePlaced (old new : Draft) (settled nodes : List Pointer) : Type 0 where
+  pub within : All (PointsBelow MOST_BLOCKS) nodes
+  pub from : (i : ℕ) → i < length nodes → ComesFrom old new (pointer_at settled i) (pointer_at nodes i)
+  -- no two that moved have one block
+  pub apart : (i j b : ℕ) → i < j → j < length nodes → pointer_at nodes i ≡ Block b → pointer_at nodes j ≡ Block b
+      → (pointer_at nodes i ≡ pointer_at settled i) ⊎ (pointer_at nodes j ≡ pointer_at settled j)

@@ -1,0 +1,6 @@
+pub mod Plans
+pub mod Cuts
+pub mod Drafts
+pub mod Groups
+pub mod Closures
+pub mod Marks

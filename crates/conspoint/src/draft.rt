@@ -1,0 +1,126 @@
+//! A plan that is being made.
+
+ghost use Rattle.std.specs.Prelude.{◌≡◌, ◌≢◌, ◌<◌, ℕ, IfOk, OnOk, IsErrOf, IsTrue, ◌↔◌, length};
+ghost use Rattle.blockmap.specs.Maps.{IsFree, IsTouched, entry_at, OnlyChanges};
+ghost use Rattle.blockmap.specs.Bits.{SetsBit};
+ghost use Rattle.conspoint.specs.Plans.{AreDrafted};
+
+use crate::error::PlanError;
+use crate::plan::PlannedBlock;
+use blockmap::BlockMap;
+use buffers::Block;
+use layout::BlockNumber;
+use std::alloc::Global;
+
+/// The blocks planned so far, and the map that gives out their places.
+#[derive(Debug, Drop)]
+pub struct Draft {
+    map: BlockMap,
+    blocks: Vec<PlannedBlock>,
+    ghost drafted: { AreDrafted map.count map.next (IsFree map.parts.items) blocks.items },
+}
+
+impl Draft {
+    ghost use Rattle.conspoint.specs.Drafts.{OnEach, WasTaken, Grows, IsFull, IsReserved};
+    ghost use Rattle.conspoint.specs.Closures.{HasRoomFor};
+
+    /// A plan with no block.
+    pub fn new(alloc: Global, map: BlockMap) -> Draft
+        ensures map { result.map ≡ map }
+        ensures all { OnEach result (λ e. Unit {0}) }
+    {
+        Draft {
+            map,
+            blocks: Vec::new(alloc),
+        }
+    }
+
+    /// Plans a block at the next free place.
+    pub fn store(&mut self, bytes: Block) -> Result<BlockNumber, PlanError>
+        ensures grows { Grows self.old self.new }
+        ensures taken { IfOk result (WasTaken self.old self.new) }
+        ensures stored { IfOk result (λ place. OnEach self.new (λ e. e place ≡ bytes)) }
+        ensures full { IsErrOf result PlanError.NoSpace → IsFull self.old }
+    {
+        let place = self.reserve()?;
+        self.put(place, bytes)?;
+        Ok(place)
+    }
+
+    /// Gives out the next free place, for bytes that come later.
+    pub fn reserve(&mut self) -> Result<BlockNumber, PlanError>
+        ensures grows { Grows self.old self.new }
+        ensures blocks { self.new.blocks.items ≡ self.old.blocks.items }
+        ensures taken { IfOk result (WasTaken self.old self.new) }
+        ensures reserved { IfOk result (IsReserved self.new) }
+        ensures others { (p : ℕ) → IsReserved self.old p → IsReserved self.new p }
+        ensures full { IsErrOf result PlanError.NoSpace → IsFull self.old }
+    {
+        match self.map.allocate() {
+            Some(place) => Ok(place),
+            None => Err(PlanError::NoSpace),
+        }
+    }
+
+    /// Plans a block at a place that was reserved.
+    pub fn put(&mut self, place: BlockNumber, bytes: Block) -> Result<(), PlanError>
+        requires { IsReserved self.old place }
+        ensures grows { Grows self.old self.new }
+        ensures map { self.new.map ≡ self.old.map }
+        ensures stored { OnOk result (OnEach self.new (λ e. e place ≡ bytes)) }
+        ensures others { (p : ℕ) → p ≢ place → IsReserved self.old p → IsReserved self.new p }
+        ensures why { IsErrOf result PlanError.NoSpace → ⊥ }
+    {
+        self.blocks.push(PlannedBlock { place, bytes })?;
+        Ok(())
+    }
+
+    /// Makes room in the map for a change of a block's entry.
+    pub fn touch(&mut self, block: BlockNumber) -> Result<(), PlanError>
+        requires { block < self.old.map.count }
+        ensures grows { Grows self.old self.new }
+        ensures next { self.new.map.next ≡ self.old.map.next }
+        ensures blocks { self.new.blocks.items ≡ self.old.blocks.items }
+        ensures touched { OnOk result (HasRoomFor self.new block) }
+        ensures entries { (b : ℕ)
+            → entry_at self.new.map.parts.items b ≡ entry_at self.old.map.parts.items b }
+        ensures others { (p : ℕ) → IsReserved self.old p → IsReserved self.new p }
+        ensures why { IsErrOf result PlanError.NoSpace → ⊥ }
+    {
+        self.map.touch((block.get() / 1024) as usize)?;
+        Ok(())
+    }
+
+    /// Puts a block into the active tree's set of the map, or takes it out.
+    pub fn mark(&mut self, block: BlockNumber, is_in: bool) -> Result<(), PlanError>
+        requires { block < self.old.map.count }
+        ensures grows { Grows self.old self.new }
+        ensures next { self.new.map.next ≡ self.old.map.next }
+        ensures blocks { self.new.blocks.items ≡ self.old.blocks.items }
+        ensures others { (p : ℕ) → IsReserved self.old p → IsReserved self.new p }
+        ensures bit { OnOk result (SetsBit 0 is_in (entry_at self.old.map.parts.items block)
+            (entry_at self.new.map.parts.items block)) }
+        ensures stay { OnOk result (OnlyChanges block self.old.map.parts.items
+            self.new.map.parts.items) }
+        ensures why { IsErrOf result PlanError.NoSpace → ⊥ }
+    {
+        self.touch(block)?;
+        self.map.mark(block, is_in);
+        Ok(())
+    }
+
+    /// Whether block `k` of the map is stored anew.
+    pub fn is_touched(&self, k: usize) -> bool
+        requires { k < length self.now.map.parts.items }
+        ensures { IsTrue result ↔ IsTouched self.now.map.parts.items k }
+    {
+        self.map.is_touched(k)
+    }
+
+    /// How many blocks the map has.
+    pub fn map_blocks(&self) -> usize
+        ensures { result ≡ length self.now.map.parts.items }
+    {
+        self.map.part_count()
+    }
+}

@@ -1,0 +1,125 @@
+//! Indirect blocks, made anew.
+
+ghost use Rattle.std.specs.Prelude.{◌≡◌, ℕ, ◌*◌, ◌<◌, All, IfOk, IsErrOf, IsTrue, length, ◌↔◌};
+ghost use Rattle.layout.specs.Maps.{indirect_pointer};
+ghost use Rattle.layout.specs.Pointer.{PointsBelow};
+ghost use Rattle.layout.specs.declared.TheConstants.{BLOCK_POINTERS};
+ghost use Rattle.layout.specs.declared.geometry.TheConstants.{MOST_BLOCKS};
+ghost use Rattle.layout.specs.declared.pointer.Pointer.TheVariants.{Hole};
+ghost use Rattle.conspoint.specs.Drafts.{OnEach, Grows, IsFull};
+ghost use Rattle.conspoint.specs.Groups.{pointer_at, group, IsGroup, ComesFrom, ArePlaced};
+
+use crate::draft::Draft;
+use crate::error::PlanError;
+use buffers::Block;
+use layout::{BLOCK_BYTES, BLOCK_POINTERS, Pointer, set_pointer};
+use std::alloc::Global;
+
+/// Nodes under one indirect block.
+const GROUP: usize = BLOCK_POINTERS;
+
+/// Spells 1,024 pointers as an indirect block.
+fn spell(pointers: &[Pointer], bytes: &mut [u8; BLOCK_BYTES])
+    requires count { length pointers.now ≡ BLOCK_POINTERS }
+    requires within { All (PointsBelow MOST_BLOCKS) pointers.now }
+    ensures { (i : ℕ) → i < BLOCK_POINTERS
+        → indirect_pointer bytes.new i ≡ pointer_at pointers.now i }
+{
+    for i in 0..pointers.len() {
+        set_pointer(bytes, i as u32, pointers[i]);
+    }
+}
+
+/// Whether all are holes.
+fn are_holes(pointers: &[Pointer]) -> bool
+    ensures { IsTrue result ↔ All (λ p. p ≡ Hole) pointers.now }
+{
+    pointers.iter().all(|pointer| pointer.is_hole())
+}
+
+/// Whether two pointers are the same.
+fn same_pointer(a: Pointer, b: Pointer) -> bool
+    ensures { IsTrue result ↔ (a ≡ b) }
+{
+    match a {
+        Pointer::Hole => b.is_hole(),
+        Pointer::Block(place) => match b {
+            Pointer::Hole => false,
+            Pointer::Block(other) => place.get() == other.get(),
+        },
+    }
+}
+
+/// Whether no node moved.
+fn same_pointers(old: &[Pointer], new: &[Pointer]) -> bool
+    requires { length old.now ≡ length new.now }
+    ensures { IsTrue result → (i : ℕ) → i < length new.now
+        → pointer_at new.now i ≡ pointer_at old.now i }
+{
+    for i in 0..new.len() {
+        if !same_pointer(new[i], old[i]) {
+            return false;
+        }
+    }
+    true
+}
+
+/// The pointer over 1,024 nodes: a hole where all are holes, the settled one where no node moved, else one to a new block
+/// that spells them.
+pub fn place_group(
+    alloc: Global,
+    draft: &mut Draft,
+    settled: Pointer,
+    old: &[Pointer],
+    new: &[Pointer],
+) -> Result<Pointer, PlanError>
+    requires old { length old.now ≡ BLOCK_POINTERS }
+    requires new { length new.now ≡ BLOCK_POINTERS }
+    requires within { All (PointsBelow MOST_BLOCKS) new.now }
+    requires settled { PointsBelow MOST_BLOCKS settled }
+    ensures grows { Grows draft.old draft.new }
+    ensures group { IfOk result (λ over. OnEach draft.new
+        (λ e. IsGroup e settled (pointer_at old.now) (pointer_at new.now) over)) }
+    ensures from { IfOk result (ComesFrom draft.old draft.new settled) }
+    ensures within { IfOk result (PointsBelow MOST_BLOCKS) }
+    ensures full { IsErrOf result PlanError.NoSpace → IsFull draft.old }
+{
+    if are_holes(new) {
+        return Ok(Pointer::Hole);
+    }
+    if same_pointers(old, new) {
+        return Ok(settled);
+    }
+    let mut bytes = [0; BLOCK_BYTES];
+    spell(new, &mut bytes);
+    let place = draft.store(Block::copy_of(alloc, &bytes)?)?;
+    Ok(Pointer::Block(place))
+}
+
+/// The pointers over nodes, one over each 1,024 of them, in their order.
+pub fn place_over(
+    alloc: Global,
+    draft: &mut Draft,
+    settled: &[Pointer],
+    old: &[Pointer],
+    new: &[Pointer],
+) -> Result<Vec<Pointer>, PlanError>
+    requires old { length old.now ≡ BLOCK_POINTERS * length settled.now }
+    requires new { length new.now ≡ BLOCK_POINTERS * length settled.now }
+    requires within { All (PointsBelow MOST_BLOCKS) new.now }
+    requires settled { All (PointsBelow MOST_BLOCKS) settled.now }
+    ensures grows { Grows draft.old draft.new }
+    ensures count { IfOk result (λ over. length over.items ≡ length settled.now) }
+    ensures groups { IfOk result (λ over. OnEach draft.new (λ e. (j : ℕ) → j < length settled.now
+        → IsGroup e (pointer_at settled.now j) (group old.now j) (group new.now j)
+        (pointer_at over.items j))) }
+    ensures placed { IfOk result (λ over. ArePlaced draft.old draft.new settled.now over.items) }
+{
+    let mut over = Vec::new(alloc);
+    for j in 0..settled.len() {
+        let first = GROUP * j;
+        let nodes = &new[first..first + GROUP];
+        over.push(place_group(alloc, draft, settled[j], &old[first..first + GROUP], nodes)?)?;
+    }
+    Ok(over)
+}

@@ -1,0 +1,21 @@
+//! Consistency points: all places and bytes of one are planned first; then its blocks are written, at places that the
+//! settled root doesn't need; then its root comes into force by a write of one sector. So a power cut leaves the tree of
+//! before or the new one. After Hitz, Lau and Malcolm, "File System Design for an NFS File Server Appliance", USENIX
+//! Winter 1994.
+#![tactic(auto)]
+
+mod closure;
+mod draft;
+mod error;
+mod group;
+mod laws;
+mod marks;
+mod plan;
+
+pub use closure::reserve_map;
+pub use draft::Draft;
+pub use error::PlanError;
+pub use group::{place_group, place_over};
+pub use laws::cuts_leave_blocks;
+pub use marks::mark_all;
+pub use plan::{Plan, PlannedBlock};

@@ -1,0 +1,146 @@
+-- A point whose plan is in its grammar leaves a root that holds the planned volume.
+use Rattle.std.proofs.Common.{◌≡◌, ◌⊎◌, inl, inr, ℕ, zero, suc, false, ◌<◌, ◌≤◌, List, [], ◌∷◌, slice_index_or, Option, Some, None, IsSome, refl, ap, sym, subst, ◌∙◌, arith}
+use Rattle.std.proofs.lemmas.Bool.{cases_lt}
+use Rattle.layout.specs.Limits.{Sizes}
+use Rattle.layout.specs.Places.{Blocks}
+use Rattle.layout.specs.Root.{IsRoot}
+use Rattle.layout.specs.SnapRoot.{Snapshot, snapshot_in}
+use Rattle.layout.specs.declared.inode.Inode.{Inode}
+use Rattle.layout.specs.declared.pointer.Pointer.TheVariants.{Hole}
+use Rattle.layout.specs.declared.root.Root.{Root}
+use Rattle.model.specs.Paths.{Name}
+use Rattle.model.specs.Trees.{Tree}
+use Rattle.model.specs.Volumes.{Node, Volume, IsVolume}
+use Rattle.images.specs.Nodes.{Held, held, Agrees}
+use Rattle.images.specs.Roots.{HeldTree, Whole, whole, Needs, slot, inode_of}
+use Rattle.images.specs.BlockMap.{NamesOnce}
+use Rattle.images.specs.Contents.{Content, StandsAs, HoldsVolume, contents}
+use Rattle.images.specs.Soundness.{IsSoundFile, IsSoundTree, FitsNumber}
+use Rattle.images.specs.Snapshots.{HasSnapshot, AreSnapshots, IsFrozenTree, AreKeptAbove}
+use Rattle.images.specs.States.{IsSound, Holds}
+use Rattle.images.specs.Points.{IsPlannedOn, IsSoundPlan, HoldObjects, IsLater}
+use Rattle.images.proofs.PointLaws.{point_stands, active_base, frozen_stays, tree_is, is_bool, stays_held}
+
+-- ---- the tree
+
+active_tree : (e : Blocks) (r : Root) (inode : ℕ → Inode) → ((n : ℕ) → inode_of (held e r.inode_file) r.geometry.inodes n ≡ inode n)
+    → (whole e r).active ≡ (λ n. held e (inode n))
+unfolding whole
+active_tree e r inode is = tree_is e r inode is
+
+sound_tree : (d e : Blocks) (r new : Root) (files : ℕ → Content) → IsRoot r → IsSound r (whole d r)
+    → Agrees (Needs r (whole d r)) d e → (plan : IsPlannedOn (whole d r) (whole d r).active 0 r e new files)
+    → IsSoundPlan r.geometry e plan.inode plan.changed → IsSoundTree r.geometry (λ n. held e (plan.inode n))
+unfolding held
+sound_tree d e r new files root sound same plan good =
+    let base = active_base d r sound.exact sound.active.once in
+    let stays : (n : ℕ) → plan.changed n ≡ false → held e (plan.inode n) ≡ (whole d r).active n = λ n no_it.
+    stays_held d e r (whole d r).active 0 n (plan.inode n) base same (plan.stays n no_it) in
+    let settled = point_stands d e r new (whole d r).active 0 files root sound.exact base same plan in
+    record {
+      files = λ n. elim (is_bool (plan.changed n)) [
+        | inl yes_it ↦ good.files n yes_it
+        | inr no_it ↦ subst (IsSoundFile r.geometry) (sym (stays n no_it)) (sound.active.files n)
+      ];
+      kinds = λ n. elim (is_bool (plan.changed n)) [
+        | inl yes_it ↦ good.kinds n yes_it
+        | inr no_it ↦ subst (λ (h : Held). FitsNumber n h.inode.kind) (sym (stays n no_it)) (sound.active.kinds n)
+      ];
+      inodes = good.inodes;
+      numbers = good.numbers;
+      inode_map = good.inode_map;
+      block_map = good.block_map;
+      once = subst NamesOnce (active_tree e new plan.inode plan.inodes) settled.once;
+    }
+
+-- ---- the snapshots, where each slot has the same
+
+slot_same : (r new : Root) → new.snapshots ≡ r.snapshots → (k : ℕ) → slot new k ≡ slot r k
+slot_same r new same zero = refl
+slot_same r new same (suc k) = ap (λ pointers. slice_index_or pointers k Hole) same
+
+module _ (r new : Root) (w now : Whole) (slots : (k : ℕ) → slot new k ≡ slot r k) (heads : (k : ℕ) → now.head k ≡ w.head k) where
+  has_was : (k : ℕ) (s : Snapshot) → HasSnapshot new now k s → HasSnapshot r w k s
+  has_was k s has = record { block = has.block; there = sym (slots k) ∙ has.there; read = ap snapshot_in (sym (heads k)) ∙ has.read }
+
+  has_is : (k : ℕ) (s : Snapshot) → HasSnapshot r w k s → HasSnapshot new now k s
+  has_is k s has = record { block = has.block; there = slots k ∙ has.there; read = ap snapshot_in (heads k) ∙ has.read }
+
+  pub snapshots_stay : r.generation ≤ new.generation → AreSnapshots r w → AreSnapshots new now
+  snapshots_stay later are = record {
+    each = λ k block there.
+        let was = are.each k block (sym (slots k) ∙ there) in
+        (was.0, has_is k was.0 was.1, record { is = was.2.is; spelled = heads k ∙ was.2.spelled; order = omega (arith, was.2.order) });
+    names = λ k l s q one two same. are.names k l s q (has_was k s one) (has_was l q two) same;
+    orders = λ k l s q one two same. are.orders k l s q (has_was k s one) (has_was l q two) same;
+  }
+
+  pub kept_stay : new.geometry ≡ r.geometry → ((k : ℕ) → now.frozen k ≡ w.frozen k)
+      → (above : ℕ) (pairs : List (Name × Tree)) → AreKeptAbove r w above pairs → AreKeptAbove new now above pairs
+  kept_stay geometry trees above [] kept = λ k s has. kept k s (has_was k s has)
+  kept_stay geometry trees above (pair ∷ pairs) kept =
+      let next = kept.2 in (
+        kept.0,
+        kept.1,
+        record { has = has_is kept.0 kept.1 next.has; above_it = next.above_it; least = λ l q has. next.least l q (has_was l q has) },
+        kept.3,
+        subst (λ (t : HeldTree). IsFrozenTree new.geometry.inodes t pair.1) (sym (trees kept.0))
+            (subst (λ (g : Sizes). IsFrozenTree g.inodes (w.frozen kept.0) pair.1) (sym geometry) kept.4),
+        kept_stay geometry trees kept.1.order pairs kept.5,
+      )
+
+-- ---- the objects
+
+is_node : (o : Option Node) → IsSome o ⊎ (o ≡ None)
+is_node None = inr refl
+is_node (Some node) = inl refl
+
+-- the file system's own files are no objects
+own_none : (inodes n : ℕ) (v : Volume) → IsVolume inodes v → n < 3 → v n ≡ None
+own_none inodes n v volume low = elim (is_node (v n)) [
+  | inr none ↦ none
+  | inl some ↦ elim (volume.limits.numbers n some) [ inl is ↦ absurd (omega (arith, is)) | inr high ↦ absurd (omega (arith, high.0)) ]
+]
+
+own_stands : (inodes n : ℕ) (c : Content) (o : Option Node) → n < 3 → FitsNumber n c.kind → o ≡ None → StandsAs c.kind inodes c o
+own_stands inodes zero c o low fits none = subst (λ kind. StandsAs kind inodes c o) (sym fits) none
+own_stands inodes (suc zero) c o low fits none = subst (λ kind. StandsAs kind inodes c o) (sym fits) none
+own_stands inodes (suc (suc zero)) c o low fits none = subst (λ kind. StandsAs kind inodes c o) (sym fits) none
+own_stands inodes (suc (suc (suc n))) c o low fits none = absurd (omega arith)
+
+objects_held : (s : Sizes) (t : HeldTree) (files : ℕ → Content) (v : Volume) → IsSoundTree s t → ((n : ℕ) → 3 ≤ n → contents t n ≡ files n)
+    → HoldObjects s.inodes files v → IsVolume s.inodes v → HoldsVolume s.inodes (contents t) v
+objects_held s t files v sound content objects volume n = elim (cases_lt n 3) [
+  | inl low ↦ own_stands s.inodes n (contents t n) (v n) low (sound.kinds n) (own_none s.inodes n v volume low)
+  | inr ordinary ↦ subst (λ (c : Content). StandsAs c.kind s.inodes c (v n)) (sym (content n ordinary)) (objects n ordinary)
+]
+
+-- ---- all of it
+
+pub point_holds : (d e : Blocks) (r new : Root) (files : ℕ → Content) (first v : Volume) (snapshots : List (Name × Tree))
+    → IsRoot r → Holds r (whole d r) first snapshots
+    → Agrees (Needs r (whole d r)) d e → (plan : IsPlannedOn (whole d r) (whole d r).active 0 r e new files)
+    → IsSoundPlan r.geometry e plan.inode plan.changed → IsLater r new
+    → HoldObjects r.geometry.inodes files v → IsVolume r.geometry.inodes v
+    → Holds new (whole e new) v snapshots
+point_holds d e r new files first v snapshots root holds same plan good later objects volume =
+    let sound = holds.sound in
+    let base = active_base d r sound.exact sound.active.once in
+    let settled = point_stands d e r new (whole d r).active 0 files root sound.exact base same plan in
+    let tree : IsSoundTree r.geometry (whole e new).active = subst (IsSoundTree r.geometry) (sym (active_tree e new plan.inode plan.inodes)) (sound_tree d e r new files root sound same plan good) in
+    let slots = slot_same r new later.snapshots in
+    let heads : (k : ℕ) → (whole e new).head k ≡ (whole d r).head k = λ k. (frozen_stays d e r new k same plan.geometry (slots k)).1 in
+    let trees : (k : ℕ) → (whole e new).frozen k ≡ (whole d r).frozen k = λ k. (frozen_stays d e r new k same plan.geometry (slots k)).0 in
+    record {
+      sound = record {
+        active = subst (λ (g : Sizes). IsSoundTree g (whole e new).active) (sym plan.geometry) tree;
+        frozen = λ k block there. subst (λ (g : Sizes). IsSoundTree g ((whole e new).frozen k)) (sym plan.geometry)
+            (subst (IsSoundTree r.geometry) (sym (trees k)) (sound.frozen k block (sym (slots k) ∙ there)));
+        snapshots = snapshots_stay r new (whole d r) (whole e new) slots heads later.generation sound.snapshots;
+        exact = settled.exact;
+      };
+      holds = subst (λ (g : Sizes). HoldsVolume g.inodes (contents (whole e new).active) v) (sym plan.geometry)
+          (objects_held r.geometry (whole e new).active files v tree settled.content objects volume);
+      volume = subst (λ (g : Sizes). IsVolume g.inodes v) (sym plan.geometry) volume;
+      kept = kept_stay r new (whole d r) (whole e new) slots heads plan.geometry trees 0 snapshots holds.kept;
+    }

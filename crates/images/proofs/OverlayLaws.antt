@@ -1,0 +1,113 @@
+-- A changed file that is laid out reads as it is in memory.
+use Rattle.std.proofs.Common.{◌≡◌, ◌⊎◌, inl, inr, ℕ, zero, suc, Bool, true, ◌-◌, ◌/◌, ◌%◌, ◌<◌, ◌≤◌, List, refl, ap, sym, subst, ◌∙◌, arith}
+use Rattle.std.proofs.lemmas.Bool.{cases_lt, cond_below, cond_above}
+use Rattle.std.specs.Prelude.{slice_index_or}
+use Rattle.layout.specs.Places.{Blocks, pointed, follow, place}
+use Rattle.layout.specs.Version.{level_of}
+use Rattle.layout.specs.declared.inode.Inode.{Inode}
+use Rattle.layout.specs.declared.pointer.Pointer.{Pointer}
+use Rattle.layout.specs.declared.pointer.Pointer.TheVariants.{Hole, Block}
+use Rattle.images.specs.Nodes.{held, Names, IsOnce, pointers_of, place_at_height, file_block, body_block, Agrees}
+use Rattle.images.specs.Contents.{content_of}
+use Rattle.images.specs.Overlays.{Overlay, overlaid_block, overlaid_content, Group, keeps, spells, none, IsLaid}
+use Rattle.images.proofs.Frames.{held_same}
+
+-- a node is what the indirect block over it says
+pub held_up : (d : Blocks) (f : Inode) (m i : ℕ) → suc m < level_of f.size → (held d f).place m i ≡ follow d ((held d f).place (suc m) (i / 1024)) (i % 1024)
+unfolding held place
+held_up d f m i lt =
+    let low : m < level_of f.size = omega arith in
+    let depth : level_of f.size - suc m ≡ suc (level_of f.size - suc (suc m)) = omega arith in
+    sym (cond_below m (level_of f.size) (place d (pointers_of f.body) (level_of f.size - suc m) i) Hole low)
+    ∙ ap (λ k. place d (pointers_of f.body) k i) depth
+    ∙ ap (λ p. follow d p (i % 1024)) (cond_below (suc m) (level_of f.size) (place d (pointers_of f.body) (level_of f.size - suc (suc m)) (i / 1024)) Hole lt)
+
+-- a group reads as the table says
+group_up : (e : Blocks) (f : Inode) (table : ℕ → ℕ → Pointer) (m i : ℕ) → Group e (held e f) table m (i / 1024) → follow e (table (suc m) (i / 1024)) (i % 1024) ≡ table m i
+unfolding held
+group_up e f table m i (keeps level over under) = ap (λ p. follow e p (i % 1024)) over ∙ sym (held_up e f m i level) ∙ sym (under i refl)
+group_up e f table m i (spells block over under) = ap (λ p. follow e p (i % 1024)) over ∙ under i refl
+group_up e f table m i (none over under) = ap (λ p. follow e p (i % 1024)) over ∙ sym (under i refl)
+
+-- from the inode down, depth by depth
+table_place : (e : Blocks) (old : Inode) (pointers : List Pointer) (table : ℕ → ℕ → Pointer) (top : ℕ) → ((i : ℕ) → slice_index_or pointers i Hole ≡ table top i)
+    → ((m j : ℕ) → m < top → Group e (held e old) table m j) → (k i : ℕ) → k ≤ top → place e pointers k i ≡ table (top - k) i
+unfolding place
+table_place e old pointers table top highest groups zero i le = let all : top ≡ top - 0 = omega arith in highest i ∙ ap (λ m. table m i) all
+table_place e old pointers table top highest groups (suc k) i le =
+    let over : top - k ≡ suc (top - suc k) = omega arith in
+    ap (λ p. follow e p (i % 1024)) (table_place e old pointers table top highest groups k (i / 1024) (omega arith))
+    ∙ ap (λ m. follow e (table m (i / 1024)) (i % 1024)) over
+    ∙ group_up e old table (top - suc k) i (groups (top - suc k) (i / 1024) (omega arith))
+
+module _ (e : Blocks) (old : Inode) (c : Overlay) (f : Inode) (taken : ℕ → Bool) (table : ℕ → ℕ → Pointer) (is : IsLaid e (held e old) c f taken table) where
+  -- the places are the table's
+  laid_place : (m i : ℕ) → m ≤ is.top → (held e f).place m i ≡ table m i
+  unfolding held
+  laid_place m i le =
+      let level = is.level in
+      let low : m < level_of f.size = omega arith in
+      let depth : is.top - (level_of f.size - suc m) ≡ m = omega arith in
+      sym (cond_below m (level_of f.size) (place e (pointers_of f.body) (level_of f.size - suc m) i) Hole low)
+      ∙ ap (λ body. place e (pointers_of body) (level_of f.size - suc m) i) is.body
+      ∙ table_place e old is.pointers table is.top is.highest is.groups (level_of f.size - suc m) i (omega arith)
+      ∙ ap (λ k. table k i) depth
+
+  laid_content : content_of (held e f) ≡ overlaid_content (held e old) c
+  unfolding held
+  laid_content =
+      let block_is : (i : ℕ) → file_block (held e f) i ≡ overlaid_block (held e old) c i = λ i.
+      ap (λ body. body_block body (pointed e (place_at_height e f 0 i)) i) is.body
+      ∙ ap (pointed e) (laid_place 0 i (omega arith)) ∙ is.lowest i in
+      λ j. record { kind = is.says.kind j; mode = is.says.mode j; links = is.says.links j; size = is.says.size j; block = λ i. block_is i j }
+
+  -- a node stands below the level, and there the table has it
+  in_table : (m i b : ℕ) → (held e f).place m i ≡ Block b → (m ≤ is.top) × (table m i ≡ Block b)
+  unfolding held
+  in_table m i b there =
+      let level = is.level in
+      elim (cases_lt m (level_of f.size)) [
+        | inl lt ↦ (omega arith, sym (laid_place m i (omega arith)) ∙ there)
+        | inr ge ↦ absurd (no_node b (cond_above m (level_of f.size) (place e (pointers_of f.body) (level_of f.size - suc m) i) Hole Hole ge refl ∙ there))
+      ]
+    where
+      no_node : (b : ℕ) → Hole ≡ Block b → ⊥
+      no_node b e = absurd (cc)
+
+  laid_comes : (b : ℕ) → Names (held e f) b → Names (held e old) b ⊎ (taken b ≡ true)
+  laid_comes b names =
+      let at = in_table names.height names.index b names.is in
+      elim (is.from names.height names.index b at.0 at.1) [
+        | inl was ↦ inl (record { height = names.height; index = names.index; is = was })
+        | inr came ↦ inr came
+      ]
+
+  laid_once : IsOnce (held e old) → IsOnce (held e f)
+  laid_once once m i k j b here there =
+      let at = in_table m i b here in
+      let too = in_table k j b there in
+      elim (is.from m i b at.0 at.1) [
+        | inr came ↦ is.once m i k j b at.0 too.0 at.1 too.1 came
+        | inl was ↦ elim (is.from k j b too.0 too.1) [
+          | inr came ↦ is.once m i k j b at.0 too.0 at.1 too.1 came
+          | inl was_too ↦ once m i k j b was was_too
+        ]
+      ]
+
+-- ---- on any disk that has the file's blocks and the settled file's
+
+module _ (d e : Blocks) (old : Inode) (c : Overlay) (f : Inode) (taken : ℕ → Bool) (table : ℕ → ℕ → Pointer) (same : Agrees (Names (held d old)) d e) (is : IsLaid e (held d old) c f taken table) where
+  old_is : held e old ≡ held d old
+  old_is = held_same d e old same
+
+  on_e : IsLaid e (held e old) c f taken table
+  on_e = subst (λ h. IsLaid e h c f taken table) (sym old_is) is
+
+  pub content_stands : content_of (held e f) ≡ overlaid_content (held d old) c
+  content_stands = laid_content e old c f taken table on_e ∙ ap (λ h. overlaid_content h c) old_is
+
+  pub comes_stands : (b : ℕ) → Names (held e f) b → Names (held d old) b ⊎ (taken b ≡ true)
+  comes_stands b names = subst (λ h. Names h b ⊎ (taken b ≡ true)) old_is (laid_comes e old c f taken table on_e b names)
+
+  pub once_stands : IsOnce (held d old) → IsOnce (held e f)
+  once_stands once = laid_once e old c f taken table on_e (subst IsOnce (sym old_is) once)

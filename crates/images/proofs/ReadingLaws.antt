@@ -1,0 +1,124 @@
+-- What is read block by block is what the tree has.
+use Rattle.std.proofs.Common.{◌≡◌, inl, inr, ℕ, zero, suc, ◌+◌, ◌-◌, ◌/◌, ◌%◌, ◌<◌, ◌≤◌, true, false, leb, List, length, drop, get_or, refl, ap, sym, subst, ◌∙◌, arith}
+use Rattle.std.specs.Prelude.{nat_lt, if◌then◌else◌, Some, All}
+use Rattle.std.specs.Int.{div_ceil}
+use Rattle.std.proofs.lemmas.Bool.{cases_lt, cond_below, cond_above, lt-leb, le-leb}
+use Rattle.std.proofs.lemmas.List.{get_or-drop, get_or_past}
+use Rattle.layout.specs.Bytes.{zeros}
+use Rattle.layout.specs.Inode.{IsInode, FitsBody, FitsPointers, pointers_used, inode_bytes}
+use Rattle.layout.specs.Limits.{Sizes, AreSizes}
+use Rattle.layout.specs.Maps.{indirect_pointer}
+use Rattle.layout.specs.Places.{Blocks, place, pointed, follow}
+use Rattle.layout.specs.SnapRoot.{IsSnapshot, Snapshot, snapshot_bytes, snapshot_in}
+use Rattle.layout.specs.Version.{level_of}
+use Rattle.layout.specs.declared.inode.Body.{Body}
+use Rattle.layout.specs.declared.inode.Body.TheVariants.{Pointers}
+use Rattle.layout.specs.declared.inode.Inode.{Inode}
+use Rattle.layout.specs.declared.pointer.Pointer.{Pointer}
+use Rattle.layout.specs.declared.pointer.Pointer.TheVariants.{Hole, Block}
+use Rattle.layout.specs.declared.version.TheConstants.{VERSION}
+use Rattle.layout.proofs.InodeLaws.{inode_again}
+use Rattle.layout.proofs.SnapshotLaws.{snapshot_again}
+use Rattle.images.specs.Nodes.{held, body_block, file_block, place_at_height, pointers_of}
+use Rattle.images.specs.Roots.{free_inode, or_free, inode_from, inode_bytes_at, inode_of, tree, frozen_inode_file, inode_file_or_free}
+use Rattle.images.specs.Soundness.{nodes_at, IsSoundFile}
+use Rattle.images.proofs.OverlayLaws.{held_up}
+
+-- ---- inodes and snapshots
+
+pub read_spelled : (s : Sizes) (d : Blocks) (top i : Inode) (n : ℕ) → AreSizes s → 1 ≤ n → n < s.inodes → IsInode VERSION s i
+    → inode_bytes_at (file_block (held d top)) n ≡ inode_bytes i → tree d s.inodes top n ≡ held d i
+unfolding tree inode_of inode_from
+read_spelled s d top i zero are some lt fits is = absurd (omega arith)
+read_spelled s d top i (suc n) are some lt fits is =
+    ap (held d) (sym (cond_below (suc n) s.inodes (inode_from (inode_bytes_at (file_block (held d top)) (suc n))) free_inode lt)
+    ∙ ap inode_from is ∙ ap or_free (inode_again i (record { sizes = s; are_sizes = are; fits = fits })))
+
+pub read_past : (d : Blocks) (inodes : ℕ) (top : Inode) (n : ℕ) → 1 ≤ n → inodes ≤ n → tree d inodes top n ≡ held d free_inode
+unfolding tree inode_of
+read_past d inodes top zero some ge = absurd (omega arith)
+read_past d inodes top (suc n) some ge = ap (held d) (sym (cond_above (suc n) inodes (inode_from (inode_bytes_at (file_block (held d top)) (suc n))) free_inode free_inode ge refl))
+
+pub read_snapshot : (v : Snapshot) → IsSnapshot v → (snapshot_in (snapshot_bytes v) ≡ Some v) × (frozen_inode_file (snapshot_bytes v) ≡ v.inode_file)
+unfolding frozen_inode_file
+read_snapshot v is = (snapshot_again v is, ap inode_file_or_free (snapshot_again v is))
+
+-- ---- blocks
+
+-- past the pointers that count there are holes
+hole_past : (pointers : List Pointer) (used i : ℕ) → All (λ p. p ≡ Hole) (drop used pointers) → used ≤ i → get_or pointers i Hole ≡ Hole
+hole_past pointers used i holes past =
+    let at : used + (i - used) ≡ i = omega arith in
+    ap (λ k. get_or pointers k Hole) (sym at) ∙ sym (get_or-drop used pointers (i - used) Hole) ∙ elim (cases_lt (i - used) (length (drop used pointers))) [
+      | inl lt ↦ holes (i - used) Hole lt
+      | inr ge ↦ get_or_past (drop used pointers) (i - used) Hole ge
+    ]
+
+-- the pointers of the inode, highest of all
+highest : (d : Blocks) (f : Inode) (level i : ℕ) → level_of f.size ≡ suc level → (held d f).place level i ≡ get_or (pointers_of f.body) i Hole
+unfolding held place
+highest d f level i is =
+    ap (λ k. if nat_lt level k then place d (pointers_of f.body) (k - suc level) i else Hole) is
+    ∙ sym (cond_below level (suc level) (place d (pointers_of f.body) (suc level - suc level) i) Hole (omega arith))
+    ∙ ap (λ k. place d (pointers_of f.body) k i) none
+  where
+    none : suc level - suc level ≡ 0
+    none = omega arith
+
+level_one : (size : ℕ) → 128 < size → size ≤ 65536 → level_of size ≡ 1
+level_one size large low = let a : leb size 128 ≡ false = lt-leb _ _ large in let b : leb size 65536 ≡ true = le-leb _ _ low in rw (a, b) refl
+
+level_two : (size : ℕ) → 65536 < size → level_of size ≡ 2
+level_two size large = let a : leb size 128 ≡ false = lt-leb _ _ (omega arith) in let b : leb size 65536 ≡ false = lt-leb _ _ large in rw (a, b) refl
+
+used_one : (size : ℕ) → size ≤ 65536 → pointers_used size ≡ div_ceil size 4096
+used_one size low = let b : leb size 65536 ≡ true = le-leb _ _ low in rw b refl
+
+used_two : (size : ℕ) → 65536 < size → pointers_used size ≡ div_ceil (div_ceil size 4096) 1024
+used_two size large = let b : leb size 65536 ≡ false = lt-leb _ _ large in rw b refl
+
+module _ (s : Sizes) (d : Blocks) (f : Inode) (pointers : List Pointer) (sound : IsSoundFile s (held d f)) (body : f.body ≡ Pointers pointers) where
+  fits : FitsPointers pointers s.blocks f.size
+  unfolding held
+  fits = subst (λ (b : Body). FitsBody b s.blocks f.size) body sound.inode.body
+
+  top_is : (level i : ℕ) → level_of f.size ≡ suc level → (held d f).place level i ≡ get_or pointers i Hole
+  top_is level i is = highest d f level i is ∙ ap (λ b. get_or (pointers_of b) i Hole) body
+
+  -- under an indirect block in its grammar
+  under : (i : ℕ) (p : Pointer) → (held d f).place 1 (i / 1024) ≡ p → div_ceil f.size 4096 ≤ i → follow d p (i % 1024) ≡ Hole
+  unfolding held nodes_at
+  under i Hole is past = refl
+  under i (Block b) is past =
+      let block = sound.indirect 0 (i / 1024) b is in
+      let at : pointed d (place_at_height d f 1 (i / 1024)) ≡ d b = ap (pointed d) is in
+      subst (λ bytes. indirect_pointer bytes (i % 1024) ≡ Hole) at ((block.within (i % 1024) (omega arith)).1 (omega arith))
+
+  hole_behind : (i : ℕ) → div_ceil f.size 4096 ≤ i → (held d f).place 0 i ≡ Hole
+  hole_behind i past = elim (cases_lt 65536 f.size) [
+    | inr low ↦
+        let level = level_one f.size fits.0 low in
+        top_is 0 i level ∙ hole_past pointers (pointers_used f.size) i fits.3 (omega (arith, used_one f.size low))
+    | inl large ↦
+        let level = level_two f.size large in
+        held_up d f 0 i (omega (arith, level)) ∙ under i ((held d f).place 1 (i / 1024)) refl past
+  ]
+
+  before : (i : ℕ) → (held d f).place 0 i ≡ place d pointers (level_of f.size - 1) i
+  unfolding held
+  before i =
+      let some : 0 < level_of f.size = elim (cases_lt 65536 f.size) [
+        | inr low ↦ omega (arith, level_one f.size fits.0 low)
+        | inl large ↦ omega (arith, level_two f.size large)
+      ] in
+      sym (cond_below 0 (level_of f.size) (place d (pointers_of f.body) (level_of f.size - suc 0) i) Hole some)
+      ∙ ap (λ b. place d (pointers_of b) (level_of f.size - 1) i) body
+
+  pub blocks_are : (i : ℕ) → file_block (held d f) i ≡ (if nat_lt i (div_ceil f.size 4096) then pointed d (place d pointers (level_of f.size - 1) i) else zeros 4096)
+  unfolding held
+  blocks_are i =
+      ap (λ b. body_block b (pointed d (place_at_height d f 0 i)) i) body
+      ∙ elim (cases_lt i (div_ceil f.size 4096)) [
+        | inl lt ↦ ap (pointed d) (before i) ∙ cond_below i (div_ceil f.size 4096) (pointed d (place d pointers (level_of f.size - 1) i)) (zeros 4096) lt
+        | inr ge ↦ ap (pointed d) (hole_behind i ge) ∙ cond_above i (div_ceil f.size 4096) (pointed d (place d pointers (level_of f.size - 1) i)) (zeros 4096) (zeros 4096) ge refl
+      ]

@@ -1,0 +1,10 @@
+pub mod Nodes
+pub mod Roots
+pub mod BlockMap
+pub mod Contents
+pub mod Soundness
+pub mod Snapshots
+pub mod States
+pub mod Overlays
+pub mod InodeFiles
+pub mod Points

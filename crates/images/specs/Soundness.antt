@@ -1,0 +1,75 @@
+-- The grammars that a tree keeps: its inodes, indirect blocks, maps and the bytes past the ends of its files.
+use Rattle.std.specs.Prelude.{ℕ, zero, suc, ◌≡◌, ◌≢◌, ◌⊎◌, ◌↔◌, ◌-◌, ◌*◌, ◌<◌, ◌≤◌, List, drop}
+use Rattle.std.specs.Int.{div_ceil}
+use Rattle.layout.specs.Bytes.{zeros}
+use Rattle.layout.specs.FileBytes.{byte_in, EndsAt}
+use Rattle.layout.specs.Inode.{IsInode, inode_bytes}
+use Rattle.layout.specs.Limits.{Sizes}
+use Rattle.layout.specs.Maps.{IsTaken, IsIndirectBlock}
+use Rattle.layout.specs.Version.{level_of}
+use Rattle.layout.specs.declared.TheConstants.{BLOCK_BYTES, BLOCK_POINTERS, INODE_BYTES, INODES_PER_BLOCK}
+use Rattle.layout.specs.declared.kind.Kind.{Kind}
+use Rattle.layout.specs.declared.kind.Kind.TheVariants as kinds
+use Rattle.layout.specs.declared.numbers.TheConstants.{FIRST_NUMBER}
+use Rattle.layout.specs.declared.pointer.Pointer.TheVariants.{Hole, Block}
+use Rattle.layout.specs.declared.version.TheConstants.{VERSION}
+use Rattle.images.specs.Nodes.{Held, file_block}
+use Rattle.images.specs.Roots.{HeldTree, inode_bytes_at}
+use Rattle.images.specs.BlockMap.{NamesOnce}
+use Rattle.images.specs.Contents.{content_of, bytes_of}
+
+-- how many nodes a file of so many bytes has at a height
+unfoldable pub nodes_at : ℕ → ℕ → ℕ
+nodes_at size zero = div_ceil size BLOCK_BYTES
+nodes_at size (suc height) = div_ceil (nodes_at size height) BLOCK_POINTERS
+
+-- a file in its grammar, in an image of these sizes: its inode, each indirect block that is stored, and zeros past its end
+pub record IsSoundFile (s : Sizes) (h : Held) : Type 0 where
+  pub inode : IsInode VERSION s h.inode
+  pub indirect : (m i b : ℕ) → h.place (suc m) i ≡ Block b
+      → IsIndirectBlock s.blocks (nodes_at h.inode.size m - BLOCK_POINTERS * i) (h.bytes (suc m) i)
+  pub ends : EndsAt h.inode.size (byte_in (file_block h))
+
+-- kinds of ordinary numbers, and of the root directory's
+abbrev pub IsOrdinary : Kind → Type 0
+IsOrdinary kinds.Free = Unit {0}
+IsOrdinary kinds.File = Unit {0}
+IsOrdinary kinds.Directory = Unit {0}
+IsOrdinary kinds.Link = Unit {0}
+IsOrdinary kinds.InodeFile = ⊥
+IsOrdinary kinds.InodeMap = ⊥
+IsOrdinary kinds.BlockMap = ⊥
+
+-- the kinds that a number may have, where 0 stands for the inode file
+abbrev pub FitsNumber : ℕ → Kind → Type 0
+FitsNumber zero kind = kind ≡ kinds.InodeFile
+FitsNumber (suc zero) kind = kind ≡ kinds.InodeMap
+FitsNumber (suc (suc zero)) kind = kind ≡ kinds.BlockMap
+FitsNumber (suc (suc (suc n))) kind = IsOrdinary kind
+
+-- the file has no hole: of a map all blocks are stored
+abbrev pub HasNoHole : Held → Type 0
+HasNoHole h = (i : ℕ) → 1 ≤ level_of h.inode.size → i < nodes_at h.inode.size 0 → h.place 0 i ≢ Hole
+
+-- The blocks of the inode file spell the inodes of a tree, and zeros elsewhere: for number 0, past the last number, and behind
+-- the last inode of each block.
+pub record SpellsInodes (inodes : ℕ) (block : ℕ → List ℕ) (t : HeldTree) : Type 0 where
+  pub each : (n : ℕ) → 1 ≤ n → n < inodes → inode_bytes_at block n ≡ inode_bytes (t n).inode
+  pub first : inode_bytes_at block 0 ≡ zeros INODE_BYTES
+  pub past : (n : ℕ) → inodes ≤ n → inode_bytes_at block n ≡ zeros INODE_BYTES
+  pub behind : (i : ℕ) → drop (INODE_BYTES * INODES_PER_BLOCK) (block i) ≡ zeros (BLOCK_BYTES - INODE_BYTES * INODES_PER_BLOCK)
+
+-- the inode map's file says which numbers are in use: the first four, and those of the inodes that aren't free
+abbrev pub MapsNumbers : HeldTree → Type 0
+MapsNumbers t =
+    (n : ℕ) → IsTaken (bytes_of (content_of (t 1))) n ↔ ((n < FIRST_NUMBER) ⊎ ((t n).inode.kind ≢ kinds.Free))
+
+-- a tree in its grammar, in an image of these sizes
+pub record IsSoundTree (s : Sizes) (t : HeldTree) : Type 0 where
+  pub files : (n : ℕ) → IsSoundFile s (t n)
+  pub kinds : (n : ℕ) → FitsNumber n (t n).inode.kind
+  pub inodes : SpellsInodes s.inodes (file_block (t 0)) t
+  pub numbers : MapsNumbers t
+  pub inode_map : HasNoHole (t 1)
+  pub block_map : HasNoHole (t 2)
+  pub once : NamesOnce t

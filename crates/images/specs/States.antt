@@ -1,0 +1,63 @@
+-- Which state a disk and an NVRAM open to.
+use Rattle.std.specs.Prelude.{ℕ, ◌≡◌, ◌≢◌, ◌*◌, ◌/◌, List, map, All, None}
+use Rattle.layout.specs.Log.{LogHolds}
+use Rattle.layout.specs.Opens.{IsNewest}
+use Rattle.layout.specs.Places.{blocks_of}
+use Rattle.layout.specs.Record.{Change, IsChange, change_bytes}
+use Rattle.layout.specs.declared.TheConstants.{SLOT_A, SLOT_B}
+use Rattle.layout.specs.declared.pointer.Pointer.TheVariants.{Block}
+use Rattle.layout.specs.declared.root.Root.{Root}
+use Rattle.model.specs.Paths.{Name}
+use Rattle.model.specs.Records.{Replays, without_nameless}
+use Rattle.model.specs.States.{State, Forgets, going}
+use Rattle.model.specs.Trees.{Tree}
+use Rattle.model.specs.Volumes.{Volume, IsVolume, tree_of}
+use Rattle.images.specs.Roots.{Whole, whole, slot}
+use Rattle.images.specs.BlockMap.{IsExact, entry}
+use Rattle.images.specs.Contents.{HoldsVolume, contents}
+use Rattle.images.specs.Snapshots.{AreSnapshots, AreKept}
+use Rattle.images.specs.Soundness.{IsSoundTree}
+
+-- all that a root holds is in its grammar
+pub record IsSound (r : Root) (w : Whole) : Type 0 where
+  pub active : IsSoundTree r.geometry w.active
+  pub frozen : (k block : ℕ) → slot r k ≡ Block block → IsSoundTree r.geometry (w.frozen k)
+  pub snapshots : AreSnapshots r w
+  pub exact : IsExact r w
+
+-- What a root holds, all of it in its grammar: the objects of its active tree, its files without names among them, and the
+-- names and trees of its snapshots, oldest first.
+pub record Holds (r : Root) (w : Whole) (v : Volume) (snapshots : List (Name × Tree)) : Type 0 where
+  pub sound : IsSound r w
+  pub holds : HoldsVolume r.geometry.inodes (contents w.active) v
+  pub volume : IsVolume r.geometry.inodes v
+  pub kept : AreKept r w snapshots
+
+-- The log holds these records, which a root doesn't cover: those of the next epoch, and then those of the one after it.
+pub record LogHoldsChanges (r : Root) (nvram : List ℕ) (changes : List Change) : Type 0 where
+  pub are : All IsChange changes
+  pub log : LogHolds r.geometry.half r.generation nvram (map change_bytes changes)
+
+-- The disk and the NVRAM stand for this state with its open files forgotten: the objects that the newest root holds, changed
+-- by the records that it doesn't cover, without the files that have no name then.
+pub record Opens (sectors : ℕ) (disk : ℕ → List ℕ) (nvram : List ℕ) (s : State) : Type 0 where
+  pub root : Root
+  pub newest : IsNewest root (disk SLOT_A) (disk SLOT_B)
+  pub size : sectors ≡ 8 * root.geometry.blocks
+  pub first : Volume
+  pub snapshots : List (Name × Tree)
+  pub holds : Holds root (whole (blocks_of disk) root) first snapshots
+  pub changes : List Change
+  pub log : LogHoldsChanges root nvram changes
+  pub last : Volume
+  pub replays : Replays root.geometry.inodes first changes last
+  pub state : Forgets s (record {
+    inodes = root.geometry.inodes;
+    tree = tree_of (without_nameless last) (λ d. None);
+    snapshots = snapshots;
+    mark = going;
+  })
+
+-- two disks have the same in all sectors of blocks that aren't free in the map that the first one has under a root
+abbrev pub SameButFree : Root → (ℕ → List ℕ) → (ℕ → List ℕ) → Type 0
+SameButFree r d e = (n : ℕ) → entry (whole (blocks_of d) r).active (n / 8) ≢ 0 → e n ≡ d n

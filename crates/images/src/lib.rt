@@ -1,0 +1,25 @@
+//! What images mean: which tree a root names, from the inode of its inode file down, and which state it stands for. It has
+//! no code, only definitions and laws of them.
+#![tactic(auto)]
+
+mod frame;
+mod inode_file;
+mod made;
+mod point;
+mod reading;
+mod settling;
+mod states;
+
+pub use frame::disks_that_agree_hold_the_same;
+pub use inode_file::inodes_are_put_one_by_one;
+pub use made::{eight_sectors_are_a_block, new_images_open_to_the_empty_state};
+pub use point::{
+    files_stand_as_laid, free_blocks_are_unneeded, planned_points_hold, planned_points_settle,
+    trees_are_bases,
+};
+pub use reading::{
+    blocks_are_where_pointers_lead, inodes_are_what_their_bytes_spell,
+    snapshots_are_what_their_bytes_spell,
+};
+pub use settling::{later_roots_are_newest, roots_cover_epochs};
+pub use states::{files_hold_one_volume, free_blocks_are_no_matter, images_open_to_one_state};

@@ -1,0 +1,66 @@
+//! What a consistency point that was planned comes to.
+
+ghost use Rattle.std.specs.Prelude.{ℕ, ◌≡◌, ◌≢◌, ◌≤◌, ◌⊎◌, Bool, List, true};
+ghost use Rattle.layout.specs.Places.{Blocks};
+ghost use Rattle.layout.specs.Root.{IsRoot};
+ghost use Rattle.layout.specs.declared.inode.Inode.{Inode};
+ghost use Rattle.layout.specs.declared.pointer.Pointer.{Pointer};
+ghost use Rattle.layout.specs.declared.root.Root.{Root};
+ghost use Rattle.model.specs.Paths.{Name};
+ghost use Rattle.model.specs.Trees.{Tree};
+ghost use Rattle.model.specs.Volumes.{IsVolume, Volume};
+ghost use Rattle.images.specs.Nodes.{Agrees, IsOnce, Names, held};
+ghost use Rattle.images.specs.Roots.{HeldTree, Needs, whole};
+ghost use Rattle.images.specs.BlockMap.{IsExact, NamesOnce, entry};
+ghost use Rattle.images.specs.Contents.{Content, content_of};
+ghost use Rattle.images.specs.Overlays.{IsLaid, Overlay, overlaid_content};
+ghost use Rattle.images.specs.Points.{HoldObjects, IsBase, IsLater, IsPlannedOn, IsSettled, IsSoundPlan};
+ghost use Rattle.images.specs.States.{Holds};
+
+/// A block whose entry is 0 is none that the root needs. It does nothing.
+pub fn free_blocks_are_unneeded()
+    ensures { (d : Blocks) (r : Root) (b : ℕ) → IsRoot r → IsExact r (whole d r)
+        → entry (whole d r).active b ≡ 0 → Needs r (whole d r) b → ⊥ }
+{}
+
+/// A consistency point may start from the active tree, or from a snapshot's. It does nothing.
+pub fn trees_are_bases()
+    ensures active { (d : Blocks) (r : Root) → IsExact r (whole d r) → NamesOnce (whole d r).active
+        → IsBase d r (whole d r).active 0 }
+    ensures frozen { (d : Blocks) (r : Root) (k : ℕ) → 1 ≤ k → k ≢ 31 → IsExact r (whole d r)
+        → NamesOnce ((whole d r).frozen k) → IsBase d r ((whole d r).frozen k) k }
+{}
+
+/// A changed file that is laid out reads as it is in memory, and its blocks are the settled file's or were taken. It does
+/// nothing.
+pub fn files_stand_as_laid()
+    ensures content { (d e : Blocks) (old : Inode) (c : Overlay) (f : Inode) (taken : ℕ → Bool) (table : ℕ → ℕ → Pointer)
+        → Agrees (Names (held d old)) d e → IsLaid e (held d old) c f taken table
+        → content_of (held e f) ≡ overlaid_content (held d old) c }
+    ensures comes { (d e : Blocks) (old : Inode) (c : Overlay) (f : Inode) (taken : ℕ → Bool) (table : ℕ → ℕ → Pointer)
+        → Agrees (Names (held d old)) d e → IsLaid e (held d old) c f taken table
+        → (b : ℕ) → Names (held e f) b → Names (held d old) b ⊎ (taken b ≡ true) }
+    ensures once { (d e : Blocks) (old : Inode) (c : Overlay) (f : Inode) (taken : ℕ → Bool) (table : ℕ → ℕ → Pointer)
+        → Agrees (Names (held d old)) d e → IsLaid e (held d old) c f taken table
+        → IsOnce (held d old) → IsOnce (held e f) }
+{}
+
+/// On any disk that has the planned blocks and those that the old root needs, the new root holds what was planned: the
+/// changed contents, a map that is exact, and the frozen trees. It does nothing.
+pub fn planned_points_settle()
+    ensures { (d e : Blocks) (r new : Root) (t : HeldTree) (plane : ℕ) (files : ℕ → Content)
+        → IsRoot r → IsExact r (whole d r) → IsBase d r t plane
+        → Agrees (Needs r (whole d r)) d e → IsPlannedOn (whole d r) t plane r e new files
+        → IsSettled r new (whole d r) (whole e new) files }
+{}
+
+/// Where the old root held a volume, and what was planned of the active tree is in its grammar, the new root holds the planned
+/// volume, and the same snapshots. It does nothing.
+pub fn planned_points_hold()
+    ensures { (d e : Blocks) (r new : Root) (files : ℕ → Content) (first v : Volume) (snapshots : List (Name × Tree))
+        → IsRoot r → Holds r (whole d r) first snapshots
+        → Agrees (Needs r (whole d r)) d e → (plan : IsPlannedOn (whole d r) (whole d r).active 0 r e new files)
+        → IsSoundPlan r.geometry e plan.inode plan.changed → IsLater r new
+        → HoldObjects r.geometry.inodes files v → IsVolume r.geometry.inodes v
+        → Holds new (whole e new) v snapshots }
+{}

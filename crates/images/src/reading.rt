@@ -1,0 +1,44 @@
+//! What is read block by block is what the tree has.
+
+ghost use Rattle.std.specs.Prelude.{ℕ, ◌≡◌, ◌-◌, ◌<◌, ◌≤◌, List, Some, nat_lt, if◌then◌else◌};
+ghost use Rattle.std.specs.Int.{div_ceil};
+ghost use Rattle.layout.specs.Bytes.{zeros};
+ghost use Rattle.layout.specs.Inode.{IsInode, inode_bytes};
+ghost use Rattle.layout.specs.Limits.{AreSizes, Sizes};
+ghost use Rattle.layout.specs.Places.{Blocks, place, pointed};
+ghost use Rattle.layout.specs.SnapRoot.{IsSnapshot, Snapshot, snapshot_bytes, snapshot_in};
+ghost use Rattle.layout.specs.Version.{level_of};
+ghost use Rattle.layout.specs.declared.TheConstants.{BLOCK_BYTES};
+ghost use Rattle.layout.specs.declared.inode.Body.TheVariants.{Pointers};
+ghost use Rattle.layout.specs.declared.inode.Inode.{Inode};
+ghost use Rattle.layout.specs.declared.pointer.Pointer.{Pointer};
+ghost use Rattle.layout.specs.declared.version.TheConstants.{VERSION};
+ghost use Rattle.images.specs.Nodes.{file_block, held};
+ghost use Rattle.images.specs.Roots.{free_inode, frozen_inode_file, inode_bytes_at, tree};
+ghost use Rattle.images.specs.Soundness.{IsSoundFile};
+
+/// A tree has the inode that the inode file's bytes spell, and past the last number free ones. It does nothing.
+pub fn inodes_are_what_their_bytes_spell()
+    ensures spelled { (s : Sizes) (d : Blocks) (top i : Inode) (n : ℕ) → AreSizes s → 1 ≤ n → n < s.inodes
+        → IsInode VERSION s i → inode_bytes_at (file_block (held d top)) n ≡ inode_bytes i
+        → tree d s.inodes top n ≡ held d i }
+    ensures past { (d : Blocks) (inodes : ℕ) (top : Inode) (n : ℕ) → 1 ≤ n → inodes ≤ n
+        → tree d inodes top n ≡ held d free_inode }
+{}
+
+/// A snapshot root block reads as the snapshot that its bytes spell. It does nothing.
+pub fn snapshots_are_what_their_bytes_spell()
+    ensures { (v : Snapshot) → IsSnapshot v
+        → (snapshot_in (snapshot_bytes v) ≡ Some v) × (frozen_inode_file (snapshot_bytes v) ≡ v.inode_file) }
+{}
+
+/// Of a file in its grammar whose inode has pointers, the blocks before its end are those that the pointers lead to, and zeros
+/// stand behind them. It does nothing.
+pub fn blocks_are_where_pointers_lead()
+    ensures { (s : Sizes) (d : Blocks) (f : Inode) (pointers : List Pointer) (i : ℕ)
+        → IsSoundFile s (held d f) → f.body ≡ Pointers pointers
+        → file_block (held d f) i
+        ≡ (if nat_lt i (div_ceil f.size BLOCK_BYTES)
+        then pointed d (place d pointers (level_of f.size - 1) i)
+        else zeros BLOCK_BYTES) }
+{}
