@@ -1,5 +1,5 @@
 -- Entries of the map, where one of them changes.
-use Rattle.std.proofs.Common.{◌≡◌, ◌≢◌, ℕ, ◌+◌, ◌*◌, ◌/◌, ◌%◌, ◌<◌, ◌≤◌, Bool, true, false, List, length, inl, inr, ap, sym, subst, ◌∙◌, arith}
+use Rattle.std.proofs.Common.{suc, ◌≡◌, ◌≢◌, ℕ, ◌+◌, ◌*◌, ◌/◌, ◌%◌, ◌<◌, ◌≤◌, Bool, true, false, List, length, inl, inr, ap, sym, subst, ◌∙◌, arith}
 use Rattle.std.specs.Prelude.{slice_index, slice_index_or, slice_set, if◌then◌else◌, ◌==◌}
 use Rattle.std.specs.Int.{bit_at}
 use Rattle.std.proofs.lemmas.Bool.{cases_eq}
@@ -8,7 +8,7 @@ use Rattle.std.proofs.lemmas.Nat.Bits.{bit_at_lowest}
 use Rattle.std.proofs.lemmas.List.{get_or-set_same, get_or_default}
 use Rattle.blockmap.specs.Bits.{SetsBit, SetsPlane}
 use Rattle.blockmap.specs.Parts.{Part}
-use Rattle.blockmap.specs.Maps.{no_part, entry_at, settled_at, IsFree}
+use Rattle.blockmap.specs.Maps.{no_part, entry_at, settled_at, free_below, IsFree}
 
 -- the bit of the entry that is changed
 pub bit_set : (parts : List Part) (block b entry value : ℕ) (is_in : Bool) (p new : Part) → b ≡ block → b / 1024 < length parts → p ≡ slice_index_or parts (b / 1024) p
@@ -63,3 +63,31 @@ pub none_before : (parts : List Part) (from i b : ℕ) (p : Part) → from / 102
 none_before parts from i b p within at none small low high free =
     let here : b / 1024 ≡ from / 1024 = omega arith in
     none (b % 1024) (omega arith) (omega arith) (sym (settled_in parts b (from / 1024) p here within at) ∙ free)
+
+-- an entry of a part is one of the map's
+pub entry_in : (parts : List Part) (j i : ℕ) (p : Part) → i < 1024 → j < length parts → p ≡ slice_index_or parts j p → slice_index p.entries i ≡ entry_at parts (1024 * j + i)
+entry_in parts j i p small within at =
+    let part : (1024 * j + i) / 1024 ≡ j = omega arith in
+    let place : (1024 * j + i) % 1024 ≡ i = omega arith in
+    sym (ap (λ (n : ℕ). slice_index (slice_index_or parts n no_part).entries ((1024 * j + i) % 1024)) part
+    ∙ ap (λ (q : Part). slice_index q.entries ((1024 * j + i) % 1024)) (get_or_default parts j no_part p within ∙ sym at)
+    ∙ ap (slice_index p.entries) place)
+
+-- one block more is counted, where it is free
+pub free_here : (parts : List Part) (b n : ℕ) → n ≡ free_below parts b → IsFree parts b → n + 1 ≡ free_below parts (b + 1)
+unfolding free_below
+free_here parts b n so_far free =
+    let yes : (settled_at parts b == 0) ≡ true = grind (arith, nat_tests, free) in
+    let next : suc b ≡ b + 1 = omega arith in
+    subst (λ (k : ℕ). n + 1 ≡ free_below parts k) next (rw yes (ap (λ (k : ℕ). k + 1) so_far))
+
+pub free_not : (parts : List Part) (b n : ℕ) → n ≡ free_below parts b → (IsFree parts b → ⊥) → n ≡ free_below parts (b + 1)
+unfolding free_below
+free_not parts b n so_far taken =
+    let no : (settled_at parts b == 0) ≡ false = grind (arith, nat_tests, taken) in
+    let next : suc b ≡ b + 1 = omega arith in
+    subst (λ (k : ℕ). n ≡ free_below parts k) next (rw no (omega (arith, so_far)))
+
+pub free_none : (parts : List Part) → 0 ≡ free_below parts 0
+unfolding free_below
+free_none parts = λ i. 0

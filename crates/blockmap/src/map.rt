@@ -1,13 +1,14 @@
 //! The whole block map.
 
-ghost use Rattle.std.specs.Prelude.{◌≡◌, ℕ, ◌*◌, ◌/◌, ◌<◌, ◌≤◌, true, false, IsTrue, OnOk, IfSome, IfNone, length, ◌+◌, ◌↔◌};
+ghost use Rattle.std.specs.Prelude.{◌≡◌, ℕ, ◌*◌, ◌/◌, ◌<◌, ◌≤◌, true, false, IsTrue, OnOk, OnErr, IfSome, IfNone, length, ◌+◌, ◌↔◌};
 ghost use Rattle.layout.specs.declared.geometry.TheConstants.{MOST_BLOCKS};
-ghost use Rattle.blockmap.specs.Bits.{SetsBit};
-ghost use Rattle.blockmap.specs.declared.map.TheConstants.{FIRST_BLOCK};
+ghost use Rattle.blockmap.specs.Bits.{SetsBit, SetsPlane};
+ghost use Rattle.std.specs.Int.{bit_at};
+ghost use Rattle.blockmap.specs.declared.map.TheConstants.{FIRST_BLOCK, ENTRIES};
 
 use crate::bits::with_bit;
 use crate::part::MapPart;
-use layout::BlockNumber;
+use layout::{BLOCK_BYTES, BlockNumber};
 use std::alloc::AllocError;
 
 /// Entries in a block of the map.
@@ -30,7 +31,7 @@ pub struct BlockMap {
 }
 
 impl BlockMap {
-    ghost use Rattle.blockmap.specs.Maps.{settled_at, entry_at, IsFree, IsTouched, KeepsSettled, OnlyChanges};
+    ghost use Rattle.blockmap.specs.Maps.{settled_at, entry_at, free_below, HoldsPart, IsFree, IsTouched, KeepsSettled, OnlyChanges};
 
     /// The map of a disk of so many blocks, of which no free one is given out.
     pub fn new(parts: Vec<MapPart>, count: u32) -> BlockMap
@@ -113,6 +114,14 @@ impl BlockMap {
         self.parts[j].is_touched()
     }
 
+    /// Block `j` of the map, as the next consistency point makes it.
+    pub fn bytes(&self, j: usize) -> [u8; BLOCK_BYTES]
+        requires { j < length self.now.parts.items }
+        ensures { HoldsPart self.now.parts.items j result }
+    {
+        self.parts[j].bytes()
+    }
+
     /// Makes room for changes of entries in block `j` of the map, which is stored then. No entry changes by it.
     pub fn touch(&mut self, j: usize) -> Result<(), AllocError>
         requires { j < length self.old.parts.items }
@@ -170,5 +179,103 @@ impl BlockMap {
         let part = &mut self.parts[(b / ENTRIES) as usize];
         let entry = part.entry(b % ENTRIES);
         part.set(b % ENTRIES, with_bit(entry, 0, is_in));
+    }
+
+    /// Makes room for changes of all entries. None changes by it.
+    fn touch_all(&mut self) -> Result<(), AllocError>
+        ensures count { self.new.count ≡ self.old.count }
+        ensures next { self.new.next ≡ self.old.next }
+        ensures settled { KeepsSettled self.old.parts.items self.new.parts.items }
+        ensures entries { (b : ℕ)
+            → entry_at self.new.parts.items b ≡ entry_at self.old.parts.items b }
+        ensures touched { OnOk result ((j : ℕ) → j < length self.old.parts.items
+            → IsTouched self.new.parts.items j) }
+    {
+        for j in 0..self.parts.len() {
+            self.touch(j)?;
+        }
+        Ok(())
+    }
+
+    /// Makes set `set` the settled set 0. Where there is no memory no entry changes.
+    pub fn take_plane(&mut self, set: u32) -> Result<(), AllocError>
+        requires { set < 32 }
+        ensures count { self.new.count ≡ self.old.count }
+        ensures next { self.new.next ≡ self.old.next }
+        ensures settled { KeepsSettled self.old.parts.items self.new.parts.items }
+        ensures plane { OnOk result (SetsPlane (ENTRIES * length self.old.parts.items) set
+            (λ b. bit_at (settled_at self.old.parts.items b) 0)
+            (entry_at self.old.parts.items) (entry_at self.new.parts.items)) }
+        ensures refused { OnErr result ((b : ℕ)
+            → entry_at self.new.parts.items b ≡ entry_at self.old.parts.items b) }
+    {
+        self.touch_all()?;
+        for j in 0..self.parts.len() {
+            self.parts[j].take_set(set);
+        }
+        Ok(())
+    }
+
+    /// Makes set `set` empty. Where there is no memory no entry changes.
+    pub fn clear_plane(&mut self, set: u32) -> Result<(), AllocError>
+        requires { set < 32 }
+        ensures count { self.new.count ≡ self.old.count }
+        ensures next { self.new.next ≡ self.old.next }
+        ensures settled { KeepsSettled self.old.parts.items self.new.parts.items }
+        ensures plane { OnOk result (SetsPlane (ENTRIES * length self.old.parts.items) set (λ b. 0)
+            (entry_at self.old.parts.items) (entry_at self.new.parts.items)) }
+        ensures refused { OnErr result ((b : ℕ)
+            → entry_at self.new.parts.items b ≡ entry_at self.old.parts.items b) }
+    {
+        self.touch_all()?;
+        for j in 0..self.parts.len() {
+            self.parts[j].clear_set(set);
+        }
+        Ok(())
+    }
+
+    /// The changes are settled by a root: what it doesn't name is free now, and may be given out.
+    pub fn settle(&mut self)
+        ensures count { self.new.count ≡ self.old.count }
+        ensures next { self.new.next ≡ FIRST_BLOCK }
+        ensures parts { length self.new.parts.items ≡ length self.old.parts.items }
+        ensures settled { (b : ℕ)
+            → settled_at self.new.parts.items b ≡ entry_at self.old.parts.items b }
+        ensures entries { (b : ℕ)
+            → entry_at self.new.parts.items b ≡ entry_at self.old.parts.items b }
+    {
+        for j in 0..self.parts.len() {
+            self.parts[j].settle();
+        }
+        self.next = FIRST_BLOCK;
+    }
+
+    /// The changes are given up, and what was given out is free again.
+    pub fn give_up(&mut self)
+        ensures count { self.new.count ≡ self.old.count }
+        ensures next { self.new.next ≡ FIRST_BLOCK }
+        ensures parts { length self.new.parts.items ≡ length self.old.parts.items }
+        ensures settled { (b : ℕ)
+            → settled_at self.new.parts.items b ≡ settled_at self.old.parts.items b }
+        ensures entries { (b : ℕ)
+            → entry_at self.new.parts.items b ≡ settled_at self.old.parts.items b }
+    {
+        for j in 0..self.parts.len() {
+            self.parts[j].give_up();
+        }
+        self.next = FIRST_BLOCK;
+    }
+
+    /// How many blocks are free under the settled root.
+    pub fn free_count(&self) -> u32
+        ensures { result ≡ free_below self.now.parts.items self.now.count }
+    {
+        let mut free = 0;
+        for b in 0..self.count {
+            if self.is_free(BlockNumber::new(b)) {
+                free += 1;
+            }
+        }
+        free
     }
 }

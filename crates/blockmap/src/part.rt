@@ -27,7 +27,8 @@ impl Model for MapPart {
 
     ghost view = { λ p. part_of p.settled.items (option_map (λ v. v.items) p.changed) };
 
-    ghost invariant = { λ p. IsPart (part_of p.settled.items (option_map (λ v. v.items) p.changed)) };
+    ghost invariant = { λ p. IsPart
+        (part_of p.settled.items (option_map (λ v. v.items) p.changed)) };
 }
 
 impl MapPart {
@@ -103,7 +104,8 @@ impl MapPart {
         requires set { set < 32 }
         requires room { self.old.is_touched ≡ true }
         ensures part { self.new ≡ record self.old { entries = self.new.entries } }
-        ensures entries { SetsPlane BLOCK_POINTERS set (λ i. bit_at (slice_index self.old.settled i) 0)
+        ensures entries { SetsPlane BLOCK_POINTERS set
+            (λ i. bit_at (slice_index self.old.settled i) 0)
             (slice_index self.old.entries) (slice_index self.new.entries) }
     {
         for i in 0..BLOCK_POINTERS as u32 {

@@ -1,5 +1,5 @@
 -- A plan that grows.
-use Rattle.std.proofs.Common.{◌≡◌, ℕ, ◌<◌, ◌≤◌, List, get_or, ap, sym, subst, ◌∙◌, arith}
+use Rattle.std.proofs.Common.{◌≡◌, ℕ, ◌<◌, ◌≤◌, List, get_or, sym, subst, ◌∙◌, arith}
 use Rattle.blockmap.specs.Parts.{Part}
 use Rattle.blockmap.specs.Maps.{IsFree, KeepsSettled}
 use Rattle.conspoint.specs.declared.plan.PlannedBlock.{PlannedBlock}

@@ -1,6 +1,6 @@
 -- One node more is placed.
-use Rattle.std.proofs.Common.{◌≡◌, ◌⊎◌, inl, inr, ℕ, ◌+◌, ◌-◌, ◌*◌, ◌<◌, ◌≤◌, List, [], ◌∷◌, ◌++◌, length, refl, ap, sym, subst, ◌∙◌, arith, length-append, All, take, drop, get_or-take, get_or-drop}
-use Rattle.std.proofs.lemmas.Bool.{cases_eq, cases_lt}
+use Rattle.std.proofs.Common.{◌≡◌, inl, inr, ℕ, ◌+◌, ◌-◌, ◌*◌, ◌<◌, List, [], ◌∷◌, ◌++◌, length, ap, sym, subst, ◌∙◌, arith, length-append, take, drop, get_or-take, get_or-drop}
+use Rattle.std.proofs.lemmas.Bool.{cases_eq}
 use Rattle.std.proofs.lemmas.Grind.{common_steps}
 use Rattle.std.proofs.lemmas.List.Elements.{All-push}
 use Rattle.layout.specs.Pointer.{PointsBelow}
@@ -9,7 +9,7 @@ use Rattle.layout.specs.declared.geometry.TheConstants.{MOST_BLOCKS}
 use Rattle.layout.specs.declared.pointer.Pointer.{Pointer}
 use Rattle.layout.specs.declared.pointer.Pointer.TheVariants.{Hole, Block}
 use Rattle.conspoint.specs.declared.draft.Draft.{Draft}
-use Rattle.conspoint.specs.Drafts.{Grows, WasTaken, OnEach, HasAll}
+use Rattle.conspoint.specs.Drafts.{Grows}
 use Rattle.conspoint.specs.Groups.{pointer_at, group, IsGroup, ComesFrom, ArePlaced}
 use Rattle.conspoint.proofs.DraftLemmas.{taken_later, taken_earlier}
 
@@ -76,15 +76,12 @@ pub part_group : (e : Blocks) (settled over : Pointer) (old new : List Pointer) 
     → IsGroup e settled (group old j) (group new j) over
 part_group e settled over old new j is = same_group e settled over (group old j) _ (group new j) _ (part_read old (1024 * j)) (part_read new (1024 * j)) is
 
--- one group more
-pub groups_more : (e : Blocks) (settled old new over : List Pointer) (p : Pointer) (n : ℕ) → length over ≡ n
-    → ((j : ℕ) → j < n → IsGroup e (pointer_at settled j) (group old j) (group new j) (pointer_at over j)) → IsGroup e (pointer_at settled n) (group old n) (group new n) p
-    → (j : ℕ) → j < n + 1 → IsGroup e (pointer_at settled j) (group old j) (group new j) (pointer_at (over ++ p ∷ []) j)
-groups_more e settled old new over p n count so_far last j lt = elim (cases_eq j n) [
-  | inl is ↦
-      subst (λ (q : Pointer). IsGroup e (pointer_at settled j) (group old j) (group new j) q) (sym (pushed_last over p j (is ∙ sym count)))
-      (subst (λ (m : ℕ). IsGroup e (pointer_at settled m) (group old m) (group new m) p) (sym is) last)
+-- what holds of each node holds of each and one more
+pub each_more : (P : ℕ → Pointer → Type 0) (nodes : List Pointer) (p : Pointer) (n : ℕ) → length nodes ≡ n → ((j : ℕ) → j < n → P j (pointer_at nodes j)) → P n p
+    → (j : ℕ) → j < n + 1 → P j (pointer_at (nodes ++ p ∷ []) j)
+each_more P nodes p n count so_far last j lt = elim (cases_eq j n) [
+  | inl is ↦ subst (P j) (sym (pushed_last nodes p j (is ∙ sym count))) (subst (λ (m : ℕ). P m p) (sym is) last)
   | inr other ↦
       let low : j < n = omega (arith, lt) in
-      subst (λ (q : Pointer). IsGroup e (pointer_at settled j) (group old j) (group new j) q) (sym (pushed_old over p j (omega (arith, low, count)))) (so_far j low)
+      subst (P j) (sym (pushed_old nodes p j (omega (arith, low, count)))) (so_far j low)
 ]

@@ -5,3 +5,4 @@ mod DraftLemmas
 mod GroupLemmas
 mod ClosureLemmas
 mod MarkLemmas
+mod BlockLemmas

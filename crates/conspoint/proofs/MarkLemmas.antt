@@ -1,12 +1,12 @@
 -- One block more is marked.
-use Rattle.std.proofs.Common.{◌≡◌, ◌≢◌, inl, inr, ℕ, ◌+◌, ◌<◌, Bool, List, ap, sym, subst, ◌∙◌, arith}
+use Rattle.std.proofs.Common.{◌≡◌, ◌≢◌, inl, inr, ℕ, ◌+◌, Bool, List, ap, sym, ◌∙◌, arith}
 use Rattle.std.specs.Prelude.{slice_index, if◌then◌else◌}
 use Rattle.std.specs.Int.{bit_at}
 use Rattle.std.proofs.lemmas.Bool.{cases_eq}
 use Rattle.blockmap.specs.Bits.{SetsBit}
 use Rattle.blockmap.specs.Parts.{Part}
 use Rattle.blockmap.specs.Maps.{entry_at, OnlyChanges}
-use Rattle.conspoint.specs.Marks.{IsAmong, AreMarked}
+use Rattle.conspoint.specs.Marks.{AreMarked}
 
 module _ (blocks : List ℕ) (n x : ℕ) (is_in : Bool) (old mid new : List Part) (at : x ≡ slice_index blocks n) (so_far : AreMarked blocks n is_in old mid)
     (bit : SetsBit 0 is_in (entry_at mid x) (entry_at new x)) (stay : OnlyChanges x mid new) where

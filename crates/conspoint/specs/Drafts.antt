@@ -1,9 +1,7 @@
 -- A plan that is being made: what is said of it holds on every disk that has the blocks planned so far. Such facts last, as
 -- the plan only grows.
-use Rattle.std.specs.Prelude.{ℕ, ◌≡◌, ◌≢◌, ◌<◌, ◌≤◌, List, length, All}
+use Rattle.std.specs.Prelude.{ℕ, ◌≡◌, ◌≢◌, ◌<◌, ◌≤◌, List, All}
 use Rattle.layout.specs.Places.{Blocks}
-use Rattle.layout.specs.declared.TheConstants.{BLOCK_BYTES}
-use Rattle.blockmap.specs.declared.map.BlockMap.{BlockMap}
 use Rattle.blockmap.specs.Maps.{IsFree, KeepsSettled}
 use Rattle.conspoint.specs.declared.plan.PlannedBlock.{PlannedBlock}
 use Rattle.conspoint.specs.declared.draft.Draft.{Draft}

@@ -13,7 +13,8 @@ use layout::{BlockNumber, Pointer};
 
 /// A block of the map that is to be stored and has no new place.
 fn next_touched(draft: &Draft, places: &[Pointer]) -> Option<usize>
-    ensures found { IfSome result (λ k. (k < length places.now) × (pointer_at places.now k ≡ Hole)) }
+    ensures found { IfSome result (λ k. (k < length places.now)
+        × (pointer_at places.now k ≡ Hole)) }
     ensures none { IfNone result (PartsMoved draft.now places.now) }
 {
     for k in 0..draft.map_blocks().min(places.len()) {
@@ -35,7 +36,8 @@ fn lacks_over(places: &[Pointer], k: usize, over: usize) -> bool
 
 /// An indirect block over blocks of the map of which one has a new place, and that has none.
 fn next_over(draft: &Draft, places: &[Pointer]) -> Option<usize>
-    ensures found { IfSome result (λ k. (k < length places.now) × (pointer_at places.now k ≡ Hole)) }
+    ensures found { IfSome result (λ k. (k < length places.now)
+        × (pointer_at places.now k ≡ Hole)) }
     ensures none { IfNone result (OverMoved draft.now places.now) }
 {
     let first = draft.map_blocks();
@@ -50,7 +52,8 @@ fn next_over(draft: &Draft, places: &[Pointer]) -> Option<usize>
 
 /// A node of the map that is to be stored and has no new place.
 fn next_node(draft: &Draft, places: &[Pointer]) -> Option<usize>
-    ensures found { IfSome result (λ k. (k < length places.now) × (pointer_at places.now k ≡ Hole)) }
+    ensures found { IfSome result (λ k. (k < length places.now)
+        × (pointer_at places.now k ≡ Hole)) }
     ensures parts { IfNone result (PartsMoved draft.now places.now) }
     ensures over { IfNone result (OverMoved draft.now places.now) }
 {

@@ -1,15 +1,15 @@
 //! A plan that is being made.
 
-ghost use Rattle.std.specs.Prelude.{◌≡◌, ◌≢◌, ◌<◌, ℕ, IfOk, OnOk, IsErrOf, IsTrue, ◌↔◌, length};
-ghost use Rattle.blockmap.specs.Maps.{IsFree, IsTouched, entry_at, OnlyChanges};
+ghost use Rattle.std.specs.Prelude.{◌≡◌, ◌≢◌, ◌<◌, ◌≤◌, ◌*◌, ℕ, All, IfOk, OnOk, IsErrOf, IsTrue, ◌↔◌, length};
+ghost use Rattle.blockmap.specs.Maps.{IsFree, IsTouched, HoldsPart, entry_at, settled_at, OnlyChanges};
 ghost use Rattle.blockmap.specs.Bits.{SetsBit};
-ghost use Rattle.conspoint.specs.Plans.{AreDrafted};
+ghost use Rattle.conspoint.specs.Plans.{AreDrafted, FitsDisk, IsSlot};
 
 use crate::error::PlanError;
-use crate::plan::PlannedBlock;
+use crate::plan::{Plan, PlannedBlock};
 use blockmap::BlockMap;
 use buffers::Block;
-use layout::BlockNumber;
+use layout::{BLOCK_BYTES, BlockNumber, ROOT_BYTES};
 use std::alloc::Global;
 
 /// The blocks planned so far, and the map that gives out their places.
@@ -117,10 +117,53 @@ impl Draft {
         self.map.is_touched(k)
     }
 
+    /// Block `k` of the map, as the point makes it.
+    pub fn map_bytes(&self, k: usize) -> [u8; BLOCK_BYTES]
+        requires { k < length self.now.map.parts.items }
+        ensures { HoldsPart self.now.map.parts.items k result }
+    {
+        self.map.bytes(k)
+    }
+
     /// How many blocks the map has.
     pub fn map_blocks(&self) -> usize
         ensures { result ≡ length self.now.map.parts.items }
     {
         self.map.part_count()
+    }
+
+    /// The map with no change and nothing given out, where no plan comes of it.
+    pub fn abandon(self) -> BlockMap
+        ensures count { result.count ≡ self.map.count }
+        ensures settled { (b : ℕ)
+            → settled_at result.parts.items b ≡ settled_at self.map.parts.items b }
+        ensures entries { (b : ℕ)
+            → entry_at result.parts.items b ≡ settled_at self.map.parts.items b }
+    {
+        let Draft {
+            map,
+            blocks: _blocks,
+        } = self;
+        let mut map = map;
+        map.give_up();
+        map
+    }
+
+    /// The plan of these blocks, with this root for the slot at this sector; and the map.
+    pub fn into_plan(self, slot: u32, root: [u8; ROOT_BYTES]) -> (BlockMap, Plan)
+        requires { IsSlot slot }
+        ensures map { result.0 ≡ self.map }
+        ensures plan { result.1 ≡ record {
+          blocks = self.blocks.items;
+          written = 0;
+          slot = slot;
+          root = root;
+        } }
+        ensures fits { (sectors : ℕ) → 16 ≤ sectors → 8 * self.map.count ≤ sectors
+            → FitsDisk sectors result.1 }
+        ensures free { All (λ b. IsFree self.map.parts.items b.place) self.blocks.items }
+    {
+        let Draft { map, blocks } = self;
+        (map, Plan::new(blocks, slot, root))
     }
 }

@@ -9,7 +9,8 @@ ghost use Rattle.conspoint.specs.declared.plan.PlannedBlock.{PlannedBlock};
 /// Before the root is written every block that isn't planned reads as it did. After it all the planned ones are there, and
 /// every other block behind those of the slots reads as it did.
 pub fn cuts_leave_blocks()
-    ensures before { (sectors : ℕ) (blocks : List PlannedBlock) (old new : Images) (d e : ℕ → List ℕ) (b : ℕ)
+    ensures before { (sectors : ℕ) (blocks : List PlannedBlock) (old new : Images)
+        (d e : ℕ → List ℕ) (b : ℕ)
         → ReadsAs sectors old d → ReadsAs sectors new e → StaysOutside blocks old new
         → 8 * b + 8 ≤ sectors → All (λ x. x.place ≢ b) blocks → e b ≡ d b }
     ensures after { (sectors : ℕ) (p : Planned) (old new : Images) (d e : ℕ → List ℕ) (b : ℕ)

@@ -4,18 +4,22 @@
 //! Winter 1994.
 #![tactic(auto)]
 
+mod blocks;
 mod closure;
 mod draft;
 mod error;
 mod group;
 mod laws;
+mod map_file;
 mod marks;
 mod plan;
 
+pub use blocks::place_blocks;
 pub use closure::reserve_map;
 pub use draft::Draft;
 pub use error::PlanError;
 pub use group::{place_group, place_over};
 pub use laws::cuts_leave_blocks;
+pub use map_file::store_map;
 pub use marks::mark_all;
 pub use plan::{Plan, PlannedBlock};

@@ -73,7 +73,8 @@ impl Plan {
         ensures plan { self.new ≡ record self.old { written = self.new.written } }
         ensures next { OnOk result (self.new.written
             ≡ min (length self.old.blocks) (self.old.written + count)) }
-        ensures writes { OnlyWrites IsAnyFault (S.meaning station.old) (S.meaning station.new) result }
+        ensures writes { OnlyWrites IsAnyFault
+            (S.meaning station.old) (S.meaning station.new) result }
         ensures goes { Goes (StaysOutside self.old.blocks)
             (S.meaning station.old) (S.meaning station.new) }
         ensures written { Shows (S.meaning station.old) (HoldsWritten self.old)
@@ -92,7 +93,8 @@ impl Plan {
         requires more { self.old.written < length self.old.blocks }
         ensures plan { self.new ≡ record self.old { written = self.new.written } }
         ensures next { OnOk result (self.new.written ≡ self.old.written + 1) }
-        ensures writes { OnlyWrites IsAnyFault (S.meaning station.old) (S.meaning station.new) result }
+        ensures writes { OnlyWrites IsAnyFault
+            (S.meaning station.old) (S.meaning station.new) result }
         ensures goes { Goes (StaysOutside self.old.blocks)
             (S.meaning station.old) (S.meaning station.new) }
         ensures written { Shows (S.meaning station.old) (HoldsWritten self.old)
@@ -108,7 +110,8 @@ impl Plan {
     pub fn finish<S: Station>(&self, station: &mut S) -> Result<(), DeviceFault>
         requires fits { FitsDisk (S.meaning station.old).sectors self.now }
         requires all { self.now.written ≡ length self.now.blocks }
-        ensures writes { OnlyWrites IsAnyFault (S.meaning station.old) (S.meaning station.new) result }
+        ensures writes { OnlyWrites IsAnyFault
+            (S.meaning station.old) (S.meaning station.new) result }
         // A cut at any moment leaves what one might have left before, or all the blocks with the new root.
         ensures any_moment { Shows (S.meaning station.old) (HoldsWritten self.now)
             → LeavesOnly (S.meaning station.old) (S.meaning station.new)

@@ -15,7 +15,7 @@ use Rattle.images.proofs.PointLaws.{free_is_free, no_bit}
 use Rattle.images.proofs.StateLaws.{newest_is_root}
 
 -- a block whose eight sectors are the same
-same_block : (d e : ℕ → List ℕ) (b : ℕ) → ((i : ℕ) → i < 8 → e (8 * b + i) ≡ d (8 * b + i)) → blocks_of e b ≡ blocks_of d b
+pub same_block : (d e : ℕ → List ℕ) (b : ℕ) → ((i : ℕ) → i < 8 → e (8 * b + i) ≡ d (8 * b + i)) → blocks_of e b ≡ blocks_of d b
 unfolding blocks_of
 same_block d e b same =
     let first : e (8 * b) ≡ d (8 * b) = subst (λ n. e n ≡ d n) (omega arith) (same 0 (omega arith)) in

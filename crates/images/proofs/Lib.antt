@@ -18,3 +18,5 @@ mod MadeVolume
 mod MadeState
 mod SettlingLaws
 mod ReadingLaws
+mod CutLaws
+mod IdleLaws

@@ -1,5 +1,8 @@
 -- A changed file that is laid out reads as it is in memory.
-use Rattle.std.proofs.Common.{◌≡◌, ◌⊎◌, inl, inr, ℕ, zero, suc, Bool, true, ◌-◌, ◌/◌, ◌%◌, ◌<◌, ◌≤◌, List, refl, ap, sym, subst, ◌∙◌, arith}
+use Rattle.layout.specs.declared.inode.Body.TheVariants.{Inline}
+use Rattle.images.specs.Overlays.{IsInline}
+use Rattle.images.specs.Nodes.{Held}
+use Rattle.std.proofs.Common.{[], ◌≡◌, ◌⊎◌, inl, inr, ℕ, zero, suc, Bool, true, ◌-◌, ◌/◌, ◌%◌, ◌<◌, ◌≤◌, List, refl, ap, sym, subst, ◌∙◌, arith}
 use Rattle.std.proofs.lemmas.Bool.{cases_lt, cond_below, cond_above}
 use Rattle.std.specs.Prelude.{slice_index_or}
 use Rattle.layout.specs.Places.{Blocks, pointed, follow, place}
@@ -111,3 +114,25 @@ module _ (d e : Blocks) (old : Inode) (c : Overlay) (f : Inode) (taken : ℕ →
 
   pub once_stands : IsOnce (held d old) → IsOnce (held e f)
   once_stands once = laid_once e old c f taken table on_e (subst IsOnce (sym old_is) once)
+
+-- ---- a file whose inode has the bytes itself
+
+inline_any : (bytes x y : List ℕ) (i : ℕ) → body_block (Inline bytes) x i ≡ body_block (Inline bytes) y i
+inline_any bytes x y zero = refl
+inline_any bytes x y (suc i) = refl
+
+pub inline_content : (e : Blocks) (h : Held) (c : Overlay) (f : Inode) → IsInline h c f → content_of (held e f) ≡ overlaid_content h c
+unfolding held
+inline_content e h c f is =
+    let block_is : (i : ℕ) → file_block (held e f) i ≡ overlaid_block h c i = λ i.
+    ap (λ body. body_block body (pointed e (place_at_height e f 0 i)) i) is.body ∙ inline_any is.bytes (pointed e (place_at_height e f 0 i)) [] i ∙ is.blocks i in
+    λ j. record { kind = is.says.kind j; mode = is.says.mode j; links = is.says.links j; size = is.says.size j; block = λ i. block_is i j }
+
+no_node : (b : ℕ) → Hole ≡ Block b → ⊥
+no_node b e = absurd (cc)
+
+pub inline_names : (e : Blocks) (h : Held) (c : Overlay) (f : Inode) (b : ℕ) → IsInline h c f → Names (held e f) b → ⊥
+unfolding held
+inline_names e h c f b is names =
+    let level = is.level in
+    no_node b (cond_above names.height (level_of f.size) (place e (pointers_of f.body) (level_of f.size - suc names.height) names.index) Hole Hole (omega arith) refl ∙ names.is)

@@ -90,7 +90,7 @@ pub active_base : (d : Blocks) (r : Root) → IsExact r (whole d r) → NamesOnc
 unfolding whole tree held
 active_base d r exact once = record { exact = exact.active; once = once; needed = λ b names. active names; read = λ n. refl }
 
-frozen_read : (d : Blocks) (inodes : ℕ) (p : Pointer) (n : ℕ) → frozen_at d inodes p n ≡ held d (frozen_at d inodes p n).inode
+pub frozen_read : (d : Blocks) (inodes : ℕ) (p : Pointer) (n : ℕ) → frozen_at d inodes p n ≡ held d (frozen_at d inodes p n).inode
 unfolding tree held
 frozen_read d inodes Hole n = refl
 frozen_read d inodes (Block b) n = refl

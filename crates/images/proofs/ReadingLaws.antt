@@ -1,5 +1,6 @@
 -- What is read block by block is what the tree has.
-use Rattle.std.proofs.Common.{◌≡◌, inl, inr, ℕ, zero, suc, ◌+◌, ◌-◌, ◌/◌, ◌%◌, ◌<◌, ◌≤◌, true, false, leb, List, length, drop, get_or, refl, ap, sym, subst, ◌∙◌, arith}
+use Rattle.std.proofs.lemmas.List.{replicate-append-replicate, take-append-drop}
+use Rattle.std.proofs.Common.{◌++◌, take, replicate, append_assoc, ◌≡◌, inl, inr, ℕ, zero, suc, ◌+◌, ◌-◌, ◌/◌, ◌%◌, ◌<◌, ◌≤◌, true, false, leb, List, length, drop, get_or, refl, ap, sym, subst, ◌∙◌, arith}
 use Rattle.std.specs.Prelude.{nat_lt, if◌then◌else◌, Some, All}
 use Rattle.std.specs.Int.{div_ceil}
 use Rattle.std.proofs.lemmas.Bool.{cases_lt, cond_below, cond_above, lt-leb, le-leb}
@@ -12,7 +13,7 @@ use Rattle.layout.specs.Places.{Blocks, place, pointed, follow}
 use Rattle.layout.specs.SnapRoot.{IsSnapshot, Snapshot, snapshot_bytes, snapshot_in}
 use Rattle.layout.specs.Version.{level_of}
 use Rattle.layout.specs.declared.inode.Body.{Body}
-use Rattle.layout.specs.declared.inode.Body.TheVariants.{Pointers}
+use Rattle.layout.specs.declared.inode.Body.TheVariants.{Inline, Pointers}
 use Rattle.layout.specs.declared.inode.Inode.{Inode}
 use Rattle.layout.specs.declared.pointer.Pointer.{Pointer}
 use Rattle.layout.specs.declared.pointer.Pointer.TheVariants.{Hole, Block}
@@ -55,7 +56,7 @@ hole_past pointers used i holes past =
     ]
 
 -- the pointers of the inode, highest of all
-highest : (d : Blocks) (f : Inode) (level i : ℕ) → level_of f.size ≡ suc level → (held d f).place level i ≡ get_or (pointers_of f.body) i Hole
+pub highest : (d : Blocks) (f : Inode) (level i : ℕ) → level_of f.size ≡ suc level → (held d f).place level i ≡ get_or (pointers_of f.body) i Hole
 unfolding held place
 highest d f level i is =
     ap (λ k. if nat_lt level k then place d (pointers_of f.body) (k - suc level) i else Hole) is
@@ -122,3 +123,24 @@ module _ (s : Sizes) (d : Blocks) (f : Inode) (pointers : List Pointer) (sound :
         | inl lt ↦ ap (pointed d) (before i) ∙ cond_below i (div_ceil f.size 4096) (pointed d (place d pointers (level_of f.size - 1) i)) (zeros 4096) lt
         | inr ge ↦ ap (pointed d) (hole_behind i ge) ∙ cond_above i (div_ceil f.size 4096) (pointed d (place d pointers (level_of f.size - 1) i)) (zeros 4096) (zeros 4096) ge refl
       ]
+
+-- ---- inline bytes
+
+zeros-append : (m n k : ℕ) → m + n ≡ k → zeros m ++ zeros n ≡ zeros k
+unfolding zeros
+zeros-append m n k is = replicate-append-replicate m n 0 ∙ ap (λ x. replicate x 0) is
+
+pub inline_first : (s : Sizes) (d : Blocks) (f : Inode) (bytes : List ℕ) → IsInode VERSION s f → f.body ≡ Inline bytes
+    → file_block (held d f) 0 ≡ take f.size bytes ++ zeros (4096 - f.size)
+unfolding held
+inline_first s d f bytes is body =
+    let fits = subst (λ (b : Body). FitsBody b s.blocks f.size) body is.body in
+    ap (λ b. body_block b (pointed d (place_at_height d f 0 0)) 0) body
+    ∙ ap (λ xs. xs ++ zeros 3968) (sym (take-append-drop f.size bytes) ∙ ap (λ xs. take f.size bytes ++ xs) fits.2)
+    ∙ append_assoc (take f.size bytes) (zeros (128 - f.size)) (zeros 3968)
+    ∙ ap (λ xs. take f.size bytes ++ xs) (zeros-append (128 - f.size) 3968 (4096 - f.size) (omega (arith, fits.0)))
+
+pub inline_others : (d : Blocks) (f : Inode) (bytes : List ℕ) (i : ℕ) → f.body ≡ Inline bytes → 1 ≤ i → file_block (held d f) i ≡ zeros 4096
+unfolding held
+inline_others d f bytes zero body some = absurd (omega arith)
+inline_others d f bytes (suc i) body some = ap (λ b. body_block b (pointed d (place_at_height d f 0 (suc i))) (suc i)) body

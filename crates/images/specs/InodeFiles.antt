@@ -1,6 +1,6 @@
 -- The changed inode file.
-use Rattle.std.specs.Prelude.{ℕ, ◌+◌, ◌*◌, ◌/◌, ◌%◌, List, ◌++◌, length, take, drop, Some, ◌==◌, if◌then◌else◌}
-use Rattle.layout.specs.declared.TheConstants.{INODE_BYTES, INODES_PER_BLOCK}
+use Rattle.std.specs.Prelude.{ℕ, ◌≡◌, ◌+◌, ◌*◌, ◌/◌, ◌%◌, List, ◌++◌, length, take, drop, Some, ◌==◌, if◌then◌else◌}
+use Rattle.layout.specs.declared.TheConstants.{BLOCK_BYTES, INODE_BYTES, INODES_PER_BLOCK}
 use Rattle.images.specs.Nodes.{Held}
 use Rattle.images.specs.Overlays.{Overlay, overlaid_block}
 
@@ -16,3 +16,8 @@ with_inode h c n bytes = record c {
       then Some (put_at (INODE_BYTES * (n % INODES_PER_BLOCK)) bytes (overlaid_block h c i))
       else c.block i;
 }
+
+-- the bytes are of an inode's length, and the block that has the place of inode n is a whole one
+pub record FitsPlace (h : Held) (c : Overlay) (n : ℕ) (bytes : List ℕ) : Type 0 where
+  pub block : length (overlaid_block h c (n / INODES_PER_BLOCK)) ≡ BLOCK_BYTES
+  pub inode : length bytes ≡ INODE_BYTES

@@ -8,3 +8,4 @@ pub mod States
 pub mod Overlays
 pub mod InodeFiles
 pub mod Points
+pub mod Cuts

@@ -10,7 +10,7 @@ use Rattle.layout.specs.declared.inode.Inode.{Inode}
 use Rattle.layout.specs.declared.kind.Kind.{Kind}
 use Rattle.layout.specs.declared.pointer.Pointer.{Pointer}
 use Rattle.layout.specs.declared.pointer.Pointer.TheVariants.{Hole, Block}
-use Rattle.images.specs.Nodes.{Held, file_block, body_block}
+use Rattle.images.specs.Nodes.{Held, held, Names, Agrees, file_block, body_block}
 use Rattle.images.specs.Contents.{Content}
 
 -- What memory has of a changed file: what its inode says, and the blocks that differ from the settled file's. Of the
@@ -29,11 +29,18 @@ or_else None other = other
 
 -- block i of the changed file, over the settled one
 abbrev pub overlaid_block : Held → Overlay → ℕ → List ℕ
-overlaid_block h c i = or_else (c.block i) (if nat_lt i c.kept then file_block h i else zeros BLOCK_BYTES)
+overlaid_block h c i =
+    or_else (c.block i) (if nat_lt i c.kept then file_block h i else zeros BLOCK_BYTES)
 
 abbrev pub overlaid_content : Held → Overlay → Content
 overlaid_content h c =
-    record { kind = c.kind; mode = c.mode; links = c.links; size = c.size; block = overlaid_block h c }
+    record {
+      kind = c.kind;
+      mode = c.mode;
+      links = c.links;
+      size = c.size;
+      block = overlaid_block h c;
+    }
 
 -- A table has the place of each node of the changed file, by height and index. Of 1,024 nodes and the indirect block over
 -- them, on a disk e: all as the settled file has them, or spelled by a block, or holes.
@@ -41,8 +48,10 @@ pub data Group (e : Blocks) (h : Held) (table : ℕ → ℕ → Pointer) (m j : 
   keeps : (level : suc m < level_of h.inode.size) → (over : table (suc m) j ≡ h.place (suc m) j)
       → (under : (i : ℕ) → i / 1024 ≡ j → table m i ≡ h.place m i) → Group e h table m j
   spells : (block : ℕ) → (over : table (suc m) j ≡ Block block)
-      → (under : (i : ℕ) → i / 1024 ≡ j → indirect_pointer (e block) (i % 1024) ≡ table m i) → Group e h table m j
-  none : (over : table (suc m) j ≡ Hole) → (under : (i : ℕ) → i / 1024 ≡ j → table m i ≡ Hole) → Group e h table m j
+      → (under : (i : ℕ) → i / 1024 ≡ j → indirect_pointer (e block) (i % 1024) ≡ table m i)
+      → Group e h table m j
+  none : (over : table (suc m) j ≡ Hole) → (under : (i : ℕ) → i / 1024 ≡ j → table m i ≡ Hole)
+      → Group e h table m j
 
 -- the inode says what the changed file says of itself
 pub record Says (f : Inode) (c : Overlay) : Type 0 where
@@ -71,4 +80,11 @@ pub record IsLaid (e : Blocks) (h : Held) (c : Overlay) (f : Inode) (taken : ℕ
   pub lowest : (i : ℕ) → pointed e (table 0 i) ≡ overlaid_block h c i
   pub groups : (m j : ℕ) → m < top → Group e h table m j
   pub from : (m i b : ℕ) → m ≤ top → table m i ≡ Block b → (h.place m i ≡ Block b) ⊎ (taken b ≡ true)
-  pub once : (m i k j b : ℕ) → m ≤ top → k ≤ top → table m i ≡ Block b → table k j ≡ Block b → taken b ≡ true → (m ≡ k) × (i ≡ j)
+  pub once : (m i k j b : ℕ) → m ≤ top → k ≤ top → table m i ≡ Block b → table k j ≡ Block b
+      → taken b ≡ true → (m ≡ k) × (i ≡ j)
+
+-- a disk e has the settled file's blocks as d has them, and holds the changed file in some table of places
+pub record LaysOut (d e : Blocks) (old : Inode) (c : Overlay) (f : Inode) (taken : ℕ → Bool) : Type 0 where
+  pub same : Agrees (Names (held d old)) d e
+  pub table : ℕ → ℕ → Pointer
+  pub laid : IsLaid e (held d old) c f taken table

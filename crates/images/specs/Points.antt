@@ -22,11 +22,13 @@ Marks changed old plane new before after =
 
 -- what becomes of the snapshot in slot k, and of plane k: it stays, is taken of the old root, or is deleted
 pub data Slot (e : Blocks) (r new : Root) (before after : ℕ → ℕ) (k : ℕ) : Type 0 where
-  stays : (same : slot new k ≡ slot r k) → (plane : (b : ℕ) → HasBit k (after b) ↔ HasBit k (before b)) → Slot e r new before after k
+  stays : (same : slot new k ≡ slot r k)
+      → (plane : (b : ℕ) → HasBit k (after b) ↔ HasBit k (before b)) → Slot e r new before after k
   takes : (block : ℕ) → (there : slot new k ≡ Block block) → (free : before block ≡ 0)
       → (root_is : frozen_inode_file (e block) ≡ r.inode_file)
       → (plane : (b : ℕ) → HasBit k (after b) ↔ HasBit 0 (before b)) → Slot e r new before after k
-  drops : (none : slot new k ≡ Hole) → (plane : (b : ℕ) → HasBit k (after b) → ⊥) → Slot e r new before after k
+  drops : (none : slot new k ≡ Hole) → (plane : (b : ℕ) → HasBit k (after b) → ⊥)
+      → Slot e r new before after k
 
 -- The tree that a point starts from, and its plane of the old map: the active one with plane 0, or (to restore a snapshot) a
 -- frozen one with its own.
@@ -47,7 +49,8 @@ pub record IsPlannedOn (w : Whole) (t : HeldTree) (plane : ℕ) (r : Root) (e : 
   pub geometry : new.geometry ≡ r.geometry
   -- a file
   pub content : (n : ℕ) → 3 ≤ n → changed n ≡ true → content_of (held e (inode n)) ≡ files n
-  pub comes : (n b : ℕ) → changed n ≡ true → Names (held e (inode n)) b → Names (t n) b ⊎ (taken n b ≡ true)
+  pub comes : (n b : ℕ) → changed n ≡ true → Names (held e (inode n)) b
+      → Names (t n) b ⊎ (taken n b ≡ true)
   pub each : (n : ℕ) → changed n ≡ true → IsOnce (held e (inode n))
   pub stays : (n : ℕ) → changed n ≡ false → inode n ≡ (t n).inode
   pub same : (n : ℕ) → 3 ≤ n → changed n ≡ false → files n ≡ contents t n
@@ -56,12 +59,14 @@ pub record IsPlannedOn (w : Whole) (t : HeldTree) (plane : ℕ) (r : Root) (e : 
   pub once : (n m b : ℕ) → taken n b ≡ true → taken m b ≡ true → n ≡ m
   -- the map
   pub marks : Marks changed t plane (λ n. held e (inode n)) (entry w.active) (entry (λ n. held e (inode n)))
-  pub slots : (k : ℕ) → 1 ≤ k → k ≢ 31 → Slot e r new (entry w.active) (entry (λ n. held e (inode n))) k
+  pub slots : (k : ℕ) → 1 ≤ k → k ≢ 31
+      → Slot e r new (entry w.active) (entry (λ n. held e (inode n))) k
   pub system : (b : ℕ) → HasBit 31 (entry (λ n. held e (inode n)) b) ↔ IsSystem new b
 
 -- the frozen tree in slot k after the point
 pub data Frozen (r new : Root) (w now : Whole) (k : ℕ) : Type 0 where
-  stays : (same : slot new k ≡ slot r k) → (tree_is : now.frozen k ≡ w.frozen k) → (head_is : now.head k ≡ w.head k) → Frozen r new w now k
+  stays : (same : slot new k ≡ slot r k) → (tree_is : now.frozen k ≡ w.frozen k)
+      → (head_is : now.head k ≡ w.head k) → Frozen r new w now k
   takes : (tree_is : now.frozen k ≡ w.active) → Frozen r new w now k
   drops : (none : slot new k ≡ Hole) → Frozen r new w now k
 

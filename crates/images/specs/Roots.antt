@@ -14,7 +14,8 @@ use Rattle.layout.specs.declared.root.Root.{Root}
 use Rattle.images.specs.Nodes.{Held, held, Names, file_block}
 
 abbrev pub free_inode : Inode
-free_inode = record { kind = kinds.Free; mode = 0; links = 0; size = 0; body = Inline (zeros INLINE_BYTES) }
+free_inode =
+    record { kind = kinds.Free; mode = 0; links = 0; size = 0; body = Inline (zeros INLINE_BYTES) }
 
 abbrev pub or_free : Option Inode → Inode
 or_free (Some inode) = inode
@@ -39,7 +40,8 @@ HeldTree = ℕ → Held
 -- inode n of so many, where this is the inode file
 unfoldable pub inode_of : Held → ℕ → ℕ → Inode
 inode_of h inodes zero = h.inode
-inode_of h inodes (suc n) = if nat_lt (suc n) inodes then inode_from (inode_bytes_at (file_block h) (suc n)) else free_inode
+inode_of h inodes (suc n) =
+    if nat_lt (suc n) inodes then inode_from (inode_bytes_at (file_block h) (suc n)) else free_inode
 
 -- the tree of so many inodes under the inode of the inode file
 unfoldable pub tree : Blocks → ℕ → Inode → HeldTree

@@ -24,9 +24,12 @@ pub record FitsRoot (r : Root) (bytes : List ℕ) (s : Snapshot) : Type 0 where
 
 -- each slot that isn't free has a snapshot, no two of one name or of one order number
 pub record AreSnapshots (r : Root) (w : Whole) : Type 0 where
-  pub each : (k block : ℕ) → slot r k ≡ Block block → (s : Snapshot) × HasSnapshot r w k s × FitsRoot r (w.head k) s
-  pub names : (k l : ℕ) (s q : Snapshot) → HasSnapshot r w k s → HasSnapshot r w l q → s.name ≡ q.name → k ≡ l
-  pub orders : (k l : ℕ) (s q : Snapshot) → HasSnapshot r w k s → HasSnapshot r w l q → s.order ≡ q.order → k ≡ l
+  pub each : (k block : ℕ) → slot r k ≡ Block block
+      → (s : Snapshot) × HasSnapshot r w k s × FitsRoot r (w.head k) s
+  pub names : (k l : ℕ) (s q : Snapshot) → HasSnapshot r w k s → HasSnapshot r w l q
+      → s.name ≡ q.name → k ≡ l
+  pub orders : (k l : ℕ) (s q : Snapshot) → HasSnapshot r w k s → HasSnapshot r w l q
+      → s.order ≡ q.order → k ≡ l
 
 -- The snapshot in slot k has the least order number above this one.
 pub record IsNext (r : Root) (w : Whole) (above k : ℕ) (s : Snapshot) : Type 0 where
@@ -37,7 +40,8 @@ pub record IsNext (r : Root) (w : Whole) (above k : ℕ) (s : Snapshot) : Type 0
 -- the tree of a snapshot: that of its volume, without the files that had no name
 abbrev pub IsFrozenTree : ℕ → HeldTree → Tree → Type 0
 IsFrozenTree inodes t tree =
-    (v : Volume) × HoldsVolume inodes (contents t) v × IsVolume inodes v × (tree ≡ tree_of (without_nameless v) (λ d. None))
+    (v : Volume) × HoldsVolume inodes (contents t) v × IsVolume inodes v
+    × (tree ≡ tree_of (without_nameless v) (λ d. None))
 
 -- the names and trees of the snapshots with order numbers above this one, oldest first
 abbrev pub AreKeptAbove : Root → Whole → ℕ → List (Name × Tree) → Type 0

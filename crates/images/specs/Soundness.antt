@@ -57,12 +57,14 @@ pub record SpellsInodes (inodes : ℕ) (block : ℕ → List ℕ) (t : HeldTree)
   pub each : (n : ℕ) → 1 ≤ n → n < inodes → inode_bytes_at block n ≡ inode_bytes (t n).inode
   pub first : inode_bytes_at block 0 ≡ zeros INODE_BYTES
   pub past : (n : ℕ) → inodes ≤ n → inode_bytes_at block n ≡ zeros INODE_BYTES
-  pub behind : (i : ℕ) → drop (INODE_BYTES * INODES_PER_BLOCK) (block i) ≡ zeros (BLOCK_BYTES - INODE_BYTES * INODES_PER_BLOCK)
+  pub behind : (i : ℕ) → drop (INODE_BYTES * INODES_PER_BLOCK) (block i)
+      ≡ zeros (BLOCK_BYTES - INODE_BYTES * INODES_PER_BLOCK)
 
 -- the inode map's file says which numbers are in use: the first four, and those of the inodes that aren't free
 abbrev pub MapsNumbers : HeldTree → Type 0
 MapsNumbers t =
-    (n : ℕ) → IsTaken (bytes_of (content_of (t 1))) n ↔ ((n < FIRST_NUMBER) ⊎ ((t n).inode.kind ≢ kinds.Free))
+    (n : ℕ) → IsTaken (bytes_of (content_of (t 1))) n
+    ↔ ((n < FIRST_NUMBER) ⊎ ((t n).inode.kind ≢ kinds.Free))
 
 -- a tree in its grammar, in an image of these sizes
 pub record IsSoundTree (s : Sizes) (t : HeldTree) : Type 0 where

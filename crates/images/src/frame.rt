@@ -11,5 +11,6 @@ ghost use Rattle.images.specs.Roots.{tree, Reach, whole, Needs};
 pub fn disks_that_agree_hold_the_same()
     ensures tree { (d e : Blocks) (inodes : ℕ) (top : Inode)
         → Agrees (Reach (tree d inodes top)) d e → tree e inodes top ≡ tree d inodes top }
-    ensures whole { (d e : Blocks) (r : Root) → Agrees (Needs r (whole d r)) d e → whole e r ≡ whole d r }
+    ensures whole { (d e : Blocks) (r : Root)
+        → Agrees (Needs r (whole d r)) d e → whole e r ≡ whole d r }
 {}

@@ -2,6 +2,7 @@
 //! no code, only definitions and laws of them.
 #![tactic(auto)]
 
+mod cut;
 mod frame;
 mod inode_file;
 mod made;
@@ -10,16 +11,20 @@ mod reading;
 mod settling;
 mod states;
 
+pub use cut::{
+    finished_points_hold, finished_points_open_as_before, needed_blocks_are_of_the_disk,
+    nothing_can_be_planned, unfinished_points_open_as_before,
+};
 pub use frame::disks_that_agree_hold_the_same;
 pub use inode_file::inodes_are_put_one_by_one;
 pub use made::{eight_sectors_are_a_block, new_images_open_to_the_empty_state};
 pub use point::{
-    files_stand_as_laid, free_blocks_are_unneeded, planned_points_hold, planned_points_settle,
-    trees_are_bases,
+    files_stand_as_laid, files_stand_inline, free_blocks_are_unneeded, planned_points_hold,
+    planned_points_settle, trees_are_bases,
 };
 pub use reading::{
-    blocks_are_where_pointers_lead, inodes_are_what_their_bytes_spell,
-    snapshots_are_what_their_bytes_spell,
+    blocks_are_where_pointers_lead, inline_bytes_are_the_first_block,
+    inodes_are_what_their_bytes_spell, snapshots_are_what_their_bytes_spell,
 };
 pub use settling::{later_roots_are_newest, roots_cover_epochs};
 pub use states::{files_hold_one_volume, free_blocks_are_no_matter, images_open_to_one_state};

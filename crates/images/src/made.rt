@@ -19,6 +19,7 @@ pub fn eight_sectors_are_a_block()
 /// The image of a new file system, under any root of it, with a log that holds no records, opens to the state with an empty root
 /// directory and no snapshots. It does nothing.
 pub fn new_images_open_to_the_empty_state()
-    ensures { (sectors : ℕ) (disk : ℕ → List ℕ) (nvram : List ℕ) (r : Root) → HoldsNewImage sectors disk r
-        → LogHolds r.geometry.half r.generation nvram [] → Opens sectors disk nvram (empty r.geometry.inodes) }
+    ensures { (sectors : ℕ) (disk : ℕ → List ℕ) (nvram : List ℕ) (r : Root)
+        → HoldsNewImage sectors disk r → LogHolds r.geometry.half r.generation nvram []
+        → Opens sectors disk nvram (empty r.geometry.inodes) }
 {}

@@ -4,17 +4,17 @@ ghost use Rattle.std.specs.Prelude.{ℕ, ◌≡◌, ◌≢◌, ◌≤◌, ◌⊎
 ghost use Rattle.layout.specs.Places.{Blocks};
 ghost use Rattle.layout.specs.Root.{IsRoot};
 ghost use Rattle.layout.specs.declared.inode.Inode.{Inode};
-ghost use Rattle.layout.specs.declared.pointer.Pointer.{Pointer};
 ghost use Rattle.layout.specs.declared.root.Root.{Root};
 ghost use Rattle.model.specs.Paths.{Name};
 ghost use Rattle.model.specs.Trees.{Tree};
 ghost use Rattle.model.specs.Volumes.{IsVolume, Volume};
-ghost use Rattle.images.specs.Nodes.{Agrees, IsOnce, Names, held};
+ghost use Rattle.images.specs.Nodes.{Agrees, Held, IsOnce, Names, held};
 ghost use Rattle.images.specs.Roots.{HeldTree, Needs, whole};
 ghost use Rattle.images.specs.BlockMap.{IsExact, NamesOnce, entry};
 ghost use Rattle.images.specs.Contents.{Content, content_of};
-ghost use Rattle.images.specs.Overlays.{IsLaid, Overlay, overlaid_content};
-ghost use Rattle.images.specs.Points.{HoldObjects, IsBase, IsLater, IsPlannedOn, IsSettled, IsSoundPlan};
+ghost use Rattle.images.specs.Overlays.{IsInline, LaysOut, Overlay, overlaid_content};
+ghost use Rattle.images.specs.Points.{HoldObjects, IsBase, IsLater, IsPlannedOn, IsSettled};
+ghost use Rattle.images.specs.Points.{IsSoundPlan};
 ghost use Rattle.images.specs.States.{Holds};
 
 /// A block whose entry is 0 is none that the root needs. It does nothing.
@@ -34,15 +34,21 @@ pub fn trees_are_bases()
 /// A changed file that is laid out reads as it is in memory, and its blocks are the settled file's or were taken. It does
 /// nothing.
 pub fn files_stand_as_laid()
-    ensures content { (d e : Blocks) (old : Inode) (c : Overlay) (f : Inode) (taken : ℕ → Bool) (table : ℕ → ℕ → Pointer)
-        → Agrees (Names (held d old)) d e → IsLaid e (held d old) c f taken table
-        → content_of (held e f) ≡ overlaid_content (held d old) c }
-    ensures comes { (d e : Blocks) (old : Inode) (c : Overlay) (f : Inode) (taken : ℕ → Bool) (table : ℕ → ℕ → Pointer)
-        → Agrees (Names (held d old)) d e → IsLaid e (held d old) c f taken table
-        → (b : ℕ) → Names (held e f) b → Names (held d old) b ⊎ (taken b ≡ true) }
-    ensures once { (d e : Blocks) (old : Inode) (c : Overlay) (f : Inode) (taken : ℕ → Bool) (table : ℕ → ℕ → Pointer)
-        → Agrees (Names (held d old)) d e → IsLaid e (held d old) c f taken table
-        → IsOnce (held d old) → IsOnce (held e f) }
+    ensures content { (d e : Blocks) (old : Inode) (c : Overlay) (f : Inode) (taken : ℕ → Bool)
+        → LaysOut d e old c f taken → content_of (held e f) ≡ overlaid_content (held d old) c }
+    ensures comes { (d e : Blocks) (old : Inode) (c : Overlay) (f : Inode) (taken : ℕ → Bool)
+        (b : ℕ) → LaysOut d e old c f taken → Names (held e f) b
+        → Names (held d old) b ⊎ (taken b ≡ true) }
+    ensures once { (d e : Blocks) (old : Inode) (c : Overlay) (f : Inode) (taken : ℕ → Bool)
+        → LaysOut d e old c f taken → IsOnce (held d old) → IsOnce (held e f) }
+{}
+
+/// A changed file whose inode has the bytes itself reads as it is in memory, and names no block. It does nothing.
+pub fn files_stand_inline()
+    ensures content { (e : Blocks) (h : Held) (c : Overlay) (f : Inode)
+        → IsInline h c f → content_of (held e f) ≡ overlaid_content h c }
+    ensures names { (e : Blocks) (h : Held) (c : Overlay) (f : Inode) (b : ℕ)
+        → IsInline h c f → Names (held e f) b → ⊥ }
 {}
 
 /// On any disk that has the planned blocks and those that the old root needs, the new root holds what was planned: the
@@ -57,9 +63,11 @@ pub fn planned_points_settle()
 /// Where the old root held a volume, and what was planned of the active tree is in its grammar, the new root holds the planned
 /// volume, and the same snapshots. It does nothing.
 pub fn planned_points_hold()
-    ensures { (d e : Blocks) (r new : Root) (files : ℕ → Content) (first v : Volume) (snapshots : List (Name × Tree))
+    ensures { (d e : Blocks) (r new : Root) (files : ℕ → Content) (first v : Volume)
+        (snapshots : List (Name × Tree))
         → IsRoot r → Holds r (whole d r) first snapshots
-        → Agrees (Needs r (whole d r)) d e → (plan : IsPlannedOn (whole d r) (whole d r).active 0 r e new files)
+        → Agrees (Needs r (whole d r)) d e
+        → (plan : IsPlannedOn (whole d r) (whole d r).active 0 r e new files)
         → IsSoundPlan r.geometry e plan.inode plan.changed → IsLater r new
         → HoldObjects r.geometry.inodes files v → IsVolume r.geometry.inodes v
         → Holds new (whole e new) v snapshots }

@@ -1,6 +1,6 @@
 //! What is read block by block is what the tree has.
 
-ghost use Rattle.std.specs.Prelude.{ℕ, ◌≡◌, ◌-◌, ◌<◌, ◌≤◌, List, Some, nat_lt, if◌then◌else◌};
+ghost use Rattle.std.specs.Prelude.{ℕ, ◌≡◌, ◌-◌, ◌<◌, ◌≤◌, List, ◌++◌, take, Some, nat_lt, if◌then◌else◌};
 ghost use Rattle.std.specs.Int.{div_ceil};
 ghost use Rattle.layout.specs.Bytes.{zeros};
 ghost use Rattle.layout.specs.Inode.{IsInode, inode_bytes};
@@ -9,7 +9,7 @@ ghost use Rattle.layout.specs.Places.{Blocks, place, pointed};
 ghost use Rattle.layout.specs.SnapRoot.{IsSnapshot, Snapshot, snapshot_bytes, snapshot_in};
 ghost use Rattle.layout.specs.Version.{level_of};
 ghost use Rattle.layout.specs.declared.TheConstants.{BLOCK_BYTES};
-ghost use Rattle.layout.specs.declared.inode.Body.TheVariants.{Pointers};
+ghost use Rattle.layout.specs.declared.inode.Body.TheVariants.{Inline, Pointers};
 ghost use Rattle.layout.specs.declared.inode.Inode.{Inode};
 ghost use Rattle.layout.specs.declared.pointer.Pointer.{Pointer};
 ghost use Rattle.layout.specs.declared.version.TheConstants.{VERSION};
@@ -19,8 +19,9 @@ ghost use Rattle.images.specs.Soundness.{IsSoundFile};
 
 /// A tree has the inode that the inode file's bytes spell, and past the last number free ones. It does nothing.
 pub fn inodes_are_what_their_bytes_spell()
-    ensures spelled { (s : Sizes) (d : Blocks) (top i : Inode) (n : ℕ) → AreSizes s → 1 ≤ n → n < s.inodes
-        → IsInode VERSION s i → inode_bytes_at (file_block (held d top)) n ≡ inode_bytes i
+    ensures spelled { (s : Sizes) (d : Blocks) (top i : Inode) (n : ℕ)
+        → AreSizes s → 1 ≤ n → n < s.inodes → IsInode VERSION s i
+        → inode_bytes_at (file_block (held d top)) n ≡ inode_bytes i
         → tree d s.inodes top n ≡ held d i }
     ensures past { (d : Blocks) (inodes : ℕ) (top : Inode) (n : ℕ) → 1 ≤ n → inodes ≤ n
         → tree d inodes top n ≡ held d free_inode }
@@ -29,7 +30,8 @@ pub fn inodes_are_what_their_bytes_spell()
 /// A snapshot root block reads as the snapshot that its bytes spell. It does nothing.
 pub fn snapshots_are_what_their_bytes_spell()
     ensures { (v : Snapshot) → IsSnapshot v
-        → (snapshot_in (snapshot_bytes v) ≡ Some v) × (frozen_inode_file (snapshot_bytes v) ≡ v.inode_file) }
+        → (snapshot_in (snapshot_bytes v) ≡ Some v)
+        × (frozen_inode_file (snapshot_bytes v) ≡ v.inode_file) }
 {}
 
 /// Of a file in its grammar whose inode has pointers, the blocks before its end are those that the pointers lead to, and zeros
@@ -41,4 +43,14 @@ pub fn blocks_are_where_pointers_lead()
         ≡ (if nat_lt i (div_ceil f.size BLOCK_BYTES)
         then pointed d (place d pointers (level_of f.size - 1) i)
         else zeros BLOCK_BYTES) }
+{}
+
+/// Of a file in its grammar whose inode has the bytes itself, they are the first block up to the size, with zeros behind them.
+/// It does nothing.
+pub fn inline_bytes_are_the_first_block()
+    ensures first { (s : Sizes) (d : Blocks) (f : Inode) (bytes : List ℕ) → IsInode VERSION s f
+        → f.body ≡ Inline bytes
+        → file_block (held d f) 0 ≡ take f.size bytes ++ zeros (BLOCK_BYTES - f.size) }
+    ensures others { (d : Blocks) (f : Inode) (bytes : List ℕ) (i : ℕ)
+        → f.body ≡ Inline bytes → 1 ≤ i → file_block (held d f) i ≡ zeros BLOCK_BYTES }
 {}

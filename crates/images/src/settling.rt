@@ -8,10 +8,12 @@ ghost use Rattle.layout.specs.declared.root.Root.{Root};
 
 /// A root of a later generation, written beside the old one, is the newest. It does nothing.
 pub fn later_roots_are_newest()
-    ensures second { (r new : Root) (a : List ℕ) → HoldsRoot a r → IsRoot new → r.generation < new.generation
-        → new.geometry ≡ r.geometry → IsNewest new a (root_bytes new) }
-    ensures first { (r new : Root) (b : List ℕ) → HoldsRoot b r → IsRoot new → r.generation < new.generation
-        → new.geometry ≡ r.geometry → IsNewest new (root_bytes new) b }
+    ensures second { (r new : Root) (a : List ℕ) → HoldsRoot a r → IsRoot new
+        → r.generation < new.generation → new.geometry ≡ r.geometry
+        → IsNewest new a (root_bytes new) }
+    ensures first { (r new : Root) (b : List ℕ) → HoldsRoot b r → IsRoot new
+        → r.generation < new.generation → new.geometry ≡ r.geometry
+        → IsNewest new (root_bytes new) b }
 {}
 
 /// A root whose generation is that of an epoch covers the epoch's records: over it the log holds those behind them. It does

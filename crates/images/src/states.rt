@@ -19,7 +19,8 @@ pub fn files_hold_one_volume()
 /// No images open to two states: what they open to is one state, once its open files are forgotten. It does nothing.
 pub fn images_open_to_one_state()
     ensures { (sectors : ℕ) (disk : ℕ → List ℕ) (nvram : List ℕ) (s t : State)
-        → Opens sectors disk nvram s → Opens sectors disk nvram t → (u : State) × Forgets s u × Forgets t u }
+        → Opens sectors disk nvram s → Opens sectors disk nvram t
+        → (u : State) × Forgets s u × Forgets t u }
 {}
 
 /// Free blocks are no matter: disks that differ in sectors of blocks alone whose entries are 0 open to the same states. It does

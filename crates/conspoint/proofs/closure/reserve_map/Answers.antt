@@ -1,7 +1,6 @@
-use Rattle.std.proofs.Common.{◌≡◌, ℕ, ◌<◌, length, length-set, sym, ◌∙◌, arith}
+use Rattle.std.proofs.Common.{◌<◌, length, length-set, sym, ◌∙◌, arith}
 use Rattle.std.proofs.lemmas.List.{get_or_default}
 use Rattle.layout.specs.declared.pointer.Pointer.TheVariants.{Hole}
-use Rattle.conspoint.specs.Groups.{pointer_at}
 use Rattle.conspoint.proofs.DraftLemmas.{grows_twice}
 use Rattle.conspoint.proofs.ClosureLemmas.{closed_more}
 use Rattle.conspoint.proofs.closure.reserve_map.Goals as goal

@@ -1,4 +1,4 @@
-use Rattle.std.proofs.Common.{◌≡◌, ℕ, List, refl, ap, ◌∙◌}
+use Rattle.std.proofs.Common.{ℕ, List, refl, ap, ◌∙◌}
 use Rattle.layout.specs.Maps.{indirect_pointer}
 use Rattle.conspoint.specs.Groups.IsGroup.{spells}
 use Rattle.conspoint.proofs.group.place_group.Goals as goal

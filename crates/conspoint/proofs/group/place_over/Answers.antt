@@ -1,10 +1,10 @@
-use Rattle.std.proofs.Common.{◌≡◌, ℕ, ◌+◌, ◌<◌, List, length, length-append, ap, sym, subst, ◌∙◌, arith}
+use Rattle.std.proofs.Common.{◌≡◌, ℕ, List, length, length-append, ap, sym, subst, ◌∙◌, arith}
 use Rattle.layout.specs.declared.pointer.Pointer.{Pointer}
 use Rattle.layout.specs.declared.pointer.Pointer.TheVariants.{Hole}
-use Rattle.conspoint.specs.Groups.{pointer_at, group, IsGroup, ComesFrom, ArePlaced}
+use Rattle.conspoint.specs.Groups.{pointer_at, group, IsGroup, ComesFrom}
 use Rattle.std.proofs.lemmas.List.{get_or_default}
 use Rattle.conspoint.proofs.DraftLemmas.{grows_twice}
-use Rattle.conspoint.proofs.GroupLemmas.{placed_more, part_group, groups_more}
+use Rattle.conspoint.proofs.GroupLemmas.{placed_more, part_group, each_more}
 use Rattle.conspoint.proofs.group.place_over.Goals as goal
 
 pub returns-in_err-place_group-clause-grows : goal.returns-in_err-place_group-clause-grows
@@ -25,7 +25,7 @@ loop-j-preserved c =
     let from = subst (λ (n : ℕ). ComesFrom c.loop-j.draft c.place_group.new.draft (pointer_at settled n) p) (sym so_far.count) (rw settled_is at c.in_ok-place_group.ensures.from) in
     record {
       grows = grows_twice c.args.draft.now c.loop-j.draft c.place_group.new.draft so_far.grows now;
-      groups = λ e has. rw c.in_ok-push.ensures.items (groups_more e settled c.args.old.now c.args.new.now over p j so_far.count (so_far.groups e (now.has e has))
+      groups = λ e has. rw c.in_ok-push.ensures.items (each_more (λ i q. IsGroup e (pointer_at settled i) (group c.args.old.now i) (group c.args.new.now i) q) over p j so_far.count (so_far.groups e (now.has e has))
           (part_group e (pointer_at settled j) p c.args.old.now c.args.new.now j (rw settled_is at (c.in_ok-place_group.ensures.group e has))));
       count = ap (λ (xs : List Pointer). length xs) c.in_ok-push.ensures.items ∙ length-append over _ ∙ omega (arith, so_far.count);
       placed = rw c.in_ok-push.ensures.items (placed_more c.args.draft.now c.loop-j.draft c.place_group.new.draft settled over p so_far.grows now so_far.placed from c.in_ok-place_group.ensures.within);

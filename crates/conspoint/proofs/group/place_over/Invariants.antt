@@ -1,7 +1,4 @@
-use Rattle.std.proofs.Common.{◌≡◌, ℕ, ◌<◌, List, length, All}
-use Rattle.layout.specs.Pointer.{PointsBelow}
-use Rattle.layout.specs.declared.geometry.TheConstants.{MOST_BLOCKS}
-use Rattle.layout.specs.declared.pointer.Pointer.TheVariants.{Block}
+use Rattle.std.proofs.Common.{◌≡◌, ℕ, ◌<◌, length}
 use Rattle.conspoint.specs.Drafts.{Grows, OnEach}
 use Rattle.conspoint.specs.Groups.{pointer_at, group, IsGroup, ArePlaced}
 use Rattle.conspoint.proofs.group.place_over.Given as goal

@@ -1,4 +1,3 @@
-use Rattle.std.proofs.Common.{◌≡◌}
 use Rattle.conspoint.proofs.DraftLemmas.{drafted_later}
 use Rattle.conspoint.proofs.draft.Draft.reserve.Goals as goal
 

@@ -1,0 +1,17 @@
+-- A changed block is as it is in memory, whatever stands below.
+use Rattle.std.proofs.Common.{◌≡◌, ℕ, List, [], Option, Some, None, sym}
+use Rattle.std.specs.Ordering.{nat_cmp}
+use Rattle.std.specs.BTreeMap as tree
+use Rattle.blocktree.specs.declared.tree.BlockTree.{BlockTree}
+use Rattle.blocktree.specs.declared.tree.Slot.{Slot}
+use Rattle.blocktree.specs.declared.tree.Slot.TheVariants.{AsSettled, Changed}
+use Rattle.blocktree.specs.Trees.{slot_bytes, tree_block, settled_block, IsChanged, IsChangedSlot}
+use Rattle.conspoint.specs.Blocks.{changed_or}
+
+changed_slot : (s : Option Slot) (other b below : List ℕ) → slot_bytes s other ≡ b → IsChangedSlot s → b ≡ slot_bytes s below
+changed_slot (Some (Changed block)) other b below is changed = sym is
+changed_slot (Some AsSettled) other b below is changed = absurd changed
+changed_slot None other b below is changed = absurd changed
+
+pub changed_block : (t : BlockTree) (i : ℕ) (b below : List ℕ) → ((disk : ℕ → List ℕ) → tree_block disk t i ≡ b) → IsChanged t i → b ≡ changed_or t i below
+changed_block t i b below is changed = changed_slot (tree.get nat_cmp t.slots i) (settled_block (λ n. []) t.pointers t.depth t.kept i) b below (is (λ n. [])) changed

@@ -1,0 +1,34 @@
+use Rattle.std.proofs.Common.{◌≡◌, ℕ, List, length, length-append, ap, sym, subst, ◌∙◌, arith}
+use Rattle.std.proofs.lemmas.List.{get_or_default}
+use Rattle.layout.specs.Places.{pointed}
+use Rattle.layout.specs.declared.pointer.Pointer.{Pointer}
+use Rattle.layout.specs.declared.pointer.Pointer.TheVariants.{Hole}
+use Rattle.conspoint.specs.Blocks.{changed_or}
+use Rattle.conspoint.specs.Groups.{pointer_at, ComesFrom}
+use Rattle.conspoint.proofs.DraftLemmas.{grows_twice}
+use Rattle.conspoint.proofs.GroupLemmas.{placed_more, each_more}
+use Rattle.conspoint.proofs.blocks.place_blocks.Goals as goal
+
+pub returns-in_err-place_block-clause-grows : goal.returns-in_err-place_block-clause-grows
+returns-in_err-place_block-clause-grows c = grows_twice c.args.draft.now c.loop-i.draft c.place_block.new.draft c.loop-i.invariant.grows c.place_block.ensures.grows
+
+pub returns-in_err-push-clause-grows : goal.returns-in_err-push-clause-grows
+returns-in_err-push-clause-grows c = grows_twice c.args.draft.now c.loop-i.draft c.place_block.new.draft c.loop-i.invariant.grows c.place_block.ensures.grows
+
+pub loop-i-preserved : goal.loop-i-preserved
+loop-i-preserved c =
+    let so_far = c.loop-i.invariant in
+    let i = c.loop-i.i in
+    let nodes = c.loop-i.nodes.items in
+    let p = c.in_ok-place_block.field-0 in
+    let settled = c.args.settled.now in
+    let now = c.place_block.ensures.grows in
+    let settled_is : c.index-settled-i.result ≡ pointer_at settled i = c.index-settled-i.is ∙ get_or_default settled i c.index-settled-i.result Hole c.loop-i-test.true in
+    let from = subst (λ (n : ℕ). ComesFrom c.loop-i.draft c.place_block.new.draft (pointer_at settled n) p) (sym so_far.count) (rw settled_is at c.in_ok-place_block.ensures.from) in
+    record {
+      grows = grows_twice c.args.draft.now c.loop-i.draft c.place_block.new.draft so_far.grows now;
+      count = ap (λ (xs : List Pointer). length xs) c.in_ok-push.ensures.items ∙ (length-append nodes _ ∙ omega (arith, so_far.count));
+      blocks = λ e has. rw c.in_ok-push.ensures.items (each_more (λ j q. pointed e q ≡ changed_or c.args.tree.now j (pointed e (pointer_at settled j))) nodes p i so_far.count (so_far.blocks e (now.has e has))
+          (rw settled_is at (c.in_ok-place_block.ensures.block e has)));
+      placed = rw c.in_ok-push.ensures.items (placed_more c.args.draft.now c.loop-i.draft c.place_block.new.draft settled nodes p so_far.grows now so_far.placed from c.in_ok-place_block.ensures.within);
+    }

@@ -1,0 +1,76 @@
+-- What the writes of a consistency point leave on the disk, before its root and with it.
+use Rattle.std.specs.Prelude.{ℕ, ◌≡◌, ◌≢◌, ◌⊎◌, ◌+◌, ◌*◌, ◌/◌, ◌<◌, ◌≤◌, List, length, take, drop, All}
+use Rattle.layout.specs.Opens.{HoldsRoot}
+use Rattle.layout.specs.Places.{Blocks, blocks_of}
+use Rattle.layout.specs.Root.{IsRoot}
+use Rattle.layout.specs.declared.TheConstants.{BLOCK_BYTES, SECTOR_BYTES, SLOT_A, SLOT_B}
+use Rattle.layout.specs.declared.root.Root.{Root}
+use Rattle.model.specs.Volumes.{Volume, IsVolume}
+use Rattle.images.specs.Nodes.{Agrees}
+use Rattle.images.specs.Roots.{whole, Needs}
+use Rattle.images.specs.BlockMap.{entry}
+use Rattle.images.specs.Contents.{Content}
+use Rattle.images.specs.Points.{IsPlannedOn, IsSoundPlan, HoldObjects}
+
+-- a block of a disk of so many, behind the two that hold the roots
+abbrev pub IsOfDisk : ℕ → ℕ → Type 0
+IsOfDisk blocks b = (2 ≤ b) × (b < blocks)
+
+-- a block that is to be written
+pub record Write : Type 0 where
+  pub place : ℕ
+  pub bytes : List ℕ
+
+-- a sector of none of these blocks
+abbrev pub IsOutside : List Write → ℕ → Type 0
+IsOutside writes n = All (λ w. w.place ≢ n / 8) writes
+
+-- only sectors of these blocks differ from one disk to the other, whether they are written yet or not
+abbrev pub StaysOutside : List Write → (ℕ → List ℕ) → (ℕ → List ℕ) → Type 0
+StaysOutside writes d e = (n : ℕ) → IsOutside writes n → e n ≡ d n
+
+-- these blocks are free in the map that the disk has under a root
+abbrev pub AreFree : Root → (ℕ → List ℕ) → List Write → Type 0
+AreFree r d writes = All (λ w. entry (whole (blocks_of d) r).active w.place ≡ 0) writes
+
+-- the sectors of the disk have a block
+abbrev pub HoldsWrite : (ℕ → List ℕ) → Write → Type 0
+HoldsWrite disk w =
+    (i : ℕ) → i < 8 → disk (8 * w.place + i) ≡ take SECTOR_BYTES (drop (SECTOR_BYTES * i) w.bytes)
+
+-- all blocks are written, and this sector has a new root; the other sectors are as before
+pub record HasNewRoot (writes : List Write) (sector : ℕ) (root : List ℕ) (d e : ℕ → List ℕ) : Type 0 where
+  pub others : (n : ℕ) → IsOutside writes n → n ≢ sector → e n ≡ d n
+  pub holds : All (HoldsWrite e) writes
+  pub root_is : e sector ≡ root
+
+-- the sector is that of the slot that doesn't hold the root
+abbrev pub IsOtherSlot : Root → (ℕ → List ℕ) → ℕ → Type 0
+IsOtherSlot r d sector =
+    ((sector ≡ SLOT_B) × HoldsRoot (d SLOT_A) r) ⊎ ((sector ≡ SLOT_A) × HoldsRoot (d SLOT_B) r)
+
+-- what is planned, on one disk that has the planned blocks
+pub record PlansOn (d : Blocks) (r : Root) (e : Blocks) (new : Root) (files : ℕ → Content) : Type 0 where
+  pub plan : IsPlannedOn (whole d r) (whole d r).active 0 r e new files
+  pub sound : IsSoundPlan r.geometry e plan.inode plan.changed
+
+-- and on each that has them
+abbrev pub Plans : Blocks → Root → List Write → Root → (ℕ → Content) → Type 0
+Plans d r writes new files =
+    (e : Blocks) → All (λ w. e w.place ≡ w.bytes) writes → Agrees (Needs r (whole d r)) d e
+    → PlansOn d r e new files
+
+-- A consistency point over a disk with a root is planned, that leads to this volume: the blocks that it writes, and the new
+-- root with its sector. The snapshots stay.
+pub record IsPoint (r : Root) (d : ℕ → List ℕ) (writes : List Write) (sector : ℕ) (new : Root) (v : Volume) : Type 0 where
+  pub free : AreFree r d writes
+  pub long : All (λ w. length w.bytes ≡ BLOCK_BYTES) writes
+  pub slot : IsOtherSlot r d sector
+  pub root : IsRoot new
+  pub later : r.generation < new.generation
+  pub geometry : new.geometry ≡ r.geometry
+  pub snapshots : new.snapshots ≡ r.snapshots
+  pub files : ℕ → Content
+  pub plans : Plans (blocks_of d) r writes new files
+  pub objects : HoldObjects r.geometry.inodes files v
+  pub volume : IsVolume r.geometry.inodes v

@@ -1,0 +1,58 @@
+//! What a cut may leave of a consistency point.
+
+ghost use Rattle.std.specs.Prelude.{ℕ, ◌≡◌, List};
+ghost use Rattle.layout.specs.Opens.{IsNewest};
+ghost use Rattle.layout.specs.Places.{Blocks, blocks_of};
+ghost use Rattle.layout.specs.Root.{IsRoot, root_bytes};
+ghost use Rattle.layout.specs.declared.TheConstants.{SLOT_A, SLOT_B};
+ghost use Rattle.layout.specs.declared.root.Root.{Root};
+ghost use Rattle.model.specs.Records.{Change, Replays, without_nameless};
+ghost use Rattle.model.specs.States.{State};
+ghost use Rattle.model.specs.Volumes.{Volume};
+ghost use Rattle.images.specs.Cuts.{AreFree, HasNewRoot, IsOfDisk, IsPoint, PlansOn, StaysOutside, Write};
+ghost use Rattle.images.specs.Contents.{contents};
+ghost use Rattle.images.specs.Roots.{Needs, whole};
+ghost use Rattle.images.specs.States.{Holds, IsSound, LogHoldsChanges, Opens};
+
+/// What a root in its grammar needs are blocks of its disk, none of the two that hold the roots. It does nothing.
+pub fn needed_blocks_are_of_the_disk()
+    ensures { (d : Blocks) (r : Root) (b : ℕ) → IsRoot r → IsSound r (whole d r)
+        → Needs r (whole d r) b → IsOfDisk r.geometry.blocks b }
+{}
+
+/// Before its root is written, a consistency point leaves images that open as before. It does nothing.
+pub fn unfinished_points_open_as_before()
+    ensures { (sectors : ℕ) (d e : ℕ → List ℕ) (nvram : List ℕ) (s : State) (writes : List Write)
+        → (o : Opens sectors d nvram s) → AreFree o.root d writes → StaysOutside writes d e
+        → Opens sectors e nvram s }
+{}
+
+/// Once its root is written, that is the newest one, and it holds the planned volume and the same snapshots. It does nothing.
+pub fn finished_points_hold()
+    ensures newest { (sectors : ℕ) (d e : ℕ → List ℕ) (nvram : List ℕ) (s : State)
+        (writes : List Write) (sector : ℕ) (new : Root) (v : Volume)
+        → (o : Opens sectors d nvram s) → IsPoint o.root d writes sector new v
+        → HasNewRoot writes sector (root_bytes new) d e → IsNewest new (e SLOT_A) (e SLOT_B) }
+    ensures holds { (sectors : ℕ) (d e : ℕ → List ℕ) (nvram : List ℕ) (s : State)
+        (writes : List Write) (sector : ℕ) (new : Root) (v : Volume)
+        → (o : Opens sectors d nvram s) → IsPoint o.root d writes sector new v
+        → HasNewRoot writes sector (root_bytes new) d e
+        → Holds new (whole (blocks_of e) new) v o.snapshots }
+{}
+
+/// And where the records that the new root doesn't cover lead from the planned volume to what the old images came to, files
+/// without names aside, the images open as before. It does nothing.
+pub fn finished_points_open_as_before()
+    ensures { (sectors : ℕ) (d e : ℕ → List ℕ) (nvram : List ℕ) (s : State)
+        (writes : List Write) (sector : ℕ) (new : Root) (v : Volume) (rest : List Change) (last : Volume)
+        → (o : Opens sectors d nvram s) → IsPoint o.root d writes sector new v
+        → HasNewRoot writes sector (root_bytes new) d e → LogHoldsChanges new nvram rest
+        → Replays o.root.geometry.inodes v rest last
+        → without_nameless last ≡ without_nameless o.last → Opens sectors e nvram s }
+{}
+
+/// A point that changes nothing but the generation can be planned: what is asked of a plan can be met. It does nothing.
+pub fn nothing_can_be_planned()
+    ensures { (d : Blocks) (r : Root) (generation : ℕ) → IsSound r (whole d r)
+        → PlansOn d r d (record r { generation = generation }) (contents (whole d r).active) }
+{}
