@@ -1,5 +1,8 @@
 mod Examples
 mod RowExamples
+mod DirectoryExamples
+mod LargeExamples
+mod SnapshotExamples
 pub mod CountLemmas
 pub mod WalkLemmas
 pub mod NameLemmas
@@ -33,3 +36,4 @@ pub mod StayLemmas
 pub mod CallLemmas
 pub mod ReplaceLemmas
 pub mod StateLemmas
+mod ToldLemmas

@@ -1,6 +1,6 @@
 -- Each outcome of a command on a state is a state.
 use Rattle.std.proofs.Common.{◌≡◌, ◌≢◌, ◌⊎◌, inl, inr, ℕ, zero, suc, ◌≤◌, ◌<◌, List, [], ◌∷◌, ◌++◌, length, get_or, map, Bool, true, false, not, ◌||◌, is_none, bytes_eq, Option, Some, None, refl, sym, subst, ◌∙◌, length-append, arith}
-use Rattle.std.specs.Prelude.{◌==◌, nat_lt, find, filter, MatchBool}
+use Rattle.std.specs.Prelude.{◌==◌, nat_lt, find, filter, MatchBool, IsFalse}
 use Rattle.std.proofs.lemmas.Bool.{cases_Bool, cond_both, cond-true, cond-false, eqb-false, leb-false, ltb-false, or_parts, false≢true}
 use Rattle.std.proofs.lemmas.List.Elements.{All-push, All-filter}
 use Rattle.std.proofs.lemmas.List.Kept.{AllPairs-filter}
@@ -183,10 +183,10 @@ module _ (c : Circumstances) (s new : State) (asked : Command) (answer : Reply) 
   allowed_is_state =
       elim s.mark as (λ mark. elim mark as (λ _. Type 0) [
         | failed ↦ (answer ≡ reply.Refused FAILED) × (new ≡ s)
-        | going ↦ (IsSure s asked × IsDone c s asked answer new) ⊎ ((¬ IsSure s asked) × IsAnswered c s asked answer new)
+        | going ↦ (IsSure s asked × IsFalse c.write_failed × IsDone c s asked answer new) ⊎ ((¬ IsSure s asked) × IsAnswered c s asked answer new)
       ] → IsState new) [
         | failed ↦ λ is. subst IsState (sym is.1) state
-        | going ↦ λ is. elim is [ inl sure ↦ done_is_state sure.1 | inr may_fail ↦ answered_is_state may_fail.1 ]
+        | going ↦ λ is. elim is [ inl sure ↦ done_is_state sure.2 | inr may_fail ↦ answered_is_state may_fail.1 ]
       ]
 
 pub allowed_are_states : AllowedAreStates

@@ -26,7 +26,7 @@ use Rattle.model.proofs.LooseLemmas.{none_some, some_same, IsLooseTree, swept_is
 length-resized : (size : ℕ) (bytes : List ℕ) → length (resized size bytes) ≡ size
 length-resized size bytes = omega (arith, length-append (take size bytes) (replicate (size - length bytes) 0), length-take size bytes, length-replicate {A = ℕ} (size - length bytes) 0)
 
-length-written : (offset : ℕ) (given bytes : List ℕ) → length (written offset given bytes) ≡ (offset + length given) + (length bytes - (offset + length given))
+pub length-written : (offset : ℕ) (given bytes : List ℕ) → length (written offset given bytes) ≡ (offset + length given) + (length bytes - (offset + length given))
 length-written offset given bytes =
     let rest : List ℕ = drop (offset + length given) bytes in
     length-append (resized offset bytes ++ given) rest

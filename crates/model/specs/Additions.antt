@@ -6,8 +6,8 @@ use Rattle.model.specs.Trees.{Tree, IsUsed, directory}
 use Rattle.model.specs.Edits.{with_directory}
 use Rattle.model.specs.Outcomes.{IsListing}
 
--- A directory is made by its numbers, as a log tells it: this number is free, and this name too in the directory of the
--- number parent, which has room for one more.
+-- one tree comes from the other as a record of the log says: a new directory of this number and mode has this name in
+-- the directory of the number parent, number and name were free, and there was room for one more name
 pub record AddsDirectory (inodes number parent : ℕ) (name : Name) (mode : ℕ) (old new : Tree) : Type 0 where
   pub path : Path
   pub stands : old.objects path ≡ Some (directory parent)

@@ -7,16 +7,17 @@ use Rattle.model.specs.Edits.{contents, resized, written, with_object, without_o
 use Rattle.model.specs.Volumes.{Volume}
 use Rattle.model.specs.Records.{Made, file, directory, symbolic_link, Change, create, link, unname, rename, write, cut, change_mode}
 
--- a directory of this number stands at the path
+-- the directory of this number stands at the path
 abbrev pub IsAt : Tree → Path → ℕ → Type 0
 IsAt t p n = t.objects p ≡ Some (trees.directory n)
 
+-- the tree with what a record makes at a path, under this number
 abbrev pub with_made : Made → Path → ℕ → Tree → Tree
 with_made (file mode) p n = with_file p n mode
 with_made (directory mode) p n = with_directory p n mode
 with_made (symbolic_link text) p n = with_object p (trees.symlink n text)
 
--- the tree that a record leaves, by paths: in the words of the calls
+-- a record leads from one tree to the other, told by paths and in the words of the calls
 abbrev pub ChangesTree : Change → Tree → Tree → Type 0
 ChangesTree (create number parent made name) old new =
     (p : Path) × IsAt old p parent × (new ≡ with_made made (p ++ name ∷ []) number old)
@@ -30,7 +31,7 @@ ChangesTree (write number offset bytes) old new = new ≡ with_bytes number (wri
 ChangesTree (cut number size) old new = new ≡ with_bytes number (resized size (contents old number)) old
 ChangesTree (change_mode number mode) old new = new ≡ with_mode number mode old
 
--- nothing has the number of what is made
+-- what a record makes takes a number that no object has
 abbrev pub TakesFreeNumber : Volume → Change → Type 0
 TakesFreeNumber v (create number parent made name) = v number ≡ None
 TakesFreeNumber v change = Unit {0}

@@ -13,29 +13,32 @@ use Rattle.model.specs.Room.{Need, nothing, logs, adds_name, removes_name, chang
 use Rattle.model.specs.Outcomes.{Outcome, answers, refuses, changes, changes_swept, tested, either, leads, leads_to, with_names, with_place, with_fresh, with_links}
 use Rattle.model.specs.Reading.{is_negative}
 
--- an object is made where nothing is: by `make`, given its path and its number
+-- an object is made where a path leads to a missing name: `make` gives the tree, by its path and its number
 abbrev pub creates : ℕ → Tree → List ℕ → (Path → ℕ → Tree → Tree) → Outcome
 creates inodes t path make =
     tested t (new_text_tests path) (leads t (resolve t false path)
     (λ p o. refuses t EEXIST)
     (λ p name. with_place t p (with_fresh inodes t (λ n. changes Done (make (p ++ name ∷ []) n t) (logs adds_name)))))
 
+-- `mkdir`: an empty directory of this mode is made at a name that nothing has
 abbrev pub makes_directory : ℕ → Tree → List ℕ → ℕ → Outcome
 makes_directory inodes t path mode = creates inodes t path (λ p n. with_directory p n mode)
 
--- the tests of a link's text
+-- the tests of a link's text: it isn't empty, has no zero byte, and is no longer than a path may be
 abbrev pub link_text_tests : List ℕ → Tests
 link_text_tests text =
     (is_empty text, ENOENT) ∷ (list_any (λ byte. byte == 0) text, EINVAL) ∷ (nat_lt PATH_BYTES (length text), ENAMETOOLONG) ∷ []
 
+-- `symlink`: a link of this text is made at a name that nothing has
 abbrev pub makes_symlink : ℕ → Tree → List ℕ → List ℕ → Outcome
 makes_symlink inodes t text path =
     tested t (link_text_tests text) (creates inodes t path (λ p n. with_object p (symlink n text)))
 
--- a name is taken away
+-- a name is taken away, and with the last one what it named, but for a file that is open
 abbrev pub removes : Tree → Path → Outcome
 removes t p = changes_swept Done (without_object p t) (logs removes_name)
 
+-- `rmdir`: an empty directory is taken away, and never the root
 abbrev pub removes_directory : Tree → List ℕ → Outcome
 removes_directory t path =
     tested t (new_text_tests path ++ (is_root_text path, EBUSY) ∷ [])
@@ -45,10 +48,12 @@ removes_directory t path =
       | file n ↦ refuses t ENOTDIR
     ]))
 
+-- `unlink`: a name of a file, or a link, is taken away, and never a directory
 abbrev pub unlinks : Tree → List ℕ → Outcome
 unlinks t path =
     tested t (new_text_tests path) (leads_to t (resolve t false path) (λ p o. tested t ((is_directory (Some o), EPERM) ∷ []) (removes t p)))
 
+-- `link`: a file gets one more name, at a path where nothing stands
 abbrev pub links : Tree → List ℕ → List ℕ → Outcome
 links t old path =
     tested t (text_tests old ++ new_text_tests path) (leads_to t (resolve t false old) (λ p o. elim o [
@@ -59,12 +64,13 @@ links t old path =
       | symlink n text ↦ refuses t EPERM
     ]))
 
--- both are one file
+-- two objects are one file
 abbrev pub is_same_file : Object → Option Object → Bool
 is_same_file (file n) (Some (file k)) = n == k
 is_same_file o r = false
 
--- the tests of a move of the object o from p to q, where r stands or nothing does
+-- the tests of a move of the object o from p to q, where r stands or nothing does: a directory doesn't go below itself,
+-- and a directory and something else don't replace each other
 abbrev pub move_tests : Path → Object → Path → Option Object → Tests
 move_tests p o q r =
     (is_directory (Some o) && begins_with q p, EINVAL)
@@ -72,22 +78,27 @@ move_tests p o q r =
     ∷ (not (is_directory (Some o)) && is_directory r, EISDIR)
     ∷ []
 
--- a directory that is replaced is empty, and one that takes a new name has a place for it
+-- the target of a move can take it: a directory that is replaced is empty, and a directory that gains a name has room
+-- for it
 abbrev pub with_target : Tree → Path → Path → Option Object → Outcome → Outcome
 with_target t p q None rest = either (path_eq (parent p) (parent q)) rest (with_place t (parent q) rest)
 with_target t p q (Some (directory n)) rest = with_names t q (λ names. tested t ((not (is_empty names), ENOTEMPTY) ∷ []) rest)
 with_target t p q (Some r) rest = rest
 
+-- an object moves from one path to another with all below it, in place of what stood there; nothing changes where both
+-- are one path or one file
 abbrev pub moves : Tree → Path → Object → Path → Outcome
 moves t p o q =
     either (path_eq p q || is_same_file o (t.objects q)) (answers t Done)
     (tested t (move_tests p o q (t.objects q)) (with_target t p q (t.objects q) (changes_swept Done (moved p q t) (logs adds_name))))
 
+-- `rename`: what stands at the first path moves to the second, and neither is the root
 abbrev pub renames : Tree → List ℕ → List ℕ → Outcome
 renames t old path =
     tested t (new_text_tests old ++ new_text_tests path ++ (is_root_text old || is_root_text path, EBUSY) ∷ [])
     (leads_to t (resolve t false old) (λ p o. leads t (resolve t false path) (λ q r. moves t p o q) (λ q name. moves t p o (q ++ name ∷ []))))
 
+-- `chmod`: the file or directory that a path leads to gets this mode
 abbrev pub changes_mode : Tree → List ℕ → ℕ → Outcome
 changes_mode t path mode =
     tested t (text_tests path) (leads_to t (resolve t true path) (λ p o. elim o [
@@ -96,20 +107,23 @@ changes_mode t path mode =
       | symlink n text ↦ λ _ _ _. ⊥  -- a final link is followed
     ]))
 
--- a file cut, or filled with zeros, to a size
+-- the tree with a file cut, or filled with zeros, to a size
 abbrev pub cut_to : ℕ → ℕ → Tree → Tree
 cut_to n size t = if size == length (contents t n) then t else with_bytes n (resized size (contents t n)) t
 
--- what that needs: nothing where the file has the size
+-- what a change of a file's size needs of room: nothing where the file has the size
 abbrev pub need_of_cut : ℕ → ℕ → Tree → Need
 need_of_cut n size t = if size == length (contents t n) then nothing else logs (changes_size (length (contents t n)) size)
 
+-- a file gets this size
 abbrev pub cuts : Tree → ℕ → ℕ → Outcome
 cuts t n size = changes Done (cut_to n size t) (need_of_cut n size t)
 
+-- the tests of a size: it isn't negative, and no file is greater than the limit
 abbrev pub size_tests : ℤ → Tests
 size_tests size = (is_negative size, EINVAL) ∷ (nat_lt GREATEST_FILE (nat_abs size), EFBIG) ∷ []
 
+-- `truncate`: the file that a path leads to gets this size
 abbrev pub truncates : Tree → List ℕ → ℤ → Outcome
 truncates t path size =
     tested t (text_tests_then (size_tests size) path) (leads_to t (resolve t true path) (λ p o. elim o [

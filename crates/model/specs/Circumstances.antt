@@ -1,5 +1,5 @@
 -- Which reply and which new state a command may give, under what may come in its way.
-use Rattle.std.specs.Prelude.{◌≡◌, ◌⊎◌, ◌≢◌, Bool, false, MatchBool, IsTrue, Some, None}
+use Rattle.std.specs.Prelude.{◌≡◌, ◌⊎◌, ◌≢◌, Bool, false, MatchBool, IsTrue, IsFalse, Some, None}
 use Rattle.model.specs.declared.errno.Errno.TheVariants.{ENOSPC, ENOMEM, EIO, DAMAGED, FAILED}
 use Rattle.model.specs.declared.reply.Reply.{Reply}
 use Rattle.model.specs.declared.reply.Reply.TheVariants.{Done, Refused}
@@ -10,7 +10,8 @@ use Rattle.model.specs.States.{State, going, failed, as_failed}
 use Rattle.model.specs.Room.{Room, Need, nothing, IsShort}
 use Rattle.model.specs.Steps.{WouldStep}
 
--- what may come in the way of a command
+-- what came in the way of a command: device calls that failed, memory that was refused, want of place, and the disk's
+-- room
 pub record Circumstances : Type 0 where
   pub read_failed : Bool
   pub write_failed : Bool  -- or a sync
@@ -20,16 +21,16 @@ pub record Circumstances : Type 0 where
   pub lacks_place : Bool
   pub room : Room
 
--- nothing comes in the way
+-- nothing came in the way, and this is the room
 abbrev pub clear : Room → Circumstances
 clear room = record { read_failed = false; write_failed = false; memory_refused = false; lacks_place = false; room = room }
 
--- a command is done
+-- the command is done: reply and new state are those that it gives where nothing comes in its way
 abbrev pub IsDone : Circumstances → State → Command → Reply → State → Type 0
 IsDone c s command reply new = (need : Need) × WouldStep c.room s command reply new need
 
--- It takes no memory and calls no device, so it is always done: `lseek`, `fsync`, `df`, and `close` but of a file that
--- has no name.
+-- the command takes no memory and calls no device, so it is always done: `lseek`, `fsync`, `df`, and `close` but of a
+-- file that has no name
 abbrev pub IsSure : State → Command → Type 0
 IsSure s (command.Lseek fd whence offset) = Unit {0}
 IsSure s (command.Fsync fd) = Unit {0}
@@ -37,18 +38,18 @@ IsSure s command.Df = Unit {0}
 IsSure s (command.Close fd) = elim (s.tree.descriptors fd) [ Some f ↦ HasPath s.tree f.number | None ↦ Unit {0} ]
 IsSure s c = ⊥
 
--- it is answered behind a consistency point
+-- the command is answered behind a consistency point: `sync`, `snap take` and `snap delete`
 abbrev pub IsSettling : Command → Type 0
 IsSettling command.Sync = Unit {0}
 IsSettling (command.SnapTake name) = Unit {0}
 IsSettling (command.SnapDelete name) = Unit {0}
 IsSettling c = ⊥
 
--- behind such an answer the settled root has all that was done
+-- behind an `ok` to such a command the settled root covers all that was done
 abbrev pub Settles : Circumstances → Command → Reply → Type 0
 Settles c command reply = IsSettling command → reply ≡ Done → IsTrue c.room.is_covered
 
--- it stores something: it would log a record, or store all that changed
+-- the command would store something: it logs a record, or has a consistency point store all that changed
 abbrev pub IsStoring : Room → State → Command → Type 0
 IsStoring room s command =
     (reply : Reply) × (new : State) × (need : Need) × WouldStep room s command reply new need
@@ -59,29 +60,32 @@ abbrev pub IsShortFor : Room → State → Command → Type 0
 IsShortFor room s command =
     (reply : Reply) × (new : State) × (need : Need) × WouldStep room s command reply new need × IsShort room need
 
--- a reply that comes in place of the command's own
+-- a refusal stands in place of the command's own reply, for a cause that came: EIO for a failed read, ENOMEM for
+-- refused memory, ENOSPC for want of room or place
 abbrev pub IsExcused : Circumstances → State → Command → Reply → Type 0
 IsExcused c s command (Refused EIO) = IsTrue c.read_failed
 IsExcused c s command (Refused ENOMEM) = IsTrue c.memory_refused
 IsExcused c s command (Refused ENOSPC) = IsShortFor c.room s command ⊎ (IsTrue c.lacks_place × IsStoring c.room s command)
 IsExcused c s command reply = ⊥
 
--- what a command that may fail comes to: a failed write fails the system; else the command is done, or nothing changes
+-- what a command that may fail comes to: after a failed write EIO and a failed system; else it is done, or it is
+-- refused for a cause and nothing changes
 abbrev pub IsAnswered : Circumstances → State → Command → Reply → State → Type 0
 IsAnswered c s command reply new =
     MatchBool c.write_failed ((reply ≡ Refused EIO) × (new ≡ as_failed s))
     ((IsDone c s command reply new × Settles c command reply) ⊎ (IsExcused c s command reply × (new ≡ s)))
 
--- The reply and the new state of a command, under these circumstances. A failed system answers FAILED and stays so.
+-- the reply and the new state that a command may give under these circumstances: a sure one is done, and no write fails
+-- in it, another may fail, and a failed system answers FAILED and stays so
 abbrev pub Allowed : Circumstances → State → Command → Reply → State → Type 0
 Allowed c s command reply new =
     elim s.mark [
       | failed ↦ (reply ≡ Refused FAILED) × (new ≡ s)
-      | going ↦ (IsSure s command × IsDone c s command reply new) ⊎ ((¬ IsSure s command) × IsAnswered c s command reply new)
+      | going ↦ (IsSure s command × IsFalse c.write_failed × IsDone c s command reply new) ⊎ ((¬ IsSure s command) × IsAnswered c s command reply new)
     ]
 
--- What a command comes to on images that may open to no state: as the definitions allow, or a going system says DAMAGED
--- and nothing changes.
+-- what a command may come to on images that may open to no state: what is allowed, or a going system says DAMAGED and
+-- nothing changes
 abbrev pub AllowedOrDamaged : Circumstances → State → Command → Reply → State → Type 0
 AllowedOrDamaged c s command reply new =
     Allowed c s command reply new ⊎ ((s.mark ≡ going) × (reply ≡ Refused DAMAGED) × (new ≡ s))

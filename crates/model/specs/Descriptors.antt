@@ -17,22 +17,26 @@ use Rattle.model.specs.Outcomes.{Outcome, answers, refuses, changes, changes_swe
 use Rattle.model.specs.Reading.{is_negative, is_too_many, tells_stat}
 use Rattle.model.specs.Changing.{cut_to, need_of_cut, cuts, size_tests}
 
+-- a file opened so may be read
 abbrev pub is_reading : Access → Bool
 is_reading access.Writing = false
 is_reading _ = true
 
+-- a file opened so may be written
 abbrev pub is_writing : Access → Bool
 is_writing access.Reading = false
 is_writing _ = true
 
--- a new description of the file n, at offset 0
+-- the description of the file n as it is just opened with these flags, at offset 0
 abbrev pub described_by : ℕ → Flags → Description
 described_by n flags = record { number = n; offset = 0; reads = is_reading flags.access; writes = is_writing flags.access; appends = flags.appends }
 
+-- the tree with the offset of a descriptor moved
 abbrev pub with_offset : ℕ → Description → ℕ → Tree → Tree
 with_offset fd f offset t = with_descriptor fd (Some (record f { offset = offset })) t
 
--- an object stands there: a file is opened, and cut to no bytes where the flags say so
+-- `open` where an object stands: a file is opened, and cut to no bytes where the flags say so; a directory is refused,
+-- and so is anything where the flags want a new file
 abbrev pub opens_object : Tree → Object → Flags → ℕ → Outcome
 opens_object t o flags fd =
     tested t ((flags.creates && flags.exclusive, EEXIST) ∷ []) (elim o [
@@ -43,15 +47,17 @@ opens_object t o flags fd =
           (changes (reply.Fd fd) (with_descriptor fd (Some (described_by n flags)) t) nothing)
     ])
 
--- nothing stands there: a file is made where the flags say so
+-- `open` where nothing stands: a file is made and opened where the flags say so
 abbrev pub opens_new : ℕ → Tree → Path → Name → Flags → ℕ → ℕ → Outcome
 opens_new inodes t p name flags mode fd =
     tested t ((not flags.creates, ENOENT) ∷ [])
     (with_place t p (with_fresh inodes t (λ n. changes (reply.Fd fd) (with_descriptor fd (Some (described_by n flags)) (with_file (p ++ name ∷ []) n mode t)) (logs adds_name))))
 
+-- the tests of the flags: no exclusive without create, and no truncating without writing
 abbrev pub open_tests : Flags → Tests
 open_tests flags = (flags.exclusive && not flags.creates, EINVAL) ∷ (flags.truncates && not (is_writing flags.access), EINVAL) ∷ []
 
+-- `open`: a file that is there, or a new one, gets the lowest free descriptor
 abbrev pub opens : ℕ → Tree → List ℕ → Flags → ℕ → Outcome
 opens inodes t path flags mode =
     tested t (text_tests_then (open_tests flags) path) (elim (lowest_free t.descriptors OPEN_FILES) [
@@ -61,57 +67,63 @@ opens inodes t path flags mode =
           (λ p name. opens_new inodes t p name flags mode fd)
     ])
 
+-- `close`: the descriptor is free, and a file with no name and no other descriptor is gone
 abbrev pub closes : Tree → ℕ → Outcome
 closes t fd = described t fd (λ f. changes_swept reply.Done (with_descriptor fd None t) nothing)
 
--- bytes from the offset on, which moves behind them
+-- `read`: as many bytes as asked and there, from the descriptor's offset on, which moves behind them
 abbrev pub reads : Tree → ℕ → ℕ → Outcome
 reads t fd count =
     described t fd (λ f. tested t ((not f.reads, EBADF) ∷ (is_too_many count, EINVAL) ∷ [])
     (let given = read_at f.offset count (contents t f.number) in changes (reply.Data given) (with_offset fd f (f.offset + length given) t) nothing))
 
+-- `pread`: as many bytes as asked and there, from this offset on, and no offset moves
 abbrev pub reads_from : Tree → ℕ → ℤ → ℕ → Outcome
 reads_from t fd offset count =
     described t fd (λ f. tested t ((not f.reads, EBADF) ∷ (is_negative offset || is_too_many count, EINVAL) ∷ [])
     (answers t (reply.Data (read_at (nat_abs offset) count (contents t f.number)))))
 
--- data goes to an offset: where there is any and the file holds it, it is written, and what else changes is `also`
+-- data goes to a file at an offset: where there is any and the limit holds it, it is written, and what else changes is
+-- `also`
 abbrev pub puts : Tree → ℕ → ℕ → List ℕ → (Tree → Tree) → Outcome
 puts t n offset given also =
     either (is_empty given) (answers t (reply.Wrote 0))
     (tested t ((nat_lt GREATEST_FILE (offset + length given), EFBIG) ∷ [])
     (changes (reply.Wrote (length given)) (also (with_bytes n (written offset given (contents t n)) t)) (logs (puts_bytes (length (contents t n)) offset (length given)))))
 
--- to the offset, or behind the last byte; the offset moves behind the data
+-- `write`: data goes to the descriptor's offset, or behind the last byte under append, and the offset moves behind it
 abbrev pub writes : Tree → ℕ → List ℕ → Outcome
 writes t fd given =
     described t fd (λ f. tested t ((not f.writes, EBADF) ∷ (is_too_many (length given), EINVAL) ∷ [])
     (let offset = if f.appends then length (contents t f.number) else f.offset in puts t f.number offset given (with_offset fd f (offset + length given))))
 
--- to this offset, also under append; the descriptor's own doesn't move
+-- `pwrite`: data goes to this offset, also under append, and the descriptor's own doesn't move
 abbrev pub writes_to : Tree → ℕ → ℤ → List ℕ → Outcome
 writes_to t fd offset given =
     described t fd (λ f. tested t ((not f.writes, EBADF) ∷ (is_negative offset || is_too_many (length given), EINVAL) ∷ [])
     (puts t f.number (nat_abs offset) given (λ after. after)))
 
--- from where an offset counts
+-- from where an offset of `lseek` counts: the start, the descriptor's offset, or the end of the file
 abbrev pub base_of : Tree → Description → Whence → ℕ
 base_of t f whence.Set = 0
 base_of t f whence.Cur = f.offset
 base_of t f whence.End = length (contents t f.number)
 
+-- `lseek`: the descriptor's offset moves to a place counted from the start, from itself or from the end
 abbrev pub seeks : Tree → ℕ → Whence → ℤ → Outcome
 seeks t fd from offset =
     described t fd (λ f. let place = pos (base_of t f from) +ℤ offset in
     tested t ((is_negative place, EINVAL) ∷ (nat_lt GREATEST_OFFSET (nat_abs place), EOVERFLOW) ∷ [])
     (changes (reply.At (nat_abs place)) (with_offset fd f (nat_abs place) t) nothing))
 
+-- `ftruncate`: the file of a descriptor for writing gets this size
 abbrev pub truncates_open : Tree → ℕ → ℤ → Outcome
 truncates_open t fd size = described t fd (λ f. tested t ((not f.writes, EINVAL) ∷ size_tests size) (cuts t f.number (nat_abs size)))
 
+-- `fstat`: what `stat` tells, of the file of a descriptor
 abbrev pub stats_open : Tree → ℕ → Outcome
 stats_open t fd = described t fd (λ f. tells_stat t (file f.number))
 
--- every answered call is kept already
+-- `fsync`: done at once, for every answered call is kept already
 abbrev pub syncs_open : Tree → ℕ → Outcome
 syncs_open t fd = described t fd (λ f. answers t reply.Done)

@@ -3,11 +3,11 @@ use Rattle.std.specs.Prelude.{ℕ, ◌≡◌, ◌==◌, ◌+◌, ◌-◌, if◌t
 use Rattle.model.specs.Paths.{Path, path_eq, behind}
 use Rattle.model.specs.Trees.{Tree, Object, directory, file, Description, IsUsed}
 
--- the bytes cut, or filled with zeros, to this size
+-- bytes cut, or filled with zeros, to this size
 abbrev pub resized : ℕ → List ℕ → List ℕ
 resized size bytes = take size bytes ++ replicate (size - length bytes) 0
 
--- the bytes with data written at an offset; a gap before it is filled with zeros
+-- bytes with data written at an offset, and a gap before it filled with zeros
 abbrev pub written : ℕ → List ℕ → List ℕ → List ℕ
 written offset given bytes = resized offset bytes ++ given ++ drop (offset + length given) bytes
 
@@ -19,46 +19,54 @@ read_at offset count bytes = take count (drop offset bytes)
 abbrev pub contents : Tree → ℕ → List ℕ
 contents t n = unwrap_or (t.bytes n) []
 
--- with o at p, or with nothing there
+-- a map from paths with one path changed: something stands there, or nothing
 abbrev pub put_at : {X : Type 0} → Path → Option X → (Path → Option X) → Path → Option X
 put_at p o f q = if path_eq q p then o else f q
 
+-- the tree with an object at a path
 abbrev pub with_object : Path → Object → Tree → Tree
 with_object p o t = record t { objects = put_at p (Some o) t.objects }
 
+-- the tree with nothing at a path
 abbrev pub without_object : Path → Tree → Tree
 without_object p t = record t { objects = put_at p None t.objects }
 
+-- the tree with a mode at a number
 abbrev pub with_mode : ℕ → ℕ → Tree → Tree
 with_mode n mode t = record t { mode = λ k. if k == n then Some mode else t.mode k }
 
+-- the tree with bytes at a file's number
 abbrev pub with_bytes : ℕ → List ℕ → Tree → Tree
 with_bytes n bytes t = record t { bytes = λ k. if k == n then Some bytes else t.bytes k }
 
+-- the tree with a descriptor open by this description, or free
 abbrev pub with_descriptor : ℕ → Option Description → Tree → Tree
 with_descriptor d f t = record t { descriptors = λ k. if k == d then f else t.descriptors k }
 
--- a new directory at a path, with its number and mode
+-- the tree with a new directory at a path, of this number and mode
 abbrev pub with_directory : Path → ℕ → ℕ → Tree → Tree
 with_directory p n mode t = with_object p (directory n) (with_mode n mode t)
 
--- a new file, of no bytes
+-- the tree with a new file of no bytes at a path, of this number and mode
 abbrev pub with_file : Path → ℕ → ℕ → Tree → Tree
 with_file p n mode t = with_object p (file n) (with_mode n mode (with_bytes n [] t))
 
+-- what a move from p leaves at a path r: below the target what stood below p, below p nothing, and elsewhere what stood
+-- there
 abbrev pub relocate : {X : Type 0} → Option Path → Option Path → Path → (Path → Option X) → Path → Option X
 relocate (Some rest) o p f r = f (p ++ rest)
 relocate None (Some rest) p f r = None
 relocate None None p f r = f r
 
--- what stood at p and below it stands at q and below it, in place of what stood there
+-- a map from paths after a move: what stood at p and below it stands at q and below it, in place of what stood there
 abbrev pub relocated : {X : Type 0} → Path → Path → (Path → Option X) → Path → Option X
 relocated p q f r = relocate (behind q r) (behind p r) p f r
 
+-- the tree after a move of p, with all below it, to q
 abbrev pub moved : Path → Path → Tree → Tree
 moved p q t = record t { objects = relocated p q t.objects }
 
--- what has neither path nor descriptor any more has no bytes and no mode
+-- the new tree is the old one without the bytes and modes of numbers that have neither path nor descriptor
 pub record IsSwept (old new : Tree) : Type 0 where
   pub objects : new.objects ≡ old.objects
   pub descriptors : new.descriptors ≡ old.descriptors

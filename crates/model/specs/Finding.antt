@@ -7,21 +7,23 @@ use Rattle.model.specs.Paths.{Name, Path, parts, is_dot, is_dot_dot, is_empty, i
 use Rattle.model.specs.Resolution.{Resolution, named, missing, refused}
 use Rattle.model.specs.Volumes.{Node, directory_node, file_node, link_node, Volume, Entries, entries, number_at}
 
--- the directory at the end of a trail of numbers from the root's child down; the root's trail is empty
+-- the directory at the end of a trail of numbers, which go from the root's child down; the root's trail is empty
 abbrev pub here : List ℕ → ℕ
 here trail = get_or trail (length trail - 1) ROOT_NUMBER
 
--- the numbers at a path's beginnings, one by one
+-- the trail of a path: the numbers at its beginnings, one by one
 pub record Trails (e : Entries) (p : Path) (trail : List ℕ) : Type 0 where
   pub size : length trail ≡ length p
   pub each : (i : ℕ) → i ≤ length p → number_at e (take i p) ≡ Some (here (take i trail))
 
+-- where a search by numbers ends: at a directory, at an entry, at a missing name, or with a refusal
 pub data Place : Type 0 where
   at_directory : List ℕ → Place  -- the one at the end of the trail
   at_entry : List ℕ → Name → ℕ → Place  -- this number stands at this name in the directory at the end of the trail
   at_gap : List ℕ → Name → Place  -- nothing has this name in it
   at_refusal : Errno → Place
 
+-- what one part of a path does to a search, from a directory
 pub data Turn : Type 0 where
   stays_on : List ℕ → Turn  -- by `.` or `..`, to the end of this trail
   enters : ℕ → Turn  -- a directory
@@ -31,17 +33,19 @@ pub data Turn : Type 0 where
   finds_damage : Turn  -- a number that no object has
   finds_long : Turn
 
--- what stands at a number that a name leads to
+-- the turn at a number that a name leads to, by the object that has it
 abbrev pub turn_at : ℕ → Option Node → Turn
 turn_at n None = finds_damage
 turn_at n (Some (directory_node mode names)) = enters n
 turn_at n (Some (file_node mode links bytes)) = ends_at n
 turn_at n (Some (link_node text)) = follows n text
 
+-- the turn by a name, which leads to a number or to none
 abbrev pub turn_by : Volume → Option ℕ → Turn
 turn_by v None = finds_nothing
 turn_by v (Some n) = turn_at n (v n)
 
+-- the turn by a part of a path, from the directory at the end of a trail
 abbrev pub turn : Volume → List ℕ → Name → Turn
 turn v trail part =
     if is_dot part then stays_on trail
@@ -49,10 +53,13 @@ turn v trail part =
     else if is_too_long part then finds_long
     else turn_by v (entries v (here trail) part)
 
+-- where a walk over parts ends: at a place, or at a link that is followed, with its directory's trail, its text and the
+-- parts that are left
 pub data Halt : Type 0 where
   halts : Place → Halt
   halts_at_link : List ℕ → List ℕ → List Name → Halt
 
+-- the walk over parts from the end of a trail; follow says whether a link with no part behind it is followed
 abbrev pub find_along : Volume → Bool → List ℕ → List Name → Halt
 find_along v follow trail [] = halts (at_directory trail)
 find_along v follow trail (part ∷ rest) =
@@ -66,15 +73,17 @@ find_along v follow trail (part ∷ rest) =
       | finds_long ↦ halts (at_refusal ENAMETOOLONG)
     ]
 
+-- the search behind a link: its parts are put before the rest, from the root or from the directory that it stands in
 abbrev pub find_on : (List ℕ → List Name → Place) → Halt → Place
 find_on again (halts place) = place
 find_on again (halts_at_link trail text rest) = again (if starts_with_slash text then [] else trail) (parts text ++ rest)
 
+-- the search for parts from the end of a trail, while so many links may still be followed
 abbrev pub find_within : ℕ → Volume → Bool → List ℕ → List Name → Place
 find_within zero v follow trail names = find_on (λ _ _. at_refusal ELOOP) (find_along v follow trail names)
 find_within (suc links) v follow trail names = find_on (find_within links v follow) (find_along v follow trail names)
 
--- a place is where a resolution leads
+-- a place found by numbers is where the resolution by paths leads
 abbrev pub IsPlaceOf : Volume → Place → Resolution → Type 0
 IsPlaceOf v (at_directory trail) (named p) = Trails (entries v) p trail
 IsPlaceOf v (at_entry trail x n) (named q) = (p : Path) × Trails (entries v) p trail × (q ≡ p ++ x ∷ []) × (entries v (here trail) x ≡ Some n)

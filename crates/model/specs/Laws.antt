@@ -38,21 +38,21 @@ RefusesByItsOwn =
     (room : Room) (s new : State) (command : Command) (need : Need) (errno : Errno)
     → WouldStep room s command (Refused errno) new need → IsTrue (is_own errno)
 
--- and a refusal changes nothing
+-- where nothing comes in its way, a refused command changes nothing and needs nothing
 abbrev pub RefusalsChangeNothing : Type 0
 RefusalsChangeNothing =
     (room : Room) (s new : State) (command : Command) (need : Need) (errno : Errno)
     → WouldStep room s command (Refused errno) new need → (new ≡ s) × (need ≡ nothing)
 
--- A replayed volume follows the running one: a record that applies to this applies to that, and what the running volume
--- drops at once, the replayed one may keep.
+-- a replayed volume follows the running one: a record that applies to this applies to that, and what the running volume
+-- drops at once, the replayed one may keep
 abbrev pub ReplayFollows : Type 0
 ReplayFollows =
     (inodes : ℕ) (running replayed : Volume) (table : ℕ → Option Description) (change : Change)
     → Extends running replayed → Applies inodes running change
     → Applies inodes replayed change × Extends (swept table (applied change running)) (applied change replayed)
 
--- and once the files without names are dropped, both are the same
+-- once the files without names are dropped, the replayed volume and the running one are the same
 abbrev pub ReplayEndsSame : Type 0
 ReplayEndsSame = (running replayed : Volume) → Extends running replayed → without_nameless replayed ≡ without_nameless running
 
@@ -68,7 +68,7 @@ IsPathCall (call.Mkdir path mode) = mode ≤ MODE_BITS
 IsPathCall (call.Chmod path mode) = mode ≤ MODE_BITS
 IsPathCall c = Unit {0}
 
--- and what the types of a command hold it to
+-- what the types of a command hold it to: a mode has twelve bits
 abbrev pub IsCommand : Command → Type 0
 IsCommand (command.Path c) = IsPathCall c
 IsCommand (command.Within name c) = IsPathCall c
@@ -81,13 +81,13 @@ CommandsLeaveStates =
     (room : Room) (s new : State) (command : Command) (reply : Reply) (need : Need)
     → IsState s → IsCommand command → WouldStep room s command reply new need → IsState new
 
--- and so is each outcome that the definitions allow
+-- each outcome that the definitions allow of a command on a state is a state, whatever came in its way
 abbrev pub AllowedAreStates : Type 0
 AllowedAreStates =
     (c : Circumstances) (s new : State) (command : Command) (reply : Reply)
     → IsState s → IsCommand command → Allowed c s command reply new → IsState new
 
--- a file system as it is made is a state, and so is what a mount finds of one
+-- a file system as it is made is a state, and so is what a mount finds of a state
 abbrev pub MountsFindStates : Type 0
 MountsFindStates = ((inodes : ℕ) → IsState (empty inodes)) × ((old new : State) → IsState old → Forgets old new → IsState new)
 
@@ -96,12 +96,12 @@ abbrev pub RecordsKeepVolumes : Type 0
 RecordsKeepVolumes =
     (inodes : ℕ) (v : Volume) (change : Change) → IsVolume inodes v → Applies inodes v change → IsVolume inodes (applied change v)
 
--- and so does dropping what became nameless
+-- a volume without the files that have neither name nor descriptor is a volume
 abbrev pub SweepsKeepVolumes : Type 0
 SweepsKeepVolumes = (inodes : ℕ) (v : Volume) (table : ℕ → Option Description) → IsVolume inodes v → IsVolume inodes (swept table v)
 
--- Of a mounted volume, a record that applies leaves a mounted one once what became nameless is dropped, and it does to the
--- tree what the call in whose words it is said does. A new object takes a number that nothing has.
+-- of a mounted volume, a record that applies leaves a mounted one once what became nameless is dropped, and it does to
+-- the tree what the call in whose words it is said does, where a new object takes a number that nothing has
 abbrev pub RecordsChangeTrees : Type 0
 RecordsChangeTrees =
     (inodes : ℕ) (v : Volume) (table : ℕ → Option Description) (change : Change)
@@ -120,7 +120,8 @@ ResolvesByNumbers =
     (inodes : ℕ) (v : Volume) (table : ℕ → Option Description) (follow : Bool) (text : List ℕ)
     → IsVolume inodes v → IsPlaceOf v (find_within LINKS_FOLLOWED v follow [] (parts text)) (resolve (tree_of v table) follow text)
 
--- what isn't a file and isn't the root lies on the trail to a directory just where its path is a beginning of that one's
+-- what isn't a file and isn't the root lies on the trail to a directory just where its path is a beginning of that
+-- one's
 abbrev pub TrailsTellBelow : Type 0
 TrailsTellBelow =
     (inodes : ℕ) (v : Volume) (p w : Path) (trail : List ℕ) (n : ℕ)
@@ -140,20 +141,20 @@ VolumesTellFresh =
     (inodes : ℕ) (v : Volume) (table : ℕ → Option Description) (n : ℕ) → IsVolume inodes v → IsMounted v table
     → FIRST_NUMBER ≤ n → n < inodes → v n ≡ None → ((k : ℕ) → FIRST_NUMBER ≤ k → k < n → IsSome (v k)) → IsFresh inodes (tree_of v table) n
 
--- and a file's count of names is its count of paths
+-- in a volume, a file's count of names is its count of paths
 abbrev pub VolumesTellLinks : Type 0
 VolumesTellLinks =
     (inodes : ℕ) (v : Volume) (table : ℕ → Option Description) (n mode links : ℕ) (bytes : List ℕ) → IsVolume inodes v
     → v n ≡ Some (file_node mode links bytes) → HasLinks (tree_of v table) (file n) links
 
--- a record costs the same in a replay
+-- a record costs the same in a replay as when it was logged
 abbrev pub ReplaysCostTheSame : Type 0
 ReplaysCostTheSame =
     (inodes : ℕ) (running replayed : Volume) (change : Change)
     → Extends running replayed → Applies inodes running change → work_of replayed change ≡ work_of running change
 
--- commands that span a time are a run
 module _ {System : Type 0} (state_of : System → State) (Between : System → Command → System → Circumstances → Type 0) {Images : Type 0} (left_at : ℕ → Images → Type 0) (Opens : Images → State → Type 0) where
+  -- commands that span a time are a run
   abbrev pub SpansAreRuns : Type 0
   SpansAreRuns =
       (steps : List (Command × Reply)) (f last : System) (a b : ℕ)
@@ -164,13 +165,13 @@ abbrev pub ReplaysKeepVolumes : Type 0
 ReplaysKeepVolumes =
     (inodes : ℕ) (v : Volume) (changes : List Change) (w : Volume) → IsVolume inodes v → Replays inodes v changes w → IsVolume inodes w
 
--- a mount finds a mounted volume, with no file open
+-- a mount finds a mounted volume, with no file open: the replayed one without the files that have no name
 abbrev pub MountsFind : Type 0
 MountsFind =
     (inodes : ℕ) (w : Volume) → IsVolume inodes w
     → IsVolume inodes (without_nameless w) × IsMounted (without_nameless w) (λ d. None)
 
--- and its tree is that of the running volume with its open files forgotten
+-- the tree that a mount finds is that of the running volume with its open files forgotten
 abbrev pub MountsForget : Type 0
 MountsForget =
     (inodes : ℕ) (running replayed : Volume) (table : ℕ → Option Description) → IsVolume inodes running → Extends running replayed

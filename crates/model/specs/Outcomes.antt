@@ -15,7 +15,7 @@ use Rattle.model.specs.Edits.{IsSwept}
 use Rattle.model.specs.Resolution.{Resolution, named, missing, refused}
 use Rattle.model.specs.Room.{Need, nothing}
 
--- a reply, the tree that the call leaves, and what it needs
+-- what a call comes to: its reply, the tree that it leaves, and what it needs of room
 abbrev pub Outcome : Type 1
 Outcome = Reply → Tree → Need → Type 0
 
@@ -23,45 +23,46 @@ Outcome = Reply → Tree → Need → Type 0
 abbrev pub answers : Tree → Reply → Outcome
 answers t answer reply new need = (reply ≡ answer) × (new ≡ t) × (need ≡ nothing)
 
+-- this refusal, and nothing changes
 abbrev pub refuses : Tree → Errno → Outcome
 refuses t errno = answers t (Refused errno)
 
--- this reply and this tree
+-- this reply and this tree, for this need
 abbrev pub changes : Reply → Tree → Need → Outcome
 changes answer t cost reply new need = (reply ≡ answer) × (new ≡ t) × (need ≡ cost)
 
--- this reply, and this tree without what has neither path nor descriptor any more
+-- this reply, and this tree without what has neither path nor descriptor any more, for this need
 abbrev pub changes_swept : Reply → Tree → Need → Outcome
 changes_swept answer t cost reply new need = (reply ≡ answer) × IsSwept t new × (need ≡ cost)
 
--- the first of these tests that holds refuses the call
+-- the first of these tests that holds refuses the call, and else it goes on
 abbrev pub tested : Tree → Tests → Outcome → Outcome
 tested t tests rest = elim (first_refusal tests) [ Some errno ↦ refuses t errno | None ↦ rest ]
 
--- the one where the test holds, else the other
+-- one outcome where a test holds, else the other
 abbrev pub either : Bool → Outcome → Outcome → Outcome
 either test this other = elim test [ true ↦ this | false ↦ other ]
 
--- where a text leads: to what stands at a path, or to a name that is missing in a directory
+-- a call goes on where a path leads: to what stands there, or to a name that is missing in a directory
 abbrev pub leads : Tree → Resolution → (Path → Object → Outcome) → (Path → Name → Outcome) → Outcome
 leads t (refused errno) there gone = refuses t errno
 leads t (missing p name) there gone = gone p name
 leads t (named p) there gone = elim (t.objects p) [ Some o ↦ there p o | None ↦ λ _ _ _. ⊥ ]  -- something stands there
 
--- the same, and nothing may be missing
+-- a call goes on with what stands where a path leads, and a missing name is ENOENT
 abbrev pub leads_to : Tree → Resolution → (Path → Object → Outcome) → Outcome
 leads_to t r there = leads t r there (λ p name. refuses t ENOENT)
 
--- the names in the directory at p, sorted by their bytes, each once
+-- the names in the directory at a path, sorted by their bytes, each once
 pub record IsListing (t : Tree) (p : Path) (names : List Name) : Type 0 where
   pub sorted : IsStrictlySortedBy (slice_cmp nat_cmp) names
   pub whole : (name : Name) → Contains names name ↔ IsSome (t.objects (p ++ name ∷ []))
 
--- with the names in a directory
+-- a call goes on with the names in a directory
 abbrev pub with_names : Tree → Path → (List Name → Outcome) → Outcome
 with_names t p rest reply new need = (names : List Name) × IsListing t p names × rest names reply new need
 
--- a directory takes one more name
+-- a call goes on where a directory has room for one more name, and else is refused with DIRFULL
 abbrev pub with_place : Tree → Path → Outcome → Outcome
 with_place t p rest = with_names t p (λ names. tested t ((nat_le DIRECTORY_NAMES (length names), DIRFULL) ∷ []) rest)
 
@@ -72,25 +73,27 @@ pub record IsFresh (inodes : ℕ) (t : Tree) (n : ℕ) : Type 0 where
   pub free : ¬ IsUsed t n
   pub least : (k : ℕ) → FIRST_NUMBER ≤ k → k < n → IsUsed t k
 
--- a new object finds no number
+-- no number is left for a new object
 abbrev pub HasNoFresh : ℕ → Tree → Type 0
 HasNoFresh inodes t = (k : ℕ) → FIRST_NUMBER ≤ k → k < inodes → IsUsed t k
 
+-- a call goes on with a number, and without one is refused with NONUMBER
 abbrev pub at_number : Tree → (ℕ → Outcome) → Option ℕ → Outcome
 at_number t rest None = refuses t NONUMBER
 at_number t rest (Some n) = rest n
 
--- with the number of a new object
+-- a call goes on with the number of a new object, where one is left
 abbrev pub with_fresh : ℕ → Tree → (ℕ → Outcome) → Outcome
 with_fresh inodes t rest reply new need =
     (free : Option ℕ) × MatchOption free (HasNoFresh inodes t) (IsFresh inodes t) × at_number t rest free reply new need
 
--- so many paths lead to an object: those of a file; a directory and a link show 1
+-- the links that an object shows: of a file as many as paths lead to it, of a directory and a link 1
 abbrev pub HasLinks : Tree → Object → ℕ → Type 0
 HasLinks t (directory n) count = count ≡ 1
 HasLinks t (symlink n text) count = count ≡ 1
 HasLinks t (file n) count = Counts (λ p. t.objects p ≡ Some (file n)) count
 
+-- a call goes on with the links that an object shows
 abbrev pub with_links : Tree → Object → (ℕ → Outcome) → Outcome
 with_links t o rest reply new need = (count : ℕ) × HasLinks t o count × rest count reply new need
 
@@ -99,6 +102,6 @@ abbrev pub lowest_free : (ℕ → Option Description) → ℕ → Option ℕ
 lowest_free table zero = None
 lowest_free table (suc d) = elim (lowest_free table d) [ Some k ↦ Some k | None ↦ if is_none (table d) then Some d else None ]
 
--- with the description of an open descriptor
+-- a call goes on with the description of an open descriptor, and else is refused with EBADF
 abbrev pub described : Tree → ℕ → (Description → Outcome) → Outcome
 described t d rest = elim (t.descriptors d) [ Some f ↦ rest f | None ↦ refuses t EBADF ]

@@ -14,15 +14,19 @@ Name = List ℕ
 abbrev pub Path : Type 0
 Path = List Name
 
+-- the byte is a slash
 abbrev pub is_slash : ℕ → Bool
 is_slash byte = byte == 47
 
+-- the part is `.`, which stands for the directory itself
 abbrev pub is_dot : Name → Bool
 is_dot part = bytes_eq part (codes ".")
 
+-- the part is `..`, which stands for the parent
 abbrev pub is_dot_dot : Name → Bool
 is_dot_dot part = bytes_eq part (codes "..")
 
+-- the list has no elements
 abbrev pub is_empty : {X : Type 0} → List X → Bool
 is_empty xs = length xs == 0
 
@@ -40,19 +44,23 @@ pub record IsLinkText (text : List ℕ) : Type 0 where
   pub short : length text ≤ PATH_BYTES
   pub plain : All (λ byte. byte ≢ 0) text
 
--- the parts of a text: what stands between its slashes. Runs of slashes count as one
+-- the parts of a text: what stands between its slashes, where runs of slashes count as one
 abbrev pub parts : List ℕ → List Name
 parts text = filter (λ part. not (is_empty part)) (slice_split is_slash text)
 
+-- the text begins with a slash: it leads from the root
 abbrev pub starts_with_slash : List ℕ → Bool
 starts_with_slash text = is_slash (slice_index text 0)
 
+-- the text ends with a slash
 abbrev pub ends_with_slash : List ℕ → Bool
 ends_with_slash text = is_slash (slice_index text (length text - 1))
 
+-- the part is longer than a name may be
 abbrev pub is_too_long : Name → Bool
 is_too_long part = nat_lt NAME_BYTES (length part)
 
+-- the last part of a text
 abbrev pub last_part : List ℕ → Name
 last_part text = slice_index_or (parts text) (length (parts text) - 1) []
 
@@ -76,11 +84,11 @@ text_tests_then more text =
     ∷ (list_any is_too_long (parts text), ENAMETOOLONG)
     ∷ more
 
--- a text that names something that is there
+-- the tests of a text that names something that is there
 abbrev pub text_tests : List ℕ → Tests
 text_tests = text_tests_then []
 
--- a text that names something to be made or taken away: its last part is a name
+-- the tests of a text that names something to be made or taken away: its last part is a name
 abbrev pub new_text_tests : List ℕ → Tests
 new_text_tests text = text_tests_then ((is_dot (last_part text) || is_dot_dot (last_part text), EINVAL) ∷ []) text
 
@@ -98,5 +106,6 @@ behind (x ∷ front) (y ∷ p) = if bytes_eq x y then behind front p else None
 abbrev pub begins_with : Path → Path → Bool
 begins_with p front = is_some (behind front p)
 
+-- two paths are the same
 abbrev pub path_eq : Path → Path → Bool
 path_eq = pointwise bytes_eq

@@ -11,29 +11,36 @@ use Rattle.model.specs.Edits.{contents, read_at}
 use Rattle.model.specs.Resolution.{resolve}
 use Rattle.model.specs.Outcomes.{Outcome, answers, refuses, tested, leads_to, with_names, with_links}
 
+-- an offset or a size is below zero
 abbrev pub is_negative : ℤ → Bool
 is_negative (pos n) = false
 is_negative (negsuc n) = true
 
--- no more bytes at once
+-- so many bytes are more than one call reads or writes
 abbrev pub is_too_many : ℕ → Bool
 is_too_many count = nat_lt TRANSFER_BYTES count
 
+-- the mode that an object shows: a link shows 0777, another object its own
 abbrev pub shown_mode : Tree → Object → ℕ
 shown_mode t (symlink n text) = 0o777
 shown_mode t o = unwrap_or (t.mode (number o)) 0
 
+-- what `stat` tells of an object: number, kind, mode, links and size, which is 0 for a directory and the length of its
+-- text for a link
 abbrev pub stat_of : Tree → Object → ℕ → Stat
 stat_of t (directory n) links = record { number = n; kind = kind.Dir; mode = shown_mode t (directory n); links = links; size = 0 }
 stat_of t (symlink n text) links = record { number = n; kind = kind.Link; mode = shown_mode t (symlink n text); links = links; size = length text }
 stat_of t (file n) links = record { number = n; kind = kind.File; mode = shown_mode t (file n); links = links; size = length (contents t n) }
 
+-- the reply is what `stat` tells of an object
 abbrev pub tells_stat : Tree → Object → Outcome
 tells_stat t o = with_links t o (λ links. answers t (reply.Stat (stat_of t o links)))
 
+-- `stat` and `lstat`: what is told of the object that a path leads to, where `stat` follows a last link
 abbrev pub stats : Tree → Bool → List ℕ → Outcome
 stats t follow path = tested t (text_tests path) (leads_to t (resolve t follow path) (λ p o. tells_stat t o))
 
+-- `readlink`: the text of the link that a path leads to
 abbrev pub reads_link : Tree → List ℕ → Outcome
 reads_link t path =
     tested t (text_tests path) (leads_to t (resolve t false path) (λ p o. elim o [
@@ -42,6 +49,7 @@ reads_link t path =
       | file n ↦ refuses t EINVAL
     ]))
 
+-- `list`: the names in the directory that a path leads to, sorted by their bytes
 abbrev pub lists : Tree → List ℕ → Outcome
 lists t path =
     tested t (text_tests path) (leads_to t (resolve t true path) (λ p o. elim o [
@@ -50,6 +58,7 @@ lists t path =
       | file n ↦ refuses t ENOTDIR
     ]))
 
+-- `get`: as many bytes as asked and there, of the file that a path leads to, from an offset on
 abbrev pub gets : Tree → List ℕ → ℤ → ℕ → Outcome
 gets t path offset count =
     tested t (text_tests_then ((is_negative offset || is_too_many count, EINVAL) ∷ []) path)

@@ -7,13 +7,13 @@ use Rattle.model.specs.Edits.{written, resized}
 use Rattle.model.specs.Room.{Room, Work, adds_name, removes_name, puts_bytes, changes_size, changes_bits, cost}
 use Rattle.model.specs.Volumes.{Node, directory_node, file_node, link_node, Volume, Entries, entries, enter, bytes_of, with_node, is_file_node, is_directory_node, is_nameless, created, linked, unnamed, renamed, swept_node}
 
--- what is made
+-- what a record makes, with all that a call gives it
 pub data Made : Type 0 where
   file : (mode : ℕ) → Made
   directory : (mode : ℕ) → Made
   symbolic_link : (text : List ℕ) → Made
 
--- what a record says
+-- what a record of the log says
 pub data Change : Type 0 where
   create : (number parent : ℕ) → (made : Made) → (name : List ℕ) → Change
   link : (number parent : ℕ) → (name : List ℕ) → Change
@@ -23,22 +23,24 @@ pub data Change : Type 0 where
   cut : (number size : ℕ) → Change
   change_mode : (number mode : ℕ) → Change
 
--- the object that is made, with its one name; a directory is empty
+-- the object that a record makes, with its one name; a file has no bytes and a directory no names
 abbrev pub node_of : Made → Node
 node_of (file mode) = file_node mode 1 []
 node_of (directory mode) = directory_node mode (λ x. None)
 node_of (symbolic_link text) = link_node text
 
+-- an object with its bytes changed, where it is a file
 abbrev pub with_file_bytes : (List ℕ → List ℕ) → Option Node → Option Node
 with_file_bytes f (Some (file_node mode links bytes)) = Some (file_node mode links (f bytes))
 with_file_bytes f o = o
 
+-- an object with this mode, where it is a directory or a file
 abbrev pub with_node_mode : ℕ → Option Node → Option Node
 with_node_mode mode (Some (directory_node old names)) = Some (directory_node mode names)
 with_node_mode mode (Some (file_node old links bytes)) = Some (file_node mode links bytes)
 with_node_mode mode o = o
 
--- the volume that a record leaves. A file without names stays in it
+-- the volume that a record leaves, where a file stays that has no name any more
 abbrev pub applied : Change → Volume → Volume
 applied (create number parent made name) v = created number parent name (node_of made) v
 applied (link number parent name) v = linked number parent name v
@@ -61,21 +63,22 @@ pub record TakesName (v : Volume) (d : ℕ) (x : Name) : Type 0 where
   pub counts : Counts (λ y. IsSome (entries v d y)) count
   pub room : count < DIRECTORY_NAMES
 
--- no names are in it
+-- there are no names in the object of this number
 abbrev pub IsEmpty : Volume → ℕ → Type 0
 IsEmpty v n = (x : Name) → entries v n x ≡ None
 
--- the limits of what is made
+-- what a record makes keeps to the limits
 abbrev pub IsMade : Made → Type 0
 IsMade (file mode) = mode ≤ MODE_BITS
 IsMade (directory mode) = mode ≤ MODE_BITS
 IsMade (symbolic_link text) = IsLinkText text
 
--- nothing has the number, or a file that has no name any more
+-- a new object may have this number in a replay: nothing has it, or a file that has no name any more
 abbrev pub is_vacant : Option Node → Bool
 is_vacant None = true
 is_vacant o = is_nameless o
 
+-- the record of a creation applies: its number is vacant, and its name can be put into a directory
 pub record CanCreate (inodes : ℕ) (v : Volume) (number parent : ℕ) (made : Made) (name : Name) : Type 0 where
   pub low : FIRST_NUMBER ≤ number
   pub high : number < inodes
@@ -83,6 +86,8 @@ pub record CanCreate (inodes : ℕ) (v : Volume) (number parent : ℕ) (made : M
   pub takes : TakesName v parent name
   pub good : IsMade made
 
+-- the record of a link applies: its number is that of a file with fewer names than the limit, and its name can be put
+-- into a directory
 pub record CanLink (v : Volume) (number parent : ℕ) (name : Name) : Type 0 where
   pub mode : ℕ
   pub links : ℕ
@@ -91,17 +96,19 @@ pub record CanLink (v : Volume) (number parent : ℕ) (name : Name) : Type 0 whe
   pub few : links < FILE_NAMES
   pub takes : TakesName v parent name
 
+-- the record of a removal applies: its name is there, and a directory that it takes away is empty
 pub record CanUnname (v : Volume) (parent : ℕ) (name : Name) : Type 0 where
   pub number : ℕ
   pub there : entries v parent name ≡ Some number
   pub empty : IsEmpty v number
 
--- what may have the name before: nothing, where the directory has the object already or takes one more name; or another
--- object of the kind, a directory only where it is empty
+-- what may have the new name before a move: nothing, where the directory has the object already or takes one more name;
+-- or another object of the kind, a directory only where it is empty
 abbrev pub CanReplace : Volume → ℕ → ℕ → Name → ℕ → Option ℕ → Type 0
 CanReplace v d k y n None = (d ≡ k) ⊎ TakesName v k y
 CanReplace v d k y n (Some m) = (m ≢ n) × (is_directory_node (v m) ≡ is_directory_node (v n)) × IsEmpty v m
 
+-- the record of a move applies: its name is there, it puts no directory below itself, and its target can take it
 pub record CanRename (v : Volume) (d : ℕ) (x : Name) (k : ℕ) (y : Name) : Type 0 where
   pub number : ℕ
   pub there : entries v d x ≡ Some number
@@ -110,7 +117,8 @@ pub record CanRename (v : Volume) (d : ℕ) (x : Name) (k : ℕ) (y : Name) : Ty
   pub outside : ¬ IsBelow (entries v) number k
   pub replaces : CanReplace v d k y number (entries v k y)
 
--- a record applies
+-- a record applies to a volume of so many inodes: its numbers have the right kinds, its names can be taken away or put
+-- in, and no limit is passed
 abbrev pub Applies : ℕ → Volume → Change → Type 0
 Applies inodes v (create number parent made name) = CanCreate inodes v number parent made name
 Applies inodes v (link number parent name) = CanLink v number parent name
@@ -127,17 +135,17 @@ abbrev pub Replays : ℕ → Volume → List Change → Volume → Type 0
 Replays inodes v [] w = w ≡ v
 Replays inodes v (change ∷ changes) w = Applies inodes v change × Replays inodes (applied change v) changes w
 
--- behind the last record, no file is open
+-- the volume without the files that have no name, as it is behind the last record, when no file is open
 abbrev pub without_nameless : Volume → Volume
 without_nameless v n = swept_node false (v n)
 
--- A replayed volume has what the running one has, and beside it files without names, which the running one dropped when
--- they were closed.
+-- a replayed volume has what the running one has, and beside it only files without names, which the running one has
+-- dropped
 pub record Extends (running replayed : Volume) : Type 0 where
   pub kept : (n : ℕ) → IsSome (running n) → replayed n ≡ running n
   pub rest : (n : ℕ) → running n ≡ None → IsTrue (is_vacant (replayed n))
 
--- what a record makes a consistency point store
+-- the work that a record makes for a consistency point, by the volume that it changes
 abbrev pub work_of : Volume → Change → Work
 work_of v (create number parent made name) = adds_name
 work_of v (link number parent name) = adds_name
@@ -152,13 +160,13 @@ abbrev pub costs : Volume → List Change → ℕ
 costs v [] = 0
 costs v (change ∷ changes) = cost (work_of v change) + costs (applied change v) changes
 
--- the files without names among the first so many numbers
+-- how many of the first so many numbers are files without names
 abbrev pub count_nameless : ℕ → Volume → ℕ
 count_nameless zero v = 0
 count_nameless (suc n) v = count_nameless n v + (if is_nameless (v n) then 1 else 0)
 
--- the blocks that a consistency point may store for what the settled root doesn't cover: these records, and 4 for each file
--- without names in the settled root's volume
+-- the blocks that a consistency point may store for what the settled root doesn't cover: these records, and 4 for each
+-- file without names in the settled root's volume
 abbrev pub pledged_for : ℕ → Volume → List Change → ℕ
 pledged_for inodes settled changes = 4 * count_nameless inodes settled + costs settled changes
 
@@ -166,7 +174,8 @@ pledged_for inodes settled changes = 4 * count_nameless inodes settled + costs s
 abbrev pub IsCovered : Volume → Volume → List Change → Type 0
 IsCovered settled now changes = (settled ≡ now) × (changes ≡ [])
 
--- the room that a system tells, whose settled root has one volume, with these records beside it, and which is another now
+-- the room that a system tells, by the volume of its settled root, the records beside it and its volume now: what is
+-- pledged for these, and that it is covered only where that root has all
 pub record TellsRoom (inodes : ℕ) (settled now : Volume) (changes : List Change) (room : Room) : Type 0 where
   pub pledged : room.pledged ≡ pledged_for inodes settled changes
   pub covered : IsTrue room.is_covered → IsCovered settled now changes

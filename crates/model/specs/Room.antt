@@ -1,7 +1,7 @@
 -- The room of the disk: what a call asks of the blocks that are left.
 use Rattle.std.specs.Prelude.{ℕ, ◌+◌, ◌-◌, ◌*◌, ◌/◌, ◌<◌, nat_lt, if◌then◌else◌, Bool, IsTrue}
 
--- what a record of the log makes a consistency point store
+-- the kind of work that a record of the log makes for a consistency point
 pub data Work : Type 0 where
   adds_name : Work  -- it creates, links or renames
   removes_name : Work
@@ -9,7 +9,7 @@ pub data Work : Type 0 where
   changes_size : (size to : ℕ) → Work
   changes_bits : Work  -- of a mode
 
--- the blocks of 4,096 bytes that so many bytes at an offset touch
+-- how many blocks of 4,096 bytes so many bytes at an offset touch
 abbrev pub touched : ℕ → ℕ → ℕ
 touched offset count = (offset + count + 4095) / 4096 - offset / 4096
 
@@ -21,7 +21,7 @@ cost (puts_bytes size offset count) = 2 * touched offset count + 6
 cost (changes_size size to) = 6
 cost changes_bits = 2
 
--- the blocks that stay free behind it, so that files can still be taken away
+-- the blocks that stay free behind a record, so that files can still be taken away
 abbrev pub keep : Work → ℕ
 keep adds_name = 16
 keep removes_name = 0
@@ -46,7 +46,7 @@ pub record Room : Type 0 where
   pub pledged : ℕ  -- blocks that a consistency point may store for what the settled root doesn't cover
   pub is_covered : Bool  -- the settled root has the tree as it is now, and no record stands beside it
 
--- the room isn't enough, although the settled root covers all that was done
+-- the room isn't enough for a need, although the settled root covers all that was done
 abbrev pub IsShort : Room → Need → Type 0
 IsShort room nothing = ⊥
 IsShort room (logs work) = IsTrue room.is_covered × (room.free < room.pledged + cost work + fixed_of room.blocks + keep work)

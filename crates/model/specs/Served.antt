@@ -3,7 +3,7 @@ use Rattle.model.specs.declared.command.Command.{Command}
 use Rattle.model.specs.declared.command.Command.TheVariants as command
 use Rattle.model.specs.declared.command.PathCall.TheVariants as call
 
--- `list` and `mkdir`
+-- the command is one that this version serves: `list` or `mkdir`
 abbrev pub IsServed : Command → Type 0
 IsServed (command.Path (call.List path)) = Unit {0}
 IsServed (command.Path (call.Mkdir path mode)) = Unit {0}

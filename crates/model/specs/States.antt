@@ -4,17 +4,19 @@ use Rattle.model.specs.declared.limits.TheConstants.{SNAPSHOTS, SNAPSHOT_NAME_BY
 use Rattle.model.specs.Paths.{Name}
 use Rattle.model.specs.Trees.{Tree, IsTree, HasPath, root_alone}
 
+-- whether a system goes on, or waits for a mount after a failed write
 pub data Mark : Type 0 where
   going : Mark
   failed : Mark  -- a write or a sync failed
 
+-- what a file system shows: its tree, its snapshots, and whether it goes on
 pub record State : Type 0 where
   pub inodes : ℕ  -- numbers are below this, and no command changes it
   pub tree : Tree
   pub snapshots : List (Name × Tree)  -- each with the tree as it was taken, oldest first
   pub mark : Mark
 
--- a tree without descriptors, and so without files that have no name
+-- a snapshot's tree: one without descriptors, and so without files that have no name
 pub record IsFrozen (inodes : ℕ) (t : Tree) : Type 0 where
   pub tree : IsTree inodes t
   pub closed : t.descriptors ≡ (λ d. None)
@@ -24,7 +26,7 @@ pub record IsShortName (name : Name) : Type 0 where
   pub some : 1 ≤ length name
   pub short : length name ≤ SNAPSHOT_NAME_BYTES
 
--- what makes these a state
+-- what makes these a state: trees within the limits, and no more snapshots than the limit, each with a name of its own
 pub record IsState (s : State) : Type 0 where
   pub tree : IsTree s.inodes s.tree
   pub frozen : All (λ pair. IsFrozen s.inodes pair.1) s.snapshots
@@ -36,16 +38,19 @@ pub record IsState (s : State) : Type 0 where
 abbrev pub empty : ℕ → State
 empty n = record { inodes = n; tree = root_alone 0o755; snapshots = []; mark = going }
 
+-- the state with another tree
 abbrev pub with_tree : Tree → State → State
 with_tree t s = record s { tree = t }
 
+-- the state with other snapshots
 abbrev pub with_snapshots : List (Name × Tree) → State → State
 with_snapshots pairs s = record s { snapshots = pairs }
 
+-- the state of a system that failed, by a write or a sync
 abbrev pub as_failed : State → State
 as_failed s = record s { mark = failed }
 
--- the tree without its descriptors, and without the files that have no name
+-- the new tree is the old one without its descriptors, and without the files that have no name
 pub record ForgetsOpenFiles (old new : Tree) : Type 0 where
   pub objects : new.objects ≡ old.objects
   pub descriptors : new.descriptors ≡ (λ d. None)

@@ -18,7 +18,7 @@ use Rattle.model.specs.Reading.{lists, stats, reads_link, gets}
 use Rattle.model.specs.Changing.{makes_directory, makes_symlink, removes_directory, unlinks, links, renames, changes_mode, truncates}
 use Rattle.model.specs.Descriptors.{opens, closes, reads, reads_from, writes, writes_to, seeks, truncates_open, stats_open, syncs_open}
 
--- a reply, the state that a command leaves, and what it needs
+-- what a command comes to: its reply, the state that it leaves, and what it needs of room
 abbrev pub Step : Type 1
 Step = Reply → State → Need → Type 0
 
@@ -26,15 +26,15 @@ Step = Reply → State → Need → Type 0
 abbrev pub says : State → Reply → Step
 says s answer reply new need = (reply ≡ answer) × (new ≡ s) × (need ≡ nothing)
 
--- the first of these tests that holds refuses the command
+-- the first of these tests that holds refuses the command, and else it goes on
 abbrev pub passing : State → Tests → Step → Step
 passing s tests rest = elim (first_refusal tests) [ Some errno ↦ says s (Refused errno) | None ↦ rest ]
 
--- a call changes the tree alone
+-- what a call comes to on the state's tree, which alone it changes
 abbrev pub on_tree : State → Outcome → Step
 on_tree s outcome reply new need = outcome reply new.tree need × (new ≡ with_tree new.tree s)
 
--- the calls by path
+-- what each call by a path comes to on a tree
 abbrev pub calls : ℕ → Tree → PathCall → Outcome
 calls inodes t (call.List path) = lists t path
 calls inodes t (call.Stat path) = stats t true path
@@ -59,32 +59,35 @@ is_reading_call (call.Readlink path) = true
 is_reading_call (call.Get path offset count) = true
 is_reading_call _ = false
 
--- the frozen tree of this name
+-- the snapshot of this name
 abbrev pub frozen : State → Name → Option (Name × Tree)
 frozen s name = find (λ pair. bytes_eq pair.0 name) s.snapshots
 
--- a letter, a digit, or one of `.`, `_` and `-`
+-- a byte that a snapshot's name may have: a letter, a digit, or one of `.`, `_` and `-`
 abbrev pub is_name_byte : ℕ → Bool
 is_name_byte b =
     (nat_le 48 b && nat_le b 57) || (nat_le 65 b && nat_le b 90) || (nat_le 97 b && nat_le b 122) || b == 45 || b == 46 || b == 95
 
+-- no snapshot may have this name: it is empty, too long, or has another byte
 abbrev pub is_bad_name : List ℕ → Bool
 is_bad_name name = length name == 0 || nat_lt SNAPSHOT_NAME_BYTES (length name) || list_any (λ b. not (is_name_byte b)) name
 
+-- the tests of `snap take`: the name is good, no snapshot has it, and there is room for one more
 abbrev pub take_tests : State → Name → Tests
 take_tests s name =
     (is_bad_name name, BADNAME) ∷ (not (is_none (frozen s name)), SNAPEXISTS) ∷ (nat_le SNAPSHOTS (length s.snapshots), SNAPFULL) ∷ []
 
--- the tree without descriptors and nameless files is put behind the others
+-- `snap take`: the tree without descriptors and nameless files is put behind the other snapshots
 abbrev pub takes : State → Name → Step
 takes s name = passing s (take_tests s name) (λ reply new need.
     (reply ≡ Done) × ((t : Tree) × ForgetsOpenFiles s.tree t × (new ≡ with_snapshots (s.snapshots ++ (name, t) ∷ []) s)) × (need ≡ a_snapshot))
 
+-- `snap delete`: the snapshot of this name is taken off the list
 abbrev pub deletes : State → Name → Step
 deletes s name = passing s ((is_none (frozen s name), NOSNAP) ∷ [])
     (λ reply new need. (reply ≡ Done) × (new ≡ with_snapshots (filter (λ pair. not (bytes_eq pair.0 name)) s.snapshots) s) × (need ≡ nothing))
 
--- a call on a snapshot: it reads the frozen tree
+-- `in NAME`: a reading call on the snapshot's tree
 abbrev pub views : State → Name → PathCall → Step
 views s name c = elim (frozen s name) [
   | None ↦ says s (Refused NOSNAP)

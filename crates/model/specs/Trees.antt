@@ -10,11 +10,13 @@ pub data Object : Type 0 where
   symlink : ℕ → List ℕ → Object  -- and its text
   file : ℕ → Object
 
+-- an object's inode number
 abbrev pub number : Object → ℕ
 number (directory n) = n
 number (symlink n text) = n
 number (file n) = n
 
+-- a directory stands there
 abbrev pub is_directory : Option Object → Bool
 is_directory (Some (directory n)) = true
 is_directory _ = false
@@ -27,7 +29,7 @@ pub record Description : Type 0 where
   pub writes : Bool
   pub appends : Bool
 
--- four maps; `IsTree` says what they keep
+-- four maps: what stands at each path, the bytes and the modes by number, and the descriptors
 pub record Tree : Type 0 where
   pub objects : Path → Option Object
   pub bytes : ℕ → Option (List ℕ)  -- of the files, by their numbers

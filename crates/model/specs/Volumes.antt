@@ -20,13 +20,16 @@ Volume = ℕ → Option Node
 abbrev pub Entries : Type 0
 Entries = ℕ → Name → Option ℕ
 
+-- the number that an object has at a name: only a directory has any
 abbrev pub names_in : Option Node → Name → Option ℕ
 names_in (Some (directory_node mode names)) x = names x
 names_in _ x = None
 
+-- the entries of a volume's directories
 abbrev pub entries : Volume → Entries
 entries v n x = names_in (v n) x
 
+-- one step down from a number, by a name
 abbrev pub enter : Entries → Option ℕ → Name → Option ℕ
 enter e None x = None
 enter e (Some n) x = e n x
@@ -35,26 +38,30 @@ enter e (Some n) x = e n x
 abbrev pub number_at : Entries → Path → Option ℕ
 number_at e p = fold (enter e) (Some ROOT_NUMBER) p
 
+-- what a number stands for in a tree of paths, by its object
 abbrev pub object_of : ℕ → Option Node → Option Object
 object_of n None = None
 object_of n (Some (directory_node mode names)) = Some (directory n)
 object_of n (Some (file_node mode links bytes)) = Some (file n)
 object_of n (Some (link_node text)) = Some (symlink n text)
 
+-- what stands where this number is found, if one is
 abbrev pub object_at : Volume → Option ℕ → Option Object
 object_at v None = None
 object_at v (Some n) = object_of n (v n)
 
+-- a file's bytes; no other object has any
 abbrev pub bytes_of : Option Node → Option (List ℕ)
 bytes_of (Some (file_node mode links bytes)) = Some bytes
 bytes_of _ = None
 
+-- the mode of a directory or a file; a link has none
 abbrev pub mode_of : Option Node → Option ℕ
 mode_of (Some (directory_node mode names)) = Some mode
 mode_of (Some (file_node mode links bytes)) = Some mode
 mode_of _ = None
 
--- the tree of a volume, with these descriptors
+-- the tree that a volume stands for, with these descriptors
 abbrev pub tree_of : Volume → (ℕ → Option Description) → Tree
 tree_of v table = record {
   objects = λ p. object_at v (number_at (entries v) p);
@@ -63,33 +70,39 @@ tree_of v table = record {
   descriptors = table;
 }
 
--- what changes: one object, or one name of a directory
+-- the volume with another object, or none, at a number
 abbrev pub with_node : ℕ → Option Node → Volume → Volume
 with_node n node v k = if k == n then node else v k
 
+-- the entries with another number, or none, at a name of a directory
 abbrev pub with_edge : ℕ → Name → Option ℕ → Entries → Entries
 with_edge d x to e n y = if n == d && bytes_eq y x then to else e n y
 
+-- a directory with another number, or none, at a name
 abbrev pub set_name : Name → Option ℕ → Option Node → Option Node
 set_name x to (Some (directory_node mode names)) = Some (directory_node mode (λ y. if bytes_eq y x then to else names y))
 set_name x to o = o
 
+-- the volume with another number, or none, at a name of a directory
 abbrev pub with_entry : ℕ → Name → Option ℕ → Volume → Volume
 with_entry d x to v = with_node d (set_name x to (v d)) v
 
+-- the object is a file
 abbrev pub is_file_node : Option Node → Bool
 is_file_node (Some (file_node mode links bytes)) = true
 is_file_node _ = false
 
+-- the object is a directory
 abbrev pub is_directory_node : Option Node → Bool
 is_directory_node (Some (directory_node mode names)) = true
 is_directory_node _ = false
 
--- so many names lead to n
+-- so many names lead to the number n
 abbrev pub HasNames : Entries → ℕ → ℕ → Type 0
 HasNames e n count = Counts (λ (place : ℕ × Name). e place.0 place.1 ≡ Some n) count
 
--- what names and numbers keep
+-- what names and numbers keep: each name leads to an object, only a file has several, and each directory and link is
+-- reached from the root
 pub record IsGraph (v : Volume) : Type 0 where
   pub root : IsTrue (is_directory_node (v ROOT_NUMBER))
   pub not_root : (d : ℕ) (x : Name) → entries v d x ≢ Some ROOT_NUMBER
@@ -100,50 +113,56 @@ pub record IsGraph (v : Volume) : Type 0 where
   pub counts : (n mode links : ℕ) (bytes : List ℕ) → v n ≡ Some (file_node mode links bytes) → HasNames (entries v) n links
   pub reached : (n : ℕ) → IsSome (v n) → IsFalse (is_file_node (v n)) → (p : Path) × (number_at (entries v) p ≡ Some n)
 
--- the limits of one object
+-- the limits that one object keeps
 abbrev pub IsNode : Node → Type 0
 IsNode (directory_node mode names) = mode ≤ MODE_BITS
 IsNode (file_node mode links bytes) = (mode ≤ MODE_BITS) × (links ≤ FILE_NAMES) × (length bytes ≤ GREATEST_FILE)
 IsNode (link_node text) = IsLinkText text
 
--- the limits of all, with so many inodes
+-- the limits that all objects keep, with so many inodes
 pub record KeepsLimits (inodes : ℕ) (v : Volume) : Type 0 where
   pub nodes : (n : ℕ) → IfSome (v n) IsNode
   pub numbers : (n : ℕ) → IsSome (v n) → (n ≡ ROOT_NUMBER) ⊎ ((FIRST_NUMBER ≤ n) × (n < inodes))
   pub children : (d : ℕ) → CountsUpTo DIRECTORY_NAMES (λ x. IsSome (entries v d x))
 
--- what makes numbered objects a volume. Images that open to no state may name none: where this is needed, it is a premise
+-- what makes numbered objects a volume of so many inodes; images that open to no state may name none, so where this is
+-- needed, it is a premise
 pub record IsVolume (inodes : ℕ) (v : Volume) : Type 0 where
   pub graph : IsGraph v
   pub limits : KeepsLimits inodes v
 
--- a name of a file is one fewer; another object is gone with its name
+-- an object with one name fewer: a file stays, another object is gone with its name
 abbrev pub with_name_less : Option Node → Option Node
 with_name_less (Some (file_node mode links bytes)) = Some (file_node mode (links - 1) bytes)
 with_name_less _ = None
 
+-- an object with one name more, which only a file counts
 abbrev pub with_name_more : Option Node → Option Node
 with_name_more (Some (file_node mode links bytes)) = Some (file_node mode (links + 1) bytes)
 with_name_more o = o
 
--- what the name led to, if to anything, has a name less
+-- the volume in which what a name led to, if anything, has a name less
 abbrev pub released : Option ℕ → Volume → Volume
 released None v = v
 released (Some n) v = with_node n (with_name_less (v n)) v
 
--- the records' changes of names
+-- the volume after a creation: this object has this number, and a name in the directory d
 abbrev pub created : ℕ → ℕ → Name → Node → Volume → Volume
 created n d x node v = with_entry d x (Some n) (with_node n (Some node) v)
 
+-- the volume after a link: the file n has one more name, in the directory d
 abbrev pub linked : ℕ → ℕ → Name → Volume → Volume
 linked n d x v = with_entry d x (Some n) (with_node n (with_name_more (v n)) v)
 
+-- the volume after a removal: the directory d has a name less, and so has what it led to
 abbrev pub unnamed : ℕ → Name → Volume → Volume
 unnamed d x v = with_entry d x None (released (entries v d x) v)
 
+-- the volume after a move: what has the name x in d has the name y in k, and what had that name has it no more
 abbrev pub renamed : ℕ → Name → ℕ → Name → Volume → Volume
 renamed d x k y v = with_entry k y (entries v d x) (with_entry d x None (released (entries v k y) v))
 
+-- a descriptor is open for this number
 abbrev pub is_numbered : Option Description → ℕ → Bool
 is_numbered None n = false
 is_numbered (Some f) n = f.number == n
@@ -153,16 +172,17 @@ abbrev pub is_open : (ℕ → Option Description) → ℕ → ℕ → Bool
 is_open table zero n = false
 is_open table (suc d) n = is_numbered (table d) n || is_open table d n
 
--- a file without names
+-- the object is a file without names
 abbrev pub is_nameless : Option Node → Bool
 is_nameless (Some (file_node mode zero bytes)) = true
 is_nameless _ = false
 
--- a file without names is dropped, unless it is open
+-- an object, or none where it is a file without names that isn't open
 abbrev pub swept_node : Bool → Option Node → Option Node
 swept_node open_now (Some (file_node mode zero bytes)) = if open_now then Some (file_node mode zero bytes) else None
 swept_node open_now o = o
 
+-- the volume without the files that have neither name nor descriptor
 abbrev pub swept : (ℕ → Option Description) → Volume → Volume
 swept table v n = swept_node (is_open table OPEN_FILES n) (v n)
 

@@ -78,12 +78,13 @@ module _ {System : Type 0} (state_of : System → State) (Between : System → C
     parts = ap (λ (l : List (Command × Reply)). step ∷ l) is.parts;
     now = is.now;
     ran = (next, leads, is.ran);
+    goes_on = is.goes_on;
     leaves = is.leaves;
   }
 
   -- no command was answered
-  prefix_first : (f : System) (steps : List (Command × Reply)) (t : State) → IsUnderWay (state_of f) steps t → IsPrefix state_of Between f steps t
-  prefix_first f steps t is = record { answered = []; rest = steps; parts = refl; now = f; ran = refl; leaves = is }
+  prefix_first : (f : System) (steps : List (Command × Reply)) (t : State) → (state_of f).mark ≡ going → IsUnderWay (state_of f) steps t → IsPrefix state_of Between f steps t
+  prefix_first f steps t goes_on is = record { answered = []; rest = steps; parts = refl; now = f; ran = refl; goes_on = goes_on; leaves = is }
 
   -- what may stand while the first command is under way
   stands_prefix : (f next : System) (step : Command × Reply) (steps : List (Command × Reply)) (t : State) → Leads state_of Between f step next → (state_of f).mark ≡ going
@@ -91,13 +92,13 @@ module _ {System : Type 0} (state_of : System → State) (Between : System → C
   stands_prefix f next step steps t leads is stands =
       let s = state_of f in
       let u = state_of next in
-      let after : t ≡ u → IsPrefix state_of Between f (step ∷ steps) t = λ same.
-      prefix_behind f next step steps t leads (prefix_first next steps t (subst (λ (v : State). IsUnderWay u steps v) (sym same) (under_way_now u steps))) in
+      let after : u.mark ≡ going → t ≡ u → IsPrefix state_of Between f (step ∷ steps) t = λ goes_on same.
+      prefix_behind f next step steps t leads (prefix_first next steps t goes_on (subst (λ (v : State). IsUnderWay u steps v) (sym same) (under_way_now u steps))) in
       elim (cases_mark u.mark) [
-        | inr then ↦ prefix_first f (step ∷ steps) t ((stands_failed s step.0 u t is then).0 stands)
+        | inr then ↦ prefix_first f (step ∷ steps) t is ((stands_failed s step.0 u t is then).0 stands)
         | inl then ↦ elim ((stands_going s step.0 u t is then).0 stands) [
-          | inl before ↦ prefix_first f (step ∷ steps) t (inl before)
-          | inr same ↦ after same
+          | inl before ↦ prefix_first f (step ∷ steps) t is (inl before)
+          | inr same ↦ after then same
         ]
       ]
 
@@ -117,7 +118,7 @@ module _ {System : Type 0} (state_of : System → State) (Between : System → C
         → OpensWithin left_at Opens a b (IsPrefix state_of Between f steps)
     spans_prefix f [] last a b spans is t c from to left =
         let there = (leaves_going left_at Opens (state_of f) a b (λ u. u ≡ state_of f) is).0 spans.1 t c from to left in
-        (there.0, there.1, prefix_first f [] there.0 there.2)
+        (there.0, there.1, prefix_first f [] there.0 is there.2)
     spans_prefix f (step ∷ steps) last a b spans is t c from to left =
         let next = spans.0 in
         let m = spans.2.0 in
