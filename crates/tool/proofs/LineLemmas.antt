@@ -10,8 +10,8 @@ use Rattle.tool.specs.declared.script.ScriptError.TheVariants.{NotACommand}
 use Rattle.tool.specs.declared.script.readers.Verb.{Verb}
 use Rattle.tool.specs.declared.script.readers.Verb.TheVariants as verb
 use Rattle.tool.specs.Lines.{command_words, mode_words, verb_name, IsCommand, ReadsWords}
-use Rattle.tool.specs.Words.{mode_word, text_word}
-use Rattle.tool.proofs.WordLemmas.{IsBytes, text_word-unique}
+use Rattle.tool.specs.Words.{mode_word, text_word, IsBytes}
+use Rattle.tool.proofs.WordLemmas.{text_word-unique}
 
 pub one_field : {X : Type 0} (v : X → List ℕ) (xs : List X) (d : X) → 1 ≤ length xs → length xs < 2 → map v xs ≡ v (get_or xs 0 d) ∷ []
 one_field v [] d some few = absurd (omega (arith, some))

@@ -1,14 +1,11 @@
 -- The lines of a script: its commands, and the first that is none.
-use Rattle.std.proofs.Common.{◌≡◌, ◌⊎◌, inl, inr, ℕ, zero, suc, ◌<◌, Bool, true, false, not, cond, List, [], ◌∷◌, ◌++◌, All, length, map, get_or, take, drop, arith, refl, sym, ◌∙◌, ap, subst}
+use Rattle.std.proofs.Common.{◌≡◌, ℕ, zero, suc, ◌<◌, Bool, true, false, not, cond, List, [], ◌∷◌, ◌++◌, All, length, map, get_or, take, drop, arith, refl, sym, ◌∙◌, ap, subst}
 use Rattle.std.proofs.lemmas.List.{append_cancel_right, length-map, take-append-drop}
 use Rattle.std.proofs.lemmas.List.Elements.{All-head, All-tail, filter-append}
 use Rattle.std.specs.List.{drop-map}
 use Rattle.model.specs.declared.command.Command.{Command}
-use Rattle.tool.specs.declared.session.ScriptFault.{ScriptFault}
-use Rattle.tool.specs.declared.session.ScriptFault.TheVariants.{NoMemory, Line}
 use Rattle.tool.specs.Lines.{command_line, IsCommand}
-use Rattle.tool.specs.Scripts.{fault_status, is_skipped, lines_kept, AreCommandsOf, IsBadLine, IsFirstBadLine}
-use Rattle.tool.specs.Statuses.{status_number}
+use Rattle.tool.specs.Scripts.{is_skipped, lines_kept, AreCommandsOf, IsBadLine, IsFirstBadLine}
 
 got : {X : Type 0} (v : X → List ℕ) (xs : List X) (i : ℕ) (d : X) (e : List ℕ) → i < length xs → get_or (map v xs) i e ≡ v (get_or xs i d)
 got v [] i d e within = absurd (omega (arith, within))
@@ -46,8 +43,3 @@ none_bad (l ∷ ls) commands bounded spelled i within bad = one_more (is_skipped
 -- where lines are commands, none of them is bad
 pub no_bad_line : (lines : List (List ℕ)) (commands : List Command) → AreCommandsOf lines commands → (i : ℕ) → i < length lines → IsBadLine (get_or lines i []) → ⊥
 no_bad_line lines commands are i within bad = none_bad lines commands are.bounded are.spelled i within bad
-
--- a script that isn't read has status 5 or 7
-pub fault_number : (f : ScriptFault) → (status_number (fault_status f) ≡ 5) ⊎ (status_number (fault_status f) ≡ 7)
-fault_number NoMemory = inr refl
-fault_number (Line i) = inl refl

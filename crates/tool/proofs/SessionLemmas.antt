@@ -1,37 +1,44 @@
 -- How a session ends, from how its parts do.
-use Rattle.std.proofs.Common.{◌≡◌, inl, inr, ℕ, Bool, true, false, List, length, Option, Result, Ok, Err, IfOk, MatchResult, vec_len, arith, refl, sym, ◌∙◌, subst}
+use Rattle.std.proofs.Common.{◌≡◌, ◌⊎◌, inl, inr, ℕ, Bool, true, false, List, length, Option, Result, Ok, Err, IfOk, OnErr, MatchResult, vec_len, arith, refl, sym, ◌∙◌, ap, subst}
 use Rattle.std.specs.List.{zip}
 use Rattle.std.specs.Global.{Vec}
 use Rattle.model.specs.declared.command.Command.{Command}
 use Rattle.model.specs.declared.reply.Reply.{Reply}
 use Rattle.model.specs.States.{State, Forgets}
 use Rattle.station.specs.Images.{Unchanged}
-use Rattle.station.specs.Moments.{Goes}
+use Rattle.station.specs.Moments.{Meaning, Goes}
 use Rattle.station.specs.declared.station.Station.{Ghosts}
 use Rattle.mount.specs.Making.{OpensTo}
 use Rattle.mount.specs.Applying.{HasRun}
-use Rattle.mount.specs.Systems.{system, Serves}
+use Rattle.mount.specs.Systems.{system, HasFailed, HasNoRoot, Serves}
+use Rattle.mount.specs.declared.error.MountError.{MountError}
+use Rattle.mount.specs.declared.error.MountError.TheVariants as error
 use Rattle.mount.specs.declared.error.RunError.{RunError}
 use Rattle.mount.specs.declared.fs.Fs.{Fs}
 use Rattle.tool.specs.Scripts.{IsScriptOf}
-use Rattle.tool.specs.Sessions.{Ends, EndsRun, EndsShowing, Ran, RunsOn, RunsScript}
+use Rattle.tool.specs.Sessions.{written, EndsRan, EndsRun, EndsShowing, EndsTelling, EndsUnrun, IsRefusal, Ran, RunsOn, RunsScript}
 use Rattle.tool.specs.Statuses.{status_number}
+use Rattle.tool.specs.declared.session.Fault.TheVariants as fault
 use Rattle.tool.specs.declared.status.Status.{Status}
 use Rattle.tool.specs.declared.status.Status.TheVariants.{Done, NotUnderstood, FileFault, Cut, NotMounted, NotACommand, NoMemory}
 
+-- how the replies of a run were shown, if it gave any
+abbrev pub EndsRunShowing : {X Y : Type 0} → (X → List Reply) → Result X Y → Bool → Option (List ℕ) → Option (List ℕ) → Status → Type 0
+EndsRunShowing items ran cut o o' s = MatchResult ran (λ x. EndsShowing cut (items x) o o' s) (λ _. (s ≡ NoMemory) × (o' ≡ o))
+
 -- a run ends as one that was cut only where the power was cut, and as done only where it wasn't
-pub cut_of : {X Y : Type 0} (items : X → List Reply) (ran : Result X Y) (cut : Bool) (o o' : Option (List ℕ)) (s : Status) → MatchResult ran (λ x. EndsShowing cut (items x) o o' s) (λ _. s ≡ NoMemory) → s ≡ Cut → cut ≡ true
+pub cut_of : {X Y : Type 0} (items : X → List Reply) (ran : Result X Y) (cut : Bool) (o o' : Option (List ℕ)) (s : Status) → EndsRunShowing items ran cut o o' s → s ≡ Cut → cut ≡ true
 cut_of items (Ok x) cut o o' s ends e = (subst (λ t. EndsShowing cut (items x) o o' t) e ends).0
 cut_of items (Err y) cut o o' s ends e = absurd (cc)
 
-pub done_of : {X Y : Type 0} (items : X → List Reply) (ran : Result X Y) (cut : Bool) (o o' : Option (List ℕ)) (s : Status) → MatchResult ran (λ x. EndsShowing cut (items x) o o' s) (λ _. s ≡ NoMemory) → s ≡ Done → cut ≡ false
+pub done_of : {X Y : Type 0} (items : X → List Reply) (ran : Result X Y) (cut : Bool) (o o' : Option (List ℕ)) (s : Status) → EndsRunShowing items ran cut o o' s → s ≡ Done → cut ≡ false
 done_of items (Ok x) cut o o' s ends e = (subst (λ t. EndsShowing cut (items x) o o' t) e ends).0
 done_of items (Err y) cut o o' s ends e = absurd (cc)
 
 pub ends_run : {S X Y : Type 0} {G : Ghosts S} (items : X → List Reply) (fs : Fs S G) (commands : List Command) (new : S) (o o' : Option (List ℕ)) (cut : Bool) (s : Status) (ran : Result X Y)
-    → IfOk ran (λ x. RunsOn fs commands new (items x)) → MatchResult ran (λ x. EndsShowing cut (items x) o o' s) (λ _. s ≡ NoMemory) → EndsRun fs commands new o o' s
-ends_run items fs commands new o o' cut s (Ok x) runs ends = inr (cut, (items x, runs, ends))
-ends_run items fs commands new o o' cut s (Err y) runs ends = inl ends
+    → IfOk ran (λ x. RunsOn fs commands new (items x)) → OnErr ran (new ≡ fs.station) → EndsRunShowing items ran cut o o' s → EndsRun fs commands new o o' s
+ends_run items fs commands new o o' cut s (Ok x) runs same ends = inr (cut, (items x, runs, ends))
+ends_run items fs commands new o o' cut s (Err y) runs same ends = inl (ends.0, same, ends.1)
 
 -- what `Fs::run` ensures is what a session says of a run
 pub runs_on : {S : Type 0} {G : Ghosts S} (fs fs' : Fs S G) (commands : List Command) (station : S) (ran : Result (Vec Reply) RunError) → IfOk ran (λ replies. vec_len replies ≡ length commands) → station ≡ fs'.station → (Serves (system fs) → Serves (system fs'))
@@ -42,11 +49,33 @@ runs_on fs fs' commands station (Ok replies) count is serves run = record {
 }
 runs_on fs fs' commands station (Err e) count is serves run = tt
 
+-- a run that was refused leaves the station
+pub station_of_refused : {S T E : Type 0} {G : Ghosts S} (fs fs' : Fs S G) (station : S) (ran : Result T E) → OnErr ran (fs' ≡ fs) → station ≡ fs'.station → OnErr ran (station ≡ fs.station)
+station_of_refused fs fs' station (Ok x) same is = tt
+station_of_refused fs fs' station (Err e) same is = is ∙ ap (λ f. f.station) same
+
 -- a session ends as the run of its commands does
-pub ends_session : {S : Type 0} {G : Ghosts S} (script : List ℕ) (fs : Fs S G) (commands : List Command) (old new : S) (o o' : Option (List ℕ)) (status : Status) → IsScriptOf script commands → ((G.meaning old).is_honest → Serves (system fs))
-    → ((G.meaning old).is_honest → (s : State) → OpensTo (G.meaning old) s (G.meaning old).seen → Forgets s (system fs).state) → Goes Unchanged (G.meaning old) (G.meaning fs.station) → EndsRun fs commands new o o' status → Ends G script old new o o' status
-ends_session {S} {G} script fs commands old new o o' status script_is serves mounts goes (inl none) = subst (λ s. Ends G script old new o o' s) (sym none) tt
-ends_session {S} {G} script fs commands old new o o' status script_is serves mounts goes (inr (cut, (replies, on, ends))) = by_status status ends
+pub ends_session : {S : Type 0} {G : Ghosts S} (script : List ℕ) (fs : Fs S G) (commands : List Command) (old new : S) (o o' e : Option (List ℕ)) (status : Status) → IsScriptOf script commands → ((G.meaning old).is_honest → Serves (system fs))
+    → ((G.meaning old).is_honest → (s : State) → OpensTo (G.meaning old) s (G.meaning old).seen → Forgets s (system fs).state) → Goes Unchanged (G.meaning old) (G.meaning fs.station) → EndsRun fs commands new o o' status
+    → EndsRan G script old new (written o e) (written o' e) status ⊎ EndsUnrun G script old new (written o e) (written o' e) status
+ends_session {S} {G} script fs commands old new o o' e status script_is serves mounts goes (inl (none, same, shows)) = inr (record {
+  fault = fault.NoMemory;
+  has = subst (λ s. Goes Unchanged (G.meaning old) (G.meaning s)) (sym same) goes;
+  shows = shows;
+  tells = subst (λ s. EndsTelling fault.NoMemory e e s) (sym none) refl;
+})
+ends_session {S} {G} script fs commands old new o o' e status script_is serves mounts goes (inr (cut, (replies, on, ends))) = inl (record {
+  cut = cut;
+  replies = replies;
+  runs = record {
+    commands = commands;
+    script_is = script_is;
+    count = on.count;
+    ran = ran;
+  };
+  shows = ends;
+  tells = refl;
+})
   where
     ran : (G.meaning old).is_honest → (s : State) → OpensTo (G.meaning old) s (G.meaning old).seen → Ran G old new s (zip commands replies)
     ran honest s opens = let r = on.ran (serves honest) in record {
@@ -59,22 +88,13 @@ ends_session {S} {G} script fs commands old new o o' status script_is serves mou
       station = r.1;
     }
 
-    runs : RunsScript G script old new replies
-    runs = record {
-      commands = commands;
-      script_is = script_is;
-      count = on.count;
-      ran = ran;
-    }
-
-    by_status : (status : Status) → EndsShowing cut replies o o' status → Ends G script old new o o' status
-    by_status Done e = record { replies = replies; runs = runs; shows = e.1 }
-    by_status Cut e = record { replies = replies; runs = runs; shows = e.1 }
-    by_status FileFault e = (replies, runs)
-    by_status NoMemory e = tt
-    by_status NotUnderstood e = absurd e
-    by_status NotMounted e = absurd e
-    by_status NotACommand e = absurd e
+-- what `mount` ensures of a refusal
+pub is_refusal : (old new : Meaning) (e : MountError) → (e ≡ error.Device → HasFailed old new) → (old.is_honest → e ≡ error.NoRoot → HasNoRoot old)
+    → (old.is_honest → (s : State) → OpensTo old s old.seen → (e ≡ error.NoMemory) ⊎ (e ≡ error.Device)) → IsRefusal old new e
+is_refusal old new error.NoMemory device root opens = tt
+is_refusal old new error.Device device root opens = device refl
+is_refusal old new error.NoRoot device root opens = λ honest. root honest refl
+is_refusal old new error.Damaged device root opens = λ honest s o. elim (opens honest s o) [ inl none ↦ absurd (cc) | inr failed ↦ absurd (cc) ]
 
 -- which status has a number
 pub cut_number : (s : Status) → status_number s ≡ 3 → s ≡ Cut

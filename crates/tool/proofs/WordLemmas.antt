@@ -2,11 +2,7 @@
 use Rattle.std.proofs.Common.{◌≡◌, ℕ, ◌/◌, ◌%◌, ◌<◌, Bool, true, false, List, [], ◌∷◌, ◌++◌, All, codes, cond, arith, refl, sym, ◌∙◌, append_assoc}
 use Rattle.std.specs.List.{flat_map}
 use Rattle.std.proofs.lemmas.List.Elements.{All-head, All-tail}
-use Rattle.tool.specs.Words.{is_plain, hex_digit, byte_word, text_word}
-
--- these are bytes
-abbrev pub IsBytes : List ℕ → Type 0
-IsBytes bs = All (λ b. b < 256) bs
+use Rattle.tool.specs.Words.{is_plain, hex_digit, byte_word, text_word, IsBytes}
 
 first_byte : (b : ℕ) (bs : List ℕ) → IsBytes (b ∷ bs) → b < 256
 first_byte b bs h = All-head (λ x. x < 256) b bs h

@@ -16,7 +16,7 @@ use Rattle.tool.specs.declared.script.ScriptError.{ScriptError}
 use Rattle.tool.specs.declared.script.ScriptError.TheVariants.{NoMemory}
 use Rattle.tool.specs.declared.script.readers.Verb.{Verb}
 use Rattle.tool.specs.declared.script.readers.Verb.TheVariants as verb
-use Rattle.tool.specs.Words.{data_word, mode_word, text_word}
+use Rattle.tool.specs.Words.{data_word, mode_word, text_word, IsBytes}
 
 -- words that each stand behind a space
 abbrev pub spaced : List (List ℕ) → List ℕ
@@ -43,8 +43,8 @@ command_line c = line_of (command_words c)
 
 -- a command is served, its texts are bytes, and its mode is one
 abbrev pub IsCommand : Command → Type 0
-IsCommand (command.Path (call.List path)) = All (λ b. b < 256) path
-IsCommand (command.Path (call.Mkdir path mode)) = All (λ b. b < 256) path × (mode ≤ MODE_BITS)
+IsCommand (command.Path (call.List path)) = IsBytes path
+IsCommand (command.Path (call.Mkdir path mode)) = IsBytes path × (mode ≤ MODE_BITS)
 IsCommand c = ⊥
 
 -- the first word of a command

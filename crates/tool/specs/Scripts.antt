@@ -3,10 +3,8 @@ use Rattle.std.specs.Prelude.{◌≡◌, ◌≢◌, ℕ, ◌+◌, ◌<◌, ◌==
 use Rattle.std.specs.Fmt.{decimal}
 use Rattle.std.specs.List.{slice_split}
 use Rattle.model.specs.declared.command.Command.{Command}
-use Rattle.tool.specs.declared.session.ScriptFault.{ScriptFault}
-use Rattle.tool.specs.declared.session.ScriptFault.TheVariants.{NoMemory, Line}
-use Rattle.tool.specs.declared.status.Status.{Status}
-use Rattle.tool.specs.declared.status.Status.TheVariants as status
+use Rattle.tool.specs.declared.session.Fault.{Fault}
+use Rattle.tool.specs.declared.session.Fault.TheVariants.{NoMemory, Line}
 use Rattle.tool.specs.Lines.{command_line, IsCommand}
 
 -- the parts of a script between its line ends
@@ -27,9 +25,13 @@ pub record IsBadLine (line : List ℕ) : Type 0 where
   pub kept : is_skipped line ≡ false
   pub none : (c : Command) → IsCommand c → line ≢ command_line c
 
+-- line i of these is bad
+abbrev pub IsBadAt : List (List ℕ) → ℕ → Type 0
+IsBadAt lines i = (i < length lines) × IsBadLine (slice_index_or lines i [])
+
 -- some line of a script is bad
 abbrev pub HasBadLine : List ℕ → Type 0
-HasBadLine script = (i : ℕ) × (i < length (lines_of script)) × IsBadLine (slice_index_or (lines_of script) i [])
+HasBadLine script = (i : ℕ) × IsBadAt (lines_of script) i
 
 -- a line is this command, or is skipped
 abbrev pub IsLineOf : List ℕ → Option Command → Type 0
@@ -52,20 +54,11 @@ pub record IsFirstBadLine (lines : List (List ℕ)) (i : ℕ) : Type 0 where
   pub before : (commands : List Command) × AreCommandsOf (take i lines) commands
 
 -- this is why a script isn't read: its first bad line, counted from 1, or want of memory
-abbrev pub IsFaultOf : List ℕ → ScriptFault → Type 0
-IsFaultOf script NoMemory = Unit {0}
-IsFaultOf script (Line n) = (i : ℕ) × (n ≡ i + 1) × IsFirstBadLine (lines_of script) i
-
--- what the program ends with where a script isn't read
-abbrev pub fault_status : ScriptFault → Status
-fault_status NoMemory = status.NoMemory
-fault_status (Line n) = status.NotACommand
+abbrev pub IsScriptFault : List ℕ → Fault → Type 0
+IsScriptFault script NoMemory = Unit {0}
+IsScriptFault script (Line n) = (i : ℕ) × (n ≡ i + 1) × IsFirstBadLine (lines_of script) i
+IsScriptFault script fault = ⊥
 
 -- what names a bad line, counted from 1
 abbrev pub line_fault : ℕ → List ℕ
 line_fault n = codes "wafl: line " ++ decimal n ++ 10 ∷ []
-
--- the script has a bad line, and the station is as it was
-pub record RefusesScript {S : Type 0} (script : List ℕ) (old new : S) : Type 0 where
-  pub line : (i : ℕ) × IsFirstBadLine (lines_of script) i
-  pub station : new ≡ old

@@ -1,5 +1,5 @@
--- How a session ends: what its status says of the script, of the station and of what is shown.
-use Rattle.std.specs.Prelude.{ℕ, ◌≡◌, ◌⊎◌, ◌∷◌, ◌++◌, Bool, true, false, List, [], Option, codes, length}
+-- How a session ends: what its status says of the script, of the station, of what is shown and of what is told.
+use Rattle.std.specs.Prelude.{ℕ, ◌≡◌, ◌≢◌, ◌⊎◌, ◌∷◌, ◌++◌, Bool, true, false, List, [], Option, codes, length, take}
 use Rattle.std.specs.List.{before_first, flat_map, zip}
 use Rattle.std.specs.Io.KnownBytes.{Appends}
 use Rattle.model.specs.declared.command.Command.{Command}
@@ -12,13 +12,17 @@ use Rattle.station.specs.Moments.{Meaning, Goes}
 use Rattle.station.specs.declared.station.Station.{Ghosts}
 use Rattle.mount.specs.Making.{OpensTo}
 use Rattle.mount.specs.Applying.{HasRun}
-use Rattle.mount.specs.Systems.{System, meaning_of, system, Serves}
+use Rattle.mount.specs.Systems.{System, meaning_of, system, HasFailed, HasNoRoot, Serves}
+use Rattle.mount.specs.declared.error.MountError.{MountError}
+use Rattle.mount.specs.declared.error.MountError.TheVariants as error
 use Rattle.mount.specs.declared.fs.Fs.{Fs}
 use Rattle.tool.specs.Lines.{reply_line}
-use Rattle.tool.specs.Scripts.{IsFirstBadLine, IsScriptOf, lines_of}
+use Rattle.tool.specs.Scripts.{line_fault, IsScriptFault, IsScriptOf}
 use Rattle.tool.specs.Statuses.{status_number}
+use Rattle.tool.specs.declared.session.Fault.{Fault}
+use Rattle.tool.specs.declared.session.Fault.TheVariants as fault
 use Rattle.tool.specs.declared.status.Status.{Status}
-use Rattle.tool.specs.declared.status.Status.TheVariants.{Done, NotUnderstood, FileFault, Cut, NotMounted, NotACommand, NoMemory}
+use Rattle.tool.specs.declared.status.Status.TheVariants.{Done, FileFault, Cut, NotMounted, NotACommand, NoMemory}
 
 -- What a session promises of a run, all in the words of `mount` and `Fs::run`: of a station that opened to a state a mount
 -- found that state without its open files, and commands with these replies led from there to the system that a station
@@ -55,51 +59,98 @@ is_failed_call _ = false
 abbrev pub reply_lines : List Reply → List ℕ
 reply_lines replies = flat_map (λ reply. reply_line reply ++ 10 ∷ []) replies
 
--- what is shown of a run: a line for each reply; where the power was cut, for those before the first call that failed,
--- and then the line `cut`
+-- the replies that are shown: where the power was cut, those before the first call that failed
+abbrev pub answered : Bool → List Reply → List Reply
+answered false replies = replies
+answered true replies = before_first is_failed_call replies
+
+-- what is shown of a run: a line for each of them, and then the line `cut` where the power was cut
 abbrev pub shown : Bool → List Reply → List ℕ
-shown false replies = reply_lines replies
-shown true replies = reply_lines (before_first is_failed_call replies) ++ codes "cut\n"
+shown false replies = reply_lines (answered false replies)
+shown true replies = reply_lines (answered true replies) ++ codes "cut\n"
+
+-- why replies aren't all shown, and what a writer's known bytes gained until then
+abbrev pub CanNotShow : List Reply → Option (List ℕ) → Option (List ℕ) → Status → Type 0
+CanNotShow replies old new FileFault = Unit {0}
+CanNotShow replies old new NoMemory = (k : ℕ) × Appends old new (reply_lines (take k replies))
+CanNotShow replies old new status = ⊥
 
 -- how the showing of a run's replies ends, and what a writer's known bytes gained by it
 abbrev pub EndsShowing : Bool → List Reply → Option (List ℕ) → Option (List ℕ) → Status → Type 0
 EndsShowing cut replies old new Done = (cut ≡ false) × Appends old new (shown false replies)
 EndsShowing cut replies old new Cut = (cut ≡ true) × Appends old new (shown true replies)
-EndsShowing cut replies old new FileFault = Unit {0}
-EndsShowing cut replies old new NoMemory = Unit {0}
-EndsShowing cut replies old new status = ⊥
+EndsShowing cut replies old new status = CanNotShow (answered cut replies) old new status
 
--- the script ran, and its replies were shown
-pub record ShowsScript {S : Type 0} (G : Ghosts S) (script : List ℕ) (old new : S) (cut : Bool) (out out' : Option (List ℕ)) : Type 0 where
-  pub replies : List Reply
-  pub runs : RunsScript G script old new replies
-  pub shows : Appends out out' (shown cut replies)
-
--- the station wasn't mounted: a cut leaves what it might have left before, and nothing was shown
-pub record IsNotMounted (old new : Meaning) (out out' : Option (List ℕ)) : Type 0 where
-  pub station : Goes Unchanged old new
-  pub nothing : out' ≡ out
-
--- the script has a bad line, and nothing was shown
-pub record IsNotRead (script : List ℕ) (out out' : Option (List ℕ)) : Type 0 where
-  pub line : (i : ℕ) × IsFirstBadLine (lines_of script) i
-  pub nothing : out' ≡ out
-
--- what each status says; want of memory may come at any time
-abbrev pub Ends : {S : Type 0} (G : Ghosts S) → List ℕ → S → S → Option (List ℕ) → Option (List ℕ) → Status → Type 0
-Ends G script old new out out' Done = ShowsScript G script old new false out out'
-Ends G script old new out out' Cut = ShowsScript G script old new true out out'
-Ends G script old new out out' FileFault = (replies : List Reply) × RunsScript G script old new replies
-Ends G script old new out out' NotMounted = IsNotMounted (G.meaning old) (G.meaning new) out out'
-Ends G script old new out out' NotACommand = IsNotRead script out out'
-Ends G script old new out out' NoMemory = Unit {0}
-Ends G script old new out out' NotUnderstood = ⊥
-
--- how the run of commands on a mounted file system ends
+-- how the run of commands on a mounted file system ends: there is no memory for their replies, or they are shown as far
+-- as they can be
 abbrev pub EndsRun : {S : Type 0} {G : Ghosts S} → Fs S G → List Command → S → Option (List ℕ) → Option (List ℕ) → Status → Type 0
 EndsRun fs commands new out out' status =
-    (status ≡ NoMemory) ⊎ ((cut : Bool) × ((replies : List Reply) × RunsOn fs commands new replies × EndsShowing cut replies out out' status))
+    ((status ≡ NoMemory) × (new ≡ fs.station) × (out' ≡ out))
+    ⊎ ((cut : Bool) × ((replies : List Reply) × RunsOn fs commands new replies × EndsShowing cut replies out out' status))
+
+-- what tells why a station isn't mounted
+abbrev pub mount_fault : MountError → List ℕ
+mount_fault error.NoMemory = codes "wafl: mount NOMEMORY\n"
+mount_fault error.Device = codes "wafl: mount DEVICE\n"
+mount_fault error.NoRoot = codes "wafl: mount NOROOT\n"
+mount_fault error.Damaged = codes "wafl: mount DAMAGED\n"
+
+-- why a mount may be refused that led from the one meaning to the other; of memory nothing is known
+abbrev pub IsRefusal : Meaning → Meaning → MountError → Type 0
+IsRefusal old new error.NoMemory = Unit {0}
+IsRefusal old new error.Device = HasFailed old new
+IsRefusal old new error.NoRoot = old.is_honest → HasNoRoot old
+IsRefusal old new error.Damaged = old.is_honest → (s : State) → OpensTo old s old.seen → ⊥
+
+-- a station wasn't mounted, for this reason, and a cut leaves what it might have left before
+pub record IsNotMounted (script : List ℕ) (old new : Meaning) (e : MountError) : Type 0 where
+  pub commands : List Command
+  pub script_is : IsScriptOf script commands
+  pub goes : Goes Unchanged old new
+  pub refusal : IsRefusal old new e
+
+-- why nothing was run, and what became of the station
+abbrev pub HasFault : {S : Type 0} (G : Ghosts S) → List ℕ → S → S → Fault → Type 0
+HasFault G script old new fault.NoMemory = Goes Unchanged (G.meaning old) (G.meaning new)
+HasFault G script old new (fault.Line n) = IsScriptFault script (fault.Line n) × (new ≡ old)
+HasFault G script old new (fault.Mount e) = IsNotMounted script (G.meaning old) (G.meaning new) e
+
+-- how the telling of a fault ends, and what a writer's known bytes gained by it
+abbrev pub EndsTelling : Fault → Option (List ℕ) → Option (List ℕ) → Status → Type 0
+EndsTelling fault.NoMemory old new NoMemory = new ≡ old
+EndsTelling (fault.Line n) old new NotACommand = Appends old new (line_fault n)
+EndsTelling (fault.Line n) old new FileFault = Unit {0}
+EndsTelling (fault.Line n) old new NoMemory = new ≡ old
+EndsTelling (fault.Mount e) old new NotMounted = Appends old new (mount_fault e)
+EndsTelling (fault.Mount e) old new FileFault = e ≢ error.NoMemory
+EndsTelling (fault.Mount e) old new NoMemory = e ≡ error.NoMemory
+EndsTelling fault old new status = ⊥
+
+-- the known bytes of two writers: of what is shown and of what is told
+pub record Written : Type 0 where
+  pub out : Option (List ℕ)
+  pub err : Option (List ℕ)
+
+abbrev pub written : Option (List ℕ) → Option (List ℕ) → Written
+written out err = record { out = out; err = err }
+
+-- the script ran, its replies were shown as far as they could be, and nothing was told
+pub record EndsRan {S : Type 0} (G : Ghosts S) (script : List ℕ) (old new : S) (w w' : Written) (status : Status) : Type 0 where
+  pub cut : Bool
+  pub replies : List Reply
+  pub runs : RunsScript G script old new replies
+  pub shows : EndsShowing cut replies w.out w'.out status
+  pub tells : w'.err ≡ w.err
+
+-- nothing was run, nothing was shown, and why was told if it could be
+pub record EndsUnrun {S : Type 0} (G : Ghosts S) (script : List ℕ) (old new : S) (w w' : Written) (status : Status) : Type 0 where
+  pub fault : Fault
+  pub has : HasFault G script old new fault
+  pub shows : w'.out ≡ w.out
+  pub tells : EndsTelling fault w.err w'.err status
 
 -- this is the number of a status that says how the session ended
-abbrev pub EndsWith : {S : Type 0} (G : Ghosts S) → List ℕ → S → S → Option (List ℕ) → Option (List ℕ) → ℕ → Type 0
-EndsWith G script old new out out' n = (status : Status) × (n ≡ status_number status) × Ends G script old new out out' status
+abbrev pub EndsWith : {S : Type 0} (G : Ghosts S) → List ℕ → S → S → Written → Written → ℕ → Type 0
+EndsWith G script old new w w' n =
+    (status : Status) × (n ≡ status_number status)
+    × (EndsRan G script old new w w' status ⊎ EndsUnrun G script old new w w' status)

@@ -5,6 +5,7 @@ ghost use Rattle.tool.specs.declared.script.ScriptError.TheVariants.{NoMemory};
 ghost use Rattle.model.specs.Served.{IsServed};
 ghost use Rattle.model.specs.declared.command.Command.{Command};
 ghost use Rattle.tool.specs.Lines.{command_line, mode_words, reply_line, spaced, IsCommand};
+ghost use Rattle.tool.specs.Words.{Adds};
 
 mod readers;
 mod replies;
@@ -81,7 +82,7 @@ pub fn write_command(alloc: Global, command: &Command) -> Result<Vec<u8>, Script
 
 /// Adds a mode as a line's last word, which the default isn't.
 fn push_mode(line: &mut Vec<u8>, mode: Mode, default: Mode) -> Result<(), AllocError>
-    ensures { OnOk result (line.new.items ≡ line.old.items ++ spaced (mode_words default mode)) }
+    ensures { OnOk result (Adds line.old line.new (spaced (mode_words default mode))) }
 {
     if mode == default {
         return Ok(());

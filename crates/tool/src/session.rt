@@ -1,15 +1,14 @@
 //! A session: a script run over a mounted station.
 
 ghost use Rattle.std.specs.Fn.{FnReturnsAt};
-ghost use Rattle.std.specs.Prelude.{All, ◌≡◌, ◌⊎◌, ◌∷◌, ◌++◌, [], if◌then◌else◌, true, false, IfOk, IfErr, IsErrOf, MatchResult, OnOk, map, string_bytes};
-ghost use Rattle.std.specs.List.{before_first, position};
+ghost use Rattle.std.specs.Prelude.{All, ◌≡◌, ◌⊎◌, ◌∷◌, ◌++◌, [], true, false, IfOk, IfErr, IsErrOf, MatchResult, OnOk, map, string_bytes};
+ghost use Rattle.std.specs.List.{position};
 ghost use Rattle.std.specs.Io.KnownBytes.{Appends};
 ghost use Rattle.model.specs.Served.{IsServed};
 ghost use Rattle.tool.specs.Lines.{reply_line};
-ghost use Rattle.tool.specs.Scripts.{fault_status, is_skipped, line_fault, lines_of, HasBadLine, IsBadLine, IsFaultOf, IsLineOf, IsScriptOf, RefusesScript};
-ghost use Rattle.tool.specs.Sessions.{is_failed_call, reply_lines, EndsRun, EndsShowing, EndsWith};
-ghost use Rattle.tool.specs.Statuses.{IsSystemFault};
-ghost use Rattle.tool.specs.declared.session.ScriptFault.TheVariants.{NoMemory};
+ghost use Rattle.tool.specs.Scripts.{is_skipped, line_fault, lines_of, HasBadLine, IsBadLine, IsScriptFault, IsLineOf, IsScriptOf};
+ghost use Rattle.tool.specs.Sessions.{answered, is_failed_call, mount_fault, reply_lines, CanNotShow, EndsRun, EndsShowing, EndsTelling, EndsWith, written};
+ghost use Rattle.tool.specs.declared.session.Fault.TheVariants.{NoMemory};
 
 use crate::{ScriptError, Status, read_command, write_reply};
 use model::{Command, Errno, Reply};
@@ -18,47 +17,42 @@ use station::Station;
 use std::alloc::{AllocError, AllocFailed, Global};
 use std::io::Write;
 
-/// Why a script isn't run.
+/// Why nothing is run.
 #[derive(Clone, Copy, Debug, PartialEq, Eq)]
-enum ScriptFault {
+enum Fault {
+    /// No memory for the script's commands or for their replies.
     NoMemory,
     /// The first line that is no command, counted from 1.
     Line(usize),
+    /// The station isn't mounted.
+    Mount(MountError),
 }
 
-impl ScriptFault {
-    fn status(self) -> Status
-        ensures { result ≡ fault_status self }
-    {
-        match self {
-            ScriptFault::NoMemory => Status::NoMemory,
-            ScriptFault::Line(_) => Status::NotACommand,
-        }
+impl<T: Drop> From<AllocFailed<T>> for Fault {
+    ghost from_gives = { λ _ e. e ≡ NoMemory };
+
+    fn from(_error: AllocFailed<T>) -> Fault {
+        Fault::NoMemory
     }
 }
 
-impl<T: Drop> From<AllocFailed<T>> for ScriptFault {
+impl From<AllocError> for Fault {
     ghost from_gives = { λ _ e. e ≡ NoMemory };
 
-    fn from(_error: AllocFailed<T>) -> ScriptFault {
-        ScriptFault::NoMemory
-    }
-}
-
-impl From<AllocError> for ScriptFault {
-    ghost from_gives = { λ _ e. e ≡ NoMemory };
-
-    fn from(_error: AllocError) -> ScriptFault {
-        ScriptFault::NoMemory
+    fn from(_error: AllocError) -> Fault {
+        Fault::NoMemory
     }
 }
 
 /// Mounts the station, runs the script's commands, and writes one line to `out` for each reply.
 ///
-/// Where the power was cut, the line `cut` stands in place of the reply to the command under way, and ends them. A fault
-/// goes to `err`. Answers the exit status: that of `Done`, `Cut`, `NotMounted`, `NotACommand` or `NoMemory`, or `FileFault`
-/// where `out` can't be written. `was_cut` says of the station whether its power was cut. Where `err` can't be written,
-/// the status alone says what it can.
+/// Where the power was cut, the line `cut` stands in place of the reply to the command under way, and ends them.
+/// `was_cut` says of the station whether its power was cut. A fault goes to `err`. Answers the exit status:
+/// - `Done` or `Cut`: all that is to be shown is in `out`, and nothing in `err`;
+/// - `NotMounted` or `NotACommand`: nothing was run, and `err` has the fault's line;
+/// - `FileFault`: the script ran and `out` can't be written, or nothing was run and `err` can't be written;
+/// - `NoMemory`: for the script, its replies or what tells a fault. Nothing counts the growths that were refused, so no
+///   clause can say that one was: this status may stand for want of memory that never came.
 pub fn session<S: Station, C: Fn(&S) -> bool, O: Write, E: Write>(
     alloc: Global,
     station: S,
@@ -68,31 +62,25 @@ pub fn session<S: Station, C: Fn(&S) -> bool, O: Write, E: Write>(
     err: &mut E,
 ) -> (u8, S)
     requires { C.IsAlwaysCallable was_cut }
-    ensures bad_line { HasBadLine script.now → (result.0 ≡ 5) ⊎ (result.0 ≡ 7) }
-    ensures refused { result.0 ≡ 5 → RefusesScript script.now station result.1 }
+    // A script with a bad line isn't run, and the station is as it was.
+    ensures bad_line { HasBadLine script.now → (result.1 ≡ station)
+        × ((result.0 ≡ 5) ⊎ (result.0 ≡ 2) ⊎ (result.0 ≡ 7)) }
     ensures cut { result.0 ≡ 3 → FnReturnsAt C.Fn was_cut result.1 true }
     ensures done { result.0 ≡ 0 → FnReturnsAt C.Fn was_cut result.1 false }
     ensures ends { EndsWith S.Station script.now station result.1
-        (O.contents out.old) (O.contents out.new) result.0 }
-    // Standard error gains nothing but of a mount that was refused and of a bad line.
-    ensures told { (result.0 ≡ 4) ⊎ (result.0 ≡ 5) ⊎ (err.new ≡ err.old) }
+        (written (O.contents out.old) (E.contents err.old))
+        (written (O.contents out.new) (E.contents err.new)) result.0 }
 {
     let commands = match read_script(alloc, script) {
         Ok(commands) => commands,
-        Err(fault) => {
-            tell_script_fault(alloc, fault, err);
-            return (fault.status().number(), station);
-        }
+        Err(fault) => return (tell(alloc, fault, err).number(), station),
     };
     match mount(alloc, station) {
         Ok(fs) => {
             let (status, station) = run_mounted(alloc, fs, commands.as_slice(), was_cut, out);
             (status.number(), station)
         }
-        Err((error, station)) => {
-            tell_mount_error(error, err);
-            (Status::NotMounted.number(), station)
-        }
+        Err((error, station)) => (tell(alloc, Fault::Mount(error), err).number(), station),
     }
 }
 
@@ -118,9 +106,9 @@ fn run_mounted<S: Station, C: Fn(&S) -> bool, O: Write>(
 }
 
 /// The commands of a script's lines, but for empty lines and those that begin with `#`.
-fn read_script(alloc: Global, script: &[u8]) -> Result<Vec<Command>, ScriptFault>
+fn read_script(alloc: Global, script: &[u8]) -> Result<Vec<Command>, Fault>
     ensures commands { IfOk result (λ commands. IsScriptOf script.now commands.items) }
-    ensures fault { IfErr result (IsFaultOf script.now) }
+    ensures fault { IfErr result (IsScriptFault script.now) }
 {
     let lines = split_lines(alloc, script)?;
     let mut commands = Vec::new(alloc);
@@ -128,8 +116,8 @@ fn read_script(alloc: Global, script: &[u8]) -> Result<Vec<Command>, ScriptFault
         match read_script_line(alloc, line) {
             Ok(Some(command)) => commands.push(command)?,
             Ok(None) => continue,
-            Err(ScriptError::NoMemory) => return Err(ScriptFault::NoMemory),
-            Err(ScriptError::NotACommand) => return Err(ScriptFault::Line(i + 1)),
+            Err(ScriptError::NoMemory) => return Err(Fault::NoMemory),
+            Err(ScriptError::NotACommand) => return Err(Fault::Line(i + 1)),
         }
     }
     Ok(commands)
@@ -163,14 +151,28 @@ fn is_skipped(line: &[u8]) -> bool
     }
 }
 
-/// Says which line is no command.
-fn tell_script_fault<E: Write>(alloc: Global, fault: ScriptFault, err: &mut E)
-    ensures { fault ≡ ScriptFault.NoMemory → err.new ≡ err.old }
+/// Tells why nothing is run, and says what the program ends with: where that can't be told, `NoMemory` for want of
+/// memory, else `FileFault`.
+fn tell<E: Write>(alloc: Global, fault: Fault, err: &mut E) -> Status
+    ensures { EndsTelling fault (E.contents err.old) (E.contents err.new) result }
 {
-    if let ScriptFault::Line(number) = fault {
-        if let Ok(text) = line_text(alloc, number) {
-            let _ = err.write_all(text.as_bytes());
-        }
+    match fault {
+        Fault::NoMemory => Status::NoMemory,
+        Fault::Line(number) => tell_bad_line(alloc, number, err),
+        Fault::Mount(error) => tell_mount_error(error, err),
+    }
+}
+
+/// Tells which line is no command.
+fn tell_bad_line<E: Write>(alloc: Global, number: usize, err: &mut E) -> Status
+    ensures { EndsTelling (Fault.Line number) (E.contents err.old) (E.contents err.new) result }
+{
+    let Ok(text) = line_text(alloc, number) else {
+        return Status::NoMemory;
+    };
+    match err.write_all(text.as_bytes()) {
+        Ok(()) => Status::NotACommand,
+        Err(_) => Status::FileFault,
     }
 }
 
@@ -180,15 +182,26 @@ fn line_text(alloc: Global, number: usize) -> Result<String, AllocError>
     format!(in alloc; "wafl: line {number}\n")
 }
 
-/// Says why the station isn't mounted.
-fn tell_mount_error<E: Write>(error: MountError, err: &mut E) {
-    let text = match error {
-        MountError::NoMemory => "wafl: mount NOMEMORY\n",
-        MountError::Device => "wafl: mount DEVICE\n",
-        MountError::NoRoot => "wafl: mount NOROOT\n",
-        MountError::Damaged => "wafl: mount DAMAGED\n",
-    };
-    let _ = err.write_all(text.as_bytes());
+/// Tells why the station isn't mounted.
+fn tell_mount_error<E: Write>(error: MountError, err: &mut E) -> Status
+    ensures { EndsTelling (Fault.Mount error) (E.contents err.old) (E.contents err.new) result }
+{
+    match err.write_all(mount_text(error)) {
+        Ok(()) => Status::NotMounted,
+        Err(_) if error == MountError::NoMemory => Status::NoMemory,
+        Err(_) => Status::FileFault,
+    }
+}
+
+fn mount_text(error: MountError) -> &'static [u8]
+    ensures { result.now ≡ mount_fault error }
+{
+    match error {
+        MountError::NoMemory => b"wafl: mount NOMEMORY\n",
+        MountError::Device => b"wafl: mount DEVICE\n",
+        MountError::NoRoot => b"wafl: mount NOROOT\n",
+        MountError::Damaged => b"wafl: mount DAMAGED\n",
+    }
 }
 
 /// Shows what a run answered, and says what the program ends with.
@@ -200,7 +213,7 @@ fn show_run<O: Write>(
 ) -> Status
     ensures { MatchResult ran
         (λ replies. EndsShowing cut replies.items (O.contents out.old) (O.contents out.new) result)
-        (λ _. result ≡ Status.NoMemory) }
+        (λ _. (result ≡ Status.NoMemory) × (O.contents out.new ≡ O.contents out.old)) }
 {
     match ran {
         Ok(replies) => show_replies(alloc, replies.as_slice(), cut, out),
@@ -226,7 +239,7 @@ fn show_replies<O: Write>(alloc: Global, replies: &[Reply], cut: bool, out: &mut
 
 /// The replies that came: where the power was cut, those before the first call that failed, which the cut interrupted.
 fn answered(replies: &[Reply], cut: bool) -> &[Reply]
-    ensures { result.now ≡ if cut then before_first is_failed_call replies.now else replies.now }
+    ensures { result.now ≡ answered cut replies.now }
 {
     if !cut {
         return replies;
@@ -253,7 +266,8 @@ fn is_failed_call(reply: &Reply) -> bool
 fn show_lines<O: Write>(alloc: Global, replies: &[Reply], out: &mut O) -> Result<(), Status>
     ensures shown { OnOk result
         (Appends (O.contents out.old) (O.contents out.new) (reply_lines replies.now)) }
-    ensures fault { IfErr result IsSystemFault }
+    ensures fault { IfErr result
+        (CanNotShow replies.now (O.contents out.old) (O.contents out.new)) }
 {
     for reply in replies {
         show_line(alloc, reply, out)?;
@@ -265,7 +279,8 @@ fn show_lines<O: Write>(alloc: Global, replies: &[Reply], out: &mut O) -> Result
 fn show_line<O: Write>(alloc: Global, reply: &Reply, out: &mut O) -> Result<(), Status>
     ensures shown { OnOk result
         (Appends (O.contents out.old) (O.contents out.new) (reply_line reply.now ++ 10 ∷ [])) }
-    ensures fault { IfErr result IsSystemFault }
+    ensures fault { IfErr result (λ status. (status ≡ Status.FileFault)
+        ⊎ ((status ≡ Status.NoMemory) × (out.new ≡ out.old))) }
 {
     let Ok(mut line) = write_reply(alloc, reply) else {
         return Err(Status::NoMemory);

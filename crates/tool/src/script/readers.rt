@@ -1,8 +1,8 @@
 //! Reading a command from its words: the first says which it is, and the others are its fields in order.
 
-ghost use Rattle.std.specs.Prelude.{◌≡◌, ◌≢◌, ◌≤◌, ◌∷◌, ℕ, IfOk, IfErr, IfSome, IfNone, codes, map};
+ghost use Rattle.std.specs.Prelude.{◌≡◌, ◌≢◌, ◌∷◌, IfOk, IfErr, IfSome, IfNone, codes, map};
 ghost use Rattle.tool.specs.Lines.{mode_words, verb_name, ReadsWords};
-ghost use Rattle.tool.specs.Words.{mode_word};
+ghost use Rattle.tool.specs.Words.{HasNoMode, IsWrittenMode};
 
 use super::ScriptError;
 use super::words::{read_mode, read_text};
@@ -78,9 +78,9 @@ fn mkdir_command(alloc: Global, path: &[u8], mode: Mode) -> Result<Command, Scri
 
 /// A mode that is written, which the default isn't.
 fn read_written_mode(word: &[u8], default: Mode) -> Result<Mode, ScriptError>
-    ensures spelled { IfOk result (λ mode. (mode ≤ 4095) × (mode ≢ default) × (mode_word mode ≡ word.now)) }
+    ensures spelled { IfOk result (IsWrittenMode default word.now) }
     ensures error { IfErr result (λ e. e ≡ ScriptError.NotACommand) }
-    ensures refused { IfErr result (λ _. (mode : ℕ) → mode ≤ 4095 → mode ≢ default → mode_word mode ≢ word.now) }
+    ensures refused { IfErr result (λ _. HasNoMode default word.now) }
 {
     match read_mode(word) {
         Some(mode) if mode != default => Ok(mode),

@@ -1,8 +1,7 @@
 //! The words of a line: texts and modes, each with one spelling.
 
 ghost use Rattle.std.specs.Prelude.{◌≡◌, ◌≢◌, ℕ, List, ◌++◌, ◌<◌, ◌≤◌, ◌+◌, ◌==◌, All, IfOk, OnOk, IfSome, IfNone, IsErrOf, map};
-ghost use Rattle.std.specs.List.{slice_split, flat_map};
-ghost use Rattle.tool.specs.Words.{is_plain, hex_digit, byte_word, text_word, mode_word};
+ghost use Rattle.tool.specs.Words.{is_plain, hex_digit, byte_word, text_word, mode_word, words_of, Adds, IsBytes, IsSplit};
 
 use super::ScriptError;
 use model::{Mode, Text};
@@ -10,7 +9,7 @@ use std::alloc::{AllocError, Global};
 
 /// The parts of a line between its spaces.
 pub(super) fn split_words<'a>(alloc: Global, line: &'a [u8]) -> Result<Vec<&'a [u8]>, AllocError>
-    ensures { IfOk result (λ words. map (λ word. word.now) words.items ≡ slice_split (λ b. b == 32) line.now) }
+    ensures { IfOk result (λ words. map (λ word. word.now) words.items ≡ words_of line.now) }
 {
     line.split(|byte| *byte == b' ').collect(alloc)
 }
@@ -25,7 +24,7 @@ fn is_plain(byte: u8) -> bool
 /// Adds a text's word to a line: each byte that isn't plain is `%` and two lower-case hexadecimal digits, and the empty
 /// text is `%` alone.
 pub(super) fn push_text(line: &mut Vec<u8>, text: &[u8]) -> Result<(), AllocError>
-    ensures { OnOk result (line.new.items ≡ line.old.items ++ text_word text.now) }
+    ensures { OnOk result (Adds line.old line.new (text_word text.now)) }
 {
     if text.is_empty() {
         line.push(b'%')?;
@@ -39,7 +38,7 @@ pub(super) fn push_text(line: &mut Vec<u8>, text: &[u8]) -> Result<(), AllocErro
 
 /// Adds a byte of a text to a line.
 fn push_byte(line: &mut Vec<u8>, byte: u8) -> Result<(), AllocError>
-    ensures { OnOk result (line.new.items ≡ line.old.items ++ byte_word byte) }
+    ensures { OnOk result (Adds line.old line.new (byte_word byte)) }
 {
     if is_plain(byte) {
         line.push(byte)?;
@@ -75,8 +74,9 @@ fn hex_value(digit: u8) -> Option<u8>
 /// The text that a word spells.
 pub(super) fn read_text(alloc: Global, word: &[u8]) -> Result<Text, ScriptError>
     ensures value { IfOk result (λ text. word.now ≡ text_word text) }
-    ensures bytes { IfOk result (λ text. All (λ b. b < 256) text) }
-    ensures refused { IsErrOf result ScriptError.NotACommand → (text : List ℕ) → All (λ b. b < 256) text → word.now ≢ text_word text }
+    ensures bytes { IfOk result IsBytes }
+    ensures refused { IsErrOf result ScriptError.NotACommand
+        → (text : List ℕ) → IsBytes text → word.now ≢ text_word text }
 {
     let mut bytes = Vec::new(alloc);
     if word == b"%".as_slice() {
@@ -96,8 +96,9 @@ pub(super) fn read_text(alloc: Global, word: &[u8]) -> Result<Text, ScriptError>
 
 /// The byte that a word begins with, and what stands behind it.
 fn take_byte(word: &[u8]) -> Option<(u8, &[u8])>
-    ensures byte { IfSome result (λ taken. (taken.0 < 256) × (byte_word taken.0 ++ taken.1.now ≡ word.now)) }
-    ensures none { IfNone result ((b : ℕ) (rest : List ℕ) → b < 256 → byte_word b ++ rest ≢ word.now) }
+    ensures byte { IfSome result (λ taken. IsSplit word.now taken.0 taken.1.now) }
+    ensures none { IfNone result ((b : ℕ) (rest : List ℕ)
+        → b < 256 → byte_word b ++ rest ≢ word.now) }
 {
     match word {
         [b'%', high, low, rest @ ..] => {

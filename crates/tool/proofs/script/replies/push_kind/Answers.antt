@@ -2,8 +2,8 @@ use Rattle.std.proofs.Common.{◌≡◌, ◌++◌, ◌∙◌, [], List, ℕ, Res
 use Rattle.std.proofs.lemmas.List.{append-nil}
 use Rattle.tool.proofs.script.replies.push_kind.Goals as goal
 
-two_steps : {T E : Type 0} (r : Result T E) (line old mid first number second kind : List ℕ) → OnOk r (line ≡ mid ++ second ++ kind) → mid ≡ old ++ first ++ number → OnOk r (line ≡ old ++ (first ++ (number ++ (second ++ (kind ++ [])))))
-two_steps (Ok v) line old mid first number second kind h e = h ∙ ap (λ l. l ++ second ++ kind) e ∙ simp (append_assoc, append-nil)
+two_steps : {T E : Type 0} (r : Result T E) (line old mid first number second kind : List ℕ) → OnOk r (line ≡ mid ++ (second ++ kind)) → mid ≡ old ++ (first ++ number) → OnOk r (line ≡ old ++ (first ++ (number ++ (second ++ (kind ++ [])))))
+two_steps (Ok v) line old mid first number second kind h e = h ∙ ap (λ l. l ++ (second ++ kind)) e ∙ simp (append_assoc, append-nil)
 two_steps (Err v) line old mid first number second kind h e = tt
 
 pub returns : goal.returns

@@ -1,7 +1,6 @@
 use Rattle.std.proofs.Common.{◌≡◌, ◌++◌, length}
 use Rattle.std.specs.List.{flat_map}
-use Rattle.tool.specs.Words.{byte_word}
-use Rattle.tool.proofs.WordLemmas.{IsBytes}
+use Rattle.tool.specs.Words.{byte_word, IsBytes}
 use Rattle.tool.proofs.script.words.read_text.Given as goal
 
 abbrev pub invariant-loop-rest : goal.invariant-loop-rest
