@@ -1,3 +1,4 @@
 pub mod PlaceLaws
 pub mod SlotLaws
 pub mod NameLaws
+pub mod NodeLaws

@@ -9,7 +9,7 @@ use Rattle.std.specs.BTreeMap.{BTreeMap, get, is_at, ContainsKey}
 use Rattle.layout.specs.Bytes.{zeros}
 use Rattle.layout.specs.declared.pointer.Pointer.{Pointer}
 use Rattle.blocktree.specs.Places.{pointed, place}
-use Rattle.blocktree.specs.Trees.{slot_bytes, settled_block}
+use Rattle.blocktree.specs.Trees.{slot_bytes, settled_block, IsChangedSlot}
 use Rattle.blocktree.specs.declared.tree.Slot.{Slot}
 
 below_true : (i n : ℕ) → i < n → ltb i n ≡ true
@@ -50,3 +50,6 @@ trimmed_block disk pointers depth kept new_kept count m n e k j = rw (trimmed_sl
 
 pub trimmed_room : (m n : BTreeMap ℕ Slot) (count : ℕ) → n.entries ≡ filter (λ e. nat_lt e.0 count) m.entries → (j : ℕ) → j < count → ContainsKey nat_cmp m j → ContainsKey nat_cmp n j
 trimmed_room m n count e j lt had = rw (trimmed_slot m n count e j, below_true j count lt) had
+
+pub trimmed_changed : (m n : BTreeMap ℕ Slot) (count : ℕ) → n.entries ≡ filter (λ e. nat_lt e.0 count) m.entries → (j : ℕ) → j < count → IsChangedSlot (get nat_cmp m j) → IsChangedSlot (get nat_cmp n j)
+trimmed_changed m n count e j lt had = rw (trimmed_slot m n count e j, below_true j count lt) had

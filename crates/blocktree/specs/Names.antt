@@ -1,9 +1,19 @@
 -- The blocks that a settled inode names: those of the file's bytes and the indirect ones over them.
-use Rattle.std.specs.Prelude.{ℕ, zero, suc, ◌≡◌, ◌⊎◌, ◌<◌, ◌/◌, List, length, map, slice_index}
+use Rattle.std.specs.Prelude.{ℕ, zero, suc, ◌≡◌, ◌⊎◌, ◌<◌, List, slice_index_or}
 use Rattle.std.specs.Int.{div_ceil}
 use Rattle.layout.specs.declared.pointer.Pointer.{Pointer}
-use Rattle.layout.specs.declared.pointer.Pointer.TheVariants.{Block}
+use Rattle.layout.specs.declared.pointer.Pointer.TheVariants.{Hole, Block}
 use Rattle.blocktree.specs.Places.{place}
+
+-- How many nodes stand at a height over so many blocks of a file: at height 0 the blocks themselves, and then one over each 1,024
+-- of those below.
+unfoldable pub nodes_at : ℕ → ℕ → ℕ
+nodes_at count zero = count
+nodes_at count (suc height) = div_ceil (nodes_at count height) 1024
+
+-- these are the pointers to the first so many nodes at this depth
+abbrev pub AreNodes : (ℕ → List ℕ) → List Pointer → ℕ → ℕ → List Pointer → Type 0
+AreNodes disk pointers depth count nodes = (i : ℕ) → i < count → slice_index_or nodes i Hole ≡ place disk pointers depth i
 
 -- one of the first so many nodes at this depth lies there
 abbrev pub IsNodePlace : (ℕ → List ℕ) → List Pointer → ℕ → ℕ → ℕ → Type 0
@@ -13,12 +23,3 @@ IsNodePlace disk pointers depth count p = (i : ℕ) × (i < count) × (place dis
 unfoldable pub IsNamed : (ℕ → List ℕ) → List Pointer → ℕ → ℕ → ℕ → Type 0
 IsNamed disk pointers zero count p = IsNodePlace disk pointers zero count p
 IsNamed disk pointers (suc depth) count p = IsNodePlace disk pointers (suc depth) count p ⊎ IsNamed disk pointers depth (div_ceil count 1024) p
-
--- one of these nodes at this depth lies there
-abbrev pub IsListedPlace : (ℕ → List ℕ) → List Pointer → ℕ → List ℕ → ℕ → Type 0
-IsListedPlace disk pointers depth nodes p = (k : ℕ) × (k < length nodes) × (place disk pointers depth (slice_index nodes k) ≡ Block p)
-
--- one of these nodes at this depth lies there, or one above them
-unfoldable pub IsListed : (ℕ → List ℕ) → List Pointer → ℕ → List ℕ → ℕ → Type 0
-IsListed disk pointers zero nodes p = IsListedPlace disk pointers zero nodes p
-IsListed disk pointers (suc depth) nodes p = IsListedPlace disk pointers (suc depth) nodes p ⊎ IsListed disk pointers depth (map (λ i. i / 1024) nodes) p

@@ -1,8 +1,9 @@
 -- Where the blocks of a settled file lie: each node at a depth is a pointer of the inode or, one deeper, of an indirect block.
-use Rattle.std.specs.Prelude.{ℕ, zero, suc, ◌-◌, ◌*◌, ◌/◌, ◌%◌, List, slice_index_or}
+use Rattle.std.specs.Prelude.{ℕ, zero, suc, ◌-◌, ◌*◌, ◌/◌, List, slice_index_or}
 use Rattle.std.specs.Int.{div_ceil}
-use Rattle.layout.specs.Bytes.{zeros}
-use Rattle.layout.specs.Maps.{indirect_pointer, IsIndirectBlock}
+use Rattle.layout.specs.Maps.{IsIndirectBlock}
+pub use Rattle.layout.specs.Places.{pointed, follow}
+unfoldable pub use Rattle.layout.specs.Places.{place}
 use Rattle.layout.specs.Pointer.{PointsBelow}
 use Rattle.layout.specs.Version.{level_of}
 use Rattle.layout.specs.declared.pointer.Pointer.{Pointer}
@@ -15,21 +16,6 @@ block_count size = div_ceil size 4096
 -- how many indirect blocks stand between the inode of a file of this size and a block of it
 abbrev pub depth_of : ℕ → ℕ
 depth_of size = level_of size - 1
-
--- the bytes at a pointer: zeros at a hole
-abbrev pub pointed : (ℕ → List ℕ) → Pointer → List ℕ
-pointed disk Hole = zeros 4096
-pointed disk (Block place) = disk place
-
--- pointer i of the indirect block at a pointer: under a hole all is a hole
-abbrev pub follow : (ℕ → List ℕ) → Pointer → ℕ → Pointer
-follow disk Hole i = Hole
-follow disk (Block place) i = indirect_pointer (disk place) i
-
--- the pointer to node i at this depth under these of an inode
-unfoldable pub place : (ℕ → List ℕ) → List Pointer → ℕ → ℕ → Pointer
-place disk pointers zero i = slice_index_or pointers i Hole
-place disk pointers (suc depth) i = follow disk (place disk pointers depth (i / 1024)) (i % 1024)
 
 -- an indirect block, where one is stored, over so many nodes, on a disk of so many blocks
 abbrev pub IsNode : ℕ → (ℕ → List ℕ) → ℕ → Pointer → Type 0

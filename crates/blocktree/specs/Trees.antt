@@ -1,6 +1,5 @@
 -- A file's blocks: those of its settled inode, and over them the changed ones.
-use Rattle.std.specs.Prelude.{ℕ, ◌≡◌, ◌<◌, List, Bool, true, false, ◌||◌, nat_le, filter, nat_lt, if◌then◌else◌, Option, Some, None}
-use Rattle.std.specs.List.{range_with_len}
+use Rattle.std.specs.Prelude.{ℕ, ◌≡◌, ◌<◌, List, nat_lt, if◌then◌else◌, Option, Some, None}
 use Rattle.std.specs.Ordering.{nat_cmp}
 use Rattle.std.specs.BTreeMap as tree
 use Rattle.layout.specs.Bytes.{zeros}
@@ -57,6 +56,10 @@ IsChanged t i = IsChangedSlot (tree.get nat_cmp t.slots i)
 abbrev pub IsSoundAt : ℕ → (ℕ → List ℕ) → BlockTree → ℕ → Type 0
 IsSoundAt blocks disk t i = (IsChanged t i → ⊥) → i < t.kept → IsPath blocks disk t.pointers t.depth t.count i
 
+-- what stands on a disk of so many blocks over the settled blocks is in the grammar
+abbrev pub AreSound : ℕ → (ℕ → List ℕ) → BlockTree → Type 0
+AreSound blocks disk t = (i : ℕ) → i < t.count → IsPath blocks disk t.pointers t.depth t.count i
+
 -- what was in the grammar is so still
 abbrev pub KeepsSound : BlockTree → BlockTree → Type 0
 KeepsSound old new = (blocks : ℕ) (disk : ℕ → List ℕ) (i : ℕ) → IsSoundAt blocks disk old i → IsSoundAt blocks disk new i
@@ -72,17 +75,3 @@ abbrev pub OnDisk : Location → (ℕ → Type 0) → Type 0
 OnDisk locations.Changed P = Unit {0}
 OnDisk locations.Hole P = Unit {0}
 OnDisk (locations.Disk place) P = P place
-
--- what memory has of a block is a change
-abbrev pub is_changed_slot : Option Slot → Bool
-is_changed_slot (Some (Changed block)) = true
-is_changed_slot (Some AsSettled) = false
-is_changed_slot None = false
-
--- block i is no more as the settled inode has it
-abbrev pub is_old : BlockTree → ℕ → Bool
-is_old t i = nat_le t.kept i || is_changed_slot (tree.get nat_cmp t.slots i)
-
--- the blocks of the settled file that are no more as its inode has them
-abbrev pub old_indexes : BlockTree → List ℕ
-old_indexes t = filter (is_old t) (range_with_len 0 t.count)

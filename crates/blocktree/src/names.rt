@@ -1,9 +1,11 @@
 //! Which blocks a settled inode names.
 
-ghost use Rattle.std.specs.Prelude.{◌≡◌, ◌↔◌, ◌⊎◌, ℕ, ◌*◌, ◌^◌, ◌<◌, ◌≤◌, ◌/◌, List, Contains, OnOk, IfOk, IsErrOf, length, map, slice_index};
-ghost use Rattle.buffers.specs.Failures.{HasGrown};
+ghost use Rattle.std.specs.Prelude.{◌≡◌, ◌↔◌, ◌⊎◌, ℕ, ◌*◌, ◌^◌, ◌<◌, ◌≤◌, List, Contains, OnOk, IfOk, IsErrOf, vec_len, All};
+ghost use Rattle.buffers.specs.Reads.{ReadsBlocks};
+ghost use Rattle.blocktree.specs.Errors.{IsFault};
 ghost use Rattle.layout.specs.declared.pointer.Pointer.TheVariants as pointers;
-ghost use Rattle.blocktree.specs.Names.{IsNodePlace, IsNamed, IsListedPlace, IsListed};
+ghost use Rattle.layout.specs.Pointer.{PointsBelow};
+ghost use Rattle.blocktree.specs.Names.{nodes_at, AreNodes, IsNodePlace, IsNamed};
 ghost use Rattle.blocktree.specs.Places.{place, IsPath};
 
 use crate::ReadError;
@@ -21,12 +23,7 @@ pub(crate) fn name_nodes<B: Blocks>(
     names: &mut Vec<BlockNumber>,
 ) -> Result<(), ReadError>
     requires { count ≤ 16 * 1024 ^ depth }
-    ensures count { B.count blocks.new ≡ B.count blocks.old }
-    ensures counted { OnOk result (B.failed blocks.new ≡ B.failed blocks.old) }
-    ensures device { IsErrOf result ReadError.Device
-        → HasGrown (B.failed blocks.old) (B.failed blocks.new) }
-    ensures reads { (start : B) → B.ReadsOn start blocks.old → B.ReadsOn start blocks.new }
-    ensures same { (disk : ℕ → List ℕ) → B.Shows blocks.old disk → B.Shows blocks.new disk }
+    ensures reads { ReadsBlocks B.Blocks IsFault blocks.old blocks.new result }
     ensures damaged { (disk : ℕ → List ℕ) → B.Shows blocks.old disk
         → IsErrOf result ReadError.Damaged
         → ((i : ℕ) → i < count → IsPath (B.count blocks.old) disk pointers.now depth count i) → ⊥ }
@@ -50,12 +47,7 @@ fn name_level<B: Blocks>(
     names: &mut Vec<BlockNumber>,
 ) -> Result<(), ReadError>
     requires { count ≤ 16 * 1024 ^ depth }
-    ensures count { B.count blocks.new ≡ B.count blocks.old }
-    ensures counted { OnOk result (B.failed blocks.new ≡ B.failed blocks.old) }
-    ensures device { IsErrOf result ReadError.Device
-        → HasGrown (B.failed blocks.old) (B.failed blocks.new) }
-    ensures reads { (start : B) → B.ReadsOn start blocks.old → B.ReadsOn start blocks.new }
-    ensures same { (disk : ℕ → List ℕ) → B.Shows blocks.old disk → B.Shows blocks.new disk }
+    ensures reads { ReadsBlocks B.Blocks IsFault blocks.old blocks.new result }
     ensures damaged { (disk : ℕ → List ℕ) → B.Shows blocks.old disk
         → IsErrOf result ReadError.Damaged
         → ((i : ℕ) → i < count → IsPath (B.count blocks.old) disk pointers.now depth count i) → ⊥ }
@@ -70,84 +62,42 @@ fn name_level<B: Blocks>(
     Ok(())
 }
 
-/// Adds the places of these nodes at this depth, each below `count`, and of all above them. One above several is added
-/// more than once.
-pub(crate) fn list_nodes<B: Blocks>(
+/// The pointers to the first `count` nodes at this depth.
+pub(crate) fn read_nodes<B: Blocks>(
     alloc: Global,
     blocks: &mut B,
     pointers: &[Pointer; BODY_POINTERS],
     depth: u32,
     count: u32,
-    nodes: &[u32],
-    names: &mut Vec<BlockNumber>,
-) -> Result<(), ReadError>
-    requires count { count ≤ 16 * 1024 ^ depth }
-    requires nodes { (k : ℕ) → k < length nodes.now → slice_index nodes.now k < count }
-    ensures count { B.count blocks.new ≡ B.count blocks.old }
-    ensures counted { OnOk result (B.failed blocks.new ≡ B.failed blocks.old) }
-    ensures device { IsErrOf result ReadError.Device
-        → HasGrown (B.failed blocks.old) (B.failed blocks.new) }
-    ensures reads { (start : B) → B.ReadsOn start blocks.old → B.ReadsOn start blocks.new }
-    ensures same { (disk : ℕ → List ℕ) → B.Shows blocks.old disk → B.Shows blocks.new disk }
+) -> Result<Vec<Pointer>, ReadError>
+    requires { count ≤ 16 * 1024 ^ depth }
+    ensures reads { ReadsBlocks B.Blocks IsFault blocks.old blocks.new result }
+    ensures length { IfOk result (λ nodes. vec_len nodes ≡ count) }
+    ensures within { IfOk result (λ nodes. All (PointsBelow (B.count blocks.old)) nodes.items) }
+    ensures nodes { (disk : ℕ → List ℕ) → B.Shows blocks.old disk
+        → IfOk result (λ nodes. AreNodes disk pointers.now depth count nodes.items) }
+    ensures sound { (disk : ℕ → List ℕ) → B.Shows blocks.old disk → OnOk result ((i : ℕ)
+        → i < count → IsPath (B.count blocks.old) disk pointers.now depth count i) }
     ensures damaged { (disk : ℕ → List ℕ) → B.Shows blocks.old disk
         → IsErrOf result ReadError.Damaged
         → ((i : ℕ) → i < count → IsPath (B.count blocks.old) disk pointers.now depth count i) → ⊥ }
-    ensures listed { (disk : ℕ → List ℕ) → B.Shows blocks.old disk → OnOk result ((p : ℕ)
-        → Contains names.new.items p
-        ↔ (Contains names.old.items p ⊎ IsListed disk pointers.now depth nodes.now p)) }
 {
-    list_level(blocks, pointers, depth, count, nodes, names)?;
-    if depth > 0 {
-        let above = nodes_above(alloc, nodes)?;
-        list_nodes(
-            alloc,
-            blocks,
-            pointers,
-            depth - 1,
-            count.div_ceil(1024),
-            &above,
-            names,
-        )?;
+    let mut nodes = Vec::new(alloc);
+    for i in 0..count {
+        let pointer = find_place(blocks, pointers, depth, count, i)?;
+        nodes.push(pointer)?;
     }
-    Ok(())
+    Ok(nodes)
 }
 
-/// The nodes above these.
-fn nodes_above(alloc: Global, nodes: &[u32]) -> Result<Vec<u32>, AllocError>
-    ensures { IfOk result (λ above. above.items ≡ map (λ i. i / 1024) nodes.now) }
+/// How many nodes stand at this height over so many blocks.
+pub(crate) fn nodes_at(count: u32, height: u32) -> u32
+    ensures { result ≡ nodes_at count height }
 {
-    nodes.iter().map(|i| *i / 1024).collect(alloc)
-}
-
-/// Adds the places of these nodes at this depth.
-fn list_level<B: Blocks>(
-    blocks: &mut B,
-    pointers: &[Pointer; BODY_POINTERS],
-    depth: u32,
-    count: u32,
-    nodes: &[u32],
-    names: &mut Vec<BlockNumber>,
-) -> Result<(), ReadError>
-    requires count { count ≤ 16 * 1024 ^ depth }
-    requires nodes { (k : ℕ) → k < length nodes.now → slice_index nodes.now k < count }
-    ensures count { B.count blocks.new ≡ B.count blocks.old }
-    ensures counted { OnOk result (B.failed blocks.new ≡ B.failed blocks.old) }
-    ensures device { IsErrOf result ReadError.Device
-        → HasGrown (B.failed blocks.old) (B.failed blocks.new) }
-    ensures reads { (start : B) → B.ReadsOn start blocks.old → B.ReadsOn start blocks.new }
-    ensures same { (disk : ℕ → List ℕ) → B.Shows blocks.old disk → B.Shows blocks.new disk }
-    ensures damaged { (disk : ℕ → List ℕ) → B.Shows blocks.old disk
-        → IsErrOf result ReadError.Damaged
-        → ((i : ℕ) → i < count → IsPath (B.count blocks.old) disk pointers.now depth count i) → ⊥ }
-    ensures listed { (disk : ℕ → List ℕ) → B.Shows blocks.old disk → OnOk result ((p : ℕ)
-        → Contains names.new.items p
-        ↔ (Contains names.old.items p ⊎ IsListedPlace disk pointers.now depth nodes.now p)) }
-{
-    for k in 0..nodes.len() {
-        let pointer = find_place(blocks, pointers, depth, count, nodes[k])?;
-        add_place(pointer, names)?;
+    if height == 0 {
+        return count;
     }
-    Ok(())
+    nodes_at(count, height - 1).div_ceil(1024)
 }
 
 /// Adds where a pointer leads, if it is no hole.

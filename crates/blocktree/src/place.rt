@@ -1,7 +1,8 @@
 //! Where a file's blocks lie, from the inode down.
 
 ghost use Rattle.std.specs.Prelude.{◌≡◌, ℕ, ◌*◌, ◌^◌, ◌<◌, List, OnOk, OnErr, IfOk, IfErr, IsErrOf, slice_index_or};
-ghost use Rattle.buffers.specs.Failures.{HasGrown};
+ghost use Rattle.buffers.specs.Reads.{ReadsBlocks};
+ghost use Rattle.blocktree.specs.Errors.{IsFault};
 ghost use Rattle.layout.specs.Maps.{indirect_pointer, IsIndirectBlock};
 ghost use Rattle.layout.specs.Pointer.{PointsBelow};
 ghost use Rattle.layout.specs.declared.pointer.Pointer.TheVariants.{Hole};
@@ -20,12 +21,7 @@ pub(crate) fn find_place<B: Blocks>(
     i: u32,
 ) -> Result<Pointer, ReadError>
     requires { i < 16 * 1024 ^ depth }
-    ensures count { B.count blocks.new ≡ B.count blocks.old }
-    ensures counted { OnOk result (B.failed blocks.new ≡ B.failed blocks.old) }
-    ensures device { IsErrOf result ReadError.Device
-        → HasGrown (B.failed blocks.old) (B.failed blocks.new) }
-    ensures reads { (start : B) → B.ReadsOn start blocks.old → B.ReadsOn start blocks.new }
-    ensures same { (disk : ℕ → List ℕ) → B.Shows blocks.old disk → B.Shows blocks.new disk }
+    ensures reads { ReadsBlocks B.Blocks IsFault blocks.old blocks.new result }
     ensures within { IfOk result (PointsBelow (B.count blocks.old)) }
     ensures place { (disk : ℕ → List ℕ) → B.Shows blocks.old disk
         → IfOk result (λ p. p ≡ place disk pointers.now depth i) }
@@ -85,12 +81,7 @@ fn follow<B: Blocks>(
 ) -> Result<Pointer, ReadError>
     requires above { PointsBelow (B.count blocks.old) above }
     requires index { i < 1024 }
-    ensures count { B.count blocks.new ≡ B.count blocks.old }
-    ensures counted { OnOk result (B.failed blocks.new ≡ B.failed blocks.old) }
-    ensures device { IsErrOf result ReadError.Device
-        → HasGrown (B.failed blocks.old) (B.failed blocks.new) }
-    ensures reads { (start : B) → B.ReadsOn start blocks.old → B.ReadsOn start blocks.new }
-    ensures same { (disk : ℕ → List ℕ) → B.Shows blocks.old disk → B.Shows blocks.new disk }
+    ensures reads { ReadsBlocks B.Blocks IsFault blocks.old blocks.new result }
     ensures within { IfOk result (PointsBelow (B.count blocks.old)) }
     ensures pointer { (disk : ℕ → List ℕ) → B.Shows blocks.old disk
         → IfOk result (λ p. p ≡ follow disk above i) }
@@ -115,12 +106,7 @@ fn read_pointer<B: Blocks>(
 ) -> Result<Pointer, ReadError>
     requires place { node < B.count blocks.old }
     requires index { i < 1024 }
-    ensures count { B.count blocks.new ≡ B.count blocks.old }
-    ensures counted { OnOk result (B.failed blocks.new ≡ B.failed blocks.old) }
-    ensures device { IsErrOf result ReadError.Device
-        → HasGrown (B.failed blocks.old) (B.failed blocks.new) }
-    ensures reads { (start : B) → B.ReadsOn start blocks.old → B.ReadsOn start blocks.new }
-    ensures same { (disk : ℕ → List ℕ) → B.Shows blocks.old disk → B.Shows blocks.new disk }
+    ensures reads { ReadsBlocks B.Blocks IsFault blocks.old blocks.new result }
     ensures within { IfOk result (PointsBelow (B.count blocks.old)) }
     ensures pointer { (disk : ℕ → List ℕ) → B.Shows blocks.old disk
         → IfOk result (λ p. p ≡ indirect_pointer (disk node) i) }

@@ -1,15 +1,18 @@
 //! A file's blocks, settled ones and changed ones.
 
-ghost use Rattle.std.specs.Prelude.{◌≡◌, ℕ, ◌+◌, ◌*◌, ◌^◌, ◌<◌, ◌≤◌, List, length, slice_index, OnOk, IfOk, IsErrOf};
+ghost use Rattle.std.specs.Prelude.{◌≡◌, ℕ, ◌+◌, ◌-◌, ◌*◌, ◌^◌, ◌<◌, ◌≤◌, List, length, slice_index, vec_len, All, OnOk, IfOk, IsErrOf};
 ghost use Rattle.layout.specs.Bytes.{zeros};
 ghost use Rattle.layout.specs.Version.{greatest_size};
-ghost use Rattle.buffers.specs.Failures.{HasGrown};
+ghost use Rattle.layout.specs.declared.version.TheConstants.{VERSION};
+ghost use Rattle.buffers.specs.Reads.{ReadsBlocks};
+ghost use Rattle.blocktree.specs.Errors.{IsFault};
 ghost use Rattle.buffers.specs.Positions.{IsPart};
-ghost use Rattle.blocktree.specs.Names.{IsNamed, IsListed};
+ghost use Rattle.layout.specs.Pointer.{PointsBelow};
+ghost use Rattle.blocktree.specs.Names.{nodes_at, AreNodes, IsNamed};
 ghost use Rattle.blocktree.specs.Places.{block_count, depth_of, IsPath};
 
 use crate::ReadError;
-use crate::names::{list_nodes, name_nodes};
+use crate::names::{name_nodes, nodes_at, read_nodes};
 use crate::place::find_place;
 use buffers::{Block, Blocks};
 use layout::{BLOCK_BYTES, BODY_POINTERS, BlockNumber, Pointer, level_of};
@@ -52,7 +55,7 @@ pub struct BlockTree {
 
 /// How many blocks hold so many bytes.
 fn block_count(size: u64) -> u32
-    requires { size ≤ greatest_size 1 }
+    requires { size ≤ greatest_size VERSION }
     ensures { result ≡ block_count size }
 {
     size.div_ceil(4096) as u32
@@ -73,13 +76,16 @@ impl BlockTree {
     ghost use Rattle.std.specs.Ordering.{nat_cmp};
     ghost use Rattle.std.specs.BTreeMap as tree;
     ghost use Rattle.buffers.specs.Positions.{laid};
-    ghost use Rattle.blocktree.specs.Trees.{tree_block, slot_bytes, settled_block, HasRoom, KeepsRoom, SameBlocks, SameSettled, IsChanged, IsSoundAt, KeepsSound, IsAt, OnDisk, is_changed_slot, is_old, old_indexes};
+    ghost use Rattle.blocktree.specs.Trees.{AreSound, tree_block, slot_bytes, settled_block, HasRoom, KeepsRoom, SameBlocks, SameSettled, IsChanged, IsSoundAt, KeepsSound, IsAt, OnDisk};
 
     /// The blocks of a settled file of this size with these pointers in its inode.
     pub fn settled(alloc: Global, pointers: [Pointer; BODY_POINTERS], size: u64) -> BlockTree
-        requires { size ≤ greatest_size 1 }
-        ensures { (disk : ℕ → List ℕ) (i : ℕ)
-            → tree_block disk result i
+        requires { size ≤ greatest_size VERSION }
+        ensures pointers { result.pointers ≡ pointers }
+        ensures depth { result.depth ≡ depth_of size }
+        ensures count { result.count ≡ block_count size }
+        ensures kept { result.kept ≡ block_count size }
+        ensures blocks { (disk : ℕ → List ℕ) (i : ℕ) → tree_block disk result i
             ≡ settled_block disk pointers (depth_of size) (block_count size) i }
     {
         let count = block_count(size);
@@ -94,20 +100,78 @@ impl BlockTree {
 
     /// The blocks of an empty file.
     pub fn empty(alloc: Global) -> BlockTree
-        ensures { (disk : ℕ → List ℕ) (i : ℕ) → tree_block disk result i ≡ zeros 4096 }
+        ensures count { result.count ≡ 0 }
+        ensures blocks { (disk : ℕ → List ℕ) (i : ℕ) → tree_block disk result i ≡ zeros 4096 }
     {
         BlockTree::settled(alloc, [Pointer::Hole; BODY_POINTERS], 0)
     }
 
     /// The blocks of a file that has only a changed block 0.
     pub fn of_block(alloc: Global, block: Block) -> Result<BlockTree, AllocError>
-        ensures { IfOk result (λ t. (disk : ℕ → List ℕ) (i : ℕ)
+        ensures count { IfOk result (λ t. t.count ≡ 0) }
+        ensures blocks { IfOk result (λ t. (disk : ℕ → List ℕ) (i : ℕ)
             → tree_block disk t i ≡ (if i == 0 then block else zeros 4096)) }
     {
         let mut tree = BlockTree::empty(alloc);
         tree.make_room(0)?;
         tree.set(0, block);
         Ok(tree)
+    }
+
+    /// The pointers of the settled inode.
+    pub fn pointers(&self) -> &[Pointer; BODY_POINTERS]
+        ensures { result.now ≡ self.now.pointers }
+    {
+        &self.pointers
+    }
+
+    /// How many indirect blocks stand between one of these and a block.
+    pub fn depth(&self) -> u32
+        ensures { result ≡ self.now.depth }
+    {
+        self.depth
+    }
+
+    /// How many blocks the settled file has.
+    pub fn count(&self) -> u32
+        ensures value { result ≡ self.now.count }
+        ensures most { result ≤ 16 * 1024 ^ self.now.depth }
+    {
+        self.count
+    }
+
+    /// From which block on the settled blocks count no more.
+    pub fn kept(&self) -> u32
+        ensures value { result ≡ self.now.kept }
+        ensures most { result ≤ self.now.count }
+    {
+        self.kept
+    }
+
+    /// The settled pointers to all nodes at a height, in their order: at height 0 to the blocks, and then to the indirect
+    /// blocks, each over 1,024 nodes of those below.
+    pub fn settled_nodes<B: Blocks>(
+        &self,
+        alloc: Global,
+        blocks: &mut B,
+        height: u32,
+    ) -> Result<Vec<Pointer>, ReadError>
+        requires { height ≤ self.now.depth }
+        ensures reads { ReadsBlocks B.Blocks IsFault blocks.old blocks.new result }
+        ensures length { IfOk result (λ nodes. vec_len nodes ≡ nodes_at self.now.count height) }
+        ensures within { IfOk result (λ nodes. All (PointsBelow (B.count blocks.old)) nodes.items) }
+        ensures nodes { (disk : ℕ → List ℕ) → B.Shows blocks.old disk → IfOk result (λ nodes.
+            AreNodes disk self.now.pointers (self.now.depth - height)
+            (nodes_at self.now.count height) nodes.items) }
+        ensures sound { (disk : ℕ → List ℕ) → B.Shows blocks.old disk
+            → OnOk result (height ≡ 0 → AreSound (B.count blocks.old) disk self.now) }
+        ensures damaged { (disk : ℕ → List ℕ) → B.Shows blocks.old disk
+            → IsErrOf result ReadError.Damaged
+            → AreSound (B.count blocks.old) disk self.now → ⊥ }
+    {
+        let count = nodes_at(self.count, height);
+        let nodes = read_nodes(alloc, blocks, &self.pointers, self.depth - height, count)?;
+        Ok(nodes)
     }
 
     /// The changed block `i`, if it is changed.
@@ -129,12 +193,7 @@ impl BlockTree {
 
     /// Finds block `i`, and makes it resident where it is on the disk.
     pub fn locate<B: Blocks>(&self, blocks: &mut B, i: u32) -> Result<Location, ReadError>
-        ensures count { B.count blocks.new ≡ B.count blocks.old }
-        ensures counted { OnOk result (B.failed blocks.new ≡ B.failed blocks.old) }
-        ensures device { IsErrOf result ReadError.Device
-            → HasGrown (B.failed blocks.old) (B.failed blocks.new) }
-        ensures reads { (start : B) → B.ReadsOn start blocks.old → B.ReadsOn start blocks.new }
-        ensures same { (disk : ℕ → List ℕ) → B.Shows blocks.old disk → B.Shows blocks.new disk }
+        ensures reads { ReadsBlocks B.Blocks IsFault blocks.old blocks.new result }
         ensures resident { IfOk result (λ l. OnDisk l (B.IsResident blocks.new)) }
         ensures found { (disk : ℕ → List ℕ) → B.Shows blocks.old disk
             → IfOk result (IsAt disk self.now i) }
@@ -189,14 +248,11 @@ impl BlockTree {
         out: &mut [u8],
     ) -> Result<(), ReadError>
         requires { at + length out.old ≤ 4096 }
-        ensures count { B.count blocks.new ≡ B.count blocks.old }
-        ensures counted { OnOk result (B.failed blocks.new ≡ B.failed blocks.old) }
-        ensures device { IsErrOf result ReadError.Device
-            → HasGrown (B.failed blocks.old) (B.failed blocks.new) }
-        ensures reads { (start : B) → B.ReadsOn start blocks.old → B.ReadsOn start blocks.new }
-        ensures same { (disk : ℕ → List ℕ) → B.Shows blocks.old disk → B.Shows blocks.new disk }
+        ensures reads { ReadsBlocks B.Blocks IsFault blocks.old blocks.new result }
         ensures bytes { (disk : ℕ → List ℕ) → B.Shows blocks.old disk
             → OnOk result (IsPart (slice_index (tree_block disk self.now i)) at out.new) }
+        ensures sound { (disk : ℕ → List ℕ) → B.Shows blocks.old disk
+            → OnOk result (IsSoundAt (B.count blocks.old) disk self.now i) }
         ensures damaged { (disk : ℕ → List ℕ) → B.Shows blocks.old disk
             → IsErrOf result ReadError.Damaged
             → IsSoundAt (B.count blocks.old) disk self.now i → ⊥ }
@@ -209,14 +265,11 @@ impl BlockTree {
 
     /// A copy of block `i`.
     pub fn copy<B: Blocks>(&self, alloc: Global, blocks: &mut B, i: u32) -> Result<Block, ReadError>
-        ensures count { B.count blocks.new ≡ B.count blocks.old }
-        ensures counted { OnOk result (B.failed blocks.new ≡ B.failed blocks.old) }
-        ensures device { IsErrOf result ReadError.Device
-            → HasGrown (B.failed blocks.old) (B.failed blocks.new) }
-        ensures reads { (start : B) → B.ReadsOn start blocks.old → B.ReadsOn start blocks.new }
-        ensures same { (disk : ℕ → List ℕ) → B.Shows blocks.old disk → B.Shows blocks.new disk }
+        ensures reads { ReadsBlocks B.Blocks IsFault blocks.old blocks.new result }
         ensures bytes { (disk : ℕ → List ℕ) → B.Shows blocks.old disk
             → IfOk result (λ b. b ≡ tree_block disk self.now i) }
+        ensures sound { (disk : ℕ → List ℕ) → B.Shows blocks.old disk
+            → OnOk result (IsSoundAt (B.count blocks.old) disk self.now i) }
         ensures damaged { (disk : ℕ → List ℕ) → B.Shows blocks.old disk
             → IsErrOf result ReadError.Damaged
             → IsSoundAt (B.count blocks.old) disk self.now i → ⊥ }
@@ -233,12 +286,7 @@ impl BlockTree {
         alloc: Global,
         blocks: &mut B,
     ) -> Result<Vec<BlockNumber>, ReadError>
-        ensures count { B.count blocks.new ≡ B.count blocks.old }
-        ensures counted { OnOk result (B.failed blocks.new ≡ B.failed blocks.old) }
-        ensures device { IsErrOf result ReadError.Device
-            → HasGrown (B.failed blocks.old) (B.failed blocks.new) }
-        ensures reads { (start : B) → B.ReadsOn start blocks.old → B.ReadsOn start blocks.new }
-        ensures same { (disk : ℕ → List ℕ) → B.Shows blocks.old disk → B.Shows blocks.new disk }
+        ensures reads { ReadsBlocks B.Blocks IsFault blocks.old blocks.new result }
         ensures damaged { (disk : ℕ → List ℕ) → B.Shows blocks.old disk
             → IsErrOf result ReadError.Damaged
             → ((i : ℕ) → i < self.now.count
@@ -254,72 +302,13 @@ impl BlockTree {
         Ok(names)
     }
 
-    /// Whether block `i` is no more as the settled inode has it.
-    fn is_old(&self, i: u32) -> bool
-        ensures { result ≡ is_old self.now i }
-    {
-        i >= self.kept || self.is_changed(i)
-    }
-
-    fn is_changed(&self, i: u32) -> bool
-        ensures { result ≡ is_changed_slot (tree.get nat_cmp self.now.slots i) }
-    {
-        match self.slots.get(&i) {
-            Some(Slot::Changed(_)) => true,
-            Some(Slot::AsSettled) => false,
-            None => false,
-        }
-    }
-
-    /// Those blocks of the settled file that are no more as its inode has them.
-    fn old_indexes(&self, alloc: Global) -> Result<Vec<u32>, AllocError>
-        ensures { IfOk result (λ old. old.items ≡ old_indexes self.now) }
-    {
-        (0..self.count).filter(|i| self.is_old(*i)).collect(alloc)
-    }
-
-    /// The blocks that the settled inode names and the next one won't: those that changed or were cut off, and the indirect
-    /// ones over them, which may stand there more than once.
-    pub fn old_blocks<B: Blocks>(
-        &self,
-        alloc: Global,
-        blocks: &mut B,
-    ) -> Result<Vec<BlockNumber>, ReadError>
-        ensures count { B.count blocks.new ≡ B.count blocks.old }
-        ensures counted { OnOk result (B.failed blocks.new ≡ B.failed blocks.old) }
-        ensures device { IsErrOf result ReadError.Device
-            → HasGrown (B.failed blocks.old) (B.failed blocks.new) }
-        ensures reads { (start : B) → B.ReadsOn start blocks.old → B.ReadsOn start blocks.new }
-        ensures same { (disk : ℕ → List ℕ) → B.Shows blocks.old disk → B.Shows blocks.new disk }
-        ensures damaged { (disk : ℕ → List ℕ) → B.Shows blocks.old disk
-            → IsErrOf result ReadError.Damaged
-            → ((i : ℕ) → i < self.now.count
-            → IsPath (B.count blocks.old) disk self.now.pointers self.now.depth self.now.count i)
-            → ⊥ }
-        ensures old { (disk : ℕ → List ℕ) → B.Shows blocks.old disk → IfOk result (λ names. (p : ℕ)
-            → Contains names.items p
-            ↔ IsListed disk self.now.pointers self.now.depth (old_indexes self.now) p) }
-    {
-        let indexes = self.old_indexes(alloc)?;
-        let mut names = Vec::new(alloc);
-        list_nodes(
-            alloc,
-            blocks,
-            &self.pointers,
-            self.depth,
-            self.count,
-            &indexes,
-            &mut names,
-        )?;
-        Ok(names)
-    }
-
     /// Makes room for a change of block `i`. No block changes by it.
     pub fn make_room(&mut self, i: u32) -> Result<(), AllocError>
         ensures same { SameBlocks self.old self.new }
         ensures room { OnOk result (HasRoom self.new i) }
         ensures keeps { KeepsRoom self.old self.new }
         ensures sound { KeepsSound self.old self.new }
+        ensures was_sound { KeepsSound self.new self.old }
         ensures settled { SameSettled self.old self.new }
     {
         if !self.slots.contains_key(&i) {
@@ -337,6 +326,7 @@ impl BlockTree {
         ensures blocks { (disk : ℕ → List ℕ) (j : ℕ)
             → tree_block disk self.new j ≡ (if j == i then block else tree_block disk self.old j) }
         ensures keeps { KeepsRoom self.old self.new }
+        ensures sound { KeepsSound self.old self.new }
         ensures settled { SameSettled self.old self.new }
     {
         let _ = self.slots.insert(i, Slot::Changed(block));
@@ -348,6 +338,7 @@ impl BlockTree {
             → tree_block disk self.new j
             ≡ (if nat_lt j count then tree_block disk self.old j else zeros 4096) }
         ensures keeps { (j : ℕ) → j < count → HasRoom self.old j → HasRoom self.new j }
+        ensures sound { KeepsSound self.old self.new }
         ensures settled { SameSettled self.old self.new }
     {
         self.slots.retain(|i, _| *i < count);
@@ -361,6 +352,7 @@ impl BlockTree {
         ensures blocks { (disk : ℕ → List ℕ) (j : ℕ)
             → tree_block disk self.new j ≡ laid (tree_block disk self.old) first pieces.items j }
         ensures keeps { KeepsRoom self.old self.new }
+        ensures sound { KeepsSound self.old self.new }
         ensures settled { SameSettled self.old self.new }
     {
         let mut rest = pieces;

@@ -1,5 +1,5 @@
 -- What the disk of a station reads as, block by block, and what of it is kept in memory.
-use Rattle.std.specs.Prelude.{ℕ, ◌≡◌, ◌+◌, ◌*◌, ◌/◌, ◌%◌, ◌<◌, ◌≤◌, ◌==◌, List, length, slice_index, Some, if◌then◌else◌}
+use Rattle.std.specs.Prelude.{ℕ, ◌≡◌, ◌+◌, ◌*◌, ◌/◌, ◌%◌, ◌<◌, ◌≤◌, ◌==◌, List, ◌++◌, take, drop, length, slice_index, Some, if◌then◌else◌}
 use Rattle.std.specs.Ordering.{nat_cmp}
 use Rattle.std.specs.BTreeMap.{BTreeMap, get}
 use Rattle.station.specs.Images.{Sector, Unchanged, sector_bytes}
@@ -24,6 +24,15 @@ pub record ShowsDisk (m : Meaning) (kept : BTreeMap ℕ Block) (disk : ℕ → L
 -- the disk with a block written anew
 abbrev pub disk_with : ℕ → List ℕ → (ℕ → List ℕ) → ℕ → List ℕ
 disk_with place bytes disk b = if b == place then bytes else disk b
+
+-- a block with its sector k written anew
+abbrev pub sector_put : ℕ → List ℕ → List ℕ → List ℕ
+sector_put k bytes block = take (512 * k) block ++ (bytes ++ drop (512 * k + 512) block)
+
+-- the disk with a sector written anew
+abbrev pub disk_with_sector : ℕ → List ℕ → (ℕ → List ℕ) → ℕ → List ℕ
+disk_with_sector sector bytes disk =
+    disk_with (sector / 8) (sector_put (sector % 8) bytes (disk (sector / 8))) disk
 
 -- from one moment to another nothing was done but reading
 pub record ReadsOn (old new : Meaning) : Type 0 where

@@ -2,3 +2,4 @@ pub mod Disks
 pub mod Failures
 pub mod Positions
 pub mod Readings
+pub mod Reads

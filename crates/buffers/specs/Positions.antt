@@ -1,6 +1,6 @@
 -- Bytes, or blocks, by their positions.
-use Rattle.std.specs.Prelude.{ℕ, ◌≡◌, ◌+◌, ◌-◌, ◌<◌, List, length, map, slice_index, slice_index_or, nat_le, nat_lt, ◌&&◌, if◌then◌else◌}
-use Rattle.std.specs.List.{range_with_len}
+use Rattle.std.specs.Prelude.{ℕ, ◌≡◌, ◌+◌, ◌-◌, ◌<◌, List, length, slice_index, slice_index_or, nat_le, nat_lt, ◌&&◌, if◌then◌else◌}
+pub use Rattle.layout.specs.FileBytes.{first_bytes}
 
 -- bytes by position, with these from one position on
 abbrev pub written : (ℕ → ℕ) → ℕ → List ℕ → ℕ → ℕ
@@ -9,10 +9,6 @@ written f at bytes p = if nat_le at p && nat_lt p (at + length bytes) then slice
 -- bytes by position, and zeros from one position on
 abbrev pub cut : (ℕ → ℕ) → ℕ → ℕ → ℕ
 cut f size p = if nat_lt p size then f p else 0
-
--- the first bytes as a list
-abbrev pub first_bytes : (ℕ → ℕ) → ℕ → List ℕ
-first_bytes f size = map f (range_with_len 0 size)
 
 -- a list has these bytes by position, counted from one position on
 abbrev pub IsPart : (ℕ → ℕ) → ℕ → List ℕ → Type 0

@@ -3,10 +3,10 @@
 ghost use Rattle.std.specs.Prelude.{◌≡◌, ℕ, ◌+◌, ◌*◌, ◌/◌, ◌%◌, ◌<◌, ◌≤◌, ◌^◌, List, length, slice_index, OnOk, IfOk, IfErr};
 ghost use Rattle.std.specs.Ordering.{nat_cmp};
 ghost use Rattle.std.specs.BTreeMap as tree;
-ghost use Rattle.station.specs.Images.{SomeSectorsWritten};
-ghost use Rattle.station.specs.Moments.{HasGrown};
+ghost use Rattle.station.specs.Images.{SomeSectorsWritten, SectorsWritten, Unchanged};
+ghost use Rattle.station.specs.Moments.{HasGrown, LeavesJust, SeenGoes};
 ghost use Rattle.station.specs.Calls.{WriteCall};
-ghost use Rattle.buffers.specs.Disks.{IsBlock, IsDisk, ShowsDisk, ReadsOn, disk_with};
+ghost use Rattle.buffers.specs.Disks.{IsBlock, IsDisk, ShowsDisk, ReadsOn, disk_with, disk_with_sector};
 
 use crate::{Block, Blocks, BufferError};
 use layout::{BLOCK_BYTES, BlockNumber, SECTOR_BYTES};
@@ -17,7 +17,7 @@ use std::collections::BTreeMap;
 /// A station, and those blocks of its disk that are kept in memory. Every block that was read stays for now.
 #[derive(Drop)]
 pub struct Buffers<S> {
-    /// Its disk is to be written by `store` alone: what is kept would not change with it.
+    /// Its disk is to be written by `store` and `store_sector` alone: what is kept would not change with it.
     pub station: S,
     kept: BTreeMap<u32, Block>,
     alloc: Global,
@@ -110,6 +110,8 @@ impl<S: Station> Buffers<S> {
         requires { 8 * place + 8 ≤ (S.meaning self.old.station).sectors }
         ensures call { WriteCall (SomeSectorsWritten (8 * place) bytes.now)
             (S.meaning self.old.station) (S.meaning self.new.station) result }
+        ensures written { OnOk result (SeenGoes (SectorsWritten (8 * place) bytes.now)
+            (S.meaning self.old.station) (S.meaning self.new.station)) }
         ensures device { IfErr result (λ e. e ≡ BufferError.Device) }
         ensures shows { (disk : ℕ → List ℕ)
             → ShowsDisk (S.meaning self.old.station) self.old.kept disk
@@ -132,6 +134,48 @@ impl<S: Station> Buffers<S> {
             → ShowsDisk (S.meaning self.old.station) self.old.kept disk
             → ShowsDisk (S.meaning self.new.station) self.new.kept disk }
     {}
+
+    /// Writes a sector, which then reads so. It takes no memory. Where it fails, the sector may read either way.
+    pub fn store_sector(
+        &mut self,
+        sector: u32,
+        bytes: &[u8; SECTOR_BYTES],
+    ) -> Result<(), BufferError>
+        requires { sector < (S.meaning self.old.station).sectors }
+        ensures call { WriteCall (SomeSectorsWritten sector bytes.now)
+            (S.meaning self.old.station) (S.meaning self.new.station) result }
+        ensures written { OnOk result (SeenGoes (SectorsWritten sector bytes.now)
+            (S.meaning self.old.station) (S.meaning self.new.station)) }
+        ensures device { IfErr result (λ e. e ≡ BufferError.Device) }
+        ensures shows { (disk : ℕ → List ℕ)
+            → ShowsDisk (S.meaning self.old.station) self.old.kept disk
+            → OnOk result
+            (ShowsDisk (S.meaning self.new.station) self.new.kept
+            (disk_with_sector sector bytes.now disk)) }
+    {
+        let _ = self.kept.remove(&(sector / 8));
+        match self.station.write_sector(sector, bytes) {
+            Ok(()) => Ok(()),
+            Err(_) => Err(BufferError::Device),
+        }
+    }
+
+    /// Settles what reads give. What is kept stays.
+    pub fn sync(&mut self) -> Result<(), BufferError>
+        ensures call { WriteCall Unchanged
+            (S.meaning self.old.station) (S.meaning self.new.station) result }
+        ensures settled { OnOk result (LeavesJust (S.meaning self.new.station)
+            (S.meaning self.old.station).seen) }
+        ensures device { IfErr result (λ e. e ≡ BufferError.Device) }
+        ensures shows { (disk : ℕ → List ℕ)
+            → ShowsDisk (S.meaning self.old.station) self.old.kept disk
+            → ShowsDisk (S.meaning self.new.station) self.new.kept disk }
+    {
+        match self.station.sync() {
+            Ok(()) => Ok(()),
+            Err(_) => Err(BufferError::Device),
+        }
+    }
 
     /// The station.
     pub fn into_station(self) -> S

@@ -3,8 +3,9 @@ use Rattle.std.proofs.Common.{◌≡◌, ◌≢◌, ◌⊎◌, inl, inr, ℕ, ze
 use Rattle.std.proofs.lemmas.Bool.{cases_Bool, cases_lt, cases_eq, false≢true}
 use Rattle.layout.specs.Directory.{Named}
 use Rattle.model.specs.Paths.{Name}
-use Rattle.dirs.specs.Entries.{number_of, HasEachOnce}
-use Rattle.dirs.specs.Directory.{NameMap, AreNames, Counts, HasCount, first_entries}
+use Rattle.layout.specs.DirectoryNames.{number_of, HasEachOnce, NameMap, AreNames}
+use Rattle.model.specs.Counting.{Counts}
+use Rattle.dirs.specs.Directory.{HasCount, first_entries}
 use Rattle.dirs.proofs.NameLaws.{none_some, number_of-here, number_of-behind, not_same, other_name, missing_parts}
 
 -- a name stands among the entries, or doesn't

@@ -5,7 +5,8 @@ use Rattle.layout.specs.Bytes.{zeros, Writes}
 use Rattle.layout.specs.Directory.{Named, entry_bytes, IsEntry, HoldsEntries, entry_in}
 use Rattle.layout.proofs.Formats.{some_is}
 use Rattle.layout.proofs.EntryLaws.{not_zeros, entry_again, length-entry_bytes}
-use Rattle.dirs.specs.Entries.{number_of, used_by, without}
+use Rattle.layout.specs.DirectoryNames.{number_of}
+use Rattle.dirs.specs.Entries.{used_by, without}
 
 pub none_left : (inodes : ℕ) (bytes : List ℕ) (entries : List Named) → inodes ≤ 2 ^ 32 → HoldsEntries inodes bytes entries → bytes ≡ zeros (length bytes) → entries ≡ []
 none_left inodes bytes [] limit holds none = refl

@@ -3,8 +3,9 @@ use Rattle.std.proofs.Common.{◌≡◌, ◌≢◌, inl, inr, ℕ, ◌<◌, ◌�
 use Rattle.std.proofs.lemmas.Bool.{cases_Bool, cases_lt, cases_eq, cond-true, cond-false}
 use Rattle.layout.specs.Directory.{Named, HoldsEntries}
 use Rattle.model.specs.Paths.{Name}
-use Rattle.dirs.specs.Entries.{number_of, without}
-use Rattle.dirs.specs.Directory.{NameMap, AreNames, HoldNames, HasCount, first_entries, with_name, with_at}
+use Rattle.layout.specs.DirectoryNames.{number_of, NameMap, AreNames, HoldNames}
+use Rattle.dirs.specs.Entries.{without}
+use Rattle.dirs.specs.Directory.{HasCount, first_entries, with_name, with_at}
 use Rattle.dirs.specs.Errors.{add_error}
 use Rattle.blocktree.specs.declared.error.ReadError.{ReadError}
 use Rattle.blocktree.specs.declared.error.ReadError.TheVariants as below

@@ -15,8 +15,8 @@ use Rattle.std.proofs.lemmas.Cmp.{nat_list_eq_equiv}
 use Rattle.std.proofs.lemmas.Map.Views.{list_any-from_Contains, Contains-from_any}
 use Rattle.layout.specs.Directory.{Named}
 use Rattle.model.specs.Paths.{Name}
-use Rattle.dirs.specs.Entries.{number_of}
-use Rattle.dirs.specs.Directory.{NameMap, HoldNames, first_entries}
+use Rattle.layout.specs.DirectoryNames.{number_of, NameMap, HoldNames}
+use Rattle.dirs.specs.Directory.{first_entries}
 use Rattle.dirs.specs.Listings.{lists, IsListing}
 use Rattle.dirs.proofs.NameLaws.{number_of-here, number_of-behind}
 use Rattle.dirs.proofs.CountLaws.{name_stands, entry_names, some_of}

@@ -1,10 +1,8 @@
 -- What a look at a block tells of a name.
 use Rattle.std.proofs.Common.{◌≡◌, inl, inr, ℕ, ◌<◌, ◌+◌, List, Option, Some, None, Result, Ok, Err, IfOk, sym, subst, arith}
 use Rattle.std.proofs.lemmas.Bool.{cases_eq}
-use Rattle.layout.specs.Directory.{Named, HoldsEntries}
 use Rattle.model.specs.Paths.{Name}
 use Rattle.blocktree.specs.declared.error.ReadError.{ReadError}
-use Rattle.dirs.specs.Entries.{number_of}
 use Rattle.dirs.specs.Edits.{HasNumber, IsFirst}
 use Rattle.dirs.specs.Looks.{Tells}
 use Rattle.dirs.specs.declared.look.Look.{Look}

@@ -4,8 +4,9 @@ use Rattle.std.proofs.lemmas.Bool.{cases_Bool, cases_eq, cond-true, cond-false, 
 use Rattle.std.proofs.lemmas.Slice.Eq.{bytes_eq-Decides}
 use Rattle.layout.specs.Directory.{Named}
 use Rattle.model.specs.Paths.{Name}
-use Rattle.dirs.specs.Entries.{number_of, HasEachOnce, without}
-use Rattle.dirs.specs.Directory.{NameMap, with_name, with_at, AreNames}
+use Rattle.layout.specs.DirectoryNames.{number_of, HasEachOnce, NameMap, AreNames}
+use Rattle.dirs.specs.Entries.{without}
+use Rattle.dirs.specs.Directory.{with_name, with_at}
 
 pub none_some : {X : Type 0} {n : ℕ} → None ≡ Some n → X
 none_some e = cc

@@ -7,27 +7,31 @@ use Rattle.model.specs.Paths.{Name}
 use Rattle.dirs.specs.Entries.{used_by}
 use Rattle.dirs.specs.Directory.{first_entries}
 use Rattle.dirs.specs.Looks.{Tells, IsLikely}
-use Rattle.dirs.specs.Surveys.{Finds, IsFull, HasRoomFor, next_room}
+use Rattle.dirs.specs.Surveys.{Finds, IsBounded, IsFirstRoom, next_room}
 use Rattle.dirs.specs.declared.look.Look.{Look}
 use Rattle.dirs.specs.declared.survey.Survey.{Survey}
 
-room_more : (entries : ℕ → List Named) (i bytes : ℕ) (room : Option ℕ) → HasRoomFor entries i bytes room → HasRoomFor entries (i + 1) bytes (next_room i (used_by (entries i) + bytes) room)
-room_more entries i bytes (Some first) has = (omega (arith, has.0), has.1)
+room_more : (entries : ℕ → List Named) (i bytes : ℕ) (room : Option ℕ) → IsFirstRoom entries i bytes room → IsFirstRoom entries (i + 1) bytes (next_room i (used_by (entries i) + bytes) room)
+room_more entries i bytes (Some first) has = (omega (arith, has.0), has.1, has.2)
 room_more entries i bytes None has =
     elim (cases_Bool (leb (used_by (entries i) + bytes) 4096)) [
-      | inl fits ↦ subst (HasRoomFor entries (i + 1) bytes) (sym (cond-true (leb (used_by (entries i) + bytes) 4096) (Some i) None fits)) (omega arith, leb-true _ _ fits)
-      | inr full ↦ subst (HasRoomFor entries (i + 1) bytes) (sym (cond-false (leb (used_by (entries i) + bytes) 4096) (Some i) None full)) tt
+      | inl fits ↦ subst (IsFirstRoom entries (i + 1) bytes) (sym (cond-true (leb (used_by (entries i) + bytes) 4096) (Some i) None fits)) (omega arith, leb-true _ _ fits, has)
+      | inr full ↦ subst (IsFirstRoom entries (i + 1) bytes) (sym (cond-false (leb (used_by (entries i) + bytes) 4096) (Some i) None full)) (λ j below.
+          elim (cases_eq j i) [
+            | inl same ↦ subst (λ k. 4096 < used_by (entries k) + bytes) (sym same) (leb-false _ _ full)
+            | inr else ↦ has j (omega (arith, below, else))
+          ])
     ]
 
-pub full_more : (i bytes : ℕ) (s t : Survey) (l : Look) → bytes ≤ 260 → IsLikely l → t.names ≡ s.names + l.names → (r : Option ℕ) → IsFull i s r → IsFull (i + 1) t (next_room i (l.used + bytes) r)
-full_more i bytes s t l short likely names (Some first) full = tt
-full_more i bytes s t l short likely names None full =
+pub bounded_more : (i bytes : ℕ) (s t : Survey) (l : Look) → bytes ≤ 260 → IsLikely l → t.names ≡ s.names + l.names → (r : Option ℕ) → IsBounded i s r → IsBounded (i + 1) t (next_room i (l.used + bytes) r)
+bounded_more i bytes s t l short likely names (Some first) bounded = omega (arith, bounded)
+bounded_more i bytes s t l short likely names None bounded =
     elim (cases_Bool (leb (l.used + bytes) 4096)) [
-      | inl fits ↦ subst (IsFull (i + 1) t) (sym (cond-true (leb (l.used + bytes) 4096) (Some i) None fits)) tt
+      | inl fits ↦ subst (IsBounded (i + 1) t) (sym (cond-true (leb (l.used + bytes) 4096) (Some i) None fits)) (omega arith)
       | inr over ↦
           let most : 4096 < l.used + bytes = leb-false _ _ over in
-          let many : 15 * (i + 1) ≤ t.names = omega (arith, likely.used) in
-          subst (IsFull (i + 1) t) (sym (cond-false (leb (l.used + bytes) 4096) (Some i) None over)) many
+          let many : 15 * (i + 1) ≤ t.names = omega (arith, likely.used, bounded) in
+          subst (IsBounded (i + 1) t) (sym (cond-false (leb (l.used + bytes) 4096) (Some i) None over)) many
     ]
 
 pub finds_more : (inodes : ℕ) (block : ℕ → List ℕ) (i bytes : ℕ) (name : Name) (s t : Survey) (l : Look) → Finds inodes block i bytes s → Tells inodes (block i) name l
@@ -40,7 +44,7 @@ finds_more inodes block i bytes name s t l finds tells names room = record {
   room = λ entries holds.
       let before = finds.room entries (λ j below. holds j (omega (arith, below))) in
       let here = tells.used (entries i) (holds i (omega arith)) in
-      subst (HasRoomFor entries (i + 1) bytes) (sym (room ∙ ap (λ u. next_room i (u + bytes) s.room) here)) (room_more entries i bytes s.room before);
+      subst (IsFirstRoom entries (i + 1) bytes) (sym (room ∙ ap (λ u. next_room i (u + bytes) s.room) here)) (room_more entries i bytes s.room before);
   sound = λ j below. elim (cases_eq j i) [
     | inl here ↦ (tells.entries, subst (λ k. HoldsEntries inodes (block k) tells.entries) (sym here) tells.holds)
     | inr else ↦ finds.sound j (omega (arith, below, else))

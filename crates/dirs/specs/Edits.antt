@@ -1,14 +1,14 @@
 -- A directory as a prepared edit has it.
-use Rattle.std.specs.Prelude.{ℕ, ◌≡◌, ◌/◌, ◌%◌, ◌<◌, List, Option, Some, None, unwrap_or}
+use Rattle.std.specs.Prelude.{ℕ, ◌≡◌, ◌/◌, ◌<◌, List, Option, Some, None, unwrap_or}
 use Rattle.std.specs.Ordering.{nat_cmp}
 use Rattle.std.specs.BTreeMap as tree
 use Rattle.layout.specs.Directory.{Named, HoldsEntries}
 use Rattle.blocktree.specs.Trees.{HasRoom, IsSoundAt}
 use Rattle.inode.specs.declared.file.File.{File}
 use Rattle.inode.specs.Files.{file_block}
-use Rattle.dirs.specs.Directory.{NameMap, HoldNames}
+use Rattle.layout.specs.DirectoryNames.{NameMap, HoldNames, number_of}
 use Rattle.model.specs.Paths.{Name}
-use Rattle.dirs.specs.Entries.{number_of}
+use Rattle.dirs.specs.Directory.{AreDirectoryBlocks}
 use Rattle.dirs.specs.declared.edit.Edit.{Edit}
 use Rattle.dirs.specs.declared.edit.Place.{Place}
 
@@ -20,18 +20,17 @@ edited_block disk f e i = unwrap_or (tree.get nat_cmp e.changed i) (file_block d
 abbrev pub HasNames : ℕ → (ℕ → List ℕ) → File → Edit → NameMap → Type 0
 HasNames inodes disk f e names = HoldNames inodes e.count (edited_block disk f e) names
 
--- a file is a directory with these names, in whole blocks
-pub record IsDirectory (inodes : ℕ) (disk : ℕ → List ℕ) (f : File) (names : NameMap) : Type 0 where
-  pub whole : f.size % 4096 ≡ 0
-  pub holds : HoldNames inodes (f.size / 4096) (file_block disk f) names
+-- a file is a directory with these names
+abbrev pub IsDirectory : ℕ → (ℕ → List ℕ) → File → NameMap → Type 0
+IsDirectory inodes disk f names = HoldNames inodes (f.size / 4096) (file_block disk f) names
 
 -- the file has room for what an edit changes
 abbrev pub FitsIn : File → Edit → Type 0
 FitsIn f e = (i : ℕ) → tree.ContainsKey nat_cmp e.changed i → HasRoom f.tree i
 
--- each block of a directory holds entries
+-- with an edit, each block of a directory holds entries
 abbrev pub IsSound : ℕ → (ℕ → List ℕ) → File → Edit → Type 0
-IsSound inodes disk f e = (i : ℕ) → i < e.count → (entries : List Named) × HoldsEntries inodes (edited_block disk f e i) entries
+IsSound inodes disk f e = AreDirectoryBlocks inodes e.count (edited_block disk f e)
 
 -- what leads to the blocks of a directory on a disk of so many blocks is in the grammar
 abbrev pub IsReached : ℕ → (ℕ → List ℕ) → File → ℕ → Type 0

@@ -1,17 +1,12 @@
--- Entries in a row: what their names stand for.
-use Rattle.std.specs.Prelude.{ℕ, ◌≡◌, ◌+◌, List, [], ◌∷◌, length, Option, Some, None, bytes_eq, if◌then◌else◌}
+-- Entries in a row: one taken away, and how long they are.
+use Rattle.std.specs.Prelude.{ℕ, ◌+◌, ◌<◌, ◌≤◌, List, [], ◌∷◌, length, bytes_eq, if◌then◌else◌}
 use Rattle.layout.specs.Directory.{Named, entry_bytes}
+use Rattle.layout.specs.declared.numbers.TheConstants.{FIRST_NUMBER}
 use Rattle.model.specs.Paths.{Name}
 
--- the number that a name stands for
-abbrev pub number_of : Name → List Named → Option ℕ
-number_of name [] = None
-number_of name (e ∷ entries) = if bytes_eq name e.name then Some e.number else number_of name entries
-
--- no name stands twice
-abbrev pub HasEachOnce : List Named → Type 0
-HasEachOnce [] = Unit {0}
-HasEachOnce (e ∷ entries) = (number_of e.name entries ≡ None) × HasEachOnce entries
+-- the number of an object, in an image of so many inodes
+abbrev pub IsObjectNumber : ℕ → ℕ → Type 0
+IsObjectNumber inodes number = (FIRST_NUMBER ≤ number) × (number < inodes)
 
 -- these entries without a name
 abbrev pub without : Name → List Named → List Named

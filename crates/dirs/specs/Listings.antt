@@ -5,7 +5,7 @@ use Rattle.std.specs.Cmp.Lexicographic.{slice_cmp}
 use Rattle.std.specs.List.{list_any}
 use Rattle.std.specs.List.Sorted.{IsStrictlySortedBy}
 use Rattle.model.specs.Paths.{Name}
-use Rattle.dirs.specs.Directory.{NameMap}
+use Rattle.layout.specs.DirectoryNames.{NameMap}
 
 -- whether a name is among these
 abbrev pub lists : List Name → Name → Bool

@@ -2,7 +2,8 @@
 use Rattle.std.specs.Prelude.{ℕ, ◌≡◌, ◌*◌, ◌≤◌, List, length}
 use Rattle.layout.specs.Directory.{Named, HoldsEntries}
 use Rattle.model.specs.Paths.{Name}
-use Rattle.dirs.specs.Entries.{number_of, used_by}
+use Rattle.layout.specs.DirectoryNames.{number_of}
+use Rattle.dirs.specs.Entries.{used_by}
 use Rattle.dirs.specs.declared.look.Look.{Look}
 
 -- it tells of the entries that the bytes hold

@@ -1,6 +1,6 @@
 //! Looking into a directory.
 
-ghost use Rattle.std.specs.Prelude.{◌≡◌, ◌<◌, ◌/◌, ◌||◌, ℕ, List, OnOk, OnErr, IfOk, IfErr, IsErrOf, map, is_some};
+ghost use Rattle.std.specs.Prelude.{◌≡◌, ◌<◌, ◌/◌, ◌||◌, ℕ, List, OnOk, OnErr, IfOk, IfErr, IfSome, IsErrOf, map, is_some};
 ghost use Rattle.std.specs.Ordering.{nat_cmp};
 ghost use Rattle.std.specs.Cmp.Lexicographic.{slice_cmp};
 ghost use Rattle.std.specs.List.Sorted.{IsStrictlySortedBy};
@@ -10,8 +10,9 @@ ghost use Rattle.blocktree.specs.Trees.{IsSoundAt};
 ghost use Rattle.blocktree.specs.declared.error.ReadError.TheVariants.{NoMemory, Damaged};
 ghost use Rattle.inode.specs.Files.{file_block};
 ghost use Rattle.model.specs.Paths.{Name};
-ghost use Rattle.dirs.specs.Entries.{number_of};
-ghost use Rattle.dirs.specs.Directory.{NameMap};
+ghost use Rattle.layout.specs.DirectoryNames.{number_of, NameMap};
+ghost use Rattle.dirs.specs.Directory.{AreDirectoryBlocks};
+ghost use Rattle.dirs.specs.Entries.{IsObjectNumber};
 ghost use Rattle.dirs.specs.Edits.{IsDirectory, IsReached, IsFirst};
 ghost use Rattle.dirs.specs.Listings.{IsListing, lists};
 
@@ -42,10 +43,11 @@ pub fn find<B: Blocks>(
         IsDirectory inodes disk file.now names → IfOk result (λ number. number ≡ names name.now) }
     ensures sound { (disk : ℕ → List ℕ) → B.Shows blocks.old disk →
         IfOk result (IsFirst inodes (file_block disk file.now) (file.now.size / 4096) name.now) }
-    ensures damaged { (disk : ℕ → List ℕ) (names : NameMap) → B.Shows blocks.old disk →
+    ensures ordinary { IfOk result (λ number. IfSome number (IsObjectNumber inodes)) }
+    ensures damaged { (disk : ℕ → List ℕ) → B.Shows blocks.old disk →
         IsErrOf result ReadError.Damaged →
         IsReached (B.count blocks.old) disk file.now (file.now.size / 4096) →
-        IsDirectory inodes disk file.now names → ⊥ }
+        AreDirectoryBlocks inodes (file.now.size / 4096) (file_block disk file.now) → ⊥ }
 {
     let edit = Edit::of(alloc, file);
     edit.find(file, blocks, inodes, name)
@@ -67,12 +69,11 @@ pub fn list<B: Blocks>(
     ensures listed { (disk : ℕ → List ℕ) (names : NameMap) → B.Shows blocks.old disk →
         IsDirectory inodes disk file.now names → IfOk result (IsListing names) }
     ensures sound { (disk : ℕ → List ℕ) → B.Shows blocks.old disk →
-        OnOk result ((i : ℕ) → i < file.now.size / 4096 → (entries : List Named) ×
-        HoldsEntries inodes (file_block disk file.now i) entries) }
-    ensures damaged { (disk : ℕ → List ℕ) (names : NameMap) → B.Shows blocks.old disk →
+        OnOk result (AreDirectoryBlocks inodes (file.now.size / 4096) (file_block disk file.now)) }
+    ensures damaged { (disk : ℕ → List ℕ) → B.Shows blocks.old disk →
         IsErrOf result ReadError.Damaged →
         IsReached (B.count blocks.old) disk file.now (file.now.size / 4096) →
-        IsDirectory inodes disk file.now names → ⊥ }
+        AreDirectoryBlocks inodes (file.now.size / 4096) (file_block disk file.now) → ⊥ }
 {
     let mut names = BTreeSet::new(alloc);
     for i in 0..(file.size() / BLOCK_BYTES as u64) as u32 {

@@ -3,14 +3,16 @@
 ghost use Rattle.std.specs.Prelude.{◌≡◌, ℕ, ◌+◌, ◌<◌, ◌≤◌, ◌^◌, ◌∷◌, [], ◌++◌, List, length, Option, IfSome, IfNone, None, take, drop};
 ghost use Rattle.layout.specs.Bytes.{zeros};
 ghost use Rattle.layout.specs.Directory.{Named, HoldsEntries, IsEntry, entry_bytes, named_of};
-ghost use Rattle.dirs.specs.Entries.{number_of, without, used_by};
+ghost use Rattle.layout.specs.DirectoryNames.{number_of};
+ghost use Rattle.dirs.specs.Entries.{IsObjectNumber, without, used_by};
 
 use layout::{Entry, NextEntry, next_entry};
 
 /// The number that a name stands for among the entries of a block.
 pub(crate) fn find(bytes: &[u8], inodes: u32, name: &[u8]) -> Option<u32>
-    ensures { (entries : List Named) → HoldsEntries inodes bytes.now entries →
+    ensures found { (entries : List Named) → HoldsEntries inodes bytes.now entries →
         result ≡ number_of name.now entries }
+    ensures ordinary { IfSome result (IsObjectNumber inodes) }
 {
     match next_entry(bytes, inodes) {
         NextEntry::End => None,

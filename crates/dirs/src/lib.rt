@@ -2,11 +2,13 @@
 //! may take names away and add one, and is committed without failing. Nothing here knows where a block lies.
 #![tactic(auto)]
 
+mod adding;
 mod directory;
 mod edit;
 mod entries;
 mod error;
 mod look;
+mod removing;
 mod survey;
 
 pub use directory::{find, list};

@@ -1,8 +1,9 @@
 //! A look at one block of a directory.
 
-ghost use Rattle.std.specs.Prelude.{◌≡◌, ◌*◌, ◌≤◌, List, IfOk, IfErr, OnErr};
+ghost use Rattle.std.specs.Prelude.{◌≡◌, ◌*◌, ◌≤◌, List, IfOk, IfErr, IfSome, OnErr};
 ghost use Rattle.layout.specs.Directory.{Named, HoldsEntries};
 ghost use Rattle.blocktree.specs.declared.error.ReadError.TheVariants.{Damaged};
+ghost use Rattle.dirs.specs.Entries.{IsObjectNumber};
 ghost use Rattle.dirs.specs.Looks.{Tells, IsLikely};
 
 use crate::entries::{count, find, used};
@@ -27,6 +28,7 @@ pub(crate) fn look_at(
     name: &[u8],
 ) -> Result<Look, ReadError>
     ensures tells { IfOk result (Tells inodes bytes.now name.now) }
+    ensures ordinary { IfOk result (λ l. IfSome l.number (IsObjectNumber inodes)) }
     ensures likely { IfOk result IsLikely }
     ensures damaged { OnErr result ((entries : List Named) →
         HoldsEntries inodes bytes.now entries → ⊥) }

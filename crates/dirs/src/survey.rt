@@ -3,9 +3,8 @@
 ghost use Rattle.std.specs.Prelude.{◌≡◌, ◌+◌, ◌*◌, ◌^◌, ◌<◌, ◌≤◌, ℕ, List, IfOk, OnOk, IsErrOf};
 ghost use Rattle.layout.specs.Directory.{Named, HoldsEntries};
 ghost use Rattle.buffers.specs.Failures.{HasGrown};
-ghost use Rattle.dirs.specs.Directory.{NameMap};
-ghost use Rattle.dirs.specs.Edits.{edited_block, HasNames, IsReached};
-ghost use Rattle.dirs.specs.Surveys.{Finds, IsFull, next_room};
+ghost use Rattle.dirs.specs.Edits.{edited_block, IsReached, IsSound};
+ghost use Rattle.dirs.specs.Surveys.{Finds, IsBounded, next_room};
 
 use crate::Edit;
 use crate::look::Look;
@@ -40,11 +39,11 @@ pub(crate) fn survey_of<B: Blocks>(
     ensures same { (disk : ℕ → List ℕ) → B.Shows blocks.old disk → B.Shows blocks.new disk }
     ensures finds { (disk : ℕ → List ℕ) → B.Shows blocks.old disk →
         IfOk result (Finds inodes (edited_block disk file.now edit.now) edit.now.count bytes) }
-    ensures full { IfOk result (λ s. IsFull edit.now.count s s.room) }
-    ensures damaged { (disk : ℕ → List ℕ) (names : NameMap) → B.Shows blocks.old disk →
+    ensures bounded { IfOk result (λ s. IsBounded edit.now.count s s.room) }
+    ensures damaged { (disk : ℕ → List ℕ) → B.Shows blocks.old disk →
         IsErrOf result ReadError.Damaged →
         IsReached (B.count blocks.old) disk file.now edit.now.count →
-        HasNames inodes disk file.now edit.now names → ⊥ }
+        IsSound inodes disk file.now edit.now → ⊥ }
 {
     let mut survey = Survey {
         names: 0,

@@ -1,5 +1,5 @@
 mod Frames
-mod OverlayLaws
+pub mod OverlayLaws
 mod PointLaws
 mod VolumeLaws
 mod StateLaws
@@ -17,6 +17,6 @@ mod MadeTree
 mod MadeVolume
 mod MadeState
 mod SettlingLaws
-mod ReadingLaws
+pub mod ReadingLaws
 mod CutLaws
 mod IdleLaws

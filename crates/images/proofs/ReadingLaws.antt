@@ -47,7 +47,7 @@ read_snapshot v is = (snapshot_again v is, ap inode_file_or_free (snapshot_again
 -- ---- blocks
 
 -- past the pointers that count there are holes
-hole_past : (pointers : List Pointer) (used i : ℕ) → All (λ p. p ≡ Hole) (drop used pointers) → used ≤ i → get_or pointers i Hole ≡ Hole
+pub hole_past : (pointers : List Pointer) (used i : ℕ) → All (λ p. p ≡ Hole) (drop used pointers) → used ≤ i → get_or pointers i Hole ≡ Hole
 hole_past pointers used i holes past =
     let at : used + (i - used) ≡ i = omega arith in
     ap (λ k. get_or pointers k Hole) (sym at) ∙ sym (get_or-drop used pointers (i - used) Hole) ∙ elim (cases_lt (i - used) (length (drop used pointers))) [
@@ -66,20 +66,20 @@ highest d f level i is =
     none : suc level - suc level ≡ 0
     none = omega arith
 
-level_one : (size : ℕ) → 128 < size → size ≤ 65536 → level_of size ≡ 1
+pub level_one : (size : ℕ) → 128 < size → size ≤ 65536 → level_of size ≡ 1
 level_one size large low = let a : leb size 128 ≡ false = lt-leb _ _ large in let b : leb size 65536 ≡ true = le-leb _ _ low in rw (a, b) refl
 
-level_two : (size : ℕ) → 65536 < size → level_of size ≡ 2
+pub level_two : (size : ℕ) → 65536 < size → level_of size ≡ 2
 level_two size large = let a : leb size 128 ≡ false = lt-leb _ _ (omega arith) in let b : leb size 65536 ≡ false = lt-leb _ _ large in rw (a, b) refl
 
-used_one : (size : ℕ) → size ≤ 65536 → pointers_used size ≡ div_ceil size 4096
+pub used_one : (size : ℕ) → size ≤ 65536 → pointers_used size ≡ div_ceil size 4096
 used_one size low = let b : leb size 65536 ≡ true = le-leb _ _ low in rw b refl
 
-used_two : (size : ℕ) → 65536 < size → pointers_used size ≡ div_ceil (div_ceil size 4096) 1024
+pub used_two : (size : ℕ) → 65536 < size → pointers_used size ≡ div_ceil (div_ceil size 4096) 1024
 used_two size large = let b : leb size 65536 ≡ false = lt-leb _ _ large in rw b refl
 
 module _ (s : Sizes) (d : Blocks) (f : Inode) (pointers : List Pointer) (sound : IsSoundFile s (held d f)) (body : f.body ≡ Pointers pointers) where
-  fits : FitsPointers pointers s.blocks f.size
+  pub fits : FitsPointers pointers s.blocks f.size
   unfolding held
   fits = subst (λ (b : Body). FitsBody b s.blocks f.size) body sound.inode.body
 
@@ -95,7 +95,7 @@ module _ (s : Sizes) (d : Blocks) (f : Inode) (pointers : List Pointer) (sound :
       let at : pointed d (place_at_height d f 1 (i / 1024)) ≡ d b = ap (pointed d) is in
       subst (λ bytes. indirect_pointer bytes (i % 1024) ≡ Hole) at ((block.within (i % 1024) (omega arith)).1 (omega arith))
 
-  hole_behind : (i : ℕ) → div_ceil f.size 4096 ≤ i → (held d f).place 0 i ≡ Hole
+  pub hole_behind : (i : ℕ) → div_ceil f.size 4096 ≤ i → (held d f).place 0 i ≡ Hole
   hole_behind i past = elim (cases_lt 65536 f.size) [
     | inr low ↦
         let level = level_one f.size fits.0 low in

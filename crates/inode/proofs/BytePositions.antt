@@ -1,13 +1,15 @@
 -- Bytes by position, block by block.
-use Rattle.std.proofs.Common.{◌≡◌, ℕ, zero, suc, ◌+◌, ◌-◌, ◌*◌, ◌/◌, ◌%◌, ◌<◌, ◌≤◌, ◌++◌, List, [], ◌∷◌, length, get_or, take, drop, slice_index, refl, sym, ◌∙◌, ap, subst, inl, inr, ◌⊎◌, true, false, arith, ltb, leb, ◌&&◌, min, max, if◌then◌else◌}
+use Rattle.std.proofs.Common.{◌≡◌, ◌≢◌, ℕ, zero, suc, ◌+◌, ◌-◌, ◌*◌, ◌/◌, ◌%◌, ◌<◌, ◌≤◌, ◌++◌, List, [], ◌∷◌, length, get_or, take, drop, slice_index, refl, sym, ◌∙◌, ap, subst, inl, inr, ◌⊎◌, true, false, arith, ltb, leb, ◌&&◌, min, max, if◌then◌else◌}
 use Rattle.std.proofs.lemmas.Bool.{cases_lt}
 use Rattle.std.proofs.lemmas.Bool.Decides.{nat_tests}
 use Rattle.std.proofs.lemmas.List.{get_or_append_left, get_or-append_right, get_or-take, get_or-drop, length-take, length-drop, length-take-le, get_or_past, get_or_default, length_push}
 use borrow.Rule.Slice.PartMut.{put_mid, post_of}
 use Rattle.layout.specs.Bytes.{zeros}
-use Rattle.buffers.specs.Positions.{written, laid, cut, IsPart}
+use Rattle.buffers.specs.Positions.{written, laid, cut}
 use Rattle.blocktree.specs.Places.{block_count}
-use Rattle.inode.specs.Changes.{byte_in, changed_block}
+use Rattle.layout.specs.FileBytes.{byte_in}
+use Rattle.inode.specs.Changes.{changed_block}
+use Rattle.inode.specs.Edges.{IsPartlyWritten}
 
 pub slice_index-zeros : (n k : ℕ) → slice_index (zeros n) k ≡ 0
 unfolding zeros
@@ -58,27 +60,13 @@ byte_further blocks p k lt =
     let rest : (p + k) % 4096 ≡ p % 4096 + k = omega arith in
     ap (λ (q : ℕ). slice_index (blocks q) ((p + k) % 4096)) quotient ∙ ap (slice_index (blocks (p / 4096))) rest
 
--- one more piece is read
-pub read_more : (blocks : ℕ → List ℕ) (offset done n m : ℕ) (out part : List ℕ) → done + n ≤ length out → length part ≡ n → (offset + done) % 4096 + n ≤ 4096
-    → ((k : ℕ) → k < done → slice_index out k ≡ byte_in blocks (offset + k))
-    → IsPart (slice_index (blocks ((offset + done) / 4096))) ((offset + done) % 4096) part
-    → (k : ℕ) → k < done + n → slice_index (put_mid done m out part) k ≡ byte_in blocks (offset + k)
-read_more blocks offset done n m out part within len room before part_is k lt =
-    elim (cases_lt k done) [
-      | inl below ↦ mid_below done m out part k below (omega arith) ∙ before k below
-      | inr above ↦
-          let here : offset + done + (k - done) ≡ offset + k = omega arith in
-          mid_in done m out part (k - done) k (omega arith) (omega arith) (omega arith) ∙ part_is (k - done) (omega arith)
-          ∙ sym (byte_further blocks (offset + done) (k - done) (omega arith)) ∙ ap (byte_in blocks) here
-    ]
-
 -- the part of a write that falls into one block
 pub written_piece : (f g : ℕ → ℕ) (offset : ℕ) (bytes part : List ℕ) (start from to r : ℕ) → from ≡ max offset start → to ≡ min (offset + length bytes) (start + 4096) → offset < start + 4096 → start < offset + length bytes
-    → part ≡ take (to - offset - (from - offset)) (drop (from - offset) bytes) → r < 4096 → g r ≡ f (start + r) → written g (from - start) part r ≡ written f offset bytes (start + r)
+    → part ≡ take (to - offset - (from - offset)) (drop (from - offset) bytes) → r < 4096 → (to - from ≢ 4096 → g r ≡ f (start + r)) → written g (from - start) part r ≡ written f offset bytes (start + r)
 written_piece f g offset bytes part start from to r from_is to_is below above part_is lt same =
     let len : length part ≡ to - from = ap length part_is ∙ omega (arith, length-take (to - offset - (from - offset)) (drop (from - offset) bytes), length-drop (from - offset) bytes) in
     elim (cases_lt (start + r) offset) [
-      | inl out ↦ written_below g (from - start) part r (omega arith) ∙ same ∙ sym (written_below f offset bytes (start + r) out)
+      | inl out ↦ written_below g (from - start) part r (omega arith) ∙ same (λ whole. omega (arith, whole, from_is, to_is, out)) ∙ sym (written_below f offset bytes (start + r) out)
       | inr reached ↦ elim (cases_lt (start + r) (offset + length bytes)) [
         | inl within ↦
             let place : from - offset + (r - (from - start)) ≡ start + r - offset = omega arith in
@@ -87,7 +75,7 @@ written_piece f g offset bytes part start from to r from_is to_is below above pa
             ∙ slice_index-between bytes (from - offset) (to - offset - (from - offset)) (r - (from - start)) (omega arith)
             ∙ ap (slice_index bytes) place
             ∙ sym (written_in f offset bytes (start + r) reached within)
-        | inr past ↦ written_above g (from - start) part r (omega arith) ∙ same ∙ sym (written_above f offset bytes (start + r) past)
+        | inr past ↦ written_above g (from - start) part r (omega arith) ∙ same (λ whole. omega (arith, whole, from_is, to_is, past, lt)) ∙ sym (written_above f offset bytes (start + r) past)
       ]
     ]
 
@@ -233,3 +221,9 @@ each_more P first n m i more at before here j lt =
       | inl below ↦ before j below
       | inr last ↦ let place : i ≡ first + j = omega arith in subst P place here
     ]
+
+-- what holds of each block from a write's first one on holds of one that it changes in part
+pub at_edge : (P : ℕ → Type 0) (offset count n i : ℕ) → offset / 4096 + n ≡ block_count (offset + count) → ((j : ℕ) → j < n → P (offset / 4096 + j)) → IsPartlyWritten offset count i → P i
+at_edge P offset count n i count_is each part =
+    let place : offset / 4096 + (i - offset / 4096) ≡ i = omega (arith, part.below) in
+    subst P place (each (i - offset / 4096) (omega (arith, count_is, part.above, part.below)))

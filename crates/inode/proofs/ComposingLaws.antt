@@ -1,16 +1,33 @@
 -- A change that was prepared and then put in force.
-use Rattle.std.proofs.Common.{◌≡◌, ℕ, ◌+◌, ◌-◌, ◌/◌, ◌%◌, List, length, get_or, slice_index, ◌∙◌, ap, arith, if◌then◌else◌, leb, ltb, max}
+use Rattle.std.proofs.Common.{◌≡◌, ℕ, ◌+◌, ◌-◌, ◌/◌, ◌%◌, ◌<◌, ◌≤◌, List, length, get_or, slice_index, refl, ◌∙◌, ap, arith, inl, inr, true, false, if◌then◌else◌, leb, ltb, max}
+use Rattle.std.proofs.lemmas.Bool.{cases_lt}
+use Rattle.std.proofs.lemmas.Bool.Decides.{nat_tests}
 use Rattle.layout.specs.Bytes.{zeros}
 use Rattle.buffers.specs.Positions.{written, cut, laid}
 use Rattle.blocktree.specs.Places.{block_count}
-use Rattle.inode.specs.Changes.{EndsAt}
+use Rattle.layout.specs.FileBytes.{EndsAt}
 use Rattle.inode.specs.Files.{file_block, byte_at, byte_with, IsSameFile, IsCommitted}
 use Rattle.inode.specs.declared.file.File.{File}
 use Rattle.inode.specs.declared.change.Change.{Change}
-use Rattle.inode.proofs.BytePositions.{written_above, cut_past}
+use Rattle.inode.proofs.BytePositions.{written_above, cut_past, laid_past}
 
 laid_same : {X : Type 0} (f g : ℕ → X) (first : ℕ) (xs : List X) (i : ℕ) → f i ≡ g i → laid f first xs i ≡ laid g first xs i
 laid_same {X} f g first xs i e = ap (λ (x : X). if leb first i then get_or xs (i - first) x else x) e
+
+-- blocks that are cut off, and then changed
+pub committed_blocks : (f g h : ℕ → List ℕ) (count first : ℕ) (xs : List (List ℕ)) → first + length xs ≤ count → ((j : ℕ) → g j ≡ (if ltb j count then f j else zeros 4096))
+    → ((j : ℕ) → h j ≡ laid g first xs j) → (i : ℕ) → h i ≡ (if ltb i count then laid f first xs i else zeros 4096)
+committed_blocks f g h count first xs fits trimmed installed i =
+    installed i ∙ elim (cases_lt i count) [
+      | inl lt ↦ laid_same g f first xs i (trimmed i ∙ rw (below i count lt) refl) ∙ rw (below i count lt) refl
+      | inr ge ↦ laid_past g first xs i (omega arith) ∙ trimmed i ∙ rw (past i count (omega arith)) refl
+    ]
+  where
+    below : (k n : ℕ) → k < n → ltb k n ≡ true
+    below k n lt = grind (arith, nat_tests)
+
+    past : (k n : ℕ) → n ≤ k → ltb k n ≡ false
+    past k n le = grind (arith, nat_tests)
 
 -- the bytes are those that the change was to give
 pub committed_byte : (disk : ℕ → List ℕ) (old mid new : File) (w : Change) (f : ℕ → ℕ) → IsSameFile old mid → IsCommitted mid w new → ((p : ℕ) → byte_with disk old w p ≡ f p) → (p : ℕ) → byte_at disk new p ≡ f p

@@ -4,7 +4,8 @@ use Rattle.std.proofs.lemmas.Bool.{cases_lt}
 use Rattle.std.proofs.lemmas.List.{get_or_append_left, get_or-append_right, get_or-take, get_or-drop, length-take, take_all, take_min, length-drop, length-append, length-replicate}
 use Rattle.std.proofs.lemmas.List.FromFn.{get_or-map-range_with_len, length-map-range_with_len, fill_by_all}
 use Rattle.layout.specs.Bytes.{zeros}
-use Rattle.buffers.specs.Positions.{written, cut, first_bytes}
+use Rattle.layout.specs.FileBytes.{first_bytes}
+use Rattle.buffers.specs.Positions.{written, cut}
 use Rattle.inode.specs.Edges.{filled, written_list}
 use Rattle.inode.proofs.BytePositions.{slice_index-zeros, written_below, written_above, written_in, cut_below}
 
@@ -96,7 +97,7 @@ filled_block block bytes n lb fits is =
     sub-zero : (k : ℕ) → k - 0 ≡ k
     sub-zero k = omega arith
 
-filled_short : (xs : List ℕ) (n : ℕ) → length xs ≤ n → filled n xs ≡ xs ++ zeros (n - length xs)
+pub filled_short : (xs : List ℕ) (n : ℕ) → length xs ≤ n → filled n xs ≡ xs ++ zeros (n - length xs)
 filled_short xs n le = ap (λ (b : List ℕ). b ++ zeros (n - length xs)) (take_all n xs le)
 
 -- block 0 of an inline body

@@ -1,3 +1,5 @@
 pub mod BytePositions
 pub mod EdgeLaws
 pub mod ComposingLaws
+mod BaseLaws
+mod HeldLaws

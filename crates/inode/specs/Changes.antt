@@ -1,17 +1,9 @@
 -- A prepared change over a function from indexes to blocks.
-use Rattle.std.specs.Prelude.{ℕ, ◌≡◌, ◌≤◌, ◌/◌, ◌%◌, List, slice_index, nat_lt, if◌then◌else◌}
+use Rattle.std.specs.Prelude.{ℕ, List, nat_lt, if◌then◌else◌}
 use Rattle.layout.specs.Bytes.{zeros}
 use Rattle.buffers.specs.Positions.{laid}
 use Rattle.blocktree.specs.Places.{block_count}
 
--- the byte at a position of these blocks
-abbrev pub byte_in : (ℕ → List ℕ) → ℕ → ℕ
-byte_in blocks p = slice_index (blocks (p / 4096)) (p % 4096)
-
 -- these blocks with others from one index on, and zeros past a size
 abbrev pub changed_block : (ℕ → List ℕ) → ℕ → ℕ → List (List ℕ) → ℕ → List ℕ
 changed_block blocks size first pieces i = if nat_lt i (block_count size) then laid blocks first pieces i else zeros 4096
-
--- no byte past the size is other than 0
-abbrev pub EndsAt : ℕ → (ℕ → ℕ) → Type 0
-EndsAt size f = (p : ℕ) → size ≤ p → f p ≡ 0

@@ -1,15 +1,22 @@
 -- A file in memory, and a change of it that is prepared.
 use Rattle.std.specs.Prelude.{ℕ, ◌≡◌, ◌+◌, ◌<◌, List, length}
-use Rattle.buffers.specs.Positions.{first_bytes}
-use Rattle.blocktree.specs.Trees.{tree_block, HasRoom, SameBlocks}
+use Rattle.layout.specs.FileBytes.{byte_in, first_bytes, EndsAt}
+use Rattle.layout.specs.declared.inode.Inode.{Inode}
+use Rattle.blocktree.specs.Trees.{tree_block, HasRoom, KeepsSound, SameBlocks}
+use Rattle.images.specs.Nodes as nodes
+use Rattle.inode.specs.Bases.{KeepsBase}
 use Rattle.blocktree.specs.declared.tree.BlockTree.{BlockTree}
-use Rattle.inode.specs.Changes.{byte_in, changed_block, EndsAt}
+use Rattle.inode.specs.Changes.{changed_block}
 use Rattle.inode.specs.declared.file.File.{File}
 use Rattle.inode.specs.declared.change.Change.{Change}
 
 -- block i of a file
 abbrev pub file_block : (ℕ → List ℕ) → File → ℕ → List ℕ
 file_block disk f = tree_block disk f.tree
+
+-- each block of a file is the one that an image has for this inode
+abbrev pub IsAsHeld : (ℕ → List ℕ) → Inode → File → Type 0
+IsAsHeld disk inode f = (i : ℕ) → file_block disk f i ≡ nodes.file_block (nodes.held disk inode) i
 
 -- the byte at a position of a file
 abbrev pub byte_at : (ℕ → List ℕ) → File → ℕ → ℕ
@@ -43,8 +50,13 @@ Fits t w = (j : ℕ) → j < length w.pieces.items → HasRoom t (w.first + j)
 pub record IsSameFile (old new : File) : Type 0 where
   pub size : new.size ≡ old.size
   pub blocks : SameBlocks old.tree new.tree
+  pub base : KeepsBase old.tree new.tree
+  pub sound : KeepsSound old.tree new.tree
+  pub was_sound : KeepsSound new.tree old.tree
 
 -- a prepared change was put in force
 pub record IsCommitted (old : File) (w : Change) (new : File) : Type 0 where
   pub size : new.size ≡ w.size
   pub blocks : (disk : ℕ → List ℕ) (i : ℕ) → file_block disk new i ≡ block_with disk old w i
+  pub base : KeepsBase old.tree new.tree
+  pub sound : KeepsSound old.tree new.tree

@@ -2,6 +2,7 @@
 
 ghost use Rattle.std.specs.Prelude.{◌+◌, ◌≤◌, length};
 ghost use Rattle.layout.specs.Version.{greatest_size};
+ghost use Rattle.layout.specs.declared.version.TheConstants.{VERSION};
 ghost use Rattle.blocktree.specs.Places.{block_count};
 
 use buffers::Block;
@@ -12,5 +13,6 @@ pub struct Change {
     pub(crate) size: u64,
     pub(crate) first: u32,
     pub(crate) pieces: Vec<Block>,
-    ghost fits: { (size ≤ greatest_size 1) × (first + length pieces.items ≤ block_count size) },
+    ghost fits: { (size ≤ greatest_size VERSION)
+        × (first + length pieces.items ≤ block_count size) },
 }

@@ -4,12 +4,15 @@
 #![tactic(auto)]
 
 mod change;
+mod changing;
 mod error;
 mod file;
-mod inline;
+mod laws;
+mod loading;
 mod object;
 
 pub use change::Change;
 pub use error::ChangeError;
 pub use file::File;
+pub use laws::{based_trees_are_sound, settled_files_are_as_held};
 pub use object::{Attributes, Object};

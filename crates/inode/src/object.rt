@@ -2,6 +2,7 @@
 
 ghost use Rattle.std.specs.Prelude.{◌≡◌, ℕ, ◌≤◌, List, IfOk};
 ghost use Rattle.layout.specs.Version.{greatest_size};
+ghost use Rattle.layout.specs.declared.version.TheConstants.{VERSION};
 ghost use Rattle.inode.specs.Bodies.{inode_block};
 
 use crate::File;
@@ -26,17 +27,27 @@ pub struct Object {
 }
 
 impl Object {
-    ghost use Rattle.inode.specs.Files.{file_block};
+    ghost use Rattle.layout.specs.Limits.{Sizes};
+    ghost use Rattle.images.specs.Nodes.{held};
+    ghost use Rattle.images.specs.Soundness.{IsSoundFile};
+    ghost use Rattle.inode.specs.Bases.{IsBased, StartsFrom};
+    ghost use Rattle.inode.specs.Files.{IsAsHeld, IsFile, file_block};
 
     /// The object of a settled inode.
     pub fn load(alloc: Global, inode: Inode) -> Result<Object, AllocError>
-        requires { inode.size ≤ greatest_size 1 }
+        requires { inode.size ≤ greatest_size VERSION }
         ensures attributes { IfOk result
             (λ o. o.attributes
             ≡ record { kind = inode.kind; mode = inode.mode; links = inode.links }) }
         ensures size { IfOk result (λ o. o.file.size ≡ inode.size) }
         ensures blocks { IfOk result (λ o. (disk : ℕ → List ℕ) (i : ℕ)
             → file_block disk o.file i ≡ inode_block disk inode i) }
+        ensures held { (s : Sizes) (disk : ℕ → List ℕ) → IsSoundFile s (held disk inode)
+            → IfOk result (λ o. IsAsHeld disk inode o.file) }
+        ensures ends { (s : Sizes) (disk : ℕ → List ℕ) → IsSoundFile s (held disk inode)
+            → IfOk result (λ o. IsFile disk o.file) }
+        ensures settled { IfOk result (λ o. StartsFrom inode.body inode.size o.file.tree) }
+        ensures base { IfOk result (λ o. IsBased inode o.file.tree) }
     {
         let attributes = Attributes {
             kind: inode.kind,

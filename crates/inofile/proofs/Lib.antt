@@ -1,1 +1,5 @@
 pub mod BitLaws
+mod ObjectLaws
+mod VolumeLaws
+mod FileLaws
+mod ChangedLaws

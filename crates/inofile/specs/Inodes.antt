@@ -1,12 +1,12 @@
 -- The inodes of an image as they are: in memory, or else settled.
-use Rattle.std.specs.Prelude.{ℕ, ◌≡◌, ◌≢◌, ◌↔◌, ◌<◌, ◌≤◌, List, Option, Some, None, IsSome}
+use Rattle.std.specs.Prelude.{ℕ, ◌≡◌, List, Option, Some, None, Bool, true, false}
 use Rattle.std.specs.Option.{option_map}
 use Rattle.std.specs.Ordering.{nat_cmp}
 use Rattle.std.specs.BTreeMap as tree
-use Rattle.layout.specs.Maps.{IsTaken}
 use Rattle.layout.specs.declared.inode.Inode.{Inode}
-use Rattle.inode.specs.Files.{file_block}
-use Rattle.inofile.specs.Settled.{Content, content_of, settled_content, HoldsInodes}
+use Rattle.images.specs.Contents.{Content}
+use Rattle.images.specs.Roots.{free_inode}
+use Rattle.inofile.specs.Settled.{content_of, held_content, settled_content}
 use Rattle.inofile.specs.declared.inode_file.Slot.{Slot}
 use Rattle.inofile.specs.declared.inode_file.Slot.TheVariants.{AsSettled, Loaded, Changed}
 use Rattle.inofile.specs.declared.inode_file.InodeFile.{InodeFile}
@@ -22,9 +22,14 @@ slot_content disk None below = below
 abbrev pub object_at : (ℕ → List ℕ) → (ℕ → Inode) → InodeFile → ℕ → Option Content
 object_at disk settled s n = slot_content disk (tree.get nat_cmp s.slots n) (settled_content disk (settled n))
 
--- these inodes are settled
-abbrev pub AreSettled : (ℕ → List ℕ) → InodeFile → (ℕ → Inode) → Type 0
-AreSettled disk s settled = HoldsInodes s.geometry (file_block disk s.file) settled
+-- an object's content, or that of a free inode
+abbrev pub or_free : (ℕ → List ℕ) → Option Content → Content
+or_free disk (Some content) = content
+or_free disk None = held_content disk free_inode
+
+-- the content of each number
+abbrev pub files_of : (ℕ → List ℕ) → (ℕ → Inode) → InodeFile → ℕ → Content
+files_of disk settled s n = or_free disk (object_at disk settled s n)
 
 -- no object differs
 abbrev pub SameObjects : (ℕ → List ℕ) → (ℕ → Inode) → InodeFile → InodeFile → Type 0
@@ -44,21 +49,17 @@ IsKnown s n = IsKnownSlot (tree.get nat_cmp s.slots n)
 abbrev pub HasRoomFor : InodeFile → ℕ → Type 0
 HasRoomFor s n = tree.ContainsKey nat_cmp s.slots n
 
--- the numbers that are taken are those of the objects
-abbrev pub IsMapped : (ℕ → List ℕ) → (ℕ → Inode) → InodeFile → Type 0
-IsMapped disk settled s =
-    (n : ℕ) → 4 ≤ n → n < s.geometry.inodes → IsTaken s.numbers.bytes.items n ↔ IsSome (object_at disk settled s n)
-
--- the same but for one number
-abbrev pub IsMappedBut : ℕ → (ℕ → List ℕ) → (ℕ → Inode) → InodeFile → Type 0
-IsMappedBut but disk settled s =
-    (n : ℕ) → n ≢ but → 4 ≤ n → n < s.geometry.inodes → IsTaken s.numbers.bytes.items n ↔ IsSome (object_at disk settled s n)
-
 abbrev pub IsChangedSlot : Option Slot → Type 0
 IsChangedSlot (Some AsSettled) = ⊥
 IsChangedSlot (Some (Loaded object)) = ⊥
 IsChangedSlot (Some (Changed object)) = Unit {0}
 IsChangedSlot None = ⊥
+
+abbrev pub is_changed_slot : Option Slot → Bool
+is_changed_slot (Some AsSettled) = false
+is_changed_slot (Some (Loaded object)) = false
+is_changed_slot (Some (Changed object)) = true
+is_changed_slot None = false
 
 -- the object with a number is to be stored by the next consistency point
 abbrev pub IsChanged : InodeFile → ℕ → Type 0

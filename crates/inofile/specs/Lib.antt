@@ -1,2 +1,4 @@
 pub mod Settled
 pub mod Inodes
+pub mod Objects
+pub mod Volumes

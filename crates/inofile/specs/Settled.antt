@@ -1,33 +1,33 @@
 -- The inodes of a settled inode file, and the objects that they stand for.
-use Rattle.std.specs.Prelude.{ℕ, ◌≡◌, ◌+◌, ◌*◌, ◌/◌, ◌%◌, ◌<◌, List, Option, Some, None, slice_range}
+use Rattle.std.specs.Prelude.{ℕ, ◌≡◌, ◌<◌, ◌≤◌, List, Option, Some, None}
+use Rattle.layout.specs.Inode.{inode_bytes}
 use Rattle.layout.specs.Limits.{Sizes}
-use Rattle.layout.specs.Inode.{IsInode, inode_bytes}
 use Rattle.layout.specs.declared.inode.Inode.{Inode}
-use Rattle.layout.specs.declared.version.TheConstants.{VERSION}
 use Rattle.layout.specs.declared.kind.Kind.{Kind}
 use Rattle.layout.specs.declared.kind.Kind.TheVariants as kinds
-use Rattle.inode.specs.declared.object.Attributes.{Attributes}
+use Rattle.blocktree.specs.Trees.{IsSoundAt}
+use Rattle.images.specs.Contents.{Content}
+use Rattle.images.specs.Contents as images
+use Rattle.images.specs.Nodes.{held}
+use Rattle.images.specs.Roots.{free_inode, inode_bytes_at}
+use Rattle.images.specs.Soundness.{IsSoundFile, FitsNumber}
+use Rattle.inode.specs.declared.file.File.{File}
 use Rattle.inode.specs.declared.object.Object.{Object}
-use Rattle.inode.specs.Bodies.{inode_block}
 use Rattle.inode.specs.Files.{file_block}
 
--- the bytes of the inode at a place of a block of the inode file
-abbrev pub inode_part : List ℕ → ℕ → List ℕ
-inode_part bytes index = slice_range bytes (192 * index) (192 * index + 192)
-
--- blocks hold these inodes, in an image of these sizes
-pub record HoldsInodes (sizes : Sizes) (block : ℕ → List ℕ) (settled : ℕ → Inode) : Type 0 where
-  pub are : (n : ℕ) → n < sizes.inodes → IsInode VERSION sizes (settled n)
-  pub spelled : (n : ℕ) → n < sizes.inodes → inode_part (block (n / 21)) (n % 21) ≡ inode_bytes (settled n)
-
--- an object: what it is, and its bytes block by block
-pub record Content : Type 0 where
-  pub attributes : Attributes
-  pub size : ℕ
-  pub block : ℕ → List ℕ
-
+-- an object in memory: what it is, and its bytes block by block
 abbrev pub content_of : (ℕ → List ℕ) → Object → Content
-content_of disk o = record { attributes = o.attributes; size = o.file.size; block = file_block disk o.file }
+content_of disk o = record {
+  kind = o.attributes.kind;
+  mode = o.attributes.mode;
+  links = o.attributes.links;
+  size = o.file.size;
+  block = file_block disk o.file;
+}
+
+-- what an image has under a settled inode
+abbrev pub held_content : (ℕ → List ℕ) → Inode → Content
+held_content disk inode = images.content_of (held disk inode)
 
 -- no object has a free inode
 abbrev pub unless_free : Kind → Content → Option Content
@@ -41,5 +41,15 @@ unless_free kinds.BlockMap content = Some content
 
 -- the object of a settled inode
 abbrev pub settled_content : (ℕ → List ℕ) → Inode → Option Content
-settled_content disk i =
-    unless_free i.kind (record { attributes = record { kind = i.kind; mode = i.mode; links = i.links }; size = i.size; block = inode_block disk i })
+settled_content disk i = unless_free i.kind (held_content disk i)
+
+-- The inode file of an image of these sizes has these inodes, each of a file in its grammar, on a disk of so many blocks. Number
+-- 0 stands for the inode file itself, whose inode stands elsewhere, and past the last number all are free.
+pub record AreSettled (blocks : ℕ) (disk : ℕ → List ℕ) (sizes : Sizes) (file : File) (settled : ℕ → Inode) : Type 0 where
+  pub count : sizes.blocks ≡ blocks
+  pub spelled : (n : ℕ) → 1 ≤ n → n < sizes.inodes
+      → inode_bytes_at (file_block disk file) n ≡ inode_bytes (settled n)
+  pub sound : (n : ℕ) → IsSoundFile sizes (held disk (settled n))
+  pub fits : (n : ℕ) → FitsNumber n (settled n).kind
+  pub past : (n : ℕ) → sizes.inodes ≤ n → settled n ≡ free_inode
+  pub reached : (i : ℕ) → IsSoundAt blocks disk file.tree i

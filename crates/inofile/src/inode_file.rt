@@ -1,4 +1,4 @@
-//! The map from numbers to objects.
+//! The map from numbers to objects, as it is read.
 
 use crate::Numbers;
 use crate::settled::read_inode;
@@ -23,31 +23,36 @@ pub enum Slot {
 /// The inodes of an image, settled ones and changed ones.
 #[derive(Debug, Drop)]
 pub struct InodeFile {
-    geometry: Geometry,
+    pub(crate) geometry: Geometry,
     /// The settled inode file.
-    file: File,
-    slots: BTreeMap<u32, Slot>,
-    numbers: Numbers,
+    pub(crate) file: File,
+    pub(crate) slots: BTreeMap<u32, Slot>,
+    pub(crate) numbers: Numbers,
     ghost same: { numbers.inodes ≡ geometry.inodes },
 }
 
-ghost use Rattle.std.specs.Prelude.{◌≡◌, ◌≢◌, ◌==◌, ◌≤◌, ◌<◌, ◌*◌, ◌/◌, ◌↔◌, ℕ, List, OnOk, OnErr, IfOk, IfSome, IfNone, IsErrOf, IsSome, is_some, vec_len, if◌then◌else◌};
+ghost use Rattle.std.specs.Prelude.{◌≡◌, ◌≤◌, ◌<◌, ◌*◌, ◌↔◌, ℕ, List, Option, Some, None, OnOk, IfOk, IfSome, IfNone, IsErrOf, IsTrue, Contains, filter, option_copied, vec_len};
+ghost use Rattle.std.specs.List.Sorted.{IsStrictlyIncreasing};
 ghost use Rattle.std.specs.Option.{option_map};
-ghost use Rattle.layout.specs.Inode.{IsInode};
-ghost use Rattle.layout.specs.Maps.{IsTaken};
-ghost use Rattle.layout.specs.declared.inode.Inode.{Inode};
-ghost use Rattle.layout.specs.declared.version.TheConstants.{VERSION};
-ghost use Rattle.buffers.specs.Failures.{HasGrown};
-ghost use Rattle.blocktree.specs.Trees.{IsSoundAt};
-ghost use Rattle.layout.specs.Version.{greatest_size};
-ghost use Rattle.std.specs.Prelude.{Some, None, IsTrue, option_copied};
 ghost use Rattle.std.specs.Ordering.{nat_cmp};
 ghost use Rattle.std.specs.BTreeMap as tree;
-ghost use Rattle.inofile.specs.Settled.{content_of, settled_content};
-ghost use Rattle.inofile.specs.declared.numbers.TheConstants.{FIRST_NUMBER};
+ghost use Rattle.layout.specs.Inode.{IsInode};
+ghost use Rattle.layout.specs.Limits.{Sizes};
+ghost use Rattle.layout.specs.Version.{greatest_size};
+ghost use Rattle.layout.specs.declared.inode.Inode.{Inode};
+ghost use Rattle.layout.specs.declared.numbers.TheConstants.{ROOT_NUMBER};
+ghost use Rattle.layout.specs.declared.version.TheConstants.{VERSION};
+ghost use Rattle.model.specs.Volumes.{Node, Volume};
+ghost use Rattle.buffers.specs.Failures.{HasGrown};
+ghost use Rattle.images.specs.Contents.{HoldsVolume};
+ghost use Rattle.images.specs.Nodes.{held};
+ghost use Rattle.images.specs.Soundness.{IsOrdinary, IsSoundFile};
+ghost use Rattle.inofile.specs.Objects.{IsAsSettled, IsObject, IsObjectOrNone, StandsFor};
+ghost use Rattle.inofile.specs.Settled.{AreSettled, content_of, held_content, settled_content};
 
 impl InodeFile {
-    ghost use Rattle.inofile.specs.Inodes.{object_at, AreSettled, SameObjects, IsKnown, HasRoomFor, IsChanged, IsMapped, IsMappedBut};
+    ghost use Rattle.inofile.specs.Inodes.{is_changed_slot, object_at, SameObjects, IsKnown, HasRoomFor, IsChanged};
+    ghost use Rattle.inofile.specs.Volumes.{IsVolumeOf, MapsVolume};
 
     /// The inodes of this settled inode file, with the bytes of the inode map.
     pub fn new(alloc: Global, geometry: Geometry, file: File, map: Vec<u8>) -> InodeFile
@@ -55,8 +60,13 @@ impl InodeFile {
         ensures geometry { result.geometry ≡ geometry }
         ensures file { result.file ≡ file }
         ensures map { result.numbers.bytes.items ≡ map.items }
-        ensures settled { (disk : ℕ → List ℕ) (settled : ℕ → Inode) (n : ℕ) →
-            object_at disk settled result n ≡ settled_content disk (settled n) }
+        ensures settled { (disk : ℕ → List ℕ) (settled : ℕ → Inode) (n : ℕ)
+            → object_at disk settled result n ≡ settled_content disk (settled n) }
+        ensures unchanged { (n : ℕ) → IsChanged result n → ⊥ }
+        ensures volume { (count : ℕ) (disk : ℕ → List ℕ) (settled : ℕ → Inode) (v : Volume)
+            → AreSettled count disk geometry file settled → MapsVolume map.items v
+            → HoldsVolume geometry.inodes (λ n. held_content disk (settled n)) v
+            → IsVolumeOf count disk settled result v }
     {
         let inodes = geometry.inodes();
         InodeFile {
@@ -67,22 +77,23 @@ impl InodeFile {
         }
     }
 
-    // Reads a settled inode.
-    fn settled<B: Blocks>(&self, blocks: &mut B, number: u32) -> Result<Inode, ReadError>
-        requires { number < self.now.geometry.inodes }
+    /// Reads a settled inode. Number 0 stands for the inode file, whose own inode stands elsewhere.
+    pub fn settled_inode<B: Blocks>(&self, blocks: &mut B, number: u32) -> Result<Inode, ReadError>
+        requires low { 1 ≤ number }
+        requires high { number < self.now.geometry.inodes }
         ensures count { B.count blocks.new ≡ B.count blocks.old }
         ensures counted { OnOk result (B.failed blocks.new ≡ B.failed blocks.old) }
-        ensures device { IsErrOf result ReadError.Device →
-            HasGrown (B.failed blocks.old) (B.failed blocks.new) }
+        ensures device { IsErrOf result ReadError.Device
+            → HasGrown (B.failed blocks.old) (B.failed blocks.new) }
         ensures reads { (start : B) → B.ReadsOn start blocks.old → B.ReadsOn start blocks.new }
         ensures shown { (disk : ℕ → List ℕ) → B.Shows blocks.old disk → B.Shows blocks.new disk }
-        ensures read { (disk : ℕ → List ℕ) (settled : ℕ → Inode) → B.Shows blocks.old disk →
-            AreSettled disk self.now settled → IfOk result (λ i. i ≡ settled number) }
+        ensures read { (disk : ℕ → List ℕ) (settled : ℕ → Inode) → B.Shows blocks.old disk
+            → AreSettled (B.count blocks.old) disk self.now.geometry self.now.file settled
+            → IfOk result (λ i. i ≡ settled number) }
         ensures fits { IfOk result (IsInode VERSION self.now.geometry) }
-        ensures damaged { (disk : ℕ → List ℕ) (settled : ℕ → Inode) → B.Shows blocks.old disk →
-            IsErrOf result ReadError.Damaged →
-            IsSoundAt (B.count blocks.old) disk self.now.file.tree (number / 21) →
-            AreSettled disk self.now settled → ⊥ }
+        ensures damaged { (disk : ℕ → List ℕ) (settled : ℕ → Inode) → B.Shows blocks.old disk
+            → IsErrOf result ReadError.Damaged
+            → AreSettled (B.count blocks.old) disk self.now.geometry self.now.file settled → ⊥ }
     {
         let block = number / INODES_PER_BLOCK;
         let location = self.file.locate(blocks, block)?;
@@ -100,11 +111,12 @@ impl InodeFile {
         blocks: &mut B,
         number: u32,
     ) -> Result<(), ReadError>
-        requires { number < self.old.geometry.inodes }
+        requires low { ROOT_NUMBER ≤ number }
+        requires high { number < self.old.geometry.inodes }
         ensures count { B.count blocks.new ≡ B.count blocks.old }
         ensures counted { OnOk result (B.failed blocks.new ≡ B.failed blocks.old) }
-        ensures device { IsErrOf result ReadError.Device →
-            HasGrown (B.failed blocks.old) (B.failed blocks.new) }
+        ensures device { IsErrOf result ReadError.Device
+            → HasGrown (B.failed blocks.old) (B.failed blocks.new) }
         ensures reads { (start : B) → B.ReadsOn start blocks.old → B.ReadsOn start blocks.new }
         ensures shown { (disk : ℕ → List ℕ) → B.Shows blocks.old disk → B.Shows blocks.new disk }
         ensures geometry { self.new.geometry ≡ self.old.geometry }
@@ -114,17 +126,20 @@ impl InodeFile {
         ensures stays { (n : ℕ) → IsKnown self.old n → IsKnown self.new n }
         ensures keeps { (n : ℕ) → HasRoomFor self.old n → HasRoomFor self.new n }
         ensures changed { (n : ℕ) → IsChanged self.new n ↔ IsChanged self.old n }
-        ensures same { (disk : ℕ → List ℕ) (settled : ℕ → Inode) → B.Shows blocks.old disk →
-            AreSettled disk self.old settled → SameObjects disk settled self.old self.new }
-        ensures damaged { (disk : ℕ → List ℕ) (settled : ℕ → Inode) → B.Shows blocks.old disk →
-            IsErrOf result ReadError.Damaged →
-            IsSoundAt (B.count blocks.old) disk self.old.file.tree (number / 21) →
-            AreSettled disk self.old settled → ⊥ }
+        ensures same { (disk : ℕ → List ℕ) (settled : ℕ → Inode) → B.Shows blocks.old disk
+            → AreSettled (B.count blocks.old) disk self.old.geometry self.old.file settled
+            → SameObjects disk settled self.old self.new }
+        ensures volume { (disk : ℕ → List ℕ) (settled : ℕ → Inode) (v : Volume)
+            → B.Shows blocks.old disk → IsVolumeOf (B.count blocks.old) disk settled self.old v
+            → IsVolumeOf (B.count blocks.old) disk settled self.new v }
+        ensures damaged { (disk : ℕ → List ℕ) (settled : ℕ → Inode) → B.Shows blocks.old disk
+            → IsErrOf result ReadError.Damaged
+            → AreSettled (B.count blocks.old) disk self.old.geometry self.old.file settled → ⊥ }
     {
         if self.is_known(number) {
             return Ok(());
         }
-        let inode = self.settled(blocks, number)?;
+        let inode = self.settled_inode(blocks, number)?;
         let object = load_object(alloc, inode)?;
         match self.slots.insert(number, Slot::Loaded(object)) {
             Ok(_) => Ok(()),
@@ -144,14 +159,49 @@ impl InodeFile {
         }
     }
 
+    /// Whether the object with a number is to be stored by the next consistency point.
+    pub fn is_changed(&self, number: u32) -> bool
+        ensures { result ≡ is_changed_slot (tree.get nat_cmp self.now.slots number) }
+    {
+        matches!(self.slots.get(&number), Some(Slot::Changed(_)))
+    }
+
+    /// The numbers whose objects the next consistency point stores, in their order.
+    pub fn changed_numbers(&self, alloc: Global) -> Result<Vec<u32>, AllocError>
+        ensures sorted { IfOk result (λ numbers. IsStrictlyIncreasing numbers.items) }
+        ensures members { IfOk result (λ numbers. (n : ℕ)
+            → Contains numbers.items n ↔ IsChanged self.now n) }
+    {
+        let numbers = self.changed_keys(alloc)?;
+        Ok(numbers)
+    }
+
+    fn changed_keys(&self, alloc: Global) -> Result<Vec<u32>, AllocError>
+        ensures keys { IfOk result (λ numbers. numbers.items
+            ≡ filter (λ n. is_changed_slot (tree.get nat_cmp self.now.slots n))
+            (tree.keys self.now.slots)) }
+        ensures ordered { OnOk result (tree.IsOrdered nat_cmp self.now.slots) }
+    {
+        self.slots
+            .keys()
+            .copied()
+            .filter(|n| self.is_changed(*n))
+            .collect(alloc)
+    }
+
     /// The object with a number, if there is one; what is known of it is in memory.
     pub fn get(&self, number: u32) -> Option<&Object>
         requires { IsKnown self.now number }
-        ensures some { (disk : ℕ → List ℕ) (settled : ℕ → Inode) →
-            IfSome result (λ o. object_at disk settled self.now number ≡ Some
-            (content_of disk o.now)) }
-        ensures none { (disk : ℕ → List ℕ) (settled : ℕ → Inode) →
-            IfNone result (object_at disk settled self.now number ≡ None) }
+        ensures some { (disk : ℕ → List ℕ) (settled : ℕ → Inode)
+            → IfSome result (λ o. object_at disk settled self.now number
+            ≡ Some (content_of disk o.now)) }
+        ensures none { (disk : ℕ → List ℕ) (settled : ℕ → Inode)
+            → IfNone result (object_at disk settled self.now number ≡ None) }
+        ensures stands { (count : ℕ) (disk : ℕ → List ℕ) (settled : ℕ → Inode) (v : Volume)
+            → IsVolumeOf count disk settled self.now v → IfSome result (λ o.
+            IsObject disk self.now.geometry.inodes (settled number) o.now (v number)) }
+        ensures stands_for_none { (count : ℕ) (disk : ℕ → List ℕ) (settled : ℕ → Inode) (v : Volume)
+            → IsVolumeOf count disk settled self.now v → IfNone result (v number ≡ None) }
     {
         match self.slots.get(&number) {
             Some(Slot::AsSettled) => None,
@@ -159,115 +209,6 @@ impl InodeFile {
             Some(Slot::Changed(object)) => object.as_ref(),
             None => None,
         }
-    }
-
-    /// Makes room for a change of the object with a number. No object changes by it.
-    pub fn prepare_set(&mut self, number: u32) -> Result<(), AllocError>
-        ensures geometry { self.new.geometry ≡ self.old.geometry }
-        ensures file { self.new.file ≡ self.old.file }
-        ensures map { self.new.numbers ≡ self.old.numbers }
-        ensures room { OnOk result (HasRoomFor self.new number) }
-        ensures stays { (n : ℕ) → IsKnown self.old n → IsKnown self.new n }
-        ensures keeps { (n : ℕ) → HasRoomFor self.old n → HasRoomFor self.new n }
-        ensures changed { (n : ℕ) → IsChanged self.new n ↔ IsChanged self.old n }
-        ensures same { (disk : ℕ → List ℕ) (settled : ℕ → Inode) →
-            SameObjects disk settled self.old self.new }
-    {
-        if self.slots.contains_key(&number) {
-            return Ok(());
-        }
-        match self.slots.insert(number, Slot::AsSettled) {
-            Ok(_) => Ok(()),
-            Err(_) => Err(AllocError),
-        }
-    }
-
-    /// Gives a number this object, or none; there is room for it.
-    pub fn commit_set(&mut self, number: u32, object: Option<Object>)
-        requires room { HasRoomFor self.old number }
-        requires low { FIRST_NUMBER ≤ number }
-        requires high { number < self.old.geometry.inodes }
-        ensures geometry { self.new.geometry ≡ self.old.geometry }
-        ensures file { self.new.file ≡ self.old.file }
-        ensures stays { (n : ℕ) → IsKnown self.old n → IsKnown self.new n }
-        ensures keeps { (n : ℕ) → HasRoomFor self.old n → HasRoomFor self.new n }
-        ensures set { (disk : ℕ → List ℕ) (settled : ℕ → Inode) (n : ℕ) →
-            object_at disk settled self.new n
-            ≡ (if n == number then option_map (content_of disk) object
-            else object_at disk settled self.old n) }
-        ensures mapped { (disk : ℕ → List ℕ) (settled : ℕ → Inode) →
-            IsMappedBut number disk settled self.old →
-            IsMapped disk settled self.new }
-        ensures changed { IsChanged self.new number }
-        ensures others { (n : ℕ) → (n ≢ number) → IsChanged self.old n → IsChanged self.new n }
-    {
-        self.numbers.set(number, object.is_some());
-        let _ = self.slots.insert(number, Slot::Changed(object));
-    }
-
-    /// Takes an object out, to be prepared or changed, until it is put back or set. Till then its number has none.
-    pub fn take(&mut self, number: u32) -> Option<Object>
-        requires { IsKnown self.old number }
-        ensures geometry { self.new.geometry ≡ self.old.geometry }
-        ensures file { self.new.file ≡ self.old.file }
-        ensures map { self.new.numbers ≡ self.old.numbers }
-        ensures stays { (n : ℕ) → IsKnown self.old n → IsKnown self.new n }
-        ensures keeps { (n : ℕ) → HasRoomFor self.old n → HasRoomFor self.new n }
-        ensures taken { (disk : ℕ → List ℕ) (settled : ℕ → Inode) →
-            option_map (content_of disk) result ≡ object_at disk settled self.old number }
-        ensures others { (disk : ℕ → List ℕ) (settled : ℕ → Inode) (n : ℕ) → (n ≢ number) →
-            object_at disk settled self.new n ≡ object_at disk settled self.old n }
-        ensures changed { IsChanged self.old number → IsChanged self.new number }
-        ensures mapped { (disk : ℕ → List ℕ) (settled : ℕ → Inode) →
-            IsMapped disk settled self.old →
-            IsMappedBut number disk settled self.new }
-    {
-        match self.slots.insert(number, Slot::Loaded(None)) {
-            Ok(Some(Slot::Loaded(object))) => object,
-            Ok(Some(Slot::Changed(object))) => {
-                let _ = self.slots.insert(number, Slot::Changed(None));
-                object
-            }
-            _ => None,
-        }
-    }
-
-    /// Puts an object back that was taken out.
-    pub fn put_back(&mut self, number: u32, object: Option<Object>)
-        requires { IsKnown self.old number }
-        ensures geometry { self.new.geometry ≡ self.old.geometry }
-        ensures file { self.new.file ≡ self.old.file }
-        ensures map { self.new.numbers ≡ self.old.numbers }
-        ensures stays { (n : ℕ) → IsKnown self.old n → IsKnown self.new n }
-        ensures keeps { (n : ℕ) → HasRoomFor self.old n → HasRoomFor self.new n }
-        ensures set { (disk : ℕ → List ℕ) (settled : ℕ → Inode) (n : ℕ) →
-            object_at disk settled self.new n
-            ≡ (if n == number then option_map (content_of disk) object
-            else object_at disk settled self.old n) }
-        ensures changed { IsChanged self.old number → IsChanged self.new number }
-    {
-        let slot = match self.slots.get(&number) {
-            Some(Slot::Changed(_)) => Slot::Changed(object),
-            _ => Slot::Loaded(object),
-        };
-        let _ = self.slots.insert(number, slot);
-    }
-
-    /// The least number from the first on that no object has; None where each has one.
-    pub fn least_free(&mut self) -> Option<u32>
-        ensures geometry { self.new.geometry ≡ self.old.geometry }
-        ensures file { self.new.file ≡ self.old.file }
-        ensures slots { self.new.slots ≡ self.old.slots }
-        ensures map { self.new.numbers.bytes.items ≡ self.old.numbers.bytes.items }
-        ensures within { IfSome result (λ n. (FIRST_NUMBER ≤ n) × (n < self.old.geometry.inodes)) }
-        ensures least { (disk : ℕ → List ℕ) (settled : ℕ → Inode) → IsMapped disk settled self.old →
-            IfSome result (λ n. (object_at disk settled self.old n ≡ None)
-            × ((k : ℕ) → FIRST_NUMBER ≤ k → k < n → IsSome (object_at disk settled self.old k))) }
-        ensures none { (disk : ℕ → List ℕ) (settled : ℕ → Inode) → IsMapped disk settled self.old →
-            IfNone result ((k : ℕ) → FIRST_NUMBER ≤ k → k < self.old.geometry.inodes →
-            IsSome (object_at disk settled self.old k)) }
-    {
-        self.numbers.least_free()
     }
 
     /// The sizes of the image.
@@ -301,12 +242,21 @@ impl InodeFile {
 
 // The object of a settled inode, if it is one.
 fn load_object(alloc: Global, inode: Inode) -> Result<Option<Object>, AllocError>
-    requires { inode.size ≤ greatest_size 1 }
-    ensures { (disk : ℕ → List ℕ) →
-        IfOk result (λ o. option_map (content_of disk) o ≡ settled_content disk inode) }
+    requires { inode.size ≤ greatest_size VERSION }
+    ensures content { (s : Sizes) (disk : ℕ → List ℕ) → IsSoundFile s (held disk inode)
+        → IfOk result (λ o. option_map (content_of disk) o ≡ settled_content disk inode) }
+    ensures as_settled { (s : Sizes) (disk : ℕ → List ℕ) → IsSoundFile s (held disk inode)
+        → IfOk result (IsAsSettled disk inode) }
+    ensures stands { (s : Sizes) (disk : ℕ → List ℕ) (inodes : ℕ) (found : Option Node)
+        → IsSoundFile s (held disk inode) → IsOrdinary inode.kind
+        → StandsFor inodes (held_content disk inode) found
+        → IfOk result (λ o. IsObjectOrNone disk inodes inode o found) }
 {
     match inode.kind {
         Kind::Free => Ok(None),
-        _ => Ok(Some(Object::load(alloc, inode)?)),
+        _ => {
+            let object = Object::load(alloc, inode)?;
+            Ok(Some(object))
+        }
     }
 }

@@ -2,9 +2,13 @@
 //! over it in memory, and knows the least number that none has.
 #![tactic(auto)]
 
+mod changing;
 mod inode_file;
+mod laws;
 mod numbers;
 mod settled;
 
 pub use inode_file::{InodeFile, Slot};
-pub use numbers::{FIRST_NUMBER, Numbers};
+pub use laws::{memory_holds_its_volume, objects_stand_in_their_grammar};
+pub use layout::FIRST_NUMBER;
+pub use numbers::Numbers;

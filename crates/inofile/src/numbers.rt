@@ -1,9 +1,6 @@
 //! Which inode numbers are taken.
 
-use layout::is_taken;
-
-/// The first number that an object may take; 0 to 3 belong to the file system itself.
-pub const FIRST_NUMBER: u32 = 4;
+use layout::{FIRST_NUMBER, is_taken};
 
 /// The inode map in memory: a bit for each inode number, set where the number is taken.
 #[derive(Debug, Drop)]
@@ -68,6 +65,22 @@ impl Numbers {
         } else {
             self.least = self.least.min(number);
             self.bytes[at] &= !bit;
+        }
+    }
+
+    /// Takes an object's number, or sets it free. The file system's own numbers stay taken.
+    pub fn note(&mut self, number: u32, taken: bool)
+        requires { number < self.old.inodes }
+        ensures inodes { self.new.inodes ≡ self.old.inodes }
+        ensures here { FIRST_NUMBER ≤ number →
+            (IsTaken self.new.bytes.items number ↔ IsTrue taken) }
+        ensures own { number < FIRST_NUMBER →
+            (IsTaken self.new.bytes.items number ↔ IsTaken self.old.bytes.items number) }
+        ensures others { (k : ℕ) → (k ≢ number) →
+            (IsTaken self.new.bytes.items k ↔ IsTaken self.old.bytes.items k) }
+    {
+        if FIRST_NUMBER <= number {
+            self.set(number, taken);
         }
     }
 

@@ -6,7 +6,7 @@ ghost use Rattle.layout.specs.Version.{greatest_size};
 ghost use Rattle.layout.specs.declared.inode.Inode.{Inode};
 ghost use Rattle.layout.specs.declared.version.TheConstants.{VERSION};
 ghost use Rattle.blocktree.specs.declared.error.ReadError.TheVariants.{Damaged};
-ghost use Rattle.inofile.specs.Settled.{inode_part};
+ghost use Rattle.images.specs.Roots.{inode_part};
 
 use blocktree::ReadError;
 use layout::{BLOCK_BYTES, Geometry, INODE_BYTES, Inode};
@@ -18,16 +18,15 @@ pub(crate) fn read_inode(
     geometry: Geometry,
 ) -> Result<Inode, ReadError>
     requires { index < 21 }
-    ensures read { (i : Inode) → IsInode VERSION geometry i → inode_part bytes.now index ≡ inode_bytes i →
-        IfOk result (λ j. j ≡ i) }
+    ensures read { (i : Inode) → IsInode VERSION geometry i
+        → inode_part bytes.now index ≡ inode_bytes i → IfOk result (λ j. j ≡ i) }
     ensures fits { IfOk result (IsInode VERSION geometry) }
     ensures damaged { OnErr result ((i : Inode) → IsInode VERSION geometry i →
         inode_part bytes.now index ≡ inode_bytes i → ⊥) }
     ensures only { IfErr result (λ e. e ≡ Damaged) }
 {
     let _ = geometry.inodes();
-    let at = INODE_BYTES * index as usize;
-    let Some(inode) = Inode::read(&bytes[at..at + INODE_BYTES]) else {
+    let Some(inode) = Inode::read(part(bytes, index)) else {
         return Err(ReadError::Damaged);
     };
     if inode.fits(geometry) {
@@ -35,4 +34,13 @@ pub(crate) fn read_inode(
     } else {
         Err(ReadError::Damaged)
     }
+}
+
+/// The bytes of inode `index` of a block of the inode file.
+fn part(bytes: &[u8; BLOCK_BYTES], index: u32) -> &[u8]
+    requires { index < 21 }
+    ensures { result.now ≡ inode_part bytes.now index }
+{
+    let at = INODE_BYTES * index as usize;
+    &bytes[at..at + INODE_BYTES]
 }

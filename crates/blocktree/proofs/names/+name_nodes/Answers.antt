@@ -4,13 +4,13 @@ use Rattle.blocktree.proofs.names.+name_nodes.Goals as goal
 
 pub returns-in_err-name_nodes-clause-damaged : goal.returns-in_err-name_nodes-clause-damaged
 returns-in_err-name_nodes-clause-damaged g t c = λ disk shows bad paths.
-    c.in_err-name_nodes.ensures.damaged disk (c.in_ok-name_level.ensures.same disk shows) (search rules)
-    (paths_above (g.B.Blocks.count c.args.blocks.now) (g.B.Blocks.count c.name_level.new.blocks) c.div_ceil.result disk c.args.pointers.now c.args.depth c.args.count c.in_ok-name_level.ensures.count c.div_ceil.ensures c.if-depth-gt0.true paths)
+    c.in_err-name_nodes.ensures.damaged disk (c.in_ok-name_level.ensures.reads.same disk shows) (search rules)
+    (paths_above (g.B.Blocks.count c.args.blocks.now) (g.B.Blocks.count c.name_level.new.blocks) c.div_ceil.result disk c.args.pointers.now c.args.depth c.args.count c.in_ok-name_level.ensures.reads.count c.div_ceil.ensures c.if-depth-gt0.true paths)
 
 pub returns-in_ok-name_nodes-clause-named : goal.returns-in_ok-name_nodes-clause-named
 returns-in_ok-name_nodes-clause-named g t c = λ disk shows p.
     named_more disk c.args.pointers.now c.args.depth c.args.count c.div_ceil.result p (Contains c.args.names.now.items p) (Contains c.name_level.new.names.items p) (Contains c.name_nodes.new.names.items p) c.if-depth-gt0.true c.div_ceil.ensures
-    (c.in_ok-name_level.ensures.named disk shows p) (c.in_ok-name_nodes.ensures.named disk (c.in_ok-name_level.ensures.same disk shows) p)
+    (c.in_ok-name_level.ensures.named disk shows p) (c.in_ok-name_nodes.ensures.named disk (c.in_ok-name_level.ensures.reads.same disk shows) p)
 
 pub returns-else-depth-gt0-clause-named : goal.returns-else-depth-gt0-clause-named
 returns-else-depth-gt0-clause-named g t c = λ disk shows p.

@@ -5,12 +5,9 @@ use Rattle.blocktree.proofs.names.name_level.Goals as goal
 
 pub loop-i-preserved : goal.loop-i-preserved
 loop-i-preserved g c = record {
-  blocks = search rules;
-  failed = search rules;
-  reads = search rules;
-  shows = search rules;
+  read = search rules;
   named = λ disk shows p. node_more disk c.args.pointers.now c.args.depth c.loop-i.i p c.in_ok-pointer.pointer (Contains c.args.names.now.items p) (Contains c.loop-i.names.items p) (Contains c.add_place.new.names.items p)
-      (c.loop-i.invariant.named disk shows p) (c.in_ok-add_place.ensures p) (c.in_ok-pointer.ensures.place disk (c.loop-i.invariant.shows disk shows));
+      (c.loop-i.invariant.named disk shows p) (c.in_ok-add_place.ensures p) (c.in_ok-pointer.ensures.place disk (c.loop-i.invariant.read.same disk shows));
 }
 
 pub returns-clause-named : goal.returns-clause-named

@@ -22,15 +22,15 @@ returns-in_err-above-clause-damaged g t c = λ disk shows bad path.
 
 pub returns-in_err-next-clause-damaged : goal.returns-in_err-next-clause-damaged
 returns-in_err-next-clause-damaged g t c = λ disk shows bad path.
-    c.in_err-next.ensures.damaged disk (c.in_ok-above.ensures.same disk shows) (search rules)
-    (node_of_path (g.B.Blocks.count c.args.blocks.now) (g.B.Blocks.count c.find_place.new.blocks) c.saturating_sub-used.result disk c.args.pointers.now c.args.depth c.args.count c.args.i c.in_ok-above.above c.in_ok-above.ensures.count c.saturating_sub-used.ensures c.if-depth-eq0.false (c.in_ok-above.ensures.place disk shows) path)
+    c.in_err-next.ensures.damaged disk (c.in_ok-above.ensures.reads.same disk shows) (search rules)
+    (node_of_path (g.B.Blocks.count c.args.blocks.now) (g.B.Blocks.count c.find_place.new.blocks) c.saturating_sub-used.result disk c.args.pointers.now c.args.depth c.args.count c.args.i c.in_ok-above.above c.in_ok-above.ensures.reads.count c.saturating_sub-used.ensures c.if-depth-eq0.false (c.in_ok-above.ensures.place disk shows) path)
 
 pub returns-clause-place : goal.returns-clause-place
 returns-clause-place g t c = λ disk shows.
-    c.in_ok-next.ensures.pointer disk (c.in_ok-above.ensures.same disk shows)
+    c.in_ok-next.ensures.pointer disk (c.in_ok-above.ensures.reads.same disk shows)
     ∙ sym (place_next disk c.args.pointers.now c.args.depth c.args.i c.in_ok-above.above c.if-depth-eq0.false (c.in_ok-above.ensures.place disk shows))
 
 pub returns-clause-sound : goal.returns-clause-sound
 returns-clause-sound g t c = λ disk shows.
-    path_of_node (g.B.Blocks.count c.args.blocks.now) (g.B.Blocks.count c.find_place.new.blocks) c.div_ceil.result c.saturating_sub-used.result disk c.args.pointers.now c.args.depth c.args.count c.args.i c.in_ok-above.above c.in_ok-above.ensures.count c.div_ceil.ensures c.saturating_sub-used.ensures c.if-depth-eq0.false (c.in_ok-above.ensures.place disk shows)
-    (c.in_ok-above.ensures.sound disk shows) (c.in_ok-next.ensures.sound disk (c.in_ok-above.ensures.same disk shows))
+    path_of_node (g.B.Blocks.count c.args.blocks.now) (g.B.Blocks.count c.find_place.new.blocks) c.div_ceil.result c.saturating_sub-used.result disk c.args.pointers.now c.args.depth c.args.count c.args.i c.in_ok-above.above c.in_ok-above.ensures.reads.count c.div_ceil.ensures c.saturating_sub-used.ensures c.if-depth-eq0.false (c.in_ok-above.ensures.place disk shows)
+    (c.in_ok-above.ensures.sound disk shows) (c.in_ok-next.ensures.sound disk (c.in_ok-above.ensures.reads.same disk shows))

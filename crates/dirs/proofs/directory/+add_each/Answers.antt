@@ -1,7 +1,7 @@
 use Rattle.std.proofs.Common.{◌≡◌, ◌∙◌, ◌≤◌, ◌^◌, ◌||◌, bytes_eq, is_some, map, ap, sym, arith}
 use Rattle.std.proofs.Math.Bool.{or-false}
 use Rattle.layout.specs.Directory.{named_of}
-use Rattle.dirs.specs.Entries.{number_of}
+use Rattle.layout.specs.DirectoryNames.{number_of}
 use Rattle.dirs.specs.Listings.{lists}
 use Rattle.dirs.proofs.EntryLists.{none_left, one_first}
 use Rattle.dirs.proofs.ListingLaws.{lists-insert, stands-first, or_assoc}

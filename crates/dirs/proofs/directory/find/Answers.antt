@@ -1,4 +1,5 @@
-use Rattle.std.proofs.Common.{◌≡◌, ℕ, ◌/◌, IfOk, unwrap_or, ap, sym, subst}
+use Rattle.std.proofs.Common.{◌≡◌, ℕ, ◌/◌, ◌<◌, IfOk, unwrap_or, ap, sym, subst}
+use Rattle.layout.specs.Directory.{HoldsEntries}
 use Rattle.inode.specs.Files.{file_block}
 use Rattle.dirs.specs.Edits.{IsReached, IsFirst, edited_block}
 use Rattle.dirs.proofs.LookLaws.{first_same_ok}
@@ -8,8 +9,12 @@ pub returns-clause-found : goal.returns-clause-found
 returns-clause-found g c = λ disk names shows is. c.find.ensures.found disk names shows (c.of-edit.ensures.same c.args.inodes disk names is)
 
 pub returns-clause-damaged : goal.returns-clause-damaged
-returns-clause-damaged g c = λ disk names shows damaged reached is.
-    c.find.ensures.damaged disk names shows damaged (subst (λ n. IsReached (g.B.Blocks.count c.args.blocks.now) disk c.args.file.now n) (sym c.of-edit.ensures.count) reached) (c.of-edit.ensures.same c.args.inodes disk names is)
+returns-clause-damaged g c = λ disk shows damaged reached sound.
+    let count = c.of-edit.ensures.count in
+    let same : (i : ℕ) → file_block disk c.args.file.now i ≡ edited_block disk c.args.file.now c.of-edit.result i = λ i. sym (ap (λ o. unwrap_or o (file_block disk c.args.file.now i)) (c.of-edit.ensures.none i)) in
+    c.find.ensures.damaged disk shows damaged (subst (λ n. IsReached (g.B.Blocks.count c.args.blocks.now) disk c.args.file.now n) (sym count) reached)
+    (λ i below. let held = sound i (subst (λ n. i < n) count below) in
+    (held.0, subst (λ b. HoldsEntries c.args.inodes b held.0) (same i) held.1))
 
 pub returns-clause-sound : goal.returns-clause-sound
 returns-clause-sound g c = λ disk shows.

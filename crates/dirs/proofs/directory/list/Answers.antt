@@ -1,12 +1,21 @@
-use Rattle.std.proofs.Common.{◌≡◌, ◌∙◌, ◌||◌, inl, inr, ◌<◌, ◌/◌, map, is_some, ap, sym, subst, add-one, arith}
+use Rattle.std.proofs.Common.{rules, ◌≡◌, ◌∙◌, ◌||◌, inl, inr, ◌<◌, ◌/◌, map, is_some, ap, sym, subst, add-one, arith}
 use Rattle.std.proofs.lemmas.Bool.{cases_eq}
 use Rattle.layout.specs.Directory.{HoldsEntries}
 use Rattle.inode.specs.Files.{file_block}
-use Rattle.dirs.specs.Entries.{number_of}
+use Rattle.layout.specs.DirectoryNames.{number_of}
 use Rattle.dirs.specs.Directory.{first_entries}
 use Rattle.dirs.specs.Listings.{lists}
 use Rattle.dirs.proofs.ListingLaws.{stands-append, or_comm, listing}
 use Rattle.dirs.proofs.directory.list.Goals as goal
+
+pub returns-in_err-add_names-clause-damaged : goal.returns-in_err-add_names-clause-damaged
+returns-in_err-add_names-clause-damaged g c = λ disk shows is reached sound.
+    let i = c.loop-i.i in
+    let now = c.loop-i.invariant.same disk shows in
+    let located = c.in_ok-location.ensures in
+    let bytes = c.bytes.ensures disk (located.same disk now) (located.found disk now) in
+    let held = sound i (subst (λ s. i < s / 4096) c.size.ensures.value c.loop-i-test.true) in
+    c.in_err-add_names.ensures.damaged (search rules) held.0 (subst (λ b. HoldsEntries c.args.inodes b held.0) (sym bytes) held.1)
 
 pub loop-i-preserved : goal.loop-i-preserved
 loop-i-preserved g c =
@@ -41,6 +50,6 @@ pub returns-clause-listed : goal.returns-clause-listed
 returns-clause-listed g c = λ disk names shows is.
     let end : c.size.result / 4096 ≡ c.args.file.now.size / 4096 = ap (λ s. s / 4096) c.size.ensures.value in
     let all : c.loop-i.i ≡ c.args.file.now.size / 4096 = omega (arith, end) in
-    listing c.args.inodes (c.args.file.now.size / 4096) (file_block disk c.args.file.now) names c.in_ok-in_order.field-0 is.holds c.in_ok-in_order.ensures.sorted
-    (λ name. ap (λ l. lists l name) c.in_ok-in_order.ensures.same ∙ c.loop-i.invariant.lists disk is.holds.entries shows is.holds.holds name
-    ∙ ap (λ k. is_some (number_of name (first_entries is.holds.entries k))) all)
+    listing c.args.inodes (c.args.file.now.size / 4096) (file_block disk c.args.file.now) names c.in_ok-in_order.field-0 is c.in_ok-in_order.ensures.sorted
+    (λ name. ap (λ l. lists l name) c.in_ok-in_order.ensures.same ∙ c.loop-i.invariant.lists disk is.entries shows is.holds name
+    ∙ ap (λ k. is_some (number_of name (first_entries is.entries k))) all)

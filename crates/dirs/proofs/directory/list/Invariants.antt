@@ -2,8 +2,8 @@ use Rattle.std.proofs.Common.{◌≡◌, ◌/◌, ◌<◌, ℕ, List, map, is_so
 use Rattle.layout.specs.Directory.{Named, HoldsEntries}
 use Rattle.inode.specs.Files.{file_block}
 use Rattle.model.specs.Paths.{Name}
-use Rattle.dirs.specs.Entries.{number_of}
-use Rattle.dirs.specs.Directory.{AllHold, first_entries}
+use Rattle.layout.specs.DirectoryNames.{number_of, AllHold}
+use Rattle.dirs.specs.Directory.{first_entries}
 use Rattle.dirs.specs.Listings.{lists}
 use Rattle.dirs.proofs.directory.list.Given as goal
 

@@ -1,6 +1,6 @@
 use Rattle.std.proofs.Common.{rules, arith, ◌∙◌, ap, ◌≡◌, bytes_eq, true, false, ◌^◌, ◌≤◌}
 use Rattle.layout.specs.Directory.{named_of}
-use Rattle.dirs.specs.Entries.{number_of}
+use Rattle.layout.specs.DirectoryNames.{number_of}
 use Rattle.dirs.proofs.EntryLists.{none_left, one_first, found_behind, removed_first, removed_behind}
 use Rattle.dirs.proofs.entries.+place_of.Goals as goal
 

@@ -1,6 +1,6 @@
 use Rattle.std.proofs.Common.{◌≡◌, ℕ, ◌+◌, ◌<◌, List, length, vec_len}
 use Rattle.buffers.specs.Positions.{laid}
-use Rattle.blocktree.specs.Trees.{tree_block, HasRoom, KeepsRoom, SameSettled}
+use Rattle.blocktree.specs.Trees.{tree_block, HasRoom, KeepsRoom, KeepsSound, SameSettled}
 use Rattle.blocktree.proofs.tree.BlockTree.install.Given as goal
 
 abbrev pub decreases-loop-block : goal.decreases-loop-block
@@ -10,6 +10,7 @@ abbrev pub invariant-loop-block : goal.invariant-loop-block
 invariant-loop-block l = record {
   room : (j : ℕ) → j < length l.rest.items → HasRoom l.self (l.first + j);
   keeps : KeepsRoom l.fn.self l.self;
+  sound : KeepsSound l.fn.self l.self;
   settled : SameSettled l.fn.self l.self;
   most : l.first + length l.rest.items < 4294967296;
   blocks : (disk : ℕ → List ℕ) (j : ℕ) → laid (tree_block disk l.self) l.first l.rest.items j ≡ laid (tree_block disk l.fn.self) l.first l.fn.pieces.items j;

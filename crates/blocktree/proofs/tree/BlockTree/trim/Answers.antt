@@ -1,6 +1,6 @@
-use Rattle.std.proofs.Common.{rules, nat_lt}
+use Rattle.std.proofs.Common.{rules, arith, nat_lt, ◌<◌}
 use Rattle.std.proofs.lemmas.Map.Made.{filter_same_pairs}
-use Rattle.blocktree.proofs.SlotLaws.{trimmed_block, trimmed_room}
+use Rattle.blocktree.proofs.SlotLaws.{trimmed_block, trimmed_room, trimmed_changed}
 use Rattle.blocktree.proofs.tree.BlockTree.trim.Goals as goal
 
 pub returns-clause-blocks : goal.returns-clause-blocks
@@ -8,3 +8,8 @@ returns-clause-blocks c = λ disk j. trimmed_block disk _ _ _ _ c.args.count c.a
 
 pub returns-clause-keeps : goal.returns-clause-keeps
 returns-clause-keeps c = λ j lt had. trimmed_room c.args.self.now.slots c.retain.new.self c.args.count (filter_same_pairs _ (λ e. nat_lt e.0 c.args.count) _ (λ k v b w f t. search rules) _ _ c.retain.ensures.filtered) j lt had
+
+pub returns-clause-sound : goal.returns-clause-sound
+returns-clause-sound c = λ blocks disk i sound same within.
+    let below : i < c.args.count = omega arith in
+    sound (λ changed. same (trimmed_changed c.args.self.now.slots c.retain.new.self c.args.count (filter_same_pairs _ (λ e. nat_lt e.0 c.args.count) _ (λ k v b w f t. search rules) _ _ c.retain.ensures.filtered) i below changed)) (omega arith)

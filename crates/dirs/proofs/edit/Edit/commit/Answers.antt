@@ -1,4 +1,4 @@
-use Rattle.std.proofs.Common.{◌≡◌, ◌∙◌, ℕ, ◌*◌, ◌/◌, ◌%◌, ◌≤◌, List, slice_index, ap, arith, ltb}
+use Rattle.std.proofs.Common.{rules, ◌≡◌, ◌∙◌, ℕ, ◌*◌, ◌/◌, ◌%◌, ◌≤◌, List, slice_index, ap, arith, ltb}
 use Rattle.std.proofs.lemmas.Bool.{le-ltb, cond-false}
 use Rattle.layout.specs.Bytes.{zeros}
 use Rattle.blocktree.specs.Places.{block_count}
@@ -14,3 +14,14 @@ returns-clause-ends c = λ disk p past.
     let gone : file_block disk c.set_size.new.self (p / 4096) ≡ zeros 4096 =
     c.set_size.ensures.blocks disk (p / 4096) ∙ cond-false (ltb (p / 4096) (block_count size)) (file_block disk c.loop-i.file (p / 4096)) (zeros 4096) (le-ltb (p / 4096) (block_count size) beyond) in
     ap (λ (b : List ℕ). slice_index b (p % 4096)) gone ∙ slice_index-zeros 4096 (p % 4096)
+
+pub loop-i-preserved : goal.loop-i-preserved
+loop-i-preserved c = record {
+  fits = search rules;
+  same = search rules;
+  base = λ settled based. c.set_block.ensures.base settled (c.loop-i.invariant.base settled based);
+  sound = λ blocks disk i is. c.set_block.ensures.sound blocks disk i (c.loop-i.invariant.sound blocks disk i is);
+}
+
+pub returns-clause-base : goal.returns-clause-base
+returns-clause-base c = λ settled based. c.set_size.ensures.base settled (c.loop-i.invariant.base settled based)

@@ -1,7 +1,8 @@
 use Rattle.std.proofs.Common.{◌≡◌, ℕ, List, unwrap_or}
 use Rattle.std.specs.Ordering.{nat_cmp}
 use Rattle.std.specs.BTreeMap as tree
-use Rattle.blocktree.specs.Trees.{HasRoom}
+use Rattle.blocktree.specs.Trees.{HasRoom, KeepsSound}
+use Rattle.inode.specs.Bases.{KeepsBase}
 use Rattle.inode.specs.Files.{file_block}
 use Rattle.dirs.proofs.edit.Edit.commit.Given as goal
 
@@ -13,4 +14,6 @@ invariant-loop-i l = record {
   fits : (i : ℕ) → tree.ContainsKey nat_cmp l.changed i → HasRoom l.file.tree i;
   same : (disk : ℕ → List ℕ) (i : ℕ) → unwrap_or (tree.get nat_cmp l.changed i) (file_block disk l.file i)
       ≡ unwrap_or (tree.get nat_cmp l.initial.changed i) (file_block disk l.initial.file i);
+  base : KeepsBase l.initial.file.tree l.file.tree;
+  sound : KeepsSound l.initial.file.tree l.file.tree;
 }

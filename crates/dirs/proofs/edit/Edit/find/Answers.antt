@@ -1,11 +1,8 @@
-use Rattle.std.proofs.Common.{rules, sym, subst}
+use Rattle.std.proofs.Common.{sym, subst}
 use Rattle.std.specs.Option.{option_map}
 use Rattle.dirs.specs.Edits.{IsPlaced, IsFirst, edited_block}
 use Rattle.dirs.proofs.HoldLaws.{missing_name}
 use Rattle.dirs.proofs.edit.Edit.find.Goals as goal
-
-pub returns-in_err-place-clause-damaged : goal.returns-in_err-place-clause-damaged
-returns-in_err-place-clause-damaged g c = λ disk names shows is reached has. c.in_err-place.ensures.damaged disk has.entries shows (search rules) reached has.holds
 
 pub returns-in-Some-clause-found : goal.returns-in-Some-clause-found
 returns-in-Some-clause-found g c = λ disk names shows has.

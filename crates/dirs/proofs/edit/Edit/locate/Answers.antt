@@ -1,9 +1,18 @@
-use Rattle.std.proofs.Common.{◌∙◌, ◌≡◌, inl, inr, ◌+◌, ◌<◌, ◌≤◌, Some, None, sym, subst, arith}
+use Rattle.std.proofs.Common.{rules, ◌∙◌, ◌≡◌, inl, inr, ◌+◌, ◌<◌, ◌≤◌, Some, None, sym, subst, arith}
 use Rattle.std.proofs.lemmas.Bool.{cases_eq}
 use Rattle.layout.specs.Directory.{HoldsEntries}
+use Rattle.blocktree.specs.Trees.{IsSoundAt}
 use Rattle.dirs.specs.Edits.{edited_block, HasNumber}
 use Rattle.dirs.proofs.LookLaws.{number_told, none_more}
 use Rattle.dirs.proofs.edit.Edit.locate.Goals as goal
+
+pub returns-in_err-look-clause-damaged : goal.returns-in_err-look-clause-damaged
+returns-in_err-look-clause-damaged g c = λ disk shows is reached sound.
+    let i = c.loop-i.i in
+    let so_far = c.loop-i.invariant in
+    let here = subst (λ n. IsSoundAt n disk c.args.file.now.tree i) (sym so_far.count) (reached i c.loop-i-test.true) in
+    let held = sound i c.loop-i-test.true in
+    c.in_err-look.ensures.damaged disk (so_far.same disk shows) (search rules) here held.0 held.1
 
 pub returns-in-Some-clause-first : goal.returns-in-Some-clause-first
 returns-in-Some-clause-first g c = λ disk shows.

@@ -1,7 +1,7 @@
 use Rattle.std.proofs.Common.{◌≡◌, ◌<◌, ℕ, List, None}
 use Rattle.layout.specs.Directory.{Named, HoldsEntries}
 use Rattle.dirs.specs.Edits.{edited_block, HasNumber}
-use Rattle.dirs.specs.Entries.{number_of}
+use Rattle.layout.specs.DirectoryNames.{number_of}
 use Rattle.dirs.proofs.edit.Edit.locate.Given as goal
 
 abbrev pub invariant-loop-i : goal.invariant-loop-i

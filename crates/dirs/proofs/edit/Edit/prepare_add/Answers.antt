@@ -1,10 +1,12 @@
 use Rattle.std.proofs.Common.{rules, ◌≡◌, ◌+◌, ◌≤◌, ◌∷◌, ◌++◌, [], length, arith, ap, subst, sym, List, Some}
 use Rattle.layout.specs.Directory.{Named, HoldsEntries, named_of, entry_bytes}
 use Rattle.layout.proofs.EntryLaws.{length-entry_bytes}
+use Rattle.blocktree.specs.Trees.{IsSoundAt}
 use Rattle.dirs.specs.Entries.{used_by}
-use Rattle.dirs.specs.Directory.{HoldNames, with_name}
+use Rattle.layout.specs.DirectoryNames.{HoldNames}
+use Rattle.dirs.specs.Directory.{with_name}
 use Rattle.dirs.specs.Edits.{edited_block}
-use Rattle.dirs.specs.Surveys.{HasRoomFor}
+use Rattle.dirs.specs.Surveys.{IsBounded, IsFirstRoom}
 use Rattle.dirs.proofs.HoldLaws.{hold_added, has_count, damaged_below}
 use Rattle.dirs.proofs.edit.Edit.prepare_add.Goals as goal
 
@@ -12,7 +14,15 @@ pub survey_of-requires : goal.survey_of-requires
 survey_of-requires g c = omega (arith, c.encoded_len.ensures, length-entry_bytes (named_of c.args.entry.now), c.requires.name.short)
 
 pub returns-in_err-survey-clause-damaged : goal.returns-in_err-survey-clause-damaged
-returns-in_err-survey-clause-damaged g c = λ disk names shows is reached has. c.in_err-survey.ensures.damaged disk names shows (search (rules, damaged_below)) reached has
+returns-in_err-survey-clause-damaged g c = λ disk shows is reached sound. c.in_err-survey.ensures.damaged disk shows (search (rules, damaged_below)) reached sound
+
+pub returns-in_err-add_to-in-Some-clause-damaged : goal.returns-in_err-add_to-in-Some-clause-damaged
+returns-in_err-add_to-in-Some-clause-damaged g c = λ disk shows is reached sound.
+    let i = c.in-Some.i in
+    let survey = c.in_ok-survey.ensures in
+    let below = subst (IsBounded c.args.self.now.count c.in_ok-survey.survey) c.in-Some.is survey.bounded in
+    let here = subst (λ n. IsSoundAt n disk c.args.file.now.tree i) (sym survey.count) (reached i below) in
+    c.in_err-add_to-in-Some.ensures.damaged disk (survey.same disk shows) (search (rules, damaged_below)) here
 
 pub returns-then-is_full-clause-full : goal.returns-then-is_full-clause-full
 returns-then-is_full-clause-full g c = λ disk names shows has is.
@@ -33,7 +43,7 @@ returns-in_ok-add_to-in-Some-clause-added g c = λ disk names shows has free.
     let new = edited_block disk c.add_to.new.file c.add_to.new.self in
     let i = c.in-Some.i in
     let add = c.in_ok-add_to-in-Some.ensures in
-    let room = subst (HasRoomFor has.entries c.args.self.now.count c.encoded_len.result) c.in-Some.is ((c.in_ok-survey.ensures.finds disk shows).room has.entries has.holds) in
+    let room = subst (IsFirstRoom has.entries c.args.self.now.count c.encoded_len.result) c.in-Some.is ((c.in_ok-survey.ensures.finds disk shows).room has.entries has.holds) in
     let within : used_by (has.entries i) + length (entry_bytes e) ≤ 4096 = omega (arith, room.1, c.encoded_len.ensures) in
     subst (λ n. HoldNames c.args.inodes n new (with_name e.name (Some e.number) names)) (sym add.many)
     (hold_added c.args.inodes c.args.self.now.count old new names i c.args.self.now.count e has free (record {
@@ -58,3 +68,35 @@ returns-in_ok-add_behind-in-None-clause-added g c = λ disk names shows has free
       past = λ j beyond else. has.past j (omega (arith, beyond));
       gone = λ beyond. absurd (omega (arith, beyond));
     }))
+
+pub returns-in_ok-add_to-in-Some-clause-first : goal.returns-in_ok-add_to-in-Some-clause-first
+returns-in_ok-add_to-in-Some-clause-first g c = λ disk names shows has.
+    let e = named_of c.args.entry.now in
+    let i = c.in-Some.i in
+    let add = c.in_ok-add_to-in-Some.ensures in
+    let room = subst (IsFirstRoom has.entries c.args.self.now.count c.encoded_len.result) c.in-Some.is ((c.in_ok-survey.ensures.finds disk shows).room has.entries has.holds) in
+    let within : used_by (has.entries i) + length (entry_bytes e) ≤ 4096 = omega (arith, room.1, c.encoded_len.ensures) in
+    record {
+      at = i;
+      full = λ j before. omega (arith, room.2 j before, c.encoded_len.ensures);
+      room = within;
+      here = add.here disk (has.entries i) (c.in_ok-survey.ensures.same disk shows) (has.holds i room.0) within;
+      others = λ j else. add.others disk j else;
+      many = omega (arith, add.many, room.0);
+    }
+
+pub returns-in_ok-add_behind-in-None-clause-first : goal.returns-in_ok-add_behind-in-None-clause-first
+returns-in_ok-add_behind-in-None-clause-first g c = λ disk names shows has.
+    let e = named_of c.args.entry.now in
+    let count = c.args.self.now.count in
+    let add = c.in_ok-add_behind-in-None.ensures in
+    let full = subst (IsFirstRoom has.entries count c.encoded_len.result) c.in-None.is ((c.in_ok-survey.ensures.finds disk shows).room has.entries has.holds) in
+    let none : has.entries count ≡ [] = has.past count (omega arith) in
+    record {
+      at = count;
+      full = λ j before. omega (arith, full j before, c.encoded_len.ensures);
+      room = subst (λ es. used_by es + length (entry_bytes e) ≤ 4096) (sym none) (omega (arith, length-entry_bytes e, c.requires.name.short));
+      here = subst (λ es. HoldsEntries c.args.inodes (edited_block disk c.add_behind.new.file c.add_behind.new.self count) (es ++ e ∷ [])) (sym none) (add.here disk);
+      others = λ j else. add.others disk j else;
+      many = omega (arith, add.many);
+    }

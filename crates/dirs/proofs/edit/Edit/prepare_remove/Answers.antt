@@ -3,13 +3,11 @@ use Rattle.std.proofs.lemmas.Bool.{cases_lt}
 use Rattle.std.proofs.lemmas.List.{nil_from_length}
 use Rattle.layout.specs.Directory.{HoldsEntries}
 use Rattle.dirs.specs.Entries.{without}
-use Rattle.dirs.specs.Directory.{HoldNames, with_name}
+use Rattle.layout.specs.DirectoryNames.{HoldNames}
+use Rattle.dirs.specs.Directory.{with_name}
 use Rattle.dirs.specs.Edits.{IsPlaced, IsReached, edited_block}
 use Rattle.dirs.proofs.HoldLaws.{removed_nothing, hold_removed}
 use Rattle.dirs.proofs.edit.Edit.prepare_remove.Goals as goal
-
-pub returns-in_err-place-clause-damaged : goal.returns-in_err-place-clause-damaged
-returns-in_err-place-clause-damaged g c = λ disk names shows is reached has. c.in_err-place.ensures.damaged disk has.entries shows (search rules) reached has.holds
 
 pub returns-in_default-clause-removed : goal.returns-in_default-clause-removed
 returns-in_default-clause-removed g c = λ disk names shows has.
@@ -17,12 +15,12 @@ returns-in_default-clause-removed g c = λ disk names shows has.
     removed_nothing c.args.inodes c.args.self.now.count (edited_block disk c.args.file.now c.args.self.now) names c.args.name.now has placed
 
 pub returns-in_err-self-clause-damaged : goal.returns-in_err-self-clause-damaged
-returns-in_err-self-clause-damaged g c = λ disk names shows is reached has.
+returns-in_err-self-clause-damaged g c = λ disk shows is reached sound.
     let same = c.in_ok-copy.ensures.count ∙ c.in_ok-place.ensures.count in
     let last : c.in-Some.place.block + 1 ≡ c.args.self.now.count = omega arith in
     let before : IsReached (g.B.Blocks.count c.copy.new.blocks) disk c.args.file.now c.in-Some.place.block =
     subst (λ n. IsReached n disk c.args.file.now c.in-Some.place.block) (sym same) (λ i below. reached i (omega (arith, below))) in
-    c.in_err-self.ensures.damaged disk has.entries (c.in_ok-copy.ensures.same disk (c.in_ok-place.ensures.same disk shows)) (search rules) before (λ i below. has.holds i (omega (arith, below)))
+    c.in_err-self.ensures.damaged disk (c.in_ok-copy.ensures.same disk (c.in_ok-place.ensures.same disk shows)) (search rules) before (λ i below. sound i (omega (arith, below)))
 
 pub returns-then-count-eq0-clause-removed : goal.returns-then-count-eq0-clause-removed
 returns-then-count-eq0-clause-removed g c = λ disk names shows has.

@@ -1,7 +1,17 @@
-use Rattle.std.proofs.Common.{◌≡◌, ◌∙◌, inl, inr, ◌-◌, ◌<◌, ℕ, arith, subst, []}
+use Rattle.std.proofs.Common.{rules, sym, ◌≡◌, ◌∙◌, inl, inr, ◌-◌, ◌<◌, ℕ, arith, subst, []}
 use Rattle.std.proofs.lemmas.Bool.{cases_lt}
 use Rattle.std.proofs.lemmas.List.{nil_from_length}
+use Rattle.blocktree.specs.Trees.{IsSoundAt}
 use Rattle.dirs.proofs.edit.Edit.trimmed.Goals as goal
+
+pub returns-in_err-look-clause-damaged : goal.returns-in_err-look-clause-damaged
+returns-in_err-look-clause-damaged g c = λ disk shows is reached sound.
+    let i = c.loop-i.i - 1 in
+    let below : i < c.args.end = omega arith in
+    let so_far = c.loop-i.invariant in
+    let here = subst (λ n. IsSoundAt n disk c.args.file.now.tree i) (sym so_far.count) (reached i below) in
+    let held = sound i below in
+    c.in_err-look.ensures.damaged disk (so_far.same disk shows) (search rules) here held.0 held.1
 
 pub returns-then-look-gt0-clause-empty : goal.returns-then-look-gt0-clause-empty
 returns-then-look-gt0-clause-empty g c = λ disk entries shows holds i from below.

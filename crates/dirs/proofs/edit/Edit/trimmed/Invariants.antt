@@ -1,6 +1,6 @@
 use Rattle.std.proofs.Common.{◌≡◌, ◌<◌, ◌≤◌, ℕ, List, []}
 use Rattle.layout.specs.Directory.{Named}
-use Rattle.dirs.specs.Directory.{AllHold}
+use Rattle.layout.specs.DirectoryNames.{AllHold}
 use Rattle.dirs.specs.Edits.{edited_block}
 use Rattle.dirs.proofs.edit.Edit.trimmed.Given as goal
 

@@ -16,6 +16,10 @@ pub returns-then-size-self-clause-list : goal.returns-then-size-self-clause-list
 returns-then-size-self-clause-list g c = λ disk shows whole.
     list_of_cut (byte_at disk c.args.self.now) _ c.args.self.now.size c.args.size whole (returns-then-size-self-clause-bytes g c disk shows whole)
 
+pub returns-clause-sound : goal.returns-clause-sound
+returns-clause-sound g c = λ disk shows cuts.
+    c.make_room.ensures.same.was_sound (g.B.Blocks.count c.args.blocks.now) disk (c.args.size / 4096) (c.in_ok-block.ensures.sound disk shows)
+
 pub returns-in_err-block-clause-damaged : goal.returns-in_err-block-clause-damaged
 returns-in_err-block-clause-damaged g c = λ disk shows bad sound.
     c.in_err-block.ensures.damaged disk shows (search rules) (c.make_room.ensures.sound (g.B.Blocks.count c.args.blocks.now) disk (c.args.size / 4096) (sound (c.args.size / 4096)))
@@ -24,7 +28,7 @@ pub returns-clause-bytes : goal.returns-clause-bytes
 returns-clause-bytes g c = λ disk shows whole p.
     cut_laid_one (file_block disk c.args.self.now) c.args.size (c.args.size / 4096) (c.args.size % 4096) c.cut.new.self _ refl refl c.if-size-eq0.false (search rules)
     (λ r lt. c.cut.ensures.bytes r ∙ cut_same (slice_index c.in_ok-block.block) (slice_index (file_block disk c.args.self.now (c.args.size / 4096))) (c.args.size % 4096) r
-    (ap (λ (b : List ℕ). slice_index b r) (c.in_ok-block.ensures.bytes disk shows ∙ c.make_room.ensures.same disk (c.args.size / 4096))))
+    (ap (λ (b : List ℕ). slice_index b r) (c.in_ok-block.ensures.bytes disk shows ∙ c.make_room.ensures.same.blocks disk (c.args.size / 4096))))
     p
 
 pub returns-clause-list : goal.returns-clause-list

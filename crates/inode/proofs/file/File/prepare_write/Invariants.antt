@@ -1,7 +1,8 @@
 use Rattle.std.proofs.Common.{◌≡◌, ℕ, ◌+◌, ◌*◌, ◌<◌, List, [], length, slice_index, slice_index_or}
 use Rattle.buffers.specs.Positions.{written}
-use Rattle.blocktree.specs.Trees.{HasRoom, KeepsSound, SameBlocks}
-use Rattle.inode.specs.Files.{byte_at}
+use Rattle.blocktree.specs.Trees.{HasRoom, IsSoundAt}
+use Rattle.inode.specs.Edges.{IsPartlyWritten}
+use Rattle.inode.specs.Files.{byte_at, IsSameFile}
 use Rattle.inode.proofs.file.File.prepare_write.Given as goal
 
 abbrev pub invariant-loop-i : goal.invariant-loop-i
@@ -10,10 +11,10 @@ invariant-loop-i g l = record {
   failed : g.B.Blocks.failed l.blocks ≡ g.B.Blocks.failed l.initial.blocks;
   reads : (start : g.row.B.Denot) → g.B.Blocks.ReadsOn start l.initial.blocks → g.B.Blocks.ReadsOn start l.blocks;
   shows : (disk : ℕ → List ℕ) → g.B.Blocks.Shows l.initial.blocks disk → g.B.Blocks.Shows l.blocks disk;
-  same : SameBlocks l.fn.self.tree l.self.tree;
-  sound : KeepsSound l.fn.self.tree l.self.tree;
-  size : l.self.size ≡ l.fn.self.size;
+  same : IsSameFile l.fn.self l.self;
   count : l.first + length l.pieces.items ≡ l.i;
+  sound : (disk : ℕ → List ℕ) → g.B.Blocks.Shows l.initial.blocks disk → (j : ℕ) → j < length l.pieces.items
+      → IsPartlyWritten l.offset (length l.bytes) (l.first + j) → IsSoundAt (g.B.Blocks.count l.initial.blocks) disk l.fn.self.tree (l.first + j);
   room : (j : ℕ) → j < length l.pieces.items → HasRoom l.self.tree (l.first + j);
   bytes : (disk : ℕ → List ℕ) → g.B.Blocks.Shows l.initial.blocks disk → (j : ℕ) → j < length l.pieces.items → (r : ℕ) → r < 4096 → slice_index (slice_index_or l.pieces.items j []) r ≡ written (byte_at disk l.fn.self) l.offset l.bytes (4096 * (l.first + j) + r);
 }

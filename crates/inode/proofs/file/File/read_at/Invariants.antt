@@ -1,4 +1,5 @@
-use Rattle.std.proofs.Common.{◌≡◌, ℕ, ◌+◌, ◌-◌, ◌<◌, ◌≤◌, List, length, slice_index}
+use Rattle.std.proofs.Common.{◌≡◌, ℕ, ◌+◌, ◌-◌, ◌/◌, ◌<◌, ◌≤◌, List, length, slice_index}
+use Rattle.blocktree.specs.Trees.{IsSoundAt}
 use Rattle.inode.specs.Files.{byte_at}
 use Rattle.inode.proofs.file.File.read_at.Given as goal
 
@@ -13,4 +14,5 @@ invariant-loop-done g l = record {
   reads : (start : g.row.B.Denot) → g.B.Blocks.ReadsOn start l.initial.blocks → g.B.Blocks.ReadsOn start l.blocks;
   shows : (disk : ℕ → List ℕ) → g.B.Blocks.Shows l.initial.blocks disk → g.B.Blocks.Shows l.blocks disk;
   bytes : (disk : ℕ → List ℕ) → g.B.Blocks.Shows l.initial.blocks disk → (k : ℕ) → k < l.done → slice_index l.out k ≡ byte_at disk l.self (l.offset + k);
+  sound : (disk : ℕ → List ℕ) → g.B.Blocks.Shows l.initial.blocks disk → (p : ℕ) → l.offset ≤ p → p < l.offset + l.done → IsSoundAt (g.B.Blocks.count l.initial.blocks) disk l.self.tree (p / 4096);
 }

@@ -1,7 +1,7 @@
 use Rattle.std.proofs.Common.{◌≡◌, ◌∙◌, ap, sym, ℕ}
-use Rattle.buffers.specs.Positions.{cut, first_bytes}
+use Rattle.layout.specs.FileBytes.{EndsAt, first_bytes}
+use Rattle.buffers.specs.Positions.{cut}
 use Rattle.inode.specs.Files.{byte_at}
-use Rattle.inode.specs.Changes.{EndsAt}
 use Rattle.inode.proofs.ComposingLaws.{committed_byte, cut_ends}
 use Rattle.inode.proofs.EdgeLaws.{list_of_cut}
 use Rattle.std.proofs.Common.{subst}
@@ -18,3 +18,6 @@ returns-clause-list g c = λ disk shows whole.
     ap (first_bytes (byte_at disk c.commit.new.self)) (c.commit.ensures.size ∙ c.in_ok-change.ensures.size)
     ∙ list_of_cut (byte_at disk c.args.self.now) (byte_at disk c.commit.new.self) c.args.self.now.size c.args.size whole
     (committed_byte disk c.args.self.now c.prepare_cut.new.self c.commit.new.self c.in_ok-change.change (cut (byte_at disk c.args.self.now) c.args.size) c.in_ok-change.ensures.same c.commit.ensures (c.in_ok-change.ensures.bytes disk shows whole))
+
+pub returns-clause-base : goal.returns-clause-base
+returns-clause-base g c = λ settled was. c.commit.ensures.base settled (c.in_ok-change.ensures.same.base settled was)

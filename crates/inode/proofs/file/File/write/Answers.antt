@@ -14,3 +14,6 @@ pub returns-clause-list : goal.returns-clause-list
 returns-clause-list g c = λ disk shows whole.
     list_of_write (byte_at disk c.args.self.now) (byte_at disk c.commit.new.self) c.args.self.now.size c.commit.new.self.size c.args.offset c.args.bytes.now (c.commit.ensures.size ∙ c.in_ok-change.ensures.size) whole
     (committed_byte disk c.args.self.now c.prepare_write.new.self c.commit.new.self c.in_ok-change.change (written (byte_at disk c.args.self.now) c.args.offset c.args.bytes.now) c.in_ok-change.ensures.same c.commit.ensures (c.in_ok-change.ensures.bytes disk shows whole))
+
+pub returns-clause-base : goal.returns-clause-base
+returns-clause-base g c = λ settled was. c.commit.ensures.base settled (c.in_ok-change.ensures.same.base settled was)

@@ -1,0 +1,155 @@
+//! Adding a name.
+
+ghost use Rattle.std.specs.Prelude.{[], ◌∷◌, ◌++◌, ◌+◌, length, Some, ◌≢◌, OnErr, ◌≤◌, ◌≡◌, ◌<◌, ℕ, List, OnOk, IsErrOf, None};
+ghost use Rattle.layout.specs.Directory.{Named, HoldsEntries, IsEntry, named_of, entry_bytes};
+ghost use Rattle.buffers.specs.Failures.{HasGrown};
+ghost use Rattle.dirs.specs.declared.TheConstants.{MOST_BLOCKS, MOST_NAMES};
+
+use crate::entries::add;
+use crate::survey::survey_of;
+use crate::{AddError, Edit, MOST_BLOCKS, MOST_NAMES};
+use blocktree::ReadError;
+use buffers::Blocks;
+use inode::File;
+use layout::{BLOCK_BYTES, Entry};
+use std::alloc::{AllocError, Global};
+
+impl Edit {
+    ghost use Rattle.blocktree.specs.Trees.{IsSoundAt, KeepsRoom};
+    ghost use Rattle.inode.specs.Files.{IsSameFile};
+    ghost use Rattle.layout.specs.DirectoryNames.{NameMap};
+    ghost use Rattle.dirs.specs.Directory.{HasCount, with_name};
+    ghost use Rattle.dirs.specs.Entries.{used_by};
+    ghost use Rattle.dirs.specs.Edits.{edited_block, HasNames, IsSound, IsReached, FitsIn};
+    ghost use Rattle.dirs.specs.FirstFit.{IsFirstFit};
+
+    /// Prepares that a name is added, which stands nowhere in the directory: in the first block with room for it, else in a
+    /// new last one. DirFull where the directory has as many names as it may have.
+    pub fn prepare_add<B: Blocks>(
+        &mut self,
+        alloc: Global,
+        file: &mut File,
+        blocks: &mut B,
+        inodes: u32,
+        entry: &Entry<'_>,
+    ) -> Result<(), AddError>
+        requires { IsEntry inodes (named_of entry.now) }
+        ensures count { B.count blocks.new ≡ B.count blocks.old }
+        ensures counted { OnOk result (B.failed blocks.new ≡ B.failed blocks.old) }
+        ensures device { IsErrOf result AddError.Device →
+            HasGrown (B.failed blocks.old) (B.failed blocks.new) }
+        ensures reads { (start : B) → B.ReadsOn start blocks.old → B.ReadsOn start blocks.new }
+        ensures same { (disk : ℕ → List ℕ) → B.Shows blocks.old disk → B.Shows blocks.new disk }
+        ensures file { IsSameFile file.old file.new }
+        ensures keeps { KeepsRoom file.old.tree file.new.tree }
+        ensures fits { FitsIn file.old self.old → FitsIn file.new self.new }
+        ensures added { (disk : ℕ → List ℕ) (names : NameMap) → B.Shows blocks.old disk →
+            HasNames inodes disk file.old self.old names → names entry.now.name.now ≡ None →
+            OnOk result (HasNames inodes disk file.new self.new
+            (with_name entry.now.name.now (Some entry.now.number) names)) }
+        ensures first { (disk : ℕ → List ℕ) (names : NameMap) → B.Shows blocks.old disk →
+            (has : HasNames inodes disk file.old self.old names) → OnOk result
+            (IsFirstFit inodes (named_of entry.now) has.entries self.old.count self.new.count
+            (edited_block disk file.old self.old) (edited_block disk file.new self.new)) }
+        ensures sound { (disk : ℕ → List ℕ) → B.Shows blocks.old disk →
+            OnOk result (IsSound inodes disk file.old self.old) }
+        ensures kept { (disk : ℕ → List ℕ) (names : NameMap) →
+            HasNames inodes disk file.old self.old names →
+            OnErr result (HasNames inodes disk file.new self.new names) }
+        ensures room { (disk : ℕ → List ℕ) (names : NameMap) → B.Shows blocks.old disk →
+            HasNames inodes disk file.old self.old names →
+            OnOk result ((n : ℕ) × HasCount names n × (n < MOST_NAMES)) }
+        ensures full { (disk : ℕ → List ℕ) (names : NameMap) → B.Shows blocks.old disk →
+            HasNames inodes disk file.old self.old names →
+            IsErrOf result AddError.DirFull → (n : ℕ) × HasCount names n × (MOST_NAMES ≤ n) }
+        ensures damaged { (disk : ℕ → List ℕ) → B.Shows blocks.old disk →
+            IsErrOf result AddError.Damaged →
+            IsReached (B.count blocks.old) disk file.old self.old.count →
+            IsSound inodes disk file.old self.old → ⊥ }
+    {
+        let survey = survey_of(self, file, blocks, inodes, entry.encoded_len())?;
+        let is_full = survey.names >= MOST_NAMES;
+        if is_full {
+            return Err(AddError::DirFull);
+        }
+        match survey.room {
+            Some(i) => self.add_to(alloc, file, blocks, i, inodes, entry)?,
+            None => self.add_behind(alloc, file, inodes, entry)?,
+        }
+        Ok(())
+    }
+
+    // Prepares an entry more in block `i`, which has room for it.
+    fn add_to<B: Blocks>(
+        &mut self,
+        alloc: Global,
+        file: &mut File,
+        blocks: &mut B,
+        i: u32,
+        inodes: u32,
+        entry: &Entry<'_>,
+    ) -> Result<(), ReadError>
+        requires { IsEntry inodes (named_of entry.now) }
+        ensures count { B.count blocks.new ≡ B.count blocks.old }
+        ensures counted { OnOk result (B.failed blocks.new ≡ B.failed blocks.old) }
+        ensures device { IsErrOf result ReadError.Device →
+            HasGrown (B.failed blocks.old) (B.failed blocks.new) }
+        ensures reads { (start : B) → B.ReadsOn start blocks.old → B.ReadsOn start blocks.new }
+        ensures same { (disk : ℕ → List ℕ) → B.Shows blocks.old disk → B.Shows blocks.new disk }
+        ensures file { IsSameFile file.old file.new }
+        ensures keeps { KeepsRoom file.old.tree file.new.tree }
+        ensures fits { FitsIn file.old self.old → FitsIn file.new self.new }
+        ensures many { self.new.count ≡ self.old.count }
+        ensures others { (disk : ℕ → List ℕ) (j : ℕ) → (j ≢ i) →
+            edited_block disk file.new self.new j ≡ edited_block disk file.old self.old j }
+        ensures here { (disk : ℕ → List ℕ) (entries : List Named) → B.Shows blocks.old disk →
+            HoldsEntries inodes (edited_block disk file.old self.old i) entries →
+            used_by entries + length (entry_bytes (named_of entry.now)) ≤ 4096 →
+            OnOk result (HoldsEntries inodes (edited_block disk file.new self.new i)
+            (entries ++ named_of entry.now ∷ [])) }
+        ensures err { (disk : ℕ → List ℕ) (j : ℕ) →
+            OnErr result
+            (edited_block disk file.new self.new j ≡ edited_block disk file.old self.old j) }
+        ensures damaged { (disk : ℕ → List ℕ) → B.Shows blocks.old disk →
+            IsErrOf result ReadError.Damaged →
+            IsSoundAt (B.count blocks.old) disk file.old.tree i → ⊥ }
+    {
+        let mut bytes = [0; BLOCK_BYTES];
+        self.copy(file, blocks, i, &mut bytes)?;
+        add(&mut bytes, inodes, entry);
+        self.put(alloc, file, i, &bytes)?;
+        Ok(())
+    }
+
+    // Prepares a new last block with this entry.
+    #[tactic(auto, unfolding(layout::specs::Bytes::zeros))]
+    fn add_behind(
+        &mut self,
+        alloc: Global,
+        file: &mut File,
+        inodes: u32,
+        entry: &Entry<'_>,
+    ) -> Result<(), AllocError>
+        requires entry { IsEntry inodes (named_of entry.now) }
+        requires room { self.old.count < MOST_BLOCKS }
+        ensures file { IsSameFile file.old file.new }
+        ensures keeps { KeepsRoom file.old.tree file.new.tree }
+        ensures fits { FitsIn file.old self.old → FitsIn file.new self.new }
+        ensures many { OnOk result (self.new.count ≡ self.old.count + 1) }
+        ensures as_many { OnErr result (self.new.count ≡ self.old.count) }
+        ensures others { (disk : ℕ → List ℕ) (j : ℕ) → (j ≢ self.old.count) →
+            edited_block disk file.new self.new j ≡ edited_block disk file.old self.old j }
+        ensures here { (disk : ℕ → List ℕ) →
+            OnOk result (HoldsEntries inodes (edited_block disk file.new self.new self.old.count)
+            (named_of entry.now ∷ [])) }
+        ensures err { (disk : ℕ → List ℕ) (j : ℕ) →
+            OnErr result
+            (edited_block disk file.new self.new j ≡ edited_block disk file.old self.old j) }
+    {
+        let mut bytes = [0; BLOCK_BYTES];
+        add(&mut bytes, inodes, entry);
+        self.put(alloc, file, self.count, &bytes)?;
+        self.count += 1;
+        Ok(())
+    }
+}

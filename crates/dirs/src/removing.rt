@@ -1,0 +1,100 @@
+//! Taking names away.
+
+ghost use Rattle.std.specs.Prelude.{[], OnErr, ◌≤◌, ◌≡◌, ◌<◌, ℕ, List, Option, IfOk, OnOk, IsErrOf, None};
+ghost use Rattle.layout.specs.Directory.{Named};
+ghost use Rattle.buffers.specs.Failures.{HasGrown};
+
+use crate::Edit;
+use crate::entries::{count, remove};
+use blocktree::ReadError;
+use buffers::Blocks;
+use inode::File;
+use layout::BLOCK_BYTES;
+use std::alloc::Global;
+
+impl Edit {
+    ghost use Rattle.blocktree.specs.Trees.{KeepsRoom};
+    ghost use Rattle.inode.specs.Files.{IsSameFile};
+    ghost use Rattle.layout.specs.DirectoryNames.{NameMap, AllHold};
+    ghost use Rattle.dirs.specs.Directory.{AreDirectoryBlocks, with_name};
+    ghost use Rattle.dirs.specs.Edits.{edited_block, HasNames, IsSound, IsReached, IsFirst, FitsIn};
+
+    // How many blocks are left where the empty ones right before block `end` are cut away.
+    fn trimmed<B: Blocks>(
+        &self,
+        file: &File,
+        blocks: &mut B,
+        inodes: u32,
+        end: u32,
+    ) -> Result<u32, ReadError>
+        ensures count { B.count blocks.new ≡ B.count blocks.old }
+        ensures counted { OnOk result (B.failed blocks.new ≡ B.failed blocks.old) }
+        ensures device { IsErrOf result ReadError.Device →
+            HasGrown (B.failed blocks.old) (B.failed blocks.new) }
+        ensures reads { (start : B) → B.ReadsOn start blocks.old → B.ReadsOn start blocks.new }
+        ensures same { (disk : ℕ → List ℕ) → B.Shows blocks.old disk → B.Shows blocks.new disk }
+        ensures within { IfOk result (λ count. count ≤ end) }
+        ensures empty { (disk : ℕ → List ℕ) (entries : ℕ → List Named) → B.Shows blocks.old disk →
+            AllHold inodes end (edited_block disk file.now self.now) entries →
+            IfOk result (λ count. (i : ℕ) → count ≤ i → i < end → entries i ≡ []) }
+        ensures damaged { (disk : ℕ → List ℕ) → B.Shows blocks.old disk →
+            IsErrOf result ReadError.Damaged →
+            IsReached (B.count blocks.old) disk file.now end →
+            AreDirectoryBlocks inodes end (edited_block disk file.now self.now) → ⊥ }
+    {
+        for i in (0..end).rev() {
+            let look = self.look(file, blocks, i, inodes, b"")?;
+            if look.names > 0 {
+                return Ok(i + 1);
+            }
+        }
+        Ok(0)
+    }
+
+    /// Prepares that a name is taken away: its block is closed up, and empty blocks at the directory's end are cut away.
+    /// Nothing happens where the name doesn't stand.
+    pub fn prepare_remove<B: Blocks>(
+        &mut self,
+        alloc: Global,
+        file: &mut File,
+        blocks: &mut B,
+        inodes: u32,
+        name: &[u8],
+    ) -> Result<(), ReadError>
+        ensures count { B.count blocks.new ≡ B.count blocks.old }
+        ensures counted { OnOk result (B.failed blocks.new ≡ B.failed blocks.old) }
+        ensures device { IsErrOf result ReadError.Device →
+            HasGrown (B.failed blocks.old) (B.failed blocks.new) }
+        ensures reads { (start : B) → B.ReadsOn start blocks.old → B.ReadsOn start blocks.new }
+        ensures same { (disk : ℕ → List ℕ) → B.Shows blocks.old disk → B.Shows blocks.new disk }
+        ensures file { IsSameFile file.old file.new }
+        ensures keeps { KeepsRoom file.old.tree file.new.tree }
+        ensures fits { FitsIn file.old self.old → FitsIn file.new self.new }
+        ensures removed { (disk : ℕ → List ℕ) (names : NameMap) → B.Shows blocks.old disk →
+            HasNames inodes disk file.old self.old names →
+            OnOk result (HasNames inodes disk file.new self.new (with_name name.now None names)) }
+        ensures sound { (disk : ℕ → List ℕ) → B.Shows blocks.old disk → OnOk result
+            ((number : Option ℕ) × IsFirst inodes (edited_block disk file.old self.old)
+            self.old.count name.now number) }
+        ensures kept { (disk : ℕ → List ℕ) (names : NameMap) →
+            HasNames inodes disk file.old self.old names →
+            OnErr result (HasNames inodes disk file.new self.new names) }
+        ensures damaged { (disk : ℕ → List ℕ) → B.Shows blocks.old disk →
+            IsErrOf result ReadError.Damaged →
+            IsReached (B.count blocks.old) disk file.old self.old.count →
+            IsSound inodes disk file.old self.old → ⊥ }
+    {
+        let Some(place) = self.locate(file, blocks, inodes, name)? else {
+            return Ok(());
+        };
+        let mut bytes = [0; BLOCK_BYTES];
+        self.copy(file, blocks, place.block, &mut bytes)?;
+        remove(&mut bytes, inodes, name);
+        if place.block + 1 == self.count && count(&bytes, inodes) == 0 {
+            self.count = self.trimmed(file, blocks, inodes, place.block)?;
+            return Ok(());
+        }
+        self.put(alloc, file, place.block, &bytes)?;
+        Ok(())
+    }
+}

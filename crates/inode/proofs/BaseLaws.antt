@@ -1,0 +1,34 @@
+-- What a tree is based on, and files that stay the same.
+use Rattle.std.proofs.Common.{◌∙◌, refl}
+use Rattle.blocktree.specs.Trees.{SameSettled}
+use Rattle.blocktree.specs.declared.tree.BlockTree.{BlockTree}
+use Rattle.inode.specs.Bases.{anew, over, KeepsBase}
+use Rattle.inode.specs.Files.{IsSameFile}
+use Rattle.inode.specs.declared.file.File.{File}
+
+-- changes of blocks leave it
+pub same_base : (old new : BlockTree) → SameSettled old new → KeepsBase old new
+same_base old new same settled (anew none) = anew (same.count ∙ none)
+same_base old new same settled (over pointers body has) = over pointers body (record {
+  pointers_are = same.pointers ∙ has.pointers_are;
+  depth = same.depth ∙ has.depth;
+  count = same.count ∙ has.count;
+})
+
+pub same_itself : (f : File) → IsSameFile f f
+same_itself f = record {
+  size = refl;
+  blocks = λ disk i. refl;
+  base = λ settled was. was;
+  sound = λ blocks disk i was. was;
+  was_sound = λ blocks disk i is. is;
+}
+
+pub still_same : (a b c : File) → IsSameFile a b → IsSameFile b c → IsSameFile a c
+still_same a b c first then = record {
+  size = then.size ∙ first.size;
+  blocks = λ disk i. then.blocks disk i ∙ first.blocks disk i;
+  base = λ settled was. then.base settled (first.base settled was);
+  sound = λ blocks disk i was. then.sound blocks disk i (first.sound blocks disk i was);
+  was_sound = λ blocks disk i is. first.was_sound blocks disk i (then.was_sound blocks disk i is);
+}

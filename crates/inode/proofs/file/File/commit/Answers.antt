@@ -1,0 +1,18 @@
+use Rattle.std.proofs.Common.{◌∙◌, ap, refl, ℕ, ltb, if◌then◌else◌}
+use Rattle.layout.specs.Bytes.{zeros}
+use Rattle.blocktree.specs.Places.{block_count}
+use Rattle.blocktree.specs.Trees.{tree_block}
+use Rattle.inode.proofs.BaseLaws.{same_base}
+use Rattle.inode.proofs.ComposingLaws.{committed_blocks}
+use Rattle.inode.proofs.file.File.commit.Goals as goal
+
+pub returns : goal.returns
+returns c = record {
+  size = refl;
+  blocks = λ disk. committed_blocks (tree_block disk c.args.self.now.tree) (tree_block disk c.trim.new.self) (tree_block disk c.install.new.self) (block_count c.args.change.size) c.args.change.first c.args.change.pieces.items
+      c.args.change.fits.1
+      (λ j. c.trim.ensures.blocks disk j ∙ ap (λ (n : ℕ). if ltb j n then tree_block disk c.args.self.now.tree j else zeros 4096) c.block_count-count.ensures)
+      (c.install.ensures.blocks disk);
+  base = λ settled was. same_base _ _ c.install.ensures.settled settled (same_base _ _ c.trim.ensures.settled settled was);
+  sound = λ blocks disk i was. c.install.ensures.sound blocks disk i (c.trim.ensures.sound blocks disk i was);
+}

@@ -1,0 +1,5 @@
+use Rattle.inode.proofs.BaseLaws.{same_base}
+use Rattle.inode.proofs.file.File.set_block.Goals as goal
+
+pub returns-clause-base : goal.returns-clause-base
+returns-clause-base c = same_base _ _ c.set.ensures.settled

@@ -1,0 +1,29 @@
+-- The tree of a file over the inode that is settled.
+use Rattle.std.specs.Prelude.{ℕ, ◌≡◌, List}
+use Rattle.layout.specs.declared.inode.Body.{Body}
+use Rattle.layout.specs.declared.inode.Body.TheVariants.{Inline, Pointers}
+use Rattle.layout.specs.declared.inode.Inode.{Inode}
+use Rattle.layout.specs.declared.pointer.Pointer.{Pointer}
+use Rattle.blocktree.specs.Places.{block_count, depth_of}
+use Rattle.blocktree.specs.declared.tree.BlockTree.{BlockTree}
+
+-- the tree has the pointers of a settled file of this size, and counts blocks of it
+pub record HasPointers (pointers : List Pointer) (size : ℕ) (t : BlockTree) : Type 0 where
+  pub pointers_are : t.pointers ≡ pointers
+  pub depth : t.depth ≡ depth_of size
+  pub count : t.count ≡ block_count size
+
+-- the tree as it is after loading: all settled blocks count, and of an inline body there are none
+abbrev pub StartsFrom : Body → ℕ → BlockTree → Type 0
+StartsFrom (Inline bytes) size t = t.count ≡ 0
+StartsFrom (Pointers pointers) size t = HasPointers pointers size t × (t.kept ≡ t.count)
+
+-- The settled blocks of a tree are those that this inode names, or it has none.
+pub data IsBased (settled : Inode) (t : BlockTree) : Type 0 where
+  anew : (none : t.count ≡ 0) → IsBased settled t
+  over : (pointers : List Pointer) → (body : settled.body ≡ Pointers pointers)
+      → (has : HasPointers pointers settled.size t) → IsBased settled t
+
+-- what was based on an inode is so still
+abbrev pub KeepsBase : BlockTree → BlockTree → Type 0
+KeepsBase old new = (settled : Inode) → IsBased settled old → IsBased settled new

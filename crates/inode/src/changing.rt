@@ -1,0 +1,323 @@
+//! Changes of a file.
+
+ghost use Rattle.std.specs.Prelude.{◌≡◌, ◌≢◌, ℕ, ◌+◌, ◌*◌, ◌<◌, ◌≤◌, ◌/◌, List, length, slice_index, OnOk, OnErr, IsErrOf, IfOk, max};
+ghost use Rattle.layout.specs.Version.{greatest_size};
+ghost use Rattle.buffers.specs.Failures.{HasGrown};
+ghost use Rattle.buffers.specs.Positions.{written, cut};
+ghost use Rattle.blocktree.specs.Places.{block_count};
+
+use crate::{Change, ChangeError, File};
+use blocktree::ReadError;
+use buffers::{Block, Blocks};
+use layout::{VERSION, greatest_size};
+use std::alloc::{AllocError, Global};
+
+/// How many blocks hold so many bytes.
+fn block_count(size: u64) -> u32
+    requires { size ≤ greatest_size VERSION }
+    ensures { result ≡ block_count size }
+{
+    size.div_ceil(4096) as u32
+}
+
+impl File {
+    ghost use Rattle.std.specs.Prelude.{if◌then◌else◌, ◌==◌, nat_lt};
+    ghost use Rattle.layout.specs.Bytes.{zeros};
+    ghost use Rattle.blocktree.specs.Trees.{HasRoom, KeepsRoom, IsSoundAt, KeepsSound, SameSettled};
+    ghost use Rattle.inode.specs.Bases.{KeepsBase};
+    ghost use Rattle.inode.specs.Edges.{filled, written_list, IsPartlyWritten, CutsBlock};
+    ghost use Rattle.inode.specs.Files.{file_block, byte_at, byte_with, bytes_of, bytes_with, IsFile, IsSameFile, Fits, IsCommitted};
+
+    /// Makes room for a change of block `i`. Nothing changes by it.
+    pub fn make_room(&mut self, i: u32) -> Result<(), AllocError>
+        ensures same { IsSameFile self.old self.new }
+        ensures room { OnOk result (HasRoom self.new.tree i) }
+        ensures keeps { KeepsRoom self.old.tree self.new.tree }
+        ensures sound { KeepsSound self.old.tree self.new.tree }
+    {
+        self.tree.make_room(i)
+    }
+
+    /// Changes block `i`, for which there is room.
+    pub fn set_block(&mut self, i: u32, block: Block)
+        requires { HasRoom self.old.tree i }
+        ensures size { self.new.size ≡ self.old.size }
+        ensures blocks { (disk : ℕ → List ℕ) (j : ℕ)
+            → file_block disk self.new j ≡ (if j == i then block else file_block disk self.old j) }
+        ensures keeps { KeepsRoom self.old.tree self.new.tree }
+        ensures base { KeepsBase self.old.tree self.new.tree }
+        ensures sound { KeepsSound self.old.tree self.new.tree }
+    {
+        self.tree.set(i, block);
+    }
+
+    /// Makes the file of this size. Blocks past it are cut off; within the last one nothing is cleared.
+    pub fn set_size(&mut self, size: u64)
+        requires { size ≤ greatest_size VERSION }
+        ensures size { self.new.size ≡ size }
+        ensures blocks { (disk : ℕ → List ℕ) (j : ℕ)
+            → file_block disk self.new j
+            ≡ (if nat_lt j (block_count size) then file_block disk self.old j else zeros 4096) }
+        ensures keeps { (j : ℕ) → j < block_count size → HasRoom self.old.tree j
+            → HasRoom self.new.tree j }
+        ensures base { KeepsBase self.old.tree self.new.tree }
+        ensures sound { KeepsSound self.old.tree self.new.tree }
+        ensures settled { SameSettled self.old.tree self.new.tree }
+    {
+        self.tree.trim(block_count(size));
+        self.size = size;
+    }
+
+    /// Prepares a write of at least one byte: nothing changes before the commit.
+    pub fn prepare_write<B: Blocks>(
+        &mut self,
+        alloc: Global,
+        blocks: &mut B,
+        offset: u64,
+        bytes: &[u8],
+    ) -> Result<Change, ChangeError>
+        requires { 0 < length bytes.now }
+        ensures count { B.count blocks.new ≡ B.count blocks.old }
+        ensures counted { OnOk result (B.failed blocks.new ≡ B.failed blocks.old) }
+        ensures device { IsErrOf result ChangeError.Device
+            → HasGrown (B.failed blocks.old) (B.failed blocks.new) }
+        ensures reads { (start : B) → B.ReadsOn start blocks.old → B.ReadsOn start blocks.new }
+        ensures shown { (disk : ℕ → List ℕ) → B.Shows blocks.old disk → B.Shows blocks.new disk }
+        ensures same { IsSameFile self.old self.new }
+        ensures within { OnOk result (offset + length bytes.now ≤ greatest_size VERSION) }
+        ensures too_big { IsErrOf result ChangeError.TooBig
+            → greatest_size VERSION < offset + length bytes.now }
+        ensures sound { (disk : ℕ → List ℕ) → B.Shows blocks.old disk → OnOk result
+            ((i : ℕ) → IsPartlyWritten offset (length bytes.now) i
+            → IsSoundAt (B.count blocks.old) disk self.old.tree i) }
+        ensures damaged { (disk : ℕ → List ℕ) → B.Shows blocks.old disk
+            → IsErrOf result ChangeError.Damaged
+            → ((i : ℕ) → IsSoundAt (B.count blocks.old) disk self.old.tree i) → ⊥ }
+        ensures size { IfOk result (λ w. w.size ≡ max self.old.size (offset + length bytes.now)) }
+        ensures fits { IfOk result (λ w. Fits self.new.tree w) }
+        ensures bytes { (disk : ℕ → List ℕ) → B.Shows blocks.old disk → IsFile disk self.old
+            → IfOk result (λ w. (p : ℕ)
+            → byte_with disk self.old w p ≡ written (byte_at disk self.old) offset bytes.now p) }
+        ensures list { (disk : ℕ → List ℕ) → B.Shows blocks.old disk → IsFile disk self.old
+            → IfOk result
+            (λ w. bytes_with disk self.old w
+            ≡ written_list (bytes_of disk self.old) offset bytes.now) }
+    {
+        if offset > greatest_size(VERSION) || bytes.len() as u64 > greatest_size(VERSION) - offset {
+            return Err(ChangeError::TooBig);
+        }
+        let end = offset + bytes.len() as u64;
+        let first = (offset / 4096) as u32;
+        let mut pieces = Vec::new(alloc);
+        for i in first..block_count(end) {
+            let block = self.new_block(alloc, blocks, i, offset, bytes)?;
+            pieces.push(block)?;
+        }
+        Ok(Change {
+            size: self.size.max(end),
+            first,
+            pieces,
+        })
+    }
+
+    /// Block `i` with those bytes of a write that fall into it, and room for it. Nothing changes by it.
+    fn new_block<B: Blocks>(
+        &mut self,
+        alloc: Global,
+        blocks: &mut B,
+        i: u32,
+        offset: u64,
+        bytes: &[u8],
+    ) -> Result<Block, ReadError>
+        requires end { offset + length bytes.now ≤ greatest_size VERSION }
+        requires above { 4096 * i < offset + length bytes.now }
+        requires below { offset < 4096 * i + 4096 }
+        ensures count { B.count blocks.new ≡ B.count blocks.old }
+        ensures counted { OnOk result (B.failed blocks.new ≡ B.failed blocks.old) }
+        ensures device { IsErrOf result ReadError.Device
+            → HasGrown (B.failed blocks.old) (B.failed blocks.new) }
+        ensures reads { (start : B) → B.ReadsOn start blocks.old → B.ReadsOn start blocks.new }
+        ensures same { (disk : ℕ → List ℕ) → B.Shows blocks.old disk → B.Shows blocks.new disk }
+        ensures read { (disk : ℕ → List ℕ) → B.Shows blocks.old disk → OnOk result
+            (IsPartlyWritten offset (length bytes.now) i
+            → IsSoundAt (B.count blocks.old) disk self.old.tree i) }
+        ensures damaged { (disk : ℕ → List ℕ) → B.Shows blocks.old disk
+            → IsErrOf result ReadError.Damaged
+            → IsSoundAt (B.count blocks.old) disk self.old.tree i → ⊥ }
+        ensures unchanged { IsSameFile self.old self.new }
+        ensures room { OnOk result (HasRoom self.new.tree i) }
+        ensures keeps { KeepsRoom self.old.tree self.new.tree }
+        ensures sound { KeepsSound self.old.tree self.new.tree }
+        ensures bytes { (disk : ℕ → List ℕ) → B.Shows blocks.old disk
+            → IfOk result (λ b. (r : ℕ) → r < 4096
+            → slice_index b r ≡ written (byte_at disk self.old) offset bytes.now (4096 * i + r)) }
+    {
+        let start = 4096 * u64::from(i);
+        let from = offset.max(start);
+        let to = (offset + bytes.len() as u64).min(start + 4096);
+        self.make_room(i)?;
+        let mut block = self.block_to_write(alloc, blocks, i, to - from)?;
+        block.put(
+            (from - start) as usize,
+            &bytes[(from - offset) as usize..(to - offset) as usize],
+        );
+        Ok(block)
+    }
+
+    /// Block `i` for a write of so many bytes of it: nothing is read where that is all of it.
+    fn block_to_write<B: Blocks>(
+        &self,
+        alloc: Global,
+        blocks: &mut B,
+        i: u32,
+        bytes: u64,
+    ) -> Result<Block, ReadError>
+        ensures count { B.count blocks.new ≡ B.count blocks.old }
+        ensures counted { OnOk result (B.failed blocks.new ≡ B.failed blocks.old) }
+        ensures device { IsErrOf result ReadError.Device
+            → HasGrown (B.failed blocks.old) (B.failed blocks.new) }
+        ensures reads { (start : B) → B.ReadsOn start blocks.old → B.ReadsOn start blocks.new }
+        ensures shown { (disk : ℕ → List ℕ) → B.Shows blocks.old disk → B.Shows blocks.new disk }
+        ensures sound { (disk : ℕ → List ℕ) → B.Shows blocks.old disk
+            → OnOk result (bytes ≢ 4096 → IsSoundAt (B.count blocks.old) disk self.now.tree i) }
+        ensures damaged { (disk : ℕ → List ℕ) → B.Shows blocks.old disk
+            → IsErrOf result ReadError.Damaged
+            → IsSoundAt (B.count blocks.old) disk self.now.tree i → ⊥ }
+        ensures bytes { (disk : ℕ → List ℕ) → B.Shows blocks.old disk
+            → IfOk result (λ b. bytes ≢ 4096 → b ≡ file_block disk self.now i) }
+    {
+        if bytes == 4096 {
+            let block = Block::zeroed(alloc)?;
+            return Ok(block);
+        }
+        self.copy(alloc, blocks, i)
+    }
+
+    /// Prepares a new size: nothing changes before the commit. Bytes past a smaller one are gone, and those up to a greater
+    /// one are zeros.
+    pub fn prepare_cut<B: Blocks>(
+        &mut self,
+        alloc: Global,
+        blocks: &mut B,
+        size: u64,
+    ) -> Result<Change, ChangeError>
+        ensures count { B.count blocks.new ≡ B.count blocks.old }
+        ensures counted { OnOk result (B.failed blocks.new ≡ B.failed blocks.old) }
+        ensures device { IsErrOf result ChangeError.Device
+            → HasGrown (B.failed blocks.old) (B.failed blocks.new) }
+        ensures reads { (start : B) → B.ReadsOn start blocks.old → B.ReadsOn start blocks.new }
+        ensures shown { (disk : ℕ → List ℕ) → B.Shows blocks.old disk → B.Shows blocks.new disk }
+        ensures same { IsSameFile self.old self.new }
+        ensures within { OnOk result (size ≤ greatest_size VERSION) }
+        ensures too_big { IsErrOf result ChangeError.TooBig → greatest_size VERSION < size }
+        ensures sound { (disk : ℕ → List ℕ) → B.Shows blocks.old disk → OnOk result
+            (CutsBlock self.old.size size
+            → IsSoundAt (B.count blocks.old) disk self.old.tree (size / 4096)) }
+        ensures damaged { (disk : ℕ → List ℕ) → B.Shows blocks.old disk
+            → IsErrOf result ChangeError.Damaged
+            → ((i : ℕ) → IsSoundAt (B.count blocks.old) disk self.old.tree i) → ⊥ }
+        ensures size { IfOk result (λ w. w.size ≡ size) }
+        ensures fits { IfOk result (λ w. Fits self.new.tree w) }
+        ensures bytes { (disk : ℕ → List ℕ) → B.Shows blocks.old disk → IsFile disk self.old
+            → IfOk result (λ w. (p : ℕ)
+            → byte_with disk self.old w p ≡ cut (byte_at disk self.old) size p) }
+        ensures list { (disk : ℕ → List ℕ) → B.Shows blocks.old disk → IsFile disk self.old
+            → IfOk result (λ w. bytes_with disk self.old w ≡ filled size (bytes_of disk self.old)) }
+    {
+        if size > greatest_size(VERSION) {
+            return Err(ChangeError::TooBig);
+        }
+        let first = (size / 4096) as u32;
+        let mut pieces = Vec::new(alloc);
+        if size >= self.size || size % 4096 == 0 {
+            return Ok(Change {
+                size,
+                first,
+                pieces,
+            });
+        }
+        self.make_room(first)?;
+        let mut block = self.tree.copy(alloc, blocks, first)?;
+        block.cut((size % 4096) as usize);
+        pieces.push(block)?;
+        Ok(Change {
+            size,
+            first,
+            pieces,
+        })
+    }
+
+    /// Puts a prepared change in force.
+    pub fn commit(&mut self, change: Change)
+        requires { Fits self.old.tree change }
+        ensures { IsCommitted self.old change self.new }
+    {
+        let Change {
+            size,
+            first,
+            pieces,
+        } = change;
+        let count = block_count(size);
+        self.tree.trim(count);
+        self.tree.install(first, pieces);
+        self.size = size;
+    }
+
+    /// Writes at least one byte at an offset.
+    pub fn write<B: Blocks>(
+        &mut self,
+        alloc: Global,
+        blocks: &mut B,
+        offset: u64,
+        bytes: &[u8],
+    ) -> Result<(), ChangeError>
+        requires { 0 < length bytes.now }
+        ensures count { B.count blocks.new ≡ B.count blocks.old }
+        ensures counted { OnOk result (B.failed blocks.new ≡ B.failed blocks.old) }
+        ensures device { IsErrOf result ChangeError.Device
+            → HasGrown (B.failed blocks.old) (B.failed blocks.new) }
+        ensures reads { (start : B) → B.ReadsOn start blocks.old → B.ReadsOn start blocks.new }
+        ensures shown { (disk : ℕ → List ℕ) → B.Shows blocks.old disk → B.Shows blocks.new disk }
+        ensures too_big { IsErrOf result ChangeError.TooBig
+            → greatest_size VERSION < offset + length bytes.now }
+        ensures refused { OnErr result (IsSameFile self.old self.new) }
+        ensures base { KeepsBase self.old.tree self.new.tree }
+        ensures sound { KeepsSound self.old.tree self.new.tree }
+        ensures file { (disk : ℕ → List ℕ) → B.Shows blocks.old disk → IsFile disk self.old
+            → OnOk result (IsFile disk self.new) }
+        ensures list { (disk : ℕ → List ℕ) → B.Shows blocks.old disk → IsFile disk self.old
+            → OnOk result
+            (bytes_of disk self.new ≡ written_list (bytes_of disk self.old) offset bytes.now) }
+    {
+        let change = self.prepare_write(alloc, blocks, offset, bytes)?;
+        self.commit(change);
+        Ok(())
+    }
+
+    /// Makes the file of this size: it is cut, or filled up with zeros.
+    pub fn resize<B: Blocks>(
+        &mut self,
+        alloc: Global,
+        blocks: &mut B,
+        size: u64,
+    ) -> Result<(), ChangeError>
+        ensures count { B.count blocks.new ≡ B.count blocks.old }
+        ensures counted { OnOk result (B.failed blocks.new ≡ B.failed blocks.old) }
+        ensures device { IsErrOf result ChangeError.Device
+            → HasGrown (B.failed blocks.old) (B.failed blocks.new) }
+        ensures reads { (start : B) → B.ReadsOn start blocks.old → B.ReadsOn start blocks.new }
+        ensures shown { (disk : ℕ → List ℕ) → B.Shows blocks.old disk → B.Shows blocks.new disk }
+        ensures too_big { IsErrOf result ChangeError.TooBig → greatest_size VERSION < size }
+        ensures refused { OnErr result (IsSameFile self.old self.new) }
+        ensures base { KeepsBase self.old.tree self.new.tree }
+        ensures sound { KeepsSound self.old.tree self.new.tree }
+        ensures file { (disk : ℕ → List ℕ) → B.Shows blocks.old disk → IsFile disk self.old
+            → OnOk result (IsFile disk self.new) }
+        ensures list { (disk : ℕ → List ℕ) → B.Shows blocks.old disk → IsFile disk self.old
+            → OnOk result (bytes_of disk self.new ≡ filled size (bytes_of disk self.old)) }
+    {
+        let change = self.prepare_cut(alloc, blocks, size)?;
+        self.commit(change);
+        Ok(())
+    }
+}

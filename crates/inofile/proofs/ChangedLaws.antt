@@ -1,0 +1,50 @@
+-- The numbers that are changed.
+use Rattle.std.proofs.Common.{◌≡◌, ◌↔◌, ℕ, zero, suc, ◌<◌, List, [], ◌∷◌, length, get_or, refl, sym, ap, subst, ◌∙◌, arith, Bool, true, false, cond, Option, Some, None, IsSome}
+use Rattle.std.specs.Prelude.{Contains}
+use Rattle.std.specs.List.{filter}
+use Rattle.std.specs.Ordering.{nat_cmp}
+use Rattle.std.specs.BTreeMap as tree
+use Rattle.std.specs.BTreeMap.{BTreeMap}
+use Rattle.std.proofs.lemmas.Cmp.{nat_cmp_total}
+use Rattle.std.proofs.lemmas.Bool.{false≢true}
+use Rattle.std.proofs.lemmas.List.Elements.{All-contains, filter_passes, Contains-append_right}
+use Rattle.std.proofs.lemmas.Map.Lookups.{exact_unsigned}
+use Rattle.std.proofs.lemmas.Map.Views.{btree_map_contains_key_iff}
+use Rattle.inofile.specs.Inodes.{is_changed_slot, IsChangedSlot}
+use Rattle.inofile.specs.declared.inode_file.Slot.{Slot}
+use Rattle.inofile.specs.declared.inode_file.Slot.TheVariants.{AsSettled, Loaded, Changed}
+
+module _ (p : ℕ → Bool) (y : ℕ) (yes : p y ≡ true) where
+  keep_rest : (x : ℕ) (b : Bool) (xs : List ℕ) → Contains xs y → Contains (cond b (x ∷ xs) xs) y
+  keep_rest x true xs is = Contains-append_right (x ∷ []) xs y is
+  keep_rest x false xs is = is
+
+  pub kept : (xs : List ℕ) → Contains xs y → Contains (filter p xs) y
+  kept [] (k, lt, is) = absurd (omega (arith, lt))
+  kept (x ∷ xs) (zero, lt, is) =
+      subst (λ b. Contains (cond b (x ∷ filter p xs) (filter p xs)) y) (sym (ap p is ∙ yes)) (zero, omega arith, is)
+  kept (x ∷ xs) (suc k, lt, is) = keep_rest x (p x) (filter p xs) (kept xs (k, omega (arith, lt), is))
+
+changed_is : (slot : Option Slot) → is_changed_slot slot ≡ true → IsChangedSlot slot
+changed_is (Some AsSettled) is = absurd (false≢true is)
+changed_is (Some (Loaded object)) is = absurd (false≢true is)
+changed_is (Some (Changed object)) is = tt
+changed_is None is = absurd (false≢true is)
+
+is_changed : (slot : Option Slot) → IsChangedSlot slot → is_changed_slot slot ≡ true
+is_changed (Some AsSettled) is = absurd is
+is_changed (Some (Loaded object)) is = absurd is
+is_changed (Some (Changed object)) is = refl
+is_changed None is = absurd is
+
+some_changed : (slot : Option Slot) → IsChangedSlot slot → IsSome slot
+some_changed (Some slot) is = refl
+some_changed None is = absurd is
+
+pub changed_members : (m : BTreeMap ℕ Slot) (n : ℕ) → Contains (filter (λ k. is_changed_slot (tree.get nat_cmp m k)) (tree.keys m)) n ↔ IsChangedSlot (tree.get nat_cmp m n)
+changed_members m n =
+    let p : ℕ → Bool = λ k. is_changed_slot (tree.get nat_cmp m k) in (
+      (λ there. changed_is (tree.get nat_cmp m n) (All-contains (λ x. p x ≡ true) (filter p (tree.keys m)) n (filter_passes p (tree.keys m)) there)),
+      (λ changed. kept p n (is_changed (tree.get nat_cmp m n) changed) (tree.keys m)
+          ((btree_map_contains_key_iff nat_cmp_total exact_unsigned m n).0 (some_changed (tree.get nat_cmp m n) changed))),
+    )

@@ -1,0 +1,120 @@
+-- The files of all numbers, in memory and settled.
+use Rattle.std.proofs.Common.{◌≡◌, ◌⊎◌, ℕ, zero, suc, ◌<◌, ◌≤◌, List, refl, sym, ap, subst, ◌∙◌, arith, inl, inr, Option, Some, None}
+use Rattle.std.specs.Ordering.{nat_cmp}
+use Rattle.std.specs.BTreeMap.{BTreeMap, get, IsEmpty, is_at}
+use Rattle.std.specs.Map.{lookup}
+use Rattle.std.proofs.lemmas.Bool.{cases_lt}
+use Rattle.layout.specs.Inode.{IsInode}
+use Rattle.layout.specs.Limits.{Sizes}
+use Rattle.layout.specs.declared.inode.Inode.{Inode}
+use Rattle.layout.specs.declared.kind.Kind.{Kind}
+use Rattle.layout.specs.declared.kind.Kind.TheVariants as kinds
+use Rattle.layout.specs.declared.version.TheConstants.{VERSION}
+use Rattle.model.specs.Volumes.{Node, Volume}
+use Rattle.images.specs.Contents.{Content, StandsAs, HoldsVolume}
+use Rattle.images.specs.Nodes.{held}
+use Rattle.images.specs.Roots.{free_inode}
+use Rattle.images.specs.Soundness.{FitsNumber}
+use Rattle.inode.specs.declared.file.File.{File}
+use Rattle.inode.specs.declared.object.Object.{Object}
+use Rattle.inofile.specs.Inodes.{or_free, slot_content, files_of, IsChangedSlot}
+use Rattle.inofile.specs.Objects.{StandsFor, IsAsSettled, IsObjectOrNone}
+use Rattle.inofile.specs.Settled.{AreSettled, content_of, held_content, unless_free, settled_content}
+use Rattle.inofile.specs.Volumes.{SlotStandsFor, IsVolumeOf, HasNoOwn}
+use Rattle.inofile.specs.declared.inode_file.InodeFile.{InodeFile}
+use Rattle.inofile.specs.declared.inode_file.Slot.{Slot}
+use Rattle.inofile.specs.declared.inode_file.Slot.TheVariants.{AsSettled, Loaded, Changed}
+use Rattle.inofile.proofs.ObjectLaws.{free_is, free_content, held_inode, unless}
+
+free_or_not : (k : Kind) → (k ≡ kinds.Free) ⊎ (k ≡ kinds.Free → ⊥)
+free_or_not kinds.Free = inl refl
+free_or_not kinds.File = inr (λ e. (cc))
+free_or_not kinds.Directory = inr (λ e. (cc))
+free_or_not kinds.Link = inr (λ e. (cc))
+free_or_not kinds.InodeFile = inr (λ e. (cc))
+free_or_not kinds.InodeMap = inr (λ e. (cc))
+free_or_not kinds.BlockMap = inr (λ e. (cc))
+
+settled_file : (disk : ℕ → List ℕ) (s : Sizes) (i : Inode) → IsInode VERSION s i → or_free disk (settled_content disk i) ≡ held_content disk i
+settled_file disk s i is = elim (free_or_not i.kind) [
+  | inl free ↦ ap (or_free disk) (free_content disk i free) ∙ ap (held_content disk) (sym (free_is s i is free))
+  | inr used ↦ ap (or_free disk) (unless i.kind (held_content disk i) used)
+]
+
+none_stands : (disk : ℕ → List ℕ) (inodes : ℕ) (found : Option Node) → found ≡ None → StandsFor inodes (held_content disk free_inode) found
+unfolding held
+none_stands disk inodes found none = none
+
+object_stands : (disk : ℕ → List ℕ) (inodes : ℕ) (settled : Inode) (object : Option Object) (below : Option Content) (found : Option Node) → IsObjectOrNone disk inodes settled object found
+    → StandsFor inodes (or_free disk (slot_content disk (Some (Changed object)) below)) found
+object_stands disk inodes settled (Some o) below found is = is.stands
+object_stands disk inodes settled None below found is = none_stands disk inodes found is
+
+slot_stands : (disk : ℕ → List ℕ) (s : Sizes) (inodes : ℕ) (settled : Inode) (slot : Option Slot) (found : Option Node) → IsInode VERSION s settled
+    → SlotStandsFor disk inodes settled slot found → StandsFor inodes (or_free disk (slot_content disk slot (settled_content disk settled))) found
+slot_stands disk s inodes settled (Some AsSettled) found is stands = subst (λ (c : Content). StandsFor inodes c found) (sym (settled_file disk s settled is)) stands
+slot_stands disk s inodes settled (Some (Loaded object)) found is stands = object_stands disk inodes settled object (settled_content disk settled) found stands.1
+slot_stands disk s inodes settled (Some (Changed object)) found is stands = object_stands disk inodes settled object (settled_content disk settled) found stands
+slot_stands disk s inodes settled None found is stands = subst (λ (c : Content). StandsFor inodes c found) (sym (settled_file disk s settled is)) stands
+
+loaded_file : (disk : ℕ → List ℕ) (settled : Inode) (object : Option Object) (below : Option Content) → IsAsSettled disk settled object
+    → or_free disk (slot_content disk (Some (Loaded object)) below) ≡ held_content disk settled
+loaded_file disk settled (Some o) below is = is
+loaded_file disk settled None below is = ap (held_content disk) (sym is)
+
+slot_file : (disk : ℕ → List ℕ) (s : Sizes) (inodes : ℕ) (settled : Inode) (slot : Option Slot) (found : Option Node) → IsInode VERSION s settled → (IsChangedSlot slot → ⊥)
+    → SlotStandsFor disk inodes settled slot found → or_free disk (slot_content disk slot (settled_content disk settled)) ≡ held_content disk settled
+slot_file disk s inodes settled (Some AsSettled) found is not stands = settled_file disk s settled is
+slot_file disk s inodes settled (Some (Loaded object)) found is not stands = loaded_file disk settled object (settled_content disk settled) stands.0
+slot_file disk s inodes settled (Some (Changed object)) found is not stands = absurd (not tt)
+slot_file disk s inodes settled None found is not stands = settled_file disk s settled is
+
+module _ (count : ℕ) (disk : ℕ → List ℕ) (settled : ℕ → Inode) (s : InodeFile) (v : Volume) (is : IsVolumeOf count disk settled s v) where
+  is_inode : (n : ℕ) → IsInode VERSION s.geometry (settled n)
+  is_inode n = held_inode s.geometry disk (settled n) (is.inodes.sound n)
+
+  pub files_hold : HoldsVolume s.geometry.inodes (files_of disk settled s) v
+  files_hold n = slot_stands disk s.geometry s.geometry.inodes (settled n) (get nat_cmp s.slots n) (v n) (is_inode n) (is.objects n)
+
+  pub files_unchanged : (n : ℕ) → (IsChangedSlot (get nat_cmp s.slots n) → ⊥) → files_of disk settled s n ≡ held_content disk (settled n)
+  files_unchanged n not = slot_file disk s.geometry s.geometry.inodes (settled n) (get nat_cmp s.slots n) (v n) (is_inode n) not (is.objects n)
+
+-- ---- the file system's own numbers
+
+own_kind : (n : ℕ) (k : Kind) (inodes : ℕ) (c : Content) (found : Option Node) → n < 3 → FitsNumber n k → StandsAs k inodes c found → found ≡ None
+own_kind zero k inodes c found lt is stands = subst (λ (x : Kind). StandsAs x inodes c found) is stands
+own_kind (suc zero) k inodes c found lt is stands = subst (λ (x : Kind). StandsAs x inodes c found) is stands
+own_kind (suc (suc zero)) k inodes c found lt is stands = subst (λ (x : Kind). StandsAs x inodes c found) is stands
+own_kind (suc (suc (suc n))) k inodes c found lt is stands = absurd (omega arith)
+
+kind_own : (n : ℕ) (k : Kind) (inodes : ℕ) (c : Content) (found : Option Node) → n < 3 → FitsNumber n k → found ≡ None → StandsAs k inodes c found
+kind_own zero k inodes c found lt is none = subst (λ (x : Kind). StandsAs x inodes c found) (sym is) none
+kind_own (suc zero) k inodes c found lt is none = subst (λ (x : Kind). StandsAs x inodes c found) (sym is) none
+kind_own (suc (suc zero)) k inodes c found lt is none = subst (λ (x : Kind). StandsAs x inodes c found) (sym is) none
+kind_own (suc (suc (suc n))) k inodes c found lt is none = absurd (omega arith)
+
+pub holds_no_own : (disk : ℕ → List ℕ) (inodes : ℕ) (settled : ℕ → Inode) (v : Volume) → ((n : ℕ) → FitsNumber n (settled n).kind)
+    → HoldsVolume inodes (λ n. held_content disk (settled n)) v → HasNoOwn v
+unfolding held
+holds_no_own disk inodes settled v fits holds n lt = own_kind n (settled n).kind inodes (held_content disk (settled n)) (v n) lt (fits n) (holds n)
+
+own_stands : (disk : ℕ → List ℕ) (inodes n : ℕ) (settled : Inode) (found : Option Node) → n < 3 → FitsNumber n settled.kind → found ≡ None → StandsFor inodes (held_content disk settled) found
+unfolding held
+own_stands disk inodes n settled found lt fits none = kind_own n settled.kind inodes (held_content disk settled) found lt fits none
+
+-- ---- all settled
+
+pub none_in : (m : BTreeMap ℕ Slot) → IsEmpty m → (n : ℕ) → get nat_cmp m n ≡ None
+none_in m empty n = ap (λ es. lookup (is_at (nat_cmp n)) es) empty
+
+-- nothing is in memory, and the settled inodes hold the volume
+pub held_stand : (disk : ℕ → List ℕ) (inodes : ℕ) (settled : ℕ → Inode) (m : BTreeMap ℕ Slot) (v : Volume) → IsEmpty m → HoldsVolume inodes (λ n. held_content disk (settled n)) v
+    → (n : ℕ) → SlotStandsFor disk inodes (settled n) (get nat_cmp m n) (v n)
+held_stand disk inodes settled m v empty holds n = subst (λ (x : Option Slot). SlotStandsFor disk inodes (settled n) x (v n)) (sym (none_in m empty n)) (holds n)
+
+pub settled_hold : (disk : ℕ → List ℕ) (inodes : ℕ) (next : ℕ → Inode) (files : ℕ → Content) (v : Volume) → ((n : ℕ) → FitsNumber n (next n).kind) → HasNoOwn v
+    → HoldsVolume inodes files v → ((n : ℕ) → 3 ≤ n → held_content disk (next n) ≡ files n) → HoldsVolume inodes (λ n. held_content disk (next n)) v
+settled_hold disk inodes next files v fits own holds same n = elim (cases_lt n 3) [
+  | inl lt ↦ own_stands disk inodes n (next n) (v n) lt (fits n) (own n lt)
+  | inr ge ↦ subst (λ (c : Content). StandsFor inodes c (v n)) (sym (same n (omega arith))) (holds n)
+]

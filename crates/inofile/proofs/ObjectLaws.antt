@@ -1,0 +1,140 @@
+-- Objects that are loaded, or put in place of others.
+use Rattle.std.proofs.Common.{◌≡◌, ◌↔◌, ℕ, ◌-◌, ◌<◌, List, length, drop, refl, sym, ap, subst, ◌∙◌, arith, Option, Some, None, IsSome, is_some, IsTrue, Bool, true, false}
+use Rattle.layout.specs.Bytes.{zeros}
+use Rattle.layout.specs.FileBytes.{byte_in, EndsAt}
+use Rattle.layout.specs.Inode.{IsInode, FitsKind, FitsBody}
+use Rattle.layout.specs.Limits.{Sizes}
+use Rattle.layout.specs.declared.inode.Body.{Body}
+use Rattle.layout.specs.declared.inode.Body.TheVariants.{Inline, Pointers}
+use Rattle.layout.specs.declared.inode.Inode.{Inode}
+use Rattle.layout.specs.declared.kind.Kind.{Kind}
+use Rattle.layout.specs.declared.kind.Kind.TheVariants as kinds
+use Rattle.layout.specs.declared.version.TheConstants.{VERSION}
+use Rattle.model.specs.Volumes.{Node}
+use Rattle.images.specs.Contents.{Content, StandsAs}
+use Rattle.images.specs.Nodes.{held}
+use Rattle.images.specs.Roots.{free_inode}
+use Rattle.images.specs.Soundness.{IsOrdinary, IsSoundFile}
+use Rattle.inode.specs.Bases.{IsBased}
+use Rattle.inode.specs.Files.{file_block, byte_at, IsAsHeld, IsFile, IsSameFile}
+use Rattle.inode.specs.declared.file.File.{File}
+use Rattle.inode.specs.declared.object.Attributes.{Attributes}
+use Rattle.inode.specs.declared.object.Object.{Object}
+use Rattle.inofile.specs.Objects.{StandsFor, IsObjectKind, IsObject, IsObjectOrNone, IsAsSettled, IsSameObject, IsSameOrNone}
+use Rattle.inofile.specs.Settled.{content_of, held_content, unless_free, settled_content}
+use Rattle.std.specs.Option.{option_map}
+use Rattle.std.proofs.lemmas.Bool.{false≢true}
+use Rattle.std.proofs.Math.Path.{fun_ext}
+
+-- ---- free inodes
+
+free_body : (body : Body) (blocks size : ℕ) → size ≡ 0 → FitsBody body blocks size → body ≡ Inline (zeros 128)
+free_body (Inline bytes) blocks size none fits =
+    ap Inline (subst (λ (n : ℕ). drop n bytes ≡ zeros (128 - n)) none fits.2)
+free_body (Pointers pointers) blocks size none fits = absurd (omega (arith, none, fits.0))
+
+pub free_is : (s : Sizes) (i : Inode) → IsInode VERSION s i → i.kind ≡ kinds.Free → i ≡ free_inode
+free_is s i is free =
+    let fits = subst (λ (k : Kind). FitsKind k s i.mode i.links i.size) free is.kind in
+    let body = free_body i.body s.blocks i.size fits.2 is.body in
+    λ j. record { kind = free j; mode = fits.0 j; links = fits.1 j; size = fits.2 j; body = body j }
+
+pub held_inode : (s : Sizes) (disk : ℕ → List ℕ) (i : Inode) → IsSoundFile s (held disk i) → IsInode VERSION s i
+unfolding held
+held_inode s disk i sound = sound.inode
+
+pub free_stands : (disk : ℕ → List ℕ) (inodes : ℕ) (i : Inode) (found : Option Node) → i.kind ≡ kinds.Free → StandsFor inodes (held_content disk i) found → found ≡ None
+unfolding held
+free_stands disk inodes i found free stands = subst (λ (k : Kind). StandsAs k inodes (held_content disk i) found) free stands
+
+pub free_content : (disk : ℕ → List ℕ) (i : Inode) → i.kind ≡ kinds.Free → settled_content disk i ≡ None
+free_content disk i free = ap (λ (k : Kind). unless_free k (held_content disk i)) free
+
+-- ---- objects that are loaded
+
+pub unless : (k : Kind) (c : Content) → (k ≡ kinds.Free → ⊥) → unless_free k c ≡ Some c
+unless kinds.Free c used = absurd (used refl)
+unless kinds.File c used = refl
+unless kinds.Directory c used = refl
+unless kinds.Link c used = refl
+unless kinds.InodeFile c used = refl
+unless kinds.InodeMap c used = refl
+unless kinds.BlockMap c used = refl
+
+object_kind : (k : Kind) → (k ≡ kinds.Free → ⊥) → IsOrdinary k → IsObjectKind k
+object_kind kinds.Free used is = absurd (used refl)
+object_kind kinds.File used is = tt
+object_kind kinds.Directory used is = tt
+object_kind kinds.Link used is = tt
+object_kind kinds.InodeFile used is = is
+object_kind kinds.InodeMap used is = is
+object_kind kinds.BlockMap used is = is
+
+-- an object that was loaded from an inode
+pub record IsLoaded (i : Inode) (o : Object) : Type 0 where
+  pub attributes : o.attributes ≡ record { kind = i.kind; mode = i.mode; links = i.links }
+  pub size : o.file.size ≡ i.size
+  pub base : IsBased i o.file.tree
+  pub used : i.kind ≡ kinds.Free → ⊥
+
+pub loaded_content : (disk : ℕ → List ℕ) (i : Inode) (o : Object) → IsLoaded i o → IsAsHeld disk i o.file → content_of disk o ≡ held_content disk i
+unfolding held
+loaded_content disk i o is same =
+    λ j. record { kind = (is.attributes j).kind; mode = (is.attributes j).mode; links = (is.attributes j).links; size = is.size j; block = λ n. same n j }
+
+pub loaded_settled : (disk : ℕ → List ℕ) (i : Inode) (o : Object) → IsLoaded i o → IsAsHeld disk i o.file → Some (content_of disk o) ≡ settled_content disk i
+loaded_settled disk i o is same = ap Some (loaded_content disk i o is same) ∙ sym (unless i.kind (held_content disk i) is.used)
+
+pub loaded_object : (disk : ℕ → List ℕ) (inodes : ℕ) (i : Inode) (o : Object) (found : Option Node) → IsLoaded i o → IsAsHeld disk i o.file → IsFile disk o.file
+    → IsOrdinary i.kind → StandsFor inodes (held_content disk i) found → IsObject disk inodes i o found
+loaded_object disk inodes i o found is same ends ordinary stands = record {
+  kind = subst (λ (a : Attributes). IsObjectKind a.kind) (sym is.attributes) (object_kind i.kind is.used ordinary);
+  stands = subst (λ (c : Content). StandsFor inodes c found) (sym (loaded_content disk i o is same)) stands;
+  ends = ends;
+  base = is.base;
+}
+
+-- ---- objects in place of others
+
+pub same_content : (disk : ℕ → List ℕ) (old new : Object) → IsSameObject old new → content_of disk new ≡ content_of disk old
+same_content disk old new same =
+    λ j. record { kind = (same.attributes j).kind; mode = (same.attributes j).mode; links = (same.attributes j).links; size = same.file.size j; block = λ n. same.file.blocks disk n j }
+
+same_ends : (disk : ℕ → List ℕ) (old new : File) → IsSameFile old new → IsFile disk old → IsFile disk new
+same_ends disk old new same ends =
+    let blocks : file_block disk old ≡ file_block disk new = fun_ext (λ n. sym (same.blocks disk n)) in
+    subst (λ (n : ℕ). EndsAt n (byte_in (file_block disk new))) (sym same.size)
+    (subst (λ (f : ℕ → List ℕ). EndsAt old.size (byte_in f)) blocks ends)
+
+pub same_object : (disk : ℕ → List ℕ) (inodes : ℕ) (settled : Inode) (was now : Option Object) (found : Option Node) → IsSameOrNone was now
+    → IsObjectOrNone disk inodes settled was found → IsObjectOrNone disk inodes settled now found
+same_object disk inodes settled None None found same is = is
+same_object disk inodes settled None (Some o) found same is = absurd same
+same_object disk inodes settled (Some o) None found same is = absurd same
+same_object disk inodes settled (Some old) (Some new) found same is = record {
+  kind = subst (λ (a : Attributes). IsObjectKind a.kind) (sym same.attributes) is.kind;
+  stands = subst (λ (c : Content). StandsFor inodes c found) (sym (same_content disk old new same)) is.stands;
+  ends = same_ends disk old.file new.file same.file is.ends;
+  base = same.file.base settled is.base;
+}
+
+pub same_settled : (disk : ℕ → List ℕ) (settled : Inode) (was now : Option Object) → IsSameOrNone was now → IsAsSettled disk settled was → IsAsSettled disk settled now
+same_settled disk settled None None same is = is
+same_settled disk settled None (Some o) same is = absurd same
+same_settled disk settled (Some o) None same is = absurd same
+same_settled disk settled (Some old) (Some new) same is = same_content disk old new same ∙ is
+
+-- an object is some object of the volume
+kind_some : (k : Kind) (inodes : ℕ) (c : Content) (found : Option Node) → IsObjectKind k → StandsAs k inodes c found → IsSome found
+kind_some kinds.Free inodes c found is stands = absurd is
+kind_some kinds.File inodes c found is stands = subst IsSome (sym stands) refl
+kind_some kinds.Directory inodes c found is stands = subst IsSome (sym stands.2) refl
+kind_some kinds.Link inodes c found is stands = subst IsSome (sym stands) refl
+kind_some kinds.InodeFile inodes c found is stands = absurd is
+kind_some kinds.InodeMap inodes c found is stands = absurd is
+kind_some kinds.BlockMap inodes c found is stands = absurd is
+
+pub object_some : (disk : ℕ → List ℕ) (inodes : ℕ) (settled : Inode) (object : Option Object) (found : Option Node) → IsObjectOrNone disk inodes settled object found
+    → IsTrue (is_some object) ↔ IsSome found
+object_some disk inodes settled (Some o) found is = ((λ yes. kind_some o.attributes.kind inodes (content_of disk o) found is.kind is.stands), (λ some. refl))
+object_some disk inodes settled None found is = ((λ yes. absurd (false≢true yes)), (λ some. absurd (false≢true (subst IsSome is some))))

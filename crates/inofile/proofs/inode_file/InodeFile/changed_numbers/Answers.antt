@@ -1,0 +1,19 @@
+use Rattle.std.proofs.Common.{ℕ, List, sym, subst, ◌↔◌, Contains}
+use Rattle.std.specs.Ordering.{nat_cmp}
+use Rattle.std.specs.List.{filter}
+use Rattle.std.specs.List.Sorted.{IsStrictlyIncreasing}
+use Rattle.std.specs.BTreeMap as tree
+use Rattle.std.proofs.lemmas.List.Kept.{IsStrictlySortedBy-filter}
+use Rattle.std.proofs.lemmas.Map.Keys.{IsStrictlyIncreasing-from_sorted}
+use Rattle.inofile.specs.Inodes.{is_changed_slot, IsChanged}
+use Rattle.inofile.proofs.ChangedLaws.{changed_members}
+use Rattle.inofile.proofs.inode_file.InodeFile.changed_numbers.Goals as goal
+
+pub returns-clause-sorted : goal.returns-clause-sorted
+returns-clause-sorted c =
+    subst IsStrictlyIncreasing (sym c.in_ok-numbers.ensures.keys)
+    (IsStrictlyIncreasing-from_sorted _ (IsStrictlySortedBy-filter nat_cmp (λ n. is_changed_slot (tree.get nat_cmp c.args.self.now.slots n)) (tree.keys c.args.self.now.slots) c.in_ok-numbers.ensures.ordered))
+
+pub returns-clause-members : goal.returns-clause-members
+returns-clause-members c = λ n.
+    subst (λ (xs : List ℕ). Contains xs n ↔ IsChanged c.args.self.now n) (sym c.in_ok-numbers.ensures.keys) (changed_members c.args.self.now.slots n)

@@ -1,0 +1,30 @@
+use Rattle.std.proofs.Common.{sym}
+use Rattle.inofile.proofs.ObjectLaws.{IsLoaded, free_is, free_stands, free_content, held_inode, loaded_content, loaded_settled, loaded_object}
+use Rattle.inofile.proofs.inode_file.load_object.Goals as goal
+
+pub returns-in-Free-clause-content : goal.returns-in-Free-clause-content
+returns-in-Free-clause-content c = λ s disk sound. sym (free_content disk c.args.inode c.in-Free.is)
+
+pub returns-in-Free-clause-as_settled : goal.returns-in-Free-clause-as_settled
+returns-in-Free-clause-as_settled c = λ s disk sound. free_is s c.args.inode (held_inode s disk c.args.inode sound) c.in-Free.is
+
+pub returns-in-Free-clause-stands : goal.returns-in-Free-clause-stands
+returns-in-Free-clause-stands c = λ s disk inodes found sound ordinary stands. free_stands disk inodes c.args.inode found c.in-Free.is stands
+
+loaded : (c : goal.In_ok-object-in_default) → IsLoaded c.args.inode c.in_ok-object-in_default.object
+loaded c = record {
+  attributes = c.in_ok-object-in_default.ensures.attributes;
+  size = c.in_ok-object-in_default.ensures.size;
+  base = c.in_ok-object-in_default.ensures.base;
+  used = c.in_default.not-Free;
+}
+
+pub returns-in_ok-object-in_default-clause-content : goal.returns-in_ok-object-in_default-clause-content
+returns-in_ok-object-in_default-clause-content c = λ s disk sound. loaded_settled disk c.args.inode c.in_ok-object-in_default.object (loaded c) (c.in_ok-object-in_default.ensures.held s disk sound)
+
+pub returns-in_ok-object-in_default-clause-as_settled : goal.returns-in_ok-object-in_default-clause-as_settled
+returns-in_ok-object-in_default-clause-as_settled c = λ s disk sound. loaded_content disk c.args.inode c.in_ok-object-in_default.object (loaded c) (c.in_ok-object-in_default.ensures.held s disk sound)
+
+pub returns-in_ok-object-in_default-clause-stands : goal.returns-in_ok-object-in_default-clause-stands
+returns-in_ok-object-in_default-clause-stands c = λ s disk inodes found sound ordinary stands.
+    loaded_object disk inodes c.args.inode c.in_ok-object-in_default.object found (loaded c) (c.in_ok-object-in_default.ensures.held s disk sound) (c.in_ok-object-in_default.ensures.ends s disk sound) ordinary stands

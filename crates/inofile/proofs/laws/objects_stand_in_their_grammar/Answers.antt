@@ -1,0 +1,8 @@
+use Rattle.std.proofs.Common.{ℕ, subst}
+use Rattle.blocktree.specs.Trees.{IsSoundAt}
+use Rattle.inofile.proofs.laws.objects_stand_in_their_grammar.Goals as goal
+
+pub returns : goal.returns
+returns c = λ count disk settled s v n i o found is object.
+    subst (λ (b : ℕ). IsSoundAt b disk o.file.tree i) is.inodes.count
+    (c.based_trees_are_sound.ensures.at s.geometry disk (settled n) o.file.tree i (is.inodes.sound n) object.base)

@@ -1,0 +1,55 @@
+-- Objects in memory, and those of a volume that they stand for.
+use Rattle.std.specs.Prelude.{ℕ, ◌≡◌, List, Option, Some, None}
+use Rattle.layout.specs.declared.inode.Inode.{Inode}
+use Rattle.layout.specs.declared.kind.Kind.{Kind}
+use Rattle.layout.specs.declared.kind.Kind.TheVariants as kinds
+use Rattle.model.specs.Volumes.{Node}
+use Rattle.images.specs.Contents.{Content, StandsAs}
+use Rattle.images.specs.Roots.{free_inode}
+use Rattle.inode.specs.Bases.{IsBased}
+use Rattle.inode.specs.Files.{IsFile, IsSameFile}
+use Rattle.inode.specs.declared.object.Object.{Object}
+use Rattle.inofile.specs.Settled.{content_of, held_content}
+
+-- a content stands for this object of a volume of so many inodes, or for none
+abbrev pub StandsFor : ℕ → Content → Option Node → Type 0
+StandsFor inodes content found = StandsAs content.kind inodes content found
+
+-- kinds of the objects of a volume
+abbrev pub IsObjectKind : Kind → Type 0
+IsObjectKind kinds.Free = ⊥
+IsObjectKind kinds.File = Unit {0}
+IsObjectKind kinds.Directory = Unit {0}
+IsObjectKind kinds.Link = Unit {0}
+IsObjectKind kinds.InodeFile = ⊥
+IsObjectKind kinds.InodeMap = ⊥
+IsObjectKind kinds.BlockMap = ⊥
+
+-- An object in memory stands for this one of a volume. It ends at its size, and its tree is based on the inode that is settled
+-- under its number.
+pub record IsObject (disk : ℕ → List ℕ) (inodes : ℕ) (settled : Inode) (o : Object) (found : Option Node) : Type 0 where
+  pub kind : IsObjectKind o.attributes.kind
+  pub stands : StandsFor inodes (content_of disk o) found
+  pub ends : IsFile disk o.file
+  pub base : IsBased settled o.file.tree
+
+-- an object, or none, stands for this one, or none
+abbrev pub IsObjectOrNone : (ℕ → List ℕ) → ℕ → Inode → Option Object → Option Node → Type 0
+IsObjectOrNone disk inodes settled (Some o) found = IsObject disk inodes settled o found
+IsObjectOrNone disk inodes settled None found = found ≡ None
+
+-- what was loaded is as it is settled
+abbrev pub IsAsSettled : (ℕ → List ℕ) → Inode → Option Object → Type 0
+IsAsSettled disk settled (Some o) = content_of disk o ≡ held_content disk settled
+IsAsSettled disk settled None = settled ≡ free_inode
+
+-- the same object, whatever the disk
+pub record IsSameObject (old new : Object) : Type 0 where
+  pub attributes : new.attributes ≡ old.attributes
+  pub file : IsSameFile old.file new.file
+
+abbrev pub IsSameOrNone : Option Object → Option Object → Type 0
+IsSameOrNone (Some old) (Some new) = IsSameObject old new
+IsSameOrNone (Some old) None = ⊥
+IsSameOrNone None (Some new) = ⊥
+IsSameOrNone None None = Unit {0}

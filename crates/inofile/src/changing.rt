@@ -1,0 +1,181 @@
+//! Changes of the map from numbers to objects.
+
+ghost use Rattle.std.specs.Prelude.{◌≡◌, ◌≢◌, ◌==◌, ◌≤◌, ◌<◌, ◌↔◌, ℕ, List, Option, Some, None, OnOk, IfOk, IfSome, IfNone, IsSome, Contains, if◌then◌else◌};
+ghost use Rattle.std.specs.Option.{option_map};
+ghost use Rattle.std.specs.Ordering.{nat_cmp};
+ghost use Rattle.std.specs.BTreeMap as tree;
+ghost use Rattle.layout.specs.declared.inode.Inode.{Inode};
+ghost use Rattle.layout.specs.declared.numbers.TheConstants.{FIRST_NUMBER, ROOT_NUMBER};
+ghost use Rattle.model.specs.Volumes.{Node, Volume, with_node};
+ghost use Rattle.inode.specs.declared.object.Object.{Object};
+ghost use Rattle.inofile.specs.Objects.{IsObject, IsObjectOrNone, IsSameOrNone};
+ghost use Rattle.inofile.specs.Settled.{AreSettled, content_of, held_content, settled_content};
+
+use crate::laws::memory_holds_its_volume;
+use crate::{InodeFile, Slot};
+use inode::{File, Object};
+use std::alloc::{AllocError, Global};
+
+impl InodeFile {
+    ghost use Rattle.inofile.specs.Inodes.{files_of, object_at, SameObjects, IsKnown, HasRoomFor, IsChanged};
+    ghost use Rattle.inofile.specs.Volumes.{IsVolumeOf, IsVolumeWithout, slot_with};
+
+    /// Makes room for a change of the object with a number. No object changes by it.
+    pub fn prepare_set(&mut self, number: u32) -> Result<(), AllocError>
+        ensures geometry { self.new.geometry ≡ self.old.geometry }
+        ensures file { self.new.file ≡ self.old.file }
+        ensures map { self.new.numbers ≡ self.old.numbers }
+        ensures room { OnOk result (HasRoomFor self.new number) }
+        ensures stays { (n : ℕ) → IsKnown self.old n → IsKnown self.new n }
+        ensures keeps { (n : ℕ) → HasRoomFor self.old n → HasRoomFor self.new n }
+        ensures changed { (n : ℕ) → IsChanged self.new n ↔ IsChanged self.old n }
+        ensures same { (disk : ℕ → List ℕ) (settled : ℕ → Inode)
+            → SameObjects disk settled self.old self.new }
+        ensures volume { (count : ℕ) (disk : ℕ → List ℕ) (settled : ℕ → Inode) (v : Volume)
+            → IsVolumeOf count disk settled self.old v → IsVolumeOf count disk settled self.new v }
+    {
+        if self.slots.contains_key(&number) {
+            return Ok(());
+        }
+        match self.slots.insert(number, Slot::AsSettled) {
+            Ok(_) => Ok(()),
+            Err(_) => Err(AllocError),
+        }
+    }
+
+    /// Gives a number this object, or none; there is room for it.
+    pub fn commit_set(&mut self, number: u32, object: Option<Object>)
+        requires room { HasRoomFor self.old number }
+        requires low { ROOT_NUMBER ≤ number }
+        requires high { number < self.old.geometry.inodes }
+        ensures geometry { self.new.geometry ≡ self.old.geometry }
+        ensures file { self.new.file ≡ self.old.file }
+        ensures stays { (n : ℕ) → IsKnown self.old n → IsKnown self.new n }
+        ensures keeps { (n : ℕ) → HasRoomFor self.old n → HasRoomFor self.new n }
+        ensures set { (disk : ℕ → List ℕ) (settled : ℕ → Inode) (n : ℕ)
+            → object_at disk settled self.new n
+            ≡ (if n == number then option_map (content_of disk) object
+            else object_at disk settled self.old n) }
+        ensures volume { (count : ℕ) (disk : ℕ → List ℕ) (settled : ℕ → Inode) (v : Volume)
+            (node : Option Node) → IsVolumeOf count disk settled self.old v
+            → IsObjectOrNone disk self.old.geometry.inodes (settled number) object node
+            → IsVolumeOf count disk settled self.new (with_node number node v) }
+        ensures back { (was : Option Object) (count : ℕ) (disk : ℕ → List ℕ) (settled : ℕ → Inode)
+            (v : Volume) (node : Option Node)
+            → IsVolumeWithout number was count disk settled self.old v
+            → IsObjectOrNone disk self.old.geometry.inodes (settled number) object node
+            → IsVolumeOf count disk settled self.new (with_node number node v) }
+        ensures changed { IsChanged self.new number }
+        ensures others { (n : ℕ) → (n ≢ number) → (IsChanged self.new n ↔ IsChanged self.old n) }
+    {
+        self.numbers.note(number, object.is_some());
+        let _ = self.slots.insert(number, Slot::Changed(object));
+    }
+
+    /// Takes an object out, to be prepared or changed, until it is put back or set. Till then its number has none.
+    pub fn take(&mut self, number: u32) -> Option<Object>
+        requires { IsKnown self.old number }
+        ensures geometry { self.new.geometry ≡ self.old.geometry }
+        ensures file { self.new.file ≡ self.old.file }
+        ensures map { self.new.numbers ≡ self.old.numbers }
+        ensures stays { (n : ℕ) → IsKnown self.old n → IsKnown self.new n }
+        ensures keeps { (n : ℕ) → HasRoomFor self.old n → HasRoomFor self.new n }
+        ensures taken { (disk : ℕ → List ℕ) (settled : ℕ → Inode)
+            → option_map (content_of disk) result ≡ object_at disk settled self.old number }
+        ensures others { (disk : ℕ → List ℕ) (settled : ℕ → Inode) (n : ℕ) → (n ≢ number)
+            → object_at disk settled self.new n ≡ object_at disk settled self.old n }
+        ensures changed { (n : ℕ) → IsChanged self.new n ↔ IsChanged self.old n }
+        ensures stands { (count : ℕ) (disk : ℕ → List ℕ) (settled : ℕ → Inode) (v : Volume)
+            → IsVolumeOf count disk settled self.old v → IfSome result (λ o.
+            IsObject disk self.old.geometry.inodes (settled number) o (v number)) }
+        ensures stands_for_none { (count : ℕ) (disk : ℕ → List ℕ) (settled : ℕ → Inode) (v : Volume)
+            → IsVolumeOf count disk settled self.old v → IfNone result (v number ≡ None) }
+        ensures without { (count : ℕ) (disk : ℕ → List ℕ) (settled : ℕ → Inode) (v : Volume)
+            → IsVolumeOf count disk settled self.old v
+            → IsVolumeWithout number result count disk settled self.new v }
+    {
+        match self.slots.insert(number, Slot::Loaded(None)) {
+            Ok(Some(Slot::Loaded(object))) => object,
+            Ok(Some(Slot::Changed(object))) => {
+                let _ = self.slots.insert(number, Slot::Changed(None));
+                object
+            }
+            _ => None,
+        }
+    }
+
+    /// Puts an object back that was taken out.
+    pub fn put_back(&mut self, number: u32, object: Option<Object>)
+        requires { IsKnown self.old number }
+        ensures geometry { self.new.geometry ≡ self.old.geometry }
+        ensures file { self.new.file ≡ self.old.file }
+        ensures map { self.new.numbers ≡ self.old.numbers }
+        ensures stays { (n : ℕ) → IsKnown self.old n → IsKnown self.new n }
+        ensures keeps { (n : ℕ) → HasRoomFor self.old n → HasRoomFor self.new n }
+        ensures set { (disk : ℕ → List ℕ) (settled : ℕ → Inode) (n : ℕ)
+            → object_at disk settled self.new n
+            ≡ (if n == number then option_map (content_of disk) object
+            else object_at disk settled self.old n) }
+        ensures changed { (n : ℕ) → IsChanged self.new n ↔ IsChanged self.old n }
+        ensures volume { (was : Option Object) (count : ℕ) (disk : ℕ → List ℕ)
+            (settled : ℕ → Inode) (v : Volume)
+            → IsVolumeWithout number was count disk settled self.old v → IsSameOrNone was object
+            → IsVolumeOf count disk settled self.new v }
+    {
+        let slot = self.slot_with(number, object);
+        let _ = self.slots.insert(number, slot);
+    }
+
+    // What memory has of a number, with this object in it.
+    fn slot_with(&self, number: u32, object: Option<Object>) -> Slot
+        requires { IsKnown self.now number }
+        ensures { Some result ≡ slot_with object (tree.get nat_cmp self.now.slots number) }
+    {
+        match self.slots.get(&number) {
+            Some(Slot::Changed(_)) => Slot::Changed(object),
+            _ => Slot::Loaded(object),
+        }
+    }
+
+    /// Takes in a consistency point, which settled all that was changed: this is the inode file now, and nothing is in memory.
+    pub fn settle(&mut self, file: File)
+        ensures geometry { self.new.geometry ≡ self.old.geometry }
+        ensures file { self.new.file ≡ file }
+        ensures map { self.new.numbers ≡ self.old.numbers }
+        ensures unchanged { (n : ℕ) → IsChanged self.new n → ⊥ }
+        ensures unknown { (n : ℕ) → IsKnown self.new n → ⊥ }
+        ensures settled { (disk : ℕ → List ℕ) (settled : ℕ → Inode) (n : ℕ)
+            → object_at disk settled self.new n ≡ settled_content disk (settled n) }
+        ensures volume { (count : ℕ) (disk after : ℕ → List ℕ) (settled next : ℕ → Inode)
+            (v : Volume) → IsVolumeOf count disk settled self.old v
+            → AreSettled count after self.old.geometry file next
+            → ((n : ℕ) → ROOT_NUMBER ≤ n
+            → held_content after (next n) ≡ files_of disk settled self.old n)
+            → IsVolumeOf count after next self.new v }
+    {
+        memory_holds_its_volume();
+        self.file = file;
+        self.slots.clear();
+    }
+
+    /// The least number from the first on that no object has; None where each has one.
+    pub fn least_free(&mut self) -> Option<u32>
+        ensures geometry { self.new.geometry ≡ self.old.geometry }
+        ensures file { self.new.file ≡ self.old.file }
+        ensures slots { self.new.slots ≡ self.old.slots }
+        ensures map { self.new.numbers.bytes.items ≡ self.old.numbers.bytes.items }
+        ensures within { IfSome result (λ n. (FIRST_NUMBER ≤ n) × (n < self.old.geometry.inodes)) }
+        ensures volume { (count : ℕ) (disk : ℕ → List ℕ) (settled : ℕ → Inode) (v : Volume)
+            → IsVolumeOf count disk settled self.old v → IsVolumeOf count disk settled self.new v }
+        ensures free { (count : ℕ) (disk : ℕ → List ℕ) (settled : ℕ → Inode) (v : Volume)
+            → IsVolumeOf count disk settled self.old v → IfSome result (λ n. v n ≡ None) }
+        ensures least { (count : ℕ) (disk : ℕ → List ℕ) (settled : ℕ → Inode) (v : Volume)
+            → IsVolumeOf count disk settled self.old v
+            → IfSome result (λ n. (k : ℕ) → FIRST_NUMBER ≤ k → k < n → IsSome (v k)) }
+        ensures none { (count : ℕ) (disk : ℕ → List ℕ) (settled : ℕ → Inode) (v : Volume)
+            → IsVolumeOf count disk settled self.old v → IfNone result ((k : ℕ)
+            → FIRST_NUMBER ≤ k → k < self.old.geometry.inodes → IsSome (v k)) }
+    {
+        self.numbers.least_free()
+    }
+}

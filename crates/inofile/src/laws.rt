@@ -1,0 +1,35 @@
+//! What memory stands for, as images have it.
+
+ghost use Rattle.std.specs.Prelude.{ℕ, ◌≡◌, List, Option};
+ghost use Rattle.layout.specs.declared.inode.Inode.{Inode};
+ghost use Rattle.model.specs.Volumes.{Node, Volume};
+ghost use Rattle.blocktree.specs.Trees.{IsSoundAt};
+ghost use Rattle.images.specs.Contents.{HoldsVolume};
+ghost use Rattle.inode.specs.declared.object.Object.{Object};
+ghost use Rattle.inofile.specs.Inodes.{IsChanged, files_of};
+ghost use Rattle.inofile.specs.Objects.{IsObject};
+ghost use Rattle.inofile.specs.Settled.{held_content};
+ghost use Rattle.inofile.specs.Volumes.{IsVolumeOf};
+ghost use Rattle.inofile.specs.declared.inode_file.InodeFile.{InodeFile};
+
+use inode::based_trees_are_sound;
+
+/// The files of all numbers hold the volume that memory stands for, and those that aren't changed are as they are settled. It
+/// does nothing.
+pub fn memory_holds_its_volume()
+    ensures holds { (count : ℕ) (disk : ℕ → List ℕ) (settled : ℕ → Inode) (s : InodeFile)
+        (v : Volume) → IsVolumeOf count disk settled s v
+        → HoldsVolume s.geometry.inodes (files_of disk settled s) v }
+    ensures unchanged { (count : ℕ) (disk : ℕ → List ℕ) (settled : ℕ → Inode) (s : InodeFile)
+        (v : Volume) (n : ℕ) → IsVolumeOf count disk settled s v → (IsChanged s n → ⊥)
+        → files_of disk settled s n ≡ held_content disk (settled n) }
+{}
+
+/// All that stands over the blocks of an object in memory is in its grammar. It does nothing.
+pub fn objects_stand_in_their_grammar()
+    ensures { (count : ℕ) (disk : ℕ → List ℕ) (settled : ℕ → Inode) (s : InodeFile) (v : Volume)
+        (n i : ℕ) (o : Object) (found : Option Node) → IsVolumeOf count disk settled s v
+        → IsObject disk s.geometry.inodes (settled n) o found → IsSoundAt count disk o.file.tree i }
+{
+    based_trees_are_sound();
+}
