@@ -99,6 +99,13 @@ impl BlockMap {
         None
     }
 
+    /// How many blocks the disk has.
+    pub fn count(&self) -> u32
+        ensures { result ≡ self.now.count }
+    {
+        self.count
+    }
+
     /// How many blocks the map has.
     pub fn part_count(&self) -> usize
         ensures { result ≡ length self.now.parts.items }
@@ -174,6 +181,9 @@ impl BlockMap {
         ensures bit { SetsBit 0 is_in (entry_at self.old.parts.items block)
             (entry_at self.new.parts.items block) }
         ensures others { OnlyChanges block self.old.parts.items self.new.parts.items }
+        // No more of the map is stored for it.
+        ensures same { (j : ℕ)
+            → IsTouched self.new.parts.items j → IsTouched self.old.parts.items j }
     {
         let b = block.get();
         let part = &mut self.parts[(b / ENTRIES) as usize];

@@ -7,9 +7,10 @@ use Rattle.layout.specs.Pointer.{pointer_number}
 use Rattle.layout.specs.declared.pointer.Pointer.{Pointer}
 use Rattle.layout.specs.declared.pointer.Pointer.TheVariants.{Hole, Block}
 use Rattle.conspoint.specs.declared.draft.Draft.{Draft}
-use Rattle.conspoint.specs.Drafts.{Grows, IsReserved}
+use Rattle.conspoint.specs.Drafts.{Grows, IsReserved, WasTaken}
 use Rattle.conspoint.specs.Groups.{pointer_at}
 use Rattle.conspoint.specs.Closures.{HasRoomFor, IsClosed}
+use Rattle.conspoint.proofs.DraftLemmas.{taken_later, taken_earlier}
 
 module _ (d e : Draft) (settled places : List Pointer) (k p : ℕ) (grows : Grows d e) (keeps : (x : ℕ) → IsReserved d x → IsReserved e x) (so_far : IsClosed d settled places)
     (within : k < length places) (fresh : d.map.next ≤ p) (here : IsReserved e p) (room : HasRoomFor e p) (before : (b : ℕ) → pointer_at settled k ≡ Block b → HasRoomFor e b) where
@@ -50,3 +51,13 @@ module _ (d e : Draft) (settled places : List Pointer) (k p : ℕ) (grows : Grow
       ]
     ];
   }
+
+-- its place was given out since the first draft, as those before it
+pub taken_more : (a b c : Draft) (places : List Pointer) (k p : ℕ) → Grows a b → Grows b c → ((i x : ℕ) → pointer_at places i ≡ Block x → WasTaken a b x)
+    → k < length places → WasTaken b c p → (i x : ℕ) → pointer_at (slice_set places k (Block p)) i ≡ Block x → WasTaken a c x
+taken_more a b c places k p before now so_far within taken i x is = elim (cases_eq i k) [
+  | inl same ↦
+      let at : p ≡ x = ap pointer_number (sym (ap (pointer_at (slice_set places k (Block p))) same ∙ get_or-set_same places k (Block p) Hole within) ∙ is) in
+      subst (WasTaken a c) at (taken_earlier a b c p before taken)
+  | inr other ↦ taken_later a b c x (so_far i x (sym (get_or-set_other places k i (Block p) Hole other) ∙ is)) now
+]

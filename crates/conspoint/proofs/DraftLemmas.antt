@@ -4,7 +4,7 @@ use Rattle.blockmap.specs.Parts.{Part}
 use Rattle.blockmap.specs.Maps.{IsFree, KeepsSettled}
 use Rattle.conspoint.specs.declared.plan.PlannedBlock.{PlannedBlock}
 use Rattle.conspoint.specs.declared.draft.Draft.{Draft}
-use Rattle.conspoint.specs.Plans.{AreDrafted}
+use Rattle.conspoint.specs.Plans.{AreDrafted, ChangesTouched}
 use Rattle.conspoint.specs.Drafts.{Grows, WasTaken}
 
 -- more places are given out
@@ -43,3 +43,7 @@ taken_earlier a b c x grows taken = record {
   within = omega (arith, grows.count, taken.within);
   free = sym (grows.settled.settled x) ∙ taken.free;
 }
+
+pub changed_same : (count more : ℕ) (parts same : List Part) → same ≡ parts → more ≡ count → ChangesTouched count parts → ChangesTouched more same
+changed_same count more parts same is counts changed =
+    subst (λ (k : ℕ). ChangesTouched k same) (sym counts) (subst (λ (ps : List Part). ChangesTouched count ps) (sym is) changed)

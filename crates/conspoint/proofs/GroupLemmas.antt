@@ -63,7 +63,8 @@ module _ (a b c : Draft) (settled nodes : List Pointer) (p : Pointer) (before : 
 pub same_group : (e : Blocks) (settled over : Pointer) (old old2 new new2 : ℕ → Pointer) → ((i : ℕ) → i < 1024 → old2 i ≡ old i) → ((i : ℕ) → i < 1024 → new2 i ≡ new i)
     → IsGroup e settled old2 new2 over → IsGroup e settled old new over
 same_group e settled over old old2 new new2 olds news (IsGroup.keeps is same) = IsGroup.keeps is (λ i lt. sym (news i lt) ∙ same i lt ∙ olds i lt)
-same_group e settled over old old2 new new2 olds news (IsGroup.spells block is under) = IsGroup.spells block is (λ i lt. under i lt ∙ news i lt)
+same_group e settled over old old2 new new2 olds news (IsGroup.spells block is size under (i, low, there)) =
+    IsGroup.spells block is size (λ i lt. under i lt ∙ news i lt) (i, low, λ none. there (news i low ∙ none))
 same_group e settled over old old2 new new2 olds news (IsGroup.none is under) = IsGroup.none is (λ i lt. sym (news i lt) ∙ under i lt)
 
 -- a node of a part of these

@@ -6,3 +6,9 @@ mod GroupLemmas
 mod ClosureLemmas
 mod MarkLemmas
 mod BlockLemmas
+mod MapNodes
+mod MapBytes
+mod MapWork
+mod MapPlan
+mod ImageCuts
+mod DiskBlocks

@@ -16,7 +16,8 @@ HasRoomFor d b = IsTouched d.map.parts.items (b / 1024)
 pub record IsClosed (d : Draft) (settled places : List Pointer) : Type 0 where
   pub reserved : (k b : ℕ) → pointer_at places k ≡ Block b → IsReserved d b
   pub new : (k b : ℕ) → pointer_at places k ≡ Block b → HasRoomFor d b
-  pub old : (k p b : ℕ) → pointer_at places k ≡ Block p → pointer_at settled k ≡ Block b → HasRoomFor d b
+  pub old : (k p b : ℕ) → pointer_at places k ≡ Block p → pointer_at settled k ≡ Block b
+      → HasRoomFor d b
   pub apart : (i k b : ℕ) → pointer_at places i ≡ Block b → pointer_at places k ≡ Block b → i ≡ k
 
 -- each part of the map that is stored anew has a new place

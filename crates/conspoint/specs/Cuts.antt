@@ -1,7 +1,9 @@
 -- What a power cut may leave while the blocks of a plan are written, and then its root.
-use Rattle.std.specs.Prelude.{ℕ, ◌≡◌, ◌≢◌, ◌+◌, ◌*◌, ◌/◌, ◌≤◌, List, take, All, ⊤}
+use Rattle.std.specs.Prelude.{ℕ, ◌≡◌, ◌≢◌, ◌+◌, ◌*◌, ◌/◌, ◌≤◌, List, [], ◌∷◌, take, All}
 use Rattle.station.specs.Images.{Images, Sector, sector_with}
-use Rattle.buffers.specs.Disks.{IsBlock}
+use Rattle.buffers.specs.Disks.{IsBlock, disk_with}
+use Rattle.buffers.specs.declared.error.BufferError.{BufferError}
+use Rattle.buffers.specs.declared.error.BufferError.TheVariants.{Device}
 use Rattle.conspoint.specs.declared.plan.PlannedBlock.{PlannedBlock}
 use Rattle.conspoint.specs.Plans.{Planned}
 
@@ -23,6 +25,15 @@ HoldsBlocks blocks disk = All (λ b. IsBlock disk b.place b.bytes) blocks
 abbrev pub HoldsWritten : Planned → Images → Type 0
 HoldsWritten p c = HoldsBlocks (take p.written p.blocks) c.disk
 
+-- a disk with these blocks written, one after the other
+unfoldable pub disk_with_blocks : List PlannedBlock → (ℕ → List ℕ) → ℕ → List ℕ
+disk_with_blocks [] disk = disk
+disk_with_blocks (b ∷ blocks) disk = disk_with_blocks blocks (disk_with b.place b.bytes disk)
+
+-- the disk with those that are written
+abbrev pub disk_so_far : Planned → (ℕ → List ℕ) → ℕ → List ℕ
+disk_so_far p disk = disk_with_blocks (take p.written p.blocks) disk
+
 -- the images of before, with all the planned blocks and the new root
 pub record HasNewRoot (p : Planned) (old new : Images) : Type 0 where
   pub nvram : new.nvram ≡ old.nvram
@@ -34,6 +45,6 @@ pub record HasNewRoot (p : Planned) (old new : Images) : Type 0 where
 abbrev pub ReadsAs : ℕ → Images → (ℕ → List ℕ) → Type 0
 ReadsAs sectors c e = (b : ℕ) → 8 * b + 8 ≤ sectors → IsBlock c.disk b (e b)
 
--- every error says that a device call failed
-abbrev pub IsAnyFault : {E : Type 0} → E → Type 0
-IsAnyFault e = ⊤
+-- the error says that a device call failed
+abbrev pub IsFault : BufferError → Type 0
+IsFault e = e ≡ Device

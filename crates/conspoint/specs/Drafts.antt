@@ -5,6 +5,8 @@ use Rattle.layout.specs.Places.{Blocks}
 use Rattle.blockmap.specs.Maps.{IsFree, KeepsSettled}
 use Rattle.conspoint.specs.declared.plan.PlannedBlock.{PlannedBlock}
 use Rattle.conspoint.specs.declared.draft.Draft.{Draft}
+use Rattle.conspoint.specs.declared.error.PlanError.{PlanError}
+use Rattle.conspoint.specs.declared.error.PlanError.TheVariants.{NoMemory, Device, NoSpace, Damaged}
 
 -- a disk has these blocks
 abbrev pub HasAll : Blocks → List PlannedBlock → Type 0
@@ -39,3 +41,10 @@ pub record IsReserved (d : Draft) (place : ℕ) : Type 0 where
   pub within : place < d.map.count
   pub free : IsFree d.map.parts.items place
   pub empty : All (λ b. b.place ≢ place) d.blocks.items
+
+-- no memory, or no space: nothing else hinders a step of a plan that reads nothing
+abbrev pub IsShortage : PlanError → Type 0
+IsShortage NoMemory = Unit {0}
+IsShortage NoSpace = Unit {0}
+IsShortage Device = ⊥
+IsShortage Damaged = ⊥

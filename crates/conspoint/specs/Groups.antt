@@ -4,7 +4,7 @@ use Rattle.layout.specs.Maps.{indirect_pointer}
 use Rattle.layout.specs.Places.{Blocks}
 use Rattle.layout.specs.Pointer.{PointsBelow}
 use Rattle.layout.specs.declared.geometry.TheConstants.{MOST_BLOCKS}
-use Rattle.layout.specs.declared.TheConstants.{BLOCK_POINTERS}
+use Rattle.layout.specs.declared.TheConstants.{BLOCK_BYTES, BLOCK_POINTERS}
 use Rattle.layout.specs.declared.pointer.Pointer.{Pointer}
 use Rattle.layout.specs.declared.pointer.Pointer.TheVariants.{Hole, Block}
 use Rattle.conspoint.specs.declared.draft.Draft.{Draft}
@@ -14,12 +14,15 @@ use Rattle.conspoint.specs.Drafts.{WasTaken}
 abbrev pub pointer_at : List Pointer → ℕ → Pointer
 pointer_at pointers i = slice_index_or pointers i Hole
 
--- Of 1,024 nodes and the pointer over them, on a disk e: all are as they were, or a block spells the nodes, or all are holes.
+-- Of 1,024 nodes and the pointer over them, on a disk e: all are as they were, or a block spells the nodes,
+-- of which some is no hole, or all are holes.
 pub data IsGroup (e : Blocks) (settled : Pointer) (old new : ℕ → Pointer) (over : Pointer) : Type 0 where
   keeps : (is : over ≡ settled) → (same : (i : ℕ) → i < BLOCK_POINTERS → new i ≡ old i)
       → IsGroup e settled old new over
   spells : (block : ℕ) → (is : over ≡ Block block)
+      → (size : length (e block) ≡ BLOCK_BYTES)
       → (under : (i : ℕ) → i < BLOCK_POINTERS → indirect_pointer (e block) i ≡ new i)
+      → (some : (i : ℕ) × (i < BLOCK_POINTERS) × (new i ≡ Hole → ⊥))
       → IsGroup e settled old new over
   none : (is : over ≡ Hole) → (under : (i : ℕ) → i < BLOCK_POINTERS → new i ≡ Hole)
       → IsGroup e settled old new over

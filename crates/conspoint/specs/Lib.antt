@@ -5,3 +5,6 @@ pub mod Groups
 pub mod Blocks
 pub mod Closures
 pub mod Marks
+pub mod MapFiles
+pub mod Writes
+pub mod Errors

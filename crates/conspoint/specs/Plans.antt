@@ -1,6 +1,8 @@
 -- What a planned consistency point is.
-use Rattle.std.specs.Prelude.{ℕ, ◌≡◌, ◌≢◌, ◌⊎◌, ◌+◌, ◌*◌, ◌<◌, ◌≤◌, List, length, get_or, All}
+use Rattle.std.specs.Prelude.{ℕ, ◌≡◌, ◌≢◌, ◌⊎◌, ◌+◌, ◌*◌, ◌/◌, ◌<◌, ◌≤◌, List, length, get_or, All}
 use Rattle.layout.specs.declared.TheConstants.{SLOT_A, SLOT_B, BLOCK_BYTES, ROOT_BYTES}
+use Rattle.blockmap.specs.Maps.{IsTouched, entry_at, settled_at}
+use Rattle.blockmap.specs.Parts.{Part}
 use Rattle.conspoint.specs.declared.plan.PlannedBlock.{PlannedBlock}
 
 -- the blocks in the order of their writing, how many of them are written, the sector of the new root, and its bytes
@@ -42,3 +44,8 @@ pub record AreDrafted (count next : ℕ) (IsFree : ℕ → Type 0) (blocks : Lis
   pub below : All (λ b. b.place < next) blocks
   pub within : All (λ b. b.place < count) blocks
   pub free : All (λ b. IsFree b.place) blocks
+
+-- an entry that is changed is of a block of the disk, in a part of the map that is stored anew
+abbrev pub ChangesTouched : ℕ → List Part → Type 0
+ChangesTouched count parts =
+    (b : ℕ) → entry_at parts b ≢ settled_at parts b → (b < count) × IsTouched parts (b / 1024)

@@ -1,11 +1,11 @@
 //! The blocks of a changed file.
 
-ghost use Rattle.std.specs.Prelude.{◌≡◌, ℕ, ◌<◌, ◌^◌, All, IfOk, IsErrOf, length};
+ghost use Rattle.std.specs.Prelude.{◌≡◌, ℕ, ◌<◌, ◌≤◌, ◌^◌, All, IfOk, IfErr, IsErrOf, length};
 ghost use Rattle.layout.specs.Places.{pointed};
 ghost use Rattle.layout.specs.Pointer.{PointsBelow};
 ghost use Rattle.layout.specs.declared.geometry.TheConstants.{MOST_BLOCKS};
 ghost use Rattle.conspoint.specs.Blocks.{changed_or};
-ghost use Rattle.conspoint.specs.Drafts.{OnEach, Grows, IsFull};
+ghost use Rattle.conspoint.specs.Drafts.{OnEach, Grows, IsFull, IsReserved, IsShortage};
 ghost use Rattle.conspoint.specs.Groups.{pointer_at, ComesFrom, ArePlaced};
 
 use crate::draft::Draft;
@@ -15,22 +15,31 @@ use buffers::Block;
 use layout::Pointer;
 use std::alloc::Global;
 
-/// The pointer to block `i`: to a new block where it is changed, else the settled one.
+/// The pointer to block `i`: to a new block where it is changed, else the settled one. Of the blocks before `first` all are
+/// as settled.
 fn place_block(
     alloc: Global,
     draft: &mut Draft,
     tree: &BlockTree,
+    first: u32,
     i: u32,
     settled: Pointer,
 ) -> Result<Pointer, PlanError>
     requires { PointsBelow MOST_BLOCKS settled }
     ensures grows { Grows draft.old draft.new }
-    ensures block { IfOk result (λ p. OnEach draft.new
-        (λ e. pointed e p ≡ changed_or tree.now i (pointed e settled))) }
+    ensures before { IfOk result (λ p. i < first → p ≡ settled) }
+    ensures block { IfOk result (λ p. OnEach draft.new (λ e. first ≤ i
+        → pointed e p ≡ changed_or tree.now i (pointed e settled))) }
     ensures from { IfOk result (ComesFrom draft.old draft.new settled) }
     ensures within { IfOk result (PointsBelow MOST_BLOCKS) }
+    ensures parts { draft.new.map.parts.items ≡ draft.old.map.parts.items }
+    ensures others { (p : ℕ) → IsReserved draft.old p → IsReserved draft.new p }
     ensures full { IsErrOf result PlanError.NoSpace → IsFull draft.old }
+    ensures shortage { IfErr result IsShortage }
 {
+    if i < first {
+        return Ok(settled);
+    }
     match tree.changed(i) {
         Some(block) => {
             let place = draft.store(Block::copy_of(alloc, block.bytes())?)?;
@@ -40,26 +49,33 @@ fn place_block(
     }
 }
 
-/// The pointers to a changed file's first blocks, by rising index, where these are the settled ones. Those of settled blocks
-/// that don't count any more are holes.
+/// The pointers to a changed file's blocks, by rising index, where these are the settled ones. Those of settled blocks that
+/// don't count any more are holes. The blocks before `first` aren't looked at, and keep the settled pointers.
 pub fn place_blocks(
     alloc: Global,
     draft: &mut Draft,
     tree: &BlockTree,
+    first: u32,
     settled: &[Pointer],
 ) -> Result<Vec<Pointer>, PlanError>
     requires within { All (PointsBelow MOST_BLOCKS) settled.now }
     requires short { length settled.now < 2 ^ 32 }
     ensures grows { Grows draft.old draft.new }
     ensures count { IfOk result (λ nodes. length nodes.items ≡ length settled.now) }
+    ensures before { IfOk result (λ nodes. (i : ℕ) → i < length settled.now → i < first
+        → pointer_at nodes.items i ≡ pointer_at settled.now i) }
     ensures blocks { IfOk result (λ nodes. OnEach draft.new (λ e. (i : ℕ) → i < length settled.now
-        → pointed e (pointer_at nodes.items i)
+        → first ≤ i → pointed e (pointer_at nodes.items i)
         ≡ changed_or tree.now i (pointed e (pointer_at settled.now i)))) }
     ensures placed { IfOk result (λ nodes. ArePlaced draft.old draft.new settled.now nodes.items) }
+    ensures parts { draft.new.map.parts.items ≡ draft.old.map.parts.items }
+    ensures others { (p : ℕ) → IsReserved draft.old p → IsReserved draft.new p }
+    ensures full { IsErrOf result PlanError.NoSpace → IsFull draft.new }
+    ensures shortage { IfErr result IsShortage }
 {
     let mut nodes = Vec::new(alloc);
     for i in 0..settled.len() {
-        nodes.push(place_block(alloc, draft, tree, i as u32, settled[i])?)?;
+        nodes.push(place_block(alloc, draft, tree, first, i as u32, settled[i])?)?;
     }
     Ok(nodes)
 }

@@ -1,9 +1,9 @@
 //! The block map's own new blocks.
 
-ghost use Rattle.std.specs.Prelude.{◌≡◌, ◌≢◌, ℕ, ◌<◌, OnOk, IfOk, IsErrOf, IfSome, IfNone, IsTrue, ◌↔◌, length};
+ghost use Rattle.std.specs.Prelude.{◌≡◌, ◌≢◌, ℕ, ◌<◌, OnOk, IfOk, IfErr, IsErrOf, IfSome, IfNone, IsTrue, ◌↔◌, length};
 ghost use Rattle.layout.specs.declared.pointer.Pointer.TheVariants.{Hole, Block};
-ghost use Rattle.blockmap.specs.Maps.{IsTouched};
-ghost use Rattle.conspoint.specs.Drafts.{Grows, WasTaken, IsReserved, IsFull};
+ghost use Rattle.blockmap.specs.Maps.{IsTouched, entry_at};
+ghost use Rattle.conspoint.specs.Drafts.{Grows, WasTaken, IsReserved, IsFull, IsShortage};
 ghost use Rattle.conspoint.specs.Groups.{pointer_at};
 ghost use Rattle.conspoint.specs.Closures.{IsClosed, PartsMoved, OverMoved, HasRoomFor};
 
@@ -70,9 +70,12 @@ fn move_node(draft: &mut Draft, before: Pointer) -> Result<BlockNumber, PlanErro
     ensures taken { IfOk result (WasTaken draft.old draft.new) }
     ensures reserved { IfOk result (IsReserved draft.new) }
     ensures others { (p : ℕ) → IsReserved draft.old p → IsReserved draft.new p }
+    ensures entries { (b : ℕ)
+        → entry_at draft.new.map.parts.items b ≡ entry_at draft.old.map.parts.items b }
     ensures new { IfOk result (HasRoomFor draft.new) }
     ensures old { OnOk result ((b : ℕ) → before ≡ Block b → HasRoomFor draft.new b) }
     ensures full { IsErrOf result PlanError.NoSpace → IsFull draft.old }
+    ensures shortage { IfErr result IsShortage }
 {
     if let Pointer::Block(place) = before {
         draft.touch(place)?;
@@ -96,8 +99,15 @@ pub fn reserve_map(
     ensures grows { Grows draft.old draft.new }
     ensures size { length places.new ≡ length places.old }
     ensures closed { OnOk result (IsClosed draft.new settled.now places.new) }
+    ensures taken { OnOk result ((k b : ℕ) → pointer_at places.new k ≡ Block b
+        → WasTaken draft.old draft.new b) }
     ensures parts { OnOk result (PartsMoved draft.new places.new) }
     ensures over { OnOk result (OverMoved draft.new places.new) }
+    ensures entries { (b : ℕ)
+        → entry_at draft.new.map.parts.items b ≡ entry_at draft.old.map.parts.items b }
+    ensures others { (p : ℕ) → IsReserved draft.old p → IsReserved draft.new p }
+    ensures full { IsErrOf result PlanError.NoSpace → IsFull draft.new }
+    ensures shortage { IfErr result IsShortage }
 {
     while let Some(k) = next_node(draft, places) {
         places[k] = Pointer::Block(move_node(draft, settled[k])?);

@@ -1,9 +1,9 @@
 //! A plan that is being made.
 
-ghost use Rattle.std.specs.Prelude.{◌≡◌, ◌≢◌, ◌<◌, ◌≤◌, ◌*◌, ℕ, All, IfOk, OnOk, IsErrOf, IsTrue, ◌↔◌, length};
+ghost use Rattle.std.specs.Prelude.{◌≡◌, ◌≢◌, ◌<◌, ◌≤◌, ◌*◌, ℕ, All, IfOk, IfErr, OnOk, IsErrOf, IsTrue, ◌↔◌, length};
 ghost use Rattle.blockmap.specs.Maps.{IsFree, IsTouched, HoldsPart, entry_at, settled_at, OnlyChanges};
 ghost use Rattle.blockmap.specs.Bits.{SetsBit};
-ghost use Rattle.conspoint.specs.Plans.{AreDrafted, FitsDisk, IsSlot};
+ghost use Rattle.conspoint.specs.Plans.{AreDrafted, ChangesTouched, FitsDisk, IsSlot};
 
 use crate::error::PlanError;
 use crate::plan::{Plan, PlannedBlock};
@@ -18,14 +18,16 @@ pub struct Draft {
     map: BlockMap,
     blocks: Vec<PlannedBlock>,
     ghost drafted: { AreDrafted map.count map.next (IsFree map.parts.items) blocks.items },
+    ghost changed: { ChangesTouched map.count map.parts.items },
 }
 
 impl Draft {
-    ghost use Rattle.conspoint.specs.Drafts.{OnEach, WasTaken, Grows, IsFull, IsReserved};
+    ghost use Rattle.conspoint.specs.Drafts.{OnEach, WasTaken, Grows, IsFull, IsReserved, IsShortage};
     ghost use Rattle.conspoint.specs.Closures.{HasRoomFor};
 
-    /// A plan with no block.
+    /// A plan with no block, over a map with no change.
     pub fn new(alloc: Global, map: BlockMap) -> Draft
+        requires { (b : ℕ) → entry_at map.parts.items b ≡ settled_at map.parts.items b }
         ensures map { result.map ≡ map }
         ensures all { OnEach result (λ e. Unit {0}) }
     {
@@ -38,9 +40,12 @@ impl Draft {
     /// Plans a block at the next free place.
     pub fn store(&mut self, bytes: Block) -> Result<BlockNumber, PlanError>
         ensures grows { Grows self.old self.new }
+        ensures parts { self.new.map.parts.items ≡ self.old.map.parts.items }
         ensures taken { IfOk result (WasTaken self.old self.new) }
         ensures stored { IfOk result (λ place. OnEach self.new (λ e. e place ≡ bytes)) }
+        ensures others { (p : ℕ) → IsReserved self.old p → IsReserved self.new p }
         ensures full { IsErrOf result PlanError.NoSpace → IsFull self.old }
+        ensures shortage { IfErr result IsShortage }
     {
         let place = self.reserve()?;
         self.put(place, bytes)?;
@@ -50,11 +55,13 @@ impl Draft {
     /// Gives out the next free place, for bytes that come later.
     pub fn reserve(&mut self) -> Result<BlockNumber, PlanError>
         ensures grows { Grows self.old self.new }
+        ensures parts { self.new.map.parts.items ≡ self.old.map.parts.items }
         ensures blocks { self.new.blocks.items ≡ self.old.blocks.items }
         ensures taken { IfOk result (WasTaken self.old self.new) }
         ensures reserved { IfOk result (IsReserved self.new) }
         ensures others { (p : ℕ) → IsReserved self.old p → IsReserved self.new p }
         ensures full { IsErrOf result PlanError.NoSpace → IsFull self.old }
+        ensures shortage { IfErr result IsShortage }
     {
         match self.map.allocate() {
             Some(place) => Ok(place),
@@ -70,6 +77,7 @@ impl Draft {
         ensures stored { OnOk result (OnEach self.new (λ e. e place ≡ bytes)) }
         ensures others { (p : ℕ) → p ≢ place → IsReserved self.old p → IsReserved self.new p }
         ensures why { IsErrOf result PlanError.NoSpace → ⊥ }
+        ensures shortage { IfErr result IsShortage }
     {
         self.blocks.push(PlannedBlock { place, bytes })?;
         Ok(())
@@ -86,6 +94,7 @@ impl Draft {
             → entry_at self.new.map.parts.items b ≡ entry_at self.old.map.parts.items b }
         ensures others { (p : ℕ) → IsReserved self.old p → IsReserved self.new p }
         ensures why { IsErrOf result PlanError.NoSpace → ⊥ }
+        ensures shortage { IfErr result IsShortage }
     {
         self.map.touch((block.get() / 1024) as usize)?;
         Ok(())
@@ -103,10 +112,28 @@ impl Draft {
         ensures stay { OnOk result (OnlyChanges block self.old.map.parts.items
             self.new.map.parts.items) }
         ensures why { IsErrOf result PlanError.NoSpace → ⊥ }
+        ensures shortage { IfErr result IsShortage }
     {
         self.touch(block)?;
-        self.map.mark(block, is_in);
+        self.mark_touched(block, is_in);
         Ok(())
+    }
+
+    /// Puts a block into the active tree's set of the map, or takes it out, where the map has room for it.
+    pub fn mark_touched(&mut self, block: BlockNumber, is_in: bool)
+        requires within { block < self.old.map.count }
+        requires room { HasRoomFor self.old block }
+        ensures grows { Grows self.old self.new }
+        ensures next { self.new.map.next ≡ self.old.map.next }
+        ensures blocks { self.new.blocks.items ≡ self.old.blocks.items }
+        ensures others { (p : ℕ) → IsReserved self.old p → IsReserved self.new p }
+        ensures bit { SetsBit 0 is_in (entry_at self.old.map.parts.items block)
+            (entry_at self.new.map.parts.items block) }
+        ensures stay { OnlyChanges block self.old.map.parts.items self.new.map.parts.items }
+        ensures same { (j : ℕ) → IsTouched self.new.map.parts.items j
+            → IsTouched self.old.map.parts.items j }
+    {
+        self.map.mark(block, is_in);
     }
 
     /// Whether block `k` of the map is stored anew.
@@ -130,6 +157,13 @@ impl Draft {
         ensures { result ≡ length self.now.map.parts.items }
     {
         self.map.part_count()
+    }
+
+    /// How many blocks the disk has.
+    pub fn block_count(&self) -> u32
+        ensures { result ≡ self.now.map.count }
+    {
+        self.map.count()
     }
 
     /// The map with no change and nothing given out, where no plan comes of it.

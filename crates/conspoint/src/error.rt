@@ -1,5 +1,6 @@
 //! Why no consistency point was planned.
 
+use blocktree::ReadError;
 use std::alloc::{AllocError, AllocFailed};
 use thiserror::Error;
 
@@ -38,5 +39,20 @@ impl<T: Drop> From<AllocFailed<T>> for PlanError {
 
     fn from(_: AllocFailed<T>) -> PlanError {
         PlanError::NoMemory
+    }
+}
+
+impl From<ReadError> for PlanError {
+    ghost use Rattle.std.specs.Prelude.{◌≡◌};
+    ghost use Rattle.conspoint.specs.Errors.{plan_error};
+
+    ghost from_gives = { λ r e. e ≡ plan_error r };
+
+    fn from(error: ReadError) -> PlanError {
+        match error {
+            ReadError::NoMemory => PlanError::NoMemory,
+            ReadError::Device => PlanError::Device,
+            ReadError::Damaged => PlanError::Damaged,
+        }
     }
 }

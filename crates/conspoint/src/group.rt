@@ -1,12 +1,12 @@
 //! Indirect blocks, made anew.
 
-ghost use Rattle.std.specs.Prelude.{◌≡◌, ℕ, ◌*◌, ◌<◌, All, IfOk, IsErrOf, IsTrue, length, ◌↔◌};
+ghost use Rattle.std.specs.Prelude.{◌≡◌, ℕ, ◌*◌, ◌<◌, All, IfOk, IfErr, IsErrOf, IsTrue, IfSome, IfNone, length, ◌↔◌};
 ghost use Rattle.layout.specs.Maps.{indirect_pointer};
 ghost use Rattle.layout.specs.Pointer.{PointsBelow};
-ghost use Rattle.layout.specs.declared.TheConstants.{BLOCK_POINTERS};
+ghost use Rattle.layout.specs.declared.TheConstants.{BLOCK_BYTES, BLOCK_POINTERS};
 ghost use Rattle.layout.specs.declared.geometry.TheConstants.{MOST_BLOCKS};
 ghost use Rattle.layout.specs.declared.pointer.Pointer.TheVariants.{Hole};
-ghost use Rattle.conspoint.specs.Drafts.{OnEach, Grows, IsFull};
+ghost use Rattle.conspoint.specs.Drafts.{OnEach, Grows, IsFull, IsReserved, IsShortage};
 ghost use Rattle.conspoint.specs.Groups.{pointer_at, group, IsGroup, ComesFrom, ArePlaced};
 
 use crate::draft::Draft;
@@ -22,7 +22,8 @@ const GROUP: usize = BLOCK_POINTERS;
 fn spell(pointers: &[Pointer], bytes: &mut [u8; BLOCK_BYTES])
     requires count { length pointers.now ≡ BLOCK_POINTERS }
     requires within { All (PointsBelow MOST_BLOCKS) pointers.now }
-    ensures { (i : ℕ) → i < BLOCK_POINTERS
+    ensures size { length bytes.new ≡ BLOCK_BYTES }
+    ensures spelled { (i : ℕ) → i < BLOCK_POINTERS
         → indirect_pointer bytes.new i ≡ pointer_at pointers.now i }
 {
     for i in 0..pointers.len() {
@@ -30,11 +31,19 @@ fn spell(pointers: &[Pointer], bytes: &mut [u8; BLOCK_BYTES])
     }
 }
 
-/// Whether all are holes.
-fn are_holes(pointers: &[Pointer]) -> bool
-    ensures { IsTrue result ↔ All (λ p. p ≡ Hole) pointers.now }
+/// The index of the first that is no hole.
+fn first_block(pointers: &[Pointer]) -> Option<usize>
+    ensures found { IfSome result (λ i. (i < length pointers.now)
+        × (pointer_at pointers.now i ≡ Hole → ⊥)) }
+    ensures none { IfNone result ((i : ℕ) → i < length pointers.now
+        → pointer_at pointers.now i ≡ Hole) }
 {
-    pointers.iter().all(|pointer| pointer.is_hole())
+    for i in 0..pointers.len() {
+        if !pointers[i].is_hole() {
+            return Some(i);
+        }
+    }
+    None
 }
 
 /// Whether two pointers are the same.
@@ -82,11 +91,14 @@ pub fn place_group(
         (λ e. IsGroup e settled (pointer_at old.now) (pointer_at new.now) over)) }
     ensures from { IfOk result (ComesFrom draft.old draft.new settled) }
     ensures within { IfOk result (PointsBelow MOST_BLOCKS) }
+    ensures parts { draft.new.map.parts.items ≡ draft.old.map.parts.items }
+    ensures others { (p : ℕ) → IsReserved draft.old p → IsReserved draft.new p }
     ensures full { IsErrOf result PlanError.NoSpace → IsFull draft.old }
+    ensures shortage { IfErr result IsShortage }
 {
-    if are_holes(new) {
+    let Some(_) = first_block(new) else {
         return Ok(Pointer::Hole);
-    }
+    };
     if same_pointers(old, new) {
         return Ok(settled);
     }
@@ -114,6 +126,10 @@ pub fn place_over(
         → IsGroup e (pointer_at settled.now j) (group old.now j) (group new.now j)
         (pointer_at over.items j))) }
     ensures placed { IfOk result (λ over. ArePlaced draft.old draft.new settled.now over.items) }
+    ensures parts { draft.new.map.parts.items ≡ draft.old.map.parts.items }
+    ensures others { (p : ℕ) → IsReserved draft.old p → IsReserved draft.new p }
+    ensures full { IsErrOf result PlanError.NoSpace → IsFull draft.new }
+    ensures shortage { IfErr result IsShortage }
 {
     let mut over = Vec::new(alloc);
     for j in 0..settled.len() {

@@ -1,9 +1,13 @@
 //! What a power cut leaves, read block by block.
 
 ghost use Rattle.std.specs.Prelude.{◌≡◌, ◌≢◌, ℕ, ◌+◌, ◌*◌, ◌≤◌, List, All};
-ghost use Rattle.station.specs.Images.{Images};
-ghost use Rattle.conspoint.specs.Plans.{Planned, IsSlot, FitsDisk};
-ghost use Rattle.conspoint.specs.Cuts.{StaysOutside, HasNewRoot, ReadsAs};
+ghost use Rattle.station.specs.Images.{Images, Sector};
+ghost use Rattle.buffers.specs.Disks.{IsBlock};
+ghost use Rattle.layout.specs.Places.{blocks_of};
+ghost use Rattle.images.specs.Cuts as points;
+ghost use Rattle.conspoint.specs.Writes.{AreWhole, writes_of};
+ghost use Rattle.conspoint.specs.Plans.{AreApart, Planned, IsSlot, FitsDisk};
+ghost use Rattle.conspoint.specs.Cuts.{StaysOutside, HasNewRoot, ReadsAs, disk_with_blocks};
 ghost use Rattle.conspoint.specs.declared.plan.PlannedBlock.{PlannedBlock};
 
 /// Before the root is written every block that isn't planned reads as it did. After it all the planned ones are there, and
@@ -20,3 +24,30 @@ pub fn cuts_leave_blocks()
         → ReadsAs sectors new e → HasNewRoot p old new → FitsDisk sectors p
         → All (λ x. e x.place ≡ x.bytes) p.blocks }
 {}
+
+/// A disk with the blocks of a plan written has them, and else is as it was. It does nothing.
+pub fn written_disks_have_the_blocks()
+    ensures has { (blocks : List PlannedBlock) (disk : ℕ → List ℕ) → AreApart blocks
+        → All (λ b. disk_with_blocks blocks disk b.place ≡ b.bytes) blocks }
+    ensures others { (blocks : List PlannedBlock) (disk : ℕ → List ℕ) (n : ℕ)
+        → All (λ b. b.place ≢ n) blocks → disk_with_blocks blocks disk n ≡ disk n }
+{}
+
+/// What a cut leaves of a plan is what images' laws on points speak of: before the root is written only sectors of planned blocks
+/// differ, and after it they all are there with the new root. It does nothing.
+pub fn cuts_are_those_of_images()
+    ensures unfinished { (blocks : List PlannedBlock) (old new : Images)
+        → StaysOutside blocks old new
+        → points.StaysOutside (writes_of blocks) old.disk new.disk }
+    ensures finished { (sectors : ℕ) (p : Planned) (old new : Images)
+        → FitsDisk sectors p → AreWhole sectors new.disk → HasNewRoot p old new
+        → points.HasNewRoot (writes_of p.blocks) p.slot p.root old.disk new.disk }
+{}
+
+/// A block of a disk of whole sectors is its eight sectors. It does nothing.
+pub fn blocks_are_those_of_images()
+    ensures { (sectors : ℕ) (disk : ℕ → Sector) (b : ℕ) (bytes : List ℕ) → AreWhole sectors disk
+        → 8 * b + 8 ≤ sectors → IsBlock disk b bytes → blocks_of disk b ≡ bytes }
+{
+    images::eight_sectors_are_a_block();
+}

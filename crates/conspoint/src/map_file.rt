@@ -1,8 +1,8 @@
 //! The bytes of the block map's blocks.
 
-ghost use Rattle.std.specs.Prelude.{◌≡◌, ◌≢◌, ℕ, ◌<◌, ◌≤◌, OnOk, IsErrOf, length};
+ghost use Rattle.std.specs.Prelude.{◌≡◌, ◌≢◌, ℕ, ◌<◌, ◌≤◌, OnOk, IfErr, IsErrOf, length};
 ghost use Rattle.blockmap.specs.Maps.{HoldsPart};
-ghost use Rattle.conspoint.specs.Drafts.{OnEach, Grows, IsReserved};
+ghost use Rattle.conspoint.specs.Drafts.{OnEach, Grows, IsReserved, IsShortage};
 ghost use Rattle.conspoint.specs.Groups.{pointer_at};
 
 use crate::draft::Draft;
@@ -22,6 +22,7 @@ fn store_part(alloc: Global, draft: &mut Draft, k: usize, pointer: Pointer) -> R
     ensures others { (p : ℕ) → pointer ≢ Pointer.Block p
         → IsReserved draft.old p → IsReserved draft.new p }
     ensures why { IsErrOf result PlanError.NoSpace → ⊥ }
+    ensures shortage { IfErr result IsShortage }
 {
     if let Pointer::Block(place) = pointer {
         let bytes = Block::copy_of(alloc, &draft.map_bytes(k))?;
@@ -46,6 +47,7 @@ pub fn store_map(alloc: Global, draft: &mut Draft, places: &[Pointer]) -> Result
         → k < length draft.old.map.parts.items → pointer_at places.now k ≢ Pointer.Block p)
         → IsReserved draft.new p }
     ensures why { IsErrOf result PlanError.NoSpace → ⊥ }
+    ensures shortage { IfErr result IsShortage }
 {
     for k in 0..draft.map_blocks() {
         store_part(alloc, draft, k, places[k])?;

@@ -1,7 +1,7 @@
 //! Set 0 of the map, the blocks of the active tree.
 
-ghost use Rattle.std.specs.Prelude.{◌≡◌, ℕ, ◌<◌, All, OnOk, IsErrOf, length};
-ghost use Rattle.conspoint.specs.Drafts.{Grows, IsReserved};
+ghost use Rattle.std.specs.Prelude.{◌≡◌, ℕ, ◌<◌, All, OnOk, IfErr, IsErrOf, length};
+ghost use Rattle.conspoint.specs.Drafts.{Grows, IsReserved, IsShortage};
 ghost use Rattle.conspoint.specs.Marks.{AreMarked};
 
 use crate::draft::Draft;
@@ -18,6 +18,7 @@ pub fn mark_all(draft: &mut Draft, blocks: &[BlockNumber], is_in: bool) -> Resul
     ensures marked { OnOk result (AreMarked blocks.now (length blocks.now) is_in
         draft.old.map.parts.items draft.new.map.parts.items) }
     ensures why { IsErrOf result PlanError.NoSpace → ⊥ }
+    ensures shortage { IfErr result IsShortage }
 {
     for i in 0..blocks.len() {
         draft.mark(blocks[i], is_in)?;

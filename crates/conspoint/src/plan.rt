@@ -1,14 +1,15 @@
 //! A planned consistency point, and how it is written.
 
-ghost use Rattle.std.specs.Prelude.{◌≡◌, ◌⊎◌, ℕ, ◌+◌, ◌<◌, OnOk, length, min, IsTrue, ◌↔◌};
+ghost use Rattle.std.specs.Prelude.{◌≡◌, ◌⊎◌, ℕ, ◌+◌, ◌<◌, List, OnOk, IfErr, length, min, IsTrue, ◌↔◌};
 ghost use Rattle.station.specs.Moments.{MayLeave, EachCut, Shows, Goes, LeavesOnly};
 ghost use Rattle.station.specs.Calls.{OnlyWrites};
+ghost use Rattle.buffers.specs.Disks.{ShowsDisk, disk_with_sector};
 ghost use Rattle.conspoint.specs.Plans.{Planned, ArePlanned, IsPlanned, IsSlot, FitsDisk};
-ghost use Rattle.conspoint.specs.Cuts.{StaysOutside, HoldsWritten, HasNewRoot, IsAnyFault};
+ghost use Rattle.conspoint.specs.Cuts.{StaysOutside, HoldsWritten, HasNewRoot, IsFault, disk_so_far};
 
-use buffers::Block;
+use buffers::{Block, BufferError, Buffers};
 use layout::{BlockNumber, ROOT_BYTES};
-use station::{DeviceFault, Station};
+use station::Station;
 use std::marker::Model;
 
 /// A block that is to be written.
@@ -63,69 +64,86 @@ impl Plan {
         self.written == self.blocks.len()
     }
 
-    /// Writes up to so many of the blocks that aren't written yet. It takes no memory.
+    /// Writes up to so many of the blocks that aren't written yet, and what is kept of the disk follows. It takes no memory.
     pub fn write_some<S: Station>(
         &mut self,
-        station: &mut S,
+        buffers: &mut Buffers<S>,
         count: usize,
-    ) -> Result<(), DeviceFault>
-        requires fits { FitsDisk (S.meaning station.old).sectors self.old }
+    ) -> Result<(), BufferError>
+        requires fits { FitsDisk (S.meaning buffers.old.station).sectors self.old }
         ensures plan { self.new ≡ record self.old { written = self.new.written } }
         ensures next { OnOk result (self.new.written
             ≡ min (length self.old.blocks) (self.old.written + count)) }
-        ensures writes { OnlyWrites IsAnyFault
-            (S.meaning station.old) (S.meaning station.new) result }
+        ensures writes { OnlyWrites IsFault
+            (S.meaning buffers.old.station) (S.meaning buffers.new.station) result }
+        ensures device { IfErr result IsFault }
         ensures goes { Goes (StaysOutside self.old.blocks)
-            (S.meaning station.old) (S.meaning station.new) }
-        ensures written { Shows (S.meaning station.old) (HoldsWritten self.old)
-            → OnOk result (Shows (S.meaning station.new) (HoldsWritten self.new)) }
+            (S.meaning buffers.old.station) (S.meaning buffers.new.station) }
+        ensures written { Shows (S.meaning buffers.old.station) (HoldsWritten self.old)
+            → OnOk result (Shows (S.meaning buffers.new.station) (HoldsWritten self.new)) }
+        ensures shows { (disk : ℕ → List ℕ)
+            → ShowsDisk (S.meaning buffers.old.station) buffers.old.kept
+            (disk_so_far self.old disk)
+            → OnOk result (ShowsDisk (S.meaning buffers.new.station) buffers.new.kept
+            (disk_so_far self.new disk)) }
     {
         let left = self.blocks.len() - self.written;
         for _ in 0..count.min(left) {
-            self.write_next(station)?;
+            self.write_next(buffers)?;
         }
         Ok(())
     }
 
     /// Writes the next block.
-    fn write_next<S: Station>(&mut self, station: &mut S) -> Result<(), DeviceFault>
-        requires fits { FitsDisk (S.meaning station.old).sectors self.old }
+    fn write_next<S: Station>(&mut self, buffers: &mut Buffers<S>) -> Result<(), BufferError>
+        requires fits { FitsDisk (S.meaning buffers.old.station).sectors self.old }
         requires more { self.old.written < length self.old.blocks }
         ensures plan { self.new ≡ record self.old { written = self.new.written } }
         ensures next { OnOk result (self.new.written ≡ self.old.written + 1) }
-        ensures writes { OnlyWrites IsAnyFault
-            (S.meaning station.old) (S.meaning station.new) result }
+        ensures writes { OnlyWrites IsFault
+            (S.meaning buffers.old.station) (S.meaning buffers.new.station) result }
+        ensures device { IfErr result IsFault }
         ensures goes { Goes (StaysOutside self.old.blocks)
-            (S.meaning station.old) (S.meaning station.new) }
-        ensures written { Shows (S.meaning station.old) (HoldsWritten self.old)
-            → OnOk result (Shows (S.meaning station.new) (HoldsWritten self.new)) }
+            (S.meaning buffers.old.station) (S.meaning buffers.new.station) }
+        ensures written { Shows (S.meaning buffers.old.station) (HoldsWritten self.old)
+            → OnOk result (Shows (S.meaning buffers.new.station) (HoldsWritten self.new)) }
+        ensures shows { (disk : ℕ → List ℕ)
+            → ShowsDisk (S.meaning buffers.old.station) buffers.old.kept
+            (disk_so_far self.old disk)
+            → OnOk result (ShowsDisk (S.meaning buffers.new.station) buffers.new.kept
+            (disk_so_far self.new disk)) }
     {
         let block = &self.blocks[self.written];
-        station.write_block(block.place.get(), block.bytes.bytes())?;
+        buffers.store(block.place, block.bytes.bytes())?;
         self.written += 1;
         Ok(())
     }
 
     /// Brings the new root into force, once all blocks are written. It takes no memory.
-    pub fn finish<S: Station>(&self, station: &mut S) -> Result<(), DeviceFault>
-        requires fits { FitsDisk (S.meaning station.old).sectors self.now }
+    pub fn finish<S: Station>(&self, buffers: &mut Buffers<S>) -> Result<(), BufferError>
+        requires fits { FitsDisk (S.meaning buffers.old.station).sectors self.now }
         requires all { self.now.written ≡ length self.now.blocks }
-        ensures writes { OnlyWrites IsAnyFault
-            (S.meaning station.old) (S.meaning station.new) result }
+        ensures writes { OnlyWrites IsFault
+            (S.meaning buffers.old.station) (S.meaning buffers.new.station) result }
+        ensures device { IfErr result IsFault }
         // A cut at any moment leaves what one might have left before, or all the blocks with the new root.
-        ensures any_moment { Shows (S.meaning station.old) (HoldsWritten self.now)
-            → LeavesOnly (S.meaning station.old) (S.meaning station.new)
-            (λ c. MayLeave (S.meaning station.old) c
-            ⊎ HasNewRoot self.now (S.meaning station.old).seen c) }
-        ensures settled { Shows (S.meaning station.old) (HoldsWritten self.now)
-            → OnOk result (EachCut (S.meaning station.new)
-            (HasNewRoot self.now (S.meaning station.old).seen)) }
+        ensures any_moment { Shows (S.meaning buffers.old.station) (HoldsWritten self.now)
+            → LeavesOnly (S.meaning buffers.old.station) (S.meaning buffers.new.station)
+            (λ c. MayLeave (S.meaning buffers.old.station) c
+            ⊎ HasNewRoot self.now (S.meaning buffers.old.station).seen c) }
+        ensures settled { Shows (S.meaning buffers.old.station) (HoldsWritten self.now)
+            → OnOk result (EachCut (S.meaning buffers.new.station)
+            (HasNewRoot self.now (S.meaning buffers.old.station).seen)) }
+        ensures shows { (disk : ℕ → List ℕ)
+            → ShowsDisk (S.meaning buffers.old.station) buffers.old.kept disk
+            → OnOk result (ShowsDisk (S.meaning buffers.new.station) buffers.new.kept
+            (disk_with_sector self.now.slot self.now.root disk)) }
     {
         // The blocks are settled before the root is written: it would lead to what isn't there.
-        station.sync()?;
+        buffers.sync()?;
         // The root is settled before the answer: a cut could take it back.
-        station.write_sector(self.slot, &self.root)?;
-        station.sync()?;
+        buffers.store_sector(self.slot, &self.root)?;
+        buffers.sync()?;
         Ok(())
     }
 }

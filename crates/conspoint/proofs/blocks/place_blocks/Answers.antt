@@ -1,4 +1,4 @@
-use Rattle.std.proofs.Common.{◌≡◌, ℕ, List, length, length-append, ap, sym, subst, ◌∙◌, arith}
+use Rattle.std.proofs.Common.{◌≡◌, ℕ, ◌<◌, ◌≤◌, List, length, length-append, ap, sym, subst, ◌∙◌, arith}
 use Rattle.std.proofs.lemmas.List.{get_or_default}
 use Rattle.layout.specs.Places.{pointed}
 use Rattle.layout.specs.declared.pointer.Pointer.{Pointer}
@@ -28,7 +28,11 @@ loop-i-preserved c =
     record {
       grows = grows_twice c.args.draft.now c.loop-i.draft c.place_block.new.draft so_far.grows now;
       count = ap (λ (xs : List Pointer). length xs) c.in_ok-push.ensures.items ∙ (length-append nodes _ ∙ omega (arith, so_far.count));
-      blocks = λ e has. rw c.in_ok-push.ensures.items (each_more (λ j q. pointed e q ≡ changed_or c.args.tree.now j (pointed e (pointer_at settled j))) nodes p i so_far.count (so_far.blocks e (now.has e has))
+      before = rw c.in_ok-push.ensures.items (each_more (λ j q. j < c.args.first → q ≡ pointer_at settled j) nodes p i so_far.count so_far.before
+          (λ lt. c.in_ok-place_block.ensures.before lt ∙ settled_is));
+      blocks = λ e has. rw c.in_ok-push.ensures.items (each_more (λ j q. c.args.first ≤ j → pointed e q ≡ changed_or c.args.tree.now j (pointed e (pointer_at settled j))) nodes p i so_far.count (so_far.blocks e (now.has e has))
           (rw settled_is at (c.in_ok-place_block.ensures.block e has)));
+      parts = c.place_block.ensures.parts ∙ so_far.parts;
+      others = λ x is. c.place_block.ensures.others x (so_far.others x is);
       placed = rw c.in_ok-push.ensures.items (placed_more c.args.draft.now c.loop-i.draft c.place_block.new.draft settled nodes p so_far.grows now so_far.placed from c.in_ok-place_block.ensures.within);
     }

@@ -2,7 +2,7 @@ use Rattle.std.proofs.Common.{◌<◌, length, length-set, sym, ◌∙◌, arith
 use Rattle.std.proofs.lemmas.List.{get_or_default}
 use Rattle.layout.specs.declared.pointer.Pointer.TheVariants.{Hole}
 use Rattle.conspoint.proofs.DraftLemmas.{grows_twice}
-use Rattle.conspoint.proofs.ClosureLemmas.{closed_more}
+use Rattle.conspoint.proofs.ClosureLemmas.{closed_more, taken_more}
 use Rattle.conspoint.proofs.closure.reserve_map.Goals as goal
 
 pub move_node-requires : goal.move_node-requires
@@ -25,6 +25,10 @@ loop-k-preserved c =
     record {
       grows = grows_twice c.args.draft.now c.loop-k.draft c.move_node.new.draft so_far.grows now;
       size = length-set _ _ _ ∙ so_far.size;
+      entries = λ b. c.move_node.ensures.entries b ∙ so_far.entries b;
+      others = λ x is. c.move_node.ensures.others x (so_far.others x is);
+      taken = taken_more c.args.draft.now c.loop-k.draft c.move_node.new.draft c.loop-k.places k c.in_ok-move_node.field-0 so_far.grows now so_far.taken
+          c.in-Some.ensures.found.0 c.in_ok-move_node.ensures.taken;
       closed = closed_more c.loop-k.draft c.move_node.new.draft settled c.loop-k.places k c.in_ok-move_node.field-0 now c.move_node.ensures.others so_far.closed
           c.in-Some.ensures.found.0 c.in_ok-move_node.ensures.taken.from c.in_ok-move_node.ensures.reserved c.in_ok-move_node.ensures.new
           (λ b is. c.in_ok-move_node.ensures.old b (settled_is ∙ is));
