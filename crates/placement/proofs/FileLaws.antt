@@ -1,0 +1,88 @@
+-- A file that is laid out is placed.
+use Rattle.std.proofs.Common.{◌≡◌, ◌↔◌, inl, inr, ℕ, ◌/◌, ◌%◌, ◌≤◌, List, get_or, Contains, refl, ap, sym, ◌∙◌, arith}
+use Rattle.std.specs.Prelude.{true, ◌==◌, nat_eq, if◌then◌else◌}
+use Rattle.std.specs.Cmp.{IsEquivalence}
+use Rattle.std.proofs.lemmas.Bool.{cases_lt, cond_below, cond_above, eqb-true, eq-eqb}
+use Rattle.std.proofs.lemmas.Bool.Decides.{nat_tests}
+use Rattle.std.proofs.lemmas.Map.Views.{list_any-from_Contains, Contains-from_any}
+use Rattle.layout.specs.Bytes.{zeros}
+use Rattle.layout.specs.FileBytes.{byte_in, EndsAt}
+use Rattle.layout.specs.Limits.{Sizes}
+use Rattle.layout.specs.Places.{Blocks}
+use Rattle.layout.specs.declared.inode.Body.{Body}
+use Rattle.layout.specs.declared.inode.Inode.{Inode}
+use Rattle.images.specs.Contents.{content_of}
+use Rattle.images.specs.Nodes.{held}
+use Rattle.images.specs.Soundness.{IsSoundFile}
+use Rattle.blocktree.specs.Places.{block_count}
+use Rattle.inode.specs.Files as files
+use Rattle.inode.specs.declared.object.Object.{Object}
+use Rattle.conspoint.specs.declared.draft.Draft.{Draft}
+use Rattle.placement.specs.declared.nodes.Nodes.{Nodes}
+use Rattle.placement.specs.Files.{IsChangeOf, IsPlaced, is_one, content_with, object_block, with_first}
+use Rattle.placement.specs.Layouts.{inode_with, AreSettled, IsLaidOut}
+use Rattle.placement.specs.Nodes.{HasMoved, ArePlacedOver}
+use Rattle.placement.proofs.InlineLaws.{zero_byte}
+use Rattle.placement.proofs.MovedLaws.{comes, named, stays, freed_are, once_after}
+
+nat_equivalence : IsEquivalence nat_eq
+nat_equivalence = record {
+  refl = λ x. eq-eqb x x refl;
+  symm = λ x y. grind (arith, nat_tests);
+  congr = λ x y z e. ap (λ k. nat_eq k z) (eqb-true x y e);
+}
+
+-- membership of a list, as a test
+pub one_of : (xs : List ℕ) (b : ℕ) → Contains xs b → is_one xs b ≡ true
+one_of xs b has = list_any-from_Contains nat_equivalence b xs has
+
+pub of_one : (xs : List ℕ) (b : ℕ) → is_one xs b ≡ true → Contains xs b
+of_one xs b is = Contains-from_any (λ x y e. eqb-true x y e) b xs is
+
+-- past its size an object has zeros
+pub object_ends : (d : Blocks) (o : Object) → files.IsFile d o.file → EndsAt o.file.size (byte_in (object_block d o))
+object_ends d o ends p le = elim (cases_lt (p / 4096) (block_count o.file.size)) [
+  | inl lt ↦ ap (λ xs. get_or xs (p % 4096) 0) (sym (cond_below (p / 4096) (block_count o.file.size) (files.file_block d o.file (p / 4096)) (zeros 4096) lt)) ∙ ends p le
+  | inr ge ↦ ap (λ xs. get_or xs (p % 4096) 0) (sym (cond_above (p / 4096) (block_count o.file.size) (files.file_block d o.file (p / 4096)) (zeros 4096) (zeros 4096) ge refl)) ∙ zero_byte 4096 (p % 4096)
+]
+
+-- and so it has with another first block
+pub first_ends : (bytes : List ℕ) (block : ℕ → List ℕ) (size : ℕ) → 4096 ≤ size → EndsAt size (byte_in block) → EndsAt size (byte_in (with_first bytes block))
+first_ends bytes block size large ends p le = let some : 1 ≤ p / 4096 = omega (arith, le, large) in ap (λ xs. get_or xs (p % 4096) 0) (sym (other_first (p / 4096) bytes (block (p / 4096)) some)) ∙ ends p le
+  where
+    other_first : (k : ℕ) (x y : List ℕ) → 1 ≤ k → y ≡ (if k == 0 then x else y)
+    other_first k x y some = grind (arith, nat_tests)
+
+module _ (s : Sizes) (old new : Draft) (d e : Blocks) (base : Inode) (o : Object) (body : Body) (block : ℕ → List ℕ) (settled placed : Nodes) (change : IsChangeOf s old d base o)
+    (known : AreSettled d base o.file.tree settled) (laid : IsLaidOut s e block (inode_with o body) placed) (ends : EndsAt o.file.size (byte_in block)) (over : ArePlacedOver old new settled placed)
+    (taken freed : List ℕ) (took : (b : ℕ) → Contains taken b ↔ HasMoved placed settled b) (left : (b : ℕ) → Contains freed b ↔ HasMoved settled placed b) where
+  pub content_is : content_of (held e (inode_with o body)) ≡ content_with o block
+  unfolding held
+  content_is = λ j. record { kind = o.attributes.kind; mode = o.attributes.mode; links = o.attributes.links; size = o.file.size; block = λ i. laid.blocks i j }
+
+  sound_is : IsSoundFile s (held e (inode_with o body))
+  unfolding held
+  sound_is = record {
+    inode = record { mode = change.mode; size = o.file.within; kind = change.kind; body = laid.body };
+    indirect = laid.indirect;
+    ends = λ p le. ap (λ xs. get_or xs (p % 4096) 0) (laid.blocks (p / 4096)) ∙ ends p le;
+  }
+
+  pub file_placed : IsPlaced s e (held d base) (inode_with o body) (is_one taken) (is_one freed)
+  file_placed =
+      let before = held d base in
+      let after = held e (inode_with o body) in
+      record {
+        comes = λ b names. elim (comes old new before after settled placed known.nodes laid.nodes over change.used change.once b names) [
+          | inl was ↦ inl was
+          | inr moved ↦ inr (one_of taken b ((took b).1 moved))
+        ];
+        named = λ b is. named old new before after settled placed known.nodes laid.nodes over change.used change.once b ((took b).0 (of_one taken b is));
+        stays = λ b names. elim (stays old new before after settled placed known.nodes laid.nodes over change.used change.once b names) [
+          | inl there ↦ inl there
+          | inr moved ↦ inr (one_of freed b ((left b).1 moved))
+        ];
+        freed_are = λ b is. freed_are old new before after settled placed known.nodes laid.nodes over change.used change.once b ((left b).0 (of_one freed b is));
+        once = once_after old new before after settled placed known.nodes laid.nodes over change.used change.once;
+        sound = sound_is;
+      }

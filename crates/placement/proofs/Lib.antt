@@ -1,0 +1,9 @@
+mod PlacedLaws
+mod MovedLaws
+mod HeldLaws
+mod StandLaws
+mod InlineLaws
+mod FileLaws
+mod SettledLaws
+mod ListLaws
+mod FirstLaws

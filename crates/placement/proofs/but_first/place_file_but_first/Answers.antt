@@ -1,0 +1,40 @@
+use Rattle.std.proofs.Common.{sym, subst, ◌≡◌}
+use Rattle.images.specs.Contents.{content_of}
+use Rattle.images.specs.Nodes.{held}
+use Rattle.placement.specs.Files.{IsBasedOn, IsPlaced, content_with, is_one, object_block, with_first}
+use Rattle.placement.specs.Layouts.{AreSettled}
+use Rattle.placement.proofs.FileLaws.{content_is, file_placed, object_ends, of_one, first_ends}
+use Rattle.placement.proofs.MovedLaws.{moved_taken}
+use Rattle.placement.proofs.but_first.place_file_but_first.Goals as goal
+
+pub returns-clause-given : goal.returns-clause-given
+returns-clause-given g c = λ b is.
+    moved_taken c.args.draft.now c.lay_but_first.new.draft c.in_ok-settled.settled c.in_ok-all.all.0.nodes b c.in_ok-all.ensures.placed ((c.in_ok-placed.ensures.taken b).0 (of_one c.in_ok-placed.placed.taken.items b is))
+
+pub returns-clause-placed : goal.returns-clause-placed
+returns-clause-placed g c = λ s disk base shows change e has same.
+    let o = c.args.object.now in
+    let settled = c.in_ok-settled.settled in
+    let laid = c.in_ok-all.all.0 in
+    let placed = c.in_ok-placed.placed in
+    let known = subst (λ t. AreSettled disk base t settled) c.tree.ensures (c.in_ok-settled.ensures.settled s disk base shows (subst (IsBasedOn base) (sym c.tree.ensures) change.based) change.sound) in
+    let stands = c.in_ok-all.ensures.stands s disk base change known e has same in
+    let block = with_first (e c.in_ok-all.all.1) (object_block disk o) in
+    let ends = first_ends (e c.in_ok-all.all.1) (object_block disk o) o.file.size c.requires.some (object_ends disk o change.ends) in
+    subst (λ f. IsPlaced s e (held disk base) f (is_one placed.taken.items) (is_one placed.freed.items)) (sym c.in_ok-placed.ensures.inode)
+    (file_placed s c.args.draft.now c.lay_but_first.new.draft disk e base o laid.body block settled laid.nodes change known stands ends c.in_ok-all.ensures.placed
+    placed.taken.items placed.freed.items c.in_ok-placed.ensures.taken c.in_ok-placed.ensures.freed)
+
+pub returns-clause-content : goal.returns-clause-content
+returns-clause-content g c = λ s disk base shows change e has same.
+    let o = c.args.object.now in
+    let settled = c.in_ok-settled.settled in
+    let laid = c.in_ok-all.all.0 in
+    let placed = c.in_ok-placed.placed in
+    let known = subst (λ t. AreSettled disk base t settled) c.tree.ensures (c.in_ok-settled.ensures.settled s disk base shows (subst (IsBasedOn base) (sym c.tree.ensures) change.based) change.sound) in
+    let stands = c.in_ok-all.ensures.stands s disk base change known e has same in
+    let block = with_first (e c.in_ok-all.all.1) (object_block disk o) in
+    let ends = first_ends (e c.in_ok-all.all.1) (object_block disk o) o.file.size c.requires.some (object_ends disk o change.ends) in
+    subst (λ f. content_of (held e f) ≡ content_with o block) (sym c.in_ok-placed.ensures.inode)
+    (content_is s c.args.draft.now c.lay_but_first.new.draft disk e base o laid.body block settled laid.nodes change known stands ends c.in_ok-all.ensures.placed
+    placed.taken.items placed.freed.items c.in_ok-placed.ensures.taken c.in_ok-placed.ensures.freed)

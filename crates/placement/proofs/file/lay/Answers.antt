@@ -1,0 +1,17 @@
+use Rattle.std.proofs.Common.{rules, ℕ, ◌<◌, subst, arith}
+use Rattle.blocktree.specs.Places.{IsPath}
+use Rattle.placement.proofs.SettledLaws.{paths_sound}
+use Rattle.placement.proofs.file.lay.Goals as goal
+
+pub returns-then-level_of-eq0-clause-stands : goal.returns-then-level_of-eq0-clause-stands
+returns-then-level_of-eq0-clause-stands g c = λ s disk base shows change known e has same. c.in_ok-small.ensures.stands s disk e shows change.ends
+
+pub returns-in_err-small-clause-damaged : goal.returns-in_err-small-clause-damaged
+returns-in_err-small-clause-damaged g c = λ s disk base shows change blocks bad.
+    let t = c.args.object.now.file.tree in
+    c.in_err-small.ensures.damaged disk shows (search rules)
+    (λ not kept. let low : 0 < t.count = omega (arith, kept, t.fits.1) in
+    subst (λ (n : ℕ). IsPath n disk t.pointers t.depth t.count 0) blocks (paths_sound s disk base t change.based change.sound 0 low))
+
+pub returns-clause-stands : goal.returns-clause-stands
+returns-clause-stands g c = λ s disk base shows change known. c.in_ok-laid.ensures.stands s disk base change known

@@ -1,0 +1,75 @@
+-- What a changed file is that a consistency point places, and what its new inode comes to.
+use Rattle.std.specs.Prelude.{ℕ, suc, ◌≡◌, ◌⊎◌, ◌≤◌, ◌==◌, Bool, true, List, nat_lt, if◌then◌else◌}
+use Rattle.std.specs.List.{list_any}
+use Rattle.layout.specs.Bytes.{zeros}
+use Rattle.layout.specs.Inode.{FitsKind}
+use Rattle.layout.specs.Limits.{Sizes}
+use Rattle.layout.specs.Places.{Blocks}
+use Rattle.layout.specs.Version.{level_of}
+use Rattle.layout.specs.declared.TheConstants.{BLOCK_BYTES}
+use Rattle.layout.specs.declared.inode.Body.TheVariants.{Pointers}
+use Rattle.layout.specs.declared.inode.Inode.{Inode}
+use Rattle.images.specs.Contents.{Content}
+use Rattle.images.specs.Nodes.{Held, held, Names, IsOnce}
+use Rattle.images.specs.Soundness.{IsSoundFile}
+use Rattle.blocktree.specs.Places.{block_count}
+use Rattle.blocktree.specs.declared.tree.BlockTree.{BlockTree}
+use Rattle.inode.specs.Files.{file_block, IsFile}
+use Rattle.inode.specs.declared.object.Object.{Object}
+use Rattle.blockmap.specs.Maps.{IsFree}
+use Rattle.conspoint.specs.declared.draft.Draft.{Draft}
+
+-- A file's blocks in memory lie over those that hang from a settled inode, or over none.
+pub data IsBasedOn (base : Inode) (t : BlockTree) : Type 0 where
+  settled : (body : base.body ≡ Pointers t.pointers) → (level : level_of base.size ≡ suc t.depth)
+      → (count : t.count ≡ block_count base.size) → IsBasedOn base t
+  none : (level : level_of base.size ≡ 0) → (count : t.count ≡ 0) → IsBasedOn base t
+
+-- block i of an object in memory: zeros past its end
+abbrev pub object_block : Blocks → Object → ℕ → List ℕ
+object_block disk o i =
+    if nat_lt i (block_count o.file.size) then file_block disk o.file i else zeros BLOCK_BYTES
+
+-- what an object in memory is, with these blocks
+abbrev pub content_with : Object → (ℕ → List ℕ) → Content
+content_with o block = record {
+  kind = o.attributes.kind;
+  mode = o.attributes.mode;
+  links = o.attributes.links;
+  size = o.file.size;
+  block = block;
+}
+
+-- what an object in memory is, over a disk
+abbrev pub object_content : Blocks → Object → Content
+object_content disk o = content_with o (object_block disk o)
+
+-- these blocks, with other bytes as the first
+abbrev pub with_first : List ℕ → (ℕ → List ℕ) → ℕ → List ℕ
+with_first bytes block i = if i == 0 then bytes else block i
+
+-- An object in memory over its settled inode, on a disk, in an image of these sizes: both are in their grammar, and under the
+-- map of the draft the settled one's blocks are in use.
+pub record IsChangeOf (s : Sizes) (d : Draft) (disk : Blocks) (base : Inode) (o : Object) : Type 0 where
+  pub blocks : s.blocks ≡ d.map.count
+  pub based : IsBasedOn base o.file.tree
+  pub sound : IsSoundFile s (held disk base)
+  pub once : IsOnce (held disk base)
+  pub used : (b : ℕ) → Names (held disk base) b → IsFree d.map.parts.items b → ⊥
+  pub ends : IsFile disk o.file
+  pub mode : o.attributes.mode ≤ 4095
+  pub kind : FitsKind o.attributes.kind s o.attributes.mode o.attributes.links o.file.size
+
+-- b is one of these
+abbrev pub is_one : List ℕ → ℕ → Bool
+is_one blocks b = list_any (λ x. b == x) blocks
+
+-- A file's new inode, on a disk e that has the blocks planned for it. It stands in blocks of the file before and in the taken ones,
+-- each for one node; of the blocks before, those are freed that it doesn't name.
+pub record IsPlaced (s : Sizes) (e : Blocks) (old : Held) (f : Inode) (taken freed : ℕ → Bool) : Type 0 where
+  pub comes : (b : ℕ) → Names (held e f) b → Names old b ⊎ (taken b ≡ true)
+  pub named : (b : ℕ) → taken b ≡ true → Names (held e f) b
+  pub stays : (b : ℕ) → Names old b → Names (held e f) b ⊎ (freed b ≡ true)
+  pub freed_are : (b : ℕ) → freed b ≡ true → Names old b × (Names (held e f) b → ⊥)
+  pub once : IsOnce (held e f)
+  pub sound : IsSoundFile s (held e f)

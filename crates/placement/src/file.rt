@@ -1,0 +1,304 @@
+//! A changed file, placed.
+
+ghost use Rattle.std.specs.Prelude.{◌≡◌, ℕ, ◌<◌, ◌≤◌, true, List, [], length, All, Contains, ◌↔◌, IfOk, IfErr, OnOk, IsErrOf};
+ghost use Rattle.layout.specs.Limits.{Sizes};
+ghost use Rattle.layout.specs.Pointer.{PointsBelow};
+ghost use Rattle.layout.specs.Version.{level_of};
+ghost use Rattle.layout.specs.declared.inode.Inode.{Inode};
+ghost use Rattle.images.specs.Contents.{content_of};
+ghost use Rattle.images.specs.Nodes.{held, Agrees, Names};
+ghost use Rattle.images.specs.Soundness.{IsSoundFile};
+ghost use Rattle.buffers.specs.Failures.{HasGrown};
+ghost use Rattle.blocktree.specs.Places.{block_count};
+ghost use Rattle.blocktree.specs.Trees.{IsSoundAt};
+ghost use Rattle.inode.specs.Files.{IsFile};
+ghost use Rattle.conspoint.specs.Drafts.{OnEach, Grows, IsFull, IsReserved, IsShortage, WasTaken};
+ghost use Rattle.placement.specs.Files.{IsChangeOf, IsPlaced, is_one, object_block, object_content};
+ghost use Rattle.placement.specs.Layouts.{AreSettled, Carries, IsLaidOut, LeadTo, StandsIn, inode_with};
+ghost use Rattle.placement.specs.Nodes.{ArePlacedAt, ArePlacedOver, HasMoved};
+
+use crate::blocks::place_lowest;
+use crate::indirect::place_indirect;
+use crate::inline::inline_bytes;
+use crate::nodes::{Nodes, body_of, moved};
+use crate::settled::settled_nodes;
+use buffers::Blocks;
+use conspoint::{Draft, PlanError};
+use inode::Object;
+use layout::{BlockNumber, Body, Inode, Pointer, level_of};
+use std::alloc::{AllocError, Global};
+
+/// A file that has places for all its nodes.
+#[derive(Debug, Drop)]
+pub struct PlacedFile {
+    /// Its new inode.
+    pub inode: Inode,
+    /// The blocks that were given out for it.
+    pub taken: Vec<BlockNumber>,
+    /// The blocks that its settled inode names and the new one doesn't.
+    pub freed: Vec<BlockNumber>,
+}
+
+/// The nodes of a file, and what its inode says of them.
+#[derive(Debug, Drop)]
+pub(crate) struct Laid {
+    pub(crate) nodes: Nodes,
+    pub(crate) body: Body,
+}
+
+/// How many blocks an object has.
+pub(crate) fn block_count(object: &Object) -> usize
+    ensures { result ≡ block_count object.now.file.size }
+{
+    object.file.size().div_ceil(4096) as usize
+}
+
+/// A file of level 1: its inode has the pointers to its blocks.
+fn lay_direct(alloc: Global, object: &Object, blocks: Vec<Pointer>) -> Laid
+    requires level { level_of object.now.file.size ≡ 1 }
+    requires count { length blocks.items ≡ block_count object.now.file.size }
+    ensures blocks { result.nodes.blocks.items ≡ blocks.items }
+    ensures over { result.nodes.over.items ≡ [] }
+    ensures stands { (s : Sizes) (e : ℕ → List ℕ) (block : ℕ → List ℕ)
+        → All (PointsBelow s.blocks) blocks.items → LeadTo e blocks.items block
+        → IsLaidOut s e block (inode_with object.now result.body) result.nodes }
+{
+    let body = Body::Pointers(body_of(&blocks));
+    let nodes = Nodes {
+        blocks,
+        over: Vec::new(alloc),
+    };
+    Laid { nodes, body }
+}
+
+/// A file of level 2: its inode has the pointers to the indirect blocks over its blocks.
+fn lay_indirect(
+    alloc: Global,
+    draft: &mut Draft,
+    object: &Object,
+    settled: &Nodes,
+    blocks: Vec<Pointer>,
+) -> Result<Laid, PlanError>
+    requires level { level_of object.now.file.size ≡ 2 }
+    requires count { length blocks.items ≡ block_count object.now.file.size }
+    requires blocks { All (PointsBelow draft.old.map.count) blocks.items }
+    requires over { All (PointsBelow draft.old.map.count) settled.now.over.items }
+    ensures grows { Grows draft.old draft.new }
+    ensures parts { draft.new.map.parts.items ≡ draft.old.map.parts.items }
+    ensures others { (p : ℕ) → IsReserved draft.old p → IsReserved draft.new p }
+    ensures full { IsErrOf result PlanError.NoSpace → IsFull draft.new }
+    ensures shortage { IfErr result IsShortage }
+    ensures blocks { IfOk result (λ l. l.nodes.blocks.items ≡ blocks.items) }
+    ensures over { IfOk result (λ l.
+        ArePlacedAt draft.old draft.new settled.now.over.items l.nodes.over.items) }
+    ensures stands { (s : Sizes) (disk : ℕ → List ℕ) (base : Inode)
+        → s.blocks ≡ draft.old.map.count → IsSoundFile s (held disk base)
+        → AreSettled disk base object.now.file.tree settled.now → IfOk result (λ l.
+        Carries s draft.new disk base blocks.items (inode_with object.now l.body) l.nodes) }
+{
+    let over = place_indirect(alloc, draft, settled, &blocks)?;
+    let body = Body::Pointers(body_of(&over));
+    let nodes = Nodes { blocks, over };
+    Ok(Laid { nodes, body })
+}
+
+/// A file with these blocks, at the level that its size has, which isn't 0.
+pub(crate) fn lay_over(
+    alloc: Global,
+    draft: &mut Draft,
+    object: &Object,
+    settled: &Nodes,
+    blocks: Vec<Pointer>,
+) -> Result<Laid, PlanError>
+    requires level { 1 ≤ level_of object.now.file.size }
+    requires count { length blocks.items ≡ block_count object.now.file.size }
+    requires blocks { All (PointsBelow draft.old.map.count) blocks.items }
+    requires over { All (PointsBelow draft.old.map.count) settled.now.over.items }
+    ensures grows { Grows draft.old draft.new }
+    ensures parts { draft.new.map.parts.items ≡ draft.old.map.parts.items }
+    ensures others { (p : ℕ) → IsReserved draft.old p → IsReserved draft.new p }
+    ensures full { IsErrOf result PlanError.NoSpace → IsFull draft.new }
+    ensures shortage { IfErr result IsShortage }
+    ensures blocks { IfOk result (λ l. l.nodes.blocks.items ≡ blocks.items) }
+    ensures over { IfOk result (λ l.
+        ArePlacedAt draft.old draft.new settled.now.over.items l.nodes.over.items) }
+    ensures stands { (s : Sizes) (disk : ℕ → List ℕ) (base : Inode)
+        → s.blocks ≡ draft.old.map.count → IsSoundFile s (held disk base)
+        → AreSettled disk base object.now.file.tree settled.now → IfOk result (λ l.
+        Carries s draft.new disk base blocks.items (inode_with object.now l.body) l.nodes) }
+{
+    if level_of(object.file.size()) == 1 {
+        return Ok(lay_direct(alloc, object, blocks));
+    }
+    let laid = lay_indirect(alloc, draft, object, settled, blocks)?;
+    Ok(laid)
+}
+
+/// An object that isn't of level 0, over the nodes of its settled inode.
+fn lay_blocks(
+    alloc: Global,
+    draft: &mut Draft,
+    object: &Object,
+    settled: &Nodes,
+) -> Result<Laid, PlanError>
+    requires level { 1 ≤ level_of object.now.file.size }
+    requires blocks { All (PointsBelow draft.old.map.count) settled.now.blocks.items }
+    requires over { All (PointsBelow draft.old.map.count) settled.now.over.items }
+    ensures grows { Grows draft.old draft.new }
+    ensures parts { draft.new.map.parts.items ≡ draft.old.map.parts.items }
+    ensures others { (p : ℕ) → IsReserved draft.old p → IsReserved draft.new p }
+    ensures full { IsErrOf result PlanError.NoSpace → IsFull draft.new }
+    ensures shortage { IfErr result IsShortage }
+    ensures placed { IfOk result (λ l. ArePlacedOver draft.old draft.new settled.now l.nodes) }
+    ensures stands { (s : Sizes) (disk : ℕ → List ℕ) (base : Inode)
+        → IsChangeOf s draft.old disk base object.now
+        → AreSettled disk base object.now.file.tree settled.now
+        → IfOk result (λ l.
+        StandsIn s draft.new disk base object.now (inode_with object.now l.body) l.nodes) }
+{
+    let count = block_count(object);
+    let blocks = place_lowest(alloc, draft, object.file.tree(), 0, &settled.blocks, count)?;
+    let laid = lay_over(alloc, draft, object, settled, blocks)?;
+    Ok(laid)
+}
+
+/// An object of level 0: its inode has its bytes.
+fn lay_inline<B: Blocks>(alloc: Global, blocks: &mut B, object: &Object) -> Result<Laid, PlanError>
+    requires level { level_of object.now.file.size ≡ 0 }
+    ensures count { B.count blocks.new ≡ B.count blocks.old }
+    ensures counted { OnOk result (B.failed blocks.new ≡ B.failed blocks.old) }
+    ensures device { IsErrOf result PlanError.Device
+        → HasGrown (B.failed blocks.old) (B.failed blocks.new) }
+    ensures reads { (start : B) → B.ReadsOn start blocks.old → B.ReadsOn start blocks.new }
+    ensures same { (disk : ℕ → List ℕ) → B.Shows blocks.old disk → B.Shows blocks.new disk }
+    ensures none { IfOk result (λ l. (l.nodes.blocks.items ≡ []) × (l.nodes.over.items ≡ [])) }
+    ensures stands { (s : Sizes) (disk : ℕ → List ℕ) (e : ℕ → List ℕ) → B.Shows blocks.old disk
+        → IsFile disk object.now.file → IfOk result (λ l.
+        IsLaidOut s e (object_block disk object.now) (inode_with object.now l.body) l.nodes) }
+    ensures damaged { (disk : ℕ → List ℕ) → B.Shows blocks.old disk
+        → IsErrOf result PlanError.Damaged
+        → IsSoundAt (B.count blocks.old) disk object.now.file.tree 0 → ⊥ }
+    ensures why { IsErrOf result PlanError.NoSpace → ⊥ }
+{
+    let body = Body::Inline(inline_bytes(alloc, blocks, &object.file)?);
+    let nodes = Nodes {
+        blocks: Vec::new(alloc),
+        over: Vec::new(alloc),
+    };
+    Ok(Laid { nodes, body })
+}
+
+/// An object at the level that its size has, over the nodes of its settled inode.
+fn lay<B: Blocks>(
+    alloc: Global,
+    draft: &mut Draft,
+    blocks: &mut B,
+    object: &Object,
+    settled: &Nodes,
+) -> Result<Laid, PlanError>
+    requires blocks { All (PointsBelow draft.old.map.count) settled.now.blocks.items }
+    requires over { All (PointsBelow draft.old.map.count) settled.now.over.items }
+    ensures count { B.count blocks.new ≡ B.count blocks.old }
+    ensures counted { OnOk result (B.failed blocks.new ≡ B.failed blocks.old) }
+    ensures device { IsErrOf result PlanError.Device
+        → HasGrown (B.failed blocks.old) (B.failed blocks.new) }
+    ensures reads { (start : B) → B.ReadsOn start blocks.old → B.ReadsOn start blocks.new }
+    ensures same { (disk : ℕ → List ℕ) → B.Shows blocks.old disk → B.Shows blocks.new disk }
+    ensures grows { Grows draft.old draft.new }
+    ensures parts { draft.new.map.parts.items ≡ draft.old.map.parts.items }
+    ensures others { (p : ℕ) → IsReserved draft.old p → IsReserved draft.new p }
+    ensures full { IsErrOf result PlanError.NoSpace → IsFull draft.new }
+    ensures placed { IfOk result (λ l. ArePlacedOver draft.old draft.new settled.now l.nodes) }
+    ensures stands { (s : Sizes) (disk : ℕ → List ℕ) (base : Inode) → B.Shows blocks.old disk
+        → IsChangeOf s draft.old disk base object.now
+        → AreSettled disk base object.now.file.tree settled.now
+        → IfOk result (λ l.
+        StandsIn s draft.new disk base object.now (inode_with object.now l.body) l.nodes) }
+    ensures damaged { (s : Sizes) (disk : ℕ → List ℕ) (base : Inode) → B.Shows blocks.old disk
+        → IsChangeOf s draft.old disk base object.now → s.blocks ≡ B.count blocks.old
+        → IsErrOf result PlanError.Damaged → ⊥ }
+{
+    if level_of(object.file.size()) == 0 {
+        let small = lay_inline(alloc, blocks, object)?;
+        return Ok(small);
+    }
+    let laid = lay_blocks(alloc, draft, object, settled)?;
+    Ok(laid)
+}
+
+/// What a file that is laid out comes to, over the nodes of its settled inode.
+pub(crate) fn placed_file(
+    alloc: Global,
+    object: &Object,
+    settled: &Nodes,
+    laid: Laid,
+) -> Result<PlacedFile, AllocError>
+    ensures inode { IfOk result (λ p. p.inode ≡ inode_with object.now laid.body) }
+    ensures taken { IfOk result (λ p. (b : ℕ)
+        → Contains p.taken.items b ↔ HasMoved laid.nodes settled.now b) }
+    ensures freed { IfOk result (λ p. (b : ℕ)
+        → Contains p.freed.items b ↔ HasMoved settled.now laid.nodes b) }
+    ensures taken_within { (count : ℕ) → All (PointsBelow count) laid.nodes.blocks.items
+        → All (PointsBelow count) laid.nodes.over.items
+        → IfOk result (λ p. All (λ b. b < count) p.taken.items) }
+    ensures freed_within { (count : ℕ) → All (PointsBelow count) settled.now.blocks.items
+        → All (PointsBelow count) settled.now.over.items
+        → IfOk result (λ p. All (λ b. b < count) p.freed.items) }
+{
+    let Laid { nodes, body } = laid;
+    let taken = moved(alloc, &nodes, settled)?;
+    let freed = moved(alloc, settled, &nodes)?;
+    let inode = Inode {
+        kind: object.attributes.kind,
+        mode: object.attributes.mode,
+        links: object.attributes.links,
+        size: object.file.size(),
+        body,
+    };
+    Ok(PlacedFile {
+        inode,
+        taken,
+        freed,
+    })
+}
+
+/// Gives places to the blocks of a changed object that differ from those of its settled inode, and to the indirect blocks
+/// over them, and so a new inode. An indirect block under which nothing moved stays where it is.
+pub fn place_file<B: Blocks>(
+    alloc: Global,
+    draft: &mut Draft,
+    blocks: &mut B,
+    object: &Object,
+) -> Result<PlacedFile, PlanError>
+    requires { B.count blocks.old ≡ draft.old.map.count }
+    ensures count { B.count blocks.new ≡ B.count blocks.old }
+    ensures counted { OnOk result (B.failed blocks.new ≡ B.failed blocks.old) }
+    ensures device { IsErrOf result PlanError.Device
+        → HasGrown (B.failed blocks.old) (B.failed blocks.new) }
+    ensures reads { (start : B) → B.ReadsOn start blocks.old → B.ReadsOn start blocks.new }
+    ensures same { (disk : ℕ → List ℕ) → B.Shows blocks.old disk → B.Shows blocks.new disk }
+    ensures grows { Grows draft.old draft.new }
+    ensures parts { draft.new.map.parts.items ≡ draft.old.map.parts.items }
+    ensures others { (p : ℕ) → IsReserved draft.old p → IsReserved draft.new p }
+    ensures taken { IfOk result (λ p. All (λ b. b < draft.old.map.count) p.taken.items) }
+    ensures freed { IfOk result (λ p. All (λ b. b < draft.old.map.count) p.freed.items) }
+    ensures given { IfOk result (λ p. (b : ℕ) → is_one p.taken.items b ≡ true
+        → WasTaken draft.old draft.new b) }
+    // On each disk that has the planned blocks, and those that the settled inode names as they are.
+    ensures placed { (s : Sizes) (disk : ℕ → List ℕ) (base : Inode) → B.Shows blocks.old disk
+        → IsChangeOf s draft.old disk base object.now
+        → IfOk result (λ p. OnEach draft.new (λ e. Agrees (Names (held disk base)) disk e
+        → IsPlaced s e (held disk base) p.inode (is_one p.taken.items) (is_one p.freed.items))) }
+    ensures content { (s : Sizes) (disk : ℕ → List ℕ) (base : Inode) → B.Shows blocks.old disk
+        → IsChangeOf s draft.old disk base object.now
+        → IfOk result (λ p. OnEach draft.new (λ e. Agrees (Names (held disk base)) disk e
+        → content_of (held e p.inode) ≡ object_content disk object.now)) }
+    ensures full { IsErrOf result PlanError.NoSpace → IsFull draft.new }
+    ensures damaged { (s : Sizes) (disk : ℕ → List ℕ) (base : Inode) → B.Shows blocks.old disk
+        → IsChangeOf s draft.old disk base object.now → IsErrOf result PlanError.Damaged → ⊥ }
+{
+    let settled = settled_nodes(alloc, blocks, object.file.tree())?;
+    let laid = lay(alloc, draft, blocks, object, &settled)?;
+    let placed = placed_file(alloc, object, &settled, laid)?;
+    Ok(placed)
+}

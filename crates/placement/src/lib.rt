@@ -1,0 +1,14 @@
+//! Places of a changed file for a consistency point: its blocks and the indirect blocks over them get places on the disk, and
+//! from them comes its new inode, at whichever level its size has.
+#![tactic(auto)]
+
+mod blocks;
+mod but_first;
+mod file;
+mod indirect;
+mod inline;
+mod nodes;
+mod settled;
+
+pub use but_first::place_file_but_first;
+pub use file::{PlacedFile, place_file};
