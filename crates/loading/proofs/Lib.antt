@@ -1,0 +1,6 @@
+mod FileLaws
+mod MapLaws
+mod EndLaws
+mod TreeLaws
+mod LoadLaws
+mod ReadyLaws

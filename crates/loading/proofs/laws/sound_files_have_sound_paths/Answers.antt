@@ -1,0 +1,6 @@
+use Rattle.std.proofs.Common.{refl}
+use Rattle.loading.proofs.FileLaws.{body_path}
+use Rattle.loading.proofs.laws.sound_files_have_sound_paths.Goals as goal
+
+pub returns : goal.returns
+returns c = λ s disk f i sound. body_path s disk f i f.body refl sound

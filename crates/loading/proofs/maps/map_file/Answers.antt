@@ -1,0 +1,26 @@
+use Rattle.std.proofs.Common.{rules, sym, subst}
+use Rattle.loading.specs.Readings.{IsBodyPath}
+use Rattle.loading.proofs.EndLaws.{all_stored, file_ends, map_file_is, starts_sound, starts_sound_at}
+use Rattle.loading.proofs.maps.map_file.Goals as goal
+
+pub returns-in_err-check_stored-clause-damaged : goal.returns-in_err-check_stored-clause-damaged
+returns-in_err-check_stored-clause-damaged g c = λ disk shows is paths map.
+    c.in_err-check_stored.ensures.damaged disk shows (search rules)
+    (starts_sound (g.B.Blocks.count c.args.blocks.now) disk c.args.inode.body c.args.inode.size c.in_ok-file.file.tree c.in_ok-file.ensures.settled paths)
+    (all_stored disk c.args.inode.body c.args.inode.size c.in_ok-file.file.tree c.in_ok-file.ensures.settled map.stored)
+
+pub returns-in_err-check_end-clause-damaged : goal.returns-in_err-check_end-clause-damaged
+returns-in_err-check_end-clause-damaged g c = λ disk shows is paths map.
+    c.in_err-check_end.ensures.damaged disk (c.in_ok-check_stored.ensures.shown disk shows) (search rules)
+    (λ i. starts_sound_at (g.B.Blocks.count c.check_stored.new.blocks) disk c.args.inode.body c.args.inode.size i c.in_ok-file.file.tree c.in_ok-file.file.tree.fits.1
+    c.in_ok-file.ensures.settled (subst (λ n. IsBodyPath n disk c.args.inode.body c.args.inode.size i) (sym c.in_ok-check_stored.ensures.count) (paths i)))
+    (file_ends disk c.args.inode c.in_ok-file.file c.in_ok-file.ensures.size (c.in_ok-file.ensures.blocks disk) map.ends)
+
+pub returns-clause-sound : goal.returns-clause-sound
+returns-clause-sound g c = λ disk count i path.
+    starts_sound_at count disk c.args.inode.body c.args.inode.size i c.in_ok-file.file.tree c.in_ok-file.file.tree.fits.1 c.in_ok-file.ensures.settled path
+
+pub returns-clause-file : goal.returns-clause-file
+returns-clause-file g c = λ disk shows.
+    map_file_is disk c.args.inode c.in_ok-file.file c.in_ok-file.ensures.settled (c.in_ok-check_stored.ensures.stored disk shows) c.in_ok-file.ensures.size
+    (c.in_ok-file.ensures.blocks disk) (c.in_ok-check_end.ensures.ends disk (c.in_ok-check_stored.ensures.shown disk shows))

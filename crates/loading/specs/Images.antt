@@ -1,0 +1,54 @@
+-- What memory has of the image under a root, in the words of what images mean.
+use Rattle.std.specs.Prelude.{ℕ, ◌≡◌, length}
+use Rattle.std.specs.Int.{div_ceil}
+use Rattle.layout.specs.Limits.{Sizes}
+use Rattle.layout.specs.Places.{Blocks}
+use Rattle.layout.specs.declared.TheConstants.{BLOCK_POINTERS}
+use Rattle.layout.specs.declared.inode.Inode.{Inode}
+use Rattle.layout.specs.declared.kind.Kind.TheVariants.{Directory}
+use Rattle.layout.specs.declared.numbers.TheConstants.{ROOT_NUMBER}
+use Rattle.layout.specs.declared.root.Root.{Root}
+use Rattle.model.specs.Volumes.{Volume}
+use Rattle.inofile.specs.Settled.{AreSettled}
+use Rattle.inofile.specs.Inodes.{IsChanged}
+use Rattle.inofile.specs.Volumes.{IsVolumeOf}
+use Rattle.inofile.specs.declared.inode_file.InodeFile.{InodeFile}
+use Rattle.blockmap.specs.Maps.{settled_at, entry_at, IsTouched}
+use Rattle.blockmap.specs.declared.map.BlockMap.{BlockMap}
+use Rattle.images.specs.Contents.{HoldsVolume, bytes_of, content_of, contents}
+use Rattle.images.specs.BlockMap.{entry}
+use Rattle.images.specs.Roots.{HeldTree, whole}
+use Rattle.images.specs.Soundness.{IsSoundTree}
+
+-- the active tree under a root is in its grammar, and its root directory is a directory
+pub record IsReadable (disk : Blocks) (r : Root) : Type 0 where
+  pub sound : IsSoundTree r.geometry (whole disk r).active
+  pub root : ((whole disk r).active ROOT_NUMBER).inode.kind ≡ Directory
+
+-- the inodes of a tree by number
+abbrev pub inodes_of : HeldTree → ℕ → Inode
+inodes_of t n = (t n).inode
+
+-- The map in memory has the entries of a tree's map, for so many blocks. None is changed, and no block is given out.
+pub record IsMapOf (t : HeldTree) (blocks : ℕ) (map : BlockMap) : Type 0 where
+  pub count : map.count ≡ blocks
+  pub next : map.next ≡ 2
+  pub parts : length map.parts.items ≡ div_ceil blocks BLOCK_POINTERS
+  pub settled : (b : ℕ) → settled_at map.parts.items b ≡ entry t b
+  pub entries : (b : ℕ) → entry_at map.parts.items b ≡ entry t b
+  pub untouched : (j : ℕ) → IsTouched map.parts.items j → ⊥
+
+-- The inodes in memory are those of a tree, in an image of these sizes, and so are the numbers that are in use. None is
+-- changed: memory stands for the volume that the tree holds.
+pub record AreInodesOf (disk : Blocks) (s : Sizes) (t : HeldTree) (inodes : InodeFile) : Type 0 where
+  pub geometry : inodes.geometry ≡ s
+  pub settled : AreSettled s.blocks disk s inodes.file (inodes_of t)
+  pub numbers : inodes.numbers.bytes.items ≡ bytes_of (content_of (t 1))
+  pub unchanged : (n : ℕ) → IsChanged inodes n → ⊥
+  pub volume : (v : Volume) → HoldsVolume s.inodes (contents t) v
+      → IsVolumeOf s.blocks disk (inodes_of t) inodes v
+
+-- what was loaded is what a disk has under a root
+pub record IsLoaded (disk : Blocks) (r : Root) (entries : BlockMap) (files : InodeFile) : Type 0 where
+  pub map : IsMapOf (whole disk r).active r.geometry.blocks entries
+  pub inodes : AreInodesOf disk r.geometry (whole disk r).active files

@@ -1,0 +1,47 @@
+-- Statements of laws: what is read of files and trees in their grammar is what images mean.
+use Rattle.std.specs.Prelude.{ℕ, ◌≡◌, ◌<◌, ◌≤◌}
+use Rattle.layout.specs.Inode.{IsInode, inode_bytes}
+use Rattle.layout.specs.Limits.{Sizes, AreSizes}
+use Rattle.layout.specs.Places.{Blocks}
+use Rattle.layout.specs.declared.inode.Inode.{Inode}
+use Rattle.layout.specs.declared.version.TheConstants.{VERSION}
+use Rattle.inode.specs.Bodies.{inode_block}
+use Rattle.images.specs.Nodes.{file_block, held}
+use Rattle.images.specs.Roots.{free_inode, inode_bytes_at, tree}
+use Rattle.images.specs.Soundness.{HasNoHole, IsSoundFile}
+use Rattle.loading.specs.Readings.{IsBodyPath, IsMapFile}
+
+-- a file in its grammar reads as it is held
+abbrev pub ReadAsHeld : Type 0
+ReadAsHeld = (s : Sizes) (disk : Blocks) (f : Inode) → IsSoundFile s (held disk f)
+    → inode_block disk f ≡ file_block (held disk f)
+
+-- all that stands over its blocks is in its grammar
+abbrev pub HaveSoundPaths : Type 0
+HaveSoundPaths = (s : Sizes) (disk : Blocks) (f : Inode) (i : ℕ) → IsSoundFile s (held disk f)
+    → IsBodyPath s.blocks disk f.body f.size i
+
+-- where it has no hole, all its blocks are stored
+abbrev pub AreMapFiles : Type 0
+AreMapFiles = (s : Sizes) (disk : Blocks) (f : Inode) → IsSoundFile s (held disk f) → HasNoHole (held disk f)
+    → IsMapFile disk f
+
+-- a tree has the inodes that the inode file's bytes spell
+abbrev pub SpellTrees : Type 0
+SpellTrees = (s : Sizes) (disk : Blocks) (top i : Inode) (n : ℕ)
+    → AreSizes s → 1 ≤ n → n < s.inodes → IsInode VERSION s i
+    → inode_bytes_at (file_block (held disk top)) n ≡ inode_bytes i
+    → tree disk s.inodes top n ≡ held disk i
+
+-- and past the last number free ones
+abbrev pub EndTrees : Type 0
+EndTrees = (disk : Blocks) (inodes : ℕ) (top : Inode) (n : ℕ) → 1 ≤ n → inodes ≤ n
+    → tree disk inodes top n ≡ held disk free_inode
+
+-- all of these
+pub record TreesReadAsHeld : Type 0 where
+  pub reads : ReadAsHeld
+  pub paths : HaveSoundPaths
+  pub stored : AreMapFiles
+  pub spells : SpellTrees
+  pub ends : EndTrees

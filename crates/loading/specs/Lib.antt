@@ -1,0 +1,4 @@
+pub mod InodeBlocks
+pub mod Readings
+pub mod Images
+pub mod Laws

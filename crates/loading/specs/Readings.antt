@@ -1,0 +1,50 @@
+-- What is read of the two maps, block by block of their files.
+use Rattle.std.specs.Prelude.{ℕ, ◌≡◌, ◌≢◌, ◌<◌, List, length, slice_index_or}
+use Rattle.layout.specs.FileBytes.{byte_in, first_bytes, EndsAt}
+use Rattle.layout.specs.Places.{Blocks, place}
+use Rattle.layout.specs.declared.inode.Body.{Body}
+use Rattle.layout.specs.declared.inode.Body.TheVariants.{Inline, Pointers}
+use Rattle.layout.specs.declared.inode.Inode.{Inode}
+use Rattle.layout.specs.declared.pointer.Pointer.TheVariants.{Hole}
+use Rattle.blocktree.specs.Places.{block_count, depth_of, IsPath}
+use Rattle.blocktree.specs.declared.tree.BlockTree.{BlockTree}
+use Rattle.inode.specs.Bodies.{inode_block}
+use Rattle.blockmap.specs.Parts.{Part, Spells}
+use Rattle.blockmap.specs.Maps.{no_part, IsTouched}
+
+-- on a disk of so many blocks, all that stands over block i of a file with this body and size is in the grammar
+abbrev pub IsBodyPath : ℕ → Blocks → Body → ℕ → ℕ → Type 0
+IsBodyPath blocks disk (Inline bytes) size i = Unit {0}
+IsBodyPath blocks disk (Pointers pointers) size i =
+    i < block_count size → IsPath blocks disk pointers (depth_of size) (block_count size) i
+
+-- all blocks of a file with this body and size are stored
+abbrev pub IsStored : Blocks → Body → ℕ → Type 0
+IsStored disk (Inline bytes) size = Unit {0}
+IsStored disk (Pointers pointers) size =
+    (i : ℕ) → i < block_count size → place disk pointers (depth_of size) i ≢ Hole
+
+-- all settled blocks of a tree are stored
+abbrev pub HasAllPlaces : Blocks → BlockTree → Type 0
+HasAllPlaces disk t = (i : ℕ) → i < t.count → place disk t.pointers t.depth i ≢ Hole
+
+-- the byte at a position of the file of a settled inode
+abbrev pub inode_byte : Blocks → Inode → ℕ → ℕ
+inode_byte disk inode = byte_in (inode_block disk inode)
+
+-- the bytes of the file of a settled inode
+abbrev pub inode_bytes_of : Blocks → Inode → List ℕ
+inode_bytes_of disk inode = first_bytes (inode_byte disk inode) inode.size
+
+-- the file of a map: all its blocks are stored, and zeros stand past its end
+pub record IsMapFile (disk : Blocks) (inode : Inode) : Type 0 where
+  pub stored : IsStored disk inode.body inode.size
+  pub ends : EndsAt inode.size (inode_byte disk inode)
+
+-- a block map of so many blocks was read: the entries are settled, and none is changed
+pub record AreParts (block : ℕ → List ℕ) (count : ℕ) (parts : List Part) : Type 0 where
+  pub count_is : length parts ≡ count
+  pub settled : (j : ℕ) → j < count → Spells (block j) (slice_index_or parts j no_part).settled
+  pub same : (j : ℕ)
+      → (slice_index_or parts j no_part).entries ≡ (slice_index_or parts j no_part).settled
+  pub untouched : (j : ℕ) → IsTouched parts j → ⊥

@@ -1,0 +1,170 @@
+//! The blocks of the inode file, as mount tests them.
+
+ghost use Rattle.std.specs.Prelude.{◌≡◌, ◌↔◌, ℕ, ◌+◌, ◌*◌, ◌<◌, ◌≤◌, ◌^◌, List, IsTrue, OnOk, IfOk, IfSome, IsErrOf, Some, slice_index};
+ghost use Rattle.layout.specs.Inode.{IsInode, inode_bytes};
+ghost use Rattle.layout.specs.declared.TheConstants.{BLOCK_BYTES};
+ghost use Rattle.layout.specs.declared.inode.Inode.{Inode};
+ghost use Rattle.layout.specs.declared.version.TheConstants.{VERSION};
+ghost use Rattle.buffers.specs.Failures.{HasGrown};
+ghost use Rattle.blocktree.specs.Trees.{IsSoundAt};
+ghost use Rattle.inode.specs.Files.{file_block};
+ghost use Rattle.images.specs.Roots.{inode_part};
+ghost use Rattle.images.specs.Soundness.{IsOrdinary};
+ghost use Rattle.loading.specs.InodeBlocks.{AreInodeBlocks, FitsPlace, IsInodeAt, IsInodeBlock};
+
+use blocktree::ReadError;
+use buffers::Blocks;
+use inode::File;
+use layout::{BLOCK_BYTES, Geometry, INODE_BYTES, INODES_PER_BLOCK, Inode, Kind, ROOT_NUMBER};
+
+/// Tests all blocks of a settled inode file.
+pub(crate) fn check_inodes<B: Blocks>(
+    blocks: &mut B,
+    file: &File,
+    geometry: Geometry,
+) -> Result<(), ReadError>
+    ensures count { B.count blocks.new ≡ B.count blocks.old }
+    ensures counted { OnOk result (B.failed blocks.new ≡ B.failed blocks.old) }
+    ensures device { IsErrOf result ReadError.Device
+        → HasGrown (B.failed blocks.old) (B.failed blocks.new) }
+    ensures reads { (start : B) → B.ReadsOn start blocks.old → B.ReadsOn start blocks.new }
+    ensures shown { (disk : ℕ → List ℕ) → B.Shows blocks.old disk → B.Shows blocks.new disk }
+    ensures are { (disk : ℕ → List ℕ) → B.Shows blocks.old disk
+        → OnOk result (AreInodeBlocks geometry (file_block disk file.now)) }
+    ensures damaged { (disk : ℕ → List ℕ) → B.Shows blocks.old disk
+        → IsErrOf result ReadError.Damaged
+        → ((i : ℕ) → IsSoundAt (B.count blocks.old) disk file.now.tree i)
+        → AreInodeBlocks geometry (file_block disk file.now) → ⊥ }
+{
+    for i in 0..geometry.inodes().div_ceil(INODES_PER_BLOCK) {
+        let location = file.locate(blocks, i)?;
+        let bytes = file.bytes(blocks, i, location);
+        if !is_inode_block(bytes, INODES_PER_BLOCK * i, geometry) {
+            return Err(ReadError::Damaged);
+        }
+    }
+    Ok(())
+}
+
+/// The inode at a place of block 0 of a settled inode file, where it is of this kind.
+pub(crate) fn own_inode<B: Blocks>(
+    blocks: &mut B,
+    file: &File,
+    number: u32,
+    kind: Kind,
+    geometry: Geometry,
+) -> Result<Inode, ReadError>
+    requires { number < INODES_PER_BLOCK }
+    ensures count { B.count blocks.new ≡ B.count blocks.old }
+    ensures counted { OnOk result (B.failed blocks.new ≡ B.failed blocks.old) }
+    ensures device { IsErrOf result ReadError.Device
+        → HasGrown (B.failed blocks.old) (B.failed blocks.new) }
+    ensures reads { (start : B) → B.ReadsOn start blocks.old → B.ReadsOn start blocks.new }
+    ensures shown { (disk : ℕ → List ℕ) → B.Shows blocks.old disk → B.Shows blocks.new disk }
+    ensures is { IfOk result (IsInode VERSION geometry) }
+    ensures kind { IfOk result (λ i. i.kind ≡ kind) }
+    ensures spelled { (disk : ℕ → List ℕ) → B.Shows blocks.old disk
+        → IfOk result (λ i. inode_part (file_block disk file.now 0) number ≡ inode_bytes i) }
+    ensures damaged { (disk : ℕ → List ℕ) → B.Shows blocks.old disk
+        → IsErrOf result ReadError.Damaged
+        → IsSoundAt (B.count blocks.old) disk file.now.tree 0
+        → (i : Inode) → IsInode VERSION geometry i → i.kind ≡ kind
+        → inode_part (file_block disk file.now 0) number ≡ inode_bytes i → ⊥ }
+{
+    let location = file.locate(blocks, 0)?;
+    let bytes = file.bytes(blocks, 0, location);
+    match read_inode(part(bytes, number), geometry) {
+        Some(inode) if inode.kind == kind => Ok(inode),
+        _ => Err(ReadError::Damaged),
+    }
+}
+
+/// The inode that these bytes spell in an image of this geometry.
+fn read_inode(bytes: &[u8], geometry: Geometry) -> Option<Inode>
+    ensures found { IfSome result (λ i. IsInode VERSION geometry i
+        × (bytes.now ≡ inode_bytes i)) }
+    ensures only { (i : Inode) → IsInode VERSION geometry i → bytes.now ≡ inode_bytes i
+        → result ≡ Some i }
+{
+    let _ = geometry.inodes();
+    let inode = Inode::read(bytes)?;
+    if inode.fits(geometry) {
+        Some(inode)
+    } else {
+        None
+    }
+}
+
+/// Whether these bytes are a block of an inode file whose first inode stands at this place.
+fn is_inode_block(bytes: &[u8; BLOCK_BYTES], first: u32, geometry: Geometry) -> bool
+    requires { first + INODES_PER_BLOCK < 2 ^ 32 }
+    ensures { IsTrue result ↔ IsInodeBlock geometry first bytes.now }
+{
+    for k in 0..INODES_PER_BLOCK {
+        if !is_inode_at(part(bytes, k), first + k, geometry) {
+            return false;
+        }
+    }
+    is_zero_from(bytes, INODE_BYTES * INODES_PER_BLOCK as usize)
+}
+
+/// The bytes of one inode of a block.
+fn part(bytes: &[u8; BLOCK_BYTES], index: u32) -> &[u8]
+    requires { index < INODES_PER_BLOCK }
+    ensures { result.now ≡ inode_part bytes.now index }
+{
+    let at = INODE_BYTES * index as usize;
+    &bytes[at..at + INODE_BYTES]
+}
+
+/// Whether these bytes are the inode at this place of an inode file.
+fn is_inode_at(bytes: &[u8], place: u32, geometry: Geometry) -> bool
+    ensures { IsTrue result ↔ IsInodeAt geometry place bytes.now }
+{
+    match read_inode(bytes, geometry) {
+        Some(inode) => kind_fits(inode.kind, place, geometry.inodes()),
+        None => false,
+    }
+}
+
+/// Whether the inode at a place may have this kind: the file system's own have theirs, and none is in use at place 0 and past
+/// the last number.
+fn kind_fits(kind: Kind, place: u32, inodes: u32) -> bool
+    requires { ROOT_NUMBER < inodes }
+    ensures { IsTrue result ↔ FitsPlace inodes place kind }
+{
+    if place >= inodes {
+        return kind == Kind::Free;
+    }
+    match place {
+        0 => kind == Kind::Free,
+        1 => kind == Kind::InodeMap,
+        2 => kind == Kind::BlockMap,
+        ROOT_NUMBER => kind == Kind::Directory,
+        _ => is_ordinary(kind),
+    }
+}
+
+/// Whether an object may have this kind.
+fn is_ordinary(kind: Kind) -> bool
+    ensures { IsTrue result ↔ IsOrdinary kind }
+{
+    match kind {
+        Kind::Free | Kind::File | Kind::Directory | Kind::Link => true,
+        Kind::InodeFile | Kind::InodeMap | Kind::BlockMap => false,
+    }
+}
+
+/// Whether each byte of a block from one on is 0.
+pub(crate) fn is_zero_from(bytes: &[u8; BLOCK_BYTES], from: usize) -> bool
+    requires { from ≤ BLOCK_BYTES }
+    ensures { IsTrue result
+        ↔ ((i : ℕ) → from ≤ i → i < BLOCK_BYTES → slice_index bytes.now i ≡ 0) }
+{
+    for i in from..BLOCK_BYTES {
+        if bytes[i] != 0 {
+            return false;
+        }
+    }
+    true
+}

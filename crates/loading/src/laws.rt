@@ -1,0 +1,53 @@
+//! A settled file as the layers below read it, and as images hold it.
+
+ghost use Rattle.std.specs.Prelude.{List};
+ghost use Rattle.layout.specs.Places.{Blocks};
+ghost use Rattle.layout.specs.declared.root.Root.{Root};
+ghost use Rattle.model.specs.Paths.{Name};
+ghost use Rattle.model.specs.Trees.{Tree};
+ghost use Rattle.model.specs.Volumes.{Volume};
+ghost use Rattle.images.specs.Roots.{whole};
+ghost use Rattle.images.specs.States.{Holds};
+ghost use Rattle.loading.specs.Images.{IsReadable};
+ghost use Rattle.loading.specs.Laws.{AreMapFiles, HaveSoundPaths, ReadAsHeld, TreesReadAsHeld};
+
+use images::{
+    blocks_are_where_pointers_lead, inline_bytes_are_the_first_block,
+    inodes_are_what_their_bytes_spell,
+};
+
+/// A file in its grammar reads as it is held. It does nothing.
+pub fn sound_files_read_as_held()
+    ensures { ReadAsHeld }
+{
+    blocks_are_where_pointers_lead();
+    inline_bytes_are_the_first_block();
+}
+
+/// All that stands over a block of a file in its grammar is in its grammar. It does nothing.
+pub fn sound_files_have_sound_paths()
+    ensures { HaveSoundPaths }
+{}
+
+/// Of a file in its grammar that has no hole all blocks are stored, and zeros stand past its end. It does nothing.
+pub fn files_without_holes_are_stored()
+    ensures { AreMapFiles }
+{
+    sound_files_read_as_held();
+}
+
+/// What is under a root that holds a volume is readable. It does nothing.
+pub fn volumes_are_readable()
+    ensures { (disk : Blocks) (r : Root) (first : Volume) (snapshots : List (Name × Tree))
+        → Holds r (whole disk r) first snapshots → IsReadable disk r }
+{}
+
+/// What is read of a tree in its grammar is what the tree has. It does nothing.
+pub(crate) fn trees_read_as_held()
+    ensures { TreesReadAsHeld }
+{
+    sound_files_read_as_held();
+    sound_files_have_sound_paths();
+    files_without_holes_are_stored();
+    inodes_are_what_their_bytes_spell();
+}

@@ -1,0 +1,64 @@
+//! All that mount reads under a root.
+
+ghost use Rattle.std.specs.Prelude.{◌≡◌, ◌⊎◌, ℕ, List, OnOk, IfOk, IsErrOf, MatchResult};
+ghost use Rattle.layout.specs.Maps.{IsInodeMap};
+ghost use Rattle.layout.specs.Root.{IsRoot};
+ghost use Rattle.buffers.specs.Failures.{HasGrown};
+ghost use Rattle.inode.specs.Files.{file_block};
+ghost use Rattle.loading.specs.InodeBlocks.{AreInodeBlocks};
+
+use crate::inodes::{check_inodes, own_inode};
+use crate::laws::trees_read_as_held;
+use crate::maps::{load_numbers, load_parts};
+use blockmap::BlockMap;
+use blocktree::ReadError;
+use buffers::Blocks;
+use inode::File;
+use inofile::InodeFile;
+use layout::{Kind, Root};
+use std::alloc::Global;
+
+/// What memory has of an image: the block map, and the inodes.
+#[derive(Debug, Drop)]
+pub struct Loaded {
+    pub map: BlockMap,
+    pub inodes: InodeFile,
+}
+
+ghost use Rattle.loading.specs.Images.{IsLoaded, IsReadable};
+
+/// Reads the inode file, the inode map and the block map under a root, and tests them. Where the root's tree is in its
+/// grammar, what is loaded is what the tree has, and Err comes only for want of memory and where a device call failed.
+/// `Damaged` comes where an inode, a map's bytes or an indirect block over these isn't in its grammar, where the inodes
+/// don't have the kinds of their numbers, and where a map has a hole or bytes past its end.
+pub fn load<B: Blocks>(alloc: Global, blocks: &mut B, root: &Root) -> Result<Loaded, ReadError>
+    requires root { IsRoot root.now }
+    requires size { B.count blocks.old ≡ root.now.geometry.blocks }
+    ensures count { B.count blocks.new ≡ B.count blocks.old }
+    ensures counted { OnOk result (B.failed blocks.new ≡ B.failed blocks.old) }
+    ensures device { IsErrOf result ReadError.Device
+        → HasGrown (B.failed blocks.old) (B.failed blocks.new) }
+    ensures reads { (start : B) → B.ReadsOn start blocks.old → B.ReadsOn start blocks.new }
+    ensures shown { (disk : ℕ → List ℕ) → B.Shows blocks.old disk → B.Shows blocks.new disk }
+    ensures blocks { IfOk result (λ l. l.map.count ≡ root.now.geometry.blocks) }
+    ensures geometry { IfOk result (λ l. l.inodes.geometry ≡ root.now.geometry) }
+    ensures numbers { IfOk result (λ l. IsInodeMap 0 root.now.geometry.inodes
+        l.inodes.numbers.bytes.items) }
+    ensures inodes { (disk : ℕ → List ℕ) → B.Shows blocks.old disk
+        → IfOk result (λ l. AreInodeBlocks root.now.geometry (file_block disk l.inodes.file)) }
+    ensures loads { (disk : ℕ → List ℕ) → B.Shows blocks.old disk → IsReadable disk root.now
+        → MatchResult result (λ l. IsLoaded disk root.now l.map l.inodes)
+        (λ e. (e ≡ ReadError.NoMemory) ⊎ (e ≡ ReadError.Device)) }
+{
+    trees_read_as_held();
+    let geometry = root.geometry;
+    let file = File::load(alloc, root.inode_file)?;
+    check_inodes(blocks, &file, geometry)?;
+    let inode_map = own_inode(blocks, &file, 1, Kind::InodeMap, geometry)?;
+    let block_map = own_inode(blocks, &file, 2, Kind::BlockMap, geometry)?;
+    let numbers = load_numbers(alloc, blocks, inode_map, geometry)?;
+    let parts = load_parts(alloc, blocks, block_map, geometry)?;
+    let map = BlockMap::new(parts, geometry.blocks());
+    let inodes = InodeFile::new(alloc, geometry, file, numbers);
+    Ok(Loaded { map, inodes })
+}
