@@ -1,0 +1,5 @@
+pub mod Links
+pub mod Loads
+pub mod Tests
+pub mod Walks
+pub mod Objects

@@ -1,0 +1,72 @@
+-- Objects in memory, as those of the volume that they stand for.
+use Rattle.std.proofs.Common.{◌≡◌, ◌≢◌, ℕ, ◌/◌, List, [], Option, Some, None, IsSome, true, false, refl, sym, ap, subst, arith}
+use Rattle.std.specs.List.Sorted.{IsStrictlySortedBy}
+use Rattle.dirs.specs.Directory.{AreDirectoryBlocks}
+use Rattle.dirs.specs.Listings.{IsListing}
+use Rattle.layout.specs.DirectoryNames.{NameMap, HoldNames}
+use Rattle.layout.specs.declared.kind.Kind.{Kind}
+use Rattle.layout.specs.declared.kind.Kind.TheVariants as kinds
+use Rattle.layout.specs.declared.inode.Inode.{Inode}
+use Rattle.images.specs.Contents.{StandsAs, bytes_of}
+use Rattle.inode.specs.Files.{file_block}
+use Rattle.inode.specs.declared.object.Object.{Object}
+use Rattle.inofile.specs.Objects.{IsObject, IsObjectKind}
+use Rattle.inofile.specs.Settled.{content_of}
+use Rattle.model.specs.Paths.{Name}
+use Rattle.model.specs.Volumes.{Node, directory_node, names_in}
+use Rattle.paths.specs.Steps.{text_in}
+
+module _ (disk : ℕ → List ℕ) (inodes : ℕ) (settled : Inode) (o : Object) (node : Option Node) (object : IsObject disk inodes settled o node) where
+  -- it stands for what its kind says
+  stands : (kind : Kind) → o.attributes.kind ≡ kind → StandsAs kind inodes (content_of disk o) node
+  stands kind is = subst (λ k. StandsAs k inodes (content_of disk o) node) is object.stands
+
+  -- a directory's names
+  pub names_of : o.attributes.kind ≡ kinds.Directory → (names : NameMap) × HoldNames inodes (o.file.size / 4096) (file_block disk o.file) names × (node ≡ Some (directory_node o.attributes.mode names))
+  names_of is = stands kinds.Directory is
+
+  -- its blocks
+  pub blocks_of : o.attributes.kind ≡ kinds.Directory → AreDirectoryBlocks inodes (o.file.size / 4096) (file_block disk o.file)
+  blocks_of is = λ i below. let d = names_of is in (d.1.entries i, d.1.holds i below)
+
+  -- what is told of its names, is told of the object's
+  pub of_names : (P : NameMap → Type 0) → o.attributes.kind ≡ kinds.Directory → ((names : NameMap) → HoldNames inodes (o.file.size / 4096) (file_block disk o.file) names → P names)
+      → P (names_in node)
+  of_names P is told = let d = names_of is in subst (λ n. P (names_in n)) (sym d.2) (told d.0 d.1)
+
+  pub link_text : o.attributes.kind ≡ kinds.Link → bytes_of (content_of disk o) ≡ text_in node
+  link_text is = sym (ap text_in (stands kinds.Link is))
+
+  -- what is no directory has no names
+  no_names : (kind : Kind) → (kind ≢ kinds.Directory) → IsObjectKind kind → StandsAs kind inodes (content_of disk o) node → (x : Name) → names_in node x ≡ None
+  no_names kinds.Free other kind is x = absurd kind
+  no_names kinds.File other kind is x = ap (λ n. names_in n x) is
+  no_names kinds.Directory other kind is x = absurd (other refl)
+  no_names kinds.Link other kind is x = ap (λ n. names_in n x) is
+  no_names kinds.InodeFile other kind is x = absurd kind
+  no_names kinds.InodeMap other kind is x = absurd kind
+  no_names kinds.BlockMap other kind is x = absurd kind
+
+  pub without_names : (o.attributes.kind ≢ kinds.Directory) → (x : Name) → names_in node x ≡ None
+  without_names other x = no_names o.attributes.kind other object.kind object.stands x
+
+  -- what is no link has no text
+  no_text : (kind : Kind) → (kind ≢ kinds.Link) → IsObjectKind kind → StandsAs kind inodes (content_of disk o) node → text_in node ≡ []
+  no_text kinds.Free other kind is = absurd kind
+  no_text kinds.File other kind is = ap text_in is
+  no_text kinds.Directory other kind is = ap text_in is.2
+  no_text kinds.Link other kind is = absurd (other refl)
+  no_text kinds.InodeFile other kind is = absurd kind
+  no_text kinds.InodeMap other kind is = absurd kind
+  no_text kinds.BlockMap other kind is = absurd kind
+
+  pub without_text : (o.attributes.kind ≢ kinds.Link) → text_in node ≡ []
+  without_text other = no_text o.attributes.kind other object.kind object.stands
+
+-- what has no names
+pub nothing_listed : (names : NameMap) → ((x : Name) → names x ≡ None) → IsListing names []
+unfolding IsStrictlySortedBy
+nothing_listed names none = record {
+  sorted = tt;
+  whole = λ x. (λ is. absurd (omega (arith, is.1)), λ is. let some : false ≡ true = subst IsSome (none x) is in absurd cc);
+}

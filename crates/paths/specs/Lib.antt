@@ -1,0 +1,6 @@
+pub mod Numbers
+pub mod Loads
+pub mod Places
+pub mod Steps
+pub mod Halts
+pub mod Following

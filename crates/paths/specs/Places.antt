@@ -1,0 +1,24 @@
+-- Where a path leads, in the words of the model.
+use Rattle.std.specs.Prelude.{ℕ, ◌-◌, List, [], length, slice_index_or}
+use Rattle.model.specs.Finding as model
+use Rattle.model.specs.Paths.{Name}
+use Rattle.paths.specs.Numbers.{IsNumber, AreNumbers}
+use Rattle.paths.specs.declared.place.Place.{Place}
+use Rattle.paths.specs.declared.place.Place.TheVariants.{Directory, Entry, Gap, Refusal}
+
+abbrev pub place_of : Place → model.Place
+place_of (Directory trail) = model.at_directory trail
+place_of (Entry trail name number) = model.at_entry trail name.items number
+place_of (Gap trail name) = model.at_gap trail name.items
+place_of (Refusal errno) = model.at_refusal errno
+
+-- each number that a place tells is one of an object
+abbrev pub IsPlaceWithin : ℕ → Place → Type 0
+IsPlaceWithin inodes (Directory trail) = AreNumbers inodes trail
+IsPlaceWithin inodes (Entry trail name number) = AreNumbers inodes trail × IsNumber inodes number
+IsPlaceWithin inodes (Gap trail name) = AreNumbers inodes trail
+IsPlaceWithin inodes (Refusal errno) = Unit {0}
+
+-- the last of these parts
+abbrev pub last_of : List Name → Name
+last_of parts = slice_index_or parts (length parts - 1) []

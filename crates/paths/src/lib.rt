@@ -1,0 +1,17 @@
+//! Where paths lead in an image: each part is looked up by numbers, with the trail of the directories walked through. What is
+//! looked at comes into memory; nothing else changes.
+#![tactic(auto)]
+
+mod lookup;
+mod place;
+mod resolution;
+mod step;
+mod text;
+mod trail;
+mod walk;
+
+pub use lookup::list;
+pub use place::Place;
+pub use resolution::resolve;
+pub use text::{Parts, refusal_of_new_text, refusal_of_text};
+pub use trail::Trail;

@@ -1,0 +1,24 @@
+//! Where a path leads.
+
+use crate::Trail;
+use model::Errno;
+
+/// Where a path leads.
+#[derive(Debug, Drop)]
+pub enum Place {
+    /// To a directory that `.`, `..` or no part at all named: the one at the end of the trail.
+    Directory(Trail),
+    /// To what a name of the directory at the end of the trail stands for.
+    Entry {
+        trail: Trail,
+        name: Vec<u8>,
+        number: u32,
+    },
+    /// To a name that the directory at the end of the trail doesn't have.
+    Gap {
+        trail: Trail,
+        name: Vec<u8>,
+    },
+    /// Nowhere.
+    Refusal(Errno),
+}

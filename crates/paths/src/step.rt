@@ -1,0 +1,123 @@
+//! A step of a walk: what one part of a path leads to.
+
+ghost use Rattle.std.specs.Prelude.{◌≡◌, ◌∷◌, ℕ, List, Bool, OnOk, IfOk, IsErrOf};
+ghost use Rattle.buffers.specs.Failures.{HasGrown};
+ghost use Rattle.inofile.specs.Volumes.{IsVolumeOf};
+ghost use Rattle.layout.specs.declared.inode.Inode.{Inode};
+ghost use Rattle.model.specs.Finding.{find_along, finds_nothing, here, turn_at};
+ghost use Rattle.model.specs.Paths.{Name, is_empty};
+ghost use Rattle.model.specs.Volumes.{Volume};
+ghost use Rattle.paths.specs.Loads.{OnlyLoads};
+ghost use Rattle.paths.specs.Numbers.{IsNumber};
+ghost use Rattle.paths.specs.Steps.{IsStepWithin, after, after_turn, found_in};
+
+use crate::lookup::{Found, number_at, object_at};
+use crate::text::{ITSELF, PARENT};
+use blocktree::ReadError;
+use buffers::Blocks;
+use inofile::InodeFile;
+use model::{Errno, NAME_BYTES};
+use std::alloc::Global;
+
+/// Where a walk goes by one part.
+#[derive(Clone, Copy, Debug)]
+pub(crate) enum Step {
+    /// Nowhere else, by `.`.
+    Stays,
+    /// To the parent, by `..`.
+    Rises,
+    /// Into a directory.
+    Enters(u32),
+    /// To where a link leads.
+    Follows(u32),
+    /// It ends at an object.
+    EndsAt(u32),
+    /// It ends where nothing has this name.
+    FindsNothing,
+    Refused(Errno),
+}
+
+/// The step by a part from a directory, where `is_last` tells whether parts are left behind it, and `follow` whether a link
+/// that is the last one is followed.
+pub(crate) fn step_by<B: Blocks>(
+    alloc: Global,
+    inodes: &mut InodeFile,
+    blocks: &mut B,
+    directory: u32,
+    part: &[u8],
+    is_last: bool,
+    follow: bool,
+) -> Result<Step, ReadError>
+    requires { IsNumber inodes.old.geometry.inodes directory }
+    ensures count { B.count blocks.new ≡ B.count blocks.old }
+    ensures counted { OnOk result (B.failed blocks.new ≡ B.failed blocks.old) }
+    ensures device { IsErrOf result ReadError.Device →
+        HasGrown (B.failed blocks.old) (B.failed blocks.new) }
+    ensures reads { (start : B) → B.ReadsOn start blocks.old → B.ReadsOn start blocks.new }
+    ensures shown { (disk : ℕ → List ℕ) → B.Shows blocks.old disk → B.Shows blocks.new disk }
+    ensures geometry { inodes.new.geometry ≡ inodes.old.geometry }
+    ensures loads { OnlyLoads inodes.old inodes.new }
+    ensures kept { (disk : ℕ → List ℕ) (settled : ℕ → Inode) (v : Volume) →
+        B.Shows blocks.old disk →
+        IsVolumeOf (B.count blocks.old) disk settled inodes.old v →
+        IsVolumeOf (B.count blocks.old) disk settled inodes.new v }
+    ensures within { IfOk result (IsStepWithin inodes.old.geometry.inodes) }
+    ensures step { (disk : ℕ → List ℕ) (settled : ℕ → Inode) (v : Volume) (trail : List ℕ)
+        (rest : List Name) → B.Shows blocks.old disk →
+        IsVolumeOf (B.count blocks.old) disk settled inodes.old v →
+        here trail ≡ directory → is_empty rest ≡ is_last →
+        IfOk result (λ s. after v follow trail part.now rest s
+        ≡ find_along v follow trail (part.now ∷ rest)) }
+    ensures damaged { (disk : ℕ → List ℕ) (settled : ℕ → Inode) (v : Volume) →
+        B.Shows blocks.old disk →
+        IsVolumeOf (B.count blocks.old) disk settled inodes.old v →
+        IsErrOf result ReadError.Damaged → ⊥ }
+{
+    if part == ITSELF {
+        return Ok(Step::Stays);
+    }
+    if part == PARENT {
+        return Ok(Step::Rises);
+    }
+    if part.len() > NAME_BYTES {
+        return Ok(Step::Refused(Errno::ENAMETOOLONG));
+    }
+    let Some(number) = number_at(alloc, inodes, blocks, directory, part)? else {
+        return Ok(step_to_nothing(is_last));
+    };
+    let found = object_at(alloc, inodes, blocks, number)?;
+    Ok(step_to(number, found, is_last, follow))
+}
+
+// The step by a part that leads to nothing.
+fn step_to_nothing(is_last: bool) -> Step
+    ensures within { (inodes : ℕ) → IsStepWithin inodes result }
+    ensures step { (v : Volume) (follow : Bool) (trail : List ℕ) (part : Name) (rest : List Name) →
+        is_empty rest ≡ is_last → after v follow trail part rest result
+        ≡ after_turn v follow trail part rest finds_nothing }
+{
+    if is_last {
+        Step::FindsNothing
+    } else {
+        Step::Refused(Errno::ENOENT)
+    }
+}
+
+// The step by a part that leads to a number.
+fn step_to(number: u32, found: Found, is_last: bool, follow: bool) -> Step
+    ensures within { (inodes : ℕ) → IsNumber inodes number → IsStepWithin inodes result }
+    ensures step { (v : Volume) (trail : List ℕ) (part : Name) (rest : List Name) →
+        found ≡ found_in (v number) → is_empty rest ≡ is_last →
+        after v follow trail part rest result
+        ≡ after_turn v follow trail part rest (turn_at number (v number)) }
+{
+    match found {
+        Found::Directory if is_last => Step::EndsAt(number),
+        Found::Directory => Step::Enters(number),
+        Found::File if is_last => Step::EndsAt(number),
+        Found::File => Step::Refused(Errno::ENOTDIR),
+        Found::Link if is_last && !follow => Step::EndsAt(number),
+        Found::Link => Step::Follows(number),
+        Found::Nothing => Step::Refused(Errno::DAMAGED),
+    }
+}

@@ -1,0 +1,102 @@
+//! A walk along the parts of a path, up to a link that is followed.
+
+ghost use Rattle.std.specs.Prelude.{◌≡◌, ◌<◌, ℕ, List, OnOk, IfOk, IsErrOf};
+ghost use Rattle.buffers.specs.Failures.{HasGrown};
+ghost use Rattle.inofile.specs.Volumes.{IsVolumeOf};
+ghost use Rattle.layout.specs.declared.inode.Inode.{Inode};
+ghost use Rattle.model.specs.declared.limits.TheConstants.{ROOT_NUMBER};
+ghost use Rattle.model.specs.Finding.{find_along};
+ghost use Rattle.model.specs.Volumes.{Volume};
+ghost use Rattle.paths.specs.Loads.{OnlyLoads};
+ghost use Rattle.paths.specs.Numbers.{AreNumbers};
+ghost use Rattle.paths.specs.Halts.{halt_of, IsHaltWithin};
+
+use crate::lookup::text_at;
+use crate::step::{Step, step_by};
+use crate::{Parts, Place, Trail};
+use blocktree::ReadError;
+use buffers::Blocks;
+use inofile::InodeFile;
+use std::alloc::Global;
+
+/// Where a walk ends: at the answer, or at a link that is followed, which stands in the directory at the end of the trail, with
+/// its text and the parts that are left.
+#[derive(Debug, Drop)]
+pub(crate) enum Halt {
+    At(Place),
+    AtLink {
+        trail: Trail,
+        text: Vec<u8>,
+        rest: Parts,
+    },
+}
+
+/// Where parts lead from the end of a trail, up to a link that is followed: one with parts behind it, or a last one where
+/// `follow` says so.
+pub(crate) fn walk<B: Blocks>(
+    alloc: Global,
+    inodes: &mut InodeFile,
+    blocks: &mut B,
+    mut trail: Trail,
+    mut parts: Parts,
+    follow: bool,
+) -> Result<Halt, ReadError>
+    requires root { ROOT_NUMBER < inodes.old.geometry.inodes }
+    requires numbers { AreNumbers inodes.old.geometry.inodes trail }
+    ensures count { B.count blocks.new ≡ B.count blocks.old }
+    ensures counted { OnOk result (B.failed blocks.new ≡ B.failed blocks.old) }
+    ensures device { IsErrOf result ReadError.Device →
+        HasGrown (B.failed blocks.old) (B.failed blocks.new) }
+    ensures reads { (start : B) → B.ReadsOn start blocks.old → B.ReadsOn start blocks.new }
+    ensures shown { (disk : ℕ → List ℕ) → B.Shows blocks.old disk → B.Shows blocks.new disk }
+    ensures geometry { inodes.new.geometry ≡ inodes.old.geometry }
+    ensures loads { OnlyLoads inodes.old inodes.new }
+    ensures kept { (disk : ℕ → List ℕ) (settled : ℕ → Inode) (v : Volume) →
+        B.Shows blocks.old disk →
+        IsVolumeOf (B.count blocks.old) disk settled inodes.old v →
+        IsVolumeOf (B.count blocks.old) disk settled inodes.new v }
+    ensures within { IfOk result (IsHaltWithin inodes.old.geometry.inodes) }
+    ensures halts { (disk : ℕ → List ℕ) (settled : ℕ → Inode) (v : Volume) →
+        B.Shows blocks.old disk →
+        IsVolumeOf (B.count blocks.old) disk settled inodes.old v →
+        IfOk result (λ h. halt_of h ≡ find_along v follow trail parts) }
+    ensures damaged { (disk : ℕ → List ℕ) (settled : ℕ → Inode) (v : Volume) →
+        B.Shows blocks.old disk →
+        IsVolumeOf (B.count blocks.old) disk settled inodes.old v →
+        IsErrOf result ReadError.Damaged → ⊥ }
+{
+    while let Some(name) = parts.next() {
+        let is_last = parts.is_empty();
+        match step_by(
+            alloc,
+            inodes,
+            blocks,
+            trail.here(),
+            name.as_slice(),
+            is_last,
+            follow,
+        )? {
+            Step::Stays => {}
+            Step::Rises => trail.rise(),
+            Step::Enters(number) => trail.enter(number)?,
+            Step::Follows(number) => {
+                let text = text_at(alloc, inodes, blocks, number)?;
+                return Ok(Halt::AtLink {
+                    trail,
+                    text,
+                    rest: parts,
+                });
+            }
+            Step::EndsAt(number) => {
+                return Ok(Halt::At(Place::Entry {
+                    trail,
+                    name,
+                    number,
+                }));
+            }
+            Step::FindsNothing => return Ok(Halt::At(Place::Gap { trail, name })),
+            Step::Refused(errno) => return Ok(Halt::At(Place::Refusal(errno))),
+        }
+    }
+    Ok(Halt::At(Place::Directory(trail)))
+}
