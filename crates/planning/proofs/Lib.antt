@@ -1,0 +1,9 @@
+mod ProgressLaws
+mod PointLaws
+mod SpellingLaws
+mod MarkLaws
+mod PutLaws
+mod NumberLaws
+mod MapLaws
+mod TrimLaws
+mod StepLaws

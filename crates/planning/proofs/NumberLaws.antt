@@ -1,0 +1,271 @@
+-- One number's file, over its settled inode.
+use Rattle.std.proofs.Common.{◌≡◌, inl, inr, ℕ, zero, suc, ◌-◌, ◌/◌, ◌%◌, ◌<◌, ◌≤◌, ◌++◌, Bool, true, false, List, replicate, refl, ap, sym, subst, ◌∙◌, arith}
+use Rattle.std.proofs.lemmas.Bool.{cases_lt, cond-false}
+use Rattle.std.proofs.lemmas.List.{get_or-replicate, get_or_past, length-replicate, get_or_append_left, get_or-append_right}
+use Rattle.std.proofs.lemmas.Bool.Decides.{nat_tests}
+use Rattle.std.specs.Prelude.{nat_lt, slice_index, if◌then◌else◌, Option, Some, None}
+use Rattle.layout.specs.Bytes.{zeros}
+use Rattle.layout.specs.FileBytes.{byte_in}
+use Rattle.layout.specs.Inode.{FitsBody, FitsKind, IsInode}
+use Rattle.layout.specs.Limits.{Sizes}
+use Rattle.layout.specs.Places.{Blocks}
+use Rattle.layout.specs.Version.{level_of}
+use Rattle.layout.specs.declared.inode.Body.{Body}
+use Rattle.layout.specs.declared.inode.Body.TheVariants.{Inline, Pointers}
+use Rattle.layout.specs.declared.inode.Inode.{Inode}
+use Rattle.layout.specs.declared.kind.Kind.{Kind}
+use Rattle.layout.specs.declared.kind.Kind.TheVariants as kinds
+use Rattle.layout.specs.declared.pointer.Pointer.{Pointer}
+use Rattle.layout.specs.declared.pointer.Pointer.TheVariants.{Hole, Block}
+use Rattle.layout.specs.declared.version.TheConstants.{VERSION}
+use Rattle.blocktree.specs.Places.{block_count}
+use Rattle.blocktree.specs.Trees.{SameSettled}
+use Rattle.blocktree.specs.declared.tree.BlockTree.{BlockTree}
+use Rattle.blockmap.specs.Maps.{IsFree}
+use Rattle.blockmap.specs.Parts.{Part}
+use Rattle.conspoint.specs.Drafts.{Grows}
+use Rattle.conspoint.specs.declared.draft.Draft.{Draft}
+use Rattle.images.specs.Contents.{Content, content_of}
+use Rattle.images.specs.Nodes.{Agrees, held, Names, place_at_height, body_block, file_block}
+use Rattle.images.specs.Roots.{free_inode}
+use Rattle.images.specs.Soundness.{IsSoundFile, IsOrdinary}
+use Rattle.inode.specs.Bases.{IsBased, HasPointers, StartsFrom}
+use Rattle.inode.specs.Bases.IsBased.{anew, over}
+use Rattle.inode.specs.Files.{file_block as object_file_block}
+use Rattle.inode.specs.declared.object.Object.{Object}
+use Rattle.inofile.specs.Inodes.{files_of, object_at, or_free}
+use Rattle.inofile.specs.Objects.{IsObject, IsObjectKind}
+use Rattle.inofile.specs.Settled.{content_of as memory_content}
+use Rattle.inofile.specs.declared.inode_file.InodeFile.{InodeFile}
+use Rattle.model.specs.Volumes.{Volume}
+use Rattle.placement.specs.Files.{IsBasedOn, IsPlaced, IsChangeOf, object_content}
+use Rattle.planning.specs.Numbers.{FitsKindOf, IsCleared, IsNumberPlaced, IsObjectOver, IsOverSettled, IsSettledFile, trimmed}
+use Rattle.planning.proofs.PointLaws.{held_inode}
+use Rattle.placement.specs.Files.IsBasedOn.{settled, none}
+
+-- a file of level 0 has no block
+pub none_named : (d : Blocks) (f : Inode) → level_of f.size ≡ 0 → (b : ℕ) → Names (held d f) b → ⊥
+unfolding held
+none_named d f level b names =
+    let no : nat_lt names.height (level_of f.size) ≡ false = grind (arith, nat_tests) in
+    let hole : place_at_height d f names.height names.index ≡ Hole = rw no refl in
+    let both : Hole ≡ Block b = sym hole ∙ names.is in absurd (cc)
+
+level_up : (size : ℕ) → 128 < size → level_of size ≡ suc (level_of size - 1)
+level_up size lt = grind (arith, nat_tests)
+
+level_none : (size : ℕ) → size ≤ 128 → level_of size ≡ 0
+level_none size le = grind (arith, nat_tests)
+
+body_fits : (s : Sizes) (d : Blocks) (f : Inode) → IsSoundFile s (held d f) → FitsBody f.body s.blocks f.size
+body_fits s d f sound = (subst (IsInode VERSION s) (held_inode d f) sound.inode).body
+
+over_pointers : (s : Sizes) (f : Inode) (t : BlockTree) (pointers : List Pointer) → FitsBody f.body s.blocks f.size → f.body ≡ Pointers pointers → HasPointers pointers f.size t → IsBasedOn f t
+over_pointers s f t pointers fits body has =
+    let large : 128 < f.size = (subst (λ b. FitsBody b s.blocks f.size) body fits).0 in
+    settled (body ∙ ap Pointers (sym has.pointers_are)) (level_up f.size large ∙ ap suc (sym has.depth)) has.count
+
+-- a tree that has settled blocks lies over them
+pub based_over : (s : Sizes) (d : Blocks) (f : Inode) (t : BlockTree) → IsSoundFile s (held d f) → IsBased f t → 0 < t.count → IsBasedOn f t
+based_over s d f t sound (anew empty) some = absurd (omega arith)
+based_over s d f t sound (over pointers body has) some = over_pointers s f t pointers (body_fits s d f sound) body has
+
+-- one that has none may lie over a free inode
+pub based_free : (t : BlockTree) → t.count ≡ 0 → IsBasedOn free_inode t
+based_free t is = none refl is
+
+started : (s : Sizes) (f : Inode) (from t : BlockTree) (body : Body) → f.body ≡ body → FitsBody f.body s.blocks f.size → StartsFrom body f.size from → SameSettled from t → IsBasedOn f t
+started s f from t (Inline bytes) is fits starts same =
+    let small : f.size ≤ 128 = (subst (λ b. FitsBody b s.blocks f.size) is fits).0 in
+    none (level_none f.size small) (same.count ∙ starts)
+started s f from t (Pointers pointers) is fits starts same =
+    over_pointers s f t pointers fits is (record { pointers_are = same.pointers ∙ starts.0.pointers_are; depth = same.depth ∙ starts.0.depth; count = same.count ∙ starts.0.count })
+
+-- the tree of a settled file lies over it, whatever is cut off
+pub based_start : (s : Sizes) (d : Blocks) (f : Inode) (from t : BlockTree) → IsSoundFile s (held d f) → StartsFrom f.body f.size from → SameSettled from t → IsBasedOn f t
+based_start s d f from t sound starts same = started s f from t f.body refl (body_fits s d f sound) starts same
+
+-- contents are the same where all that they say is
+pub same_content : (a b : Content) → a.kind ≡ b.kind → a.mode ≡ b.mode → a.links ≡ b.links → a.size ≡ b.size → ((i : ℕ) → a.block i ≡ b.block i) → a ≡ b
+same_content a b kind mode links size block = λ i. record { kind = kind i; mode = mode i; links = links i; size = size i; block = λ n. block n i }
+
+-- What is placed anew, with no settled block kept, where all blocks of the settled file are left.
+pub placed_anew : (s : Sizes) (d e : Blocks) (f new left : Inode) (taken came freed gone : ℕ → Bool) → ((b : ℕ) → taken b ≡ true → Names (held d f) b → ⊥)
+    → IsPlaced s e (held d free_inode) new taken gone → IsPlaced s e (held d f) left came freed → ((b : ℕ) → Names (held e left) b → ⊥) → IsPlaced s e (held d f) new taken freed
+placed_anew s d e f new left taken came freed gone apart placed cleared nothing = record {
+  comes = λ b names. inr (from_taken b names);
+  named = placed.named;
+  stays = λ b names. inr (elim (cleared.stays b names) [ inl still ↦ absurd (nothing b still) | inr is ↦ is ]);
+  freed_are = λ b is. ((cleared.freed_are b is).0, λ names. apart b (from_taken b names) (cleared.freed_are b is).0);
+  once = placed.once;
+  sound = placed.sound;
+}
+  where
+    from_taken : (b : ℕ) → Names (held e new) b → taken b ≡ true
+    from_taken b names = elim (placed.comes b names) [ inl was ↦ absurd (none_named d free_inode refl b was) | inr is ↦ is ]
+
+-- ---- zeros
+
+zero_byte : (i count : ℕ) → slice_index (zeros count) i ≡ 0
+unfolding zeros
+zero_byte i count = elim (cases_lt i count) [
+  | inl lt ↦ get_or-replicate {A = ℕ} count i 0 0 lt
+  | inr le ↦ get_or_past (replicate count 0) i 0 (omega (arith, length-replicate {A = ℕ} count 0))
+]
+
+zero_block : (n m k : ℕ) → slice_index (zeros n ++ zeros m) k ≡ 0
+unfolding zeros
+zero_block n m k = elim (cases_lt k n) [
+  | inl lt ↦ get_or_append_left (zeros n) (zeros m) 0 k (omega (arith, length-replicate {A = ℕ} n 0)) ∙ zero_byte k n
+  | inr le ↦ get_or-append_right (zeros n) (zeros m) n k 0 (length-replicate {A = ℕ} n 0) le ∙ zero_byte (k - n) m
+]
+
+inline_zero : (stored : List ℕ) (i k : ℕ) → slice_index (body_block (Inline (zeros 128)) stored i) k ≡ 0
+inline_zero stored zero k = zero_block 128 3968 k
+inline_zero stored (suc i) k = zero_byte k 4096
+
+free_fits : (s : Sizes) → IsInode VERSION s free_inode
+unfolding zeros
+free_fits s = record { mode = omega arith; size = omega arith; kind = (refl, refl, refl); body = (omega arith, length-replicate {A = ℕ} 128 0, refl) }
+
+free_ends : (d : Blocks) (p : ℕ) → byte_in (file_block (held d free_inode)) p ≡ 0
+unfolding held
+free_ends d p = inline_zero ((held d free_inode).bytes 0 (p / 4096)) (p / 4096) (p % 4096)
+
+-- a free inode is in its grammar
+pub free_sound : (s : Sizes) (d : Blocks) → IsSoundFile s (held d free_inode)
+free_sound s d = record {
+  inode = subst (IsInode VERSION s) (sym (held_inode d free_inode)) (free_fits s);
+  indirect = λ m i b is. absurd (none_named d free_inode refl b (record { height = suc m; index = i; is = is }));
+  ends = λ p le. free_ends d p;
+}
+
+-- past the end of a file of no bytes
+past_end : (size i : ℕ) (bytes : List ℕ) → size ≡ 0 → (if nat_lt i (block_count size) then bytes else zeros 4096) ≡ zeros 4096
+past_end size i bytes is =
+    let no : nat_lt i (block_count size) ≡ false = ap (λ n. nat_lt i (block_count n)) is ∙ (let none : nat_lt i 0 ≡ false = grind (arith, nat_tests) in none) in
+    cond-false (nat_lt i (block_count size)) bytes (zeros 4096) no
+
+pub cut_off : (i : ℕ) (bytes : List ℕ) → (if nat_lt i (block_count 0) then bytes else zeros 4096) ≡ zeros 4096
+cut_off i bytes = past_end 0 i bytes refl
+
+-- ---- what is planned of an object
+
+module _ (s : Sizes) (draft : Draft) (d : Blocks) (f : Inode) (o : Object) (file : IsSettledFile s draft d f) where
+  -- with all settled blocks left
+  module _ (from : BlockTree) (starts : StartsFrom f.body f.size from) (same : SameSettled from o.file.tree)
+      (kind : o.attributes.kind ≡ kinds.Free) (mode : o.attributes.mode ≡ 0) (links : o.attributes.links ≡ 0) (size : o.file.size ≡ 0) (none : (i : ℕ) → object_file_block d o.file i ≡ zeros 4096) where
+    pub cleared_change : IsChangeOf s draft d f o
+    cleared_change = record {
+      blocks = file.blocks;
+      based = based_start s d f from o.file.tree file.sound starts same;
+      sound = file.sound;
+      once = file.once;
+      used = file.used;
+      ends = λ p le. ap (λ (b : List ℕ). slice_index b (p % 4096)) (none (p / 4096)) ∙ zero_byte (p % 4096) 4096;
+      mode = omega arith;
+      kind = subst (λ k. FitsKind k s o.attributes.mode o.attributes.links o.file.size) (sym kind) (mode, links, size);
+    }
+
+    pub is_cleared : (e : Blocks) (new : Inode) (taken freed : ℕ → Bool) → IsPlaced s e (held d f) new taken freed → content_of (held e new) ≡ object_content d o
+        → IsCleared s e (held d f) new taken freed
+    is_cleared e new taken freed placed content = record {
+      placed = placed;
+      none = none_named e new (ap (λ n. level_of n) (ap (λ i. i.size) (sym (held_inode e new)) ∙ (ap (λ c. c.size) content ∙ size)));
+      kind = ap (λ i. i.kind) (sym (held_inode e new)) ∙ (ap (λ c. c.kind) content ∙ kind);
+      content = λ x. content ∙ same_content (object_content d o) (trimmed (content_of (held x free_inode)))
+          (kind ∙ ap (λ i. i.kind) (sym (held_inode x free_inode))) (mode ∙ ap (λ i. i.mode) (sym (held_inode x free_inode)))
+          (links ∙ ap (λ i. i.links) (sym (held_inode x free_inode))) (size ∙ ap (λ i. i.size) (sym (held_inode x free_inode)))
+          (λ i. past_end o.file.size i (object_file_block d o.file i) size
+          ∙ sym (past_end (held x free_inode).inode.size i (file_block (held x free_inode) i) (ap (λ i. i.size) (held_inode x free_inode))));
+    }
+
+  -- over its settled blocks
+  pub change_over : IsObjectOver s d f o → 0 < o.file.tree.count → IsChangeOf s draft d f o
+  change_over object some = record {
+    blocks = file.blocks;
+    based = based_over s d f o.file.tree file.sound object.based some;
+    sound = file.sound;
+    once = file.once;
+    used = file.used;
+    ends = object.ends;
+    mode = object.mode;
+    kind = object.kind;
+  }
+
+  -- made anew
+  pub change_anew : IsObjectOver s d f o → o.file.tree.count ≡ 0 → IsChangeOf s draft d free_inode o
+  change_anew object is = record {
+    blocks = file.blocks;
+    based = based_free o.file.tree is;
+    sound = free_sound s d;
+    once = λ m i k j b here there. absurd (none_named d free_inode refl b (record { height = m; index = i; is = here }));
+    used = λ b names free. none_named d free_inode refl b names;
+    ends = object.ends;
+    mode = object.mode;
+    kind = object.kind;
+  }
+
+-- a settled file under a draft with the same entries
+pub settled_later : (s : Sizes) (old new : Draft) (d : Blocks) (f : Inode) → IsSettledFile s old d f → new.map.parts.items ≡ old.map.parts.items → new.map.count ≡ old.map.count → IsSettledFile s new d f
+settled_later s old new d f file parts count = record {
+  blocks = file.blocks ∙ sym count;
+  sound = file.sound;
+  once = file.once;
+  used = λ b names free. file.used b names (subst (λ (ps : List Part). IsFree ps b) parts free);
+}
+
+pub grows_twice : (a b c : Draft) → Grows a b → Grows b c → Grows a c
+grows_twice a b c one two = record {
+  settled = record {
+    count = two.settled.count ∙ one.settled.count;
+    settled = λ x. two.settled.settled x ∙ one.settled.settled x;
+    touched = λ j is. two.settled.touched j (one.settled.touched j is);
+  };
+  count = two.count ∙ one.count;
+  next = omega (arith, one.next, two.next);
+  has = λ e all. one.has e (two.has e all);
+}
+
+pub ordinary_kind : (k : Kind) → IsObjectKind k → IsOrdinary k
+ordinary_kind kinds.Free is = absurd is
+ordinary_kind kinds.File is = tt
+ordinary_kind kinds.Directory is = tt
+ordinary_kind kinds.Link is = tt
+ordinary_kind kinds.InodeFile is = absurd is
+ordinary_kind kinds.InodeMap is = absurd is
+ordinary_kind kinds.BlockMap is = absurd is
+
+-- what an object of memory is, over its settled inode
+pub object_over : (count : ℕ) (draft : Draft) (d : Blocks) (settled_of : ℕ → Inode) (inodes : InodeFile) (v : Volume) (n : ℕ) (f : Inode) (o : Object) → IsOverSettled count draft d settled_of inodes v
+    → f ≡ settled_of n → IsObject d inodes.geometry.inodes (settled_of n) o (v n) → object_at d settled_of inodes n ≡ Some (memory_content d o) → IsObjectOver inodes.geometry d f o
+object_over count draft d settled_of inodes v n f o memory now object is =
+    let fits : FitsKindOf inodes.geometry (Some (memory_content d o)) = subst (FitsKindOf inodes.geometry) is (memory.fits n) in
+    record { based = subst (λ (x : Inode). IsBased x o.file.tree) (sym now) object.base; ends = object.ends; mode = fits.0; kind = fits.1 }
+
+pub file_over : (count : ℕ) (draft : Draft) (d : Blocks) (settled_of : ℕ → Inode) (inodes : InodeFile) (v : Volume) (n : ℕ) (f : Inode) → IsOverSettled count draft d settled_of inodes v
+    → f ≡ settled_of n → IsSettledFile inodes.geometry draft d f
+file_over count draft d settled_of inodes v n f memory now = subst (λ (x : Inode). IsSettledFile inodes.geometry draft d x) (sym now) (memory.files n)
+
+-- an object that was placed is the number's file
+pub object_placed : (s : Sizes) (d e : Blocks) (settled_of : ℕ → Inode) (inodes : InodeFile) (n : ℕ) (f new : Inode) (o : Object) (taken freed : ℕ → Bool) → f ≡ settled_of n
+    → IsObjectKind o.attributes.kind → object_at d settled_of inodes n ≡ Some (memory_content d o)
+    → IsPlaced s e (held d f) new taken freed → content_of (held e new) ≡ object_content d o → IsNumberPlaced s e (held d (settled_of n)) (trimmed (files_of d settled_of inodes n)) new taken freed
+object_placed s d e settled_of inodes n f new o taken freed now kind is placed content = record {
+  placed = subst (λ (x : Inode). IsPlaced s e (held d x) new taken freed) now placed;
+  kind = subst IsOrdinary (sym (ap (λ i. i.kind) (sym (held_inode e new)) ∙ ap (λ (c : Content). c.kind) content)) (ordinary_kind o.attributes.kind kind);
+  content = content ∙ sym (ap (λ (x : Option Content). trimmed (or_free d x)) is);
+}
+
+-- and one that was cleared is, where there is none
+pub none_placed : (s : Sizes) (d e : Blocks) (settled_of : ℕ → Inode) (inodes : InodeFile) (n : ℕ) (f new : Inode) (taken freed : ℕ → Bool) → f ≡ settled_of n → object_at d settled_of inodes n ≡ None
+    → IsCleared s e (held d f) new taken freed → IsNumberPlaced s e (held d (settled_of n)) (trimmed (files_of d settled_of inodes n)) new taken freed
+none_placed s d e settled_of inodes n f new taken freed now is cleared = record {
+  placed = subst (λ (x : Inode). IsPlaced s e (held d x) new taken freed) now cleared.placed;
+  kind = subst IsOrdinary (sym cleared.kind) tt;
+  content = cleared.content d ∙ sym (ap (λ (x : Option Content). trimmed (or_free d x)) is);
+}
+
+-- what two inodes that are the same name
+pub agrees_now : (d e : Blocks) (f g : Inode) → f ≡ g → Agrees (Names (held d g)) d e → Agrees (Names (held d f)) d e
+agrees_now d e f g now same = subst (λ (x : Inode). Agrees (Names (held d x)) d e) (sym now) same

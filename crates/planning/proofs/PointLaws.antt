@@ -1,0 +1,136 @@
+-- When all that changed is planned, a point is planned.
+use Rattle.std.proofs.Common.{◌≡◌, ◌≢◌, ◌⊎◌, inl, inr, ◌↔◌, ℕ, zero, suc, true, ◌<◌, ◌≤◌, refl, ap, sym, subst, ◌∙◌, arith}
+use Rattle.std.proofs.lemmas.Bool.{cases_lt}
+use Rattle.std.specs.Int.{bit_at}
+use Rattle.layout.specs.Inode.{IsInode, inode_bytes}
+use Rattle.layout.specs.Limits.{Sizes, AreSizes}
+use Rattle.layout.specs.Places.{Blocks}
+use Rattle.layout.specs.Root.{IsRoot}
+use Rattle.layout.specs.declared.inode.Inode.{Inode}
+use Rattle.layout.specs.declared.root.Root.{Root}
+use Rattle.layout.specs.declared.version.TheConstants.{VERSION}
+use Rattle.images.specs.Nodes.{held, Names, file_block}
+use Rattle.images.specs.Roots.{free_inode, inode_bytes_at, inode_of, tree, whole, slot}
+use Rattle.images.specs.BlockMap.{HasBit, entry, IsSystem}
+use Rattle.images.specs.BlockMap.IsSystem.{roots, head}
+use Rattle.images.specs.Contents.{Content}
+use Rattle.images.specs.Cuts.{PlansOn}
+use Rattle.images.specs.Points.{Marks, Slot}
+use Rattle.images.specs.Points.Slot.{stays}
+use Rattle.images.specs.States.{IsSound}
+use Rattle.planning.specs.Progress.{IsProgress, Planned}
+use Rattle.planning.specs.Points.{IsComplete, planned_tree}
+use Rattle.planning.proofs.ProgressLaws.{is_bool}
+
+-- what images says of reading inodes
+abbrev pub ReadsSpelled : Type 0
+ReadsSpelled = (s : Sizes) (d : Blocks) (top i : Inode) (n : ℕ) → AreSizes s → 1 ≤ n → n < s.inodes → IsInode VERSION s i
+    → inode_bytes_at (file_block (held d top)) n ≡ inode_bytes i → tree d s.inodes top n ≡ held d i
+
+abbrev pub ReadsPast : Type 0
+ReadsPast = (d : Blocks) (inodes : ℕ) (top : Inode) (n : ℕ) → 1 ≤ n → inodes ≤ n → tree d inodes top n ≡ held d free_inode
+
+pub held_inode : (d : Blocks) (i : Inode) → (held d i).inode ≡ i
+unfolding held
+held_inode d i = refl
+
+tree_inode : (d : Blocks) (inodes : ℕ) (top : Inode) (n : ℕ) → (tree d inodes top n).inode ≡ inode_of (held d top) inodes n
+unfolding tree held
+tree_inode d inodes top n = refl
+
+first_inode : (d : Blocks) (inodes : ℕ) (top : Inode) → inode_of (held d top) inodes 0 ≡ top
+unfolding inode_of held
+first_inode d inodes top = refl
+
+active_is : (d : Blocks) (r : Root) → (whole d r).active ≡ tree d r.geometry.inodes r.inode_file
+unfolding whole
+active_is d r = refl
+
+slot_same : (r new : Root) (k : ℕ) → new.snapshots ≡ r.snapshots → slot new k ≡ slot r k
+slot_same r new zero same = refl
+slot_same r new (suc k) same = rw same refl
+
+system_same : (r new : Root) (b : ℕ) → new.snapshots ≡ r.snapshots → IsSystem r b → IsSystem new b
+system_same r new b same (roots low) = roots low
+system_same r new b same (head k is) = head k (slot_same r new k same ∙ is)
+
+module _ (spelled : ReadsSpelled) (reads_past : ReadsPast) (d e : Blocks) (r new : Root) (next : ℕ) (before after : ℕ → ℕ) (p : Planned) (files : ℕ → Content)
+    (root : IsRoot r) (sound : IsSound r (whole d r)) (before_is : (b : ℕ) → before b ≡ entry (whole d r).active b)
+    (progress : IsProgress r.geometry (whole d r).active e next before after p) (whole_plan : IsComplete r new (whole d r).active e after p files) where
+  each_fits : (n : ℕ) → IsInode VERSION r.geometry (p.inode n)
+  each_fits n = elim (is_bool (p.changed n)) [
+    | inl is ↦ subst (IsInode VERSION r.geometry) (held_inode e (p.inode n)) (progress.sound n is).inode
+    | inr isnt ↦ subst (IsInode VERSION r.geometry) (sym (progress.stays n isnt)) (sound.active.files n).inode
+  ]
+
+  -- under the new root, by the numbers of before
+  read_inode : (n : ℕ) → inode_of (held e (p.inode 0)) r.geometry.inodes n ≡ p.inode n
+  read_inode zero = first_inode e r.geometry.inodes (p.inode 0)
+  read_inode (suc n) = elim (cases_lt (suc n) r.geometry.inodes) [
+    | inl low ↦
+        let bytes : inode_bytes_at (file_block (held e (p.inode 0))) (suc n) ≡ inode_bytes (p.inode (suc n)) =
+        whole_plan.inodes.each (suc n) (omega arith) low ∙ ap inode_bytes (held_inode e (p.inode (suc n))) in
+        sym (tree_inode e r.geometry.inodes (p.inode 0) (suc n))
+        ∙ ap (λ h. h.inode) (spelled r.geometry e (p.inode 0) (p.inode (suc n)) (suc n) root.head.sizes (omega arith) low (each_fits (suc n)) bytes)
+        ∙ held_inode e (p.inode (suc n))
+    | inr high ↦
+        let free : (whole d r).active (suc n) ≡ held d free_inode = ap (λ t. t (suc n)) (active_is d r) ∙ reads_past d r.geometry.inodes r.inode_file (suc n) (omega arith) high in
+        sym (tree_inode e r.geometry.inodes (p.inode 0) (suc n))
+        ∙ ap (λ h. h.inode) (reads_past e r.geometry.inodes (p.inode 0) (suc n) (omega arith) high)
+        ∙ held_inode e free_inode
+        ∙ sym (progress.stays (suc n) (whole_plan.past (suc n) high) ∙ ap (λ h. h.inode) free ∙ held_inode d free_inode)
+  ]
+
+  inodes_are : (n : ℕ) → inode_of (held e new.inode_file) new.geometry.inodes n ≡ p.inode n
+  inodes_are n = ap (λ (top : Inode). inode_of (held e top) new.geometry.inodes n) whole_plan.top
+      ∙ ap (λ (s : Sizes). inode_of (held e (p.inode 0)) s.inodes n) whole_plan.geometry ∙ read_inode n
+
+  -- the other planes are as before
+  bit_same : (b k : ℕ) → k ≢ 0 → bit_at (entry (planned_tree e p) b) k ≡ bit_at (entry (whole d r).active b) k
+  bit_same b k other = ap (λ x. bit_at x k) (whole_plan.entries b) ∙ progress.others b k other ∙ ap (λ x. bit_at x k) (before_is b)
+
+  slots_are : (k : ℕ) → 1 ≤ k → k ≢ 31 → Slot e r new (entry (whole d r).active) (entry (planned_tree e p)) k
+  slots_are k low other = stays (slot_same r new k whole_plan.snapshots)
+      (λ b. (λ has. sym (bit_same b k (omega arith)) ∙ has, λ has. bit_same b k (omega arith) ∙ has))
+
+  system_is : (b : ℕ) → HasBit 31 (entry (planned_tree e p) b) ↔ IsSystem new b
+  system_is b = (
+    λ has. system_same r new b whole_plan.snapshots ((sound.exact.system b).0 (sym (bit_same b 31 (omega arith)) ∙ has)),
+    λ is. bit_same b 31 (omega arith) ∙ (sound.exact.system b).1 (system_same new r b (sym whole_plan.snapshots) is),
+  )
+
+  abbrev Was : ℕ → ℕ → Type 0
+  Was b x = (HasBit 0 x × ((n : ℕ) → p.changed n ≡ true → Names ((whole d r).active n) b → ⊥)) ⊎ ((n : ℕ) × (p.changed n ≡ true) × Names (held e (p.inode n)) b)
+
+  marks_are : Marks p.changed (whole d r).active 0 (planned_tree e p) (entry (whole d r).active) (entry (planned_tree e p))
+  marks_are b = subst (λ x. HasBit 0 x ↔ Was b (entry (whole d r).active b)) (sym (whole_plan.entries b))
+      (subst (λ x. HasBit 0 (after b) ↔ Was b x) (before_is b) (progress.marks b))
+
+  pub point_planned : PlansOn d r e new files
+  point_planned = record {
+    plan = record {
+      inode = p.inode;
+      changed = p.changed;
+      taken = p.taken;
+      inodes = inodes_are;
+      geometry = whole_plan.geometry;
+      content = whole_plan.content;
+      comes = progress.comes;
+      each = progress.each;
+      stays = progress.stays;
+      same = whole_plan.same;
+      free = λ n b is. sym (before_is b) ∙ progress.free n b is;
+      once = progress.once;
+      marks = marks_are;
+      slots = slots_are;
+      system = system_is;
+    };
+    sound = record {
+      files = progress.sound;
+      kinds = progress.kinds;
+      inodes = whole_plan.inodes;
+      numbers = whole_plan.numbers;
+      inode_map = whole_plan.inode_map;
+      block_map = whole_plan.block_map;
+    };
+  }

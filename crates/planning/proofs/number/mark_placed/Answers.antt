@@ -1,0 +1,13 @@
+use Rattle.std.proofs.Common.{ℕ, true, false, List, length, subst}
+use Rattle.conspoint.specs.Marks.{AreMarked}
+use Rattle.planning.proofs.MarkLaws.{marked_both}
+use Rattle.planning.proofs.number.mark_placed.Goals as goal
+
+pub returns-clause-marked : goal.returns-clause-marked
+returns-clause-marked c =
+    let old = c.args.draft.now.map.parts.items in
+    let mid = c.mark_all.new.draft.map.parts.items in
+    let new = c.mark_all-2.new.draft.map.parts.items in
+    marked_both c.args.placed.now.taken.items c.args.placed.now.freed.items old mid new
+    (subst (λ (xs : List ℕ). AreMarked xs (length xs) false old mid) c.deref.ensures.value c.in_ok-mark_all.ensures.marked)
+    (subst (λ (xs : List ℕ). AreMarked xs (length xs) true mid new) c.deref-2.ensures.value c.in_ok-mark_all-2.ensures.marked)

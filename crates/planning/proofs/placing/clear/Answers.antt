@@ -1,0 +1,26 @@
+use Rattle.std.proofs.Common.{◌≡◌, ℕ, refl, ◌∙◌, rules}
+use Rattle.layout.specs.Bytes.{zeros}
+use Rattle.layout.specs.declared.kind.Kind.TheVariants as kinds
+use Rattle.inode.specs.Files.{file_block}
+use Rattle.inode.specs.declared.object.Object.{Object}
+use Rattle.placement.specs.Files.{IsChangeOf}
+use Rattle.planning.proofs.NumberLaws.{cleared_change, is_cleared, cut_off}
+use Rattle.planning.proofs.placing.clear.Goals as goal
+
+pub returns-clause-cleared : goal.returns-clause-cleared
+returns-clause-cleared g c = λ s disk shows file e has same.
+    let none : (i : ℕ) → file_block disk c.set_size.new.self i ≡ zeros 4096 = λ i. c.set_size.ensures.blocks disk i ∙ cut_off i (file_block disk c.in_ok-file.file i) in
+    let mode : c.unwrap.result ≡ 0 = search rules in
+    let o : Object = record { attributes = record { kind = kinds.Free; mode = c.unwrap.result; links = 0 }; file = c.set_size.new.self } in
+    let change : IsChangeOf s c.args.draft.now disk c.args.settled o =
+    cleared_change s c.args.draft.now disk c.args.settled o file c.in_ok-file.file.tree c.in_ok-file.ensures.settled c.set_size.ensures.settled refl mode refl c.set_size.ensures.size none in
+    is_cleared s c.args.draft.now disk c.args.settled o file c.in_ok-file.file.tree c.in_ok-file.ensures.settled c.set_size.ensures.settled refl mode refl c.set_size.ensures.size none e _ _ _
+    (c.in_ok-placed.ensures.placed s disk c.args.settled shows change e has same) (c.in_ok-placed.ensures.content s disk c.args.settled shows change e has same)
+
+pub returns-in_err-placed-clause-damaged : goal.returns-in_err-placed-clause-damaged
+returns-in_err-placed-clause-damaged g c = λ s disk shows file bad.
+    let none : (i : ℕ) → file_block disk c.set_size.new.self i ≡ zeros 4096 = λ i. c.set_size.ensures.blocks disk i ∙ cut_off i (file_block disk c.in_ok-file.file i) in
+    let mode : c.unwrap.result ≡ 0 = search rules in
+    let o : Object = record { attributes = record { kind = kinds.Free; mode = c.unwrap.result; links = 0 }; file = c.set_size.new.self } in
+    c.in_err-placed.ensures.damaged s disk c.args.settled shows
+    (cleared_change s c.args.draft.now disk c.args.settled o file c.in_ok-file.file.tree c.in_ok-file.ensures.settled c.set_size.ensures.settled refl mode refl c.set_size.ensures.size none) (search rules)

@@ -1,0 +1,27 @@
+-- The inodes that the blocks of the inode file spell.
+use Rattle.std.specs.Prelude.{ℕ, ◌≡◌, ◌-◌, ◌*◌, ◌/◌, ◌%◌, ◌<◌, ◌≤◌, ◌==◌, List, drop, if◌then◌else◌}
+use Rattle.layout.specs.Bytes.{zeros}
+use Rattle.layout.specs.Inode.{inode_bytes}
+use Rattle.layout.specs.declared.TheConstants.{BLOCK_BYTES, INODE_BYTES, INODES_PER_BLOCK}
+use Rattle.layout.specs.declared.inode.Inode.{Inode}
+use Rattle.images.specs.InodeFiles.{put_at}
+use Rattle.images.specs.Roots.{inode_bytes_at}
+
+-- The blocks spell these inodes, and zeros elsewhere: for number 0, past the last number, and behind the last inode of each block.
+pub record AreSpelled (inodes : ℕ) (block : ℕ → List ℕ) (inode : ℕ → Inode) : Type 0 where
+  pub each : (n : ℕ) → 1 ≤ n → n < inodes → inode_bytes_at block n ≡ inode_bytes (inode n)
+  pub first : inode_bytes_at block 0 ≡ zeros INODE_BYTES
+  pub past : (n : ℕ) → inodes ≤ n → inode_bytes_at block n ≡ zeros INODE_BYTES
+  pub behind : (i : ℕ) → drop (INODE_BYTES * INODES_PER_BLOCK) (block i)
+      ≡ zeros (BLOCK_BYTES - INODE_BYTES * INODES_PER_BLOCK)
+
+-- these blocks with an inode in the place of a number
+abbrev pub with_inode_at : (ℕ → List ℕ) → ℕ → Inode → ℕ → List ℕ
+with_inode_at block n f i =
+    if i == n / INODES_PER_BLOCK
+    then put_at (INODE_BYTES * (n % INODES_PER_BLOCK)) (inode_bytes f) (block (n / INODES_PER_BLOCK))
+    else block i
+
+-- these inodes with that of a number
+abbrev pub with_number : (ℕ → Inode) → ℕ → Inode → ℕ → Inode
+with_number inode n f k = if k == n then f else inode k

@@ -1,0 +1,5 @@
+pub mod Progress
+pub mod Points
+pub mod Inodes
+pub mod Numbers
+pub mod Steps

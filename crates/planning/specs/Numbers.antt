@@ -1,0 +1,66 @@
+-- What a consistency point makes of one number.
+use Rattle.std.specs.Prelude.{ℕ, ◌≡◌, ◌≤◌, Bool, Option, Some, None, nat_lt, if◌then◌else◌}
+use Rattle.layout.specs.Bytes.{zeros}
+use Rattle.layout.specs.Inode.{FitsKind}
+use Rattle.layout.specs.Limits.{Sizes}
+use Rattle.layout.specs.Places.{Blocks}
+use Rattle.layout.specs.declared.TheConstants.{BLOCK_BYTES}
+use Rattle.layout.specs.declared.inode.Inode.{Inode}
+use Rattle.layout.specs.declared.kind.Kind.TheVariants as kinds
+use Rattle.model.specs.Volumes.{Volume}
+use Rattle.blocktree.specs.Places.{block_count}
+use Rattle.images.specs.Contents.{Content, content_of}
+use Rattle.images.specs.Nodes.{Held, held, Names, IsOnce}
+use Rattle.images.specs.Roots.{free_inode}
+use Rattle.images.specs.Soundness.{IsSoundFile, IsOrdinary}
+use Rattle.inode.specs.Bases.{IsBased}
+use Rattle.inode.specs.Files.{IsFile}
+use Rattle.inode.specs.declared.object.Object.{Object}
+use Rattle.blockmap.specs.Maps.{IsFree}
+use Rattle.conspoint.specs.declared.draft.Draft.{Draft}
+use Rattle.inofile.specs.Inodes.{object_at}
+use Rattle.inofile.specs.Volumes.{IsVolumeOf}
+use Rattle.inofile.specs.declared.inode_file.InodeFile.{InodeFile}
+use Rattle.placement.specs.Files.{IsPlaced}
+
+-- a content with zeros past its end
+abbrev pub trimmed : Content → Content
+trimmed c = record c { block = λ i. if nat_lt i (block_count c.size) then c.block i else zeros BLOCK_BYTES }
+
+-- an object of an image of these sizes, or none, has the mode, links and size that its kind allows
+abbrev pub FitsKindOf : Sizes → Option Content → Type 0
+FitsKindOf s (Some c) = (c.mode ≤ 4095) × FitsKind c.kind s c.mode c.links c.size
+FitsKindOf s None = Unit {0}
+
+-- a settled file in its grammar, whose blocks are in use under the map of a draft
+pub record IsSettledFile (s : Sizes) (d : Draft) (disk : Blocks) (f : Inode) : Type 0 where
+  pub blocks : s.blocks ≡ d.map.count
+  pub sound : IsSoundFile s (held disk f)
+  pub once : IsOnce (held disk f)
+  pub used : (b : ℕ) → Names (held disk f) b → IsFree d.map.parts.items b → ⊥
+
+-- Memory stands for a volume over the inodes that are settled on a disk, whose files' blocks are in use under the map of a draft.
+pub record IsOverSettled (count : ℕ) (d : Draft) (disk : Blocks) (settled : ℕ → Inode) (inodes : InodeFile) (v : Volume) : Type 0 where
+  pub volume : IsVolumeOf count disk settled inodes v
+  pub files : (n : ℕ) → IsSettledFile inodes.geometry d disk (settled n)
+  pub fits : (n : ℕ) → FitsKindOf inodes.geometry (object_at disk settled inodes n)
+
+-- A number's new inode, on a disk e that has the blocks planned for it: its file is placed, and is this one.
+pub record IsNumberPlaced (s : Sizes) (e : Blocks) (old : Held) (found : Content) (f : Inode) (taken freed : ℕ → Bool) : Type 0 where
+  pub placed : IsPlaced s e old f taken freed
+  pub kind : IsOrdinary f.kind
+  pub content : content_of (held e f) ≡ found
+
+-- on a disk e nothing is left of a file but a free inode that names no block
+pub record IsCleared (s : Sizes) (e : Blocks) (old : Held) (f : Inode) (taken freed : ℕ → Bool) : Type 0 where
+  pub placed : IsPlaced s e old f taken freed
+  pub none : (b : ℕ) → Names (held e f) b → ⊥
+  pub kind : f.kind ≡ kinds.Free
+  pub content : (d : Blocks) → content_of (held e f) ≡ trimmed (content_of (held d free_inode))
+
+-- an object in memory that may be placed over a settled inode
+pub record IsObjectOver (s : Sizes) (disk : Blocks) (settled : Inode) (o : Object) : Type 0 where
+  pub based : IsBased settled o.file.tree
+  pub ends : IsFile disk o.file
+  pub mode : o.attributes.mode ≤ 4095
+  pub kind : FitsKind o.attributes.kind s o.attributes.mode o.attributes.links o.file.size

@@ -1,0 +1,59 @@
+-- What is planned so far of a consistency point: file by file, until all that changed is planned.
+use Rattle.std.specs.Prelude.{ℕ, ◌≡◌, ◌≢◌, ◌⊎◌, ◌↔◌, ◌<◌, ◌≤◌, Bool, true, false, ◌==◌, if◌then◌else◌}
+use Rattle.std.specs.Int.{bit_at}
+use Rattle.layout.specs.Limits.{Sizes}
+use Rattle.layout.specs.Places.{Blocks}
+use Rattle.layout.specs.declared.inode.Inode.{Inode}
+use Rattle.images.specs.Nodes.{held, Names, IsOnce}
+use Rattle.images.specs.Roots.{HeldTree, Reach}
+use Rattle.images.specs.BlockMap.{HasBit}
+use Rattle.images.specs.Points.{Marks}
+use Rattle.images.specs.Soundness.{IsSoundFile, FitsNumber}
+
+-- the new inode of each number, which of them are changed, and the blocks that were taken for each
+pub record Planned : Type 0 where
+  pub inode : ℕ → Inode
+  pub changed : ℕ → Bool
+  pub taken : ℕ → ℕ → Bool
+
+-- nothing is planned over a tree
+abbrev pub unplanned : HeldTree → Planned
+unplanned t = record { inode = λ n. (t n).inode; changed = λ n. false; taken = λ n b. false }
+
+-- one number more, with its new inode and the blocks that were taken for it
+abbrev pub with_file : ℕ → Inode → (ℕ → Bool) → Planned → Planned
+with_file n f taken p =
+    record {
+      inode = λ k. if k == n then f else p.inode k;
+      changed = λ k. if k == n then true else p.changed k;
+      taken = λ k. if k == n then taken else p.taken k;
+    }
+
+-- the map's marks of a number: the freed blocks go out of set 0, the taken ones into it
+pub record IsMarked (taken freed : ℕ → Bool) (before after : ℕ → ℕ) : Type 0 where
+  pub active : (b : ℕ) → HasBit 0 (after b) ↔ ((HasBit 0 (before b) × (freed b ≡ false)) ⊎ (taken b ≡ true))
+  pub others : (b i : ℕ) → i ≢ 0 → bit_at (after b) i ≡ bit_at (before b) i
+
+-- What holds of what is planned so far, on a disk e that has the blocks planned for it: of each changed number, of each other
+-- one, of the blocks that were taken, below this one, and of the map's entries, as they were settled and as they are now.
+pub record IsProgress (s : Sizes) (t : HeldTree) (e : Blocks) (next : ℕ) (before after : ℕ → ℕ) (p : Planned) : Type 0 where
+  pub comes : (n b : ℕ) → p.changed n ≡ true → Names (held e (p.inode n)) b → Names (t n) b ⊎ (p.taken n b ≡ true)
+  pub each : (n : ℕ) → p.changed n ≡ true → IsOnce (held e (p.inode n))
+  pub sound : (n : ℕ) → p.changed n ≡ true → IsSoundFile s (held e (p.inode n))
+  pub kinds : (n : ℕ) → p.changed n ≡ true → FitsNumber n (p.inode n).kind
+  pub stays : (n : ℕ) → p.changed n ≡ false → p.inode n ≡ (t n).inode
+  pub free : (n b : ℕ) → p.taken n b ≡ true → before b ≡ 0
+  pub below : (n b : ℕ) → p.taken n b ≡ true → b < next
+  pub once : (n m b : ℕ) → p.taken n b ≡ true → p.taken m b ≡ true → n ≡ m
+  pub marks : Marks p.changed t 0 (λ n. held e (p.inode n)) before after
+  pub others : (b i : ℕ) → i ≢ 0 → bit_at (after b) i ≡ bit_at (before b) i
+
+-- the blocks that are taken for a number were free, and were given out after those before
+pub record AreTaken (low high : ℕ) (before : ℕ → ℕ) (taken : ℕ → Bool) : Type 0 where
+  pub free : (b : ℕ) → taken b ≡ true → before b ≡ 0
+  pub behind : (b : ℕ) → taken b ≡ true → low ≤ b
+  pub below : (b : ℕ) → taken b ≡ true → b < high
+
+-- set 0 of the settled map is the tree's blocks
+abbrev pub IsExactPlane : HeldTree → (ℕ → ℕ) → Type 0
+IsExactPlane t before = (b : ℕ) → HasBit 0 (before b) ↔ Reach t b

@@ -1,0 +1,78 @@
+//! Inodes in the blocks of the inode file.
+
+ghost use Rattle.std.specs.Prelude.{ℕ, ◌≡◌, ◌/◌, ◌%◌, ◌*◌, ◌<◌, ◌==◌, List, length, OnOk, IfOk, IsErrOf, if◌then◌else◌};
+ghost use Rattle.layout.specs.Inode.{inode_bytes};
+ghost use Rattle.layout.specs.declared.TheConstants.{BLOCK_BYTES, INODES_PER_BLOCK, INODE_BYTES};
+ghost use Rattle.buffers.specs.Failures.{HasGrown};
+ghost use Rattle.blocktree.specs.declared.error.ReadError.TheVariants as read;
+ghost use Rattle.blocktree.specs.Trees.{IsSoundAt, KeepsSound};
+ghost use Rattle.inode.specs.Bases.{KeepsBase};
+ghost use Rattle.inode.specs.Files.{file_block};
+ghost use Rattle.images.specs.InodeFiles.{put_at};
+ghost use Rattle.planning.specs.Inodes.{with_inode_at};
+
+use blocktree::ReadError;
+use buffers::{Block, Blocks};
+use inode::File;
+use layout::{INODE_BYTES, INODES_PER_BLOCK, Inode};
+use std::alloc::Global;
+
+/// The block of the inode file with this inode in the place of a number.
+fn block_with<B: Blocks>(
+    alloc: Global,
+    blocks: &mut B,
+    file: &File,
+    number: u32,
+    inode: &Inode,
+) -> Result<Block, ReadError>
+    ensures count { B.count blocks.new ≡ B.count blocks.old }
+    ensures counted { OnOk result (B.failed blocks.new ≡ B.failed blocks.old) }
+    ensures device { IsErrOf result read.Device → HasGrown (B.failed blocks.old) (B.failed blocks.new) }
+    ensures reads { (start : B) → B.ReadsOn start blocks.old → B.ReadsOn start blocks.new }
+    ensures same { (disk : ℕ → List ℕ) → B.Shows blocks.old disk → B.Shows blocks.new disk }
+    ensures put { (disk : ℕ → List ℕ) → B.Shows blocks.old disk → IfOk result (λ b. b
+        ≡ put_at (INODE_BYTES * (number % INODES_PER_BLOCK)) (inode_bytes inode.now)
+        (file_block disk file.now (number / INODES_PER_BLOCK))) }
+    ensures whole { (disk : ℕ → List ℕ) → B.Shows blocks.old disk → OnOk result
+        (length (file_block disk file.now (number / INODES_PER_BLOCK)) ≡ BLOCK_BYTES) }
+    ensures long { OnOk result (length (inode_bytes inode.now) ≡ INODE_BYTES) }
+    ensures damaged { (disk : ℕ → List ℕ) → B.Shows blocks.old disk → IsErrOf result read.Damaged
+        → IsSoundAt (B.count blocks.old) disk file.now.tree (number / INODES_PER_BLOCK) → ⊥ }
+{
+    let mut block = file.copy(alloc, blocks, number / INODES_PER_BLOCK)?;
+    let mut bytes = [0; INODE_BYTES];
+    let _ = inode.write(&mut bytes);
+    block.put(INODE_BYTES * (number % INODES_PER_BLOCK) as usize, &bytes);
+    Ok(block)
+}
+
+/// Puts an inode into the place of a number of the changed inode file.
+pub(crate) fn put_inode<B: Blocks>(
+    alloc: Global,
+    blocks: &mut B,
+    file: &mut File,
+    number: u32,
+    inode: &Inode,
+) -> Result<(), ReadError>
+    ensures count { B.count blocks.new ≡ B.count blocks.old }
+    ensures counted { OnOk result (B.failed blocks.new ≡ B.failed blocks.old) }
+    ensures device { IsErrOf result read.Device → HasGrown (B.failed blocks.old) (B.failed blocks.new) }
+    ensures reads { (start : B) → B.ReadsOn start blocks.old → B.ReadsOn start blocks.new }
+    ensures same { (disk : ℕ → List ℕ) → B.Shows blocks.old disk → B.Shows blocks.new disk }
+    ensures size { file.new.size ≡ file.old.size }
+    ensures base { KeepsBase file.old.tree file.new.tree }
+    ensures sound { KeepsSound file.old.tree file.new.tree }
+    ensures put { (disk : ℕ → List ℕ) → B.Shows blocks.old disk → OnOk result ((i : ℕ)
+        → file_block disk file.new i ≡ with_inode_at (file_block disk file.old) number inode.now i) }
+    ensures whole { (disk : ℕ → List ℕ) → B.Shows blocks.old disk → OnOk result
+        (length (file_block disk file.old (number / INODES_PER_BLOCK)) ≡ BLOCK_BYTES) }
+    ensures long { OnOk result (length (inode_bytes inode.now) ≡ INODE_BYTES) }
+    ensures damaged { (disk : ℕ → List ℕ) → B.Shows blocks.old disk → IsErrOf result read.Damaged
+        → IsSoundAt (B.count blocks.old) disk file.old.tree (number / INODES_PER_BLOCK) → ⊥ }
+{
+    let i = number / INODES_PER_BLOCK;
+    file.make_room(i)?;
+    let block = block_with(alloc, blocks, file, number, inode)?;
+    file.set_block(i, block);
+    Ok(())
+}

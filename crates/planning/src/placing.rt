@@ -1,0 +1,168 @@
+//! The new inode of a number that is changed.
+
+ghost use Rattle.std.specs.Prelude.{ℕ, ◌≡◌, ◌≤◌, ◌<◌, List, All, true, OnOk, IfOk, IsErrOf};
+ghost use Rattle.layout.specs.Limits.{Sizes};
+ghost use Rattle.layout.specs.Version.{greatest_size};
+ghost use Rattle.layout.specs.declared.inode.Inode.{Inode};
+ghost use Rattle.layout.specs.declared.numbers.TheConstants.{ROOT_NUMBER};
+ghost use Rattle.layout.specs.declared.version.TheConstants.{VERSION};
+ghost use Rattle.model.specs.Volumes.{Volume};
+ghost use Rattle.buffers.specs.Failures.{HasGrown};
+ghost use Rattle.images.specs.Contents.{content_of};
+ghost use Rattle.images.specs.Nodes.{Agrees, Names, held};
+ghost use Rattle.images.specs.Roots.{free_inode};
+ghost use Rattle.inode.specs.Bases.{IsBased};
+ghost use Rattle.inode.specs.Files.{IsFile};
+ghost use Rattle.inofile.specs.Inodes.{IsKnown, files_of};
+ghost use Rattle.conspoint.specs.Drafts.{Grows, IsFull, IsReserved, OnEach, WasTaken};
+ghost use Rattle.placement.specs.Files.{IsPlaced, is_one, object_content};
+ghost use Rattle.planning.specs.Numbers.{IsCleared, IsNumberPlaced, IsOverSettled, IsSettledFile, IsObjectOver, trimmed};
+
+use buffers::Blocks;
+use conspoint::{Draft, PlanError};
+use inode::{Attributes, File, Object};
+use inofile::InodeFile;
+use layout::{Inode, Kind};
+use model::Mode;
+use placement::{PlacedFile, place_file};
+use std::alloc::Global;
+
+/// Leaves all blocks that a settled file has: what is placed over it is a free file.
+fn clear<B: Blocks>(
+    alloc: Global,
+    draft: &mut Draft,
+    blocks: &mut B,
+    settled: Inode,
+) -> Result<PlacedFile, PlanError>
+    requires disk { B.count blocks.old ≡ draft.old.map.count }
+    requires size { settled.size ≤ greatest_size VERSION }
+    ensures count { B.count blocks.new ≡ B.count blocks.old }
+    ensures counted { OnOk result (B.failed blocks.new ≡ B.failed blocks.old) }
+    ensures device { IsErrOf result PlanError.Device
+        → HasGrown (B.failed blocks.old) (B.failed blocks.new) }
+    ensures reads { (start : B) → B.ReadsOn start blocks.old → B.ReadsOn start blocks.new }
+    ensures same { (disk : ℕ → List ℕ) → B.Shows blocks.old disk → B.Shows blocks.new disk }
+    ensures grows { Grows draft.old draft.new }
+    ensures parts { draft.new.map.parts.items ≡ draft.old.map.parts.items }
+    ensures others { (p : ℕ) → IsReserved draft.old p → IsReserved draft.new p }
+    ensures taken { IfOk result (λ p. All (λ b. b < draft.old.map.count) p.taken.items) }
+    ensures freed { IfOk result (λ p. All (λ b. b < draft.old.map.count) p.freed.items) }
+    ensures given { IfOk result (λ p. (b : ℕ) → is_one p.taken.items b ≡ true
+        → WasTaken draft.old draft.new b) }
+    ensures cleared { (s : Sizes) (disk : ℕ → List ℕ) → B.Shows blocks.old disk
+        → IsSettledFile s draft.old disk settled
+        → IfOk result (λ p. OnEach draft.new (λ e. Agrees (Names (held disk settled)) disk e
+        → IsCleared s e (held disk settled) p.inode (is_one p.taken.items)
+        (is_one p.freed.items))) }
+    ensures full { IsErrOf result PlanError.NoSpace → IsFull draft.new }
+    ensures damaged { (s : Sizes) (disk : ℕ → List ℕ) → B.Shows blocks.old disk
+        → IsSettledFile s draft.old disk settled → IsErrOf result PlanError.Damaged → ⊥ }
+{
+    let mut file = File::load(alloc, settled)?;
+    file.set_size(0);
+    let attributes = Attributes {
+        kind: Kind::Free,
+        mode: Mode::new(0).unwrap(),
+        links: 0,
+    };
+    let object = Object { attributes, file };
+    let placed = place_file(alloc, draft, blocks, &object)?;
+    Ok(placed)
+}
+
+/// Places an object over its settled inode. One that is made anew leaves all blocks that the settled file has.
+fn place_object<B: Blocks>(
+    alloc: Global,
+    draft: &mut Draft,
+    blocks: &mut B,
+    settled: Inode,
+    object: &Object,
+) -> Result<PlacedFile, PlanError>
+    requires disk { B.count blocks.old ≡ draft.old.map.count }
+    requires size { settled.size ≤ greatest_size VERSION }
+    ensures count { B.count blocks.new ≡ B.count blocks.old }
+    ensures counted { OnOk result (B.failed blocks.new ≡ B.failed blocks.old) }
+    ensures device { IsErrOf result PlanError.Device
+        → HasGrown (B.failed blocks.old) (B.failed blocks.new) }
+    ensures reads { (start : B) → B.ReadsOn start blocks.old → B.ReadsOn start blocks.new }
+    ensures same { (disk : ℕ → List ℕ) → B.Shows blocks.old disk → B.Shows blocks.new disk }
+    ensures grows { Grows draft.old draft.new }
+    ensures parts { draft.new.map.parts.items ≡ draft.old.map.parts.items }
+    ensures others { (p : ℕ) → IsReserved draft.old p → IsReserved draft.new p }
+    ensures taken { IfOk result (λ p. All (λ b. b < draft.old.map.count) p.taken.items) }
+    ensures freed { IfOk result (λ p. All (λ b. b < draft.old.map.count) p.freed.items) }
+    ensures given { IfOk result (λ p. (b : ℕ) → is_one p.taken.items b ≡ true
+        → WasTaken draft.old draft.new b) }
+    ensures placed { (s : Sizes) (disk : ℕ → List ℕ) → B.Shows blocks.old disk
+        → IsSettledFile s draft.old disk settled → IsObjectOver s disk settled object.now
+        → IfOk result (λ p. OnEach draft.new (λ e. Agrees (Names (held disk settled)) disk e
+        → IsPlaced s e (held disk settled) p.inode (is_one p.taken.items)
+        (is_one p.freed.items))) }
+    ensures content { (s : Sizes) (disk : ℕ → List ℕ) → B.Shows blocks.old disk
+        → IsSettledFile s draft.old disk settled → IsObjectOver s disk settled object.now
+        → IfOk result (λ p. OnEach draft.new (λ e. Agrees (Names (held disk settled)) disk e
+        → content_of (held e p.inode) ≡ object_content disk object.now)) }
+    ensures full { IsErrOf result PlanError.NoSpace → IsFull draft.new }
+    ensures damaged { (s : Sizes) (disk : ℕ → List ℕ) → B.Shows blocks.old disk
+        → IsSettledFile s draft.old disk settled → IsObjectOver s disk settled object.now
+        → IsErrOf result PlanError.Damaged → ⊥ }
+{
+    let placed = place_file(alloc, draft, blocks, object)?;
+    if object.file.tree().count() > 0 {
+        return Ok(placed);
+    }
+    let cleared = clear(alloc, draft, blocks, settled)?;
+    Ok(PlacedFile {
+        inode: placed.inode,
+        taken: placed.taken,
+        freed: cleared.freed,
+    })
+}
+
+/// Places what memory has of a number that is changed; what it has none of becomes free.
+pub(crate) fn place_number<B: Blocks>(
+    alloc: Global,
+    draft: &mut Draft,
+    blocks: &mut B,
+    inodes: &InodeFile,
+    number: u32,
+) -> Result<PlacedFile, PlanError>
+    requires disk { B.count blocks.old ≡ draft.old.map.count }
+    requires low { ROOT_NUMBER ≤ number }
+    requires high { number < inodes.now.geometry.inodes }
+    requires known { IsKnown inodes.now number }
+    ensures count { B.count blocks.new ≡ B.count blocks.old }
+    ensures counted { OnOk result (B.failed blocks.new ≡ B.failed blocks.old) }
+    ensures device { IsErrOf result PlanError.Device
+        → HasGrown (B.failed blocks.old) (B.failed blocks.new) }
+    ensures reads { (start : B) → B.ReadsOn start blocks.old → B.ReadsOn start blocks.new }
+    ensures same { (disk : ℕ → List ℕ) → B.Shows blocks.old disk → B.Shows blocks.new disk }
+    ensures grows { Grows draft.old draft.new }
+    ensures parts { draft.new.map.parts.items ≡ draft.old.map.parts.items }
+    ensures others { (p : ℕ) → IsReserved draft.old p → IsReserved draft.new p }
+    ensures taken { IfOk result (λ p. All (λ b. b < draft.old.map.count) p.taken.items) }
+    ensures freed { IfOk result (λ p. All (λ b. b < draft.old.map.count) p.freed.items) }
+    ensures given { IfOk result (λ p. (b : ℕ) → is_one p.taken.items b ≡ true
+        → WasTaken draft.old draft.new b) }
+    ensures placed { (disk : ℕ → List ℕ) (settled : ℕ → Inode) (v : Volume)
+        → B.Shows blocks.old disk
+        → IsOverSettled (B.count blocks.old) draft.old disk settled inodes.now v
+        → IfOk result (λ p. OnEach draft.new
+        (λ e. Agrees (Names (held disk (settled number))) disk e
+        → IsNumberPlaced inodes.now.geometry e (held disk (settled number))
+        (trimmed (files_of disk settled inodes.now number)) p.inode
+        (is_one p.taken.items) (is_one p.freed.items))) }
+    ensures full { IsErrOf result PlanError.NoSpace → IsFull draft.new }
+    ensures damaged { (disk : ℕ → List ℕ) (settled : ℕ → Inode) (v : Volume)
+        → B.Shows blocks.old disk
+        → IsOverSettled (B.count blocks.old) draft.old disk settled inodes.now v
+        → IsErrOf result PlanError.Damaged → ⊥ }
+{
+    let settled = inodes.settled_inode(blocks, number)?;
+    let Some(object) = inodes.get(number) else {
+        let cleared = clear(alloc, draft, blocks, settled)?;
+        return Ok(cleared);
+    };
+    let placed = place_object(alloc, draft, blocks, settled, object)?;
+    Ok(placed)
+}
