@@ -13,13 +13,17 @@ nodes_at count (suc height) = div_ceil (nodes_at count height) 1024
 
 -- these are the pointers to the first so many nodes at this depth
 abbrev pub AreNodes : (ℕ → List ℕ) → List Pointer → ℕ → ℕ → List Pointer → Type 0
-AreNodes disk pointers depth count nodes = (i : ℕ) → i < count → slice_index_or nodes i Hole ≡ place disk pointers depth i
+AreNodes disk pointers depth count nodes =
+    (i : ℕ) → i < count → slice_index_or nodes i Hole ≡ place disk pointers depth i
 
 -- one of the first so many nodes at this depth lies there
 abbrev pub IsNodePlace : (ℕ → List ℕ) → List Pointer → ℕ → ℕ → ℕ → Type 0
-IsNodePlace disk pointers depth count p = (i : ℕ) × (i < count) × (place disk pointers depth i ≡ Block p)
+IsNodePlace disk pointers depth count p =
+    (i : ℕ) × (i < count) × (place disk pointers depth i ≡ Block p)
 
 -- one of the first so many nodes at this depth lies there, or one above them
 unfoldable pub IsNamed : (ℕ → List ℕ) → List Pointer → ℕ → ℕ → ℕ → Type 0
 IsNamed disk pointers zero count p = IsNodePlace disk pointers zero count p
-IsNamed disk pointers (suc depth) count p = IsNodePlace disk pointers (suc depth) count p ⊎ IsNamed disk pointers depth (div_ceil count 1024) p
+IsNamed disk pointers (suc depth) count p =
+    IsNodePlace disk pointers (suc depth) count p
+    ⊎ IsNamed disk pointers depth (div_ceil count 1024) p

@@ -13,7 +13,8 @@ use Rattle.blocktree.specs.declared.tree.BlockTree.{BlockTree}
 
 -- block i as an inode with these pointers has it, of which the first `kept` count
 unfoldable pub settled_block : (ℕ → List ℕ) → List Pointer → ℕ → ℕ → ℕ → List ℕ
-settled_block disk pointers depth kept i = if nat_lt i kept then pointed disk (place disk pointers depth i) else zeros 4096
+settled_block disk pointers depth kept i =
+    if nat_lt i kept then pointed disk (place disk pointers depth i) else zeros 4096
 
 -- a block with what is in memory of it over what stands below
 abbrev pub slot_bytes : Option Slot → List ℕ → List ℕ
@@ -23,7 +24,8 @@ slot_bytes None below = below
 
 -- block i
 abbrev pub tree_block : (ℕ → List ℕ) → BlockTree → ℕ → List ℕ
-tree_block disk t i = slot_bytes (tree.get nat_cmp t.slots i) (settled_block disk t.pointers t.depth t.kept i)
+tree_block disk t i =
+    slot_bytes (tree.get nat_cmp t.slots i) (settled_block disk t.pointers t.depth t.kept i)
 
 -- block i has room for a change
 abbrev pub HasRoom : BlockTree → ℕ → Type 0
@@ -54,7 +56,8 @@ IsChanged t i = IsChangedSlot (tree.get nat_cmp t.slots i)
 
 -- what stands on a disk of so many blocks over block i, where the settled inode counts for it, is in the grammar
 abbrev pub IsSoundAt : ℕ → (ℕ → List ℕ) → BlockTree → ℕ → Type 0
-IsSoundAt blocks disk t i = (IsChanged t i → ⊥) → i < t.kept → IsPath blocks disk t.pointers t.depth t.count i
+IsSoundAt blocks disk t i =
+    (IsChanged t i → ⊥) → i < t.kept → IsPath blocks disk t.pointers t.depth t.count i
 
 -- what stands on a disk of so many blocks over the settled blocks is in the grammar
 abbrev pub AreSound : ℕ → (ℕ → List ℕ) → BlockTree → Type 0
@@ -62,7 +65,9 @@ AreSound blocks disk t = (i : ℕ) → i < t.count → IsPath blocks disk t.poin
 
 -- what was in the grammar is so still
 abbrev pub KeepsSound : BlockTree → BlockTree → Type 0
-KeepsSound old new = (blocks : ℕ) (disk : ℕ → List ℕ) (i : ℕ) → IsSoundAt blocks disk old i → IsSoundAt blocks disk new i
+KeepsSound old new =
+    (blocks : ℕ) (disk : ℕ → List ℕ) (i : ℕ)
+    → IsSoundAt blocks disk old i → IsSoundAt blocks disk new i
 
 -- block i is there
 abbrev pub IsAt : (ℕ → List ℕ) → BlockTree → ℕ → Location → Type 0

@@ -310,6 +310,7 @@ impl BlockTree {
         ensures sound { KeepsSound self.old self.new }
         ensures was_sound { KeepsSound self.new self.old }
         ensures settled { SameSettled self.old self.new }
+        ensures kept { self.new.kept ≡ self.old.kept }
     {
         if !self.slots.contains_key(&i) {
             return match self.slots.insert(i, Slot::AsSettled) {
@@ -328,6 +329,7 @@ impl BlockTree {
         ensures keeps { KeepsRoom self.old self.new }
         ensures sound { KeepsSound self.old self.new }
         ensures settled { SameSettled self.old self.new }
+        ensures kept { self.new.kept ≡ self.old.kept }
     {
         let _ = self.slots.insert(i, Slot::Changed(block));
     }

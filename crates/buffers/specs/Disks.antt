@@ -3,7 +3,7 @@ use Rattle.std.specs.Prelude.{ℕ, ◌≡◌, ◌+◌, ◌*◌, ◌/◌, ◌%◌
 use Rattle.std.specs.Ordering.{nat_cmp}
 use Rattle.std.specs.BTreeMap.{BTreeMap, get}
 use Rattle.station.specs.Images.{Sector, Unchanged, sector_bytes}
-use Rattle.station.specs.Moments.{Meaning, IsSameStation, Goes}
+use Rattle.station.specs.Moments.{Meaning, IsSameStation, MayGrow, Goes}
 use Rattle.buffers.specs.declared.block.Block.{Block}
 
 -- these are the bytes of a block of the disk: its eight sectors one behind the other
@@ -38,4 +38,5 @@ disk_with_sector sector bytes disk =
 pub record ReadsOn (old new : Meaning) : Type 0 where
   pub same : IsSameStation old new
   pub writes : new.failed_writes ≡ old.failed_writes
+  pub reads : MayGrow old.failed_reads new.failed_reads
   pub goes : Goes Unchanged old new

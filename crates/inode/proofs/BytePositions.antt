@@ -2,8 +2,7 @@
 use Rattle.std.proofs.Common.{◌≡◌, ◌≢◌, ℕ, zero, suc, ◌+◌, ◌-◌, ◌*◌, ◌/◌, ◌%◌, ◌<◌, ◌≤◌, ◌++◌, List, [], ◌∷◌, length, get_or, take, drop, slice_index, refl, sym, ◌∙◌, ap, subst, inl, inr, ◌⊎◌, true, false, arith, ltb, leb, ◌&&◌, min, max, if◌then◌else◌}
 use Rattle.std.proofs.lemmas.Bool.{cases_lt}
 use Rattle.std.proofs.lemmas.Bool.Decides.{nat_tests}
-use Rattle.std.proofs.lemmas.List.{get_or_append_left, get_or-append_right, get_or-take, get_or-drop, length-take, length-drop, length-take-le, get_or_past, get_or_default, length_push}
-use borrow.Rule.Slice.PartMut.{put_mid, post_of}
+use Rattle.std.proofs.lemmas.List.{get_or_append_left, get_or-append_right, get_or-take, get_or-drop, length-take, length-drop, get_or_past, get_or_default, length_push}
 use Rattle.layout.specs.Bytes.{zeros}
 use Rattle.buffers.specs.Positions.{written, laid, cut}
 use Rattle.blocktree.specs.Places.{block_count}
@@ -28,37 +27,18 @@ written_above f at bytes p le = grind (arith, nat_tests)
 pub written_in : (f : ℕ → ℕ) (at : ℕ) (bytes : List ℕ) (p : ℕ) → at ≤ p → p < at + length bytes → written f at bytes p ≡ slice_index bytes (p - at)
 written_in f at bytes p le lt = grind (arith, nat_tests)
 
--- ---- a part of a list that was written anew
-
-pub mid_below : (a k : ℕ) (xs ys : List ℕ) (i : ℕ) → i < a → a ≤ length xs → slice_index (put_mid a k xs ys) i ≡ slice_index xs i
-mid_below a k xs ys i lt le = get_or_append_left (take a xs) (ys ++ post_of a k xs) 0 i (omega (arith, length-take-le a xs le)) ∙ get_or-take a xs i 0 lt
-
-pub mid_in : (a k : ℕ) (xs ys : List ℕ) (i j : ℕ) → i < length ys → a ≤ length xs → a + i ≡ j → slice_index (put_mid a k xs ys) j ≡ slice_index ys i
-mid_in a k xs ys i j lt le e =
-    let len = length-take-le a xs le in
-    let is : j - a ≡ i = omega arith in
-    get_or-append_right (take a xs) (ys ++ post_of a k xs) a j 0 len (omega arith) ∙ ap (λ (n : ℕ). get_or (ys ++ post_of a k xs) n 0) is ∙ get_or_append_left ys (post_of a k xs) 0 i lt
+-- ---- a part of a list
 
 pub slice_index-between : (xs : List ℕ) (a n k : ℕ) → k < n → slice_index (take n (drop a xs)) k ≡ slice_index xs (a + k)
 slice_index-between xs a n k lt = get_or-take n (drop a xs) k 0 lt ∙ get_or-drop a xs k 0
 
 -- ---- positions in blocks
 
-pub place_in_block : (start r : ℕ) → start % 4096 ≡ 0 → r < 4096 → ((start + r) / 4096 ≡ start / 4096) × ((start + r) % 4096 ≡ r)
-place_in_block start r whole lt = (omega arith, omega arith)
-
 pub byte_in_block : (blocks : ℕ → List ℕ) (i r : ℕ) → r < 4096 → byte_in blocks (4096 * i + r) ≡ slice_index (blocks i) r
 byte_in_block blocks i r lt =
     let quotient : (4096 * i + r) / 4096 ≡ i = omega arith in
     let rest : (4096 * i + r) % 4096 ≡ r = omega arith in
     ap (λ (q : ℕ). slice_index (blocks q) ((4096 * i + r) % 4096)) quotient ∙ ap (slice_index (blocks i)) rest
-
--- a byte a little further on in the same block
-pub byte_further : (blocks : ℕ → List ℕ) (p k : ℕ) → p % 4096 + k < 4096 → byte_in blocks (p + k) ≡ slice_index (blocks (p / 4096)) (p % 4096 + k)
-byte_further blocks p k lt =
-    let quotient : (p + k) / 4096 ≡ p / 4096 = omega arith in
-    let rest : (p + k) % 4096 ≡ p % 4096 + k = omega arith in
-    ap (λ (q : ℕ). slice_index (blocks q) ((p + k) % 4096)) quotient ∙ ap (slice_index (blocks (p / 4096))) rest
 
 -- the part of a write that falls into one block
 pub written_piece : (f g : ℕ → ℕ) (offset : ℕ) (bytes part : List ℕ) (start from to r : ℕ) → from ≡ max offset start → to ≡ min (offset + length bytes) (start + 4096) → offset < start + 4096 → start < offset + length bytes

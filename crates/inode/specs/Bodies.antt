@@ -11,7 +11,8 @@ use Rattle.blocktree.specs.Trees.{settled_block}
 -- block i of a file with this body and size; of an inline body only the bytes before the size count
 abbrev pub body_block : (ℕ → List ℕ) → Body → ℕ → ℕ → List ℕ
 body_block disk (Inline bytes) size i = if i == 0 then filled 4096 (take size bytes) else zeros 4096
-body_block disk (Pointers pointers) size i = settled_block disk pointers (depth_of size) (block_count size) i
+body_block disk (Pointers pointers) size i =
+    settled_block disk pointers (depth_of size) (block_count size) i
 
 -- block i of the file with this inode
 abbrev pub inode_block : (ℕ → List ℕ) → Inode → ℕ → List ℕ

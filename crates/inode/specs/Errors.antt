@@ -1,4 +1,5 @@
 -- Errors of reading, as those of a change.
+use Rattle.std.specs.Prelude.{◌≡◌}
 use Rattle.blocktree.specs.declared.error.ReadError.{ReadError}
 use Rattle.blocktree.specs.declared.error.ReadError.TheVariants as below
 use Rattle.inode.specs.declared.error.ChangeError.{ChangeError}
@@ -8,3 +9,7 @@ abbrev pub change_error : ReadError → ChangeError
 change_error below.NoMemory = NoMemory
 change_error below.Device = Device
 change_error below.Damaged = Damaged
+
+-- a device call failed
+abbrev pub IsChangeFault : ChangeError → Type 0
+IsChangeFault e = e ≡ Device

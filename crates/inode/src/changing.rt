@@ -2,9 +2,11 @@
 
 ghost use Rattle.std.specs.Prelude.{◌≡◌, ◌≢◌, ℕ, ◌+◌, ◌*◌, ◌<◌, ◌≤◌, ◌/◌, List, length, slice_index, OnOk, OnErr, IsErrOf, IfOk, max};
 ghost use Rattle.layout.specs.Version.{greatest_size};
-ghost use Rattle.buffers.specs.Failures.{HasGrown};
+ghost use Rattle.buffers.specs.Reads.{ReadsBlocks};
+ghost use Rattle.blocktree.specs.Errors.{IsFault};
 ghost use Rattle.buffers.specs.Positions.{written, cut};
 ghost use Rattle.blocktree.specs.Places.{block_count};
+ghost use Rattle.inode.specs.Errors.{IsChangeFault};
 
 use crate::{Change, ChangeError, File};
 use blocktree::ReadError;
@@ -34,6 +36,8 @@ impl File {
         ensures room { OnOk result (HasRoom self.new.tree i) }
         ensures keeps { KeepsRoom self.old.tree self.new.tree }
         ensures sound { KeepsSound self.old.tree self.new.tree }
+        ensures settled { SameSettled self.old.tree self.new.tree }
+        ensures kept { self.new.tree.kept ≡ self.old.tree.kept }
     {
         self.tree.make_room(i)
     }
@@ -47,6 +51,8 @@ impl File {
         ensures keeps { KeepsRoom self.old.tree self.new.tree }
         ensures base { KeepsBase self.old.tree self.new.tree }
         ensures sound { KeepsSound self.old.tree self.new.tree }
+        ensures settled { SameSettled self.old.tree self.new.tree }
+        ensures kept { self.new.tree.kept ≡ self.old.tree.kept }
     {
         self.tree.set(i, block);
     }
@@ -77,12 +83,7 @@ impl File {
         bytes: &[u8],
     ) -> Result<Change, ChangeError>
         requires { 0 < length bytes.now }
-        ensures count { B.count blocks.new ≡ B.count blocks.old }
-        ensures counted { OnOk result (B.failed blocks.new ≡ B.failed blocks.old) }
-        ensures device { IsErrOf result ChangeError.Device
-            → HasGrown (B.failed blocks.old) (B.failed blocks.new) }
-        ensures reads { (start : B) → B.ReadsOn start blocks.old → B.ReadsOn start blocks.new }
-        ensures shown { (disk : ℕ → List ℕ) → B.Shows blocks.old disk → B.Shows blocks.new disk }
+        ensures reads { ReadsBlocks B.Blocks IsChangeFault blocks.old blocks.new result }
         ensures same { IsSameFile self.old self.new }
         ensures within { OnOk result (offset + length bytes.now ≤ greatest_size VERSION) }
         ensures too_big { IsErrOf result ChangeError.TooBig
@@ -132,12 +133,7 @@ impl File {
         requires end { offset + length bytes.now ≤ greatest_size VERSION }
         requires above { 4096 * i < offset + length bytes.now }
         requires below { offset < 4096 * i + 4096 }
-        ensures count { B.count blocks.new ≡ B.count blocks.old }
-        ensures counted { OnOk result (B.failed blocks.new ≡ B.failed blocks.old) }
-        ensures device { IsErrOf result ReadError.Device
-            → HasGrown (B.failed blocks.old) (B.failed blocks.new) }
-        ensures reads { (start : B) → B.ReadsOn start blocks.old → B.ReadsOn start blocks.new }
-        ensures same { (disk : ℕ → List ℕ) → B.Shows blocks.old disk → B.Shows blocks.new disk }
+        ensures reads { ReadsBlocks B.Blocks IsFault blocks.old blocks.new result }
         ensures read { (disk : ℕ → List ℕ) → B.Shows blocks.old disk → OnOk result
             (IsPartlyWritten offset (length bytes.now) i
             → IsSoundAt (B.count blocks.old) disk self.old.tree i) }
@@ -172,12 +168,7 @@ impl File {
         i: u32,
         bytes: u64,
     ) -> Result<Block, ReadError>
-        ensures count { B.count blocks.new ≡ B.count blocks.old }
-        ensures counted { OnOk result (B.failed blocks.new ≡ B.failed blocks.old) }
-        ensures device { IsErrOf result ReadError.Device
-            → HasGrown (B.failed blocks.old) (B.failed blocks.new) }
-        ensures reads { (start : B) → B.ReadsOn start blocks.old → B.ReadsOn start blocks.new }
-        ensures shown { (disk : ℕ → List ℕ) → B.Shows blocks.old disk → B.Shows blocks.new disk }
+        ensures reads { ReadsBlocks B.Blocks IsFault blocks.old blocks.new result }
         ensures sound { (disk : ℕ → List ℕ) → B.Shows blocks.old disk
             → OnOk result (bytes ≢ 4096 → IsSoundAt (B.count blocks.old) disk self.now.tree i) }
         ensures damaged { (disk : ℕ → List ℕ) → B.Shows blocks.old disk
@@ -201,12 +192,7 @@ impl File {
         blocks: &mut B,
         size: u64,
     ) -> Result<Change, ChangeError>
-        ensures count { B.count blocks.new ≡ B.count blocks.old }
-        ensures counted { OnOk result (B.failed blocks.new ≡ B.failed blocks.old) }
-        ensures device { IsErrOf result ChangeError.Device
-            → HasGrown (B.failed blocks.old) (B.failed blocks.new) }
-        ensures reads { (start : B) → B.ReadsOn start blocks.old → B.ReadsOn start blocks.new }
-        ensures shown { (disk : ℕ → List ℕ) → B.Shows blocks.old disk → B.Shows blocks.new disk }
+        ensures reads { ReadsBlocks B.Blocks IsChangeFault blocks.old blocks.new result }
         ensures same { IsSameFile self.old self.new }
         ensures within { OnOk result (size ≤ greatest_size VERSION) }
         ensures too_big { IsErrOf result ChangeError.TooBig → greatest_size VERSION < size }
@@ -272,12 +258,7 @@ impl File {
         bytes: &[u8],
     ) -> Result<(), ChangeError>
         requires { 0 < length bytes.now }
-        ensures count { B.count blocks.new ≡ B.count blocks.old }
-        ensures counted { OnOk result (B.failed blocks.new ≡ B.failed blocks.old) }
-        ensures device { IsErrOf result ChangeError.Device
-            → HasGrown (B.failed blocks.old) (B.failed blocks.new) }
-        ensures reads { (start : B) → B.ReadsOn start blocks.old → B.ReadsOn start blocks.new }
-        ensures shown { (disk : ℕ → List ℕ) → B.Shows blocks.old disk → B.Shows blocks.new disk }
+        ensures reads { ReadsBlocks B.Blocks IsChangeFault blocks.old blocks.new result }
         ensures too_big { IsErrOf result ChangeError.TooBig
             → greatest_size VERSION < offset + length bytes.now }
         ensures refused { OnErr result (IsSameFile self.old self.new) }
@@ -301,12 +282,7 @@ impl File {
         blocks: &mut B,
         size: u64,
     ) -> Result<(), ChangeError>
-        ensures count { B.count blocks.new ≡ B.count blocks.old }
-        ensures counted { OnOk result (B.failed blocks.new ≡ B.failed blocks.old) }
-        ensures device { IsErrOf result ChangeError.Device
-            → HasGrown (B.failed blocks.old) (B.failed blocks.new) }
-        ensures reads { (start : B) → B.ReadsOn start blocks.old → B.ReadsOn start blocks.new }
-        ensures shown { (disk : ℕ → List ℕ) → B.Shows blocks.old disk → B.Shows blocks.new disk }
+        ensures reads { ReadsBlocks B.Blocks IsChangeFault blocks.old blocks.new result }
         ensures too_big { IsErrOf result ChangeError.TooBig → greatest_size VERSION < size }
         ensures refused { OnErr result (IsSameFile self.old self.new) }
         ensures base { KeepsBase self.old.tree self.new.tree }

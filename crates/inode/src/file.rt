@@ -3,7 +3,8 @@
 ghost use Rattle.std.specs.Prelude.{◌≡◌, ℕ, ◌+◌, ◌<◌, ◌≤◌, ◌/◌, List, length, OnOk, IsErrOf, IfOk};
 ghost use Rattle.layout.specs.Version.{greatest_size};
 ghost use Rattle.layout.specs.declared.version.TheConstants.{VERSION};
-ghost use Rattle.buffers.specs.Failures.{HasGrown};
+ghost use Rattle.buffers.specs.Reads.{ReadsBlocks};
+ghost use Rattle.blocktree.specs.Errors.{IsFault};
 ghost use Rattle.buffers.specs.Positions.{IsPart};
 
 use crate::laws::settled_files_are_as_held;
@@ -82,12 +83,7 @@ impl File {
 
     /// Finds block `i`, and makes it resident where it is on the disk.
     pub fn locate<B: Blocks>(&self, blocks: &mut B, i: u32) -> Result<Location, ReadError>
-        ensures count { B.count blocks.new ≡ B.count blocks.old }
-        ensures counted { OnOk result (B.failed blocks.new ≡ B.failed blocks.old) }
-        ensures device { IsErrOf result ReadError.Device
-            → HasGrown (B.failed blocks.old) (B.failed blocks.new) }
-        ensures reads { (start : B) → B.ReadsOn start blocks.old → B.ReadsOn start blocks.new }
-        ensures same { (disk : ℕ → List ℕ) → B.Shows blocks.old disk → B.Shows blocks.new disk }
+        ensures reads { ReadsBlocks B.Blocks IsFault blocks.old blocks.new result }
         ensures resident { IfOk result (λ l. OnDisk l (B.IsResident blocks.new)) }
         ensures found { (disk : ℕ → List ℕ) → B.Shows blocks.old disk
             → IfOk result (IsAt disk self.now.tree i) }
@@ -116,12 +112,7 @@ impl File {
 
     /// A copy of block `i`.
     pub fn copy<B: Blocks>(&self, alloc: Global, blocks: &mut B, i: u32) -> Result<Block, ReadError>
-        ensures count { B.count blocks.new ≡ B.count blocks.old }
-        ensures counted { OnOk result (B.failed blocks.new ≡ B.failed blocks.old) }
-        ensures device { IsErrOf result ReadError.Device
-            → HasGrown (B.failed blocks.old) (B.failed blocks.new) }
-        ensures reads { (start : B) → B.ReadsOn start blocks.old → B.ReadsOn start blocks.new }
-        ensures same { (disk : ℕ → List ℕ) → B.Shows blocks.old disk → B.Shows blocks.new disk }
+        ensures reads { ReadsBlocks B.Blocks IsFault blocks.old blocks.new result }
         ensures bytes { (disk : ℕ → List ℕ) → B.Shows blocks.old disk
             → IfOk result (λ b. b ≡ file_block disk self.now i) }
         ensures sound { (disk : ℕ → List ℕ) → B.Shows blocks.old disk
@@ -141,12 +132,7 @@ impl File {
         out: &mut [u8],
     ) -> Result<(), ReadError>
         requires { offset + length out.old ≤ greatest_size VERSION }
-        ensures count { B.count blocks.new ≡ B.count blocks.old }
-        ensures counted { OnOk result (B.failed blocks.new ≡ B.failed blocks.old) }
-        ensures device { IsErrOf result ReadError.Device
-            → HasGrown (B.failed blocks.old) (B.failed blocks.new) }
-        ensures reads { (start : B) → B.ReadsOn start blocks.old → B.ReadsOn start blocks.new }
-        ensures same { (disk : ℕ → List ℕ) → B.Shows blocks.old disk → B.Shows blocks.new disk }
+        ensures reads { ReadsBlocks B.Blocks IsFault blocks.old blocks.new result }
         ensures bytes { (disk : ℕ → List ℕ) → B.Shows blocks.old disk
             → OnOk result (IsPart (byte_at disk self.now) offset out.new) }
         ensures sound { (disk : ℕ → List ℕ) → B.Shows blocks.old disk → OnOk result ((p : ℕ)

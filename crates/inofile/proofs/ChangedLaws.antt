@@ -1,5 +1,5 @@
 -- The numbers that are changed.
-use Rattle.std.proofs.Common.{◌≡◌, ◌↔◌, ℕ, zero, suc, ◌<◌, List, [], ◌∷◌, length, get_or, refl, sym, ap, subst, ◌∙◌, arith, Bool, true, false, cond, Option, Some, None, IsSome}
+use Rattle.std.proofs.Common.{◌≡◌, ◌↔◌, ℕ, zero, suc, List, [], ◌∷◌, refl, sym, ap, subst, ◌∙◌, arith, Bool, true, false, cond, Option, Some, None, IsSome}
 use Rattle.std.specs.Prelude.{Contains}
 use Rattle.std.specs.List.{filter}
 use Rattle.std.specs.Ordering.{nat_cmp}
@@ -10,7 +10,7 @@ use Rattle.std.proofs.lemmas.Bool.{false≢true}
 use Rattle.std.proofs.lemmas.List.Elements.{All-contains, filter_passes, Contains-append_right}
 use Rattle.std.proofs.lemmas.Map.Lookups.{exact_unsigned}
 use Rattle.std.proofs.lemmas.Map.Views.{btree_map_contains_key_iff}
-use Rattle.inofile.specs.Inodes.{is_changed_slot, IsChangedSlot}
+use Rattle.inofile.specs.Inodes.{is_changed_slot, IsChangedSlot, IsKnownSlot}
 use Rattle.inofile.specs.declared.inode_file.Slot.{Slot}
 use Rattle.inofile.specs.declared.inode_file.Slot.TheVariants.{AsSettled, Loaded, Changed}
 
@@ -36,6 +36,12 @@ is_changed (Some AsSettled) is = absurd is
 is_changed (Some (Loaded object)) is = absurd is
 is_changed (Some (Changed object)) is = refl
 is_changed None is = absurd is
+
+pub changed_known : (slot : Option Slot) → IsChangedSlot slot → IsKnownSlot slot
+changed_known (Some AsSettled) is = is
+changed_known (Some (Loaded object)) is = absurd is
+changed_known (Some (Changed object)) is = tt
+changed_known None is = is
 
 some_changed : (slot : Option Slot) → IsChangedSlot slot → IsSome slot
 some_changed (Some slot) is = refl

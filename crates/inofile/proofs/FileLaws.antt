@@ -1,9 +1,8 @@
 -- The files of all numbers, in memory and settled.
-use Rattle.std.proofs.Common.{◌≡◌, ◌⊎◌, ℕ, zero, suc, ◌<◌, ◌≤◌, List, refl, sym, ap, subst, ◌∙◌, arith, inl, inr, Option, Some, None}
+use Rattle.std.proofs.Common.{◌≡◌, ◌⊎◌, ℕ, zero, suc, ◌<◌, List, refl, sym, ap, subst, ◌∙◌, arith, inl, inr, Option, Some, None}
 use Rattle.std.specs.Ordering.{nat_cmp}
 use Rattle.std.specs.BTreeMap.{BTreeMap, get, IsEmpty, is_at}
 use Rattle.std.specs.Map.{lookup}
-use Rattle.std.proofs.lemmas.Bool.{cases_lt}
 use Rattle.layout.specs.Inode.{IsInode}
 use Rattle.layout.specs.Limits.{Sizes}
 use Rattle.layout.specs.declared.inode.Inode.{Inode}
@@ -15,11 +14,10 @@ use Rattle.images.specs.Contents.{Content, StandsAs, HoldsVolume}
 use Rattle.images.specs.Nodes.{held}
 use Rattle.images.specs.Roots.{free_inode}
 use Rattle.images.specs.Soundness.{FitsNumber}
-use Rattle.inode.specs.declared.file.File.{File}
 use Rattle.inode.specs.declared.object.Object.{Object}
 use Rattle.inofile.specs.Inodes.{or_free, slot_content, files_of, IsChangedSlot}
 use Rattle.inofile.specs.Objects.{StandsFor, IsAsSettled, IsObjectOrNone}
-use Rattle.inofile.specs.Settled.{AreSettled, content_of, held_content, unless_free, settled_content}
+use Rattle.inofile.specs.Settled.{held_content, settled_content}
 use Rattle.inofile.specs.Volumes.{SlotStandsFor, IsVolumeOf, HasNoOwn}
 use Rattle.inofile.specs.declared.inode_file.InodeFile.{InodeFile}
 use Rattle.inofile.specs.declared.inode_file.Slot.{Slot}
@@ -87,20 +85,10 @@ own_kind (suc zero) k inodes c found lt is stands = subst (λ (x : Kind). Stands
 own_kind (suc (suc zero)) k inodes c found lt is stands = subst (λ (x : Kind). StandsAs x inodes c found) is stands
 own_kind (suc (suc (suc n))) k inodes c found lt is stands = absurd (omega arith)
 
-kind_own : (n : ℕ) (k : Kind) (inodes : ℕ) (c : Content) (found : Option Node) → n < 3 → FitsNumber n k → found ≡ None → StandsAs k inodes c found
-kind_own zero k inodes c found lt is none = subst (λ (x : Kind). StandsAs x inodes c found) (sym is) none
-kind_own (suc zero) k inodes c found lt is none = subst (λ (x : Kind). StandsAs x inodes c found) (sym is) none
-kind_own (suc (suc zero)) k inodes c found lt is none = subst (λ (x : Kind). StandsAs x inodes c found) (sym is) none
-kind_own (suc (suc (suc n))) k inodes c found lt is none = absurd (omega arith)
-
 pub holds_no_own : (disk : ℕ → List ℕ) (inodes : ℕ) (settled : ℕ → Inode) (v : Volume) → ((n : ℕ) → FitsNumber n (settled n).kind)
     → HoldsVolume inodes (λ n. held_content disk (settled n)) v → HasNoOwn v
 unfolding held
 holds_no_own disk inodes settled v fits holds n lt = own_kind n (settled n).kind inodes (held_content disk (settled n)) (v n) lt (fits n) (holds n)
-
-own_stands : (disk : ℕ → List ℕ) (inodes n : ℕ) (settled : Inode) (found : Option Node) → n < 3 → FitsNumber n settled.kind → found ≡ None → StandsFor inodes (held_content disk settled) found
-unfolding held
-own_stands disk inodes n settled found lt fits none = kind_own n settled.kind inodes (held_content disk settled) found lt fits none
 
 -- ---- all settled
 
@@ -111,10 +99,3 @@ none_in m empty n = ap (λ es. lookup (is_at (nat_cmp n)) es) empty
 pub held_stand : (disk : ℕ → List ℕ) (inodes : ℕ) (settled : ℕ → Inode) (m : BTreeMap ℕ Slot) (v : Volume) → IsEmpty m → HoldsVolume inodes (λ n. held_content disk (settled n)) v
     → (n : ℕ) → SlotStandsFor disk inodes (settled n) (get nat_cmp m n) (v n)
 held_stand disk inodes settled m v empty holds n = subst (λ (x : Option Slot). SlotStandsFor disk inodes (settled n) x (v n)) (sym (none_in m empty n)) (holds n)
-
-pub settled_hold : (disk : ℕ → List ℕ) (inodes : ℕ) (next : ℕ → Inode) (files : ℕ → Content) (v : Volume) → ((n : ℕ) → FitsNumber n (next n).kind) → HasNoOwn v
-    → HoldsVolume inodes files v → ((n : ℕ) → 3 ≤ n → held_content disk (next n) ≡ files n) → HoldsVolume inodes (λ n. held_content disk (next n)) v
-settled_hold disk inodes next files v fits own holds same n = elim (cases_lt n 3) [
-  | inl lt ↦ own_stands disk inodes n (next n) (v n) lt (fits n) (own n lt)
-  | inr ge ↦ subst (λ (c : Content). StandsFor inodes c (v n)) (sym (same n (omega arith))) (holds n)
-]

@@ -1,5 +1,5 @@
 -- Objects that are loaded, or put in place of others.
-use Rattle.std.proofs.Common.{◌≡◌, ◌↔◌, ℕ, ◌-◌, ◌<◌, List, length, drop, refl, sym, ap, subst, ◌∙◌, arith, Option, Some, None, IsSome, is_some, IsTrue, Bool, true, false}
+use Rattle.std.proofs.Common.{◌≡◌, ◌↔◌, ℕ, ◌-◌, ◌≤◌, List, drop, refl, sym, ap, subst, ◌∙◌, arith, Option, Some, None, IsSome, is_some, IsTrue}
 use Rattle.layout.specs.Bytes.{zeros}
 use Rattle.layout.specs.FileBytes.{byte_in, EndsAt}
 use Rattle.layout.specs.Inode.{IsInode, FitsKind, FitsBody}
@@ -16,13 +16,12 @@ use Rattle.images.specs.Nodes.{held}
 use Rattle.images.specs.Roots.{free_inode}
 use Rattle.images.specs.Soundness.{IsOrdinary, IsSoundFile}
 use Rattle.inode.specs.Bases.{IsBased}
-use Rattle.inode.specs.Files.{file_block, byte_at, IsAsHeld, IsFile, IsSameFile}
+use Rattle.inode.specs.Files.{file_block, IsAsHeld, IsFile, IsSameFile}
 use Rattle.inode.specs.declared.file.File.{File}
 use Rattle.inode.specs.declared.object.Attributes.{Attributes}
 use Rattle.inode.specs.declared.object.Object.{Object}
 use Rattle.inofile.specs.Objects.{StandsFor, IsObjectKind, IsObject, IsObjectOrNone, IsAsSettled, IsSameObject, IsSameOrNone}
 use Rattle.inofile.specs.Settled.{content_of, held_content, unless_free, settled_content}
-use Rattle.std.specs.Option.{option_map}
 use Rattle.std.proofs.lemmas.Bool.{false≢true}
 use Rattle.std.proofs.Math.Path.{fun_ext}
 
@@ -70,6 +69,16 @@ object_kind kinds.InodeFile used is = is
 object_kind kinds.InodeMap used is = is
 object_kind kinds.BlockMap used is = is
 
+-- the sizes of the image are no matter to an object's kind
+fits_any : (k : Kind) (s t : Sizes) (mode links size : ℕ) → IsObjectKind k → FitsKind k s mode links size → FitsKind k t mode links size
+fits_any kinds.Free s t mode links size is fits = absurd is
+fits_any kinds.File s t mode links size is fits = fits
+fits_any kinds.Directory s t mode links size is fits = fits
+fits_any kinds.Link s t mode links size is fits = fits
+fits_any kinds.InodeFile s t mode links size is fits = absurd is
+fits_any kinds.InodeMap s t mode links size is fits = absurd is
+fits_any kinds.BlockMap s t mode links size is fits = absurd is
+
 -- an object that was loaded from an inode
 pub record IsLoaded (i : Inode) (o : Object) : Type 0 where
   pub attributes : o.attributes ≡ record { kind = i.kind; mode = i.mode; links = i.links }
@@ -85,10 +94,14 @@ loaded_content disk i o is same =
 pub loaded_settled : (disk : ℕ → List ℕ) (i : Inode) (o : Object) → IsLoaded i o → IsAsHeld disk i o.file → Some (content_of disk o) ≡ settled_content disk i
 loaded_settled disk i o is same = ap Some (loaded_content disk i o is same) ∙ sym (unless i.kind (held_content disk i) is.used)
 
-pub loaded_object : (disk : ℕ → List ℕ) (inodes : ℕ) (i : Inode) (o : Object) (found : Option Node) → IsLoaded i o → IsAsHeld disk i o.file → IsFile disk o.file
-    → IsOrdinary i.kind → StandsFor inodes (held_content disk i) found → IsObject disk inodes i o found
-loaded_object disk inodes i o found is same ends ordinary stands = record {
+pub loaded_object : (disk : ℕ → List ℕ) (inodes : ℕ) (s : Sizes) (i : Inode) (o : Object) (found : Option Node) → IsInode VERSION s i → IsLoaded i o → IsAsHeld disk i o.file
+    → IsFile disk o.file → IsOrdinary i.kind → StandsFor inodes (held_content disk i) found → IsObject disk inodes i o found
+loaded_object disk inodes s i o found inode is same ends ordinary stands = record {
   kind = subst (λ (a : Attributes). IsObjectKind a.kind) (sym is.attributes) (object_kind i.kind is.used ordinary);
+  mode = subst (λ (a : Attributes). a.mode ≤ 4095) (sym is.attributes) inode.mode;
+  fits = λ t.
+      subst (λ (a : Attributes). FitsKind a.kind t a.mode a.links o.file.size) (sym is.attributes)
+      (subst (FitsKind i.kind t i.mode i.links) (sym is.size) (fits_any i.kind s t i.mode i.links i.size (object_kind i.kind is.used ordinary) inode.kind));
   stands = subst (λ (c : Content). StandsFor inodes c found) (sym (loaded_content disk i o is same)) stands;
   ends = ends;
   base = is.base;
@@ -113,6 +126,10 @@ same_object disk inodes settled None (Some o) found same is = absurd same
 same_object disk inodes settled (Some o) None found same is = absurd same
 same_object disk inodes settled (Some old) (Some new) found same is = record {
   kind = subst (λ (a : Attributes). IsObjectKind a.kind) (sym same.attributes) is.kind;
+  mode = subst (λ (a : Attributes). a.mode ≤ 4095) (sym same.attributes) is.mode;
+  fits = λ s.
+      subst (λ (a : Attributes). FitsKind a.kind s a.mode a.links new.file.size) (sym same.attributes)
+      (subst (FitsKind old.attributes.kind s old.attributes.mode old.attributes.links) (sym same.file.size) (is.fits s));
   stands = subst (λ (c : Content). StandsFor inodes c found) (sym (same_content disk old new same)) is.stands;
   ends = same_ends disk old.file new.file same.file is.ends;
   base = same.file.base settled is.base;

@@ -1,5 +1,5 @@
 -- What memory stands for, number by number.
-use Rattle.std.proofs.Common.{◌≡◌, ◌≢◌, ◌↔◌, ◌⊎◌, ◌==◌, ℕ, zero, suc, ◌<◌, ◌≤◌, List, refl, sym, ap, subst, ◌∙◌, arith, inl, inr, Option, Some, None, IsSome, is_some, IsTrue, Bool, true, false, Result, Ok, Err, OnOk, OnErr, if◌then◌else◌}
+use Rattle.std.proofs.Common.{◌≡◌, ◌≢◌, ◌↔◌, ◌⊎◌, ℕ, zero, suc, ◌<◌, ◌≤◌, List, refl, sym, ap, subst, ◌∙◌, arith, inl, inr, Option, Some, None, IsSome, is_some, IsTrue, Bool, false, Result, Ok, Err, OnOk, OnErr}
 use Rattle.std.specs.Option.{option_map}
 use Rattle.std.specs.Ordering.{nat_cmp, is_eq}
 use Rattle.std.specs.BTreeMap.{BTreeMap, get, Updates}
@@ -89,18 +89,6 @@ unknown_stands disk inodes settled (Some AsSettled) found not stands = stands
 unknown_stands disk inodes settled (Some (Loaded object)) found not stands = absurd (not tt)
 unknown_stands disk inodes settled (Some (Changed object)) found not stands = absurd (not tt)
 unknown_stands disk inodes settled None found not stands = stands
-
-pub room_stands : (disk : ℕ → List ℕ) (inodes : ℕ) (settled : Inode) (slot : Option Slot) (found : Option Node) → slot ≡ None
-    → SlotStandsFor disk inodes settled slot found → SlotStandsFor disk inodes settled (Some AsSettled) found
-room_stands disk inodes settled slot found none stands = subst (λ (x : Option Slot). SlotStandsFor disk inodes settled x found) none stands
-
-pub loaded_stands : (disk : ℕ → List ℕ) (inodes : ℕ) (settled : Inode) (slot : Option Slot) (object : Option Object) (found : Option Node) → slot ≡ Some (Loaded object)
-    → SlotStandsFor disk inodes settled slot found → IsAsSettled disk settled object × IsObjectOrNone disk inodes settled object found
-loaded_stands disk inodes settled slot object found is stands = subst (λ (x : Option Slot). SlotStandsFor disk inodes settled x found) is stands
-
-pub changed_stands : (disk : ℕ → List ℕ) (inodes : ℕ) (settled : Inode) (slot : Option Slot) (object : Option Object) (found : Option Node) → slot ≡ Some (Changed object)
-    → SlotStandsFor disk inodes settled slot found → IsObjectOrNone disk inodes settled object found
-changed_stands disk inodes settled slot object found is stands = subst (λ (x : Option Slot). SlotStandsFor disk inodes settled x found) is stands
 
 -- a number that is loaded
 pub load_stands : (disk : ℕ → List ℕ) (inodes : ℕ) (settled inode : Inode) (object : Option Object) (found : Option Node) → inode ≡ settled

@@ -6,7 +6,9 @@ use Rattle.std.specs.BTreeMap as tree
 use Rattle.layout.specs.declared.inode.Inode.{Inode}
 use Rattle.images.specs.Contents.{Content}
 use Rattle.images.specs.Roots.{free_inode}
+use Rattle.inode.specs.declared.object.Object.{Object}
 use Rattle.inofile.specs.Settled.{content_of, held_content, settled_content}
+pub use Rattle.inofile.specs.Slots.{IsChangedSlot}
 use Rattle.inofile.specs.declared.inode_file.Slot.{Slot}
 use Rattle.inofile.specs.declared.inode_file.Slot.TheVariants.{AsSettled, Loaded, Changed}
 use Rattle.inofile.specs.declared.inode_file.InodeFile.{InodeFile}
@@ -20,7 +22,8 @@ slot_content disk None below = below
 
 -- the map from numbers to objects
 abbrev pub object_at : (ℕ → List ℕ) → (ℕ → Inode) → InodeFile → ℕ → Option Content
-object_at disk settled s n = slot_content disk (tree.get nat_cmp s.slots n) (settled_content disk (settled n))
+object_at disk settled s n =
+    slot_content disk (tree.get nat_cmp s.slots n) (settled_content disk (settled n))
 
 -- an object's content, or that of a free inode
 abbrev pub or_free : (ℕ → List ℕ) → Option Content → Content
@@ -33,7 +36,18 @@ files_of disk settled s n = or_free disk (object_at disk settled s n)
 
 -- no object differs
 abbrev pub SameObjects : (ℕ → List ℕ) → (ℕ → Inode) → InodeFile → InodeFile → Type 0
-SameObjects disk settled old new = (n : ℕ) → object_at disk settled new n ≡ object_at disk settled old n
+SameObjects disk settled old new =
+    (n : ℕ) → object_at disk settled new n ≡ object_at disk settled old n
+
+abbrev pub slot_object : Option Slot → Option Object
+slot_object (Some AsSettled) = None
+slot_object (Some (Loaded object)) = object
+slot_object (Some (Changed object)) = object
+slot_object None = None
+
+-- the object in memory with a number, if there is one
+abbrev pub loaded : InodeFile → ℕ → Option Object
+loaded s n = slot_object (tree.get nat_cmp s.slots n)
 
 abbrev pub IsKnownSlot : Option Slot → Type 0
 IsKnownSlot (Some AsSettled) = ⊥
@@ -48,12 +62,6 @@ IsKnown s n = IsKnownSlot (tree.get nat_cmp s.slots n)
 -- there is room to change the object with a number
 abbrev pub HasRoomFor : InodeFile → ℕ → Type 0
 HasRoomFor s n = tree.ContainsKey nat_cmp s.slots n
-
-abbrev pub IsChangedSlot : Option Slot → Type 0
-IsChangedSlot (Some AsSettled) = ⊥
-IsChangedSlot (Some (Loaded object)) = ⊥
-IsChangedSlot (Some (Changed object)) = Unit {0}
-IsChangedSlot None = ⊥
 
 abbrev pub is_changed_slot : Option Slot → Bool
 is_changed_slot (Some AsSettled) = false

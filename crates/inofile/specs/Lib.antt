@@ -1,3 +1,4 @@
+pub mod Slots
 pub mod Settled
 pub mod Inodes
 pub mod Objects

@@ -1,8 +1,11 @@
 -- Objects in memory, and those of a volume that they stand for.
-use Rattle.std.specs.Prelude.{ℕ, ◌≡◌, List, Option, Some, None}
+use Rattle.std.specs.Prelude.{ℕ, ◌≡◌, ◌≤◌, List, Option, Some, None}
+use Rattle.layout.specs.Inode.{FitsKind}
+use Rattle.layout.specs.Limits.{Sizes}
 use Rattle.layout.specs.declared.inode.Inode.{Inode}
 use Rattle.layout.specs.declared.kind.Kind.{Kind}
 use Rattle.layout.specs.declared.kind.Kind.TheVariants as kinds
+use Rattle.model.specs.declared.limits.TheConstants.{MODE_BITS}
 use Rattle.model.specs.Volumes.{Node}
 use Rattle.images.specs.Contents.{Content, StandsAs}
 use Rattle.images.specs.Roots.{free_inode}
@@ -25,10 +28,13 @@ IsObjectKind kinds.InodeFile = ⊥
 IsObjectKind kinds.InodeMap = ⊥
 IsObjectKind kinds.BlockMap = ⊥
 
--- An object in memory stands for this one of a volume. It ends at its size, and its tree is based on the inode that is settled
--- under its number.
+-- An object in memory stands for this one of a volume. Its mode, links and size are such as its kind allows in an image of any
+-- sizes, it ends at its size, and its tree is based on the inode that is settled under its number.
 pub record IsObject (disk : ℕ → List ℕ) (inodes : ℕ) (settled : Inode) (o : Object) (found : Option Node) : Type 0 where
   pub kind : IsObjectKind o.attributes.kind
+  pub mode : o.attributes.mode ≤ MODE_BITS
+  pub fits : (s : Sizes)
+      → FitsKind o.attributes.kind s o.attributes.mode o.attributes.links o.file.size
   pub stands : StandsFor inodes (content_of disk o) found
   pub ends : IsFile disk o.file
   pub base : IsBased settled o.file.tree

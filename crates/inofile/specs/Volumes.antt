@@ -15,10 +15,12 @@ use Rattle.inofile.specs.declared.inode_file.InodeFile.{InodeFile}
 
 -- what memory has of a number, over its settled inode, stands for this object, or for none
 abbrev pub SlotStandsFor : (ℕ → List ℕ) → ℕ → Inode → Option Slot → Option Node → Type 0
-SlotStandsFor disk inodes settled (Some AsSettled) found = StandsFor inodes (held_content disk settled) found
+SlotStandsFor disk inodes settled (Some AsSettled) found =
+    StandsFor inodes (held_content disk settled) found
 SlotStandsFor disk inodes settled (Some (Loaded object)) found =
     IsAsSettled disk settled object × IsObjectOrNone disk inodes settled object found
-SlotStandsFor disk inodes settled (Some (Changed object)) found = IsObjectOrNone disk inodes settled object found
+SlotStandsFor disk inodes settled (Some (Changed object)) found =
+    IsObjectOrNone disk inodes settled object found
 SlotStandsFor disk inodes settled None found = StandsFor inodes (held_content disk settled) found
 
 -- the inode map's bytes say which numbers are taken: the file system's own, and those of the objects
@@ -34,7 +36,8 @@ pub record IsVolumeOf (blocks : ℕ) (disk : ℕ → List ℕ) (settled : ℕ �
   pub inodes : AreSettled blocks disk s.geometry s.file settled
   pub mapped : MapsVolume s.numbers.bytes.items v
   pub own : HasNoOwn v
-  pub objects : (n : ℕ) → SlotStandsFor disk s.geometry.inodes (settled n) (tree.get nat_cmp s.slots n) (v n)
+  pub objects : (n : ℕ)
+      → SlotStandsFor disk s.geometry.inodes (settled n) (tree.get nat_cmp s.slots n) (v n)
 
 -- what memory has of a number, with this object in it
 abbrev pub slot_with : Option Object → Option Slot → Option Slot
@@ -48,6 +51,7 @@ pub record IsVolumeWithout (out : ℕ) (object : Option Object) (blocks : ℕ) (
   pub inodes : AreSettled blocks disk s.geometry s.file settled
   pub mapped : MapsVolume s.numbers.bytes.items v
   pub own : HasNoOwn v
-  pub taken : SlotStandsFor disk s.geometry.inodes (settled out) (slot_with object (tree.get nat_cmp s.slots out)) (v out)
+  pub taken : SlotStandsFor disk s.geometry.inodes (settled out)
+      (slot_with object (tree.get nat_cmp s.slots out)) (v out)
   pub others : (n : ℕ) → n ≢ out
       → SlotStandsFor disk s.geometry.inodes (settled n) (tree.get nat_cmp s.slots n) (v n)

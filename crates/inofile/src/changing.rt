@@ -7,18 +7,18 @@ ghost use Rattle.std.specs.BTreeMap as tree;
 ghost use Rattle.layout.specs.declared.inode.Inode.{Inode};
 ghost use Rattle.layout.specs.declared.numbers.TheConstants.{FIRST_NUMBER, ROOT_NUMBER};
 ghost use Rattle.model.specs.Volumes.{Node, Volume, with_node};
+ghost use Rattle.images.specs.Contents.{HoldsVolume};
 ghost use Rattle.inode.specs.declared.object.Object.{Object};
 ghost use Rattle.inofile.specs.Objects.{IsObject, IsObjectOrNone, IsSameOrNone};
 ghost use Rattle.inofile.specs.Settled.{AreSettled, content_of, held_content, settled_content};
 
-use crate::laws::memory_holds_its_volume;
 use crate::{InodeFile, Slot};
 use inode::{File, Object};
 use std::alloc::{AllocError, Global};
 
 impl InodeFile {
-    ghost use Rattle.inofile.specs.Inodes.{files_of, object_at, SameObjects, IsKnown, HasRoomFor, IsChanged};
-    ghost use Rattle.inofile.specs.Volumes.{IsVolumeOf, IsVolumeWithout, slot_with};
+    ghost use Rattle.inofile.specs.Inodes.{loaded, object_at, SameObjects, IsKnown, HasRoomFor, IsChanged};
+    ghost use Rattle.inofile.specs.Volumes.{IsVolumeOf, IsVolumeWithout, MapsVolume, slot_with};
 
     /// Makes room for a change of the object with a number. No object changes by it.
     pub fn prepare_set(&mut self, number: u32) -> Result<(), AllocError>
@@ -29,6 +29,7 @@ impl InodeFile {
         ensures stays { (n : ℕ) → IsKnown self.old n → IsKnown self.new n }
         ensures keeps { (n : ℕ) → HasRoomFor self.old n → HasRoomFor self.new n }
         ensures changed { (n : ℕ) → IsChanged self.new n ↔ IsChanged self.old n }
+        ensures loaded { (n : ℕ) → loaded self.new n ≡ loaded self.old n }
         ensures same { (disk : ℕ → List ℕ) (settled : ℕ → Inode)
             → SameObjects disk settled self.old self.new }
         ensures volume { (count : ℕ) (disk : ℕ → List ℕ) (settled : ℕ → Inode) (v : Volume)
@@ -65,6 +66,8 @@ impl InodeFile {
             → IsVolumeWithout number was count disk settled self.old v
             → IsObjectOrNone disk self.old.geometry.inodes (settled number) object node
             → IsVolumeOf count disk settled self.new (with_node number node v) }
+        ensures loaded { loaded self.new number ≡ object }
+        ensures rest { (n : ℕ) → (n ≢ number) → loaded self.new n ≡ loaded self.old n }
         ensures changed { IsChanged self.new number }
         ensures others { (n : ℕ) → (n ≢ number) → (IsChanged self.new n ↔ IsChanged self.old n) }
     {
@@ -80,6 +83,8 @@ impl InodeFile {
         ensures map { self.new.numbers ≡ self.old.numbers }
         ensures stays { (n : ℕ) → IsKnown self.old n → IsKnown self.new n }
         ensures keeps { (n : ℕ) → HasRoomFor self.old n → HasRoomFor self.new n }
+        ensures loaded { result ≡ loaded self.old number }
+        ensures rest { (n : ℕ) → (n ≢ number) → loaded self.new n ≡ loaded self.old n }
         ensures taken { (disk : ℕ → List ℕ) (settled : ℕ → Inode)
             → option_map (content_of disk) result ≡ object_at disk settled self.old number }
         ensures others { (disk : ℕ → List ℕ) (settled : ℕ → Inode) (n : ℕ) → (n ≢ number)
@@ -116,6 +121,8 @@ impl InodeFile {
             → object_at disk settled self.new n
             ≡ (if n == number then option_map (content_of disk) object
             else object_at disk settled self.old n) }
+        ensures loaded { loaded self.new number ≡ object }
+        ensures rest { (n : ℕ) → (n ≢ number) → loaded self.new n ≡ loaded self.old n }
         ensures changed { (n : ℕ) → IsChanged self.new n ↔ IsChanged self.old n }
         ensures volume { (was : Option Object) (count : ℕ) (disk : ℕ → List ℕ)
             (settled : ℕ → Inode) (v : Volume)
@@ -146,14 +153,12 @@ impl InodeFile {
         ensures unknown { (n : ℕ) → IsKnown self.new n → ⊥ }
         ensures settled { (disk : ℕ → List ℕ) (settled : ℕ → Inode) (n : ℕ)
             → object_at disk settled self.new n ≡ settled_content disk (settled n) }
-        ensures volume { (count : ℕ) (disk after : ℕ → List ℕ) (settled next : ℕ → Inode)
-            (v : Volume) → IsVolumeOf count disk settled self.old v
-            → AreSettled count after self.old.geometry file next
-            → ((n : ℕ) → ROOT_NUMBER ≤ n
-            → held_content after (next n) ≡ files_of disk settled self.old n)
-            → IsVolumeOf count after next self.new v }
+        ensures volume { (count : ℕ) (disk : ℕ → List ℕ) (settled : ℕ → Inode) (v : Volume)
+            → AreSettled count disk self.old.geometry file settled
+            → MapsVolume self.old.numbers.bytes.items v
+            → HoldsVolume self.old.geometry.inodes (λ n. held_content disk (settled n)) v
+            → IsVolumeOf count disk settled self.new v }
     {
-        memory_holds_its_volume();
         self.file = file;
         self.slots.clear();
     }

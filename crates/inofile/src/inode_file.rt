@@ -29,9 +29,11 @@ pub struct InodeFile {
     pub(crate) slots: BTreeMap<u32, Slot>,
     pub(crate) numbers: Numbers,
     ghost same: { numbers.inodes ≡ geometry.inodes },
+    ghost changes: { ChangesObjects geometry.inodes slots },
 }
 
-ghost use Rattle.std.specs.Prelude.{◌≡◌, ◌≤◌, ◌<◌, ◌*◌, ◌↔◌, ℕ, List, Option, Some, None, OnOk, IfOk, IfSome, IfNone, IsErrOf, IsTrue, Contains, filter, option_copied, vec_len};
+ghost use Rattle.std.specs.Prelude.{◌≡◌, ◌≤◌, ◌<◌, ◌*◌, ◌↔◌, ℕ, List, Option, Some, None, OnOk, IfOk, IfSome, IfNone, IsErrOf, IsTrue, Contains, filter, length, option_copied, vec_len};
+ghost use Rattle.std.specs.Int.{div_ceil};
 ghost use Rattle.std.specs.List.Sorted.{IsStrictlyIncreasing};
 ghost use Rattle.std.specs.Option.{option_map};
 ghost use Rattle.std.specs.Ordering.{nat_cmp};
@@ -43,12 +45,14 @@ ghost use Rattle.layout.specs.declared.inode.Inode.{Inode};
 ghost use Rattle.layout.specs.declared.numbers.TheConstants.{ROOT_NUMBER};
 ghost use Rattle.layout.specs.declared.version.TheConstants.{VERSION};
 ghost use Rattle.model.specs.Volumes.{Node, Volume};
-ghost use Rattle.buffers.specs.Failures.{HasGrown};
+ghost use Rattle.buffers.specs.Reads.{ReadsBlocks};
+ghost use Rattle.blocktree.specs.Errors.{IsFault};
 ghost use Rattle.images.specs.Contents.{HoldsVolume};
 ghost use Rattle.images.specs.Nodes.{held};
 ghost use Rattle.images.specs.Soundness.{IsOrdinary, IsSoundFile};
 ghost use Rattle.inofile.specs.Objects.{IsAsSettled, IsObject, IsObjectOrNone, StandsFor};
 ghost use Rattle.inofile.specs.Settled.{AreSettled, content_of, held_content, settled_content};
+ghost use Rattle.inofile.specs.Slots.{ChangesObjects};
 
 impl InodeFile {
     ghost use Rattle.inofile.specs.Inodes.{is_changed_slot, object_at, SameObjects, IsKnown, HasRoomFor, IsChanged};
@@ -56,7 +60,7 @@ impl InodeFile {
 
     /// The inodes of this settled inode file, with the bytes of the inode map.
     pub fn new(alloc: Global, geometry: Geometry, file: File, map: Vec<u8>) -> InodeFile
-        requires { geometry.inodes ≤ 8 * vec_len map }
+        requires { vec_len map ≡ div_ceil geometry.inodes 8 }
         ensures geometry { result.geometry ≡ geometry }
         ensures file { result.file ≡ file }
         ensures map { result.numbers.bytes.items ≡ map.items }
@@ -81,12 +85,7 @@ impl InodeFile {
     pub fn settled_inode<B: Blocks>(&self, blocks: &mut B, number: u32) -> Result<Inode, ReadError>
         requires low { 1 ≤ number }
         requires high { number < self.now.geometry.inodes }
-        ensures count { B.count blocks.new ≡ B.count blocks.old }
-        ensures counted { OnOk result (B.failed blocks.new ≡ B.failed blocks.old) }
-        ensures device { IsErrOf result ReadError.Device
-            → HasGrown (B.failed blocks.old) (B.failed blocks.new) }
-        ensures reads { (start : B) → B.ReadsOn start blocks.old → B.ReadsOn start blocks.new }
-        ensures shown { (disk : ℕ → List ℕ) → B.Shows blocks.old disk → B.Shows blocks.new disk }
+        ensures reads { ReadsBlocks B.Blocks IsFault blocks.old blocks.new result }
         ensures read { (disk : ℕ → List ℕ) (settled : ℕ → Inode) → B.Shows blocks.old disk
             → AreSettled (B.count blocks.old) disk self.now.geometry self.now.file settled
             → IfOk result (λ i. i ≡ settled number) }
@@ -113,12 +112,7 @@ impl InodeFile {
     ) -> Result<(), ReadError>
         requires low { ROOT_NUMBER ≤ number }
         requires high { number < self.old.geometry.inodes }
-        ensures count { B.count blocks.new ≡ B.count blocks.old }
-        ensures counted { OnOk result (B.failed blocks.new ≡ B.failed blocks.old) }
-        ensures device { IsErrOf result ReadError.Device
-            → HasGrown (B.failed blocks.old) (B.failed blocks.new) }
-        ensures reads { (start : B) → B.ReadsOn start blocks.old → B.ReadsOn start blocks.new }
-        ensures shown { (disk : ℕ → List ℕ) → B.Shows blocks.old disk → B.Shows blocks.new disk }
+        ensures reads { ReadsBlocks B.Blocks IsFault blocks.old blocks.new result }
         ensures geometry { self.new.geometry ≡ self.old.geometry }
         ensures file { self.new.file ≡ self.old.file }
         ensures map { self.new.numbers ≡ self.old.numbers }
@@ -171,6 +165,10 @@ impl InodeFile {
         ensures sorted { IfOk result (λ numbers. IsStrictlyIncreasing numbers.items) }
         ensures members { IfOk result (λ numbers. (n : ℕ)
             → Contains numbers.items n ↔ IsChanged self.now n) }
+        ensures within { IfOk result (λ numbers. (n : ℕ) → Contains numbers.items n
+            → (ROOT_NUMBER ≤ n) × (n < self.now.geometry.inodes)) }
+        ensures known { IfOk result (λ numbers. (n : ℕ)
+            → Contains numbers.items n → IsKnown self.now n) }
     {
         let numbers = self.changed_keys(alloc)?;
         Ok(numbers)
@@ -227,7 +225,8 @@ impl InodeFile {
 
     /// The inode map's bytes, as a consistency point stores them.
     pub fn map_bytes(&self) -> &[u8]
-        ensures { result.now ≡ self.now.numbers.bytes.items }
+        ensures bytes { result.now ≡ self.now.numbers.bytes.items }
+        ensures length { length result.now ≡ div_ceil self.now.geometry.inodes 8 }
     {
         self.numbers.bytes()
     }

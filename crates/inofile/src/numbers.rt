@@ -10,19 +10,20 @@ pub struct Numbers {
     inodes: u32,
     /// No number from the first on to this one is free.
     least: u32,
-    ghost size: { inodes ≤ 8 * vec_len bytes },
+    ghost size: { vec_len bytes ≡ div_ceil inodes 8 },
     ghost low: { 4 ≤ least },
     ghost high: { least ≤ inodes },
     ghost full: { (k : ℕ) → 4 ≤ k → k < least → IsTaken bytes.items k },
 }
 
 ghost use Rattle.std.specs.Prelude.{◌≡◌, ◌≢◌, ◌↔◌, ℕ, ◌*◌, ◌≤◌, ◌<◌, IsTrue, IfSome, IfNone, length, vec_len};
+ghost use Rattle.std.specs.Int.{div_ceil};
 ghost use Rattle.layout.specs.Maps.{IsTaken};
 
 impl Numbers {
     /// The numbers that this inode map tells, of so many inodes.
     pub fn new(bytes: Vec<u8>, inodes: u32) -> Numbers
-        requires size { inodes ≤ 8 * vec_len bytes }
+        requires size { vec_len bytes ≡ div_ceil inodes 8 }
         requires some { FIRST_NUMBER ≤ inodes }
         ensures bytes { result.bytes.items ≡ bytes.items }
         ensures inodes { result.inodes ≡ inodes }

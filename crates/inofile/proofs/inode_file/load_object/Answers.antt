@@ -27,4 +27,4 @@ returns-in_ok-object-in_default-clause-as_settled c = λ s disk sound. loaded_co
 
 pub returns-in_ok-object-in_default-clause-stands : goal.returns-in_ok-object-in_default-clause-stands
 returns-in_ok-object-in_default-clause-stands c = λ s disk inodes found sound ordinary stands.
-    loaded_object disk inodes c.args.inode c.in_ok-object-in_default.object found (loaded c) (c.in_ok-object-in_default.ensures.held s disk sound) (c.in_ok-object-in_default.ensures.ends s disk sound) ordinary stands
+    loaded_object disk inodes s c.args.inode c.in_ok-object-in_default.object found (held_inode s disk c.args.inode sound) (loaded c) (c.in_ok-object-in_default.ensures.held s disk sound) (c.in_ok-object-in_default.ensures.ends s disk sound) ordinary stands

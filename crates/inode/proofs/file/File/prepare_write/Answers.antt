@@ -28,10 +28,7 @@ more g c = ap length c.in_ok-push.ensures.items ∙ length_push c.loop-i.pieces.
 
 pub loop-i-init : goal.loop-i-init
 loop-i-init g c = record {
-  blocks = refl;
-  failed = refl;
-  reads = λ start was. was;
-  shows = λ disk was. was;
+  read = record { count = refl; counted = refl; reads = λ start was. was; same = λ disk was. was };
   same = same_itself c.args.self.now;
   count = search rules;
   sound = search rules;
@@ -41,22 +38,19 @@ loop-i-init g c = record {
 
 pub loop-i-preserved : goal.loop-i-preserved
 loop-i-preserved g c = record {
-  blocks = search rules;
-  failed = search rules;
-  reads = search rules;
-  shows = search rules;
+  read = search rules;
   same = still_same c.args.self.now c.loop-i.self c.new_block.new.self c.loop-i.invariant.same c.in_ok-block.ensures.unchanged;
   count = let one : length c.push.new.self.items ≡ length c.loop-i.pieces.items + 1 = more g c in omega (arith, c.loop-i.invariant.count, one);
   sound = λ disk shows.
       each_more (λ i. IsPartlyWritten c.args.offset (length c.args.bytes.now) i → IsSoundAt (g.B.Blocks.count c.args.blocks.now) disk c.args.self.now.tree i)
       (c.args.offset / 4096) (length c.loop-i.pieces.items) (length c.push.new.self.items) c.loop-i.i (more g c) c.loop-i.invariant.count (c.loop-i.invariant.sound disk shows)
       (λ part. c.loop-i.invariant.same.was_sound (g.B.Blocks.count c.args.blocks.now) disk c.loop-i.i
-      (subst (λ (n : ℕ). IsSoundAt n disk c.loop-i.self.tree c.loop-i.i) c.loop-i.invariant.blocks
-      (c.in_ok-block.ensures.read disk (c.loop-i.invariant.shows disk shows) part)));
+      (subst (λ (n : ℕ). IsSoundAt n disk c.loop-i.self.tree c.loop-i.i) c.loop-i.invariant.read.count
+      (c.in_ok-block.ensures.read disk (c.loop-i.invariant.read.same disk shows) part)));
   room = each_more (HasRoom c.new_block.new.self.tree) (c.args.offset / 4096) (length c.loop-i.pieces.items) (length c.push.new.self.items) c.loop-i.i (more g c) c.loop-i.invariant.count
       (λ j lt. c.in_ok-block.ensures.keeps (c.args.offset / 4096 + j) (c.loop-i.invariant.room j lt)) c.in_ok-block.ensures.room;
   bytes = λ disk shows. piece_more c.loop-i.pieces.items c.push.new.self.items c.in_ok-block.block (c.args.offset / 4096) c.loop-i.i (written (byte_at disk c.args.self.now) c.args.offset c.args.bytes.now) c.in_ok-push.ensures.items c.loop-i.invariant.count (c.loop-i.invariant.bytes disk shows)
-      (λ r lt. c.in_ok-block.ensures.bytes disk (c.loop-i.invariant.shows disk shows) r lt
+      (λ r lt. c.in_ok-block.ensures.bytes disk (c.loop-i.invariant.read.same disk shows) r lt
       ∙ written_same (byte_at disk c.loop-i.self) (byte_at disk c.args.self.now) c.args.offset c.args.bytes.now (4096 * c.loop-i.i + r)
       (ap (λ (b : List ℕ). slice_index b ((4096 * c.loop-i.i + r) % 4096)) (c.loop-i.invariant.same.blocks disk ((4096 * c.loop-i.i + r) / 4096))));
 }

@@ -1,5 +1,6 @@
 use Rattle.std.proofs.Common.{◌≡◌, ℕ, ◌+◌, ◌*◌, ◌<◌, List, [], length, slice_index, slice_index_or}
 use Rattle.buffers.specs.Positions.{written}
+use Rattle.buffers.specs.Reads.{HasOnlyRead}
 use Rattle.blocktree.specs.Trees.{HasRoom, IsSoundAt}
 use Rattle.inode.specs.Edges.{IsPartlyWritten}
 use Rattle.inode.specs.Files.{byte_at, IsSameFile}
@@ -7,10 +8,7 @@ use Rattle.inode.proofs.file.File.prepare_write.Given as goal
 
 abbrev pub invariant-loop-i : goal.invariant-loop-i
 invariant-loop-i g l = record {
-  blocks : g.B.Blocks.count l.blocks ≡ g.B.Blocks.count l.initial.blocks;
-  failed : g.B.Blocks.failed l.blocks ≡ g.B.Blocks.failed l.initial.blocks;
-  reads : (start : g.row.B.Denot) → g.B.Blocks.ReadsOn start l.initial.blocks → g.B.Blocks.ReadsOn start l.blocks;
-  shows : (disk : ℕ → List ℕ) → g.B.Blocks.Shows l.initial.blocks disk → g.B.Blocks.Shows l.blocks disk;
+  read : HasOnlyRead g.B.Blocks l.initial.blocks l.blocks;
   same : IsSameFile l.fn.self l.self;
   count : l.first + length l.pieces.items ≡ l.i;
   sound : (disk : ℕ → List ℕ) → g.B.Blocks.Shows l.initial.blocks disk → (j : ℕ) → j < length l.pieces.items

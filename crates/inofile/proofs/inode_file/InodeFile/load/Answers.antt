@@ -3,12 +3,10 @@ use Rattle.std.proofs.lemmas.Bool.{false≢true}
 use Rattle.layout.specs.declared.inode.Inode.{Inode}
 use Rattle.images.specs.Nodes.{held}
 use Rattle.images.specs.Soundness.{IsSoundFile, IsOrdinary}
-use Rattle.inofile.specs.Inodes.{IsKnown}
 use Rattle.inofile.specs.Objects.{StandsFor}
 use Rattle.inofile.specs.Settled.{held_content, settled_content}
 use Rattle.inofile.specs.declared.inode_file.Slot.TheVariants.{Loaded}
 use Rattle.inofile.proofs.VolumeLaws.{all_stand, load_stands, load_same, ordinary_kind, unknown_stands}
-use Rattle.inofile.proofs.inode_file.InodeFile.load.Given.{Over}
 use Rattle.inofile.proofs.inode_file.InodeFile.load.Goals as goal
 
 pub returns-in-Ok-clause-volume : goal.returns-in-Ok-clause-volume

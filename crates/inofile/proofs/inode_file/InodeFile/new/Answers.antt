@@ -1,6 +1,6 @@
 use Rattle.std.proofs.Common.{sym, subst, ℕ, List}
 use Rattle.inofile.specs.Volumes.{MapsVolume}
-use Rattle.inofile.proofs.FileLaws.{holds_no_own, held_stand, none_in}
+use Rattle.inofile.proofs.FileLaws.{holds_no_own, held_stand}
 use Rattle.inofile.proofs.inode_file.InodeFile.new.Goals as goal
 
 pub returns-clause-volume : goal.returns-clause-volume

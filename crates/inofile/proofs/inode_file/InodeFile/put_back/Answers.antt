@@ -1,4 +1,4 @@
-use Rattle.std.proofs.Common.{ℕ, List, Option, Some, refl, sym, subst, ◌≡◌}
+use Rattle.std.proofs.Common.{Option, Some, refl, sym, subst}
 use Rattle.std.specs.Ordering.{nat_cmp}
 use Rattle.std.specs.BTreeMap.{get, Updates}
 use Rattle.inofile.specs.Volumes.{SlotStandsFor}

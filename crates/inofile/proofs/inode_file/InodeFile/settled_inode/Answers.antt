@@ -1,4 +1,4 @@
-use Rattle.std.proofs.Common.{◌∙◌, ap, ℕ, ◌≡◌, ◌/◌, ◌%◌, List}
+use Rattle.std.proofs.Common.{◌∙◌, ap, ℕ, ◌≡◌, ◌%◌, List}
 use Rattle.layout.specs.Inode.{IsInode, inode_bytes}
 use Rattle.layout.specs.declared.inode.Inode.{Inode}
 use Rattle.layout.specs.declared.version.TheConstants.{VERSION}
@@ -14,7 +14,7 @@ spelled : (g : Over) (c : goal.After-read_inode g) (disk : ℕ → List ℕ) (se
     → AreSettled (g.B.Blocks.count c.args.blocks.now) disk c.args.self.now.geometry c.args.self.now.file settled
     → inode_part c.bytes.result.now (c.args.number % 21) ≡ inode_bytes (settled c.args.number)
 spelled g c disk settled shows are =
-    ap (λ (b : List ℕ). inode_part b (c.args.number % 21)) (c.bytes.ensures disk (c.in_ok-location.ensures.same disk shows) (c.in_ok-location.ensures.found disk shows))
+    ap (λ (b : List ℕ). inode_part b (c.args.number % 21)) (c.bytes.ensures disk (c.in_ok-location.ensures.reads.same disk shows) (c.in_ok-location.ensures.found disk shows))
     ∙ are.spelled c.args.number c.requires.low c.requires.high
 
 pub returns-clause-read : goal.returns-clause-read
