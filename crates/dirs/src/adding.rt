@@ -36,6 +36,8 @@ impl Edit {
         requires { IsEntry inodes (named_of entry.now) }
         ensures count { B.count blocks.new ≡ B.count blocks.old }
         ensures counted { OnOk result (B.failed blocks.new ≡ B.failed blocks.old) }
+        ensures counted_full { IsErrOf result AddError.DirFull →
+            (B.failed blocks.new ≡ B.failed blocks.old) }
         ensures device { IsErrOf result AddError.Device →
             HasGrown (B.failed blocks.old) (B.failed blocks.new) }
         ensures reads { (start : B) → B.ReadsOn start blocks.old → B.ReadsOn start blocks.new }

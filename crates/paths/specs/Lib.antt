@@ -1,4 +1,5 @@
 pub mod Numbers
+pub mod Refusals
 pub mod Loads
 pub mod Places
 pub mod Steps

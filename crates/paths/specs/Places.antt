@@ -1,8 +1,9 @@
 -- Where a path leads, in the words of the model.
-use Rattle.std.specs.Prelude.{ℕ, ◌-◌, List, [], length, slice_index_or}
+use Rattle.std.specs.Prelude.{ℕ, ◌-◌, IsTrue, List, [], length, slice_index_or}
 use Rattle.model.specs.Finding as model
 use Rattle.model.specs.Paths.{Name}
 use Rattle.paths.specs.Numbers.{IsNumber, AreNumbers}
+use Rattle.paths.specs.Refusals.{is_walk_refusal}
 use Rattle.paths.specs.declared.place.Place.{Place}
 use Rattle.paths.specs.declared.place.Place.TheVariants.{Directory, Entry, Gap, Refusal}
 
@@ -12,12 +13,12 @@ place_of (Entry trail name number) = model.at_entry trail name.items number
 place_of (Gap trail name) = model.at_gap trail name.items
 place_of (Refusal errno) = model.at_refusal errno
 
--- each number that a place tells is one of an object
+-- each number that a place tells is one of an object, and a refusal one of a walk
 abbrev pub IsPlaceWithin : ℕ → Place → Type 0
 IsPlaceWithin inodes (Directory trail) = AreNumbers inodes trail
 IsPlaceWithin inodes (Entry trail name number) = AreNumbers inodes trail × IsNumber inodes number
 IsPlaceWithin inodes (Gap trail name) = AreNumbers inodes trail
-IsPlaceWithin inodes (Refusal errno) = Unit {0}
+IsPlaceWithin inodes (Refusal errno) = IsTrue (is_walk_refusal errno)
 
 -- the last of these parts
 abbrev pub last_of : List Name → Name

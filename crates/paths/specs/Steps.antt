@@ -1,11 +1,12 @@
 -- A step of a walk, in the words of the model.
-use Rattle.std.specs.Prelude.{ℕ, ◌-◌, ◌&&◌, not, Bool, if◌then◌else◌, List, [], ◌∷◌, ◌++◌, length, take, Option, Some, None}
+use Rattle.std.specs.Prelude.{ℕ, ◌-◌, ◌&&◌, not, Bool, IsTrue, if◌then◌else◌, List, [], ◌∷◌, ◌++◌, length, take, Option, Some, None}
 use Rattle.model.specs.declared.errno.Errno.TheVariants.{ENOENT, ENOTDIR, ENAMETOOLONG, DAMAGED}
 use Rattle.model.specs.Finding as model
 use Rattle.model.specs.Finding.{find_along, halts, halts_at_link, at_entry, at_gap, at_refusal}
 use Rattle.model.specs.Paths.{Name, is_empty}
 use Rattle.model.specs.Volumes.{Node, directory_node, file_node, link_node, Volume}
 use Rattle.paths.specs.Numbers.{IsNumber}
+use Rattle.paths.specs.Refusals.{is_walk_refusal}
 use Rattle.paths.specs.declared.lookup.Found.{Found}
 use Rattle.paths.specs.declared.lookup.Found.TheVariants as found
 use Rattle.paths.specs.declared.step.Step.{Step}
@@ -45,7 +46,7 @@ after_turn v follow trail part rest model.finds_nothing = halts (if is_empty res
 after_turn v follow trail part rest model.finds_damage = halts (at_refusal DAMAGED)
 after_turn v follow trail part rest model.finds_long = halts (at_refusal ENAMETOOLONG)
 
--- each number that a step tells is one of an object
+-- each number that a step tells is one of an object, and a refusal one of a walk
 abbrev pub IsStepWithin : ℕ → Step → Type 0
 IsStepWithin inodes step.Stays = Unit {0}
 IsStepWithin inodes step.Rises = Unit {0}
@@ -53,4 +54,4 @@ IsStepWithin inodes (step.Enters n) = IsNumber inodes n
 IsStepWithin inodes (step.Follows n) = IsNumber inodes n
 IsStepWithin inodes (step.EndsAt n) = IsNumber inodes n
 IsStepWithin inodes step.FindsNothing = Unit {0}
-IsStepWithin inodes (step.Refused errno) = Unit {0}
+IsStepWithin inodes (step.Refused errno) = IsTrue (is_walk_refusal errno)

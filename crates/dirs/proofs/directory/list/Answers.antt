@@ -11,9 +11,9 @@ use Rattle.dirs.proofs.directory.list.Goals as goal
 pub returns-in_err-add_names-clause-damaged : goal.returns-in_err-add_names-clause-damaged
 returns-in_err-add_names-clause-damaged g c = λ disk shows is reached sound.
     let i = c.loop-i.i in
-    let now = c.loop-i.invariant.same disk shows in
+    let now = c.loop-i.invariant.read.same disk shows in
     let located = c.in_ok-location.ensures in
-    let bytes = c.bytes.ensures disk (located.same disk now) (located.found disk now) in
+    let bytes = c.bytes.ensures disk (located.reads.same disk now) (located.found disk now) in
     let held = sound i (subst (λ s. i < s / 4096) c.size.ensures.value c.loop-i-test.true) in
     c.in_err-add_names.ensures.damaged (search rules) held.0 (subst (λ b. HoldsEntries c.args.inodes b held.0) (sym bytes) held.1)
 
@@ -24,21 +24,18 @@ loop-i-preserved g c =
     let i = c.loop-i.i in
     let below : i < c.args.file.now.size / 4096 = subst (λ s. i < s / 4096) c.size.ensures.value c.loop-i-test.true in
     record {
-      count = located.count ∙ so_far.count;
-      failed = located.counted ∙ so_far.failed;
-      reads = λ start so. located.reads start (so_far.reads start so);
-      same = λ disk shows. located.same disk (so_far.same disk shows);
+      read = search rules;
       sound = λ disk shows j before.
-          let now = so_far.same disk shows in
-          let bytes = c.bytes.ensures disk (located.same disk now) (located.found disk now) in
+          let now = so_far.read.same disk shows in
+          let bytes = c.bytes.ensures disk (located.reads.same disk now) (located.found disk now) in
           let held = c.in_ok-add_names.ensures.sound in
           elim (cases_eq j i) [
             | inl here ↦ (held.0, subst (λ k. HoldsEntries c.args.inodes (file_block disk c.args.file.now k) held.0) (sym here) (subst (λ b. HoldsEntries c.args.inodes b held.0) bytes held.1))
             | inr else ↦ so_far.sound disk shows j (omega (arith, before, else))
           ];
       lists = λ disk entries shows holds name.
-          let now = so_far.same disk shows in
-          let bytes = c.bytes.ensures disk (located.same disk now) (located.found disk now) in
+          let now = so_far.read.same disk shows in
+          let bytes = c.bytes.ensures disk (located.reads.same disk now) (located.found disk now) in
           let here = c.in_ok-add_names.ensures.names (entries i) (subst (λ b. HoldsEntries c.args.inodes b (entries i)) (sym bytes) (holds i below)) name in
           subst (λ k. lists (map (λ n. n.items) c.add_names.new.names.keys) name ≡ is_some (number_of name (first_entries entries k))) (sym (add-one i))
           (here ∙ ap (λ l. l || is_some (number_of name (entries i))) (so_far.lists disk entries shows holds name)

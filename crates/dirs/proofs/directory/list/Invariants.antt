@@ -1,5 +1,6 @@
 use Rattle.std.proofs.Common.{◌≡◌, ◌/◌, ◌<◌, ℕ, List, map, is_some}
 use Rattle.layout.specs.Directory.{Named, HoldsEntries}
+use Rattle.buffers.specs.Reads.{HasOnlyRead}
 use Rattle.inode.specs.Files.{file_block}
 use Rattle.model.specs.Paths.{Name}
 use Rattle.layout.specs.DirectoryNames.{number_of, AllHold}
@@ -9,10 +10,7 @@ use Rattle.dirs.proofs.directory.list.Given as goal
 
 abbrev pub invariant-loop-i : goal.invariant-loop-i
 invariant-loop-i g l = record {
-  count : g.B.Blocks.count l.blocks ≡ g.B.Blocks.count l.initial.blocks;
-  failed : g.B.Blocks.failed l.blocks ≡ g.B.Blocks.failed l.initial.blocks;
-  reads : (start : g.row.B.Denot) → g.B.Blocks.ReadsOn start l.initial.blocks → g.B.Blocks.ReadsOn start l.blocks;
-  same : (disk : ℕ → List ℕ) → g.B.Blocks.Shows l.initial.blocks disk → g.B.Blocks.Shows l.blocks disk;
+  read : HasOnlyRead g.B.Blocks l.initial.blocks l.blocks;
   sound : (disk : ℕ → List ℕ) → g.B.Blocks.Shows l.initial.blocks disk → (j : ℕ) → j < l.i → (entries : List Named) × HoldsEntries l.inodes (file_block disk l.file j) entries;
   lists : (disk : ℕ → List ℕ) (entries : ℕ → List Named) → g.B.Blocks.Shows l.initial.blocks disk
       → AllHold l.inodes (l.file.size / 4096) (file_block disk l.file) entries → (name : Name)

@@ -34,8 +34,8 @@ returns-clause-damaged g c = λ disk settled v shows vol is.
     let same : c.load.new.self.geometry.inodes ≡ c.inodes-count.result = sym (c.inodes-count.ensures.value ∙ ap (λ s. s.inodes) c.geometry.ensures) in
     let kind : o.attributes.kind ≡ kinds.Directory = search rules in
     let blocks = blocks_of disk c.load.new.self.geometry.inodes (settled c.args.directory) o (v c.args.directory) is_object kind in
-    c.list.ensures.damaged disk (c.load.ensures.shown disk shows) is
-    (λ i below. subst (λ n. IsSoundAt n disk o.file.tree i) (sym c.load.ensures.count) (c.objects_stand_in_their_grammar.ensures _ disk settled c.load.new.self v c.args.directory i o (v c.args.directory) stands is_object))
+    c.list.ensures.damaged disk (c.load.ensures.reads.same disk shows) is
+    (λ i below. subst (λ n. IsSoundAt n disk o.file.tree i) (sym c.load.ensures.reads.count) (c.objects_stand_in_their_grammar.ensures _ disk settled c.load.new.self v c.args.directory i o (v c.args.directory) stands is_object))
     (subst (λ n. AreDirectoryBlocks n (o.file.size / 4096) (file_block disk o.file)) same blocks)
 
 pub returns-clause-listed : goal.returns-clause-listed
@@ -46,4 +46,4 @@ returns-clause-listed g c = λ disk settled v shows vol.
     let same : c.load.new.self.geometry.inodes ≡ c.inodes-count.result = sym (c.inodes-count.ensures.value ∙ ap (λ s. s.inodes) c.geometry.ensures) in
     let kind : o.attributes.kind ≡ kinds.Directory = search rules in
     let counted = subst (λ n. IsObject disk n (settled c.args.directory) o (v c.args.directory)) same is_object in
-    of_names disk c.inodes-count.result (settled c.args.directory) o (v c.args.directory) counted (λ names. IfOk c.list.result (IsListing names)) kind (λ names are. c.list.ensures.listed disk names (c.load.ensures.shown disk shows) are)
+    of_names disk c.inodes-count.result (settled c.args.directory) o (v c.args.directory) counted (λ names. IfOk c.list.result (IsListing names)) kind (λ names are. c.list.ensures.listed disk names (c.load.ensures.reads.same disk shows) are)
