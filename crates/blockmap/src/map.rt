@@ -26,6 +26,7 @@ pub struct BlockMap {
     /// Each free block below this one is given out, but for the two that hold the roots: these never are.
     next: u32,
     ghost covers: { count ≤ 1024 * length parts.items },
+    ghost just: { 1024 * length parts.items < count + 1024 },
     ghost most: { count ≤ MOST_BLOCKS },
     ghost behind: { 2 ≤ next },
 }
@@ -36,6 +37,7 @@ impl BlockMap {
     /// The map of a disk of so many blocks, of which no free one is given out.
     pub fn new(parts: Vec<MapPart>, count: u32) -> BlockMap
         requires covers { count ≤ 1024 * length parts.items }
+        requires just { 1024 * length parts.items < count + 1024 }
         requires most { count ≤ MOST_BLOCKS }
         ensures parts { result.parts.items ≡ parts.items }
         ensures count { result.count ≡ count }
@@ -253,6 +255,7 @@ impl BlockMap {
             → settled_at self.new.parts.items b ≡ entry_at self.old.parts.items b }
         ensures entries { (b : ℕ)
             → entry_at self.new.parts.items b ≡ entry_at self.old.parts.items b }
+        ensures untouched { (j : ℕ) → IsTouched self.new.parts.items j → ⊥ }
     {
         for j in 0..self.parts.len() {
             self.parts[j].settle();
@@ -269,6 +272,7 @@ impl BlockMap {
             → settled_at self.new.parts.items b ≡ settled_at self.old.parts.items b }
         ensures entries { (b : ℕ)
             → entry_at self.new.parts.items b ≡ settled_at self.old.parts.items b }
+        ensures untouched { (j : ℕ) → IsTouched self.new.parts.items j → ⊥ }
     {
         for j in 0..self.parts.len() {
             self.parts[j].give_up();

@@ -1,9 +1,10 @@
 -- Runs of NVRAM writes: what stands at any moment of them, and what stands after them.
-use Rattle.std.proofs.Common.{ℕ, zero, suc, ◌≤◌, List, [], ◌∷◌, length, take, sym, subst, Result}
-use Rattle.station.specs.Images.{NvramWritten, NvramPrefixWritten, nvram_with}
+use Rattle.std.proofs.Common.{ℕ, zero, suc, ◌≤◌, List, [], ◌∷◌, length, take, sym, ap, ◌∙◌, subst, Result}
+use Rattle.station.specs.Images.{Images, Sector, NvramWritten, NvramPrefixWritten, nvram_with}
 use Rattle.station.specs.Moments.{Meaning, EachCut, LeftGoes, LeavesOnly, KeepsDisk}
 use Rattle.station.specs.Calls.{WriteCall}
 use Rattle.station.proofs.Moments.{started, each_weaker, keeps_disk, keeps_disk_weaker, nvram_goes_on, nvram_left}
+use Rattle.oplog.specs.LogEnd.{ReadsDisk}
 use Rattle.oplog.proofs.Records.{none_written}
 
 -- Where Q holds of an NVRAM, these bytes are written at this place: P holds while they are, and R after it.
@@ -38,3 +39,10 @@ module _ {P Q R : List ℕ → Type 0} {at : ℕ} {bytes : List ℕ} {old mid ne
   -- once it is done
   pub written : LeftGoes (NvramWritten at bytes) mid new → Run P R old new
   written left = record { any_moment = writing; at_the_end = nvram_left old mid new at bytes Q R run.at_the_end call.same left step.after }
+
+-- an NVRAM write changes nothing of the disk
+pub disk_stays : {at : ℕ} {bytes : List ℕ} {old new : Meaning} {T E : Type 0} {result : Result T E} → WriteCall (NvramPrefixWritten at bytes) old new result
+    → (disk : ℕ → Sector) → ReadsDisk old disk → ReadsDisk new disk
+disk_stays call disk (honest, is) =
+    let went = call.goes honest in
+    (went.honest, ap (λ (i : Images). i.disk) went.seen.writes ∙ is)

@@ -1,5 +1,6 @@
 -- Where the log ends, and what an append does to it.
 use Rattle.std.specs.Prelude.{◌≡◌, ◌⊎◌, ℕ, ◌+◌, ◌≤◌, Bool, List, [], ◌∷◌, ◌++◌, length}
+use Rattle.station.specs.Images.{Sector}
 use Rattle.station.specs.Moments.{Meaning, EachCut}
 use Rattle.layout.specs.Log.{half_of, records_of, IsOpenFor, HoldsBodies, IsUnopened, EpochHolds, LogHolds}
 use Rattle.layout.specs.Record.{Change, change_bytes}
@@ -79,3 +80,7 @@ LogStands m log g bodies = EachCut m (λ c. StandsAt log g bodies c.nvram)
 abbrev pub WithOrWithout : ℕ → ℕ → Bodies → List ℕ → List ℕ → Type 0
 WithOrWithout half g bodies body nvram =
     LogHolds half g nvram (all_of bodies) ⊎ LogHolds half g nvram (all_of (with_body bodies body))
+
+-- over an honest station, reads give this disk
+abbrev pub ReadsDisk : Meaning → (ℕ → Sector) → Type 0
+ReadsDisk m disk = m.is_honest × (m.seen.disk ≡ disk)

@@ -3,7 +3,7 @@
 ghost use Rattle.std.specs.Prelude.{◌≡◌, ℕ, ◌+◌, ◌<◌, ◌≤◌, ◌^◌, List, ◌++◌, length, IfOk};
 ghost use Rattle.byteorder.specs.Endian.{little_bytes};
 ghost use Rattle.station.specs.Calls.{OnlyWrites};
-ghost use Rattle.oplog.specs.LogEnd.{LogEnd, next_of, Bodies, body_of, LogStands};
+ghost use Rattle.oplog.specs.LogEnd.{LogEnd, next_of, Bodies, body_of, LogStands, ReadsDisk};
 ghost use Rattle.oplog.specs.Internal.{start_of, IsBehind, IsAnyFault, OpensHalf, Appends};
 ghost use Rattle.layout.specs.Record.{KeepsLimits, change_of};
 ghost use Rattle.layout.specs.declared.geometry.TheConstants.{MOST_HALF};
@@ -32,6 +32,8 @@ pub fn write_record<S: Station>(
     requires opening { start + FIRST_GATE + 1 ≤ (S.meaning station.old).nvram_bytes }
     requires low { start + next_of end + FIRST_GATE < 2 ^ 32 }
     ensures writes { OnlyWrites IsAnyFault (S.meaning station.old) (S.meaning station.new) result }
+    ensures disk { (disk : ℕ → List ℕ)
+        → ReadsDisk (S.meaning station.old) disk → ReadsDisk (S.meaning station.new) disk }
     ensures appends { (log : LogEnd) (g : ℕ) (bodies : Bodies) (body : List ℕ)
         → IsBehind body behind.now → next_of end + 1 + length behind.now ≤ log.half
         → FIRST_GATE + 1 ≤ log.half → start ≡ start_of log → epoch ≡ log.epoch
@@ -53,6 +55,8 @@ fn open_half<S: Station>(station: &mut S, start: u32, epoch: Epoch) -> Result<()
     requires room { start + FIRST_GATE + 1 ≤ (S.meaning station.old).nvram_bytes }
     requires low { start + 1 < 2 ^ 32 }
     ensures writes { OnlyWrites IsAnyFault (S.meaning station.old) (S.meaning station.new) result }
+    ensures disk { (disk : ℕ → List ℕ)
+        → ReadsDisk (S.meaning station.old) disk → ReadsDisk (S.meaning station.new) disk }
     ensures opens { (log : LogEnd) (g : ℕ) (bodies : Bodies)
         → FIRST_GATE + 1 ≤ log.half → start ≡ start_of log → epoch ≡ log.epoch
         → LogStands (S.meaning station.old) (record log { end = End.Unopened }) g bodies
@@ -73,6 +77,8 @@ fn add_record<S: Station>(station: &mut S, gate: u32, behind: &[u8]) -> Result<(
     requires room { gate + 1 + length behind.now ≤ (S.meaning station.old).nvram_bytes }
     requires low { gate + 1 < 2 ^ 32 }
     ensures writes { OnlyWrites IsAnyFault (S.meaning station.old) (S.meaning station.new) result }
+    ensures disk { (disk : ℕ → List ℕ)
+        → ReadsDisk (S.meaning station.old) disk → ReadsDisk (S.meaning station.new) disk }
     ensures appends { (log : LogEnd) (g next : ℕ) (bodies : Bodies) (body : List ℕ)
         → IsBehind body behind.now → next + 1 + length behind.now ≤ log.half
         → gate ≡ start_of log + next

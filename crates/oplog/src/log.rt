@@ -4,7 +4,7 @@ ghost use Rattle.std.specs.Prelude.{◌≡◌, ◌⊎◌, ℕ, ◌+◌, ◌*◌,
 ghost use Rattle.station.specs.Moments.{LeavesOnly, KeepsDisk, EachCut};
 ghost use Rattle.station.specs.Calls.{OnlyWrites};
 ghost use Rattle.oplog.specs.Internal.{start_of};
-ghost use Rattle.oplog.specs.LogEnd.{LogEnd, AreHalfBytes, next_of, HasRoom, behind, Bodies, no_bodies, all_of, with_body, body_of, StandsAt, LogStands, WithOrWithout};
+ghost use Rattle.oplog.specs.LogEnd.{LogEnd, AreHalfBytes, next_of, HasRoom, behind, Bodies, no_bodies, all_of, with_body, body_of, StandsAt, LogStands, ReadsDisk, WithOrWithout};
 ghost use Rattle.layout.specs.Record.{KeepsLimits, change_of};
 ghost use Rattle.layout.specs.declared.log.TheConstants.{FIRST_GATE};
 
@@ -87,6 +87,13 @@ impl Log {
         self.end = End::Unopened;
     }
 
+    /// The epoch that the next record goes to.
+    pub fn epoch(&self) -> Epoch
+        ensures { result ≡ self.now.epoch }
+    {
+        self.epoch
+    }
+
     /// Whether a record with a body of this length fits what is left of the half.
     pub fn room(&self, length: usize) -> bool
         ensures { IsTrue result ↔ HasRoom self.now length }
@@ -108,6 +115,8 @@ impl Log {
         requires fits { KeepsLimits (change_of change.now) }
         ensures writes { OnlyWrites (λ e. (e ≡ AppendError.Device) × IsFalse self.old.is_stopped)
             (S.meaning station.old) (S.meaning station.new) result }
+        ensures disk { (disk : ℕ → List ℕ)
+            → ReadsDisk (S.meaning station.old) disk → ReadsDisk (S.meaning station.new) disk }
         ensures stopped { IsTrue self.old.is_stopped → (result ≡ Err AppendError.Device)
             × (station.new ≡ station.old) × (self.new ≡ self.old) }
         ensures device { IsErrOf result AppendError.Device

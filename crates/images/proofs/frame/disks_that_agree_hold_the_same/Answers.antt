@@ -6,3 +6,6 @@ returns-clause-tree c = frames.tree_same
 
 pub returns-clause-whole : goal.returns-clause-whole
 returns-clause-whole c = frames.whole_same
+
+pub returns-clause-file : goal.returns-clause-file
+returns-clause-file c = frames.held_same

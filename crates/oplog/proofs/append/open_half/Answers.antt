@@ -1,6 +1,6 @@
 use Rattle.std.proofs.Common.{◌≡◌, ℕ, List, [], ◌∷◌, ◌++◌, rules, ap, ◌∙◌}
 use Rattle.byteorder.specs.Endian.{little_bytes}
-use Rattle.oplog.proofs.Runs.{writing, written}
+use Rattle.oplog.proofs.Runs.{writing, written, disk_stays}
 use Rattle.oplog.proofs.Writes.{opening_writes}
 use Rattle.oplog.proofs.append.open_half.Goals as goal
 
@@ -33,3 +33,17 @@ returns-clause-opens g c log gen bodies room at epoch stands =
     let prepared = written shut three.preparing c.nv_write-2.ensures.call c.in_ok-nv_write-2.ensures.kept in
     let done = written prepared three.opening c.nv_write-3.ensures.call c.in_ok-nv_write-3.ensures.kept in
     record { any_moment = done.any_moment; opened = done.at_the_end }
+
+pub returns-in_err-nv_write-clause-disk : goal.returns-in_err-nv_write-clause-disk
+returns-in_err-nv_write-clause-disk g c = disk_stays c.nv_write.ensures.call
+
+pub returns-in_err-nv_write-2-clause-disk : goal.returns-in_err-nv_write-2-clause-disk
+returns-in_err-nv_write-2-clause-disk g c = λ disk reads. disk_stays c.nv_write-2.ensures.call disk (disk_stays c.nv_write.ensures.call disk reads)
+
+pub returns-in_err-nv_write-3-clause-disk : goal.returns-in_err-nv_write-3-clause-disk
+returns-in_err-nv_write-3-clause-disk g c = λ disk reads.
+    disk_stays c.nv_write-3.ensures.call disk (disk_stays c.nv_write-2.ensures.call disk (disk_stays c.nv_write.ensures.call disk reads))
+
+pub returns-clause-disk : goal.returns-clause-disk
+returns-clause-disk g c = λ disk reads.
+    disk_stays c.nv_write-3.ensures.call disk (disk_stays c.nv_write-2.ensures.call disk (disk_stays c.nv_write.ensures.call disk reads))

@@ -1,5 +1,5 @@
 use Rattle.std.proofs.Common.{◌≡◌, ℕ, ◌*◌, ◌<◌, ◌≤◌, length}
-use Rattle.blockmap.specs.Maps.{settled_at, entry_at}
+use Rattle.blockmap.specs.Maps.{settled_at, entry_at, IsTouched}
 use Rattle.blockmap.proofs.map.BlockMap.settle.Given as goal
 
 abbrev pub invariant-loop-j : goal.invariant-loop-j
@@ -10,4 +10,5 @@ invariant-loop-j l = record {
   entries : (b : ℕ) → b < 1024 * l.j → entry_at l.self.parts.items b ≡ entry_at l.fn.self.parts.items b;
   settled_rest : (b : ℕ) → 1024 * l.j ≤ b → settled_at l.self.parts.items b ≡ settled_at l.fn.self.parts.items b;
   entries_rest : (b : ℕ) → 1024 * l.j ≤ b → entry_at l.self.parts.items b ≡ entry_at l.fn.self.parts.items b;
+  untouched : (k : ℕ) → k < l.j → IsTouched l.self.parts.items k → ⊥;
 }
