@@ -38,7 +38,7 @@ sectors_are sectors disk b bytes whole fits is i lt =
     ∙ sym (is.bytes_are (512 * i + r) (omega arith))
     ∙ sym (get_or-drop (512 * i) bytes r 0) ∙ sym (get_or-take 512 (drop (512 * i) bytes) r 0 low))
 
-pub finished : (sectors : ℕ) (p : Planned) (old new : Images) → FitsDisk sectors p → AreWhole sectors new.disk → HasNewRoot p old new → cuts.HasNewRoot (writes_of p.blocks) p.slot p.root old.disk new.disk
+pub finished : (sectors : ℕ) (p : Planned) (old new : Images) → FitsDisk sectors p → AreWhole sectors old.disk → HasNewRoot p old new → cuts.HasNewRoot (writes_of p.blocks) p.slot p.root old.disk new.disk
 finished sectors p old new fits whole has = record {
   others = λ n not differ. has.disk n (outside p.blocks n not) differ;
   holds = λ k w lt. holds k w (omega (arith, length-map p.blocks write_of, lt));
@@ -49,4 +49,4 @@ finished sectors p old new fits whole has = record {
     holds k w lt =
         let d : PlannedBlock = record { place = w.place; bytes = w.bytes } in
         subst (cuts.HoldsWrite new.disk) (sym (get_or-map write_of p.blocks k d w lt))
-        (λ i low. sectors_are sectors new.disk (get_or p.blocks k d).place (get_or p.blocks k d).bytes whole (fits.blocks k d lt) (has.blocks k d lt) i low)
+        (λ i low. sectors_are sectors new.disk (get_or p.blocks k d).place (get_or p.blocks k d).bytes (λ n low. has.whole n (whole n low)) (fits.blocks k d lt) (has.blocks k d lt) i low)

@@ -112,13 +112,20 @@ new_root p old new is holds nvram others root = record {
   nvram = nvram;
   disk = λ n outside differ. others n differ;
   blocks = blocks_stay p old.disk new.disk is others holds;
-  root = root ∙ whole p.slot p.root is.root;
+  root = now;
+  whole = λ n size. elim (cases_eq n p.slot) [
+    | inl at ↦ ap (λ (x : ℕ). length (new.disk x)) at ∙ ap (λ (s : Sector). length s) now ∙ is.root
+    | inr differ ↦ ap (λ (s : Sector). length s) (others n differ) ∙ size
+  ];
 }
   where
-    whole : (slot : ℕ) (root : List ℕ) → length root ≡ 512 → part_of slot root slot ≡ sector_with root
-    whole slot root size =
+    whole_part : (slot : ℕ) (root : List ℕ) → length root ≡ 512 → part_of slot root slot ≡ sector_with root
+    whole_part slot root size =
         let off : 512 * (slot - slot) ≡ 0 = omega arith in
         ap (λ k. sector_with (take 512 (drop k root))) off ∙ ap sector_with (take_all 512 root (omega arith))
+
+    now : new.disk p.slot ≡ sector_with p.root
+    now = root ∙ whole_part p.slot p.root is.root
 
 -- a write of the root that may not have been done
 pub root_may : (p : Planned) (old new : Images) → IsPlanned p → HoldsBlocks p.blocks old.disk → SomeSectorsWritten p.slot p.root old new → (new ≡ old) ⊎ HasNewRoot p old new

@@ -1,6 +1,7 @@
 -- What a power cut may leave while the blocks of a plan are written, and then its root.
-use Rattle.std.specs.Prelude.{ℕ, ◌≡◌, ◌≢◌, ◌+◌, ◌*◌, ◌/◌, ◌≤◌, List, [], ◌∷◌, take, All}
+use Rattle.std.specs.Prelude.{ℕ, ◌≡◌, ◌≢◌, ◌+◌, ◌*◌, ◌/◌, ◌≤◌, List, [], ◌∷◌, length, take, All}
 use Rattle.station.specs.Images.{Images, Sector, sector_with}
+use Rattle.layout.specs.declared.TheConstants.{SECTOR_BYTES}
 use Rattle.buffers.specs.Disks.{IsBlock, disk_with}
 use Rattle.buffers.specs.declared.error.BufferError.{BufferError}
 use Rattle.buffers.specs.declared.error.BufferError.TheVariants.{Device}
@@ -34,12 +35,13 @@ disk_with_blocks (b ∷ blocks) disk = disk_with_blocks blocks (disk_with b.plac
 abbrev pub disk_so_far : Planned → (ℕ → List ℕ) → ℕ → List ℕ
 disk_so_far p disk = disk_with_blocks (take p.written p.blocks) disk
 
--- the images of before, with all the planned blocks and the new root
+-- the images of before, with all the planned blocks and the new root; whole sectors stay so
 pub record HasNewRoot (p : Planned) (old new : Images) : Type 0 where
   pub nvram : new.nvram ≡ old.nvram
   pub disk : (n : ℕ) → IsOutside p.blocks n → n ≢ p.slot → new.disk n ≡ old.disk n
   pub blocks : HoldsBlocks p.blocks new.disk
   pub root : new.disk p.slot ≡ sector_with p.root
+  pub whole : (n : ℕ) → length (old.disk n) ≡ SECTOR_BYTES → length (new.disk n) ≡ SECTOR_BYTES
 
 -- each block of a disk of so many sectors reads so
 abbrev pub ReadsAs : ℕ → Images → (ℕ → List ℕ) → Type 0

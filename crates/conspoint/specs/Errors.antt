@@ -1,4 +1,5 @@
 -- Errors of reading, as those of a plan.
+use Rattle.std.specs.Prelude.{◌≡◌}
 use Rattle.blocktree.specs.declared.error.ReadError.{ReadError}
 use Rattle.blocktree.specs.declared.error.ReadError.TheVariants as below
 use Rattle.conspoint.specs.declared.error.PlanError.{PlanError}
@@ -8,3 +9,7 @@ abbrev pub plan_error : ReadError → PlanError
 plan_error below.NoMemory = NoMemory
 plan_error below.Device = Device
 plan_error below.Damaged = Damaged
+
+-- the error says that a read failed
+abbrev pub IsReadFault : PlanError → Type 0
+IsReadFault e = e ≡ Device

@@ -4,6 +4,7 @@ ghost use Rattle.std.specs.Prelude.{◌≡◌, ℕ, ◌<◌, ◌≤◌, ◌^◌,
 ghost use Rattle.layout.specs.Places.{pointed};
 ghost use Rattle.layout.specs.Pointer.{PointsBelow};
 ghost use Rattle.layout.specs.declared.geometry.TheConstants.{MOST_BLOCKS};
+ghost use Rattle.layout.specs.declared.pointer.Pointer.TheVariants.{Hole};
 ghost use Rattle.conspoint.specs.Blocks.{changed_or};
 ghost use Rattle.conspoint.specs.Drafts.{OnEach, Grows, IsFull, IsReserved, IsShortage};
 ghost use Rattle.conspoint.specs.Groups.{pointer_at, ComesFrom, ArePlaced};
@@ -28,6 +29,7 @@ fn place_block(
     requires { PointsBelow MOST_BLOCKS settled }
     ensures grows { Grows draft.old draft.new }
     ensures before { IfOk result (λ p. i < first → p ≡ settled) }
+    ensures holes { IfOk result (λ p. p ≡ Hole → settled ≡ Hole) }
     ensures block { IfOk result (λ p. OnEach draft.new (λ e. first ≤ i
         → pointed e p ≡ changed_or tree.now i (pointed e settled))) }
     ensures from { IfOk result (ComesFrom draft.old draft.new settled) }
@@ -64,6 +66,8 @@ pub fn place_blocks(
     ensures count { IfOk result (λ nodes. length nodes.items ≡ length settled.now) }
     ensures before { IfOk result (λ nodes. (i : ℕ) → i < length settled.now → i < first
         → pointer_at nodes.items i ≡ pointer_at settled.now i) }
+    ensures holes { IfOk result (λ nodes. (i : ℕ) → i < length settled.now
+        → pointer_at nodes.items i ≡ Hole → pointer_at settled.now i ≡ Hole) }
     ensures blocks { IfOk result (λ nodes. OnEach draft.new (λ e. (i : ℕ) → i < length settled.now
         → first ≤ i → pointed e (pointer_at nodes.items i)
         ≡ changed_or tree.now i (pointed e (pointer_at settled.now i)))) }

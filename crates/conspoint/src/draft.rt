@@ -169,6 +169,7 @@ impl Draft {
     /// The map with no change and nothing given out, where no plan comes of it.
     pub fn abandon(self) -> BlockMap
         ensures count { result.count ≡ self.map.count }
+        ensures next { result.next ≡ 2 }
         ensures settled { (b : ℕ)
             → settled_at result.parts.items b ≡ settled_at self.map.parts.items b }
         ensures entries { (b : ℕ)

@@ -40,7 +40,7 @@ pub fn cuts_are_those_of_images()
         → StaysOutside blocks old new
         → points.StaysOutside (writes_of blocks) old.disk new.disk }
     ensures finished { (sectors : ℕ) (p : Planned) (old new : Images)
-        → FitsDisk sectors p → AreWhole sectors new.disk → HasNewRoot p old new
+        → FitsDisk sectors p → AreWhole sectors old.disk → HasNewRoot p old new
         → points.HasNewRoot (writes_of p.blocks) p.slot p.root old.disk new.disk }
 {}
 

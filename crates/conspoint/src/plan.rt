@@ -1,7 +1,7 @@
 //! A planned consistency point, and how it is written.
 
-ghost use Rattle.std.specs.Prelude.{◌≡◌, ◌⊎◌, ℕ, ◌+◌, ◌<◌, List, OnOk, IfErr, length, min, IsTrue, ◌↔◌};
-ghost use Rattle.station.specs.Moments.{MayLeave, EachCut, Shows, Goes, LeavesOnly};
+ghost use Rattle.std.specs.Prelude.{◌≡◌, ◌⊎◌, ℕ, ◌+◌, ◌-◌, ◌<◌, List, OnOk, IfErr, length, min, IsTrue, ◌↔◌};
+ghost use Rattle.station.specs.Moments.{MayLeave, EachCut, LeavesJust, Shows, Goes, LeavesOnly};
 ghost use Rattle.station.specs.Calls.{OnlyWrites};
 ghost use Rattle.buffers.specs.Disks.{ShowsDisk, disk_with_sector};
 ghost use Rattle.conspoint.specs.Plans.{Planned, ArePlanned, IsPlanned, IsSlot, FitsDisk};
@@ -62,6 +62,13 @@ impl Plan {
         ensures { IsTrue result ↔ (self.now.written ≡ length self.now.blocks) }
     {
         self.written == self.blocks.len()
+    }
+
+    /// How many blocks aren't written yet.
+    pub fn left(&self) -> usize
+        ensures { result ≡ length self.now.blocks - self.now.written }
+    {
+        self.blocks.len() - self.written
     }
 
     /// Writes up to so many of the blocks that aren't written yet, and what is kept of the disk follows. It takes no memory.
@@ -134,6 +141,8 @@ impl Plan {
         ensures settled { Shows (S.meaning buffers.old.station) (HoldsWritten self.now)
             → OnOk result (EachCut (S.meaning buffers.new.station)
             (HasNewRoot self.now (S.meaning buffers.old.station).seen)) }
+        ensures just { OnOk result
+            (LeavesJust (S.meaning buffers.new.station) (S.meaning buffers.new.station).seen) }
         ensures shows { (disk : ℕ → List ℕ)
             → ShowsDisk (S.meaning buffers.old.station) buffers.old.kept disk
             → OnOk result (ShowsDisk (S.meaning buffers.new.station) buffers.new.kept

@@ -7,3 +7,4 @@ mod FileLaws
 mod SettledLaws
 mod ListLaws
 mod FirstLaws
+mod HoleLaws

@@ -11,7 +11,7 @@ use Rattle.layout.specs.declared.inode.Body.TheVariants.{Pointers}
 use Rattle.layout.specs.declared.inode.Inode.{Inode}
 use Rattle.images.specs.Contents.{Content}
 use Rattle.images.specs.Nodes.{Held, held, Names, IsOnce}
-use Rattle.images.specs.Soundness.{IsSoundFile}
+use Rattle.images.specs.Soundness.{HasNoHole, IsSoundFile}
 use Rattle.blocktree.specs.Places.{block_count}
 use Rattle.blocktree.specs.declared.tree.BlockTree.{BlockTree}
 use Rattle.inode.specs.Files.{file_block, IsFile}
@@ -59,6 +59,13 @@ pub record IsChangeOf (s : Sizes) (d : Draft) (disk : Blocks) (base : Inode) (o 
   pub ends : IsFile disk o.file
   pub mode : o.attributes.mode ≤ 4095
   pub kind : FitsKind o.attributes.kind s o.attributes.mode o.attributes.links o.file.size
+
+-- An object over its settled inode of which each block is stored, as large as that one and with no settled block cut off: none of its
+-- blocks becomes a hole.
+pub record IsWholeOver (disk : Blocks) (base : Inode) (o : Object) : Type 0 where
+  pub no_hole : HasNoHole (held disk base)
+  pub size : o.file.size ≡ base.size
+  pub kept : 1 ≤ level_of base.size → o.file.tree.kept ≡ block_count base.size
 
 -- b is one of these
 abbrev pub is_one : List ℕ → ℕ → Bool

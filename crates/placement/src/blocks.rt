@@ -36,6 +36,9 @@ pub(crate) fn place_lowest(
     ensures blocks { IfOk result (λ nodes. OnEach draft.new (λ e. (i : ℕ) → i < count
         → first ≤ i → pointed e (pointer_at nodes.items i) ≡ changed_or tree.now i (pointed e
         (if nat_lt i tree.now.kept then pointer_at settled.now i else Hole)))) }
+    ensures holes { IfOk result (λ nodes. (i : ℕ) → i < count
+        → pointer_at nodes.items i ≡ Hole
+        → (if nat_lt i tree.now.kept then pointer_at settled.now i else Hole) ≡ Hole) }
     ensures placed { IfOk result (λ nodes.
         ArePlacedAt draft.old draft.new settled.now nodes.items) }
 {

@@ -1,19 +1,21 @@
 //! A changed file, placed.
 
-ghost use Rattle.std.specs.Prelude.{◌≡◌, ℕ, ◌<◌, ◌≤◌, true, List, [], length, All, Contains, ◌↔◌, IfOk, IfErr, OnOk, IsErrOf};
+ghost use Rattle.std.specs.Prelude.{◌≡◌, ℕ, ◌<◌, ◌≤◌, true, List, [], length, All, Contains, ◌↔◌, IfOk, IfErr, OnOk, IsErrOf, nat_lt, if◌then◌else◌};
 ghost use Rattle.layout.specs.Limits.{Sizes};
 ghost use Rattle.layout.specs.Pointer.{PointsBelow};
 ghost use Rattle.layout.specs.Version.{level_of};
 ghost use Rattle.layout.specs.declared.inode.Inode.{Inode};
+ghost use Rattle.layout.specs.declared.pointer.Pointer.TheVariants.{Hole};
 ghost use Rattle.images.specs.Contents.{content_of};
 ghost use Rattle.images.specs.Nodes.{held, Agrees, Names};
-ghost use Rattle.images.specs.Soundness.{IsSoundFile};
+ghost use Rattle.images.specs.Soundness.{HasNoHole, IsSoundFile};
 ghost use Rattle.buffers.specs.Failures.{HasGrown};
 ghost use Rattle.blocktree.specs.Places.{block_count};
 ghost use Rattle.blocktree.specs.Trees.{IsSoundAt};
 ghost use Rattle.inode.specs.Files.{IsFile};
 ghost use Rattle.conspoint.specs.Drafts.{OnEach, Grows, IsFull, IsReserved, IsShortage, WasTaken};
-ghost use Rattle.placement.specs.Files.{IsChangeOf, IsPlaced, is_one, object_block, object_content};
+ghost use Rattle.conspoint.specs.Groups.{pointer_at};
+ghost use Rattle.placement.specs.Files.{IsChangeOf, IsPlaced, IsWholeOver, is_one, object_block, object_content};
 ghost use Rattle.placement.specs.Layouts.{AreSettled, Carries, IsLaidOut, LeadTo, StandsIn, inode_with};
 ghost use Rattle.placement.specs.Nodes.{ArePlacedAt, ArePlacedOver, HasMoved};
 
@@ -149,6 +151,10 @@ fn lay_blocks(
     ensures others { (p : ℕ) → IsReserved draft.old p → IsReserved draft.new p }
     ensures full { IsErrOf result PlanError.NoSpace → IsFull draft.new }
     ensures shortage { IfErr result IsShortage }
+    ensures holes { IfOk result (λ l. (i : ℕ) → i < block_count object.now.file.size
+        → pointer_at l.nodes.blocks.items i ≡ Hole
+        → (if nat_lt i object.now.file.tree.kept then pointer_at settled.now.blocks.items i
+        else Hole) ≡ Hole) }
     ensures placed { IfOk result (λ l. ArePlacedOver draft.old draft.new settled.now l.nodes) }
     ensures stands { (s : Sizes) (disk : ℕ → List ℕ) (base : Inode)
         → IsChangeOf s draft.old disk base object.now
@@ -208,6 +214,11 @@ fn lay<B: Blocks>(
     ensures parts { draft.new.map.parts.items ≡ draft.old.map.parts.items }
     ensures others { (p : ℕ) → IsReserved draft.old p → IsReserved draft.new p }
     ensures full { IsErrOf result PlanError.NoSpace → IsFull draft.new }
+    ensures holes { IfOk result (λ l. (i : ℕ)
+        → 1 ≤ level_of object.now.file.size → i < block_count object.now.file.size
+        → pointer_at l.nodes.blocks.items i ≡ Hole
+        → (if nat_lt i object.now.file.tree.kept then pointer_at settled.now.blocks.items i
+        else Hole) ≡ Hole) }
     ensures placed { IfOk result (λ l. ArePlacedOver draft.old draft.new settled.now l.nodes) }
     ensures stands { (s : Sizes) (disk : ℕ → List ℕ) (base : Inode) → B.Shows blocks.old disk
         → IsChangeOf s draft.old disk base object.now
@@ -289,6 +300,10 @@ pub fn place_file<B: Blocks>(
         → IsChangeOf s draft.old disk base object.now
         → IfOk result (λ p. OnEach draft.new (λ e. Agrees (Names (held disk base)) disk e
         → IsPlaced s e (held disk base) p.inode (is_one p.taken.items) (is_one p.freed.items))) }
+    ensures no_hole { (s : Sizes) (disk : ℕ → List ℕ) (base : Inode) → B.Shows blocks.old disk
+        → IsChangeOf s draft.old disk base object.now → IsWholeOver disk base object.now
+        → IfOk result (λ p. OnEach draft.new (λ e. Agrees (Names (held disk base)) disk e
+        → HasNoHole (held e p.inode))) }
     ensures content { (s : Sizes) (disk : ℕ → List ℕ) (base : Inode) → B.Shows blocks.old disk
         → IsChangeOf s draft.old disk base object.now
         → IfOk result (λ p. OnEach draft.new (λ e. Agrees (Names (held disk base)) disk e

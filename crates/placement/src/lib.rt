@@ -12,3 +12,5 @@ mod settled;
 
 pub use but_first::place_file_but_first;
 pub use file::{PlacedFile, place_file};
+pub use nodes::Nodes;
+pub use settled::settled_nodes;

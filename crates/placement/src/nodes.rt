@@ -5,6 +5,7 @@ ghost use Rattle.layout.specs.Pointer.{PointsBelow};
 ghost use Rattle.layout.specs.declared.TheConstants.{BODY_POINTERS};
 ghost use Rattle.layout.specs.declared.pointer.Pointer.TheVariants.{Hole, Block};
 ghost use Rattle.conspoint.specs.Groups.{pointer_at};
+ghost use Rattle.conspoint.specs.MapFiles.{map_nodes};
 ghost use Rattle.placement.specs.Nodes.{HasLeft, HasMoved};
 
 use layout::{BODY_POINTERS, BlockNumber, Pointer};
@@ -12,11 +13,33 @@ use std::alloc::{AllocError, Global};
 
 /// Where the nodes of a file are.
 #[derive(Debug, Drop)]
-pub(crate) struct Nodes {
+pub struct Nodes {
     /// Its blocks, by index.
     pub(crate) blocks: Vec<Pointer>,
     /// The indirect blocks over each 1,024 of them; none in a file without indirect blocks.
     pub(crate) over: Vec<Pointer>,
+}
+
+impl Nodes {
+    /// The nodes of a file of so many blocks in a row: its blocks, and behind them the indirect block over them, where an inode
+    /// has no room for their pointers.
+    pub fn in_a_row(&self, alloc: Global, count: usize) -> Result<Vec<Pointer>, AllocError>
+        ensures count { IfOk result (λ all. length all.items ≡ map_nodes count) }
+        ensures blocks { IfOk result (λ all. (i : ℕ) → i < count
+            → pointer_at all.items i ≡ pointer_at self.now.blocks.items i) }
+        ensures over { IfOk result (λ all. BODY_POINTERS < count
+            → pointer_at all.items count ≡ pointer_at self.now.over.items 0) }
+        ensures within { (blocks : ℕ) → All (PointsBelow blocks) self.now.blocks.items
+            → All (PointsBelow blocks) self.now.over.items
+            → IfOk result (λ all. All (PointsBelow blocks) all.items) }
+    {
+        let mut all = stretched(alloc, &self.blocks, count, count)?;
+        if count <= BODY_POINTERS {
+            return Ok(all);
+        }
+        all.push(pointer_or_hole(&self.over, 0))?;
+        Ok(all)
+    }
 }
 
 /// So many pointers, of which the first `kept` are these, as far as these go, and the others holes.

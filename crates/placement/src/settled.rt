@@ -52,7 +52,7 @@ fn settled_over<B: Blocks>(
 }
 
 /// The nodes of the settled inode under a file's blocks.
-pub(crate) fn settled_nodes<B: Blocks>(
+pub fn settled_nodes<B: Blocks>(
     alloc: Global,
     blocks: &mut B,
     tree: &BlockTree,

@@ -7,3 +7,11 @@ mod NumberLaws
 mod MapLaws
 mod TrimLaws
 mod StepLaws
+mod JoinLaws
+mod OwnLaws
+mod MapFileLaws
+mod WholeLaws
+mod PlanLaws
+mod StartLaws
+mod SettledLaws
+mod LoopLaws

@@ -37,9 +37,9 @@ use Rattle.inofile.specs.Inodes.{files_of, object_at, or_free}
 use Rattle.inofile.specs.Objects.{IsObject, IsObjectKind}
 use Rattle.inofile.specs.Settled.{content_of as memory_content}
 use Rattle.inofile.specs.declared.inode_file.InodeFile.{InodeFile}
-use Rattle.model.specs.Volumes.{Volume}
+use Rattle.model.specs.Volumes.{Node, Volume}
 use Rattle.placement.specs.Files.{IsBasedOn, IsPlaced, IsChangeOf, object_content}
-use Rattle.planning.specs.Numbers.{FitsKindOf, IsCleared, IsNumberPlaced, IsObjectOver, IsOverSettled, IsSettledFile, trimmed}
+use Rattle.planning.specs.Numbers.{IsCleared, IsNumberPlaced, IsObjectOver, IsOverSettled, IsSettledFile, trimmed}
 use Rattle.planning.proofs.PointLaws.{held_inode}
 use Rattle.placement.specs.Files.IsBasedOn.{settled, none}
 
@@ -54,10 +54,10 @@ none_named d f level b names =
 level_up : (size : ℕ) → 128 < size → level_of size ≡ suc (level_of size - 1)
 level_up size lt = grind (arith, nat_tests)
 
-level_none : (size : ℕ) → size ≤ 128 → level_of size ≡ 0
+pub level_none : (size : ℕ) → size ≤ 128 → level_of size ≡ 0
 level_none size le = grind (arith, nat_tests)
 
-body_fits : (s : Sizes) (d : Blocks) (f : Inode) → IsSoundFile s (held d f) → FitsBody f.body s.blocks f.size
+pub body_fits : (s : Sizes) (d : Blocks) (f : Inode) → IsSoundFile s (held d f) → FitsBody f.body s.blocks f.size
 body_fits s d f sound = (subst (IsInode VERSION s) (held_inode d f) sound.inode).body
 
 over_pointers : (s : Sizes) (f : Inode) (t : BlockTree) (pointers : List Pointer) → FitsBody f.body s.blocks f.size → f.body ≡ Pointers pointers → HasPointers pointers f.size t → IsBasedOn f t
@@ -106,7 +106,7 @@ placed_anew s d e f new left taken came freed gone apart placed cleared nothing 
 
 -- ---- zeros
 
-zero_byte : (i count : ℕ) → slice_index (zeros count) i ≡ 0
+pub zero_byte : (i count : ℕ) → slice_index (zeros count) i ≡ 0
 unfolding zeros
 zero_byte i count = elim (cases_lt i count) [
   | inl lt ↦ get_or-replicate {A = ℕ} count i 0 0 lt
@@ -237,11 +237,9 @@ ordinary_kind kinds.InodeMap is = absurd is
 ordinary_kind kinds.BlockMap is = absurd is
 
 -- what an object of memory is, over its settled inode
-pub object_over : (count : ℕ) (draft : Draft) (d : Blocks) (settled_of : ℕ → Inode) (inodes : InodeFile) (v : Volume) (n : ℕ) (f : Inode) (o : Object) → IsOverSettled count draft d settled_of inodes v
-    → f ≡ settled_of n → IsObject d inodes.geometry.inodes (settled_of n) o (v n) → object_at d settled_of inodes n ≡ Some (memory_content d o) → IsObjectOver inodes.geometry d f o
-object_over count draft d settled_of inodes v n f o memory now object is =
-    let fits : FitsKindOf inodes.geometry (Some (memory_content d o)) = subst (FitsKindOf inodes.geometry) is (memory.fits n) in
-    record { based = subst (λ (x : Inode). IsBased x o.file.tree) (sym now) object.base; ends = object.ends; mode = fits.0; kind = fits.1 }
+pub object_over : (s : Sizes) (inodes : ℕ) (d : Blocks) (f g : Inode) (o : Object) (found : Option Node) → f ≡ g → IsObject d inodes g o found → IsObjectOver s d f o
+object_over s inodes d f g o found now object =
+    record { based = subst (λ (x : Inode). IsBased x o.file.tree) (sym now) object.base; ends = object.ends; mode = object.mode; kind = object.fits s }
 
 pub file_over : (count : ℕ) (draft : Draft) (d : Blocks) (settled_of : ℕ → Inode) (inodes : InodeFile) (v : Volume) (n : ℕ) (f : Inode) → IsOverSettled count draft d settled_of inodes v
     → f ≡ settled_of n → IsSettledFile inodes.geometry draft d f

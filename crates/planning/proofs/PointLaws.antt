@@ -1,16 +1,17 @@
 -- When all that changed is planned, a point is planned.
-use Rattle.std.proofs.Common.{◌≡◌, ◌≢◌, ◌⊎◌, inl, inr, ◌↔◌, ℕ, zero, suc, true, ◌<◌, ◌≤◌, refl, ap, sym, subst, ◌∙◌, arith}
+use Rattle.std.proofs.Common.{◌≡◌, ◌≢◌, ◌⊎◌, inl, inr, ◌↔◌, ℕ, zero, suc, true, ◌/◌, ◌%◌, ◌<◌, ◌≤◌, refl, ap, sym, subst, ◌∙◌, arith}
 use Rattle.std.proofs.lemmas.Bool.{cases_lt}
 use Rattle.std.specs.Int.{bit_at}
 use Rattle.layout.specs.Inode.{IsInode, inode_bytes}
 use Rattle.layout.specs.Limits.{Sizes, AreSizes}
+use Rattle.layout.specs.Maps.{map_entry}
 use Rattle.layout.specs.Places.{Blocks}
 use Rattle.layout.specs.Root.{IsRoot}
 use Rattle.layout.specs.declared.inode.Inode.{Inode}
 use Rattle.layout.specs.declared.root.Root.{Root}
 use Rattle.layout.specs.declared.version.TheConstants.{VERSION}
 use Rattle.images.specs.Nodes.{held, Names, file_block}
-use Rattle.images.specs.Roots.{free_inode, inode_bytes_at, inode_of, tree, whole, slot}
+use Rattle.images.specs.Roots.{HeldTree, free_inode, inode_bytes_at, inode_of, tree, whole, slot}
 use Rattle.images.specs.BlockMap.{HasBit, entry, IsSystem}
 use Rattle.images.specs.BlockMap.IsSystem.{roots, head}
 use Rattle.images.specs.Contents.{Content}
@@ -53,6 +54,14 @@ slot_same r new (suc k) same = rw same refl
 system_same : (r new : Root) (b : ℕ) → new.snapshots ≡ r.snapshots → IsSystem r b → IsSystem new b
 system_same r new b same (roots low) = roots low
 system_same r new b same (head k is) = head k (slot_same r new k same ∙ is)
+
+entry_same : (t u : HeldTree) (b : ℕ) → t 2 ≡ u 2 → entry t b ≡ entry u b
+unfolding entry
+entry_same t u b same = ap (λ h. map_entry (file_block h (b / 1024)) (b % 1024)) same
+
+new_map : (e : Blocks) (new : Root) (i : Inode) → inode_of (held e new.inode_file) new.geometry.inodes 2 ≡ i → (whole e new).active 2 ≡ held e i
+unfolding whole tree
+new_map e new i is = ap (held e) is
 
 module _ (spelled : ReadsSpelled) (reads_past : ReadsPast) (d e : Blocks) (r new : Root) (next : ℕ) (before after : ℕ → ℕ) (p : Planned) (files : ℕ → Content)
     (root : IsRoot r) (sound : IsSound r (whole d r)) (before_is : (b : ℕ) → before b ≡ entry (whole d r).active b)
@@ -105,6 +114,9 @@ module _ (spelled : ReadsSpelled) (reads_past : ReadsPast) (d e : Blocks) (r new
   marks_are : Marks p.changed (whole d r).active 0 (planned_tree e p) (entry (whole d r).active) (entry (planned_tree e p))
   marks_are b = subst (λ x. HasBit 0 x ↔ Was b (entry (whole d r).active b)) (sym (whole_plan.entries b))
       (subst (λ x. HasBit 0 (after b) ↔ Was b x) (before_is b) (progress.marks b))
+
+  pub point_entries : (b : ℕ) → entry (whole e new).active b ≡ after b
+  point_entries b = entry_same (whole e new).active (planned_tree e p) b (new_map e new (p.inode 2) (inodes_are 2)) ∙ whole_plan.entries b
 
   pub point_planned : PlansOn d r e new files
   point_planned = record {

@@ -33,7 +33,7 @@ here k n x y is = cond-true (k == n) x y (eq-eqb k n is)
 there : {X : Type 0} (k n : ℕ) (x y : X) → k ≢ n → (if k == n then x else y) ≡ y
 there k n x y other = cond-false (k == n) x y (ne_eqb k n other)
 
-no_bit : (k x : ℕ) → x ≡ 0 → HasBit k x → ⊥
+pub no_bit : (k x : ℕ) → x ≡ 0 → HasBit k x → ⊥
 no_bit k x e has = let none : bit_at x k ≡ 0 = ap (λ x. bit_at x k) e ∙ bit_at-zero k in absurd (omega (arith, has))
 
 pub is_bool : (t : Bool) → (t ≡ true) ⊎ (t ≡ false)

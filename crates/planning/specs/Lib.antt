@@ -3,3 +3,4 @@ pub mod Points
 pub mod Inodes
 pub mod Numbers
 pub mod Steps
+pub mod Plans

@@ -1,5 +1,5 @@
 -- What a consistency point makes of one number.
-use Rattle.std.specs.Prelude.{ℕ, ◌≡◌, ◌≤◌, Bool, Option, Some, None, nat_lt, if◌then◌else◌}
+use Rattle.std.specs.Prelude.{ℕ, ◌≡◌, ◌≤◌, Bool, nat_lt, if◌then◌else◌}
 use Rattle.layout.specs.Bytes.{zeros}
 use Rattle.layout.specs.Inode.{FitsKind}
 use Rattle.layout.specs.Limits.{Sizes}
@@ -18,7 +18,6 @@ use Rattle.inode.specs.Files.{IsFile}
 use Rattle.inode.specs.declared.object.Object.{Object}
 use Rattle.blockmap.specs.Maps.{IsFree}
 use Rattle.conspoint.specs.declared.draft.Draft.{Draft}
-use Rattle.inofile.specs.Inodes.{object_at}
 use Rattle.inofile.specs.Volumes.{IsVolumeOf}
 use Rattle.inofile.specs.declared.inode_file.InodeFile.{InodeFile}
 use Rattle.placement.specs.Files.{IsPlaced}
@@ -26,11 +25,6 @@ use Rattle.placement.specs.Files.{IsPlaced}
 -- a content with zeros past its end
 abbrev pub trimmed : Content → Content
 trimmed c = record c { block = λ i. if nat_lt i (block_count c.size) then c.block i else zeros BLOCK_BYTES }
-
--- an object of an image of these sizes, or none, has the mode, links and size that its kind allows
-abbrev pub FitsKindOf : Sizes → Option Content → Type 0
-FitsKindOf s (Some c) = (c.mode ≤ 4095) × FitsKind c.kind s c.mode c.links c.size
-FitsKindOf s None = Unit {0}
 
 -- a settled file in its grammar, whose blocks are in use under the map of a draft
 pub record IsSettledFile (s : Sizes) (d : Draft) (disk : Blocks) (f : Inode) : Type 0 where
@@ -43,7 +37,6 @@ pub record IsSettledFile (s : Sizes) (d : Draft) (disk : Blocks) (f : Inode) : T
 pub record IsOverSettled (count : ℕ) (d : Draft) (disk : Blocks) (settled : ℕ → Inode) (inodes : InodeFile) (v : Volume) : Type 0 where
   pub volume : IsVolumeOf count disk settled inodes v
   pub files : (n : ℕ) → IsSettledFile inodes.geometry d disk (settled n)
-  pub fits : (n : ℕ) → FitsKindOf inodes.geometry (object_at disk settled inodes n)
 
 -- A number's new inode, on a disk e that has the blocks planned for it: its file is placed, and is this one.
 pub record IsNumberPlaced (s : Sizes) (e : Blocks) (old : Held) (found : Content) (f : Inode) (taken freed : ℕ → Bool) : Type 0 where

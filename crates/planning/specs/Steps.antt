@@ -1,22 +1,35 @@
 -- What is planned while the numbers that changed are planned, one after the other.
-use Rattle.std.specs.Prelude.{ℕ, ◌≡◌, ◌≤◌, Bool, true, ◌==◌, if◌then◌else◌}
+use Rattle.std.specs.Prelude.{ℕ, ◌≡◌, ◌≤◌, ◌↔◌, Bool, true, ◌==◌, if◌then◌else◌}
 use Rattle.layout.specs.Limits.{Sizes}
 use Rattle.layout.specs.Places.{Blocks}
 use Rattle.layout.specs.declared.inode.Inode.{Inode}
+use Rattle.model.specs.Volumes.{Volume}
 use Rattle.blockmap.specs.Maps.{entry_at, settled_at}
 use Rattle.conspoint.specs.Drafts.{OnEach}
 use Rattle.conspoint.specs.declared.draft.Draft.{Draft}
+use Rattle.images.specs.BlockMap.{NamesOnce}
 use Rattle.images.specs.Contents.{Content, content_of}
 use Rattle.images.specs.Nodes.{held, Agrees}
 use Rattle.images.specs.Roots.{HeldTree, Reach}
 use Rattle.inode.specs.Files.{file_block}
 use Rattle.inode.specs.declared.file.File.{File}
+use Rattle.inofile.specs.Inodes.{files_of}
+use Rattle.inofile.specs.Volumes.{IsVolumeOf}
+use Rattle.inofile.specs.declared.inode_file.InodeFile.{InodeFile}
 use Rattle.planning.specs.Inodes.{AreSpelled}
-use Rattle.planning.specs.Progress.{IsProgress, Planned}
+use Rattle.planning.specs.Numbers.{trimmed}
+use Rattle.planning.specs.Progress.{IsExactPlane, IsProgress, Planned}
 
 -- the tree of settled inodes
 abbrev pub settled_tree : Blocks → (ℕ → Inode) → HeldTree
 settled_tree disk settled n = held disk (settled n)
+
+-- Memory stands for a volume over the inodes that are settled on a disk. Their tree names no block twice, and its blocks are set 0 of
+-- these entries.
+pub record IsOverTree (count : ℕ) (disk : Blocks) (settled : ℕ → Inode) (inodes : InodeFile) (v : Volume) (before : ℕ → ℕ) : Type 0 where
+  pub volume : IsVolumeOf count disk settled inodes v
+  pub once : NamesOnce (settled_tree disk settled)
+  pub exact : IsExactPlane (settled_tree disk settled) before
 
 -- On each disk that has the blocks planned so far, and those of the settled tree: what is planned holds, and the changed files are
 -- these. And the changed inode file spells the new inodes.
@@ -31,3 +44,8 @@ pub record IsUnderWay (d : Draft) (disk : Blocks) (before : ℕ → ℕ) (s : Si
 pub record GoesOn (number : ℕ) (changed : ℕ → Bool) (d : Draft) (disk : Blocks) (before : ℕ → ℕ) (s : Sizes) (t : HeldTree) (found : ℕ → Content) (file : File) : Type 0 where
   pub way : IsUnderWay d disk before s t found file
   pub more : (k : ℕ) → way.plan.changed k ≡ (if k == number then true else changed k)
+
+-- just these numbers are planned
+pub record ArePlanned (IsOne : ℕ → Type 0) (d : Draft) (disk : Blocks) (settled : ℕ → Inode) (before : ℕ → ℕ) (inodes : InodeFile) (file : File) : Type 0 where
+  pub way : IsUnderWay d disk before inodes.geometry (settled_tree disk settled) (λ n. trimmed (files_of disk settled inodes n)) file
+  pub just : (n : ℕ) → (way.plan.changed n ≡ true) ↔ IsOne n

@@ -3,10 +3,10 @@
 ghost use Rattle.std.specs.Prelude.{ℕ, ◌≡◌, ◌/◌, ◌%◌, ◌*◌, ◌<◌, ◌==◌, List, length, OnOk, IfOk, IsErrOf, if◌then◌else◌};
 ghost use Rattle.layout.specs.Inode.{inode_bytes};
 ghost use Rattle.layout.specs.declared.TheConstants.{BLOCK_BYTES, INODES_PER_BLOCK, INODE_BYTES};
-ghost use Rattle.buffers.specs.Failures.{HasGrown};
+ghost use Rattle.buffers.specs.Reads.{ReadsBlocks};
+ghost use Rattle.blocktree.specs.Errors.{IsFault};
 ghost use Rattle.blocktree.specs.declared.error.ReadError.TheVariants as read;
-ghost use Rattle.blocktree.specs.Trees.{IsSoundAt, KeepsSound};
-ghost use Rattle.inode.specs.Bases.{KeepsBase};
+ghost use Rattle.blocktree.specs.Trees.{IsSoundAt, KeepsSound, SameSettled};
 ghost use Rattle.inode.specs.Files.{file_block};
 ghost use Rattle.images.specs.InodeFiles.{put_at};
 ghost use Rattle.planning.specs.Inodes.{with_inode_at};
@@ -18,18 +18,14 @@ use layout::{INODE_BYTES, INODES_PER_BLOCK, Inode};
 use std::alloc::Global;
 
 /// The block of the inode file with this inode in the place of a number.
-fn block_with<B: Blocks>(
+pub(crate) fn block_with<B: Blocks>(
     alloc: Global,
     blocks: &mut B,
     file: &File,
     number: u32,
     inode: &Inode,
 ) -> Result<Block, ReadError>
-    ensures count { B.count blocks.new ≡ B.count blocks.old }
-    ensures counted { OnOk result (B.failed blocks.new ≡ B.failed blocks.old) }
-    ensures device { IsErrOf result read.Device → HasGrown (B.failed blocks.old) (B.failed blocks.new) }
-    ensures reads { (start : B) → B.ReadsOn start blocks.old → B.ReadsOn start blocks.new }
-    ensures same { (disk : ℕ → List ℕ) → B.Shows blocks.old disk → B.Shows blocks.new disk }
+    ensures reads { ReadsBlocks B.Blocks IsFault blocks.old blocks.new result }
     ensures put { (disk : ℕ → List ℕ) → B.Shows blocks.old disk → IfOk result (λ b. b
         ≡ put_at (INODE_BYTES * (number % INODES_PER_BLOCK)) (inode_bytes inode.now)
         (file_block disk file.now (number / INODES_PER_BLOCK))) }
@@ -54,13 +50,9 @@ pub(crate) fn put_inode<B: Blocks>(
     number: u32,
     inode: &Inode,
 ) -> Result<(), ReadError>
-    ensures count { B.count blocks.new ≡ B.count blocks.old }
-    ensures counted { OnOk result (B.failed blocks.new ≡ B.failed blocks.old) }
-    ensures device { IsErrOf result read.Device → HasGrown (B.failed blocks.old) (B.failed blocks.new) }
-    ensures reads { (start : B) → B.ReadsOn start blocks.old → B.ReadsOn start blocks.new }
-    ensures same { (disk : ℕ → List ℕ) → B.Shows blocks.old disk → B.Shows blocks.new disk }
+    ensures reads { ReadsBlocks B.Blocks IsFault blocks.old blocks.new result }
     ensures size { file.new.size ≡ file.old.size }
-    ensures base { KeepsBase file.old.tree file.new.tree }
+    ensures settled { SameSettled file.old.tree file.new.tree }
     ensures sound { KeepsSound file.old.tree file.new.tree }
     ensures put { (disk : ℕ → List ℕ) → B.Shows blocks.old disk → OnOk result ((i : ℕ)
         → file_block disk file.new i ≡ with_inode_at (file_block disk file.old) number inode.now i) }

@@ -1,12 +1,12 @@
 //! The planning of a consistency point: every place and every byte of it, before anything is written.
 #![tactic(auto)]
 
+mod block_map;
 mod inode_blocks;
-mod laws;
+mod inode_map;
 mod number;
 mod placing;
+mod points;
+mod top;
 
-pub use laws::{
-    complete_plans_are_points, ends_of_files_are_no_matter, inodes_are_spelled_one_by_one,
-    numbers_are_mapped, planned_files_add_up,
-};
+pub use points::{Point, plan};

@@ -1,19 +1,20 @@
-//! One number's file.
+//! One number's file, and those of all numbers that are changed.
 
-ghost use Rattle.std.specs.Prelude.{ℕ, ◌≡◌, ◌<◌, ◌≤◌, All, List, OnOk, IsErrOf, false};
+ghost use Rattle.std.specs.Prelude.{ℕ, ◌≡◌, ◌/◌, ◌<◌, ◌≤◌, All, List, OnOk, IfErr, IsErrOf, false};
+ghost use Rattle.layout.specs.declared.TheConstants.{INODES_PER_BLOCK};
 ghost use Rattle.layout.specs.declared.inode.Inode.{Inode};
 ghost use Rattle.layout.specs.declared.numbers.TheConstants.{ROOT_NUMBER};
 ghost use Rattle.model.specs.Volumes.{Volume};
-ghost use Rattle.blocktree.specs.Trees.{KeepsSound};
+ghost use Rattle.buffers.specs.Reads.{ReadsBlocks};
+ghost use Rattle.blocktree.specs.Trees.{IsSoundAt, KeepsSound, SameSettled};
 ghost use Rattle.blockmap.specs.Maps.{entry_at};
-ghost use Rattle.conspoint.specs.Drafts.{Grows, IsFull, IsReserved};
-ghost use Rattle.images.specs.BlockMap.{NamesOnce};
-ghost use Rattle.inode.specs.Bases.{KeepsBase};
-ghost use Rattle.inofile.specs.Inodes.{IsKnown, files_of};
+ghost use Rattle.conspoint.specs.Drafts.{Grows, IsFull, IsReserved, IsShortage};
+ghost use Rattle.conspoint.specs.Errors.{IsReadFault};
+ghost use Rattle.inofile.specs.Inodes.{IsChanged, IsKnown, files_of};
 ghost use Rattle.placement.specs.Files.{is_one};
-ghost use Rattle.planning.specs.Numbers.{IsOverSettled, trimmed};
-ghost use Rattle.planning.specs.Progress.{IsExactPlane, IsMarked};
-ghost use Rattle.planning.specs.Steps.{GoesOn, IsUnderWay, settled_tree};
+ghost use Rattle.planning.specs.Numbers.{trimmed};
+ghost use Rattle.planning.specs.Progress.{IsMarked};
+ghost use Rattle.planning.specs.Steps.{ArePlanned, GoesOn, IsOverTree, IsUnderWay, settled_tree};
 
 use crate::inode_blocks::put_inode;
 use crate::placing::place_number;
@@ -37,6 +38,7 @@ pub(crate) fn mark_placed(draft: &mut Draft, placed: &PlacedFile) -> Result<(), 
         (is_one placed.now.freed.items) (entry_at draft.old.map.parts.items)
         (entry_at draft.new.map.parts.items)) }
     ensures why { IsErrOf result PlanError.NoSpace → ⊥ }
+    ensures shortage { IfErr result IsShortage }
 {
     mark_all(draft, &placed.freed, false)?;
     mark_all(draft, &placed.taken, true)?;
@@ -56,30 +58,68 @@ pub(crate) fn plan_number<B: Blocks>(
     requires low { ROOT_NUMBER ≤ number }
     requires high { number < inodes.now.geometry.inodes }
     requires known { IsKnown inodes.now number }
-    ensures count { B.count blocks.new ≡ B.count blocks.old }
-    ensures counted { OnOk result (B.failed blocks.new ≡ B.failed blocks.old) }
-    ensures reads { (start : B) → B.ReadsOn start blocks.old → B.ReadsOn start blocks.new }
-    ensures same { (disk : ℕ → List ℕ) → B.Shows blocks.old disk → B.Shows blocks.new disk }
+    ensures reads { ReadsBlocks B.Blocks IsReadFault blocks.old blocks.new result }
     ensures grows { Grows draft.old draft.new }
     ensures others { (p : ℕ) → IsReserved draft.old p → IsReserved draft.new p }
     ensures size { file.new.size ≡ file.old.size }
-    ensures base { KeepsBase file.old.tree file.new.tree }
+    ensures settled { SameSettled file.old.tree file.new.tree }
     ensures sound { KeepsSound file.old.tree file.new.tree }
     ensures planned { (disk : ℕ → List ℕ) (settled : ℕ → Inode) (v : Volume) (before : ℕ → ℕ)
         → B.Shows blocks.old disk
-        → IsOverSettled (B.count blocks.old) draft.old disk settled inodes.now v
-        → NamesOnce (settled_tree disk settled)
-        → IsExactPlane (settled_tree disk settled) before
+        → IsOverTree (B.count blocks.old) disk settled inodes.now v before
         → (way : IsUnderWay draft.old disk before inodes.now.geometry
         (settled_tree disk settled) (λ n. trimmed (files_of disk settled inodes.now n)) file.old)
         → way.plan.changed number ≡ false
         → OnOk result (GoesOn number way.plan.changed draft.new disk before inodes.now.geometry
         (settled_tree disk settled) (λ n. trimmed (files_of disk settled inodes.now n)) file.new) }
     ensures full { IsErrOf result PlanError.NoSpace → IsFull draft.new }
+    ensures damaged { (disk : ℕ → List ℕ) (settled : ℕ → Inode) (v : Volume) (before : ℕ → ℕ)
+        → B.Shows blocks.old disk
+        → IsOverTree (B.count blocks.old) disk settled inodes.now v before
+        → IsUnderWay draft.old disk before inodes.now.geometry (settled_tree disk settled)
+        (λ n. trimmed (files_of disk settled inodes.now n)) file.old
+        → IsSoundAt (B.count blocks.old) disk file.old.tree (number / INODES_PER_BLOCK)
+        → IsErrOf result PlanError.Damaged → ⊥ }
 {
     inodes_are_put_one_by_one();
     let placed = place_number(alloc, draft, blocks, inodes, number)?;
     mark_placed(draft, &placed)?;
     put_inode(alloc, blocks, file, number, &placed.inode)?;
+    Ok(())
+}
+
+/// Plans all numbers that are changed, one after the other.
+pub(crate) fn plan_numbers<B: Blocks>(
+    alloc: Global,
+    draft: &mut Draft,
+    blocks: &mut B,
+    inodes: &InodeFile,
+    file: &mut File,
+) -> Result<(), PlanError>
+    requires disk { B.count blocks.old ≡ draft.old.map.count }
+    ensures reads { ReadsBlocks B.Blocks IsReadFault blocks.old blocks.new result }
+    ensures grows { Grows draft.old draft.new }
+    ensures others { (p : ℕ) → IsReserved draft.old p → IsReserved draft.new p }
+    ensures size { file.new.size ≡ file.old.size }
+    ensures settled { SameSettled file.old.tree file.new.tree }
+    ensures sound { KeepsSound file.old.tree file.new.tree }
+    ensures planned { (disk : ℕ → List ℕ) (settled : ℕ → Inode) (v : Volume) (before : ℕ → ℕ)
+        → B.Shows blocks.old disk
+        → IsOverTree (B.count blocks.old) disk settled inodes.now v before
+        → ArePlanned (λ n. ⊥) draft.old disk settled before inodes.now file.old
+        → OnOk result (ArePlanned (IsChanged inodes.now) draft.new disk settled before inodes.now
+        file.new) }
+    ensures full { IsErrOf result PlanError.NoSpace → IsFull draft.new }
+    ensures damaged { (disk : ℕ → List ℕ) (settled : ℕ → Inode) (v : Volume) (before : ℕ → ℕ)
+        → B.Shows blocks.old disk
+        → IsOverTree (B.count blocks.old) disk settled inodes.now v before
+        → ArePlanned (λ n. ⊥) draft.old disk settled before inodes.now file.old
+        → ((i : ℕ) → IsSoundAt (B.count blocks.old) disk file.old.tree i)
+        → IsErrOf result PlanError.Damaged → ⊥ }
+{
+    let numbers = inodes.changed_numbers(alloc)?;
+    for i in 0..numbers.len() {
+        plan_number(alloc, draft, blocks, inodes, file, numbers[i])?;
+    }
     Ok(())
 }

@@ -30,6 +30,8 @@ loop-i-preserved c =
       count = ap (λ (xs : List Pointer). length xs) c.in_ok-push.ensures.items ∙ (length-append nodes _ ∙ omega (arith, so_far.count));
       before = rw c.in_ok-push.ensures.items (each_more (λ j q. j < c.args.first → q ≡ pointer_at settled j) nodes p i so_far.count so_far.before
           (λ lt. c.in_ok-place_block.ensures.before lt ∙ settled_is));
+      holes = rw c.in_ok-push.ensures.items (each_more (λ j q. q ≡ Hole → pointer_at settled j ≡ Hole) nodes p i so_far.count so_far.holes
+          (λ is. sym settled_is ∙ c.in_ok-place_block.ensures.holes is));
       blocks = λ e has. rw c.in_ok-push.ensures.items (each_more (λ j q. c.args.first ≤ j → pointed e q ≡ changed_or c.args.tree.now j (pointed e (pointer_at settled j))) nodes p i so_far.count (so_far.blocks e (now.has e has))
           (rw settled_is at (c.in_ok-place_block.ensures.block e has)));
       parts = c.place_block.ensures.parts ∙ so_far.parts;

@@ -1,5 +1,6 @@
 use Rattle.std.proofs.Common.{◌≡◌, ℕ, ◌<◌, ◌≤◌, length}
 use Rattle.layout.specs.Places.{pointed}
+use Rattle.layout.specs.declared.pointer.Pointer.TheVariants.{Hole}
 use Rattle.conspoint.specs.Blocks.{changed_or}
 use Rattle.conspoint.specs.Drafts.{Grows, OnEach, IsReserved}
 use Rattle.conspoint.specs.Groups.{pointer_at, ArePlaced}
@@ -10,6 +11,7 @@ invariant-loop-i l = record {
   grows : Grows l.fn.draft l.draft;
   count : length l.nodes.items ≡ l.i;
   before : (i : ℕ) → i < l.i → i < l.first → pointer_at l.nodes.items i ≡ pointer_at l.settled i;
+  holes : (i : ℕ) → i < l.i → pointer_at l.nodes.items i ≡ Hole → pointer_at l.settled i ≡ Hole;
   blocks : OnEach l.draft (λ e. (i : ℕ) → i < l.i → l.first ≤ i → pointed e (pointer_at l.nodes.items i) ≡ changed_or l.tree i (pointed e (pointer_at l.settled i)));
   parts : l.draft.map.parts.items ≡ l.fn.draft.map.parts.items;
   others : (p : ℕ) → IsReserved l.fn.draft p → IsReserved l.draft p;

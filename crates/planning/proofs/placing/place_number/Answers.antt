@@ -8,14 +8,14 @@ returns-in_err-settled-clause-damaged g c = λ disk settled v shows memory bad. 
 pub returns-in_err-cleared-clause-damaged : goal.returns-in_err-cleared-clause-damaged
 returns-in_err-cleared-clause-damaged g c = λ disk settled v shows memory bad.
     let now : c.in_ok-settled.settled ≡ settled c.args.number = c.in_ok-settled.ensures.read disk settled shows memory.volume.inodes in
-    c.in_err-cleared.ensures.damaged c.args.inodes.now.geometry disk (c.settled_inode.ensures.shown disk shows)
+    c.in_err-cleared.ensures.damaged c.args.inodes.now.geometry disk (search rules)
     (file_over (g.B.Blocks.count c.args.blocks.now) c.args.draft.now disk settled c.args.inodes.now v c.args.number c.in_ok-settled.settled memory now) (search rules)
 
 pub returns-in_default-clause-placed : goal.returns-in_default-clause-placed
 returns-in_default-clause-placed g c = λ disk settled v shows memory e has same.
     let now : c.in_ok-settled.settled ≡ settled c.args.number = c.in_ok-settled.ensures.read disk settled shows memory.volume.inodes in
     none_placed c.args.inodes.now.geometry disk e settled c.args.inodes.now c.args.number c.in_ok-settled.settled c.in_ok-cleared.cleared.inode _ _ now (c.in_default.ensures.none disk settled)
-    (c.in_ok-cleared.ensures.cleared c.args.inodes.now.geometry disk (c.settled_inode.ensures.shown disk shows)
+    (c.in_ok-cleared.ensures.cleared c.args.inodes.now.geometry disk (search rules)
     (file_over (g.B.Blocks.count c.args.blocks.now) c.args.draft.now disk settled c.args.inodes.now v c.args.number c.in_ok-settled.settled memory now) e has
     (agrees_now disk e c.in_ok-settled.settled (settled c.args.number) now same))
 
@@ -23,9 +23,9 @@ pub returns-in_err-placed-clause-damaged : goal.returns-in_err-placed-clause-dam
 returns-in_err-placed-clause-damaged g c = λ disk settled v shows memory bad.
     let count = g.B.Blocks.count c.args.blocks.now in
     let now : c.in_ok-settled.settled ≡ settled c.args.number = c.in_ok-settled.ensures.read disk settled shows memory.volume.inodes in
-    c.in_err-placed.ensures.damaged c.args.inodes.now.geometry disk (c.settled_inode.ensures.shown disk shows)
+    c.in_err-placed.ensures.damaged c.args.inodes.now.geometry disk (search rules)
     (file_over count c.args.draft.now disk settled c.args.inodes.now v c.args.number c.in_ok-settled.settled memory now)
-    (object_over count c.args.draft.now disk settled c.args.inodes.now v c.args.number c.in_ok-settled.settled c.in-Some.object.now memory now (c.in-Some.ensures.stands count disk settled v memory.volume) (c.in-Some.ensures.some disk settled))
+    (object_over c.args.inodes.now.geometry c.args.inodes.now.geometry.inodes disk c.in_ok-settled.settled (settled c.args.number) c.in-Some.object.now (v c.args.number) now (c.in-Some.ensures.stands count disk settled v memory.volume))
     (search rules)
 
 pub returns-clause-placed : goal.returns-clause-placed
@@ -35,9 +35,8 @@ returns-clause-placed g c = λ disk settled v shows memory e has same.
     let there = c.in-Some.ensures.some disk settled in
     let stands = c.in-Some.ensures.stands count disk settled v memory.volume in
     let file = file_over count c.args.draft.now disk settled c.args.inodes.now v c.args.number c.in_ok-settled.settled memory now in
-    let object = object_over count c.args.draft.now disk settled c.args.inodes.now v c.args.number c.in_ok-settled.settled c.in-Some.object.now memory now stands there in
-    let shown = c.settled_inode.ensures.shown disk shows in
+    let object = object_over c.args.inodes.now.geometry c.args.inodes.now.geometry.inodes disk c.in_ok-settled.settled (settled c.args.number) c.in-Some.object.now (v c.args.number) now stands in
     let agrees = agrees_now disk e c.in_ok-settled.settled (settled c.args.number) now same in
     object_placed c.args.inodes.now.geometry disk e settled c.args.inodes.now c.args.number c.in_ok-settled.settled c.in_ok-placed.placed.inode c.in-Some.object.now _ _ now stands.kind there
-    (c.in_ok-placed.ensures.placed c.args.inodes.now.geometry disk shown file object e has agrees)
-    (c.in_ok-placed.ensures.content c.args.inodes.now.geometry disk shown file object e has agrees)
+    (c.in_ok-placed.ensures.placed c.args.inodes.now.geometry disk (search rules) file object e has agrees)
+    (c.in_ok-placed.ensures.content c.args.inodes.now.geometry disk (search rules) file object e has agrees)

@@ -1,4 +1,4 @@
-use Rattle.std.proofs.Common.{subst}
+use Rattle.std.proofs.Common.{subst, sym, ◌∙◌}
 use Rattle.buffers.specs.Disks.{ShowsDisk, disk_with_sector}
 use Rattle.station.specs.Images.{SomeSectorsWritten, SectorsWritten}
 use Rattle.station.specs.Moments.{Goes, SeenGoes, LeavesOnly, Shows}
@@ -52,3 +52,8 @@ returns-clause-shows g c disk shows =
     let stored = c.in_ok-store_sector.ensures.shows disk (c.in_ok-sync.ensures.shows disk shows) in
     let m3 = g.S.Station.meaning c.sync-2.new.self.station in
     subst (λ (p : Planned). ShowsDisk m3 c.sync-2.new.self.kept (disk_with_sector p.slot p.root disk)) c.self.view_is (c.in_ok-sync-2.ensures.shows _ stored)
+
+pub returns-clause-just : goal.returns-clause-just
+returns-clause-just g c = λ honest d left.
+    let call = c.sync-2.ensures.call in
+    c.in_ok-sync-2.ensures.settled honest d left ∙ sym (call.goes (call.same.honest.1 honest)).seen

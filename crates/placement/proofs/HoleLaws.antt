@@ -1,0 +1,35 @@
+-- No hole comes into a file of which each block is stored.
+use Rattle.std.proofs.Common.{◌≡◌, ℕ, ◌<◌, ◌≤◌, sym, ap, subst, ◌∙◌, arith}
+use Rattle.std.proofs.lemmas.Bool.{cond_below}
+use Rattle.std.specs.Prelude.{nat_lt, if◌then◌else◌}
+use Rattle.layout.specs.Places.{Blocks}
+use Rattle.layout.specs.Version.{level_of}
+use Rattle.layout.specs.declared.inode.Inode.{Inode}
+use Rattle.layout.specs.declared.pointer.Pointer.TheVariants.{Hole}
+use Rattle.images.specs.Nodes.{held}
+use Rattle.images.specs.Soundness.{HasNoHole, nodes_at}
+use Rattle.blocktree.specs.Places.{block_count}
+use Rattle.inode.specs.declared.object.Object.{Object}
+use Rattle.conspoint.specs.Groups.{pointer_at}
+use Rattle.placement.specs.Files.{IsWholeOver}
+use Rattle.placement.specs.Nodes.{AreNodes}
+use Rattle.placement.specs.declared.nodes.Nodes.{Nodes}
+
+settled_stored : (disk : Blocks) (base : Inode) (n : Nodes) (i : ℕ) → HasNoHole (held disk base) → AreNodes n (held disk base) → 1 ≤ level_of base.size → i < block_count base.size
+    → pointer_at n.blocks.items i ≡ Hole → ⊥
+unfolding held nodes_at
+settled_stored disk base n i no_hole nodes level lt hole = no_hole i level lt (nodes.places 0 i ∙ hole)
+
+pub no_hole_left : (disk e : Blocks) (base f : Inode) (o : Object) (settled laid : Nodes) → IsWholeOver disk base o → f.size ≡ o.file.size → AreNodes settled (held disk base) → AreNodes laid (held e f)
+    → ((i : ℕ) → 1 ≤ level_of o.file.size → i < block_count o.file.size → pointer_at laid.blocks.items i ≡ Hole
+    → (if nat_lt i o.file.tree.kept then pointer_at settled.blocks.items i else Hole) ≡ Hole)
+    → HasNoHole (held e f)
+unfolding held nodes_at
+no_hole_left disk e base f o settled laid whole same before after holes i level lt hole =
+    let size : f.size ≡ base.size = same ∙ whole.size in
+    let high : 1 ≤ level_of base.size = subst (λ n. 1 ≤ level_of n) size level in
+    let at : i < block_count base.size = subst (λ n. i < block_count n) size lt in
+    let kept : i < o.file.tree.kept = subst (λ n. i < n) (sym (whole.kept high)) at in
+    settled_stored disk base settled i whole.no_hole before high at
+    (cond_below i o.file.tree.kept (pointer_at settled.blocks.items i) Hole kept
+    ∙ holes i (subst (λ n. 1 ≤ level_of n) same level) (subst (λ n. i < block_count n) same lt) (sym (after.places 0 i) ∙ hole))

@@ -1,0 +1,103 @@
+-- The block map's own file is planned.
+use Rattle.std.proofs.Common.{◌≡◌, ℕ, ◌*◌, ◌/◌, ◌%◌, ◌<◌, Bool, false, List, length, refl, ap, sym, subst, ◌∙◌, arith}
+use Rattle.std.proofs.lemmas.Bool.Decides.{nat_tests}
+use Rattle.std.specs.Int.{div_ceil}
+use Rattle.layout.specs.Inode.{FitsKind}
+use Rattle.layout.specs.Limits.{AreSizes, Sizes}
+use Rattle.layout.specs.Maps.{map_entry}
+use Rattle.layout.specs.Places.{Blocks}
+use Rattle.layout.specs.Version.{level_of}
+use Rattle.layout.specs.declared.inode.Inode.{Inode}
+use Rattle.layout.specs.declared.kind.Kind.{Kind}
+use Rattle.layout.specs.declared.pointer.Pointer.{Pointer}
+use Rattle.blockmap.specs.Maps.{entry_at, settled_at}
+use Rattle.blockmap.specs.declared.map.BlockMap.{BlockMap}
+use Rattle.conspoint.specs.Drafts.{Grows, HasAll}
+use Rattle.conspoint.specs.Groups.{pointer_at}
+use Rattle.conspoint.specs.MapFiles.{IsMapOn, IsSettledMap, PlansMap}
+use Rattle.conspoint.specs.declared.draft.Draft.{Draft}
+use Rattle.images.specs.BlockMap.{NamesOnce, entry}
+use Rattle.images.specs.Nodes.{Agrees, Names, file_block, held}
+use Rattle.images.specs.Roots.{HeldTree}
+use Rattle.images.specs.Soundness.{HasNoHole}
+use Rattle.inode.specs.declared.file.File.{File}
+use Rattle.inofile.specs.Settled.{AreSettled}
+use Rattle.placement.specs.Files.{IsPlaced}
+use Rattle.planning.specs.Plans.{HasBlockMap, IsBlockMapOn, Progresses}
+use Rattle.planning.specs.Progress.{IsExactPlane, IsMarked, IsProgress, Planned, with_file}
+use Rattle.planning.specs.Steps.{settled_tree}
+use Rattle.planning.proofs.JoinLaws.{progress_more}
+use Rattle.planning.proofs.OwnLaws.{inode_is, used_block}
+
+entries_in : (t : HeldTree) (b : ℕ) → entry t b ≡ map_entry (file_block (t 2) (b / 1024)) (b % 1024)
+unfolding entry
+entries_in t b = refl
+
+level_two : (size : ℕ) → level_of size ≡ 2 → 65536 < size
+level_two size is = grind (arith, nat_tests)
+
+-- how large the settled block map is
+blocks_size : (count : ℕ) (disk : Blocks) (s : Sizes) (top : File) (settled_of : ℕ → Inode) → AreSettled count disk s top settled_of → (settled_of 2).size ≡ 4 * s.blocks
+blocks_size count disk s top settled_of are =
+    (subst (λ (k : Kind). FitsKind k s (settled_of 2).mode (settled_of 2).links (settled_of 2).size) (are.fits 2) (inode_is s disk (settled_of 2) (are.sound 2)).kind).2
+
+has_over : (count parts : ℕ) (disk : Blocks) (s : Sizes) (top : File) (settled_of : ℕ → Inode) → AreSettled count disk s top settled_of → parts ≡ div_ceil s.blocks 1024 → level_of (settled_of 2).size ≡ 2 → 16 < parts
+has_over count parts disk s top settled_of are is level =
+    let size = blocks_size count disk s top settled_of are in let large = level_two (settled_of 2).size level in omega arith
+
+pub settled_map : (count : ℕ) (draft : Draft) (disk : Blocks) (s : Sizes) (top : File) (settled_of : ℕ → Inode) (before : ℕ → ℕ) (f : Inode) (nodes : List Pointer) → AreSettled count disk s top settled_of
+    → AreSizes s → count ≡ draft.map.count → length draft.map.parts.items ≡ div_ceil draft.map.count 1024
+    → NamesOnce (settled_tree disk settled_of) → IsExactPlane (settled_tree disk settled_of) before → ((b : ℕ) → settled_at draft.map.parts.items b ≡ before b)
+    → ((b : ℕ) → before b ≡ entry (settled_tree disk settled_of) b) → HasNoHole (held disk (settled_of 2)) → f ≡ settled_of 2
+    → ((k : ℕ) → k < length draft.map.parts.items → pointer_at nodes k ≡ (held disk f).place 0 k)
+    → (16 < length draft.map.parts.items → pointer_at nodes (length draft.map.parts.items) ≡ (held disk f).place 1 0)
+    → IsSettledMap s disk (settled_of 2) draft.map nodes
+settled_map count draft disk s top settled_of before f nodes are sizes count_is parts once exact same entries no_hole is lowest over = record {
+  sizes = sizes;
+  blocks = sym (are.count ∙ count_is);
+  kind = are.fits 2;
+  sound = are.sound 2;
+  no_hole = no_hole;
+  once = once.each 2;
+  entries = λ b. same b ∙ entries b ∙ entries_in (settled_tree disk settled_of) b;
+  used = λ b names. used_block draft disk settled_of before exact same 2 b names;
+  lowest = subst (λ (x : Inode). (k : ℕ) → k < length draft.map.parts.items → pointer_at nodes k ≡ (held disk x).place 0 k) is lowest;
+  over = λ level. subst (λ (x : Inode). pointer_at nodes (length draft.map.parts.items) ≡ (held disk x).place 1 0) is
+      (over (has_over count (length draft.map.parts.items) disk s top settled_of are (parts ∙ ap (λ n. div_ceil n 1024) (sym (are.count ∙ count_is))) level));
+}
+
+map_placed : (s : Sizes) (d e : Blocks) (old new : Inode) (taken freed : ℕ → Bool) (entry_of : ℕ → ℕ) → IsMapOn s d e old new taken freed entry_of → IsPlaced s e (held d old) new taken freed
+map_placed s d e old new taken freed entry_of on = record {
+  comes = on.comes;
+  named = on.named;
+  stays = on.stays;
+  freed_are = on.freed_are;
+  once = on.once;
+  sound = on.sound;
+}
+
+module _ (old new : Draft) (disk : Blocks) (before : ℕ → ℕ) (s : Sizes) (settled_of : ℕ → Inode) (p : Planned) (nodes : List Pointer) (f : Inode) (once : NamesOnce (settled_tree disk settled_of))
+    (exact : IsExactPlane (settled_tree disk settled_of) before) (same : (b : ℕ) → settled_at old.map.parts.items b ≡ before b) (progress : Progresses old disk before s (settled_tree disk settled_of) p)
+    (fresh : p.changed 2 ≡ false) (grows : Grows old new) (plan : PlansMap old new nodes f) (settled : IsSettledMap s disk (settled_of 2) old.map nodes) where
+  stands : (e : Blocks) → HasAll e new.blocks.items → Agrees (Names (held disk (settled_of 2))) disk e → IsMapOn s disk e (settled_of 2) f plan.taken plan.freed (entry_at new.map.parts.items)
+  stands e has agrees = plan.stands e has s disk (settled_of 2) settled agrees
+
+  marked : IsMarked plan.taken plan.freed (entry_at old.map.parts.items) (entry_at new.map.parts.items)
+  marked = record { active = plan.active; others = plan.others }
+
+  pub map_file_planned : HasBlockMap p new disk before s (settled_tree disk settled_of) f
+  map_file_planned = record {
+    taken = plan.taken;
+    progress = progress_more old new disk before s (settled_tree disk settled_of) p 2 f plan.taken plan.freed once exact same progress fresh grows plan.was_taken
+        (λ e has agrees. map_placed s disk e (settled_of 2) f plan.taken plan.freed (entry_at new.map.parts.items) (stands e has agrees)) (λ e has agrees. (stands e has agrees).kind) marked;
+    map = λ e has agrees.
+        let on = stands e has (λ b names. agrees b (record { file = 2; names = names })) in record { entries = on.entries; no_hole = on.no_hole };
+  }
+
+-- the same once a block more is planned
+pub map_file_later : (old new : Draft) (disk : Blocks) (before : ℕ → ℕ) (s : Sizes) (t : HeldTree) (p : Planned) (f : Inode) → Grows old new → new.map ≡ old.map → HasBlockMap p old disk before s t f → HasBlockMap p new disk before s t f
+map_file_later old new disk before s t p f grows same has_map = record {
+  taken = has_map.taken;
+  progress = λ e has agrees. subst (λ (m : BlockMap). IsProgress s t e m.next before (entry_at m.parts.items) (with_file 2 f has_map.taken p)) (sym same) (has_map.progress e (grows.has e has) agrees);
+  map = λ e has agrees. subst (λ (m : BlockMap). IsBlockMapOn (entry_at m.parts.items) (held e f)) (sym same) (has_map.map e (grows.has e has) agrees);
+}

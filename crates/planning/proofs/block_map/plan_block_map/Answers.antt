@@ -1,0 +1,36 @@
+use Rattle.std.proofs.Common.{◌≡◌, ℕ, ◌<◌, List, sym, subst, ◌∙◌, rules}
+use Rattle.layout.specs.declared.inode.Inode.{Inode}
+use Rattle.layout.specs.declared.pointer.Pointer.{Pointer}
+use Rattle.conspoint.specs.Groups.{pointer_at}
+use Rattle.conspoint.specs.MapFiles.{PlansMap}
+use Rattle.images.specs.Nodes.{held}
+use Rattle.images.specs.Soundness.{IsSoundFile}
+use Rattle.planning.proofs.MapFileLaws.{map_file_planned, settled_map}
+use Rattle.planning.proofs.block_map.plan_block_map.Goals as goal
+
+pub returns-in_err-settled-clause-damaged : goal.returns-in_err-settled-clause-damaged
+returns-in_err-settled-clause-damaged g c = λ disk settled v before shows memory bad. c.in_err-settled.ensures.damaged disk settled shows (search rules) memory.volume.inodes
+
+pub returns-in_err-nodes-clause-damaged : goal.returns-in_err-nodes-clause-damaged
+returns-in_err-nodes-clause-damaged g c = λ disk settled v before shows memory bad.
+    let now : c.in_ok-settled.settled ≡ settled 2 = c.in_ok-settled.ensures.read disk settled shows memory.volume.inodes in
+    c.in_err-nodes.ensures.damaged c.args.inodes.now.geometry disk (c.settled_inode.ensures.reads.same disk shows)
+    (subst (λ (x : Inode). IsSoundFile c.args.inodes.now.geometry (held disk x)) (sym now) (memory.volume.inodes.sound 2)) (memory.volume.inodes.count ∙ sym c.settled_inode.ensures.reads.count) (search rules)
+
+pub returns-clause-planned : goal.returns-clause-planned
+returns-clause-planned g c = λ disk settled v before p shows memory sound same entries progress fresh.
+    let s = c.args.inodes.now.geometry in
+    let old = c.args.draft.now in
+    let new = c.store_own_map.new.draft in
+    let nodes = c.in_ok-nodes.nodes.items in
+    let found = c.in_ok-settled.settled in
+    let f = c.in_ok-map.map in
+    let now : found ≡ settled 2 = c.in_ok-settled.ensures.read disk settled shows memory.volume.inodes in
+    let shown = c.settled_inode.ensures.reads.same disk shows in
+    let file = subst (λ (x : Inode). IsSoundFile s (held disk x)) (sym now) (memory.volume.inodes.sound 2) in
+    map_file_planned old new disk before s settled p nodes f memory.once memory.exact same progress fresh c.store_own_map.ensures.grows
+    (subst (λ (ns : List Pointer). PlansMap old new ns f) c.deref.ensures.value c.in_ok-map.ensures.planned)
+    (settled_map (g.B.Blocks.count c.args.blocks.now) old disk s c.args.inodes.now.file settled before found nodes memory.volume.inodes c.requires.sizes c.requires.disk c.requires.parts memory.once memory.exact same entries
+    sound.block_map now
+    (subst (λ n. (k : ℕ) → k < n → pointer_at nodes k ≡ (held disk found).place 0 k) c.map_blocks.ensures (c.in_ok-nodes.ensures.lowest s disk shown file))
+    (subst (λ n. 16 < n → pointer_at nodes n ≡ (held disk found).place 1 0) c.map_blocks.ensures (c.in_ok-nodes.ensures.over s disk shown file)))

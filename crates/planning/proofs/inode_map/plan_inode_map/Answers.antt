@@ -1,0 +1,126 @@
+use Rattle.std.proofs.Common.{◌≡◌, ℕ, List, length, ap, sym, subst, ◌∙◌, arith, rules}
+use Rattle.blocktree.specs.Trees.{IsSoundAt}
+use Rattle.buffers.specs.Positions.{IsPart}
+use Rattle.images.specs.Contents.{Content, bytes_of}
+use Rattle.images.specs.Nodes.{held}
+use Rattle.images.specs.Soundness.{IsSoundFile}
+use Rattle.inode.specs.Files.{IsAsHeld, byte_at}
+use Rattle.layout.specs.declared.inode.Inode.{Inode}
+use Rattle.placement.specs.Files.{is_one}
+use Rattle.planning.specs.Plans.{IsInodeMapOn}
+use Rattle.planning.specs.Steps.{settled_tree}
+use Rattle.planning.proofs.JoinLaws.{map_planned, map_stays, marked_over, taken_later}
+use Rattle.planning.proofs.NumberLaws.{grows_twice}
+use Rattle.planning.proofs.OwnLaws.{held_bytes, kind_of, map_bytes, map_change, map_kind, map_size_is, map_whole}
+use Rattle.planning.proofs.PointLaws.{held_inode}
+use Rattle.planning.proofs.inode_map.plan_inode_map.Goals as goal
+
+pub returns-in_err-settled-clause-damaged : goal.returns-in_err-settled-clause-damaged
+returns-in_err-settled-clause-damaged g c = λ disk settled v before shows memory same below bad. c.in_err-settled.ensures.damaged disk settled shows (search rules) memory.volume.inodes
+
+pub has_bytes-requires : goal.has_bytes-requires
+has_bytes-requires g c = omega (arith, c.map_bytes.ensures.length, c.requires.sizes.most_inodes)
+
+pub put_parts-requires : goal.put_parts-requires
+put_parts-requires g c = omega (arith, c.map_bytes-2.ensures.length, c.requires.sizes.most_inodes)
+
+pub returns-in_err-is_there-clause-damaged : goal.returns-in_err-is_there-clause-damaged
+returns-in_err-is_there-clause-damaged g c = λ disk settled v before shows memory same below bad.
+    let now : c.in_ok-settled.settled ≡ settled 1 = c.in_ok-settled.ensures.read disk settled shows memory.volume.inodes in
+    let s = c.args.inodes.now.geometry in
+    let sound = subst (λ (x : Inode). IsSoundFile s (held disk x)) (sym now) (memory.volume.inodes.sound 1) in
+    let tree = c.in_ok-object.object.file.tree in
+    c.in_err-is_there.ensures.damaged disk (c.settled_inode.ensures.reads.same disk shows) (search rules)
+    (λ i. subst (λ n. IsSoundAt n disk tree i) (memory.volume.inodes.count ∙ sym c.settled_inode.ensures.reads.count)
+    (c.based_trees_are_sound.ensures.at s disk c.in_ok-settled.settled tree i sound c.in_ok-object.ensures.base))
+
+pub returns-then-is_there-clause-planned : goal.returns-then-is_there-clause-planned
+returns-then-is_there-clause-planned g c = λ disk settled v before found shows memory no_hole way fresh.
+    let now : c.in_ok-settled.settled ≡ settled 1 = c.in_ok-settled.ensures.read disk settled shows memory.volume.inodes in
+    let s = c.args.inodes.now.geometry in
+    let bytes = c.args.inodes.now.numbers.bytes.items in
+    let file = c.in_ok-object.object.file in
+    let sound = subst (λ (x : Inode). IsSoundFile s (held disk x)) (sym now) (memory.volume.inodes.sound 1) in
+    let there = held_bytes disk (settled 1) file bytes (subst (λ (x : Inode). IsAsHeld disk x file) now (c.in_ok-object.ensures.held s disk sound))
+    (map_size_is (g.B.Blocks.count c.args.blocks.now) disk s c.args.inodes.now.file settled memory.volume.inodes ∙ sym (sym (ap (λ (xs : List ℕ). length xs) c.map_bytes.ensures.bytes) ∙ c.map_bytes.ensures.length))
+    (subst (λ (xs : List ℕ). IsPart (byte_at disk file) 0 xs) c.map_bytes.ensures.bytes (c.in_ok-is_there.ensures.same disk (c.settled_inode.ensures.reads.same disk shows) c.if-is_there.true)) no_hole in
+    map_stays c.args.draft.now disk before s (settled_tree disk settled) found c.args.file.now bytes way (λ e has agrees.
+    subst (λ h. IsInodeMapOn bytes h) (sym (ap (held e) ((way.progress e has agrees).stays 1 fresh ∙ held_inode disk (settled 1))
+    ∙ c.disks_that_agree_hold_the_same.ensures.file disk e (settled 1) (λ b names. agrees b (record { file = 1; names = names })))) there)
+
+pub returns-in_err-put_parts-clause-damaged : goal.returns-in_err-put_parts-clause-damaged
+returns-in_err-put_parts-clause-damaged g c = λ disk settled v before shows memory same below bad.
+    let now : c.in_ok-settled.settled ≡ settled 1 = c.in_ok-settled.ensures.read disk settled shows memory.volume.inodes in
+    let s = c.args.inodes.now.geometry in
+    let sound = subst (λ (x : Inode). IsSoundFile s (held disk x)) (sym now) (memory.volume.inodes.sound 1) in
+    let tree = c.in_ok-object.object.file.tree in
+    c.in_err-put_parts.ensures.damaged disk (c.has_bytes.ensures.reads.same disk (c.settled_inode.ensures.reads.same disk shows)) (search rules)
+    (λ i. subst (λ n. IsSoundAt n disk tree i) (memory.volume.inodes.count ∙ sym c.settled_inode.ensures.reads.count ∙ sym c.has_bytes.ensures.reads.count)
+    (c.based_trees_are_sound.ensures.at s disk c.in_ok-settled.settled tree i sound c.in_ok-object.ensures.base))
+
+pub returns-in_err-placed-clause-damaged : goal.returns-in_err-placed-clause-damaged
+returns-in_err-placed-clause-damaged g c = λ disk settled v before shows memory same below bad.
+    let now : c.in_ok-settled.settled ≡ settled 1 = c.in_ok-settled.ensures.read disk settled shows memory.volume.inodes in
+    let s = c.args.inodes.now.geometry in
+    let bytes = c.args.inodes.now.numbers.bytes.items in
+    let old = c.in_ok-object.object.file in
+    let sound = subst (λ (x : Inode). IsSoundFile s (held disk x)) (sym now) (memory.volume.inodes.sound 1) in
+    c.in_err-placed.ensures.damaged s disk (settled 1) (c.put_parts.ensures.reads.same disk (c.has_bytes.ensures.reads.same disk (c.settled_inode.ensures.reads.same disk shows)))
+    (map_change (g.B.Blocks.count c.args.blocks.now) c.args.draft.now disk s c.args.inodes.now.file settled before c.in_ok-settled.settled old _ bytes memory.volume.inodes memory.once memory.exact same c.requires.disk now
+    c.in_ok-object.ensures.size (c.in_ok-object.ensures.ends s disk sound) c.in_ok-object.ensures.settled c.in_ok-object.ensures.attributes c.put_parts.ensures.settled c.put_parts.ensures.kept c.put_parts.ensures.size
+    (sym (ap (λ (xs : List ℕ). length xs) c.map_bytes.ensures.bytes) ∙ c.map_bytes.ensures.length) (rw c.map_bytes-2.ensures.bytes at (c.in_ok-put_parts.ensures.here disk (c.has_bytes.ensures.reads.same disk (c.settled_inode.ensures.reads.same disk shows)))) (rw c.map_bytes-2.ensures.bytes at (c.in_ok-put_parts.ensures.others disk)))
+    (search rules)
+
+pub returns-in_err-mark_placed-clause-grows : goal.returns-in_err-mark_placed-clause-grows
+returns-in_err-mark_placed-clause-grows g c = grows_twice c.args.draft.now c.place_file.new.draft c.mark_placed.new.draft c.place_file.ensures.grows c.mark_placed.ensures.grows
+
+pub returns-in_err-put_inode-clause-grows : goal.returns-in_err-put_inode-clause-grows
+returns-in_err-put_inode-clause-grows g c = grows_twice c.args.draft.now c.place_file.new.draft c.mark_placed.new.draft c.place_file.ensures.grows c.mark_placed.ensures.grows
+
+pub returns-clause-grows : goal.returns-clause-grows
+returns-clause-grows g c = grows_twice c.args.draft.now c.place_file.new.draft c.mark_placed.new.draft c.place_file.ensures.grows c.mark_placed.ensures.grows
+
+pub returns-clause-planned : goal.returns-clause-planned
+returns-clause-planned g c = λ disk settled v before found shows memory no_hole way fresh.
+    let now : c.in_ok-settled.settled ≡ settled 1 = c.in_ok-settled.ensures.read disk settled shows memory.volume.inodes in
+    let count = g.B.Blocks.count c.args.blocks.now in
+    let s = c.args.inodes.now.geometry in
+    let top = c.args.inodes.now.file in
+    let bytes = c.args.inodes.now.numbers.bytes.items in
+    let first = c.in_ok-object.object.file in
+    let o = record c.in_ok-object.object { file = c.put_parts.new.file } in
+    let sound = subst (λ (x : Inode). IsSoundFile s (held disk x)) (sym now) (memory.volume.inodes.sound 1) in
+    let shown = c.put_parts.ensures.reads.same disk (c.has_bytes.ensures.reads.same disk (c.settled_inode.ensures.reads.same disk shows)) in
+    let old = c.args.draft.now in
+    let mid = c.place_file.new.draft in
+    let new = c.mark_placed.new.draft in
+    let goes = c.mark_placed.ensures.grows in
+    let placed = c.in_ok-placed.placed in
+    let taken = is_one placed.taken.items in
+    let freed = is_one placed.freed.items in
+    let here = rw c.map_bytes-2.ensures.bytes at (c.in_ok-put_parts.ensures.here disk (c.has_bytes.ensures.reads.same disk (c.settled_inode.ensures.reads.same disk shows))) in
+    let others = rw c.map_bytes-2.ensures.bytes at (c.in_ok-put_parts.ensures.others disk) in
+    let change = map_change count old disk s top settled before c.in_ok-settled.settled first o bytes memory.volume.inodes memory.once memory.exact way.settled c.requires.disk now
+    c.in_ok-object.ensures.size (c.in_ok-object.ensures.ends s disk sound) c.in_ok-object.ensures.settled c.in_ok-object.ensures.attributes c.put_parts.ensures.settled c.put_parts.ensures.kept c.put_parts.ensures.size
+    (sym (ap (λ (xs : List ℕ). length xs) c.map_bytes.ensures.bytes) ∙ c.map_bytes.ensures.length) here others in
+    let whole = map_whole count old disk s top settled before c.in_ok-settled.settled first o bytes memory.volume.inodes memory.once memory.exact way.settled c.requires.disk now
+    c.in_ok-object.ensures.size (c.in_ok-object.ensures.ends s disk sound) c.in_ok-object.ensures.settled c.in_ok-object.ensures.attributes c.put_parts.ensures.settled c.put_parts.ensures.kept c.put_parts.ensures.size
+    (sym (ap (λ (xs : List ℕ). length xs) c.map_bytes.ensures.bytes) ∙ c.map_bytes.ensures.length) here others no_hole in
+    let spelled = map_bytes count old disk s top settled before c.in_ok-settled.settled first o bytes memory.volume.inodes memory.once memory.exact way.settled c.requires.disk now
+    c.in_ok-object.ensures.size (c.in_ok-object.ensures.ends s disk sound) c.in_ok-object.ensures.settled c.in_ok-object.ensures.attributes c.put_parts.ensures.settled c.put_parts.ensures.kept c.put_parts.ensures.size
+    (sym (ap (λ (xs : List ℕ). length xs) c.map_bytes.ensures.bytes) ∙ c.map_bytes.ensures.length) here others in
+    let kind = map_kind count old disk s top settled before c.in_ok-settled.settled first o bytes memory.volume.inodes memory.once memory.exact way.settled c.requires.disk now
+    c.in_ok-object.ensures.size (c.in_ok-object.ensures.ends s disk sound) c.in_ok-object.ensures.settled c.in_ok-object.ensures.attributes c.put_parts.ensures.settled c.put_parts.ensures.kept c.put_parts.ensures.size
+    (sym (ap (λ (xs : List ℕ). length xs) c.map_bytes.ensures.bytes) ∙ c.map_bytes.ensures.length) here others in
+    let said = c.inodes_are_put_one_by_one.ensures in
+    let shown_last = c.place_file.ensures.same disk shown in
+    map_planned (record { there = said.there; others = said.others; behind = said.behind }) old new disk before s (settled_tree disk settled) found c.args.file.now c.put_inode.new.file placed.inode bytes taken freed
+    way memory.once memory.exact fresh (omega (arith, c.requires.sizes.least_inodes)) (grows_twice old mid new c.place_file.ensures.grows goes) (λ b is. taken_later old mid new b goes (c.in_ok-placed.ensures.given b is))
+    (λ e has agrees. c.in_ok-placed.ensures.placed s disk (settled 1) shown change e (goes.has e has) agrees)
+    (λ e has agrees. kind_of e placed.inode _ _ (c.in_ok-placed.ensures.content s disk (settled 1) shown change e (goes.has e has) agrees) kind)
+    (marked_over taken freed old.map.parts.items mid.map.parts.items new.map.parts.items c.place_file.ensures.parts c.in_ok-mark_placed.ensures.marked)
+    (λ e has agrees. record {
+      bytes_are = ap (λ (x : Content). bytes_of x) (c.in_ok-placed.ensures.content s disk (settled 1) shown change e (goes.has e has) agrees) ∙ spelled;
+      no_hole = c.in_ok-placed.ensures.no_hole s disk (settled 1) shown change whole e (goes.has e has) agrees;
+    })
+    (c.in_ok-put_inode.ensures.put disk shown_last) (c.in_ok-put_inode.ensures.whole disk shown_last) c.in_ok-put_inode.ensures.long

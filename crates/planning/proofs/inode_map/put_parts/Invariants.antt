@@ -1,0 +1,16 @@
+use Rattle.std.proofs.Common.{◌≡◌, ℕ, ◌+◌, ◌*◌, ◌<◌, ◌≤◌, List, slice_index}
+use Rattle.buffers.specs.Reads.{HasOnlyRead}
+use Rattle.blocktree.specs.Trees.{KeepsSound, SameSettled}
+use Rattle.inode.specs.Files.{file_block}
+use Rattle.planning.proofs.inode_map.put_parts.Given as goal
+
+abbrev pub invariant-loop-i : goal.invariant-loop-i
+invariant-loop-i g l = record {
+  read : HasOnlyRead g.B.Blocks l.initial.blocks l.blocks;
+  size : l.file.size ≡ l.fn.file.size;
+  sound : KeepsSound l.fn.file.tree l.file.tree;
+  settled : SameSettled l.fn.file.tree l.file.tree;
+  kept : l.file.tree.kept ≡ l.fn.file.tree.kept;
+  here : (disk : ℕ → List ℕ) → g.B.Blocks.Shows l.initial.blocks disk → (i k : ℕ) → k < 4096 → i < l.i → slice_index (file_block disk l.file i) k ≡ slice_index l.bytes (4096 * i + k);
+  others : (disk : ℕ → List ℕ) (j : ℕ) → l.i ≤ j → file_block disk l.file j ≡ file_block disk l.fn.file j;
+}

@@ -1,0 +1,70 @@
+use Rattle.std.proofs.Common.{◌≡◌, ◌<◌, ◌≤◌, ◌/◌, ℕ, length, slice_index, refl, sym, subst, ◌∙◌, arith, rules}
+use Rattle.std.proofs.lemmas.List.{get_or_default}
+use Rattle.blocktree.specs.Trees.{IsSoundAt}
+use Rattle.inofile.specs.Inodes.{IsChanged}
+use Rattle.planning.specs.Steps.{IsOverTree}
+use Rattle.planning.proofs.LoopLaws.{all_planned, none_before, one_more}
+use Rattle.planning.proofs.NumberLaws.{grows_twice}
+use Rattle.planning.proofs.number.plan_numbers.Given.{Over}
+use Rattle.planning.proofs.number.plan_numbers.Goals as goal
+use Rattle.planning.proofs.number.plan_numbers.Goals.{After-index}
+
+pub loop-i-init : goal.loop-i-init
+loop-i-init g c = record {
+  read = search rules;
+  grows = search rules;
+  others = λ p is. is;
+  size = refl;
+  settled = record { pointers = refl; depth = refl; count = refl };
+  sound = λ blocks disk i is. is;
+  planned = λ disk settled v before shows over start. none_before c.args.draft.now disk settled before c.args.inodes.now c.args.file.now c.in_ok-numbers.numbers.items start;
+}
+
+is_number : (g : Over) (c : After-index g) → (3 ≤ c.index.result.now) × (c.index.result.now < c.args.inodes.now.geometry.inodes)
+is_number g c = c.in_ok-numbers.ensures.within c.index.result.now (c.loop-i.i, omega arith, sym c.index.ensures)
+
+pub plan_number-requires-clause-low : goal.plan_number-requires-clause-low
+plan_number-requires-clause-low g c = (is_number g (goal.at.plan_number-requires-clause-low g c).After-index).0
+
+pub plan_number-requires-clause-high : goal.plan_number-requires-clause-high
+plan_number-requires-clause-high g c = (is_number g (goal.at.plan_number-requires-clause-high g c).After-index).1
+
+pub loop-i-preserved : goal.loop-i-preserved
+loop-i-preserved g c =
+    let so_far = c.loop-i.invariant in
+    let xs = c.in_ok-numbers.numbers.items in
+    let within : c.loop-i.i < length xs = omega arith in
+    let is : c.index.result.now ≡ slice_index xs c.loop-i.i = c.index.ensures ∙ get_or_default xs c.loop-i.i c.index.result.now 0 within in
+    record {
+      read = search rules;
+      grows = grows_twice c.args.draft.now c.loop-i.draft c.plan_number.new.draft so_far.grows c.plan_number.ensures.grows;
+      others = λ p is. c.plan_number.ensures.others p (so_far.others p is);
+      size = c.plan_number.ensures.size ∙ so_far.size;
+      settled = search rules;
+      sound = λ blocks disk i is. c.plan_number.ensures.sound blocks disk i (so_far.sound blocks disk i is);
+      planned = λ disk settled v before shows over start.
+          let now = so_far.planned disk settled v before shows over start in
+          let over_now = subst (λ (n : ℕ). IsOverTree n disk settled c.args.inodes.now v before) (sym so_far.read.count) over in
+          one_more c.loop-i.draft c.plan_number.new.draft disk settled before c.args.inodes.now c.loop-i.file c.plan_number.new.file
+          xs c.loop-i.i c.index.result.now c.in_ok-numbers.ensures.sorted within is now
+          (c.in_ok-plan_number.ensures.planned disk settled v before (so_far.read.same disk shows) over_now);
+    }
+
+pub returns-in_err-plan_number-clause-grows : goal.returns-in_err-plan_number-clause-grows
+returns-in_err-plan_number-clause-grows g c = grows_twice c.args.draft.now c.loop-i.draft c.plan_number.new.draft c.loop-i.invariant.grows c.plan_number.ensures.grows
+
+pub returns-in_err-plan_number-clause-damaged : goal.returns-in_err-plan_number-clause-damaged
+returns-in_err-plan_number-clause-damaged g c = λ disk settled v before shows over start sound bad.
+    let so_far = c.loop-i.invariant in
+    let now = so_far.planned disk settled v before shows over start in
+    let at = c.index.result.now / 21 in
+    let over_now = subst (λ (n : ℕ). IsOverTree n disk settled c.args.inodes.now v before) (sym so_far.read.count) over in
+    let sound_now = so_far.sound (g.B.Blocks.count c.args.blocks.now) disk at (sound at) in
+    c.in_err-plan_number.ensures.damaged disk settled v before (so_far.read.same disk shows) over_now now.way
+    (subst (λ (n : ℕ). IsSoundAt n disk c.loop-i.file.tree at) (sym so_far.read.count) sound_now)
+    (search rules)
+
+pub returns-clause-planned : goal.returns-clause-planned
+returns-clause-planned g c = λ disk settled v before shows over start.
+    all_planned c.loop-i.draft disk settled before c.args.inodes.now c.loop-i.file c.in_ok-numbers.numbers.items c.loop-i.i (IsChanged c.args.inodes.now) (omega arith)
+    c.in_ok-numbers.ensures.members (c.loop-i.invariant.planned disk settled v before shows over start)

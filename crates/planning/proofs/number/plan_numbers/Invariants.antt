@@ -1,0 +1,23 @@
+use Rattle.std.proofs.Common.{◌≡◌, ℕ, List}
+use Rattle.layout.specs.declared.inode.Inode.{Inode}
+use Rattle.model.specs.Volumes.{Volume}
+use Rattle.buffers.specs.Reads.{HasOnlyRead}
+use Rattle.blocktree.specs.Trees.{KeepsSound, SameSettled}
+use Rattle.conspoint.specs.Drafts.{Grows, IsReserved}
+use Rattle.conspoint.specs.Marks.{IsAmong}
+use Rattle.planning.specs.Steps.{ArePlanned, IsOverTree}
+use Rattle.planning.proofs.number.plan_numbers.Given as goal
+
+abbrev pub invariant-loop-i : goal.invariant-loop-i
+invariant-loop-i g l = record {
+  read : HasOnlyRead g.B.Blocks l.initial.blocks l.blocks;
+  grows : Grows l.fn.draft l.draft;
+  others : (p : ℕ) → IsReserved l.fn.draft p → IsReserved l.draft p;
+  size : l.file.size ≡ l.fn.file.size;
+  settled : SameSettled l.fn.file.tree l.file.tree;
+  sound : KeepsSound l.fn.file.tree l.file.tree;
+  planned : (disk : ℕ → List ℕ) (settled : ℕ → Inode) (v : Volume) (before : ℕ → ℕ) → g.B.Blocks.Shows l.initial.blocks disk
+      → IsOverTree (g.B.Blocks.count l.initial.blocks) disk settled l.inodes v before
+      → ArePlanned (λ n. ⊥) l.fn.draft disk settled before l.inodes l.fn.file
+      → ArePlanned (IsAmong l.numbers.items l.i) l.draft disk settled before l.inodes l.file;
+}

@@ -1,0 +1,47 @@
+use Rattle.std.proofs.Common.{◌≡◌, ℕ, ap, sym, subst, ◌∙◌, rules}
+use Rattle.layout.specs.Places.{blocks_of}
+use Rattle.blockmap.specs.Maps.{entry_at, settled_at}
+use Rattle.blockmap.specs.declared.map.BlockMap.{BlockMap}
+use Rattle.conspoint.specs.Drafts.{HasAll}
+use Rattle.conspoint.specs.Plans.{Planned}
+use Rattle.conspoint.specs.Writes.{writes_of}
+use Rattle.images.specs.Cuts.{IsPoint}
+use Rattle.planning.specs.Plans.{inodes_under}
+use Rattle.planning.proofs.PlanLaws.{HoldsMemory, entries_are, point_is, start_is}
+use Rattle.planning.proofs.points.plan.Goals as goal
+
+pub returns-in-Ok-clause-point : goal.returns-in-Ok-clause-point
+returns-in-Ok-clause-point g c = λ d first v snapshots shows plannable.
+    let r = c.args.root.now in
+    let m = c.args.map in
+    let draft = c.plan_root.new.draft in
+    let start = start_is d r c.args.slot c.args.generation (g.B.Blocks.count c.args.blocks.now) m c.new-draft.result c.args.inodes.now first v snapshots plannable c.requires.sizes c.requires.disk c.new-draft.ensures.map c.requires.clean in
+    let planned = c.in-Ok.ensures.planned (blocks_of d) (inodes_under (blocks_of d) r) v (settled_at m.parts.items) shows start in
+    let settled : (b : ℕ) → settled_at draft.map.parts.items b ≡ settled_at m.parts.items b =
+    λ b. c.plan_root.ensures.grows.settled.settled b ∙ ap (λ (x : BlockMap). settled_at x.parts.items b) c.new-draft.ensures.map in
+    let memory : HoldsMemory = record { holds = c.memory_holds_its_volume.ensures.holds; unchanged = c.memory_holds_its_volume.ensures.unchanged } in
+    subst (λ (x : Planned). IsPoint r d (writes_of x.blocks) c.args.slot c.in-Ok.root v) (sym c.into_plan-map.ensures.plan)
+    (point_is c.inodes_are_what_their_bytes_spell.ensures.spelled c.inodes_are_what_their_bytes_spell.ensures.past c.disks_that_agree_hold_the_same.ensures.file memory d r c.in-Ok.root c.args.slot c.args.generation m
+    c.args.inodes.now first v snapshots draft plannable c.requires.root c.in-Ok.ensures.root c.in-Ok.ensures.geometry c.in-Ok.ensures.snapshots c.in-Ok.ensures.generation c.requires.sizes planned settled)
+
+pub returns-in-Ok-clause-entries : goal.returns-in-Ok-clause-entries
+returns-in-Ok-clause-entries g c = λ d first v snapshots shows plannable e has agrees b.
+    let r = c.args.root.now in
+    let m = c.args.map in
+    let draft = c.plan_root.new.draft in
+    let start = start_is d r c.args.slot c.args.generation (g.B.Blocks.count c.args.blocks.now) m c.new-draft.result c.args.inodes.now first v snapshots plannable c.requires.sizes c.requires.disk c.new-draft.ensures.map c.requires.clean in
+    let planned = c.in-Ok.ensures.planned (blocks_of d) (inodes_under (blocks_of d) r) v (settled_at m.parts.items) shows start in
+    let settled : (b : ℕ) → settled_at draft.map.parts.items b ≡ settled_at m.parts.items b =
+    λ b. c.plan_root.ensures.grows.settled.settled b ∙ ap (λ (x : BlockMap). settled_at x.parts.items b) c.new-draft.ensures.map in
+    let memory : HoldsMemory = record { holds = c.memory_holds_its_volume.ensures.holds; unchanged = c.memory_holds_its_volume.ensures.unchanged } in
+    entries_are c.inodes_are_what_their_bytes_spell.ensures.spelled c.inodes_are_what_their_bytes_spell.ensures.past c.disks_that_agree_hold_the_same.ensures.file memory d r c.in-Ok.root c.args.slot c.args.generation m
+    c.args.inodes.now first v snapshots draft plannable c.requires.root c.in-Ok.ensures.root c.in-Ok.ensures.geometry c.in-Ok.ensures.snapshots c.in-Ok.ensures.generation c.requires.sizes planned settled
+    e (subst (λ (x : Planned). HasAll e x.blocks) c.into_plan-map.ensures.plan has) agrees b ∙ ap (λ (x : BlockMap). entry_at x.parts.items b) (sym c.into_plan-map.ensures.map)
+
+pub returns-in-Err-clause-damaged : goal.returns-in-Err-clause-damaged
+returns-in-Err-clause-damaged g c = λ d first v snapshots shows plannable bad.
+    let r = c.args.root.now in
+    let m = c.args.map in
+    let draft = c.plan_root.new.draft in
+    let start = start_is d r c.args.slot c.args.generation (g.B.Blocks.count c.args.blocks.now) m c.new-draft.result c.args.inodes.now first v snapshots plannable c.requires.sizes c.requires.disk c.new-draft.ensures.map c.requires.clean in
+    c.in-Err.ensures.damaged (blocks_of d) (inodes_under (blocks_of d) r) v (settled_at m.parts.items) shows start (search rules)

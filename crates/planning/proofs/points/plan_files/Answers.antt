@@ -1,0 +1,131 @@
+use Rattle.std.proofs.Common.{◌≡◌, ℕ, ◌*◌, ◌/◌, ◌%◌, refl, ap, sym, subst, ◌∙◌, rules, arith}
+use Rattle.std.specs.Int.{div_ceil}
+use Rattle.layout.specs.Inode.{inode_bytes}
+use Rattle.layout.specs.Limits.{AreSizes}
+use Rattle.layout.specs.declared.inode.Inode.{Inode}
+use Rattle.layout.specs.declared.kind.Kind.TheVariants as kinds
+use Rattle.blocktree.specs.Trees.{IsSoundAt}
+use Rattle.images.specs.InodeFiles.{put_at}
+use Rattle.images.specs.Nodes.{held}
+use Rattle.images.specs.Nodes as nodes
+use Rattle.images.specs.Soundness.{IsSoundFile}
+use Rattle.inode.specs.Files.{file_block}
+use Rattle.inode.specs.declared.object.Attributes.{Attributes}
+use Rattle.inofile.specs.Inodes.{files_of}
+use Rattle.planning.specs.Numbers.{trimmed}
+use Rattle.planning.specs.Progress.{with_file}
+use Rattle.planning.specs.Steps.{IsOverTree, settled_tree}
+use Rattle.planning.proofs.NumberLaws.{grows_twice}
+use Rattle.planning.proofs.OwnLaws.{own_change}
+use Rattle.planning.proofs.StartLaws.{not_own, spelled_ends, started, top_size}
+use Rattle.planning.proofs.WholeLaws.{all_planned}
+use Rattle.planning.proofs.points.plan_files.Goals as goal
+
+pub returns-in_err-plan_changes-clause-damaged : goal.returns-in_err-plan_changes-clause-damaged
+returns-in_err-plan_changes-clause-damaged g c = λ disk settled v before shows start bad.
+    let s = c.args.inodes.now.geometry in
+    let old = c.args.draft.now in
+    let root = c.args.root.now in
+    let first_file = c.in_ok-top.top.file in
+    let are = start.memory.volume.inodes in
+    let sound : IsSoundFile s (held disk root.inode_file) = subst (λ (x : Inode). IsSoundFile s (held disk x)) start.top (are.sound 0) in
+    let begin = started old disk settled before c.args.inodes.now first_file start.clean start.same start.sound
+    (λ i. c.in_ok-top.ensures.held s disk sound i ∙ ap (λ (x : Inode). nodes.file_block (held disk x) i) (sym start.top)) in
+    c.in_err-plan_changes.ensures.damaged disk settled v before shows start.memory begin
+    (λ i. subst (λ n. IsSoundAt n disk first_file.tree i) are.count (c.based_trees_are_sound.ensures.at s disk root.inode_file first_file.tree i sound c.in_ok-top.ensures.base)) (search rules)
+
+pub returns-in_err-placed-clause-grows : goal.returns-in_err-placed-clause-grows
+returns-in_err-placed-clause-grows g c = grows_twice c.args.draft.now c.plan_changes.new.draft c.place_top.new.draft c.plan_changes.ensures.grows c.place_top.ensures.grows
+
+pub returns-in_err-placed-clause-damaged : goal.returns-in_err-placed-clause-damaged
+returns-in_err-placed-clause-damaged g c = λ disk settled v before shows start bad.
+    let s = c.args.inodes.now.geometry in
+    let old = c.args.draft.now in
+    let root = c.args.root.now in
+    let first_file = c.in_ok-top.top.file in
+    let are = start.memory.volume.inodes in
+    let sound : IsSoundFile s (held disk root.inode_file) = subst (λ (x : Inode). IsSoundFile s (held disk x)) start.top (are.sound 0) in
+    let begin = started old disk settled before c.args.inodes.now first_file start.clean start.same start.sound
+    (λ i. c.in_ok-top.ensures.held s disk sound i ∙ ap (λ (x : Inode). nodes.file_block (held disk x) i) (sym start.top)) in
+    let o = record c.in_ok-top.top { file = c.plan_changes.new.file } in
+    let numbers = c.in_ok-plan_changes.ensures.planned disk settled v before shows start.memory start.sound.inode_map begin in
+    let p = numbers.map.way.plan in
+    let same_now = λ (b : ℕ). c.plan_changes.ensures.grows.settled.settled b ∙ start.same b in
+    let size : o.file.size ≡ root.inode_file.size = c.plan_changes.ensures.size ∙ c.in_ok-top.ensures.size in
+    let large : o.file.size ≡ 4096 * div_ceil s.inodes 21 = size ∙ top_size s root c.requires.root c.requires.sizes in
+    let change = own_change (g.B.Blocks.count c.args.blocks.now) c.plan_changes.new.draft disk s c.args.inodes.now.file settled before 0 root.inode_file first_file.tree o are start.memory.once start.memory.exact same_now
+    (c.requires.disk ∙ sym c.plan_changes.ensures.grows.count) (sym start.top) c.in_ok-top.ensures.settled c.plan_changes.ensures.settled c.in_ok-top.ensures.attributes size
+    (spelled_ends s.inodes o.file.size (file_block disk o.file) p.inode numbers.map.way.spelled large) in
+    let shown = c.plan_changes.ensures.reads.same disk shows in
+    c.in_err-placed.ensures.damaged s disk (settled 0) shown change (search rules)
+
+pub returns-in_err-plan_last-clause-grows : goal.returns-in_err-plan_last-clause-grows
+returns-in_err-plan_last-clause-grows g c =
+    grows_twice c.args.draft.now c.plan_changes.new.draft c.plan_last.new.draft c.plan_changes.ensures.grows
+    (grows_twice c.plan_changes.new.draft c.place_top.new.draft c.plan_last.new.draft c.place_top.ensures.grows c.plan_last.ensures.grows)
+
+pub returns-in_err-plan_last-clause-reads : goal.returns-in_err-plan_last-clause-reads
+returns-in_err-plan_last-clause-reads g c = record {
+  count = c.plan_last.ensures.reads.count ∙ c.place_top.ensures.reads.count ∙ c.plan_changes.ensures.reads.count;
+  counted = search rules;
+  device = search rules;
+  reads = λ start is. c.plan_last.ensures.reads.reads start (c.place_top.ensures.reads.reads start (c.plan_changes.ensures.reads.reads start is));
+  same = λ disk shows. c.plan_last.ensures.reads.same disk (c.place_top.ensures.reads.same disk (c.plan_changes.ensures.reads.same disk shows));
+}
+
+pub returns-in_err-plan_last-clause-damaged : goal.returns-in_err-plan_last-clause-damaged
+returns-in_err-plan_last-clause-damaged g c = λ disk settled v before shows start bad.
+    let s = c.args.inodes.now.geometry in
+    let old = c.args.draft.now in
+    let root = c.args.root.now in
+    let first_file = c.in_ok-top.top.file in
+    let are = start.memory.volume.inodes in
+    let sound : IsSoundFile s (held disk root.inode_file) = subst (λ (x : Inode). IsSoundFile s (held disk x)) start.top (are.sound 0) in
+    let begin = started old disk settled before c.args.inodes.now first_file start.clean start.same start.sound
+    (λ i. c.in_ok-top.ensures.held s disk sound i ∙ ap (λ (x : Inode). nodes.file_block (held disk x) i) (sym start.top)) in
+    let shown = c.plan_changes.ensures.reads.same disk shows in
+    let count : g.B.Blocks.count c.args.blocks.now ≡ g.B.Blocks.count c.place_top.new.blocks = sym c.plan_changes.ensures.reads.count ∙ sym c.place_top.ensures.reads.count in
+    c.in_err-plan_last.ensures.damaged disk settled v before (c.place_top.ensures.reads.same disk shown) (subst (λ n. IsOverTree n disk settled c.args.inodes.now v before) count start.memory)
+    (subst (λ n. IsSoundAt n disk c.plan_changes.new.file.tree 0) count (c.plan_changes.ensures.sound (g.B.Blocks.count c.args.blocks.now) disk 0
+    (subst (λ n. IsSoundAt n disk first_file.tree 0) are.count (c.based_trees_are_sound.ensures.at s disk root.inode_file first_file.tree 0 sound c.in_ok-top.ensures.base))))
+    (search rules)
+
+pub returns-clause-grows : goal.returns-clause-grows
+returns-clause-grows g c =
+    grows_twice c.args.draft.now c.plan_changes.new.draft c.plan_last.new.draft c.plan_changes.ensures.grows
+    (grows_twice c.plan_changes.new.draft c.place_top.new.draft c.plan_last.new.draft c.place_top.ensures.grows c.plan_last.ensures.grows)
+
+pub returns-clause-planned : goal.returns-clause-planned
+returns-clause-planned g c = λ disk settled v before shows start.
+    let s = c.args.inodes.now.geometry in
+    let old = c.args.draft.now in
+    let root = c.args.root.now in
+    let first_file = c.in_ok-top.top.file in
+    let are = start.memory.volume.inodes in
+    let sound : IsSoundFile s (held disk root.inode_file) = subst (λ (x : Inode). IsSoundFile s (held disk x)) start.top (are.sound 0) in
+    let begin = started old disk settled before c.args.inodes.now first_file start.clean start.same start.sound
+    (λ i. c.in_ok-top.ensures.held s disk sound i ∙ ap (λ (x : Inode). nodes.file_block (held disk x) i) (sym start.top)) in
+    let o = record c.in_ok-top.top { file = c.plan_changes.new.file } in
+    let numbers = c.in_ok-plan_changes.ensures.planned disk settled v before shows start.memory start.sound.inode_map begin in
+    let p = numbers.map.way.plan in
+    let same_now = λ (b : ℕ). c.plan_changes.ensures.grows.settled.settled b ∙ start.same b in
+    let size : o.file.size ≡ root.inode_file.size = c.plan_changes.ensures.size ∙ c.in_ok-top.ensures.size in
+    let large : o.file.size ≡ 4096 * div_ceil s.inodes 21 = size ∙ top_size s root c.requires.root c.requires.sizes in
+    let change = own_change (g.B.Blocks.count c.args.blocks.now) c.plan_changes.new.draft disk s c.args.inodes.now.file settled before 0 root.inode_file first_file.tree o are start.memory.once start.memory.exact same_now
+    (c.requires.disk ∙ sym c.plan_changes.ensures.grows.count) (sym start.top) c.in_ok-top.ensures.settled c.plan_changes.ensures.settled c.in_ok-top.ensures.attributes size
+    (spelled_ends s.inodes o.file.size (file_block disk o.file) p.inode numbers.map.way.spelled large) in
+    let shown = c.plan_changes.ensures.reads.same disk shows in
+    let count : g.B.Blocks.count c.args.blocks.now ≡ g.B.Blocks.count c.place_top.new.blocks = sym c.plan_changes.ensures.reads.count ∙ sym c.place_top.ensures.reads.count in
+    let kind : o.attributes.kind ≡ kinds.InodeFile = ap (λ (a : Attributes). a.kind) c.in_ok-top.ensures.attributes ∙ c.requires.root.kind in
+    let fresh = numbers.map.others 0 (λ is. absurd (omega arith)) ∙ not_own c.args.inodes.now numbers.changed numbers.just c.args.inodes.now.changes 0 (omega arith) in
+    let fresh_map = numbers.map.others 2 (λ is. absurd (omega arith)) ∙ not_own c.args.inodes.now numbers.changed numbers.just c.args.inodes.now.changes 2 (omega arith) in
+    let f = c.in_ok-placed.placed.0 in
+    let first = c.in_ok-placed.placed.1 in
+    let top = c.in_ok-placed.ensures.planned s disk settled before p shown change kind start.memory.once start.memory.exact same_now numbers.map.way.progress fresh in
+    let last = c.in_ok-plan_last.ensures.planned disk settled v before (with_file 0 f top.taken p) (c.place_top.ensures.reads.same disk shown)
+    (subst (λ n. IsOverTree n disk settled c.args.inodes.now v before) count start.memory) start.sound (λ b. c.place_top.ensures.grows.settled.settled b ∙ same_now b) start.entries top.progress fresh_map in
+    let said = c.inodes_are_put_one_by_one.ensures in
+    let least : AreSizes s = subst AreSizes (sym c.requires.sizes) c.requires.root.head.sizes in
+    all_planned (record { there = said.there; others = said.others; behind = said.behind }) c.plan_changes.new.draft c.place_top.new.draft c.plan_last.new.draft disk before s (settled_tree disk settled)
+    (λ n. trimmed (files_of disk settled c.args.inodes.now n)) c.args.inodes.now o f last.map first (put_at (192 * (2 % 21)) (inode_bytes last.map) (file_block disk o.file (2 / 21))) numbers.changed numbers.just
+    (λ n is. (c.args.inodes.now.changes n is).1) (omega (arith, least.least_inodes)) numbers.map top last.planned large c.place_top.ensures.grows c.plan_last.ensures.grows last.put refl last.whole last.long

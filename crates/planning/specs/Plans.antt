@@ -1,0 +1,138 @@
+-- What a whole plan starts from, and what its parts come to.
+use Rattle.std.specs.Prelude.{ℕ, ◌≡◌, ◌≢◌, ◌↔◌, ◌*◌, ◌/◌, ◌%◌, ◌<◌, ◌≤◌, Bool, true, false, List, length}
+use Rattle.layout.specs.Inode.{inode_bytes}
+use Rattle.layout.specs.Limits.{Sizes}
+use Rattle.layout.specs.Maps.{map_entry}
+use Rattle.layout.specs.Places.{Blocks, blocks_of}
+use Rattle.layout.specs.declared.TheConstants.{BLOCK_BYTES, INODE_BYTES, INODES_PER_BLOCK}
+use Rattle.layout.specs.declared.inode.Inode.{Inode}
+use Rattle.layout.specs.declared.root.Root.{Root}
+use Rattle.model.specs.Paths.{Name}
+use Rattle.model.specs.Trees.{Tree}
+use Rattle.model.specs.Volumes.{IsVolume, Volume}
+use Rattle.blockmap.specs.Maps.{entry_at, settled_at}
+use Rattle.blockmap.specs.declared.map.BlockMap.{BlockMap}
+use Rattle.conspoint.specs.Drafts.{HasAll, OnEach}
+use Rattle.conspoint.specs.Plans as plans
+use Rattle.conspoint.specs.declared.draft.Draft.{Draft}
+use Rattle.images.specs.BlockMap.{entry}
+use Rattle.images.specs.Contents.{Content, bytes_of, content_of}
+use Rattle.images.specs.Cuts.{IsOtherSlot}
+use Rattle.images.specs.InodeFiles.{put_at}
+use Rattle.images.specs.Nodes.{Agrees, Held, file_block, held}
+use Rattle.images.specs.Roots.{HeldTree, Needs, Reach, whole}
+use Rattle.images.specs.Soundness.{HasNoHole, IsSoundTree}
+use Rattle.images.specs.States.{Holds}
+use Rattle.inode.specs.Files.{file_block as changed_block}
+use Rattle.inode.specs.declared.file.File.{File}
+use Rattle.inode.specs.declared.object.Object.{Object}
+use Rattle.inofile.specs.Inodes.{IsChanged, files_of}
+use Rattle.inofile.specs.Volumes.{IsVolumeOf}
+use Rattle.inofile.specs.declared.inode_file.InodeFile.{InodeFile}
+use Rattle.placement.specs.Files.{object_block, with_first}
+use Rattle.planning.specs.Inodes.{AreSpelled}
+use Rattle.planning.specs.Numbers.{trimmed}
+use Rattle.planning.specs.Progress.{IsProgress, Planned, with_file}
+use Rattle.planning.specs.Steps.{IsOverTree, IsUnderWay, settled_tree}
+
+-- no entry of the map is changed since the root
+abbrev pub IsClean : BlockMap → Type 0
+IsClean m = (b : ℕ) → entry_at m.parts.items b ≡ settled_at m.parts.items b
+
+-- the inodes that a disk has under a root
+abbrev pub inodes_under : Blocks → Root → ℕ → Inode
+inodes_under disk r n = ((whole disk r).active n).inode
+
+-- A point may be planned: the disk holds a volume under its root, the map has its entries, and memory stands for the volume that is
+-- to be settled.
+pub record IsPlannable (root : Root) (d : ℕ → List ℕ) (slot generation : ℕ) (m : BlockMap) (inodes : InodeFile) (first v : Volume) (snapshots : List (Name × Tree)) : Type 0 where
+  pub other : IsOtherSlot root d slot
+  pub later : root.generation < generation
+  pub holds : Holds root (whole (blocks_of d) root) first snapshots
+  pub entries : (b : ℕ) → settled_at m.parts.items b ≡ entry (whole (blocks_of d) root).active b
+  pub memory : IsVolumeOf root.geometry.blocks (blocks_of d) (inodes_under (blocks_of d) root) inodes v
+  pub volume : IsVolume root.geometry.inodes v
+
+-- On each disk that has the blocks of a plan, and those that the old root needs, the new root's map has these entries.
+abbrev pub PlansEntries : Blocks → Root → plans.Planned → Root → BlockMap → Type 0
+PlansEntries disk root p new map =
+    (e : Blocks) → HasAll e p.blocks → Agrees (Needs root (whole disk root)) disk e
+    → (b : ℕ) → entry (whole e new).active b ≡ entry_at map.parts.items b
+
+-- What planning starts from: a tree in its grammar under a root, whose map's entries these are, and none of them changed in the draft;
+-- and memory over it.
+pub record IsPlanStart (count : ℕ) (d : Draft) (disk : Blocks) (root : Root) (settled : ℕ → Inode) (inodes : InodeFile) (v : Volume) (before : ℕ → ℕ) : Type 0 where
+  pub memory : IsOverTree count disk settled inodes v before
+  pub sound : IsSoundTree inodes.geometry (settled_tree disk settled)
+  pub top : settled 0 ≡ root.inode_file
+  pub clean : IsClean d.map
+  pub same : (b : ℕ) → settled_at d.map.parts.items b ≡ before b
+  pub entries : (b : ℕ) → before b ≡ entry (settled_tree disk settled) b
+
+-- this holds of each disk that has the blocks planned so far, and those of the settled tree
+abbrev pub OnEachOver : HeldTree → Blocks → Draft → (Blocks → Type 0) → Type 0
+OnEachOver t disk d P = OnEach d (λ e. Agrees (Reach t) disk e → P e)
+
+-- what is planned so far holds on each of these
+abbrev pub Progresses : Draft → Blocks → (ℕ → ℕ) → Sizes → HeldTree → Planned → Type 0
+Progresses d disk before s t p =
+    OnEachOver t disk d (λ e. IsProgress s t e d.map.next before (entry_at d.map.parts.items) p)
+
+-- a file that is an inode map with these bytes
+pub record IsInodeMapOn (bytes : List ℕ) (h : Held) : Type 0 where
+  pub bytes_are : bytes_of (content_of h) ≡ bytes
+  pub no_hole : HasNoHole h
+
+-- The inode map is planned too, with these bytes; which other numbers are changed stays.
+pub record HasInodeMap (bytes : List ℕ) (changed : ℕ → Bool) (d : Draft) (disk : Blocks) (before : ℕ → ℕ) (s : Sizes) (t : HeldTree) (found : ℕ → Content) (file : File) : Type 0 where
+  pub way : IsUnderWay d disk before s t found file
+  pub others : (k : ℕ) → k ≢ 1 → way.plan.changed k ≡ changed k
+  pub map : OnEachOver t disk d (λ e. IsInodeMapOn bytes (held e (way.plan.inode 1)))
+
+-- The inode file is planned with this inode, but for the bytes of its first block: its blocks are those in memory, and first the one
+-- that is put there.
+pub record HasTop (p : Planned) (d : Draft) (disk : Blocks) (before : ℕ → ℕ) (s : Sizes) (t : HeldTree) (top : Object) (f : Inode) (first : ℕ) : Type 0 where
+  pub taken : ℕ → Bool
+  pub progress : Progresses d disk before s t (with_file 0 f taken p)
+  pub blocks : OnEachOver t disk d (λ e. (i : ℕ)
+      → file_block (held e f) i ≡ with_first (e first) (object_block disk top) i)
+
+-- on a disk, a file that is a block map with these entries
+pub record IsBlockMapOn (entry_of : ℕ → ℕ) (h : Held) : Type 0 where
+  pub entries : (b : ℕ) → map_entry (file_block h (b / 1024)) (b % 1024) ≡ entry_of b
+  pub no_hole : HasNoHole h
+
+-- The block map is planned with this inode.
+pub record HasBlockMap (p : Planned) (d : Draft) (disk : Blocks) (before : ℕ → ℕ) (s : Sizes) (t : HeldTree) (f : Inode) : Type 0 where
+  pub taken : ℕ → Bool
+  pub progress : Progresses d disk before s t (with_file 2 f taken p)
+  pub map : OnEachOver t disk d (λ e. IsBlockMapOn (entry_at d.map.parts.items) (held e f))
+
+-- The block map is planned, and the inode file's first block: that of memory with the map's inode in its place.
+pub record HasLast (p : Planned) (d : Draft) (disk : Blocks) (before : ℕ → ℕ) (s : Sizes) (t : HeldTree) (file : File) (first : ℕ) : Type 0 where
+  pub map : Inode
+  pub planned : HasBlockMap p d disk before s t map
+  pub put : OnEach d (λ e. e first ≡ put_at (INODE_BYTES * (2 % INODES_PER_BLOCK)) (inode_bytes map) (changed_block disk file (2 / INODES_PER_BLOCK)))
+  pub whole : length (changed_block disk file (2 / INODES_PER_BLOCK)) ≡ BLOCK_BYTES
+  pub long : length (inode_bytes map) ≡ INODE_BYTES
+
+-- Just the numbers that are changed in memory are planned, and the inode map.
+pub record HasNumbers (d : Draft) (disk : Blocks) (settled : ℕ → Inode) (before : ℕ → ℕ) (inodes : InodeFile) (file : File) : Type 0 where
+  pub changed : ℕ → Bool
+  pub just : (n : ℕ) → (changed n ≡ true) ↔ IsChanged inodes n
+  pub map : HasInodeMap inodes.numbers.bytes.items changed d disk before inodes.geometry (settled_tree disk settled)
+      (λ n. trimmed (files_of disk settled inodes n)) file
+
+-- All that changed in memory is planned, with this inode of the inode file.
+pub record IsAllPlanned (d : Draft) (disk : Blocks) (before : ℕ → ℕ) (s : Sizes) (t : HeldTree) (found : ℕ → Content) (inodes : InodeFile) (top : Inode) : Type 0 where
+  pub plan : Planned
+  pub top_is : plan.inode 0 ≡ top
+  pub first : plan.changed 0 ≡ true
+  pub progress : Progresses d disk before s t plan
+  pub past : (n : ℕ) → s.inodes ≤ n → plan.changed n ≡ false
+  pub changed : (n : ℕ) → 3 ≤ n → (plan.changed n ≡ true) ↔ IsChanged inodes n
+  pub contents : OnEachOver t disk d (λ e. (n : ℕ) → 3 ≤ n → plan.changed n ≡ true
+      → content_of (held e (plan.inode n)) ≡ found n)
+  pub spelled : OnEachOver t disk d (λ e. AreSpelled s.inodes (file_block (held e top)) plan.inode)
+  pub inode_map : OnEachOver t disk d (λ e. IsInodeMapOn inodes.numbers.bytes.items (held e (plan.inode 1)))
+  pub block_map : OnEachOver t disk d (λ e. IsBlockMapOn (entry_at d.map.parts.items) (held e (plan.inode 2)))

@@ -1,0 +1,133 @@
+//! The block map's file.
+
+ghost use Rattle.std.specs.Prelude.{ℕ, ◌≡◌, ◌<◌, ◌≤◌, List, All, IfOk, OnOk, IsErrOf, length, false};
+ghost use Rattle.std.specs.Int.{div_ceil};
+ghost use Rattle.layout.specs.Limits.{AreSizes, Sizes};
+ghost use Rattle.layout.specs.Pointer.{PointsBelow};
+ghost use Rattle.layout.specs.Version.{greatest_size};
+ghost use Rattle.layout.specs.declared.version.TheConstants.{VERSION};
+ghost use Rattle.layout.specs.declared.TheConstants.{BLOCK_POINTERS, BODY_POINTERS};
+ghost use Rattle.layout.specs.declared.inode.Inode.{Inode};
+ghost use Rattle.model.specs.Volumes.{Volume};
+ghost use Rattle.buffers.specs.Reads.{ReadsBlocks};
+ghost use Rattle.blocktree.specs.Trees.{IsSoundAt};
+ghost use Rattle.blockmap.specs.Maps.{settled_at};
+ghost use Rattle.conspoint.specs.Drafts.{Grows, IsReserved};
+ghost use Rattle.conspoint.specs.Errors.{IsReadFault};
+ghost use Rattle.conspoint.specs.Groups.{pointer_at};
+ghost use Rattle.conspoint.specs.MapFiles.{map_nodes};
+ghost use Rattle.images.specs.Nodes.{held};
+ghost use Rattle.images.specs.BlockMap.{entry};
+ghost use Rattle.images.specs.Soundness.{IsSoundFile, IsSoundTree};
+ghost use Rattle.planning.specs.Plans.{HasBlockMap, HasLast, Progresses};
+ghost use Rattle.planning.specs.Progress.{Planned};
+ghost use Rattle.planning.specs.Steps.{IsOverTree, settled_tree};
+
+use crate::inode_blocks::block_with;
+use buffers::Blocks;
+use conspoint::{Draft, PlanError, store_own_map};
+use inode::File;
+use inofile::InodeFile;
+use layout::{BlockNumber, Inode, Pointer};
+use placement::settled_nodes;
+use std::alloc::Global;
+
+/// The places of the settled block map's nodes: so many blocks, and behind them the indirect block over them, where there is one.
+fn map_nodes<B: Blocks>(
+    alloc: Global,
+    blocks: &mut B,
+    settled: Inode,
+    count: usize,
+) -> Result<Vec<Pointer>, PlanError>
+    requires { settled.size ≤ greatest_size VERSION }
+    ensures reads { ReadsBlocks B.Blocks IsReadFault blocks.old blocks.new result }
+    ensures count { IfOk result (λ nodes. length nodes.items ≡ map_nodes count) }
+    ensures within { IfOk result (λ nodes. All (PointsBelow (B.count blocks.old)) nodes.items) }
+    ensures lowest { (s : Sizes) (disk : ℕ → List ℕ) → B.Shows blocks.old disk
+        → IsSoundFile s (held disk settled) → IfOk result (λ nodes. (k : ℕ) → k < count
+        → pointer_at nodes.items k ≡ (held disk settled).place 0 k) }
+    ensures over { (s : Sizes) (disk : ℕ → List ℕ) → B.Shows blocks.old disk
+        → IsSoundFile s (held disk settled) → IfOk result (λ nodes. BODY_POINTERS < count
+        → pointer_at nodes.items count ≡ (held disk settled).place 1 0) }
+    ensures damaged { (s : Sizes) (disk : ℕ → List ℕ) → B.Shows blocks.old disk
+        → IsSoundFile s (held disk settled) → s.blocks ≡ B.count blocks.old
+        → IsErrOf result PlanError.Damaged → ⊥ }
+{
+    let file = File::load(alloc, settled)?;
+    let nodes = settled_nodes(alloc, blocks, file.tree())?;
+    let row = nodes.in_a_row(alloc, count)?;
+    Ok(row)
+}
+
+/// Plans the block map, once all other blocks are given out and marked. The answer is its inode.
+pub(crate) fn plan_block_map<B: Blocks>(
+    alloc: Global,
+    draft: &mut Draft,
+    blocks: &mut B,
+    inodes: &InodeFile,
+) -> Result<Inode, PlanError>
+    requires disk { B.count blocks.old ≡ draft.old.map.count }
+    requires parts { length draft.old.map.parts.items
+        ≡ div_ceil draft.old.map.count BLOCK_POINTERS }
+    requires sizes { AreSizes inodes.now.geometry }
+    ensures reads { ReadsBlocks B.Blocks IsReadFault blocks.old blocks.new result }
+    ensures grows { Grows draft.old draft.new }
+    ensures others { (p : ℕ) → IsReserved draft.old p → IsReserved draft.new p }
+    ensures planned { (disk : ℕ → List ℕ) (settled : ℕ → Inode) (v : Volume) (before : ℕ → ℕ)
+        (p : Planned) → B.Shows blocks.old disk
+        → IsOverTree (B.count blocks.old) disk settled inodes.now v before
+        → IsSoundTree inodes.now.geometry (settled_tree disk settled)
+        → ((b : ℕ) → settled_at draft.old.map.parts.items b ≡ before b)
+        → ((b : ℕ) → before b ≡ entry (settled_tree disk settled) b)
+        → Progresses draft.old disk before inodes.now.geometry (settled_tree disk settled) p
+        → p.changed 2 ≡ false
+        → IfOk result (λ f. HasBlockMap p draft.new disk before inodes.now.geometry
+        (settled_tree disk settled) f) }
+    ensures damaged { (disk : ℕ → List ℕ) (settled : ℕ → Inode) (v : Volume) (before : ℕ → ℕ)
+        → B.Shows blocks.old disk
+        → IsOverTree (B.count blocks.old) disk settled inodes.now v before
+        → IsErrOf result PlanError.Damaged → ⊥ }
+{
+    let settled = inodes.settled_inode(blocks, 2)?;
+    let nodes = map_nodes(alloc, blocks, settled, draft.map_blocks())?;
+    let map = store_own_map(alloc, draft, &nodes)?;
+    Ok(map)
+}
+
+/// Plans the block map, and the inode file's first block with the inode of it at the place that is reserved for it.
+pub(crate) fn plan_last<B: Blocks>(
+    alloc: Global,
+    draft: &mut Draft,
+    blocks: &mut B,
+    inodes: &InodeFile,
+    file: &File,
+    first: BlockNumber,
+) -> Result<(), PlanError>
+    requires disk { B.count blocks.old ≡ draft.old.map.count }
+    requires parts { length draft.old.map.parts.items
+        ≡ div_ceil draft.old.map.count BLOCK_POINTERS }
+    requires sizes { AreSizes inodes.now.geometry }
+    requires reserved { IsReserved draft.old first }
+    ensures reads { ReadsBlocks B.Blocks IsReadFault blocks.old blocks.new result }
+    ensures grows { Grows draft.old draft.new }
+    ensures planned { (disk : ℕ → List ℕ) (settled : ℕ → Inode) (v : Volume) (before : ℕ → ℕ)
+        (p : Planned) → B.Shows blocks.old disk
+        → IsOverTree (B.count blocks.old) disk settled inodes.now v before
+        → IsSoundTree inodes.now.geometry (settled_tree disk settled)
+        → ((b : ℕ) → settled_at draft.old.map.parts.items b ≡ before b)
+        → ((b : ℕ) → before b ≡ entry (settled_tree disk settled) b)
+        → Progresses draft.old disk before inodes.now.geometry (settled_tree disk settled) p
+        → p.changed 2 ≡ false
+        → OnOk result (HasLast p draft.new disk before inodes.now.geometry
+        (settled_tree disk settled) file.now first) }
+    ensures damaged { (disk : ℕ → List ℕ) (settled : ℕ → Inode) (v : Volume) (before : ℕ → ℕ)
+        → B.Shows blocks.old disk
+        → IsOverTree (B.count blocks.old) disk settled inodes.now v before
+        → IsSoundAt (B.count blocks.old) disk file.now.tree 0
+        → IsErrOf result PlanError.Damaged → ⊥ }
+{
+    let map = plan_block_map(alloc, draft, blocks, inodes)?;
+    let block = block_with(alloc, blocks, file, 2, &map)?;
+    draft.put(first, block)?;
+    Ok(())
+}

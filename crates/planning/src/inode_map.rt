@@ -1,0 +1,174 @@
+//! The inode map's file.
+
+ghost use Rattle.std.specs.Prelude.{ℕ, ◌≡◌, ◌≢◌, ◌+◌, ◌*◌, ◌<◌, ◌≤◌, List, IsTrue, IfOk, OnOk, IsErrOf, false, length, slice_index};
+ghost use Rattle.std.specs.Int.{div_ceil};
+ghost use Rattle.layout.specs.Limits.{AreSizes};
+ghost use Rattle.layout.specs.Version.{greatest_size};
+ghost use Rattle.layout.specs.declared.inode.Inode.{Inode};
+ghost use Rattle.layout.specs.declared.version.TheConstants.{VERSION};
+ghost use Rattle.model.specs.Volumes.{Volume};
+ghost use Rattle.buffers.specs.Positions.{IsPart};
+ghost use Rattle.buffers.specs.Reads.{ReadsBlocks};
+ghost use Rattle.blocktree.specs.Errors.{IsFault};
+ghost use Rattle.blocktree.specs.Trees.{IsSoundAt, KeepsSound, SameSettled};
+ghost use Rattle.blocktree.specs.declared.error.ReadError.TheVariants as read;
+ghost use Rattle.blockmap.specs.Maps.{settled_at};
+ghost use Rattle.conspoint.specs.Drafts.{Grows, IsReserved};
+ghost use Rattle.conspoint.specs.Errors.{IsReadFault};
+ghost use Rattle.images.specs.Contents.{Content};
+ghost use Rattle.images.specs.Nodes.{held};
+ghost use Rattle.images.specs.Soundness.{HasNoHole};
+ghost use Rattle.inode.specs.Files.{byte_at, file_block};
+ghost use Rattle.planning.specs.Plans.{HasInodeMap};
+ghost use Rattle.planning.specs.Steps.{IsOverTree, IsUnderWay, settled_tree};
+
+use crate::inode_blocks::put_inode;
+use crate::number::mark_placed;
+use blocktree::ReadError;
+use buffers::{Block, Blocks};
+use conspoint::{Draft, PlanError};
+use images::{disks_that_agree_hold_the_same, inodes_are_put_one_by_one};
+use inode::{File, Object, based_trees_are_sound};
+use inofile::InodeFile;
+use layout::BLOCK_BYTES;
+use placement::place_file;
+use std::alloc::{AllocError, Global};
+
+/// Whether a file begins with these bytes.
+fn has_bytes<B: Blocks>(
+    alloc: Global,
+    blocks: &mut B,
+    file: &File,
+    bytes: &[u8],
+) -> Result<bool, ReadError>
+    requires { length bytes.now ≤ greatest_size VERSION }
+    ensures reads { ReadsBlocks B.Blocks IsFault blocks.old blocks.new result }
+    ensures same { (disk : ℕ → List ℕ) → B.Shows blocks.old disk → IfOk result
+        (λ has. IsTrue has → IsPart (byte_at disk file.now) 0 bytes.now) }
+    ensures damaged { (disk : ℕ → List ℕ) → B.Shows blocks.old disk
+        → IsErrOf result read.Damaged
+        → ((i : ℕ) → IsSoundAt (B.count blocks.old) disk file.now.tree i) → ⊥ }
+{
+    let mut found = vec![in alloc; 0u8; bytes.len()]?;
+    file.read_at(blocks, 0, &mut found)?;
+    Ok(found.as_slice() == bytes)
+}
+
+/// Block `i` of a file with these bytes, and zeros behind them.
+fn part_of(alloc: Global, bytes: &[u8], i: u32) -> Result<Block, AllocError>
+    ensures { IfOk result (λ b. (k : ℕ) → k < 4096
+        → slice_index b k ≡ slice_index bytes.now (4096 * i + k)) }
+{
+    let mut block = Block::zeroed(alloc)?;
+    let start = (BLOCK_BYTES * i as usize).min(bytes.len());
+    let end = (start + BLOCK_BYTES).min(bytes.len());
+    block.put(0, &bytes[start..end]);
+    Ok(block)
+}
+
+/// Changes block `i` of a file to what these bytes have there, where it differs.
+fn put_part<B: Blocks>(
+    alloc: Global,
+    blocks: &mut B,
+    file: &mut File,
+    bytes: &[u8],
+    i: u32,
+) -> Result<(), ReadError>
+    ensures reads { ReadsBlocks B.Blocks IsFault blocks.old blocks.new result }
+    ensures size { file.new.size ≡ file.old.size }
+    ensures sound { KeepsSound file.old.tree file.new.tree }
+    ensures settled { SameSettled file.old.tree file.new.tree }
+    ensures kept { file.new.tree.kept ≡ file.old.tree.kept }
+    ensures here { (disk : ℕ → List ℕ) → B.Shows blocks.old disk → OnOk result ((k : ℕ) → k < 4096
+        → slice_index (file_block disk file.new i) k ≡ slice_index bytes.now (4096 * i + k)) }
+    ensures others { OnOk result ((disk : ℕ → List ℕ) (j : ℕ) → j ≢ i
+        → file_block disk file.new j ≡ file_block disk file.old j) }
+    ensures damaged { (disk : ℕ → List ℕ) → B.Shows blocks.old disk
+        → IsErrOf result read.Damaged → IsSoundAt (B.count blocks.old) disk file.old.tree i → ⊥ }
+{
+    let part = part_of(alloc, bytes, i)?;
+    let before = file.copy(alloc, blocks, i)?;
+    if before.bytes() == part.bytes() {
+        return Ok(());
+    }
+    file.make_room(i)?;
+    file.set_block(i, part);
+    Ok(())
+}
+
+/// Changes the first blocks of a file to these bytes, with zeros behind them, where they differ.
+fn put_parts<B: Blocks>(
+    alloc: Global,
+    blocks: &mut B,
+    file: &mut File,
+    bytes: &[u8],
+) -> Result<(), ReadError>
+    requires { length bytes.now ≤ greatest_size VERSION }
+    ensures reads { ReadsBlocks B.Blocks IsFault blocks.old blocks.new result }
+    ensures size { file.new.size ≡ file.old.size }
+    ensures sound { KeepsSound file.old.tree file.new.tree }
+    ensures settled { SameSettled file.old.tree file.new.tree }
+    ensures kept { file.new.tree.kept ≡ file.old.tree.kept }
+    ensures here { (disk : ℕ → List ℕ) → B.Shows blocks.old disk
+        → OnOk result ((i k : ℕ) → k < 4096 → i < div_ceil (length bytes.now) 4096
+        → slice_index (file_block disk file.new i) k ≡ slice_index bytes.now (4096 * i + k)) }
+    ensures others { OnOk result ((disk : ℕ → List ℕ) (j : ℕ)
+        → div_ceil (length bytes.now) 4096 ≤ j
+        → file_block disk file.new j ≡ file_block disk file.old j) }
+    ensures damaged { (disk : ℕ → List ℕ) → B.Shows blocks.old disk
+        → IsErrOf result read.Damaged
+        → ((i : ℕ) → IsSoundAt (B.count blocks.old) disk file.old.tree i) → ⊥ }
+{
+    for i in 0..bytes.len().div_ceil(BLOCK_BYTES) as u32 {
+        put_part(alloc, blocks, file, bytes, i)?;
+    }
+    Ok(())
+}
+
+/// Plans the inode map, where its file isn't as memory has it.
+pub(crate) fn plan_inode_map<B: Blocks>(
+    alloc: Global,
+    draft: &mut Draft,
+    blocks: &mut B,
+    inodes: &InodeFile,
+    file: &mut File,
+) -> Result<(), PlanError>
+    requires disk { B.count blocks.old ≡ draft.old.map.count }
+    requires sizes { AreSizes inodes.now.geometry }
+    ensures reads { ReadsBlocks B.Blocks IsReadFault blocks.old blocks.new result }
+    ensures grows { Grows draft.old draft.new }
+    ensures others { (p : ℕ) → IsReserved draft.old p → IsReserved draft.new p }
+    ensures size { file.new.size ≡ file.old.size }
+    ensures sound { KeepsSound file.old.tree file.new.tree }
+    ensures settled { SameSettled file.old.tree file.new.tree }
+    ensures planned { (disk : ℕ → List ℕ) (settled : ℕ → Inode) (v : Volume) (before : ℕ → ℕ)
+        (found : ℕ → Content) → B.Shows blocks.old disk
+        → IsOverTree (B.count blocks.old) disk settled inodes.now v before
+        → HasNoHole (held disk (settled 1))
+        → (way : IsUnderWay draft.old disk before inodes.now.geometry
+        (settled_tree disk settled) found file.old)
+        → way.plan.changed 1 ≡ false
+        → OnOk result (HasInodeMap inodes.now.numbers.bytes.items way.plan.changed draft.new disk
+        before inodes.now.geometry (settled_tree disk settled) found file.new) }
+    ensures damaged { (disk : ℕ → List ℕ) (settled : ℕ → Inode) (v : Volume) (before : ℕ → ℕ)
+        → B.Shows blocks.old disk
+        → IsOverTree (B.count blocks.old) disk settled inodes.now v before
+        → ((b : ℕ) → settled_at draft.old.map.parts.items b ≡ before b)
+        → ((i : ℕ) → IsSoundAt (B.count blocks.old) disk file.old.tree i)
+        → IsErrOf result PlanError.Damaged → ⊥ }
+{
+    inodes_are_put_one_by_one();
+    disks_that_agree_hold_the_same();
+    based_trees_are_sound();
+    let settled = inodes.settled_inode(blocks, 1)?;
+    let mut object = Object::load(alloc, settled)?;
+    let is_there = has_bytes(alloc, blocks, &object.file, inodes.map_bytes())?;
+    if is_there {
+        return Ok(());
+    }
+    put_parts(alloc, blocks, &mut object.file, inodes.map_bytes())?;
+    let placed = place_file(alloc, draft, blocks, &object)?;
+    mark_placed(draft, &placed)?;
+    put_inode(alloc, blocks, file, 1, &placed.inode)?;
+    Ok(())
+}

@@ -1,0 +1,241 @@
+//! The whole plan of a consistency point.
+
+ghost use Rattle.std.specs.Prelude.{ℕ, ◌≡◌, ◌*◌, ◌<◌, ◌≤◌, List, IfErr, IfOk, OnOk, IsErrOf, length};
+ghost use Rattle.std.specs.Int.{div_ceil};
+ghost use Rattle.layout.specs.Inode.{IsInode};
+ghost use Rattle.layout.specs.Limits.{AreSizes};
+ghost use Rattle.layout.specs.Places.{blocks_of};
+ghost use Rattle.layout.specs.Root.{IsRoot, root_bytes};
+ghost use Rattle.layout.specs.declared.TheConstants.{BLOCK_POINTERS};
+ghost use Rattle.layout.specs.declared.inode.Inode.{Inode};
+ghost use Rattle.layout.specs.declared.kind.Kind.TheVariants as kinds;
+ghost use Rattle.layout.specs.declared.version.TheConstants.{VERSION};
+ghost use Rattle.model.specs.Paths.{Name};
+ghost use Rattle.model.specs.Trees.{Tree};
+ghost use Rattle.model.specs.Volumes.{Volume};
+ghost use Rattle.buffers.specs.Reads.{ReadsBlocks};
+ghost use Rattle.blocktree.specs.Trees.{IsSoundAt, KeepsSound, SameSettled};
+ghost use Rattle.blockmap.specs.Maps.{settled_at};
+ghost use Rattle.conspoint.specs.Drafts.{Grows};
+ghost use Rattle.conspoint.specs.Errors.{IsReadFault};
+ghost use Rattle.conspoint.specs.Plans.{FitsDisk, IsSlot};
+ghost use Rattle.conspoint.specs.Writes.{writes_of};
+ghost use Rattle.images.specs.Cuts.{IsPoint};
+ghost use Rattle.images.specs.Nodes.{held};
+ghost use Rattle.images.specs.Soundness.{HasNoHole};
+ghost use Rattle.inofile.specs.Inodes.{files_of};
+ghost use Rattle.planning.specs.Numbers.{trimmed};
+ghost use Rattle.planning.specs.Plans.{HasNumbers, IsAllPlanned, IsClean, IsPlanStart, IsPlannable, PlansEntries};
+ghost use Rattle.planning.specs.Steps.{ArePlanned, IsOverTree, settled_tree};
+
+use crate::block_map::plan_last;
+use crate::inode_map::plan_inode_map;
+use crate::number::plan_numbers;
+use crate::top::place_top;
+use blockmap::BlockMap;
+use buffers::Blocks;
+use conspoint::{Draft, Plan, PlanError, written_disks_have_the_blocks};
+use images::{
+    disks_that_agree_hold_the_same, inodes_are_put_one_by_one, inodes_are_what_their_bytes_spell,
+};
+use inode::{File, Object, based_trees_are_sound};
+use inofile::{InodeFile, memory_holds_its_volume};
+use layout::{Generation, Inode, ROOT_BYTES, Root};
+use std::alloc::Global;
+
+/// A consistency point that is planned: what is to be written, and the root that comes into force then.
+#[derive(Debug, Drop)]
+pub struct Point {
+    pub plan: Plan,
+    pub root: Root,
+}
+
+/// Plans the numbers that are changed, and the inode map.
+fn plan_changes<B: Blocks>(
+    alloc: Global,
+    draft: &mut Draft,
+    blocks: &mut B,
+    inodes: &InodeFile,
+    file: &mut File,
+) -> Result<(), PlanError>
+    requires disk { B.count blocks.old ≡ draft.old.map.count }
+    requires sizes { AreSizes inodes.now.geometry }
+    ensures reads { ReadsBlocks B.Blocks IsReadFault blocks.old blocks.new result }
+    ensures grows { Grows draft.old draft.new }
+    ensures size { file.new.size ≡ file.old.size }
+    ensures sound { KeepsSound file.old.tree file.new.tree }
+    ensures settled { SameSettled file.old.tree file.new.tree }
+    ensures planned { (disk : ℕ → List ℕ) (settled : ℕ → Inode) (v : Volume) (before : ℕ → ℕ)
+        → B.Shows blocks.old disk
+        → IsOverTree (B.count blocks.old) disk settled inodes.now v before
+        → HasNoHole (held disk (settled 1))
+        → ArePlanned (λ n. ⊥) draft.old disk settled before inodes.now file.old
+        → OnOk result (HasNumbers draft.new disk settled before inodes.now file.new) }
+    ensures damaged { (disk : ℕ → List ℕ) (settled : ℕ → Inode) (v : Volume) (before : ℕ → ℕ)
+        → B.Shows blocks.old disk
+        → IsOverTree (B.count blocks.old) disk settled inodes.now v before
+        → ArePlanned (λ n. ⊥) draft.old disk settled before inodes.now file.old
+        → ((i : ℕ) → IsSoundAt (B.count blocks.old) disk file.old.tree i)
+        → IsErrOf result PlanError.Damaged → ⊥ }
+{
+    plan_numbers(alloc, draft, blocks, inodes, file)?;
+    plan_inode_map(alloc, draft, blocks, inodes, file)?;
+    Ok(())
+}
+
+/// Plans all that changed: the numbers, the inode map, the inode file, the block map. The answer is the inode file's new inode.
+fn plan_files<B: Blocks>(
+    alloc: Global,
+    draft: &mut Draft,
+    blocks: &mut B,
+    root: &Root,
+    inodes: &InodeFile,
+) -> Result<Inode, PlanError>
+    requires root { IsRoot root.now }
+    requires disk { B.count blocks.old ≡ draft.old.map.count }
+    requires parts { length draft.old.map.parts.items
+        ≡ div_ceil draft.old.map.count BLOCK_POINTERS }
+    requires sizes { inodes.now.geometry ≡ root.now.geometry }
+    ensures reads { ReadsBlocks B.Blocks IsReadFault blocks.old blocks.new result }
+    ensures grows { Grows draft.old draft.new }
+    ensures planned { (disk : ℕ → List ℕ) (settled : ℕ → Inode) (v : Volume) (before : ℕ → ℕ)
+        → B.Shows blocks.old disk
+        → IsPlanStart (B.count blocks.old) draft.old disk root.now settled inodes.now v before
+        → IfOk result (IsAllPlanned draft.new disk before inodes.now.geometry
+        (settled_tree disk settled) (λ n. trimmed (files_of disk settled inodes.now n))
+        inodes.now) }
+    ensures damaged { (disk : ℕ → List ℕ) (settled : ℕ → Inode) (v : Volume) (before : ℕ → ℕ)
+        → B.Shows blocks.old disk
+        → IsPlanStart (B.count blocks.old) draft.old disk root.now settled inodes.now v before
+        → IsErrOf result PlanError.Damaged → ⊥ }
+{
+    inodes_are_put_one_by_one();
+    based_trees_are_sound();
+    let mut top = Object::load(alloc, root.inode_file)?;
+    plan_changes(alloc, draft, blocks, inodes, &mut top.file)?;
+    let placed = place_top(alloc, draft, blocks, &top)?;
+    let (inode, first) = placed;
+    // The map's own blocks come last: each block that is given out changes an entry.
+    plan_last(alloc, draft, blocks, inodes, &top.file, first)?;
+    Ok(inode)
+}
+
+/// The root of a point over this one.
+fn next_root(root: &Root, generation: Generation, inode_file: Inode) -> Result<Root, PlanError>
+    ensures root { IfOk result IsRoot }
+    ensures generation { IfOk result (λ r. r.generation ≡ generation) }
+    ensures geometry { IfOk result (λ r. r.geometry ≡ root.now.geometry) }
+    ensures inode_file { IfOk result (λ r. r.inode_file ≡ inode_file) }
+    ensures snapshots { IfOk result (λ r. r.snapshots ≡ root.now.snapshots) }
+    ensures damaged { IsErrOf result PlanError.Damaged → IsRoot root.now
+        → inode_file.kind ≡ kinds.InodeFile → IsInode VERSION root.now.geometry inode_file → ⊥ }
+    ensures why { IfErr result (λ e. e ≡ PlanError.Damaged) }
+{
+    let _ = generation.get();
+    let mut next = *root;
+    next.generation = generation;
+    next.inode_file = inode_file;
+    if next.fits() {
+        Ok(next)
+    } else {
+        Err(PlanError::Damaged)
+    }
+}
+
+/// Plans all that changed, and gives the root that leads to it.
+fn plan_root<B: Blocks>(
+    alloc: Global,
+    draft: &mut Draft,
+    blocks: &mut B,
+    root: &Root,
+    generation: Generation,
+    inodes: &InodeFile,
+) -> Result<Root, PlanError>
+    requires root { IsRoot root.now }
+    requires disk { B.count blocks.old ≡ draft.old.map.count }
+    requires parts { length draft.old.map.parts.items
+        ≡ div_ceil draft.old.map.count BLOCK_POINTERS }
+    requires sizes { inodes.now.geometry ≡ root.now.geometry }
+    ensures reads { ReadsBlocks B.Blocks IsReadFault blocks.old blocks.new result }
+    ensures grows { Grows draft.old draft.new }
+    ensures root { IfOk result IsRoot }
+    ensures generation { IfOk result (λ r. r.generation ≡ generation) }
+    ensures geometry { IfOk result (λ r. r.geometry ≡ root.now.geometry) }
+    ensures snapshots { IfOk result (λ r. r.snapshots ≡ root.now.snapshots) }
+    ensures planned { (disk : ℕ → List ℕ) (settled : ℕ → Inode) (v : Volume) (before : ℕ → ℕ)
+        → B.Shows blocks.old disk
+        → IsPlanStart (B.count blocks.old) draft.old disk root.now settled inodes.now v before
+        → IfOk result (λ r. IsAllPlanned draft.new disk before inodes.now.geometry
+        (settled_tree disk settled) (λ n. trimmed (files_of disk settled inodes.now n))
+        inodes.now r.inode_file) }
+    ensures damaged { (disk : ℕ → List ℕ) (settled : ℕ → Inode) (v : Volume) (before : ℕ → ℕ)
+        → B.Shows blocks.old disk
+        → IsPlanStart (B.count blocks.old) draft.old disk root.now settled inodes.now v before
+        → IsErrOf result PlanError.Damaged → ⊥ }
+{
+    written_disks_have_the_blocks();
+    let inode_file = plan_files(alloc, draft, blocks, root, inodes)?;
+    let next = next_root(root, generation, inode_file)?;
+    Ok(next)
+}
+
+/// Plans a consistency point that settles all that memory has changed: every place and every byte of it, and its root. Nothing
+/// is written. Where it fails, the map has no change.
+pub fn plan<B: Blocks>(
+    alloc: Global,
+    blocks: &mut B,
+    root: &Root,
+    generation: Generation,
+    slot: u32,
+    inodes: &InodeFile,
+    map: BlockMap,
+) -> (BlockMap, Result<Point, PlanError>)
+    requires root { IsRoot root.now }
+    requires slot { IsSlot slot }
+    requires clean { IsClean map }
+    requires parts { length map.parts.items ≡ div_ceil map.count BLOCK_POINTERS }
+    requires size { map.count ≡ root.now.geometry.blocks }
+    requires disk { B.count blocks.old ≡ root.now.geometry.blocks }
+    requires sizes { inodes.now.geometry ≡ root.now.geometry }
+    ensures reads { ReadsBlocks B.Blocks IsReadFault blocks.old blocks.new result.1 }
+    ensures count { result.0.count ≡ map.count }
+    ensures settled { (b : ℕ)
+        → settled_at result.0.parts.items b ≡ settled_at map.parts.items b }
+    ensures given { IfErr result.1 (λ e. IsClean result.0) }
+    ensures next { IfErr result.1 (λ e. result.0.next ≡ 2) }
+    ensures none { IfOk result.1 (λ p. p.plan.written ≡ 0) }
+    ensures slot { IfOk result.1 (λ p. p.plan.slot ≡ slot) }
+    ensures bytes { IfOk result.1 (λ p. p.plan.root ≡ root_bytes p.root) }
+    ensures fits { (sectors : ℕ) → 16 ≤ sectors → 8 * map.count ≤ sectors
+        → IfOk result.1 (λ p. FitsDisk sectors p.plan) }
+    ensures root { IfOk result.1 (λ p. IsRoot p.root) }
+    ensures generation { IfOk result.1 (λ p. p.root.generation ≡ generation) }
+    ensures geometry { IfOk result.1 (λ p. p.root.geometry ≡ root.now.geometry) }
+    ensures point { (d : ℕ → List ℕ) (first v : Volume) (snapshots : List (Name × Tree))
+        → B.Shows blocks.old (blocks_of d)
+        → IsPlannable root.now d slot generation map inodes.now first v snapshots
+        → IfOk result.1 (λ p. IsPoint root.now d (writes_of p.plan.blocks) slot p.root v) }
+    ensures entries { (d : ℕ → List ℕ) (first v : Volume) (snapshots : List (Name × Tree))
+        → B.Shows blocks.old (blocks_of d)
+        → IsPlannable root.now d slot generation map inodes.now first v snapshots
+        → IfOk result.1
+        (λ p. PlansEntries (blocks_of d) root.now p.plan p.root result.0) }
+    ensures damaged { (d : ℕ → List ℕ) (first v : Volume) (snapshots : List (Name × Tree))
+        → B.Shows blocks.old (blocks_of d)
+        → IsPlannable root.now d slot generation map inodes.now first v snapshots
+        → IsErrOf result.1 PlanError.Damaged → ⊥ }
+{
+    inodes_are_what_their_bytes_spell();
+    disks_that_agree_hold_the_same();
+    memory_holds_its_volume();
+    let mut draft = Draft::new(alloc, map);
+    match plan_root(alloc, &mut draft, blocks, root, generation, inodes) {
+        Ok(root) => {
+            let mut bytes = [0; ROOT_BYTES];
+            let _ = root.write(&mut bytes);
+            let (map, plan) = draft.into_plan(slot, bytes);
+            (map, Ok(Point { plan, root }))
+        }
+        Err(error) => (draft.abandon(), Err(error)),
+    }
+}

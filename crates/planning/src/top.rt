@@ -1,0 +1,58 @@
+//! The inode file's own file.
+
+ghost use Rattle.std.specs.Prelude.{ℕ, ◌≡◌, ◌≤◌, List, IfOk, IsErrOf, false};
+ghost use Rattle.layout.specs.Limits.{Sizes};
+ghost use Rattle.layout.specs.declared.TheConstants.{BLOCK_BYTES};
+ghost use Rattle.layout.specs.declared.inode.Inode.{Inode};
+ghost use Rattle.layout.specs.declared.kind.Kind.TheVariants as kinds;
+ghost use Rattle.buffers.specs.Reads.{ReadsBlocks};
+ghost use Rattle.blockmap.specs.Maps.{settled_at};
+ghost use Rattle.conspoint.specs.Drafts.{Grows, IsReserved};
+ghost use Rattle.conspoint.specs.Errors.{IsReadFault};
+ghost use Rattle.images.specs.BlockMap.{NamesOnce};
+ghost use Rattle.placement.specs.Files.{IsChangeOf};
+ghost use Rattle.planning.specs.Plans.{HasTop, Progresses};
+ghost use Rattle.planning.specs.Progress.{IsExactPlane, Planned};
+ghost use Rattle.planning.specs.Steps.{settled_tree};
+
+use crate::number::mark_placed;
+use buffers::Blocks;
+use conspoint::{Draft, PlanError};
+use inode::Object;
+use layout::{BlockNumber, Inode};
+use placement::place_file_but_first;
+use std::alloc::Global;
+
+/// Plans the changed inode file but for the bytes of its first block, which has the block map's inode. The answer is its inode,
+/// and the block that is reserved for its first one.
+pub(crate) fn place_top<B: Blocks>(
+    alloc: Global,
+    draft: &mut Draft,
+    blocks: &mut B,
+    top: &Object,
+) -> Result<(Inode, BlockNumber), PlanError>
+    requires disk { B.count blocks.old ≡ draft.old.map.count }
+    requires some { BLOCK_BYTES ≤ top.now.file.size }
+    ensures reads { ReadsBlocks B.Blocks IsReadFault blocks.old blocks.new result }
+    ensures grows { Grows draft.old draft.new }
+    ensures others { (p : ℕ) → IsReserved draft.old p → IsReserved draft.new p }
+    ensures reserved { IfOk result (λ r. IsReserved draft.new r.1) }
+    ensures planned { (s : Sizes) (disk : ℕ → List ℕ) (settled : ℕ → Inode) (before : ℕ → ℕ)
+        (p : Planned) → B.Shows blocks.old disk
+        → IsChangeOf s draft.old disk (settled 0) top.now
+        → top.now.attributes.kind ≡ kinds.InodeFile
+        → NamesOnce (settled_tree disk settled)
+        → IsExactPlane (settled_tree disk settled) before
+        → ((b : ℕ) → settled_at draft.old.map.parts.items b ≡ before b)
+        → Progresses draft.old disk before s (settled_tree disk settled) p
+        → p.changed 0 ≡ false
+        → IfOk result (λ r. HasTop p draft.new disk before s (settled_tree disk settled)
+        top.now r.0 r.1) }
+    ensures damaged { (s : Sizes) (disk : ℕ → List ℕ) (base : Inode) → B.Shows blocks.old disk
+        → IsChangeOf s draft.old disk base top.now → IsErrOf result PlanError.Damaged → ⊥ }
+{
+    let all = place_file_but_first(alloc, draft, blocks, top)?;
+    let (placed, first) = all;
+    mark_placed(draft, &placed)?;
+    Ok((placed.inode, first))
+}
