@@ -4,3 +4,4 @@ mod EndLaws
 mod TreeLaws
 mod LoadLaws
 mod ReadyLaws
+mod SnapshotLaws

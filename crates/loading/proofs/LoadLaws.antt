@@ -26,14 +26,14 @@ use Rattle.inofile.specs.Inodes.{IsChanged}
 use Rattle.inofile.specs.Settled.{AreSettled, held_content}
 use Rattle.inofile.specs.Volumes.{IsVolumeOf, MapsVolume}
 use Rattle.inofile.specs.declared.inode_file.InodeFile.{InodeFile}
-use Rattle.images.specs.Contents.{HoldsVolume, bytes_of, content_of}
+use Rattle.images.specs.Contents.{HoldsVolume, bytes_of, content_of, contents}
 use Rattle.images.specs.Nodes.{held}
 use Rattle.images.specs.Roots.{inode_part, tree, whole}
 use Rattle.images.specs.Soundness.{IsSoundTree}
 use Rattle.loading.specs.Images.{IsLoaded, IsReadable, inodes_of}
 use Rattle.loading.specs.InodeBlocks.{AreInodeBlocks}
 use Rattle.loading.specs.Laws.{TreesReadAsHeld}
-use Rattle.loading.specs.Readings.{AreParts, IsBodyPath, IsMapFile, inode_bytes_of}
+use Rattle.loading.specs.Readings.{AreParts, AreUnchanged, IsBodyPath, IsMapFile, inode_bytes_of}
 use Rattle.loading.proofs.EndLaws.{starts_sound_at}
 use Rattle.loading.proofs.TreeLaws as trees
 
@@ -85,6 +85,11 @@ module _ (l : TreesReadAsHeld) (disk : Blocks) (r : Root) (are : AreSizes r.geom
   pub numbers_are : (i : Inode) → tree disk r.geometry.inodes r.inode_file 1 ≡ held disk i → IsInodeMap 0 r.geometry.inodes (inode_bytes_of disk i)
   numbers_are i is = trees.is_map r.geometry are disk r.inode_file sound root l.reads l.paths l.stored l.spells l.ends i is
 
+  pub hold_volume : (v : Volume) → HoldsVolume r.geometry.inodes (contents (whole disk r).active) v
+      → HoldsVolume r.geometry.inodes (λ n. held_content disk (inodes_of (whole disk r).active n)) v
+  unfolding whole
+  hold_volume v = trees.holds_volume r.geometry are disk r.inode_file sound root l.reads l.paths l.stored l.spells l.ends v
+
   -- with the inode file in memory
   module _ (file : File) (blocks : (d : Blocks) (i : ℕ) → memory.file_block d file i ≡ inode_block d r.inode_file i)
       (starts : StartsFrom r.inode_file.body r.inode_file.size file.tree) where
@@ -95,6 +100,10 @@ module _ (l : TreesReadAsHeld) (disk : Blocks) (r : Root) (are : AreSizes r.geom
     reached count i is = subst (λ c. IsSoundAt c disk file.tree i) (sym is)
         (starts_sound_at r.geometry.blocks disk r.inode_file.body r.inode_file.size i file.tree file.tree.fits.1 starts
         (l.paths r.geometry disk r.inode_file i (trees.top_sound r.geometry are disk r.inode_file sound root l.reads l.paths l.stored l.spells l.ends)))
+
+    pub are_settled : AreSettled r.geometry.blocks disk r.geometry file (inodes_of (whole disk r).active)
+    unfolding whole
+    are_settled = trees.settled r.geometry are disk r.inode_file sound root l.reads l.paths l.stored l.spells l.ends file same (λ k. reached r.geometry.blocks k refl)
 
     pub inode_blocks : AreInodeBlocks r.geometry (memory.file_block disk file)
     inode_blocks = subst (AreInodeBlocks r.geometry) (sym same)
@@ -123,7 +132,7 @@ module _ (l : TreesReadAsHeld) (disk : Blocks) (r : Root) (are : AreSizes r.geom
     -- all of it
     pub loaded : (i b : Inode) (bytes : List ℕ) (parts : List Part) (map : BlockMap) (inodes : InodeFile)
         → tree disk r.geometry.inodes r.inode_file 1 ≡ held disk i → tree disk r.geometry.inodes r.inode_file 2 ≡ held disk b
-        → b.size ≡ 4 * r.geometry.blocks → bytes ≡ inode_bytes_of disk i → AreParts (inode_block disk b) (div_ceil r.geometry.blocks 1024) parts
+        → b.size ≡ 4 * r.geometry.blocks → bytes ≡ inode_bytes_of disk i → AreParts (inode_block disk b) (div_ceil r.geometry.blocks 1024) parts → AreUnchanged parts
         → map.parts.items ≡ parts → map.count ≡ r.geometry.blocks → map.next ≡ 2
         → inodes.geometry ≡ r.geometry → inodes.file ≡ file → inodes.numbers.bytes.items ≡ bytes → ((n : ℕ) → IsChanged inodes n → ⊥)
         → ((v : Volume) → AreSettled r.geometry.blocks disk r.geometry file (inodes_of (tree disk r.geometry.inodes r.inode_file)) → MapsVolume bytes v
@@ -131,13 +140,13 @@ module _ (l : TreesReadAsHeld) (disk : Blocks) (r : Root) (are : AreSizes r.geom
         → IsVolumeOf r.geometry.blocks disk (inodes_of (tree disk r.geometry.inodes r.inode_file)) inodes v)
         → IsLoaded disk r map inodes
     unfolding whole
-    loaded i b bytes parts map inodes is_i is_b size read have items count next geometry file_is numbers unchanged stands =
+    loaded i b bytes parts map inodes is_i is_b size read have clean items count next geometry file_is numbers unchanged stands =
         let settled : AreSettled r.geometry.blocks disk r.geometry file (inodes_of (tree disk r.geometry.inodes r.inode_file)) =
         trees.settled r.geometry are disk r.inode_file sound root l.reads l.paths l.stored l.spells l.ends file same (λ k. reached r.geometry.blocks k refl) in
         let whole_bytes : bytes ≡ bytes_of (content_of (tree disk r.geometry.inodes r.inode_file 1)) =
         read ∙ trees.map_bytes r.geometry are disk r.inode_file sound root l.reads l.paths l.stored l.spells l.ends i is_i in
         record {
-          map = trees.map_is r.geometry are disk r.inode_file sound root l.reads l.paths l.stored l.spells l.ends b map parts is_b size have items count next;
+          map = trees.map_is r.geometry are disk r.inode_file sound root l.reads l.paths l.stored l.spells l.ends b map parts is_b size have clean items count next;
           inodes = record {
             geometry = geometry;
             settled = subst (λ f. AreSettled r.geometry.blocks disk r.geometry f (inodes_of (tree disk r.geometry.inodes r.inode_file))) (sym file_is) settled;

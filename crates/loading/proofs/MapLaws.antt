@@ -16,7 +16,7 @@ use Rattle.blockmap.specs.Maps.{no_part, settled_at, entry_at}
 use Rattle.blockmap.specs.Parts.{Part, Spells}
 use Rattle.inode.specs.Edges.{filled}
 use Rattle.inode.specs.Bodies.{body_block}
-use Rattle.loading.specs.Readings.{AreParts}
+use Rattle.loading.specs.Readings.{AreParts, AreUnchanged}
 
 -- ---- zeros
 
@@ -58,18 +58,10 @@ entries_are block count parts are past b = elim (cases_lt (b / 1024) count) [
       ∙ sym (ap (λ bytes. map_entry bytes (b % 1024)) (past (b / 1024) ge) ∙ word-zeros (b % 1024) 4096)
 ]
 
-pub same_entries : (block : ℕ → List ℕ) (count : ℕ) (parts : List Part) → AreParts block count parts → (b : ℕ) → entry_at parts b ≡ settled_at parts b
-same_entries block count parts are b = ap (λ (xs : List ℕ). slice_index xs (b % 1024)) (are.same (b / 1024))
+pub same_entries : (parts : List Part) → AreUnchanged parts → (b : ℕ) → entry_at parts b ≡ settled_at parts b
+same_entries parts are b = ap (λ (xs : List ℕ). slice_index xs (b % 1024)) (are.same (b / 1024))
 
 -- ---- one part more
-
-pub no_parts : (block : ℕ → List ℕ) → AreParts block 0 []
-no_parts block = record {
-  count_is = refl;
-  settled = λ j lt. absurd (omega arith);
-  same = λ j. refl;
-  untouched = λ j is. cc;
-}
 
 -- a fact of each part, from those before, of the last, and of none
 pushed : (P : Part → Type 0) (parts : List Part) (part : Part) (j : ℕ) → (j < length parts → P (get_or parts j no_part)) → (j ≡ length parts → P part) → (length parts < j → P no_part)
@@ -83,13 +75,17 @@ pushed P parts part j before here past = elim (cases_lt j (length parts)) [
 ]
 
 pub part_more : (block : ℕ → List ℕ) (count : ℕ) (parts new : List Part) (part : Part) → AreParts block count parts → new ≡ parts ++ part ∷ []
-    → Spells (block count) part.settled → part.entries ≡ part.settled → part.is_touched ≡ false → AreParts block (count + 1) new
-part_more block count parts new part are is spells same untouched = subst (AreParts block (count + 1)) (sym is) (record {
+    → Spells (block count) part.settled → AreParts block (count + 1) new
+part_more block count parts new part are is spells = subst (AreParts block (count + 1)) (sym is) (record {
   count_is = length_push parts part ∙ ap (λ n. n + 1) are.count_is;
   settled = λ j lt. pushed (λ p. Spells (block j) p.settled) parts part j
       (λ below. are.settled j (omega (arith, below, are.count_is)))
       (λ at. subst (λ k. Spells (block k) part.settled) (sym are.count_is ∙ sym at) spells)
       (λ above. absurd (omega (arith, above, lt, are.count_is)));
+})
+
+pub unchanged_more : (parts new : List Part) (part : Part) → AreUnchanged parts → new ≡ parts ++ part ∷ [] → part.entries ≡ part.settled → part.is_touched ≡ false → AreUnchanged new
+unchanged_more parts new part are is same untouched = subst AreUnchanged (sym is) (record {
   same = λ j. pushed (λ p. p.entries ≡ p.settled) parts part j (λ _. are.same j) (λ _. same) (λ _. refl);
   untouched = λ j. pushed (λ p. p.is_touched ≡ true → ⊥) parts part j (λ _. are.untouched j) (λ _ is. cc) (λ _ is. cc);
 })

@@ -32,7 +32,7 @@ use Rattle.loading.specs.Images.{IsMapOf, inodes_of}
 use Rattle.loading.specs.InodeBlocks.{AreInodeBlocks, FitsPlace, IsInodeAt, IsInodeBlock}
 use Rattle.loading.specs.Laws.{AreMapFiles, EndTrees, HaveSoundPaths, ReadAsHeld, SpellTrees}
 use Rattle.loading.proofs.MapLaws.{entries_are, past_end, same_entries}
-use Rattle.loading.specs.Readings.{AreParts, IsBodyPath, IsMapFile, inode_bytes_of}
+use Rattle.loading.specs.Readings.{AreParts, AreUnchanged, IsBodyPath, IsMapFile, inode_bytes_of}
 
 -- ---- free inodes
 
@@ -249,15 +249,15 @@ module _ (s : Sizes) (are : AreSizes s) (disk : Blocks) (top : Inode) (sound : I
   past_map i j size past = past_end disk i.body i.size j (omega (arith, are.least_blocks, past)) (omega (arith, size, past))
 
   pub map_is : (i : Inode) (map : BlockMap) (parts : List Part) → tree disk s.inodes top 2 ≡ held disk i → i.size ≡ 4 * s.blocks
-      → AreParts (inode_block disk i) (div_ceil s.blocks 1024) parts → map.parts.items ≡ parts → map.count ≡ s.blocks → map.next ≡ 2
+      → AreParts (inode_block disk i) (div_ceil s.blocks 1024) parts → AreUnchanged parts → map.parts.items ≡ parts → map.count ≡ s.blocks → map.next ≡ 2
       → IsMapOf (tree disk s.inodes top) s.blocks map
-  map_is i map parts is size have items count next = record {
+  map_is i map parts is size have unchanged items count next = record {
     count = count;
     next = next;
     parts = ap length items ∙ have.count_is;
     settled = λ b. ap (λ ps. settled_at ps b) items
         ∙ entries_are (inode_block disk i) (div_ceil s.blocks 1024) parts have (λ j past. past_map i j size past) b ∙ entry_is i b is;
-    entries = λ b. ap (λ ps. entry_at ps b) items ∙ same_entries (inode_block disk i) (div_ceil s.blocks 1024) parts have b
+    entries = λ b. ap (λ ps. entry_at ps b) items ∙ same_entries parts unchanged b
         ∙ entries_are (inode_block disk i) (div_ceil s.blocks 1024) parts have (λ j past. past_map i j size past) b ∙ entry_is i b is;
-    untouched = λ j touched. have.untouched j (subst (λ ps. IsTouched ps j) items touched);
+    untouched = λ j touched. unchanged.untouched j (subst (λ ps. IsTouched ps j) items touched);
   }

@@ -9,6 +9,10 @@ use Rattle.layout.specs.declared.kind.Kind.TheVariants.{Directory}
 use Rattle.layout.specs.declared.numbers.TheConstants.{ROOT_NUMBER}
 use Rattle.layout.specs.declared.root.Root.{Root}
 use Rattle.model.specs.Volumes.{Volume}
+use Rattle.inode.specs.Bases.{StartsFrom}
+use Rattle.inode.specs.Bodies.{inode_block}
+use Rattle.inode.specs.Files.{file_block}
+use Rattle.inode.specs.declared.file.File.{File}
 use Rattle.inofile.specs.Settled.{AreSettled}
 use Rattle.inofile.specs.Inodes.{IsChanged}
 use Rattle.inofile.specs.Volumes.{IsVolumeOf}
@@ -24,6 +28,11 @@ use Rattle.images.specs.Soundness.{IsSoundTree}
 pub record IsReadable (disk : Blocks) (r : Root) : Type 0 where
   pub sound : IsSoundTree r.geometry (whole disk r).active
   pub root : ((whole disk r).active ROOT_NUMBER).inode.kind ≡ Directory
+
+-- a file in memory is that of a settled inode, of which nothing is changed
+pub record IsFileOf (inode : Inode) (file : File) : Type 0 where
+  pub blocks : (disk : Blocks) (i : ℕ) → file_block disk file i ≡ inode_block disk inode i
+  pub starts : StartsFrom inode.body inode.size file.tree
 
 -- the inodes of a tree by number
 abbrev pub inodes_of : HeldTree → ℕ → Inode

@@ -2,3 +2,5 @@ pub mod InodeBlocks
 pub mod Readings
 pub mod Images
 pub mod Laws
+pub mod Slots
+pub mod Snapshots

@@ -41,10 +41,12 @@ pub record IsMapFile (disk : Blocks) (inode : Inode) : Type 0 where
   pub stored : IsStored disk inode.body inode.size
   pub ends : EndsAt inode.size (inode_byte disk inode)
 
--- a block map of so many blocks was read: the entries are settled, and none is changed
+-- of a map no entry is changed
+pub record AreUnchanged (parts : List Part) : Type 0 where
+  pub same : (j : ℕ) → (slice_index_or parts j no_part).entries ≡ (slice_index_or parts j no_part).settled
+  pub untouched : (j : ℕ) → IsTouched parts j → ⊥
+
+-- a block map of so many blocks was read: these are its settled entries
 pub record AreParts (block : ℕ → List ℕ) (count : ℕ) (parts : List Part) : Type 0 where
   pub count_is : length parts ≡ count
   pub settled : (j : ℕ) → j < count → Spells (block j) (slice_index_or parts j no_part).settled
-  pub same : (j : ℕ)
-      → (slice_index_or parts j no_part).entries ≡ (slice_index_or parts j no_part).settled
-  pub untouched : (j : ℕ) → IsTouched parts j → ⊥

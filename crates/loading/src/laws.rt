@@ -1,14 +1,18 @@
 //! A settled file as the layers below read it, and as images hold it.
 
-ghost use Rattle.std.specs.Prelude.{List};
+ghost use Rattle.std.specs.Prelude.{ℕ, List};
 ghost use Rattle.layout.specs.Places.{Blocks};
+ghost use Rattle.layout.specs.Root.{IsRoot};
 ghost use Rattle.layout.specs.declared.root.Root.{Root};
 ghost use Rattle.model.specs.Paths.{Name};
 ghost use Rattle.model.specs.Trees.{Tree};
 ghost use Rattle.model.specs.Volumes.{Volume};
+ghost use Rattle.images.specs.Contents.{HoldsVolume, contents};
 ghost use Rattle.images.specs.Roots.{whole};
 ghost use Rattle.images.specs.States.{Holds};
-ghost use Rattle.loading.specs.Images.{IsReadable};
+ghost use Rattle.inode.specs.declared.file.File.{File};
+ghost use Rattle.inofile.specs.Settled.{AreSettled, held_content};
+ghost use Rattle.loading.specs.Images.{IsFileOf, IsReadable, inodes_of};
 ghost use Rattle.loading.specs.Laws.{AreMapFiles, HaveSoundPaths, ReadAsHeld, TreesReadAsHeld};
 
 use images::{
@@ -41,6 +45,20 @@ pub fn volumes_are_readable()
     ensures { (disk : Blocks) (r : Root) (first : Volume) (snapshots : List (Name × Tree))
         → Holds r (whole disk r) first snapshots → IsReadable disk r }
 {}
+
+/// Under a root whose tree is readable, the inode file has the inodes of the tree, and they hold what the tree holds. It does
+/// nothing.
+pub fn readable_inodes_are_settled()
+    ensures settled { (disk : Blocks) (r : Root) (file : File) → IsRoot r → IsReadable disk r
+        → IsFileOf r.inode_file file
+        → AreSettled r.geometry.blocks disk r.geometry file (inodes_of (whole disk r).active) }
+    ensures holds { (disk : Blocks) (r : Root) (v : Volume) → IsRoot r → IsReadable disk r
+        → HoldsVolume r.geometry.inodes (contents (whole disk r).active) v
+        → HoldsVolume r.geometry.inodes
+        (λ n. held_content disk (inodes_of (whole disk r).active n)) v }
+{
+    trees_read_as_held();
+}
 
 /// What is read of a tree in its grammar is what the tree has. It does nothing.
 pub(crate) fn trees_read_as_held()

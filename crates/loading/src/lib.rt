@@ -1,14 +1,20 @@
-//! What mount reads under a root: the inode file, the inode map and the block map. Each is tested against its format; no
-//! directory and no other file is read.
+//! What mount reads: the newest root, and under it the inode file, the inode map and the block map. Each is tested against its
+//! format; no directory and no other file is read.
 #![tactic(auto)]
 
+mod error;
 mod inodes;
 mod laws;
 mod maps;
+mod slots;
+mod snapshots;
 mod under_root;
 
+pub use error::RootError;
 pub use laws::{
-    files_without_holes_are_stored, sound_files_have_sound_paths, sound_files_read_as_held,
-    volumes_are_readable,
+    files_without_holes_are_stored, readable_inodes_are_settled, sound_files_have_sound_paths,
+    sound_files_read_as_held, volumes_are_readable,
 };
+pub use slots::{Newest, newest_root};
+pub use snapshots::check_snapshots;
 pub use under_root::{Loaded, load};

@@ -14,7 +14,7 @@ ghost use Rattle.buffers.specs.Failures.{HasGrown};
 ghost use Rattle.blocktree.specs.Trees.{AreSound, IsSoundAt};
 ghost use Rattle.inode.specs.Bodies.{inode_block};
 ghost use Rattle.inode.specs.Files.{byte_at, bytes_of, file_block};
-ghost use Rattle.loading.specs.Readings.{AreParts, HasAllPlaces, IsBodyPath, IsMapFile, inode_bytes_of};
+ghost use Rattle.loading.specs.Readings.{AreParts, AreUnchanged, HasAllPlaces, IsBodyPath, IsMapFile, inode_bytes_of};
 
 use crate::inodes::is_zero_from;
 use blockmap::MapPart;
@@ -103,6 +103,7 @@ pub(crate) fn load_parts<B: Blocks>(
     ensures parts { (disk : ℕ → List ℕ) → B.Shows blocks.old disk
         → IfOk result (λ parts. AreParts (inode_block disk inode)
         (div_ceil geometry.blocks BLOCK_POINTERS) parts.items) }
+    ensures unchanged { IfOk result (λ parts. AreUnchanged parts.items) }
     ensures damaged { (disk : ℕ → List ℕ) → B.Shows blocks.old disk
         → IsErrOf result ReadError.Damaged
         → ((i : ℕ) → IsBodyPath (B.count blocks.old) disk inode.body inode.size i)

@@ -1,8 +1,10 @@
 //! All that mount reads under a root.
 
-ghost use Rattle.std.specs.Prelude.{◌≡◌, ◌⊎◌, ℕ, List, OnOk, IfOk, IsErrOf, MatchResult};
+ghost use Rattle.std.specs.Prelude.{◌≡◌, ◌⊎◌, ℕ, List, OnOk, IfOk, IsErrOf, MatchResult, length};
+ghost use Rattle.std.specs.Int.{div_ceil};
 ghost use Rattle.layout.specs.Maps.{IsInodeMap};
 ghost use Rattle.layout.specs.Root.{IsRoot};
+ghost use Rattle.layout.specs.declared.TheConstants.{BLOCK_POINTERS};
 ghost use Rattle.buffers.specs.Failures.{HasGrown};
 ghost use Rattle.inode.specs.Files.{file_block};
 ghost use Rattle.loading.specs.InodeBlocks.{AreInodeBlocks};
@@ -26,6 +28,7 @@ pub struct Loaded {
 }
 
 ghost use Rattle.loading.specs.Images.{IsLoaded, IsReadable};
+ghost use Rattle.loading.specs.Readings.{AreUnchanged};
 
 /// Reads the inode file, the inode map and the block map under a root, and tests them. Where the root's tree is in its
 /// grammar, what is loaded is what the tree has, and Err comes only for want of memory and where a device call failed.
@@ -41,6 +44,9 @@ pub fn load<B: Blocks>(alloc: Global, blocks: &mut B, root: &Root) -> Result<Loa
     ensures reads { (start : B) → B.ReadsOn start blocks.old → B.ReadsOn start blocks.new }
     ensures shown { (disk : ℕ → List ℕ) → B.Shows blocks.old disk → B.Shows blocks.new disk }
     ensures blocks { IfOk result (λ l. l.map.count ≡ root.now.geometry.blocks) }
+    ensures parts { IfOk result (λ l. length l.map.parts.items
+        ≡ div_ceil root.now.geometry.blocks BLOCK_POINTERS) }
+    ensures unchanged { IfOk result (λ l. AreUnchanged l.map.parts.items) }
     ensures geometry { IfOk result (λ l. l.inodes.geometry ≡ root.now.geometry) }
     ensures numbers { IfOk result (λ l. IsInodeMap 0 root.now.geometry.inodes
         l.inodes.numbers.bytes.items) }

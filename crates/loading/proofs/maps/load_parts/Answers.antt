@@ -2,7 +2,7 @@ use Rattle.std.proofs.Common.{rules, ◌∙◌, ◌+◌, ap, List, ℕ, subst, l
 use Rattle.std.proofs.lemmas.List.{length_push}
 use Rattle.inode.specs.Bodies.{inode_block}
 use Rattle.blockmap.specs.Parts.{Spells}
-use Rattle.loading.proofs.MapLaws.{part_more}
+use Rattle.loading.proofs.MapLaws.{part_more, unchanged_more}
 use Rattle.loading.proofs.maps.load_parts.Goals as goal
 
 pub loop-j-preserved : goal.loop-j-preserved
@@ -15,7 +15,8 @@ loop-j-preserved g c = record {
   parts = λ disk shows. part_more (inode_block disk c.args.inode) c.loop-j.j c.loop-j.parts.items c.push.new.self.items c.in_ok-part.part
       (c.loop-j.invariant.parts disk shows) c.in_ok-push.ensures.items
       (subst (λ (b : List ℕ). Spells b c.in_ok-part.part.settled)
-      (c.bytes.ensures disk (c.in_ok-location.ensures.same disk (c.loop-j.invariant.shows disk shows)) (c.in_ok-location.ensures.found disk (c.loop-j.invariant.shows disk shows))
-      ∙ c.in_ok-file.ensures.blocks disk c.loop-j.j) c.in_ok-part.ensures.settled)
+      (c.bytes.ensures disk (c.in_ok-location.ensures.reads.same disk (c.loop-j.invariant.shows disk shows)) (c.in_ok-location.ensures.found disk (c.loop-j.invariant.shows disk shows))
+      ∙ c.in_ok-file.ensures.blocks disk c.loop-j.j) c.in_ok-part.ensures.settled);
+  unchanged = unchanged_more c.loop-j.parts.items c.push.new.self.items c.in_ok-part.part c.loop-j.invariant.unchanged c.in_ok-push.ensures.items
       c.in_ok-part.ensures.same c.in_ok-part.ensures.untouched;
 }

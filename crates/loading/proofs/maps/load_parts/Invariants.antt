@@ -1,6 +1,6 @@
 use Rattle.std.proofs.Common.{◌≡◌, ℕ, List, length}
 use Rattle.inode.specs.Bodies.{inode_block}
-use Rattle.loading.specs.Readings.{AreParts}
+use Rattle.loading.specs.Readings.{AreParts, AreUnchanged}
 use Rattle.loading.proofs.maps.load_parts.Given as goal
 
 abbrev pub invariant-loop-j : goal.invariant-loop-j
@@ -11,4 +11,5 @@ invariant-loop-j g l = record {
   shows : (disk : ℕ → List ℕ) → g.B.Blocks.Shows l.initial.blocks disk → g.B.Blocks.Shows l.blocks disk;
   size : length l.parts.items ≡ l.j;
   parts : (disk : ℕ → List ℕ) → g.B.Blocks.Shows l.initial.blocks disk → AreParts (inode_block disk l.fn.inode) l.j l.parts.items;
+  unchanged : AreUnchanged l.parts.items;
 }

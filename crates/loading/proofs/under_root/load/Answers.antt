@@ -70,7 +70,7 @@ returns-clause-loads g c = λ disk shows ready.
     2 c.in_ok-block_map.block_map c.in_ok-block_map.ensures.is (omega arith) (omega arith) (c.in_ok-block_map.ensures.spelled disk shows2))
     (block_map_size c.in_ok-block_map.block_map.kind c.args.root.now.geometry c.in_ok-block_map.block_map.mode c.in_ok-block_map.block_map.links c.in_ok-block_map.block_map.size
     c.in_ok-block_map.ensures.kind c.in_ok-block_map.ensures.is.kind)
-    (c.in_ok-numbers.ensures.bytes disk shows3) (c.in_ok-parts.ensures.parts disk shows4)
+    (c.in_ok-numbers.ensures.bytes disk shows3) (c.in_ok-parts.ensures.parts disk shows4) c.in_ok-parts.ensures.unchanged
     c.new-map.ensures.parts (search rules) c.new-map.ensures.next
     c.new-inodes.ensures.geometry c.new-inodes.ensures.file c.new-inodes.ensures.map c.new-inodes.ensures.unchanged
     (λ v are maps holds. c.new-inodes.ensures.volume c.args.root.now.geometry.blocks disk (inodes_of (tree disk c.args.root.now.geometry.inodes c.args.root.now.inode_file)) v are maps holds)

@@ -1,0 +1,55 @@
+-- The snapshots of a root, slot by slot.
+use Rattle.std.proofs.Common.{◌≡◌, ◌<◌, ◌↔◌, ℕ, suc, Bool, true, false, not, eqb, Decides, refl, List, Some, sym, ap, arith, ◌∙◌}
+use Rattle.std.specs.Prelude.{◌≢◌, IsTrue}
+use Rattle.std.proofs.lemmas.Bool.Decides.{nat_tests}
+use Rattle.layout.specs.Places.{Blocks, pointed}
+use Rattle.layout.specs.SnapRoot.{Snapshot, IsSnapshot, snapshot_bytes, snapshot_in}
+use Rattle.layout.specs.declared.pointer.Pointer.{Pointer}
+use Rattle.layout.specs.declared.pointer.Pointer.TheVariants.{Hole, Block}
+use Rattle.layout.specs.declared.root.Root.{Root}
+use Rattle.images.specs.Roots.{frozen_inode_file, slot, whole}
+use Rattle.images.specs.Snapshots.{AreSnapshots, HasSnapshot}
+use Rattle.loading.specs.Snapshots.{AreApart, AreApartAt, IsSnapshotAt}
+
+pub at_slot : (disk : Blocks) (r : Root) (k : ℕ) (p : Pointer) → AreSnapshots r (whole disk r) → slot r (suc k) ≡ p → IsSnapshotAt r.generation disk p
+unfolding whole
+at_slot disk r k Hole are is = tt
+at_slot disk r k (Block b) are is =
+    let one = are.each (suc k) b is in
+    record { snapshot = one.0; is = one.2.is; spelled = sym (ap (pointed disk) is) ∙ one.2.spelled; order = one.2.order }
+
+-- two slots have snapshots of different names and orders
+module _ (disk : Blocks) (r : Root) (are : AreSnapshots r (whole disk r))
+    (spells : (v : Snapshot) → IsSnapshot v → (snapshot_in (snapshot_bytes v) ≡ Some v) × (frozen_inode_file (snapshot_bytes v) ≡ v.inode_file)) where
+  has : (k b : ℕ) (s : Snapshot) → slot r k ≡ Block b → IsSnapshot s → disk b ≡ snapshot_bytes s → HasSnapshot r (whole disk r) k s
+  unfolding whole
+  has k b s there is spelled = record { block = b; there = there; read = ap snapshot_in (ap (pointed disk) there ∙ spelled) ∙ (spells s is).0 }
+
+  pub apart : (l k : ℕ) (p q : Pointer) → l < k → slot r (suc l) ≡ p → slot r (suc k) ≡ q → AreApartAt disk p q
+  apart l k Hole q lt first second = tt
+  apart l k (Block a) Hole lt first second = tt
+  apart l k (Block a) (Block b) lt first second = λ s t is_s is_t at_s at_t. (
+    λ same. absurd (omega (arith, lt, are.names (suc l) (suc k) s t (has (suc l) a s first is_s at_s) (has (suc k) b t second is_t at_t) same)),
+    λ same. absurd (omega (arith, lt, are.orders (suc l) (suc k) s t (has (suc l) a s first is_s at_s) (has (suc k) b t second is_t at_t) same)),
+  )
+
+-- whether two blocks are apart, by the snapshots that they spell
+pub as_spelled : (a b : List ℕ) (v w : Snapshot) → IsSnapshot v → IsSnapshot w → a ≡ snapshot_bytes v → b ≡ snapshot_bytes w
+    → ((s : Snapshot) → IsSnapshot s → a ≡ snapshot_bytes s → v ≡ s) → ((s : Snapshot) → IsSnapshot s → b ≡ snapshot_bytes s → w ≡ s)
+    → AreApart a b ↔ ((v.name ≢ w.name) × (v.order ≢ w.order))
+as_spelled a b v w is_v is_w at_v at_w one other = (
+  λ apart. apart v w is_v is_w at_v at_w,
+  λ differ s q is_s is_q at_s at_q.
+      let first = one s is_s at_s in
+      let second = other q is_q at_q in (
+        λ same. differ.0 (ap (λ (x : Snapshot). x.name) first ∙ same ∙ sym (ap (λ (x : Snapshot). x.name) second)),
+        λ same. differ.1 (ap (λ (x : Snapshot). x.order) first ∙ same ∙ sym (ap (λ (x : Snapshot). x.order) second)),
+      ),
+)
+
+pub unless : (r b : Bool) (P : Type 0) → r ≡ not b → Decides b P → IsTrue r ↔ (P → ⊥)
+unless r true P is decides = (λ yes. cc, λ no. absurd (no (decides.0 refl)))
+unless r false P is decides = (λ yes p. let e : false ≡ true = decides.1 p in cc, λ no. is)
+
+pub unequal : (x y : ℕ) → IsTrue (not (eqb x y)) → x ≡ y → ⊥
+unequal x y other same = grind (arith, nat_tests)

@@ -1,0 +1,19 @@
+use Rattle.std.proofs.Common.{◌≡◌, ◌∙◌, ◌<◌, suc, length, refl, rules, arith, sym}
+use Rattle.std.specs.Prelude.{slice_index_or}
+use Rattle.std.proofs.lemmas.List.{get_or_read}
+use Rattle.layout.specs.declared.pointer.Pointer.TheVariants.{Hole}
+use Rattle.images.specs.Roots.{slot}
+use Rattle.loading.proofs.SnapshotLaws.{apart, at_slot}
+use Rattle.loading.proofs.snapshots.check_snapshots.Goals as goal
+
+pub returns-in_err-check_snapshot-clause-damaged : goal.returns-in_err-check_snapshot-clause-damaged
+returns-in_err-check_snapshot-clause-damaged g c disk shows damaged are =
+    let r = c.args.root.now in
+    let within : c.loop-k.k < length r.snapshots = omega (arith, c.requires.root.slots, c.loop-k-test.true) in
+    let there : slot r (suc c.loop-k.k) ≡ c.index-root-k.result = sym (get_or_read r.snapshots c.loop-k.k c.index-root-k.result within c.index-root-k.is Hole) in
+    c.in_err-check_snapshot.ensures.damaged disk (c.loop-k.invariant.read.same disk shows) (search rules) (at_slot disk r c.loop-k.k (slice_index_or r.snapshots c.loop-k.k c.index-root-k.result) are (there ∙ c.index-root-k.is))
+
+pub returns-in_err-check_apart-clause-damaged : goal.returns-in_err-check_apart-clause-damaged
+returns-in_err-check_apart-clause-damaged g c disk shows damaged are =
+    c.in_err-check_apart.ensures.damaged disk (c.in_ok-check_snapshot.ensures.reads.same disk (c.loop-k.invariant.read.same disk shows)) (search rules)
+    (λ l lt. apart disk c.args.root.now are c.snapshots_are_what_their_bytes_spell.ensures l c.loop-k.k (slice_index_or c.args.root.now.snapshots l Hole) (slice_index_or c.args.root.now.snapshots c.loop-k.k Hole) lt refl refl)

@@ -1,0 +1,30 @@
+-- The snapshots' root blocks, as mount tests them.
+use Rattle.std.specs.Prelude.{ℕ, ◌≡◌, ◌≢◌, ◌≤◌, List}
+use Rattle.layout.specs.Places.{Blocks}
+use Rattle.layout.specs.SnapRoot.{Snapshot, IsSnapshot, snapshot_bytes}
+use Rattle.layout.specs.declared.pointer.Pointer.{Pointer}
+use Rattle.layout.specs.declared.pointer.Pointer.TheVariants.{Hole, Block}
+
+-- a block is a snapshot's root, of an order up to this one
+pub record IsSnapshotBlock (most : ℕ) (bytes : List ℕ) : Type 0 where
+  pub snapshot : Snapshot
+  pub is : IsSnapshot snapshot
+  pub spelled : bytes ≡ snapshot_bytes snapshot
+  pub order : snapshot.order ≤ most
+
+-- so is the block at a pointer, unless it is a hole
+abbrev pub IsSnapshotAt : ℕ → Blocks → Pointer → Type 0
+IsSnapshotAt most disk Hole = Unit {0}
+IsSnapshotAt most disk (Block b) = IsSnapshotBlock most (disk b)
+
+-- these bytes are no roots of two snapshots that have one name or one order
+abbrev pub AreApart : List ℕ → List ℕ → Type 0
+AreApart a b =
+    (s q : Snapshot) → IsSnapshot s → IsSnapshot q → a ≡ snapshot_bytes s → b ≡ snapshot_bytes q
+    → (s.name ≢ q.name) × (s.order ≢ q.order)
+
+-- so are the blocks at two pointers, unless one is a hole
+abbrev pub AreApartAt : Blocks → Pointer → Pointer → Type 0
+AreApartAt disk Hole b = Unit {0}
+AreApartAt disk (Block a) Hole = Unit {0}
+AreApartAt disk (Block a) (Block b) = AreApart (disk a) (disk b)

@@ -1,0 +1,123 @@
+//! The snapshots' root blocks under a root.
+
+ghost use Rattle.std.specs.Prelude.{◌≡◌, ◌↔◌, ◌<◌, ℕ, All, List, IfOk, IsErrOf, IsTrue, OnOk, slice_index_or};
+ghost use Rattle.layout.specs.Pointer.{PointsBelow};
+ghost use Rattle.layout.specs.Root.{IsRoot};
+ghost use Rattle.layout.specs.declared.version.TheConstants.{SNAPSHOT_SLOTS};
+ghost use Rattle.layout.specs.declared.pointer.Pointer.TheVariants.{Hole};
+ghost use Rattle.buffers.specs.Reads.{ReadsBlocks};
+ghost use Rattle.blocktree.specs.Errors.{IsFault};
+ghost use Rattle.images.specs.Roots.{whole};
+ghost use Rattle.images.specs.Snapshots.{AreSnapshots};
+ghost use Rattle.loading.specs.Snapshots.{AreApart, AreApartAt, IsSnapshotAt};
+
+use blocktree::ReadError;
+use buffers::Blocks;
+use images::snapshots_are_what_their_bytes_spell;
+use layout::{BLOCK_BYTES, Generation, Pointer, Root, SNAPSHOT_SLOTS, SnapRoot};
+
+/// Tests the root block of each snapshot of a root: `Damaged` where one is no snapshot's root, or has an order above the root's
+/// generation, and where two have one name or one order.
+pub fn check_snapshots<B: Blocks>(blocks: &mut B, root: &Root) -> Result<(), ReadError>
+    requires root { IsRoot root.now }
+    requires size { B.count blocks.old ≡ root.now.geometry.blocks }
+    ensures reads { ReadsBlocks B.Blocks IsFault blocks.old blocks.new result }
+    ensures are { (disk : ℕ → List ℕ) → B.Shows blocks.old disk → OnOk result ((k : ℕ)
+        → k < SNAPSHOT_SLOTS → IsSnapshotAt root.now.generation disk
+        (slice_index_or root.now.snapshots k Hole)) }
+    ensures apart { (disk : ℕ → List ℕ) → B.Shows blocks.old disk
+        → OnOk result ((k l : ℕ) → k < SNAPSHOT_SLOTS → l < k
+        → AreApartAt disk (slice_index_or root.now.snapshots l Hole)
+        (slice_index_or root.now.snapshots k Hole)) }
+    ensures damaged { (disk : ℕ → List ℕ) → B.Shows blocks.old disk
+        → IsErrOf result ReadError.Damaged → AreSnapshots root.now (whole disk root.now) → ⊥ }
+{
+    snapshots_are_what_their_bytes_spell();
+    for k in 0..SNAPSHOT_SLOTS {
+        check_snapshot(blocks, root.snapshots[k], root.generation)?;
+        check_apart(blocks, &root.snapshots, k)?;
+    }
+    Ok(())
+}
+
+/// Tests that the snapshot in a slot has the name and the order of none in a slot before it.
+fn check_apart<B: Blocks>(
+    blocks: &mut B,
+    snapshots: &[Pointer; SNAPSHOT_SLOTS],
+    k: usize,
+) -> Result<(), ReadError>
+    requires slot { k < SNAPSHOT_SLOTS }
+    requires within { All (PointsBelow (B.count blocks.old)) snapshots.now }
+    ensures reads { ReadsBlocks B.Blocks IsFault blocks.old blocks.new result }
+    ensures apart { (disk : ℕ → List ℕ) → B.Shows blocks.old disk → OnOk result ((l : ℕ) → l < k
+        → AreApartAt disk (slice_index_or snapshots.now l Hole)
+        (slice_index_or snapshots.now k Hole)) }
+    ensures damaged { (disk : ℕ → List ℕ) → B.Shows blocks.old disk
+        → IsErrOf result ReadError.Damaged → ((l : ℕ) → l < k
+        → AreApartAt disk (slice_index_or snapshots.now l Hole)
+        (slice_index_or snapshots.now k Hole)) → ⊥ }
+{
+    for earlier in 0..k {
+        let apart = are_apart(blocks, snapshots[earlier], snapshots[k])?;
+        if !apart {
+            return Err(ReadError::Damaged);
+        }
+    }
+    Ok(())
+}
+
+/// Whether the snapshots at two pointers, if there are two, differ in name and in order.
+fn are_apart<B: Blocks>(blocks: &mut B, a: Pointer, b: Pointer) -> Result<bool, ReadError>
+    requires first { PointsBelow (B.count blocks.old) a }
+    requires second { PointsBelow (B.count blocks.old) b }
+    ensures reads { ReadsBlocks B.Blocks IsFault blocks.old blocks.new result }
+    ensures apart { (disk : ℕ → List ℕ) → B.Shows blocks.old disk
+        → IfOk result (λ apart. IsTrue apart ↔ AreApartAt disk a b) }
+    ensures undamaged { IsErrOf result ReadError.Damaged → ⊥ }
+{
+    let Pointer::Block(a) = a else {
+        return Ok(true);
+    };
+    let Pointer::Block(b) = b else {
+        return Ok(true);
+    };
+    blocks.make_resident(a)?;
+    blocks.make_resident(b)?;
+    Ok(differ(blocks.bytes(a), blocks.bytes(b)))
+}
+
+/// Whether two blocks are no roots of snapshots of one name or one order.
+fn differ(a: &[u8; BLOCK_BYTES], b: &[u8; BLOCK_BYTES]) -> bool
+    ensures { IsTrue result ↔ AreApart a.now b.now }
+{
+    let Some(a) = SnapRoot::read(a) else {
+        return true;
+    };
+    let Some(b) = SnapRoot::read(b) else {
+        return true;
+    };
+    a.order != b.order && a.name != b.name
+}
+
+/// Tests the root block of the snapshot at a pointer, if there is one.
+fn check_snapshot<B: Blocks>(
+    blocks: &mut B,
+    pointer: Pointer,
+    generation: Generation,
+) -> Result<(), ReadError>
+    requires { PointsBelow (B.count blocks.old) pointer }
+    ensures reads { ReadsBlocks B.Blocks IsFault blocks.old blocks.new result }
+    ensures is { (disk : ℕ → List ℕ) → B.Shows blocks.old disk
+        → OnOk result (IsSnapshotAt generation disk pointer) }
+    ensures damaged { (disk : ℕ → List ℕ) → B.Shows blocks.old disk
+        → IsErrOf result ReadError.Damaged → IsSnapshotAt generation disk pointer → ⊥ }
+{
+    let Pointer::Block(place) = pointer else {
+        return Ok(());
+    };
+    blocks.make_resident(place)?;
+    match SnapRoot::read(blocks.bytes(place)) {
+        Some(snapshot) if snapshot.order <= generation.get() => Ok(()),
+        _ => Err(ReadError::Damaged),
+    }
+}
