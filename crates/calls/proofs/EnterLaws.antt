@@ -1,0 +1,216 @@
+-- Names that directories of a volume get.
+use Rattle.std.proofs.Common.{◌≡◌, ◌≢◌, ◌⊎◌, inl, inr, ℕ, zero, suc, ◌==◌, ◌<◌, ◌≤◌, List, Option, Some, None, IsTrue, IsSome, is_some, IfSome, IfNone, IfOk, Result, Ok, Err, false, bytes_eq, refl, sym, ap, subst, ◌∙◌, arith}
+use Rattle.std.proofs.Math.Path.{fun_ext}
+use Rattle.std.proofs.lemmas.Bool.{cases_Bool, cases_eq, false≢true, both_ways}
+use Rattle.std.proofs.lemmas.Bool.Decides.{nat_tests}
+use Rattle.std.proofs.lemmas.Slice.Eq.{bytes_eq-Decides}
+use Rattle.layout.specs.DirectoryNames.{NameMap}
+use Rattle.layout.specs.declared.inode.Inode.{Inode}
+use Rattle.layout.specs.declared.kind.Kind.{Kind}
+use Rattle.layout.specs.declared.kind.Kind.TheVariants as kinds
+use Rattle.model.specs.Counting.{Counts}
+use Rattle.model.specs.Paths.{Name, IsName}
+use Rattle.model.specs.Records.{TakesName, is_vacant}
+use Rattle.model.specs.Volumes.{Node, directory_node, file_node, link_node, Volume, names_in, is_directory_node, with_node, set_name, created, IsVolume}
+use Rattle.model.proofs.CountLemmas.{counts_once}
+use Rattle.images.specs.Contents.{Content, StandsAs, IsDirectoryOf}
+use Rattle.inode.specs.declared.object.Object.{Object}
+use Rattle.inofile.specs.Objects.{IsObject, IsObjectKind, IsObjectOrNone, IsSameOrNone}
+use Rattle.inofile.specs.Settled.{content_of}
+use Rattle.dirs.specs.Directory.{HasCount}
+use Rattle.dirs.specs.declared.edit.Edit.{Edit}
+use Rattle.calls.specs.Entering.{EntersIn, IsDirectoryObject, TakesEntry}
+
+-- ---- a directory of a volume and one in memory
+
+module _ (v : Volume) (d : ℕ) (x : Name) (mode : ℕ) (names : NameMap) (is : v d ≡ Some (directory_node mode names)) where
+  pub takes_name : IsName x → TakesEntry names x → TakesName v d x
+  takes_name name takes = record {
+    directory = subst (λ (o : Option Node). IsTrue (is_directory_node o)) (sym is) refl;
+    missing = subst (λ (o : Option Node). names_in o x ≡ None) (sym is) takes.missing;
+    name = name;
+    count = takes.count;
+    counts = subst (λ (o : Option Node). Counts (λ y. IsSome (names_in o y)) takes.count) (sym is) takes.counts;
+    room = takes.room;
+  }
+
+  pub takes_entry : TakesName v d x → TakesEntry names x
+  takes_entry takes = record {
+    missing = subst (λ (o : Option Node). names_in o x ≡ None) is takes.missing;
+    count = takes.count;
+    counts = subst (λ (o : Option Node). Counts (λ y. IsSome (names_in o y)) takes.count) is takes.counts;
+    room = takes.room;
+  }
+
+-- names are told apart
+names_apart : (a b : Name) → (a ≡ b) ⊎ (a ≢ b)
+names_apart a b = elim (cases_Bool (bytes_eq a b)) [
+  | inl same ↦ inl ((bytes_eq-Decides a b).0 same)
+  | inr other ↦ inr (λ e. both_ways (bytes_eq a b) other ((bytes_eq-Decides a b).1 e))
+]
+
+-- a full directory takes no name
+pub full_takes_none : (names : NameMap) (x : Name) (n : ℕ) → HasCount names n → 65536 ≤ n → TakesEntry names x → ⊥
+full_takes_none names x n count many takes =
+    let same : n ≡ takes.count = counts_once (λ (y : Name). IsSome (names y)) names_apart n takes.count count takes.counts in
+    let room = takes.room in
+    omega (arith, same, room, many)
+
+-- ---- kinds
+
+none_directory : (o : Option Node) → o ≡ None → IsTrue (is_directory_node o) → ⊥
+none_directory o none is = false≢true (subst (λ (x : Option Node). IsTrue (is_directory_node x)) none is)
+
+some_directory : (o : Option Node) (node : Node) → o ≡ Some node → is_directory_node (Some node) ≡ false → IsTrue (is_directory_node o) → ⊥
+some_directory o node some not is = both_ways (is_directory_node (Some node)) not (subst (λ (x : Option Node). IsTrue (is_directory_node x)) some is)
+
+-- what stands for a directory is one
+pub directory_kind : (k : Kind) (inodes : ℕ) (c : Content) (o : Option Node) → StandsAs k inodes c o → IsTrue (is_directory_node o) → k ≡ kinds.Directory
+directory_kind kinds.Free inodes c o stands is = absurd (none_directory o stands is)
+directory_kind kinds.File inodes c o stands is = absurd (some_directory o _ stands refl is)
+directory_kind kinds.Directory inodes c o stands is = refl
+directory_kind kinds.Link inodes c o stands is = absurd (some_directory o _ stands refl is)
+directory_kind kinds.InodeFile inodes c o stands is = absurd (none_directory o stands is)
+directory_kind kinds.InodeMap inodes c o stands is = absurd (none_directory o stands is)
+directory_kind kinds.BlockMap inodes c o stands is = absurd (none_directory o stands is)
+
+-- a directory in memory, with its names
+pub directory_stands : (k : Kind) (inodes : ℕ) (c : Content) (o : Option Node) → k ≡ kinds.Directory → StandsAs k inodes c o
+    → (names : NameMap) × IsDirectoryOf inodes c names × (o ≡ Some (directory_node c.mode names))
+directory_stands k inodes c o is stands = subst (λ (x : Kind). StandsAs x inodes c o) is stands
+
+pub not_directory : (k : Kind) (inodes : ℕ) (c : Content) (o : Option Node) → StandsAs k inodes c o → (k ≡ kinds.Directory → ⊥) → false ≡ is_directory_node o
+not_directory k inodes c o stands other =
+    elim (cases_Bool (is_directory_node o)) [ inl is ↦ absurd (other (directory_kind k inodes c o stands is)) | inr isnt ↦ sym isnt ]
+
+-- what stands for a directory is one in memory
+pub is_directory_object : (disk : ℕ → List ℕ) (inodes : ℕ) (settled : Inode) (x : Option Object) (found : Option Node) → IsObjectOrNone disk inodes settled x found
+    → IsTrue (is_directory_node found) → IsDirectoryObject x
+is_directory_object disk inodes settled (Some o) found stands is = directory_kind o.attributes.kind inodes (content_of disk o) found stands.stands is
+is_directory_object disk inodes settled None found stands is = absurd (none_directory found stands is)
+
+nameless_file : (mode links : ℕ) (bytes : List ℕ) → (links == 0) ≡ is_vacant (Some (file_node mode links bytes))
+nameless_file mode zero bytes = refl
+nameless_file mode (suc links) bytes = grind (arith, nat_tests)
+
+-- a file without links is vacant, and nothing else that stands there is
+pub file_vacancy : (inodes : ℕ) (c : Content) (o : Option Node) → StandsAs kinds.File inodes c o → (c.links == 0) ≡ is_vacant o
+file_vacancy inodes c o stands = nameless_file c.mode c.links _ ∙ ap is_vacant (sym stands)
+
+pub other_vacancy : (k : Kind) (inodes : ℕ) (c : Content) (o : Option Node) → (k ≡ kinds.File → ⊥) → IsObjectKind k → StandsAs k inodes c o → false ≡ is_vacant o
+other_vacancy kinds.Free inodes c o other kind stands = absurd kind
+other_vacancy kinds.File inodes c o other kind stands = absurd (other refl)
+other_vacancy kinds.Directory inodes c o other kind stands = ap is_vacant (sym stands.2)
+other_vacancy kinds.Link inodes c o other kind stands = ap is_vacant (sym stands)
+other_vacancy kinds.InodeFile inodes c o other kind stands = absurd kind
+other_vacancy kinds.InodeMap inodes c o other kind stands = absurd kind
+other_vacancy kinds.BlockMap inodes c o other kind stands = absurd kind
+
+-- a directory's number isn't vacant
+pub vacant_apart : (v : Volume) (n d : ℕ) → IsTrue (is_vacant (v n)) → IsTrue (is_directory_node (v d)) → n ≢ d
+vacant_apart v n d vacant directory same = apart (v d) (subst (λ k. IsTrue (is_vacant (v k))) same vacant) directory
+  where
+    apart : (o : Option Node) → IsTrue (is_vacant o) → IsTrue (is_directory_node o) → ⊥
+    apart None vacant directory = false≢true directory
+    apart (Some (directory_node mode names)) vacant directory = false≢true vacant
+    apart (Some (file_node mode links bytes)) vacant directory = false≢true directory
+    apart (Some (link_node text)) vacant directory = false≢true directory
+
+-- ---- answers
+
+-- what is true of what is told, from two other facts of it
+pub both_told : {A E : Type 0} (r : Result (Option A) E) (P Q R : A → Type 0) → ((a : A) → P a → Q a → R a)
+    → IfOk r (λ o. IfSome o P) → IfOk r (λ o. IfSome o Q) → IfOk r (λ o. IfSome o R)
+both_told (Ok (Some a)) P Q R then p q = then a p q
+both_told (Ok None) P Q R then p q = tt
+both_told (Err e) P Q R then p q = tt
+
+pub told_so : {A E : Type 0} (r : Result (Option A) E) (P Q : A → Type 0) → ((a : A) → P a → Q a) → IfOk r (λ o. IfSome o P) → IfOk r (λ o. IfSome o Q)
+told_so (Ok (Some a)) P Q then p = then a p
+told_so (Ok None) P Q then p = tt
+told_so (Err e) P Q then p = tt
+
+pub refused_so : {A E : Type 0} (r : Result (Option A) E) (P Q : Type 0) → (P → Q) → IfOk r (λ o. IfNone o P) → IfOk r (λ o. IfNone o Q)
+refused_so (Ok (Some a)) P Q then p = tt
+refused_so (Ok None) P Q then p = then p
+refused_so (Err e) P Q then p = tt
+
+pub not_some : {A : Type 0} (o : Option A) → is_some o ≡ false → o ≡ None
+not_some None is = refl
+not_some (Some a) is = absurd (false≢true (sym is))
+
+-- what isn't touched is the same
+pub same_object : (x : Option Object) → IsSameOrNone x x
+same_object (Some o) = record {
+  attributes = refl;
+  file = record { size = refl; blocks = λ disk i. refl; base = λ settled is. is; sound = λ blocks disk i is. is; was_sound = λ blocks disk i is. is };
+}
+same_object None = tt
+
+-- an object that was taken out, or none
+pub object_or_none : (disk : ℕ → List ℕ) (inodes : ℕ) (settled : Inode) (o : Option Object) (found : Option Node)
+    → IfSome o (λ x. IsObject disk inodes settled x found) → IfNone o (found ≡ None) → IsObjectOrNone disk inodes settled o found
+object_or_none disk inodes settled (Some x) found stands none = stands
+object_or_none disk inodes settled None found stands none = none
+
+-- what a name is given in is a directory that takes it
+pub enters_stands : (disk : ℕ → List ℕ) (inodes : ℕ) (name : Name) (number : ℕ) (found : Option Node) (o : Option Object) (edit : Edit) → EntersIn disk inodes name number found o edit
+    → (mode : ℕ) × (names : NameMap) × (found ≡ Some (directory_node mode names)) × TakesEntry names name
+enters_stands disk inodes name number found (Some o) edit enters = (o.attributes.mode, enters.names, enters.stands, enters.takes)
+enters_stands disk inodes name number found None edit enters = absurd enters
+
+-- ---- the volume
+
+pub node_here : (n k : ℕ) (node : Option Node) (v : Volume) → k ≡ n → with_node n node v k ≡ node
+node_here n k o v e = grind (arith, nat_tests)
+
+pub node_other : (n k : ℕ) (node : Option Node) (v : Volume) → k ≢ n → with_node n node v k ≡ v k
+node_other n k o v ne = grind (arith, nat_tests)
+
+-- a name and its object, the name first, make what is made at once
+module _ (n d : ℕ) (x : Name) (node : Node) (v : Volume) (apart : n ≢ d) where
+  abbrev object_put : Volume
+  object_put = with_node n (Some node) v
+
+  abbrev name_put : Volume
+  name_put = with_node d (set_name x (Some n) (v d)) v
+
+  at_parent : object_put d ≡ v d
+  at_parent = node_other n d (Some node) v (λ e. apart (sym e))
+
+  made_each : (k : ℕ) → with_node n (Some node) name_put k ≡ created n d x node v k
+  made_each k = elim (cases_eq k n) [
+    | inl is_n ↦
+        node_here n k (Some node) name_put is_n
+        ∙ sym (node_here n k (Some node) v is_n)
+        ∙ sym (node_other d k (set_name x (Some n) (object_put d)) object_put (λ e. apart (sym is_n ∙ e)))
+    | inr other ↦
+        node_other n k (Some node) name_put other
+        ∙ elim (cases_eq k d) [
+          | inl is_d ↦
+              node_here d k (set_name x (Some n) (v d)) v is_d
+              ∙ ap (set_name x (Some n)) (sym at_parent)
+              ∙ sym (node_here d k (set_name x (Some n) (object_put d)) object_put is_d)
+          | inr ne ↦
+              node_other d k (set_name x (Some n) (v d)) v ne
+              ∙ sym (node_other n k (Some node) v other)
+              ∙ sym (node_other d k (set_name x (Some n) (object_put d)) object_put ne)
+        ]
+  ]
+
+  pub made_volume : with_node n (Some node) (with_node d (set_name x (Some n) (v d)) v) ≡ created n d x node v
+  made_volume = fun_ext {f = with_node n (Some node) name_put} {g = created n d x node v} made_each
+
+-- ---- numbers
+
+-- a directory of a volume has a number of the image
+pub directory_number : (inodes : ℕ) (v : Volume) (d : ℕ) → 32 ≤ inodes → IsVolume inodes v → IsTrue (is_directory_node (v d)) → d < inodes
+directory_number inodes v d least volume directory =
+    elim (volume.limits.numbers d (some (v d) directory)) [
+      | inl root ↦ omega (arith, root, least)
+      | inr within ↦ within.1
+    ]
+  where
+    some : (o : Option Node) → IsTrue (is_directory_node o) → IsSome o
+    some None is = absurd (false≢true is)
+    some (Some node) is = refl

@@ -1,0 +1,40 @@
+-- Refusals of calls by a path are their own.
+use Rattle.std.proofs.Common.{◌≡◌, inl, inr, ℕ, List, [], ◌∷◌, Some, None, IsTrue, refl, sym, subst, ◌∙◌}
+use Rattle.std.proofs.lemmas.Bool.{cases_Bool, cond-true, cond-false, false≢true}
+use Rattle.model.specs.Paths.{Tests, first_refusal, text_tests, new_text_tests}
+use Rattle.model.specs.declared.errno.Errno.{Errno}
+use Rattle.model.specs.declared.errno.Errno.TheVariants.{ENOENT, ENOTDIR, ENAMETOOLONG, ELOOP, DAMAGED}
+use Rattle.paths.specs.Refusals.{is_walk_refusal}
+use Rattle.calls.specs.Refusals.{is_path_refusal}
+
+pub walk_refusal : (e : Errno) → IsTrue (is_walk_refusal e) → IsTrue (is_path_refusal e)
+walk_refusal ENOENT is = refl
+walk_refusal ENOTDIR is = refl
+walk_refusal ENAMETOOLONG is = refl
+walk_refusal ELOOP is = refl
+walk_refusal DAMAGED is = refl
+walk_refusal _ is = absurd (false≢true is)
+
+abbrev AllOwn : Tests → Type 0
+AllOwn [] = Unit {0}
+AllOwn (test ∷ tests) = IsTrue (is_path_refusal test.1) × AllOwn tests
+
+same_errno : (a b : Errno) → Some a ≡ Some b → a ≡ b
+same_errno a b e = cc
+
+none_some : {X : Type 0} {e : Errno} → None ≡ Some e → X
+none_some e = cc
+
+first_own : (tests : Tests) (e : Errno) → AllOwn tests → first_refusal tests ≡ Some e → IsTrue (is_path_refusal e)
+first_own [] e own is = none_some is
+first_own (test ∷ tests) e own is =
+    elim (cases_Bool test.0) [
+      | inl t ↦ subst (λ (x : Errno). IsTrue (is_path_refusal x)) (same_errno test.1 e (sym (cond-true test.0 (Some test.1) (first_refusal tests) t) ∙ is)) own.0
+      | inr f ↦ first_own tests e own.1 (sym (cond-false test.0 (Some test.1) (first_refusal tests) f) ∙ is)
+    ]
+
+pub text_own : (text : List ℕ) (e : Errno) → first_refusal (text_tests text) ≡ Some e → IsTrue (is_path_refusal e)
+text_own text e is = first_own (text_tests text) e (refl, (refl, (refl, (refl, (refl, (refl, tt)))))) is
+
+pub new_text_own : (text : List ℕ) (e : Errno) → first_refusal (new_text_tests text) ≡ Some e → IsTrue (is_path_refusal e)
+new_text_own text e is = first_own (new_text_tests text) e (refl, (refl, (refl, (refl, (refl, (refl, (refl, tt))))))) is

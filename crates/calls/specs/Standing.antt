@@ -1,0 +1,20 @@
+-- Memory over the blocks of a disk, and what looking into an image does.
+use Rattle.std.specs.Prelude.{ℕ, ◌≡◌, List, Result}
+use Rattle.layout.specs.declared.inode.Inode.{Inode}
+use Rattle.model.specs.Volumes.{Volume}
+use Rattle.buffers.specs.Reads.{ReadsBlocks}
+use Rattle.buffers.specs.declared.blocks.Blocks.{Ghosts}
+use Rattle.inofile.specs.Volumes.{IsVolumeOf}
+use Rattle.inofile.specs.declared.inode_file.InodeFile.{InodeFile}
+
+-- the blocks show a disk, over which memory stands for a volume
+pub record Stands {B : Type 0} (G : Ghosts B) (disk : ℕ → List ℕ) (settled : ℕ → Inode) (v : Volume) (blocks : B) (s : InodeFile) : Type 0 where
+  pub shows : G.Shows blocks disk
+  pub volume : IsVolumeOf (G.count blocks) disk settled s v
+
+-- Blocks are read, and objects come into memory. What memory stands for stays. IsFault tells which errors say that a device call
+-- failed.
+pub record Looks {B T E : Type 0} (G : Ghosts B) (IsFault : E → Type 0) (blocks after : B) (s t : InodeFile) (result : Result T E) : Type 0 where
+  pub reads : ReadsBlocks G IsFault blocks after result
+  pub geometry : t.geometry ≡ s.geometry
+  pub kept : (disk : ℕ → List ℕ) (settled : ℕ → Inode) (v : Volume) → Stands G disk settled v blocks s → Stands G disk settled v after t
