@@ -1,0 +1,4 @@
+mod Errors
+mod RecordLaws
+mod SavedLaws
+mod SweepLaws

@@ -1,0 +1,104 @@
+-- Records read one after the other, and where they lead.
+use Rattle.std.proofs.Common.{◌≡◌, ℕ, ◌+◌, ◌<◌, ◌^◌, List, [], ◌∷◌, ◌++◌, length, take, drop, refl, sym, ap, subst, ◌∙◌, arith, append_assoc, length-append}
+use Rattle.std.proofs.lemmas.List.{take_at, drop_at}
+use Rattle.std.proofs.lemmas.List.Elements.{All-head, All-tail}
+use Rattle.byteorder.specs.Numbers.{length-bytes_low_first, little_number-reads_back}
+use Rattle.byteorder.specs.Endian.{little_bytes, little_number}
+use Rattle.layout.specs.Log.{record_of, records_of, HoldsBodies, IsClosed}
+use Rattle.layout.specs.Record.{Change, IsChange, change_bytes}
+use Rattle.model.specs.Records.{Applies, applied}
+use Rattle.model.specs.Volumes.{Volume}
+use Rattle.calls.specs.Served.{IsServed}
+use Rattle.oplog.specs.SavedLog.{HoldsLeaving}
+use Rattle.replay.specs.Volumes.{LeadTo, Spells, bodies_of}
+
+-- two lists of one length stand in front of one list alike
+front_once : (xs ys rs ss : List ℕ) → length xs ≡ length ys → xs ++ rs ≡ ys ++ ss → (xs ≡ ys) × (rs ≡ ss)
+front_once xs ys rs ss same e = (
+  sym (take_at xs rs (length ys) same) ∙ ap (take (length ys)) e ∙ take_at ys ss (length ys) refl,
+  sym (drop_at xs rs (length ys) same) ∙ ap (drop (length ys)) e ∙ drop_at ys ss (length ys) refl,
+)
+
+head_length : (n : ℕ) → length (1 ∷ little_bytes 4 n) ≡ 5
+head_length n = omega (arith, length-bytes_low_first 0 4 n)
+
+-- a record's bytes tell its body
+record_once : (x y rs ss : List ℕ) → length x < 2 ^ 32 → length y < 2 ^ 32 → record_of x ++ rs ≡ record_of y ++ ss → (x ≡ y) × (rs ≡ ss)
+record_once x y rs ss short short_too e =
+    let heads = front_once (1 ∷ little_bytes 4 (length x)) (1 ∷ little_bytes 4 (length y)) (x ++ rs) (y ++ ss)
+    (head_length (length x) ∙ sym (head_length (length y)))
+    (sym (append_assoc (1 ∷ little_bytes 4 (length x)) x rs) ∙ e ∙ append_assoc (1 ∷ little_bytes 4 (length y)) y ss) in
+    let lengths : little_bytes 4 (length x) ≡ little_bytes 4 (length y) = ap (drop 1) heads.0 in
+    let same : length x ≡ length y = sym (little_number-reads_back 4 (length x) [] short) ∙ ap (little_number 4) lengths ∙ little_number-reads_back 4 (length y) [] short_too in
+    front_once x y rs ss same heads.1
+
+-- the records behind an open gate: the first, and those that lead on
+pub record Step (inodes : ℕ) (body after : List ℕ) (changes : List Change) (now w : Volume) : Type 0 where
+  pub change : Change
+  pub more : List Change
+  pub are : changes ≡ change ∷ more
+  pub spells : Spells body change
+  pub applies : Applies inodes now change
+  pub leads : LeadTo inodes after more (applied change now) w
+
+pub step : (inodes : ℕ) (rest body after : List ℕ) (changes : List Change) (now w : Volume) → length body < 2 ^ 32 → rest ≡ record_of body ++ after
+    → LeadTo inodes rest changes now w → Step inodes body after changes now w
+step inodes rest body after [] now w short is leads = let e : 0 ∷ leads.held.0 ≡ record_of body ++ after = sym leads.held.1 ∙ is in absurd (cc)
+step inodes rest body after (c ∷ more) now w short is leads =
+    let same = record_once body (change_bytes c) after leads.held.0 short leads.held.1 (sym is ∙ leads.held.2) in
+    record {
+      change = c;
+      more = more;
+      are = refl;
+      spells = record { is = All-head IsChange c more leads.are; served = All-head IsServed c more leads.served; spelled = same.0 };
+      applies = leads.replays.0;
+      leads = record {
+        are = All-tail IsChange c more leads.are;
+        served = All-tail IsServed c more leads.served;
+        held = subst (λ (l : List ℕ). HoldsBodies l (bodies_of more)) (sym same.1) leads.held.3;
+        replays = leads.replays.1;
+      };
+    }
+
+-- behind a closed gate there are none
+pub ends : (inodes : ℕ) (rest : List ℕ) (changes : List Change) (now w : Volume) → IsClosed rest → LeadTo inodes rest changes now w → (changes ≡ []) × (w ≡ now)
+ends inodes rest [] now w shut leads = (refl, leads.replays)
+ends inodes rest (c ∷ more) now w shut leads = let e : 0 ∷ shut.0 ≡ record_of (change_bytes c) ++ leads.held.0 = sym shut.1 ∙ leads.held.2 in absurd (cc)
+
+-- What is left to be replayed of records that lead to a volume: from the volume that stands now, and so many bytes.
+pub record IsLeft (inodes : ℕ) (records rest : List ℕ) (changes : List Change) (now w : Volume) : Type 0 where
+  pub more : List Change
+  pub leads : LeadTo inodes rest more now w
+  pub length_is : length (records_of (bodies_of more)) + length records ≡ length rest + length (records_of (bodies_of changes))
+
+pub none_done : (inodes : ℕ) (records : List ℕ) (changes : List Change) (v w : Volume) → LeadTo inodes records changes v w → IsLeft inodes records records changes v w
+none_done inodes records changes v w leads = record { more = changes; leads = leads; length_is = omega arith }
+
+module _ (inodes : ℕ) (records rest : List ℕ) (changes : List Change) (now w : Volume) (left : IsLeft inodes records rest changes now w) where
+  -- one record more
+  pub one_more : (body after : List ℕ) → length body < 2 ^ 32 → rest ≡ record_of body ++ after
+      → (s : Step inodes body after left.more now w) × IsLeft inodes records after changes (applied s.change now) w
+  one_more body after short is =
+      let s = step inodes rest body after left.more now w short is left.leads in
+      let body_is : change_bytes s.change ≡ body = sym s.spells.spelled in (
+        s,
+        record {
+          more = s.more;
+          leads = s.leads;
+          length_is = omega (
+            arith,
+            left.length_is,
+            ap (λ cs. length (records_of (bodies_of cs))) s.are,
+            ap length is,
+            length-append (record_of body) after,
+            length-append (record_of (change_bytes s.change)) (records_of (bodies_of s.more)),
+            ap (λ b. length (record_of b)) body_is,
+          );
+        },
+      )
+
+  -- all of them
+  pub all_done : HoldsBodies records (bodies_of changes) → IsClosed rest → HoldsLeaving records (bodies_of changes) (length rest) × (w ≡ now)
+  all_done held shut =
+      let e = ends inodes rest left.more now w shut left.leads in
+      (record { held = held; left_is = omega (arith, left.length_is, ap (λ cs. length (records_of (bodies_of cs))) e.0) }, e.1)

@@ -1,0 +1,102 @@
+-- A volume whose files without names are dropped, number after number.
+use Rattle.std.proofs.Common.{◌≡◌, inl, inr, ℕ, zero, suc, ◌+◌, ◌<◌, ◌≤◌, true, false, refl, sym, ap, subst, ◌∙◌, arith}
+use Rattle.std.specs.Prelude.{Option, Some, None, IsSome, IsTrue, nat_lt, if◌then◌else◌, ◌==◌}
+use Rattle.std.proofs.Math.Path.{fun_ext}
+use Rattle.std.proofs.lemmas.Bool.{cases_lt, cases_eq, cond_below, cond_above}
+use Rattle.std.proofs.lemmas.Bool.Decides.{nat_tests}
+use Rattle.model.specs.Records.{without_nameless}
+use Rattle.model.specs.Volumes.{Node, directory_node, file_node, link_node, Volume, IsVolume, is_directory_node, is_nameless, swept_node, with_node}
+use Rattle.inofile.specs.Volumes.{HasNoOwn}
+
+-- the files without names below a number are dropped
+abbrev pub dropped_below : ℕ → Volume → Volume
+dropped_below m v n = if nat_lt n m then swept_node false (v n) else v n
+
+-- ---- one object
+
+stays : (o : Option Node) → is_nameless o ≡ false → swept_node false o ≡ o
+stays None is = refl
+stays (Some (directory_node mode names)) is = refl
+stays (Some (link_node text)) is = refl
+stays (Some (file_node mode zero bytes)) is = cc
+stays (Some (file_node mode (suc links) bytes)) is = refl
+
+goes : (o : Option Node) → is_nameless o ≡ true → swept_node false o ≡ None
+goes None is = cc
+goes (Some (directory_node mode names)) is = cc
+goes (Some (link_node text)) is = cc
+goes (Some (file_node mode zero bytes)) is = refl
+goes (Some (file_node mode (suc links) bytes)) is = cc
+
+directory_stays : (o : Option Node) → IsTrue (is_directory_node o) → swept_node false o ≡ o
+directory_stays None is = cc
+directory_stays (Some (directory_node mode names)) is = refl
+directory_stays (Some (link_node text)) is = cc
+directory_stays (Some (file_node mode links bytes)) is = cc
+
+-- none, where nothing can be
+none_where : (o : Option Node) → (IsSome o → ⊥) → swept_node false o ≡ o
+none_where None empty = refl
+none_where (Some x) empty = absurd (empty refl)
+
+-- ---- one number
+
+put_there : (m k : ℕ) (o p : Option Node) → k ≡ m → (if k == m then o else p) ≡ o
+put_there m k o p same = grind (arith, nat_tests)
+
+put_elsewhere : (m k : ℕ) (o p : Option Node) → (k ≡ m → ⊥) → (if k == m then o else p) ≡ p
+put_elsewhere m k o p other = grind (arith, nat_tests)
+
+-- a file without a name is dropped
+pub dropped : (m : ℕ) (v : Volume) → is_nameless (v m) ≡ true → with_node m None v ≡ with_node m (swept_node false (v m)) v
+dropped m v is = ap (λ o. with_node m o v) (sym (goes (v m) is))
+
+-- anything else stays
+pub kept : (m : ℕ) (v : Volume) → is_nameless (v m) ≡ false → v ≡ with_node m (swept_node false (v m)) v
+kept m v is = fun_ext {f = v} {g = with_node m (swept_node false (v m)) v} (λ k. elim (cases_eq k m) [
+  | inl same ↦ ap v same ∙ sym (stays (v m) is) ∙ sym (put_there m k (swept_node false (v m)) (v k) same)
+  | inr other ↦ sym (put_elsewhere m k (swept_node false (v m)) (v k) other)
+])
+
+-- ---- number after number
+
+at_it : (m : ℕ) (v : Volume) → dropped_below m v m ≡ v m
+at_it m v = sym (cond_above m m (swept_node false (v m)) (v m) (v m) (omega arith) refl)
+
+below : (m k : ℕ) (v : Volume) → k < m → dropped_below m v k ≡ swept_node false (v k)
+below m k v lt = sym (cond_below k m (swept_node false (v k)) (v k) lt)
+
+past : (m k : ℕ) (v : Volume) → m ≤ k → dropped_below m v k ≡ v k
+past m k v le = sym (cond_above k m (swept_node false (v k)) (v k) (v k) le refl)
+
+pub one_more : (m : ℕ) (v : Volume) → with_node m (swept_node false (dropped_below m v m)) (dropped_below m v) ≡ dropped_below (m + 1) v
+one_more m v = fun_ext {f = with_node m (swept_node false (dropped_below m v m)) (dropped_below m v)} {g = dropped_below (m + 1) v} (λ k. elim (cases_eq k m) [
+  | inl same ↦ put_there m k (swept_node false (dropped_below m v m)) (dropped_below m v k) same
+      ∙ ap (swept_node false) (at_it m v ∙ ap v (sym same)) ∙ sym (below (m + 1) k v (omega arith))
+  | inr other ↦ put_elsewhere m k (swept_node false (dropped_below m v m)) (dropped_below m v k) other ∙ elim (cases_lt k m) [
+    | inl lt ↦ below m k v lt ∙ sym (below (m + 1) k v (omega arith))
+    | inr ge ↦ past m k v ge ∙ sym (past (m + 1) k v (omega (arith, other)))
+  ]
+])
+
+-- none is dropped of the numbers before the first that an object may have
+pub starts : (inodes : ℕ) (v : Volume) → IsVolume inodes v → HasNoOwn v → v ≡ dropped_below 4 v
+starts inodes v is own = fun_ext {f = v} {g = dropped_below 4 v} (λ k. elim (cases_lt k 4) [
+  | inl low ↦ elim (cases_eq k 3) [
+    | inl root ↦ sym (directory_stays (v k) (subst (λ n. IsTrue (is_directory_node (v n))) (sym root) is.graph.root)) ∙ sym (below 4 k v low)
+    | inr other ↦
+        let none : v k ≡ None = own k (omega (arith, other)) in
+        none ∙ sym (ap (swept_node false) none) ∙ sym (below 4 k v low)
+  ]
+  | inr high ↦ sym (past 4 k v high)
+])
+
+-- behind the last number there are none
+pub ends : (inodes : ℕ) (v : Volume) → IsVolume inodes v → 4 ≤ inodes → dropped_below inodes v ≡ without_nameless v
+ends inodes v is many = fun_ext {f = dropped_below inodes v} {g = without_nameless v} (λ k. elim (cases_lt k inodes) [
+  | inl low ↦ below inodes k v low
+  | inr high ↦ past inodes k v high ∙ sym (none_where (v k) (λ some. elim (is.limits.numbers k some) [
+    | inl root ↦ absurd (omega arith)
+    | inr within ↦ absurd (omega (arith, within.1))
+  ]))
+])

@@ -1,0 +1,82 @@
+//! Files without names.
+
+ghost use Rattle.std.specs.Prelude.{◌≡◌, ◌⊎◌, ◌<◌, ◌≤◌, List, ℕ, MatchResult, false};
+ghost use Rattle.layout.specs.declared.inode.Inode.{Inode};
+ghost use Rattle.layout.specs.declared.numbers.TheConstants.{FIRST_NUMBER};
+ghost use Rattle.model.specs.Records.{without_nameless};
+ghost use Rattle.model.specs.Volumes.{Volume, is_nameless, swept_node, with_node};
+ghost use Rattle.buffers.specs.Reads.{ReadsBlocks};
+ghost use Rattle.blocktree.specs.Errors.{IsFault};
+ghost use Rattle.inofile.specs.Inodes.{IsKnown};
+ghost use Rattle.inofile.specs.Volumes.{IsVolumeOf};
+ghost use Rattle.replay.specs.Volumes.{HasVolume};
+
+use blocktree::ReadError;
+use buffers::Blocks;
+use inofile::InodeFile;
+use layout::{FIRST_NUMBER, Kind, is_taken};
+use model::mounts_find_volumes;
+use std::alloc::Global;
+
+/// Drops the files that have no name: no descriptor outlives a mount. `Damaged` where an inode isn't in its grammar. After an
+/// error it isn't known what memory stands for.
+pub(crate) fn drop_nameless<B: Blocks>(
+    alloc: Global,
+    inodes: &mut InodeFile,
+    blocks: &mut B,
+) -> Result<(), ReadError>
+    ensures reads { ReadsBlocks B.Blocks IsFault blocks.old blocks.new result }
+    ensures geometry { inodes.new.geometry ≡ inodes.old.geometry }
+    ensures drops { (disk : ℕ → List ℕ) (settled : ℕ → Inode) (v : Volume)
+        → B.Shows blocks.old disk
+        → HasVolume (B.count blocks.old) disk settled inodes.old v
+        → MatchResult result (λ _. HasVolume (B.count blocks.old) disk settled inodes.new
+        (without_nameless v)) (λ e. (e ≡ ReadError.NoMemory) ⊎ (e ≡ ReadError.Device)) }
+{
+    mounts_find_volumes();
+    for number in FIRST_NUMBER..inodes.geometry().inodes() {
+        drop_if_nameless(alloc, inodes, blocks, number)?;
+    }
+    Ok(())
+}
+
+/// Drops the file with this number, where it has no name.
+fn drop_if_nameless<B: Blocks>(
+    alloc: Global,
+    inodes: &mut InodeFile,
+    blocks: &mut B,
+    number: u32,
+) -> Result<(), ReadError>
+    requires low { FIRST_NUMBER ≤ number }
+    requires high { number < inodes.old.geometry.inodes }
+    ensures reads { ReadsBlocks B.Blocks IsFault blocks.old blocks.new result }
+    ensures geometry { inodes.new.geometry ≡ inodes.old.geometry }
+    ensures drops { (disk : ℕ → List ℕ) (settled : ℕ → Inode) (v : Volume)
+        → B.Shows blocks.old disk
+        → IsVolumeOf (B.count blocks.old) disk settled inodes.old v
+        → MatchResult result (λ _. IsVolumeOf (B.count blocks.old) disk settled inodes.new
+        (with_node number (swept_node false (v number)) v))
+        (λ e. (e ≡ ReadError.NoMemory) ⊎ (e ≡ ReadError.Device)) }
+{
+    inodes.load(alloc, blocks, number)?;
+    if is_nameless(inodes, number) {
+        inodes.prepare_set(number)?;
+        inodes.commit_set(number, None);
+    }
+    Ok(())
+}
+
+/// Whether a file in memory has no name.
+fn is_nameless(inodes: &InodeFile, number: u32) -> bool
+    requires { IsKnown inodes.now number }
+    ensures { (count : ℕ) (disk : ℕ → List ℕ) (settled : ℕ → Inode) (v : Volume)
+        → IsVolumeOf count disk settled inodes.now v → result ≡ is_nameless (v number) }
+{
+    let Some(object) = inodes.get(number) else {
+        return false;
+    };
+    match object.attributes.kind {
+        Kind::File => object.attributes.links == 0,
+        _ => false,
+    }
+}
