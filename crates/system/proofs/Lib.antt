@@ -1,0 +1,6 @@
+mod CutLaws
+mod SystemLaws
+mod PointLaws
+mod SettledLaws
+mod OpenLaws
+mod LoggedLaws

@@ -1,0 +1,125 @@
+-- A system whose log gets a record more.
+use Rattle.std.proofs.Common.{◌≡◌, ◌⊎◌, inl, inr, ℕ, ◌+◌, ◌*◌, ◌≤◌, List, [], ◌∷◌, ◌++◌, Option, refl, ap, sym, subst, ◌∙◌, append_assoc}
+use Rattle.std.specs.Prelude.{IsFalse, IsSome, map}
+use Rattle.std.proofs.lemmas.List.{map-append}
+use Rattle.std.proofs.lemmas.List.Elements.{All-push}
+use Rattle.std.specs.BTreeMap.{BTreeMap}
+use Rattle.station.specs.Images.{Images, Sector}
+use Rattle.station.specs.Moments.{Meaning, EachCut, IsSameStation, KeepsDisk, LeavesOnly, MayLeave}
+use Rattle.station.proofs.Moments.{weaker}
+use Rattle.layout.specs.Log.{LogHolds}
+use Rattle.layout.specs.Places.{blocks_of}
+use Rattle.layout.specs.Record.{Change, IsChange, change_bytes}
+use Rattle.layout.specs.declared.root.Root.{Root}
+use Rattle.model.specs.Records.{Applies, Extends, Replays, applied}
+use Rattle.model.specs.States.{State}
+use Rattle.model.specs.Trees.{Description}
+use Rattle.model.specs.Volumes.{Node, Volume, IsVolume}
+use Rattle.buffers.specs.Disks.{IsBlock, ShowsDisk}
+use Rattle.buffers.specs.declared.block.Block.{Block}
+use Rattle.blockmap.specs.declared.map.BlockMap.{BlockMap}
+use Rattle.inofile.specs.Volumes.{IsVolumeOf}
+use Rattle.inofile.specs.declared.inode_file.InodeFile.{InodeFile}
+use Rattle.images.specs.Roots.{whole}
+use Rattle.images.specs.States.{SameButFree}
+use Rattle.loading.specs.Images.{inodes_of}
+use Rattle.oplog.specs.LogEnd.{LogEnd, LogStands, ReadsDisk, StandsAt, WithOrWithout, all_of, with_body}
+use Rattle.system.specs.Images.{IsLeft, IsReplayed, IsUnder, OpensTo}
+use Rattle.system.specs.Laws.{CutLaws, RecordLaws}
+use Rattle.system.specs.Memory.{IsInMemory}
+use Rattle.system.specs.Logging.{Advances}
+use Rattle.system.specs.Systems.{IsServing, state_with}
+use Rattle.system.proofs.SystemLaws.{same_open}
+
+-- one record more is replayed
+replays_more : (inodes : ℕ) (v : Volume) (changes : List Change) (w : Volume) (c : Change) → Replays inodes v changes w → Applies inodes w c → Replays inodes v (changes ++ c ∷ []) (applied c w)
+replays_more inodes v [] w c is applies = (subst (λ (u : Volume). Applies inodes u c) is applies, ap (applied c) is)
+replays_more inodes v (d ∷ ds) w c rest applies = (rest.0, replays_more inodes (applied d v) ds w c rest.1 applies)
+
+module _ (laws : CutLaws) (records : RecordLaws) (m : Meaning) (kept : BTreeMap ℕ Block) (root : Root) (slot : ℕ) (inodes : InodeFile) (map_now : BlockMap) (log : LogEnd)
+    (table : ℕ → Option Description) (s : State) (serves : IsServing m kept root slot inodes map_now log table s) (change : Change)
+    (advances : Advances root.geometry.inodes serves.running table change) where
+  spelled : all_of (with_body serves.bodies (change_bytes change)) ≡ map change_bytes (serves.replayed.changes ++ change ∷ [])
+  spelled =
+      sym (append_assoc serves.bodies.older serves.bodies.newest (change_bytes change ∷ []))
+      ∙ ap (λ (l : List (List ℕ)). l ++ change_bytes change ∷ []) serves.replayed.spelled
+      ∙ sym (map-append change_bytes serves.replayed.changes (change ∷ []))
+
+  extends : Extends (applied change serves.running) (applied change serves.replayed.last)
+  extends =
+      let e = (records.follow root.geometry.inodes serves.running serves.replayed.last table change serves.replayed.extends advances.applies).1 in
+      let swept = advances.mounted.is_swept in
+      record {
+        kept = λ n some. e.kept n (subst (λ (o : Option Node). IsSome o) (sym (swept n)) some) ∙ swept n;
+        rest = λ n none. e.rest n (swept n ∙ none);
+      }
+
+  replayed : IsReplayed root.geometry.inodes (with_body serves.bodies (change_bytes change)) serves.first (applied change serves.running)
+  replayed = record {
+    changes = serves.replayed.changes ++ change ∷ [];
+    are = All-push IsChange serves.replayed.changes change serves.replayed.are advances.is;
+    spelled = spelled;
+    last = applied change serves.replayed.last;
+    replays = replays_more root.geometry.inodes serves.first serves.replayed.changes serves.replayed.last change serves.replayed.replays
+        (records.follow root.geometry.inodes serves.running serves.replayed.last table change serves.replayed.extends advances.applies).0;
+    extends = extends;
+  }
+
+  volume : IsVolume root.geometry.inodes (applied change serves.running)
+  volume = records.volumes root.geometry.inodes serves.running change serves.memory.volume advances.applies
+
+  -- the state that the record leads to
+  abbrev pub state_after : State
+  state_after = state_with root.geometry.inodes (applied change serves.running) table serves.snapshots
+
+  -- the log before it
+  pub log_stands : LogStands m log root.generation serves.bodies
+  log_stands honest c left = (serves.left honest c left).log_stands
+
+  same_disk : (c : Images) → (d : Images) → MayLeave m d → c.disk ≡ d.disk → SameButFree root m.seen.disk c.disk
+  same_disk c d left is n some = ap (λ (e : ℕ → Sector). e n) is ∙ (serves.left serves.honest d left).same n some
+
+  module _ (size : m.sectors ≡ 8 * root.geometry.blocks) (half : log.half ≡ root.geometry.half) where
+    -- while it is put into the log
+    pub at_any_moment : (now : Meaning) → LeavesOnly m now (KeepsDisk m (WithOrWithout log.half root.generation serves.bodies (change_bytes change)))
+        → LeavesOnly m now (λ c. OpensTo m s c ⊎ OpensTo m state_after c)
+    at_any_moment now leaves =
+        weaker m now (KeepsDisk m (WithOrWithout log.half root.generation serves.bodies (change_bytes change))) (λ c. OpensTo m s c ⊎ OpensTo m state_after c) leaves (λ c keeps. elim keeps.3 [
+          | inl without ↦ inl (same_open laws m.sectors m.seen.disk root slot serves.first serves.snapshots serves.under size serves.bodies serves.running serves.memory.volume serves.replayed table s serves.state
+              c (same_disk c keeps.0 keeps.1 keeps.2) (subst (λ (h : ℕ). LogHolds h root.generation c.nvram (all_of serves.bodies)) half without))
+          | inr with_it ↦ inr (same_open laws m.sectors m.seen.disk root slot serves.first serves.snapshots serves.under size (with_body serves.bodies (change_bytes change)) (applied change serves.running) volume replayed
+              table state_after refl c (same_disk c keeps.0 keeps.1 keeps.2) (subst (λ (h : ℕ). LogHolds h root.generation c.nvram (all_of (with_body serves.bodies (change_bytes change)))) half with_it))
+        ])
+
+  -- once it is there, and memory follows
+  pub logged : (now : Meaning) (now_log : LogEnd) → ((disk : ℕ → Sector) → ReadsDisk m disk → ReadsDisk now disk) → IsSameStation m now
+      → EachCut now (KeepsDisk m (StandsAt now_log root.generation (with_body serves.bodies (change_bytes change)))) → IsFalse now_log.is_stopped
+      → (now_inodes : InodeFile)
+      → IsVolumeOf root.geometry.blocks (blocks_of m.seen.disk) (inodes_of (whole (blocks_of m.seen.disk) root).active) now_inodes (applied change serves.running)
+      → IsServing now kept root slot now_inodes map_now now_log table state_after
+  logged now now_log disks same appended goes now_inodes stands =
+      let there = disks m.seen.disk (serves.honest, refl) in
+      let disk : m.seen.disk ≡ now.seen.disk = sym there.1 in
+      record {
+        honest = there.0;
+        shows = subst (λ (d : ℕ → Sector). ShowsDisk now kept (blocks_of d)) disk (record {
+          honest = there.0;
+          reads = λ b le. subst (λ (d : ℕ → Sector). IsBlock d b (blocks_of m.seen.disk b)) disk (serves.shows.reads b (subst (λ (n : ℕ). 8 * b + 8 ≤ n) same.sectors le));
+          kept_is = serves.shows.kept_is;
+        });
+        first = serves.first;
+        snapshots = serves.snapshots;
+        under = subst (IsUnder slot root serves.first serves.snapshots) disk serves.under;
+        bodies = with_body serves.bodies (change_bytes change);
+        left = λ honest c left.
+            let keeps = appended honest c left in
+            subst (λ (d : ℕ → Sector). IsLeft root now_log (with_body serves.bodies (change_bytes change)) d c) disk
+            (record { same = same_disk c keeps.0 keeps.1 keeps.2; log_stands = keeps.3 });
+        running = applied change serves.running;
+        mounted = advances.mounted;
+        replayed = replayed;
+        memory = subst (λ (d : ℕ → Sector). IsInMemory (blocks_of d) root now_inodes map_now (applied change serves.running)) disk
+            (record { stands = stands; volume = volume; entries = serves.memory.entries });
+        goes = goes;
+        state = refl;
+      }

@@ -1,0 +1,231 @@
+-- What is found on a station and read from it makes a system that serves it.
+use Rattle.std.proofs.Common.{◌≡◌, ◌⊎◌, inl, inr, ℕ, zero, suc, ◌+◌, ◌-◌, ◌*◌, ◌/◌, ◌%◌, ◌<◌, ◌≤◌, List, ◌++◌, length, slice_index, Option, Some, None, false, refl, sym, ap, subst, ◌∙◌, arith, length-append, zero-add}
+use Rattle.std.specs.Prelude.{Result, Ok, Err, IsErrAnd, IsErrOf, IsSome, IsTrue, IsFalse, MatchResult, IfErr}
+use Rattle.std.specs.BTreeMap.{BTreeMap}
+use Rattle.std.proofs.lemmas.Bool.{cases_lt}
+use Rattle.std.proofs.lemmas.List.{get_or_append_left, get_or-append_right}
+use Rattle.station.specs.Images.{Images, Unchanged}
+use Rattle.station.specs.Moments.{Meaning, Goes, IsSameStation, LeavesJust}
+use Rattle.layout.specs.Limits.{Sizes}
+use Rattle.layout.specs.Log.{LogHolds}
+use Rattle.layout.specs.Places.{Blocks, blocks_of}
+use Rattle.layout.specs.Record.{Change}
+use Rattle.layout.specs.declared.root.Root.{Root}
+use Rattle.model.specs.Paths.{Name}
+use Rattle.model.specs.Records.{Extends, Replays, is_vacant, without_nameless}
+use Rattle.model.specs.States.{State}
+use Rattle.model.specs.Trees.{Tree}
+use Rattle.model.specs.Volumes.{Node, directory_node, file_node, link_node, IsMounted, IsVolume, Volume, swept_node}
+use Rattle.buffers.specs.Disks.{IsBlock, ShowsDisk}
+use Rattle.buffers.specs.declared.block.Block.{Block}
+use Rattle.oplog.specs.LogEnd.{StandsAt}
+use Rattle.oplog.specs.SavedLog.{Saved, StandsBehind}
+use Rattle.blockmap.specs.declared.map.BlockMap.{BlockMap}
+use Rattle.images.specs.Roots.{whole}
+use Rattle.inofile.specs.Volumes.{IsVolumeOf}
+use Rattle.inofile.specs.declared.inode_file.InodeFile.{InodeFile}
+use Rattle.loading.specs.Images.{IsLoaded, inodes_of}
+use Rattle.replay.specs.Volumes.{HasVolume, SavesRecords, bodies_of}
+use Rattle.oplog.specs.declared.saved.SavedLogError.{SavedLogError}
+use Rattle.oplog.specs.declared.saved.SavedLogError.TheVariants as log
+use Rattle.blocktree.specs.declared.error.ReadError.{ReadError}
+use Rattle.blocktree.specs.declared.error.ReadError.TheVariants as read
+use Rattle.loading.specs.declared.error.RootError.{RootError}
+use Rattle.loading.specs.declared.error.RootError.TheVariants as root
+use Rattle.system.specs.Opening.{HasImage, HoldsRecords, IsOf}
+use Rattle.system.specs.Refusals.{IsOutside, refusal_of_log, refusal_of_read, refusal_of_root}
+use Rattle.system.specs.Systems.{IsServing, state_with}
+use Rattle.system.specs.declared.open_error.OpenError.{OpenError}
+use Rattle.system.specs.declared.opening.Found.{Found}
+use Rattle.system.specs.declared.opening.Mounted.{Mounted}
+
+-- ---- refusals
+
+pub root_refused : {T : Type 0} (P : T → Type 0) (r : Result T OpenError) (e : RootError) → IsErrAnd r (λ x. x ≡ refusal_of_root e) → e ≡ root.Device → MatchResult r P IsOutside
+root_refused P (Ok x) e is device = absurd is
+root_refused P (Err x) root.Device is device = inr is
+root_refused P (Err x) root.NoRoot is device = cc
+root_refused P (Err x) root.Damaged is device = cc
+
+pub log_refused : {T U : Type 0} (P : T → Type 0) (r : Result T OpenError) (e : SavedLogError) → IsErrAnd r (λ x. x ≡ refusal_of_log e) → (IsErrOf {T = U} (Err e) log.Damaged → ⊥) → MatchResult r P IsOutside
+log_refused P (Ok x) e is undamaged = absurd is
+log_refused P (Err x) log.NoMemory is undamaged = inl is
+log_refused P (Err x) log.Device is undamaged = inr is
+log_refused P (Err x) log.Damaged is undamaged = absurd (undamaged refl)
+
+pub read_refused : {T : Type 0} (P : T → Type 0) (r : Result T OpenError) (e : ReadError) → IsErrAnd r (λ x. x ≡ refusal_of_read e) → (e ≡ read.NoMemory) ⊎ (e ≡ read.Device) → MatchResult r P IsOutside
+read_refused P (Ok x) e is why = absurd is
+read_refused P (Err x) read.NoMemory is why = inl is
+read_refused P (Err x) read.Device is why = inr is
+read_refused P (Err x) read.Damaged is (inl none) = cc
+read_refused P (Err x) read.Damaged is (inr device) = cc
+
+pub not_damaged : {T U : Type 0} (P : T → Type 0) (r : Result T OpenError) (e : ReadError) → IsErrAnd r (λ x. x ≡ refusal_of_read e) → (IsErrOf {T = U} (Err e) read.Damaged → ⊥) → MatchResult r P IsOutside
+not_damaged P (Ok x) e is undamaged = absurd is
+not_damaged P (Err x) read.NoMemory is undamaged = inl is
+not_damaged P (Err x) read.Device is undamaged = inr is
+not_damaged P (Err x) read.Damaged is undamaged = absurd (undamaged refl)
+
+-- ---- answers
+
+pub match_weaker : {T E : Type 0} (r : Result T E) (P P' : T → Type 0) (Q Q' : E → Type 0) → ((x : T) → P x → P' x) → ((e : E) → Q e → Q' e) → MatchResult r P Q → MatchResult r P' Q'
+match_weaker (Ok x) P P' Q Q' f g is = f x is
+match_weaker (Err e) P P' Q Q' f g is = g e is
+
+pub if_err_weaker : {T E : Type 0} (r : Result T E) (P Q : E → Type 0) → ((e : E) → P e → Q e) → IfErr r P → IfErr r Q
+if_err_weaker (Ok x) P Q f is = tt
+if_err_weaker (Err e) P Q f is = f e is
+
+-- ---- the station
+
+-- what a cut leaves, behind calls that change nothing
+pub still_left : (old new : Meaning) (i : Images) → IsSameStation old new → Goes Unchanged old new → LeavesJust old i → LeavesJust new i
+still_left old new i same goes just honest c left =
+    let before = same.honest.1 honest in
+    let d = (goes before).now c left in
+    d.2 ∙ just before d.0 d.1
+
+-- ---- the disk by blocks
+
+-- sectors k and those behind it, one behind the other
+row : (ℕ → List ℕ) → ℕ → ℕ → ℕ → List ℕ
+row d at k zero = d (at + k)
+row d at k (suc n) = d (at + k) ++ row d at (k + 1) n
+
+row_length : (d : ℕ → List ℕ) (at k n : ℕ) → ((i : ℕ) → k ≤ i → i ≤ k + n → length (d (at + i)) ≡ 512) → length (row d at k n) ≡ 512 * (n + 1)
+unfolding row
+row_length d at k zero long = long k (omega arith) (omega arith) ∙ omega arith
+row_length d at k (suc n) long =
+    omega (arith, length-append (d (at + k)) (row d at (k + 1) n), long k (omega arith) (omega arith), row_length d at (k + 1) n (λ i low high. long i (omega arith) (omega arith)))
+
+row_at : (d : ℕ → List ℕ) (at k n r : ℕ) → ((i : ℕ) → k ≤ i → i ≤ k + n → length (d (at + i)) ≡ 512) → r < 512 * (n + 1)
+    → slice_index (row d at k n) r ≡ slice_index (d (at + (k + r / 512))) (r % 512)
+unfolding row
+row_at d at k zero r long within =
+    let place : k ≡ k + r / 512 = omega arith in
+    let rest : r ≡ r % 512 = omega arith in
+    ap (λ (j : ℕ). slice_index (d (at + j)) r) place ∙ ap (slice_index (d (at + (k + r / 512)))) rest
+row_at d at k (suc n) r long within = elim (cases_lt r 512) [
+  | inl low ↦
+      let place : k ≡ k + r / 512 = omega arith in
+      let rest : r ≡ r % 512 = omega arith in
+      get_or_append_left (d (at + k)) (row d at (k + 1) n) 0 r (omega (arith, low, long k (omega arith) (omega arith)))
+      ∙ ap (λ (j : ℕ). slice_index (d (at + j)) r) place ∙ ap (slice_index (d (at + (k + r / 512)))) rest
+  | inr high ↦
+      let place : (k + 1) + (r - 512) / 512 ≡ k + r / 512 = omega (arith, high) in
+      let rest : (r - 512) % 512 ≡ r % 512 = omega (arith, high) in
+      get_or-append_right (d (at + k)) (row d at (k + 1) n) 512 r 0 (long k (omega arith) (omega arith)) high
+      ∙ row_at d at (k + 1) n (r - 512) (λ i low2 high2. long i (omega arith) (omega arith)) (omega (arith, within, high))
+      ∙ ap (λ (j : ℕ). slice_index (d (at + j)) ((r - 512) % 512)) place ∙ ap (slice_index (d (at + (k + r / 512)))) rest
+]
+
+-- a block is its eight sectors
+pub is_block : (d : ℕ → List ℕ) (b : ℕ) → ((i : ℕ) → i < 8 → length (d (8 * b + i)) ≡ 512) → IsBlock d b (blocks_of d b)
+unfolding blocks_of row
+is_block d b long =
+    let at : 8 * b + 0 ≡ 8 * b = omega arith in
+    let same : row d (8 * b) 0 7 ≡ blocks_of d b = ap (λ (n : ℕ). d n ++ row d (8 * b) 1 6) at in
+    subst (IsBlock d b) same (record {
+      size = row_length d (8 * b) 0 7 (λ i low high. long i (omega arith));
+      bytes_are = λ r lt.
+          row_at d (8 * b) 0 7 r (λ i low high. long i (omega arith)) (omega arith)
+          ∙ ap (λ (n : ℕ). slice_index (d (8 * b + n)) (r % 512)) (zero-add (r / 512));
+    })
+
+-- ---- what memory has
+
+module _ (disk : Blocks) (r : Root) (nvram : List ℕ) (first last : Volume) (snapshots : List (Name × Tree)) (changes : List Change) (saved : Saved)
+    (half : saved.half ≡ r.geometry.half) (generation : saved.generation ≡ r.generation) (holds : HoldsRecords disk r nvram first last snapshots changes) where
+  pub saves : (inodes : InodeFile) → inodes.geometry ≡ r.geometry → SavesRecords inodes.geometry.inodes nvram saved changes first last
+  saves inodes geometry = record {
+    are = holds.log.are;
+    served = holds.served;
+    held = subst (λ (n : ℕ). LogHolds n saved.generation nvram (bodies_of changes)) (sym half)
+        (subst (λ (n : ℕ). LogHolds r.geometry.half n nvram (bodies_of changes)) (sym generation) holds.log.log);
+    replays = subst (λ (s : Sizes). Replays s.inodes first changes last) (sym geometry) holds.replays;
+  }
+
+  pub has_volume : (inodes : InodeFile) (map : BlockMap) (count : ℕ) → inodes.geometry ≡ r.geometry → count ≡ r.geometry.blocks → IsLoaded disk r map inodes
+      → HasVolume count disk (inodes_of (whole disk r).active) inodes first
+  has_volume inodes map count geometry is loaded = record {
+    memory = subst (λ (n : ℕ). IsVolumeOf n disk (inodes_of (whole disk r).active) inodes first) (sym is) (loaded.inodes.volume first holds.holds.holds);
+    volume = subst (λ (s : Sizes). IsVolume s.inodes first) (sym geometry) holds.holds.volume;
+  }
+
+  pub has_image : (old : InodeFile) (p : Mounted) (count : ℕ) → p.inodes.geometry ≡ r.geometry → count ≡ r.geometry.blocks → IsLoaded disk r p.map old
+      → StandsBehind p.log saved.generation nvram (bodies_of changes) → HasVolume count disk (inodes_of (whole disk r).active) p.inodes (without_nameless last)
+      → HasImage disk r nvram last changes p
+  has_image old p count geometry is loaded stands has = record {
+    log = subst (λ (n : ℕ). StandsBehind p.log n nvram (bodies_of changes)) generation stands;
+    memory = record {
+      stands = subst (λ (n : ℕ). IsVolumeOf n disk (inodes_of (whole disk r).active) p.inodes (without_nameless last)) is has.memory;
+      volume = subst (λ (s : Sizes). IsVolume s.inodes (without_nameless last)) geometry has.volume;
+      entries = loaded.map.settled;
+    };
+  }
+
+-- ---- files without names
+
+kept_nodes : (o : Option Node) → IsSome (swept_node false o) → o ≡ swept_node false o
+kept_nodes None some = refl
+kept_nodes (Some (directory_node mode names)) some = refl
+kept_nodes (Some (link_node text)) some = refl
+kept_nodes (Some (file_node mode zero bytes)) some = cc
+kept_nodes (Some (file_node mode (suc links) bytes)) some = refl
+
+vacant_nodes : (o : Option Node) → swept_node false o ≡ None → IsTrue (is_vacant o)
+vacant_nodes None none = refl
+vacant_nodes (Some (directory_node mode names)) none = cc
+vacant_nodes (Some (link_node text)) none = cc
+vacant_nodes (Some (file_node mode zero bytes)) none = refl
+vacant_nodes (Some (file_node mode (suc links) bytes)) none = cc
+
+-- a volume has what it has without them
+extends : (v : Volume) → Extends (without_nameless v) v
+extends v = record { kept = λ n some. kept_nodes (v n) some; rest = λ n none. vacant_nodes (v n) none }
+
+-- ---- the system
+
+module _ (m : Meaning) (kept : BTreeMap ℕ Block) (found : Found) (p : Mounted) (first last : Volume) (snapshots : List (Name × Tree)) (changes : List Change) where
+  -- memory over what was found, where reads give these images
+  pub record IsOver (i : Images) : Type 0 where
+    pub just : LeavesJust m i
+    pub shows : ShowsDisk m kept (blocks_of i.disk)
+    pub of : IsOf i found
+    pub holds : HoldsRecords (blocks_of i.disk) found.newest.root i.nvram first last snapshots changes
+    pub has : HasImage (blocks_of i.disk) found.newest.root i.nvram last changes p
+
+  abbrev shown : State
+  shown = state_with found.newest.root.geometry.inodes (without_nameless last) (λ d. None) snapshots
+
+  serving : IsMounted (without_nameless last) (λ d. None) → IsFalse p.log.is_stopped → IsOver m.seen → IsServing m kept found.newest.root found.newest.slot p.inodes p.map p.log (λ d. None) shown
+  serving mounted runs over = record {
+    honest = over.shows.honest;
+    shows = over.shows;
+    first = first;
+    snapshots = snapshots;
+    under = record { newest = over.of.newest; holds = over.holds.holds };
+    bodies = over.has.log.bodies;
+    left = λ honest c left.
+        let is = over.just honest c left in
+        record {
+          same = λ n some. ap (λ (i : Images). i.disk n) is;
+          log_stands = subst (λ (i : Images). StandsAt p.log found.newest.root.generation over.has.log.bodies i.nvram) (sym is) over.has.log.stands;
+        };
+    running = without_nameless last;
+    mounted = mounted;
+    replayed = record {
+      changes = changes;
+      are = over.holds.log.are;
+      spelled = over.has.log.all;
+      last = last;
+      replays = over.holds.replays;
+      extends = extends last;
+    };
+    memory = over.has.memory;
+    goes = runs;
+    state = refl;
+  }
+
+  pub serves : (i : Images) → m.seen ≡ i → IsMounted (without_nameless last) (λ d. None) → IsFalse p.log.is_stopped → IsOver i → IsServing m kept found.newest.root found.newest.slot p.inodes p.map p.log (λ d. None) shown
+  serves i is mounted runs over = serving mounted runs (subst IsOver (sym is) over)

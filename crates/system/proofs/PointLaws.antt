@@ -1,0 +1,126 @@
+-- What a cut leaves of a point that is planned for a system.
+use Rattle.std.proofs.Common.{◌≡◌, ◌≢◌, ◌⊎◌, inl, inr, ℕ, ◌+◌, ◌*◌, ◌/◌, ◌<◌, ◌^◌, List, [], Option, refl, ap, sym, subst, ◌∙◌, arith}
+use Rattle.std.specs.BTreeMap.{BTreeMap}
+use Rattle.station.specs.Images.{Images, Unchanged}
+use Rattle.station.specs.Moments.{Meaning, MayLeave, After, Goes, LeavesOnly}
+use Rattle.station.proofs.Moments.{joined, leaves_unchanged, weaker}
+use Rattle.layout.specs.Log.{LogHolds, EpochHolds, IsUnopened, half_of}
+use Rattle.layout.specs.Opens.{HoldsRoot}
+use Rattle.layout.specs.Places.{blocks_of}
+use Rattle.layout.specs.Root.{root_bytes}
+use Rattle.layout.specs.declared.root.Root.{Root}
+use Rattle.model.specs.States.{State}
+use Rattle.model.specs.Trees.{Description}
+use Rattle.buffers.specs.declared.block.Block.{Block}
+use Rattle.blockmap.specs.declared.map.BlockMap.{BlockMap}
+use Rattle.inofile.specs.declared.inode_file.InodeFile.{InodeFile}
+use Rattle.images.specs.BlockMap.{entry}
+use Rattle.images.specs.Cuts as points
+use Rattle.images.specs.Cuts.{Write, AreFree}
+use Rattle.images.specs.Roots.{whole}
+use Rattle.images.specs.States.{Opens}
+use Rattle.oplog.specs.LogEnd.{LogEnd, Bodies, all_of, StandsAt}
+use Rattle.conspoint.specs.Cuts.{StaysOutside, HasNewRoot}
+use Rattle.conspoint.specs.Plans.{Planned, FitsDisk}
+use Rattle.conspoint.specs.Writes.{AreWhole, writes_of}
+use Rattle.system.specs.Images.{OpensTo}
+use Rattle.system.specs.Laws.{CutLaws}
+use Rattle.system.specs.Memory.{HasEntries}
+use Rattle.planning.specs.Plans.{IsPlannable}
+use Rattle.system.specs.Points.{IsPlannedOver}
+use Rattle.system.specs.Slots.{IsNewestAt, other_slot}
+use Rattle.system.specs.Systems.{IsServing}
+use Rattle.system.proofs.SystemLaws.{all_open, one_opens, reads_open}
+
+-- ---- the log under the new root
+
+second_is : (epoch : ℕ) (bytes : List ℕ) (bodies : List (List ℕ)) → IsUnopened epoch bytes → EpochHolds epoch bytes bodies → bodies ≡ []
+second_is epoch bytes bodies none (inl is) = absurd (none.not_open is.0 is.1)
+second_is epoch bytes bodies none (inr shut) = shut.1
+
+-- a root of the epoch that records go to covers all
+covered : CutLaws → (log : LogEnd) (g : ℕ) (bodies : Bodies) (nvram : List ℕ) → g + 4 < 2 ^ 64 → StandsAt log g bodies nvram → LogHolds log.half log.epoch nvram []
+covered laws log g bodies nvram small stands = elim stands.other [
+  | inl first ↦
+      subst (λ (e : ℕ). LogHolds log.half e nvram []) (sym first.0)
+      (subst (LogHolds log.half (g + 1) nvram)
+      (second_is (g + 2) (half_of log.half (g + 2) nvram) stands.holds.second first.1 stands.holds.second_held)
+      (laws.one log.half g nvram (all_of bodies) (omega (arith, small)) stands.holds))
+  | inr second ↦ subst (λ (e : ℕ). LogHolds log.half e nvram []) (sym second.0) (laws.both log.half g nvram (all_of bodies) small stands.holds)
+]
+
+-- its generation is later
+pub later : (log : LogEnd) (g : ℕ) (bodies : Bodies) (nvram : List ℕ) → StandsAt log g bodies nvram → g < log.epoch
+later log g bodies nvram stands = elim stands.other [ inl first ↦ omega (arith, first.0) | inr second ↦ omega (arith, second.0) ]
+
+-- ---- before the root, and with it
+
+pub other_is : (r : Root) (d : ℕ → List ℕ) (slot other : ℕ) → IsNewestAt slot r d → other ≡ other_slot slot → points.IsOtherSlot r d other
+other_is r d slot other newest is = elim newest.is_slot [
+  | inl a ↦ inl (is ∙ ap other_slot a, subst (λ (n : ℕ). HoldsRoot (d n) r) a newest.there)
+  | inr b ↦ inr (is ∙ ap other_slot b, subst (λ (n : ℕ). HoldsRoot (d n) r) b newest.there)
+]
+
+pub outside : (r : Root) (d : ℕ → List ℕ) (writes : List Write) (n : ℕ) → AreFree r d writes → entry (whole (blocks_of d) r).active (n / 8) ≢ 0 → points.IsOutside writes n
+outside r d writes n free some = λ k w lt same. some (ap (entry (whole (blocks_of d) r).active) (sym same) ∙ free k w lt)
+
+-- what a system serves may be planned
+pub plannable : (m : Meaning) (kept : BTreeMap ℕ Block) (root : Root) (slot : ℕ) (inodes : InodeFile) (map : BlockMap) (log : LogEnd) (table : ℕ → Option Description) (s : State)
+    → (serves : IsServing m kept root slot inodes map log table s) → MayLeave m m.seen → (other generation : ℕ) (given : BlockMap) → other ≡ other_slot slot → generation ≡ log.epoch → given ≡ map
+    → IsPlannable root m.seen.disk other generation given inodes serves.first serves.running serves.snapshots
+plannable m kept root slot inodes map log table s serves here other generation given other_one epoch same = record {
+  other = other_is root m.seen.disk slot other serves.under.newest other_one;
+  later = subst (λ (n : ℕ). root.generation < n) (sym epoch) (later log root.generation serves.bodies m.seen.nvram (serves.left serves.honest m.seen here).log_stands);
+  holds = serves.under.holds;
+  entries = subst (λ (x : BlockMap). HasEntries (whole (blocks_of m.seen.disk) root).active x) (sym same) serves.memory.entries;
+  memory = serves.memory.stands;
+  volume = serves.memory.volume;
+}
+
+module _ (laws : CutLaws) (m : Meaning) (kept : BTreeMap ℕ Block) (root : Root) (slot : ℕ) (inodes : InodeFile) (map : BlockMap) (log : LogEnd) (table : ℕ → Option Description) (s : State)
+    (serves : IsServing m kept root slot inodes map log table s) (size : m.sectors ≡ 8 * root.geometry.blocks) (half : log.half ≡ root.geometry.half)
+    (p : Planned) (new : Root) (planned : IsPlannedOver m.seen.disk root slot log.epoch p new serves.running) where
+  pub unfinished : (c : Images) → After (StaysOutside p.blocks) m c → OpensTo m s c
+  unfinished c (d, here, stays) =
+      let left = serves.left serves.honest d here in
+      one_opens laws m kept root slot inodes map log table s serves size half c (record {
+        same = λ n some. laws.unfinished p.blocks d c stays n (outside root m.seen.disk (writes_of p.blocks) n planned.point.free some) ∙ left.same n some;
+        log_stands = subst (StandsAt log root.generation serves.bodies) (sym stays.nvram) left.log_stands;
+      })
+
+  module _ (here : MayLeave m m.seen) (sizes : AreWhole m.sectors m.seen.disk) where
+    -- a disk with the new root
+    pub with_root : (c : Images) → HasNewRoot p m.seen c → points.HasNewRoot (writes_of p.blocks) p.slot (root_bytes new) m.seen.disk c.disk
+    with_root c has =
+        subst (λ (bytes : List ℕ). points.HasNewRoot (writes_of p.blocks) p.slot bytes m.seen.disk c.disk) planned.bytes
+        (laws.finished m.sectors p m.seen c (subst (λ (n : ℕ). FitsDisk n p) (sym size) planned.fits) sizes has)
+
+    -- what the system reads
+    abbrev pub reads : Opens m.sectors m.seen.disk m.seen.nvram s
+    reads = reads_open laws m kept root slot inodes map log table s serves size half m.seen.nvram (serves.left serves.honest m.seen here).log_stands.holds
+
+    pub finished : (c : Images) → HasNewRoot p m.seen c → OpensTo m s c
+    finished c has =
+        let stands = (serves.left serves.honest m.seen here).log_stands in
+        let small : root.generation + 4 < 2 ^ 64 = omega (arith, serves.under.newest.there.root.head.last) in
+        let holds = covered laws log root.generation serves.bodies m.seen.nvram small stands in
+        subst (λ (nvram : List ℕ). Opens m.sectors c.disk nvram s) (sym has.nvram)
+        (laws.opens m.sectors m.seen.disk c.disk m.seen.nvram s (writes_of p.blocks) p.slot new serves.running [] serves.running reads planned.point (with_root c has)
+        (record {
+          are = λ i d lt. absurd (omega (arith, lt));
+          log = subst (λ (h : ℕ). LogHolds h new.generation m.seen.nvram []) (half ∙ ap (λ s. s.half) (sym planned.point.geometry))
+              (subst (λ (g : ℕ). LogHolds log.half g m.seen.nvram []) (sym planned.covers) holds);
+        })
+        refl (sym (laws.ends serves.running serves.replayed.last serves.replayed.extends)))
+
+    -- while it is planned and written
+    pub at_any_moment : (mid now : Meaning) → Goes Unchanged m mid → LeavesOnly mid now (λ c. After (StaysOutside p.blocks) mid c ⊎ HasNewRoot p mid.seen c) → LeavesOnly m now (OpensTo m s)
+    at_any_moment mid now goes writes =
+        let went = goes serves.honest in
+        joined m mid now (OpensTo m s) (leaves_unchanged m mid (OpensTo m s) (all_open laws m kept root slot inodes map log table s serves size half) goes)
+        (weaker mid now (λ c. After (StaysOutside p.blocks) mid c ⊎ HasNewRoot p mid.seen c) (OpensTo m s) writes (λ c. λ one. elim one [
+          | inl after ↦
+              let before = went.now after.0 after.1 in
+              unfinished c (before.0, before.1, subst (λ (x : Images). StaysOutside p.blocks x c) before.2 after.2)
+          | inr has ↦ finished c (subst (λ (x : Images). HasNewRoot p x c) went.seen has)
+        ]))

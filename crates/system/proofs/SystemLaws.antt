@@ -1,0 +1,108 @@
+-- The images of a system that serves a state open to it.
+use Rattle.std.proofs.Common.{◌≡◌, ℕ, ◌*◌, List, Option, None, refl, ap, sym, subst, ◌∙◌}
+use Rattle.std.specs.BTreeMap.{BTreeMap}
+use Rattle.station.specs.Images.{Images}
+use Rattle.station.specs.Moments.{Meaning, EachCut}
+use Rattle.station.proofs.Moments.{each_unchanged}
+use Rattle.layout.specs.Log.{LogHolds}
+use Rattle.layout.specs.Places.{blocks_of}
+use Rattle.layout.specs.declared.root.Root.{Root}
+use Rattle.model.specs.Paths.{Name}
+use Rattle.model.specs.Records.{without_nameless}
+use Rattle.model.specs.States.{State, Forgets, going}
+use Rattle.model.specs.Trees.{Description, Tree}
+use Rattle.model.specs.Volumes.{Volume, IsVolume, tree_of}
+use Rattle.buffers.specs.Disks.{ShowsDisk, ReadsOn}
+use Rattle.buffers.specs.declared.block.Block.{Block}
+use Rattle.blockmap.specs.Maps.{settled_at}
+use Rattle.blockmap.specs.declared.map.BlockMap.{BlockMap}
+use Rattle.inofile.specs.declared.inode_file.InodeFile.{InodeFile}
+use Rattle.images.specs.States.{Opens, SameButFree}
+use Rattle.oplog.specs.LogEnd.{LogEnd, Bodies, all_of}
+use Rattle.system.specs.Images.{OpensTo, IsLeft, IsReplayed, IsUnder}
+use Rattle.system.specs.Laws.{CutLaws}
+use Rattle.system.specs.Memory.{IsInMemory}
+use Rattle.system.specs.Systems.{IsServing, state_with}
+
+module _ (m : Meaning) (kept : BTreeMap ℕ Block) (root : Root) (slot : ℕ) (inodes : InodeFile) (map : BlockMap) (log : LogEnd) (table : ℕ → Option Description) (s : State)
+    (serves : IsServing m kept root slot inodes map log table s) where
+  -- where nothing was done but reading
+  pub read_on : (new : Meaning) (now_kept : BTreeMap ℕ Block) (now_map : BlockMap) → ReadsOn m new
+      → ((disk : ℕ → List ℕ) → ShowsDisk m kept disk → ShowsDisk new now_kept disk)
+      → ((b : ℕ) → settled_at now_map.parts.items b ≡ settled_at map.parts.items b) → IsServing new now_kept root slot inodes now_map log table s
+  read_on new now_kept now_map reads shows entries =
+      let went = reads.goes serves.honest in
+      let disk : m.seen.disk ≡ new.seen.disk = sym (ap (λ (i : Images). i.disk) went.seen) in
+      record {
+        honest = went.honest;
+        shows = subst (λ (d : ℕ → List ℕ). ShowsDisk new now_kept (blocks_of d)) disk (shows (blocks_of m.seen.disk) serves.shows);
+        first = serves.first;
+        snapshots = serves.snapshots;
+        under = subst (IsUnder slot root serves.first serves.snapshots) disk serves.under;
+        bodies = serves.bodies;
+        left = subst (λ (d : ℕ → List ℕ). EachCut new (IsLeft root log serves.bodies d)) disk
+            (each_unchanged m new (IsLeft root log serves.bodies m.seen.disk) reads.same serves.left reads.goes);
+        running = serves.running;
+        mounted = serves.mounted;
+        replayed = serves.replayed;
+        memory = subst (λ (d : ℕ → List ℕ). IsInMemory (blocks_of d) root inodes now_map serves.running) disk (record {
+          stands = serves.memory.stands;
+          volume = serves.memory.volume;
+          entries = λ b. entries b ∙ serves.memory.entries b;
+        });
+        goes = serves.goes;
+        state = serves.state;
+      }
+
+-- A disk that holds a volume under its newest root, with records that lead to the running one, opens to its state.
+module _ (laws : CutLaws) (sectors : ℕ) (disk : ℕ → List ℕ) (root : Root) (slot : ℕ) (first : Volume) (snapshots : List (Name × Tree)) (under : IsUnder slot root first snapshots disk)
+    (size : sectors ≡ 8 * root.geometry.blocks) (bodies : Bodies) (running : Volume) (volume : IsVolume root.geometry.inodes running)
+    (replayed : IsReplayed root.geometry.inodes bodies first running) (table : ℕ → Option Description) (s : State) (is : s ≡ state_with root.geometry.inodes running table snapshots) where
+  abbrev pub found : State
+  found = record {
+    inodes = root.geometry.inodes;
+    tree = tree_of (without_nameless replayed.last) (λ d. None);
+    snapshots = snapshots;
+    mark = going;
+  }
+
+  pub finds : Forgets s found
+  finds = subst (λ (t : State). Forgets t found) (sym is) (record {
+    tree = laws.forgets root.geometry.inodes running replayed.last table volume replayed.extends;
+    rest = refl;
+  })
+
+  abbrev pub held_open : (nvram : List ℕ) → LogHolds root.geometry.half root.generation nvram (all_of bodies) → Opens sectors disk nvram s
+  held_open nvram holds = record {
+    root = root;
+    newest = under.newest.newest;
+    size = size;
+    first = first;
+    snapshots = snapshots;
+    holds = under.holds;
+    changes = replayed.changes;
+    log = record { are = replayed.are; log = subst (LogHolds root.geometry.half root.generation nvram) replayed.spelled holds };
+    last = replayed.last;
+    replays = replayed.replays;
+    state = finds;
+  }
+
+  -- and so does one that is the same but for free blocks
+  pub same_open : (c : Images) → SameButFree root disk c.disk → LogHolds root.geometry.half root.generation c.nvram (all_of bodies) → Opens sectors c.disk c.nvram s
+  same_open c same holds = laws.free sectors disk c.disk c.nvram s (held_open c.nvram holds) same
+
+module _ (laws : CutLaws) (m : Meaning) (kept : BTreeMap ℕ Block) (root : Root) (slot : ℕ) (inodes : InodeFile) (map : BlockMap) (log : LogEnd) (table : ℕ → Option Description) (s : State)
+    (serves : IsServing m kept root slot inodes map log table s) (size : m.sectors ≡ 8 * root.geometry.blocks) (half : log.half ≡ root.geometry.half) where
+  -- what the system reads, with any NVRAM that has its records
+  abbrev pub reads_open : (nvram : List ℕ) → LogHolds log.half root.generation nvram (all_of serves.bodies) → Opens m.sectors m.seen.disk nvram s
+  reads_open nvram holds =
+      held_open laws m.sectors m.seen.disk root slot serves.first serves.snapshots serves.under size serves.bodies serves.running serves.memory.volume serves.replayed table s serves.state nvram
+      (subst (λ (h : ℕ). LogHolds h root.generation nvram (all_of serves.bodies)) half holds)
+
+  pub one_opens : (c : Images) → IsLeft root log serves.bodies m.seen.disk c → OpensTo m s c
+  one_opens c left =
+      same_open laws m.sectors m.seen.disk root slot serves.first serves.snapshots serves.under size serves.bodies serves.running serves.memory.volume serves.replayed table s serves.state c left.same
+      (subst (λ (h : ℕ). LogHolds h root.generation c.nvram (all_of serves.bodies)) half left.log_stands.holds)
+
+  pub all_open : EachCut m (OpensTo m s)
+  all_open honest c left = one_opens c (serves.left honest c left)

@@ -1,0 +1,14 @@
+use Rattle.system.proofs.laws.new_roots_hold.Goals as goal
+
+pub returns : goal.returns
+returns c = record {
+  newest = c.finished_points_hold.ensures.newest;
+  holds = c.finished_points_hold.ensures.holds;
+  of_disk = c.needed_blocks_are_of_the_disk.ensures;
+  unneeded = c.free_blocks_are_unneeded.ensures;
+  readable = c.volumes_are_readable.ensures;
+  settled = c.readable_inodes_are_settled.ensures.settled;
+  held = c.readable_inodes_are_settled.ensures.holds;
+  block_is = c.blocks_are_those_of_images.ensures;
+  others = c.written_disks_have_the_blocks.ensures.others;
+}

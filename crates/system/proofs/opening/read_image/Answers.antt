@@ -1,0 +1,44 @@
+use Rattle.std.proofs.Common.{◌∙◌}
+use Rattle.images.specs.Roots.{whole}
+use Rattle.loading.specs.Images.{inodes_of}
+use Rattle.system.proofs.OpenLaws.{has_image, has_volume, not_damaged, read_refused, saves}
+use Rattle.system.proofs.opening.read_image.Goals as goal
+
+pub returns-in_err-check_snapshots-clause-has : goal.returns-in_err-check_snapshots-clause-has
+returns-in_err-check_snapshots-clause-has g c disk nvram first last snapshots changes shows tells holds =
+    not_damaged _ c.from_residual.result c.in_err-check_snapshots.field-0.0 c.from_residual.ensures.1
+    (λ damaged. c.in_err-check_snapshots.ensures.damaged disk shows damaged holds.holds.sound.snapshots)
+
+pub returns-in_err-map-clause-has : goal.returns-in_err-map-clause-has
+returns-in_err-map-clause-has g c disk nvram first last snapshots changes shows tells holds =
+    read_refused _ c.from_residual-in_err-map.result c.in_err-map.field-0.0 c.from_residual-in_err-map.ensures.1
+    (c.in_err-map.ensures.loads disk (c.in_ok-check_snapshots.ensures.reads.same disk shows)
+    (c.volumes_are_readable.ensures disk c.args.root.now first snapshots holds.holds))
+
+pub returns-in_err-log-clause-has : goal.returns-in_err-log-clause-has
+returns-in_err-log-clause-has g c disk nvram first last snapshots changes shows tells holds =
+    let r = c.args.root.now in
+    let inodes = c.in_ok-map.field-0.inodes in
+    let geometry = c.in_ok-map.ensures.geometry in
+    let tested = c.in_ok-check_snapshots.ensures.reads in
+    let count = c.in_ok-map.ensures.count ∙ tested.count ∙ c.requires.size in
+    let loaded = c.in_ok-map.ensures.loads disk (tested.same disk shows) (c.volumes_are_readable.ensures disk r first snapshots holds.holds) in
+    read_refused _ c.from_residual-in_err-log.result c.in_err-log.field-0.0 c.from_residual-in_err-log.ensures.1
+    (c.in_err-log.ensures.replays disk (inodes_of (whole disk r).active) first last changes nvram (c.in_ok-map.ensures.shown disk (tested.same disk shows))
+    (has_volume disk r nvram first last snapshots changes c.args.saved c.requires.half c.requires.generation holds inodes c.in_ok-map.field-0.map (g.B.Blocks.count c.load.new.blocks) geometry count loaded)
+    tells (saves disk r nvram first last snapshots changes c.args.saved c.requires.half c.requires.generation holds inodes geometry))
+
+pub returns-clause-has : goal.returns-clause-has
+returns-clause-has g c disk nvram first last snapshots changes shows tells holds =
+    let r = c.args.root.now in
+    let inodes = c.in_ok-map.field-0.inodes in
+    let geometry = c.in_ok-map.ensures.geometry in
+    let tested = c.in_ok-check_snapshots.ensures.reads in
+    let count = c.in_ok-map.ensures.count ∙ tested.count ∙ c.requires.size in
+    let loaded = c.in_ok-map.ensures.loads disk (tested.same disk shows) (c.volumes_are_readable.ensures disk r first snapshots holds.holds) in
+    let did = c.in_ok-log.ensures.replays disk (inodes_of (whole disk r).active) first last changes nvram (c.in_ok-map.ensures.shown disk (tested.same disk shows))
+    (has_volume disk r nvram first last snapshots changes c.args.saved c.requires.half c.requires.generation holds inodes c.in_ok-map.field-0.map (g.B.Blocks.count c.load.new.blocks) geometry count loaded)
+    tells (saves disk r nvram first last snapshots changes c.args.saved c.requires.half c.requires.generation holds inodes geometry) in
+    has_image disk r nvram first last snapshots changes c.args.saved c.requires.half c.requires.generation holds inodes
+    (record { inodes = c.replay.new.inodes; map = c.in_ok-map.field-0.map; log = c.in_ok-log.log })
+    (g.B.Blocks.count c.load.new.blocks) (c.in_ok-log.ensures.geometry ∙ geometry) count loaded did.0 did.1

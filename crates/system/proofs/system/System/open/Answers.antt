@@ -1,0 +1,54 @@
+use Rattle.std.proofs.Common.{◌≡◌, ◌∙◌, ℕ, None, inl, sym, subst}
+use Rattle.station.specs.Images.{Images}
+use Rattle.station.specs.Moments.{HasGrown, LeavesJust}
+use Rattle.station.proofs.Moments.{unchanged_twice}
+use Rattle.layout.specs.Places.{blocks_of}
+use Rattle.layout.specs.declared.root.Root.{Root}
+use Rattle.model.specs.Records.{without_nameless}
+use Rattle.model.specs.States.{Forgets}
+use Rattle.loading.specs.Slots.{FitsStation}
+use Rattle.replay.specs.Volumes.{bodies_of}
+use Rattle.system.specs.Opening.{HoldsRecords, IsOf}
+use Rattle.system.specs.Systems.{meaning_of, state_with}
+use Rattle.system.proofs.OpenLaws.{if_err_weaker, match_weaker}
+use Rattle.system.proofs.system.System.open.Goals as goal
+
+pub returns-in-Ok-clause-goes : goal.returns-in-Ok-clause-goes
+returns-in-Ok-clause-goes g c =
+    match_weaker c.open_found.result _ _ _ _
+    (λ f goes. unchanged_twice (g.S.Station.meaning c.args.station) (g.S.Station.meaning c.find.new.station) (meaning_of f) c.find.ensures.goes goes)
+    (λ e goes. unchanged_twice (g.S.Station.meaning c.args.station) (g.S.Station.meaning c.find.new.station) (g.S.Station.meaning e.1) c.find.ensures.goes goes)
+    c.open_found.ensures.goes
+
+pub returns-in-Ok-clause-device : goal.returns-in-Ok-clause-device
+returns-in-Ok-clause-device g c =
+    if_err_weaker c.open_found.result _ _
+    (λ e failed is. inl (subst (λ (n : ℕ). HasGrown n (g.S.Station.meaning e.1).failed_reads) c.in-Ok.ensures.reads (failed is)))
+    c.open_found.ensures.device
+
+pub returns-in-Ok-clause-opens : goal.returns-in-Ok-clause-opens
+returns-in-Ok-clause-opens g c honest s o served =
+    let m = g.S.Station.meaning c.args.station in
+    let mid = g.S.Station.meaning c.find.new.station in
+    let sized = g.met.S.Station.sized c.args.station honest m.seen (g.met.S.Station.seen_may_be_left c.args.station honest) in
+    let fits : FitsStation o.root m = record { sectors = o.size; nvram = sym sized.nvram ∙ o.log.log.size } in
+    let is : c.in-Ok.found.newest.root ≡ o.root = c.in-Ok.ensures.only honest o.root (bodies_of o.changes) o.newest fits o.log.log in
+    let went = c.find.ensures.goes honest in
+    let there : HoldsRecords (blocks_of m.seen.disk) o.root m.seen.nvram o.first o.last o.snapshots o.changes =
+    record { holds = o.holds; log = o.log; served = served; replays = o.replays } in
+    let holds = subst (λ (i : Images). HoldsRecords (blocks_of i.disk) c.in-Ok.found.newest.root i.nvram o.first o.last o.snapshots o.changes) (sym went.seen)
+    (subst (λ (r : Root). HoldsRecords (blocks_of m.seen.disk) r m.seen.nvram o.first o.last o.snapshots o.changes) (sym is) there) in
+    let just = subst (λ (i : Images). LeavesJust mid i) (sym went.seen) c.in-Ok.ensures.settled in
+    let of = subst (λ (i : Images). IsOf i c.in-Ok.found) (sym went.seen) (c.in-Ok.ensures.of_station honest) in
+    let forgets = subst (λ (r : Root). Forgets s (state_with r.geometry.inodes (without_nameless o.last) (λ d. None) o.snapshots)) (sym is) o.state in
+    match_weaker c.open_found.result _ _ _ _
+    (λ f serves. (state_with c.in-Ok.found.newest.root.geometry.inodes (without_nameless o.last) (λ d. None) o.snapshots, forgets, serves))
+    (λ e outside. outside)
+    (c.open_found.ensures.serves went.honest just of o.first o.last o.snapshots o.changes holds)
+
+pub returns-in-Err-clause-opens : goal.returns-in-Err-clause-opens
+returns-in-Err-clause-opens g c honest s o served =
+    let m = g.S.Station.meaning c.args.station in
+    let sized = g.met.S.Station.sized c.args.station honest m.seen (g.met.S.Station.seen_may_be_left c.args.station honest) in
+    let fits : FitsStation o.root m = record { sectors = o.size; nvram = sym sized.nvram ∙ o.log.log.size } in
+    c.in-Err.ensures.only honest o.root (bodies_of o.changes) o.newest fits o.log.log

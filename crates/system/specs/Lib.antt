@@ -1,0 +1,11 @@
+pub mod Errors
+pub mod Slots
+pub mod Images
+pub mod Memory
+pub mod Systems
+pub mod Points
+pub mod Laws
+pub mod Props
+pub mod Refusals
+pub mod Opening
+pub mod Logging

@@ -1,0 +1,28 @@
+-- What a record does that a system logs.
+use Rattle.std.specs.Prelude.{ℕ, Option}
+use Rattle.station.specs.declared.station.Station.{Ghosts}
+use Rattle.layout.specs.Places.{blocks_of}
+use Rattle.layout.specs.Record.{IsChange}
+use Rattle.model.specs.Records.{Change, Applies, applied}
+use Rattle.model.specs.States.{State}
+use Rattle.model.specs.Trees.{Description}
+use Rattle.model.specs.Volumes.{Volume, IsMounted}
+use Rattle.inofile.specs.Volumes.{IsVolumeOf}
+use Rattle.inofile.specs.declared.inode_file.InodeFile.{InodeFile}
+use Rattle.images.specs.Roots.{whole}
+use Rattle.loading.specs.Images.{inodes_of}
+use Rattle.system.specs.Systems.{IsServing, meaning_of}
+use Rattle.system.specs.declared.system.System.{System}
+
+-- a record applies to a volume of so many inodes, and leads to one that these descriptors fit
+pub record Advances (inodes : ℕ) (running : Volume) (table : ℕ → Option Description) (change : Change) : Type 0 where
+  pub is : IsChange change
+  pub applies : Applies inodes running change
+  pub mounted : IsMounted (applied change running) table
+
+-- once memory stands for a volume, over the disk that a system read, the system serves a state
+abbrev pub WouldServe : {S : Type 0} {G : Ghosts S} → System S G → System S G → Volume → (ℕ → Option Description) → State → Type 0
+WouldServe old new running table s =
+    let disk = blocks_of (meaning_of old).seen.disk in
+    (inodes : InodeFile) → IsVolumeOf old.root.geometry.blocks disk (inodes_of (whole disk old.root).active) inodes running
+    → IsServing (meaning_of new) new.blocks.kept new.root new.slot inodes new.map new.log table s

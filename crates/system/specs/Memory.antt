@@ -1,0 +1,26 @@
+-- What a mounted system has in memory, over the disk that it reads.
+use Rattle.std.specs.Prelude.{ℕ, ◌≡◌}
+use Rattle.layout.specs.Places.{Blocks}
+use Rattle.layout.specs.declared.root.Root.{Root}
+use Rattle.model.specs.Volumes.{Volume, IsVolume}
+use Rattle.blockmap.specs.Maps.{settled_at, entry_at}
+use Rattle.blockmap.specs.declared.map.BlockMap.{BlockMap}
+use Rattle.inofile.specs.Volumes.{IsVolumeOf}
+use Rattle.inofile.specs.declared.inode_file.InodeFile.{InodeFile}
+use Rattle.images.specs.BlockMap.{entry}
+use Rattle.images.specs.Roots.{HeldTree, whole}
+use Rattle.loading.specs.Images.{inodes_of}
+
+-- no entry of the map is changed since the root
+abbrev pub IsClean : BlockMap → Type 0
+IsClean map = (b : ℕ) → entry_at map.parts.items b ≡ settled_at map.parts.items b
+
+-- the map's settled entries are those of a tree's map
+abbrev pub HasEntries : HeldTree → BlockMap → Type 0
+HasEntries t map = (b : ℕ) → settled_at map.parts.items b ≡ entry t b
+
+-- The inodes in memory stand for the running volume, over the tree of the root, and the block map is that tree's.
+pub record IsInMemory (disk : Blocks) (root : Root) (inodes : InodeFile) (map : BlockMap) (running : Volume) : Type 0 where
+  pub stands : IsVolumeOf root.geometry.blocks disk (inodes_of (whole disk root).active) inodes running
+  pub volume : IsVolume root.geometry.inodes running
+  pub entries : HasEntries (whole disk root).active map

@@ -1,0 +1,58 @@
+-- What a mount reads, and what it makes of it.
+use Rattle.std.specs.Prelude.{ℕ, ◌≡◌, ◌⊎◌, List, All, IsFalse}
+use Rattle.station.specs.Images.{Images}
+use Rattle.station.specs.Moments.{Meaning, HasGrown}
+use Rattle.layout.specs.Places.{Blocks}
+use Rattle.layout.specs.Record.{Change}
+use Rattle.layout.specs.Root.{IsRoot}
+use Rattle.layout.specs.declared.root.Root.{Root}
+use Rattle.model.specs.Paths.{Name}
+use Rattle.model.specs.Records.{Replays, without_nameless}
+use Rattle.model.specs.Trees.{Tree}
+use Rattle.model.specs.Volumes.{Volume}
+use Rattle.images.specs.Roots.{whole}
+use Rattle.images.specs.States.{Holds, LogHoldsChanges}
+use Rattle.oplog.specs.SavedLog.{StandsBehind, TellsLog}
+use Rattle.loading.specs.Slots.{FitsStation, IsNewestAt}
+use Rattle.calls.specs.Served.{IsServed}
+use Rattle.replay.specs.Volumes.{bodies_of}
+use Rattle.system.specs.Memory.{IsClean, IsInMemory}
+use Rattle.system.specs.declared.opening.Found.{Found}
+use Rattle.system.specs.declared.opening.Mounted.{Mounted}
+
+-- a device call failed
+abbrev pub HasFailed : Meaning → Meaning → Type 0
+HasFailed old new = HasGrown old.failed_reads new.failed_reads ⊎ HasGrown old.failed_writes new.failed_writes
+
+-- What was found on a station: a root of its size, and the log that was saved over it.
+pub record IsFound (f : Found) (m : Meaning) : Type 0 where
+  pub root : IsRoot f.newest.root
+  pub fits : FitsStation f.newest.root m
+  pub half : f.saved.half ≡ f.newest.root.geometry.half
+  pub generation : f.saved.generation ≡ f.newest.root.generation
+
+-- it is what these images have
+pub record IsOf (c : Images) (f : Found) : Type 0 where
+  pub newest : IsNewestAt f.newest.slot f.newest.root c.disk
+  pub saved : TellsLog c.nvram f.saved
+
+-- what memory has fits a root
+pub record FitsRoot (r : Root) (p : Mounted) : Type 0 where
+  pub half : p.log.half ≡ r.geometry.half
+  pub sizes : p.inodes.geometry ≡ r.geometry
+  pub count : p.map.count ≡ r.geometry.blocks
+  pub clean : IsClean p.map
+  pub runs : IsFalse p.log.is_stopped
+
+-- A disk holds a volume and snapshots under a root, and an NVRAM the records that lead from there to another volume. This version
+-- does each of them.
+pub record HoldsRecords (disk : Blocks) (r : Root) (nvram : List ℕ) (first last : Volume) (snapshots : List (Name × Tree)) (changes : List Change) : Type 0 where
+  pub holds : Holds r (whole disk r) first snapshots
+  pub log : LogHoldsChanges r nvram changes
+  pub served : All IsServed changes
+  pub replays : Replays r.geometry.inodes first changes last
+
+-- Memory has the log's end behind these records, and the volume that they lead to, without the files that have no name.
+pub record HasImage (disk : Blocks) (r : Root) (nvram : List ℕ) (last : Volume) (changes : List Change) (p : Mounted) : Type 0 where
+  pub log : StandsBehind p.log r.generation nvram (bodies_of changes)
+  pub memory : IsInMemory disk r p.inodes p.map (without_nameless last)

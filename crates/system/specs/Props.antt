@@ -1,0 +1,34 @@
+-- That a root is in its grammar has one proof at most: for a ghost field.
+use Rattle.std.specs.Prelude.{ℕ}
+use Rattle.std.proofs.Props.{props}
+use Rattle.layout.specs.Inode.{FitsBody, FitsKind}
+use Rattle.layout.specs.Limits.{Sizes}
+use Rattle.layout.specs.Pointer.{PointsBelow}
+use Rattle.layout.specs.Root.{IsRoot}
+use Rattle.layout.specs.declared.inode.Body.{Body}
+use Rattle.layout.specs.declared.inode.Body.TheVariants.{Inline, Pointers}
+use Rattle.layout.specs.declared.kind.Kind.{Kind}
+use Rattle.layout.specs.declared.kind.Kind.TheVariants as kinds
+use Rattle.layout.specs.declared.pointer.Pointer.{Pointer}
+use Rattle.layout.specs.declared.pointer.Pointer.TheVariants.{Hole, Block}
+use Rattle.layout.specs.declared.root.Root.{Root}
+
+points_below-prop : (blocks : ℕ) (p : Pointer) → IsProp (PointsBelow blocks p)
+points_below-prop blocks Hole = hlevel props
+points_below-prop blocks (Block b) = hlevel props
+
+fits_kind-prop : (k : Kind) (s : Sizes) (mode links size : ℕ) → IsProp (FitsKind k s mode links size)
+fits_kind-prop kinds.Free s mode links size = hlevel props
+fits_kind-prop kinds.File s mode links size = hlevel props
+fits_kind-prop kinds.Directory s mode links size = hlevel props
+fits_kind-prop kinds.Link s mode links size = hlevel props
+fits_kind-prop kinds.InodeFile s mode links size = hlevel props
+fits_kind-prop kinds.InodeMap s mode links size = hlevel props
+fits_kind-prop kinds.BlockMap s mode links size = hlevel props
+
+fits_body-prop : (b : Body) (blocks size : ℕ) → IsProp (FitsBody b blocks size)
+fits_body-prop (Inline bytes) blocks size = hlevel props
+fits_body-prop (Pointers pointers) blocks size = hlevel (props, points_below-prop)
+
+pub IsRoot-prop : (r : Root) → IsProp (IsRoot r)
+IsRoot-prop r = hlevel (props, points_below-prop, fits_kind-prop, fits_body-prop)

@@ -1,0 +1,62 @@
+//! What a served state is to whoever cuts the system off.
+
+ghost use Rattle.std.specs.Prelude.{ℕ, Option};
+ghost use Rattle.station.specs.Moments.{EachCut};
+ghost use Rattle.model.specs.States.{State};
+ghost use Rattle.model.specs.Trees.{Description};
+ghost use Rattle.system.specs.Images.{OpensTo};
+ghost use Rattle.system.specs.Laws.{CutLaws, RecordLaws, RootLaws};
+ghost use Rattle.system.specs.Systems.{Serves, meaning_of};
+
+use crate::System;
+use conspoint::{
+    blocks_are_those_of_images, cuts_are_those_of_images, written_disks_have_the_blocks,
+};
+use images::{
+    finished_points_hold, finished_points_open_as_before, free_blocks_are_no_matter,
+    free_blocks_are_unneeded, needed_blocks_are_of_the_disk, roots_cover_epochs,
+};
+use loading::{readable_inodes_are_settled, volumes_are_readable};
+use model::{mounts_forget_open_files, records_keep_volumes, replays_end_same, replays_follow};
+use station::Station;
+
+/// Whatever a cut may leave of a system opens to the state that it serves. It does nothing.
+pub fn served_states_open<S: Station>(system: &System<S>)
+    ensures { (table : ℕ → Option Description) (s : State) → Serves system.now table s
+        → EachCut (meaning_of system.now) (OpensTo (meaning_of system.now) s) }
+{
+    cuts_open();
+}
+
+/// What a cut leaves opens. It does nothing.
+pub(crate) fn cuts_open()
+    ensures { CutLaws }
+{
+    mounts_forget_open_files();
+    replays_end_same();
+    free_blocks_are_no_matter();
+    cuts_are_those_of_images();
+    finished_points_open_as_before();
+    roots_cover_epochs();
+}
+
+/// What stands under a new root is what was planned. It does nothing.
+pub(crate) fn new_roots_hold()
+    ensures { RootLaws }
+{
+    finished_points_hold();
+    needed_blocks_are_of_the_disk();
+    free_blocks_are_unneeded();
+    volumes_are_readable();
+    readable_inodes_are_settled();
+    blocks_are_those_of_images();
+    written_disks_have_the_blocks();
+}
+
+/// A record that applies leads from volume to volume, and a replay follows. It does nothing.
+pub(crate) fn records_lead_on()
+    ensures { RecordLaws }
+{
+    replays_follow();
+    records_keep_volumes();
+}

@@ -1,0 +1,60 @@
+//! Records put into the log of a mounted system.
+
+ghost use Rattle.std.specs.Prelude.{◌≡◌, ◌⊎◌, ℕ, Option, OnOk, IsErrOf, IsFalse, length, true};
+ghost use Rattle.station.specs.Calls.{OnlyWrites};
+ghost use Rattle.station.specs.Moments.{LeavesOnly};
+ghost use Rattle.layout.specs.Record.{KeepsLimits, change_of};
+ghost use Rattle.model.specs.Records.{applied};
+ghost use Rattle.model.specs.States.{State};
+ghost use Rattle.model.specs.Trees.{Description};
+ghost use Rattle.oplog.specs.LogEnd.{HasRoom, behind, body_of};
+ghost use Rattle.system.specs.Images.{OpensTo};
+ghost use Rattle.system.specs.Logging.{Advances, WouldServe};
+ghost use Rattle.system.specs.Systems.{Serves, meaning_of, state_with};
+
+use crate::System;
+use crate::laws::{cuts_open, records_lead_on};
+use layout::Record;
+use oplog::AppendError;
+use station::Station;
+
+impl<S: Station> System<S> {
+    /// Puts a record into the log; what it does to memory is to follow. A cut at any moment leaves the state before it or the one after
+    /// it. `LogFull`, where it doesn't fit what is left of the log's half, and `NoMemory` change nothing; after `Device` the log has
+    /// stopped, and whether the record counts is known at the next mount.
+    pub(crate) fn log_record(&mut self, change: &Record) -> Result<(), AppendError>
+        requires { KeepsLimits (change_of change.now) }
+        ensures writes { OnlyWrites (λ e. (e ≡ AppendError.Device) × IsFalse self.old.log.is_stopped)
+            (meaning_of self.old) (meaning_of self.new) result }
+        ensures refused { IsErrOf result AppendError.LogFull ⊎ IsErrOf result AppendError.NoMemory
+            → (self.new.blocks ≡ self.old.blocks) × (self.new.log ≡ self.old.log) }
+        ensures full { IsErrOf result AppendError.LogFull
+            → HasRoom self.old.log (length (body_of (change_of change.now))) → ⊥ }
+        ensures stopped { IsErrOf result AppendError.Device
+            → self.new.log ≡ record self.old.log { is_stopped = true } }
+        ensures end { OnOk result
+            (self.new.log ≡ behind self.old.log (body_of (change_of change.now))) }
+        ensures root { self.new.root ≡ self.old.root }
+        ensures slot { self.new.slot ≡ self.old.slot }
+        ensures inodes { self.new.inodes ≡ self.old.inodes }
+        ensures map { self.new.map ≡ self.old.map }
+        ensures any_moment { (table : ℕ → Option Description) (s : State)
+            → (serves : Serves self.old table s)
+            → Advances self.old.root.geometry.inodes serves.running table (change_of change.now)
+            → LeavesOnly (meaning_of self.old) (meaning_of self.new)
+            (λ c. OpensTo (meaning_of self.old) s c ⊎ OpensTo (meaning_of self.old)
+            (state_with self.old.root.geometry.inodes (applied (change_of change.now) serves.running)
+            table serves.snapshots) c) }
+        ensures logged { (table : ℕ → Option Description) (s : State)
+            → (serves : Serves self.old table s)
+            → Advances self.old.root.geometry.inodes serves.running table (change_of change.now)
+            → OnOk result (WouldServe self.old self.new (applied (change_of change.now) serves.running) table
+            (state_with self.old.root.geometry.inodes (applied (change_of change.now) serves.running)
+            table serves.snapshots)) }
+    {
+        cuts_open();
+        records_lead_on();
+        self.log
+            .append(self.alloc, &mut self.blocks.station, change)
+    }
+}

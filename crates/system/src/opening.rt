@@ -1,0 +1,190 @@
+//! Mounting: from a station to a system.
+
+ghost use Rattle.std.specs.Prelude.{◌≡◌, ◌⊎◌, All, List, ℕ, IfErr, IfOk, IsErrOf, IsFalse, MatchResult, None, OnOk};
+ghost use Rattle.station.specs.Images.{Unchanged};
+ghost use Rattle.station.specs.Moments.{Goes, HasGrown, IsSameStation, LeavesJust};
+ghost use Rattle.layout.specs.Log.{LogHolds};
+ghost use Rattle.layout.specs.Opens.{IsNewest};
+ghost use Rattle.layout.specs.Places.{Blocks, blocks_of};
+ghost use Rattle.layout.specs.Record.{Change};
+ghost use Rattle.layout.specs.Root.{IsRoot};
+ghost use Rattle.layout.specs.declared.TheConstants.{SLOT_A, SLOT_B};
+ghost use Rattle.layout.specs.declared.root.Root.{Root};
+ghost use Rattle.model.specs.Paths.{Name};
+ghost use Rattle.model.specs.Records.{without_nameless};
+ghost use Rattle.model.specs.States.{Forgets, State};
+ghost use Rattle.model.specs.Trees.{Tree};
+ghost use Rattle.model.specs.Volumes.{Volume};
+ghost use Rattle.buffers.specs.Reads.{ReadsBlocks};
+ghost use Rattle.loading.specs.Slots.{FitsStation, HasNoRoot};
+ghost use Rattle.oplog.specs.SavedLog.{TellsLog};
+ghost use Rattle.calls.specs.Served.{IsServed};
+ghost use Rattle.system.specs.Images.{OpensTo};
+ghost use Rattle.system.specs.Opening.{FitsRoot, HasFailed, HasImage, HoldsRecords, IsFound, IsOf};
+ghost use Rattle.system.specs.Refusals.{IsDevice, IsOutside};
+ghost use Rattle.system.specs.Systems.{Serves, meaning_of, state_with};
+
+use crate::{OpenError, System};
+use blockmap::BlockMap;
+use buffers::{Blocks, Buffers};
+use inofile::InodeFile;
+use layout::Root;
+use loading::{Loaded, Newest, check_snapshots, load, newest_root, volumes_are_readable};
+use model::{mounts_find_volumes, replays_keep_volumes};
+use oplog::{Log, SavedLog};
+use replay::replay;
+use station::Station;
+use std::alloc::Global;
+
+/// What a station has beside the blocks of its disk.
+struct Found {
+    newest: Newest,
+    saved: SavedLog,
+}
+
+/// What memory has of an image.
+struct Mounted {
+    inodes: InodeFile,
+    map: BlockMap,
+    log: Log,
+}
+
+/// Settles what reads give, since a cut may have left writes that a later one could take back; then finds the newest root, and
+/// reads the log over it.
+fn find<S: Station>(alloc: Global, station: &mut S) -> Result<Found, OpenError>
+    ensures same { IsSameStation (S.meaning station.old) (S.meaning station.new) }
+    ensures goes { Goes Unchanged (S.meaning station.old) (S.meaning station.new) }
+    ensures device { IsErrOf result OpenError.Device
+        → HasFailed (S.meaning station.old) (S.meaning station.new) }
+    ensures reads { OnOk result ((S.meaning station.new).failed_reads
+        ≡ (S.meaning station.old).failed_reads) }
+    ensures found { IfOk result (λ f. IsFound f (S.meaning station.new)) }
+    ensures settled { OnOk result (LeavesJust (S.meaning station.new)
+        (S.meaning station.old).seen) }
+    ensures no_root { (S.meaning station.old).is_honest → IsErrOf result OpenError.NoRoot
+        → HasNoRoot (S.meaning station.old).sectors (S.meaning station.old).seen.disk }
+    ensures rootless { (S.meaning station.old).is_honest
+        → HasNoRoot (S.meaning station.old).sectors (S.meaning station.old).seen.disk
+        → MatchResult result (λ _. ⊥) (λ e. (e ≡ OpenError.NoRoot) ⊎ (e ≡ OpenError.Device)) }
+    ensures of_station { (S.meaning station.old).is_honest
+        → IfOk result (IsOf (S.meaning station.old).seen) }
+    ensures only { (S.meaning station.old).is_honest → (r : Root) (bodies : List (List ℕ))
+        → IsNewest r ((S.meaning station.old).seen.disk SLOT_A)
+        ((S.meaning station.old).seen.disk SLOT_B)
+        → FitsStation r (S.meaning station.old)
+        → LogHolds r.geometry.half r.generation (S.meaning station.old).seen.nvram bodies
+        → MatchResult result (λ f. f.newest.root ≡ r) IsOutside }
+{
+    station.sync()?;
+    let newest = newest_root(station)?;
+    let root = newest.root;
+    let saved = SavedLog::load(alloc, station, root.geometry, root.generation)?;
+    Ok(Found { newest, saved })
+}
+
+/// Reads what memory is to have of an image, with its snapshots' roots, and replays its log.
+fn read_image<B: Blocks>(
+    alloc: Global,
+    blocks: &mut B,
+    root: &Root,
+    saved: SavedLog,
+) -> Result<Mounted, OpenError>
+    requires root { IsRoot root.now }
+    requires size { B.count blocks.old ≡ root.now.geometry.blocks }
+    requires half { saved.half ≡ root.now.geometry.half }
+    requires generation { saved.generation ≡ root.now.generation }
+    ensures reads { ReadsBlocks B.Blocks IsDevice blocks.old blocks.new result }
+    ensures fits { IfOk result (FitsRoot root.now) }
+    ensures rooted { IsErrOf result OpenError.NoRoot → ⊥ }
+    ensures has { (disk : Blocks) (nvram : List ℕ) (first last : Volume)
+        (snapshots : List (Name × Tree)) (changes : List Change) → B.Shows blocks.old disk
+        → TellsLog nvram saved → HoldsRecords disk root.now nvram first last snapshots changes
+        → MatchResult result (HasImage disk root.now nvram last changes) IsOutside }
+{
+    volumes_are_readable();
+    check_snapshots(blocks, root)?;
+    let Loaded { map, mut inodes } = load(alloc, blocks, root)?;
+    let log = replay(alloc, &mut inodes, blocks, saved)?;
+    Ok(Mounted { inodes, map, log })
+}
+
+/// Makes a system of a station and of what was found on it.
+fn open_found<S: Station>(
+    alloc: Global,
+    station: S,
+    found: Found,
+) -> Result<System<S>, (OpenError, S)>
+    requires { IsFound found (S.meaning station) }
+    ensures same { MatchResult result
+        (λ f. IsSameStation (S.meaning station) (meaning_of f))
+        (λ e. IsSameStation (S.meaning station) (S.meaning e.1)) }
+    ensures goes { MatchResult result (λ f. Goes Unchanged (S.meaning station) (meaning_of f))
+        (λ e. Goes Unchanged (S.meaning station) (S.meaning e.1)) }
+    ensures writes { MatchResult result
+        (λ f. (meaning_of f).failed_writes ≡ (S.meaning station).failed_writes)
+        (λ e. (S.meaning e.1).failed_writes ≡ (S.meaning station).failed_writes) }
+    ensures device { IfErr result (λ e. e.0 ≡ OpenError.Device
+        → HasGrown (S.meaning station).failed_reads (S.meaning e.1).failed_reads) }
+    ensures rooted { IfErr result (λ e. e.0 ≡ OpenError.NoRoot → ⊥) }
+    ensures runs { IfOk result (λ f. IsFalse f.log.is_stopped) }
+    ensures serves { (S.meaning station).is_honest
+        → LeavesJust (S.meaning station) (S.meaning station).seen
+        → IsOf (S.meaning station).seen found
+        → (first last : Volume) (snapshots : List (Name × Tree)) (changes : List Change)
+        → HoldsRecords (blocks_of (S.meaning station).seen.disk) found.newest.root
+        (S.meaning station).seen.nvram first last snapshots changes
+        → MatchResult result (λ f. Serves f (λ d. None)
+        (state_with found.newest.root.geometry.inodes (without_nameless last) (λ d. None) snapshots))
+        (λ e. IsOutside e.0) }
+{
+    mounts_find_volumes();
+    replays_keep_volumes();
+    let Found { newest, saved } = found;
+    let mut blocks = Buffers::new(alloc, station);
+    match read_image(alloc, &mut blocks, &newest.root, saved) {
+        Ok(Mounted { inodes, map, log }) => Ok(System {
+            alloc,
+            blocks,
+            root: newest.root,
+            slot: newest.slot,
+            inodes,
+            map,
+            log,
+        }),
+        Err(error) => Err((error, blocks.into_station())),
+    }
+}
+
+impl<S: Station> System<S> {
+    /// Mounts an image: reads its newest root, what memory is to have of the tree under it, and replays the log over that. It
+    /// writes nothing. `NoRoot` comes where neither slot holds a root, `Device` only where a device call failed. Where what the
+    /// station reads opens to a state, Ok gives a system that serves what a mount finds of it, and `Damaged` comes only for a
+    /// record that this version doesn't do. No directory and no file is read, so Ok may come over an image that opens to none.
+    pub fn open(alloc: Global, mut station: S) -> Result<System<S>, (OpenError, S)>
+        ensures same { MatchResult result
+            (λ f. IsSameStation (S.meaning station) (meaning_of f))
+            (λ e. IsSameStation (S.meaning station) (S.meaning e.1)) }
+        ensures goes { MatchResult result (λ f. Goes Unchanged (S.meaning station) (meaning_of f))
+            (λ e. Goes Unchanged (S.meaning station) (S.meaning e.1)) }
+        ensures device { IfErr result (λ e. e.0 ≡ OpenError.Device
+            → HasFailed (S.meaning station) (S.meaning e.1)) }
+        ensures runs { IfOk result (λ f. IsFalse f.log.is_stopped) }
+        ensures no_root { (S.meaning station).is_honest
+            → IfErr result (λ e. e.0 ≡ OpenError.NoRoot
+            → HasNoRoot (S.meaning station).sectors (S.meaning station).seen.disk) }
+        ensures rootless { (S.meaning station).is_honest
+            → HasNoRoot (S.meaning station).sectors (S.meaning station).seen.disk
+            → MatchResult result (λ _. ⊥)
+            (λ e. (e.0 ≡ OpenError.NoRoot) ⊎ (e.0 ≡ OpenError.Device)) }
+        ensures opens { (S.meaning station).is_honest → (s : State)
+            → (o : OpensTo (S.meaning station) s (S.meaning station).seen)
+            → All IsServed o.changes
+            → MatchResult result (λ f. (t : State) × Forgets s t × Serves f (λ d. None) t)
+            (λ e. IsOutside e.0) }
+    {
+        match find(alloc, &mut station) {
+            Ok(found) => open_found(alloc, station, found),
+            Err(error) => Err((error, station)),
+        }
+    }
+}

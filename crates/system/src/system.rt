@@ -1,0 +1,35 @@
+//! A mounted system.
+
+ghost use Rattle.std.specs.Prelude.{◌≡◌, ◌*◌};
+ghost use Rattle.layout.specs.Root.{IsRoot};
+ghost use Rattle.system.specs.Memory.{IsClean};
+ghost use Rattle.system.specs.Props.{IsRoot-prop};
+
+use blockmap::BlockMap;
+use buffers::Buffers;
+use inofile::InodeFile;
+use layout::Root;
+use oplog::Log;
+use station::Station;
+use std::alloc::Global;
+
+/// What a mounted system has in memory, and its station.
+#[derive(Drop)]
+pub struct System<S: Station> {
+    pub(crate) alloc: Global,
+    pub(crate) blocks: Buffers<S>,
+    /// The newest root.
+    pub(crate) root: Root,
+    /// The sector of the slot that it stands in.
+    pub(crate) slot: u32,
+    pub(crate) inodes: InodeFile,
+    pub(crate) map: BlockMap,
+    pub(crate) log: Log,
+    ghost sectors: { (S.meaning blocks.station).sectors ≡ 8 * root.geometry.blocks },
+    ghost nvram: { (S.meaning blocks.station).nvram_bytes ≡ 2 * log.half },
+    ghost half: { log.half ≡ root.geometry.half },
+    ghost sizes: { inodes.geometry ≡ root.geometry },
+    ghost count: { map.count ≡ root.geometry.blocks },
+    ghost clean: { IsClean map },
+    ghost is_root: { IsRoot root } by { IsRoot-prop root },
+}

@@ -1,0 +1,86 @@
+//! The writing of a consistency point that is planned.
+
+ghost use Rattle.std.specs.Prelude.{◌≡◌, ◌⊎◌, ℕ, List, OnOk, IfOk, IfErr};
+ghost use Rattle.station.specs.Moments.{After, EachCut, LeavesJust, LeavesOnly};
+ghost use Rattle.station.specs.Calls.{OnlyWrites};
+ghost use Rattle.layout.specs.Root.{IsRoot};
+ghost use Rattle.buffers.specs.Disks.{ShowsDisk, disk_with_sector};
+ghost use Rattle.loading.specs.Images.{IsFileOf};
+ghost use Rattle.conspoint.specs.Plans.{FitsDisk};
+ghost use Rattle.conspoint.specs.Cuts.{StaysOutside, HasNewRoot, IsFault, disk_with_blocks};
+ghost use Rattle.system.specs.Errors.{IsNotWritten, IsRefused};
+
+use crate::PointError;
+use buffers::{BufferError, Buffers};
+use conspoint::{Plan, PlanError};
+use inode::File;
+use layout::Root;
+use planning::Point;
+use station::Station;
+use std::alloc::Global;
+
+/// Brings a planned point into force, and gives its root and the inode file under it. All memory is taken before the first write.
+pub(crate) fn carry_out<S: Station>(
+    alloc: Global,
+    point: Point,
+    buffers: &mut Buffers<S>,
+) -> Result<(Root, File), PointError>
+    requires fits { FitsDisk (S.meaning buffers.old.station).sectors point.plan }
+    requires none { point.plan.written ≡ 0 }
+    requires root { IsRoot point.root }
+    ensures writes { OnlyWrites IsNotWritten
+        (S.meaning buffers.old.station) (S.meaning buffers.new.station) result }
+    ensures refused { IfErr result (λ e. IsRefused e → buffers.new ≡ buffers.old) }
+    ensures why { IfErr result (λ e. (e ≡ PointError.NotWritten)
+        ⊎ (e ≡ PointError.NotPlanned PlanError.NoMemory)) }
+    ensures any_moment { LeavesOnly (S.meaning buffers.old.station) (S.meaning buffers.new.station)
+        (λ c. After (StaysOutside point.plan.blocks) (S.meaning buffers.old.station) c
+        ⊎ HasNewRoot point.plan (S.meaning buffers.old.station).seen c) }
+    ensures settled { (S.meaning buffers.old.station).is_honest
+        → OnOk result (EachCut (S.meaning buffers.new.station)
+        (HasNewRoot point.plan (S.meaning buffers.old.station).seen)) }
+    ensures just { OnOk result
+        (LeavesJust (S.meaning buffers.new.station) (S.meaning buffers.new.station).seen) }
+    ensures shows { (disk : ℕ → List ℕ)
+        → ShowsDisk (S.meaning buffers.old.station) buffers.old.kept disk
+        → OnOk result (ShowsDisk (S.meaning buffers.new.station) buffers.new.kept
+        (disk_with_sector point.plan.slot point.plan.root
+        (disk_with_blocks point.plan.blocks disk))) }
+    ensures root { IfOk result (λ r. r.0 ≡ point.root) }
+    ensures file { IfOk result (λ r. IsFileOf point.root.inode_file r.1) }
+{
+    let Point { plan, root } = point;
+    let Ok(file) = File::load(alloc, root.inode_file) else {
+        return Err(PointError::NotPlanned(PlanError::NoMemory));
+    };
+    match write_point(plan, buffers) {
+        Ok(()) => Ok((root, file)),
+        Err(_) => Err(PointError::NotWritten),
+    }
+}
+
+/// Writes all blocks of a plan, and then its root. It takes no memory.
+fn write_point<S: Station>(mut plan: Plan, buffers: &mut Buffers<S>) -> Result<(), BufferError>
+    requires fits { FitsDisk (S.meaning buffers.old.station).sectors plan }
+    requires none { plan.written ≡ 0 }
+    ensures writes { OnlyWrites IsFault
+        (S.meaning buffers.old.station) (S.meaning buffers.new.station) result }
+    ensures device { IfErr result IsFault }
+    // A cut at any moment leaves what one might have left before, with some of the blocks, or all of them with the new root.
+    ensures any_moment { LeavesOnly (S.meaning buffers.old.station) (S.meaning buffers.new.station)
+        (λ c. After (StaysOutside plan.blocks) (S.meaning buffers.old.station) c
+        ⊎ HasNewRoot plan (S.meaning buffers.old.station).seen c) }
+    ensures settled { (S.meaning buffers.old.station).is_honest
+        → OnOk result (EachCut (S.meaning buffers.new.station)
+        (HasNewRoot plan (S.meaning buffers.old.station).seen)) }
+    ensures just { OnOk result
+        (LeavesJust (S.meaning buffers.new.station) (S.meaning buffers.new.station).seen) }
+    ensures shows { (disk : ℕ → List ℕ)
+        → ShowsDisk (S.meaning buffers.old.station) buffers.old.kept disk
+        → OnOk result (ShowsDisk (S.meaning buffers.new.station) buffers.new.kept
+        (disk_with_sector plan.slot plan.root (disk_with_blocks plan.blocks disk))) }
+{
+    let left = plan.left();
+    plan.write_some(buffers, left)?;
+    plan.finish(buffers)
+}
