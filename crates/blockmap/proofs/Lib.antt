@@ -1,2 +1,3 @@
 mod BitLemmas
 mod MapLemmas
+pub mod SpaceLemmas

@@ -1,3 +1,4 @@
 pub mod Bits
 pub mod Parts
 pub mod Maps
+pub mod Space

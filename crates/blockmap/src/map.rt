@@ -33,6 +33,7 @@ pub struct BlockMap {
 
 impl BlockMap {
     ghost use Rattle.blockmap.specs.Maps.{settled_at, entry_at, free_below, HoldsPart, IsFree, IsTouched, KeepsSettled, OnlyChanges};
+    ghost use Rattle.blockmap.specs.Space.{left};
 
     /// The map of a disk of so many blocks, of which no free one is given out.
     pub fn new(parts: Vec<MapPart>, count: u32) -> BlockMap
@@ -70,6 +71,8 @@ impl BlockMap {
             → IsFree self.old.parts.items k → ⊥) }
         ensures none { IfNone result ((k : ℕ) → self.old.next ≤ k → k < self.old.count
             → IsFree self.old.parts.items k → ⊥) }
+        ensures fewer { IfSome result (λ b. left self.old ≡ left self.new + 1) }
+        ensures none_left { IfNone result (left self.old ≡ 0) }
     {
         let found = self.free_from(self.next)?;
         self.next = found + 1;

@@ -2,6 +2,7 @@ mod Writes
 mod Finishing
 mod Cuts
 mod DraftLemmas
+mod SpaceLemmas
 mod GroupLemmas
 mod ClosureLemmas
 mod MarkLemmas

@@ -8,3 +8,4 @@ pub mod Marks
 pub mod MapFiles
 pub mod Writes
 pub mod Errors
+pub mod Space

@@ -1,6 +1,6 @@
 //! The blocks of a changed file.
 
-ghost use Rattle.std.specs.Prelude.{◌≡◌, ℕ, ◌<◌, ◌≤◌, ◌^◌, All, IfOk, IfErr, IsErrOf, length};
+ghost use Rattle.std.specs.Prelude.{◌≡◌, ℕ, ◌+◌, ◌-◌, ◌<◌, ◌≤◌, ◌^◌, min, All, IfOk, OnOk, IfErr, IsErrOf, length};
 ghost use Rattle.layout.specs.Places.{pointed};
 ghost use Rattle.layout.specs.Pointer.{PointsBelow};
 ghost use Rattle.layout.specs.declared.geometry.TheConstants.{MOST_BLOCKS};
@@ -8,6 +8,7 @@ ghost use Rattle.layout.specs.declared.pointer.Pointer.TheVariants.{Hole};
 ghost use Rattle.conspoint.specs.Blocks.{changed_or};
 ghost use Rattle.conspoint.specs.Drafts.{OnEach, Grows, IsFull, IsReserved, IsShortage};
 ghost use Rattle.conspoint.specs.Groups.{pointer_at, ComesFrom, ArePlaced};
+ghost use Rattle.conspoint.specs.Space.{Lacks, TakesAtMost};
 
 use crate::draft::Draft;
 use crate::error::PlanError;
@@ -37,6 +38,8 @@ fn place_block(
     ensures parts { draft.new.map.parts.items ≡ draft.old.map.parts.items }
     ensures others { (p : ℕ) → IsReserved draft.old p → IsReserved draft.new p }
     ensures full { IsErrOf result PlanError.NoSpace → IsFull draft.old }
+    ensures takes { OnOk result (TakesAtMost (min 1 (i + 1 - first)) draft.old draft.new) }
+    ensures lacks { IsErrOf result PlanError.NoSpace → Lacks (min 1 (i + 1 - first)) draft.old }
     ensures shortage { IfErr result IsShortage }
 {
     if i < first {
@@ -75,6 +78,9 @@ pub fn place_blocks(
     ensures parts { draft.new.map.parts.items ≡ draft.old.map.parts.items }
     ensures others { (p : ℕ) → IsReserved draft.old p → IsReserved draft.new p }
     ensures full { IsErrOf result PlanError.NoSpace → IsFull draft.new }
+    ensures takes { OnOk result (TakesAtMost (length settled.now - first) draft.old draft.new) }
+    ensures lacks { IsErrOf result PlanError.NoSpace
+        → Lacks (length settled.now - first) draft.old }
     ensures shortage { IfErr result IsShortage }
 {
     let mut nodes = Vec::new(alloc);

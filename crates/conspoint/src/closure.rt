@@ -5,6 +5,7 @@ ghost use Rattle.layout.specs.declared.pointer.Pointer.TheVariants.{Hole, Block}
 ghost use Rattle.blockmap.specs.Maps.{IsTouched, entry_at};
 ghost use Rattle.conspoint.specs.Drafts.{Grows, WasTaken, IsReserved, IsFull, IsShortage};
 ghost use Rattle.conspoint.specs.Groups.{pointer_at};
+ghost use Rattle.conspoint.specs.Space.{Lacks, TakesAtMost};
 ghost use Rattle.conspoint.specs.Closures.{IsClosed, PartsMoved, OverMoved, HasRoomFor};
 
 use crate::draft::Draft;
@@ -75,6 +76,8 @@ fn move_node(draft: &mut Draft, before: Pointer) -> Result<BlockNumber, PlanErro
     ensures new { IfOk result (HasRoomFor draft.new) }
     ensures old { OnOk result ((b : ℕ) → before ≡ Block b → HasRoomFor draft.new b) }
     ensures full { IsErrOf result PlanError.NoSpace → IsFull draft.old }
+    ensures takes { OnOk result (TakesAtMost 1 draft.old draft.new) }
+    ensures lacks { IsErrOf result PlanError.NoSpace → Lacks 1 draft.old }
     ensures shortage { IfErr result IsShortage }
 {
     if let Pointer::Block(place) = before {
@@ -107,6 +110,8 @@ pub fn reserve_map(
         → entry_at draft.new.map.parts.items b ≡ entry_at draft.old.map.parts.items b }
     ensures others { (p : ℕ) → IsReserved draft.old p → IsReserved draft.new p }
     ensures full { IsErrOf result PlanError.NoSpace → IsFull draft.new }
+    ensures takes { OnOk result (TakesAtMost (length places.old) draft.old draft.new) }
+    ensures lacks { IsErrOf result PlanError.NoSpace → Lacks (length places.old) draft.old }
     ensures shortage { IfErr result IsShortage }
 {
     while let Some(k) = next_node(draft, places) {

@@ -24,6 +24,7 @@ pub struct Draft {
 impl Draft {
     ghost use Rattle.conspoint.specs.Drafts.{OnEach, WasTaken, Grows, IsFull, IsReserved, IsShortage};
     ghost use Rattle.conspoint.specs.Closures.{HasRoomFor};
+    ghost use Rattle.conspoint.specs.Space.{Lacks, TakesAtMost};
 
     /// A plan with no block, over a map with no change.
     pub fn new(alloc: Global, map: BlockMap) -> Draft
@@ -45,6 +46,8 @@ impl Draft {
         ensures stored { IfOk result (λ place. OnEach self.new (λ e. e place ≡ bytes)) }
         ensures others { (p : ℕ) → IsReserved self.old p → IsReserved self.new p }
         ensures full { IsErrOf result PlanError.NoSpace → IsFull self.old }
+        ensures takes { OnOk result (TakesAtMost 1 self.old self.new) }
+        ensures lacks { IsErrOf result PlanError.NoSpace → Lacks 1 self.old }
         ensures shortage { IfErr result IsShortage }
     {
         let place = self.reserve()?;
@@ -61,6 +64,8 @@ impl Draft {
         ensures reserved { IfOk result (IsReserved self.new) }
         ensures others { (p : ℕ) → IsReserved self.old p → IsReserved self.new p }
         ensures full { IsErrOf result PlanError.NoSpace → IsFull self.old }
+        ensures takes { OnOk result (TakesAtMost 1 self.old self.new) }
+        ensures lacks { IsErrOf result PlanError.NoSpace → Lacks 1 self.old }
         ensures shortage { IfErr result IsShortage }
     {
         match self.map.allocate() {

@@ -1,6 +1,6 @@
 //! Indirect blocks, made anew.
 
-ghost use Rattle.std.specs.Prelude.{◌≡◌, ℕ, ◌*◌, ◌<◌, All, IfOk, IfErr, IsErrOf, IsTrue, IfSome, IfNone, length, ◌↔◌};
+ghost use Rattle.std.specs.Prelude.{◌≡◌, ℕ, ◌*◌, ◌<◌, All, IfOk, OnOk, IfErr, IsErrOf, IsTrue, IfSome, IfNone, length, ◌↔◌};
 ghost use Rattle.layout.specs.Maps.{indirect_pointer};
 ghost use Rattle.layout.specs.Pointer.{PointsBelow};
 ghost use Rattle.layout.specs.declared.TheConstants.{BLOCK_BYTES, BLOCK_POINTERS};
@@ -8,6 +8,7 @@ ghost use Rattle.layout.specs.declared.geometry.TheConstants.{MOST_BLOCKS};
 ghost use Rattle.layout.specs.declared.pointer.Pointer.TheVariants.{Hole};
 ghost use Rattle.conspoint.specs.Drafts.{OnEach, Grows, IsFull, IsReserved, IsShortage};
 ghost use Rattle.conspoint.specs.Groups.{pointer_at, group, IsGroup, ComesFrom, ArePlaced};
+ghost use Rattle.conspoint.specs.Space.{Lacks, TakesAtMost};
 
 use crate::draft::Draft;
 use crate::error::PlanError;
@@ -94,6 +95,8 @@ pub fn place_group(
     ensures parts { draft.new.map.parts.items ≡ draft.old.map.parts.items }
     ensures others { (p : ℕ) → IsReserved draft.old p → IsReserved draft.new p }
     ensures full { IsErrOf result PlanError.NoSpace → IsFull draft.old }
+    ensures takes { OnOk result (TakesAtMost 1 draft.old draft.new) }
+    ensures lacks { IsErrOf result PlanError.NoSpace → Lacks 1 draft.old }
     ensures shortage { IfErr result IsShortage }
 {
     let Some(_) = first_block(new) else {
@@ -129,6 +132,8 @@ pub fn place_over(
     ensures parts { draft.new.map.parts.items ≡ draft.old.map.parts.items }
     ensures others { (p : ℕ) → IsReserved draft.old p → IsReserved draft.new p }
     ensures full { IsErrOf result PlanError.NoSpace → IsFull draft.new }
+    ensures takes { OnOk result (TakesAtMost (length settled.now) draft.old draft.new) }
+    ensures lacks { IsErrOf result PlanError.NoSpace → Lacks (length settled.now) draft.old }
     ensures shortage { IfErr result IsShortage }
 {
     let mut over = Vec::new(alloc);

@@ -13,6 +13,7 @@ ghost use Rattle.conspoint.specs.Drafts.{OnEach, Grows, IsFull, IsReserved, IsSh
 ghost use Rattle.conspoint.specs.Groups.{pointer_at};
 ghost use Rattle.conspoint.specs.MapFiles.{map_nodes, or_settled, node_at, IsOfMoved, PlansMap};
 ghost use Rattle.conspoint.specs.Marks.{Marking};
+ghost use Rattle.conspoint.specs.Space.{Lacks, TakesAtMost};
 
 use crate::closure::reserve_map;
 use crate::draft::Draft;
@@ -220,6 +221,8 @@ fn store_nodes(
     ensures others { (p : ℕ) → IsReserved draft.old p → IsReserved draft.new p }
     ensures planned { IfOk result (PlansMap draft.old draft.new settled.now) }
     ensures full { IsErrOf result PlanError.NoSpace → IsFull draft.new }
+    ensures takes { OnOk result (TakesAtMost (length settled.now) draft.old draft.new) }
+    ensures lacks { IsErrOf result PlanError.NoSpace → Lacks (length settled.now) draft.old }
     ensures shortage { IfErr result IsShortage }
 {
     let count = draft.map_blocks();
@@ -255,6 +258,8 @@ pub fn store_own_map(
     ensures others { (p : ℕ) → IsReserved draft.old p → IsReserved draft.new p }
     ensures planned { IfOk result (PlansMap draft.old draft.new settled.now) }
     ensures full { IsErrOf result PlanError.NoSpace → IsFull draft.new }
+    ensures takes { OnOk result (TakesAtMost (length settled.now) draft.old draft.new) }
+    ensures lacks { IsErrOf result PlanError.NoSpace → Lacks (length settled.now) draft.old }
     ensures shortage { IfErr result IsShortage }
 {
     let mut places = holes(alloc, settled.len())?;

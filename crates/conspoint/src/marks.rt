@@ -1,6 +1,7 @@
 //! Set 0 of the map, the blocks of the active tree.
 
 ghost use Rattle.std.specs.Prelude.{◌≡◌, ℕ, ◌<◌, All, OnOk, IfErr, IsErrOf, length};
+ghost use Rattle.blockmap.specs.Space.{left};
 ghost use Rattle.conspoint.specs.Drafts.{Grows, IsReserved, IsShortage};
 ghost use Rattle.conspoint.specs.Marks.{AreMarked};
 
@@ -13,6 +14,7 @@ pub fn mark_all(draft: &mut Draft, blocks: &[BlockNumber], is_in: bool) -> Resul
     requires { All (λ b. b < draft.old.map.count) blocks.now }
     ensures grows { Grows draft.old draft.new }
     ensures next { draft.new.map.next ≡ draft.old.map.next }
+    ensures left { left draft.new.map ≡ left draft.old.map }
     ensures blocks { draft.new.blocks.items ≡ draft.old.blocks.items }
     ensures others { (p : ℕ) → IsReserved draft.old p → IsReserved draft.new p }
     ensures marked { OnOk result (AreMarked blocks.now (length blocks.now) is_in

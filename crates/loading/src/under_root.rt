@@ -47,6 +47,7 @@ pub fn load<B: Blocks>(alloc: Global, blocks: &mut B, root: &Root) -> Result<Loa
     ensures parts { IfOk result (λ l. length l.map.parts.items
         ≡ div_ceil root.now.geometry.blocks BLOCK_POINTERS) }
     ensures unchanged { IfOk result (λ l. AreUnchanged l.map.parts.items) }
+    ensures next { IfOk result (λ l. l.map.next ≡ 2) }
     ensures geometry { IfOk result (λ l. l.inodes.geometry ≡ root.now.geometry) }
     ensures numbers { IfOk result (λ l. IsInodeMap 0 root.now.geometry.inodes
         l.inodes.numbers.bytes.items) }

@@ -1,3 +1,4 @@
 pub mod Nodes
 pub mod Files
 pub mod Layouts
+pub mod Space

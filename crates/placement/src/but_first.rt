@@ -13,9 +13,11 @@ ghost use Rattle.buffers.specs.Failures.{HasGrown};
 ghost use Rattle.conspoint.specs.Blocks.{changed_or};
 ghost use Rattle.conspoint.specs.Drafts.{OnEach, Grows, IsFull, IsReserved, IsShortage, WasTaken};
 ghost use Rattle.conspoint.specs.Groups.{pointer_at};
+ghost use Rattle.conspoint.specs.Space.{Lacks, TakesAtMost};
 ghost use Rattle.placement.specs.Files.{IsChangeOf, IsPlaced, content_with, is_one, object_block, with_first};
 ghost use Rattle.placement.specs.Layouts.{AreSettled, IsLaidOut, inode_with};
 ghost use Rattle.placement.specs.Nodes.{ArePlacedAt, ArePlacedOver};
+ghost use Rattle.placement.specs.Space.{file_nodes};
 
 use crate::blocks::place_lowest;
 use crate::file::{Laid, PlacedFile, block_count, lay_over, placed_file};
@@ -55,6 +57,8 @@ fn place_but_first(
     ensures parts { draft.new.map.parts.items ≡ draft.old.map.parts.items }
     ensures others { (p : ℕ) → IsReserved draft.old p → IsReserved draft.new p }
     ensures full { IsErrOf result PlanError.NoSpace → IsFull draft.new }
+    ensures takes { OnOk result (TakesAtMost count draft.old draft.new) }
+    ensures lacks { IsErrOf result PlanError.NoSpace → Lacks count draft.old }
     ensures shortage { IfErr result IsShortage }
     ensures reserved { IfOk result (λ r. IsReserved draft.new r.1) }
     ensures count { IfOk result (λ r. length r.0.items ≡ count) }
@@ -83,6 +87,10 @@ fn lay_but_first(
     ensures parts { draft.new.map.parts.items ≡ draft.old.map.parts.items }
     ensures others { (p : ℕ) → IsReserved draft.old p → IsReserved draft.new p }
     ensures full { IsErrOf result PlanError.NoSpace → IsFull draft.new }
+    ensures takes { OnOk result
+        (TakesAtMost (file_nodes object.now.file.size) draft.old draft.new) }
+    ensures lacks { IsErrOf result PlanError.NoSpace
+        → Lacks (file_nodes object.now.file.size) draft.old }
     ensures shortage { IfErr result IsShortage }
     ensures reserved { IfOk result (λ r. IsReserved draft.new r.1) }
     ensures placed { IfOk result (λ r. ArePlacedOver draft.old draft.new settled.now r.0.nodes) }
@@ -136,6 +144,10 @@ pub fn place_file_but_first<B: Blocks>(
         → content_of (held e r.0.inode)
         ≡ content_with object.now (with_first (e r.1) (object_block disk object.now)))) }
     ensures full { IsErrOf result PlanError.NoSpace → IsFull draft.new }
+    ensures takes { OnOk result
+        (TakesAtMost (file_nodes object.now.file.size) draft.old draft.new) }
+    ensures lacks { IsErrOf result PlanError.NoSpace
+        → Lacks (file_nodes object.now.file.size) draft.old }
     ensures damaged { (s : Sizes) (disk : ℕ → List ℕ) (base : Inode) → B.Shows blocks.old disk
         → IsChangeOf s draft.old disk base object.now → IsErrOf result PlanError.Damaged → ⊥ }
 {

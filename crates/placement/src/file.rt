@@ -1,9 +1,11 @@
 //! A changed file, placed.
 
 ghost use Rattle.std.specs.Prelude.{◌≡◌, ℕ, ◌<◌, ◌≤◌, true, List, [], length, All, Contains, ◌↔◌, IfOk, IfErr, OnOk, IsErrOf, nat_lt, if◌then◌else◌};
+ghost use Rattle.std.specs.Int.{div_ceil};
 ghost use Rattle.layout.specs.Limits.{Sizes};
 ghost use Rattle.layout.specs.Pointer.{PointsBelow};
 ghost use Rattle.layout.specs.Version.{level_of};
+ghost use Rattle.layout.specs.declared.TheConstants.{BLOCK_POINTERS};
 ghost use Rattle.layout.specs.declared.inode.Inode.{Inode};
 ghost use Rattle.layout.specs.declared.pointer.Pointer.TheVariants.{Hole};
 ghost use Rattle.images.specs.Contents.{content_of};
@@ -15,9 +17,11 @@ ghost use Rattle.blocktree.specs.Trees.{IsSoundAt};
 ghost use Rattle.inode.specs.Files.{IsFile};
 ghost use Rattle.conspoint.specs.Drafts.{OnEach, Grows, IsFull, IsReserved, IsShortage, WasTaken};
 ghost use Rattle.conspoint.specs.Groups.{pointer_at};
+ghost use Rattle.conspoint.specs.Space.{Lacks, TakesAtMost};
 ghost use Rattle.placement.specs.Files.{IsChangeOf, IsPlaced, IsWholeOver, is_one, object_block, object_content};
 ghost use Rattle.placement.specs.Layouts.{AreSettled, Carries, IsLaidOut, LeadTo, StandsIn, inode_with};
 ghost use Rattle.placement.specs.Nodes.{ArePlacedAt, ArePlacedOver, HasMoved};
+ghost use Rattle.placement.specs.Space.{file_nodes, over_nodes};
 
 use crate::blocks::place_lowest;
 use crate::indirect::place_indirect;
@@ -89,6 +93,10 @@ fn lay_indirect(
     ensures parts { draft.new.map.parts.items ≡ draft.old.map.parts.items }
     ensures others { (p : ℕ) → IsReserved draft.old p → IsReserved draft.new p }
     ensures full { IsErrOf result PlanError.NoSpace → IsFull draft.new }
+    ensures takes { OnOk result (TakesAtMost
+        (div_ceil (block_count object.now.file.size) BLOCK_POINTERS) draft.old draft.new) }
+    ensures lacks { IsErrOf result PlanError.NoSpace
+        → Lacks (div_ceil (block_count object.now.file.size) BLOCK_POINTERS) draft.old }
     ensures shortage { IfErr result IsShortage }
     ensures blocks { IfOk result (λ l. l.nodes.blocks.items ≡ blocks.items) }
     ensures over { IfOk result (λ l.
@@ -120,6 +128,11 @@ pub(crate) fn lay_over(
     ensures parts { draft.new.map.parts.items ≡ draft.old.map.parts.items }
     ensures others { (p : ℕ) → IsReserved draft.old p → IsReserved draft.new p }
     ensures full { IsErrOf result PlanError.NoSpace → IsFull draft.new }
+    ensures takes { OnOk result (TakesAtMost (over_nodes (level_of object.now.file.size)
+        (block_count object.now.file.size)) draft.old draft.new) }
+    ensures lacks { IsErrOf result PlanError.NoSpace
+        → Lacks (over_nodes (level_of object.now.file.size)
+        (block_count object.now.file.size)) draft.old }
     ensures shortage { IfErr result IsShortage }
     ensures blocks { IfOk result (λ l. l.nodes.blocks.items ≡ blocks.items) }
     ensures over { IfOk result (λ l.
@@ -150,6 +163,10 @@ fn lay_blocks(
     ensures parts { draft.new.map.parts.items ≡ draft.old.map.parts.items }
     ensures others { (p : ℕ) → IsReserved draft.old p → IsReserved draft.new p }
     ensures full { IsErrOf result PlanError.NoSpace → IsFull draft.new }
+    ensures takes { OnOk result
+        (TakesAtMost (file_nodes object.now.file.size) draft.old draft.new) }
+    ensures lacks { IsErrOf result PlanError.NoSpace
+        → Lacks (file_nodes object.now.file.size) draft.old }
     ensures shortage { IfErr result IsShortage }
     ensures holes { IfOk result (λ l. (i : ℕ) → i < block_count object.now.file.size
         → pointer_at l.nodes.blocks.items i ≡ Hole
@@ -214,6 +231,10 @@ fn lay<B: Blocks>(
     ensures parts { draft.new.map.parts.items ≡ draft.old.map.parts.items }
     ensures others { (p : ℕ) → IsReserved draft.old p → IsReserved draft.new p }
     ensures full { IsErrOf result PlanError.NoSpace → IsFull draft.new }
+    ensures takes { OnOk result
+        (TakesAtMost (file_nodes object.now.file.size) draft.old draft.new) }
+    ensures lacks { IsErrOf result PlanError.NoSpace
+        → Lacks (file_nodes object.now.file.size) draft.old }
     ensures holes { IfOk result (λ l. (i : ℕ)
         → 1 ≤ level_of object.now.file.size → i < block_count object.now.file.size
         → pointer_at l.nodes.blocks.items i ≡ Hole
@@ -309,6 +330,10 @@ pub fn place_file<B: Blocks>(
         → IfOk result (λ p. OnEach draft.new (λ e. Agrees (Names (held disk base)) disk e
         → content_of (held e p.inode) ≡ object_content disk object.now)) }
     ensures full { IsErrOf result PlanError.NoSpace → IsFull draft.new }
+    ensures takes { OnOk result
+        (TakesAtMost (file_nodes object.now.file.size) draft.old draft.new) }
+    ensures lacks { IsErrOf result PlanError.NoSpace
+        → Lacks (file_nodes object.now.file.size) draft.old }
     ensures damaged { (s : Sizes) (disk : ℕ → List ℕ) (base : Inode) → B.Shows blocks.old disk
         → IsChangeOf s draft.old disk base object.now → IsErrOf result PlanError.Damaged → ⊥ }
 {

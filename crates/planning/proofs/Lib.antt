@@ -15,3 +15,4 @@ mod PlanLaws
 mod StartLaws
 mod SettledLaws
 mod LoopLaws
+mod SpaceLaws

@@ -41,18 +41,22 @@ blocks_size : (count : ℕ) (disk : Blocks) (s : Sizes) (top : File) (settled_of
 blocks_size count disk s top settled_of are =
     (subst (λ (k : Kind). FitsKind k s (settled_of 2).mode (settled_of 2).links (settled_of 2).size) (are.fits 2) (inode_is s disk (settled_of 2) (are.sound 2)).kind).2
 
+-- a map has just the parts that its entries need
+parts_of : (m : BlockMap) → length m.parts.items ≡ div_ceil m.count 1024
+parts_of m = omega (arith, m.covers, m.just)
+
 has_over : (count parts : ℕ) (disk : Blocks) (s : Sizes) (top : File) (settled_of : ℕ → Inode) → AreSettled count disk s top settled_of → parts ≡ div_ceil s.blocks 1024 → level_of (settled_of 2).size ≡ 2 → 16 < parts
 has_over count parts disk s top settled_of are is level =
     let size = blocks_size count disk s top settled_of are in let large = level_two (settled_of 2).size level in omega arith
 
 pub settled_map : (count : ℕ) (draft : Draft) (disk : Blocks) (s : Sizes) (top : File) (settled_of : ℕ → Inode) (before : ℕ → ℕ) (f : Inode) (nodes : List Pointer) → AreSettled count disk s top settled_of
-    → AreSizes s → count ≡ draft.map.count → length draft.map.parts.items ≡ div_ceil draft.map.count 1024
+    → AreSizes s → count ≡ draft.map.count
     → NamesOnce (settled_tree disk settled_of) → IsExactPlane (settled_tree disk settled_of) before → ((b : ℕ) → settled_at draft.map.parts.items b ≡ before b)
     → ((b : ℕ) → before b ≡ entry (settled_tree disk settled_of) b) → HasNoHole (held disk (settled_of 2)) → f ≡ settled_of 2
     → ((k : ℕ) → k < length draft.map.parts.items → pointer_at nodes k ≡ (held disk f).place 0 k)
     → (16 < length draft.map.parts.items → pointer_at nodes (length draft.map.parts.items) ≡ (held disk f).place 1 0)
     → IsSettledMap s disk (settled_of 2) draft.map nodes
-settled_map count draft disk s top settled_of before f nodes are sizes count_is parts once exact same entries no_hole is lowest over = record {
+settled_map count draft disk s top settled_of before f nodes are sizes count_is once exact same entries no_hole is lowest over = record {
   sizes = sizes;
   blocks = sym (are.count ∙ count_is);
   kind = are.fits 2;
@@ -63,7 +67,7 @@ settled_map count draft disk s top settled_of before f nodes are sizes count_is 
   used = λ b names. used_block draft disk settled_of before exact same 2 b names;
   lowest = subst (λ (x : Inode). (k : ℕ) → k < length draft.map.parts.items → pointer_at nodes k ≡ (held disk x).place 0 k) is lowest;
   over = λ level. subst (λ (x : Inode). pointer_at nodes (length draft.map.parts.items) ≡ (held disk x).place 1 0) is
-      (over (has_over count (length draft.map.parts.items) disk s top settled_of are (parts ∙ ap (λ n. div_ceil n 1024) (sym (are.count ∙ count_is))) level));
+      (over (has_over count (length draft.map.parts.items) disk s top settled_of are (parts_of draft.map ∙ ap (λ n. div_ceil n 1024) (sym (are.count ∙ count_is))) level));
 }
 
 map_placed : (s : Sizes) (d e : Blocks) (old new : Inode) (taken freed : ℕ → Bool) (entry_of : ℕ → ℕ) → IsMapOn s d e old new taken freed entry_of → IsPlaced s e (held d old) new taken freed

@@ -4,3 +4,4 @@ pub mod Inodes
 pub mod Numbers
 pub mod Steps
 pub mod Plans
+pub mod Space

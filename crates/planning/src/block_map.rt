@@ -1,12 +1,11 @@
 //! The block map's file.
 
 ghost use Rattle.std.specs.Prelude.{ℕ, ◌≡◌, ◌<◌, ◌≤◌, List, All, IfOk, OnOk, IsErrOf, length, false};
-ghost use Rattle.std.specs.Int.{div_ceil};
 ghost use Rattle.layout.specs.Limits.{AreSizes, Sizes};
 ghost use Rattle.layout.specs.Pointer.{PointsBelow};
 ghost use Rattle.layout.specs.Version.{greatest_size};
 ghost use Rattle.layout.specs.declared.version.TheConstants.{VERSION};
-ghost use Rattle.layout.specs.declared.TheConstants.{BLOCK_POINTERS, BODY_POINTERS};
+ghost use Rattle.layout.specs.declared.TheConstants.{BODY_POINTERS};
 ghost use Rattle.layout.specs.declared.inode.Inode.{Inode};
 ghost use Rattle.model.specs.Volumes.{Volume};
 ghost use Rattle.buffers.specs.Reads.{ReadsBlocks};
@@ -15,12 +14,14 @@ ghost use Rattle.blockmap.specs.Maps.{settled_at};
 ghost use Rattle.conspoint.specs.Drafts.{Grows, IsReserved};
 ghost use Rattle.conspoint.specs.Errors.{IsReadFault};
 ghost use Rattle.conspoint.specs.Groups.{pointer_at};
+ghost use Rattle.conspoint.specs.Space.{Lacks, TakesAtMost};
 ghost use Rattle.conspoint.specs.MapFiles.{map_nodes};
 ghost use Rattle.images.specs.Nodes.{held};
 ghost use Rattle.images.specs.BlockMap.{entry};
 ghost use Rattle.images.specs.Soundness.{IsSoundFile, IsSoundTree};
 ghost use Rattle.planning.specs.Plans.{HasBlockMap, HasLast, Progresses};
 ghost use Rattle.planning.specs.Progress.{Planned};
+ghost use Rattle.planning.specs.Space.{map_file_nodes};
 ghost use Rattle.planning.specs.Steps.{IsOverTree, settled_tree};
 
 use crate::inode_blocks::block_with;
@@ -52,6 +53,7 @@ fn map_nodes<B: Blocks>(
     ensures damaged { (s : Sizes) (disk : ℕ → List ℕ) → B.Shows blocks.old disk
         → IsSoundFile s (held disk settled) → s.blocks ≡ B.count blocks.old
         → IsErrOf result PlanError.Damaged → ⊥ }
+    ensures why { IsErrOf result PlanError.NoSpace → ⊥ }
 {
     let file = File::load(alloc, settled)?;
     let nodes = settled_nodes(alloc, blocks, file.tree())?;
@@ -67,8 +69,6 @@ pub(crate) fn plan_block_map<B: Blocks>(
     inodes: &InodeFile,
 ) -> Result<Inode, PlanError>
     requires disk { B.count blocks.old ≡ draft.old.map.count }
-    requires parts { length draft.old.map.parts.items
-        ≡ div_ceil draft.old.map.count BLOCK_POINTERS }
     requires sizes { AreSizes inodes.now.geometry }
     ensures reads { ReadsBlocks B.Blocks IsReadFault blocks.old blocks.new result }
     ensures grows { Grows draft.old draft.new }
@@ -87,6 +87,10 @@ pub(crate) fn plan_block_map<B: Blocks>(
         → B.Shows blocks.old disk
         → IsOverTree (B.count blocks.old) disk settled inodes.now v before
         → IsErrOf result PlanError.Damaged → ⊥ }
+    ensures takes { OnOk result (TakesAtMost (map_file_nodes draft.old.map.count)
+        draft.old draft.new) }
+    ensures lacks { IsErrOf result PlanError.NoSpace
+        → Lacks (map_file_nodes draft.old.map.count) draft.old }
 {
     let settled = inodes.settled_inode(blocks, 2)?;
     let nodes = map_nodes(alloc, blocks, settled, draft.map_blocks())?;
@@ -104,8 +108,6 @@ pub(crate) fn plan_last<B: Blocks>(
     first: BlockNumber,
 ) -> Result<(), PlanError>
     requires disk { B.count blocks.old ≡ draft.old.map.count }
-    requires parts { length draft.old.map.parts.items
-        ≡ div_ceil draft.old.map.count BLOCK_POINTERS }
     requires sizes { AreSizes inodes.now.geometry }
     requires reserved { IsReserved draft.old first }
     ensures reads { ReadsBlocks B.Blocks IsReadFault blocks.old blocks.new result }
@@ -125,6 +127,8 @@ pub(crate) fn plan_last<B: Blocks>(
         → IsOverTree (B.count blocks.old) disk settled inodes.now v before
         → IsSoundAt (B.count blocks.old) disk file.now.tree 0
         → IsErrOf result PlanError.Damaged → ⊥ }
+    ensures lacks { IsErrOf result PlanError.NoSpace
+        → Lacks (map_file_nodes draft.old.map.count) draft.old }
 {
     let map = plan_block_map(alloc, draft, blocks, inodes)?;
     let block = block_with(alloc, blocks, file, 2, &map)?;

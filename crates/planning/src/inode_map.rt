@@ -15,10 +15,13 @@ ghost use Rattle.blocktree.specs.declared.error.ReadError.TheVariants as read;
 ghost use Rattle.blockmap.specs.Maps.{settled_at};
 ghost use Rattle.conspoint.specs.Drafts.{Grows, IsReserved};
 ghost use Rattle.conspoint.specs.Errors.{IsReadFault};
+ghost use Rattle.conspoint.specs.Space.{Lacks, TakesAtMost};
 ghost use Rattle.images.specs.Contents.{Content};
 ghost use Rattle.images.specs.Nodes.{held};
 ghost use Rattle.images.specs.Soundness.{HasNoHole};
 ghost use Rattle.inode.specs.Files.{byte_at, file_block};
+ghost use Rattle.inofile.specs.Settled.{AreSettled};
+ghost use Rattle.placement.specs.Space.{file_nodes};
 ghost use Rattle.planning.specs.Plans.{HasInodeMap};
 ghost use Rattle.planning.specs.Steps.{IsOverTree, IsUnderWay, settled_tree};
 
@@ -30,7 +33,7 @@ use conspoint::{Draft, PlanError};
 use images::{disks_that_agree_hold_the_same, inodes_are_put_one_by_one};
 use inode::{File, Object, based_trees_are_sound};
 use inofile::InodeFile;
-use layout::BLOCK_BYTES;
+use layout::{BLOCK_BYTES, Inode, Kind};
 use placement::place_file;
 use std::alloc::{AllocError, Global};
 
@@ -125,6 +128,26 @@ fn put_parts<B: Blocks>(
     Ok(())
 }
 
+/// The settled inode of the inode map, as long as its bytes in memory. One of another kind is damaged.
+fn settled_map<B: Blocks>(blocks: &mut B, inodes: &InodeFile) -> Result<Inode, PlanError>
+    requires { AreSizes inodes.now.geometry }
+    ensures reads { ReadsBlocks B.Blocks IsReadFault blocks.old blocks.new result }
+    ensures read { (disk : ℕ → List ℕ) (settled : ℕ → Inode) → B.Shows blocks.old disk
+        → AreSettled (B.count blocks.old) disk inodes.now.geometry inodes.now.file settled
+        → IfOk result (λ i. i ≡ settled 1) }
+    ensures size { IfOk result (λ i. i.size ≡ div_ceil inodes.now.geometry.inodes 8) }
+    ensures damaged { (disk : ℕ → List ℕ) (settled : ℕ → Inode) → B.Shows blocks.old disk
+        → AreSettled (B.count blocks.old) disk inodes.now.geometry inodes.now.file settled
+        → IsErrOf result PlanError.Damaged → ⊥ }
+    ensures why { IsErrOf result PlanError.NoSpace → ⊥ }
+{
+    let inode = inodes.settled_inode(blocks, 1)?;
+    match inode.kind {
+        Kind::InodeMap => Ok(inode),
+        _ => Err(PlanError::Damaged),
+    }
+}
+
 /// Plans the inode map, where its file isn't as memory has it.
 pub(crate) fn plan_inode_map<B: Blocks>(
     alloc: Global,
@@ -156,11 +179,15 @@ pub(crate) fn plan_inode_map<B: Blocks>(
         → ((b : ℕ) → settled_at draft.old.map.parts.items b ≡ before b)
         → ((i : ℕ) → IsSoundAt (B.count blocks.old) disk file.old.tree i)
         → IsErrOf result PlanError.Damaged → ⊥ }
+    ensures takes { OnOk result (TakesAtMost (file_nodes (div_ceil inodes.now.geometry.inodes 8))
+        draft.old draft.new) }
+    ensures lacks { IsErrOf result PlanError.NoSpace
+        → Lacks (file_nodes (div_ceil inodes.now.geometry.inodes 8)) draft.old }
 {
     inodes_are_put_one_by_one();
     disks_that_agree_hold_the_same();
     based_trees_are_sound();
-    let settled = inodes.settled_inode(blocks, 1)?;
+    let settled = settled_map(blocks, inodes)?;
     let mut object = Object::load(alloc, settled)?;
     let is_there = has_bytes(alloc, blocks, &object.file, inodes.map_bytes())?;
     if is_there {

@@ -8,10 +8,13 @@ ghost use Rattle.model.specs.Volumes.{Volume};
 ghost use Rattle.buffers.specs.Reads.{ReadsBlocks};
 ghost use Rattle.blocktree.specs.Trees.{IsSoundAt, KeepsSound, SameSettled};
 ghost use Rattle.blockmap.specs.Maps.{entry_at};
+ghost use Rattle.blockmap.specs.Space.{left};
 ghost use Rattle.conspoint.specs.Drafts.{Grows, IsFull, IsReserved, IsShortage};
 ghost use Rattle.conspoint.specs.Errors.{IsReadFault};
-ghost use Rattle.inofile.specs.Inodes.{IsChanged, IsKnown, files_of};
+ghost use Rattle.conspoint.specs.Space.{Lacks, TakesAtMost};
+ghost use Rattle.inofile.specs.Inodes.{IsChanged, files_of};
 ghost use Rattle.placement.specs.Files.{is_one};
+ghost use Rattle.planning.specs.Space.{nodes_below, number_nodes};
 ghost use Rattle.planning.specs.Numbers.{trimmed};
 ghost use Rattle.planning.specs.Progress.{IsMarked};
 ghost use Rattle.planning.specs.Steps.{ArePlanned, GoesOn, IsOverTree, IsUnderWay, settled_tree};
@@ -32,6 +35,7 @@ pub(crate) fn mark_placed(draft: &mut Draft, placed: &PlacedFile) -> Result<(), 
     requires freed { All (λ b. b < draft.old.map.count) placed.now.freed.items }
     ensures grows { Grows draft.old draft.new }
     ensures next { draft.new.map.next ≡ draft.old.map.next }
+    ensures left { left draft.new.map ≡ left draft.old.map }
     ensures blocks { draft.new.blocks.items ≡ draft.old.blocks.items }
     ensures others { (p : ℕ) → IsReserved draft.old p → IsReserved draft.new p }
     ensures marked { OnOk result (IsMarked (is_one placed.now.taken.items)
@@ -57,7 +61,7 @@ pub(crate) fn plan_number<B: Blocks>(
     requires disk { B.count blocks.old ≡ draft.old.map.count }
     requires low { ROOT_NUMBER ≤ number }
     requires high { number < inodes.now.geometry.inodes }
-    requires known { IsKnown inodes.now number }
+    requires changed { IsChanged inodes.now number }
     ensures reads { ReadsBlocks B.Blocks IsReadFault blocks.old blocks.new result }
     ensures grows { Grows draft.old draft.new }
     ensures others { (p : ℕ) → IsReserved draft.old p → IsReserved draft.new p }
@@ -73,6 +77,8 @@ pub(crate) fn plan_number<B: Blocks>(
         → OnOk result (GoesOn number way.plan.changed draft.new disk before inodes.now.geometry
         (settled_tree disk settled) (λ n. trimmed (files_of disk settled inodes.now n)) file.new) }
     ensures full { IsErrOf result PlanError.NoSpace → IsFull draft.new }
+    ensures takes { OnOk result (TakesAtMost (number_nodes inodes.now number) draft.old draft.new) }
+    ensures lacks { IsErrOf result PlanError.NoSpace → Lacks (number_nodes inodes.now number) draft.old }
     ensures damaged { (disk : ℕ → List ℕ) (settled : ℕ → Inode) (v : Volume) (before : ℕ → ℕ)
         → B.Shows blocks.old disk
         → IsOverTree (B.count blocks.old) disk settled inodes.now v before
@@ -110,6 +116,10 @@ pub(crate) fn plan_numbers<B: Blocks>(
         → OnOk result (ArePlanned (IsChanged inodes.now) draft.new disk settled before inodes.now
         file.new) }
     ensures full { IsErrOf result PlanError.NoSpace → IsFull draft.new }
+    ensures takes { OnOk result (TakesAtMost (nodes_below inodes.now inodes.now.geometry.inodes)
+        draft.old draft.new) }
+    ensures lacks { IsErrOf result PlanError.NoSpace
+        → Lacks (nodes_below inodes.now inodes.now.geometry.inodes) draft.old }
     ensures damaged { (disk : ℕ → List ℕ) (settled : ℕ → Inode) (v : Volume) (before : ℕ → ℕ)
         → B.Shows blocks.old disk
         → IsOverTree (B.count blocks.old) disk settled inodes.now v before

@@ -13,10 +13,13 @@ ghost use Rattle.images.specs.Nodes.{Agrees, Names, held};
 ghost use Rattle.images.specs.Roots.{free_inode};
 ghost use Rattle.inode.specs.Bases.{IsBased};
 ghost use Rattle.inode.specs.Files.{IsFile};
-ghost use Rattle.inofile.specs.Inodes.{IsKnown, files_of};
+ghost use Rattle.inofile.specs.Inodes.{IsChanged, files_of};
 ghost use Rattle.conspoint.specs.Drafts.{Grows, IsFull, IsReserved, OnEach, WasTaken};
 ghost use Rattle.conspoint.specs.Errors.{IsReadFault};
+ghost use Rattle.conspoint.specs.Space.{Lacks, TakesAtMost};
+ghost use Rattle.placement.specs.Space.{file_nodes};
 ghost use Rattle.placement.specs.Files.{IsPlaced, is_one, object_content};
+ghost use Rattle.planning.specs.Space.{number_nodes};
 ghost use Rattle.planning.specs.Numbers.{IsCleared, IsNumberPlaced, IsOverSettled, IsSettledFile, IsObjectOver, trimmed};
 
 use buffers::Blocks;
@@ -51,6 +54,8 @@ fn clear<B: Blocks>(
         → IsCleared s e (held disk settled) p.inode (is_one p.taken.items)
         (is_one p.freed.items))) }
     ensures full { IsErrOf result PlanError.NoSpace → IsFull draft.new }
+    ensures takes { OnOk result (TakesAtMost 0 draft.old draft.new) }
+    ensures some { IsErrOf result PlanError.NoSpace → ⊥ }
     ensures damaged { (s : Sizes) (disk : ℕ → List ℕ) → B.Shows blocks.old disk
         → IsSettledFile s draft.old disk settled → IsErrOf result PlanError.Damaged → ⊥ }
 {
@@ -94,6 +99,8 @@ fn place_object<B: Blocks>(
         → IfOk result (λ p. OnEach draft.new (λ e. Agrees (Names (held disk settled)) disk e
         → content_of (held e p.inode) ≡ object_content disk object.now)) }
     ensures full { IsErrOf result PlanError.NoSpace → IsFull draft.new }
+    ensures takes { OnOk result (TakesAtMost (file_nodes object.now.file.size) draft.old draft.new) }
+    ensures lacks { IsErrOf result PlanError.NoSpace → Lacks (file_nodes object.now.file.size) draft.old }
     ensures damaged { (s : Sizes) (disk : ℕ → List ℕ) → B.Shows blocks.old disk
         → IsSettledFile s draft.old disk settled → IsObjectOver s disk settled object.now
         → IsErrOf result PlanError.Damaged → ⊥ }
@@ -121,7 +128,7 @@ pub(crate) fn place_number<B: Blocks>(
     requires disk { B.count blocks.old ≡ draft.old.map.count }
     requires low { ROOT_NUMBER ≤ number }
     requires high { number < inodes.now.geometry.inodes }
-    requires known { IsKnown inodes.now number }
+    requires changed { IsChanged inodes.now number }
     ensures reads { ReadsBlocks B.Blocks IsReadFault blocks.old blocks.new result }
     ensures grows { Grows draft.old draft.new }
     ensures parts { draft.new.map.parts.items ≡ draft.old.map.parts.items }
@@ -139,6 +146,8 @@ pub(crate) fn place_number<B: Blocks>(
         (trimmed (files_of disk settled inodes.now number)) p.inode
         (is_one p.taken.items) (is_one p.freed.items))) }
     ensures full { IsErrOf result PlanError.NoSpace → IsFull draft.new }
+    ensures takes { OnOk result (TakesAtMost (number_nodes inodes.now number) draft.old draft.new) }
+    ensures lacks { IsErrOf result PlanError.NoSpace → Lacks (number_nodes inodes.now number) draft.old }
     ensures damaged { (disk : ℕ → List ℕ) (settled : ℕ → Inode) (v : Volume)
         → B.Shows blocks.old disk
         → IsOverSettled (B.count blocks.old) draft.old disk settled inodes.now v

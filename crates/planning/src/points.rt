@@ -1,12 +1,10 @@
 //! The whole plan of a consistency point.
 
-ghost use Rattle.std.specs.Prelude.{ℕ, ◌≡◌, ◌*◌, ◌<◌, ◌≤◌, List, IfErr, IfOk, OnOk, IsErrOf, length};
-ghost use Rattle.std.specs.Int.{div_ceil};
+ghost use Rattle.std.specs.Prelude.{ℕ, ◌≡◌, ◌*◌, ◌<◌, ◌≤◌, List, IfErr, IfOk, OnOk, IsErrOf};
 ghost use Rattle.layout.specs.Inode.{IsInode};
 ghost use Rattle.layout.specs.Limits.{AreSizes};
 ghost use Rattle.layout.specs.Places.{blocks_of};
 ghost use Rattle.layout.specs.Root.{IsRoot, root_bytes};
-ghost use Rattle.layout.specs.declared.TheConstants.{BLOCK_POINTERS};
 ghost use Rattle.layout.specs.declared.inode.Inode.{Inode};
 ghost use Rattle.layout.specs.declared.kind.Kind.TheVariants as kinds;
 ghost use Rattle.layout.specs.declared.version.TheConstants.{VERSION};
@@ -19,6 +17,7 @@ ghost use Rattle.blockmap.specs.Maps.{settled_at};
 ghost use Rattle.conspoint.specs.Drafts.{Grows};
 ghost use Rattle.conspoint.specs.Errors.{IsReadFault};
 ghost use Rattle.conspoint.specs.Plans.{FitsDisk, IsSlot};
+ghost use Rattle.conspoint.specs.Space.{Lacks, TakesAtMost};
 ghost use Rattle.conspoint.specs.Writes.{writes_of};
 ghost use Rattle.images.specs.Cuts.{IsPoint};
 ghost use Rattle.images.specs.Nodes.{held};
@@ -26,6 +25,7 @@ ghost use Rattle.images.specs.Soundness.{HasNoHole};
 ghost use Rattle.inofile.specs.Inodes.{files_of};
 ghost use Rattle.planning.specs.Numbers.{trimmed};
 ghost use Rattle.planning.specs.Plans.{HasNumbers, IsAllPlanned, IsClean, IsPlanStart, IsPlannable, PlansEntries};
+ghost use Rattle.planning.specs.Space.{LacksBlocks, change_nodes, point_nodes};
 ghost use Rattle.planning.specs.Steps.{ArePlanned, IsOverTree, settled_tree};
 
 use crate::block_map::plan_last;
@@ -77,6 +77,8 @@ fn plan_changes<B: Blocks>(
         → ArePlanned (λ n. ⊥) draft.old disk settled before inodes.now file.old
         → ((i : ℕ) → IsSoundAt (B.count blocks.old) disk file.old.tree i)
         → IsErrOf result PlanError.Damaged → ⊥ }
+    ensures takes { OnOk result (TakesAtMost (change_nodes inodes.now) draft.old draft.new) }
+    ensures lacks { IsErrOf result PlanError.NoSpace → Lacks (change_nodes inodes.now) draft.old }
 {
     plan_numbers(alloc, draft, blocks, inodes, file)?;
     plan_inode_map(alloc, draft, blocks, inodes, file)?;
@@ -93,8 +95,6 @@ fn plan_files<B: Blocks>(
 ) -> Result<Inode, PlanError>
     requires root { IsRoot root.now }
     requires disk { B.count blocks.old ≡ draft.old.map.count }
-    requires parts { length draft.old.map.parts.items
-        ≡ div_ceil draft.old.map.count BLOCK_POINTERS }
     requires sizes { inodes.now.geometry ≡ root.now.geometry }
     ensures reads { ReadsBlocks B.Blocks IsReadFault blocks.old blocks.new result }
     ensures grows { Grows draft.old draft.new }
@@ -108,6 +108,8 @@ fn plan_files<B: Blocks>(
         → B.Shows blocks.old disk
         → IsPlanStart (B.count blocks.old) draft.old disk root.now settled inodes.now v before
         → IsErrOf result PlanError.Damaged → ⊥ }
+    ensures lacks { IsErrOf result PlanError.NoSpace
+        → Lacks (point_nodes root.now inodes.now draft.old.map.count) draft.old }
 {
     inodes_are_put_one_by_one();
     based_trees_are_sound();
@@ -153,8 +155,6 @@ fn plan_root<B: Blocks>(
 ) -> Result<Root, PlanError>
     requires root { IsRoot root.now }
     requires disk { B.count blocks.old ≡ draft.old.map.count }
-    requires parts { length draft.old.map.parts.items
-        ≡ div_ceil draft.old.map.count BLOCK_POINTERS }
     requires sizes { inodes.now.geometry ≡ root.now.geometry }
     ensures reads { ReadsBlocks B.Blocks IsReadFault blocks.old blocks.new result }
     ensures grows { Grows draft.old draft.new }
@@ -172,6 +172,8 @@ fn plan_root<B: Blocks>(
         → B.Shows blocks.old disk
         → IsPlanStart (B.count blocks.old) draft.old disk root.now settled inodes.now v before
         → IsErrOf result PlanError.Damaged → ⊥ }
+    ensures lacks { IsErrOf result PlanError.NoSpace
+        → Lacks (point_nodes root.now inodes.now draft.old.map.count) draft.old }
 {
     written_disks_have_the_blocks();
     let inode_file = plan_files(alloc, draft, blocks, root, inodes)?;
@@ -180,7 +182,8 @@ fn plan_root<B: Blocks>(
 }
 
 /// Plans a consistency point that settles all that memory has changed: every place and every byte of it, and its root. Nothing
-/// is written. Where it fails, the map has no change.
+/// is written. Where it fails, the map has no change. For want of space it fails only where fewer blocks are left to be given out
+/// than the files that it stores have, each counted as a whole.
 pub fn plan<B: Blocks>(
     alloc: Global,
     blocks: &mut B,
@@ -193,7 +196,6 @@ pub fn plan<B: Blocks>(
     requires root { IsRoot root.now }
     requires slot { IsSlot slot }
     requires clean { IsClean map }
-    requires parts { length map.parts.items ≡ div_ceil map.count BLOCK_POINTERS }
     requires size { map.count ≡ root.now.geometry.blocks }
     requires disk { B.count blocks.old ≡ root.now.geometry.blocks }
     requires sizes { inodes.now.geometry ≡ root.now.geometry }
@@ -224,6 +226,7 @@ pub fn plan<B: Blocks>(
         → B.Shows blocks.old (blocks_of d)
         → IsPlannable root.now d slot generation map inodes.now first v snapshots
         → IsErrOf result.1 PlanError.Damaged → ⊥ }
+    ensures full { IsErrOf result.1 PlanError.NoSpace → LacksBlocks root.now inodes.now map }
 {
     inodes_are_what_their_bytes_spell();
     disks_that_agree_hold_the_same();

@@ -1,6 +1,6 @@
 //! The inode file's own file.
 
-ghost use Rattle.std.specs.Prelude.{ℕ, ◌≡◌, ◌≤◌, List, IfOk, IsErrOf, false};
+ghost use Rattle.std.specs.Prelude.{ℕ, ◌≡◌, ◌≤◌, List, IfOk, OnOk, IsErrOf, false};
 ghost use Rattle.layout.specs.Limits.{Sizes};
 ghost use Rattle.layout.specs.declared.TheConstants.{BLOCK_BYTES};
 ghost use Rattle.layout.specs.declared.inode.Inode.{Inode};
@@ -10,7 +10,9 @@ ghost use Rattle.blockmap.specs.Maps.{settled_at};
 ghost use Rattle.conspoint.specs.Drafts.{Grows, IsReserved};
 ghost use Rattle.conspoint.specs.Errors.{IsReadFault};
 ghost use Rattle.images.specs.BlockMap.{NamesOnce};
+ghost use Rattle.conspoint.specs.Space.{Lacks, TakesAtMost};
 ghost use Rattle.placement.specs.Files.{IsChangeOf};
+ghost use Rattle.placement.specs.Space.{file_nodes};
 ghost use Rattle.planning.specs.Plans.{HasTop, Progresses};
 ghost use Rattle.planning.specs.Progress.{IsExactPlane, Planned};
 ghost use Rattle.planning.specs.Steps.{settled_tree};
@@ -50,6 +52,9 @@ pub(crate) fn place_top<B: Blocks>(
         top.now r.0 r.1) }
     ensures damaged { (s : Sizes) (disk : ℕ → List ℕ) (base : Inode) → B.Shows blocks.old disk
         → IsChangeOf s draft.old disk base top.now → IsErrOf result PlanError.Damaged → ⊥ }
+    ensures takes { OnOk result (TakesAtMost (file_nodes top.now.file.size) draft.old draft.new) }
+    ensures lacks { IsErrOf result PlanError.NoSpace
+        → Lacks (file_nodes top.now.file.size) draft.old }
 {
     let all = place_file_but_first(alloc, draft, blocks, top)?;
     let (placed, first) = all;

@@ -34,6 +34,7 @@ loop-i-preserved c =
           (λ is. sym settled_is ∙ c.in_ok-place_block.ensures.holes is));
       blocks = λ e has. rw c.in_ok-push.ensures.items (each_more (λ j q. c.args.first ≤ j → pointed e q ≡ changed_or c.args.tree.now j (pointed e (pointer_at settled j))) nodes p i so_far.count (so_far.blocks e (now.has e has))
           (rw settled_is at (c.in_ok-place_block.ensures.block e has)));
+      takes = omega (arith, so_far.takes, c.in_ok-place_block.ensures.takes);
       parts = c.place_block.ensures.parts ∙ so_far.parts;
       others = λ x is. c.place_block.ensures.others x (so_far.others x is);
       placed = rw c.in_ok-push.ensures.items (placed_more c.args.draft.now c.loop-i.draft c.place_block.new.draft settled nodes p so_far.grows now so_far.placed from c.in_ok-place_block.ensures.within);

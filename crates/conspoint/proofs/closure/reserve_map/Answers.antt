@@ -1,8 +1,10 @@
-use Rattle.std.proofs.Common.{◌<◌, length, length-set, sym, ◌∙◌, arith}
+use Rattle.std.proofs.Common.{◌+◌, ◌<◌, ◌≤◌, length, length-set, sym, ◌∙◌, arith, rules}
 use Rattle.std.proofs.lemmas.List.{get_or_default}
-use Rattle.layout.specs.declared.pointer.Pointer.TheVariants.{Hole}
+use Rattle.blockmap.specs.Space.{left}
+use Rattle.layout.specs.declared.pointer.Pointer.TheVariants.{Hole, Block}
 use Rattle.conspoint.proofs.DraftLemmas.{grows_twice}
 use Rattle.conspoint.proofs.ClosureLemmas.{closed_more, taken_more}
+use Rattle.conspoint.proofs.SpaceLemmas.{holes, holes_most, hole_filled, some_hole}
 use Rattle.conspoint.proofs.closure.reserve_map.Goals as goal
 
 pub move_node-requires : goal.move_node-requires
@@ -24,6 +26,13 @@ loop-k-preserved c =
     let settled_is = c.index-settled-k.is ∙ get_or_default settled k c.index-settled-k.result Hole lt in
     record {
       grows = grows_twice c.args.draft.now c.loop-k.draft c.move_node.new.draft so_far.grows now;
+      takes = omega (
+        arith,
+        so_far.takes,
+        c.in_ok-move_node.ensures.takes,
+        hole_filled c.loop-k.places k c.in_ok-move_node.field-0 c.in-Some.ensures.found.0 c.in-Some.ensures.found.1,
+        length-set c.loop-k.places k (Block c.in_ok-move_node.field-0),
+      );
       size = length-set _ _ _ ∙ so_far.size;
       entries = λ b. c.move_node.ensures.entries b ∙ so_far.entries b;
       others = λ x is. c.move_node.ensures.others x (so_far.others x is);
@@ -32,4 +41,21 @@ loop-k-preserved c =
       closed = closed_more c.loop-k.draft c.move_node.new.draft settled c.loop-k.places k c.in_ok-move_node.field-0 now c.move_node.ensures.others so_far.closed
           c.in-Some.ensures.found.0 c.in_ok-move_node.ensures.taken.from c.in_ok-move_node.ensures.reserved c.in_ok-move_node.ensures.new
           (λ b is. c.in_ok-move_node.ensures.old b (settled_is ∙ is));
+    }
+
+pub returns-in_err-move_node-clause-lacks : goal.returns-in_err-move_node-clause-lacks
+returns-in_err-move_node-clause-lacks c bad =
+    omega (arith, c.loop-k.invariant.takes, c.loop-k.invariant.size, c.in_err-move_node.ensures.lacks (search rules), some_hole c.loop-k.places c.in-Some.k c.in-Some.ensures.found.0 c.in-Some.ensures.found.1)
+
+pub loop-k-init : goal.loop-k-init
+loop-k-init c =
+    let most : left c.args.draft.now.map + holes c.args.places.now ≤ left c.args.draft.now.map + length c.args.places.now = omega (arith, holes_most c.args.places.now) in
+    record {
+      grows = search rules;
+      takes = most;
+      size = search rules;
+      entries = search rules;
+      others = search rules;
+      taken = search rules;
+      closed = search rules;
     }

@@ -28,6 +28,7 @@ loop-j-preserved c =
       groups = λ e has. rw c.in_ok-push.ensures.items (each_more (λ i q. IsGroup e (pointer_at settled i) (group c.args.old.now i) (group c.args.new.now i) q) over p j so_far.count (so_far.groups e (now.has e has))
           (part_group e (pointer_at settled j) p c.args.old.now c.args.new.now j (rw settled_is at (c.in_ok-place_group.ensures.group e has))));
       count = ap (λ (xs : List Pointer). length xs) c.in_ok-push.ensures.items ∙ length-append over _ ∙ omega (arith, so_far.count);
+      takes = omega (arith, so_far.takes, c.in_ok-place_group.ensures.takes);
       parts = c.place_group.ensures.parts ∙ so_far.parts;
       others = λ x is. c.place_group.ensures.others x (so_far.others x is);
       placed = rw c.in_ok-push.ensures.items (placed_more c.args.draft.now c.loop-j.draft c.place_group.new.draft settled over p so_far.grows now so_far.placed from c.in_ok-place_group.ensures.within);

@@ -5,6 +5,8 @@ use Rattle.conspoint.specs.MapFiles.{PlansMap}
 use Rattle.conspoint.proofs.DraftLemmas.{grows_twice}
 use Rattle.conspoint.proofs.MapPlan.{Steps, plans, nodes_below}
 use Rattle.conspoint.proofs.MapWork.{own_inode}
+use Rattle.blockmap.specs.Space.{left}
+use Rattle.conspoint.proofs.SpaceLemmas.{same_left}
 use Rattle.conspoint.proofs.map_inode.store_nodes.Goals as goal
 
 pub mark_moved-requires-2-clause-within : goal.mark_moved-requires-2-clause-within
@@ -125,3 +127,9 @@ returns-clause-planned c =
     let inode : c.map_inode.result ≡ own_inode c.top_pointers-pointers.result c.args.draft.now.map.count = c.map_inode.ensures ∙ ap (own_inode c.top_pointers-pointers.result) (c.block_count.ensures ∙ counts) in
     subst (PlansMap c.args.draft.now c.store_over.new.draft settled) (sym inode)
     (plans c.args.draft.now d1 c.mark_moved.new.draft c.mark_moved-2.new.draft c.store_map.new.draft c.store_over.new.draft settled places c.top_pointers-pointers.result c.map_blocks-count.result c.first_top.result c.place_of.result steps)
+
+pub returns-clause-takes : goal.returns-clause-takes
+returns-clause-takes c =
+    let out = same_left c.reserve_map.new.draft c.mark_moved.new.draft c.mark_moved.ensures.grows c.mark_moved.ensures.next in
+    let into = same_left c.mark_moved.new.draft c.mark_moved-2.new.draft c.mark_moved-2.ensures.grows c.mark_moved-2.ensures.next in
+    omega (arith, c.in_ok-reserve_map.ensures.takes, out, into, ap left c.store_map.ensures.map, ap left c.store_over.ensures.map, c.requires.same)

@@ -30,7 +30,7 @@ returns-clause-planned g c = λ disk settled v before p shows memory sound same 
     let file = subst (λ (x : Inode). IsSoundFile s (held disk x)) (sym now) (memory.volume.inodes.sound 2) in
     map_file_planned old new disk before s settled p nodes f memory.once memory.exact same progress fresh c.store_own_map.ensures.grows
     (subst (λ (ns : List Pointer). PlansMap old new ns f) c.deref.ensures.value c.in_ok-map.ensures.planned)
-    (settled_map (g.B.Blocks.count c.args.blocks.now) old disk s c.args.inodes.now.file settled before found nodes memory.volume.inodes c.requires.sizes c.requires.disk c.requires.parts memory.once memory.exact same entries
+    (settled_map (g.B.Blocks.count c.args.blocks.now) old disk s c.args.inodes.now.file settled before found nodes memory.volume.inodes c.requires.sizes c.requires.disk memory.once memory.exact same entries
     sound.block_map now
     (subst (λ n. (k : ℕ) → k < n → pointer_at nodes k ≡ (held disk found).place 0 k) c.map_blocks.ensures (c.in_ok-nodes.ensures.lowest s disk shown file))
     (subst (λ n. 16 < n → pointer_at nodes n ≡ (held disk found).place 1 0) c.map_blocks.ensures (c.in_ok-nodes.ensures.over s disk shown file)))

@@ -7,6 +7,7 @@ use Rattle.images.specs.Soundness.{IsSoundFile}
 use Rattle.inode.specs.Files.{IsAsHeld, byte_at}
 use Rattle.layout.specs.declared.inode.Inode.{Inode}
 use Rattle.placement.specs.Files.{is_one}
+use Rattle.placement.specs.Space.{file_nodes}
 use Rattle.planning.specs.Plans.{IsInodeMapOn}
 use Rattle.planning.specs.Steps.{settled_tree}
 use Rattle.planning.proofs.JoinLaws.{map_planned, map_stays, marked_over, taken_later}
@@ -16,7 +17,7 @@ use Rattle.planning.proofs.PointLaws.{held_inode}
 use Rattle.planning.proofs.inode_map.plan_inode_map.Goals as goal
 
 pub returns-in_err-settled-clause-damaged : goal.returns-in_err-settled-clause-damaged
-returns-in_err-settled-clause-damaged g c = λ disk settled v before shows memory same below bad. c.in_err-settled.ensures.damaged disk settled shows (search rules) memory.volume.inodes
+returns-in_err-settled-clause-damaged g c = λ disk settled v before shows memory same below bad. c.in_err-settled.ensures.damaged disk settled shows memory.volume.inodes (search rules)
 
 pub has_bytes-requires : goal.has_bytes-requires
 has_bytes-requires g c = omega (arith, c.map_bytes.ensures.length, c.requires.sizes.most_inodes)
@@ -30,8 +31,8 @@ returns-in_err-is_there-clause-damaged g c = λ disk settled v before shows memo
     let s = c.args.inodes.now.geometry in
     let sound = subst (λ (x : Inode). IsSoundFile s (held disk x)) (sym now) (memory.volume.inodes.sound 1) in
     let tree = c.in_ok-object.object.file.tree in
-    c.in_err-is_there.ensures.damaged disk (c.settled_inode.ensures.reads.same disk shows) (search rules)
-    (λ i. subst (λ n. IsSoundAt n disk tree i) (memory.volume.inodes.count ∙ sym c.settled_inode.ensures.reads.count)
+    c.in_err-is_there.ensures.damaged disk (c.settled_map.ensures.reads.same disk shows) (search rules)
+    (λ i. subst (λ n. IsSoundAt n disk tree i) (memory.volume.inodes.count ∙ sym c.settled_map.ensures.reads.count)
     (c.based_trees_are_sound.ensures.at s disk c.in_ok-settled.settled tree i sound c.in_ok-object.ensures.base))
 
 pub returns-then-is_there-clause-planned : goal.returns-then-is_there-clause-planned
@@ -43,7 +44,7 @@ returns-then-is_there-clause-planned g c = λ disk settled v before found shows 
     let sound = subst (λ (x : Inode). IsSoundFile s (held disk x)) (sym now) (memory.volume.inodes.sound 1) in
     let there = held_bytes disk (settled 1) file bytes (subst (λ (x : Inode). IsAsHeld disk x file) now (c.in_ok-object.ensures.held s disk sound))
     (map_size_is (g.B.Blocks.count c.args.blocks.now) disk s c.args.inodes.now.file settled memory.volume.inodes ∙ sym (sym (ap (λ (xs : List ℕ). length xs) c.map_bytes.ensures.bytes) ∙ c.map_bytes.ensures.length))
-    (subst (λ (xs : List ℕ). IsPart (byte_at disk file) 0 xs) c.map_bytes.ensures.bytes (c.in_ok-is_there.ensures.same disk (c.settled_inode.ensures.reads.same disk shows) c.if-is_there.true)) no_hole in
+    (subst (λ (xs : List ℕ). IsPart (byte_at disk file) 0 xs) c.map_bytes.ensures.bytes (c.in_ok-is_there.ensures.same disk (c.settled_map.ensures.reads.same disk shows) c.if-is_there.true)) no_hole in
     map_stays c.args.draft.now disk before s (settled_tree disk settled) found c.args.file.now bytes way (λ e has agrees.
     subst (λ h. IsInodeMapOn bytes h) (sym (ap (held e) ((way.progress e has agrees).stays 1 fresh ∙ held_inode disk (settled 1))
     ∙ c.disks_that_agree_hold_the_same.ensures.file disk e (settled 1) (λ b names. agrees b (record { file = 1; names = names })))) there)
@@ -54,8 +55,8 @@ returns-in_err-put_parts-clause-damaged g c = λ disk settled v before shows mem
     let s = c.args.inodes.now.geometry in
     let sound = subst (λ (x : Inode). IsSoundFile s (held disk x)) (sym now) (memory.volume.inodes.sound 1) in
     let tree = c.in_ok-object.object.file.tree in
-    c.in_err-put_parts.ensures.damaged disk (c.has_bytes.ensures.reads.same disk (c.settled_inode.ensures.reads.same disk shows)) (search rules)
-    (λ i. subst (λ n. IsSoundAt n disk tree i) (memory.volume.inodes.count ∙ sym c.settled_inode.ensures.reads.count ∙ sym c.has_bytes.ensures.reads.count)
+    c.in_err-put_parts.ensures.damaged disk (c.has_bytes.ensures.reads.same disk (c.settled_map.ensures.reads.same disk shows)) (search rules)
+    (λ i. subst (λ n. IsSoundAt n disk tree i) (memory.volume.inodes.count ∙ sym c.settled_map.ensures.reads.count ∙ sym c.has_bytes.ensures.reads.count)
     (c.based_trees_are_sound.ensures.at s disk c.in_ok-settled.settled tree i sound c.in_ok-object.ensures.base))
 
 pub returns-in_err-placed-clause-damaged : goal.returns-in_err-placed-clause-damaged
@@ -65,10 +66,10 @@ returns-in_err-placed-clause-damaged g c = λ disk settled v before shows memory
     let bytes = c.args.inodes.now.numbers.bytes.items in
     let old = c.in_ok-object.object.file in
     let sound = subst (λ (x : Inode). IsSoundFile s (held disk x)) (sym now) (memory.volume.inodes.sound 1) in
-    c.in_err-placed.ensures.damaged s disk (settled 1) (c.put_parts.ensures.reads.same disk (c.has_bytes.ensures.reads.same disk (c.settled_inode.ensures.reads.same disk shows)))
+    c.in_err-placed.ensures.damaged s disk (settled 1) (c.put_parts.ensures.reads.same disk (c.has_bytes.ensures.reads.same disk (c.settled_map.ensures.reads.same disk shows)))
     (map_change (g.B.Blocks.count c.args.blocks.now) c.args.draft.now disk s c.args.inodes.now.file settled before c.in_ok-settled.settled old _ bytes memory.volume.inodes memory.once memory.exact same c.requires.disk now
     c.in_ok-object.ensures.size (c.in_ok-object.ensures.ends s disk sound) c.in_ok-object.ensures.settled c.in_ok-object.ensures.attributes c.put_parts.ensures.settled c.put_parts.ensures.kept c.put_parts.ensures.size
-    (sym (ap (λ (xs : List ℕ). length xs) c.map_bytes.ensures.bytes) ∙ c.map_bytes.ensures.length) (rw c.map_bytes-2.ensures.bytes at (c.in_ok-put_parts.ensures.here disk (c.has_bytes.ensures.reads.same disk (c.settled_inode.ensures.reads.same disk shows)))) (rw c.map_bytes-2.ensures.bytes at (c.in_ok-put_parts.ensures.others disk)))
+    (sym (ap (λ (xs : List ℕ). length xs) c.map_bytes.ensures.bytes) ∙ c.map_bytes.ensures.length) (rw c.map_bytes-2.ensures.bytes at (c.in_ok-put_parts.ensures.here disk (c.has_bytes.ensures.reads.same disk (c.settled_map.ensures.reads.same disk shows)))) (rw c.map_bytes-2.ensures.bytes at (c.in_ok-put_parts.ensures.others disk)))
     (search rules)
 
 pub returns-in_err-mark_placed-clause-grows : goal.returns-in_err-mark_placed-clause-grows
@@ -90,7 +91,7 @@ returns-clause-planned g c = λ disk settled v before found shows memory no_hole
     let first = c.in_ok-object.object.file in
     let o = record c.in_ok-object.object { file = c.put_parts.new.file } in
     let sound = subst (λ (x : Inode). IsSoundFile s (held disk x)) (sym now) (memory.volume.inodes.sound 1) in
-    let shown = c.put_parts.ensures.reads.same disk (c.has_bytes.ensures.reads.same disk (c.settled_inode.ensures.reads.same disk shows)) in
+    let shown = c.put_parts.ensures.reads.same disk (c.has_bytes.ensures.reads.same disk (c.settled_map.ensures.reads.same disk shows)) in
     let old = c.args.draft.now in
     let mid = c.place_file.new.draft in
     let new = c.mark_placed.new.draft in
@@ -98,7 +99,7 @@ returns-clause-planned g c = λ disk settled v before found shows memory no_hole
     let placed = c.in_ok-placed.placed in
     let taken = is_one placed.taken.items in
     let freed = is_one placed.freed.items in
-    let here = rw c.map_bytes-2.ensures.bytes at (c.in_ok-put_parts.ensures.here disk (c.has_bytes.ensures.reads.same disk (c.settled_inode.ensures.reads.same disk shows))) in
+    let here = rw c.map_bytes-2.ensures.bytes at (c.in_ok-put_parts.ensures.here disk (c.has_bytes.ensures.reads.same disk (c.settled_map.ensures.reads.same disk shows))) in
     let others = rw c.map_bytes-2.ensures.bytes at (c.in_ok-put_parts.ensures.others disk) in
     let change = map_change count old disk s top settled before c.in_ok-settled.settled first o bytes memory.volume.inodes memory.once memory.exact way.settled c.requires.disk now
     c.in_ok-object.ensures.size (c.in_ok-object.ensures.ends s disk sound) c.in_ok-object.ensures.settled c.in_ok-object.ensures.attributes c.put_parts.ensures.settled c.put_parts.ensures.kept c.put_parts.ensures.size
@@ -124,3 +125,13 @@ returns-clause-planned g c = λ disk settled v before found shows memory no_hole
       no_hole = c.in_ok-placed.ensures.no_hole s disk (settled 1) shown change whole e (goes.has e has) agrees;
     })
     (c.in_ok-put_inode.ensures.put disk shown_last) (c.in_ok-put_inode.ensures.whole disk shown_last) c.in_ok-put_inode.ensures.long
+
+pub returns-in_err-placed-clause-lacks : goal.returns-in_err-placed-clause-lacks
+returns-in_err-placed-clause-lacks g c = λ bad.
+    let size = ap file_nodes (c.put_parts.ensures.size ∙ c.in_ok-object.ensures.size ∙ c.in_ok-settled.ensures.size) in
+    omega (arith, size, c.in_err-placed.ensures.lacks (search rules))
+
+pub returns-clause-takes : goal.returns-clause-takes
+returns-clause-takes g c =
+    let size = ap file_nodes (c.put_parts.ensures.size ∙ c.in_ok-object.ensures.size ∙ c.in_ok-settled.ensures.size) in
+    omega (arith, size, c.in_ok-placed.ensures.takes, c.mark_placed.ensures.left)

@@ -5,6 +5,7 @@ use Rattle.inofile.specs.Inodes.{IsChanged}
 use Rattle.planning.specs.Steps.{IsOverTree}
 use Rattle.planning.proofs.LoopLaws.{all_planned, none_before, one_more}
 use Rattle.planning.proofs.NumberLaws.{grows_twice}
+use Rattle.planning.proofs.SpaceLaws.{is_behind, is_counted}
 use Rattle.planning.proofs.number.plan_numbers.Given.{Over}
 use Rattle.planning.proofs.number.plan_numbers.Goals as goal
 use Rattle.planning.proofs.number.plan_numbers.Goals.{After-index}
@@ -14,6 +15,7 @@ loop-i-init g c = record {
   read = search rules;
   grows = search rules;
   others = λ p is. is;
+  counted = λ m below. omega arith;
   size = refl;
   settled = record { pointers = refl; depth = refl; count = refl };
   sound = λ blocks disk i is. is;
@@ -39,6 +41,10 @@ loop-i-preserved g c =
       read = search rules;
       grows = grows_twice c.args.draft.now c.loop-i.draft c.plan_number.new.draft so_far.grows c.plan_number.ensures.grows;
       others = λ p is. c.plan_number.ensures.others p (so_far.others p is);
+      counted = λ m below.
+          let before = so_far.counted c.index.result.now (λ k lt. is_behind xs c.loop-i.i c.index.result.now k c.in_ok-numbers.ensures.sorted within is lt) in
+          let here : c.index.result.now < m = omega (arith, is, below c.loop-i.i (omega arith)) in
+          omega (arith, before, c.in_ok-plan_number.ensures.takes, is_counted c.args.inodes.now c.index.result.now m here);
       size = c.plan_number.ensures.size ∙ so_far.size;
       settled = search rules;
       sound = λ blocks disk i is. c.plan_number.ensures.sound blocks disk i (so_far.sound blocks disk i is);
@@ -68,3 +74,23 @@ pub returns-clause-planned : goal.returns-clause-planned
 returns-clause-planned g c = λ disk settled v before shows over start.
     all_planned c.loop-i.draft disk settled before c.args.inodes.now c.loop-i.file c.in_ok-numbers.numbers.items c.loop-i.i (IsChanged c.args.inodes.now) (omega arith)
     c.in_ok-numbers.ensures.members (c.loop-i.invariant.planned disk settled v before shows over start)
+
+pub plan_number-requires-clause-changed : goal.plan_number-requires-clause-changed
+plan_number-requires-clause-changed g c = (c.in_ok-numbers.ensures.members c.index.result.now).0 (c.loop-i.i, omega arith, sym c.index.ensures)
+
+pub returns-in_err-plan_number-clause-lacks : goal.returns-in_err-plan_number-clause-lacks
+returns-in_err-plan_number-clause-lacks g c = λ bad.
+    let xs = c.in_ok-numbers.numbers.items in
+    let n = c.index.result.now in
+    let within : c.loop-i.i < length xs = omega arith in
+    let is : n ≡ slice_index xs c.loop-i.i = c.index.ensures ∙ get_or_default xs c.loop-i.i n 0 within in
+    let before = c.loop-i.invariant.counted n (λ k lt. is_behind xs c.loop-i.i n k c.in_ok-numbers.ensures.sorted within is lt) in
+    let last = (c.in_ok-numbers.ensures.within n (c.loop-i.i, within, sym c.index.ensures)).1 in
+    omega (arith, before, c.in_err-plan_number.ensures.lacks (search rules), is_counted c.args.inodes.now n c.args.inodes.now.geometry.inodes last)
+
+pub returns-clause-takes : goal.returns-clause-takes
+returns-clause-takes g c =
+    let xs = c.in_ok-numbers.numbers.items in
+    c.loop-i.invariant.counted c.args.inodes.now.geometry.inodes (λ k lt.
+    let within : k < length xs = omega (arith, lt) in
+    (c.in_ok-numbers.ensures.within (slice_index xs k) (k, within, get_or_default xs k (slice_index xs k) 0 within)).1)

@@ -1,9 +1,10 @@
-use Rattle.std.proofs.Common.{◌≡◌, ℕ, refl, ◌∙◌, rules}
+use Rattle.std.proofs.Common.{◌≡◌, ℕ, refl, ap, ◌∙◌, rules, arith}
 use Rattle.layout.specs.Bytes.{zeros}
 use Rattle.layout.specs.declared.kind.Kind.TheVariants as kinds
 use Rattle.inode.specs.Files.{file_block}
 use Rattle.inode.specs.declared.object.Object.{Object}
 use Rattle.placement.specs.Files.{IsChangeOf}
+use Rattle.placement.specs.Space.{file_nodes}
 use Rattle.planning.proofs.NumberLaws.{cleared_change, is_cleared, cut_off}
 use Rattle.planning.proofs.placing.clear.Goals as goal
 
@@ -24,3 +25,14 @@ returns-in_err-placed-clause-damaged g c = λ s disk shows file bad.
     let o : Object = record { attributes = record { kind = kinds.Free; mode = c.unwrap.result; links = 0 }; file = c.set_size.new.self } in
     c.in_err-placed.ensures.damaged s disk c.args.settled shows
     (cleared_change s c.args.draft.now disk c.args.settled o file c.in_ok-file.file.tree c.in_ok-file.ensures.settled c.set_size.ensures.settled refl mode refl c.set_size.ensures.size none) (search rules)
+
+pub returns-in_err-placed-clause-some : goal.returns-in_err-placed-clause-some
+returns-in_err-placed-clause-some g c = λ bad.
+    let none : file_nodes c.set_size.new.self.size ≡ 0 = ap file_nodes c.set_size.ensures.size in
+    let lacks = c.in_err-placed.ensures.lacks (search rules) in
+    omega (arith, none, lacks)
+
+pub returns-clause-takes : goal.returns-clause-takes
+returns-clause-takes g c =
+    let none : file_nodes c.set_size.new.self.size ≡ 0 = ap file_nodes c.set_size.ensures.size in
+    omega (arith, none, c.in_ok-placed.ensures.takes)

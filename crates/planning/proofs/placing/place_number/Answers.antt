@@ -1,4 +1,9 @@
-use Rattle.std.proofs.Common.{◌≡◌, rules}
+use Rattle.std.proofs.Common.{◌≡◌, [], rules, arith}
+use Rattle.std.specs.Ordering.{nat_cmp}
+use Rattle.std.specs.BTreeMap as tree
+use Rattle.images.specs.Roots.{free_inode}
+use Rattle.planning.proofs.LoopLaws.{changed_known}
+use Rattle.planning.proofs.SpaceLaws.{counts_object}
 use Rattle.planning.proofs.NumberLaws.{agrees_now, file_over, none_placed, object_over, object_placed}
 use Rattle.planning.proofs.placing.place_number.Goals as goal
 
@@ -40,3 +45,17 @@ returns-clause-placed g c = λ disk settled v shows memory e has same.
     object_placed c.args.inodes.now.geometry disk e settled c.args.inodes.now c.args.number c.in_ok-settled.settled c.in_ok-placed.placed.inode c.in-Some.object.now _ _ now stands.kind there
     (c.in_ok-placed.ensures.placed c.args.inodes.now.geometry disk (search rules) file object e has agrees)
     (c.in_ok-placed.ensures.content c.args.inodes.now.geometry disk (search rules) file object e has agrees)
+
+pub get-requires : goal.get-requires
+get-requires g c = changed_known (tree.get nat_cmp c.args.inodes.now.slots c.args.number) c.requires.changed
+
+pub returns-in_err-placed-clause-lacks : goal.returns-in_err-placed-clause-lacks
+returns-in_err-placed-clause-lacks g c = λ bad.
+    let count = counts_object (λ n. []) (tree.get nat_cmp c.args.inodes.now.slots c.args.number) _ c.in-Some.object.now c.requires.changed (c.in-Some.ensures.some (λ n. []) (λ n. free_inode)) in
+    let lacks = c.in_err-placed.ensures.lacks (search rules) in
+    omega (arith, count, lacks)
+
+pub returns-clause-takes : goal.returns-clause-takes
+returns-clause-takes g c =
+    let count = counts_object (λ n. []) (tree.get nat_cmp c.args.inodes.now.slots c.args.number) _ c.in-Some.object.now c.requires.changed (c.in-Some.ensures.some (λ n. []) (λ n. free_inode)) in
+    omega (arith, count, c.in_ok-placed.ensures.takes)
