@@ -1,12 +1,13 @@
 -- The numbers that are changed.
 use Rattle.std.proofs.Common.{◌≡◌, ◌↔◌, ℕ, zero, suc, List, [], ◌∷◌, refl, sym, ap, subst, ◌∙◌, arith, Bool, true, false, cond, Option, Some, None, IsSome}
-use Rattle.std.specs.Prelude.{Contains}
-use Rattle.std.specs.List.{filter}
+use Rattle.std.specs.Prelude.{Contains, IsTrue, not, ◌||◌}
+use Rattle.std.specs.List.{filter, list_any}
 use Rattle.std.specs.Ordering.{nat_cmp}
 use Rattle.std.specs.BTreeMap as tree
 use Rattle.std.specs.BTreeMap.{BTreeMap}
 use Rattle.std.proofs.lemmas.Cmp.{nat_cmp_total}
 use Rattle.std.proofs.lemmas.Bool.{false≢true}
+use Rattle.std.proofs.lemmas.List.Folds.{list_any_none}
 use Rattle.std.proofs.lemmas.List.Elements.{All-contains, filter_passes, Contains-append_right}
 use Rattle.std.proofs.lemmas.Map.Lookups.{exact_unsigned}
 use Rattle.std.proofs.lemmas.Map.Views.{btree_map_contains_key_iff}
@@ -53,4 +54,35 @@ changed_members m n =
       (λ there. changed_is (tree.get nat_cmp m n) (All-contains (λ x. p x ≡ true) (filter p (tree.keys m)) n (filter_passes p (tree.keys m)) there)),
       (λ changed. kept p n (is_changed (tree.get nat_cmp m n) changed) (tree.keys m)
           ((btree_map_contains_key_iff nat_cmp_total exact_unsigned m n).0 (some_changed (tree.get nat_cmp m n) changed))),
+    )
+
+-- ---- no change at all
+
+module _ (p : ℕ → Bool) (y : ℕ) (yes : p y ≡ true) where
+  any_rest : (b c : Bool) → c ≡ true → (b || c) ≡ true
+  any_rest true c is = refl
+  any_rest false c is = is
+
+  any_is : (xs : List ℕ) → Contains xs y → list_any p xs ≡ true
+  any_is [] (k, lt, is) = absurd (omega (arith, lt))
+  any_is (x ∷ xs) (zero, lt, is) = ap (λ (b : Bool). b || list_any p xs) (ap p is ∙ yes)
+  any_is (x ∷ xs) (suc k, lt, is) = any_rest (p x) (list_any p xs) (any_is xs (k, omega (arith, lt), is))
+
+none_is : (slot : Option Slot) → (IsChangedSlot slot → ⊥) → is_changed_slot slot ≡ false
+none_is (Some AsSettled) not_changed = refl
+none_is (Some (Loaded object)) not_changed = refl
+none_is (Some (Changed object)) not_changed = absurd (not_changed tt)
+none_is None not_changed = refl
+
+is_none : (b : Bool) → IsTrue (not b) → b ≡ true → ⊥
+is_none true none is = absurd (false≢true none)
+is_none false none is = false≢true is
+
+pub none_changed : (m : BTreeMap ℕ Slot) (has : Bool) → has ≡ list_any (λ k. is_changed_slot (tree.get nat_cmp m k)) (tree.keys m)
+    → IsTrue (not has) ↔ ((n : ℕ) → IsChangedSlot (tree.get nat_cmp m n) → ⊥)
+none_changed m has is =
+    let p : ℕ → Bool = λ k. is_changed_slot (tree.get nat_cmp m k) in (
+      (λ none n changed. is_none has none (is ∙ any_is p n (is_changed (tree.get nat_cmp m n) changed) (tree.keys m)
+          ((btree_map_contains_key_iff nat_cmp_total exact_unsigned m n).0 (some_changed (tree.get nat_cmp m n) changed)))),
+      (λ none. ap not (is ∙ list_any_none p (tree.keys m) (λ i d lt. none_is (tree.get nat_cmp m _) (none _)))),
     )

@@ -1,5 +1,5 @@
 -- What memory stands for, number by number.
-use Rattle.std.proofs.Common.{◌≡◌, ◌≢◌, ◌↔◌, ◌⊎◌, ℕ, zero, suc, ◌<◌, ◌≤◌, List, refl, sym, ap, subst, ◌∙◌, arith, inl, inr, Option, Some, None, IsSome, is_some, IsTrue, Bool, false, Result, Ok, Err, OnOk, OnErr}
+use Rattle.std.proofs.Common.{◌≡◌, ◌≢◌, ◌↔◌, ◌⊎◌, ℕ, zero, suc, ◌<◌, ◌≤◌, List, refl, sym, ap, subst, ◌∙◌, arith, inl, inr, Option, Some, None, IsSome, is_some, IsTrue, IsFalse, Bool, false, Result, Ok, Err, OnOk, OnErr}
 use Rattle.std.specs.Option.{option_map}
 use Rattle.std.specs.Ordering.{nat_cmp, is_eq}
 use Rattle.std.specs.BTreeMap.{BTreeMap, get, Updates}
@@ -161,3 +161,11 @@ note_maps disk inodes settled old new v number object node maps notes is k = eli
 
     here : IsTaken new number ↔ ((number < 4) ⊎ IsSome node)
     here = elim (cases_lt number 4) [ inl lt ↦ own lt | inr ge ↦ ordinary (omega arith) ]
+
+-- a number that isn't taken has no object
+pub free_number : (bytes : List ℕ) (v : Volume) (number : ℕ) (taken : Bool) → MapsVolume bytes v → (IsTrue taken ↔ IsTaken bytes number) → IsFalse taken → v number ≡ None
+free_number bytes v number taken maps tells free = none_there (v number) (λ some. false≢true (sym free ∙ tells.1 ((maps number).1 (inr some))))
+  where
+    none_there : (o : Option Node) → (IsSome o → ⊥) → o ≡ None
+    none_there None empty = refl
+    none_there (Some x) empty = absurd (empty refl)

@@ -72,3 +72,7 @@ is_changed_slot None = false
 -- the object with a number is to be stored by the next consistency point
 abbrev pub IsChanged : InodeFile → ℕ → Type 0
 IsChanged s n = IsChangedSlot (tree.get nat_cmp s.slots n)
+
+-- no object is to be stored by the next consistency point
+abbrev pub HasNoChange : InodeFile → Type 0
+HasNoChange s = (n : ℕ) → IsChanged s n → ⊥

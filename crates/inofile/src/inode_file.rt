@@ -32,7 +32,8 @@ pub struct InodeFile {
     ghost changes: { ChangesObjects geometry.inodes slots },
 }
 
-ghost use Rattle.std.specs.Prelude.{◌≡◌, ◌≤◌, ◌<◌, ◌*◌, ◌↔◌, ℕ, List, Option, Some, None, OnOk, IfOk, IfSome, IfNone, IsErrOf, IsTrue, Contains, filter, length, option_copied, vec_len};
+ghost use Rattle.std.specs.Prelude.{◌≡◌, ◌≤◌, ◌<◌, ◌*◌, ◌↔◌, ℕ, List, Option, Some, None, OnOk, IfOk, IfSome, IfNone, IsErrOf, IsTrue, IsFalse, Contains, filter, length, option_copied, vec_len};
+ghost use Rattle.std.specs.List.{list_any};
 ghost use Rattle.std.specs.Int.{div_ceil};
 ghost use Rattle.std.specs.List.Sorted.{IsStrictlyIncreasing};
 ghost use Rattle.std.specs.Option.{option_map};
@@ -55,8 +56,9 @@ ghost use Rattle.inofile.specs.Settled.{AreSettled, content_of, held_content, se
 ghost use Rattle.inofile.specs.Slots.{ChangesObjects};
 
 impl InodeFile {
-    ghost use Rattle.inofile.specs.Inodes.{is_changed_slot, object_at, SameObjects, IsKnown, HasRoomFor, IsChanged};
+    ghost use Rattle.inofile.specs.Inodes.{is_changed_slot, object_at, SameObjects, IsKnown, HasRoomFor, HasNoChange, IsChanged};
     ghost use Rattle.inofile.specs.Volumes.{IsVolumeOf, MapsVolume};
+    ghost use Rattle.layout.specs.Maps.{IsTaken};
 
     /// The inodes of this settled inode file, with the bytes of the inode map.
     pub fn new(alloc: Global, geometry: Geometry, file: File, map: Vec<u8>) -> InodeFile
@@ -185,6 +187,30 @@ impl InodeFile {
             .copied()
             .filter(|n| self.is_changed(*n))
             .collect(alloc)
+    }
+
+    /// Whether the next consistency point has no object to store.
+    pub fn is_settled(&self) -> bool
+        ensures { IsTrue result ↔ HasNoChange self.now }
+    {
+        !self.has_changes()
+    }
+
+    fn has_changes(&self) -> bool
+        ensures { result ≡ list_any (λ n. is_changed_slot (tree.get nat_cmp self.now.slots n))
+            (tree.keys self.now.slots) }
+    {
+        self.slots.keys().any(|n| self.is_changed(*n))
+    }
+
+    /// Whether the inode map has a number as taken: an object has it, or it is one of the file system's own.
+    pub fn is_taken(&self, number: u32) -> bool
+        requires { number < self.now.geometry.inodes }
+        ensures taken { IsTrue result ↔ IsTaken self.now.numbers.bytes.items number }
+        ensures free { (count : ℕ) (disk : ℕ → List ℕ) (settled : ℕ → Inode) (v : Volume)
+            → IsVolumeOf count disk settled self.now v → IsFalse result → v number ≡ None }
+    {
+        self.numbers.is_taken(number)
     }
 
     /// The object with a number, if there is one; what is known of it is in memory.

@@ -9,6 +9,8 @@ mod numbers;
 mod settled;
 
 pub use inode_file::{InodeFile, Slot};
-pub use laws::{memory_holds_its_volume, objects_stand_in_their_grammar};
+pub use laws::{
+    memory_holds_its_volume, objects_stand_in_their_grammar, unchanged_memory_is_settled,
+};
 pub use layout::FIRST_NUMBER;
 pub use numbers::Numbers;

@@ -94,6 +94,13 @@ impl Log {
         self.epoch
     }
 
+    /// Whether the next record opens its epoch first: none of that epoch stands in the log.
+    pub fn is_unopened(&self) -> bool
+        ensures { IsTrue result ↔ (self.now.end ≡ End.Unopened) }
+    {
+        matches!(self.end, End::Unopened)
+    }
+
     /// Whether a record with a body of this length fits what is left of the half.
     pub fn room(&self, length: usize) -> bool
         ensures { IsTrue result ↔ HasRoom self.now length }
