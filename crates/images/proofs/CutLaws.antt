@@ -28,7 +28,7 @@ use Rattle.images.specs.Nodes.{Held, held, Agrees, place_at_height, pointers_of}
 use Rattle.images.specs.Roots.{HeldTree, whole, Reach, Needs, active, frozen, head, slot, frozen_at}
 use Rattle.images.specs.BlockMap.{entry, roots}
 use Rattle.images.specs.Soundness.{IsSoundFile, IsSoundTree}
-use Rattle.images.specs.States.{IsSound, Holds, Opens}
+use Rattle.images.specs.States.{IsSound, Holds, Opens, OpensBy}
 use Rattle.images.specs.Cuts.{Write, IsOfDisk, IsOutside, StaysOutside, AreFree, HasNewRoot, IsPoint}
 use Rattle.images.proofs.Frames.{frozen_none}
 use Rattle.images.proofs.PointLaws.{free_is_free, no_bit, active_base, frozen_read}
@@ -46,7 +46,7 @@ outside_free : (r : Root) (d : ℕ → List ℕ) (writes : List Write) (n : ℕ)
 outside_free r d writes n free some = λ k w lt same. some (ap (entry (whole (blocks_of d) r).active) (sym same) ∙ free k w lt)
 
 pub open_as_before : (sectors : ℕ) (d e : ℕ → List ℕ) (nvram : List ℕ) (s : State) (writes : List Write) → (o : Opens sectors d nvram s) → AreFree o.root d writes → StaysOutside writes d e
-    → Opens sectors e nvram s
+    → OpensBy sectors e nvram s o.changes
 open_as_before sectors d e nvram s writes o free stays =
     open_alike sectors d e nvram s o (λ n some. stays n (outside_free o.root d writes n free some))
 
@@ -161,22 +161,25 @@ module _ (sectors : ℕ) (d e : ℕ → List ℕ) (nvram : List ℕ) (s : State)
   ]
 
   pub new_opens : (rest : List Change) (last : Volume) → LogHoldsChanges new nvram rest → Replays o.root.geometry.inodes v rest last
-      → without_nameless last ≡ without_nameless o.last → Opens sectors e nvram s
+      → without_nameless last ≡ without_nameless o.last → OpensBy sectors e nvram s rest
   new_opens rest last log replays ends = record {
-    root = new;
-    newest = new_newest;
-    size = o.size ∙ ap (λ (g : Sizes). 8 * g.blocks) (sym point.geometry);
-    first = v;
-    snapshots = o.snapshots;
-    holds = new_holds;
-    changes = rest;
-    log = log;
-    last = last;
-    replays = subst (λ (g : Sizes). Replays g.inodes v rest last) (sym point.geometry) replays;
-    state = subst (Forgets s) (λ i. record {
-      inodes = (sym point.geometry i).inodes;
-      tree = tree_of (sym ends i) (λ d. None);
+    opens = record {
+      root = new;
+      newest = new_newest;
+      size = o.size ∙ ap (λ (g : Sizes). 8 * g.blocks) (sym point.geometry);
+      first = v;
       snapshots = o.snapshots;
-      mark = going;
-    }) o.state;
+      holds = new_holds;
+      changes = rest;
+      log = log;
+      last = last;
+      replays = subst (λ (g : Sizes). Replays g.inodes v rest last) (sym point.geometry) replays;
+      state = subst (Forgets s) (λ i. record {
+        inodes = (sym point.geometry i).inodes;
+        tree = tree_of (sym ends i) (λ d. None);
+        snapshots = o.snapshots;
+        mark = going;
+      }) o.state;
+    };
+    these = refl;
   }

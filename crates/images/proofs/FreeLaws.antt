@@ -1,5 +1,5 @@
 -- Blocks that are free are no matter: disks that differ in them alone open to the same states.
-use Rattle.std.proofs.Common.{◌≡◌, ℕ, ◌+◌, ◌*◌, ◌/◌, ◌<◌, List, ◌++◌, sym, subst, arith}
+use Rattle.std.proofs.Common.{◌≡◌, ℕ, ◌+◌, ◌*◌, ◌/◌, ◌<◌, List, ◌++◌, refl, sym, subst, arith}
 use Rattle.layout.specs.Opens.{IsNewest}
 use Rattle.layout.specs.Places.{blocks_of}
 use Rattle.layout.specs.Root.{IsRoot}
@@ -9,7 +9,7 @@ use Rattle.model.specs.States.{State}
 use Rattle.images.specs.Nodes.{Agrees}
 use Rattle.images.specs.Roots.{whole, Needs}
 use Rattle.images.specs.BlockMap.{entry, IsExact, roots}
-use Rattle.images.specs.States.{Holds, Opens, SameButFree}
+use Rattle.images.specs.States.{Holds, Opens, OpensBy, SameButFree}
 use Rattle.images.proofs.Frames.{whole_same}
 use Rattle.images.proofs.PointLaws.{free_is_free, no_bit}
 use Rattle.images.proofs.StateLaws.{newest_is_root}
@@ -33,7 +33,7 @@ needs_same d e r root exact same b needs = same_block d e b (λ i lt.
 slot_same : (d e : ℕ → List ℕ) (r : Root) (n : ℕ) → IsExact r (whole (blocks_of d) r) → SameButFree r d e → n / 8 < 2 → e n ≡ d n
 slot_same d e r n exact same low = same n (λ free. no_bit 31 _ free ((exact.system (n / 8)).1 (roots low)))
 
-pub open_alike : (sectors : ℕ) (d e : ℕ → List ℕ) (nvram : List ℕ) (s : State) → (o : Opens sectors d nvram s) → SameButFree o.root d e → Opens sectors e nvram s
+pub open_alike : (sectors : ℕ) (d e : ℕ → List ℕ) (nvram : List ℕ) (s : State) → (o : Opens sectors d nvram s) → SameButFree o.root d e → OpensBy sectors e nvram s o.changes
 open_alike sectors d e nvram s o same =
     let r = o.root in
     let is_root = newest_is_root r (d SLOT_A) (d SLOT_B) o.newest in
@@ -42,15 +42,18 @@ open_alike sectors d e nvram s o same =
     let a : e SLOT_A ≡ d SLOT_A = slot_same d e r SLOT_A exact same (omega arith) in
     let b : e SLOT_B ≡ d SLOT_B = slot_same d e r SLOT_B exact same (omega arith) in
     record {
-      root = r;
-      newest = subst (λ x. IsNewest r x (e SLOT_B)) (sym a) (subst (IsNewest r (d SLOT_A)) (sym b) o.newest);
-      size = o.size;
-      first = o.first;
-      snapshots = o.snapshots;
-      holds = subst (λ w. Holds r w o.first o.snapshots) (sym whole_is) o.holds;
-      changes = o.changes;
-      log = o.log;
-      last = o.last;
-      replays = o.replays;
-      state = o.state;
+      opens = record {
+        root = r;
+        newest = subst (λ x. IsNewest r x (e SLOT_B)) (sym a) (subst (IsNewest r (d SLOT_A)) (sym b) o.newest);
+        size = o.size;
+        first = o.first;
+        snapshots = o.snapshots;
+        holds = subst (λ w. Holds r w o.first o.snapshots) (sym whole_is) o.holds;
+        changes = o.changes;
+        log = o.log;
+        last = o.last;
+        replays = o.replays;
+        state = o.state;
+      };
+      these = refl;
     }

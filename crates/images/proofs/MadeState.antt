@@ -27,7 +27,7 @@ use Rattle.images.specs.Roots.{HeldTree, Whole, whole, tree, slot}
 use Rattle.images.specs.Contents.{HoldsVolume, contents}
 use Rattle.images.specs.Soundness.{IsSoundTree}
 use Rattle.images.specs.Snapshots.{AreSnapshots, AreKept}
-use Rattle.images.specs.States.{Holds, Opens}
+use Rattle.images.specs.States.{Holds, OpensBy}
 use Rattle.images.proofs.StateLaws.{newest_is_root}
 use Rattle.images.proofs.WordLaws.{sectors_block, length-words_of}
 use Rattle.images.proofs.MadeInodes.{HasMade, made_inode, tree_of_made}
@@ -118,17 +118,20 @@ image_holds sectors disk r image =
     }
 
 pub image_opens : (sectors : ℕ) (disk : ℕ → List ℕ) (nvram : List ℕ) (r : Root) → HoldsNewImage sectors disk r → LogHolds r.geometry.half r.generation nvram []
-    → Opens sectors disk nvram (empty r.geometry.inodes)
+    → OpensBy sectors disk nvram (empty r.geometry.inodes) []
 image_opens sectors disk nvram r image log = record {
-  root = r;
-  newest = image.newest;
-  size = image.size;
-  first = alone;
-  snapshots = [];
-  holds = image_holds sectors disk r image;
-  changes = [];
-  log = record { are = All-nil IsChange; log = log };
-  last = alone;
-  replays = refl;
-  state = record { tree = alone_forgets r.geometry.inodes; rest = refl };
+  opens = record {
+    root = r;
+    newest = image.newest;
+    size = image.size;
+    first = alone;
+    snapshots = [];
+    holds = image_holds sectors disk r image;
+    changes = [];
+    log = record { are = All-nil IsChange; log = log };
+    last = alone;
+    replays = refl;
+    state = record { tree = alone_forgets r.geometry.inodes; rest = refl };
+  };
+  these = refl;
 }

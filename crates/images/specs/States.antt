@@ -58,6 +58,12 @@ pub record Opens (sectors : ℕ) (disk : ℕ → List ℕ) (nvram : List ℕ) (s
     mark = going;
   })
 
+-- The disk and the NVRAM stand for this state by just these records.
+pub record OpensBy (sectors : ℕ) (disk : ℕ → List ℕ) (nvram : List ℕ) (s : State)
+    (changes : List Change) : Type 0 where
+  pub opens : Opens sectors disk nvram s
+  pub these : opens.changes ≡ changes
+
 -- two disks have the same in all sectors of blocks that aren't free in the map that the first one has under a root
 abbrev pub SameButFree : Root → (ℕ → List ℕ) → (ℕ → List ℕ) → Type 0
 SameButFree r d e = (n : ℕ) → entry (whole (blocks_of d) r).active (n / 8) ≢ 0 → e n ≡ d n

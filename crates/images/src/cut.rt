@@ -12,7 +12,7 @@ ghost use Rattle.model.specs.Volumes.{Volume};
 ghost use Rattle.images.specs.Cuts.{AreFree, HasNewRoot, IsOfDisk, IsPoint, PlansOn, StaysOutside, Write};
 ghost use Rattle.images.specs.Contents.{contents};
 ghost use Rattle.images.specs.Roots.{Needs, whole};
-ghost use Rattle.images.specs.States.{Holds, IsSound, LogHoldsChanges, Opens};
+ghost use Rattle.images.specs.States.{Holds, IsSound, LogHoldsChanges, Opens, OpensBy};
 
 /// What a root in its grammar needs are blocks of its disk, none of the two that hold the roots. It does nothing.
 pub fn needed_blocks_are_of_the_disk()
@@ -20,11 +20,12 @@ pub fn needed_blocks_are_of_the_disk()
         → Needs r (whole d r) b → IsOfDisk r.geometry.blocks b }
 {}
 
-/// Before its root is written, a consistency point leaves images that open as before. It does nothing.
+/// Before its root is written, a consistency point leaves images that open as before, by the same records. It does
+/// nothing.
 pub fn unfinished_points_open_as_before()
     ensures { (sectors : ℕ) (d e : ℕ → List ℕ) (nvram : List ℕ) (s : State) (writes : List Write)
         → (o : Opens sectors d nvram s) → AreFree o.root d writes → StaysOutside writes d e
-        → Opens sectors e nvram s }
+        → OpensBy sectors e nvram s o.changes }
 {}
 
 /// Once its root is written, that is the newest one, and it holds the planned volume and the same snapshots. It does nothing.
@@ -41,14 +42,14 @@ pub fn finished_points_hold()
 {}
 
 /// And where the records that the new root doesn't cover lead from the planned volume to what the old images came to, files
-/// without names aside, the images open as before. It does nothing.
+/// without names aside, the images open as before, by those records. It does nothing.
 pub fn finished_points_open_as_before()
     ensures { (sectors : ℕ) (d e : ℕ → List ℕ) (nvram : List ℕ) (s : State)
         (writes : List Write) (sector : ℕ) (new : Root) (v : Volume) (rest : List Change) (last : Volume)
         → (o : Opens sectors d nvram s) → IsPoint o.root d writes sector new v
         → HasNewRoot writes sector (root_bytes new) d e → LogHoldsChanges new nvram rest
         → Replays o.root.geometry.inodes v rest last
-        → without_nameless last ≡ without_nameless o.last → Opens sectors e nvram s }
+        → without_nameless last ≡ without_nameless o.last → OpensBy sectors e nvram s rest }
 {}
 
 /// A point that changes nothing but the generation can be planned: what is asked of a plan can be met. It does nothing.

@@ -7,7 +7,7 @@ ghost use Rattle.layout.specs.Places.{blocks_of};
 ghost use Rattle.layout.specs.declared.TheConstants.{BLOCK_BYTES, SECTOR_BYTES};
 ghost use Rattle.layout.specs.declared.root.Root.{Root};
 ghost use Rattle.model.specs.States.{empty};
-ghost use Rattle.images.specs.States.{Opens};
+ghost use Rattle.images.specs.States.{OpensBy};
 
 /// Eight sectors that hold the parts of a block's bytes, one behind the other, are the block. It does nothing.
 pub fn eight_sectors_are_a_block()
@@ -16,10 +16,10 @@ pub fn eight_sectors_are_a_block()
         → blocks_of disk b ≡ bytes }
 {}
 
-/// The image of a new file system, under any root of it, with a log that holds no records, opens to the state with an empty root
-/// directory and no snapshots. It does nothing.
+/// The image of a new file system, under any root of it, with a log that holds no records, opens by none to the state with an empty
+/// root directory and no snapshots. It does nothing.
 pub fn new_images_open_to_the_empty_state()
     ensures { (sectors : ℕ) (disk : ℕ → List ℕ) (nvram : List ℕ) (r : Root)
         → HoldsNewImage sectors disk r → LogHolds r.geometry.half r.generation nvram []
-        → Opens sectors disk nvram (empty r.geometry.inodes) }
+        → OpensBy sectors disk nvram (empty r.geometry.inodes) [] }
 {}

@@ -8,7 +8,7 @@ ghost use Rattle.model.specs.Trees.{Tree};
 ghost use Rattle.model.specs.Volumes.{Volume};
 ghost use Rattle.images.specs.Contents.{Content, HoldsVolume};
 ghost use Rattle.images.specs.Roots.{Whole};
-ghost use Rattle.images.specs.States.{Opens, SameButFree};
+ghost use Rattle.images.specs.States.{Opens, OpensBy, SameButFree};
 
 /// Files hold one volume at most. It does nothing.
 pub fn files_hold_one_volume()
@@ -23,9 +23,10 @@ pub fn images_open_to_one_state()
         → (u : State) × Forgets s u × Forgets t u }
 {}
 
-/// Free blocks are no matter: disks that differ in sectors of blocks alone whose entries are 0 open to the same states. It does
-/// nothing.
+/// Free blocks are no matter: disks that differ in sectors of blocks alone whose entries are 0 open to the same states, by the same
+/// records. It does nothing.
 pub fn free_blocks_are_no_matter()
     ensures { (sectors : ℕ) (d e : ℕ → List ℕ) (nvram : List ℕ) (s : State)
-        → (o : Opens sectors d nvram s) → SameButFree o.root d e → Opens sectors e nvram s }
+        → (o : Opens sectors d nvram s) → SameButFree o.root d e
+        → OpensBy sectors e nvram s o.changes }
 {}
