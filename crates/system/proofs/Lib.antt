@@ -4,3 +4,7 @@ mod PointLaws
 mod SettledLaws
 mod OpenLaws
 mod LoggedLaws
+mod ServingLaws
+mod MakingLaws
+mod CoveredLaws
+mod SpaceLaws

@@ -23,6 +23,7 @@ use Rattle.inofile.specs.declared.inode_file.InodeFile.{InodeFile}
 use Rattle.images.specs.Roots.{whole}
 use Rattle.images.specs.States.{SameButFree}
 use Rattle.loading.specs.Images.{inodes_of}
+use Rattle.calls.specs.Served.{IsServed}
 use Rattle.oplog.specs.LogEnd.{LogEnd, LogStands, ReadsDisk, StandsAt, WithOrWithout, all_of, with_body}
 use Rattle.system.specs.Images.{IsLeft, IsReplayed, IsUnder, OpensTo}
 use Rattle.system.specs.Laws.{CutLaws, RecordLaws}
@@ -58,6 +59,7 @@ module _ (laws : CutLaws) (records : RecordLaws) (m : Meaning) (kept : BTreeMap 
   replayed = record {
     changes = serves.replayed.changes ++ change ∷ [];
     are = All-push IsChange serves.replayed.changes change serves.replayed.are advances.is;
+    served = All-push IsServed serves.replayed.changes change serves.replayed.served advances.served;
     spelled = spelled;
     last = applied change serves.replayed.last;
     replays = replays_more root.geometry.inodes serves.first serves.replayed.changes serves.replayed.last change serves.replayed.replays
@@ -85,9 +87,9 @@ module _ (laws : CutLaws) (records : RecordLaws) (m : Meaning) (kept : BTreeMap 
         → LeavesOnly m now (λ c. OpensTo m s c ⊎ OpensTo m state_after c)
     at_any_moment now leaves =
         weaker m now (KeepsDisk m (WithOrWithout log.half root.generation serves.bodies (change_bytes change))) (λ c. OpensTo m s c ⊎ OpensTo m state_after c) leaves (λ c keeps. elim keeps.3 [
-          | inl without ↦ inl (same_open laws m.sectors m.seen.disk root slot serves.first serves.snapshots serves.under size serves.bodies serves.running serves.memory.volume serves.replayed table s serves.state
+          | inl without ↦ inl (same_open laws m m.seen.disk root slot serves.first serves.snapshots serves.under size serves.bodies serves.running serves.memory.volume serves.replayed table s serves.state
               c (same_disk c keeps.0 keeps.1 keeps.2) (subst (λ (h : ℕ). LogHolds h root.generation c.nvram (all_of serves.bodies)) half without))
-          | inr with_it ↦ inr (same_open laws m.sectors m.seen.disk root slot serves.first serves.snapshots serves.under size (with_body serves.bodies (change_bytes change)) (applied change serves.running) volume replayed
+          | inr with_it ↦ inr (same_open laws m m.seen.disk root slot serves.first serves.snapshots serves.under size (with_body serves.bodies (change_bytes change)) (applied change serves.running) volume replayed
               table state_after refl c (same_disk c keeps.0 keeps.1 keeps.2) (subst (λ (h : ℕ). LogHolds h root.generation c.nvram (all_of (with_body serves.bodies (change_bytes change)))) half with_it))
         ])
 

@@ -217,6 +217,7 @@ module _ (m : Meaning) (kept : BTreeMap ℕ Block) (found : Found) (p : Mounted)
     replayed = record {
       changes = changes;
       are = over.holds.log.are;
+      served = over.holds.served;
       spelled = over.has.log.all;
       last = last;
       replays = over.holds.replays;

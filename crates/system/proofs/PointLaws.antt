@@ -18,7 +18,7 @@ use Rattle.images.specs.BlockMap.{entry}
 use Rattle.images.specs.Cuts as points
 use Rattle.images.specs.Cuts.{Write, AreFree}
 use Rattle.images.specs.Roots.{whole}
-use Rattle.images.specs.States.{Opens}
+use Rattle.images.specs.States.{Opens, OpensBy}
 use Rattle.oplog.specs.LogEnd.{LogEnd, Bodies, all_of, StandsAt}
 use Rattle.conspoint.specs.Cuts.{StaysOutside, HasNewRoot}
 use Rattle.conspoint.specs.Plans.{Planned, FitsDisk}
@@ -30,7 +30,7 @@ use Rattle.planning.specs.Plans.{IsPlannable}
 use Rattle.system.specs.Points.{IsPlannedOver}
 use Rattle.system.specs.Slots.{IsNewestAt, other_slot}
 use Rattle.system.specs.Systems.{IsServing}
-use Rattle.system.proofs.SystemLaws.{all_open, one_opens, reads_open}
+use Rattle.system.proofs.SystemLaws.{all_open, one_opens, opens_by, reads_open}
 
 -- ---- the log under the new root
 
@@ -104,14 +104,15 @@ module _ (laws : CutLaws) (m : Meaning) (kept : BTreeMap ℕ Block) (root : Root
         let stands = (serves.left serves.honest m.seen here).log_stands in
         let small : root.generation + 4 < 2 ^ 64 = omega (arith, serves.under.newest.there.root.head.last) in
         let holds = covered laws log root.generation serves.bodies m.seen.nvram small stands in
-        subst (λ (nvram : List ℕ). Opens m.sectors c.disk nvram s) (sym has.nvram)
+        opens_by m s c [] (subst (λ (nvram : List ℕ). OpensBy m.sectors c.disk nvram s []) (sym has.nvram)
         (laws.opens m.sectors m.seen.disk c.disk m.seen.nvram s (writes_of p.blocks) p.slot new serves.running [] serves.running reads planned.point (with_root c has)
         (record {
           are = λ i d lt. absurd (omega (arith, lt));
           log = subst (λ (h : ℕ). LogHolds h new.generation m.seen.nvram []) (half ∙ ap (λ s. s.half) (sym planned.point.geometry))
               (subst (λ (g : ℕ). LogHolds log.half g m.seen.nvram []) (sym planned.covers) holds);
         })
-        refl (sym (laws.ends serves.running serves.replayed.last serves.replayed.extends)))
+        refl (sym (laws.ends serves.running serves.replayed.last serves.replayed.extends))))
+        (λ i d lt. absurd (omega (arith, lt)))
 
     -- while it is planned and written
     pub at_any_moment : (mid now : Meaning) → Goes Unchanged m mid → LeavesOnly mid now (λ c. After (StaysOutside p.blocks) mid c ⊎ HasNewRoot p mid.seen c) → LeavesOnly m now (OpensTo m s)

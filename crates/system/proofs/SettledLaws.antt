@@ -69,6 +69,7 @@ pub none_replayed : (inodes : ℕ) (running : Volume) → IsReplayed inodes no_b
 none_replayed inodes running = record {
   changes = [];
   are = λ i d lt. absurd (omega (arith, lt));
+  served = λ i d lt. absurd (omega (arith, lt));
   spelled = refl;
   last = running;
   replays = refl;

@@ -1,11 +1,12 @@
 -- The images of a system that serves a state open to it.
-use Rattle.std.proofs.Common.{◌≡◌, ℕ, ◌*◌, List, Option, None, refl, ap, sym, subst, ◌∙◌}
+use Rattle.std.proofs.Common.{◌≡◌, ℕ, ◌*◌, List, All, Option, None, refl, ap, sym, subst, ◌∙◌}
 use Rattle.std.specs.BTreeMap.{BTreeMap}
 use Rattle.station.specs.Images.{Images}
 use Rattle.station.specs.Moments.{Meaning, EachCut}
 use Rattle.station.proofs.Moments.{each_unchanged}
 use Rattle.layout.specs.Log.{LogHolds}
 use Rattle.layout.specs.Places.{blocks_of}
+use Rattle.layout.specs.Record.{Change}
 use Rattle.layout.specs.declared.root.Root.{Root}
 use Rattle.model.specs.Paths.{Name}
 use Rattle.model.specs.Records.{without_nameless}
@@ -17,8 +18,9 @@ use Rattle.buffers.specs.declared.block.Block.{Block}
 use Rattle.blockmap.specs.Maps.{settled_at}
 use Rattle.blockmap.specs.declared.map.BlockMap.{BlockMap}
 use Rattle.inofile.specs.declared.inode_file.InodeFile.{InodeFile}
-use Rattle.images.specs.States.{Opens, SameButFree}
+use Rattle.images.specs.States.{Opens, OpensBy, SameButFree}
 use Rattle.oplog.specs.LogEnd.{LogEnd, Bodies, all_of}
+use Rattle.calls.specs.Served.{IsServed}
 use Rattle.system.specs.Images.{OpensTo, IsLeft, IsReplayed, IsUnder}
 use Rattle.system.specs.Laws.{CutLaws}
 use Rattle.system.specs.Memory.{IsInMemory}
@@ -54,9 +56,13 @@ module _ (m : Meaning) (kept : BTreeMap ℕ Block) (root : Root) (slot : ℕ) (i
         state = serves.state;
       }
 
+-- what opens by records that this version does
+pub opens_by : (m : Meaning) (s : State) (c : Images) (changes : List Change) → OpensBy m.sectors c.disk c.nvram s changes → All IsServed changes → OpensTo m s c
+opens_by m s c changes by served = record { opens = by.opens; served = subst (All IsServed) (sym by.these) served }
+
 -- A disk that holds a volume under its newest root, with records that lead to the running one, opens to its state.
-module _ (laws : CutLaws) (sectors : ℕ) (disk : ℕ → List ℕ) (root : Root) (slot : ℕ) (first : Volume) (snapshots : List (Name × Tree)) (under : IsUnder slot root first snapshots disk)
-    (size : sectors ≡ 8 * root.geometry.blocks) (bodies : Bodies) (running : Volume) (volume : IsVolume root.geometry.inodes running)
+module _ (laws : CutLaws) (m : Meaning) (disk : ℕ → List ℕ) (root : Root) (slot : ℕ) (first : Volume) (snapshots : List (Name × Tree)) (under : IsUnder slot root first snapshots disk)
+    (size : m.sectors ≡ 8 * root.geometry.blocks) (bodies : Bodies) (running : Volume) (volume : IsVolume root.geometry.inodes running)
     (replayed : IsReplayed root.geometry.inodes bodies first running) (table : ℕ → Option Description) (s : State) (is : s ≡ state_with root.geometry.inodes running table snapshots) where
   abbrev pub found : State
   found = record {
@@ -72,7 +78,7 @@ module _ (laws : CutLaws) (sectors : ℕ) (disk : ℕ → List ℕ) (root : Root
     rest = refl;
   })
 
-  abbrev pub held_open : (nvram : List ℕ) → LogHolds root.geometry.half root.generation nvram (all_of bodies) → Opens sectors disk nvram s
+  abbrev pub held_open : (nvram : List ℕ) → LogHolds root.geometry.half root.generation nvram (all_of bodies) → Opens m.sectors disk nvram s
   held_open nvram holds = record {
     root = root;
     newest = under.newest.newest;
@@ -88,20 +94,20 @@ module _ (laws : CutLaws) (sectors : ℕ) (disk : ℕ → List ℕ) (root : Root
   }
 
   -- and so does one that is the same but for free blocks
-  pub same_open : (c : Images) → SameButFree root disk c.disk → LogHolds root.geometry.half root.generation c.nvram (all_of bodies) → Opens sectors c.disk c.nvram s
-  same_open c same holds = laws.free sectors disk c.disk c.nvram s (held_open c.nvram holds) same
+  pub same_open : (c : Images) → SameButFree root disk c.disk → LogHolds root.geometry.half root.generation c.nvram (all_of bodies) → OpensTo m s c
+  same_open c same holds = opens_by m s c replayed.changes (laws.free m.sectors disk c.disk c.nvram s (held_open c.nvram holds) same) replayed.served
 
 module _ (laws : CutLaws) (m : Meaning) (kept : BTreeMap ℕ Block) (root : Root) (slot : ℕ) (inodes : InodeFile) (map : BlockMap) (log : LogEnd) (table : ℕ → Option Description) (s : State)
     (serves : IsServing m kept root slot inodes map log table s) (size : m.sectors ≡ 8 * root.geometry.blocks) (half : log.half ≡ root.geometry.half) where
   -- what the system reads, with any NVRAM that has its records
   abbrev pub reads_open : (nvram : List ℕ) → LogHolds log.half root.generation nvram (all_of serves.bodies) → Opens m.sectors m.seen.disk nvram s
   reads_open nvram holds =
-      held_open laws m.sectors m.seen.disk root slot serves.first serves.snapshots serves.under size serves.bodies serves.running serves.memory.volume serves.replayed table s serves.state nvram
+      held_open laws m m.seen.disk root slot serves.first serves.snapshots serves.under size serves.bodies serves.running serves.memory.volume serves.replayed table s serves.state nvram
       (subst (λ (h : ℕ). LogHolds h root.generation nvram (all_of serves.bodies)) half holds)
 
   pub one_opens : (c : Images) → IsLeft root log serves.bodies m.seen.disk c → OpensTo m s c
   one_opens c left =
-      same_open laws m.sectors m.seen.disk root slot serves.first serves.snapshots serves.under size serves.bodies serves.running serves.memory.volume serves.replayed table s serves.state c left.same
+      same_open laws m m.seen.disk root slot serves.first serves.snapshots serves.under size serves.bodies serves.running serves.memory.volume serves.replayed table s serves.state c left.same
       (subst (λ (h : ℕ). LogHolds h root.generation c.nvram (all_of serves.bodies)) half left.log_stands.holds)
 
   pub all_open : EachCut m (OpensTo m s)

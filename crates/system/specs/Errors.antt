@@ -1,5 +1,11 @@
--- Why a consistency point wasn't made.
+-- Why a system refused.
 use Rattle.std.specs.Prelude.{◌≡◌}
+use Rattle.blocktree.specs.declared.error.ReadError.{ReadError}
+use Rattle.blocktree.specs.declared.error.ReadError.TheVariants as read
+use Rattle.oplog.specs.declared.log.AppendError.{AppendError}
+use Rattle.oplog.specs.declared.log.AppendError.TheVariants as append
+use Rattle.system.specs.declared.error.CallError.{CallError}
+use Rattle.system.specs.declared.error.CallError.TheVariants as call
 use Rattle.system.specs.declared.error.PointError.{PointError}
 use Rattle.system.specs.declared.error.PointError.TheVariants.{NotPlanned, NotWritten, NoGeneration}
 
@@ -12,3 +18,15 @@ IsRefused NoGeneration = Unit {0}
 -- a write or a sync failed
 abbrev pub IsNotWritten : PointError → Type 0
 IsNotWritten e = e ≡ NotWritten
+
+-- a failed read, to who gave a call
+abbrev pub call_error : ReadError → CallError
+call_error read.NoMemory = call.NoMemory
+call_error read.Device = call.NotRead
+call_error read.Damaged = call.Damaged
+
+-- a failed append
+abbrev pub log_error : AppendError → CallError
+log_error append.NoMemory = call.NoMemory
+log_error append.Device = call.NotWritten
+log_error append.LogFull = call.LogFull

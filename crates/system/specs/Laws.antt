@@ -22,7 +22,7 @@ use Rattle.images.specs.Contents.{HoldsVolume, contents}
 use Rattle.images.specs.Cuts as points
 use Rattle.images.specs.Cuts.{IsOfDisk, IsPoint, Write}
 use Rattle.images.specs.Roots.{whole, Needs}
-use Rattle.images.specs.States.{Holds, IsSound, LogHoldsChanges, Opens, SameButFree}
+use Rattle.images.specs.States.{Holds, IsSound, LogHoldsChanges, Opens, OpensBy, SameButFree}
 use Rattle.conspoint.specs.Cuts.{HasNewRoot, StaysOutside, disk_with_blocks}
 use Rattle.conspoint.specs.Plans.{FitsDisk, Planned}
 use Rattle.conspoint.specs.Writes.{AreWhole, writes_of}
@@ -34,15 +34,18 @@ pub record CutLaws : Type 0 where
   pub forgets : MountsForget
   pub ends : ReplayEndsSame
   pub free : (sectors : ℕ) (d e : ℕ → List ℕ) (nvram : List ℕ) (s : State)
-      → (o : Opens sectors d nvram s) → SameButFree o.root d e → Opens sectors e nvram s
+      → (o : Opens sectors d nvram s) → SameButFree o.root d e → OpensBy sectors e nvram s o.changes
   pub unfinished : (blocks : List PlannedBlock) (old new : Images) → StaysOutside blocks old new
       → points.StaysOutside (writes_of blocks) old.disk new.disk
-  pub finished : (sectors : ℕ) (p : Planned) (old new : Images) → FitsDisk sectors p → AreWhole sectors old.disk
-      → HasNewRoot p old new → points.HasNewRoot (writes_of p.blocks) p.slot p.root old.disk new.disk
-  pub opens : (sectors : ℕ) (d e : ℕ → List ℕ) (nvram : List ℕ) (s : State) (writes : List Write) (sector : ℕ) (new : Root)
-      (v : Volume) (rest : List Change) (last : Volume) → (o : Opens sectors d nvram s) → IsPoint o.root d writes sector new v
+  pub finished : (sectors : ℕ) (p : Planned) (old new : Images) → FitsDisk sectors p
+      → AreWhole sectors old.disk → HasNewRoot p old new
+      → points.HasNewRoot (writes_of p.blocks) p.slot p.root old.disk new.disk
+  pub opens : (sectors : ℕ) (d e : ℕ → List ℕ) (nvram : List ℕ) (s : State) (writes : List Write)
+      (sector : ℕ) (new : Root) (v : Volume) (rest : List Change) (last : Volume)
+      → (o : Opens sectors d nvram s) → IsPoint o.root d writes sector new v
       → points.HasNewRoot writes sector (root_bytes new) d e → LogHoldsChanges new nvram rest
-      → Replays o.root.geometry.inodes v rest last → without_nameless last ≡ without_nameless o.last → Opens sectors e nvram s
+      → Replays o.root.geometry.inodes v rest last → without_nameless last ≡ without_nameless o.last
+      → OpensBy sectors e nvram s rest
   pub one : (half g : ℕ) (nvram : List ℕ) (bodies : List (List ℕ)) → g + 3 < 2 ^ 64
       → (log : LogHolds half g nvram bodies) → LogHolds half (g + 1) nvram log.second
   pub both : (half g : ℕ) (nvram : List ℕ) (bodies : List (List ℕ)) → g + 4 < 2 ^ 64
@@ -50,27 +53,32 @@ pub record CutLaws : Type 0 where
 
 -- on what a system then has
 pub record RootLaws : Type 0 where
-  pub newest : (sectors : ℕ) (d e : ℕ → List ℕ) (nvram : List ℕ) (s : State) (writes : List Write) (sector : ℕ) (new : Root)
-      (v : Volume) → (o : Opens sectors d nvram s) → IsPoint o.root d writes sector new v
+  pub newest : (sectors : ℕ) (d e : ℕ → List ℕ) (nvram : List ℕ) (s : State)
+      (writes : List Write) (sector : ℕ) (new : Root) (v : Volume)
+      → (o : Opens sectors d nvram s) → IsPoint o.root d writes sector new v
       → points.HasNewRoot writes sector (root_bytes new) d e → IsNewest new (e SLOT_A) (e SLOT_B)
-  pub holds : (sectors : ℕ) (d e : ℕ → List ℕ) (nvram : List ℕ) (s : State) (writes : List Write) (sector : ℕ) (new : Root)
-      (v : Volume) → (o : Opens sectors d nvram s) → IsPoint o.root d writes sector new v
-      → points.HasNewRoot writes sector (root_bytes new) d e → Holds new (whole (blocks_of e) new) v o.snapshots
-  pub of_disk : (d : Blocks) (r : Root) (b : ℕ) → IsRoot r → IsSound r (whole d r) → Needs r (whole d r) b
-      → IsOfDisk r.geometry.blocks b
-  pub unneeded : (d : Blocks) (r : Root) (b : ℕ) → IsRoot r → IsExact r (whole d r) → entry (whole d r).active b ≡ 0
-      → Needs r (whole d r) b → ⊥
+  pub holds : (sectors : ℕ) (d e : ℕ → List ℕ) (nvram : List ℕ) (s : State)
+      (writes : List Write) (sector : ℕ) (new : Root) (v : Volume)
+      → (o : Opens sectors d nvram s) → IsPoint o.root d writes sector new v
+      → points.HasNewRoot writes sector (root_bytes new) d e
+      → Holds new (whole (blocks_of e) new) v o.snapshots
+  pub of_disk : (d : Blocks) (r : Root) (b : ℕ) → IsRoot r → IsSound r (whole d r)
+      → Needs r (whole d r) b → IsOfDisk r.geometry.blocks b
+  pub unneeded : (d : Blocks) (r : Root) (b : ℕ) → IsRoot r → IsExact r (whole d r)
+      → entry (whole d r).active b ≡ 0 → Needs r (whole d r) b → ⊥
   pub readable : (d : Blocks) (r : Root) (first : Volume) (snapshots : List (Name × Tree))
       → Holds r (whole d r) first snapshots → IsReadable d r
-  pub settled : (d : Blocks) (r : Root) (file : File) → IsRoot r → IsReadable d r → IsFileOf r.inode_file file
+  pub settled : (d : Blocks) (r : Root) (file : File) → IsRoot r → IsReadable d r
+      → IsFileOf r.inode_file file
       → AreSettled r.geometry.blocks d r.geometry file (inodes_of (whole d r).active)
   pub held : (d : Blocks) (r : Root) (v : Volume) → IsRoot r → IsReadable d r
       → HoldsVolume r.geometry.inodes (contents (whole d r).active) v
       → HoldsVolume r.geometry.inodes (λ n. held_content d (inodes_of (whole d r).active n)) v
-  pub block_is : (sectors : ℕ) (disk : ℕ → Sector) (b : ℕ) (bytes : List ℕ) → AreWhole sectors disk → 8 * b + 8 ≤ sectors
-      → IsBlock disk b bytes → blocks_of disk b ≡ bytes
-  pub others : (blocks : List PlannedBlock) (disk : ℕ → List ℕ) (n : ℕ) → All (λ b. b.place ≢ n) blocks
-      → disk_with_blocks blocks disk n ≡ disk n
+  pub block_is : (sectors : ℕ) (disk : ℕ → Sector) (b : ℕ) (bytes : List ℕ)
+      → AreWhole sectors disk → 8 * b + 8 ≤ sectors → IsBlock disk b bytes
+      → blocks_of disk b ≡ bytes
+  pub others : (blocks : List PlannedBlock) (disk : ℕ → List ℕ) (n : ℕ)
+      → All (λ b. b.place ≢ n) blocks → disk_with_blocks blocks disk n ≡ disk n
 
 -- on records
 pub record RecordLaws : Type 0 where

@@ -9,3 +9,5 @@ pub mod Props
 pub mod Refusals
 pub mod Opening
 pub mod Logging
+pub mod Serving
+pub mod Room

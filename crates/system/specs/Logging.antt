@@ -7,22 +7,35 @@ use Rattle.model.specs.Records.{Change, Applies, applied}
 use Rattle.model.specs.States.{State}
 use Rattle.model.specs.Trees.{Description}
 use Rattle.model.specs.Volumes.{Volume, IsMounted}
+use Rattle.calls.specs.Prepared.{Does}
+use Rattle.calls.specs.declared.prepared.Prepared.{Prepared}
 use Rattle.inofile.specs.Volumes.{IsVolumeOf}
 use Rattle.inofile.specs.declared.inode_file.InodeFile.{InodeFile}
 use Rattle.images.specs.Roots.{whole}
 use Rattle.loading.specs.Images.{inodes_of}
+use Rattle.calls.specs.Served.{IsServed}
 use Rattle.system.specs.Systems.{IsServing, meaning_of}
 use Rattle.system.specs.declared.system.System.{System}
 
--- a record applies to a volume of so many inodes, and leads to one that these descriptors fit
-pub record Advances (inodes : ℕ) (running : Volume) (table : ℕ → Option Description) (change : Change) : Type 0 where
+-- a record that this version does applies to a volume of so many inodes, and leads to one that these descriptors fit
+pub record Advances (inodes : ℕ) (running : Volume) (table : ℕ → Option Description)
+    (change : Change) : Type 0 where
   pub is : IsChange change
+  pub served : IsServed change
   pub applies : Applies inodes running change
   pub mounted : IsMounted (applied change running) table
 
 -- once memory stands for a volume, over the disk that a system read, the system serves a state
-abbrev pub WouldServe : {S : Type 0} {G : Ghosts S} → System S G → System S G → Volume → (ℕ → Option Description) → State → Type 0
+abbrev pub WouldServe : {S : Type 0} {G : Ghosts S} → System S G → System S G → Volume
+    → (ℕ → Option Description) → State → Type 0
 WouldServe old new running table s =
     let disk = blocks_of (meaning_of old).seen.disk in
-    (inodes : InodeFile) → IsVolumeOf old.root.geometry.blocks disk (inodes_of (whole disk old.root).active) inodes running
+    let settled = inodes_of (whole disk old.root).active in
+    (inodes : InodeFile) → IsVolumeOf old.root.geometry.blocks disk settled inodes running
     → IsServing (meaning_of new) new.blocks.kept new.root new.slot inodes new.map new.log table s
+
+-- put in force on a system with this running volume, a prepared change does what the record says
+abbrev pub DoesOver : {S : Type 0} {G : Ghosts S} → System S G → Volume → Prepared → Change → Type 0
+DoesOver f running prepared change =
+    let disk = blocks_of (meaning_of f).seen.disk in
+    Does disk (inodes_of (whole disk f.root).active) f.inodes running prepared change

@@ -20,7 +20,9 @@ abbrev pub HasEntries : HeldTree → BlockMap → Type 0
 HasEntries t map = (b : ℕ) → settled_at map.parts.items b ≡ entry t b
 
 -- The inodes in memory stand for the running volume, over the tree of the root, and the block map is that tree's.
-pub record IsInMemory (disk : Blocks) (root : Root) (inodes : InodeFile) (map : BlockMap) (running : Volume) : Type 0 where
-  pub stands : IsVolumeOf root.geometry.blocks disk (inodes_of (whole disk root).active) inodes running
+pub record IsInMemory (disk : Blocks) (root : Root) (inodes : InodeFile) (map : BlockMap)
+    (running : Volume) : Type 0 where
+  pub stands : IsVolumeOf root.geometry.blocks disk (inodes_of (whole disk root).active) inodes
+      running
   pub volume : IsVolume root.geometry.inodes running
   pub entries : HasEntries (whole disk root).active map

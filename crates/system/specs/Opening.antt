@@ -22,7 +22,8 @@ use Rattle.system.specs.declared.opening.Mounted.{Mounted}
 
 -- a device call failed
 abbrev pub HasFailed : Meaning → Meaning → Type 0
-HasFailed old new = HasGrown old.failed_reads new.failed_reads ⊎ HasGrown old.failed_writes new.failed_writes
+HasFailed old new =
+    HasGrown old.failed_reads new.failed_reads ⊎ HasGrown old.failed_writes new.failed_writes
 
 -- What was found on a station: a root of its size, and the log that was saved over it.
 pub record IsFound (f : Found) (m : Meaning) : Type 0 where
@@ -42,17 +43,20 @@ pub record FitsRoot (r : Root) (p : Mounted) : Type 0 where
   pub sizes : p.inodes.geometry ≡ r.geometry
   pub count : p.map.count ≡ r.geometry.blocks
   pub clean : IsClean p.map
+  pub fresh : p.map.next ≡ 2
   pub runs : IsFalse p.log.is_stopped
 
 -- A disk holds a volume and snapshots under a root, and an NVRAM the records that lead from there to another volume. This version
 -- does each of them.
-pub record HoldsRecords (disk : Blocks) (r : Root) (nvram : List ℕ) (first last : Volume) (snapshots : List (Name × Tree)) (changes : List Change) : Type 0 where
+pub record HoldsRecords (disk : Blocks) (r : Root) (nvram : List ℕ) (first last : Volume)
+    (snapshots : List (Name × Tree)) (changes : List Change) : Type 0 where
   pub holds : Holds r (whole disk r) first snapshots
   pub log : LogHoldsChanges r nvram changes
   pub served : All IsServed changes
   pub replays : Replays r.geometry.inodes first changes last
 
 -- Memory has the log's end behind these records, and the volume that they lead to, without the files that have no name.
-pub record HasImage (disk : Blocks) (r : Root) (nvram : List ℕ) (last : Volume) (changes : List Change) (p : Mounted) : Type 0 where
+pub record HasImage (disk : Blocks) (r : Root) (nvram : List ℕ) (last : Volume)
+    (changes : List Change) (p : Mounted) : Type 0 where
   pub log : StandsBehind p.log r.generation nvram (bodies_of changes)
   pub memory : IsInMemory disk r p.inodes p.map (without_nameless last)

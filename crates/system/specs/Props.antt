@@ -17,7 +17,8 @@ points_below-prop : (blocks : ℕ) (p : Pointer) → IsProp (PointsBelow blocks 
 points_below-prop blocks Hole = hlevel props
 points_below-prop blocks (Block b) = hlevel props
 
-fits_kind-prop : (k : Kind) (s : Sizes) (mode links size : ℕ) → IsProp (FitsKind k s mode links size)
+fits_kind-prop : (k : Kind) (s : Sizes) (mode links size : ℕ)
+    → IsProp (FitsKind k s mode links size)
 fits_kind-prop kinds.Free s mode links size = hlevel props
 fits_kind-prop kinds.File s mode links size = hlevel props
 fits_kind-prop kinds.Directory s mode links size = hlevel props

@@ -30,7 +30,9 @@ state_with inodes running table snapshots =
 -- What a system has serves a state, over an honest station: the disk that it reads holds a volume under the newest root, the records
 -- that this root doesn't cover lead to the running volume, which memory stands for and which is the state's tree; and
 -- whatever a cut may leave has that disk and those records.
-pub record IsServing (m : Meaning) (kept : BTreeMap ℕ Block) (root : Root) (slot : ℕ) (inodes : InodeFile) (map : BlockMap) (log : LogEnd) (table : ℕ → Option Description) (s : State) : Type 0 where
+pub record IsServing (m : Meaning) (kept : BTreeMap ℕ Block) (root : Root) (slot : ℕ)
+    (inodes : InodeFile) (map : BlockMap) (log : LogEnd) (table : ℕ → Option Description)
+    (s : State) : Type 0 where
   pub honest : m.is_honest
   pub shows : ShowsDisk m kept (blocks_of m.seen.disk)
   pub first : Volume
@@ -46,11 +48,13 @@ pub record IsServing (m : Meaning) (kept : BTreeMap ℕ Block) (root : Root) (sl
   pub state : s ≡ state_with root.geometry.inodes running table snapshots
 
 -- a system serves a state
-abbrev pub Serves : {S : Type 0} {G : Ghosts S} → System S G → (ℕ → Option Description) → State → Type 0
+abbrev pub Serves : {S : Type 0} {G : Ghosts S} → System S G → (ℕ → Option Description) → State
+    → Type 0
 Serves f table s = IsServing (meaning_of f) f.blocks.kept f.root f.slot f.inodes f.map f.log table s
 
 -- a system is covered: its root holds the running volume, and no record stands that this root doesn't cover
-pub record IsCovered {S : Type 0} {G : Ghosts S} (f : System S G) (table : ℕ → Option Description) (s : State) : Type 0 where
+pub record IsCovered {S : Type 0} {G : Ghosts S} (f : System S G) (table : ℕ → Option Description)
+    (s : State) : Type 0 where
   pub serves : Serves f table s
   pub no_record : serves.bodies ≡ no_bodies
   pub held : serves.first ≡ serves.running

@@ -1,4 +1,4 @@
-//! Why a consistency point wasn't made.
+//! Why a system refused.
 
 use conspoint::PlanError;
 use thiserror::Error;
@@ -15,4 +15,23 @@ pub enum PointError {
     /// The root has the last generation. Nothing changed.
     #[error("no generation is left")]
     NoGeneration,
+}
+
+/// Why a call wasn't answered. Nothing changed, but for `NotWritten`.
+#[derive(Clone, Copy, Debug, PartialEq, Eq, Error)]
+pub enum CallError {
+    #[error("no memory")]
+    NoMemory,
+    /// A read failed.
+    #[error("a read failed")]
+    NotRead,
+    /// A block that had to be read is outside its format.
+    #[error("a block is outside the format")]
+    Damaged,
+    /// The call's record doesn't go into the log before a consistency point.
+    #[error("the log is full")]
+    LogFull,
+    /// A write failed: of the log is known only what a cut may leave.
+    #[error("a write failed")]
+    NotWritten,
 }

@@ -1,6 +1,6 @@
 //! Records put into the log of a mounted system.
 
-ghost use Rattle.std.specs.Prelude.{◌≡◌, ◌⊎◌, ℕ, Option, OnOk, IsErrOf, IsFalse, length, true};
+ghost use Rattle.std.specs.Prelude.{◌≡◌, ◌≢◌, ◌⊎◌, ◌+◌, ℕ, Option, OnOk, OnErr, IsErrOf, IsFalse, length, true};
 ghost use Rattle.station.specs.Calls.{OnlyWrites};
 ghost use Rattle.station.specs.Moments.{LeavesOnly};
 ghost use Rattle.layout.specs.Record.{KeepsLimits, change_of};
@@ -9,11 +9,14 @@ ghost use Rattle.model.specs.States.{State};
 ghost use Rattle.model.specs.Trees.{Description};
 ghost use Rattle.oplog.specs.LogEnd.{HasRoom, behind, body_of};
 ghost use Rattle.system.specs.Images.{OpensTo};
-ghost use Rattle.system.specs.Logging.{Advances, WouldServe};
+ghost use Rattle.calls.specs.Prepared.{IsReady};
+ghost use Rattle.system.specs.Logging.{Advances, DoesOver, WouldServe};
+ghost use Rattle.system.specs.Serving.{LeavesEither};
 ghost use Rattle.system.specs.Systems.{Serves, meaning_of, state_with};
 
 use crate::System;
-use crate::laws::{cuts_open, records_lead_on};
+use crate::laws::{cuts_open, records_lead_on, served_states_open};
+use calls::{Prepared, commit};
 use layout::Record;
 use oplog::AppendError;
 use station::Station;
@@ -24,7 +27,8 @@ impl<S: Station> System<S> {
     /// stopped, and whether the record counts is known at the next mount.
     pub(crate) fn log_record(&mut self, change: &Record) -> Result<(), AppendError>
         requires { KeepsLimits (change_of change.now) }
-        ensures writes { OnlyWrites (λ e. (e ≡ AppendError.Device) × IsFalse self.old.log.is_stopped)
+        ensures writes { OnlyWrites
+            (λ e. (e ≡ AppendError.Device) × IsFalse self.old.log.is_stopped)
             (meaning_of self.old) (meaning_of self.new) result }
         ensures refused { IsErrOf result AppendError.LogFull ⊎ IsErrOf result AppendError.NoMemory
             → (self.new.blocks ≡ self.old.blocks) × (self.new.log ≡ self.old.log) }
@@ -43,18 +47,61 @@ impl<S: Station> System<S> {
             → Advances self.old.root.geometry.inodes serves.running table (change_of change.now)
             → LeavesOnly (meaning_of self.old) (meaning_of self.new)
             (λ c. OpensTo (meaning_of self.old) s c ⊎ OpensTo (meaning_of self.old)
-            (state_with self.old.root.geometry.inodes (applied (change_of change.now) serves.running)
-            table serves.snapshots) c) }
+            (state_with self.old.root.geometry.inodes
+            (applied (change_of change.now) serves.running) table serves.snapshots) c) }
         ensures logged { (table : ℕ → Option Description) (s : State)
             → (serves : Serves self.old table s)
             → Advances self.old.root.geometry.inodes serves.running table (change_of change.now)
-            → OnOk result (WouldServe self.old self.new (applied (change_of change.now) serves.running) table
-            (state_with self.old.root.geometry.inodes (applied (change_of change.now) serves.running)
-            table serves.snapshots)) }
+            → OnOk result (WouldServe self.old self.new
+            (applied (change_of change.now) serves.running) table
+            (state_with self.old.root.geometry.inodes
+            (applied (change_of change.now) serves.running) table serves.snapshots)) }
     {
         cuts_open();
         records_lead_on();
         self.log
             .append(self.alloc, &mut self.blocks.station, change)
+    }
+
+    /// Logs the record of a prepared change, and puts the change in force. `LogFull` where the log is in its second epoch over the
+    /// root, and a point has to come first, or where the record doesn't fit what is left of the half; that and `NoMemory` change
+    /// nothing. After `Device` the log has stopped.
+    pub(crate) fn log(&mut self, change: &Record, prepared: Prepared) -> Result<(), AppendError>
+        requires fits { KeepsLimits (change_of change.now) }
+        requires ready { IsReady self.old.inodes prepared }
+        ensures writes { OnlyWrites
+            (λ e. (e ≡ AppendError.Device) × IsFalse self.old.log.is_stopped)
+            (meaning_of self.old) (meaning_of self.new) result }
+        ensures refused { IsErrOf result AppendError.LogFull ⊎ IsErrOf result AppendError.NoMemory
+            → (self.new.blocks ≡ self.old.blocks) × (self.new.log ≡ self.old.log) }
+        ensures inodes { OnErr result (self.new.inodes ≡ self.old.inodes) }
+        ensures root { self.new.root ≡ self.old.root }
+        ensures slot { self.new.slot ≡ self.old.slot }
+        ensures map { self.new.map ≡ self.old.map }
+        ensures full { IsErrOf result AppendError.LogFull
+            → (self.old.log.epoch ≢ self.old.root.generation + 1)
+            ⊎ (HasRoom self.old.log (length (body_of (change_of change.now))) → ⊥) }
+        ensures epoch { self.new.log.epoch ≡ self.old.log.epoch }
+        ensures runs { OnOk result (self.new.log.is_stopped ≡ self.old.log.is_stopped) }
+        ensures any_moment { (table : ℕ → Option Description) (s : State)
+            → (serves : Serves self.old table s)
+            → Advances self.old.root.geometry.inodes serves.running table (change_of change.now)
+            → LeavesEither (meaning_of self.old) (meaning_of self.new) s
+            (state_with self.old.root.geometry.inodes
+            (applied (change_of change.now) serves.running) table serves.snapshots) }
+        ensures done { (table : ℕ → Option Description) (s : State)
+            → (serves : Serves self.old table s)
+            → Advances self.old.root.geometry.inodes serves.running table (change_of change.now)
+            → DoesOver self.old serves.running prepared (change_of change.now)
+            → OnOk result (Serves self.new table (state_with self.old.root.geometry.inodes
+            (applied (change_of change.now) serves.running) table serves.snapshots)) }
+    {
+        served_states_open(self);
+        if self.log.epoch() != self.root.generation.epoch_after(1) {
+            return Err(AppendError::LogFull);
+        }
+        self.log_record(change)?;
+        commit(&mut self.inodes, prepared);
+        Ok(())
     }
 }

@@ -1,6 +1,6 @@
 //! Mounting: from a station to a system.
 
-ghost use Rattle.std.specs.Prelude.{◌≡◌, ◌⊎◌, All, List, ℕ, IfErr, IfOk, IsErrOf, IsFalse, MatchResult, None, OnOk};
+ghost use Rattle.std.specs.Prelude.{◌≡◌, ◌⊎◌, List, ℕ, IfErr, IfOk, IsErrOf, IsFalse, MatchResult, None, OnOk};
 ghost use Rattle.station.specs.Images.{Unchanged};
 ghost use Rattle.station.specs.Moments.{Goes, HasGrown, IsSameStation, LeavesJust};
 ghost use Rattle.layout.specs.Log.{LogHolds};
@@ -18,7 +18,6 @@ ghost use Rattle.model.specs.Volumes.{Volume};
 ghost use Rattle.buffers.specs.Reads.{ReadsBlocks};
 ghost use Rattle.loading.specs.Slots.{FitsStation, HasNoRoot};
 ghost use Rattle.oplog.specs.SavedLog.{TellsLog};
-ghost use Rattle.calls.specs.Served.{IsServed};
 ghost use Rattle.system.specs.Images.{OpensTo};
 ghost use Rattle.system.specs.Opening.{FitsRoot, HasFailed, HasImage, HoldsRecords, IsFound, IsOf};
 ghost use Rattle.system.specs.Refusals.{IsDevice, IsOutside};
@@ -134,7 +133,8 @@ fn open_found<S: Station>(
         → HoldsRecords (blocks_of (S.meaning station).seen.disk) found.newest.root
         (S.meaning station).seen.nvram first last snapshots changes
         → MatchResult result (λ f. Serves f (λ d. None)
-        (state_with found.newest.root.geometry.inodes (without_nameless last) (λ d. None) snapshots))
+        (state_with found.newest.root.geometry.inodes (without_nameless last) (λ d. None)
+        snapshots))
         (λ e. IsOutside e.0) }
 {
     mounts_find_volumes();
@@ -158,8 +158,8 @@ fn open_found<S: Station>(
 impl<S: Station> System<S> {
     /// Mounts an image: reads its newest root, what memory is to have of the tree under it, and replays the log over that. It
     /// writes nothing. `NoRoot` comes where neither slot holds a root, `Device` only where a device call failed. Where what the
-    /// station reads opens to a state, Ok gives a system that serves what a mount finds of it, and `Damaged` comes only for a
-    /// record that this version doesn't do. No directory and no file is read, so Ok may come over an image that opens to none.
+    /// station reads opens to a state by records that this version does, Ok gives a system that serves what a mount finds of it,
+    /// and `Damaged` doesn't come. No directory and no file is read, so Ok may come over an image that opens to none.
     pub fn open(alloc: Global, mut station: S) -> Result<System<S>, (OpenError, S)>
         ensures same { MatchResult result
             (λ f. IsSameStation (S.meaning station) (meaning_of f))
@@ -177,8 +177,7 @@ impl<S: Station> System<S> {
             → MatchResult result (λ _. ⊥)
             (λ e. (e.0 ≡ OpenError.NoRoot) ⊎ (e.0 ≡ OpenError.Device)) }
         ensures opens { (S.meaning station).is_honest → (s : State)
-            → (o : OpensTo (S.meaning station) s (S.meaning station).seen)
-            → All IsServed o.changes
+            → OpensTo (S.meaning station) s (S.meaning station).seen
             → MatchResult result (λ f. (t : State) × Forgets s t × Serves f (λ d. None) t)
             (λ e. IsOutside e.0) }
     {

@@ -5,9 +5,11 @@ ghost use Rattle.station.specs.Calls.{Uses};
 ghost use Rattle.station.specs.Moments.{HasGrown, LeavesOnly};
 ghost use Rattle.model.specs.States.{State};
 ghost use Rattle.model.specs.Trees.{Description};
+ghost use Rattle.inofile.specs.Inodes.{IsChanged};
 ghost use Rattle.oplog.specs.declared.log.End.TheVariants.{Unopened};
 ghost use Rattle.system.specs.Errors.{IsRefused};
 ghost use Rattle.system.specs.Images.{OpensTo};
+ghost use Rattle.system.specs.Points.{IsFilled};
 ghost use Rattle.system.specs.Slots as slots;
 ghost use Rattle.system.specs.Systems.{Serves, IsCovered, meaning_of};
 
@@ -31,7 +33,8 @@ fn other_slot(slot: u32) -> u32
 impl<S: Station> System<S> {
     /// Makes a consistency point: a new root holds the running volume and covers all records. What the system serves stays
     /// the same, also at a cut at any moment. Where it is refused, nothing changed; after `NotWritten` the system serves
-    /// nothing any more, but a cut leaves what it served.
+    /// nothing any more, but a cut leaves what it served. `NotPlanned(NoSpace)` comes only where the root leaves fewer blocks free
+    /// than what is stored has, each changed file counted as a whole.
     pub fn point(&mut self) -> Result<(), PointError>
         ensures uses { Uses (meaning_of self.old) (meaning_of self.new) }
         ensures any_moment { (table : ℕ → Option Description) (s : State) → Serves self.old table s
@@ -43,18 +46,27 @@ impl<S: Station> System<S> {
             → IfErr result (λ e. IsRefused e → Serves self.new table s) }
         ensures generation { OnOk result (self.new.root.generation ≡ self.old.log.epoch) }
         ensures log { MatchResult result
-            (λ _. self.new.log ≡ record self.old.log { epoch = self.old.log.epoch + 1; end = Unopened })
+            (λ _. self.new.log
+            ≡ record self.old.log { epoch = self.old.log.epoch + 1; end = Unopened })
             (λ _. self.new.log ≡ self.old.log) }
         ensures written { MatchResult result
             (λ _. (meaning_of self.new).failed_writes ≡ (meaning_of self.old).failed_writes)
             (λ e. IsRefused e
             → (meaning_of self.new).failed_writes ≡ (meaning_of self.old).failed_writes) }
+        ensures reads { OnOk result ((meaning_of self.new).failed_reads
+            ≡ (meaning_of self.old).failed_reads) }
+        ensures unchanged { OnOk result ((n : ℕ) → IsChanged self.new.inodes n → ⊥) }
         ensures device { IsErrOf result PointError.NotWritten
             → HasGrown (meaning_of self.old).failed_writes (meaning_of self.new).failed_writes }
         ensures read { IsErrOf result (PointError.NotPlanned PlanError.Device)
             → HasGrown (meaning_of self.old).failed_reads (meaning_of self.new).failed_reads }
         ensures damaged { (table : ℕ → Option Description) (s : State) → Serves self.old table s
             → IsErrOf result (PointError.NotPlanned PlanError.Damaged) → ⊥ }
+        ensures was_full { IsErrOf result (PointError.NotPlanned PlanError.NoSpace)
+            → IsFilled self.old }
+        // And so it is still: nothing changed.
+        ensures full { IsErrOf result (PointError.NotPlanned PlanError.NoSpace)
+            → IsFilled self.new }
         ensures last { (table : ℕ → Option Description) (s : State) → Serves self.old table s
             → IsErrOf result PointError.NoGeneration → 2 ^ 62 ≤ self.old.log.epoch }
     {

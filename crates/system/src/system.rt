@@ -31,5 +31,16 @@ pub struct System<S: Station> {
     ghost sizes: { inodes.geometry ≡ root.geometry },
     ghost count: { map.count ≡ root.geometry.blocks },
     ghost clean: { IsClean map },
+    ghost fresh: { map.next ≡ 2 },
     ghost is_root: { IsRoot root } by { IsRoot-prop root },
+}
+
+impl<S: Station> System<S> {
+    /// The station as it stands, with no device call.
+    pub fn into_station(self) -> S
+        ensures { result ≡ self.blocks.station }
+    {
+        let System { blocks, .. } = self;
+        blocks.into_station()
+    }
 }

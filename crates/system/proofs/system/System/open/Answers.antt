@@ -27,7 +27,8 @@ returns-in-Ok-clause-device g c =
     c.open_found.ensures.device
 
 pub returns-in-Ok-clause-opens : goal.returns-in-Ok-clause-opens
-returns-in-Ok-clause-opens g c honest s o served =
+returns-in-Ok-clause-opens g c honest s to =
+    let o = to.opens in
     let m = g.S.Station.meaning c.args.station in
     let mid = g.S.Station.meaning c.find.new.station in
     let sized = g.met.S.Station.sized c.args.station honest m.seen (g.met.S.Station.seen_may_be_left c.args.station honest) in
@@ -35,7 +36,7 @@ returns-in-Ok-clause-opens g c honest s o served =
     let is : c.in-Ok.found.newest.root ≡ o.root = c.in-Ok.ensures.only honest o.root (bodies_of o.changes) o.newest fits o.log.log in
     let went = c.find.ensures.goes honest in
     let there : HoldsRecords (blocks_of m.seen.disk) o.root m.seen.nvram o.first o.last o.snapshots o.changes =
-    record { holds = o.holds; log = o.log; served = served; replays = o.replays } in
+    record { holds = o.holds; log = o.log; served = to.served; replays = o.replays } in
     let holds = subst (λ (i : Images). HoldsRecords (blocks_of i.disk) c.in-Ok.found.newest.root i.nvram o.first o.last o.snapshots o.changes) (sym went.seen)
     (subst (λ (r : Root). HoldsRecords (blocks_of m.seen.disk) r m.seen.nvram o.first o.last o.snapshots o.changes) (sym is) there) in
     let just = subst (λ (i : Images). LeavesJust mid i) (sym went.seen) c.in-Ok.ensures.settled in
@@ -47,7 +48,8 @@ returns-in-Ok-clause-opens g c honest s o served =
     (c.open_found.ensures.serves went.honest just of o.first o.last o.snapshots o.changes holds)
 
 pub returns-in-Err-clause-opens : goal.returns-in-Err-clause-opens
-returns-in-Err-clause-opens g c honest s o served =
+returns-in-Err-clause-opens g c honest s to =
+    let o = to.opens in
     let m = g.S.Station.meaning c.args.station in
     let sized = g.met.S.Station.sized c.args.station honest m.seen (g.met.S.Station.seen_may_be_left c.args.station honest) in
     let fits : FitsStation o.root m = record { sectors = o.size; nvram = sym sized.nvram ∙ o.log.log.size } in

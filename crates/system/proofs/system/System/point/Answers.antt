@@ -1,5 +1,5 @@
 use Rattle.std.proofs.Common.{◌≡◌, inl, inr, ℕ, ◌+◌, ◌*◌, ◌<◌, Option, Result, Ok, Err, refl, ap, sym, subst, ◌∙◌, arith}
-use Rattle.std.specs.Prelude.{IfOk, IsFalse}
+use Rattle.std.specs.Prelude.{IfErr, IfOk, IsFalse, OnOk}
 use Rattle.std.specs.BTreeMap.{BTreeMap}
 use Rattle.std.proofs.lemmas.Bool.{cases_lt, false≢true}
 use Rattle.station.specs.Images.{Images}
@@ -24,9 +24,10 @@ use Rattle.images.specs.Roots as roots
 use Rattle.conspoint.specs.Cuts.{HasNewRoot}
 use Rattle.conspoint.specs.Plans.{FitsDisk}
 use Rattle.conspoint.specs.Writes.{AreWhole, writes_of}
-use Rattle.conspoint.specs.declared.error.PlanError.TheVariants.{Damaged}
+use Rattle.conspoint.specs.declared.error.PlanError.TheVariants.{Damaged, NoSpace}
 use Rattle.system.specs.Images.{OpensTo}
 use Rattle.planning.specs.Plans.{PlansEntries}
+use Rattle.system.specs.Memory.{IsClean}
 use Rattle.system.specs.Points.{IsPlannedOver}
 use Rattle.system.specs.Systems.{IsServing, Serves}
 use Rattle.system.specs.declared.error.PointError.TheVariants.{NotWritten}
@@ -34,6 +35,7 @@ use Rattle.planning.specs.declared.points.Point.{Point}
 use Rattle.system.proofs.SystemLaws as served
 use Rattle.system.proofs.PointLaws as points
 use Rattle.system.proofs.SettledLaws as settled
+use Rattle.system.proofs.SpaceLaws.{is_filled, still_filled}
 use Rattle.system.proofs.system.System.point.Given.{Over}
 use Rattle.system.proofs.system.System.point.Goals as goal
 use Rattle.system.proofs.system.System.point.Goals.{In-Ok}
@@ -41,6 +43,13 @@ use Rattle.system.proofs.system.System.point.Goals.{In-Ok}
 -- what holds of an answer that is Ok
 of_ok : {X E : Type 0} (r : Result X E) (x : X) (P : X → Type 0) → r ≡ Ok x → IfOk r P → P x
 of_ok {X = X} {E = E} r x P is h = subst (λ (q : Result X E). IfOk q P) is h
+
+on_ok : {X E : Type 0} {A : Type 0} (r : Result X E) (x : X) → r ≡ Ok x → OnOk r A → A
+on_ok {X = X} {E = E} {A = A} r x is h = subst (λ (q : Result X E). OnOk q A) is h
+
+-- what holds of an error that is Err
+of_err : {X E : Type 0} (r : Result X E) (e : E) (P : E → Type 0) → r ≡ Err e → IfErr r P → P e
+of_err {X = X} {E = E} r e P is h = subst (λ (q : Result X E). IfErr q P) is h
 
 abbrev OnceCovered : Meaning → BTreeMap ℕ Block → InodeFile → BlockMap → LogEnd → (ℕ → Option Description) → State → Root → ℕ → Type 0
 OnceCovered m kept inodes map log table s root slot =
@@ -143,6 +152,44 @@ returns-in-Err-clause-damaged g c = λ table s serves is.
     (points.plannable m f.blocks.kept f.root f.slot f.inodes f.map f.log table s serves here c.other_slot-slot.result c.in-Some.generation c.replace-map.result c.other_slot-slot.ensures epoch c.replace-map.ensures.value)
     (c.in-Err.is ∙ ap Err same)
 
+pub invariant_of-self : goal.invariant_of-self
+invariant_of-self g c =
+    let f = c.args.self.now in
+    let reads = c.plan-map.ensures.reads.reads f.blocks (reads_none (g.S.Station.meaning f.blocks.station)) in
+    let given = c.plan-map.result.0 in
+    record {
+      sectors = reads.same.sectors ∙ f.sectors;
+      nvram = reads.same.nvram_bytes ∙ f.nvram;
+      half = f.half;
+      sizes = f.sizes;
+      count = c.plan-map.ensures.count ∙ ap (λ (x : BlockMap). x.count) c.replace-map.ensures.value ∙ f.count;
+      clean = of_err c.plan-map.result.1 c.in-Err.error (λ e. IsClean given) c.in-Err.is c.plan-map.ensures.given;
+      fresh = of_err c.plan-map.result.1 c.in-Err.error (λ e. given.next ≡ 2) c.in-Err.is c.plan-map.ensures.next;
+      is_root = f.is_root;
+    }
+
+pub returns-in-Err-clause-written : goal.returns-in-Err-clause-written
+returns-in-Err-clause-written g c = λ refused.
+    let f = c.args.self.now in
+    let reads = c.plan-map.ensures.reads.reads f.blocks (reads_none (g.S.Station.meaning f.blocks.station)) in
+    reads.writes
+
+pub returns-in-Err-clause-was_full : goal.returns-in-Err-clause-was_full
+returns-in-Err-clause-was_full g c = λ is.
+    let f = c.args.self.now in
+    let same : c.in-Err.error ≡ NoSpace = cc in
+    is_filled f.root f.inodes f.map c.replace-map.result c.replace-map.ensures.value f.fresh (c.plan-map.ensures.full (c.in-Err.is ∙ ap Err same))
+
+pub returns-in-Err-clause-full : goal.returns-in-Err-clause-full
+returns-in-Err-clause-full g c = λ is.
+    let f = c.args.self.now in
+    let same : c.in-Err.error ≡ NoSpace = cc in
+    let given = c.plan-map.result.0 in
+    still_filled f.root f.inodes f.map given f.fresh (of_err c.plan-map.result.1 c.in-Err.error (λ e. given.next ≡ 2) c.in-Err.is c.plan-map.ensures.next)
+    (c.plan-map.ensures.count ∙ ap (λ (x : BlockMap). x.count) c.replace-map.ensures.value)
+    (λ b. c.plan-map.ensures.settled b ∙ ap (λ (x : BlockMap). settled_at x.parts.items b) c.replace-map.ensures.value)
+    (is_filled f.root f.inodes f.map c.replace-map.result c.replace-map.ensures.value f.fresh (c.plan-map.ensures.full (c.in-Err.is ∙ ap Err same)))
+
 -- ---- a write failed, or no memory was left
 
 pub invariant_of-self-in-Err-carry_out : goal.invariant_of-self-in-Err-carry_out
@@ -158,6 +205,7 @@ invariant_of-self-in-Err-carry_out g c =
       sizes = f.sizes;
       count = c.give_up.ensures.count ∙ c.plan-map.ensures.count ∙ ap (λ (x : BlockMap). x.count) c.replace-map.ensures.value ∙ f.count;
       clean = λ b. c.give_up.ensures.entries b ∙ sym (c.give_up.ensures.settled b);
+      fresh = c.give_up.ensures.next;
       is_root = f.is_root;
     }
 
@@ -221,6 +269,7 @@ invariant_of-self-in-Ok-carry_out g c =
       sizes = c.settle-in-Ok-carry_out.ensures.geometry ∙ f.sizes ∙ sym sizes;
       count = c.settle.ensures.count ∙ c.plan-map.ensures.count ∙ ap (λ (x : BlockMap). x.count) c.replace-map.ensures.value ∙ f.count ∙ ap (λ (x : Sizes). x.blocks) (sym sizes);
       clean = λ b. c.settle.ensures.entries b ∙ sym (c.settle.ensures.settled b);
+      fresh = c.settle.ensures.next;
       is_root = subst IsRoot (sym root) (of_ok c.plan-map.result.1 c.in-Ok.point (λ (x : Point). IsRoot x.root) c.in-Ok.is c.plan-map.ensures.root);
     }
 
@@ -242,6 +291,10 @@ returns-in-Ok-carry_out-clause-written g c =
     let f = c.args.self.now in
     let reads = c.plan-map.ensures.reads.reads f.blocks (reads_none (g.S.Station.meaning f.blocks.station)) in
     c.in-Ok-carry_out.ensures.writes.ok ∙ reads.writes
+
+pub returns-in-Ok-carry_out-clause-reads : goal.returns-in-Ok-carry_out-clause-reads
+returns-in-Ok-carry_out-clause-reads g c =
+    c.carry_out.ensures.writes.reads ∙ on_ok c.plan-map.result.1 c.in-Ok.point c.in-Ok.is c.plan-map.ensures.reads.counted
 
 pub returns-in-Ok-carry_out-clause-any_moment : goal.returns-in-Ok-carry_out-clause-any_moment
 returns-in-Ok-carry_out-clause-any_moment g c = λ table s serves.
@@ -295,8 +348,8 @@ returns-in-Ok-carry_out-clause-covered g c = λ table s serves.
     let done : OnceCovered now kept c.settle-in-Ok-carry_out.new.self c.settle.new.self c.go_on.new.self table s new p.slot = (
       settled.settled laws m f.blocks.kept f.root f.slot f.inodes f.map f.log table s serves f.sectors p new plan now whole has images holds
           kept c.settle-in-Ok-carry_out.new.self c.settle.new.self c.go_on.new.self honest c.in-Ok-carry_out.ensures.just shown newest stands goes memory,
-      refl,
-      refl,
+      refl {a = no_bodies},
+      refl {a = serves.running},
     ) in
     let slot : p.slot ≡ c.other_slot-slot.result = of_ok c.plan-map.result.1 c.in-Ok.point (λ (x : Point). x.plan.slot ≡ c.other_slot-slot.result) c.in-Ok.is c.plan-map.ensures.slot in
     let there = subst (λ (r : Root). OnceCovered now kept c.settle-in-Ok-carry_out.new.self c.settle.new.self c.go_on.new.self table s r c.other_slot-slot.result) (sym c.in-Ok-carry_out.ensures.root)

@@ -1,0 +1,64 @@
+-- A system that has nothing beside its root.
+use Rattle.std.proofs.Common.{◌≡◌, ℕ, ◌+◌, ◌≤◌, ◌^◌, List, [], ◌∷◌, Option, refl, ap, sym, subst, ◌∙◌, arith, inl, inr}
+use Rattle.std.specs.Prelude.{map}
+use Rattle.std.specs.BTreeMap.{BTreeMap}
+use Rattle.station.specs.Moments.{Meaning, MayLeave}
+use Rattle.layout.specs.Limits.{Sizes}
+use Rattle.layout.specs.Log.{half_of}
+use Rattle.layout.specs.Places.{blocks_of}
+use Rattle.layout.specs.Record.{Change, change_bytes}
+use Rattle.layout.specs.declared.inode.Inode.{Inode}
+use Rattle.layout.specs.declared.root.Root.{Root}
+use Rattle.model.specs.States.{State}
+use Rattle.model.specs.Trees.{Description}
+use Rattle.model.specs.Volumes.{Volume}
+use Rattle.buffers.specs.declared.block.Block.{Block}
+use Rattle.blockmap.specs.declared.map.BlockMap.{BlockMap}
+use Rattle.images.specs.Contents.{HoldsVolume}
+use Rattle.images.specs.Roots.{whole}
+use Rattle.inofile.specs.Inodes.{HasNoChange}
+use Rattle.inofile.specs.Settled.{held_content}
+use Rattle.inofile.specs.Volumes.{IsVolumeOf}
+use Rattle.inofile.specs.declared.inode_file.InodeFile.{InodeFile}
+use Rattle.loading.specs.Images.{inodes_of}
+use Rattle.oplog.specs.LogEnd.{LogEnd, EndsAt, all_of, no_bodies}
+use Rattle.oplog.specs.declared.log.End.{End}
+use Rattle.oplog.specs.declared.log.End.TheVariants.{Unopened}
+use Rattle.system.specs.Laws.{RootLaws}
+use Rattle.system.specs.Systems.{IsServing}
+
+none_spelled : (changes : List Change) → [] ≡ map change_bytes changes → changes ≡ []
+none_spelled [] is = refl
+none_spelled (c ∷ changes) is = absurd (cc)
+
+module _ (m : Meaning) (kept : BTreeMap ℕ Block) (root : Root) (slot : ℕ) (inodes : InodeFile) (map_now : BlockMap) (log : LogEnd) (table : ℕ → Option Description) (s : State)
+    (serves : IsServing m kept root slot inodes map_now log table s) where
+  -- no record stands in an empty log
+  pub no_record : MayLeave m m.seen → log.epoch ≡ root.generation + 1 → log.end ≡ Unopened → serves.bodies ≡ no_bodies
+  no_record seen next unopened =
+      let stands = (serves.left serves.honest m.seen seen).log_stands in
+      let newest = (subst (λ (e : End). EndsAt e log.epoch (half_of log.half log.epoch m.seen.nvram) serves.bodies.newest) unopened stands.ends).1 in
+      let older : serves.bodies.older ≡ [] = elim stands.other [
+        | inl first ↦ first.2
+        | inr second ↦ let after = second.0 in absurd (omega (arith, after, next))
+      ] in
+      λ i. record { older = older i; newest = newest i }
+
+  pub no_change : serves.bodies ≡ no_bodies → serves.replayed.changes ≡ []
+  no_change none = none_spelled serves.replayed.changes (sym (ap all_of none) ∙ serves.replayed.spelled)
+
+  -- what memory stands for is settled
+  pub settled : RootLaws → inodes.geometry ≡ root.geometry
+      → ((count : ℕ) (disk : ℕ → List ℕ) (settled : ℕ → Inode) (s : InodeFile) (v w : Volume) → s.geometry.inodes ≤ 2 ^ 32 → IsVolumeOf count disk settled s v → HasNoChange s
+      → HoldsVolume s.geometry.inodes (λ n. held_content disk (settled n)) w → w ≡ v)
+      → HasNoChange inodes → serves.first ≡ serves.running
+  settled laws sizes only none =
+      let d = blocks_of m.seen.disk in
+      let is = serves.under.newest.there.root in
+      let ready = laws.readable d root serves.first serves.snapshots serves.under.holds in
+      let most = is.head.sizes.most_inodes in
+      let few : root.geometry.inodes ≤ 2 ^ 32 = omega (arith, most) in
+      only root.geometry.blocks d (inodes_of (whole d root).active) inodes serves.running serves.first
+      (subst (λ (g : Sizes). g.inodes ≤ 2 ^ 32) (sym sizes) few) serves.memory.stands none
+      (subst (λ (g : Sizes). HoldsVolume g.inodes (λ n. held_content d (inodes_of (whole d root).active n)) serves.first) (sym sizes)
+      (laws.held d root serves.first is ready serves.under.holds.holds))

@@ -1,0 +1,201 @@
+-- What looking into an image does to a system that serves a state, and what a call comes to then.
+use Rattle.std.proofs.Common.{◌≡◌, ◌≢◌, ◌⊎◌, ◌*◌, ◌/◌, inl, ℕ, List, Option, Result, Ok, Err, refl, ap, sym, subst, ◌∙◌, arith}
+use Rattle.std.specs.Prelude.{IsFalse, IsTrue, IfErr, false}
+use Rattle.std.specs.BTreeMap.{BTreeMap}
+use Rattle.station.specs.Images.{Images}
+use Rattle.station.specs.Calls.{Uses}
+use Rattle.station.specs.Moments.{Meaning, EachCut, HasGrown}
+use Rattle.station.specs.declared.station.Station.{Ghosts}
+use Rattle.station.proofs.Moments.{each_unchanged, leaves_unchanged, weaker}
+use Rattle.layout.specs.Places.{Blocks, blocks_of}
+use Rattle.layout.specs.declared.root.Root.{Root}
+use Rattle.layout.specs.Limits.{Sizes}
+use Rattle.layout.specs.declared.inode.Inode.{Inode}
+use Rattle.model.specs.Reading.{lists}
+use Rattle.model.specs.Room.{nothing}
+use Rattle.model.specs.States.{State}
+use Rattle.model.specs.Trees.{Description, Tree}
+use Rattle.model.specs.Volumes.{Volume, IsVolume, tree_of}
+use Rattle.model.specs.declared.command.PathCall.{PathCall}
+use Rattle.model.specs.declared.command.PathCall.TheVariants as path_calls
+use Rattle.model.specs.declared.errno.Errno.{Errno}
+use Rattle.model.specs.declared.errno.Errno.TheVariants.{EIO}
+use Rattle.model.specs.declared.reply.Reply.{Reply}
+use Rattle.model.specs.declared.reply.Reply.TheVariants.{Names, Refused}
+use Rattle.calls.specs.Listing.{reply_of}
+use Rattle.calls.specs.Refusals.{is_path_refusal}
+use Rattle.buffers.specs.Disks.{ShowsDisk, ReadsOn}
+use Rattle.buffers.specs.declared.block.Block.{Block}
+use Rattle.blockmap.specs.declared.map.BlockMap.{BlockMap}
+use Rattle.images.specs.Roots.{whole}
+use Rattle.inofile.specs.Volumes.{IsVolumeOf}
+use Rattle.inofile.specs.declared.inode_file.InodeFile.{InodeFile}
+use Rattle.loading.specs.Images.{inodes_of}
+use Rattle.oplog.specs.LogEnd.{LogEnd}
+use Rattle.blocktree.specs.declared.error.ReadError.{ReadError}
+use Rattle.blocktree.specs.declared.error.ReadError.TheVariants as read_errors
+use Rattle.system.specs.Errors.{call_error}
+use Rattle.system.specs.Images.{OpensTo, IsUnder, IsLeft}
+use Rattle.system.specs.Memory.{IsInMemory}
+use Rattle.system.specs.Serving.{Handles, TellsNoFault, ServesState, WouldCall}
+use Rattle.system.specs.Systems.{IsServing, meaning_of}
+use Rattle.system.specs.declared.error.CallError.{CallError}
+use Rattle.system.specs.declared.error.CallError.TheVariants as call_errors
+use Rattle.system.specs.declared.error.CallError.TheVariants.{Damaged, LogFull, NotRead, NotWritten}
+use Rattle.system.specs.declared.system.System.{System}
+
+-- memory over the tree of a root
+abbrev pub OverRoot : Blocks → Root → InodeFile → Volume → Type 0
+OverRoot disk root inodes v = IsVolumeOf root.geometry.blocks disk (inodes_of (whole disk root).active) inodes v
+
+-- objects came into memory, and nothing was done but reading
+abbrev pub looked : (m new : Meaning) (kept now_kept : BTreeMap ℕ Block) (root : Root) (slot : ℕ) (inodes now_inodes : InodeFile) (map : BlockMap) (log : LogEnd) (table : ℕ → Option Description) (s : State)
+    → IsServing m kept root slot inodes map log table s → ReadsOn m new → ((disk : ℕ → List ℕ) → ShowsDisk m kept disk → ShowsDisk new now_kept disk)
+    → ((v : Volume) → OverRoot (blocks_of m.seen.disk) root inodes v → OverRoot (blocks_of m.seen.disk) root now_inodes v) → IsServing new now_kept root slot now_inodes map log table s
+looked m new kept now_kept root slot inodes now_inodes map log table s serves reads shows stays =
+    let went = reads.goes serves.honest in
+    let disk : m.seen.disk ≡ new.seen.disk = sym (ap (λ (i : Images). i.disk) went.seen) in
+    record {
+      honest = went.honest;
+      shows = subst (λ (d : ℕ → List ℕ). ShowsDisk new now_kept (blocks_of d)) disk (shows (blocks_of m.seen.disk) serves.shows);
+      first = serves.first;
+      snapshots = serves.snapshots;
+      under = subst (IsUnder slot root serves.first serves.snapshots) disk serves.under;
+      bodies = serves.bodies;
+      left = subst (λ (d : ℕ → List ℕ). EachCut new (IsLeft root log serves.bodies d)) disk
+          (each_unchanged m new (IsLeft root log serves.bodies m.seen.disk) reads.same serves.left reads.goes);
+      running = serves.running;
+      mounted = serves.mounted;
+      replayed = serves.replayed;
+      memory = subst (λ (d : ℕ → List ℕ). IsInMemory (blocks_of d) root now_inodes map serves.running) disk (record {
+        stands = stays serves.running serves.memory.stands;
+        volume = serves.memory.volume;
+        entries = serves.memory.entries;
+      });
+      goes = serves.goes;
+      state = serves.state;
+    }
+
+pub eighth : (n b : ℕ) → n ≡ 8 * b → n / 8 ≡ b
+eighth n b is = omega arith
+
+-- the same, where memory is spoken of as a layer below does
+abbrev pub looked_on : (m new : Meaning) (kept now_kept : BTreeMap ℕ Block) (root : Root) (slot : ℕ) (inodes now_inodes : InodeFile) (map : BlockMap) (log : LogEnd) (table : ℕ → Option Description) (s : State)
+    → m.sectors ≡ 8 * root.geometry.blocks → ReadsOn m new → ((disk : ℕ → List ℕ) → ShowsDisk m kept disk → ShowsDisk new now_kept disk)
+    → ((disk : ℕ → List ℕ) (settled : ℕ → Inode) (v : Volume) → ShowsDisk m kept disk → IsVolumeOf (m.sectors / 8) disk settled inodes v → IsVolumeOf (new.sectors / 8) disk settled now_inodes v)
+    → IsServing m kept root slot inodes map log table s → IsServing new now_kept root slot now_inodes map log table s
+looked_on m new kept now_kept root slot inodes now_inodes map log table s sectors reads shows stays serves =
+    let d = blocks_of m.seen.disk in
+    let settled = inodes_of (whole d root).active in
+    let before : m.sectors / 8 ≡ root.geometry.blocks = eighth m.sectors root.geometry.blocks sectors in
+    let after : new.sectors / 8 ≡ root.geometry.blocks = eighth new.sectors root.geometry.blocks (reads.same.sectors ∙ sectors) in
+    looked m new kept now_kept root slot inodes now_inodes map log table s serves reads shows (λ v over.
+    subst (λ (n : ℕ). IsVolumeOf n d settled now_inodes v) after
+    (stays d settled v serves.shows (subst (λ (n : ℕ). IsVolumeOf n d settled inodes v) (sym before) over)))
+
+-- what a system that serves a state tells a layer below of its volume
+pub its_volume : {S : Type 0} {G : Ghosts S} (f : System S G) (s : State) → (serves : ServesState f s)
+    → IsVolumeOf ((meaning_of f).sectors / 8) (blocks_of (meaning_of f).seen.disk) (inodes_of (whole (blocks_of (meaning_of f).seen.disk) f.root).active) f.inodes serves.running
+    × IsVolume f.inodes.geometry.inodes serves.running
+its_volume f s serves =
+    let d = blocks_of (meaning_of f).seen.disk in
+    let settled = inodes_of (whole d f.root).active in (
+      subst (λ (n : ℕ). IsVolumeOf n d settled f.inodes serves.running) (sym (eighth (meaning_of f).sectors f.root.geometry.blocks f.sectors)) serves.memory.stands,
+      subst (λ (g : Sizes). IsVolume g.inodes serves.running) (sym f.sizes) serves.memory.volume,
+    )
+
+-- what is listed of a system's volume is listed of the state that it serves
+pub listed : {S : Type 0} {G : Ghosts S} (f : System S G) (s : State) (serves : ServesState f s) (path : List ℕ) (r : Result (List (List ℕ)) Errno) (reply : Reply) → reply_of r ≡ reply
+    → lists (tree_of serves.running s.tree.descriptors) path (reply_of r) (tree_of serves.running s.tree.descriptors) nothing → WouldCall s (path_calls.List path) reply s nothing
+listed f s serves path r reply is told =
+    let tree : s.tree ≡ tree_of serves.running s.tree.descriptors = ap (λ (u : State). u.tree) serves.state in (
+      subst (λ (t : Tree). lists t path reply t nothing) (sym tree)
+          (subst (λ (x : Reply). lists (tree_of serves.running s.tree.descriptors) path x (tree_of serves.running s.tree.descriptors) nothing) is told),
+      refl,
+    )
+
+-- a refusal of the call's own
+pub own_refusal : {T : Type 0} (r : Result T Errno) (errno : Errno) → r ≡ Err errno → IfErr r (λ e. IsTrue (is_path_refusal e)) → TellsNoFault (Refused errno)
+own_refusal {T} r errno is own same =
+    let here : IsTrue (is_path_refusal errno) = subst (λ (x : Result T Errno). IfErr x (λ e. IsTrue (is_path_refusal e))) is own in
+    let it : errno ≡ EIO = cc in
+    not_true (subst (λ (e : Errno). IsTrue (is_path_refusal e)) it here)
+  where
+    not_true : IsTrue false → ⊥
+    not_true is = cc
+
+pub names_refuse_nothing : (names : List (List ℕ)) → TellsNoFault (Names names)
+names_refuse_nothing names is = cc
+
+module _ {S : Type 0} {G : Ghosts S} (old new : System S G) (call : PathCall) (reads : ReadsOn (meaning_of old) (meaning_of new))
+    (log : new.log ≡ old.log) (stays : (s : State) → ServesState old s → ServesState new s) where
+  read_uses : Uses (meaning_of old) (meaning_of new)
+  read_uses = record { same = reads.same; reads = reads.reads; writes = inl reads.writes }
+
+  runs_on : IsFalse old.log.is_stopped → IsFalse new.log.is_stopped
+  runs_on runs = subst (λ (l : LogEnd). IsFalse l.is_stopped) (sym log) runs
+
+  -- a call that only reads was answered
+  pub answered : (reply : Reply) → (meaning_of new).failed_reads ≡ (meaning_of old).failed_reads → TellsNoFault reply
+      → ((s : State) → ServesState old s → EachCut (meaning_of old) (OpensTo (meaning_of old) s)) → ((s : State) → ServesState old s → WouldCall s call reply s nothing) → Handles old new call (Ok reply)
+  answered reply same own opens told =
+      let m = meaning_of old in
+      let n = meaning_of new in
+      record {
+        uses = read_uses;
+        no_fault = own;
+        read = same;
+        not_read = λ is. cc;
+        written = reads.writes;
+        not_written = λ is. cc;
+        epoch = ap (λ (l : LogEnd). l.epoch) log;
+        runs = runs_on;
+        kept = tt;
+        serves = λ s served. tt;
+        done = λ s served. record {
+          after = s;
+          need = nothing;
+          step = told s served;
+          serves = stays s served;
+          leaves = weaker m n (OpensTo m s) (λ c. OpensTo m s c ⊎ OpensTo m s c) (leaves_unchanged m n (OpensTo m s) (opens s served) reads.goes) (λ c here. inl here);
+        };
+        broken = λ s served is. cc;
+        full = λ s served is. cc;
+        fits = λ s served empty is. cc;
+        damaged = λ s served is. cc;
+      }
+
+  -- a call wasn't answered, and nothing was written
+  pub unanswered : (e : CallError) → e ≢ NotWritten → e ≢ LogFull → (e ≡ NotRead → HasGrown (meaning_of old).failed_reads (meaning_of new).failed_reads)
+      → ((s : State) → ServesState old s → e ≡ Damaged → ⊥) → Handles old new call (Err e)
+  unanswered e wrote room fault damaged = record {
+    uses = read_uses;
+    no_fault = tt;
+    read = λ is. absurd (room is);
+    not_read = λ is. fault (error_is e NotRead (Err e) (Err NotRead) refl refl is);
+    written = λ _. reads.writes;
+    not_written = λ is. absurd (wrote (error_is e NotWritten (Err e) (Err NotWritten) refl refl is));
+    epoch = ap (λ (l : LogEnd). l.epoch) log;
+    runs = λ runs _. runs_on runs;
+    kept = λ _. reads.goes;
+    serves = λ s served _. stays s served;
+    done = λ s served. tt;
+    broken = λ s served is. absurd (wrote (error_is e NotWritten (Err e) (Err NotWritten) refl refl is));
+    full = λ s served is. absurd (room (error_is e LogFull (Err e) (Err LogFull) refl refl is));
+    fits = λ s served empty is. room (error_is e LogFull (Err e) (Err LogFull) refl refl is);
+    damaged = λ s served is. damaged s served (error_is e Damaged (Err e) (Err Damaged) refl refl is);
+  }
+    where
+      error_is : (x y : CallError) (r q : Result Reply CallError) → r ≡ Err x → q ≡ Err y → r ≡ q → x ≡ y
+      error_is x y r q first second is = cc
+
+  -- because a read was refused
+  pub unanswered_read : (error : ReadError) (e : CallError) → e ≡ call_error error → (error ≡ read_errors.Device → HasGrown (meaning_of old).failed_reads (meaning_of new).failed_reads)
+      → ((s : State) → ServesState old s → error ≡ read_errors.Damaged → ⊥) → Handles old new call (Err e)
+  unanswered_read error e is fault damaged = subst (λ (x : CallError). Handles old new call (Err x)) (sym is) (by_case error fault damaged)
+    where
+      by_case : (error : ReadError) → (error ≡ read_errors.Device → HasGrown (meaning_of old).failed_reads (meaning_of new).failed_reads)
+          → ((s : State) → ServesState old s → error ≡ read_errors.Damaged → ⊥) → Handles old new call (Err (call_error error))
+      by_case read_errors.NoMemory fault damaged = unanswered call_errors.NoMemory (λ is. cc) (λ is. cc) (λ is. cc) (λ s served is. cc)
+      by_case read_errors.Device fault damaged = unanswered call_errors.NotRead (λ is. cc) (λ is. cc) (λ is. fault refl) (λ s served is. cc)
+      by_case read_errors.Damaged fault damaged = unanswered call_errors.Damaged (λ is. cc) (λ is. cc) (λ is. cc) (λ s served is. damaged s served refl)

@@ -1,0 +1,94 @@
+-- What calls by a path do to a system.
+use Rattle.std.specs.Prelude.{◌≡◌, ◌⊎◌, ◌+◌, ◌≢◌, IsFalse, Result, IfOk, IfErr, IsErrOf, MatchResult}
+use Rattle.station.specs.Images.{Unchanged}
+use Rattle.station.specs.Calls.{Uses}
+use Rattle.station.specs.Moments.{Meaning, Goes, HasGrown, LeavesOnly}
+use Rattle.station.specs.declared.station.Station.{Ghosts}
+use Rattle.model.specs.declared.command.PathCall.{PathCall}
+use Rattle.model.specs.declared.errno.Errno.TheVariants.{EIO}
+use Rattle.model.specs.declared.reply.Reply.{Reply}
+use Rattle.model.specs.declared.reply.Reply.TheVariants.{Refused}
+use Rattle.model.specs.Room.{Need, nothing}
+use Rattle.model.specs.States.{State}
+use Rattle.model.specs.Steps.{calls, on_tree}
+use Rattle.oplog.specs.declared.log.End.TheVariants.{Unopened}
+use Rattle.system.specs.Images.{OpensTo}
+use Rattle.system.specs.Systems.{Serves, meaning_of}
+use Rattle.system.specs.declared.error.CallError.{CallError}
+use Rattle.system.specs.declared.error.CallError.TheVariants.{Damaged, LogFull, NotRead, NotWritten}
+use Rattle.system.specs.declared.system.System.{System}
+
+-- a system serves a state, with the descriptors that this has
+abbrev pub ServesState : {S : Type 0} {G : Ghosts S} → System S G → State → Type 0
+ServesState f s = Serves f s.tree.descriptors s
+
+-- what a call on a state would be answered and would leave, where nothing comes in its way
+abbrev pub WouldCall : State → PathCall → Reply → State → Need → Type 0
+WouldCall s call = on_tree s (calls s.inodes s.tree call)
+
+-- the call would change something
+pub record WouldChange (s : State) (call : PathCall) : Type 0 where
+  pub reply : Reply
+  pub after : State
+  pub need : Need
+  pub step : WouldCall s call reply after need
+  pub needs : need ≢ nothing
+
+-- the reply doesn't tell of a device call that failed
+abbrev pub TellsNoFault : Reply → Type 0
+TellsNoFault reply = reply ≢ Refused EIO
+
+-- From one meaning to another a cut at any moment leaves the one state or the other.
+abbrev pub LeavesEither : Meaning → Meaning → State → State → Type 0
+LeavesEither old new s t = LeavesOnly old new (λ c. OpensTo old s c ⊎ OpensTo old t c)
+
+-- A call was done on a system at a state: it is answered so, and the system serves the state that it leaves.
+pub record IsCalled {S : Type 0} {G : Ghosts S} (old new : System S G) (s : State) (call : PathCall)
+    (reply : Reply) : Type 0 where
+  pub after : State
+  pub need : Need
+  pub step : WouldCall s call reply after need
+  pub serves : ServesState new after
+  pub leaves : LeavesEither (meaning_of old) (meaning_of new) s after
+
+-- A call on a system at a state was cut short: a cut leaves that state, or one that the call would leave.
+pub record IsBrokenOff {S : Type 0} {G : Ghosts S} (old new : System S G) (s : State)
+    (call : PathCall) : Type 0 where
+  pub reply : Reply
+  pub after : State
+  pub need : Need
+  pub step : WouldCall s call reply after need
+  pub leaves : LeavesEither (meaning_of old) (meaning_of new) s after
+
+-- the log has no record that the root doesn't cover, and its next epoch isn't opened
+pub record HasEmptyLog {S : Type 0} {G : Ghosts S} (f : System S G) : Type 0 where
+  pub epoch : f.log.epoch ≡ f.root.generation + 1
+  pub end : f.log.end ≡ Unopened
+
+-- What a call by a path does to a system: all that is promised of it.
+pub record Handles {S : Type 0} {G : Ghosts S} (old new : System S G) (call : PathCall)
+    (result : Result Reply CallError) : Type 0 where
+  pub uses : Uses (meaning_of old) (meaning_of new)
+  pub no_fault : IfOk result TellsNoFault
+  pub read : MatchResult result
+      (λ _. (meaning_of new).failed_reads ≡ (meaning_of old).failed_reads)
+      (λ e. e ≡ LogFull → (meaning_of new).failed_reads ≡ (meaning_of old).failed_reads)
+  pub not_read : IsErrOf result NotRead
+      → HasGrown (meaning_of old).failed_reads (meaning_of new).failed_reads
+  pub written : MatchResult result
+      (λ _. (meaning_of new).failed_writes ≡ (meaning_of old).failed_writes)
+      (λ e. e ≢ NotWritten → (meaning_of new).failed_writes ≡ (meaning_of old).failed_writes)
+  pub not_written : IsErrOf result NotWritten → IsFalse old.log.is_stopped
+      → HasGrown (meaning_of old).failed_writes (meaning_of new).failed_writes
+  pub epoch : new.log.epoch ≡ old.log.epoch
+  pub runs : IsFalse old.log.is_stopped → MatchResult result
+      (λ _. IsFalse new.log.is_stopped) (λ e. e ≢ NotWritten → IsFalse new.log.is_stopped)
+  pub kept : IfErr result (λ e. e ≢ NotWritten → Goes Unchanged (meaning_of old) (meaning_of new))
+  pub serves : (s : State) → ServesState old s
+      → IfErr result (λ e. e ≢ NotWritten → ServesState new s)
+  pub done : (s : State) → ServesState old s → IfOk result (IsCalled old new s call)
+  pub broken : (s : State) → ServesState old s → IsErrOf result NotWritten
+      → IsBrokenOff old new s call
+  pub full : (s : State) → ServesState old s → IsErrOf result LogFull → WouldChange s call
+  pub fits : (s : State) → ServesState old s → HasEmptyLog old → IsErrOf result LogFull → ⊥
+  pub damaged : (s : State) → ServesState old s → IsErrOf result Damaged → ⊥

@@ -1,0 +1,120 @@
+//! Calls by paths, served on a mounted system.
+
+ghost use Rattle.std.specs.Prelude.{◌≡◌, ◌≢◌, IsFalse, IfOk, IfErr, IsErrOf, MatchResult};
+ghost use Rattle.station.specs.Calls.{Uses};
+ghost use Rattle.station.specs.Images.{Unchanged};
+ghost use Rattle.station.specs.Moments.{Goes, HasGrown};
+ghost use Rattle.model.specs.Served.{IsServed};
+ghost use Rattle.model.specs.States.{State};
+ghost use Rattle.model.specs.declared.command.Command.TheVariants as commands;
+ghost use Rattle.model.specs.declared.command.PathCall.TheVariants as path_calls;
+ghost use Rattle.system.specs.Errors.{call_error, log_error};
+ghost use Rattle.system.specs.Serving.{Handles, HasEmptyLog, IsBrokenOff, IsCalled, ServesState, TellsNoFault, WouldChange};
+ghost use Rattle.system.specs.Systems.{meaning_of};
+
+use crate::laws::served_states_open;
+use crate::{CallError, System};
+use blocktree::ReadError;
+use calls::Making;
+use model::{Mode, PathCall, Reply};
+use oplog::AppendError;
+use station::Station;
+
+/// A failed read, to who gave the call.
+fn call_error(error: ReadError) -> CallError
+    ensures { result ≡ call_error error }
+{
+    match error {
+        ReadError::NoMemory => CallError::NoMemory,
+        ReadError::Device => CallError::NotRead,
+        ReadError::Damaged => CallError::Damaged,
+    }
+}
+
+/// A failed append, to who gave the call.
+fn log_error(error: AppendError) -> CallError
+    ensures { result ≡ log_error error }
+{
+    match error {
+        AppendError::NoMemory => CallError::NoMemory,
+        AppendError::Device => CallError::NotWritten,
+        AppendError::LogFull => CallError::LogFull,
+    }
+}
+
+impl<S: Station> System<S> {
+    /// Serves a call by a path: answers it where it changes nothing, or else logs its record and puts it in force; so far
+    /// `list` and `mkdir`. `LogFull` only for a call that would change something, where a consistency point has to come first.
+    /// After an error nothing has changed, but for `NotWritten`: then a cut leaves the state before the call or the one after it.
+    pub fn call(&mut self, call: &PathCall) -> Result<Reply, CallError>
+        requires { IsServed (commands.Path call.now) }
+        ensures uses { Uses (meaning_of self.old) (meaning_of self.new) }
+        ensures no_fault { IfOk result TellsNoFault }
+        ensures read { MatchResult result
+            (λ _. (meaning_of self.new).failed_reads ≡ (meaning_of self.old).failed_reads)
+            (λ e. e ≡ CallError.LogFull
+            → (meaning_of self.new).failed_reads ≡ (meaning_of self.old).failed_reads) }
+        ensures not_read { IsErrOf result CallError.NotRead
+            → HasGrown (meaning_of self.old).failed_reads (meaning_of self.new).failed_reads }
+        ensures written { MatchResult result
+            (λ _. (meaning_of self.new).failed_writes ≡ (meaning_of self.old).failed_writes)
+            (λ e. e ≢ CallError.NotWritten
+            → (meaning_of self.new).failed_writes ≡ (meaning_of self.old).failed_writes) }
+        ensures not_written { IsErrOf result CallError.NotWritten → IsFalse self.old.log.is_stopped
+            → HasGrown (meaning_of self.old).failed_writes (meaning_of self.new).failed_writes }
+        ensures epoch { self.new.log.epoch ≡ self.old.log.epoch }
+        ensures runs { IsFalse self.old.log.is_stopped → MatchResult result
+            (λ _. IsFalse self.new.log.is_stopped)
+            (λ e. e ≢ CallError.NotWritten → IsFalse self.new.log.is_stopped) }
+        ensures kept { IfErr result (λ e. e ≢ CallError.NotWritten
+            → Goes Unchanged (meaning_of self.old) (meaning_of self.new)) }
+        ensures serves { (s : State) → ServesState self.old s
+            → IfErr result (λ e. e ≢ CallError.NotWritten → ServesState self.new s) }
+        ensures done { (s : State) → ServesState self.old s
+            → IfOk result (IsCalled self.old self.new s call.now) }
+        ensures broken { (s : State) → ServesState self.old s
+            → IsErrOf result CallError.NotWritten → IsBrokenOff self.old self.new s call.now }
+        ensures full { (s : State) → ServesState self.old s
+            → IsErrOf result CallError.LogFull → WouldChange s call.now }
+        ensures fits { (s : State) → ServesState self.old s → HasEmptyLog self.old
+            → IsErrOf result CallError.LogFull → ⊥ }
+        ensures damaged { (s : State) → ServesState self.old s
+            → IsErrOf result CallError.Damaged → ⊥ }
+    {
+        match call {
+            PathCall::List { path } => self.list(path.as_bytes()),
+            PathCall::Mkdir { path, mode } => self.make_directory(path.as_bytes(), *mode),
+            _ => unreachable!(),
+        }
+    }
+
+    // The names in the directory that a path leads to.
+    fn list(&mut self, path: &[u8]) -> Result<Reply, CallError>
+        ensures { Handles self.old self.new (path_calls.List path.now) result }
+    {
+        served_states_open(self);
+        match calls::list(self.alloc, &mut self.inodes, &mut self.blocks, path) {
+            Ok(Ok(names)) => Ok(Reply::Names(names)),
+            Ok(Err(errno)) => Ok(Reply::Refused(errno)),
+            Err(error) => Err(call_error(error)),
+        }
+    }
+
+    // Makes a directory of this mode.
+    fn make_directory(&mut self, path: &[u8], mode: Mode) -> Result<Reply, CallError>
+        ensures { Handles self.old self.new (path_calls.Mkdir path.now mode) result }
+    {
+        served_states_open(self);
+        match calls::make_directory(self.alloc, &mut self.inodes, &mut self.blocks, path, mode) {
+            Ok(Ok(making)) => {
+                let Making { creation, prepared } = making;
+                match self.log(&creation.record(), prepared) {
+                    Ok(()) => Ok(Reply::Done),
+                    Err(error) => Err(log_error(error)),
+                }
+            }
+            Ok(Err(errno)) => Ok(Reply::Refused(errno)),
+            Err(error) => Err(call_error(error)),
+        }
+    }
+}
