@@ -2,14 +2,11 @@
 use Rattle.std.proofs.Common.{◌≡◌, inl, inr, ℕ, ◌+◌, ◌*◌, ◌<◌, List, [], ◌∷◌, length, refl, ap, sym, ◌∙◌, subst, arith}
 use Rattle.std.specs.Prelude.{replicate, slice_index}
 use Rattle.station.specs.Images.{Images}
-use Rattle.model.specs.Trees.{root_alone}
-use Rattle.model.specs.States.{empty}
-use Rattle.model.proofs.AdditionLemmas.{root_is_tree, forgets_itself}
 use Rattle.layout.specs.Limits.{Sizes}
 use Rattle.layout.specs.Root.{root_bytes, head_bytes}
 use Rattle.layout.specs.Fresh.{made_root}
 use Rattle.layout.specs.Log.{LogHolds, IsUnopened, IsOpenFor, IsClosed, half_at}
-use Rattle.layout.specs.Opens.{Opens, HoldsTree, HoldsMadeBlocks}
+use Rattle.layout.specs.Opens.{HoldsNewImage, HoldsMadeBlocks}
 use Rattle.layout.specs.declared.root.Root.{Root}
 use Rattle.mount.specs.Making.{HasClosedHalves, HasSlots, HoldsMade}
 
@@ -30,9 +27,14 @@ slots_over s old c blocks closed slots = record {
   halves = subst (HasClosedHalves s.half) (sym slots.nvram) closed;
 }
 
-module _ (s : Sizes) (c : Images) (size : length c.nvram ≡ 2 * s.half) (holds : HoldsMade s c) where
-  tree : HoldsTree (8 * s.blocks) c.disk (made_root s) (root_alone 0o755)
-  tree = record { size = refl; made = refl; blocks = holds.blocks; tree_is = refl }
+module _ (s : Sizes) (c : Images) (holds : HoldsMade s c) where
+  pub made_image : HoldsNewImage (8 * s.blocks) c.disk (made_root s)
+  made_image = record {
+    newest = inl (holds.first, λ other it. zeros_no_root other (sym holds.second ∙ it.spelled));
+    size = refl;
+    made = refl;
+    blocks = holds.blocks;
+  }
 
   unopened : (epoch r : ℕ) → r < 2 → IsUnopened epoch (half_at s.half r c.nvram)
   unopened epoch r low = record {
@@ -40,25 +42,12 @@ module _ (s : Sizes) (c : Images) (size : length c.nvram ≡ 2 * s.half) (holds 
     not_open = λ rest is. closed_not_open epoch (half_at s.half r c.nvram) rest (holds.halves r low) is;
   }
 
-  log : LogHolds s.half 1 c.nvram []
-  log = record {
+  pub made_log : length c.nvram ≡ 2 * s.half → LogHolds s.half 1 c.nvram []
+  made_log size = record {
     size = size;
     first = [];
     second = [];
     in_order = refl;
     first_held = inr (unopened 2 0 (omega arith), refl);
     second_held = inr (unopened 3 1 (omega arith), refl);
-  }
-
-  pub made_opens : Opens (8 * s.blocks) c.disk c.nvram (empty s.inodes)
-  made_opens = record {
-    root = made_root s;
-    newest = inl (holds.first, λ other it. zeros_no_root other (sym holds.second ∙ it.spelled));
-    first = root_alone 0o755;
-    holds = tree;
-    bodies = [];
-    log = log;
-    tree = root_alone 0o755;
-    replays = refl;
-    state = record { tree = forgets_itself s.inodes (root_alone 0o755) (root_is_tree s.inodes) refl; rest = refl };
   }

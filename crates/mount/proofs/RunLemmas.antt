@@ -9,12 +9,11 @@ use Rattle.model.specs.declared.command.Command.{Command}
 use Rattle.model.specs.declared.reply.Reply.{Reply}
 use Rattle.model.specs.States.{going, failed}
 use Rattle.model.specs.Runs.{IsPrefix}
-use Rattle.mount.specs.Making.{OpensTo, OpensToSome}
-use Rattle.mount.specs.Systems.{System, meaning_of, shown, Serves}
-use Rattle.mount.specs.Applying.{Between, IsApplied, HasRun, ReadsCut}
-use Rattle.mount.proofs.StationLemmas.{on_none, on_twice}
+use Rattle.system.specs.Images.{OpensTo}
+use Rattle.mount.specs.Systems.{Mounted, OpensToSome, meaning_of, shown}
+use Rattle.mount.specs.Applying.{Between, IsApplied, HasRun, ReadsCut, LeftNow}
+use Rattle.mount.proofs.StationLemmas.{on_none, on_twice, moved}
 use Rattle.mount.proofs.SpanLemmas.{spans_later, spans_push, spans_prefix, spans_failed}
-use Rattle.mount.proofs.ApplyLemmas.{moved, served_now}
 
 zip_push : {X Y : Type 0} (xs : List X) (ys : List Y) (x : X) (y : Y) → length xs ≡ length ys → zip (xs ++ x ∷ []) (ys ++ y ∷ []) ≡ zip xs ys ++ (x, y) ∷ []
 zip_push [] [] x y same = refl
@@ -24,13 +23,13 @@ zip_push {X} {Y} (v ∷ xs) (w ∷ ys) x y same = ap (λ (l : List (X × Y)). (v
 
 module _ {S : Type 0} {G : Ghosts S} where
   -- no command so far
-  pub run_none : (f : System S G) → Serves f → HasRun f f []
-  run_none f serves = record { goes_on = on_none (meaning_of f); spans = (refl, served_now f serves) }
+  pub run_none : (f : Mounted S G) → LeftNow (meaning_of f) f.state (λ t. t ≡ f.state) → HasRun f f []
+  run_none f now = record { goes_on = on_none (meaning_of f); spans = (refl, now) }
 
   -- one command more
-  run_push : (f g new : System S G) (steps : List (Command × Reply)) (command : Command) (reply : Reply) → HasRun f g steps → IsSameStation (meaning_of g) (meaning_of new) → IsApplied g new command reply
-      → HasRun f new (steps ++ (command, reply) ∷ [])
-  run_push f g new steps command reply run same applied =
+  run_push : (f g new : Mounted S G) (steps : List (Command × Reply)) (command : Command) (reply : Reply) → HasRun f g steps → IsSameStation (meaning_of g) (meaning_of new) → IsApplied g new command reply
+      → LeftNow (meaning_of new) new.state (λ t. t ≡ new.state) → HasRun f new (steps ++ (command, reply) ∷ [])
+  run_push f g new steps command reply run same applied now =
       let old = meaning_of g in
       let m = meaning_of new in
       let so_far = spans_later shown Between old.left_at m.left_at (λ c t. OpensTo old t c) (λ c t. OpensTo m t c) old.moment applied.goes_on.kept (λ c t opens. moved old m t c same.sectors opens)
@@ -38,20 +37,21 @@ module _ {S : Type 0} {G : Ghosts S} where
       record {
         goes_on = on_twice (meaning_of f) old m run.goes_on applied.goes_on;
         spans = spans_push shown Between m.left_at (λ c t. OpensTo m t c) f steps g new (command, reply) (meaning_of f).moment old.moment m.moment run.goes_on.later applied.goes_on.later so_far
-            applied.leads applied.any_moment (served_now new applied.serves);
+            applied.leads applied.any_moment now;
       }
 
   -- the command at place i
-  pub run_more : (f g new : System S G) (commands : List Command) (replies : List Reply) (i : ℕ) (command : Command) (reply : Reply) → i < length commands → length replies ≡ i → command ≡ get_or commands i command
-      → HasRun f g (zip (take i commands) replies) → IsSameStation (meaning_of g) (meaning_of new) → IsApplied g new command reply → HasRun f new (zip (take (i + 1) commands) (replies ++ reply ∷ []))
-  run_more f g new commands replies i command reply below count is run same applied =
+  pub run_more : (f g new : Mounted S G) (commands : List Command) (replies : List Reply) (i : ℕ) (command : Command) (reply : Reply) → i < length commands → length replies ≡ i → command ≡ get_or commands i command
+      → HasRun f g (zip (take i commands) replies) → IsSameStation (meaning_of g) (meaning_of new) → IsApplied g new command reply
+      → LeftNow (meaning_of new) new.state (λ t. t ≡ new.state) → HasRun f new (zip (take (i + 1) commands) (replies ++ reply ∷ []))
+  run_more f g new commands replies i command reply below count is run same applied now =
       let front : take (i + 1) commands ≡ take i commands ++ command ∷ [] = take_more commands i command below ∙ ap (λ (x : Command). take i commands ++ x ∷ []) (sym is) in
       let long : length (take i commands) ≡ length replies = length-take-le i commands (omega arith) ∙ sym count in
       subst (HasRun f new) (sym (ap (λ (l : List Command). zip l (replies ++ reply ∷ [])) front ∙ zip_push (take i commands) replies command reply long))
-      (run_push f g new (zip (take i commands) replies) command reply run same applied)
+      (run_push f g new (zip (take i commands) replies) command reply run same applied now)
 
   -- a second station that reads what a cut within a run might have left opens to a prefix of it
-  pub run_opens : (old new : System S G) (steps : List (Command × Reply)) (other : Meaning) → old.state.mark ≡ going → HasRun old new steps → ReadsCut (meaning_of old) (meaning_of new) other
+  pub run_opens : (old new : Mounted S G) (steps : List (Command × Reply)) (other : Meaning) → old.state.mark ≡ going → HasRun old new steps → ReadsCut (meaning_of old) (meaning_of new) other
       → OpensToSome other (IsPrefix shown Between old steps) other.seen
   run_opens old new steps other is run reads =
       let m = meaning_of new in
@@ -59,7 +59,7 @@ module _ {S : Type 0} {G : Ghosts S} where
       (there.0, moved m other there.0 other.seen reads.sectors there.1, there.2)
 
   -- a failed system leaves no more than before
-  pub run_failed : (old new : System S G) (steps : List (Command × Reply)) → old.state.mark ≡ failed → HasRun old new steps → (c : Images)
+  pub run_failed : (old new : Mounted S G) (steps : List (Command × Reply)) → old.state.mark ≡ failed → HasRun old new steps → (c : Images)
       → LeftBetween (meaning_of new) (meaning_of old).moment (meaning_of new).moment c → MayLeave (meaning_of old) c
   run_failed old new steps is run c left =
       let m = meaning_of new in

@@ -38,7 +38,7 @@ module _ (s : State) (command : Command) (new t : State) where
   )
 
 -- the state before it may
-stands_before : (s : State) (command : Command) (new : State) → s.mark ≡ going → MayStand s command new s
+pub stands_before : (s : State) (command : Command) (new : State) → s.mark ≡ going → MayStand s command new s
 stands_before s command new is = elim (cases_mark new.mark) [
   | inl then ↦ (stands_going s command new s is then).1 (inl refl)
   | inr then ↦ (stands_failed s command new s is then).1 (inl refl)

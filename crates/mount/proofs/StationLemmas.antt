@@ -1,18 +1,21 @@
--- Calls to a station, one after the other.
-use Rattle.std.proofs.Common.{◌≡◌, ℕ, ◌≤◌, refl, sym, subst, arith}
-use Rattle.station.specs.Images.{Images, Unchanged}
-use Rattle.station.specs.Moments.{Meaning, MayLeave, EachCut, Went, Goes, LeavesOnly}
-use Rattle.station.proofs.Moments.{started, goes_on, unchanged_none}
-use Rattle.mount.specs.Applying.{Keeps, GoesOn}
+-- Calls to a station, one after the other, and what a cut leaves of them.
+use Rattle.std.proofs.Common.{◌≡◌, ◌⊎◌, inl, inr, ℕ, ◌≤◌, Bool, true, false, sym, subst, arith}
+use Rattle.std.specs.Prelude.{All}
+use Rattle.station.specs.Images.{Images}
+use Rattle.station.specs.Moments.{Meaning, MayLeave, EachCut, IsSameStation, LeftOnly, MayGrow}
+use Rattle.model.specs.States.{State, going}
+use Rattle.calls.specs.Served.{IsServed}
+use Rattle.system.specs.Images.{OpensTo}
+use Rattle.images.specs.States.{Opens}
+use Rattle.mount.specs.Applying.{GoesOn, LeftWithin, LeftNow, Tells}
+use Rattle.mount.specs.Systems.{OpensToSome}
+use Rattle.mount.proofs.SpanLemmas.{leaves_going}
 
 -- the one moment from n to n
 pub same_moment : (m : Meaning) (t : ℕ) (c : Images) → m.moment ≤ t → t ≤ m.moment → m.left_at t c → MayLeave m c
 same_moment m t c low high left =
     let same : t ≡ m.moment = omega arith in
     subst (λ (u : ℕ). m.left_at u c) same left
-
-pub keeps_none : (m : Meaning) → Keeps m m
-keeps_none m = record { writes = refl; goes = unchanged_none m }
 
 pub on_none : (m : Meaning) → GoesOn m m
 on_none m = record { later = omega arith; kept = λ t c le. (λ left. left, λ left. left) }
@@ -25,10 +28,50 @@ on_twice old mid new first second = record {
       (λ left. (first.kept t c le).0 (again.0 left), λ left. again.1 ((first.kept t c le).1 left));
 }
 
--- what may be left behind calls that change nothing
-pub left_before : (old new : Meaning) → Went Unchanged old new → (c : Images) → MayLeave new c → MayLeave old c
-left_before old new went c left = let d = went.now c left in subst (MayLeave old) (sym d.2) d.1
+-- a flag tells of a count that may have grown
+pub told : (old new : ℕ) → MayGrow old new → (flag : Bool) × Tells flag old new
+told old new (inl same) = (false, same)
+told old new (inr grown) = (true, grown)
 
--- and within them
-pub nothing_left : (old new : Meaning) (P : Images → Type 0) → Goes Unchanged old new → EachCut old P → LeavesOnly old new P
-nothing_left old new P goes here honest = goes_on old old new Unchanged P (started old P here) goes (λ c d. subst P (sym d.2) (here honest d.0 d.1)) honest
+-- images that open on a station of so many sectors, by records that this version does
+abbrev OpensServed : ℕ → State → Images → Type 0
+OpensServed n u c = (o : Opens n c.disk c.nvram u) × All IsServed o.changes
+
+-- the same images on the same station
+pub moved : (m new : Meaning) (u : State) (c : Images) → new.sectors ≡ m.sectors → OpensTo m u c → OpensTo new u c
+moved m new u c sectors opens =
+    let both = subst (λ (n : ℕ). OpensServed n u c) (sym sectors) (opens.opens, opens.served) in
+    record { opens = both.0; served = both.1 }
+
+pub moved_some : (m new : Meaning) (P : State → Type 0) (c : Images) → new.sectors ≡ m.sectors → OpensToSome m P c → OpensToSome new P c
+moved_some m new P c sectors opens = (opens.0, moved m new opens.0 c sectors opens.1, opens.2)
+
+pub left_within : (old new : Meaning) (s : State) (P : State → Type 0) → s.mark ≡ going → new.sectors ≡ old.sectors → LeftOnly old new (OpensToSome old P) → LeftWithin old new s P
+left_within old new s P is sectors leaves =
+    (leaves_going new.left_at (λ c t. OpensTo new t c) s old.moment new.moment P is).1
+    (λ t c from to left. moved_some old new P c sectors (leaves.each c (t, from, to, left)))
+
+pub left_now : (m : Meaning) (s : State) (P : State → Type 0) → s.mark ≡ going → m.is_honest → EachCut m (OpensToSome m P) → LeftNow m s P
+left_now m s P is honest here =
+    (leaves_going m.left_at (λ c t. OpensTo m t c) s m.moment m.moment P is).1 (λ t c from to left. here honest c (same_moment m t c from to left))
+
+pub time_on : (old new : Meaning) (P : Images → Type 0) → LeftOnly old new P → GoesOn old new
+time_on old new P leaves = record { later = leaves.later; kept = leaves.kept }
+
+-- what is left at every moment is left now
+pub at_last : (old new : Meaning) (P : State → Type 0) → IsSameStation old new → LeftOnly old new (OpensToSome old P) → EachCut new (OpensToSome new P)
+at_last old new P same leaves honest c left = moved_some old new P c same.sectors (leaves.each c (new.moment, leaves.later, omega arith, left))
+
+-- calls behind which a cut left only this state, and then a command
+pub left_after : (old mid new : Meaning) (s : State) (P : State → Type 0) → s.mark ≡ going → IsSameStation old mid → IsSameStation mid new
+    → LeftOnly old mid (OpensToSome old P) → GoesOn mid new → LeftWithin mid new s P → LeftWithin old new s P
+left_after old mid new s P is first_same second_same first time second =
+    (leaves_going new.left_at (λ c t. OpensTo new t c) s old.moment new.moment P is).1
+    (λ t c from to left. elim (order t mid.moment) [
+      | inl early ↦
+          moved_some mid new P c second_same.sectors (moved_some old mid P c first_same.sectors (first.each c (t, from, early, (time.kept t c early).0 left)))
+      | inr late ↦ (leaves_going new.left_at (λ d u. OpensTo new u d) s mid.moment new.moment P is).0 second t c late to left
+    ])
+  where
+    order : (a b : ℕ) → (a ≤ b) ⊎ (b ≤ a)
+    order a b = grind arith

@@ -1,5 +1,5 @@
 pub mod Applying
 pub mod Making
 pub mod Refusals
-pub mod Replaying
+pub mod Served
 pub mod Systems

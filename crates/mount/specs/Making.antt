@@ -5,8 +5,7 @@ use Rattle.station.specs.Moments.{Meaning}
 use Rattle.layout.specs.Limits.{Sizes, AreSizes}
 use Rattle.layout.specs.Fresh.{made_root}
 use Rattle.layout.specs.Log.{half_at, IsClosed}
-use Rattle.model.specs.States.{State}
-use Rattle.layout.specs.Opens.{HoldsRoot, HoldsMadeBlocks, Opens}
+use Rattle.layout.specs.Opens.{HoldsRoot, HoldsMadeBlocks}
 use Rattle.layout.specs.declared.TheConstants.{SLOT_A, SLOT_B}
 
 -- the sizes of an image
@@ -18,14 +17,6 @@ pub record Suits (m : Meaning) (s : Sizes) : Type 0 where
   pub sizes : AreSizes s
   pub sectors : m.sectors ≡ 8 * s.blocks
   pub nvram : m.nvram_bytes ≡ 2 * s.half
-
--- what stands on a station opens to this state
-abbrev pub OpensTo : Meaning → State → Images → Type 0
-OpensTo m s c = Opens m.sectors c.disk c.nvram s
-
--- what stands on a station opens to a state with P
-abbrev pub OpensToSome : Meaning → (State → Type 0) → Images → Type 0
-OpensToSome m P c = (s : State) × OpensTo m s c × P s
 
 -- the gates of both halves are closed
 abbrev pub HasClosedHalves : ℕ → List ℕ → Type 0

@@ -1,16 +1,47 @@
--- What the refusals of the log and of a replay are to a mount.
-use Rattle.oplog.specs.declared.saved.SavedLogError.{SavedLogError}
-use Rattle.oplog.specs.declared.saved.SavedLogError.TheVariants as log
-use Rattle.mount.specs.declared.replay.ReplayError.{ReplayError}
-use Rattle.mount.specs.declared.replay.ReplayError.TheVariants as replay
+-- What the errors of a system are to who gave the command.
+use Rattle.std.specs.Prelude.{Bool, true, false}
+use Rattle.conspoint.specs.declared.error.PlanError.TheVariants as plan
+use Rattle.model.specs.declared.errno.Errno.{Errno}
+use Rattle.model.specs.declared.errno.Errno.TheVariants.{DAMAGED, EIO, ENOMEM, ENOSPC, FAILED}
 use Rattle.mount.specs.declared.error.MountError.{MountError}
-use Rattle.mount.specs.declared.error.MountError.TheVariants.{NoMemory, Device, Damaged}
+use Rattle.mount.specs.declared.error.MountError.TheVariants as mount
+use Rattle.system.specs.declared.error.CallError.{CallError}
+use Rattle.system.specs.declared.error.CallError.TheVariants as call
+use Rattle.system.specs.declared.open_error.OpenError.{OpenError}
+use Rattle.system.specs.declared.open_error.OpenError.TheVariants as opening
+use Rattle.system.specs.declared.error.PointError.{PointError}
+use Rattle.system.specs.declared.error.PointError.TheVariants as point
 
-abbrev pub refusal_of_log : SavedLogError → MountError
-refusal_of_log log.NoMemory = NoMemory
-refusal_of_log log.Device = Device
-refusal_of_log log.Damaged = Damaged
+-- of a call
+abbrev pub errno_of_call : CallError → Errno
+errno_of_call call.NoMemory = ENOMEM
+errno_of_call call.NotRead = EIO
+errno_of_call call.Damaged = DAMAGED
+errno_of_call call.LogFull = ENOSPC
+errno_of_call call.NotWritten = EIO
 
-abbrev pub refusal_of_replay : ReplayError → MountError
-refusal_of_replay replay.NoMemory = NoMemory
-refusal_of_replay replay.Damaged = Damaged
+-- of a consistency point
+abbrev pub errno_of_point : PointError → Errno
+errno_of_point (point.NotPlanned plan.NoMemory) = ENOMEM
+errno_of_point (point.NotPlanned plan.Device) = EIO
+errno_of_point (point.NotPlanned plan.NoSpace) = ENOSPC
+errno_of_point (point.NotPlanned plan.Damaged) = DAMAGED
+errno_of_point point.NotWritten = EIO
+errno_of_point point.NoGeneration = FAILED
+
+-- the error fails a system, until the next mount
+abbrev pub fails_call : CallError → Bool
+fails_call call.NotWritten = true
+fails_call e = false
+
+abbrev pub fails_point : PointError → Bool
+fails_point (point.NotPlanned e) = false
+fails_point point.NotWritten = true
+fails_point point.NoGeneration = true
+
+-- of an opening
+abbrev pub mount_error : OpenError → MountError
+mount_error opening.NoMemory = mount.NoMemory
+mount_error opening.Device = mount.Device
+mount_error opening.NoRoot = mount.NoRoot
+mount_error opening.Damaged = mount.Damaged

@@ -1,8 +1,6 @@
 //! Why a call was refused.
 
-use crate::replay::ReplayError;
-use oplog::SavedLogError;
-use station::DeviceFault;
+use system::OpenError;
 use thiserror::Error;
 
 /// Why `make` refused.
@@ -42,42 +40,18 @@ pub enum RunError {
     NoMemory = 1,
 }
 
-impl From<DeviceFault> for MountError {
+impl From<OpenError> for MountError {
     ghost use Rattle.std.specs.Prelude.{◌≡◌};
-    ghost use Rattle.mount.specs.declared.error.MountError.TheVariants.{Device};
+    ghost use Rattle.mount.specs.Refusals.{mount_error};
 
-    ghost from_gives = { λ _ e. e ≡ Device };
+    ghost from_gives = { λ opening e. e ≡ mount_error opening };
 
-    fn from(_: DeviceFault) -> MountError {
-        MountError::Device
-    }
-}
-
-impl From<SavedLogError> for MountError {
-    ghost use Rattle.std.specs.Prelude.{◌≡◌};
-    ghost use Rattle.mount.specs.Refusals.{refusal_of_log};
-
-    ghost from_gives = { λ log e. e ≡ refusal_of_log log };
-
-    fn from(error: SavedLogError) -> MountError {
+    fn from(error: OpenError) -> MountError {
         match error {
-            SavedLogError::NoMemory => MountError::NoMemory,
-            SavedLogError::Device => MountError::Device,
-            SavedLogError::Damaged => MountError::Damaged,
-        }
-    }
-}
-
-impl From<ReplayError> for MountError {
-    ghost use Rattle.std.specs.Prelude.{◌≡◌};
-    ghost use Rattle.mount.specs.Refusals.{refusal_of_replay};
-
-    ghost from_gives = { λ replay e. e ≡ refusal_of_replay replay };
-
-    fn from(error: ReplayError) -> MountError {
-        match error {
-            ReplayError::NoMemory => MountError::NoMemory,
-            ReplayError::Damaged => MountError::Damaged,
+            OpenError::NoMemory => MountError::NoMemory,
+            OpenError::Device => MountError::Device,
+            OpenError::NoRoot => MountError::NoRoot,
+            OpenError::Damaged => MountError::Damaged,
         }
     }
 }

@@ -1,129 +1,199 @@
 //! A mounted file system, and its commands.
 
-ghost use Rattle.std.specs.Prelude.{◌≡◌, ◌*◌, IsFalse};
+ghost use Rattle.std.specs.Prelude.{◌≡◌, IsFalse};
 
 use crate::RunError;
-use crate::replay::creation;
-use layout::Record;
-use model::{Command, Errno, Reply};
-use oplog::{AppendError, Log};
-use plain::{NewDirectory, PlainState, Plan};
+use crate::refusals::{errno_of_call, errno_of_point, fails_call, fails_point};
+use model::{Command, Errno, PathCall, Reply};
 use station::Station;
-use std::alloc::{AllocError, Global};
+use std::alloc::Global;
+use system::{CallError, System, served_states_open};
 
-/// A mounted file system. Over an honest station it *serves* the state that it has in memory, as long as no device write
-/// failed: whatever a power cut may leave opens to just that state.
+/// A mounted file system. Over an honest station it *serves* a state, as long as no device write failed: whatever a power
+/// cut may leave opens to just that state.
 #[derive(Drop)]
 pub struct Fs<S: Station> {
     pub(crate) alloc: Global,
-    pub(crate) station: S,
-    pub(crate) tree: PlainState,
-    pub(crate) log: Log,
+    pub(crate) system: System<S>,
     /// A device write failed: every command answers FAILED until the next mount.
     pub(crate) has_failed: bool,
-    ghost nvram: { (S.meaning station).nvram_bytes ≡ 2 * log.half },
-    ghost runs: { IsFalse has_failed → IsFalse log.is_stopped },
+    ghost runs: { IsFalse has_failed → IsFalse system.log.is_stopped },
 }
 
 impl<S: Station> Fs<S> {
-    ghost use Rattle.std.specs.Prelude.{◌≡◌, ◌≢◌, ◌*◌, IsFalse, IfOk, IfErr, OnOk, OnErr, IsErrOf, All, length, vec_len};
+    ghost use Rattle.std.specs.Prelude.{◌≡◌, ◌≢◌, ◌≤◌, IsTrue, IsFalse, IfOk, IfErr, OnOk, OnErr, IsErrOf, MatchResult, All, length, vec_len};
     ghost use Rattle.std.specs.List.{zip};
+    ghost use Rattle.station.specs.Calls.{Uses};
     ghost use Rattle.station.specs.Moments.{MayLeave};
     ghost use Rattle.model.specs.declared.command.Command.{Command};
-    ghost use Rattle.model.specs.declared.errno.Errno.{Errno};
-    ghost use Rattle.model.specs.States.{State, failed, with_tree};
-    ghost use Rattle.model.specs.Room.{Room, logs, adds_name};
-    ghost use Rattle.model.specs.Steps.{WouldStep};
-    ghost use Rattle.model.specs.Served.{IsServed};
-    ghost use Rattle.plain.specs.States.{tree_with, IsFree, IsAddition};
-    ghost use Rattle.layout.specs.Record.{KeepsLimits, change_of};
-    ghost use Rattle.oplog.specs.LogEnd.{body_of};
-    ghost use Rattle.mount.specs.Systems.{system, Serves, LeavesState};
-    ghost use Rattle.station.specs.Calls.{Uses};
-    ghost use Rattle.mount.specs.Applying.{Keeps, WriteFailed, IsOrdinary, IsDoneBy, IsApplied, IsLogged, HasRun};
+    ghost use Rattle.model.specs.States.{State};
+    ghost use Rattle.system.specs.Opening.{HasFailed};
+    ghost use Rattle.system.specs.Serving.{HasEmptyLog, TellsNoFault, WouldChange};
+    ghost use Rattle.system.specs.Systems.{IsCovered, meaning_of};
+    ghost use Rattle.mount.specs.Applying.{NoWriteFailed, NeedsPlace, Stays, IsAppliedAt, IsAppliedAlways, RunsAt};
+    ghost use Rattle.mount.specs.Refusals as refusals;
+    ghost use Rattle.mount.specs.Served.{IsServed};
+    ghost use Rattle.mount.specs.Systems.{mounted, Serves, IsYoung, LeavesState};
 
     /// Applies a command and answers it. A changing command is logged before it is answered; a refused one is not
-    /// logged. EIO comes where a device write failed, and from then on every command answers FAILED, with no device
-    /// call; ENOMEM where there was no memory, ENOSPC where the log's half is full, and then nothing changed.
+    /// logged. EIO comes where a device call failed; after a failed write every command answers FAILED, with no device
+    /// call. ENOMEM comes where there was no memory, ENOSPC where a consistency point found too few free blocks, and then
+    /// nothing changed.
     pub fn apply(&mut self, command: &Command) -> Reply
         requires { IsServed command.now }
-        ensures uses { Uses (S.meaning self.old.station) (S.meaning self.new.station) }
-        ensures failed { (system self.old).state.mark ≡ failed
+        ensures uses { Uses (meaning_of self.old.system) (meaning_of self.new.system) }
+        ensures failed { IsTrue self.old.has_failed
             → (result ≡ Reply.Refused Errno.FAILED) × (self.new ≡ self.old) }
         ensures eio { result ≡ Reply.Refused Errno.EIO
-            → WriteFailed (S.meaning self.old.station) (S.meaning self.new.station) }
+            → HasFailed (meaning_of self.old.system) (meaning_of self.new.system) }
         ensures refused { (errno : Errno) → result ≡ Reply.Refused errno → errno ≢ Errno.EIO
-            → Keeps (S.meaning self.old.station) (S.meaning self.new.station) }
-        ensures applied { Serves (system self.old)
-            → IsApplied (system self.old) (system self.new) command.now result }
+            → NoWriteFailed (meaning_of self.old.system) (meaning_of self.new.system) }
+        ensures ages { self.old.system.log.epoch ≤ self.new.system.log.epoch }
+        ensures applied { IsAppliedAlways self.old self.new command.now result }
     {
         if self.has_failed {
             return Reply::Refused(Errno::FAILED);
         }
-        match self.tree.plan(self.alloc, command) {
-            Ok(Plan::Answer(reply)) => reply,
-            Ok(Plan::Make(new)) => self.make(new),
-            Err(AllocError) => Reply::Refused(Errno::ENOMEM),
+        match command {
+            Command::Path(call) => self.call(call),
+            Command::Sync => self.sync(),
+            _ => unreachable!(),
         }
     }
 
-    /// Makes a directory: takes the memory for it, logs its record, and then changes the tree.
-    fn make(&mut self, new: NewDirectory) -> Reply
+    /// The same of a call by a path. Where its record doesn't go into the log, a consistency point runs first.
+    fn call(&mut self, call: &PathCall) -> Reply
         requires going { IsFalse self.old.has_failed }
-        requires free { IsFree self.old.tree new }
-        requires addition { IsAddition self.old.tree new }
-        ensures uses { Uses (S.meaning self.old.station) (S.meaning self.new.station) }
+        requires served { IsServed (Command.Path call.now) }
+        ensures uses { Uses (meaning_of self.old.system) (meaning_of self.new.system) }
         ensures eio { result ≡ Reply.Refused Errno.EIO
-            → WriteFailed (S.meaning self.old.station) (S.meaning self.new.station) }
+            → HasFailed (meaning_of self.old.system) (meaning_of self.new.system) }
         ensures refused { (errno : Errno) → result ≡ Reply.Refused errno → errno ≢ Errno.EIO
-            → Keeps (S.meaning self.old.station) (S.meaning self.new.station) }
-        ensures made { (command : Command) (t : State) → Serves (system self.old)
-            → IsOrdinary (system self.old).state command
-            → ((room : Room)
-            → WouldStep room (system self.old).state command Reply.Done t (logs adds_name))
-            → t ≡ with_tree (tree_with self.old.tree new) (system self.old).state
-            → IsApplied (system self.old) (system self.new) command result }
+            → NoWriteFailed (meaning_of self.old.system) (meaning_of self.new.system) }
+        ensures ages { self.old.system.log.epoch ≤ self.new.system.log.epoch }
+        ensures applied { IsAppliedAlways self.old self.new (Command.Path call.now) result }
     {
-        let Ok(()) = self.tree.reserve() else {
-            return Reply::Refused(Errno::ENOMEM);
-        };
-        match self.log_change(&creation(&new)) {
-            Ok(()) => {
-                self.tree.make(new);
-                Reply::Done
+        match self.attempt(call) {
+            Ok(reply) => reply,
+            Err(error) => match error {
+                CallError::LogFull => self.call_settled(call),
+                _ => Reply::Refused(errno_of_call(error)),
+            },
+        }
+    }
+
+    /// Runs a consistency point, and then a call by a path that would change something.
+    fn call_settled(&mut self, call: &PathCall) -> Reply
+        requires going { IsFalse self.old.has_failed }
+        requires served { IsServed (Command.Path call.now) }
+        ensures uses { Uses (meaning_of self.old.system) (meaning_of self.new.system) }
+        ensures eio { result ≡ Reply.Refused Errno.EIO
+            → HasFailed (meaning_of self.old.system) (meaning_of self.new.system) }
+        ensures refused { (errno : Errno) → result ≡ Reply.Refused errno → errno ≢ Errno.EIO
+            → NoWriteFailed (meaning_of self.old.system) (meaning_of self.new.system) }
+        ensures ages { self.old.system.log.epoch ≤ self.new.system.log.epoch }
+        ensures applied { (s : State) → Serves (mounted self.old s) → IsYoung self.old
+            → WouldChange s call.now
+            → IsAppliedAt self.old s self.new (Command.Path call.now) result }
+    {
+        if let Err(errno) = self.settle() {
+            return Reply::Refused(errno);
+        }
+        match self.attempt(call) {
+            Ok(reply) => reply,
+            Err(error) => Reply::Refused(errno_of_call(error)),
+        }
+    }
+
+    /// A call by a path, with no consistency point. Nothing changed where its record doesn't go into the log.
+    fn attempt(&mut self, call: &PathCall) -> Result<Reply, CallError>
+        requires going { IsFalse self.old.has_failed }
+        requires served { IsServed (Command.Path call.now) }
+        ensures uses { Uses (meaning_of self.old.system) (meaning_of self.new.system) }
+        ensures no_fault { IfOk result TellsNoFault }
+        ensures eio { IfErr result (λ e. refusals.errno_of_call e ≡ Errno.EIO
+            → HasFailed (meaning_of self.old.system) (meaning_of self.new.system)) }
+        ensures written { MatchResult result
+            (λ _. NoWriteFailed (meaning_of self.old.system) (meaning_of self.new.system))
+            (λ e. refusals.errno_of_call e ≢ Errno.EIO
+            → NoWriteFailed (meaning_of self.old.system) (meaning_of self.new.system)) }
+        ensures read { IsErrOf result CallError.LogFull
+            → (meaning_of self.new.system).failed_reads
+            ≡ (meaning_of self.old.system).failed_reads }
+        ensures epoch { self.new.system.log.epoch ≡ self.old.system.log.epoch }
+        ensures going { IsErrOf result CallError.LogFull → IsFalse self.new.has_failed }
+        ensures applied { (s : State) → Serves (mounted self.old s) → MatchResult result
+            (IsAppliedAt self.old s self.new (Command.Path call.now))
+            (λ e. e ≢ CallError.LogFull → IsAppliedAt self.old s self.new (Command.Path call.now)
+            (Reply.Refused (refusals.errno_of_call e))) }
+        ensures full { (s : State) → Serves (mounted self.old s)
+            → IsErrOf result CallError.LogFull → Stays self.old self.new s × WouldChange s call.now }
+        ensures fits { (s : State) → Serves (mounted self.old s) → HasEmptyLog self.old.system
+            → IsErrOf result CallError.LogFull → ⊥ }
+    {
+        served_states_open(&self.system);
+        match self.system.call(call) {
+            Ok(reply) => {
+                served_states_open(&self.system);
+                Ok(reply)
             }
+            Err(error) => {
+                self.has_failed = fails_call(error);
+                Err(error)
+            }
+        }
+    }
+
+    /// `sync`: a consistency point, where something is uncovered.
+    fn sync(&mut self) -> Reply
+        requires { IsFalse self.old.has_failed }
+        ensures uses { Uses (meaning_of self.old.system) (meaning_of self.new.system) }
+        ensures eio { result ≡ Reply.Refused Errno.EIO
+            → HasFailed (meaning_of self.old.system) (meaning_of self.new.system) }
+        ensures refused { (errno : Errno) → result ≡ Reply.Refused errno → errno ≢ Errno.EIO
+            → NoWriteFailed (meaning_of self.old.system) (meaning_of self.new.system) }
+        ensures ages { self.old.system.log.epoch ≤ self.new.system.log.epoch }
+        ensures applied { IsAppliedAlways self.old self.new Command.Sync result }
+    {
+        served_states_open(&self.system);
+        if self.system.is_covered() {
+            return Reply::Done;
+        }
+        match self.settle() {
+            Ok(()) => Reply::Done,
             Err(errno) => Reply::Refused(errno),
         }
     }
 
-    /// Logs the record of a change for which all memory is taken, before the change itself. Where it refuses, the record
-    /// doesn't count and the change may not follow: ENOMEM and ENOSPC change nothing, EIO fails the file system.
-    fn log_change(&mut self, change: &Record) -> Result<(), Errno>
-        requires going { IsFalse self.old.has_failed }
-        requires fits { KeepsLimits (change_of change.now) }
-        ensures uses { Uses (S.meaning self.old.station) (S.meaning self.new.station) }
-        ensures tree { self.new.tree ≡ self.old.tree }
-        ensures going { OnOk result (IsFalse self.new.has_failed) }
+    /// Runs a consistency point, and says why there is none.
+    fn settle(&mut self) -> Result<(), Errno>
+        requires { IsFalse self.old.has_failed }
+        ensures uses { Uses (meaning_of self.old.system) (meaning_of self.new.system) }
         ensures eio { IsErrOf result Errno.EIO
-            → WriteFailed (S.meaning self.old.station) (S.meaning self.new.station) }
-        ensures refused { IfErr result (λ errno. errno ≢ Errno.EIO
-            → Keeps (S.meaning self.old.station) (S.meaning self.new.station)) }
-        // Whatever the command is that the record does.
-        ensures left { (command : Command) (t : State) → Serves (system self.old)
-            → IsDoneBy (system self.old).state command (body_of (change_of change.now)) t
+            → HasFailed (meaning_of self.old.system) (meaning_of self.new.system) }
+        ensures written { MatchResult result
+            (λ _. NoWriteFailed (meaning_of self.old.system) (meaning_of self.new.system))
+            (λ errno. errno ≢ Errno.EIO
+            → NoWriteFailed (meaning_of self.old.system) (meaning_of self.new.system)) }
+        ensures read { OnOk result ((meaning_of self.new.system).failed_reads
+            ≡ (meaning_of self.old.system).failed_reads) }
+        ensures ages { self.old.system.log.epoch ≤ self.new.system.log.epoch }
+        ensures going { OnOk result (IsFalse self.new.has_failed) }
+        ensures empty { OnOk result (HasEmptyLog self.new.system) }
+        ensures stays { (s : State) → Serves (mounted self.old s)
+            → OnOk result (Stays self.old self.new s) }
+        ensures covered { (s : State) → Serves (mounted self.old s)
+            → OnOk result (IsCovered self.new.system s.tree.descriptors s) }
+        ensures applied { (command : Command) (s : State) → Serves (mounted self.old s)
+            → IsYoung self.old → NeedsPlace s command
             → IfErr result (λ errno.
-            IsApplied (system self.old) (system self.new) command (Reply.Refused errno)) }
-        ensures logged { (command : Command) (t : State) → Serves (system self.old)
-            → IsDoneBy (system self.old).state command (body_of (change_of change.now)) t
-            → OnOk result (IsLogged (system self.old) (system self.new) t) }
+            IsAppliedAt self.old s self.new command (Reply.Refused errno)) }
     {
-        match self.log.append(self.alloc, &mut self.station, change) {
+        match self.system.point() {
             Ok(()) => Ok(()),
-            Err(AppendError::NoMemory) => Err(Errno::ENOMEM),
-            Err(AppendError::LogFull) => Err(Errno::ENOSPC),
-            Err(AppendError::Device) => {
-                self.has_failed = true;
-                Err(Errno::EIO)
+            Err(error) => {
+                self.has_failed = fails_point(error);
+                Err(errno_of_point(error))
             }
         }
     }
@@ -132,18 +202,20 @@ impl<S: Station> Fs<S> {
     /// and then no command was run.
     pub fn run(&mut self, commands: &[Command]) -> Result<Vec<Reply>, RunError>
         requires { All IsServed commands.now }
-        ensures uses { Uses (S.meaning self.old.station) (S.meaning self.new.station) }
+        ensures uses { Uses (meaning_of self.old.system) (meaning_of self.new.system) }
         ensures refused { OnErr result (self.new ≡ self.old) }
         ensures count { IfOk result (λ replies. vec_len replies ≡ length commands.now) }
-        ensures serves { Serves (system self.old) → Serves (system self.new) }
-        ensures ran { Serves (system self.old) → IfOk result (λ replies.
-            HasRun (system self.old) (system self.new) (zip commands.now replies.items)) }
+        ensures ages { self.old.system.log.epoch ≤ self.new.system.log.epoch }
+        ensures ran { (s : State) → Serves (mounted self.old s) → IsYoung self.new
+            → IfOk result (λ replies. RunsAt self.old s self.new (zip commands.now replies.items)) }
     {
         let mut replies = Vec::with_capacity(self.alloc, commands.len()).map_err(
             |_| RunError::NoMemory,
         )?;
+        served_states_open(&self.system);
         for command in commands {
             let reply = self.apply(command);
+            served_states_open(&self.system);
             replies.push(reply).unwrap();
         }
         Ok(replies)
@@ -151,11 +223,13 @@ impl<S: Station> Fs<S> {
 
     /// The station as it stands, with no device call.
     pub fn into_station(self) -> S
-        ensures station { result ≡ self.station }
-        ensures leaves { Serves (system self) → LeavesState (S.meaning result) (system self).state }
-        ensures seen { Serves (system self) → MayLeave (S.meaning result) (S.meaning result).seen }
+        ensures station { result ≡ self.system.blocks.station }
+        ensures leaves { (s : State) → Serves (mounted self s) → LeavesState (S.meaning result) s }
+        ensures seen { (s : State) → Serves (mounted self s)
+            → MayLeave (S.meaning result) (S.meaning result).seen }
     {
-        let Fs { station, .. } = self;
-        station
+        served_states_open(&self.system);
+        let Fs { system, .. } = self;
+        system.into_station()
     }
 }

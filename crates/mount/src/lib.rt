@@ -8,7 +8,7 @@ mod fs;
 mod making;
 mod mounting;
 mod prefix;
-mod replay;
+mod refusals;
 
 pub use error::{MakeError, MountError, RunError};
 pub use fs::Fs;

@@ -8,7 +8,8 @@ ghost use Rattle.layout.specs.Limits.{AreSizes};
 ghost use Rattle.layout.specs.Root.{root_bytes};
 ghost use Rattle.layout.specs.Fresh.{made_root};
 ghost use Rattle.layout.specs.Opens.{HoldsMadeBlocks};
-ghost use Rattle.mount.specs.Making.{sizes, Suits, OpensTo, HasClosedHalves, HasSlots, HoldsMade};
+ghost use Rattle.system.specs.Images.{OpensTo};
+ghost use Rattle.mount.specs.Making.{sizes, Suits, HasClosedHalves, HasSlots, HoldsMade};
 
 use crate::MakeError;
 use layout::{
@@ -16,6 +17,7 @@ use layout::{
     fresh_root,
 };
 use station::{DeviceFault, Station};
+use system::new_images_open;
 
 /// Makes an image of an empty root directory on a station of just its size: `8 * blocks` sectors and an NVRAM of
 /// `2 * half` bytes. Whatever the station held before is gone. `BadSize` where a number is out of its range or the
@@ -47,7 +49,10 @@ pub fn make<S: Station>(
         return Err((MakeError::BadSize, station));
     }
     match write_image(&mut station, geometry) {
-        Ok(()) => Ok(station),
+        Ok(()) => {
+            new_images_open(&station);
+            Ok(station)
+        }
         Err(DeviceFault) => Err((MakeError::Device, station)),
     }
 }

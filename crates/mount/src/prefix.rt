@@ -7,8 +7,7 @@ ghost use Rattle.model.specs.declared.command.Command.{Command};
 ghost use Rattle.model.specs.declared.reply.Reply.{Reply};
 ghost use Rattle.model.specs.States.{going, failed};
 ghost use Rattle.model.specs.Runs.{IsPrefix};
-ghost use Rattle.mount.specs.Making.{OpensToSome};
-ghost use Rattle.mount.specs.Systems.{System, meaning_of, shown};
+ghost use Rattle.mount.specs.Systems.{Mounted, OpensToSome, meaning_of, shown};
 ghost use Rattle.mount.specs.Applying.{Between, HasRun, ReadsCut};
 
 use station::Station;
@@ -18,11 +17,11 @@ use station::Station;
 /// Of a going system: on any station that reads what a cut within the run might have left, `mount` finds the state after
 /// the first commands of the run, or one within the next command. A failed system leaves no more than before.
 pub fn cut_opens_to_prefix<S: Station, T: Station>()
-    ensures going { (old new : System S S.Station) (steps : List (Command × Reply)) (other : T)
+    ensures going { (old new : Mounted S S.Station) (steps : List (Command × Reply)) (other : T)
         → old.state.mark ≡ going → HasRun old new steps
         → ReadsCut (meaning_of old) (meaning_of new) (T.meaning other)
         → OpensToSome (T.meaning other) (IsPrefix shown Between old steps) (T.meaning other).seen }
-    ensures failed { (old new : System S S.Station) (steps : List (Command × Reply)) (c : Images)
+    ensures failed { (old new : Mounted S S.Station) (steps : List (Command × Reply)) (c : Images)
         → old.state.mark ≡ failed → HasRun old new steps
         → LeftBetween (meaning_of new) (meaning_of old).moment (meaning_of new).moment c
         → MayLeave (meaning_of old) c }

@@ -4,7 +4,7 @@ use crate::fault::Fault;
 use crate::text::is_one_of;
 use std::fs;
 use std::os::unix::fs::symlink;
-use tool::images::make_image;
+use tool::files::make_image;
 
 /// Does what a line about files says. None where it is about none, false where its words aren't understood.
 pub fn obey_file(rt: &HostRuntime, verb: &str, words: &str) -> Result<Option<bool>, Fault> {

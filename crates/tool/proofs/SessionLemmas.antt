@@ -8,15 +8,18 @@ use Rattle.model.specs.States.{State, Forgets}
 use Rattle.station.specs.Images.{Unchanged}
 use Rattle.station.specs.Moments.{Meaning, Goes}
 use Rattle.station.specs.declared.station.Station.{Ghosts}
-use Rattle.mount.specs.Making.{OpensTo}
-use Rattle.mount.specs.Applying.{HasRun}
-use Rattle.mount.specs.Systems.{system, HasFailed, HasNoRoot, Serves}
+use Rattle.loading.specs.Slots.{HasNoRoot}
+use Rattle.system.specs.Images.{OpensTo}
+use Rattle.system.specs.Opening.{HasFailed}
+use Rattle.system.specs.Systems.{meaning_of}
+use Rattle.mount.specs.Applying.{RunsAt}
+use Rattle.mount.specs.Systems.{mounted, Serves, IsYoung}
 use Rattle.mount.specs.declared.error.MountError.{MountError}
 use Rattle.mount.specs.declared.error.MountError.TheVariants as error
 use Rattle.mount.specs.declared.error.RunError.{RunError}
 use Rattle.mount.specs.declared.fs.Fs.{Fs}
 use Rattle.tool.specs.Scripts.{IsScriptOf}
-use Rattle.tool.specs.Sessions.{written, EndsRan, EndsRun, EndsShowing, EndsTelling, EndsUnrun, IsRefusal, Ran, RunsOn, RunsScript}
+use Rattle.tool.specs.Sessions.{written, EndsRan, EndsRun, EndsShowing, EndsTelling, EndsUnrun, IsRefusal, RunsOn}
 use Rattle.tool.specs.Statuses.{status_number}
 use Rattle.tool.specs.declared.session.Fault.TheVariants as fault
 use Rattle.tool.specs.declared.status.Status.{Status}
@@ -36,60 +39,54 @@ done_of items (Ok x) cut o o' s ends e = (subst (λ t. EndsShowing cut (items x)
 done_of items (Err y) cut o o' s ends e = absurd (cc)
 
 pub ends_run : {S X Y : Type 0} {G : Ghosts S} (items : X → List Reply) (fs : Fs S G) (commands : List Command) (new : S) (o o' : Option (List ℕ)) (cut : Bool) (s : Status) (ran : Result X Y)
-    → IfOk ran (λ x. RunsOn fs commands new (items x)) → OnErr ran (new ≡ fs.station) → EndsRunShowing items ran cut o o' s → EndsRun fs commands new o o' s
-ends_run items fs commands new o o' cut s (Ok x) runs same ends = inr (cut, (items x, runs, ends))
-ends_run items fs commands new o o' cut s (Err y) runs same ends = inl (ends.0, same, ends.1)
+    → IfOk ran (λ x. length (items x) ≡ length commands) → IfOk ran (λ x. RunsOn fs new (zip commands (items x))) → OnErr ran (new ≡ fs.system.blocks.station) → EndsRunShowing items ran cut o o' s → EndsRun fs commands new o o' s
+ends_run items fs commands new o o' cut s (Ok x) count runs same ends = inr (cut, (items x, count, runs, ends))
+ends_run items fs commands new o o' cut s (Err y) count runs same ends = inl (ends.0, same, ends.1)
 
 -- what `Fs::run` ensures is what a session says of a run
-pub runs_on : {S : Type 0} {G : Ghosts S} (fs fs' : Fs S G) (commands : List Command) (station : S) (ran : Result (Vec Reply) RunError) → IfOk ran (λ replies. vec_len replies ≡ length commands) → station ≡ fs'.station → (Serves (system fs) → Serves (system fs'))
-    → (Serves (system fs) → IfOk ran (λ replies. HasRun (system fs) (system fs') (zip commands replies.items))) → IfOk ran (λ replies. RunsOn fs commands station replies.items)
-runs_on fs fs' commands station (Ok replies) count is serves run = record {
-  count = sym replies.ok.0 ∙ count;
-  ran = λ served. (system fs', sym is, serves served, run served);
+pub counts : (commands : List Command) (ran : Result (Vec Reply) RunError) → IfOk ran (λ replies. vec_len replies ≡ length commands) → IfOk ran (λ replies. length replies.items ≡ length commands)
+counts commands (Ok replies) count = sym replies.ok.0 ∙ count
+counts commands (Err e) count = tt
+
+pub runs_on : {S : Type 0} {G : Ghosts S} (fs fs' : Fs S G) (commands : List Command) (station : S) (ran : Result (Vec Reply) RunError) → station ≡ fs'.system.blocks.station
+    → ((s : State) → Serves (mounted fs s) → IsYoung fs' → IfOk ran (λ replies. RunsAt fs s fs' (zip commands replies.items))) → IfOk ran (λ replies. RunsOn fs station (zip commands replies.items))
+runs_on fs fs' commands station (Ok replies) is run = record {
+  last = fs';
+  station = sym is;
+  ran = run;
 }
-runs_on fs fs' commands station (Err e) count is serves run = tt
+runs_on fs fs' commands station (Err e) is run = tt
 
 -- a run that was refused leaves the station
-pub station_of_refused : {S T E : Type 0} {G : Ghosts S} (fs fs' : Fs S G) (station : S) (ran : Result T E) → OnErr ran (fs' ≡ fs) → station ≡ fs'.station → OnErr ran (station ≡ fs.station)
+pub station_of_refused : {S T E : Type 0} {G : Ghosts S} (fs fs' : Fs S G) (station : S) (ran : Result T E) → OnErr ran (fs' ≡ fs) → station ≡ fs'.system.blocks.station → OnErr ran (station ≡ fs.system.blocks.station)
 station_of_refused fs fs' station (Ok x) same is = tt
-station_of_refused fs fs' station (Err e) same is = is ∙ ap (λ f. f.station) same
+station_of_refused fs fs' station (Err e) same is = is ∙ ap (λ f. f.system.blocks.station) same
 
 -- a session ends as the run of its commands does
-pub ends_session : {S : Type 0} {G : Ghosts S} (script : List ℕ) (fs : Fs S G) (commands : List Command) (old new : S) (o o' e : Option (List ℕ)) (status : Status) → IsScriptOf script commands → ((G.meaning old).is_honest → Serves (system fs))
-    → ((G.meaning old).is_honest → (s : State) → OpensTo (G.meaning old) s (G.meaning old).seen → Forgets s (system fs).state) → Goes Unchanged (G.meaning old) (G.meaning fs.station) → EndsRun fs commands new o o' status
+pub ends_session : {S : Type 0} {G : Ghosts S} (script : List ℕ) (fs : Fs S G) (commands : List Command) (old new : S) (o o' e : Option (List ℕ)) (status : Status) → IsScriptOf script commands
+    → ((G.meaning old).is_honest → (s : State) → OpensTo (G.meaning old) s (G.meaning old).seen → (t : State) × Forgets s t × Serves (mounted fs t)) → Goes Unchanged (G.meaning old) (meaning_of fs.system) → EndsRun fs commands new o o' status
     → EndsRan G script old new (written o e) (written o' e) status ⊎ EndsUnrun G script old new (written o e) (written o' e) status
-ends_session {S} {G} script fs commands old new o o' e status script_is serves mounts goes (inl (none, same, shows)) = inr (record {
+ends_session {S} {G} script fs commands old new o o' e status script_is finds goes (inl (none, same, shows)) = inr (record {
   fault = fault.NoMemory;
   has = subst (λ s. Goes Unchanged (G.meaning old) (G.meaning s)) (sym same) goes;
   shows = shows;
   tells = subst (λ s. EndsTelling fault.NoMemory e e s) (sym none) refl;
 })
-ends_session {S} {G} script fs commands old new o o' e status script_is serves mounts goes (inr (cut, (replies, on, ends))) = inl (record {
+ends_session {S} {G} script fs commands old new o o' e status script_is finds goes (inr (cut, (replies, count, on, ends))) = inl (record {
   cut = cut;
   replies = replies;
   runs = record {
     commands = commands;
     script_is = script_is;
-    count = on.count;
-    ran = ran;
+    count = count;
+    ran = record { fs = fs; goes = goes; finds = finds; runs = on };
   };
   shows = ends;
   tells = refl;
 })
-  where
-    ran : (G.meaning old).is_honest → (s : State) → OpensTo (G.meaning old) s (G.meaning old).seen → Ran G old new s (zip commands replies)
-    ran honest s opens = let r = on.ran (serves honest) in record {
-      mounted = system fs;
-      last = r.0;
-      forgets = mounts honest s opens;
-      goes = goes;
-      run = r.3;
-      serves = r.2;
-      station = r.1;
-    }
 
 -- what `mount` ensures of a refusal
-pub is_refusal : (old new : Meaning) (e : MountError) → (e ≡ error.Device → HasFailed old new) → (old.is_honest → e ≡ error.NoRoot → HasNoRoot old)
+pub is_refusal : (old new : Meaning) (e : MountError) → (e ≡ error.Device → HasFailed old new) → (old.is_honest → e ≡ error.NoRoot → HasNoRoot old.sectors old.seen.disk)
     → (old.is_honest → (s : State) → OpensTo old s old.seen → (e ≡ error.NoMemory) ⊎ (e ≡ error.Device)) → IsRefusal old new e
 is_refusal old new error.NoMemory device root opens = tt
 is_refusal old new error.Device device root opens = device refl

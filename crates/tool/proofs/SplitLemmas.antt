@@ -67,6 +67,7 @@ modes_are_words m = by_default (m == 493) m
 command_has_words : (c : Command) → AreWords (command_words c)
 command_has_words (command.Path (call.List p)) = (letters_are_word (codes "list") refl, (text_is_word p, tt))
 command_has_words (command.Path (call.Mkdir p m)) = (letters_are_word (codes "mkdir") refl, (text_is_word p, modes_are_words m))
+command_has_words command.Sync = (letters_are_word (codes "sync") refl, tt)
 command_has_words c = tt
 
 -- a line is cut at its spaces into its words
@@ -87,6 +88,7 @@ line_of_parts line = sym (join_with_byte-slice_split 32 line) ∙ join_words (sl
 pub parts_of_command : (c : Command) → IsCommand c → slice_split (λ b. eqb b 32) (command_line c) ≡ command_words c
 parts_of_command (command.Path (call.List p)) good = split_line _ _ (command_has_words (command.Path (call.List p)))
 parts_of_command (command.Path (call.Mkdir p m)) good = split_line _ _ (command_has_words (command.Path (call.Mkdir p m)))
+parts_of_command command.Sync good = split_line _ _ (command_has_words command.Sync)
 parts_of_command c good = absurd good
 
 -- where the parts of a line are a command's words, the line is its line

@@ -10,9 +10,12 @@ use Rattle.model.specs.States.{State, Forgets}
 use Rattle.station.specs.Images.{Unchanged}
 use Rattle.station.specs.Moments.{Meaning, Goes}
 use Rattle.station.specs.declared.station.Station.{Ghosts}
-use Rattle.mount.specs.Making.{OpensTo}
-use Rattle.mount.specs.Applying.{HasRun}
-use Rattle.mount.specs.Systems.{System, meaning_of, system, HasFailed, HasNoRoot, Serves}
+use Rattle.loading.specs.Slots.{HasNoRoot}
+use Rattle.system.specs.Images.{OpensTo}
+use Rattle.system.specs.Opening.{HasFailed}
+use Rattle.system.specs.Systems.{meaning_of}
+use Rattle.mount.specs.Applying.{RunsAt}
+use Rattle.mount.specs.Systems.{mounted, Serves, IsYoung}
 use Rattle.mount.specs.declared.error.MountError.{MountError}
 use Rattle.mount.specs.declared.error.MountError.TheVariants as error
 use Rattle.mount.specs.declared.fs.Fs.{Fs}
@@ -24,31 +27,28 @@ use Rattle.tool.specs.declared.session.Fault.TheVariants as fault
 use Rattle.tool.specs.declared.status.Status.{Status}
 use Rattle.tool.specs.declared.status.Status.TheVariants.{Done, FileFault, Cut, NotMounted, NotACommand, NoMemory}
 
--- What a session promises of a run, all in the words of `mount` and `Fs::run`: of a station that opened to a state a mount
--- found that state without its open files, and commands with these replies led from there to the system that a station
--- ends with. At each moment a cut leaves what was there before the mount, or what the commands up to then come to.
-pub record Ran {S : Type 0} (G : Ghosts S) (old new : S) (s : State) (steps : List (Command × Reply)) : Type 0 where
-  pub mounted : System S G
-  pub last : System S G
-  pub forgets : Forgets s mounted.state
-  pub goes : Goes Unchanged (G.meaning old) (meaning_of mounted)
-  pub run : HasRun mounted last steps
-  pub serves : Serves last
-  pub station : last.station ≡ new
+-- Commands with these replies led from a mounted file system to one that has this station. Whatever state the first one serves,
+-- the last serves what they come to; and a cut at any moment leaves what the commands up to then come to.
+pub record RunsOn {S : Type 0} {G : Ghosts S} (fs : Fs S G) (new : S) (steps : List (Command × Reply)) : Type 0 where
+  pub last : Fs S G
+  pub station : last.system.blocks.station ≡ new
+  pub ran : (s : State) → Serves (mounted fs s) → IsYoung last → RunsAt fs s last steps
+
+-- What a session promises of a run, all in the words of `mount` and `Fs::run`: a mount left all that a cut could leave before, and of
+-- a station that opened to a state it found that state without its open files; from there the commands ran with these replies.
+pub record Ran {S : Type 0} (G : Ghosts S) (old new : S) (steps : List (Command × Reply)) : Type 0 where
+  pub fs : Fs S G
+  pub goes : Goes Unchanged (G.meaning old) (meaning_of fs.system)
+  pub finds : (G.meaning old).is_honest → (s : State) → OpensTo (G.meaning old) s (G.meaning old).seen
+      → (t : State) × Forgets s t × Serves (mounted fs t)
+  pub runs : RunsOn fs new steps
 
 -- the script's commands ran, each with its reply
 pub record RunsScript {S : Type 0} (G : Ghosts S) (script : List ℕ) (old new : S) (replies : List Reply) : Type 0 where
   pub commands : List Command
   pub script_is : IsScriptOf script commands
   pub count : length replies ≡ length commands
-  pub ran : (G.meaning old).is_honest → (s : State) → OpensTo (G.meaning old) s (G.meaning old).seen
-      → Ran G old new s (zip commands replies)
-
--- the commands ran on a mounted file system
-pub record RunsOn {S : Type 0} {G : Ghosts S} (fs : Fs S G) (commands : List Command) (new : S) (replies : List Reply) : Type 0 where
-  pub count : length replies ≡ length commands
-  pub ran : Serves (system fs)
-      → (last : System S G) × (last.station ≡ new) × Serves last × HasRun (system fs) last (zip commands replies)
+  pub ran : Ran G old new (zip commands replies)
 
 -- a device call failed
 abbrev pub is_failed_call : Reply → Bool
@@ -85,8 +85,9 @@ EndsShowing cut replies old new status = CanNotShow (answered cut replies) old n
 -- as they can be
 abbrev pub EndsRun : {S : Type 0} {G : Ghosts S} → Fs S G → List Command → S → Option (List ℕ) → Option (List ℕ) → Status → Type 0
 EndsRun fs commands new out out' status =
-    ((status ≡ NoMemory) × (new ≡ fs.station) × (out' ≡ out))
-    ⊎ ((cut : Bool) × ((replies : List Reply) × RunsOn fs commands new replies × EndsShowing cut replies out out' status))
+    ((status ≡ NoMemory) × (new ≡ fs.system.blocks.station) × (out' ≡ out))
+    ⊎ ((cut : Bool) × ((replies : List Reply) × (length replies ≡ length commands)
+    × RunsOn fs new (zip commands replies) × EndsShowing cut replies out out' status))
 
 -- what tells why a station isn't mounted
 abbrev pub mount_fault : MountError → List ℕ
@@ -99,7 +100,7 @@ mount_fault error.Damaged = codes "wafl: mount DAMAGED\n"
 abbrev pub IsRefusal : Meaning → Meaning → MountError → Type 0
 IsRefusal old new error.NoMemory = Unit {0}
 IsRefusal old new error.Device = HasFailed old new
-IsRefusal old new error.NoRoot = old.is_honest → HasNoRoot old
+IsRefusal old new error.NoRoot = old.is_honest → HasNoRoot old.sectors old.seen.disk
 IsRefusal old new error.Damaged = old.is_honest → (s : State) → OpensTo old s old.seen → ⊥
 
 -- a station wasn't mounted, for this reason, and a cut leaves what it might have left before

@@ -24,20 +24,29 @@ pub enum Line<'a> {
         inodes: u32,
         half: u32,
     },
-    /// `wafl run DISK NVRAM SCRIPT [--cut N] [--keep none|all|BITS] [--bytes K]`: mounts the image and runs a script.
+    /// `wafl run DISK NVRAM SCRIPT [--cut N] [--keep none|all|BITS] [--bytes K] [--fail-sync N]`: mounts the image and runs a
+    /// script.
     Run {
         disk: &'a str,
         nvram: &'a str,
         /// The script's file; `-` is standard input.
         script: &'a str,
-        /// The device write of this run, counted from 1, within which the power is cut.
-        cut: Option<u32>,
-        keep: Kept<'a>,
-        /// How many bytes an NVRAM write that is cut keeps.
-        bytes: u32,
+        faults: RunFaults<'a>,
     },
     /// `--help` and the like: this text is asked for.
     Help(String),
+}
+
+/// What is to go wrong in a run.
+#[derive(Clone, Copy, Debug, PartialEq, Eq)]
+pub struct RunFaults<'a> {
+    /// The device write of this run, counted from 1, within which the power is cut.
+    pub cut: Option<u32>,
+    pub keep: Kept<'a>,
+    /// How many bytes an NVRAM write that is cut keeps.
+    pub bytes: u32,
+    /// The sync of this run, counted from 1, that fails. Mounting makes the first one.
+    pub fail_sync: Option<u32>,
 }
 
 /// Which of the sector writes since the last sync a power cut keeps.
@@ -133,9 +142,12 @@ fn run_line<'a>(matches: &ArgMatches<'a>) -> Option<Line<'a>> {
         disk: matches.get_str("disk")?,
         nvram: matches.get_str("nvram")?,
         script: matches.get_str("script")?,
-        cut: matches.get_one::<u32>("cut"),
-        keep: read_kept(matches.get_str("keep")?)?,
-        bytes: matches.get_one::<u32>("bytes")?,
+        faults: RunFaults {
+            cut: matches.get_one::<u32>("cut"),
+            keep: read_kept(matches.get_str("keep")?)?,
+            bytes: matches.get_one::<u32>("bytes")?,
+            fail_sync: matches.get_one::<u32>("fail-sync"),
+        },
     })
 }
 

@@ -2,7 +2,7 @@
 
 ghost use Rattle.std.specs.Prelude.{◌≡◌, ◌⊎◌, ◌≢◌, ◌≤◌, ◌++◌, ℕ, IfOk, IfErr, OnOk, codes, map};
 ghost use Rattle.tool.specs.declared.script.ScriptError.TheVariants.{NoMemory};
-ghost use Rattle.model.specs.Served.{IsServed};
+ghost use Rattle.mount.specs.Served.{IsServed};
 ghost use Rattle.model.specs.declared.command.Command.{Command};
 ghost use Rattle.tool.specs.Lines.{command_line, mode_words, reply_line, spaced, IsCommand};
 ghost use Rattle.tool.specs.Words.{Adds};
@@ -75,6 +75,7 @@ pub fn write_command(alloc: Global, command: &Command) -> Result<Vec<u8>, Script
             push_text(&mut line, path.as_bytes())?;
             push_mode(&mut line, *mode, Mode::NEW_DIRECTORY)?;
         }
+        Command::Sync => line.extend_from_slice(b"sync")?,
         _ => unreachable!(),
     }
     Ok(line)

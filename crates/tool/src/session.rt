@@ -4,7 +4,7 @@ ghost use Rattle.std.specs.Fn.{FnReturnsAt};
 ghost use Rattle.std.specs.Prelude.{All, ◌≡◌, ◌⊎◌, ◌∷◌, ◌++◌, [], true, false, IfOk, IfErr, IsErrOf, MatchResult, OnOk, map, string_bytes};
 ghost use Rattle.std.specs.List.{position};
 ghost use Rattle.std.specs.Io.KnownBytes.{Appends};
-ghost use Rattle.model.specs.Served.{IsServed};
+ghost use Rattle.mount.specs.Served.{IsServed};
 ghost use Rattle.tool.specs.Lines.{reply_line};
 ghost use Rattle.tool.specs.Scripts.{is_skipped, line_fault, lines_of, HasBadLine, IsBadLine, IsScriptFault, IsLineOf, IsScriptOf};
 ghost use Rattle.tool.specs.Sessions.{answered, is_failed_call, mount_fault, reply_lines, CanNotShow, EndsRun, EndsShowing, EndsTelling, EndsWith, written};

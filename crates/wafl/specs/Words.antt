@@ -1,11 +1,12 @@
 -- What the program's words come to.
-use Rattle.std.specs.Prelude.{ℕ, ◌≡◌, ◌==◌, Some, map}
+use Rattle.std.specs.Prelude.{ℕ, ◌≡◌, ◌==◌, Option, None, Some, map}
 use Rattle.station.specs.declared.keep.Keep.{Keep}
 use Rattle.station.specs.declared.keep.Keep.TheVariants as keep
 use Rattle.station.specs.declared.sim.Sim.{Sim}
 use Rattle.station.specs.Sim.{plan_of}
 use Rattle.tool.specs.declared.line.Kept.{Kept}
 use Rattle.tool.specs.declared.line.Kept.TheVariants as kept
+use Rattle.tool.specs.declared.line.RunFaults.{RunFaults}
 use Rattle.tool.specs.declared.line.LineError.{LineError}
 use Rattle.tool.specs.declared.line.LineError.TheVariants as line_error
 use Rattle.tool.specs.declared.status.Status.{Status}
@@ -24,7 +25,18 @@ Keeps (kept.Bits text) (keep.Bits bits) = bits.items ≡ map (λ byte. byte == 4
 Keeps _ _ = ⊥
 
 -- the power of a station is to be cut within this write, as the program's words say
-pub record IsCutAt (write : ℕ) (kept : Kept) (bytes : ℕ) (sim : Sim) : Type 0 where
+pub record IsCutAt (write : ℕ) (f : RunFaults) (sim : Sim) : Type 0 where
   pub write_is : (plan_of sim).cut_write ≡ Some write
-  pub keep : Keeps kept (plan_of sim).keep
-  pub bytes_are : (plan_of sim).kept_bytes ≡ bytes
+  pub keep : Keeps f.keep (plan_of sim).keep
+  pub bytes_are : (plan_of sim).kept_bytes ≡ f.bytes
+
+-- so it is where the words name a write, and else it isn't to be cut
+abbrev pub IsCutAs : Option ℕ → RunFaults → Sim → Type 0
+IsCutAs None f sim = (plan_of sim).cut_write ≡ None
+IsCutAs (Some write) f sim = IsCutAt write f sim
+
+-- a station is to fail as the program's words say, and in no other way
+pub record IsToFail (f : RunFaults) (sim : Sim) : Type 0 where
+  pub cut : IsCutAs f.cut f sim
+  pub sync : (plan_of sim).failing_sync ≡ f.fail_sync
+  pub no_call : (plan_of sim).failing_call ≡ None

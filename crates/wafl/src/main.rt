@@ -6,11 +6,11 @@ ghost use Rattle.wafl.specs.Words.{refusal_status};
 
 mod run;
 
-use run::{run_on_files, run_with_cut};
+use run::{run_in_memory, run_on_files};
 use std::process::ExitCode;
 use std::{env, io};
-use tool::images::{FileError, make_image};
-use tool::{Line, LineError, Status, read_line};
+use tool::files::{FileError, make_image};
+use tool::{Line, LineError, RunFaults, Status, read_line};
 
 fn main(rt: HostRuntime) -> ExitCode {
     ExitCode::from(obey_words(&rt))
@@ -71,17 +71,19 @@ fn obey_line(rt: &HostRuntime, line: &Line<'_>) -> u8 {
             disk,
             nvram,
             script,
-            cut: None,
-            ..
+            faults:
+                RunFaults {
+                    cut: None,
+                    fail_sync: None,
+                    ..
+                },
         } => run_on_files(rt, disk, nvram, script),
         Line::Run {
             disk,
             nvram,
             script,
-            cut: Some(cut),
-            keep,
-            bytes,
-        } => run_with_cut(rt, disk, nvram, script, *cut, *keep, *bytes),
+            faults,
+        } => run_in_memory(rt, disk, nvram, script, *faults),
     }
 }
 

@@ -1,14 +1,14 @@
-//! Running a script: on the files themselves, or in memory where the power is to be cut.
+//! Running a script: on the files themselves, or in memory where something is to go wrong.
 
-ghost use Rattle.std.specs.Prelude.{IfOk};
-ghost use Rattle.wafl.specs.Words.{IsCutAt, Keeps};
+ghost use Rattle.std.specs.Prelude.{◌≡◌, IfOk};
+ghost use Rattle.wafl.specs.Words.{IsToFail, Keeps};
 
 use crate::tell;
 use station::{Keep, Sim};
 use std::alloc::{AllocError, Global};
-use tool::images::{FileError, load_station, open_station, read_script, store_image};
+use tool::files::{FileError, load_station, open_station, read_script, store_image};
 use tool::session::session;
-use tool::{Kept, Status};
+use tool::{Kept, RunFaults, Status};
 
 /// Runs a script on the image's files.
 pub fn run_on_files(rt: &HostRuntime, disk: &str, nvram: &str, script: &str) -> u8 {
@@ -31,18 +31,15 @@ pub fn run_on_files(rt: &HostRuntime, disk: &str, nvram: &str, script: &str) -> 
     status
 }
 
-/// Runs a script on a station in memory whose power is cut within a device write, and stores what that leaves.
-pub fn run_with_cut(
+/// Runs a script on a station in memory that is to fail as these faults say, and stores what that leaves.
+pub fn run_in_memory(
     rt: &HostRuntime,
     disk: &str,
     nvram: &str,
     script: &str,
-    cut: u32,
-    keep: Kept<'_>,
-    bytes: u32,
+    faults: RunFaults<'_>,
 ) -> u8 {
-    let loaded = load_run(rt, disk, nvram, script, cut, keep, bytes);
-    let (script, sim) = match loaded {
+    let (script, sim) = match load_run(rt, disk, nvram, script, faults) {
         Ok(loaded) => loaded,
         Err(error) => return tell(rt, &error).number(),
     };
@@ -64,21 +61,24 @@ pub fn run_with_cut(
     }
 }
 
-/// What a run in memory starts from: the script, and a station whose power is to be cut.
+/// What a run in memory starts from: the script, and a station that is to fail as these faults say.
 fn load_run<'a>(
     rt: &HostRuntime,
     disk: &'a str,
     nvram: &'a str,
     script: &'a str,
-    cut: u32,
-    keep: Kept<'_>,
-    bytes: u32,
+    faults: RunFaults<'_>,
 ) -> Result<(Vec<u8>, Sim), FileError<'a>>
-    ensures { IfOk result (λ run. IsCutAt cut keep.entry bytes run.1) }
+    ensures { IfOk result (λ run. IsToFail faults.entry run.1) }
 {
     let script = read_script(rt, script)?;
     let mut sim = load_station(rt, disk, nvram)?;
-    sim.cut_at(cut, keep_of(rt.alloc(), keep)?, bytes);
+    if let Some(cut) = faults.cut {
+        sim.cut_at(cut, keep_of(rt.alloc(), faults.keep)?, faults.bytes);
+    }
+    if let Some(sync) = faults.fail_sync {
+        sim.fail_sync_at(sync);
+    }
     Ok((script, sim))
 }
 

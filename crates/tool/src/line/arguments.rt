@@ -44,7 +44,7 @@ fn run_command<'a>(alloc: Global) -> Result<Command<'a>, AllocError> {
     Command::new(alloc, "run")
         .about("Mount an image and run a script: one command a line, one reply a line")
         .after_help(
-            "Commands: list PATH, mkdir PATH [MODE], as in list / and mkdir /a 0700.\n\nExamples:\n  wafl run disk nvram script\n  wafl run disk nvram - --cut 5 --bytes 1 < script",
+            "Commands: list PATH, mkdir PATH [MODE], sync, as in list / and mkdir /a 0700.\n\nExamples:\n  wafl run disk nvram script\n  wafl run disk nvram - --cut 5 --bytes 1 < script",
         )
         .arg(place(alloc, "disk", "DISK").help("The disk's file"))?
         .arg(place(alloc, "nvram", "NVRAM").help("The NVRAM's file"))?
@@ -63,15 +63,26 @@ fn run_command<'a>(alloc: Global) -> Result<Command<'a>, AllocError> {
             number(alloc, "bytes").default_value("0").help(
                 "Bytes that an NVRAM write keeps when it is cut, as in --bytes 1",
             ),
+        )?
+        .arg(
+            count(alloc, "fail-sync").help(
+                "Let sync N of this run fail, from 1, which mounting makes, as in --fail-sync 2",
+            ),
         )
 }
 
 fn cut_option<'a>(alloc: Global) -> Arg<'a> {
-    Arg::new(alloc, "cut")
-        .long("cut")
+    count(alloc, "cut").help(
+        "Cut the power within device write N of this run, from 1, as in --cut 5",
+    )
+}
+
+/// An option whose value is a number from 1 on.
+fn count<'a>(alloc: Global, name: &'a str) -> Arg<'a> {
+    Arg::new(alloc, name)
+        .long(name)
         .value_name("N")
         .value_parser(value_parser!(u32).range(1..))
-        .help("Cut the power within device write N of this run, from 1, as in --cut 5")
 }
 
 /// An argument known by its place.

@@ -1,7 +1,7 @@
 //! Reading a command from its words: the first says which it is, and the others are its fields in order.
 
-ghost use Rattle.std.specs.Prelude.{◌≡◌, ◌≢◌, ◌∷◌, IfOk, IfErr, IfSome, IfNone, codes, map};
-ghost use Rattle.tool.specs.Lines.{mode_words, verb_name, ReadsWords};
+ghost use Rattle.std.specs.Prelude.{◌≡◌, ◌≢◌, ◌∷◌, ◌++◌, IfOk, IfErr, IfSome, IfNone, codes, map};
+ghost use Rattle.tool.specs.Lines.{command_words, mode_words, verb_name, IsAlone, ReadsWords};
 ghost use Rattle.tool.specs.Words.{HasNoMode, IsWrittenMode};
 
 use super::ScriptError;
@@ -14,6 +14,7 @@ use std::alloc::Global;
 enum Verb {
     List,
     Mkdir,
+    Sync,
 }
 
 /// The command that words spell.
@@ -26,6 +27,7 @@ pub(super) fn read_words(alloc: Global, words: &[&[u8]]) -> Result<Command, Scri
     match read_verb(verb) {
         Some(Verb::List) => read_list(alloc, fields),
         Some(Verb::Mkdir) => read_mkdir(alloc, fields),
+        Some(Verb::Sync) => read_alone(Command::Sync, fields),
         None => Err(ScriptError::NotACommand),
     }
 }
@@ -37,8 +39,20 @@ fn read_verb(word: &[u8]) -> Option<Verb>
     match word {
         b"list" => Some(Verb::List),
         b"mkdir" => Some(Verb::Mkdir),
+        b"sync" => Some(Verb::Sync),
         _ => None,
     }
+}
+
+/// A command of one word, behind which none stands.
+fn read_alone(command: Command, fields: &[&[u8]]) -> Result<Command, ScriptError>
+    requires { IsAlone command }
+    ensures { ReadsWords (command_words command ++ map (λ word. word.now) fields.now) result }
+{
+    if fields.is_empty() {
+        return Ok(command);
+    }
+    Err(ScriptError::NotACommand)
 }
 
 /// `list P`.

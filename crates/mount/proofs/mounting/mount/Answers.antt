@@ -1,10 +1,15 @@
-use Rattle.std.proofs.Common.{refl}
-use Rattle.plain.specs.States.{state_of}
-use Rattle.mount.specs.Systems.{System}
-use Rattle.mount.proofs.ApplyLemmas.{fresh_serves}
+use Rattle.std.proofs.Common.{inl, inr, refl, ap, ◌∙◌}
+use Rattle.mount.specs.Refusals.{mount_error}
+use Rattle.mount.proofs.AttemptLemmas.{opened_serves}
 use Rattle.mount.proofs.mounting.mount.Goals as goal
 
-pub returns-in-Ok-clause-serves : goal.returns-in-Ok-clause-serves
-returns-in-Ok-clause-serves g c honest =
-    let f : System _ g.S.Station = record { station = c.read_image.new.station; log = c.in-Ok.log; state = state_of c.in-Ok.tree } in
-    fresh_serves f refl refl (c.in-Ok.ensures.same.honest.0 honest) (c.in-Ok.ensures.kept honest)
+pub returns-in-Ok-clause-opens : goal.returns-in-Ok-clause-opens
+returns-in-Ok-clause-opens g c honest s opens =
+    let found = c.in-Ok.ensures.opens honest s opens in
+    (found.0, found.1, opened_serves _ found.0 refl found.2)
+
+pub returns-in-Err-clause-opens : goal.returns-in-Err-clause-opens
+returns-in-Err-clause-opens g c honest s opens = elim (c.in-Err.ensures.opens honest s opens) [
+  | inl memory ↦ inl (c.from.ensures ∙ ap mount_error memory)
+  | inr device ↦ inr (c.from.ensures ∙ ap mount_error device)
+]

@@ -1,5 +1,5 @@
 use Rattle.std.proofs.lemmas.Fn.{says_at}
-use Rattle.tool.proofs.SessionLemmas.{cut_of, done_of, ends_run, runs_on, station_of_refused}
+use Rattle.tool.proofs.SessionLemmas.{counts, cut_of, done_of, ends_run, runs_on, station_of_refused}
 use Rattle.tool.proofs.session.run_mounted.Goals as goal
 
 pub returns-clause-cut : goal.returns-clause-cut
@@ -10,4 +10,8 @@ returns-clause-done g c = λ e. says_at g.C.Fn c.was_cut-cut.ensures (done_of (�
 
 pub returns-clause-ends : goal.returns-clause-ends
 returns-clause-ends g c =
-    ends_run (λ replies. replies.items) c.args.fs c.args.commands.now _ _ _ c.was_cut-cut.result c.show_run.result c.run-ran.result (runs_on c.args.fs c.run-ran.new.self c.args.commands.now c.into_station-station.result c.run-ran.result c.run-ran.ensures.count c.into_station-station.ensures.station c.run-ran.ensures.serves c.run-ran.ensures.ran) (station_of_refused c.args.fs c.run-ran.new.self c.into_station-station.result c.run-ran.result c.run-ran.ensures.refused c.into_station-station.ensures.station) c.show_run.ensures
+    let is = c.into_station-station.ensures.station in
+    let count = counts c.args.commands.now c.run-ran.result c.run-ran.ensures.count in
+    let runs = runs_on c.args.fs c.run-ran.new.self c.args.commands.now c.into_station-station.result c.run-ran.result is c.run-ran.ensures.ran in
+    let refused = station_of_refused c.args.fs c.run-ran.new.self c.into_station-station.result c.run-ran.result c.run-ran.ensures.refused is in
+    ends_run (λ replies. replies.items) c.args.fs c.args.commands.now _ _ _ c.was_cut-cut.result c.show_run.result c.run-ran.result count runs refused c.show_run.ensures

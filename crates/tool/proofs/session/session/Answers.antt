@@ -21,7 +21,7 @@ pub returns-in-Ok-mount-clause-ends : goal.returns-in-Ok-mount-clause-ends
 returns-in-Ok-mount-clause-ends g c = (
   c.run_mounted-status.result.0,
   c.number-in-Ok-mount.ensures,
-  ends_session c.args.script.now c.in-Ok-mount.fs c.in-Ok.commands.items _ _ _ _ _ c.run_mounted-status.result.0 c.in-Ok.ensures.commands c.in-Ok-mount.ensures.serves c.in-Ok-mount.ensures.opens c.in-Ok-mount.ensures.goes (rw c.as_slice.ensures.value at c.run_mounted-status.ensures.ends),
+  ends_session c.args.script.now c.in-Ok-mount.fs c.in-Ok.commands.items _ _ _ _ _ c.run_mounted-status.result.0 c.in-Ok.ensures.commands c.in-Ok-mount.ensures.opens c.in-Ok-mount.ensures.goes (rw c.as_slice.ensures.value at c.run_mounted-status.ensures.ends),
 )
 
 pub returns-in-Err-mount-clause-ends : goal.returns-in-Err-mount-clause-ends

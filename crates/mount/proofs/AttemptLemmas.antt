@@ -1,0 +1,225 @@
+-- What calls and consistency points of a system come to for a command.
+use Rattle.std.proofs.Common.{◌≡◌, ◌≢◌, ◌⊎◌, ◌≤◌, ◌<◌, ◌^◌, ◌+◌, inl, inr, ℕ, Bool, true, false, refl, sym, ap, subst, ◌∙◌, arith}
+use Rattle.std.specs.Prelude.{IsTrue, IsFalse, Option, None}
+use Rattle.std.proofs.lemmas.Bool.{false≢true}
+use Rattle.conspoint.specs.declared.error.PlanError.TheVariants as plan
+use Rattle.station.specs.Images.{Unchanged}
+use Rattle.station.specs.Moments.{Meaning, EachCut, HasGrown, MayGrow, IsSameStation, Goes, LeavesOnly}
+use Rattle.station.specs.Calls.{Uses}
+use Rattle.station.proofs.Moments.{leaves_unchanged, weaker}
+use Rattle.station.specs.declared.station.Station.{Ghosts}
+use Rattle.model.specs.declared.errno.Errno.{Errno}
+use Rattle.model.specs.declared.errno.Errno.TheVariants.{ENOSPC, ENOMEM, EIO}
+use Rattle.model.specs.declared.reply.Reply.{Reply}
+use Rattle.model.specs.declared.reply.Reply.TheVariants.{Done, Refused}
+use Rattle.model.specs.declared.command.Command.{Command}
+use Rattle.model.specs.declared.command.Command.TheVariants.{Path, Sync}
+use Rattle.model.specs.declared.command.PathCall.{PathCall}
+use Rattle.model.specs.States.{State, going, as_failed}
+use Rattle.model.specs.Trees.{Description}
+use Rattle.model.specs.Circumstances.{Circumstances, IsSure, IsExcused}
+use Rattle.model.specs.Room.{nothing}
+use Rattle.model.specs.Runs.{IsWithin}
+use Rattle.system.specs.Errors.{IsRefused}
+use Rattle.system.specs.Images.{OpensTo}
+use Rattle.system.specs.Points.{IsFilled}
+use Rattle.oplog.specs.LogEnd.{LogEnd}
+use Rattle.oplog.specs.declared.log.End.TheVariants.{Unopened}
+use Rattle.system.specs.Serving.{HasEmptyLog, ServesState, WouldChange, IsCalled, IsBrokenOff}
+use Rattle.system.specs.Systems as systems
+use Rattle.system.specs.declared.error.CallError.{CallError}
+use Rattle.system.specs.declared.error.CallError.TheVariants as call
+use Rattle.system.specs.declared.system.System.{System}
+use Rattle.system.specs.declared.error.PointError.{PointError}
+use Rattle.system.specs.declared.error.PointError.TheVariants as point
+use Rattle.mount.specs.Applying.{IsAppliedAt, NeedsPlace, Stays, Tells}
+use Rattle.mount.specs.Refusals.{errno_of_call, errno_of_point, fails_call, fails_point}
+use Rattle.mount.specs.Systems.{OpensToSome, mounted, Serves, IsYoung}
+use Rattle.mount.specs.declared.fs.Fs.{Fs}
+use Rattle.mount.proofs.ApplyLemmas.{is_going, not_both, allowed_by, no_room, done, stayed, broken, applied_after}
+use Rattle.mount.proofs.StationLemmas.{told}
+
+-- what came in the way
+abbrev came : Bool → Bool → Bool → Bool → Bool → Circumstances
+came read write memory place covered =
+    record { read_failed = read; write_failed = write; memory_refused = memory; lacks_place = place; room = no_room covered }
+
+-- a command that would change something needs place
+pub change_needs : (s : State) (c : PathCall) → WouldChange s c → NeedsPlace s (Path c)
+change_needs s c would = record { not_sure = λ no. no; stores = λ room. (would.reply, would.after, would.need, would.step, inl would.needs) }
+
+-- and so does `sync`
+pub sync_needs : (s : State) → NeedsPlace s Sync
+sync_needs s = record { not_sure = λ no. no; stores = λ room. (Done, s, nothing, (refl, refl, refl), inr (tt, refl)) }
+
+-- a system that goes on shows a state that does
+pub still_going : {S : Type 0} {G : Ghosts S} (f : Fs S G) (s : State) → Serves (mounted f s) → IsFalse f.has_failed → s.mark ≡ going
+still_going f s serves runs = serves.mark ∙ is_going f.has_failed runs
+
+-- the same refusal
+pub answered_as : {S : Type 0} {G : Ghosts S} (old new : Fs S G) (s : State) (command : Command) (x y : Errno) → y ≡ x → IsAppliedAt old s new command (Refused x)
+    → IsAppliedAt old s new command (Refused y)
+answered_as old new s command x y is applied = subst (λ (z : Errno). IsAppliedAt old s new command (Refused z)) (sym is) applied
+
+-- the same command
+pub asked_as : {S : Type 0} {G : Ghosts S} (old new : Fs S G) (s : State) (x y : Command) (reply : Reply) → y ≡ x → IsAppliedAt old s new x reply → IsAppliedAt old s new y reply
+asked_as old new s x y reply is applied = subst (λ (z : Command). IsAppliedAt old s new z reply) (sym is) applied
+
+pub young_on : (a b : ℕ) → b ≤ a → a < 2 ^ 62 → b < 2 ^ 62
+young_on a b le young = omega arith
+
+-- behind a consistency point the log has no record
+pub log_emptied : {S : Type 0} {G : Ghosts S} (f : System S G) (log : LogEnd) (epoch : ℕ) → f.log ≡ record log { epoch = epoch + 1; end = Unopened } → f.root.generation ≡ epoch → HasEmptyLog f
+log_emptied f log epoch is generation = record {
+  epoch = ap (λ (l : LogEnd). l.epoch) is ∙ ap (λ n. n + 1) (sym generation);
+  end = ap (λ (l : LogEnd). l.end) is;
+}
+
+-- a full log is no fault of a device
+pub full_is_no_fault : (e : CallError) → e ≡ call.LogFull → errno_of_call e ≢ EIO
+full_is_no_fault e is fault = let x : ENOSPC ≡ EIO = sym (ap errno_of_call is) ∙ fault in cc
+
+-- a point answers EIO only where a device call failed, and any other refusal comes before the first write
+pub point_fails : (e : PointError) → errno_of_point e ≡ EIO → (e ≡ point.NotPlanned plan.Device) ⊎ (e ≡ point.NotWritten)
+point_fails (point.NotPlanned plan.NoMemory) is = cc
+point_fails (point.NotPlanned plan.Device) is = inl refl
+point_fails (point.NotPlanned plan.NoSpace) is = cc
+point_fails (point.NotPlanned plan.Damaged) is = cc
+point_fails point.NotWritten is = inr refl
+point_fails point.NoGeneration is = cc
+
+pub point_refuses : (e : PointError) → errno_of_point e ≢ EIO → IsRefused e
+point_refuses (point.NotPlanned e) other = tt
+point_refuses point.NotWritten other = absurd (other refl)
+point_refuses point.NoGeneration other = tt
+
+-- behind calls that left the state as it was
+pub after_stay : {S : Type 0} {G : Ghosts S} (old mid new : Fs S G) (s : State) (command : Command) (reply : Reply) → Serves (mounted old s) → IsFalse old.has_failed → Stays old mid s
+    → Uses (systems.meaning_of mid.system) (systems.meaning_of new.system) → (systems.meaning_of mid.system).failed_reads ≡ (systems.meaning_of old.system).failed_reads
+    → (systems.meaning_of mid.system).failed_writes ≡ (systems.meaning_of old.system).failed_writes → IsAppliedAt mid s new command reply → IsAppliedAt old s new command reply
+after_stay old mid new s command reply serves runs stays uses reads writes applied =
+    (applied.0, applied_after old mid new s applied.0 command reply serves (still_going old s serves runs) stays uses.same reads writes applied.1)
+
+module _ {S : Type 0} {G : Ghosts S} (old new : Fs S G) (s : State) where
+  abbrev before : Meaning
+  before = systems.meaning_of old.system
+
+  abbrev behind : Meaning
+  behind = systems.meaning_of new.system
+
+  -- a system that goes on serves what its parts serve
+  pub going_serves : (t : State) → behind.is_honest → t.mark ≡ going → IsFalse new.has_failed → ServesState new.system t → Serves (mounted new t)
+  going_serves t honest still runs serves =
+      record { honest = honest; mark = still ∙ sym (is_going new.has_failed runs); kept = λ _. serves; cut_short = λ stopped. not_both t.mark still stopped }
+
+  module _ (serves : Serves (mounted old s)) (runs : IsFalse old.has_failed) where
+    is_still : s.mark ≡ going
+    is_still = still_going old s serves runs
+
+    module _ (same : IsSameStation before behind) where
+      pub stays_by : IsFalse new.has_failed → ServesState new.system s → LeavesOnly before behind (OpensTo before s) → Stays old new s
+      stays_by runs_on served leaves = record { same = same; serves = going_serves s (same.honest.0 serves.honest) is_still runs_on served; leaves = leaves }
+
+      -- where nothing was written
+      pub stays_read : IsFalse new.has_failed → ServesState new.system s → Goes Unchanged before behind → EachCut before (OpensTo before s) → Stays old new s
+      stays_read runs_on served goes opens = stays_by runs_on served (leaves_unchanged before behind (OpensTo before s) opens goes)
+
+      -- a call that was answered
+      pub called : (c : PathCall) (reply : Reply) → IsFalse new.has_failed → behind.failed_reads ≡ before.failed_reads → behind.failed_writes ≡ before.failed_writes
+          → IsCalled old.system new.system s c reply → ((t : State) → ServesState new.system t → EachCut behind (OpensTo behind t)) → IsAppliedAt old s new (Path c) reply
+      called c reply runs_on reads writes is opens =
+          let t = is.after in
+          let still : t.mark ≡ going = ap (λ (u : State). u.mark) is.step.1 ∙ is_still in (
+            t,
+            done old new s t (Path c) is_still still same (going_serves t (same.honest.0 serves.honest) still runs_on is.serves) serves.honest reply (came false false false false false)
+                (record { reads = reads; writes = writes; full = λ e. absurd (false≢true e); covered = λ e. absurd (false≢true e) })
+                (allowed_by s (Path c) (came false false false false false) reply t is_still (λ no. no) (inl ((is.need, is.step), λ settling. absurd settling)))
+                is.leaves (opens t is.serves),
+          )
+
+      -- a command that was refused for a cause
+      pub refused : (command : Command) → ¬ IsSure s command → Stays old new s → (read memory place : Bool) (errno : Errno) → Tells read before.failed_reads behind.failed_reads
+          → behind.failed_writes ≡ before.failed_writes → (IsTrue place → IsFilled new.system) → IsExcused (came read false memory place false) s command (Refused errno)
+          → IsAppliedAt old s new command (Refused errno)
+      refused command not_sure stays read memory place errno reads writes full excused =
+          let c = came read false memory place false in (
+            s,
+            stayed old new s command serves is_still stays (Refused errno) c
+                (record { reads = reads; writes = writes; full = full; covered = λ e. absurd (false≢true e) })
+                (allowed_by s command c (Refused errno) s is_still not_sure (inr (excused, refl))),
+          )
+
+      -- one that was cut short by a failed write
+      pub cut_short : (command : Command) → ¬ IsSure s command → IsTrue new.has_failed → MayGrow before.failed_reads behind.failed_reads → HasGrown before.failed_writes behind.failed_writes
+          → LeavesOnly before behind (OpensToSome before (IsWithin s command)) → IsAppliedAt old s new command (Refused EIO)
+      cut_short command not_sure stopped reads writes leaves =
+          let flag = told before.failed_reads behind.failed_reads reads in
+          let c = came flag.0 true false false false in (
+            as_failed s,
+            broken old new s command serves is_still stopped same c
+                (record { reads = flag.1; writes = writes; full = λ e. absurd (false≢true e); covered = λ e. absurd (false≢true e) })
+                (allowed_by s command c (Refused EIO) (as_failed s) is_still not_sure (refl, refl)) leaves,
+          )
+
+      -- a call that wasn't answered, and was written in part
+      pub broken_off : (c : PathCall) → IsTrue new.has_failed → MayGrow before.failed_reads behind.failed_reads → HasGrown before.failed_writes behind.failed_writes
+          → IsBrokenOff old.system new.system s c → IsAppliedAt old s new (Path c) (Refused EIO)
+      broken_off c stopped reads writes is =
+          cut_short (Path c) (λ no. no) stopped reads writes
+          (weaker before behind (λ i. OpensTo before s i ⊎ OpensTo before is.after i) (OpensToSome before (IsWithin s (Path c))) is.leaves (λ i one. elim one [
+            | inl first ↦ (s, first, inl refl)
+            | inr last ↦ (is.after, last, inr (came false false false false false, is.reply, (is.need, is.step)))
+          ]))
+
+    -- a call that wasn't answered
+    pub not_answered : (c : PathCall) (e : CallError) → e ≢ call.LogFull → new.has_failed ≡ fails_call e → Uses before behind → (e ≢ call.NotWritten → behind.failed_writes ≡ before.failed_writes)
+        → (e ≡ call.NotRead → HasGrown before.failed_reads behind.failed_reads) → (e ≡ call.NotWritten → HasGrown before.failed_writes behind.failed_writes)
+        → (e ≡ call.Damaged → ⊥) → (e ≢ call.NotWritten → Goes Unchanged before behind) → (e ≢ call.NotWritten → ServesState new.system s)
+        → (e ≡ call.NotWritten → IsBrokenOff old.system new.system s c) → EachCut before (OpensTo before s) → IsAppliedAt old s new (Path c) (Refused (errno_of_call e))
+    not_answered c call.NoMemory room flag uses writes reads written damaged goes served off opens =
+        let other : call.NoMemory ≢ call.NotWritten = λ e. cc in
+        let count = told before.failed_reads behind.failed_reads uses.reads in
+        refused uses.same (Path c) (λ no. no) (stays_read uses.same flag (served other) (goes other) opens) count.0 true false ENOMEM count.1 (writes other) (λ e. absurd (false≢true e)) refl
+    not_answered c call.NotRead room flag uses writes reads written damaged goes served off opens =
+        let other : call.NotRead ≢ call.NotWritten = λ e. cc in
+        refused uses.same (Path c) (λ no. no) (stays_read uses.same flag (served other) (goes other) opens) true false false EIO (reads refl) (writes other) (λ e. absurd (false≢true e)) refl
+    not_answered c call.Damaged room flag uses writes reads written damaged goes served off opens = absurd (damaged refl)
+    not_answered c call.LogFull room flag uses writes reads written damaged goes served off opens = absurd (room refl)
+    not_answered c call.NotWritten room flag uses writes reads written damaged goes served off opens = broken_off uses.same c flag uses.reads (written refl) (off refl)
+
+    -- a consistency point that wasn't made
+    pub no_point : (command : Command) (e : PointError) → NeedsPlace s command → IsYoung old → new.has_failed ≡ fails_point e → Uses before behind → (IsRefused e → behind.failed_writes ≡ before.failed_writes)
+        → (e ≡ point.NotPlanned plan.Device → HasGrown before.failed_reads behind.failed_reads) → (e ≡ point.NotWritten → HasGrown before.failed_writes behind.failed_writes)
+        → (e ≡ point.NotPlanned plan.NoSpace → IsFilled new.system) → (e ≡ point.NoGeneration → 2 ^ 62 ≤ old.system.log.epoch) → (e ≡ point.NotPlanned plan.Damaged → ⊥)
+        → (IsRefused e → ServesState new.system s) → LeavesOnly before behind (OpensTo before s) → IsAppliedAt old s new command (Refused (errno_of_point e))
+    no_point command (point.NotPlanned plan.NoMemory) needs young flag uses writes reads written full aged damaged served leaves =
+        let count = told before.failed_reads behind.failed_reads uses.reads in
+        refused uses.same command needs.not_sure (stays_by uses.same flag (served tt) leaves) count.0 true false ENOMEM count.1 (writes tt) (λ e. absurd (false≢true e)) refl
+    no_point command (point.NotPlanned plan.Device) needs young flag uses writes reads written full aged damaged served leaves =
+        refused uses.same command needs.not_sure (stays_by uses.same flag (served tt) leaves) true false false EIO (reads refl) (writes tt) (λ e. absurd (false≢true e)) refl
+    no_point command (point.NotPlanned plan.NoSpace) needs young flag uses writes reads written full aged damaged served leaves =
+        let count = told before.failed_reads behind.failed_reads uses.reads in
+        refused uses.same command needs.not_sure (stays_by uses.same flag (served tt) leaves) count.0 false true ENOSPC count.1 (writes tt)
+        (λ _. full refl) (inr (refl, needs.stores (no_room false)))
+    no_point command (point.NotPlanned plan.Damaged) needs young flag uses writes reads written full aged damaged served leaves = absurd (damaged refl)
+    no_point command point.NotWritten needs young flag uses writes reads written full aged damaged served leaves =
+        cut_short uses.same command needs.not_sure flag uses.reads (written refl)
+        (weaker before behind (OpensTo before s) (OpensToSome before (IsWithin s command)) leaves (λ i opens. (s, opens, inl refl)))
+    no_point command point.NoGeneration needs young flag uses writes reads written full aged damaged served leaves = absurd (omega (arith, aged refl, young))
+
+    -- `sync` on a system whose root covers all that is
+    pub synced : Stays old new s → behind.failed_reads ≡ before.failed_reads → behind.failed_writes ≡ before.failed_writes → systems.IsCovered new.system s.tree.descriptors s → IsAppliedAt old s new Sync Done
+    synced stays reads writes covered =
+        let c = came false false false false true in (
+          s,
+          stayed old new s Sync serves is_still stays Done c
+              (record { reads = reads; writes = writes; full = λ e. absurd (false≢true e); covered = λ _. covered })
+              (allowed_by s Sync c Done s is_still (λ no. no) (inl ((nothing, (refl, refl, refl)), λ _ _. refl))),
+        )
+
+-- an image that was opened
+pub opened_serves : {S : Type 0} {G : Ghosts S} (f : Fs S G) (s : State) → IsFalse f.has_failed → systems.Serves f.system (λ d. None) s → Serves (mounted f s)
+opened_serves f s runs serves =
+    let still : s.mark ≡ going = ap (λ (u : State). u.mark) serves.state in
+    let table : s.tree.descriptors ≡ (λ d. None) = ap (λ (u : State). u.tree.descriptors) serves.state in
+    going_serves f f s s serves.honest still runs (subst (λ (t : ℕ → Option Description). systems.Serves f.system t s) (sym table) serves)

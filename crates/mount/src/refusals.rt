@@ -1,0 +1,47 @@
+//! What the errors of a system are to who gave the command.
+
+ghost use Rattle.std.specs.Prelude.{◌≡◌};
+ghost use Rattle.mount.specs.Refusals as refusals;
+
+use conspoint::PlanError;
+use model::Errno;
+use system::{CallError, PointError};
+
+/// Of a call.
+pub(crate) fn errno_of_call(error: CallError) -> Errno
+    ensures { result ≡ refusals.errno_of_call error }
+{
+    match error {
+        CallError::NoMemory => Errno::ENOMEM,
+        CallError::NotRead | CallError::NotWritten => Errno::EIO,
+        CallError::Damaged => Errno::DAMAGED,
+        CallError::LogFull => Errno::ENOSPC,
+    }
+}
+
+/// Of a consistency point.
+pub(crate) fn errno_of_point(error: PointError) -> Errno
+    ensures { result ≡ refusals.errno_of_point error }
+{
+    match error {
+        PointError::NotPlanned(PlanError::NoMemory) => Errno::ENOMEM,
+        PointError::NotPlanned(PlanError::NoSpace) => Errno::ENOSPC,
+        PointError::NotPlanned(PlanError::Damaged) => Errno::DAMAGED,
+        PointError::NotPlanned(PlanError::Device) | PointError::NotWritten => Errno::EIO,
+        PointError::NoGeneration => Errno::FAILED,
+    }
+}
+
+/// Whether a call's error fails a system, until the next mount.
+pub(crate) fn fails_call(error: CallError) -> bool
+    ensures { result ≡ refusals.fails_call error }
+{
+    matches!(error, CallError::NotWritten)
+}
+
+/// Whether a consistency point's does.
+pub(crate) fn fails_point(error: PointError) -> bool
+    ensures { result ≡ refusals.fails_point error }
+{
+    !matches!(error, PointError::NotPlanned(_))
+}

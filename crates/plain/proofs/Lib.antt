@@ -1,5 +1,0 @@
-mod TreeLemmas
-mod ListLemmas
-mod ListingLemmas
-mod CallLemmas
-mod CreationLemmas
