@@ -71,12 +71,11 @@ fn obey_line(rt: &HostRuntime, line: &Line<'_>) -> u8 {
             disk,
             nvram,
             script,
-            faults:
-                RunFaults {
-                    cut: None,
-                    fail_sync: None,
-                    ..
-                },
+            faults: RunFaults {
+                cut: None,
+                fail_sync: None,
+                ..
+            },
         } => run_on_files(rt, disk, nvram, script),
         Line::Run {
             disk,

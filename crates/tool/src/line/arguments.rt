@@ -64,11 +64,9 @@ fn run_command<'a>(alloc: Global) -> Result<Command<'a>, AllocError> {
                 "Bytes that an NVRAM write keeps when it is cut, as in --bytes 1",
             ),
         )?
-        .arg(
-            count(alloc, "fail-sync").help(
-                "Let sync N of this run fail, from 1, which mounting makes, as in --fail-sync 2",
-            ),
-        )
+        .arg(count(alloc, "fail-sync").help(
+            "Let sync N of this run fail, from 1, which mounting makes, as in --fail-sync 2",
+        ))
 }
 
 fn cut_option<'a>(alloc: Global) -> Arg<'a> {
