@@ -2,8 +2,7 @@
 
 use layout::{
     BLOCK_BYTES, Entry, Gate, Geometry, HEADER_BYTES, Header, INODE_BYTES, Inode, ROOT_BYTES,
-    Record, Root, SnapRoot, fresh_block, fresh_blocks, fresh_root, is_directory_block,
-    is_indirect_block, is_inode_map, read_gate,
+    Record, Root, SnapRoot, is_directory_block, is_indirect_block, is_inode_map, read_gate,
 };
 
 /// What the bytes of a table are to be.
@@ -18,30 +17,11 @@ pub enum Format {
     /// A half of the NVRAM, up to its first closed gate.
     Half,
     /// A block of a directory in an image of so many inodes.
-    Directory {
-        inodes: u32,
-    },
+    Directory { inodes: u32 },
     /// Bytes of an inode map of so many inodes, the first bit being that of number `first`.
-    InodeMap {
-        first: u32,
-        inodes: u32,
-    },
+    InodeMap { first: u32, inodes: u32 },
     /// An indirect block over so many blocks of a file, in an image of so many blocks.
-    Indirect {
-        blocks: u32,
-        used: u32,
-    },
-    /// The root of a new image.
-    NewRoot {
-        blocks: u32,
-        inodes: u32,
-    },
-    /// A block of a new image.
-    NewBlock {
-        blocks: u32,
-        inodes: u32,
-        block: u32,
-    },
+    Indirect { blocks: u32, used: u32 },
 }
 
 /// Whether the bytes are in the format.
@@ -56,12 +36,6 @@ pub fn holds(format: Format, bytes: &[u8]) -> bool {
         Format::Directory { inodes } => is_directory(bytes, inodes),
         Format::InodeMap { first, inodes } => is_map(bytes, first, inodes),
         Format::Indirect { blocks, used } => is_indirect(bytes, blocks, used),
-        Format::NewRoot { blocks, inodes } => is_new_root(blocks, inodes, bytes),
-        Format::NewBlock {
-            blocks,
-            inodes,
-            block,
-        } => is_new_block(blocks, inodes, block, bytes),
     }
 }
 
@@ -174,25 +148,4 @@ fn block_of(bytes: &[u8]) -> Option<[u8; BLOCK_BYTES]> {
     let mut block = [0; BLOCK_BYTES];
     block.copy_from_slice(bytes);
     Some(block)
-}
-
-fn is_new_root(blocks: u32, inodes: u32, bytes: &[u8]) -> bool {
-    let Some(geometry) = Geometry::new(blocks, inodes, 131_072) else {
-        return false;
-    };
-    let mut root = [0xff; ROOT_BYTES];
-    fresh_root(geometry).write(&mut root);
-    root.as_slice() == bytes
-}
-
-fn is_new_block(blocks: u32, inodes: u32, number: u32, bytes: &[u8]) -> bool {
-    let Some(geometry) = Geometry::new(blocks, inodes, 131_072) else {
-        return false;
-    };
-    if number < 2 || fresh_blocks(geometry) <= number {
-        return false;
-    }
-    let mut block = [0xff; BLOCK_BYTES];
-    fresh_block(geometry, number, &mut block);
-    block.as_slice() == bytes
 }

@@ -83,21 +83,6 @@ fn format_of(name: &str, [a, b, c]: [u32; 3]) -> Option<Format> {
             },
         ),
         ("indirect", Format::Indirect { blocks: a, used: b }),
-        (
-            "new-root",
-            Format::NewRoot {
-                blocks: a,
-                inodes: b,
-            },
-        ),
-        (
-            "new-block",
-            Format::NewBlock {
-                blocks: a,
-                inodes: b,
-                block: c,
-            },
-        ),
     ];
     for (known, format) in formats {
         if name == known {

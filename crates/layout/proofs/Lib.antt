@@ -8,7 +8,6 @@ pub mod WordLaws
 pub mod MapLaws
 pub mod InodeLaws
 pub mod RootLaws
-pub mod FreshLaws
 pub mod EntryLaws
 pub mod SnapshotLaws
 pub mod OpenLaws

@@ -1,8 +1,8 @@
 -- Lemmas on the halves of the NVRAM.
-use Rattle.std.proofs.Common.{◌≡◌, ◌≢◌, inl, inr, ℕ, suc, ◌+◌, ◌*◌, ◌%◌, ◌<◌, ◌^◌, List, [], ◌∷◌, ◌++◌, length, take, drop, get_or, refl, sym, ap, ◌∙◌, subst, arith, length-append}
+use Rattle.std.proofs.Common.{◌≡◌, ◌≢◌, inl, ℕ, suc, ◌<◌, ◌^◌, List, [], ◌∷◌, ◌++◌, length, take, drop, get_or, refl, sym, ap, ◌∙◌, subst, arith, length-append}
 use Rattle.byteorder.specs.Endian.{little_number, little_bytes}
 use Rattle.byteorder.specs.Numbers.{little_from-take, little_number-reads_back, length-bytes_low_first}
-use Rattle.layout.specs.Log.{half_at, half_of, record_of, HoldsBodies, opened, IsClosed, IsUnopened, LogHolds}
+use Rattle.layout.specs.Log.{record_of, HoldsBodies, opened, IsClosed, IsUnopened}
 use Rattle.layout.proofs.NumberLaws.{little_bytes-number}
 
 head-append : (xs ys zs ws : List ℕ) → length xs ≡ length zs → xs ++ ys ≡ zs ++ ws → (xs ≡ zs) × (ys ≡ ws)
@@ -61,14 +61,3 @@ open_bytes (gate ∷ rest) epoch nine one fits is =
 pub closed_unopened : (epoch : ℕ) (bytes : List ℕ) → IsClosed bytes → IsUnopened epoch bytes
 closed_unopened epoch bytes shut =
     record { earlier = inl shut; not_open = λ rest is. let e : 0 ∷ shut.0 ≡ opened epoch ++ rest = sym shut.1 ∙ is in cc }
-
--- where both halves are closed, the log holds nothing
-pub none_logged : (half g : ℕ) (nvram : List ℕ) → length nvram ≡ 2 * half → ((r : ℕ) → r < 2 → IsClosed (half_at half r nvram)) → LogHolds half g nvram []
-none_logged half g nvram size shut = record {
-  size = size;
-  first = [];
-  second = [];
-  in_order = refl;
-  first_held = inr (closed_unopened (g + 1) (half_of half (g + 1) nvram) (shut ((g + 1) % 2) (omega arith)), refl);
-  second_held = inr (closed_unopened (g + 2) (half_of half (g + 2) nvram) (shut ((g + 2) % 2) (omega arith)), refl);
-}

@@ -47,13 +47,6 @@ words_again (word ∷ words) rest fits =
     let behind : drop 4 (little 4 word ++ (words_bytes words ++ rest)) ≡ words_bytes words ++ rest = drop_at (little 4 word) (words_bytes words ++ rest) 4 (length-little 4 word) in
     ap (words_in (suc (length words))) regrouped ∙ rw (first, behind, words_again words rest fits.1) refl
 
-words_at : (n : ℕ) (bytes : List ℕ) (k d : ℕ) → k < n → get_or (words_in n bytes) k d ≡ number 4 (drop (4 * k) bytes)
-unfolding words_in
-words_at zero bytes k d lt = absurd (omega arith)
-words_at (suc n) bytes zero d lt = refl
-words_at (suc n) bytes (suc k) d lt =
-    words_at n (drop 4 bytes) k d (omega arith) ∙ ap (number 4) (drop-drop (4 * k) 4 bytes ∙ ap (λ (j : ℕ). drop j bytes) (omega arith))
-
 pointers_at : (n : ℕ) (bytes : List ℕ) (k : ℕ) (d : Pointer) → k < n → get_or (pointers_in n bytes) k d ≡ pointer_of (number 4 (drop (4 * k) bytes))
 unfolding words_in
 pointers_at zero bytes k d lt = absurd (omega arith)
@@ -118,11 +111,6 @@ unfolding words_bytes
 words_bytes-append [] ys = refl
 words_bytes-append (x ∷ xs) ys =
     ap (λ (r : List ℕ). little 4 x ++ r) (words_bytes-append xs ys) ∙ sym (append_assoc (little 4 x) (words_bytes xs) (words_bytes ys))
-
-pub words_push : (words : List ℕ) (word : ℕ) → words_bytes (words ++ word ∷ []) ≡ words_bytes words ++ little 4 word
-unfolding words_bytes
-words_push words word =
-    words_bytes-append words (word ∷ []) ∙ ap (λ (r : List ℕ). words_bytes words ++ r) (append-nil (little 4 word))
 
 -- one more pointer at the end
 pub pointers_bytes_push : (ps : List Pointer) (p : Pointer) → pointers_bytes (ps ++ p ∷ []) ≡ pointers_bytes ps ++ little 4 (pointer_number p)

@@ -1,5 +1,5 @@
 -- Directories: blocks of entries.
-use Rattle.std.specs.Prelude.{ℕ, ◌≡◌, ◌≢◌, ◌≤◌, ◌<◌, List, [], ◌∷◌, ◌++◌, length, AllPairs, Option, Some}
+use Rattle.std.specs.Prelude.{ℕ, ◌≡◌, ◌≤◌, ◌<◌, List, [], ◌∷◌, ◌++◌, length, Option, Some}
 use Rattle.layout.specs.Bytes.{zeros}
 use Rattle.layout.specs.Format.{Format, num, counted, ◌▸◌}
 use Rattle.layout.specs.Reading.{◌>>=◌}
@@ -45,10 +45,6 @@ HoldsEntries inodes bytes (e ∷ entries) =
 pub record IsDirectoryBlock (inodes : ℕ) (bytes : List ℕ) (entries : List Named) : Type 0 where
   pub size : length bytes ≡ BLOCK_BYTES
   pub holds : HoldsEntries inodes bytes entries
-
--- no name stands twice
-abbrev pub HasDistinctNames : List Named → Type 0
-HasDistinctNames entries = AllPairs (λ e other. e.name ≢ other.name) entries
 
 -- what bytes of a directory's block begin with, at an entry's place
 abbrev pub NextEntryIs : ℕ → List ℕ → NextEntry → Type 0

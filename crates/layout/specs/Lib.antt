@@ -1,6 +1,5 @@
 pub mod Bytes
 pub mod Format
-pub mod Fresh
 pub mod Gates
 pub mod Inode
 pub mod InodeReading

@@ -1,6 +1,5 @@
 -- Pointers to blocks, and arrays of numbers of four bytes.
 use Rattle.std.specs.Prelude.{ℕ, zero, suc, ◌≤◌, ◌<◌, List, [], ◌∷◌, ◌++◌, drop, map}
-use Rattle.std.specs.List.{range_with_len}
 use Rattle.layout.specs.Bytes.{little, number}
 use Rattle.layout.specs.declared.pointer.Pointer.{Pointer}
 use Rattle.layout.specs.declared.pointer.Pointer.TheVariants.{Hole, Block}
@@ -35,7 +34,3 @@ pointers_bytes pointers = words_bytes (map pointer_number pointers)
 
 abbrev pub pointers_in : ℕ → List ℕ → List Pointer
 pointers_in n bytes = map pointer_of (words_in n bytes)
-
--- n numbers of four bytes, number i from 0 on being f i
-unfoldable pub words_of : (ℕ → ℕ) → ℕ → List ℕ
-words_of f n = words_bytes (map f (range_with_len 0 n))

@@ -5,7 +5,6 @@
 mod directory;
 mod entry;
 mod fields;
-mod fresh;
 mod geometry;
 mod inode;
 mod kind;
@@ -13,7 +12,6 @@ mod log;
 mod maps;
 mod name;
 mod numbers;
-mod opens;
 mod pointer;
 mod reading;
 mod record;
@@ -26,7 +24,6 @@ mod writing;
 
 pub use directory::{NextEntry, is_directory_block, next_entry};
 pub use entry::Entry;
-pub use fresh::{fresh_block, fresh_blocks, fresh_root};
 pub use geometry::{
     Geometry, LEAST_BLOCKS, LEAST_HALF, LEAST_INODES, MOST_BLOCKS, MOST_HALF, MOST_INODES,
 };
@@ -45,7 +42,6 @@ pub use numbers::{
     BlockNumber, Epoch, FIRST_GENERATION, FIRST_NUMBER, Generation, InodeNumber, LAST_GENERATION,
     ROOT_NUMBER,
 };
-pub use opens::opens_once;
 pub use pointer::Pointer;
 pub use record::{NewObject, Record, WRITE_BYTES};
 pub use root::Root;

@@ -7,7 +7,7 @@ pub mod CountLemmas
 pub mod WalkLemmas
 pub mod NameLemmas
 pub mod ListingLemmas
-pub mod AdditionLemmas
+pub mod NewTreeLemmas
 pub mod OwnLemmas
 pub mod VolumeLemmas
 pub mod KeptLemmas

@@ -13,7 +13,6 @@ use Rattle.model.specs.Counting.{Counts}
 use Rattle.model.specs.Paths.{Name, Path}
 use Rattle.model.specs.Trees.{Tree}
 use Rattle.model.specs.Outcomes.{IsListing}
-use Rattle.model.proofs.CountLemmas.{counts_once}
 
 differ : {X : Type 0} → Equal ≡ Less → X
 differ e = cc
@@ -61,11 +60,6 @@ listing_counts t p names listing =
       λ e. (listing.whole n).0 (Contains-from_any (λ x y. (bytes_eq-Decides x y).0) n names e),
       λ some. list_any-from_Contains nat_list_eq_equiv n names ((listing.whole n).1 some),
     ))
-
--- a directory's listings are of one length
-pub same_length : (t : Tree) (p : Path) (names others : List Name) → IsListing t p names → IsListing t p others → length names ≡ length others
-same_length t p names others one other =
-    counts_once (λ name. IsSome (t.objects (p ++ name ∷ []))) names_apart (length names) (length others) (listing_counts t p names one) (listing_counts t p others other)
 
 -- a directory has one listing
 sorted_once : (xs ys : List Name) → IsStrictlySortedBy (slice_cmp nat_cmp) xs → IsStrictlySortedBy (slice_cmp nat_cmp) ys → ((n : Name) → (has xs n ≡ true) ↔ (has ys n ≡ true)) → xs ≡ ys

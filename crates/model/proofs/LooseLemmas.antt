@@ -51,26 +51,6 @@ tree_is_loose inodes t tree = record {
   offsets = tree.offsets;
 }
 
--- where nothing is left over, it is a tree
-pub loose_is_tree : (inodes : ℕ) (t : Tree) → IsLooseTree inodes t → ((n : ℕ) → IsSome (t.bytes n) → Stands t file n ⊎ IsOpen t n) → ((n : ℕ) → IsSome (t.mode n) → Stands t directory n ⊎ Stands t file n ⊎ IsOpen t n) → IsTree inodes t
-loose_is_tree inodes t loose bytes mode = record {
-  root = loose.root;
-  above = loose.above;
-  names = loose.names;
-  single = loose.single;
-  bytes = λ n. (bytes n, loose.bytes n);
-  mode = λ n. (mode n, loose.mode n);
-  opened = loose.opened;
-  numbers = loose.numbers;
-  texts = loose.texts;
-  children = loose.children;
-  links = loose.links;
-  sizes = loose.sizes;
-  bits = loose.bits;
-  table = loose.table;
-  offsets = loose.offsets;
-}
-
 same_some : {X : Type 0} (o r : Option X) → o ≡ r → IsSome r → IsSome o
 same_some o r is some = ap is_some is ∙ some
 

@@ -24,7 +24,7 @@ use Rattle.model.specs.Steps.{Step, says, passing, on_tree, calls, is_reading_ca
 use Rattle.model.specs.Circumstances.{Circumstances, IsDone, IsSure, IsExcused, Settles, IsAnswered, Allowed}
 use Rattle.model.specs.Laws.{IsCommand, IsPathCall, CommandsLeaveStates, AllowedAreStates, MountsFindStates}
 use Rattle.model.proofs.LeadLemmas.{AllPass, all_passed}
-use Rattle.model.proofs.AdditionLemmas.{root_is_tree, tree_is_state}
+use Rattle.model.proofs.NewTreeLemmas.{root_is_tree, tree_is_state}
 use Rattle.model.proofs.LooseLemmas.{none_some, swept_is_tree, closed_is_loose}
 use Rattle.model.proofs.StayLemmas.{LeavesTree, stays_stat, stays_list, stays_readlink, stays_get, stays_truncate, stays_chmod, stays_close, stays_read, stays_pread, stays_write, stays_pwrite, stays_seek, stays_ftruncate, stays_fstat, stays_fsync}
 use Rattle.model.proofs.CallLemmas.{stays_mkdir, stays_symlink, stays_link, stays_rmdir, stays_unlink, stays_open}

@@ -13,7 +13,6 @@ pub mod States
 pub mod Steps
 pub mod Circumstances
 pub mod Runs
-pub mod Additions
 pub mod Volumes
 pub mod Records
 pub mod Changes

@@ -1,11 +1,10 @@
 -- How the calls of a station in memory go on from what they found.
-use Rattle.std.proofs.Common.{◌≡◌, ◌⊎◌, inl, inr, ℕ, suc, ◌+◌, ◌*◌, ◌<◌, ◌≤◌, Bool, true, false, List, [], ◌∷◌, ◌++◌, length, refl, ap, sym, subst, ◌∙◌, arith, length-append}
-use Rattle.std.proofs.Math.Seq.{take-length}
+use Rattle.std.proofs.Common.{◌≡◌, ◌⊎◌, inl, inr, ℕ, suc, ◌+◌, ◌*◌, ◌<◌, ◌≤◌, Bool, true, false, List, [], ◌∷◌, ◌++◌, length, refl, sym, subst, ◌∙◌, arith, length-append}
 use Rattle.std.proofs.lemmas.Bool.{cases_eq}
 use Rattle.std.specs.Global.{Vec}
 use Rattle.std.specs.Prelude.{if◌then◌else◌}
 use Rattle.std.proofs.Math.Path.{fun_ext}
-use Rattle.station.specs.Images.{Images, Sector, part_of, reaches, disk_with, nvram_with, Unchanged, SomeSectorsWritten, NvramWritten, NvramPrefixWritten, Reaches}
+use Rattle.station.specs.Images.{Images, Sector, part_of, reaches, disk_with, Unchanged, SomeSectorsWritten, NvramPrefixWritten, Reaches}
 use Rattle.station.specs.Moments.{Went}
 use Rattle.station.specs.Device.{Device, reads_of, after, after_all, IsOneOf, MayBeLeft, LeftWithin, LeftAt}
 use Rattle.station.specs.Sim.{known}
@@ -97,15 +96,6 @@ is_step-nv_write d at bytes kept le = record {
   where
     keeps_some : (c : Images) (k : ℕ) → k ≤ length bytes.items → MayBeLeft (after d (NvWrite at bytes k)) c → (e : Images) × MayBeLeft d e × NvramPrefixWritten at bytes.items e c
     keeps_some c k within left = (record { disk = c.disk; nvram = d.nvram }, record { disk = left.disk; nvram = refl }, record { kept = k; within = within; writes = λ i. record { disk = c.disk; nvram = left.nvram i } })
-
--- an NVRAM write that keeps all its bytes
-pub left_after_nv_write : (d : Device) (at : ℕ) (bytes : Vec ℕ) (c : Images) → MayBeLeft (after d (NvWrite at bytes (length bytes.items))) c → (e : Images) × MayBeLeft d e × NvramWritten at bytes.items e c
-unfolding after
-left_after_nv_write d at bytes c left = (
-  record { disk = c.disk; nvram = d.nvram },
-  record { disk = left.disk; nvram = refl },
-  λ i. record { disk = c.disk; nvram = (left.nvram ∙ ap (λ b. nvram_with at b d.nvram) (take-length bytes.items)) i },
-)
 
 -- a sector that a write may have reached, as it was before
 record Earlier (d : Device) (first : ℕ) (bytes : List ℕ) (x : Sector) (n : ℕ) : Type 0 where

@@ -3,7 +3,7 @@
 use Rattle.std.proofs.Common.{◌≡◌, inl, inr, ℕ, ◌≤◌, ◌↔◌, List, length, take, arith, refl, sym, ap, ◌∙◌, subst}
 use Rattle.std.proofs.lemmas.Bool.{cases_lt}
 use Rattle.station.specs.Images.{Images, Unchanged, NvramWritten, NvramPrefixWritten, nvram_with}
-use Rattle.station.specs.Moments.{Meaning, MayLeave, After, EachCut, KeepsDisk, Goes, LeftGoes, LeavesOnly, IsSameStation, HasGrown, MayGrow, counted}
+use Rattle.station.specs.Moments.{Meaning, MayLeave, After, EachCut, KeepsDisk, Goes, LeftGoes, LeavesOnly, IsSameStation, HasGrown, MayGrow}
 
 -- THE SAME STATION
 
@@ -33,10 +33,6 @@ module _ (a b c : ℕ) where
   may_grow_twice (inl same) (inr grown) = inr (grown_since (inl same) grown)
   may_grow_twice (inr grown) later = inr (grown_later grown later)
 
--- a count that went up by one has grown
-pub counted_grown : (a b : ℕ) → b ≡ counted a → HasGrown a b
-counted_grown a b is = omega (arith, is)
-
 -- STEPS
 
 -- no call
@@ -49,19 +45,6 @@ goes_none m step reflexive honest = record {
   now = λ c left. (c, left, reflexive c);
   seen = reflexive m.seen;
 }
-
--- a step is also a wider one
-pub goes_wider : (old new : Meaning) (first step : Images → Images → Type 0) → Goes first old new → ((a b : Images) → first a b → step a b) → Goes step old new
-goes_wider old new first step goes wider honest =
-    let went = goes honest in
-    record {
-      honest = went.honest;
-      later = went.later;
-      kept = went.kept;
-      added = λ t c late soon left. let d = went.added t c late soon left in (d.0, d.1, wider d.0 c d.2);
-      now = λ c left. let d = went.now c left in (d.0, d.1, wider d.0 c d.2);
-      seen = wider old.seen new.seen went.seen;
-    }
 
 -- what two runs kept of earlier moments
 both_kept : (old mid new : Meaning) → old.moment ≤ mid.moment
@@ -155,11 +138,6 @@ pub goes_on_from : (old mid new : Meaning) (step : Images → Images → Type 0)
     → ((c d : Images) → Q d → step d c → P c) → LeavesOnly old new P
 goes_on_from old mid new step Q P so_far each goes to honest =
     goes_on old mid new step P so_far goes (λ c after. to c after.0 (each (so_far honest).honest after.0 after.1) after.2) honest
-
--- the first call
-pub goes_first : (old new : Meaning) (step : Images → Images → Type 0) (Q P : Images → Type 0) → EachCut old Q → Goes step old new
-    → ((c : Images) → Q c → P c) → ((c d : Images) → Q d → step d c → P c) → LeavesOnly old new P
-goes_first old new step Q P each goes here to = goes_on_from old old new step Q P (started old P (each_weaker old Q P each here)) each goes to
 
 -- what is said of every moment may be said more weakly
 pub weaker : (old new : Meaning) (P Q : Images → Type 0) → LeavesOnly old new P → ((c : Images) → P c → Q c) → LeavesOnly old new Q

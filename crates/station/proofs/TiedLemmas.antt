@@ -5,7 +5,7 @@ use Rattle.std.specs.Prelude.{if◌then◌else◌}
 use Rattle.station.specs.Images.{part_of, reaches, nvram_with}
 use Rattle.station.specs.Device.{Device, fresh, sectors_of, after, after_all, IsOneOf, MayBeLeft}
 use Rattle.station.specs.Tied.{IsTied}
-use Rattle.station.specs.Unsynced.{parts_of, written_to, kept_value}
+use Rattle.station.specs.Unsynced.{parts_of, written_to}
 use Rattle.station.specs.declared.history.Call.{Call}
 use Rattle.station.specs.declared.history.Call.TheVariants.{Read, Write, NvWrite, Sync}
 use Rattle.station.specs.declared.history.SectorWrite.{SectorWrite}
@@ -76,14 +76,6 @@ module _ (d : Device) (disk nvram st : List ℕ) (un : List SectorWrite) (keep :
   pub tied-sync_failed : IsTied d disk nvram st un false keep → IsTied (after d (Sync false)) disk nvram st un false keep
   unfolding after
   tied-sync_failed tied = tied
-
-  pub tied-cut : (cut : List ℕ) (kept : Keep) → ((n : ℕ) → sectors_of cut n ≡ kept_value kept 0 un n (sectors_of st n)) → IsTied d disk nvram st un false keep → IsTied d cut nvram st un true kept
-  tied-cut cut kept left tied = record {
-    seen = λ e. cc;
-    left = λ e. left;
-    held = tied.held;
-    nvram_is = tied.nvram_is;
-  }
 
   -- before a cut and after one, the disk and the NVRAM are images that a cut may leave
   pub tied-may_be_left : (is_cut : Bool) → SeenIsHeld d → IsTied d disk nvram st un is_cut keep → MayBeLeft d record { disk = sectors_of disk; nvram = nvram }

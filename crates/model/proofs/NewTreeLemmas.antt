@@ -1,22 +1,15 @@
--- The tree of a new file system, what a new directory keeps of a tree, and what a mount finds where no file is open.
-use Rattle.std.proofs.Common.{◌≡◌, inl, inr, ℕ, ◌==◌, ◌≤◌, List, [], ◌∷◌, ◌++◌, false, arith, Option, Some, None, IsSome, is_some, IfSome, All, refl, sym, ap, subst, ◌∙◌, lit≤}
-use Rattle.std.proofs.lemmas.Bool.{cases_Bool, false_from_ne_true, cond_both, cond-true, cond-false, false≢true, eq-eqb, eqb-true}
+-- The tree of a new file system, and a tree with no snapshots beside it.
+use Rattle.std.proofs.Common.{◌≡◌, inl, inr, ℕ, ◌==◌, ◌≤◌, List, [], ◌∷◌, ◌++◌, false, arith, Some, None, IsSome, is_some, IfSome, All, refl, sym, ap, subst, ◌∙◌, lit≤}
+use Rattle.std.proofs.lemmas.Bool.{cases_Bool, cond_both, cond-true, cond-false, false≢true, eq-eqb, eqb-true}
 use Rattle.std.proofs.lemmas.List.Elements.{All-nil}
 use Rattle.model.specs.declared.limits.TheConstants.{MODE_BITS}
 use Rattle.model.specs.Paths.{Name, Path, IsName, path_eq}
-use Rattle.model.specs.Trees.{Tree, Object, directory, symlink, file, number, is_directory, IsOpen, IsTree, root_alone}
-use Rattle.model.specs.Edits.{with_mode, with_directory}
-use Rattle.model.specs.Additions.{AddsDirectory}
-use Rattle.model.specs.States.{Mark, IsState, IsFrozen, IsShortName, ForgetsOpenFiles}
+use Rattle.model.specs.Trees.{Tree, Object, directory, symlink, file, number, IsTree, root_alone}
+use Rattle.model.specs.States.{Mark, IsState, IsFrozen, IsShortName}
 use Rattle.model.proofs.WalkLemmas.{same_path}
-use Rattle.model.proofs.PlaceLemmas.{directory_joins, placed_is_tree}
 
 none_some : {X Y : Type 0} {x : X} → None ≡ Some x → Y
 none_some e = cc
-
-none_from : {X : Type 0} (o : Option X) → is_some o ≡ false → o ≡ None
-none_from None e = refl
-none_from (Some x) e = absurd (false≢true (sym e))
 
 some_same : {X : Type 0} {x y : X} → Some x ≡ Some y → x ≡ y
 some_same e = cc
@@ -77,41 +70,6 @@ root_is_tree inodes = record {
   table = λ d past. refl;
   offsets = λ d f is. none_some is;
 }
-
--- a new directory keeps a tree a tree
-pub adds_keeps : (inodes number parent : ℕ) (name : Name) (mode : ℕ) (old new : Tree) → IsTree inodes old → IsName name → mode ≤ MODE_BITS → AddsDirectory inodes number parent name mode old new → IsTree inodes new
-adds_keeps inodes number parent name mode old new tree good few adds =
-    subst (IsTree inodes) (sym adds.becomes)
-    (placed_is_tree inodes old tree adds.path name (directory number) old.bytes (with_mode number mode old).mode (ap is_directory adds.stands) adds.missing good
-    (directory_joins inodes old tree number adds.low adds.high adds.free mode few) adds.names adds.listing adds.room)
-
--- a directory's number stands at one path
-one_directory : (inodes : ℕ) (t : Tree) → IsTree inodes t → (p q : Path) (n : ℕ) → t.objects p ≡ Some (directory n) → t.objects q ≡ Some (directory n) → p ≡ q
-one_directory inodes t tree p q n at_p at_q =
-    elim (tree.single p q (directory n) (directory n) at_p at_q refl) [ inl same ↦ same | inr kind ↦ directory_file kind.0 ]
-
--- what is made by its numbers is one tree
-pub adds_once : (inodes number parent : ℕ) (name : Name) (mode : ℕ) (old new other : Tree) → IsTree inodes old → AddsDirectory inodes number parent name mode old new → AddsDirectory inodes number parent name mode old other → other ≡ new
-adds_once inodes number parent name mode old new other tree adds again =
-    again.becomes ∙ ap (λ p. with_directory (p ++ name ∷ []) number mode old) (one_directory inodes old tree again.path adds.path parent again.stands adds.stands)
-    ∙ sym adds.becomes
-
--- a mount finds a tree as it was, where no file is open
-pub forgets_itself : (inodes : ℕ) (t : Tree) → IsTree inodes t → t.descriptors ≡ (λ d. None) → ForgetsOpenFiles t t
-forgets_itself inodes t tree closed =
-    let shut : (n : ℕ) → ¬ IsOpen t n = λ n (d, f, is, same). none_some (sym (ap (λ table. table d) closed) ∙ is) in
-    record {
-      objects = refl;
-      descriptors = closed;
-      kept = λ n there. (refl, refl);
-      gone = λ n nowhere. (
-        none_from (t.bytes n) (false_from_ne_true (is_some (t.bytes n)) (λ some. elim ((tree.bytes n).0 some) [ inl there ↦ nowhere (there.0, file n, there.1, refl) | inr open_file ↦ shut n open_file ])),
-        none_from (t.mode n) (false_from_ne_true (is_some (t.mode n)) (λ some. elim ((tree.mode n).0 some) [
-          | inl there ↦ nowhere (there.0, directory n, there.1, refl)
-          | inr others ↦ elim others [ inl there ↦ nowhere (there.0, file n, there.1, refl) | inr open_file ↦ shut n open_file ]
-        ])),
-      );
-    }
 
 -- a tree without snapshots beside it
 pub tree_is_state : (inodes : ℕ) (t : Tree) (mark : Mark) → IsTree inodes t → IsState (record { inodes = inodes; tree = t; snapshots = []; mark = mark })
