@@ -37,7 +37,7 @@ use Rattle.images.proofs.ReadingLaws.{highest}
 use Rattle.images.proofs.StateLaws.{newest_is_root}
 use Rattle.images.proofs.FreeLaws.{open_alike, same_block}
 use Rattle.images.proofs.HoldLaws.{point_holds}
-use Rattle.images.proofs.WordLaws.{sectors_block}
+use Rattle.images.proofs.SectorLaws.{sectors_block}
 use Rattle.images.proofs.SettlingLaws.{newest_first, newest_second}
 
 -- ---- before the root

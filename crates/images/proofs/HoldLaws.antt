@@ -1,6 +1,7 @@
 -- A point whose plan is in its grammar leaves a root that holds the planned volume.
 use Rattle.std.proofs.Common.{◌≡◌, ◌⊎◌, inl, inr, ℕ, zero, suc, false, ◌<◌, ◌≤◌, List, [], ◌∷◌, slice_index_or, Option, Some, None, IsSome, refl, ap, sym, subst, ◌∙◌, arith}
 use Rattle.std.proofs.lemmas.Bool.{cases_lt}
+use Rattle.layout.specs.Inode.{IsInode}
 use Rattle.layout.specs.Limits.{Sizes}
 use Rattle.layout.specs.Places.{Blocks}
 use Rattle.layout.specs.Root.{IsRoot}
@@ -8,6 +9,7 @@ use Rattle.layout.specs.SnapRoot.{Snapshot, snapshot_in}
 use Rattle.layout.specs.declared.inode.Inode.{Inode}
 use Rattle.layout.specs.declared.pointer.Pointer.TheVariants.{Hole}
 use Rattle.layout.specs.declared.root.Root.{Root}
+use Rattle.layout.specs.declared.version.TheConstants.{VERSION}
 use Rattle.model.specs.Paths.{Name}
 use Rattle.model.specs.Trees.{Tree}
 use Rattle.model.specs.Volumes.{Node, Volume, IsVolume}
@@ -66,11 +68,19 @@ module _ (r new : Root) (w now : Whole) (slots : (k : ℕ) → slot new k ≡ sl
   has_is : (k : ℕ) (s : Snapshot) → HasSnapshot r w k s → HasSnapshot new now k s
   has_is k s has = record { block = has.block; there = slots k ∙ has.there; read = ap snapshot_in (heads k) ∙ has.read }
 
-  pub snapshots_stay : r.generation ≤ new.generation → AreSnapshots r w → AreSnapshots new now
-  snapshots_stay later are = record {
+  pub snapshots_stay : new.geometry ≡ r.geometry → r.generation ≤ new.generation → AreSnapshots r w → AreSnapshots new now
+  snapshots_stay geometry later are = record {
     each = λ k block there.
-        let was = are.each k block (sym (slots k) ∙ there) in
-        (was.0, has_is k was.0 was.1, record { is = was.2.is; spelled = heads k ∙ was.2.spelled; order = omega (arith, was.2.order) });
+        let was = are.each k block (sym (slots k) ∙ there) in (
+          was.0,
+          has_is k was.0 was.1,
+          record {
+            is = was.2.is;
+            spelled = heads k ∙ was.2.spelled;
+            order = omega (arith, was.2.order);
+            inode_file = subst (λ (g : Sizes). IsInode VERSION g was.0.inode_file) (sym geometry) was.2.inode_file;
+          },
+        );
     names = λ k l s q one two same. are.names k l s q (has_was k s one) (has_was l q two) same;
     orders = λ k l s q one two same. are.orders k l s q (has_was k s one) (has_was l q two) same;
   }
@@ -136,7 +146,7 @@ point_holds d e r new files first v snapshots root holds same plan good later ob
         active = subst (λ (g : Sizes). IsSoundTree g (whole e new).active) (sym plan.geometry) tree;
         frozen = λ k block there. subst (λ (g : Sizes). IsSoundTree g ((whole e new).frozen k)) (sym plan.geometry)
             (subst (IsSoundTree r.geometry) (sym (trees k)) (sound.frozen k block (sym (slots k) ∙ there)));
-        snapshots = snapshots_stay r new (whole d r) (whole e new) slots heads later.generation sound.snapshots;
+        snapshots = snapshots_stay r new (whole d r) (whole e new) slots heads plan.geometry later.generation sound.snapshots;
         exact = settled.exact;
       };
       holds = subst (λ (g : Sizes). HoldsVolume g.inodes (contents (whole e new).active) v) (sym plan.geometry)

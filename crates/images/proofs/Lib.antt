@@ -6,16 +6,10 @@ mod StateLaws
 mod FreeLaws
 mod InodeFileLaws
 mod HoldLaws
-mod WordLaws
-mod MadePlaces
-mod MadeInodes
-mod MadeTrees
-mod MadeReach
-mod MadeExact
-mod MadeSound
-mod MadeTree
-mod MadeVolume
-mod MadeState
+mod SectorLaws
+mod AloneLaws
+mod SlotLaws
+pub mod FirstLaws
 mod SettlingLaws
 pub mod ReadingLaws
 mod CutLaws

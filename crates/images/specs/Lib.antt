@@ -9,3 +9,4 @@ pub mod Overlays
 pub mod InodeFiles
 pub mod Points
 pub mod Cuts
+pub mod FirstRoots

@@ -3,9 +3,9 @@
 #![tactic(auto)]
 
 mod cut;
+mod first;
 mod frame;
 mod inode_file;
-mod made;
 mod point;
 mod reading;
 mod settling;
@@ -15,15 +15,15 @@ pub use cut::{
     finished_points_hold, finished_points_open_as_before, needed_blocks_are_of_the_disk,
     nothing_can_be_planned, unfinished_points_open_as_before,
 };
+pub use first::{first_images_open_to_the_empty_state, first_roots_hold, free_files_hold_nothing};
 pub use frame::disks_that_agree_hold_the_same;
 pub use inode_file::inodes_are_put_one_by_one;
-pub use made::{eight_sectors_are_a_block, new_images_open_to_the_empty_state};
 pub use point::{
     files_stand_as_laid, files_stand_inline, free_blocks_are_unneeded, planned_points_hold,
     planned_points_settle, trees_are_bases,
 };
 pub use reading::{
-    blocks_are_where_pointers_lead, inline_bytes_are_the_first_block,
+    blocks_are_where_pointers_lead, eight_sectors_are_a_block, inline_bytes_are_the_first_block,
     inodes_are_what_their_bytes_spell, snapshots_are_what_their_bytes_spell,
 };
 pub use settling::{later_roots_are_newest, roots_cover_epochs};

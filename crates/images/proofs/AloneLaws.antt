@@ -2,43 +2,23 @@
 use Rattle.std.proofs.Common.{◌≡◌, ◌≢◌, inl, ℕ, zero, suc, true, false, eqb, List, [], ◌∷◌, fold, Option, Some, None, IsSome, IfSome, refl, ap, sym, subst, ◌∙◌, arith}
 use Rattle.std.proofs.lemmas.Bool.Decides.{nat_tests}
 use Rattle.layout.specs.DirectoryNames.{HoldNames}
-use Rattle.layout.specs.Limits.{Sizes}
-use Rattle.layout.specs.Places.{Blocks}
 use Rattle.model.specs.Paths.{Name, Path}
 use Rattle.model.specs.Records.{without_nameless, is_vacant}
 use Rattle.model.specs.States.{ForgetsOpenFiles}
 use Rattle.model.specs.Trees.{root_alone}
-use Rattle.model.specs.Volumes.{directory_node, file_node, Volume, entries, enter, number_at, object_at, IsNode, IsVolume, tree_of}
+use Rattle.model.specs.Volumes.{file_node, entries, enter, number_at, object_at, IsNode, IsVolume, tree_of}
 use Rattle.model.proofs.MountLemmas.{mounts_forget}
-use Rattle.images.specs.Nodes.{held}
-use Rattle.images.specs.Contents.{HoldsVolume, content_of}
-use Rattle.images.proofs.MadeInodes.{made_inode}
+pub use Rattle.images.specs.FirstRoots.{root_alone as alone}
 
--- number 3 is an empty directory of mode 0755, and nothing else is there
-abbrev pub alone : Volume
-alone zero = None
-alone (suc zero) = None
-alone (suc (suc zero)) = None
-alone (suc (suc (suc zero))) = Some (directory_node 0o755 (λ x. None))
-alone (suc (suc (suc (suc n)))) = None
+-- ---- what the directory's file holds
 
--- ---- what a new image's files hold
-
-no_names : (inodes : ℕ) (block : ℕ → List ℕ) → HoldNames inodes 0 block (λ x. None)
+pub no_names : (inodes : ℕ) (block : ℕ → List ℕ) → HoldNames inodes 0 block (λ x. None)
 no_names inodes block = record {
   entries = λ i. [];
   holds = λ i lt. absurd (omega (arith, lt));
   past = λ i ge. refl;
   are = record { each = λ i. tt; once = λ i j name m n one two. absurd (cc); found = λ i name n one. absurd (cc); only = λ name none. refl };
 }
-
-pub made_holds : (s : Sizes) (d : Blocks) → HoldsVolume s.inodes (λ n. content_of (held d (made_inode s n))) alone
-unfolding held
-made_holds s d zero = refl
-made_holds s d (suc zero) = refl
-made_holds s d (suc (suc zero)) = refl
-made_holds s d (suc (suc (suc zero))) = (λ x. None, no_names s.inodes _, refl)
-made_holds s d (suc (suc (suc (suc n)))) = refl
 
 -- ---- it is a volume
 

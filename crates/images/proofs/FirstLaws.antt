@@ -1,0 +1,259 @@
+-- A root of an image that has nothing but an empty root directory holds just that.
+use Rattle.std.proofs.Common.{◌≡◌, ◌≢◌, inl, inr, ◌↔◌, ℕ, zero, suc, ◌-◌, ◌*◌, ◌/◌, ◌%◌, ◌<◌, ◌≤◌, List, [], get_or, replicate, None, refl, ap, sym, subst, ◌∙◌, arith}
+use Rattle.std.proofs.Math.Path.{fun_ext}
+use Rattle.std.specs.Prelude.{nat_lt, if◌then◌else◌, slice_index}
+use Rattle.std.proofs.lemmas.Bool.{cases_lt, cond_above}
+use Rattle.std.proofs.lemmas.List.{get_or_append_left, get_or-append_right, get_or-replicate, get_or_past, length-replicate}
+use Rattle.std.proofs.lemmas.List.Elements.{All-nil}
+use Rattle.layout.specs.Bytes.{zeros}
+use Rattle.layout.specs.FileBytes.{byte_in}
+use Rattle.layout.specs.Inode.{IsInode, inode_bytes}
+use Rattle.layout.specs.Limits.{Sizes, AreSizes}
+use Rattle.layout.specs.Log.{LogHolds}
+use Rattle.layout.specs.Opens.{IsNewest}
+use Rattle.layout.specs.Places.{Blocks, blocks_of, place}
+use Rattle.layout.specs.Record.{IsChange}
+use Rattle.layout.specs.Version.{level_of}
+use Rattle.layout.specs.declared.TheConstants.{SLOT_A, SLOT_B}
+use Rattle.layout.specs.declared.inode.Body.TheVariants.{Inline}
+use Rattle.layout.specs.declared.inode.Inode.{Inode}
+use Rattle.layout.specs.declared.kind.Kind.{Kind}
+use Rattle.layout.specs.declared.kind.Kind.TheVariants as kinds
+use Rattle.layout.specs.declared.pointer.Pointer.{Pointer}
+use Rattle.layout.specs.declared.pointer.Pointer.TheVariants.{Hole, Block}
+use Rattle.layout.specs.declared.root.Root.{Root}
+use Rattle.layout.specs.declared.version.TheConstants.{VERSION}
+use Rattle.model.specs.States.{empty}
+use Rattle.images.specs.Nodes.{held, Names, IsOnce, body_block, file_block, place_at_height, pointers_of}
+use Rattle.images.specs.Roots.{HeldTree, Reach, free_inode, frozen_at, inode_of, slot, tree, whole}
+use Rattle.images.specs.BlockMap.{HasBit, IsExact, IsSystem, NamesOnce, entry, roots, head}
+use Rattle.images.specs.Contents.{Content, HoldsVolume, StandsAs, contents}
+use Rattle.images.specs.FirstRoots.{IsFirst, empty_directory, first_inodes, first_tree, root_alone}
+use Rattle.images.specs.Soundness.{FitsNumber, IsSoundFile, IsSoundTree, MapsNumbers}
+use Rattle.images.specs.States.{Holds, OpensBy}
+use Rattle.images.proofs.Frames.{frozen_none}
+use Rattle.images.proofs.SlotLaws.{no_block, no_snapshots, none_kept}
+use Rattle.images.proofs.AloneLaws.{alone_forgets, alone_volume, no_names}
+use Rattle.images.proofs.ReadingLaws.{read_past, read_spelled}
+
+-- zeros are zeros
+zero_byte : (i count : ℕ) → get_or (zeros count) i 0 ≡ 0
+unfolding zeros
+zero_byte i count = elim (cases_lt i count) [
+  | inl lt ↦ get_or-replicate {A = ℕ} count i 0 0 lt
+  | inr le ↦ get_or_past (replicate count 0) i 0 (omega (arith, length-replicate {A = ℕ} count 0))
+]
+
+-- ---- files without bytes
+
+hole_or_block : (p : Pointer) (b : ℕ) → p ≡ Hole → p ≡ Block b → ⊥
+hole_or_block p b none is = let e : Hole ≡ Block b = sym none ∙ is in cc
+
+-- a file without blocks names none
+pub none_named : (d : Blocks) (f : Inode) → level_of f.size ≡ 0 → (b : ℕ) → Names (held d f) b → ⊥
+unfolding held
+none_named d f level b names =
+    hole_or_block (place_at_height d f names.height names.index) b
+    (ap (λ n. if nat_lt names.height n then place d (pointers_of f.body) (n - suc names.height) names.index else Hole) level
+    ∙ sym (cond_above names.height 0 (place d (pointers_of f.body) (0 - suc names.height) names.index) Hole Hole (omega arith) refl)) names.is
+
+none_twice : (d : Blocks) (f : Inode) → level_of f.size ≡ 0 → IsOnce (held d f)
+none_twice d f level m i k j b here there = absurd (none_named d f level b (record { height = m; index = i; is = here }))
+
+inline_zero : (stored : List ℕ) (i k : ℕ) → slice_index (body_block (Inline (zeros 128)) stored i) k ≡ 0
+unfolding zeros
+inline_zero stored zero k = elim (cases_lt k 128) [
+  | inl lt ↦ get_or_append_left (zeros 128) (zeros 3968) 0 k (omega (arith, length-replicate {A = ℕ} 128 0)) ∙ zero_byte k 128
+  | inr ge ↦ get_or-append_right (zeros 128) (zeros 3968) 128 k 0 (length-replicate {A = ℕ} 128 0) ge ∙ zero_byte (k - 128) 3968
+]
+inline_zero stored (suc i) k = zero_byte k 4096
+
+held_inode : (d : Blocks) (f : Inode) → (held d f).inode ≡ f
+unfolding held
+held_inode d f = refl
+
+zero_ends : (d : Blocks) (f : Inode) → f.body ≡ Inline (zeros 128) → (p : ℕ) → byte_in (file_block (held d f)) p ≡ 0
+unfolding held
+zero_ends d f body p =
+    ap (λ b. slice_index (body_block b ((held d f).bytes 0 (p / 4096)) (p / 4096)) (p % 4096)) body ∙ inline_zero ((held d f).bytes 0 (p / 4096)) (p / 4096) (p % 4096)
+
+zero_sound : (s : Sizes) (d : Blocks) (f : Inode) → IsInode VERSION s f → f.body ≡ Inline (zeros 128) → level_of f.size ≡ 0 → IsSoundFile s (held d f)
+zero_sound s d f fits body level = record {
+  inode = subst (IsInode VERSION s) (sym (held_inode d f)) fits;
+  indirect = λ m i b is. absurd (none_named d f level b (record { height = suc m; index = i; is = is }));
+  ends = λ p le. zero_ends d f body p;
+}
+
+pub free_fits : (s : Sizes) → IsInode VERSION s free_inode
+unfolding zeros
+free_fits s = record { mode = omega arith; size = omega arith; kind = (refl, refl, refl); body = (omega arith, length-replicate {A = ℕ} 128 0, refl) }
+
+pub directory_fits : (s : Sizes) → IsInode VERSION s empty_directory
+unfolding zeros
+directory_fits s = record { mode = omega arith; size = omega arith; kind = (refl, refl); body = (omega arith, length-replicate {A = ℕ} 128 0, refl) }
+
+pub free_sound : (s : Sizes) (d : Blocks) → IsSoundFile s (held d free_inode)
+free_sound s d = zero_sound s d free_inode (free_fits s) refl refl
+
+pub free_named : (d : Blocks) (b : ℕ) → Names (held d free_inode) b → ⊥
+free_named d b names = none_named d free_inode refl b names
+
+directory_sound : (s : Sizes) (d : Blocks) → IsSoundFile s (held d empty_directory)
+directory_sound s d = zero_sound s d empty_directory (directory_fits s) refl refl
+
+-- ---- the tree
+
+module _ (r : Root) (e : Blocks) (numbers map : Inode) (is : IsFirst r e numbers map) where
+  abbrev t : HeldTree
+  t = first_tree e r.inode_file numbers map
+
+  abbrev inode : ℕ → Inode
+  inode = first_inodes r.inode_file numbers map
+
+  are : AreSizes r.geometry
+  are = is.root.head.sizes
+
+  sound : (n : ℕ) → IsSoundFile r.geometry (t n)
+  sound zero = is.tree.files 0 (omega arith)
+  sound (suc zero) = is.tree.files 1 (omega arith)
+  sound (suc (suc zero)) = is.tree.files 2 (omega arith)
+  sound (suc (suc (suc zero))) = directory_sound r.geometry e
+  sound (suc (suc (suc (suc n)))) = free_sound r.geometry e
+
+  fits : (n : ℕ) → IsInode VERSION r.geometry (inode n)
+  fits n = subst (IsInode VERSION r.geometry) (held_inode e (inode n)) (sound n).inode
+
+  free_past : (n : ℕ) → 4 ≤ n → inode n ≡ free_inode
+  free_past zero past = absurd (omega arith)
+  free_past (suc zero) past = absurd (omega arith)
+  free_past (suc (suc zero)) past = absurd (omega arith)
+  free_past (suc (suc (suc zero))) past = absurd (omega arith)
+  free_past (suc (suc (suc (suc n)))) past = refl
+
+  tree_first : (n : ℕ) → tree e r.geometry.inodes r.inode_file n ≡ t n
+  unfolding tree inode_of held
+  tree_first zero = refl
+  tree_first (suc n) = elim (cases_lt (suc n) r.geometry.inodes) [
+    | inl lt ↦
+        read_spelled r.geometry e r.inode_file (inode (suc n)) (suc n) are (omega arith) lt (fits (suc n))
+        (is.tree.spelled.each (suc n) (omega arith) lt ∙ ap inode_bytes (held_inode e (inode (suc n))))
+    | inr ge ↦ read_past e r.geometry.inodes r.inode_file (suc n) (omega arith) ge ∙ ap (held e) (sym (free_past (suc n) (omega (arith, ge, are.least_inodes))))
+  ]
+
+  active_is : (whole e r).active ≡ t
+  unfolding whole
+  active_is = fun_ext tree_first
+
+  named_low : (n b : ℕ) → Names (t n) b → n < 3
+  named_low zero b names = omega arith
+  named_low (suc zero) b names = omega arith
+  named_low (suc (suc zero)) b names = omega arith
+  named_low (suc (suc (suc zero))) b names = absurd (none_named e empty_directory refl b names)
+  named_low (suc (suc (suc (suc n)))) b names = absurd (none_named e free_inode refl b names)
+
+  each : (n : ℕ) → IsOnce (t n)
+  each n = elim (cases_lt n 3) [
+    | inl low ↦ is.tree.once n low
+    | inr high ↦ λ m i k j b here there. (let low = named_low n b (record { height = m; index = i; is = here }) in absurd (omega (arith, high, low)))
+  ]
+
+  once : NamesOnce t
+  once = record { apart = λ n m b here there. is.tree.apart n m b (named_low n b here) (named_low m b there) here there; each = each }
+
+  kind : (n : ℕ) → FitsNumber n (t n).inode.kind
+  unfolding held
+  kind zero = is.root.kind
+  kind (suc zero) = is.tree.numbers_kind
+  kind (suc (suc zero)) = is.tree.map_kind
+  kind (suc (suc (suc zero))) = tt
+  kind (suc (suc (suc (suc n)))) = tt
+
+  used_low : (n : ℕ) → (t n).inode.kind ≢ kinds.Free → n < 4
+  unfolding held
+  used_low zero some = omega arith
+  used_low (suc zero) some = omega arith
+  used_low (suc (suc zero)) some = omega arith
+  used_low (suc (suc (suc zero))) some = omega arith
+  used_low (suc (suc (suc (suc n)))) some = absurd (some refl)
+
+  taken : MapsNumbers t
+  taken n = (λ has. inl ((is.tree.taken n).0 has), λ either. (is.tree.taken n).1 (elim either [ inl low ↦ low | inr some ↦ used_low n some ]))
+
+  tree_sound : IsSoundTree r.geometry t
+  tree_sound = record {
+    files = sound;
+    kinds = kind;
+    inodes = is.tree.spelled;
+    numbers = taken;
+    inode_map = is.tree.numbers_whole;
+    block_map = is.tree.map_whole;
+    once = once;
+  }
+
+  -- ---- the map
+
+  no_frozen : (k b : ℕ) → Reach ((whole e r).frozen k) b → ⊥
+  unfolding whole
+  no_frozen k b reach = frozen_none e r.geometry.inodes b (subst (λ p. Reach (frozen_at e r.geometry.inodes p) b) (is.slots k) reach)
+
+  not_system : (b : ℕ) → IsSystem r b → b < 2
+  not_system b (roots low) = low
+  not_system b (head k at) = absurd (hole_or_block (slot r k) b (is.slots k) at)
+
+  exact : IsExact r (whole e r)
+  exact = record {
+    active = λ b. subst (λ u. HasBit 0 (entry u b) ↔ Reach u b) (sym active_is) (is.tree.active b);
+    frozen = λ b k low other. subst (λ u. HasBit k (entry u b) ↔ Reach ((whole e r).frozen k) b) (sym active_is)
+        (λ has. absurd (is.tree.none b k low other has), λ reach. absurd (no_frozen k b reach));
+    system = λ b. subst (λ u. HasBit 31 (entry u b) ↔ IsSystem r b) (sym active_is)
+        (λ has. roots ((is.tree.system b).0 has), λ system. (is.tree.system b).1 (not_system b system));
+  }
+
+  -- ---- the objects
+
+  stands_as : (k : Kind) (c : Content) (kind_is : c.kind ≡ k) → StandsAs k r.geometry.inodes c None → StandsAs c.kind r.geometry.inodes c None
+  stands_as k c kind_is stands = subst (λ x. StandsAs x r.geometry.inodes c None) (sym kind_is) stands
+
+  objects : HoldsVolume r.geometry.inodes (contents t) root_alone
+  unfolding held
+  objects zero = stands_as kinds.InodeFile (contents t 0) is.root.kind refl
+  objects (suc zero) = stands_as kinds.InodeMap (contents t 1) is.tree.numbers_kind refl
+  objects (suc (suc zero)) = stands_as kinds.BlockMap (contents t 2) is.tree.map_kind refl
+  objects (suc (suc (suc zero))) = (λ x. None, no_names r.geometry.inodes _, refl)
+  objects (suc (suc (suc (suc n)))) = refl
+
+  -- ---- all of it
+
+  pub first_holds : Holds r (whole e r) root_alone []
+  first_holds = record {
+    sound = record {
+      active = subst (IsSoundTree r.geometry) (sym active_is) tree_sound;
+      frozen = λ k block there. absurd (no_block (slot r k) block (is.slots k) there);
+      snapshots = no_snapshots r (whole e r) is.slots;
+      exact = exact;
+    };
+    holds = subst (λ (u : HeldTree). HoldsVolume r.geometry.inodes (contents u) root_alone) (sym active_is) objects;
+    volume = alone_volume r.geometry.inodes;
+    kept = none_kept r (whole e r) is.slots;
+  }
+
+-- ---- the state
+
+pub first_opens : (sectors : ℕ) (disk : ℕ → List ℕ) (nvram : List ℕ) (r : Root) → IsNewest r (disk SLOT_A) (disk SLOT_B) → sectors ≡ 8 * r.geometry.blocks
+    → Holds r (whole (blocks_of disk) r) root_alone [] → LogHolds r.geometry.half r.generation nvram [] → OpensBy sectors disk nvram (empty r.geometry.inodes) []
+first_opens sectors disk nvram r newest size holds log = record {
+  opens = record {
+    root = r;
+    newest = newest;
+    size = size;
+    first = root_alone;
+    snapshots = [];
+    holds = holds;
+    changes = [];
+    log = record { are = All-nil IsChange; log = log };
+    last = root_alone;
+    replays = refl;
+    state = record { tree = alone_forgets r.geometry.inodes; rest = refl };
+  };
+  these = refl;
+}
