@@ -1,6 +1,6 @@
 //! A file's blocks, settled ones and changed ones.
 
-ghost use Rattle.std.specs.Prelude.{◌≡◌, ℕ, ◌+◌, ◌-◌, ◌*◌, ◌^◌, ◌<◌, ◌≤◌, List, length, slice_index, vec_len, All, OnOk, IfOk, IsErrOf};
+ghost use Rattle.std.specs.Prelude.{◌≡◌, ◌⊎◌, ℕ, ◌+◌, ◌-◌, ◌*◌, ◌^◌, ◌<◌, ◌≤◌, List, length, slice_index, vec_len, All, OnOk, IfOk, IsErrOf};
 ghost use Rattle.layout.specs.Bytes.{zeros};
 ghost use Rattle.layout.specs.Version.{greatest_size};
 ghost use Rattle.layout.specs.declared.version.TheConstants.{VERSION};
@@ -311,6 +311,7 @@ impl BlockTree {
         ensures was_sound { KeepsSound self.new self.old }
         ensures settled { SameSettled self.old self.new }
         ensures kept { self.new.kept ≡ self.old.kept }
+        ensures changed { (j : ℕ) → IsChanged self.old j → IsChanged self.new j }
     {
         if !self.slots.contains_key(&i) {
             return match self.slots.insert(i, Slot::AsSettled) {
@@ -330,6 +331,7 @@ impl BlockTree {
         ensures sound { KeepsSound self.old self.new }
         ensures settled { SameSettled self.old self.new }
         ensures kept { self.new.kept ≡ self.old.kept }
+        ensures changed { (j : ℕ) → (j ≡ i) ⊎ IsChanged self.old j → IsChanged self.new j }
     {
         let _ = self.slots.insert(i, Slot::Changed(block));
     }

@@ -1,6 +1,6 @@
 //! Changes of a file.
 
-ghost use Rattle.std.specs.Prelude.{◌≡◌, ◌≢◌, ℕ, ◌+◌, ◌*◌, ◌<◌, ◌≤◌, ◌/◌, List, length, slice_index, OnOk, OnErr, IsErrOf, IfOk, max};
+ghost use Rattle.std.specs.Prelude.{◌≡◌, ◌≢◌, ◌⊎◌, ℕ, ◌+◌, ◌*◌, ◌<◌, ◌≤◌, ◌/◌, List, length, slice_index, OnOk, OnErr, IsErrOf, IfOk, max};
 ghost use Rattle.layout.specs.Version.{greatest_size};
 ghost use Rattle.buffers.specs.Reads.{ReadsBlocks};
 ghost use Rattle.blocktree.specs.Errors.{IsFault};
@@ -25,7 +25,7 @@ fn block_count(size: u64) -> u32
 impl File {
     ghost use Rattle.std.specs.Prelude.{if◌then◌else◌, ◌==◌, nat_lt};
     ghost use Rattle.layout.specs.Bytes.{zeros};
-    ghost use Rattle.blocktree.specs.Trees.{HasRoom, KeepsRoom, IsSoundAt, KeepsSound, SameSettled};
+    ghost use Rattle.blocktree.specs.Trees.{HasRoom, IsChanged, KeepsRoom, IsSoundAt, KeepsSound, SameSettled};
     ghost use Rattle.inode.specs.Bases.{KeepsBase};
     ghost use Rattle.inode.specs.Edges.{filled, written_list, IsPartlyWritten, CutsBlock};
     ghost use Rattle.inode.specs.Files.{file_block, byte_at, byte_with, bytes_of, bytes_with, IsFile, IsSameFile, Fits, IsCommitted};
@@ -38,6 +38,7 @@ impl File {
         ensures sound { KeepsSound self.old.tree self.new.tree }
         ensures settled { SameSettled self.old.tree self.new.tree }
         ensures kept { self.new.tree.kept ≡ self.old.tree.kept }
+        ensures changed { (j : ℕ) → IsChanged self.old.tree j → IsChanged self.new.tree j }
     {
         self.tree.make_room(i)
     }
@@ -53,6 +54,7 @@ impl File {
         ensures sound { KeepsSound self.old.tree self.new.tree }
         ensures settled { SameSettled self.old.tree self.new.tree }
         ensures kept { self.new.tree.kept ≡ self.old.tree.kept }
+        ensures changed { (j : ℕ) → (j ≡ i) ⊎ IsChanged self.old.tree j → IsChanged self.new.tree j }
     {
         self.tree.set(i, block);
     }
