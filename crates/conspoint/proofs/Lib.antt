@@ -1,6 +1,7 @@
 mod Writes
 mod Finishing
 mod Cuts
+mod PointCuts
 mod DraftLemmas
 mod SpaceLemmas
 mod GroupLemmas
@@ -8,7 +9,7 @@ mod ClosureLemmas
 mod MarkLemmas
 mod BlockLemmas
 mod MapNodes
-mod MapBytes
+pub mod MapBytes
 mod MapWork
 mod MapPlan
 mod ImageCuts

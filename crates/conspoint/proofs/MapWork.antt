@@ -109,14 +109,13 @@ module _ (s : Sizes) (d e : Blocks) (old : Inode) (before after : Draft) (settle
   unfolding held
   old_size = (subst (λ k. FitsKind k s old.mode old.links old.size) is.kind is.sound.inode.kind).2 ∙ ap (λ x. 4 * x) (sym is.blocks)
 
-  -- no settled node is a hole
-  pub old_block : (k : ℕ) → k < n → pointer_at settled k ≢ Hole
-  unfolding held nodes_at
-  old_block k lt none = is.no_hole k (level_some (cases_lt 65536 old.size)) (omega (arith, old_size, w.count)) (old_stands.low k lt ∙ none)
-    where
-      level_some : (65536 < old.size) ⊎ (old.size ≤ 65536) → 1 ≤ level_of old.size
-      level_some (inl big) = omega (arith, level_two old.size big)
-      level_some (inr small) = omega (arith, level_one old.size (omega (arith, old_size, is.blocks, is.sizes.least_blocks)) small)
+  -- what was touched is stored
+  untouched : (k : ℕ) → k < n → pointer_at places k ≡ Hole → IsTouched before.map.parts.items k → ⊥
+  untouched k lt hole touched = w.moved k lt (w.grows.settled.touched k touched) hole
+
+  -- no settled node that stays is a hole
+  pub old_block : (k : ℕ) → k < n → pointer_at places k ≡ Hole → pointer_at settled k ≢ Hole
+  old_block k lt hole none = is.no_hole k (omega (arith, w.parts, lt)) (untouched k lt hole) (old_stands.low k lt ∙ none)
 
   most_nodes : length settled ≤ n + 1
   most_nodes = elim (cases_lt 16 n) [ inl many ↦ omega (arith, goes_on many) | inr less ↦ omega (arith, ends less) ]
@@ -188,7 +187,7 @@ module _ (s : Sizes) (d e : Blocks) (old : Inode) (before after : Draft) (settle
   -- no node is a hole
   pub new_block : (k : ℕ) → k < n → node_at settled places k ≢ Hole
   new_block k lt none = elim (by_place (pointer_at places k)) [
-    | inl hole ↦ old_block k lt (sym (old_node settled places k hole) ∙ none)
+    | inl hole ↦ old_block k lt hole (sym (old_node settled places k hole) ∙ none)
     | inr new ↦ no_block (node_at settled places k) new.0 none (new_node settled places k new.0 new.1)
   ]
 
@@ -205,15 +204,22 @@ module _ (s : Sizes) (d e : Blocks) (old : Inode) (before after : Draft) (settle
       ∙ ap (λ p. follow d p (i % 1024)) (ap (λ j. (held d old).place 1 j) first ∙ old_stands.top ∙ at)
       ∙ ap (indirect_pointer (d x)) same
 
-  old_over : 16 < n → pointer_at settled n ≢ Hole
-  old_over many none =
+  -- under an indirect block that stays all blocks do
+  still : 16 < n → (i : ℕ) → i < n → pointer_at places n ≡ Hole → pointer_at places i ≡ Hole
+  still many i low none = elim (by_place (pointer_at places i)) [
+    | inl hole ↦ hole
+    | inr new ↦ absurd (w.over_moved i low (omega (arith, goes_on many, w.size)) (not_hole (pointer_at places i) new.0 new.1) none)
+  ]
+
+  old_over : 16 < n → pointer_at places n ≡ Hole → pointer_at settled n ≢ Hole
+  old_over many hole none =
       let level = two_levels many in
       let none_under : (held d old).place 0 0 ≡ Hole = held_up d old 0 0 (omega (arith, level)) ∙ ap (λ p. follow d p (0 % 1024)) (old_stands.top ∙ none) in
-      old_block 0 (omega arith) (sym (old_stands.low 0 (omega arith)) ∙ none_under)
+      old_block 0 (omega arith) (still many 0 (omega arith) hole) (sym (old_stands.low 0 (omega arith)) ∙ none_under)
 
   over_there : 16 < n → node_at settled places n ≢ Hole
   over_there many none = elim (by_place (pointer_at places n)) [
-    | inl hole ↦ old_over many (sym (old_node settled places n hole) ∙ none)
+    | inl hole ↦ old_over many hole (sym (old_node settled places n hole) ∙ none)
     | inr new ↦ no_block (node_at settled places n) new.0 none (new_node settled places n new.0 new.1)
   ]
 
@@ -224,16 +230,10 @@ module _ (s : Sizes) (d e : Blocks) (old : Inode) (before after : Draft) (settle
         let there : pointer_at settled n ≡ Block x = sym (old_node settled places n none) ∙ at in
         let same : indirect_pointer (e x) i ≡ (held d old).place 0 i = ap (λ (bytes : List ℕ). indirect_pointer bytes i) (same_block n x there) ∙ sym (old_under x i many there lt) in
         same ∙ elim (cases_lt i n) [
-          | inl low ↦ old_stands.low i low ∙ sym (old_node settled places i (still i low none)) ∙ cond_below i n (node_at settled places i) Hole low
+          | inl low ↦ old_stands.low i low ∙ sym (old_node settled places i (still many i low none)) ∙ cond_below i n (node_at settled places i) Hole low
           | inr ge ↦ old_stands.past i ge ∙ cond_above i n (node_at settled places i) Hole Hole ge refl
         ]
   ]
-    where
-      still : (i : ℕ) → i < n → pointer_at places n ≡ Hole → pointer_at places i ≡ Hole
-      still i low none = elim (by_place (pointer_at places i)) [
-        | inl hole ↦ hole
-        | inr new ↦ absurd (w.over_moved i low (omega (arith, goes_on many, w.size)) (not_hole (pointer_at places i) new.0 new.1) none)
-      ]
 
   pub new_stands : Stands n (node_at settled places) (held e (own_inode tops before.map.count))
   new_stands = elim (cases_lt 16 n) [
@@ -286,7 +286,7 @@ module _ (s : Sizes) (d e : Blocks) (old : Inode) (before after : Draft) (settle
     | inl none ↦
         let there : pointer_at settled (b / 1024) ≡ Block p = sym (old_node settled places (b / 1024) none) ∙ at in
         let bytes : e p ≡ file_block (held d old) (b / 1024) = same_block (b / 1024) p there ∙ sym (old_block_at (b / 1024) lt ∙ ap (pointed d) there) in
-        ap (λ (xs : List ℕ). map_entry xs (b % 1024)) bytes ∙ sym (is.entries b)
+        ap (λ (xs : List ℕ). map_entry xs (b % 1024)) bytes ∙ sym (is.entries b (λ low. untouched (b / 1024) lt none))
         ∙ sym (as_settled b (λ low touched. w.moved (b / 1024) lt touched none))
   ]
 
@@ -305,7 +305,7 @@ module _ (s : Sizes) (d e : Blocks) (old : Inode) (before after : Draft) (settle
 
   old_zero : (b : ℕ) → before.map.count ≤ b → settled_at before.map.parts.items b ≡ 0
   unfolding held
-  old_zero b ge = is.entries b ∙ word_zero (file_block (held d old) (b / 1024)) (b % 1024) (λ r lt.
+  old_zero b ge = is.entries b (λ low. absurd (omega (arith, ge, low))) ∙ word_zero (file_block (held d old) (b / 1024)) (b % 1024) (λ r lt.
       let block : (4 * b + r) / 4096 ≡ b / 1024 = omega arith in
       let at : (4 * b + r) % 4096 ≡ 4 * (b % 1024) + r = omega arith in
       let none : slice_index (file_block (held d old) ((4 * b + r) / 4096)) ((4 * b + r) % 4096) ≡ 0 = is.sound.ends (4 * b + r) (omega (arith, old_size, ge)) in

@@ -2,7 +2,7 @@
 use Rattle.std.specs.Prelude.{ℕ, ◌≡◌, ◌≢◌, ◌⊎◌, ◌↔◌, ◌+◌, ◌/◌, ◌%◌, ◌<◌, List, length, nat_le, if◌then◌else◌, Bool, true, false}
 use Rattle.std.specs.Int.{bit_at}
 use Rattle.blockmap.specs.Bits.{HasBit}
-use Rattle.blockmap.specs.Maps.{entry_at, settled_at}
+use Rattle.blockmap.specs.Maps.{IsTouched, entry_at, settled_at}
 use Rattle.blockmap.specs.declared.map.BlockMap.{BlockMap}
 use Rattle.layout.specs.Limits.{Sizes, AreSizes}
 use Rattle.layout.specs.Maps.{map_entry}
@@ -38,15 +38,17 @@ abbrev pub IsOfMoved : List Pointer → List Pointer → ℕ → ℕ → Type 0
 IsOfMoved nodes places n b =
     (k : ℕ) × (k < n) × (pointer_at places k ≢ Hole) × (pointer_at nodes k ≡ Block b)
 
--- the disk has the settled entries under this inode, in its grammar, and its nodes stand here
+-- The disk has the settled entries under this inode, in its grammar, and its nodes stand here. A block that the next consistency
+-- point stores anew may be missing, or have other entries: an empty file is one whose blocks are all stored then.
 pub record IsSettledMap (s : Sizes) (d : Blocks) (f : Inode) (map : BlockMap) (nodes : List Pointer) : Type 0 where
   pub sizes : AreSizes s
   pub blocks : map.count ≡ s.blocks
   pub kind : f.kind ≡ kinds.BlockMap
   pub sound : IsSoundFile s (held d f)
-  pub no_hole : HasNoHole (held d f)
+  pub no_hole : (k : ℕ) → k < length map.parts.items → (IsTouched map.parts.items k → ⊥)
+      → (held d f).place 0 k ≢ Hole
   pub once : IsOnce (held d f)
-  pub entries : (b : ℕ)
+  pub entries : (b : ℕ) → (b < map.count → IsTouched map.parts.items (b / 1024) → ⊥)
       → settled_at map.parts.items b ≡ map_entry (file_block (held d f) (b / 1024)) (b % 1024)
   -- none of its own blocks is free
   pub used : (b : ℕ) → Names (held d f) b → settled_at map.parts.items b ≢ 0

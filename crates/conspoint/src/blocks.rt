@@ -1,10 +1,11 @@
 //! The blocks of a changed file.
 
-ghost use Rattle.std.specs.Prelude.{◌≡◌, ℕ, ◌+◌, ◌-◌, ◌<◌, ◌≤◌, ◌^◌, min, All, IfOk, OnOk, IfErr, IsErrOf, length};
+ghost use Rattle.std.specs.Prelude.{◌≡◌, ◌≢◌, ℕ, ◌<◌, ◌≤◌, ◌^◌, All, IfOk, IfErr, IsErrOf, length, ◌+◌, ◌-◌, min, OnOk};
 ghost use Rattle.layout.specs.Places.{pointed};
 ghost use Rattle.layout.specs.Pointer.{PointsBelow};
 ghost use Rattle.layout.specs.declared.geometry.TheConstants.{MOST_BLOCKS};
 ghost use Rattle.layout.specs.declared.pointer.Pointer.TheVariants.{Hole};
+ghost use Rattle.blocktree.specs.Trees.{IsChanged};
 ghost use Rattle.conspoint.specs.Blocks.{changed_or};
 ghost use Rattle.conspoint.specs.Drafts.{OnEach, Grows, IsFull, IsReserved, IsShortage};
 ghost use Rattle.conspoint.specs.Groups.{pointer_at, ComesFrom, ArePlaced};
@@ -31,6 +32,7 @@ fn place_block(
     ensures grows { Grows draft.old draft.new }
     ensures before { IfOk result (λ p. i < first → p ≡ settled) }
     ensures holes { IfOk result (λ p. p ≡ Hole → settled ≡ Hole) }
+    ensures stored { IfOk result (λ p. first ≤ i → IsChanged tree.now i → p ≢ Hole) }
     ensures block { IfOk result (λ p. OnEach draft.new (λ e. first ≤ i
         → pointed e p ≡ changed_or tree.now i (pointed e settled))) }
     ensures from { IfOk result (ComesFrom draft.old draft.new settled) }
@@ -71,6 +73,8 @@ pub fn place_blocks(
         → pointer_at nodes.items i ≡ pointer_at settled.now i) }
     ensures holes { IfOk result (λ nodes. (i : ℕ) → i < length settled.now
         → pointer_at nodes.items i ≡ Hole → pointer_at settled.now i ≡ Hole) }
+    ensures stored { IfOk result (λ nodes. (i : ℕ) → i < length settled.now → first ≤ i
+        → IsChanged tree.now i → pointer_at nodes.items i ≢ Hole) }
     ensures blocks { IfOk result (λ nodes. OnEach draft.new (λ e. (i : ℕ) → i < length settled.now
         → first ≤ i → pointed e (pointer_at nodes.items i)
         ≡ changed_or tree.now i (pointed e (pointer_at settled.now i)))) }

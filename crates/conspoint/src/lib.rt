@@ -14,6 +14,7 @@ mod map_file;
 mod map_inode;
 mod marks;
 mod plan;
+mod writing;
 
 pub use blocks::place_blocks;
 pub use closure::reserve_map;
@@ -28,3 +29,4 @@ pub use map_file::store_map;
 pub use map_inode::store_own_map;
 pub use marks::mark_all;
 pub use plan::{Plan, PlannedBlock};
+pub use writing::write_point;

@@ -1,5 +1,5 @@
--- No hole comes into a file of which each block is stored.
-use Rattle.std.proofs.Common.{◌≡◌, ℕ, ◌<◌, ◌≤◌, sym, subst, ◌∙◌}
+-- No hole comes into a file of which each block is stored, nor into one of which each is changed.
+use Rattle.std.proofs.Common.{◌≡◌, ◌≢◌, ℕ, ◌<◌, ◌≤◌, sym, ap, subst, ◌∙◌, arith}
 use Rattle.std.proofs.lemmas.Bool.{cond_below}
 use Rattle.std.specs.Prelude.{nat_lt, if◌then◌else◌}
 use Rattle.layout.specs.Places.{Blocks}
@@ -9,9 +9,10 @@ use Rattle.layout.specs.declared.pointer.Pointer.TheVariants.{Hole}
 use Rattle.images.specs.Nodes.{held}
 use Rattle.images.specs.Soundness.{HasNoHole, nodes_at}
 use Rattle.blocktree.specs.Places.{block_count}
+use Rattle.blocktree.specs.Trees.{IsChanged}
 use Rattle.inode.specs.declared.object.Object.{Object}
 use Rattle.conspoint.specs.Groups.{pointer_at}
-use Rattle.placement.specs.Files.{IsWholeOver}
+use Rattle.placement.specs.Files.{AreAllChanged, IsWholeOver}
 use Rattle.placement.specs.Nodes.{AreNodes}
 use Rattle.placement.specs.declared.nodes.Nodes.{Nodes}
 
@@ -33,3 +34,11 @@ no_hole_left disk e base f o settled laid whole same before after holes i level 
     settled_stored disk base settled i whole.no_hole before high at
     (cond_below i o.file.tree.kept (pointer_at settled.blocks.items i) Hole kept
     ∙ holes i (subst (λ n. 1 ≤ level_of n) same level) (subst (λ n. i < block_count n) same lt) (sym (after.places 0 i) ∙ hole))
+
+pub none_left : (e : Blocks) (f : Inode) (o : Object) (laid : Nodes) → AreAllChanged o → f.size ≡ o.file.size → AreNodes laid (held e f)
+    → ((i : ℕ) → 1 ≤ level_of o.file.size → i < block_count o.file.size → IsChanged o.file.tree i → pointer_at laid.blocks.items i ≢ Hole)
+    → HasNoHole (held e f)
+unfolding held nodes_at
+none_left e f o laid all same after stored i level lt hole =
+    let at : i < block_count o.file.size = subst (λ n. i < block_count n) same lt in
+    stored i (subst (λ n. 1 ≤ level_of n) same level) at (all i at) (sym (after.places 0 i) ∙ hole)

@@ -1,5 +1,5 @@
 -- What a changed file is that a consistency point places, and what its new inode comes to.
-use Rattle.std.specs.Prelude.{ℕ, suc, ◌≡◌, ◌⊎◌, ◌≤◌, ◌==◌, Bool, true, List, nat_lt, if◌then◌else◌}
+use Rattle.std.specs.Prelude.{ℕ, suc, ◌≡◌, ◌⊎◌, ◌<◌, ◌≤◌, ◌==◌, Bool, true, List, nat_lt, if◌then◌else◌}
 use Rattle.std.specs.List.{list_any}
 use Rattle.layout.specs.Bytes.{zeros}
 use Rattle.layout.specs.Inode.{FitsKind}
@@ -13,6 +13,7 @@ use Rattle.images.specs.Contents.{Content}
 use Rattle.images.specs.Nodes.{Held, held, Names, IsOnce}
 use Rattle.images.specs.Soundness.{HasNoHole, IsSoundFile}
 use Rattle.blocktree.specs.Places.{block_count}
+use Rattle.blocktree.specs.Trees.{IsChanged}
 use Rattle.blocktree.specs.declared.tree.BlockTree.{BlockTree}
 use Rattle.inode.specs.Files.{file_block, IsFile}
 use Rattle.inode.specs.declared.object.Object.{Object}
@@ -66,6 +67,10 @@ pub record IsWholeOver (disk : Blocks) (base : Inode) (o : Object) : Type 0 wher
   pub no_hole : HasNoHole (held disk base)
   pub size : o.file.size ≡ base.size
   pub kept : 1 ≤ level_of base.size → o.file.tree.kept ≡ block_count base.size
+
+-- each block of an object is changed in memory
+abbrev pub AreAllChanged : Object → Type 0
+AreAllChanged o = (i : ℕ) → i < block_count o.file.size → IsChanged o.file.tree i
 
 -- b is one of these
 abbrev pub is_one : List ℕ → ℕ → Bool

@@ -1,9 +1,10 @@
 //! A changed file's blocks, at their new places.
 
-ghost use Rattle.std.specs.Prelude.{◌≡◌, ℕ, ◌-◌, ◌<◌, ◌≤◌, ◌^◌, All, IfOk, OnOk, IfErr, IsErrOf, length, nat_lt, if◌then◌else◌};
+ghost use Rattle.std.specs.Prelude.{◌≡◌, ◌≢◌, ℕ, ◌<◌, ◌≤◌, ◌^◌, All, IfOk, IfErr, IsErrOf, length, nat_lt, if◌then◌else◌, ◌-◌, OnOk};
 ghost use Rattle.layout.specs.Places.{pointed};
 ghost use Rattle.layout.specs.Pointer.{PointsBelow};
 ghost use Rattle.layout.specs.declared.pointer.Pointer.TheVariants.{Hole};
+ghost use Rattle.blocktree.specs.Trees.{IsChanged};
 ghost use Rattle.conspoint.specs.Blocks.{changed_or};
 ghost use Rattle.conspoint.specs.Drafts.{OnEach, Grows, IsFull, IsReserved, IsShortage};
 ghost use Rattle.conspoint.specs.Groups.{pointer_at};
@@ -42,6 +43,8 @@ pub(crate) fn place_lowest(
     ensures holes { IfOk result (λ nodes. (i : ℕ) → i < count
         → pointer_at nodes.items i ≡ Hole
         → (if nat_lt i tree.now.kept then pointer_at settled.now i else Hole) ≡ Hole) }
+    ensures stored { IfOk result (λ nodes. (i : ℕ) → i < count → first ≤ i
+        → IsChanged tree.now i → pointer_at nodes.items i ≢ Hole) }
     ensures placed { IfOk result (λ nodes.
         ArePlacedAt draft.old draft.new settled.now nodes.items) }
 {

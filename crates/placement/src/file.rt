@@ -1,6 +1,6 @@
 //! A changed file, placed.
 
-ghost use Rattle.std.specs.Prelude.{◌≡◌, ℕ, ◌<◌, ◌≤◌, true, List, [], length, All, Contains, ◌↔◌, IfOk, IfErr, OnOk, IsErrOf, nat_lt, if◌then◌else◌};
+ghost use Rattle.std.specs.Prelude.{◌≡◌, ◌≢◌, ℕ, ◌<◌, ◌≤◌, true, List, [], length, All, Contains, ◌↔◌, IfOk, IfErr, OnOk, IsErrOf, nat_lt, if◌then◌else◌};
 ghost use Rattle.std.specs.Int.{div_ceil};
 ghost use Rattle.layout.specs.Limits.{Sizes};
 ghost use Rattle.layout.specs.Pointer.{PointsBelow};
@@ -13,12 +13,12 @@ ghost use Rattle.images.specs.Nodes.{held, Agrees, Names};
 ghost use Rattle.images.specs.Soundness.{HasNoHole, IsSoundFile};
 ghost use Rattle.buffers.specs.Failures.{HasGrown};
 ghost use Rattle.blocktree.specs.Places.{block_count};
-ghost use Rattle.blocktree.specs.Trees.{IsSoundAt};
+ghost use Rattle.blocktree.specs.Trees.{IsChanged, IsSoundAt};
 ghost use Rattle.inode.specs.Files.{IsFile};
 ghost use Rattle.conspoint.specs.Drafts.{OnEach, Grows, IsFull, IsReserved, IsShortage, WasTaken};
 ghost use Rattle.conspoint.specs.Groups.{pointer_at};
+ghost use Rattle.placement.specs.Files.{AreAllChanged, IsChangeOf, IsPlaced, IsWholeOver, is_one, object_block, object_content};
 ghost use Rattle.conspoint.specs.Space.{Lacks, TakesAtMost};
-ghost use Rattle.placement.specs.Files.{IsChangeOf, IsPlaced, IsWholeOver, is_one, object_block, object_content};
 ghost use Rattle.placement.specs.Layouts.{AreSettled, Carries, IsLaidOut, LeadTo, StandsIn, inode_with};
 ghost use Rattle.placement.specs.Nodes.{ArePlacedAt, ArePlacedOver, HasMoved};
 ghost use Rattle.placement.specs.Space.{file_nodes, over_nodes};
@@ -172,6 +172,8 @@ fn lay_blocks(
         → pointer_at l.nodes.blocks.items i ≡ Hole
         → (if nat_lt i object.now.file.tree.kept then pointer_at settled.now.blocks.items i
         else Hole) ≡ Hole) }
+    ensures stored { IfOk result (λ l. (i : ℕ) → i < block_count object.now.file.size
+        → IsChanged object.now.file.tree i → pointer_at l.nodes.blocks.items i ≢ Hole) }
     ensures placed { IfOk result (λ l. ArePlacedOver draft.old draft.new settled.now l.nodes) }
     ensures stands { (s : Sizes) (disk : ℕ → List ℕ) (base : Inode)
         → IsChangeOf s draft.old disk base object.now
@@ -240,6 +242,9 @@ fn lay<B: Blocks>(
         → pointer_at l.nodes.blocks.items i ≡ Hole
         → (if nat_lt i object.now.file.tree.kept then pointer_at settled.now.blocks.items i
         else Hole) ≡ Hole) }
+    ensures stored { IfOk result (λ l. (i : ℕ)
+        → 1 ≤ level_of object.now.file.size → i < block_count object.now.file.size
+        → IsChanged object.now.file.tree i → pointer_at l.nodes.blocks.items i ≢ Hole) }
     ensures placed { IfOk result (λ l. ArePlacedOver draft.old draft.new settled.now l.nodes) }
     ensures stands { (s : Sizes) (disk : ℕ → List ℕ) (base : Inode) → B.Shows blocks.old disk
         → IsChangeOf s draft.old disk base object.now
@@ -323,6 +328,10 @@ pub fn place_file<B: Blocks>(
         → IsPlaced s e (held disk base) p.inode (is_one p.taken.items) (is_one p.freed.items))) }
     ensures no_hole { (s : Sizes) (disk : ℕ → List ℕ) (base : Inode) → B.Shows blocks.old disk
         → IsChangeOf s draft.old disk base object.now → IsWholeOver disk base object.now
+        → IfOk result (λ p. OnEach draft.new (λ e. Agrees (Names (held disk base)) disk e
+        → HasNoHole (held e p.inode))) }
+    ensures whole { (s : Sizes) (disk : ℕ → List ℕ) (base : Inode) → B.Shows blocks.old disk
+        → IsChangeOf s draft.old disk base object.now → AreAllChanged object.now
         → IfOk result (λ p. OnEach draft.new (λ e. Agrees (Names (held disk base)) disk e
         → HasNoHole (held e p.inode))) }
     ensures content { (s : Sizes) (disk : ℕ → List ℕ) (base : Inode) → B.Shows blocks.old disk

@@ -1,5 +1,6 @@
 -- The block map's own file is planned.
-use Rattle.std.proofs.Common.{◌≡◌, ℕ, ◌*◌, ◌/◌, ◌%◌, ◌<◌, Bool, false, List, length, refl, ap, sym, subst, ◌∙◌, arith}
+use Rattle.std.proofs.Common.{◌≡◌, ◌≢◌, ◌⊎◌, inl, inr, ℕ, ◌*◌, ◌/◌, ◌%◌, ◌<◌, ◌≤◌, Bool, false, List, length, refl, ap, sym, subst, ◌∙◌, arith}
+use Rattle.std.proofs.lemmas.Bool.{cases_lt}
 use Rattle.std.proofs.lemmas.Bool.Decides.{nat_tests}
 use Rattle.std.specs.Int.{div_ceil}
 use Rattle.layout.specs.Inode.{FitsKind}
@@ -10,6 +11,7 @@ use Rattle.layout.specs.Version.{level_of}
 use Rattle.layout.specs.declared.inode.Inode.{Inode}
 use Rattle.layout.specs.declared.kind.Kind.{Kind}
 use Rattle.layout.specs.declared.pointer.Pointer.{Pointer}
+use Rattle.layout.specs.declared.pointer.Pointer.TheVariants.{Hole}
 use Rattle.blockmap.specs.Maps.{entry_at, settled_at}
 use Rattle.blockmap.specs.declared.map.BlockMap.{BlockMap}
 use Rattle.conspoint.specs.Drafts.{Grows, HasAll}
@@ -19,7 +21,8 @@ use Rattle.conspoint.specs.declared.draft.Draft.{Draft}
 use Rattle.images.specs.BlockMap.{NamesOnce, entry}
 use Rattle.images.specs.Nodes.{Agrees, Names, file_block, held}
 use Rattle.images.specs.Roots.{HeldTree}
-use Rattle.images.specs.Soundness.{HasNoHole}
+use Rattle.images.specs.Soundness.{HasNoHole, nodes_at}
+use Rattle.images.proofs.ReadingLaws as reading
 use Rattle.inode.specs.declared.file.File.{File}
 use Rattle.inofile.specs.Settled.{AreSettled}
 use Rattle.placement.specs.Files.{IsPlaced}
@@ -49,6 +52,16 @@ has_over : (count parts : ℕ) (disk : Blocks) (s : Sizes) (top : File) (settled
 has_over count parts disk s top settled_of are is level =
     let size = blocks_size count disk s top settled_of are in let large = level_two (settled_of 2).size level in omega arith
 
+-- no block of a settled map is a hole
+stored_block : (s : Sizes) (disk : Blocks) (f : Inode) (parts k : ℕ) → HasNoHole (held disk f) → f.size ≡ 4 * s.blocks → 64 ≤ s.blocks → parts ≡ div_ceil s.blocks 1024 → k < parts
+    → (held disk f).place 0 k ≢ Hole
+unfolding held nodes_at
+stored_block s disk f parts k no_hole size most parts_are lt = no_hole k (some (cases_lt 65536 f.size)) (omega (arith, size, parts_are, lt))
+  where
+    some : (65536 < f.size) ⊎ (f.size ≤ 65536) → 1 ≤ level_of f.size
+    some (inl big) = omega (arith, reading.level_two f.size big)
+    some (inr small) = omega (arith, reading.level_one f.size (omega (arith, size, most)) small)
+
 pub settled_map : (count : ℕ) (draft : Draft) (disk : Blocks) (s : Sizes) (top : File) (settled_of : ℕ → Inode) (before : ℕ → ℕ) (f : Inode) (nodes : List Pointer) → AreSettled count disk s top settled_of
     → AreSizes s → count ≡ draft.map.count
     → NamesOnce (settled_tree disk settled_of) → IsExactPlane (settled_tree disk settled_of) before → ((b : ℕ) → settled_at draft.map.parts.items b ≡ before b)
@@ -61,9 +74,10 @@ settled_map count draft disk s top settled_of before f nodes are sizes count_is 
   blocks = sym (are.count ∙ count_is);
   kind = are.fits 2;
   sound = are.sound 2;
-  no_hole = no_hole;
+  no_hole = λ k lt not. stored_block s disk (settled_of 2) (length draft.map.parts.items) k no_hole (blocks_size count disk s top settled_of are) sizes.least_blocks
+      (parts_of draft.map ∙ ap (λ n. div_ceil n 1024) (sym (are.count ∙ count_is))) lt;
   once = once.each 2;
-  entries = λ b. same b ∙ entries b ∙ entries_in (settled_tree disk settled_of) b;
+  entries = λ b not. same b ∙ entries b ∙ entries_in (settled_tree disk settled_of) b;
   used = λ b names. used_block draft disk settled_of before exact same 2 b names;
   lowest = subst (λ (x : Inode). (k : ℕ) → k < length draft.map.parts.items → pointer_at nodes k ≡ (held disk x).place 0 k) is lowest;
   over = λ level. subst (λ (x : Inode). pointer_at nodes (length draft.map.parts.items) ≡ (held disk x).place 1 0) is

@@ -1,8 +1,9 @@
-use Rattle.std.proofs.Common.{◌≡◌, ℕ, ◌<◌, ◌≤◌, List, length, length-append, ap, sym, subst, ◌∙◌, arith}
+use Rattle.std.proofs.Common.{◌≡◌, ◌≢◌, ℕ, ◌<◌, ◌≤◌, List, length, length-append, ap, sym, subst, ◌∙◌, arith}
 use Rattle.std.proofs.lemmas.List.{get_or_default}
 use Rattle.layout.specs.Places.{pointed}
 use Rattle.layout.specs.declared.pointer.Pointer.{Pointer}
 use Rattle.layout.specs.declared.pointer.Pointer.TheVariants.{Hole}
+use Rattle.blocktree.specs.Trees.{IsChanged}
 use Rattle.conspoint.specs.Blocks.{changed_or}
 use Rattle.conspoint.specs.Groups.{pointer_at, ComesFrom}
 use Rattle.conspoint.proofs.DraftLemmas.{grows_twice}
@@ -32,6 +33,8 @@ loop-i-preserved c =
           (λ lt. c.in_ok-place_block.ensures.before lt ∙ settled_is));
       holes = rw c.in_ok-push.ensures.items (each_more (λ j q. q ≡ Hole → pointer_at settled j ≡ Hole) nodes p i so_far.count so_far.holes
           (λ is. sym settled_is ∙ c.in_ok-place_block.ensures.holes is));
+      stored = rw c.in_ok-push.ensures.items (each_more (λ j q. c.args.first ≤ j → IsChanged c.args.tree.now j → q ≢ Hole) nodes p i so_far.count so_far.stored
+          c.in_ok-place_block.ensures.stored);
       blocks = λ e has. rw c.in_ok-push.ensures.items (each_more (λ j q. c.args.first ≤ j → pointed e q ≡ changed_or c.args.tree.now j (pointed e (pointer_at settled j))) nodes p i so_far.count (so_far.blocks e (now.has e has))
           (rw settled_is at (c.in_ok-place_block.ensures.block e has)));
       takes = omega (arith, so_far.takes, c.in_ok-place_block.ensures.takes);

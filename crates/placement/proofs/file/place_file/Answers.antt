@@ -4,7 +4,7 @@ use Rattle.images.specs.Nodes.{held}
 use Rattle.images.specs.Soundness.{HasNoHole}
 use Rattle.placement.specs.Files.{IsBasedOn, IsPlaced, content_with, is_one, object_block}
 use Rattle.placement.specs.Layouts.{AreSettled, inode_with}
-use Rattle.placement.proofs.HoleLaws.{no_hole_left}
+use Rattle.placement.proofs.HoleLaws.{no_hole_left, none_left}
 use Rattle.placement.proofs.FileLaws.{content_is, file_placed, object_ends, of_one}
 use Rattle.placement.proofs.MovedLaws.{moved_taken}
 use Rattle.placement.proofs.file.place_file.Goals as goal
@@ -46,3 +46,13 @@ returns-clause-no_hole g c = λ s disk base shows change whole e has same.
     let stands = c.in_ok-laid.ensures.stands s disk base (c.in_ok-settled.ensures.same disk shows) change known e has same in
     subst (λ f. HasNoHole (held e f)) (sym c.in_ok-placed.ensures.inode)
     (no_hole_left disk e base (inode_with o laid.body) o settled laid.nodes whole refl known.nodes stands.nodes c.in_ok-laid.ensures.holes)
+
+pub returns-clause-whole : goal.returns-clause-whole
+returns-clause-whole g c = λ s disk base shows change all e has same.
+    let o = c.args.object.now in
+    let settled = c.in_ok-settled.settled in
+    let laid = c.in_ok-laid.laid in
+    let known = subst (λ t. AreSettled disk base t settled) c.tree.ensures (c.in_ok-settled.ensures.settled s disk base shows (subst (IsBasedOn base) (sym c.tree.ensures) change.based) change.sound) in
+    let stands = c.in_ok-laid.ensures.stands s disk base (c.in_ok-settled.ensures.same disk shows) change known e has same in
+    subst (λ f. HasNoHole (held e f)) (sym c.in_ok-placed.ensures.inode)
+    (none_left e (inode_with o laid.body) o laid.nodes all refl stands.nodes c.in_ok-laid.ensures.stored)
