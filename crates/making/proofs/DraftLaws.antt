@@ -1,0 +1,130 @@
+-- Drafts that grow, and files that are planned over nothing.
+use Rattle.std.proofs.Common.{◌≡◌, ◌⊎◌, inl, inr, ◌↔◌, ℕ, suc, Bool, true, false, List, [], ◌∷◌, length, refl, ap, sym, subst, ◌∙◌, arith}
+use Rattle.std.proofs.lemmas.Bool.{cases_eq, eq-eqb, ne_eqb}
+use Rattle.std.proofs.lemmas.List.Folds.{list_any_at}
+use Rattle.std.specs.Prelude.{◌==◌, ◌||◌, slice_index}
+use Rattle.std.specs.Prelude.{Err, IfErr, IsErrOf, Result}
+use Rattle.std.specs.Int.{bit_at}
+use Rattle.layout.specs.Inode.{FitsKind}
+use Rattle.layout.specs.Limits.{Sizes}
+use Rattle.layout.specs.declared.inode.Inode.{Inode}
+use Rattle.blocktree.specs.declared.tree.BlockTree.{BlockTree}
+use Rattle.blockmap.specs.Maps.{entry_at}
+use Rattle.blockmap.specs.Parts.{Part}
+use Rattle.conspoint.specs.Drafts.{Grows, IsShortage, OnEach, WasTaken}
+use Rattle.conspoint.specs.Marks.{AreMarked, IsAmong}
+use Rattle.conspoint.specs.declared.error.PlanError.{PlanError}
+use Rattle.conspoint.specs.declared.error.PlanError.TheVariants.{NoMemory, Device, NoSpace, Damaged}
+use Rattle.buffers.specs.Failures.{HasGrown}
+use Rattle.conspoint.specs.declared.draft.Draft.{Draft}
+use Rattle.images.specs.BlockMap.{HasBit}
+use Rattle.images.specs.Nodes.{held, Agrees, Names}
+use Rattle.images.specs.Roots.{free_inode}
+use Rattle.images.specs.Soundness.{IsSoundFile}
+use Rattle.inode.specs.Bases.{IsBased, anew, over}
+use Rattle.inode.specs.Files.{IsFile}
+use Rattle.inode.specs.declared.object.Attributes.{Attributes}
+use Rattle.inode.specs.declared.object.Object.{Object}
+use Rattle.layout.specs.declared.kind.Kind.{Kind}
+use Rattle.placement.specs.Files.{IsBasedOn, IsChangeOf, IsPlaced, is_one, none}
+use Rattle.making.specs.Plans.{HasFile}
+use Rattle.making.specs.Starts.{nothing}
+
+pub grows_twice : (a b c : Draft) → Grows a b → Grows b c → Grows a c
+grows_twice a b c one two = record {
+  settled = record {
+    count = two.settled.count ∙ one.settled.count;
+    settled = λ x. two.settled.settled x ∙ one.settled.settled x;
+    touched = λ j is. two.settled.touched j (one.settled.touched j is);
+  };
+  count = two.count ∙ one.count;
+  next = omega (arith, one.next, two.next);
+  has = λ e has. one.has e (two.has e has);
+}
+
+-- a file of the system's own, over nothing
+based_on : (t : BlockTree) → IsBased free_inode t → IsBasedOn free_inode t
+based_on t (anew count) = none refl count
+based_on t (over pointers body has) = absurd (cc)
+
+pub own_change : (s : Sizes) (d : Draft) (o : Object) (kind : Kind) → s.blocks ≡ d.map.count → IsSoundFile s (held nothing free_inode) → ((b : ℕ) → Names (held nothing free_inode) b → ⊥)
+    → IsBased free_inode o.file.tree → IsFile nothing o.file → o.attributes ≡ record { kind = kind; mode = 0; links = 1 } → FitsKind kind s 0 1 o.file.size
+    → IsChangeOf s d nothing free_inode o
+own_change s d o kind blocks sound none_named based ends attributes fits = record {
+  blocks = blocks;
+  based = based_on o.file.tree based;
+  sound = sound;
+  once = λ m i k j b here there. absurd (none_named b (record { height = m; index = i; is = here }));
+  used = λ b names free. none_named b names;
+  ends = ends;
+  mode = (let is : o.attributes.mode ≡ 0 = ap (λ (a : Attributes). a.mode) attributes in omega (arith, is));
+  kind = subst (λ (a : Attributes). FitsKind a.kind s a.mode a.links o.file.size) (sym attributes) fits;
+}
+
+-- ---- marks
+
+among : (xs : List ℕ) (b : ℕ) → is_one xs b ≡ true → IsAmong xs (length xs) b
+among [] b is = absurd (cc)
+among (x ∷ xs) b is = elim (cases_eq b x) [
+  | inl same ↦ (0, omega arith, sym same)
+  | inr other ↦
+      let rest : IsAmong xs (length xs) b = among xs b (sym (ap (λ t. t || is_one xs b) (ne_eqb b x other)) ∙ is) in
+      (suc rest.0, (let lt = rest.1 in omega arith), rest.2)
+]
+
+one_of : (xs : List ℕ) (b : ℕ) → IsAmong xs (length xs) b → is_one xs b ≡ true
+one_of xs b at = list_any_at (λ x. b == x) xs at.0 0 at.1 (eq-eqb b (slice_index xs at.0) (sym at.2))
+
+is_bool : (t : Bool) → (t ≡ true) ⊎ (t ≡ false)
+is_bool true = inl refl
+is_bool false = inr refl
+
+true_false : {t : Bool} {A : Type 0} → t ≡ true → t ≡ false → A
+true_false p q = absurd (let e = sym p ∙ q in cc)
+
+marked_in : (taken : List ℕ) (old new : List Part) → AreMarked taken (length taken) true old new → (b : ℕ)
+    → HasBit 0 (entry_at new b) ↔ (HasBit 0 (entry_at old b) ⊎ (is_one taken b ≡ true))
+marked_in taken old new came b = (
+  λ has. elim (is_bool (is_one taken b)) [ inl is ↦ inr is | inr isnt ↦ inl (sym (same isnt) ∙ has) ],
+  λ either. elim (is_bool (is_one taken b)) [
+    | inl is ↦ came.marked b (among taken b is)
+    | inr isnt ↦ same isnt ∙ elim either [ inl was ↦ was | inr is ↦ true_false is isnt ]
+  ],
+)
+  where
+    same : is_one taken b ≡ false → bit_at (entry_at new b) 0 ≡ bit_at (entry_at old b) 0
+    same isnt = ap (λ x. bit_at x 0) (came.stay b (λ at. true_false (one_of taken b at) isnt))
+
+-- a file that was placed over nothing, and marked
+pub has_file : (s : Sizes) (old mid new : Draft) (f : Inode) (taken : List ℕ) (freed : ℕ → Bool) → ((b : ℕ) → Names (held nothing free_inode) b → ⊥)
+    → Grows mid new → new.map.next ≡ mid.map.next → mid.map.parts.items ≡ old.map.parts.items
+    → AreMarked taken (length taken) true mid.map.parts.items new.map.parts.items
+    → ((b : ℕ) → is_one taken b ≡ true → WasTaken old mid b)
+    → OnEach mid (λ e. Agrees (Names (held nothing free_inode)) nothing e → IsPlaced s e (held nothing free_inode) f (is_one taken) freed)
+    → HasFile s old new f
+has_file s old mid new f taken freed none_named grows next parts came given placed = record {
+  taken = is_one taken;
+  given = λ b is. let was = given b is in record { from = was.from; to = omega (arith, was.to, next); within = was.within; free = was.free };
+  active = λ b. subst (λ (ps : List Part). HasBit 0 (entry_at new.map.parts.items b) ↔ (HasBit 0 (entry_at ps b) ⊎ (is_one taken b ≡ true))) parts
+      (marked_in taken mid.map.parts.items new.map.parts.items came b);
+  others = λ b i other. came.others b i other ∙ ap (λ (ps : List Part). bit_at (entry_at ps b) i) parts;
+  stands = λ e has.
+      let p = placed e (grows.has e has) (λ b names. absurd (none_named b names)) in
+      record {
+        named = λ b. (λ names. elim (p.comes b names) [ inl was ↦ absurd (none_named b was) | inr is ↦ is ], p.named b);
+        once = p.once;
+        sound = p.sound;
+      };
+}
+
+-- ---- refusals
+
+-- over a disk that nothing is read from, only a shortage refuses a plan
+pub shortage : {T : Type 0} (e : PlanError) → (IsErrOf {T = T} (Err e) Device → HasGrown 0 0) → (IsErrOf {T = T} (Err e) Damaged → ⊥) → IsShortage e
+shortage NoMemory device damaged = tt
+shortage NoSpace device damaged = tt
+shortage Device device damaged = (let grown = device refl in absurd (omega (arith, grown)))
+shortage Damaged device damaged = damaged refl
+
+pub refused : {T : Type 0} (e : PlanError) (r : Result T PlanError) → r ≡ Err e → IsShortage e → IfErr r IsShortage
+refused e r is short = subst (λ x. IfErr x IsShortage) (sym is) short

@@ -1,0 +1,11 @@
+mod PutLaws
+mod StartLaws
+mod DraftLaws
+mod TopLaws
+mod NumbersLaws
+mod EmptyMapLaws
+mod SpelledLaws
+mod TreeLaws
+mod RootLaws
+mod SlotLemmas
+mod MadeLemmas

@@ -1,0 +1,98 @@
+-- The first block of the inode file spells the inodes of a new image.
+use Rattle.std.proofs.Common.{◌≡◌, ◌≢◌, false, ℕ, zero, suc, ◌+◌, ◌-◌, ◌*◌, ◌%◌, ◌<◌, ◌≤◌, List, length, take, drop, refl, ap, sym, subst, ◌∙◌, arith, length-take, length-drop, length-append}
+use Rattle.std.proofs.Math.Path.{fun_ext}
+use Rattle.std.proofs.lemmas.Bool.{ne_eqb}
+use Rattle.std.proofs.lemmas.List.{take-replicate, drop-replicate, length-replicate}
+use Rattle.std.specs.Prelude.{Some, ◌==◌, if◌then◌else◌}
+use Rattle.layout.specs.Bytes.{little, zeros}
+use Rattle.layout.specs.Inode.{inode_bytes}
+use Rattle.layout.specs.Places.{Blocks}
+use Rattle.layout.specs.declared.inode.Inode.{Inode}
+use Rattle.layout.specs.declared.kind.Kind.TheVariants as kinds
+use Rattle.images.specs.FirstRoots.{empty_directory, first_inodes, first_tree}
+use Rattle.images.specs.InodeFiles.{FitsPlace, put_at, with_inode}
+use Rattle.images.specs.Nodes.{Held, held, file_block}
+use Rattle.images.specs.Overlays.{Overlay, overlaid_block}
+use Rattle.images.specs.Roots.{free_inode, inode_bytes_at, inode_part}
+use Rattle.images.specs.Soundness.{SpellsInodes}
+use Rattle.making.specs.Starts.{inodes_block, nothing}
+
+-- what images says of putting inodes
+pub record PutsOneByOne : Type 0 where
+  pub there : (h : Held) (c : Overlay) (n : ℕ) (bytes : List ℕ) → FitsPlace h c n bytes → inode_bytes_at (overlaid_block h (with_inode h c n bytes)) n ≡ bytes
+  pub others : (h : Held) (c : Overlay) (n m : ℕ) (bytes : List ℕ) → FitsPlace h c n bytes → m ≢ n
+      → inode_bytes_at (overlaid_block h (with_inode h c n bytes)) m ≡ inode_bytes_at (overlaid_block h c) m
+  pub behind : (h : Held) (c : Overlay) (n i : ℕ) (bytes : List ℕ) → FitsPlace h c n bytes
+      → drop (192 * 21) (overlaid_block h (with_inode h c n bytes) i) ≡ drop (192 * 21) (overlaid_block h c i)
+
+part_zeros : (k : ℕ) → k < 21 → inode_part (zeros 4096) k ≡ zeros 192
+unfolding zeros
+part_zeros k lt = ap (take 192) (drop-replicate (192 * k) 4096 0) ∙ take-replicate 192 (4096 - 192 * k) 0 (omega arith)
+
+behind_zeros : drop (192 * 21) (zeros 4096) ≡ zeros (4096 - 192 * 21)
+unfolding zeros
+behind_zeros = drop-replicate (192 * 21) 4096 0
+
+free_bytes : inode_bytes free_inode ≡ zeros 192
+unfolding little zeros
+free_bytes = refl
+
+length-zeros : (n : ℕ) → length (zeros n) ≡ n
+unfolding zeros
+length-zeros n = length-replicate {A = ℕ} n 0
+
+length-put : (at : ℕ) (bytes block : List ℕ) → length block ≡ 4096 → length bytes ≡ 192 → at + 192 ≤ 4096 → length (put_at at bytes block) ≡ 4096
+length-put at bytes block whole long fits = simp (length-take, length-drop, length-append) (omega (arith, whole, long))
+
+module _ (puts : PutsOneByOne) (numbers map : Inode) (long_numbers : length (inode_bytes numbers) ≡ 192) (long_map : length (inode_bytes map) ≡ 192) (long_directory : length (inode_bytes empty_directory) ≡ 192) where
+  abbrev base : Held
+  base = held nothing free_inode
+
+  abbrev c0 : Overlay
+  c0 = record { kind = kinds.InodeFile; mode = 0; links = 0; size = 0; kept = 0; block = λ i. Some (zeros 4096) }
+
+  abbrev c1 : Overlay
+  c1 = with_inode base c0 1 (inode_bytes numbers)
+
+  abbrev c2 : Overlay
+  c2 = with_inode base c1 2 (inode_bytes map)
+
+  abbrev c3 : Overlay
+  c3 = with_inode base c2 3 (inode_bytes empty_directory)
+
+  fits1 : FitsPlace base c0 1 (inode_bytes numbers)
+  fits1 = record { block = length-zeros 4096; inode = long_numbers }
+
+  fits2 : FitsPlace base c1 2 (inode_bytes map)
+  fits2 = record { block = length-put 192 (inode_bytes numbers) (zeros 4096) (length-zeros 4096) long_numbers (omega arith); inode = long_map }
+
+  fits3 : FitsPlace base c2 3 (inode_bytes empty_directory)
+  fits3 = record { block = length-put 384 (inode_bytes map) (put_at 192 (inode_bytes numbers) (zeros 4096)) fits2.block long_map (omega arith); inode = long_directory }
+
+  blocks_are : (i : ℕ) → overlaid_block base c3 i ≡ (if i == 0 then inodes_block numbers map else zeros 4096)
+  blocks_are zero = refl
+  blocks_are (suc i) = (let later : (suc i == 0) ≡ false = ne_eqb (suc i) 0 (λ is. absurd (omega (arith, is))) in rw later refl)
+
+  other : (m : ℕ) → m ≢ 1 → m ≢ 2 → m ≢ 3 → inode_bytes_at (overlaid_block base c3) m ≡ zeros 192
+  other m one two three =
+      puts.others base c2 3 m (inode_bytes empty_directory) fits3 three ∙ puts.others base c1 2 m (inode_bytes map) fits2 two ∙ puts.others base c0 1 m (inode_bytes numbers) fits1 one
+      ∙ part_zeros (m % 21) (omega arith)
+
+  each : (e : Blocks) (top : Inode) (n : ℕ) → 1 ≤ n → inode_bytes_at (overlaid_block base c3) n ≡ inode_bytes (first_inodes top numbers map n)
+  each e top zero low = absurd (omega arith)
+  each e top (suc zero) low =
+      puts.others base c2 3 1 (inode_bytes empty_directory) fits3 (λ is. absurd (omega (arith, is))) ∙ puts.others base c1 2 1 (inode_bytes map) fits2 (λ is. absurd (omega (arith, is)))
+      ∙ puts.there base c0 1 (inode_bytes numbers) fits1
+  each e top (suc (suc zero)) low = puts.others base c2 3 2 (inode_bytes empty_directory) fits3 (λ is. absurd (omega (arith, is))) ∙ puts.there base c1 2 (inode_bytes map) fits2
+  each e top (suc (suc (suc zero))) low = puts.there base c2 3 (inode_bytes empty_directory) fits3
+  each e top (suc (suc (suc (suc n)))) low = other (suc (suc (suc (suc n)))) (λ is. absurd (omega (arith, is))) (λ is. absurd (omega (arith, is))) (λ is. absurd (omega (arith, is))) ∙ sym free_bytes
+
+  pub first_spelled : (e : Blocks) (inodes : ℕ) (top : Inode) → 32 ≤ inodes → ((i : ℕ) → file_block (held e top) i ≡ (if i == 0 then inodes_block numbers map else zeros 4096))
+      → SpellsInodes inodes (file_block (held e top)) (first_tree e top numbers map)
+  unfolding held
+  first_spelled e inodes top some blocks = subst (λ (g : ℕ → List ℕ). SpellsInodes inodes g (first_tree e top numbers map)) (fun_ext (λ i. blocks_are i ∙ sym (blocks i))) (record {
+    each = λ n low high. each e top n low;
+    first = other 0 (λ is. absurd (omega (arith, is))) (λ is. absurd (omega (arith, is))) (λ is. absurd (omega (arith, is)));
+    past = λ n past. other n (λ is. absurd (omega (arith, is, some))) (λ is. absurd (omega (arith, is, some))) (λ is. absurd (omega (arith, is, some)));
+    behind = λ i. puts.behind base c2 3 i (inode_bytes empty_directory) fits3 ∙ puts.behind base c1 2 i (inode_bytes map) fits2 ∙ puts.behind base c0 1 i (inode_bytes numbers) fits1 ∙ behind_zeros;
+  })

@@ -1,0 +1,24 @@
+use Rattle.std.proofs.Common.{◌≤◌, refl, subst, sym}
+use Rattle.std.specs.Prelude.{All}
+use Rattle.conspoint.specs.Cuts.{disk_with_blocks}
+use Rattle.conspoint.specs.Drafts.{HasAll}
+use Rattle.conspoint.specs.Plans.{Planned}
+use Rattle.making.specs.Starts.{nothing}
+use Rattle.making.proofs.RootLaws.{first_is, root_is}
+use Rattle.making.proofs.first.plan_first.Goals as goal
+
+pub returns-clause-root : goal.returns-clause-root
+returns-clause-root c =
+    let d = c.plan_files.new.draft in
+    root_is _ d refl c.blocks-2.ensures.within refl c.in_ok-inode_file.ensures.tree
+    (disk_with_blocks d.blocks.items nothing) (c.written_disks_have_the_blocks.ensures.has d.blocks.items nothing d.drafted.planned.apart)
+
+pub returns-clause-holds : goal.returns-clause-holds
+returns-clause-holds c = λ e all.
+    let d = c.plan_files.new.draft in
+    let has = c.in_ok-inode_file.ensures.tree in
+    c.first_roots_hold.ensures _ e has.numbers has.map (first_is _ d refl c.blocks-2.ensures.within refl has e (subst (λ (p : Planned). HasAll e p.blocks) c.into_plan-map.ensures.plan all))
+
+pub returns-clause-behind : goal.returns-clause-behind
+returns-clause-behind c =
+    subst (λ (p : Planned). All (λ b. 2 ≤ b.place) p.blocks) (sym c.into_plan-map.ensures.plan) c.plan_files.new.draft.drafted.planned.behind

@@ -1,0 +1,69 @@
+-- The files of a new image, planned.
+use Rattle.std.specs.Prelude.{ℕ, ◌≡◌, ◌≢◌, ◌⊎◌, ◌↔◌, ◌/◌, ◌%◌, ◌<◌, length, Bool, true, ◌==◌, if◌then◌else◌}
+use Rattle.std.specs.Int.{bit_at, div_ceil}
+use Rattle.layout.specs.Bytes.{zeros}
+use Rattle.layout.specs.Limits.{Sizes}
+use Rattle.layout.specs.Maps.{IsTaken, map_entry}
+use Rattle.layout.specs.Places.{Blocks}
+use Rattle.layout.specs.declared.TheConstants.{BLOCK_POINTERS}
+use Rattle.layout.specs.declared.inode.Inode.{Inode}
+use Rattle.layout.specs.declared.kind.Kind.TheVariants as kinds
+use Rattle.layout.specs.declared.numbers.TheConstants.{FIRST_NUMBER}
+use Rattle.blockmap.specs.Maps.{IsTouched, entry_at, settled_at}
+use Rattle.conspoint.specs.Drafts.{OnEach, WasTaken}
+use Rattle.conspoint.specs.declared.draft.Draft.{Draft}
+use Rattle.images.specs.BlockMap.{HasBit}
+use Rattle.images.specs.Contents.{bytes_of, content_of}
+use Rattle.images.specs.FirstRoots.{IsFirstTree}
+use Rattle.images.specs.Nodes.{held, Names, IsOnce, file_block}
+use Rattle.images.specs.Soundness.{HasNoHole, IsSoundFile}
+use Rattle.making.specs.Starts.{system_entry}
+
+-- on a disk e the file of this inode is in its grammar and stands in just these blocks, each for one node
+pub record StandsIn (s : Sizes) (e : Blocks) (f : Inode) (taken : ℕ → Bool) : Type 0 where
+  pub named : (b : ℕ) → Names (held e f) b ↔ (taken b ≡ true)
+  pub once : IsOnce (held e f)
+  pub sound : IsSoundFile s (held e f)
+
+-- A file is planned: the blocks that were given out for it are in the active tree's set of the map, which else is as before, and
+-- each disk that has the planned blocks has the file in them.
+pub record HasFile (s : Sizes) (old new : Draft) (f : Inode) : Type 0 where
+  pub taken : ℕ → Bool
+  pub given : (b : ℕ) → taken b ≡ true → WasTaken old new b
+  pub active : (b : ℕ) → HasBit 0 (entry_at new.map.parts.items b)
+      ↔ (HasBit 0 (entry_at old.map.parts.items b) ⊎ (taken b ≡ true))
+  pub others : (b i : ℕ) → i ≢ 0
+      → bit_at (entry_at new.map.parts.items b) i ≡ bit_at (entry_at old.map.parts.items b) i
+  pub stands : OnEach new (λ e. StandsIn s e f taken)
+
+-- on a disk e this is the inode of an inode map of which the numbers 0 to 3 are taken
+pub record IsNumbersOn (e : Blocks) (f : Inode) : Type 0 where
+  pub kind : f.kind ≡ kinds.InodeMap
+  pub whole : HasNoHole (held e f)
+  pub taken : (n : ℕ) → IsTaken (bytes_of (content_of (held e f))) n ↔ (n < FIRST_NUMBER)
+
+-- on a disk e this is the inode of an inode file that has its first block at this place, and no other
+pub record IsTopOn (e : Blocks) (first : ℕ) (f : Inode) : Type 0 where
+  pub kind : f.kind ≡ kinds.InodeFile
+  pub blocks : (i : ℕ) → file_block (held e f) i ≡ (if i == 0 then e first else zeros 4096)
+
+-- on a disk e this is the inode of a block map with the entries of a draft
+pub record IsBlockMapOn (e : Blocks) (d : Draft) (f : Inode) : Type 0 where
+  pub kind : f.kind ≡ kinds.BlockMap
+  pub whole : HasNoHole (held e f)
+  pub entries : (b : ℕ) → map_entry (file_block (held e f) (b / 1024)) (b % 1024)
+      ≡ entry_at d.map.parts.items b
+
+-- the map of a draft is that of a disk of so many blocks of which none is in use, with changes, and is all to be stored
+pub record IsPlacedOver (blocks : ℕ) (d : Draft) : Type 0 where
+  pub count : d.map.count ≡ blocks
+  pub parts : length d.map.parts.items ≡ div_ceil blocks BLOCK_POINTERS
+  pub settled : (b : ℕ) → settled_at d.map.parts.items b ≡ system_entry b
+  pub touched : (j : ℕ) → j < length d.map.parts.items → IsTouched d.map.parts.items j
+
+-- all files are planned
+pub record HasTree (s : Sizes) (d : Draft) (top : Inode) : Type 0 where
+  pub numbers : Inode
+  pub map : Inode
+  pub tree : OnEach d (λ e. IsFirstTree s e top numbers map)
+  pub kind : top.kind ≡ kinds.InodeFile

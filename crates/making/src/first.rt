@@ -1,0 +1,170 @@
+//! The first consistency point, planned.
+
+ghost use Rattle.std.specs.Prelude.{◌≡◌, ℕ, ◌*◌, ◌<◌, ◌≤◌, All, IfErr, IfOk, [], length};
+ghost use Rattle.layout.specs.Inode.{inode_bytes};
+ghost use Rattle.layout.specs.Places.{Blocks};
+ghost use Rattle.layout.specs.Root.{IsRoot, root_bytes};
+ghost use Rattle.layout.specs.declared.TheConstants.{SLOT_A};
+ghost use Rattle.layout.specs.declared.numbers.TheConstants.{FIRST_GENERATION};
+ghost use Rattle.layout.specs.declared.pointer.Pointer.TheVariants.{Hole};
+ghost use Rattle.conspoint.specs.Drafts.{Grows, HasAll, IsReserved, IsShortage, OnEach};
+ghost use Rattle.conspoint.specs.Groups.{pointer_at};
+ghost use Rattle.conspoint.specs.MapFiles.{map_nodes};
+ghost use Rattle.conspoint.specs.Plans.{FitsDisk};
+ghost use Rattle.images.specs.FirstRoots.{root_alone};
+ghost use Rattle.images.specs.Roots.{whole};
+ghost use Rattle.images.specs.States.{Holds};
+ghost use Rattle.making.specs.Plans.{HasFile, HasTree, IsBlockMapOn, IsNumbersOn, IsPlacedOver, IsTopOn};
+ghost use Rattle.making.specs.Starts.{IsEmptyMap};
+
+use crate::empty_disk::EmptyDisk;
+use crate::inode_file::{first_block, inode_file};
+use crate::inode_map::inode_map;
+use crate::map::empty_map;
+use conspoint::{Draft, Plan, PlanError, mark_all, store_own_map, written_disks_have_the_blocks};
+use images::{first_roots_hold, free_files_hold_nothing, inodes_are_put_one_by_one};
+use layout::{
+    BODY_POINTERS, BlockNumber, Generation, Geometry, Inode, Pointer, ROOT_BYTES, Root, SLOT_A,
+    SNAPSHOT_SLOTS,
+};
+use placement::{place_file, place_file_but_first};
+use std::alloc::{AllocError, Global};
+
+/// The first consistency point of a new image, planned: what is to be written, and the root that comes into force then.
+#[derive(Debug, Drop)]
+pub struct FirstPoint {
+    pub plan: Plan,
+    pub root: Root,
+}
+
+/// Places the inode map.
+fn place_numbers(
+    alloc: Global,
+    draft: &mut Draft,
+    disk: &mut EmptyDisk,
+    geometry: Geometry,
+) -> Result<Inode, PlanError>
+    requires disk { disk.old.count ≡ geometry.blocks }
+    requires map { draft.old.map.count ≡ geometry.blocks }
+    ensures disk { disk.new.count ≡ disk.old.count }
+    ensures grows { Grows draft.old draft.new }
+    ensures file { IfOk result (HasFile geometry draft.old draft.new) }
+    ensures numbers { IfOk result (λ f. OnEach draft.new (λ e. IsNumbersOn e f)) }
+    ensures shortage { IfErr result IsShortage }
+{
+    free_files_hold_nothing();
+    let _ = geometry.inodes();
+    let object = inode_map(alloc, geometry)?;
+    let placed = place_file(alloc, draft, disk, &object)?;
+    mark_all(draft, &placed.taken, true)?;
+    Ok(placed.inode)
+}
+
+/// Places the inode file. Of its first block, which has the block map's inode, only the place is reserved.
+fn place_top(
+    alloc: Global,
+    draft: &mut Draft,
+    disk: &mut EmptyDisk,
+    geometry: Geometry,
+) -> Result<(Inode, BlockNumber), PlanError>
+    requires disk { disk.old.count ≡ geometry.blocks }
+    requires map { draft.old.map.count ≡ geometry.blocks }
+    ensures disk { disk.new.count ≡ disk.old.count }
+    ensures grows { Grows draft.old draft.new }
+    ensures reserved { IfOk result (λ r. IsReserved draft.new r.1) }
+    ensures file { IfOk result (λ r. HasFile geometry draft.old draft.new r.0) }
+    ensures top { IfOk result (λ r. OnEach draft.new (λ e. IsTopOn e r.1 r.0)) }
+    ensures shortage { IfErr result IsShortage }
+{
+    free_files_hold_nothing();
+    let object = inode_file(alloc, geometry);
+    let all = place_file_but_first(alloc, draft, disk, &object)?;
+    let (placed, first) = all;
+    mark_all(draft, &placed.taken, true)?;
+    Ok((placed.inode, first))
+}
+
+/// No places: of the block map's blocks, and of the indirect block over them, where there is one.
+fn no_nodes(alloc: Global, blocks: usize) -> Result<Vec<Pointer>, AllocError>
+    requires { blocks ≤ 1024 }
+    ensures count { IfOk result (λ nodes. length nodes.items ≡ map_nodes blocks) }
+    ensures none { IfOk result (λ nodes. (k : ℕ) → pointer_at nodes.items k ≡ Hole) }
+{
+    let count = if blocks <= BODY_POINTERS {
+        blocks
+    } else {
+        blocks + 1
+    };
+    let mut nodes = Vec::new(alloc);
+    for _ in 0..count {
+        nodes.push(Pointer::Hole)?;
+    }
+    Ok(nodes)
+}
+
+/// Places the block map, all of whose blocks are to be stored.
+fn place_map(alloc: Global, draft: &mut Draft, geometry: Geometry) -> Result<Inode, PlanError>
+    requires start { IsPlacedOver geometry.blocks draft.old }
+    ensures grows { Grows draft.old draft.new }
+    ensures others { (p : ℕ) → IsReserved draft.old p → IsReserved draft.new p }
+    ensures file { IfOk result (HasFile geometry draft.old draft.new) }
+    ensures map { IfOk result (λ f. OnEach draft.new (λ e. IsBlockMapOn e draft.new f)) }
+    ensures shortage { IfErr result IsShortage }
+{
+    written_disks_have_the_blocks();
+    let _ = geometry.blocks();
+    let none = no_nodes(alloc, draft.map_blocks())?;
+    let map = store_own_map(alloc, draft, &none)?;
+    Ok(map)
+}
+
+/// Plans all files of the image. The answer is the inode of the inode file.
+fn plan_files(alloc: Global, draft: &mut Draft, geometry: Geometry) -> Result<Inode, PlanError>
+    requires map { IsEmptyMap geometry.blocks draft.old.map }
+    ensures grows { Grows draft.old draft.new }
+    ensures tree { IfOk result (HasTree geometry draft.new) }
+    ensures shortage { IfErr result IsShortage }
+{
+    inodes_are_put_one_by_one();
+    written_disks_have_the_blocks();
+    let mut disk = EmptyDisk::new(alloc, geometry.blocks())?;
+    let numbers = place_numbers(alloc, draft, &mut disk, geometry)?;
+    let top = place_top(alloc, draft, &mut disk, geometry)?;
+    let (inode, first) = top;
+    // The map's own blocks come last: each block that is given out changes an entry.
+    let map = place_map(alloc, draft, geometry)?;
+    draft.put(first, first_block(alloc, &numbers, &map)?)?;
+    Ok(inode)
+}
+
+/// Plans the first consistency point of an image of this geometry: every place and every byte of it, and its root, of generation
+/// 1 and for slot A. Nothing is read and nothing is written. `NoSpace` where the disk is too small for it.
+pub fn plan_first(alloc: Global, geometry: Geometry) -> Result<FirstPoint, PlanError>
+    ensures none { IfOk result (λ p. p.plan.written ≡ 0) }
+    ensures slot { IfOk result (λ p. p.plan.slot ≡ SLOT_A) }
+    ensures bytes { IfOk result (λ p. p.plan.root ≡ root_bytes p.root) }
+    ensures fits { (sectors : ℕ) → 16 ≤ sectors → 8 * geometry.blocks ≤ sectors
+        → IfOk result (λ p. FitsDisk sectors p.plan) }
+    ensures behind { IfOk result (λ p. All (λ b. 2 ≤ b.place) p.plan.blocks) }
+    ensures root { IfOk result (λ p. IsRoot p.root) }
+    ensures generation { IfOk result (λ p. p.root.generation ≡ FIRST_GENERATION) }
+    ensures geometry { IfOk result (λ p. p.root.geometry ≡ geometry) }
+    ensures holds { IfOk result (λ p. (e : Blocks) → HasAll e p.plan.blocks
+        → Holds p.root (whole e p.root) root_alone []) }
+    ensures shortage { IfErr result IsShortage }
+{
+    first_roots_hold();
+    written_disks_have_the_blocks();
+    let mut draft = Draft::new(alloc, empty_map(alloc, geometry.blocks())?);
+    let inode_file = plan_files(alloc, &mut draft, geometry)?;
+    let root = Root {
+        generation: Generation::FIRST,
+        geometry,
+        inode_file,
+        snapshots: [Pointer::Hole; SNAPSHOT_SLOTS],
+    };
+    let mut bytes = [0; ROOT_BYTES];
+    let _ = root.write(&mut bytes);
+    let (_map, plan) = draft.into_plan(SLOT_A, bytes);
+    Ok(FirstPoint { plan, root })
+}

@@ -1,0 +1,74 @@
+//! The inode file of an image with an empty root directory.
+
+ghost use Rattle.std.specs.Prelude.{◌≡◌, ◌*◌, ℕ, ◌<◌, List, IfOk, OnOk, length};
+ghost use Rattle.std.specs.Int.{div_ceil};
+ghost use Rattle.layout.specs.Bytes.{zeros};
+ghost use Rattle.layout.specs.Inode.{inode_bytes};
+ghost use Rattle.images.specs.FirstRoots.{empty_directory};
+ghost use Rattle.images.specs.InodeFiles.{put_at};
+ghost use Rattle.images.specs.Roots.{free_inode};
+ghost use Rattle.inode.specs.Bases.{IsBased};
+ghost use Rattle.inode.specs.Files.{file_block};
+ghost use Rattle.making.specs.Starts.{inodes_block};
+
+use crate::inode_map::own_attributes;
+use buffers::Block;
+use inode::{File, Object};
+use layout::{Body, Geometry, INLINE_BYTES, INODE_BYTES, Inode, Kind};
+use model::Mode;
+use std::alloc::{AllocError, Global};
+
+/// The file, without blocks.
+pub(crate) fn inode_file(alloc: Global, geometry: Geometry) -> Object
+    ensures attributes { result.attributes
+        ≡ record { kind = Kind.InodeFile; mode = 0; links = 1 } }
+    ensures size { result.file.size ≡ 4096 * div_ceil geometry.inodes 21 }
+    ensures base { IsBased free_inode result.file.tree }
+    ensures blocks { (disk : ℕ → List ℕ) (i : ℕ) → file_block disk result.file i ≡ zeros 4096 }
+{
+    let mut file = File::empty(alloc);
+    file.set_size(4096 * u64::from(geometry.inodes().div_ceil(21)));
+    let attributes = own_attributes(Kind::InodeFile);
+    Object { attributes, file }
+}
+
+/// The root directory, without a name in it.
+#[tactic(auto, unfolding(layout::specs::Bytes::zeros))]
+fn root_directory() -> Inode
+    ensures { result ≡ empty_directory }
+{
+    Inode {
+        kind: Kind::Directory,
+        mode: Mode::NEW_DIRECTORY,
+        links: 1,
+        size: 0,
+        body: Body::Inline([0; INLINE_BYTES]),
+    }
+}
+
+/// Puts an inode at its place into a block of the inode file.
+fn put_inode(block: &mut Block, at: u32, inode: &Inode)
+    requires at { at < 21 }
+    requires whole { length block.old ≡ 4096 }
+    ensures whole { length block.new ≡ 4096 }
+    ensures put { block.new ≡ put_at (INODE_BYTES * at) (inode_bytes inode.now) block.old }
+    ensures long { length (inode_bytes inode.now) ≡ INODE_BYTES }
+{
+    let mut bytes = [0; INODE_BYTES];
+    let _ = inode.write(&mut bytes);
+    block.put(INODE_BYTES * at as usize, &bytes);
+}
+
+/// The file's first block, with the inodes of the two maps and of the root directory.
+pub(crate) fn first_block(alloc: Global, numbers: &Inode, map: &Inode) -> Result<Block, AllocError>
+    ensures bytes { IfOk result (λ b. b ≡ inodes_block numbers.now map.now) }
+    ensures numbers { OnOk result (length (inode_bytes numbers.now) ≡ INODE_BYTES) }
+    ensures map { OnOk result (length (inode_bytes map.now) ≡ INODE_BYTES) }
+    ensures directory { OnOk result (length (inode_bytes empty_directory) ≡ INODE_BYTES) }
+{
+    let mut block = Block::zeroed(alloc)?;
+    put_inode(&mut block, 1, numbers);
+    put_inode(&mut block, 2, map);
+    put_inode(&mut block, 3, &root_directory());
+    Ok(block)
+}

@@ -1,0 +1,60 @@
+//! The inode map of an image with an empty root directory.
+
+ghost use Rattle.std.specs.Prelude.{◌≡◌, ℕ, ◌<◌, List, IfOk};
+ghost use Rattle.std.specs.Int.{div_ceil};
+ghost use Rattle.layout.specs.declared.inode.Inode.{Inode};
+ghost use Rattle.images.specs.Roots.{free_inode};
+ghost use Rattle.inode.specs.Bases.{IsBased};
+ghost use Rattle.inode.specs.Files.{file_block};
+ghost use Rattle.placement.specs.Files.{AreAllChanged};
+ghost use Rattle.making.specs.Starts.{numbers_block};
+
+use buffers::Block;
+use inode::{Attributes, File, Object};
+use layout::{BLOCK_BYTES, Geometry, Kind};
+use model::Mode;
+use std::alloc::{AllocError, Global};
+
+/// What the file system's own files say beside their bytes.
+pub(crate) fn own_attributes(kind: Kind) -> Attributes
+    ensures { result ≡ record { kind = kind; mode = 0; links = 1 } }
+{
+    Attributes {
+        kind,
+        mode: Mode::new(0).unwrap(),
+        links: 1,
+    }
+}
+
+/// Block `i` of the map: the numbers 0 to 3 are taken.
+#[tactic(auto, unfolding(layout::specs::Bytes::zeros))]
+fn map_block(alloc: Global, i: u32) -> Result<Block, AllocError>
+    ensures { IfOk result (λ b. b ≡ numbers_block i) }
+{
+    let mut bytes = [0; BLOCK_BYTES];
+    if i == 0 {
+        bytes[0] = 15;
+    }
+    Block::copy_of(alloc, &bytes)
+}
+
+/// The map's file, with all its blocks.
+pub(crate) fn inode_map(alloc: Global, geometry: Geometry) -> Result<Object, AllocError>
+    ensures attributes { IfOk result
+        (λ o. o.attributes ≡ record { kind = Kind.InodeMap; mode = 0; links = 1 }) }
+    ensures size { IfOk result (λ o. o.file.size ≡ div_ceil geometry.inodes 8) }
+    ensures base { IfOk result (λ o. IsBased free_inode o.file.tree) }
+    ensures changed { IfOk result AreAllChanged }
+    ensures blocks { IfOk result (λ o. (disk : ℕ → List ℕ) (i : ℕ)
+        → file_block disk o.file i ≡ numbers_block i) }
+{
+    let size = geometry.inodes().div_ceil(8);
+    let mut file = File::empty(alloc);
+    file.set_size(size as u64);
+    for i in 0..size.div_ceil(4096) {
+        file.make_room(i)?;
+        file.set_block(i, map_block(alloc, i)?);
+    }
+    let attributes = own_attributes(Kind::InodeMap);
+    Ok(Object { attributes, file })
+}
