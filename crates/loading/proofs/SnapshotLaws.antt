@@ -11,12 +11,12 @@ use Rattle.images.specs.Roots.{frozen_inode_file, slot, whole}
 use Rattle.images.specs.Snapshots.{AreSnapshots, HasSnapshot}
 use Rattle.loading.specs.Snapshots.{AreApart, AreApartAt, IsSnapshotAt}
 
-pub at_slot : (disk : Blocks) (r : Root) (k : ℕ) (p : Pointer) → AreSnapshots r (whole disk r) → slot r (suc k) ≡ p → IsSnapshotAt r.generation disk p
+pub at_slot : (disk : Blocks) (r : Root) (k : ℕ) (p : Pointer) → AreSnapshots r (whole disk r) → slot r (suc k) ≡ p → IsSnapshotAt r.geometry r.generation disk p
 unfolding whole
 at_slot disk r k Hole are is = tt
 at_slot disk r k (Block b) are is =
     let one = are.each (suc k) b is in
-    record { snapshot = one.0; is = one.2.is; spelled = sym (ap (pointed disk) is) ∙ one.2.spelled; order = one.2.order }
+    record { snapshot = one.0; is = one.2.is; spelled = sym (ap (pointed disk) is) ∙ one.2.spelled; order = one.2.order; inode_file = one.2.inode_file }
 
 -- two slots have snapshots of different names and orders
 module _ (disk : Blocks) (r : Root) (are : AreSnapshots r (whole disk r))

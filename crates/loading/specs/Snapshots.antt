@@ -1,21 +1,25 @@
 -- The snapshots' root blocks, as mount tests them.
 use Rattle.std.specs.Prelude.{ℕ, ◌≡◌, ◌≢◌, ◌≤◌, List}
+use Rattle.layout.specs.Inode.{IsInode}
+use Rattle.layout.specs.Limits.{Sizes}
 use Rattle.layout.specs.Places.{Blocks}
 use Rattle.layout.specs.SnapRoot.{Snapshot, IsSnapshot, snapshot_bytes}
 use Rattle.layout.specs.declared.pointer.Pointer.{Pointer}
 use Rattle.layout.specs.declared.pointer.Pointer.TheVariants.{Hole, Block}
+use Rattle.layout.specs.declared.version.TheConstants.{VERSION}
 
--- a block is a snapshot's root, of an order up to this one
-pub record IsSnapshotBlock (most : ℕ) (bytes : List ℕ) : Type 0 where
+-- a block is a snapshot's root in an image of these sizes, of an order up to this one
+pub record IsSnapshotBlock (sizes : Sizes) (most : ℕ) (bytes : List ℕ) : Type 0 where
   pub snapshot : Snapshot
   pub is : IsSnapshot snapshot
   pub spelled : bytes ≡ snapshot_bytes snapshot
   pub order : snapshot.order ≤ most
+  pub inode_file : IsInode VERSION sizes snapshot.inode_file
 
 -- so is the block at a pointer, unless it is a hole
-abbrev pub IsSnapshotAt : ℕ → Blocks → Pointer → Type 0
-IsSnapshotAt most disk Hole = Unit {0}
-IsSnapshotAt most disk (Block b) = IsSnapshotBlock most (disk b)
+abbrev pub IsSnapshotAt : Sizes → ℕ → Blocks → Pointer → Type 0
+IsSnapshotAt sizes most disk Hole = Unit {0}
+IsSnapshotAt sizes most disk (Block b) = IsSnapshotBlock sizes most (disk b)
 
 -- these bytes are no roots of two snapshots that have one name or one order
 abbrev pub AreApart : List ℕ → List ℕ → Type 0

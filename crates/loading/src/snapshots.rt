@@ -1,9 +1,10 @@
 //! The snapshots' root blocks under a root.
 
-ghost use Rattle.std.specs.Prelude.{◌≡◌, ◌↔◌, ◌<◌, ℕ, All, List, IfOk, IsErrOf, IsTrue, OnOk, slice_index_or};
+ghost use Rattle.std.specs.Prelude.{◌≡◌, ◌↔◌, ◌≤◌, ◌<◌, ℕ, All, List, IfOk, IsErrOf, IsTrue, OnOk, slice_index_or};
+ghost use Rattle.layout.specs.Inode.{IsInode};
 ghost use Rattle.layout.specs.Pointer.{PointsBelow};
 ghost use Rattle.layout.specs.Root.{IsRoot};
-ghost use Rattle.layout.specs.declared.version.TheConstants.{SNAPSHOT_SLOTS};
+ghost use Rattle.layout.specs.declared.version.TheConstants.{SNAPSHOT_SLOTS, VERSION};
 ghost use Rattle.layout.specs.declared.pointer.Pointer.TheVariants.{Hole};
 ghost use Rattle.buffers.specs.Reads.{ReadsBlocks};
 ghost use Rattle.blocktree.specs.Errors.{IsFault};
@@ -14,16 +15,16 @@ ghost use Rattle.loading.specs.Snapshots.{AreApart, AreApartAt, IsSnapshotAt};
 use blocktree::ReadError;
 use buffers::Blocks;
 use images::snapshots_are_what_their_bytes_spell;
-use layout::{BLOCK_BYTES, Generation, Pointer, Root, SNAPSHOT_SLOTS, SnapRoot};
+use layout::{BLOCK_BYTES, Pointer, Root, SNAPSHOT_SLOTS, SnapRoot};
 
-/// Tests the root block of each snapshot of a root: `Damaged` where one is no snapshot's root, or has an order above the root's
-/// generation, and where two have one name or one order.
+/// Tests the root block of each snapshot of a root: `Damaged` where one is no snapshot's root in an image of these sizes, or has an
+/// order above the root's generation, and where two have one name or one order.
 pub fn check_snapshots<B: Blocks>(blocks: &mut B, root: &Root) -> Result<(), ReadError>
     requires root { IsRoot root.now }
     requires size { B.count blocks.old ≡ root.now.geometry.blocks }
     ensures reads { ReadsBlocks B.Blocks IsFault blocks.old blocks.new result }
     ensures are { (disk : ℕ → List ℕ) → B.Shows blocks.old disk → OnOk result ((k : ℕ)
-        → k < SNAPSHOT_SLOTS → IsSnapshotAt root.now.generation disk
+        → k < SNAPSHOT_SLOTS → IsSnapshotAt root.now.geometry root.now.generation disk
         (slice_index_or root.now.snapshots k Hole)) }
     ensures apart { (disk : ℕ → List ℕ) → B.Shows blocks.old disk
         → OnOk result ((k l : ℕ) → k < SNAPSHOT_SLOTS → l < k
@@ -34,7 +35,7 @@ pub fn check_snapshots<B: Blocks>(blocks: &mut B, root: &Root) -> Result<(), Rea
 {
     snapshots_are_what_their_bytes_spell();
     for k in 0..SNAPSHOT_SLOTS {
-        check_snapshot(blocks, root.snapshots[k], root.generation)?;
+        check_snapshot(blocks, root.snapshots[k], root)?;
         check_apart(blocks, &root.snapshots, k)?;
     }
     Ok(())
@@ -99,25 +100,30 @@ fn differ(a: &[u8; BLOCK_BYTES], b: &[u8; BLOCK_BYTES]) -> bool
     a.order != b.order && a.name != b.name
 }
 
+/// Whether a snapshot fits the sizes of a root, and isn't newer than it.
+fn is_of(snapshot: &SnapRoot<'_>, root: &Root) -> bool
+    ensures { IsTrue result ↔ ((snapshot.now.order ≤ root.now.generation)
+        × IsInode VERSION root.now.geometry snapshot.now.inode_file) }
+{
+    snapshot.order <= root.generation.get() && snapshot.inode_file.fits(root.geometry)
+}
+
 /// Tests the root block of the snapshot at a pointer, if there is one.
-fn check_snapshot<B: Blocks>(
-    blocks: &mut B,
-    pointer: Pointer,
-    generation: Generation,
-) -> Result<(), ReadError>
+fn check_snapshot<B: Blocks>(blocks: &mut B, pointer: Pointer, root: &Root) -> Result<(), ReadError>
     requires { PointsBelow (B.count blocks.old) pointer }
     ensures reads { ReadsBlocks B.Blocks IsFault blocks.old blocks.new result }
     ensures is { (disk : ℕ → List ℕ) → B.Shows blocks.old disk
-        → OnOk result (IsSnapshotAt generation disk pointer) }
+        → OnOk result (IsSnapshotAt root.now.geometry root.now.generation disk pointer) }
     ensures damaged { (disk : ℕ → List ℕ) → B.Shows blocks.old disk
-        → IsErrOf result ReadError.Damaged → IsSnapshotAt generation disk pointer → ⊥ }
+        → IsErrOf result ReadError.Damaged
+        → IsSnapshotAt root.now.geometry root.now.generation disk pointer → ⊥ }
 {
     let Pointer::Block(place) = pointer else {
         return Ok(());
     };
     blocks.make_resident(place)?;
     match SnapRoot::read(blocks.bytes(place)) {
-        Some(snapshot) if snapshot.order <= generation.get() => Ok(()),
+        Some(snapshot) if is_of(&snapshot, root) => Ok(()),
         _ => Err(ReadError::Damaged),
     }
 }
