@@ -94,11 +94,12 @@ impl Log {
         self.epoch
     }
 
-    /// Whether the next record opens its epoch first: none of that epoch stands in the log.
-    pub fn is_unopened(&self) -> bool
-        ensures { IsTrue result ↔ (self.now.end ≡ End.Unopened) }
+    /// Whether no record stands in the log of the epoch that the next one goes to. The epoch may be open: a cut behind its opening
+    /// leaves it so.
+    pub fn is_empty(&self) -> bool
+        ensures { IsTrue result ↔ (next_of self.now.end ≡ FIRST_GATE) }
     {
-        matches!(self.end, End::Unopened)
+        self.next() == FIRST_GATE
     }
 
     /// Whether a record with a body of this length fits what is left of the half.

@@ -4,6 +4,7 @@ ghost use Rattle.std.specs.Prelude.{◌≡◌, ℕ, ◌+◌, ◌*◌, ◌%◌, �
 ghost use Rattle.station.specs.Moments.{Shows};
 ghost use Rattle.station.specs.Calls.{OnlyReads};
 ghost use Rattle.layout.specs.Gates.{HeaderIs};
+ghost use Rattle.layout.specs.declared.geometry.TheConstants.{MOST_HALF};
 ghost use Rattle.layout.specs.declared.log.TheConstants.{FIRST_GATE, HEADER_BYTES};
 ghost use Rattle.layout.specs.Log.{half_of, EpochHolds, LogHolds};
 ghost use Rattle.oplog.specs.LogEnd.{AreHalfBytes};
@@ -119,14 +120,16 @@ impl SavedLog {
 
     /// The records of the epoch that follows the root: the bytes from the first one's gate on.
     pub fn first_records(&self) -> &[u8]
-        ensures { result.now ≡ self.now.first.records }
+        ensures records { result.now ≡ self.now.first.records }
+        ensures few { length result.now ≤ MOST_HALF }
     {
         &self.first.records
     }
 
     /// The records of the epoch after that one.
     pub fn second_records(&self) -> &[u8]
-        ensures { result.now ≡ self.now.second.records }
+        ensures records { result.now ≡ self.now.second.records }
+        ensures few { length result.now ≤ MOST_HALF }
     {
         &self.second.records
     }
