@@ -1,4 +1,4 @@
--- Names that directories of a volume get.
+-- Names that directories of a volume get and lose.
 use Rattle.std.proofs.Common.{◌≡◌, ◌≢◌, ◌⊎◌, inl, inr, ℕ, zero, suc, ◌==◌, ◌<◌, ◌≤◌, List, Option, Some, None, IsTrue, IsSome, is_some, IfSome, IfNone, IfOk, Result, Ok, Err, false, bytes_eq, refl, sym, ap, subst, ◌∙◌, arith}
 use Rattle.std.proofs.Math.Path.{fun_ext}
 use Rattle.std.proofs.lemmas.Bool.{cases_Bool, cases_eq, false≢true, both_ways}
@@ -11,15 +11,16 @@ use Rattle.layout.specs.declared.kind.Kind.TheVariants as kinds
 use Rattle.model.specs.Counting.{Counts}
 use Rattle.model.specs.Paths.{Name, IsName}
 use Rattle.model.specs.Records.{TakesName, is_vacant}
-use Rattle.model.specs.Volumes.{Node, directory_node, file_node, link_node, Volume, names_in, is_directory_node, with_node, set_name, created, IsVolume}
+use Rattle.model.specs.Volumes.{Node, directory_node, file_node, link_node, Volume, names_in, is_directory_node, with_node, set_name, with_entry, IsVolume}
 use Rattle.model.proofs.CountLemmas.{counts_once}
 use Rattle.images.specs.Contents.{Content, StandsAs, IsDirectoryOf}
 use Rattle.inode.specs.declared.object.Object.{Object}
 use Rattle.inofile.specs.Objects.{IsObject, IsObjectKind, IsObjectOrNone, IsSameOrNone}
 use Rattle.inofile.specs.Settled.{content_of}
-use Rattle.dirs.specs.Directory.{HasCount}
-use Rattle.dirs.specs.declared.edit.Edit.{Edit}
-use Rattle.calls.specs.Entering.{EntersIn, IsDirectoryObject, TakesEntry}
+use Rattle.layout.specs.declared.entry.Entry.{Entry}
+use Rattle.dirs.specs.Directory.{HasCount, with_name}
+use Rattle.calls.specs.declared.naming.NameEdit.TheVariants as edits
+use Rattle.calls.specs.Entering.{Accepts, HasPlace, IsDirectoryObject, TakesEntry, with_names}
 
 -- ---- a directory of a volume and one in memory
 
@@ -29,18 +30,44 @@ module _ (v : Volume) (d : ℕ) (x : Name) (mode : ℕ) (names : NameMap) (is : 
     directory = subst (λ (o : Option Node). IsTrue (is_directory_node o)) (sym is) refl;
     missing = subst (λ (o : Option Node). names_in o x ≡ None) (sym is) takes.missing;
     name = name;
-    count = takes.count;
-    counts = subst (λ (o : Option Node). Counts (λ y. IsSome (names_in o y)) takes.count) (sym is) takes.counts;
-    room = takes.room;
+    count = takes.place.count;
+    counts = subst (λ (o : Option Node). Counts (λ y. IsSome (names_in o y)) takes.place.count) (sym is) takes.place.counts;
+    room = takes.place.room;
   }
 
   pub takes_entry : TakesName v d x → TakesEntry names x
   takes_entry takes = record {
     missing = subst (λ (o : Option Node). names_in o x ≡ None) is takes.missing;
-    count = takes.count;
-    counts = subst (λ (o : Option Node). Counts (λ y. IsSome (names_in o y)) takes.count) is takes.counts;
-    room = takes.room;
+    place = record {
+      count = takes.count;
+      counts = subst (λ (o : Option Node). Counts (λ y. IsSome (names_in o y)) takes.count) is takes.counts;
+      room = takes.room;
+    };
   }
+
+-- a directory, with its mode and its names
+pub directory_is : (o : Option Node) → IsTrue (is_directory_node o) → (mode : ℕ) × (names : NameMap) × (o ≡ Some (directory_node mode names))
+directory_is None is = absurd (false≢true is)
+directory_is (Some (directory_node mode names)) is = (mode, names, refl)
+directory_is (Some (file_node mode links bytes)) is = absurd (false≢true is)
+directory_is (Some (link_node text)) is = absurd (false≢true is)
+
+pub found_directory : (o : Option Node) (mode : ℕ) (names : NameMap) → o ≡ Some (directory_node mode names) → IsTrue (is_directory_node o)
+found_directory o mode names is = ap is_directory_node is
+
+-- an object has its names once
+pub same_names : (mode old : ℕ) (names others : NameMap) → Some (directory_node mode names) ≡ Some (directory_node old others) → names ≡ others
+same_names mode old names others e = cc
+
+-- a directory that takes a name has place for its entry
+pub accepts_entry : (v : Volume) (d : ℕ) (entry : Entry) → TakesName v d entry.name.now → Accepts (edits.Add entry) (v d)
+accepts_entry v d entry takes =
+    let there = directory_is (v d) takes.directory in
+    record { mode = there.0; names = there.1; is = there.2; takes = takes_entry v d entry.name.now there.0 there.1 there.2 takes }
+
+-- and the other way round
+pub takes_accepted : (v : Volume) (d : ℕ) (entry : Entry) → IsName entry.name.now → Accepts (edits.Add entry) (v d) → TakesName v d entry.name.now
+takes_accepted v d entry name accepts = takes_name v d entry.name.now accepts.mode accepts.names accepts.is name accepts.takes
 
 -- names are told apart
 names_apart : (a b : Name) → (a ≡ b) ⊎ (a ≢ b)
@@ -49,11 +76,11 @@ names_apart a b = elim (cases_Bool (bytes_eq a b)) [
   | inr other ↦ inr (λ e. both_ways (bytes_eq a b) other ((bytes_eq-Decides a b).1 e))
 ]
 
--- a full directory takes no name
-pub full_takes_none : (names : NameMap) (x : Name) (n : ℕ) → HasCount names n → 65536 ≤ n → TakesEntry names x → ⊥
-full_takes_none names x n count many takes =
-    let same : n ≡ takes.count = counts_once (λ (y : Name). IsSome (names y)) names_apart n takes.count count takes.counts in
-    let room = takes.room in
+-- a full directory has no place for a name
+pub full_has_no_place : (names : NameMap) (n : ℕ) → HasCount names n → 65536 ≤ n → HasPlace names → ⊥
+full_has_no_place names n count many place =
+    let same : n ≡ place.count = counts_once (λ (y : Name). IsSome (names y)) names_apart n place.count count place.counts in
+    let room = place.room in
     omega (arith, same, room, many)
 
 -- ---- kinds
@@ -135,6 +162,16 @@ refused_so (Ok (Some a)) P Q then p = tt
 refused_so (Ok None) P Q then p = then p
 refused_so (Err e) P Q then p = tt
 
+pub some_told : {A E : Type 0} (r : Result (Option A) E) (P : Type 0) → P → IfOk r (λ o. IfSome o (λ _. P))
+some_told (Ok (Some a)) P is = is
+some_told (Ok None) P is = tt
+some_told (Err e) P is = tt
+
+pub always_some : {A E : Type 0} (r : Result (Option A) E) (P : Type 0) → IfOk r (λ o. IfNone o ⊥) → IfOk r (λ o. IfNone o P)
+always_some (Ok (Some a)) P is = tt
+always_some (Ok None) P is = absurd is
+always_some (Err e) P is = tt
+
 pub not_some : {A : Type 0} (o : Option A) → is_some o ≡ false → o ≡ None
 not_some None is = refl
 not_some (Some a) is = absurd (false≢true (sym is))
@@ -153,12 +190,6 @@ pub object_or_none : (disk : ℕ → List ℕ) (inodes : ℕ) (settled : Inode) 
 object_or_none disk inodes settled (Some x) found stands none = stands
 object_or_none disk inodes settled None found stands none = none
 
--- what a name is given in is a directory that takes it
-pub enters_stands : (disk : ℕ → List ℕ) (inodes : ℕ) (name : Name) (number : ℕ) (found : Option Node) (o : Option Object) (edit : Edit) → EntersIn disk inodes name number found o edit
-    → (mode : ℕ) × (names : NameMap) × (found ≡ Some (directory_node mode names)) × TakesEntry names name
-enters_stands disk inodes name number found (Some o) edit enters = (o.attributes.mode, enters.names, enters.stands, enters.takes)
-enters_stands disk inodes name number found None edit enters = absurd enters
-
 -- ---- the volume
 
 pub node_here : (n k : ℕ) (node : Option Node) (v : Volume) → k ≡ n → with_node n node v k ≡ node
@@ -167,39 +198,46 @@ node_here n k o v e = grind (arith, nat_tests)
 pub node_other : (n k : ℕ) (node : Option Node) (v : Volume) → k ≢ n → with_node n node v k ≡ v k
 node_other n k o v ne = grind (arith, nat_tests)
 
--- a name and its object, the name first, make what is made at once
-module _ (n d : ℕ) (x : Name) (node : Node) (v : Volume) (apart : n ≢ d) where
+-- a name and its object, the name first, make what both make at once
+module _ (n d : ℕ) (x : Name) (to : Option ℕ) (node : Option Node) (v : Volume) (apart : n ≢ d) where
   abbrev object_put : Volume
-  object_put = with_node n (Some node) v
+  object_put = with_node n node v
 
   abbrev name_put : Volume
-  name_put = with_node d (set_name x (Some n) (v d)) v
+  name_put = with_node d (set_name x to (v d)) v
 
   at_parent : object_put d ≡ v d
-  at_parent = node_other n d (Some node) v (λ e. apart (sym e))
+  at_parent = node_other n d node v (λ e. apart (sym e))
 
-  made_each : (k : ℕ) → with_node n (Some node) name_put k ≡ created n d x node v k
-  made_each k = elim (cases_eq k n) [
+  put_each : (k : ℕ) → with_node n node name_put k ≡ with_entry d x to object_put k
+  put_each k = elim (cases_eq k n) [
     | inl is_n ↦
-        node_here n k (Some node) name_put is_n
-        ∙ sym (node_here n k (Some node) v is_n)
-        ∙ sym (node_other d k (set_name x (Some n) (object_put d)) object_put (λ e. apart (sym is_n ∙ e)))
+        node_here n k node name_put is_n
+        ∙ sym (node_here n k node v is_n)
+        ∙ sym (node_other d k (set_name x to (object_put d)) object_put (λ e. apart (sym is_n ∙ e)))
     | inr other ↦
-        node_other n k (Some node) name_put other
+        node_other n k node name_put other
         ∙ elim (cases_eq k d) [
           | inl is_d ↦
-              node_here d k (set_name x (Some n) (v d)) v is_d
-              ∙ ap (set_name x (Some n)) (sym at_parent)
-              ∙ sym (node_here d k (set_name x (Some n) (object_put d)) object_put is_d)
+              node_here d k (set_name x to (v d)) v is_d
+              ∙ ap (set_name x to) (sym at_parent)
+              ∙ sym (node_here d k (set_name x to (object_put d)) object_put is_d)
           | inr ne ↦
-              node_other d k (set_name x (Some n) (v d)) v ne
-              ∙ sym (node_other n k (Some node) v other)
-              ∙ sym (node_other d k (set_name x (Some n) (object_put d)) object_put ne)
+              node_other d k (set_name x to (v d)) v ne
+              ∙ sym (node_other n k node v other)
+              ∙ sym (node_other d k (set_name x to (object_put d)) object_put ne)
         ]
   ]
 
-  pub made_volume : with_node n (Some node) (with_node d (set_name x (Some n) (v d)) v) ≡ created n d x node v
-  made_volume = fun_ext {f = with_node n (Some node) name_put} {g = created n d x node v} made_each
+  pub put_volume : with_node n node (with_node d (set_name x to (v d)) v) ≡ with_entry d x to (with_node n node v)
+  put_volume = fun_ext {f = with_node n node name_put} {g = with_entry d x to object_put} put_each
+
+-- one name of a directory changed
+pub names_set : (x : Name) (to : Option ℕ) (o : Option Node) → with_names (with_name x to) o ≡ set_name x to o
+names_set x to None = refl
+names_set x to (Some (directory_node mode names)) = refl
+names_set x to (Some (file_node mode links bytes)) = refl
+names_set x to (Some (link_node text)) = refl
 
 -- ---- numbers
 

@@ -4,3 +4,6 @@ pub mod CountedLists
 pub mod MakeLaws
 pub mod ListLaws
 pub mod RefusalLaws
+pub mod StepLaws
+pub mod NamingLaws
+pub mod FileLaws

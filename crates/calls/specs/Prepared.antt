@@ -1,28 +1,40 @@
 -- Prepared changes of the image in memory.
-use Rattle.std.specs.Prelude.{ℕ, ◌≡◌, ◌≢◌, ◌≤◌, ◌<◌, List, Some}
+use Rattle.std.specs.Prelude.{ℕ, List, Option, Some, None}
 use Rattle.layout.specs.declared.inode.Inode.{Inode}
-use Rattle.model.specs.declared.limits.TheConstants.{FIRST_NUMBER}
-use Rattle.model.specs.Paths.{Name}
 use Rattle.model.specs.Records.{Change, applied}
-use Rattle.model.specs.Volumes.{Node, Volume, created}
-use Rattle.inofile.specs.Inodes.{HasRoomFor, loaded}
-use Rattle.inofile.specs.Objects.{IsObject}
+use Rattle.model.specs.Volumes.{Volume}
 use Rattle.inofile.specs.declared.inode_file.InodeFile.{InodeFile}
-use Rattle.calls.specs.Entering.{EntersIn, CanEdit}
+use Rattle.calls.specs.Steps.{IsBeside, IsSomeApart, Steps, StepsSome, TakesSome, TakesStep}
 use Rattle.calls.specs.declared.prepared.Prepared.{Prepared}
+use Rattle.calls.specs.declared.steps.Step.{Step}
+
+-- a step, if there is one, doesn't depend on what another one, if there is one, does to memory
+abbrev pub IsApartFrom : Option Step → Option Step → Type 0
+IsApartFrom None step = Unit {0}
+IsApartFrom (Some other) step = IsSomeApart other.number step
+
+-- a step, if there is one, isn't of the same number as another one, if there is one
+abbrev pub AreBeside : Option Step → Option Step → Type 0
+AreBeside None step = Unit {0}
+AreBeside (Some other) step = IsBeside other.number step
 
 -- memory has room for all that a prepared change sets
 pub record IsReady (s : InodeFile) (p : Prepared) : Type 0 where
-  pub low : FIRST_NUMBER ≤ p.number
-  pub high : p.number < s.geometry.inodes
-  pub room : HasRoomFor s p.number
-  pub edits : CanEdit s p.parent p.edit
+  pub first : TakesStep s p.first
+  pub next : TakesSome s p.next
+  pub last : TakesSome s p.last
+  pub next_apart : IsSomeApart p.first.number p.next
+  pub last_apart : IsSomeApart p.first.number p.last
+  pub apart : IsApartFrom p.next p.last
 
--- Put in force on this memory, which stands for this volume, a prepared change does to it what the record says.
+-- Put in force on this memory, which stands for this volume, a prepared change does to it what the record says: each of its
+-- steps is on an object of its own.
 pub record Does (disk : ℕ → List ℕ) (settled : ℕ → Inode) (s : InodeFile) (v : Volume) (p : Prepared) (change : Change) : Type 0 where
-  pub name : Name
-  pub node : Node
-  pub apart : p.number ≢ p.parent
-  pub object : IsObject disk s.geometry.inodes (settled p.number) p.object (Some node)
-  pub enters : EntersIn disk s.geometry.inodes name p.number (v p.parent) (loaded s p.parent) p.edit
-  pub creates : applied change v ≡ created p.number p.parent name node v
+  pub between : Volume
+  pub second : Volume
+  pub first : Steps disk settled s v p.first between
+  pub next : StepsSome disk settled s between p.next second
+  pub last : StepsSome disk settled s second p.last (applied change v)
+  pub next_beside : IsBeside p.first.number p.next
+  pub last_beside : IsBeside p.first.number p.last
+  pub beside : AreBeside p.next p.last

@@ -24,6 +24,7 @@ pub(crate) fn load<B: Blocks>(
     requires high { number < inodes.old.geometry.inodes }
     ensures looks { Looks B.Blocks IsFault blocks.old blocks.new inodes.old inodes.new result }
     ensures known { OnOk result (IsKnown inodes.new number) }
+    ensures stays { (n : ℕ) → IsKnown inodes.old n → IsKnown inodes.new n }
     ensures keeps { (n : ℕ) → HasRoomFor inodes.old n → HasRoomFor inodes.new n }
     ensures damaged { (disk : ℕ → List ℕ) (settled : ℕ → Inode) (v : Volume)
         → Stands B.Blocks disk settled v blocks.old inodes.old
@@ -44,6 +45,7 @@ pub(crate) fn load_to_change<B: Blocks>(
     ensures looks { Looks B.Blocks IsFault blocks.old blocks.new inodes.old inodes.new result }
     ensures known { OnOk result (IsKnown inodes.new number) }
     ensures room { OnOk result (HasRoomFor inodes.new number) }
+    ensures stays { (n : ℕ) → IsKnown inodes.old n → IsKnown inodes.new n }
     ensures keeps { (n : ℕ) → HasRoomFor inodes.old n → HasRoomFor inodes.new n }
     ensures damaged { (disk : ℕ → List ℕ) (settled : ℕ → Inode) (v : Volume)
         → Stands B.Blocks disk settled v blocks.old inodes.old

@@ -14,6 +14,7 @@ ghost use Rattle.calls.specs.Standing.{Looks, Stands};
 
 use crate::finding::find;
 use crate::prepared::prepare_new;
+use crate::vacancy::new_directory;
 use crate::{Creation, Making};
 use blocktree::ReadError;
 use buffers::Blocks;
@@ -156,7 +157,16 @@ fn make_in<B: Blocks>(
         return refuse_in(alloc, inodes, blocks, parent, name.as_slice(), mode);
     };
     let number = InodeNumber::new(free);
-    let planned = prepare_new(alloc, inodes, blocks, number, parent, name.as_slice(), mode)?;
+    let object = new_directory(alloc, mode);
+    let planned = prepare_new(
+        alloc,
+        inodes,
+        blocks,
+        number,
+        parent,
+        name.as_slice(),
+        object,
+    )?;
     let Some(prepared) = planned else {
         return Ok(Err(Errno::DIRFULL));
     };
@@ -197,7 +207,8 @@ fn refuse_in<B: Blocks>(
     // An image has more inode numbers than the first.
     let _ = inodes.geometry().inodes();
     let number = InodeNumber::new(FIRST_NUMBER);
-    let planned = prepare_new(alloc, inodes, blocks, number, parent, name, mode)?;
+    let object = new_directory(alloc, mode);
+    let planned = prepare_new(alloc, inodes, blocks, number, parent, name, object)?;
     if planned.is_none() {
         return Ok(Err(Errno::DIRFULL));
     }

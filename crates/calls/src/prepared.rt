@@ -1,36 +1,39 @@
 //! Records, prepared and committed.
 
-ghost use Rattle.std.specs.Prelude.{◌≡◌, ◌≤◌, ◌<◌, ℕ, List, IfOk, IfSome, IfNone, IsErrOf, IsTrue};
-ghost use Rattle.layout.specs.Record.{change_of};
+ghost use Rattle.std.specs.Prelude.{◌≡◌, ◌≤◌, ◌<◌, ℕ, List, Some, IfOk, IfSome, IfNone, IsErrOf, IsTrue};
+ghost use Rattle.layout.specs.Record.{change_of, made_of};
 ghost use Rattle.layout.specs.declared.inode.Inode.{Inode};
 ghost use Rattle.model.specs.Paths.{IsName};
-ghost use Rattle.model.specs.Records.{Applies, Change, TakesName, applied, create, directory, is_vacant};
+ghost use Rattle.model.specs.Records.{Applies, Change, Made, TakesName, applied, create, is_vacant, node_of};
 ghost use Rattle.model.specs.Volumes.{Volume, IsVolume};
 ghost use Rattle.blocktree.specs.Errors.{IsFault};
+ghost use Rattle.inofile.specs.Objects.{IsObject};
 ghost use Rattle.inofile.specs.Volumes.{IsVolumeOf};
 ghost use Rattle.calls.specs.Prepared.{IsReady, Does};
 ghost use Rattle.calls.specs.Served.{IsServed};
 ghost use Rattle.calls.specs.Standing.{Looks, Stands};
 
-use crate::entering::{commit_edit, edit_parent};
-use crate::vacancy::{is_vacant, new_directory};
+use crate::entering::edit_parent;
+use crate::links::prepare_link;
+use crate::moding::prepare_mode;
+use crate::naming::NameEdit;
+use crate::steps::{Step, Update, commit_some, commit_step};
+use crate::unnaming::prepare_unname;
+use crate::vacancy::{is_made, is_vacant, new_object};
 use blocktree::ReadError;
 use buffers::Blocks;
-use dirs::Edit;
-use inode::Object;
+use inode::{Object, based_trees_are_sound};
 use inofile::InodeFile;
 use layout::{Entry, FIRST_NUMBER, InodeNumber, NewObject, Record};
-use model::Mode;
 use std::alloc::Global;
 
-/// A record's change of the image in memory, with all memory taken and all blocks read: a new object, and what the directory
-/// that gets its name will be.
+/// A record's change of the image in memory, with all memory taken and all blocks read: what becomes of one object, and then of
+/// two more, if need be.
 #[derive(Debug, Drop)]
 pub struct Prepared {
-    pub(crate) number: u32,
-    pub(crate) object: Object,
-    pub(crate) parent: u32,
-    pub(crate) edit: Edit,
+    pub(crate) first: Step,
+    pub(crate) next: Option<Step>,
+    pub(crate) last: Option<Step>,
 }
 
 /// Prepares what a record says; None where it doesn't apply. Nothing changes by it. NoMemory and Device tell what is said of
@@ -67,59 +70,68 @@ pub fn prepare<B: Blocks>(
             parent,
             object,
             name,
-        } => match object {
-            NewObject::Directory { mode } => {
-                prepare_directory(alloc, inodes, blocks, *number, parent.get(), name, *mode)
-            }
-            _ => unreachable!(),
-        },
+        } => prepare_create(alloc, inodes, blocks, *number, parent.get(), name, object),
+        Record::Link {
+            number,
+            parent,
+            name,
+        } => prepare_link(alloc, inodes, blocks, *number, parent.get(), name),
+        Record::Unname { parent, name } => {
+            prepare_unname(alloc, inodes, blocks, parent.get(), name)
+        }
+        Record::ChangeMode { number, mode } => {
+            prepare_mode(alloc, inodes, blocks, number.get(), *mode)
+        }
         _ => unreachable!(),
     }
 }
 
-// Prepares that a directory is made.
-fn prepare_directory<B: Blocks>(
+// Prepares that an object is made.
+fn prepare_create<B: Blocks>(
     alloc: Global,
     inodes: &mut InodeFile,
     blocks: &mut B,
     number: InodeNumber,
     parent: u32,
     name: &[u8],
-    mode: Mode,
+    object: &NewObject<'_>,
 ) -> Result<Option<Prepared>, ReadError>
     ensures looks { Looks B.Blocks IsFault blocks.old blocks.new inodes.old inodes.new result }
     ensures ready { IfOk result (λ p. IfSome p (IsReady inodes.new)) }
     ensures does { (disk : ℕ → List ℕ) (settled : ℕ → Inode) (v : Volume)
         → Stands B.Blocks disk settled v blocks.old inodes.old
         → IfOk result (λ p. IfSome p
-        (λ x. Does disk settled inodes.new v x (create number parent (directory mode) name.now))) }
+        (λ x. Does disk settled inodes.new v x (create number parent (made_of object.now) name.now))) }
     ensures applies { (disk : ℕ → List ℕ) (settled : ℕ → Inode) (v : Volume)
         → Stands B.Blocks disk settled v blocks.old inodes.old
         → IfOk result (λ p. IfSome p (λ _. Applies inodes.old.geometry.inodes v
-        (create number parent (directory mode) name.now))) }
+        (create number parent (made_of object.now) name.now))) }
     ensures refused { (disk : ℕ → List ℕ) (settled : ℕ → Inode) (v : Volume)
         → Stands B.Blocks disk settled v blocks.old inodes.old
         → IsVolume inodes.old.geometry.inodes v
         → IfOk result (λ p. IfNone p (Applies inodes.old.geometry.inodes v
-        (create number parent (directory mode) name.now) → ⊥)) }
+        (create number parent (made_of object.now) name.now) → ⊥)) }
     ensures damaged { (disk : ℕ → List ℕ) (settled : ℕ → Inode) (v : Volume)
         → Stands B.Blocks disk settled v blocks.old inodes.old
         → IsErrOf result ReadError.Damaged → ⊥ }
 {
-    // The type of a mode holds it to its bits.
-    let _ = mode.bits();
     let n = number.get();
     if n < FIRST_NUMBER || n >= inodes.geometry().inodes() {
+        return Ok(None);
+    }
+    if !is_made(object) {
         return Ok(None);
     }
     let vacant = is_vacant(alloc, inodes, blocks, n)?;
     if !vacant {
         return Ok(None);
     }
-    prepare_new(alloc, inodes, blocks, number, parent, name, mode)
+    based_trees_are_sound();
+    let new = new_object(alloc, blocks, object)?;
+    prepare_new(alloc, inodes, blocks, number, parent, name, new)
 }
 
-/// Prepares that a directory is made of this number, which is vacant; None where the parent doesn't take the name.
+/// Prepares that this object is made of this number, which is vacant; None where the parent doesn't take the name.
 pub(crate) fn prepare_new<B: Blocks>(
     alloc: Global,
     inodes: &mut InodeFile,
@@ -127,16 +139,17 @@ pub(crate) fn prepare_new<B: Blocks>(
     number: InodeNumber,
     parent: u32,
     name: &[u8],
-    mode: Mode,
+    object: Object,
 ) -> Result<Option<Prepared>, ReadError>
     requires low { FIRST_NUMBER ≤ number }
     requires high { number < inodes.old.geometry.inodes }
     ensures looks { Looks B.Blocks IsFault blocks.old blocks.new inodes.old inodes.new result }
     ensures ready { IfOk result (λ p. IfSome p (IsReady inodes.new)) }
-    ensures does { (disk : ℕ → List ℕ) (settled : ℕ → Inode) (v : Volume)
+    ensures does { (disk : ℕ → List ℕ) (settled : ℕ → Inode) (v : Volume) (made : Made)
         → Stands B.Blocks disk settled v blocks.old inodes.old → IsTrue (is_vacant (v number))
+        → ((k : ℕ) → IsObject disk k (settled number) object (Some (node_of made)))
         → IfOk result (λ p. IfSome p
-        (λ x. Does disk settled inodes.new v x (create number parent (directory mode) name.now))) }
+        (λ x. Does disk settled inodes.new v x (create number parent made name.now))) }
     ensures named { IfOk result (λ p. IfSome p (λ _. IsName name.now)) }
     ensures takes { (disk : ℕ → List ℕ) (settled : ℕ → Inode) (v : Volume)
         → Stands B.Blocks disk settled v blocks.old inodes.old
@@ -154,15 +167,20 @@ pub(crate) fn prepare_new<B: Blocks>(
         return Ok(None);
     }
     inodes.prepare_set(number.get())?;
-    let planned = edit_parent(alloc, inodes, blocks, parent, &entry)?;
+    let planned = edit_parent(alloc, inodes, blocks, parent, &NameEdit::Add(entry))?;
     let Some(edit) = planned else {
         return Ok(None);
     };
     Ok(Some(Prepared {
-        number: number.get(),
-        object: new_directory(alloc, mode),
-        parent,
-        edit,
+        first: Step {
+            number: parent,
+            update: Update::Names(edit),
+        },
+        next: Some(Step {
+            number: number.get(),
+            update: Update::Set(Some(object)),
+        }),
+        last: None,
     }))
 }
 
@@ -175,12 +193,8 @@ pub fn commit(inodes: &mut InodeFile, prepared: Prepared)
         → Does disk settled inodes.old v prepared change
         → IsVolumeOf count disk settled inodes.new (applied change v) }
 {
-    let Prepared {
-        number,
-        object,
-        parent,
-        edit,
-    } = prepared;
-    commit_edit(inodes, parent, edit);
-    inodes.commit_set(number, Some(object));
+    let Prepared { first, next, last } = prepared;
+    commit_step(inodes, first);
+    commit_some(inodes, next);
+    commit_some(inodes, last);
 }

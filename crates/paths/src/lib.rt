@@ -10,7 +10,7 @@ mod text;
 mod trail;
 mod walk;
 
-pub use lookup::list;
+pub use lookup::{list, number_at};
 pub use place::Place;
 pub use resolution::resolve;
 pub use text::{Parts, refusal_of_new_text, refusal_of_text};

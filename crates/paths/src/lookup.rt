@@ -71,7 +71,7 @@ pub(crate) fn object_at<B: Blocks>(
 }
 
 /// The number at a name of a directory; None where it doesn't have it, or is no directory.
-pub(crate) fn number_at<B: Blocks>(
+pub fn number_at<B: Blocks>(
     alloc: Global,
     inodes: &mut InodeFile,
     blocks: &mut B,

@@ -2,3 +2,4 @@ mod Errors
 mod RecordLaws
 mod SavedLaws
 mod SweepLaws
+mod CostLaws

@@ -1,10 +1,11 @@
 -- A volume whose files without names are dropped, number after number.
-use Rattle.std.proofs.Common.{◌≡◌, inl, inr, ℕ, zero, suc, ◌+◌, ◌<◌, ◌≤◌, true, false, refl, sym, ap, subst, ◌∙◌, arith}
+use Rattle.std.proofs.Common.{◌≡◌, inl, inr, ℕ, zero, suc, ◌+◌, ◌<◌, ◌≤◌, Bool, true, false, refl, sym, ap, subst, ◌∙◌, arith, add-one}
 use Rattle.std.specs.Prelude.{Option, Some, None, IsSome, IsTrue, nat_lt, if◌then◌else◌, ◌==◌}
+use Rattle.std.specs.Int.{from_bool}
 use Rattle.std.proofs.Math.Path.{fun_ext}
 use Rattle.std.proofs.lemmas.Bool.{cases_lt, cases_eq, cond_below, cond_above}
 use Rattle.std.proofs.lemmas.Bool.Decides.{nat_tests}
-use Rattle.model.specs.Records.{without_nameless}
+use Rattle.model.specs.Records.{count_nameless, without_nameless}
 use Rattle.model.specs.Volumes.{Node, directory_node, file_node, link_node, Volume, IsVolume, is_directory_node, is_nameless, swept_node, with_node}
 use Rattle.inofile.specs.Volumes.{HasNoOwn}
 
@@ -100,3 +101,34 @@ ends inodes v is many = fun_ext {f = dropped_below inodes v} {g = without_namele
     | inr within ↦ absurd (omega (arith, within.1))
   ]))
 ])
+
+-- ---- how many there are
+
+directory_named : (o : Option Node) → IsTrue (is_directory_node o) → is_nameless o ≡ false
+directory_named None is = refl
+directory_named (Some (directory_node mode names)) is = refl
+directory_named (Some (link_node text)) is = refl
+directory_named (Some (file_node mode links bytes)) is = cc
+
+none_here : (n : ℕ) (v : Volume) → is_nameless (v n) ≡ false → count_nameless (suc n) v ≡ count_nameless n v
+none_here n v is = let here = ap (λ (b : Bool). count_nameless n v + (if b then 1 else 0)) is in here ∙ omega arith
+
+-- the numbers before the first that an object may have are none
+pub none_counted : (inodes : ℕ) (v : Volume) → IsVolume inodes v → HasNoOwn v → 0 ≡ count_nameless 4 v
+none_counted inodes v is own = sym (
+    none_here 3 v (directory_named (v 3) is.graph.root) ∙ none_here 2 v (ap is_nameless (own 2 (omega arith)))
+    ∙ none_here 1 v (ap is_nameless (own 1 (omega arith))) ∙ none_here 0 v (ap is_nameless (own 0 (omega arith)))
+    )
+
+of_bool : (b : Bool) → from_bool b ≡ (if b then 1 else 0)
+of_bool true = refl
+of_bool false = refl
+
+pub one_at_most : (b : Bool) → from_bool b ≤ 1
+one_at_most true = omega arith
+one_at_most false = omega arith
+
+pub one_counted : (m count k : ℕ) (v : Volume) (one : Bool) → count ≡ count_nameless m v → one ≡ is_nameless (v m) → k ≡ from_bool one → count + k ≡ count_nameless (m + 1) v
+one_counted m count k v one so_far is here =
+    ap (λ (n : ℕ). n + k) so_far ∙ ap (λ (n : ℕ). count_nameless m v + n) (here ∙ of_bool one ∙ ap (λ (b : Bool). if b then 1 else 0) is)
+    ∙ ap (λ (n : ℕ). count_nameless n v) (sym (add-one m))

@@ -1,9 +1,11 @@
 //! What the saved log does to the inodes in memory at a mount: its records, one after the other, and behind the last one the
-//! files without names are dropped.
+//! files without names are dropped. What its records cost a consistency point.
 #![tactic(auto)]
 
+mod costs;
 mod records;
 mod saved;
 mod sweeping;
 
-pub use saved::replay;
+pub use costs::{MOST_COST, cost_of};
+pub use saved::{Replayed, replay};

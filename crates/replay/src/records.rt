@@ -15,13 +15,13 @@ use blocktree::ReadError;
 use buffers::Blocks;
 use calls::{commit, prepare};
 use inofile::InodeFile;
-use layout::{Gate, NewObject, Record, read_gate};
+use layout::{Gate, Record, read_gate};
 use model::records_keep_volumes;
 use std::alloc::Global;
 
 /// Replays the records from a gate on over the inodes in memory, and answers how many bytes stand from the closed gate on.
-/// `Damaged` where the bytes hold no records, and where one doesn't apply; so far a record that makes anything but a directory is
-/// refused so too. After an error it isn't known what memory stands for.
+/// `Damaged` where the bytes hold no records, and where one doesn't apply; so far a record is refused
+/// so too that moves an object or changes a file's bytes. After an error it isn't known what memory stands for.
 pub(crate) fn replay_all<B: Blocks>(
     alloc: Global,
     inodes: &mut InodeFile,
@@ -90,9 +90,9 @@ fn is_served(logged: &Record<'_>) -> bool
 {
     matches!(
         logged,
-        Record::Create {
-            object: NewObject::Directory { .. },
-            ..
-        }
+        Record::Create { .. }
+            | Record::Link { .. }
+            | Record::Unname { .. }
+            | Record::ChangeMode { .. }
     )
 }

@@ -1,9 +1,10 @@
 //! Files without names.
 
-ghost use Rattle.std.specs.Prelude.{◌≡◌, ◌⊎◌, ◌<◌, ◌≤◌, List, ℕ, MatchResult, false};
+ghost use Rattle.std.specs.Prelude.{◌≡◌, ◌⊎◌, ◌<◌, ◌≤◌, List, ℕ, IfOk, MatchResult, false};
 ghost use Rattle.layout.specs.declared.inode.Inode.{Inode};
+ghost use Rattle.layout.specs.declared.geometry.TheConstants.{MOST_INODES};
 ghost use Rattle.layout.specs.declared.numbers.TheConstants.{FIRST_NUMBER};
-ghost use Rattle.model.specs.Records.{without_nameless};
+ghost use Rattle.model.specs.Records.{count_nameless, without_nameless};
 ghost use Rattle.model.specs.Volumes.{Volume, is_nameless, swept_node, with_node};
 ghost use Rattle.buffers.specs.Reads.{ReadsBlocks};
 ghost use Rattle.blocktree.specs.Errors.{IsFault};
@@ -14,9 +15,33 @@ ghost use Rattle.replay.specs.Volumes.{HasVolume};
 use blocktree::ReadError;
 use buffers::Blocks;
 use inofile::InodeFile;
-use layout::{FIRST_NUMBER, Kind, is_taken};
+use layout::{FIRST_NUMBER, Kind};
 use model::mounts_find_volumes;
 use std::alloc::Global;
+
+/// How many files have no name. `Damaged` where an inode isn't in its grammar. What memory stands for stays.
+pub(crate) fn count_nameless<B: Blocks>(
+    alloc: Global,
+    inodes: &mut InodeFile,
+    blocks: &mut B,
+) -> Result<u32, ReadError>
+    ensures reads { ReadsBlocks B.Blocks IsFault blocks.old blocks.new result }
+    ensures geometry { inodes.new.geometry ≡ inodes.old.geometry }
+    ensures few { IfOk result (λ count. count ≤ MOST_INODES) }
+    ensures counts { (disk : ℕ → List ℕ) (settled : ℕ → Inode) (v : Volume)
+        → B.Shows blocks.old disk
+        → HasVolume (B.count blocks.old) disk settled inodes.old v
+        → MatchResult result (λ count. (count ≡ count_nameless inodes.old.geometry.inodes v)
+        × HasVolume (B.count blocks.old) disk settled inodes.new v)
+        (λ e. (e ≡ ReadError.NoMemory) ⊎ (e ≡ ReadError.Device)) }
+{
+    let mut count = 0;
+    for number in FIRST_NUMBER..inodes.geometry().inodes() {
+        let is_one = has_nameless(alloc, inodes, blocks, number)?;
+        count += u32::from(is_one);
+    }
+    Ok(count)
+}
 
 /// Drops the files that have no name: no descriptor outlives a mount. `Damaged` where an inode isn't in its grammar. After an
 /// error it isn't known what memory stands for.
@@ -58,12 +83,37 @@ fn drop_if_nameless<B: Blocks>(
         (with_node number (swept_node false (v number)) v))
         (λ e. (e ≡ ReadError.NoMemory) ⊎ (e ≡ ReadError.Device)) }
 {
-    inodes.load(alloc, blocks, number)?;
-    if is_nameless(inodes, number) {
+    let is_one = has_nameless(alloc, inodes, blocks, number)?;
+    if is_one {
         inodes.prepare_set(number)?;
         inodes.commit_set(number, None);
     }
     Ok(())
+}
+
+/// Whether a file without a name has this number. What has the number is then in memory; where nothing has it, no block is read.
+fn has_nameless<B: Blocks>(
+    alloc: Global,
+    inodes: &mut InodeFile,
+    blocks: &mut B,
+    number: u32,
+) -> Result<bool, ReadError>
+    requires low { FIRST_NUMBER ≤ number }
+    requires high { number < inodes.old.geometry.inodes }
+    ensures reads { ReadsBlocks B.Blocks IsFault blocks.old blocks.new result }
+    ensures geometry { inodes.new.geometry ≡ inodes.old.geometry }
+    ensures tells { (disk : ℕ → List ℕ) (settled : ℕ → Inode) (v : Volume)
+        → B.Shows blocks.old disk
+        → IsVolumeOf (B.count blocks.old) disk settled inodes.old v
+        → MatchResult result (λ is_one. (is_one ≡ is_nameless (v number))
+        × IsVolumeOf (B.count blocks.old) disk settled inodes.new v)
+        (λ e. (e ≡ ReadError.NoMemory) ⊎ (e ≡ ReadError.Device)) }
+{
+    if !inodes.is_taken(number) {
+        return Ok(false);
+    }
+    inodes.load(alloc, blocks, number)?;
+    Ok(is_nameless(inodes, number))
 }
 
 /// Whether a file in memory has no name.

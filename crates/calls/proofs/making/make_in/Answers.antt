@@ -85,6 +85,6 @@ returns-clause-does g c = λ disk settled v stands.
     let made = directory c.args.mode in
     let is_free : IsTrue (is_vacant (v n)) =
     subst (λ (k : ℕ). IsTrue (is_vacant (v k))) (sym c.new-number.ensures) (ap is_vacant (c.in-Some.ensures.free _ disk settled v stands.volume)) in
-    let does = subst (λ o. IfSome o (λ x. Does disk settled s v x (create n c.args.parent made c.as_slice-2.result.now))) c.in-Some-planned.is (c.in_ok-planned.ensures.does disk settled v now is_free) in
+    let does = subst (λ o. IfSome o (λ x. Does disk settled s v x (create n c.args.parent made c.as_slice-2.result.now))) c.in-Some-planned.is (c.in_ok-planned.ensures.does disk settled v made now is_free (λ k. c.new_directory-object.ensures.object disk k (settled n))) in
     subst (λ (k : ℕ). Does disk settled s v c.in-Some-planned.prepared (create n k made c.args.name.items)) (sym c.new.ensures)
     (subst (λ (x : List ℕ). Does disk settled s v c.in-Some-planned.prepared (create n c.args.parent made x)) c.as_slice-2.ensures.value does)

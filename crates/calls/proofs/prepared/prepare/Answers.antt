@@ -1,27 +1,78 @@
 use Rattle.std.proofs.Common.{◌≡◌, ℕ, ap, sym, ◌∙◌}
-use Rattle.layout.specs.Record.{change_of, create, directory, made_of}
+use Rattle.layout.specs.Record.{change_of, change_mode, create, link, unname, made_of}
 use Rattle.calls.proofs.prepared.prepare.Goals as goal
 
-pub returns-clause-does : goal.returns-clause-does
-returns-clause-does g c = λ disk settled v stands.
+pub returns-in-Create-clause-does : goal.returns-in-Create-clause-does
+returns-in-Create-clause-does g c = λ disk settled v stands.
     let a = c.in-Create in
-    let made = directory c.in-Directory.mode in
-    let says : change_of c.args.logged.now ≡ create a.number c.get.result made a.name.now =
-    ap change_of a.is ∙ ap (λ o. create a.number a.parent (made_of o) a.name.now) c.in-Directory.is ∙ ap (λ (k : ℕ). create a.number k made a.name.now) (sym c.get.ensures) in
-    rw says (c.prepare_directory.ensures.does disk settled v stands)
+    let says : change_of c.args.logged.now ≡ create a.number c.get.result (made_of a.object) a.name.now =
+    ap change_of a.is ∙ ap (λ (k : ℕ). create a.number k (made_of a.object) a.name.now) (sym c.get.ensures) in
+    rw says (c.prepare_create.ensures.does disk settled v stands)
 
-pub returns-clause-applies : goal.returns-clause-applies
-returns-clause-applies g c = λ disk settled v stands.
-    let a = c.in-Create in
-    let made = directory c.in-Directory.mode in
-    let says : change_of c.args.logged.now ≡ create a.number c.get.result made a.name.now =
-    ap change_of a.is ∙ ap (λ o. create a.number a.parent (made_of o) a.name.now) c.in-Directory.is ∙ ap (λ (k : ℕ). create a.number k made a.name.now) (sym c.get.ensures) in
-    rw says (c.prepare_directory.ensures.applies disk settled v stands)
+pub returns-in-ChangeMode-clause-does : goal.returns-in-ChangeMode-clause-does
+returns-in-ChangeMode-clause-does g c = λ disk settled v stands.
+    let a = c.in-ChangeMode in
+    let says : change_of c.args.logged.now ≡ change_mode c.get-in-ChangeMode.result a.mode = ap change_of a.is ∙ ap (λ (k : ℕ). change_mode k a.mode) (sym c.get-in-ChangeMode.ensures) in
+    rw says (c.prepare_mode.ensures.does disk settled v stands)
 
-pub returns-clause-refused : goal.returns-clause-refused
-returns-clause-refused g c = λ disk settled v stands graph.
+pub returns-in-Create-clause-applies : goal.returns-in-Create-clause-applies
+returns-in-Create-clause-applies g c = λ disk settled v stands.
     let a = c.in-Create in
-    let made = directory c.in-Directory.mode in
-    let says : change_of c.args.logged.now ≡ create a.number c.get.result made a.name.now =
-    ap change_of a.is ∙ ap (λ o. create a.number a.parent (made_of o) a.name.now) c.in-Directory.is ∙ ap (λ (k : ℕ). create a.number k made a.name.now) (sym c.get.ensures) in
-    rw says (c.prepare_directory.ensures.refused disk settled v stands graph)
+    let says : change_of c.args.logged.now ≡ create a.number c.get.result (made_of a.object) a.name.now =
+    ap change_of a.is ∙ ap (λ (k : ℕ). create a.number k (made_of a.object) a.name.now) (sym c.get.ensures) in
+    rw says (c.prepare_create.ensures.applies disk settled v stands)
+
+pub returns-in-ChangeMode-clause-applies : goal.returns-in-ChangeMode-clause-applies
+returns-in-ChangeMode-clause-applies g c = λ disk settled v stands.
+    let a = c.in-ChangeMode in
+    let says : change_of c.args.logged.now ≡ change_mode c.get-in-ChangeMode.result a.mode = ap change_of a.is ∙ ap (λ (k : ℕ). change_mode k a.mode) (sym c.get-in-ChangeMode.ensures) in
+    rw says (c.prepare_mode.ensures.applies disk settled v stands)
+
+pub returns-in-Create-clause-refused : goal.returns-in-Create-clause-refused
+returns-in-Create-clause-refused g c = λ disk settled v stands graph.
+    let a = c.in-Create in
+    let says : change_of c.args.logged.now ≡ create a.number c.get.result (made_of a.object) a.name.now =
+    ap change_of a.is ∙ ap (λ (k : ℕ). create a.number k (made_of a.object) a.name.now) (sym c.get.ensures) in
+    rw says (c.prepare_create.ensures.refused disk settled v stands graph)
+
+pub returns-in-ChangeMode-clause-refused : goal.returns-in-ChangeMode-clause-refused
+returns-in-ChangeMode-clause-refused g c = λ disk settled v stands graph.
+    let a = c.in-ChangeMode in
+    let says : change_of c.args.logged.now ≡ change_mode c.get-in-ChangeMode.result a.mode = ap change_of a.is ∙ ap (λ (k : ℕ). change_mode k a.mode) (sym c.get-in-ChangeMode.ensures) in
+    rw says (c.prepare_mode.ensures.refused disk settled v stands graph)
+
+pub returns-in-Link-clause-does : goal.returns-in-Link-clause-does
+returns-in-Link-clause-does g c = λ disk settled v stands.
+    let a = c.in-Link in
+    let says : change_of c.args.logged.now ≡ link a.number c.get-in-Link.result a.name.now = ap change_of a.is ∙ ap (λ (k : ℕ). link a.number k a.name.now) (sym c.get-in-Link.ensures) in
+    rw says (c.prepare_link.ensures.does disk settled v stands)
+
+pub returns-in-Link-clause-applies : goal.returns-in-Link-clause-applies
+returns-in-Link-clause-applies g c = λ disk settled v stands.
+    let a = c.in-Link in
+    let says : change_of c.args.logged.now ≡ link a.number c.get-in-Link.result a.name.now = ap change_of a.is ∙ ap (λ (k : ℕ). link a.number k a.name.now) (sym c.get-in-Link.ensures) in
+    rw says (c.prepare_link.ensures.applies disk settled v stands)
+
+pub returns-in-Link-clause-refused : goal.returns-in-Link-clause-refused
+returns-in-Link-clause-refused g c = λ disk settled v stands graph.
+    let a = c.in-Link in
+    let says : change_of c.args.logged.now ≡ link a.number c.get-in-Link.result a.name.now = ap change_of a.is ∙ ap (λ (k : ℕ). link a.number k a.name.now) (sym c.get-in-Link.ensures) in
+    rw says (c.prepare_link.ensures.refused disk settled v stands graph)
+
+pub returns-in-Unname-clause-does : goal.returns-in-Unname-clause-does
+returns-in-Unname-clause-does g c = λ disk settled v stands.
+    let a = c.in-Unname in
+    let says : change_of c.args.logged.now ≡ unname c.get-in-Unname.result a.name.now = ap change_of a.is ∙ ap (λ (k : ℕ). unname k a.name.now) (sym c.get-in-Unname.ensures) in
+    rw says (c.prepare_unname.ensures.does disk settled v stands)
+
+pub returns-in-Unname-clause-applies : goal.returns-in-Unname-clause-applies
+returns-in-Unname-clause-applies g c = λ disk settled v stands.
+    let a = c.in-Unname in
+    let says : change_of c.args.logged.now ≡ unname c.get-in-Unname.result a.name.now = ap change_of a.is ∙ ap (λ (k : ℕ). unname k a.name.now) (sym c.get-in-Unname.ensures) in
+    rw says (c.prepare_unname.ensures.applies disk settled v stands)
+
+pub returns-in-Unname-clause-refused : goal.returns-in-Unname-clause-refused
+returns-in-Unname-clause-refused g c = λ disk settled v stands graph.
+    let a = c.in-Unname in
+    let says : change_of c.args.logged.now ≡ unname c.get-in-Unname.result a.name.now = ap change_of a.is ∙ ap (λ (k : ℕ). unname k a.name.now) (sym c.get-in-Unname.ensures) in
+    rw says (c.prepare_unname.ensures.refused disk settled v stands graph)

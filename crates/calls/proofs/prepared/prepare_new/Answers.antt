@@ -1,10 +1,13 @@
-use Rattle.std.proofs.Common.{rules, ℕ, Option, None, IfSome, IfNone, IsTrue, refl, ap, sym, subst}
+use Rattle.std.proofs.Common.{rules, ℕ, Option, None, Some, IfSome, IfNone, IsTrue, refl, ap, sym, subst, ◌∙◌}
 use Rattle.layout.specs.Limits.{Sizes}
-use Rattle.model.specs.Records.{TakesName, is_vacant}
-use Rattle.model.specs.Volumes.{Node, directory_node, is_directory_node, created, IsVolume}
+use Rattle.layout.specs.declared.entry.Entry.{Entry}
+use Rattle.model.specs.Records.{is_vacant, node_of}
+use Rattle.model.specs.Volumes.{with_node, IsVolume}
 use Rattle.inofile.specs.Inodes.{loaded}
-use Rattle.calls.specs.Entering.{EntersIn}
-use Rattle.calls.proofs.EnterLaws.{enters_stands, takes_name, vacant_apart}
+use Rattle.inofile.specs.Objects.{IsObject}
+use Rattle.calls.specs.Entering.{Accepts, EditsIn, names_after, with_names}
+use Rattle.calls.specs.declared.naming.NameEdit.TheVariants as edits
+use Rattle.calls.proofs.EnterLaws.{accepts_entry, found_directory, names_set, put_volume, takes_accepted, vacant_apart}
 use Rattle.calls.proofs.StandLaws.{stands_with}
 use Rattle.calls.proofs.prepared.prepare_new.Goals as goal
 
@@ -47,39 +50,44 @@ pub returns-in_default-clause-refused : goal.returns-in_default-clause-refused
 returns-in_default-clause-refused g c = λ disk settled v stands graph.
     let now = stands_with c.args.blocks.now c.args.inodes.now c.prepare_set.new.self c.prepare_set.ensures.volume stands in
     let all = subst (λ (s : Sizes). IsVolume s.inodes v) (sym c.prepare_set.ensures.geometry) graph in
-    subst (λ o. IfNone o (TakesName v c.args.parent c.args.name.now → ⊥)) c.in_default.is (c.in_ok-planned.ensures.refused disk settled v now all)
+    let entry : Entry = record { number = c.args.number; name = c.args.name } in
+    let refused = subst (λ o. IfNone o (Accepts (edits.Add entry) (v c.args.parent) → ⊥)) c.in_default.is (c.in_ok-planned.ensures.refused disk settled v now all) in
+    λ takes. refused (accepts_entry v c.args.parent entry takes)
 
 pub returns-clause-does : goal.returns-clause-does
-returns-clause-does g c = λ disk settled v stands is_free.
+returns-clause-does g c = λ disk settled v made stands is_free is_object.
     let now = stands_with c.args.blocks.now c.args.inodes.now c.prepare_set.new.self c.prepare_set.ensures.volume stands in
     let name = c.args.name.now in
     let number = c.args.number in
+    let d = c.args.parent in
     let s = c.edit_parent.new.inodes in
-    let before = c.prepare_set.new.self.geometry in
-    let enters = subst (λ o. IfSome o (EntersIn disk before.inodes name number (v c.args.parent) (loaded s c.args.parent))) c.in-Some.is
-    (c.in_ok-planned.ensures.enters disk settled v now) in
-    let there = enters_stands disk before.inodes name number (v c.args.parent) (loaded s c.args.parent) c.in-Some.edit enters in
-    let directory = subst (λ (o : Option Node). IsTrue (is_directory_node o)) (sym there.2) refl in
-    let node : Node = directory_node c.args.mode (λ x. None) in
+    let entry : Entry = record { number = c.args.number; name = c.args.name } in
+    let f = names_after (edits.Add entry) in
+    let edit = subst (λ o. IfSome o (EditsIn disk s.geometry.inodes f (v d) (loaded s d))) c.in-Some.is (c.in_ok-planned.ensures.edits disk settled v now) in
+    let there = subst (λ o. IfSome o (λ _. Accepts (edits.Add entry) (v d))) c.in-Some.is (c.in_ok-planned.ensures.accepts disk settled v now) in
+    let node = node_of made in
+    let k = c.get-2.result in
     let same = c.get-2.ensures in
+    let apart = vacant_apart v number d is_free (found_directory (v d) there.mode there.names there.is) in
+    let to = with_names f (v d) in
+    let between = with_node d to v in
     record {
-      name = name;
-      node = node;
-      apart = vacant_apart v c.get-2.result c.args.parent (subst (λ (k : ℕ). IsTrue (is_vacant (v k))) (sym same) is_free) directory;
-      object = c.new_directory.ensures disk s.geometry.inodes (settled c.get-2.result);
-      enters = subst (λ (k : ℕ). EntersIn disk s.geometry.inodes name k (v c.args.parent) (loaded s c.args.parent) c.in-Some.edit) (sym same)
-          (subst (λ (z : Sizes). EntersIn disk z.inodes name number (v c.args.parent) (loaded s c.args.parent) c.in-Some.edit) (sym c.edit_parent.ensures.looks.geometry) enters);
-      creates = ap (λ (k : ℕ). created k c.args.parent name node v) (sym same);
+      between = between;
+      second = with_node k (Some node) between;
+      first = (to, (f, edit, refl), refl);
+      next = (Some node, subst (λ (k : ℕ). IsObject disk s.geometry.inodes (settled k) c.args.object (Some node)) (sym same) (is_object s.geometry.inodes), refl);
+      last =
+          sym (put_volume number d name (Some number) (Some node) v apart)
+          ∙ ap (λ o. with_node number (Some node) (with_node d o v)) (sym (names_set name (Some number) (v d)))
+          ∙ ap (λ (j : ℕ). with_node j (Some node) between) (sym same);
+      next_beside = λ e. apart (sym same ∙ e);
+      last_beside = tt;
+      beside = tt;
     }
 
 pub returns-clause-takes : goal.returns-clause-takes
 returns-clause-takes g c = λ disk settled v stands.
     let now = stands_with c.args.blocks.now c.args.inodes.now c.prepare_set.new.self c.prepare_set.ensures.volume stands in
-    let name = c.args.name.now in
-    let number = c.args.number in
-    let s = c.edit_parent.new.inodes in
-    let before = c.prepare_set.new.self.geometry in
-    let enters = subst (λ o. IfSome o (EntersIn disk before.inodes name number (v c.args.parent) (loaded s c.args.parent))) c.in-Some.is
-    (c.in_ok-planned.ensures.enters disk settled v now) in
-    let there = enters_stands disk before.inodes name number (v c.args.parent) (loaded s c.args.parent) c.in-Some.edit enters in
-    takes_name v c.args.parent name there.0 there.1 there.2 (c.fits.ensures.0 c.if-not-fits.false).name there.3
+    let entry : Entry = record { number = c.args.number; name = c.args.name } in
+    let there = subst (λ o. IfSome o (λ _. Accepts (edits.Add entry) (v c.args.parent))) c.in-Some.is (c.in_ok-planned.ensures.accepts disk settled v now) in
+    takes_accepted v c.args.parent entry (c.fits.ensures.0 c.if-not-fits.false).name there

@@ -5,8 +5,8 @@ use Rattle.calls.proofs.vacancy.new_directory.Goals as goal
 none_some : {X : Type 0} {n : ℕ} → None ≡ Some n → X
 none_some e = cc
 
-pub returns : goal.returns
-returns c = λ disk inodes settled.
+pub returns-clause-object : goal.returns-clause-object
+returns-clause-object c = λ disk inodes settled.
     let none : c.empty.result.size / 4096 ≡ 0 = ap (λ s. s / 4096) c.empty.ensures.size in
     record {
       kind = tt;
@@ -30,3 +30,6 @@ returns c = λ disk inodes settled.
       ends = λ p beyond. ap (λ (b : List ℕ). slice_index b (p % 4096)) (c.empty.ensures.blocks disk (p / 4096)) ∙ slice_index-zeros 4096 (p % 4096);
       base = c.empty.ensures.base settled;
     }
+
+pub returns-clause-good : goal.returns-clause-good
+returns-clause-good c = subst (λ (m : ℕ). m ≤ 4095) c.bits.ensures.same c.bits.ensures.fits

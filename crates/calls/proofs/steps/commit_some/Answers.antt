@@ -1,0 +1,14 @@
+use Rattle.std.proofs.Common.{Option, subst, sym}
+use Rattle.model.specs.Volumes.{Volume}
+use Rattle.inofile.specs.Volumes.{IsVolumeOf}
+use Rattle.calls.specs.Steps.{StepsSome}
+use Rattle.calls.specs.declared.steps.Step.{Step}
+use Rattle.calls.proofs.steps.commit_some.Goals as goal
+
+pub returns-in-Some-clause-volume : goal.returns-in-Some-clause-volume
+returns-in-Some-clause-volume c = λ count disk settled v w volume steps.
+    c.commit_step.ensures.volume count disk settled v w volume (subst (λ (x : Option Step). StepsSome disk settled c.args.inodes.now v x w) c.in-Some.is steps)
+
+pub returns-in_default-clause-volume : goal.returns-in_default-clause-volume
+returns-in_default-clause-volume c = λ count disk settled v w volume steps.
+    subst (λ (x : Volume). IsVolumeOf count disk settled c.args.inodes.now x) (sym (subst (λ (x : Option Step). StepsSome disk settled c.args.inodes.now v x w) c.in_default.is steps)) volume

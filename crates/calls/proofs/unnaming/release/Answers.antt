@@ -1,0 +1,36 @@
+use Rattle.std.proofs.Common.{rules}
+use Rattle.std.proofs.lemmas.Bool.{both_ways}
+use Rattle.calls.proofs.unnaming.release.Goals as goal
+
+pub returns-in_err-empty-clause-damaged : goal.returns-in_err-empty-clause-damaged
+returns-in_err-empty-clause-damaged g c = λ disk settled v stands is. c.in_err-empty.ensures.damaged disk settled v stands (search rules)
+
+pub returns-then-not-empty-clause-full : goal.returns-then-not-empty-clause-full
+returns-then-not-empty-clause-full g c = λ disk settled v stands none.
+    both_ways c.in_ok-empty.empty c.if-not-empty.true ((c.in_ok-empty.ensures.empty disk settled v stands).1 none)
+
+pub returns-in_err-load_to_change-clause-looks : goal.returns-in_err-load_to_change-clause-looks
+returns-in_err-load_to_change-clause-looks g c = record {
+  reads = search rules;
+  geometry = search rules;
+  kept = λ disk settled v stands. c.load_to_change.ensures.looks.kept disk settled v (c.is_empty.ensures.looks.kept disk settled v stands);
+}
+
+pub returns-in_err-load_to_change-clause-damaged : goal.returns-in_err-load_to_change-clause-damaged
+returns-in_err-load_to_change-clause-damaged g c = λ disk settled v stands is.
+    c.in_err-load_to_change.ensures.damaged disk settled v (c.is_empty.ensures.looks.kept disk settled v stands) (search rules)
+
+pub returns-clause-looks : goal.returns-clause-looks
+returns-clause-looks g c = record {
+  reads = search rules;
+  geometry = search rules;
+  kept = λ disk settled v stands. c.load_to_change.ensures.looks.kept disk settled v (c.is_empty.ensures.looks.kept disk settled v stands);
+}
+
+pub returns-clause-updates : goal.returns-clause-updates
+returns-clause-updates g c = λ disk settled v stands.
+    let now = c.load_to_change.ensures.looks.kept disk settled v (c.is_empty.ensures.looks.kept disk settled v stands) in
+    c.released.ensures.updates _ disk settled v now.volume
+
+pub returns-clause-empty : goal.returns-clause-empty
+returns-clause-empty g c = λ disk settled v stands. (c.in_ok-empty.ensures.empty disk settled v stands).0 c.if-not-empty.false
