@@ -14,7 +14,7 @@ use Rattle.model.specs.declared.reply.Reply.TheVariants.{Refused}
 use Rattle.model.specs.declared.command.Command.{Command}
 use Rattle.model.specs.States.{State, Mark, going, failed, as_failed}
 use Rattle.model.specs.Room.{Room}
-use Rattle.model.specs.Circumstances.{Circumstances, IsSure, IsAnswered, Allowed}
+use Rattle.model.specs.Circumstances.{Circumstances, IsSure, IsDone, IsAnswered, Allowed}
 use Rattle.model.specs.Runs.{IsWithin, MayStand, MayRemain}
 use Rattle.system.specs.Images.{OpensTo}
 use Rattle.mount.specs.Applying.{Between, IsApplied, Stays, LeftNow, Tells}
@@ -48,6 +48,13 @@ module _ (command : Command) (inodes : ℕ) (tree : Tree) (snapshots : List (Nam
   answered_going c going reply t is not_sure answer = inr (not_sure, answer)
   answered_going c failed reply t is not_sure answer = cc
 
+  surely_going : (c : Circumstances) (mark : Mark) (reply : Reply) (t : State) → mark ≡ going → IsSure (marked mark) command → IsFalse c.write_failed → IsDone c (marked mark) command reply t → Allowed c (marked mark) command reply t
+  surely_going c going reply t is sure no_write done = inl (sure, no_write, done)
+  surely_going c failed reply t is sure no_write done = cc
+
+pub allowed_surely : (s : State) (command : Command) (c : Circumstances) (reply : Reply) (t : State) → s.mark ≡ going → IsSure s command → IsFalse c.write_failed → IsDone c s command reply t → Allowed c s command reply t
+allowed_surely s command c reply t is = surely_going command s.inodes s.tree s.snapshots c s.mark reply t is
+
 pub allowed_by : (s : State) (command : Command) (c : Circumstances) (reply : Reply) (t : State) → s.mark ≡ going → ¬ IsSure s command → IsAnswered c s command reply t → Allowed c s command reply t
 allowed_by s command c reply t is = answered_going command s.inodes s.tree s.snapshots c s.mark reply t is
 
@@ -69,8 +76,8 @@ module _ (s : State) (command : Command) (new t : State) where
   )
 
 -- no room is reckoned
-abbrev pub no_room : Bool → Room
-no_room covered = record { blocks = 0; free = 0; pledged = 0; is_covered = covered }
+abbrev pub no_room : Room
+no_room = record { blocks = 0; free = 0; pledged = 0; is_covered = false }
 
 module _ {S : Type 0} {G : Ghosts S} where
   -- a command that led to a going state
@@ -153,12 +160,12 @@ module _ {S : Type 0} {G : Ghosts S} where
       let is : s.mark ≡ failed = serves.mark ∙ is_failed f.has_failed stopped in
       let opens = λ (c : Images) (t : State). OpensTo m t c in
       let still : (t : ℕ) (c : Images) → m.moment ≤ t → t ≤ m.moment → m.left_at t c → m.left_at m.moment c = λ t c from to left. same_moment m t c from to left in
-      let quiet : Circumstances = record { read_failed = false; write_failed = false; memory_refused = false; lacks_place = false; room = no_room false } in
+      let quiet : Circumstances = record { read_failed = false; write_failed = false; memory_refused = false; lacks_place = false; room = no_room } in
       record {
         serves = serves;
         leads = record {
           circumstances = quiet;
-          between = record { reads = refl; writes = refl; full = λ e. absurd (false≢true e); covered = λ e. absurd (false≢true e) };
+          between = record { reads = refl; writes = refl; full = λ e. absurd (false≢true e); room = λ still. not_both s.mark still is };
           allowed = refused_failed command s.inodes s.tree s.snapshots quiet s.mark is;
         };
         goes_on = on_none m;
@@ -186,7 +193,7 @@ module _ {S : Type 0} {G : Ghosts S} where
             reads = subst (λ (k : ℕ). Tells c.read_failed k l.failed_reads) reads between.reads;
             writes = subst (λ (k : ℕ). Tells c.write_failed k l.failed_writes) writes between.writes;
             full = between.full;
-            covered = between.covered;
+            room = between.room;
           };
           allowed = applied.leads.allowed;
         };

@@ -1,48 +1,72 @@
 -- What calls and consistency points of a system come to for a command.
-use Rattle.std.proofs.Common.{◌≡◌, ◌≢◌, ◌⊎◌, ◌≤◌, ◌<◌, ◌^◌, ◌+◌, inl, inr, ℕ, Bool, true, false, refl, sym, ap, subst, ◌∙◌, arith}
-use Rattle.std.specs.Prelude.{IsTrue, IsFalse, Option, None}
+use Rattle.std.proofs.Common.{◌≡◌, ◌≢◌, ◌⊎◌, ◌≤◌, ◌<◌, ◌^◌, ◌+◌, inl, inr, ℕ, Bool, true, false, List, [], ◌∷◌, refl, sym, ap, subst, ◌∙◌, arith}
+use Rattle.std.specs.Prelude.{IsTrue, IsFalse, Option, None, map}
 use Rattle.std.proofs.lemmas.Bool.{false≢true}
 use Rattle.conspoint.specs.declared.error.PlanError.TheVariants as plan
 use Rattle.station.specs.Images.{Unchanged}
 use Rattle.station.specs.Moments.{Meaning, EachCut, HasGrown, MayGrow, IsSameStation, Goes, LeavesOnly}
 use Rattle.station.specs.Calls.{Uses}
-use Rattle.station.proofs.Moments.{leaves_unchanged, weaker}
+use Rattle.station.proofs.Moments.{leaves_unchanged, weaker, same_none, started}
 use Rattle.station.specs.declared.station.Station.{Ghosts}
 use Rattle.model.specs.declared.errno.Errno.{Errno}
 use Rattle.model.specs.declared.errno.Errno.TheVariants.{ENOSPC, ENOMEM, EIO}
 use Rattle.model.specs.declared.reply.Reply.{Reply}
-use Rattle.model.specs.declared.reply.Reply.TheVariants.{Done, Refused}
+use Rattle.model.specs.declared.reply.Reply.TheVariants.{Done, Space, Refused}
 use Rattle.model.specs.declared.command.Command.{Command}
-use Rattle.model.specs.declared.command.Command.TheVariants.{Path, Sync}
+use Rattle.model.specs.declared.command.Command.TheVariants.{Path, Sync, Df}
 use Rattle.model.specs.declared.command.PathCall.{PathCall}
-use Rattle.model.specs.States.{State, going, as_failed}
+use Rattle.model.specs.States.{State, going, failed, as_failed}
 use Rattle.model.specs.Trees.{Description}
 use Rattle.model.specs.Circumstances.{Circumstances, IsSure, IsExcused}
-use Rattle.model.specs.Room.{nothing}
+use Rattle.model.specs.Room.{Room, nothing}
+use Rattle.model.specs.Records as records
+use Rattle.model.specs.Records.{pledged_for}
 use Rattle.model.specs.Runs.{IsWithin}
 use Rattle.system.specs.Errors.{IsRefused}
 use Rattle.system.specs.Images.{OpensTo}
 use Rattle.system.specs.Points.{IsFilled}
-use Rattle.oplog.specs.LogEnd.{LogEnd}
+use Rattle.layout.specs.Places.{blocks_of}
+use Rattle.layout.specs.Record.{Change, change_bytes}
+use Rattle.images.specs.Roots.{whole}
+use Rattle.oplog.specs.LogEnd.{LogEnd, all_of, next_of}
 use Rattle.oplog.specs.declared.log.End.TheVariants.{Unopened}
 use Rattle.system.specs.Serving.{HasEmptyLog, ServesState, WouldChange, IsCalled, IsBrokenOff}
+use Rattle.system.specs.Room.{free_under}
 use Rattle.system.specs.Systems as systems
 use Rattle.system.specs.declared.error.CallError.{CallError}
 use Rattle.system.specs.declared.error.CallError.TheVariants as call
 use Rattle.system.specs.declared.system.System.{System}
 use Rattle.system.specs.declared.error.PointError.{PointError}
 use Rattle.system.specs.declared.error.PointError.TheVariants as point
-use Rattle.mount.specs.Applying.{IsAppliedAt, NeedsPlace, Stays, Tells}
+use Rattle.mount.specs.Applying.{IsAppliedAt, NeedsPlace, Stays, Tells, HasRoom}
 use Rattle.mount.specs.Refusals.{errno_of_call, errno_of_point, fails_call, fails_point}
 use Rattle.mount.specs.Systems.{OpensToSome, mounted, Serves, IsYoung}
 use Rattle.mount.specs.declared.fs.Fs.{Fs}
-use Rattle.mount.proofs.ApplyLemmas.{is_going, not_both, allowed_by, no_room, done, stayed, broken, applied_after}
+use Rattle.mount.proofs.ApplyLemmas.{is_going, not_both, allowed_by, allowed_surely, no_room, done, stayed, broken, applied_after}
 use Rattle.mount.proofs.StationLemmas.{told}
 
 -- what came in the way
-abbrev came : Bool → Bool → Bool → Bool → Bool → Circumstances
-came read write memory place covered =
-    record { read_failed = read; write_failed = write; memory_refused = memory; lacks_place = place; room = no_room covered }
+abbrev came : Bool → Bool → Bool → Bool → Room → Circumstances
+came read write memory place room =
+    record { read_failed = read; write_failed = write; memory_refused = memory; lacks_place = place; room = room }
+
+-- the room of a system at a state that it serves
+abbrev room_at : {S : Type 0} {G : Ghosts S} (f : System S G) (s : State) → ServesState f s → Bool → Room
+room_at f s serves covered = record {
+  blocks = f.root.geometry.blocks;
+  free = free_under (whole (blocks_of (systems.meaning_of f).seen.disk) f.root).active f.root.geometry.blocks;
+  pledged = pledged_for f.root.geometry.inodes serves.first serves.replayed.changes;
+  is_covered = covered;
+}
+
+has_room : {S : Type 0} {G : Ghosts S} (f : System S G) (s : State) (serves : ServesState f s) (covered : Bool)
+    → (IsTrue covered → records.IsCovered serves.first serves.running serves.replayed.changes) → HasRoom f s (room_at f s serves covered)
+has_room f s serves covered all = record { serves = serves; blocks = refl; free = refl; told = record { pledged = refl; covered = all } }
+
+-- no body spells no record
+no_changes : (changes : List Change) → [] ≡ map change_bytes changes → changes ≡ []
+no_changes [] is = refl
+no_changes (change ∷ changes) is = cc
 
 -- a command that would change something needs place
 pub change_needs : (s : State) (c : PathCall) → WouldChange s c → NeedsPlace s (Path c)
@@ -72,7 +96,7 @@ young_on a b le young = omega arith
 pub log_emptied : {S : Type 0} {G : Ghosts S} (f : System S G) (log : LogEnd) (epoch : ℕ) → f.log ≡ record log { epoch = epoch + 1; end = Unopened } → f.root.generation ≡ epoch → HasEmptyLog f
 log_emptied f log epoch is generation = record {
   epoch = ap (λ (l : LogEnd). l.epoch) is ∙ ap (λ n. n + 1) (sym generation);
-  end = ap (λ (l : LogEnd). l.end) is;
+  end = ap (λ (l : LogEnd). next_of l.end) is;
 }
 
 -- a full log is no fault of a device
@@ -129,24 +153,27 @@ module _ {S : Type 0} {G : Ghosts S} (old new : Fs S G) (s : State) where
           → IsCalled old.system new.system s c reply → ((t : State) → ServesState new.system t → EachCut behind (OpensTo behind t)) → IsAppliedAt old s new (Path c) reply
       called c reply runs_on reads writes is opens =
           let t = is.after in
-          let still : t.mark ≡ going = ap (λ (u : State). u.mark) is.step.1 ∙ is_still in (
+          let still : t.mark ≡ going = ap (λ (u : State). u.mark) is.step.1 ∙ is_still in
+          let c_now = came false false false false (room_at new.system t is.serves false) in (
             t,
-            done old new s t (Path c) is_still still same (going_serves t (same.honest.0 serves.honest) still runs_on is.serves) serves.honest reply (came false false false false false)
-                (record { reads = reads; writes = writes; full = λ e. absurd (false≢true e); covered = λ e. absurd (false≢true e) })
-                (allowed_by s (Path c) (came false false false false false) reply t is_still (λ no. no) (inl ((is.need, is.step), λ settling. absurd settling)))
+            done old new s t (Path c) is_still still same (going_serves t (same.honest.0 serves.honest) still runs_on is.serves) serves.honest reply c_now
+                (record { reads = reads; writes = writes; full = λ e. absurd (false≢true e); room = λ _. has_room new.system t is.serves false (λ e. absurd (false≢true e)) })
+                (allowed_by s (Path c) c_now reply t is_still (λ no. no) (inl ((is.need, is.step), λ settling. absurd settling)))
                 is.leaves (opens t is.serves),
           )
 
       -- a command that was refused for a cause
       pub refused : (command : Command) → ¬ IsSure s command → Stays old new s → (read memory place : Bool) (errno : Errno) → Tells read before.failed_reads behind.failed_reads
-          → behind.failed_writes ≡ before.failed_writes → (IsTrue place → IsFilled new.system) → IsExcused (came read false memory place false) s command (Refused errno)
+          → behind.failed_writes ≡ before.failed_writes → (IsTrue place → IsFilled new.system) → ((room : Room) → IsExcused (came read false memory place room) s command (Refused errno))
           → IsAppliedAt old s new command (Refused errno)
       refused command not_sure stays read memory place errno reads writes full excused =
-          let c = came read false memory place false in (
+          let served = stays.serves.kept is_still in
+          let room = room_at new.system s served false in
+          let c = came read false memory place room in (
             s,
             stayed old new s command serves is_still stays (Refused errno) c
-                (record { reads = reads; writes = writes; full = full; covered = λ e. absurd (false≢true e) })
-                (allowed_by s command c (Refused errno) s is_still not_sure (inr (excused, refl))),
+                (record { reads = reads; writes = writes; full = full; room = λ _. has_room new.system s served false (λ e. absurd (false≢true e)) })
+                (allowed_by s command c (Refused errno) s is_still not_sure (inr (excused room, refl))),
           )
 
       -- one that was cut short by a failed write
@@ -154,10 +181,10 @@ module _ {S : Type 0} {G : Ghosts S} (old new : Fs S G) (s : State) where
           → LeavesOnly before behind (OpensToSome before (IsWithin s command)) → IsAppliedAt old s new command (Refused EIO)
       cut_short command not_sure stopped reads writes leaves =
           let flag = told before.failed_reads behind.failed_reads reads in
-          let c = came flag.0 true false false false in (
+          let c = came flag.0 true false false no_room in (
             as_failed s,
             broken old new s command serves is_still stopped same c
-                (record { reads = flag.1; writes = writes; full = λ e. absurd (false≢true e); covered = λ e. absurd (false≢true e) })
+                (record { reads = flag.1; writes = writes; full = λ e. absurd (false≢true e); room = λ still. not_both failed still refl })
                 (allowed_by s command c (Refused EIO) (as_failed s) is_still not_sure (refl, refl)) leaves,
           )
 
@@ -168,7 +195,7 @@ module _ {S : Type 0} {G : Ghosts S} (old new : Fs S G) (s : State) where
           cut_short (Path c) (λ no. no) stopped reads writes
           (weaker before behind (λ i. OpensTo before s i ⊎ OpensTo before is.after i) (OpensToSome before (IsWithin s (Path c))) is.leaves (λ i one. elim one [
             | inl first ↦ (s, first, inl refl)
-            | inr last ↦ (is.after, last, inr (came false false false false false, is.reply, (is.need, is.step)))
+            | inr last ↦ (is.after, last, inr (came false false false false no_room, is.reply, (is.need, is.step)))
           ]))
 
     -- a call that wasn't answered
@@ -179,10 +206,10 @@ module _ {S : Type 0} {G : Ghosts S} (old new : Fs S G) (s : State) where
     not_answered c call.NoMemory room flag uses writes reads written damaged goes served off opens =
         let other : call.NoMemory ≢ call.NotWritten = λ e. cc in
         let count = told before.failed_reads behind.failed_reads uses.reads in
-        refused uses.same (Path c) (λ no. no) (stays_read uses.same flag (served other) (goes other) opens) count.0 true false ENOMEM count.1 (writes other) (λ e. absurd (false≢true e)) refl
+        refused uses.same (Path c) (λ no. no) (stays_read uses.same flag (served other) (goes other) opens) count.0 true false ENOMEM count.1 (writes other) (λ e. absurd (false≢true e)) (λ _. refl)
     not_answered c call.NotRead room flag uses writes reads written damaged goes served off opens =
         let other : call.NotRead ≢ call.NotWritten = λ e. cc in
-        refused uses.same (Path c) (λ no. no) (stays_read uses.same flag (served other) (goes other) opens) true false false EIO (reads refl) (writes other) (λ e. absurd (false≢true e)) refl
+        refused uses.same (Path c) (λ no. no) (stays_read uses.same flag (served other) (goes other) opens) true false false EIO (reads refl) (writes other) (λ e. absurd (false≢true e)) (λ _. refl)
     not_answered c call.Damaged room flag uses writes reads written damaged goes served off opens = absurd (damaged refl)
     not_answered c call.LogFull room flag uses writes reads written damaged goes served off opens = absurd (room refl)
     not_answered c call.NotWritten room flag uses writes reads written damaged goes served off opens = broken_off uses.same c flag uses.reads (written refl) (off refl)
@@ -194,13 +221,13 @@ module _ {S : Type 0} {G : Ghosts S} (old new : Fs S G) (s : State) where
         → (IsRefused e → ServesState new.system s) → LeavesOnly before behind (OpensTo before s) → IsAppliedAt old s new command (Refused (errno_of_point e))
     no_point command (point.NotPlanned plan.NoMemory) needs young flag uses writes reads written full aged damaged served leaves =
         let count = told before.failed_reads behind.failed_reads uses.reads in
-        refused uses.same command needs.not_sure (stays_by uses.same flag (served tt) leaves) count.0 true false ENOMEM count.1 (writes tt) (λ e. absurd (false≢true e)) refl
+        refused uses.same command needs.not_sure (stays_by uses.same flag (served tt) leaves) count.0 true false ENOMEM count.1 (writes tt) (λ e. absurd (false≢true e)) (λ _. refl)
     no_point command (point.NotPlanned plan.Device) needs young flag uses writes reads written full aged damaged served leaves =
-        refused uses.same command needs.not_sure (stays_by uses.same flag (served tt) leaves) true false false EIO (reads refl) (writes tt) (λ e. absurd (false≢true e)) refl
+        refused uses.same command needs.not_sure (stays_by uses.same flag (served tt) leaves) true false false EIO (reads refl) (writes tt) (λ e. absurd (false≢true e)) (λ _. refl)
     no_point command (point.NotPlanned plan.NoSpace) needs young flag uses writes reads written full aged damaged served leaves =
         let count = told before.failed_reads behind.failed_reads uses.reads in
         refused uses.same command needs.not_sure (stays_by uses.same flag (served tt) leaves) count.0 false true ENOSPC count.1 (writes tt)
-        (λ _. full refl) (inr (refl, needs.stores (no_room false)))
+        (λ _. full refl) (λ room. inr (refl, needs.stores room))
     no_point command (point.NotPlanned plan.Damaged) needs young flag uses writes reads written full aged damaged served leaves = absurd (damaged refl)
     no_point command point.NotWritten needs young flag uses writes reads written full aged damaged served leaves =
         cut_short uses.same command needs.not_sure flag uses.reads (written refl)
@@ -210,12 +237,28 @@ module _ {S : Type 0} {G : Ghosts S} (old new : Fs S G) (s : State) where
     -- `sync` on a system whose root covers all that is
     pub synced : Stays old new s → behind.failed_reads ≡ before.failed_reads → behind.failed_writes ≡ before.failed_writes → systems.IsCovered new.system s.tree.descriptors s → IsAppliedAt old s new Sync Done
     synced stays reads writes covered =
-        let c = came false false false false true in (
+        let no_record : [] ≡ map change_bytes covered.serves.replayed.changes = sym (ap all_of covered.no_record) ∙ covered.serves.replayed.spelled in
+        let all : records.IsCovered covered.serves.first covered.serves.running covered.serves.replayed.changes = (covered.held, no_changes covered.serves.replayed.changes no_record) in
+        let c = came false false false false (room_at new.system s covered.serves true) in (
           s,
           stayed old new s Sync serves is_still stays Done c
-              (record { reads = reads; writes = writes; full = λ e. absurd (false≢true e); covered = λ _. covered })
+              (record { reads = reads; writes = writes; full = λ e. absurd (false≢true e); room = λ _. has_room new.system s covered.serves true (λ _. all) })
               (allowed_by s Sync c Done s is_still (λ no. no) (inl ((nothing, (refl, refl, refl)), λ _ _. refl))),
         )
+
+-- `df` tells the room
+pub told_room : {S : Type 0} {G : Ghosts S} (f : Fs S G) (s : State) → Serves (mounted f s) → IsFalse f.has_failed → (room : Room) → HasRoom f.system s room
+    → EachCut (systems.meaning_of f.system) (OpensTo (systems.meaning_of f.system) s) → IsAppliedAt f s f Df (Space room.blocks room.free room.pledged)
+told_room f s serves runs room has opens =
+    let m = systems.meaning_of f.system in
+    let is = still_going f s serves runs in
+    let c = came false false false false room in
+    let reply = Space room.blocks room.free room.pledged in
+    let stays = stays_by f f s serves runs (same_none m) runs (serves.kept is) (started m (OpensTo m s) opens) in (
+      s,
+      stayed f f s Df serves is stays reply c (record { reads = refl; writes = refl; full = λ e. absurd (false≢true e); room = λ _. has })
+          (allowed_surely s Df c reply s is tt refl (nothing, (refl, refl, refl))),
+    )
 
 -- an image that was opened
 pub opened_serves : {S : Type 0} {G : Ghosts S} (f : Fs S G) (s : State) → IsFalse f.has_failed → systems.Serves f.system (λ d. None) s → Serves (mounted f s)

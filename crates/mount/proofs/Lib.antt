@@ -1,6 +1,3 @@
-pub mod Sizes
-mod SlotLemmas
-mod MadeLemmas
 mod StationLemmas
 mod SpanLemmas
 mod ApplyLemmas

@@ -5,13 +5,19 @@ use Rattle.station.specs.Moments.{Meaning, LeftBetween, HasGrown, IsSameStation,
 use Rattle.station.specs.declared.station.Station.{Ghosts}
 use Rattle.model.specs.declared.command.Command.{Command}
 use Rattle.model.specs.declared.reply.Reply.{Reply}
-use Rattle.model.specs.States.{State}
+use Rattle.model.specs.States.{State, going}
 use Rattle.model.specs.Room.{Room}
+use Rattle.model.specs.Records.{TellsRoom}
 use Rattle.model.specs.Circumstances.{Circumstances, IsSure, IsStoring}
 use Rattle.model.specs.Runs.{MayStand, MayRemain, Leads, LeavesOf, Spans}
+use Rattle.layout.specs.Places.{blocks_of}
+use Rattle.images.specs.Roots.{whole}
 use Rattle.system.specs.Images.{OpensTo}
 use Rattle.system.specs.Points.{IsFilled}
+use Rattle.system.specs.Room.{free_under}
+use Rattle.system.specs.Serving.{ServesState}
 use Rattle.system.specs.Systems as systems
+use Rattle.system.specs.declared.system.System.{System}
 use Rattle.mount.specs.Systems.{Mounted, mounted, meaning_of, shown, Serves, IsYoung}
 use Rattle.mount.specs.declared.fs.Fs.{Fs}
 
@@ -24,13 +30,23 @@ abbrev pub Tells : Bool → ℕ → ℕ → Type 0
 Tells true old new = HasGrown old new
 Tells false old new = new ≡ old
 
+-- The room of a system at a state that it serves: all blocks of its disk, those that are free under its root, and those that a
+-- consistency point may store for what that root doesn't cover.
+pub record HasRoom {S : Type 0} {G : Ghosts S} (f : System S G) (s : State) (room : Room) : Type 0 where
+  pub serves : ServesState f s
+  pub blocks : room.blocks ≡ f.root.geometry.blocks
+  pub free :
+      let disk = blocks_of (systems.meaning_of f).seen.disk in
+      room.free ≡ free_under (whole disk f.root).active f.root.geometry.blocks
+  pub told : TellsRoom f.root.geometry.inodes serves.first serves.running serves.replayed.changes room
+
 -- What came in the way of a command, from one system to the next. Nothing is tied to memory_refused: of ENOMEM no theorem tells
 -- the cause.
 pub record Between {S : Type 0} {G : Ghosts S} (old : Mounted S G) (command : Command) (new : Mounted S G) (c : Circumstances) : Type 0 where
   pub reads : Tells c.read_failed (meaning_of old).failed_reads (meaning_of new).failed_reads
   pub writes : Tells c.write_failed (meaning_of old).failed_writes (meaning_of new).failed_writes
   pub full : IsTrue c.lacks_place → IsFilled new.fs.system
-  pub covered : IsTrue c.room.is_covered → systems.IsCovered new.fs.system new.state.tree.descriptors new.state
+  pub room : new.state.mark ≡ going → HasRoom new.fs.system new.state c.room
 
 -- what a cut from moment a to b might have left, of a system at a state
 abbrev pub LeftOf : Meaning → State → ℕ → ℕ → (State → Type 0) → Type 0

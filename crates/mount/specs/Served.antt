@@ -3,8 +3,9 @@ use Rattle.model.specs.Served as model
 use Rattle.model.specs.declared.command.Command.{Command}
 use Rattle.model.specs.declared.command.Command.TheVariants as command
 
--- the command is one that this version serves: `list`, `mkdir` or `sync`
+-- the command is one that this version serves: `list`, `mkdir`, `sync` or `df`
 abbrev pub IsServed : Command → Type 0
 IsServed command.Sync = Unit {0}
+IsServed command.Df = Unit {0}
 IsServed (command.Path call) = model.IsServed (command.Path call)
 IsServed c = ⊥

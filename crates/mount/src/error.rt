@@ -3,20 +3,6 @@
 use system::OpenError;
 use thiserror::Error;
 
-/// Why `make` refused.
-#[derive(Clone, Copy, Debug, PartialEq, Eq, Error)]
-pub enum MakeError {
-    /// No memory. This version of `make` takes none.
-    #[error("no memory")]
-    NoMemory = 1,
-    /// A device call failed.
-    #[error("a device call failed")]
-    Device = 2,
-    /// A number is out of its range, or the station has another size.
-    #[error("a number is out of its range, or the station has another size")]
-    BadSize = 3,
-}
-
 /// Why `mount` refused.
 #[derive(Clone, Copy, Debug, PartialEq, Eq, Error)]
 pub enum MountError {

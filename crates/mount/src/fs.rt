@@ -7,7 +7,7 @@ use crate::refusals::{errno_of_call, errno_of_point, fails_call, fails_point};
 use model::{Command, Errno, PathCall, Reply};
 use station::Station;
 use std::alloc::Global;
-use system::{CallError, System, served_states_open};
+use system::{CallError, Space, System, served_states_open};
 
 /// A mounted file system. Over an honest station it *serves* a state, as long as no device write failed: whatever a power
 /// cut may leave opens to just that state.
@@ -26,6 +26,7 @@ impl<S: Station> Fs<S> {
     ghost use Rattle.station.specs.Calls.{Uses};
     ghost use Rattle.station.specs.Moments.{MayLeave};
     ghost use Rattle.model.specs.declared.command.Command.{Command};
+    ghost use Rattle.model.specs.declared.errno.Errno.{Errno};
     ghost use Rattle.model.specs.States.{State};
     ghost use Rattle.system.specs.Opening.{HasFailed};
     ghost use Rattle.system.specs.Serving.{HasEmptyLog, TellsNoFault, WouldChange};
@@ -49,6 +50,7 @@ impl<S: Station> Fs<S> {
         ensures refused { (errno : Errno) → result ≡ Reply.Refused errno → errno ≢ Errno.EIO
             → NoWriteFailed (meaning_of self.old.system) (meaning_of self.new.system) }
         ensures ages { self.old.system.log.epoch ≤ self.new.system.log.epoch }
+        ensures quiet { command.now ≡ Command.Df → self.new ≡ self.old }
         ensures applied { IsAppliedAlways self.old self.new command.now result }
     {
         if self.has_failed {
@@ -57,7 +59,27 @@ impl<S: Station> Fs<S> {
         match command {
             Command::Path(call) => self.call(call),
             Command::Sync => self.sync(),
+            Command::Df => self.space(),
             _ => unreachable!(),
+        }
+    }
+
+    /// `df`: the room of the disk, with no device call.
+    fn space(&self) -> Reply
+        ensures answers { (errno : Errno) → result ≡ Reply.Refused errno → ⊥ }
+        ensures applied { (s : State) → Serves (mounted self.now s) → IsFalse self.now.has_failed
+            → IsAppliedAt self.now s self.now Command.Df result }
+    {
+        served_states_open(&self.system);
+        let Space {
+            blocks,
+            free,
+            pledged,
+        } = self.system.space();
+        Reply::Space {
+            blocks,
+            free,
+            pledged,
         }
     }
 

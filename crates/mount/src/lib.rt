@@ -5,13 +5,14 @@
 
 mod error;
 mod fs;
-mod making;
+mod image;
 mod mounting;
 mod prefix;
 mod refusals;
 
-pub use error::{MakeError, MountError, RunError};
+pub use error::{MountError, RunError};
 pub use fs::Fs;
-pub use making::make;
+pub use image::make;
+pub use making::MakeError;
 pub use mounting::mount;
 pub use prefix::cut_opens_to_prefix;

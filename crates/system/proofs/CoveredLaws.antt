@@ -8,6 +8,7 @@ use Rattle.layout.specs.Log.{half_of}
 use Rattle.layout.specs.Places.{blocks_of}
 use Rattle.layout.specs.Record.{Change, change_bytes}
 use Rattle.layout.specs.declared.inode.Inode.{Inode}
+use Rattle.layout.specs.declared.log.TheConstants.{FIRST_GATE}
 use Rattle.layout.specs.declared.root.Root.{Root}
 use Rattle.model.specs.States.{State}
 use Rattle.model.specs.Trees.{Description}
@@ -21,9 +22,9 @@ use Rattle.inofile.specs.Settled.{held_content}
 use Rattle.inofile.specs.Volumes.{IsVolumeOf}
 use Rattle.inofile.specs.declared.inode_file.InodeFile.{InodeFile}
 use Rattle.loading.specs.Images.{inodes_of}
-use Rattle.oplog.specs.LogEnd.{LogEnd, EndsAt, all_of, no_bodies}
+use Rattle.oplog.specs.LogEnd.{LogEnd, EndsAt, all_of, next_of, no_bodies}
 use Rattle.oplog.specs.declared.log.End.{End}
-use Rattle.oplog.specs.declared.log.End.TheVariants.{Unopened}
+use Rattle.oplog.specs.declared.log.End.TheVariants.{Unopened, At}
 use Rattle.system.specs.Laws.{RootLaws}
 use Rattle.system.specs.Systems.{IsServing}
 
@@ -31,15 +32,21 @@ none_spelled : (changes : List Change) → [] ≡ map change_bytes changes → c
 none_spelled [] is = refl
 none_spelled (c ∷ changes) is = absurd (cc)
 
-module _ (m : Meaning) (kept : BTreeMap ℕ Block) (root : Root) (slot : ℕ) (inodes : InodeFile) (map_now : BlockMap) (log : LogEnd) (table : ℕ → Option Description) (s : State)
-    (serves : IsServing m kept root slot inodes map_now log table s) where
+-- a log that ends at its first gate has no record of its epoch
+none_newest : (end : End) (epoch : ℕ) (bytes : List ℕ) (bodies : List (List ℕ)) → next_of end ≡ FIRST_GATE → EndsAt end epoch bytes bodies → bodies ≡ []
+none_newest Unopened epoch bytes bodies first ends = ends.1
+none_newest (At next) epoch bytes [] first ends = refl
+none_newest (At next) epoch bytes (body ∷ bodies) first ends = absurd (omega (arith, first, ends.3))
+
+module _ (m : Meaning) (kept : BTreeMap ℕ Block) (root : Root) (slot : ℕ) (inodes : InodeFile) (map_now : BlockMap) (log : LogEnd) (pledged : ℕ) (table : ℕ → Option Description) (s : State)
+    (serves : IsServing m kept root slot inodes map_now log pledged table s) where
   -- no record stands in an empty log
-  pub no_record : MayLeave m m.seen → log.epoch ≡ root.generation + 1 → log.end ≡ Unopened → serves.bodies ≡ no_bodies
-  no_record seen next unopened =
+  pub no_record : MayLeave m m.seen → log.epoch ≡ root.generation + 1 → next_of log.end ≡ FIRST_GATE → serves.bodies ≡ no_bodies
+  no_record seen next first =
       let stands = (serves.left serves.honest m.seen seen).log_stands in
-      let newest = (subst (λ (e : End). EndsAt e log.epoch (half_of log.half log.epoch m.seen.nvram) serves.bodies.newest) unopened stands.ends).1 in
+      let newest = none_newest log.end log.epoch (half_of log.half log.epoch m.seen.nvram) serves.bodies.newest first stands.ends in
       let older : serves.bodies.older ≡ [] = elim stands.other [
-        | inl first ↦ first.2
+        | inl other ↦ other.2
         | inr second ↦ let after = second.0 in absurd (omega (arith, after, next))
       ] in
       λ i. record { older = older i; newest = newest i }

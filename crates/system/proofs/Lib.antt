@@ -6,5 +6,6 @@ mod OpenLaws
 mod LoggedLaws
 mod ServingLaws
 mod MakingLaws
+mod RoomLaws
 mod CoveredLaws
 mod SpaceLaws

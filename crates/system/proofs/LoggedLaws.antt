@@ -11,7 +11,8 @@ use Rattle.layout.specs.Log.{LogHolds}
 use Rattle.layout.specs.Places.{blocks_of}
 use Rattle.layout.specs.Record.{Change, IsChange, change_bytes}
 use Rattle.layout.specs.declared.root.Root.{Root}
-use Rattle.model.specs.Records.{Applies, Extends, Replays, applied}
+use Rattle.model.specs.Records.{Applies, Extends, Replays, applied, work_of}
+use Rattle.model.specs.Room.{cost}
 use Rattle.model.specs.States.{State}
 use Rattle.model.specs.Trees.{Description}
 use Rattle.model.specs.Volumes.{Node, Volume, IsVolume}
@@ -30,6 +31,7 @@ use Rattle.system.specs.Laws.{CutLaws, RecordLaws}
 use Rattle.system.specs.Memory.{IsInMemory}
 use Rattle.system.specs.Logging.{Advances}
 use Rattle.system.specs.Systems.{IsServing, state_with}
+use Rattle.system.proofs.RoomLaws.{one_pledged}
 use Rattle.system.proofs.SystemLaws.{same_open}
 
 -- one record more is replayed
@@ -37,8 +39,8 @@ replays_more : (inodes : ℕ) (v : Volume) (changes : List Change) (w : Volume) 
 replays_more inodes v [] w c is applies = (subst (λ (u : Volume). Applies inodes u c) is applies, ap (applied c) is)
 replays_more inodes v (d ∷ ds) w c rest applies = (rest.0, replays_more inodes (applied d v) ds w c rest.1 applies)
 
-module _ (laws : CutLaws) (records : RecordLaws) (m : Meaning) (kept : BTreeMap ℕ Block) (root : Root) (slot : ℕ) (inodes : InodeFile) (map_now : BlockMap) (log : LogEnd)
-    (table : ℕ → Option Description) (s : State) (serves : IsServing m kept root slot inodes map_now log table s) (change : Change)
+module _ (laws : CutLaws) (records : RecordLaws) (m : Meaning) (kept : BTreeMap ℕ Block) (root : Root) (slot : ℕ) (inodes : InodeFile) (map_now : BlockMap) (log : LogEnd) (pledged : ℕ)
+    (table : ℕ → Option Description) (s : State) (serves : IsServing m kept root slot inodes map_now log pledged table s) (change : Change)
     (advances : Advances root.geometry.inodes serves.running table change) where
   spelled : all_of (with_body serves.bodies (change_bytes change)) ≡ map change_bytes (serves.replayed.changes ++ change ∷ [])
   spelled =
@@ -55,7 +57,7 @@ module _ (laws : CutLaws) (records : RecordLaws) (m : Meaning) (kept : BTreeMap 
         rest = λ n none. e.rest n (swept n ∙ none);
       }
 
-  replayed : IsReplayed root.geometry.inodes (with_body serves.bodies (change_bytes change)) serves.first (applied change serves.running)
+  abbrev replayed : IsReplayed root.geometry.inodes (with_body serves.bodies (change_bytes change)) serves.first (applied change serves.running)
   replayed = record {
     changes = serves.replayed.changes ++ change ∷ [];
     are = All-push IsChange serves.replayed.changes change serves.replayed.are advances.is;
@@ -96,10 +98,10 @@ module _ (laws : CutLaws) (records : RecordLaws) (m : Meaning) (kept : BTreeMap 
   -- once it is there, and memory follows
   pub logged : (now : Meaning) (now_log : LogEnd) → ((disk : ℕ → Sector) → ReadsDisk m disk → ReadsDisk now disk) → IsSameStation m now
       → EachCut now (KeepsDisk m (StandsAt now_log root.generation (with_body serves.bodies (change_bytes change)))) → IsFalse now_log.is_stopped
-      → (now_inodes : InodeFile)
+      → (k : ℕ) → ((v : Volume) → k ≡ cost (work_of v change)) → (now_inodes : InodeFile)
       → IsVolumeOf root.geometry.blocks (blocks_of m.seen.disk) (inodes_of (whole (blocks_of m.seen.disk) root).active) now_inodes (applied change serves.running)
-      → IsServing now kept root slot now_inodes map_now now_log table state_after
-  logged now now_log disks same appended goes now_inodes stands =
+      → IsServing now kept root slot now_inodes map_now now_log (pledged + k) table state_after
+  logged now now_log disks same appended goes k costs_it now_inodes stands =
       let there = disks m.seen.disk (serves.honest, refl) in
       let disk : m.seen.disk ≡ now.seen.disk = sym there.1 in
       record {
@@ -120,6 +122,8 @@ module _ (laws : CutLaws) (records : RecordLaws) (m : Meaning) (kept : BTreeMap 
         running = applied change serves.running;
         mounted = advances.mounted;
         replayed = replayed;
+        pledges = one_pledged root.geometry.inodes serves.first serves.replayed.changes change pledged k costs_it serves.pledges;
+        closed = serves.closed;
         memory = subst (λ (d : ℕ → Sector). IsInMemory (blocks_of d) root now_inodes map_now (applied change serves.running)) disk
             (record { stands = stands; volume = volume; entries = serves.memory.entries });
         goes = goes;

@@ -54,19 +54,20 @@ opens_same m n s c same opens =
 
 -- a system serves a state that has these blocks and these inodes in memory, and all else as another
 abbrev pub ServesOver : {S : Type 0} {G : Ghosts S} → System S G → Buffers S → InodeFile → State → Type 0
-ServesOver {S} {G} f blocks inodes s = IsServing (G.meaning blocks.station) blocks.kept f.root f.slot inodes f.map f.log s.tree.descriptors s
+ServesOver {S} {G} f blocks inodes s = IsServing (G.meaning blocks.station) blocks.kept f.root f.slot inodes f.map f.log f.pledged s.tree.descriptors s
 
 -- a system that has the same serves the same
 pub serves_same : {S : Type 0} {G : Ghosts S} (f g : System S G) (blocks : Buffers S) (inodes : InodeFile) (s : State) → g.blocks ≡ blocks → g.root ≡ f.root → g.slot ≡ f.slot
-    → g.inodes ≡ inodes → g.map ≡ f.map → g.log ≡ f.log → ServesOver f blocks inodes s → ServesState g s
-serves_same {S} {G} f g blocks inodes s same_blocks root slot same_inodes map log serves =
+    → g.inodes ≡ inodes → g.map ≡ f.map → g.log ≡ f.log → g.pledged ≡ f.pledged → ServesOver f blocks inodes s → ServesState g s
+serves_same {S} {G} f g blocks inodes s same_blocks root slot same_inodes map log pledged serves =
     let table = s.tree.descriptors in
-    subst (λ (b : Buffers S). IsServing (G.meaning b.station) b.kept g.root g.slot g.inodes g.map g.log table s) (sym same_blocks)
-    (subst (λ (r : Root). IsServing (G.meaning blocks.station) blocks.kept r g.slot g.inodes g.map g.log table s) (sym root)
-    (subst (λ (k : ℕ). IsServing (G.meaning blocks.station) blocks.kept f.root k g.inodes g.map g.log table s) (sym slot)
-    (subst (λ (i : InodeFile). IsServing (G.meaning blocks.station) blocks.kept f.root f.slot i g.map g.log table s) (sym same_inodes)
-    (subst (λ (m : BlockMap). IsServing (G.meaning blocks.station) blocks.kept f.root f.slot inodes m g.log table s) (sym map)
-    (subst (λ (l : LogEnd). IsServing (G.meaning blocks.station) blocks.kept f.root f.slot inodes f.map l table s) (sym log) serves)))))
+    subst (λ (b : Buffers S). IsServing (G.meaning b.station) b.kept g.root g.slot g.inodes g.map g.log g.pledged table s) (sym same_blocks)
+    (subst (λ (r : Root). IsServing (G.meaning blocks.station) blocks.kept r g.slot g.inodes g.map g.log g.pledged table s) (sym root)
+    (subst (λ (k : ℕ). IsServing (G.meaning blocks.station) blocks.kept f.root k g.inodes g.map g.log g.pledged table s) (sym slot)
+    (subst (λ (i : InodeFile). IsServing (G.meaning blocks.station) blocks.kept f.root f.slot i g.map g.log g.pledged table s) (sym same_inodes)
+    (subst (λ (m : BlockMap). IsServing (G.meaning blocks.station) blocks.kept f.root f.slot inodes m g.log g.pledged table s) (sym map)
+    (subst (λ (l : LogEnd). IsServing (G.meaning blocks.station) blocks.kept f.root f.slot inodes f.map l g.pledged table s) (sym log)
+    (subst (λ (n : ℕ). IsServing (G.meaning blocks.station) blocks.kept f.root f.slot inodes f.map f.log n table s) (sym pledged) serves))))))
 
 -- a refused making of a directory is refused by the state that the system serves
 pub making_refused : {S : Type 0} {G : Ghosts S} (f : System S G) (s : State) (serves : ServesState f s) (path : List ℕ) (mode : ℕ) (r : Result Making Errno) (errno : Errno) → r ≡ Err errno
@@ -132,7 +133,7 @@ short_fits f change empty short (inl not) = not empty.epoch
 short_fits f change empty short (inr full) =
     let half : 131072 ≤ f.log.half = omega (arith, f.half, f.is_root.head.sizes.least_half) in
     let room : 9 + 5 + length (body_of change) + 1 ≤ f.log.half = omega (arith, half, short) in
-    full (subst (λ (e : End). next_of e + 5 + length (body_of change) + 1 ≤ f.log.half) (sym empty.end) room)
+    full (subst (λ (n : ℕ). n + 5 + length (body_of change) + 1 ≤ f.log.half) (sym empty.end) room)
 
 -- What a call's record comes to on a system in which objects came into memory.
 pub record LeadsOn {S : Type 0} {G : Ghosts S} (old new : System S G) (mid : Meaning) (s : State) (call : PathCall) : Type 0 where

@@ -12,7 +12,7 @@ use Rattle.layout.specs.Places.{Blocks, blocks_of}
 use Rattle.layout.specs.Record.{Change}
 use Rattle.layout.specs.declared.root.Root.{Root}
 use Rattle.model.specs.Paths.{Name}
-use Rattle.model.specs.Records.{Extends, Replays, is_vacant, without_nameless}
+use Rattle.model.specs.Records.{Extends, Replays, is_vacant, pledged_for, without_nameless}
 use Rattle.model.specs.States.{State}
 use Rattle.model.specs.Trees.{Tree}
 use Rattle.model.specs.Volumes.{Node, directory_node, file_node, link_node, IsMounted, IsVolume, Volume, swept_node}
@@ -154,14 +154,15 @@ module _ (disk : Blocks) (r : Root) (nvram : List ℕ) (first last : Volume) (sn
 
   pub has_image : (old : InodeFile) (p : Mounted) (count : ℕ) → p.inodes.geometry ≡ r.geometry → count ≡ r.geometry.blocks → IsLoaded disk r p.map old
       → StandsBehind p.log saved.generation nvram (bodies_of changes) → HasVolume count disk (inodes_of (whole disk r).active) p.inodes (without_nameless last)
-      → HasImage disk r nvram last changes p
-  has_image old p count geometry is loaded stands has = record {
+      → p.pledged ≡ pledged_for old.geometry.inodes first changes → old.geometry ≡ r.geometry → HasImage disk r nvram first last changes p
+  has_image old p count geometry is loaded stands has pledges sizes = record {
     log = subst (λ (n : ℕ). StandsBehind p.log n nvram (bodies_of changes)) generation stands;
     memory = record {
       stands = subst (λ (n : ℕ). IsVolumeOf n disk (inodes_of (whole disk r).active) p.inodes (without_nameless last)) is has.memory;
       volume = subst (λ (s : Sizes). IsVolume s.inodes (without_nameless last)) geometry has.volume;
       entries = loaded.map.settled;
     };
+    pledges = pledges ∙ ap (λ (s : Sizes). pledged_for s.inodes first changes) sizes;
   }
 
 -- ---- files without names
@@ -193,12 +194,12 @@ module _ (m : Meaning) (kept : BTreeMap ℕ Block) (found : Found) (p : Mounted)
     pub shows : ShowsDisk m kept (blocks_of i.disk)
     pub of : IsOf i found
     pub holds : HoldsRecords (blocks_of i.disk) found.newest.root i.nvram first last snapshots changes
-    pub has : HasImage (blocks_of i.disk) found.newest.root i.nvram last changes p
+    pub has : HasImage (blocks_of i.disk) found.newest.root i.nvram first last changes p
 
   abbrev shown : State
   shown = state_with found.newest.root.geometry.inodes (without_nameless last) (λ d. None) snapshots
 
-  serving : IsMounted (without_nameless last) (λ d. None) → IsFalse p.log.is_stopped → IsOver m.seen → IsServing m kept found.newest.root found.newest.slot p.inodes p.map p.log (λ d. None) shown
+  serving : IsMounted (without_nameless last) (λ d. None) → IsFalse p.log.is_stopped → IsOver m.seen → IsServing m kept found.newest.root found.newest.slot p.inodes p.map p.log p.pledged (λ d. None) shown
   serving mounted runs over = record {
     honest = over.shows.honest;
     shows = over.shows;
@@ -225,8 +226,10 @@ module _ (m : Meaning) (kept : BTreeMap ℕ Block) (found : Found) (p : Mounted)
     };
     memory = over.has.memory;
     goes = runs;
+    pledges = over.has.pledges;
+    closed = λ d. refl;
     state = refl;
   }
 
-  pub serves : (i : Images) → m.seen ≡ i → IsMounted (without_nameless last) (λ d. None) → IsFalse p.log.is_stopped → IsOver i → IsServing m kept found.newest.root found.newest.slot p.inodes p.map p.log (λ d. None) shown
+  pub serves : (i : Images) → m.seen ≡ i → IsMounted (without_nameless last) (λ d. None) → IsFalse p.log.is_stopped → IsOver i → IsServing m kept found.newest.root found.newest.slot p.inodes p.map p.log p.pledged (λ d. None) shown
   serves i is mounted runs over = serving mounted runs (subst IsOver (sym is) over)

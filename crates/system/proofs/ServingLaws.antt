@@ -49,10 +49,10 @@ abbrev pub OverRoot : Blocks → Root → InodeFile → Volume → Type 0
 OverRoot disk root inodes v = IsVolumeOf root.geometry.blocks disk (inodes_of (whole disk root).active) inodes v
 
 -- objects came into memory, and nothing was done but reading
-abbrev pub looked : (m new : Meaning) (kept now_kept : BTreeMap ℕ Block) (root : Root) (slot : ℕ) (inodes now_inodes : InodeFile) (map : BlockMap) (log : LogEnd) (table : ℕ → Option Description) (s : State)
-    → IsServing m kept root slot inodes map log table s → ReadsOn m new → ((disk : ℕ → List ℕ) → ShowsDisk m kept disk → ShowsDisk new now_kept disk)
-    → ((v : Volume) → OverRoot (blocks_of m.seen.disk) root inodes v → OverRoot (blocks_of m.seen.disk) root now_inodes v) → IsServing new now_kept root slot now_inodes map log table s
-looked m new kept now_kept root slot inodes now_inodes map log table s serves reads shows stays =
+abbrev pub looked : (m new : Meaning) (kept now_kept : BTreeMap ℕ Block) (root : Root) (slot : ℕ) (inodes now_inodes : InodeFile) (map : BlockMap) (log : LogEnd) (pledged : ℕ) (table : ℕ → Option Description) (s : State)
+    → IsServing m kept root slot inodes map log pledged table s → ReadsOn m new → ((disk : ℕ → List ℕ) → ShowsDisk m kept disk → ShowsDisk new now_kept disk)
+    → ((v : Volume) → OverRoot (blocks_of m.seen.disk) root inodes v → OverRoot (blocks_of m.seen.disk) root now_inodes v) → IsServing new now_kept root slot now_inodes map log pledged table s
+looked m new kept now_kept root slot inodes now_inodes map log pledged table s serves reads shows stays =
     let went = reads.goes serves.honest in
     let disk : m.seen.disk ≡ new.seen.disk = sym (ap (λ (i : Images). i.disk) went.seen) in
     record {
@@ -73,6 +73,8 @@ looked m new kept now_kept root slot inodes now_inodes map log table s serves re
         entries = serves.memory.entries;
       });
       goes = serves.goes;
+      pledges = serves.pledges;
+      closed = serves.closed;
       state = serves.state;
     }
 
@@ -80,16 +82,16 @@ pub eighth : (n b : ℕ) → n ≡ 8 * b → n / 8 ≡ b
 eighth n b is = omega arith
 
 -- the same, where memory is spoken of as a layer below does
-abbrev pub looked_on : (m new : Meaning) (kept now_kept : BTreeMap ℕ Block) (root : Root) (slot : ℕ) (inodes now_inodes : InodeFile) (map : BlockMap) (log : LogEnd) (table : ℕ → Option Description) (s : State)
+abbrev pub looked_on : (m new : Meaning) (kept now_kept : BTreeMap ℕ Block) (root : Root) (slot : ℕ) (inodes now_inodes : InodeFile) (map : BlockMap) (log : LogEnd) (pledged : ℕ) (table : ℕ → Option Description) (s : State)
     → m.sectors ≡ 8 * root.geometry.blocks → ReadsOn m new → ((disk : ℕ → List ℕ) → ShowsDisk m kept disk → ShowsDisk new now_kept disk)
     → ((disk : ℕ → List ℕ) (settled : ℕ → Inode) (v : Volume) → ShowsDisk m kept disk → IsVolumeOf (m.sectors / 8) disk settled inodes v → IsVolumeOf (new.sectors / 8) disk settled now_inodes v)
-    → IsServing m kept root slot inodes map log table s → IsServing new now_kept root slot now_inodes map log table s
-looked_on m new kept now_kept root slot inodes now_inodes map log table s sectors reads shows stays serves =
+    → IsServing m kept root slot inodes map log pledged table s → IsServing new now_kept root slot now_inodes map log pledged table s
+looked_on m new kept now_kept root slot inodes now_inodes map log pledged table s sectors reads shows stays serves =
     let d = blocks_of m.seen.disk in
     let settled = inodes_of (whole d root).active in
     let before : m.sectors / 8 ≡ root.geometry.blocks = eighth m.sectors root.geometry.blocks sectors in
     let after : new.sectors / 8 ≡ root.geometry.blocks = eighth new.sectors root.geometry.blocks (reads.same.sectors ∙ sectors) in
-    looked m new kept now_kept root slot inodes now_inodes map log table s serves reads shows (λ v over.
+    looked m new kept now_kept root slot inodes now_inodes map log pledged table s serves reads shows (λ v over.
     subst (λ (n : ℕ). IsVolumeOf n d settled now_inodes v) after
     (stays d settled v serves.shows (subst (λ (n : ℕ). IsVolumeOf n d settled inodes v) (sym before) over)))
 

@@ -40,6 +40,7 @@ use Rattle.system.specs.Laws.{RootLaws}
 use Rattle.system.specs.Memory.{IsInMemory}
 use Rattle.system.specs.Points.{IsPlannedOver}
 use Rattle.system.specs.Systems.{IsServing, state_with}
+use Rattle.system.proofs.RoomLaws.{none_pledged}
 
 -- a block whose eight sectors are the same
 same_block : (d e : ℕ → List ℕ) (b : ℕ) → ((i : ℕ) → i < 8 → e (8 * b + i) ≡ d (8 * b + i)) → blocks_of e b ≡ blocks_of d b
@@ -65,7 +66,7 @@ slot_is r d sector (inl b) = inr b.0
 slot_is r d sector (inr a) = inl a.0
 
 -- no record stands over a root that holds the running volume
-pub none_replayed : (inodes : ℕ) (running : Volume) → IsReplayed inodes no_bodies running running
+abbrev pub none_replayed : (inodes : ℕ) (running : Volume) → IsReplayed inodes no_bodies running running
 none_replayed inodes running = record {
   changes = [];
   are = λ i d lt. absurd (omega (arith, lt));
@@ -76,8 +77,8 @@ none_replayed inodes running = record {
   extends = record { kept = λ n some. refl; rest = λ n none. rw none refl };
 }
 
-module _ (laws : RootLaws) (m : Meaning) (kept : BTreeMap ℕ Block) (root : Root) (slot : ℕ) (inodes : InodeFile) (map : BlockMap) (log : LogEnd) (table : ℕ → Option Description) (s : State)
-    (serves : IsServing m kept root slot inodes map log table s) (size : m.sectors ≡ 8 * root.geometry.blocks)
+module _ (laws : RootLaws) (m : Meaning) (kept : BTreeMap ℕ Block) (root : Root) (slot : ℕ) (inodes : InodeFile) (map : BlockMap) (log : LogEnd) (pledged : ℕ) (table : ℕ → Option Description) (s : State)
+    (serves : IsServing m kept root slot inodes map log pledged table s) (size : m.sectors ≡ 8 * root.geometry.blocks)
     (p : Planned) (new : Root) (planned : IsPlannedOver m.seen.disk root slot log.epoch p new serves.running)
     (now : Meaning) (sizes : AreWhole m.sectors now.seen.disk) (has : HasNewRoot p m.seen now.seen)
     (images : points.HasNewRoot (writes_of p.blocks) p.slot (root_bytes new) m.seen.disk now.seen.disk) where
@@ -162,7 +163,7 @@ module _ (laws : RootLaws) (m : Meaning) (kept : BTreeMap ℕ Block) (root : Roo
         → now.is_honest → LeavesJust now now.seen → ShowsDisk now now_kept (blocks_of now.seen.disk) → IsNewest new (now.seen.disk SLOT_A) (now.seen.disk SLOT_B)
         → StandsAt now_log log.epoch no_bodies m.seen.nvram → IsFalse now_log.is_stopped
         → IsInMemory (blocks_of now.seen.disk) new now_inodes now_map serves.running
-        → IsServing now now_kept new p.slot now_inodes now_map now_log table s
+        → IsServing now now_kept new p.slot now_inodes now_map now_log 0 table s
     settled now_kept now_inodes now_map now_log honest just shown newest stands goes here = record {
       honest = honest;
       shows = shown;
@@ -182,5 +183,7 @@ module _ (laws : RootLaws) (m : Meaning) (kept : BTreeMap ℕ Block) (root : Roo
       replayed = none_replayed new.geometry.inodes serves.running;
       memory = here;
       goes = goes;
+      pledges = sym (none_pledged new.geometry.inodes serves.running table serves.mounted serves.closed);
+      closed = serves.closed;
       state = serves.state ∙ ap (λ (g : Sizes). state_with g.inodes serves.running table serves.snapshots) (sym planned.point.geometry);
     }

@@ -26,12 +26,12 @@ use Rattle.system.specs.Laws.{CutLaws}
 use Rattle.system.specs.Memory.{IsInMemory}
 use Rattle.system.specs.Systems.{IsServing, state_with}
 
-module _ (m : Meaning) (kept : BTreeMap ℕ Block) (root : Root) (slot : ℕ) (inodes : InodeFile) (map : BlockMap) (log : LogEnd) (table : ℕ → Option Description) (s : State)
-    (serves : IsServing m kept root slot inodes map log table s) where
+module _ (m : Meaning) (kept : BTreeMap ℕ Block) (root : Root) (slot : ℕ) (inodes : InodeFile) (map : BlockMap) (log : LogEnd) (pledged : ℕ) (table : ℕ → Option Description) (s : State)
+    (serves : IsServing m kept root slot inodes map log pledged table s) where
   -- where nothing was done but reading
   pub read_on : (new : Meaning) (now_kept : BTreeMap ℕ Block) (now_map : BlockMap) → ReadsOn m new
       → ((disk : ℕ → List ℕ) → ShowsDisk m kept disk → ShowsDisk new now_kept disk)
-      → ((b : ℕ) → settled_at now_map.parts.items b ≡ settled_at map.parts.items b) → IsServing new now_kept root slot inodes now_map log table s
+      → ((b : ℕ) → settled_at now_map.parts.items b ≡ settled_at map.parts.items b) → IsServing new now_kept root slot inodes now_map log pledged table s
   read_on new now_kept now_map reads shows entries =
       let went = reads.goes serves.honest in
       let disk : m.seen.disk ≡ new.seen.disk = sym (ap (λ (i : Images). i.disk) went.seen) in
@@ -53,6 +53,8 @@ module _ (m : Meaning) (kept : BTreeMap ℕ Block) (root : Root) (slot : ℕ) (i
           entries = λ b. entries b ∙ serves.memory.entries b;
         });
         goes = serves.goes;
+        pledges = serves.pledges;
+        closed = serves.closed;
         state = serves.state;
       }
 
@@ -97,8 +99,8 @@ module _ (laws : CutLaws) (m : Meaning) (disk : ℕ → List ℕ) (root : Root) 
   pub same_open : (c : Images) → SameButFree root disk c.disk → LogHolds root.geometry.half root.generation c.nvram (all_of bodies) → OpensTo m s c
   same_open c same holds = opens_by m s c replayed.changes (laws.free m.sectors disk c.disk c.nvram s (held_open c.nvram holds) same) replayed.served
 
-module _ (laws : CutLaws) (m : Meaning) (kept : BTreeMap ℕ Block) (root : Root) (slot : ℕ) (inodes : InodeFile) (map : BlockMap) (log : LogEnd) (table : ℕ → Option Description) (s : State)
-    (serves : IsServing m kept root slot inodes map log table s) (size : m.sectors ≡ 8 * root.geometry.blocks) (half : log.half ≡ root.geometry.half) where
+module _ (laws : CutLaws) (m : Meaning) (kept : BTreeMap ℕ Block) (root : Root) (slot : ℕ) (inodes : InodeFile) (map : BlockMap) (log : LogEnd) (pledged : ℕ) (table : ℕ → Option Description) (s : State)
+    (serves : IsServing m kept root slot inodes map log pledged table s) (size : m.sectors ≡ 8 * root.geometry.blocks) (half : log.half ≡ root.geometry.half) where
   -- what the system reads, with any NVRAM that has its records
   abbrev pub reads_open : (nvram : List ℕ) → LogHolds log.half root.generation nvram (all_of serves.bodies) → Opens m.sectors m.seen.disk nvram s
   reads_open nvram holds =

@@ -32,7 +32,8 @@ WouldServe old new running table s =
     let disk = blocks_of (meaning_of old).seen.disk in
     let settled = inodes_of (whole disk old.root).active in
     (inodes : InodeFile) → IsVolumeOf old.root.geometry.blocks disk settled inodes running
-    → IsServing (meaning_of new) new.blocks.kept new.root new.slot inodes new.map new.log table s
+    → IsServing (meaning_of new) new.blocks.kept new.root new.slot inodes new.map new.log new.pledged
+    table s
 
 -- put in force on a system with this running volume, a prepared change does what the record says
 abbrev pub DoesOver : {S : Type 0} {G : Ghosts S} → System S G → Volume → Prepared → Change → Type 0

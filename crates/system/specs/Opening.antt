@@ -1,5 +1,5 @@
 -- What a mount reads, and what it makes of it.
-use Rattle.std.specs.Prelude.{ℕ, ◌≡◌, ◌⊎◌, List, All, IsFalse}
+use Rattle.std.specs.Prelude.{ℕ, ◌≡◌, ◌⊎◌, List, All, IsFalse, ◌<◌, ◌^◌}
 use Rattle.station.specs.Images.{Images}
 use Rattle.station.specs.Moments.{Meaning, HasGrown}
 use Rattle.layout.specs.Places.{Blocks}
@@ -7,7 +7,7 @@ use Rattle.layout.specs.Record.{Change}
 use Rattle.layout.specs.Root.{IsRoot}
 use Rattle.layout.specs.declared.root.Root.{Root}
 use Rattle.model.specs.Paths.{Name}
-use Rattle.model.specs.Records.{Replays, without_nameless}
+use Rattle.model.specs.Records.{Replays, pledged_for, without_nameless}
 use Rattle.model.specs.Trees.{Tree}
 use Rattle.model.specs.Volumes.{Volume}
 use Rattle.images.specs.Roots.{whole}
@@ -45,6 +45,7 @@ pub record FitsRoot (r : Root) (p : Mounted) : Type 0 where
   pub clean : IsClean p.map
   pub fresh : p.map.next ≡ 2
   pub runs : IsFalse p.log.is_stopped
+  pub few : p.pledged < 2 ^ 32
 
 -- A disk holds a volume and snapshots under a root, and an NVRAM the records that lead from there to another volume. This version
 -- does each of them.
@@ -55,8 +56,10 @@ pub record HoldsRecords (disk : Blocks) (r : Root) (nvram : List ℕ) (first las
   pub served : All IsServed changes
   pub replays : Replays r.geometry.inodes first changes last
 
--- Memory has the log's end behind these records, and the volume that they lead to, without the files that have no name.
-pub record HasImage (disk : Blocks) (r : Root) (nvram : List ℕ) (last : Volume)
+-- Memory has the log's end behind these records, and the volume that they lead to, without the files that have no name;
+-- and what is pledged for them.
+pub record HasImage (disk : Blocks) (r : Root) (nvram : List ℕ) (first last : Volume)
     (changes : List Change) (p : Mounted) : Type 0 where
   pub log : StandsBehind p.log r.generation nvram (bodies_of changes)
   pub memory : IsInMemory disk r p.inodes p.map (without_nameless last)
+  pub pledges : p.pledged ≡ pledged_for r.geometry.inodes first changes

@@ -4,6 +4,7 @@ use Rattle.station.specs.Images.{Unchanged}
 use Rattle.station.specs.Calls.{Uses}
 use Rattle.station.specs.Moments.{Meaning, Goes, HasGrown, LeavesOnly}
 use Rattle.station.specs.declared.station.Station.{Ghosts}
+use Rattle.layout.specs.declared.log.TheConstants.{FIRST_GATE}
 use Rattle.model.specs.declared.command.PathCall.{PathCall}
 use Rattle.model.specs.declared.errno.Errno.TheVariants.{EIO}
 use Rattle.model.specs.declared.reply.Reply.{Reply}
@@ -11,7 +12,7 @@ use Rattle.model.specs.declared.reply.Reply.TheVariants.{Refused}
 use Rattle.model.specs.Room.{Need, nothing}
 use Rattle.model.specs.States.{State}
 use Rattle.model.specs.Steps.{calls, on_tree}
-use Rattle.oplog.specs.declared.log.End.TheVariants.{Unopened}
+use Rattle.oplog.specs.LogEnd.{next_of}
 use Rattle.system.specs.Images.{OpensTo}
 use Rattle.system.specs.Systems.{Serves, meaning_of}
 use Rattle.system.specs.declared.error.CallError.{CallError}
@@ -60,10 +61,10 @@ pub record IsBrokenOff {S : Type 0} {G : Ghosts S} (old new : System S G) (s : S
   pub step : WouldCall s call reply after need
   pub leaves : LeavesEither (meaning_of old) (meaning_of new) s after
 
--- the log has no record that the root doesn't cover, and its next epoch isn't opened
+-- the log has no record that the root doesn't cover
 pub record HasEmptyLog {S : Type 0} {G : Ghosts S} (f : System S G) : Type 0 where
   pub epoch : f.log.epoch ≡ f.root.generation + 1
-  pub end : f.log.end ≡ Unopened
+  pub end : next_of f.log.end ≡ FIRST_GATE
 
 -- What a call by a path does to a system: all that is promised of it.
 pub record Handles {S : Type 0} {G : Ghosts S} (old new : System S G) (call : PathCall)

@@ -1,11 +1,12 @@
 -- What a mounted system stands for.
-use Rattle.std.specs.Prelude.{ℕ, ◌≡◌, List, Option, IsFalse}
+use Rattle.std.specs.Prelude.{ℕ, ◌≡◌, List, Option, None, IsFalse}
 use Rattle.std.specs.BTreeMap.{BTreeMap}
 use Rattle.station.specs.Moments.{Meaning, EachCut}
 use Rattle.station.specs.declared.station.Station.{Ghosts}
 use Rattle.layout.specs.Places.{blocks_of}
 use Rattle.layout.specs.declared.root.Root.{Root}
 use Rattle.model.specs.Paths.{Name}
+use Rattle.model.specs.Records.{pledged_for}
 use Rattle.model.specs.States.{State, going}
 use Rattle.model.specs.Trees.{Tree, Description}
 use Rattle.model.specs.Volumes.{Volume, IsMounted, tree_of}
@@ -29,10 +30,11 @@ state_with inodes running table snapshots =
 
 -- What a system has serves a state, over an honest station: the disk that it reads holds a volume under the newest root, the records
 -- that this root doesn't cover lead to the running volume, which memory stands for and which is the state's tree; and
--- whatever a cut may leave has that disk and those records.
+-- whatever a cut may leave has that disk and those records. What these may cost a consistency point is pledged. No file is
+-- open, since this version opens none.
 pub record IsServing (m : Meaning) (kept : BTreeMap ℕ Block) (root : Root) (slot : ℕ)
-    (inodes : InodeFile) (map : BlockMap) (log : LogEnd) (table : ℕ → Option Description)
-    (s : State) : Type 0 where
+    (inodes : InodeFile) (map : BlockMap) (log : LogEnd) (pledged : ℕ)
+    (table : ℕ → Option Description) (s : State) : Type 0 where
   pub honest : m.is_honest
   pub shows : ShowsDisk m kept (blocks_of m.seen.disk)
   pub first : Volume
@@ -45,12 +47,15 @@ pub record IsServing (m : Meaning) (kept : BTreeMap ℕ Block) (root : Root) (sl
   pub replayed : IsReplayed root.geometry.inodes bodies first running
   pub memory : IsInMemory (blocks_of m.seen.disk) root inodes map running
   pub goes : IsFalse log.is_stopped
+  pub pledges : pledged ≡ pledged_for root.geometry.inodes first replayed.changes
+  pub closed : (d : ℕ) → table d ≡ None
   pub state : s ≡ state_with root.geometry.inodes running table snapshots
 
 -- a system serves a state
 abbrev pub Serves : {S : Type 0} {G : Ghosts S} → System S G → (ℕ → Option Description) → State
     → Type 0
-Serves f table s = IsServing (meaning_of f) f.blocks.kept f.root f.slot f.inodes f.map f.log table s
+Serves f table s =
+    IsServing (meaning_of f) f.blocks.kept f.root f.slot f.inodes f.map f.log f.pledged table s
 
 -- a system is covered: its root holds the running volume, and no record stands that this root doesn't cover
 pub record IsCovered {S : Type 0} {G : Ghosts S} (f : System S G) (table : ℕ → Option Description)

@@ -34,6 +34,6 @@ impl<S: Station> System<S> {
         ensures { IsTrue result ↔ HasEmptyLog self.now }
     {
         let next = self.root.generation.epoch_after(1);
-        self.log.is_unopened() && self.log.epoch().get() == next.get()
+        self.log.is_empty() && self.log.epoch().get() == next.get()
     }
 }

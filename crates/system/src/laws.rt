@@ -1,12 +1,8 @@
 //! What a served state is to whoever cuts the system off.
 
-ghost use Rattle.std.specs.Prelude.{ℕ, Option, []};
-ghost use Rattle.station.specs.Images.{Images};
+ghost use Rattle.std.specs.Prelude.{ℕ, Option};
 ghost use Rattle.station.specs.Moments.{EachCut};
-ghost use Rattle.layout.specs.Log.{LogHolds};
-ghost use Rattle.layout.specs.Opens.{HoldsNewImage};
-ghost use Rattle.layout.specs.declared.root.Root.{Root};
-ghost use Rattle.model.specs.States.{State, empty};
+ghost use Rattle.model.specs.States.{State};
 ghost use Rattle.model.specs.Trees.{Description};
 ghost use Rattle.system.specs.Images.{OpensTo};
 ghost use Rattle.system.specs.Laws.{CutLaws, RecordLaws, RootLaws};
@@ -18,8 +14,7 @@ use conspoint::{
 };
 use images::{
     finished_points_hold, finished_points_open_as_before, free_blocks_are_no_matter,
-    free_blocks_are_unneeded, needed_blocks_are_of_the_disk, new_images_open_to_the_empty_state,
-    roots_cover_epochs,
+    free_blocks_are_unneeded, needed_blocks_are_of_the_disk, roots_cover_epochs,
 };
 use loading::{readable_inodes_are_settled, volumes_are_readable};
 use model::{mounts_forget_open_files, records_keep_volumes, replays_end_same, replays_follow};
@@ -31,16 +26,6 @@ pub fn served_states_open<S: Station>(system: &System<S>)
         → EachCut (meaning_of system.now) (OpensTo (meaning_of system.now) s) }
 {
     cuts_open();
-}
-
-/// On a station, the image of a new file system, under any root of it, with a log that holds no records, opens to the state with
-/// an empty root directory and no snapshots. It does nothing.
-pub fn new_images_open<S: Station>(station: &S)
-    ensures { (c : Images) (r : Root) → HoldsNewImage (S.meaning station.now).sectors c.disk r
-        → LogHolds r.geometry.half r.generation c.nvram []
-        → OpensTo (S.meaning station.now) (empty r.geometry.inodes) c }
-{
-    new_images_open_to_the_empty_state();
 }
 
 /// What a cut leaves opens. It does nothing.

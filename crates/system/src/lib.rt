@@ -9,10 +9,12 @@ mod open_error;
 mod opening;
 mod point;
 mod serving;
+mod space;
 mod system;
 mod writing;
 
 pub use error::{CallError, PointError};
-pub use laws::{new_images_open, served_states_open};
+pub use laws::served_states_open;
 pub use open_error::OpenError;
+pub use space::Space;
 pub use system::System;

@@ -19,6 +19,7 @@ use crate::laws::{cuts_open, records_lead_on, served_states_open};
 use calls::{Prepared, commit};
 use layout::Record;
 use oplog::AppendError;
+use replay::cost_of;
 use station::Station;
 
 impl<S: Station> System<S> {
@@ -42,6 +43,7 @@ impl<S: Station> System<S> {
         ensures slot { self.new.slot ≡ self.old.slot }
         ensures inodes { self.new.inodes ≡ self.old.inodes }
         ensures map { self.new.map ≡ self.old.map }
+        ensures pledged { OnErr result (self.new.pledged ≡ self.old.pledged) }
         ensures any_moment { (table : ℕ → Option Description) (s : State)
             → (serves : Serves self.old table s)
             → Advances self.old.root.geometry.inodes serves.running table (change_of change.now)
@@ -59,8 +61,17 @@ impl<S: Station> System<S> {
     {
         cuts_open();
         records_lead_on();
-        self.log
+        let cost = cost_of(change);
+        match self
+            .log
             .append(self.alloc, &mut self.blocks.station, change)
+        {
+            Ok(()) => {
+                self.pledged += cost;
+                Ok(())
+            }
+            Err(error) => Err(error),
+        }
     }
 
     /// Logs the record of a prepared change, and puts the change in force. `LogFull` where the log is in its second epoch over the
@@ -78,6 +89,7 @@ impl<S: Station> System<S> {
         ensures root { self.new.root ≡ self.old.root }
         ensures slot { self.new.slot ≡ self.old.slot }
         ensures map { self.new.map ≡ self.old.map }
+        ensures pledged { OnErr result (self.new.pledged ≡ self.old.pledged) }
         ensures full { IsErrOf result AppendError.LogFull
             → (self.old.log.epoch ≢ self.old.root.generation + 1)
             ⊎ (HasRoom self.old.log (length (body_of (change_of change.now))) → ⊥) }

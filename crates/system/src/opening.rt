@@ -31,7 +31,7 @@ use layout::Root;
 use loading::{Loaded, Newest, check_snapshots, load, newest_root, volumes_are_readable};
 use model::{mounts_find_volumes, replays_keep_volumes};
 use oplog::{Log, SavedLog};
-use replay::replay;
+use replay::{Replayed, replay};
 use station::Station;
 use std::alloc::Global;
 
@@ -46,6 +46,7 @@ struct Mounted {
     inodes: InodeFile,
     map: BlockMap,
     log: Log,
+    pledged: u64,
 }
 
 /// Settles what reads give, since a cut may have left writes that a later one could take back; then finds the newest root, and
@@ -98,13 +99,18 @@ fn read_image<B: Blocks>(
     ensures has { (disk : Blocks) (nvram : List ℕ) (first last : Volume)
         (snapshots : List (Name × Tree)) (changes : List Change) → B.Shows blocks.old disk
         → TellsLog nvram saved → HoldsRecords disk root.now nvram first last snapshots changes
-        → MatchResult result (HasImage disk root.now nvram last changes) IsOutside }
+        → MatchResult result (HasImage disk root.now nvram first last changes) IsOutside }
 {
     volumes_are_readable();
     check_snapshots(blocks, root)?;
     let Loaded { map, mut inodes } = load(alloc, blocks, root)?;
-    let log = replay(alloc, &mut inodes, blocks, saved)?;
-    Ok(Mounted { inodes, map, log })
+    let Replayed { log, pledged } = replay(alloc, &mut inodes, blocks, saved)?;
+    Ok(Mounted {
+        inodes,
+        map,
+        log,
+        pledged,
+    })
 }
 
 /// Makes a system of a station and of what was found on it.
@@ -142,7 +148,14 @@ fn open_found<S: Station>(
     let Found { newest, saved } = found;
     let mut blocks = Buffers::new(alloc, station);
     match read_image(alloc, &mut blocks, &newest.root, saved) {
-        Ok(Mounted { inodes, map, log }) => Ok(System {
+        Ok(
+            Mounted {
+                inodes,
+                map,
+                log,
+                pledged,
+            },
+        ) => Ok(System {
             alloc,
             blocks,
             root: newest.root,
@@ -150,6 +163,7 @@ fn open_found<S: Station>(
             inodes,
             map,
             log,
+            pledged,
         }),
         Err(error) => Err((error, blocks.into_station())),
     }

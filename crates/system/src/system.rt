@@ -1,7 +1,9 @@
 //! A mounted system.
 
-ghost use Rattle.std.specs.Prelude.{◌≡◌, ◌*◌};
+ghost use Rattle.std.specs.Prelude.{◌≡◌, ◌+◌, ◌*◌, ◌≤◌, ◌^◌};
 ghost use Rattle.layout.specs.Root.{IsRoot};
+ghost use Rattle.oplog.specs.LogEnd.{next_of};
+ghost use Rattle.replay.specs.declared.costs.TheConstants.{MOST_COST};
 ghost use Rattle.system.specs.Memory.{IsClean};
 ghost use Rattle.system.specs.Props.{IsRoot-prop};
 
@@ -25,6 +27,8 @@ pub struct System<S: Station> {
     pub(crate) inodes: InodeFile,
     pub(crate) map: BlockMap,
     pub(crate) log: Log,
+    /// Blocks that a consistency point may store for what the root doesn't cover.
+    pub(crate) pledged: u64,
     ghost sectors: { (S.meaning blocks.station).sectors ≡ 8 * root.geometry.blocks },
     ghost nvram: { (S.meaning blocks.station).nvram_bytes ≡ 2 * log.half },
     ghost half: { log.half ≡ root.geometry.half },
@@ -32,6 +36,7 @@ pub struct System<S: Station> {
     ghost count: { map.count ≡ root.geometry.blocks },
     ghost clean: { IsClean map },
     ghost fresh: { map.next ≡ 2 },
+    ghost few: { pledged ≤ 2 ^ 32 + MOST_COST * next_of log.end },
     ghost is_root: { IsRoot root } by { IsRoot-prop root },
 }
 

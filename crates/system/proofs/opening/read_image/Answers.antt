@@ -40,5 +40,5 @@ returns-clause-has g c disk nvram first last snapshots changes shows tells holds
     (has_volume disk r nvram first last snapshots changes c.args.saved c.requires.half c.requires.generation holds inodes c.in_ok-map.field-0.map (g.B.Blocks.count c.load.new.blocks) geometry count loaded)
     tells (saves disk r nvram first last snapshots changes c.args.saved c.requires.half c.requires.generation holds inodes geometry) in
     has_image disk r nvram first last snapshots changes c.args.saved c.requires.half c.requires.generation holds inodes
-    (record { inodes = c.replay.new.inodes; map = c.in_ok-map.field-0.map; log = c.in_ok-log.log })
-    (g.B.Blocks.count c.load.new.blocks) (c.in_ok-log.ensures.geometry ∙ geometry) count loaded did.0 did.1
+    (record { inodes = c.replay.new.inodes; map = c.in_ok-map.field-0.map; log = c.in_ok-log.field-0.log; pledged = c.in_ok-log.field-0.pledged })
+    (g.B.Blocks.count c.load.new.blocks) (c.in_ok-log.ensures.geometry ∙ geometry) count loaded did.0 did.1 did.2 geometry

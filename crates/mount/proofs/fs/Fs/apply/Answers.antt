@@ -1,5 +1,6 @@
 use Rattle.std.proofs.Common.{◌≡◌}
-use Rattle.model.specs.declared.command.Command.TheVariants.{Path, Sync}
+use Rattle.model.specs.declared.command.Command.TheVariants.{Path, Sync, Df}
+use Rattle.model.specs.declared.errno.Errno.TheVariants.{EIO}
 use Rattle.mount.proofs.ApplyLemmas.{failed_applied}
 use Rattle.mount.proofs.AttemptLemmas.{asked_as}
 use Rattle.mount.proofs.fs.Fs.apply.Goals as goal
@@ -16,3 +17,11 @@ pub returns-in-Sync-clause-applied : goal.returns-in-Sync-clause-applied
 returns-in-Sync-clause-applied g c s serves young =
     let is : c.args.command.now ≡ Sync = cc in
     asked_as _ _ s Sync c.args.command.now c.sync.result is (c.sync.ensures.applied s serves young)
+
+pub returns-in-Df-clause-applied : goal.returns-in-Df-clause-applied
+returns-in-Df-clause-applied g c s serves young =
+    let is : c.args.command.now ≡ Df = cc in
+    asked_as _ _ s Df c.args.command.now c.space.result is (c.space.ensures.applied s serves c.if-self.false)
+
+pub returns-in-Df-clause-eio : goal.returns-in-Df-clause-eio
+returns-in-Df-clause-eio g c is = absurd (c.space.ensures.answers EIO is)

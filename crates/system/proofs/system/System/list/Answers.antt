@@ -18,7 +18,7 @@ returns-in-Ok-Ok g c =
     let told = c.in-Ok-Ok.ensures in
     let looks = told.looks in
     answered fs _ _ (looks.reads.reads fs.blocks (reads_none m)) refl
-    (λ s served. looked_on _ _ _ _ _ _ _ _ _ _ _ s fs.sectors (looks.reads.reads fs.blocks (reads_none m)) looks.reads.same
+    (λ s served. looked_on _ _ _ _ _ _ _ _ _ _ _ _ s fs.sectors (looks.reads.reads fs.blocks (reads_none m)) looks.reads.same
     (λ disk settled v shows over. (looks.kept disk settled v (record { shows = shows; volume = over })).volume) served)
     _ looks.reads.counted (names_refuse_nothing c.in-Ok-Ok.names) (λ s served. c.served_states_open.ensures s.tree.descriptors s served)
     (λ s served.
@@ -34,7 +34,7 @@ returns-in-Ok-Err g c =
     let told = c.in-Ok-Err.ensures in
     let looks = told.looks in
     answered fs _ _ (looks.reads.reads fs.blocks (reads_none m)) refl
-    (λ s served. looked_on _ _ _ _ _ _ _ _ _ _ _ s fs.sectors (looks.reads.reads fs.blocks (reads_none m)) looks.reads.same
+    (λ s served. looked_on _ _ _ _ _ _ _ _ _ _ _ _ s fs.sectors (looks.reads.reads fs.blocks (reads_none m)) looks.reads.same
     (λ disk settled v shows over. (looks.kept disk settled v (record { shows = shows; volume = over })).volume) served)
     _ looks.reads.counted (own_refusal _ c.in-Ok-Err.errno c.in-Ok-Err.field-0-is told.own) (λ s served. c.served_states_open.ensures s.tree.descriptors s served)
     (λ s served.
@@ -50,7 +50,7 @@ returns-in-Err g c =
     let told = c.in-Err.ensures in
     let looks = told.looks in
     unanswered_read fs _ _ (looks.reads.reads fs.blocks (reads_none m)) refl
-    (λ s served. looked_on _ _ _ _ _ _ _ _ _ _ _ s fs.sectors (looks.reads.reads fs.blocks (reads_none m)) looks.reads.same
+    (λ s served. looked_on _ _ _ _ _ _ _ _ _ _ _ _ s fs.sectors (looks.reads.reads fs.blocks (reads_none m)) looks.reads.same
     (λ disk settled v shows over. (looks.kept disk settled v (record { shows = shows; volume = over })).volume) served)
     c.in-Err.error _ c.call_error.ensures looks.reads.device
     (λ s served is.

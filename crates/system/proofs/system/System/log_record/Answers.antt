@@ -1,38 +1,58 @@
-use Rattle.std.proofs.Common.{Result, Ok, Err, sym, subst}
-use Rattle.std.specs.Prelude.{IsFalse, OnOk}
+use Rattle.std.proofs.Common.{Ok, Err, ◌≡◌, ◌+◌, length, ap, arith, sym, subst}
+use Rattle.std.specs.Prelude.{IsFalse}
 use Rattle.layout.specs.Record.{change_of}
-use Rattle.oplog.specs.LogEnd.{LogEnd}
+use Rattle.oplog.specs.LogEnd.{HasRoom, LogEnd, body_of, next_of}
 use Rattle.system.proofs.LoggedLaws as laws
+use Rattle.system.proofs.RoomLaws.{had_room}
 use Rattle.system.proofs.system.System.log_record.Goals as goal
 
-both_ok : {X E : Type 0} {A B C : Type 0} (r : Result X E) → (A → B → C) → OnOk r A → OnOk r B → OnOk r C
-both_ok (Ok x) f a b = f a b
-both_ok (Err e) f a b = tt
+no_error : {T E : Type 0} {e : E} (x : T) → Ok x ≡ Err e → ⊥
+no_error x is = cc
 
-pub returns-clause-refused : goal.returns-clause-refused
-returns-clause-refused g c = λ is.
-    let same = c.append.ensures.refused is in
+pub overflow_add-self : goal.overflow_add-self
+overflow_add-self g c =
+    let f = c.args.self.now in
+    let room : HasRoom f.log (length (body_of (change_of c.args.change.now))) = had_room f.log _ (λ why. no_error c.in-Ok.field-0 (c.in-Ok.ensures.full.1 why)) (λ is. no_error c.in-Ok.field-0 (c.in-Ok.ensures.stopped is).0) in
+    omega (arith, f.few, c.cost_of-cost.ensures.few, room, f.half, f.is_root.head.sizes.most_half)
+
+pub invariant_of-self-clause-few : goal.invariant_of-self-clause-few
+invariant_of-self-clause-few g c =
+    let f = c.args.self.now in
+    let end : next_of c.append.new.self.end ≡ next_of f.log.end + 5 + length (body_of (change_of c.args.change.now)) = ap (λ (l : LogEnd). next_of l.end) c.in-Ok.ensures.end in
+    omega (arith, f.few, c.cost_of-cost.ensures.few, end)
+
+pub returns-in-Err-clause-refused : goal.returns-in-Err-clause-refused
+returns-in-Err-clause-refused g c = λ is.
+    let same = c.in-Err.ensures.refused is in
     ((λ i. record c.args.self.now.blocks { station = same.0 i }), same.1)
 
-pub returns-clause-any_moment : goal.returns-clause-any_moment
-returns-clause-any_moment g c = λ table s serves advances.
+pub returns-in-Err-clause-any_moment : goal.returns-in-Err-clause-any_moment
+returns-in-Err-clause-any_moment g c = λ table s serves advances.
     let f = c.args.self.now in
     let m = g.S.Station.meaning f.blocks.station in
     let change = change_of c.args.change.now in
-    laws.at_any_moment c.cuts_open.ensures c.records_lead_on.ensures m f.blocks.kept f.root f.slot f.inodes f.map f.log table s serves change advances f.sectors f.half
+    laws.at_any_moment c.cuts_open.ensures c.records_lead_on.ensures m f.blocks.kept f.root f.slot f.inodes f.map f.log f.pledged table s serves change advances f.sectors f.half
     (g.S.Station.meaning c.append.new.station)
     (c.append.ensures.any_moment f.root.generation serves.bodies
-    (laws.log_stands c.cuts_open.ensures c.records_lead_on.ensures m f.blocks.kept f.root f.slot f.inodes f.map f.log table s serves change advances))
+    (laws.log_stands c.cuts_open.ensures c.records_lead_on.ensures m f.blocks.kept f.root f.slot f.inodes f.map f.log f.pledged table s serves change advances))
 
-pub returns-clause-logged : goal.returns-clause-logged
-returns-clause-logged g c = λ table s serves advances.
+pub returns-in-Ok-clause-any_moment : goal.returns-in-Ok-clause-any_moment
+returns-in-Ok-clause-any_moment g c = λ table s serves advances.
     let f = c.args.self.now in
     let m = g.S.Station.meaning f.blocks.station in
     let change = change_of c.args.change.now in
-    both_ok c.append.result
-    (λ appended end.
-    laws.logged c.cuts_open.ensures c.records_lead_on.ensures m f.blocks.kept f.root f.slot f.inodes f.map f.log table s serves change advances (g.S.Station.meaning c.append.new.station) c.append.new.self
-    c.append.ensures.disk c.append.ensures.writes.same appended (subst (λ (l : LogEnd). IsFalse l.is_stopped) (sym end) serves.goes))
-    (c.append.ensures.appended f.root.generation serves.bodies
-    (laws.log_stands c.cuts_open.ensures c.records_lead_on.ensures m f.blocks.kept f.root f.slot f.inodes f.map f.log table s serves change advances))
-    c.append.ensures.end
+    laws.at_any_moment c.cuts_open.ensures c.records_lead_on.ensures m f.blocks.kept f.root f.slot f.inodes f.map f.log f.pledged table s serves change advances f.sectors f.half
+    (g.S.Station.meaning c.append.new.station)
+    (c.append.ensures.any_moment f.root.generation serves.bodies
+    (laws.log_stands c.cuts_open.ensures c.records_lead_on.ensures m f.blocks.kept f.root f.slot f.inodes f.map f.log f.pledged table s serves change advances))
+
+pub returns-in-Ok-clause-logged : goal.returns-in-Ok-clause-logged
+returns-in-Ok-clause-logged g c = λ table s serves advances.
+    let f = c.args.self.now in
+    let m = g.S.Station.meaning f.blocks.station in
+    let change = change_of c.args.change.now in
+    laws.logged c.cuts_open.ensures c.records_lead_on.ensures m f.blocks.kept f.root f.slot f.inodes f.map f.log f.pledged table s serves change advances (g.S.Station.meaning c.append.new.station) c.append.new.self
+    c.append.ensures.disk c.append.ensures.writes.same
+    (c.in-Ok.ensures.appended f.root.generation serves.bodies
+    (laws.log_stands c.cuts_open.ensures c.records_lead_on.ensures m f.blocks.kept f.root f.slot f.inodes f.map f.log f.pledged table s serves change advances))
+    (subst (λ (l : LogEnd). IsFalse l.is_stopped) (sym c.in-Ok.ensures.end) serves.goes) c.cost_of-cost.result c.cost_of-cost.ensures.cost

@@ -23,7 +23,7 @@ returns-in-Ok-Err g c =
     let told = c.in-Ok-Err.ensures in
     let looks = told.looks in
     answered fs _ _ (looks.reads.reads fs.blocks (reads_none m)) refl
-    (λ s served. looked_on _ _ _ _ _ _ _ _ _ _ _ s fs.sectors (looks.reads.reads fs.blocks (reads_none m)) looks.reads.same
+    (λ s served. looked_on _ _ _ _ _ _ _ _ _ _ _ _ s fs.sectors (looks.reads.reads fs.blocks (reads_none m)) looks.reads.same
     (λ disk settled v shows over. (looks.kept disk settled v (record { shows = shows; volume = over })).volume) served)
     _ looks.reads.counted (own_refusal _ c.in-Ok-Err.errno c.in-Ok-Err.field-0-is told.own) (λ s served. c.served_states_open.ensures s.tree.descriptors s served)
     (λ s served.
@@ -39,7 +39,7 @@ returns g c =
     let told = c.in-Err.ensures in
     let looks = told.looks in
     unanswered_read fs _ _ (looks.reads.reads fs.blocks (reads_none m)) refl
-    (λ s served. looked_on _ _ _ _ _ _ _ _ _ _ _ s fs.sectors (looks.reads.reads fs.blocks (reads_none m)) looks.reads.same
+    (λ s served. looked_on _ _ _ _ _ _ _ _ _ _ _ _ s fs.sectors (looks.reads.reads fs.blocks (reads_none m)) looks.reads.same
     (λ disk settled v shows over. (looks.kept disk settled v (record { shows = shows; volume = over })).volume) served)
     c.in-Err.error _ c.call_error.ensures looks.reads.device
     (λ s served is.
@@ -60,7 +60,7 @@ returns-in-Ok g c =
     let reads : ReadsOn m mid = looks.reads.reads fs.blocks (reads_none m) in
     let change = change_of c.record.result in
     let before = λ (s : State) (served : ServesState {G = g.S.Station} fs s).
-    looked_on m mid fs.blocks.kept blocks.kept fs.root fs.slot fs.inodes inodes fs.map fs.log s.tree.descriptors s fs.sectors reads looks.reads.same
+    looked_on m mid fs.blocks.kept blocks.kept fs.root fs.slot fs.inodes inodes fs.map fs.log fs.pledged s.tree.descriptors s fs.sectors reads looks.reads.same
     (λ disk sets v shows over. (looks.kept disk sets v (record { shows = shows; volume = over })).volume) served in
     let made = λ (s : State) (served : ServesState {G = g.S.Station} fs s).
     let its = its_volume {G = g.S.Station} fs s served in
@@ -94,7 +94,7 @@ returns-in-Ok-Ok g c =
     let reads : ReadsOn m mid = looks.reads.reads fs.blocks (reads_none m) in
     let change = change_of c.record.result in
     let before = λ (s : State) (served : ServesState {G = g.S.Station} fs s).
-    looked_on m mid fs.blocks.kept blocks.kept fs.root fs.slot fs.inodes inodes fs.map fs.log s.tree.descriptors s fs.sectors reads looks.reads.same
+    looked_on m mid fs.blocks.kept blocks.kept fs.root fs.slot fs.inodes inodes fs.map fs.log fs.pledged s.tree.descriptors s fs.sectors reads looks.reads.same
     (λ disk sets v shows over. (looks.kept disk sets v (record { shows = shows; volume = over })).volume) served in
     let made = λ (s : State) (served : ServesState {G = g.S.Station} fs s).
     let its = its_volume {G = g.S.Station} fs s served in
@@ -113,6 +113,6 @@ returns-in-Ok-Ok g c =
     let same = failed.refused is in (
       ap (λ (b : Buffers g.row.S.Denot). g.S.Station.meaning b.station) (sym same.0),
       same.1,
-      λ s served. serves_same {G = g.S.Station} fs c.log.new.self blocks inodes s same.0 c.log.ensures.root c.log.ensures.slot failed.inodes c.log.ensures.map same.1 (before s served),
+      λ s served. serves_same {G = g.S.Station} fs c.log.new.self blocks inodes s same.0 c.log.ensures.root c.log.ensures.slot failed.inodes c.log.ensures.map same.1 failed.pledged (before s served),
     ))
     (λ is empty. short_fits {G = g.S.Station} fs change empty c.record.ensures.short (failed.full is))

@@ -51,9 +51,9 @@ on_ok {X = X} {E = E} {A = A} r x is h = subst (λ (q : Result X E). OnOk q A) i
 of_err : {X E : Type 0} (r : Result X E) (e : E) (P : E → Type 0) → r ≡ Err e → IfErr r P → P e
 of_err {X = X} {E = E} r e P is h = subst (λ (q : Result X E). IfErr q P) is h
 
-abbrev OnceCovered : Meaning → BTreeMap ℕ Block → InodeFile → BlockMap → LogEnd → (ℕ → Option Description) → State → Root → ℕ → Type 0
-OnceCovered m kept inodes map log table s root slot =
-    (serves : IsServing m kept root slot inodes map log table s) × (serves.bodies ≡ no_bodies) × (serves.first ≡ serves.running)
+abbrev OnceCovered : Meaning → BTreeMap ℕ Block → InodeFile → BlockMap → LogEnd → ℕ → (ℕ → Option Description) → State → Root → ℕ → Type 0
+OnceCovered m kept inodes map log pledged table s root slot =
+    (serves : IsServing m kept root slot inodes map log pledged table s) × (serves.bodies ≡ no_bodies) × (serves.first ≡ serves.running)
 
 -- ---- what is planned
 
@@ -82,7 +82,7 @@ planned g c table s serves =
       point = subst (λ (n : ℕ). IsPoint f.root m.seen.disk (writes_of q.plan.blocks) n q.root serves.running) (sym slot)
           (of_ok r q (λ (x : Point). IsPoint f.root m.seen.disk (writes_of x.plan.blocks) c.other_slot-slot.result x.root serves.running) c.in-Ok.is
           (c.plan-map.ensures.point m.seen.disk serves.first serves.running serves.snapshots serves.shows
-          (points.plannable m f.blocks.kept f.root f.slot f.inodes f.map f.log table s serves here c.other_slot-slot.result c.in-Some.generation c.replace-map.result c.other_slot-slot.ensures epoch c.replace-map.ensures.value)));
+          (points.plannable m f.blocks.kept f.root f.slot f.inodes f.map f.log f.pledged table s serves here c.other_slot-slot.result c.in-Some.generation c.replace-map.result c.other_slot-slot.ensures epoch c.replace-map.ensures.value)));
     }
 
 pub plan-map-requires-clause-root : goal.plan-map-requires-clause-root
@@ -103,7 +103,7 @@ pub returns-in_default-clause-any_moment : goal.returns-in_default-clause-any_mo
 returns-in_default-clause-any_moment g c = λ table s serves.
     let f = c.args.self.now in
     let m = g.S.Station.meaning f.blocks.station in
-    started m (OpensTo m s) (served.all_open c.cuts_open.ensures m f.blocks.kept f.root f.slot f.inodes f.map f.log table s serves f.sectors f.half)
+    started m (OpensTo m s) (served.all_open c.cuts_open.ensures m f.blocks.kept f.root f.slot f.inodes f.map f.log f.pledged table s serves f.sectors f.half)
 
 pub returns-in_default-clause-last : goal.returns-in_default-clause-last
 returns-in_default-clause-last g c = λ table s serves is.
@@ -131,14 +131,14 @@ returns-in-Err-clause-any_moment g c = λ table s serves.
     let m = g.S.Station.meaning f.blocks.station in
     let reads = c.plan-map.ensures.reads.reads f.blocks (reads_none m) in
     leaves_unchanged m (g.S.Station.meaning c.plan-map.new.blocks.station) (OpensTo m s)
-    (served.all_open c.cuts_open.ensures m f.blocks.kept f.root f.slot f.inodes f.map f.log table s serves f.sectors f.half) reads.goes
+    (served.all_open c.cuts_open.ensures m f.blocks.kept f.root f.slot f.inodes f.map f.log f.pledged table s serves f.sectors f.half) reads.goes
 
 pub returns-in-Err-clause-refused : goal.returns-in-Err-clause-refused
 returns-in-Err-clause-refused g c = λ table s serves refused.
     let f = c.args.self.now in
     let m = g.S.Station.meaning f.blocks.station in
     let reads = c.plan-map.ensures.reads.reads f.blocks (reads_none m) in
-    served.read_on m f.blocks.kept f.root f.slot f.inodes f.map f.log table s serves (g.S.Station.meaning c.plan-map.new.blocks.station) c.plan-map.new.blocks.kept c.plan-map.result.0
+    served.read_on m f.blocks.kept f.root f.slot f.inodes f.map f.log f.pledged table s serves (g.S.Station.meaning c.plan-map.new.blocks.station) c.plan-map.new.blocks.kept c.plan-map.result.0
     reads c.plan-map.ensures.reads.same (λ b. c.plan-map.ensures.settled b ∙ ap (λ (x : BlockMap). settled_at x.parts.items b) c.replace-map.ensures.value)
 
 pub returns-in-Err-clause-damaged : goal.returns-in-Err-clause-damaged
@@ -149,7 +149,7 @@ returns-in-Err-clause-damaged g c = λ table s serves is.
     let epoch : c.in-Some.generation ≡ f.log.epoch = c.in-Some.ensures.value ∙ c.get.ensures ∙ c.epoch.ensures in
     let same : c.in-Err.error ≡ Damaged = cc in
     c.plan-map.ensures.damaged m.seen.disk serves.first serves.running serves.snapshots serves.shows
-    (points.plannable m f.blocks.kept f.root f.slot f.inodes f.map f.log table s serves here c.other_slot-slot.result c.in-Some.generation c.replace-map.result c.other_slot-slot.ensures epoch c.replace-map.ensures.value)
+    (points.plannable m f.blocks.kept f.root f.slot f.inodes f.map f.log f.pledged table s serves here c.other_slot-slot.result c.in-Some.generation c.replace-map.result c.other_slot-slot.ensures epoch c.replace-map.ensures.value)
     (c.in-Err.is ∙ ap Err same)
 
 pub invariant_of-self : goal.invariant_of-self
@@ -165,6 +165,7 @@ invariant_of-self g c =
       count = c.plan-map.ensures.count ∙ ap (λ (x : BlockMap). x.count) c.replace-map.ensures.value ∙ f.count;
       clean = of_err c.plan-map.result.1 c.in-Err.error (λ e. IsClean given) c.in-Err.is c.plan-map.ensures.given;
       fresh = of_err c.plan-map.result.1 c.in-Err.error (λ e. given.next ≡ 2) c.in-Err.is c.plan-map.ensures.next;
+      few = f.few;
       is_root = f.is_root;
     }
 
@@ -206,6 +207,7 @@ invariant_of-self-in-Err-carry_out g c =
       count = c.give_up.ensures.count ∙ c.plan-map.ensures.count ∙ ap (λ (x : BlockMap). x.count) c.replace-map.ensures.value ∙ f.count;
       clean = λ b. c.give_up.ensures.entries b ∙ sym (c.give_up.ensures.settled b);
       fresh = c.give_up.ensures.next;
+      few = f.few;
       is_root = f.is_root;
     }
 
@@ -228,7 +230,7 @@ returns-in-Err-carry_out-clause-any_moment g c = λ table s serves.
     let m = g.S.Station.meaning f.blocks.station in
     let reads = c.plan-map.ensures.reads.reads f.blocks (reads_none m) in
     let here = g.met.S.Station.seen_may_be_left f.blocks.station serves.honest in
-    points.at_any_moment c.cuts_open.ensures m f.blocks.kept f.root f.slot f.inodes f.map f.log table s serves f.sectors f.half c.in-Ok.point.plan c.in-Ok.point.root
+    points.at_any_moment c.cuts_open.ensures m f.blocks.kept f.root f.slot f.inodes f.map f.log f.pledged table s serves f.sectors f.half c.in-Ok.point.plan c.in-Ok.point.root
     (planned g (goal.at.returns-in-Err-carry_out-clause-any_moment g c).In-Ok table s serves) here (g.met.S.Station.sized f.blocks.station serves.honest m.seen here).sector
     (g.S.Station.meaning c.plan-map.new.blocks.station) (g.S.Station.meaning c.carry_out.new.buffers.station) reads.goes c.carry_out.ensures.any_moment
 
@@ -237,8 +239,8 @@ returns-in-Err-carry_out-clause-refused g c = λ table s serves refused.
     let f = c.args.self.now in
     let m = g.S.Station.meaning f.blocks.station in
     let reads = c.plan-map.ensures.reads.reads f.blocks (reads_none m) in
-    subst (λ (b : Buffers g.row.S.Denot). IsServing (g.S.Station.meaning b.station) b.kept f.root f.slot f.inodes c.give_up.new.self f.log table s) (sym (c.in-Err-carry_out.ensures.refused refused))
-    (served.read_on m f.blocks.kept f.root f.slot f.inodes f.map f.log table s serves (g.S.Station.meaning c.plan-map.new.blocks.station) c.plan-map.new.blocks.kept c.give_up.new.self
+    subst (λ (b : Buffers g.row.S.Denot). IsServing (g.S.Station.meaning b.station) b.kept f.root f.slot f.inodes c.give_up.new.self f.log f.pledged table s) (sym (c.in-Err-carry_out.ensures.refused refused))
+    (served.read_on m f.blocks.kept f.root f.slot f.inodes f.map f.log f.pledged table s serves (g.S.Station.meaning c.plan-map.new.blocks.station) c.plan-map.new.blocks.kept c.give_up.new.self
     reads c.plan-map.ensures.reads.same
     (λ b. c.give_up.ensures.settled b ∙ c.plan-map.ensures.settled b ∙ ap (λ (x : BlockMap). settled_at x.parts.items b) c.replace-map.ensures.value))
 
@@ -270,6 +272,7 @@ invariant_of-self-in-Ok-carry_out g c =
       count = c.settle.ensures.count ∙ c.plan-map.ensures.count ∙ ap (λ (x : BlockMap). x.count) c.replace-map.ensures.value ∙ f.count ∙ ap (λ (x : Sizes). x.blocks) (sym sizes);
       clean = λ b. c.settle.ensures.entries b ∙ sym (c.settle.ensures.settled b);
       fresh = c.settle.ensures.next;
+      few = omega arith;
       is_root = subst IsRoot (sym root) (of_ok c.plan-map.result.1 c.in-Ok.point (λ (x : Point). IsRoot x.root) c.in-Ok.is c.plan-map.ensures.root);
     }
 
@@ -302,7 +305,7 @@ returns-in-Ok-carry_out-clause-any_moment g c = λ table s serves.
     let m = g.S.Station.meaning f.blocks.station in
     let reads = c.plan-map.ensures.reads.reads f.blocks (reads_none m) in
     let here = g.met.S.Station.seen_may_be_left f.blocks.station serves.honest in
-    points.at_any_moment c.cuts_open.ensures m f.blocks.kept f.root f.slot f.inodes f.map f.log table s serves f.sectors f.half c.in-Ok.point.plan c.in-Ok.point.root
+    points.at_any_moment c.cuts_open.ensures m f.blocks.kept f.root f.slot f.inodes f.map f.log f.pledged table s serves f.sectors f.half c.in-Ok.point.plan c.in-Ok.point.root
     (planned g (goal.at.returns-in-Ok-carry_out-clause-any_moment g c).In-Ok table s serves) here (g.met.S.Station.sized f.blocks.station serves.honest m.seen here).sector
     (g.S.Station.meaning c.plan-map.new.blocks.station) (g.S.Station.meaning c.carry_out.new.buffers.station) reads.goes c.carry_out.ensures.any_moment
 
@@ -326,32 +329,32 @@ returns-in-Ok-carry_out-clause-covered g c = λ table s serves.
     let whole : AreWhole m.sectors now.seen.disk = λ n low. has.whole n (sizes n low) in
     let cuts = c.cuts_open.ensures in
     let laws = c.new_roots_hold.ensures in
-    let images = points.with_root cuts m f.blocks.kept f.root f.slot f.inodes f.map f.log table s serves f.sectors f.half p new plan here sizes now.seen has in
-    let open_now = points.reads cuts m f.blocks.kept f.root f.slot f.inodes f.map f.log table s serves f.sectors f.half p new plan here sizes in
+    let images = points.with_root cuts m f.blocks.kept f.root f.slot f.inodes f.map f.log f.pledged table s serves f.sectors f.half p new plan here sizes now.seen has in
+    let open_now = points.reads cuts m f.blocks.kept f.root f.slot f.inodes f.map f.log f.pledged table s serves f.sectors f.half p new plan here sizes in
     let newest = laws.newest m.sectors m.seen.disk now.seen.disk m.seen.nvram s (writes_of p.blocks) p.slot new serves.running open_now plan.point images in
     let holds = laws.holds m.sectors m.seen.disk now.seen.disk m.seen.nvram s (writes_of p.blocks) p.slot new serves.running open_now plan.point images in
     let epoch : c.in-Some.generation ≡ f.log.epoch = c.in-Some.ensures.value ∙ c.get.ensures ∙ c.epoch.ensures in
-    let plannable = points.plannable m f.blocks.kept f.root f.slot f.inodes f.map f.log table s serves here c.other_slot-slot.result c.in-Some.generation c.replace-map.result c.other_slot-slot.ensures epoch
+    let plannable = points.plannable m f.blocks.kept f.root f.slot f.inodes f.map f.log f.pledged table s serves here c.other_slot-slot.result c.in-Some.generation c.replace-map.result c.other_slot-slot.ensures epoch
     c.replace-map.ensures.value in
     let entries : (b : ℕ) → settled_at c.settle.new.self.parts.items b ≡ entry (roots.whole (blocks_of now.seen.disk) new).active b = λ b.
     c.settle.ensures.settled b ∙ sym (of_ok c.plan-map.result.1 c.in-Ok.point (λ (x : Point). PlansEntries (blocks_of m.seen.disk) f.root x.plan x.root c.plan-map.result.0) c.in-Ok.is
     (c.plan-map.ensures.entries m.seen.disk serves.first serves.running serves.snapshots serves.shows plannable) (blocks_of now.seen.disk)
-    (settled.has_all laws m f.blocks.kept f.root f.slot f.inodes f.map f.log table s serves f.sectors p new plan now whole has images)
-    (settled.agrees laws m f.blocks.kept f.root f.slot f.inodes f.map f.log table s serves f.sectors p new plan now whole has images) b) in
-    let memory = settled.memory laws m f.blocks.kept f.root f.slot f.inodes f.map f.log table s serves f.sectors p new plan now whole has images holds
+    (settled.has_all laws m f.blocks.kept f.root f.slot f.inodes f.map f.log f.pledged table s serves f.sectors p new plan now whole has images)
+    (settled.agrees laws m f.blocks.kept f.root f.slot f.inodes f.map f.log f.pledged table s serves f.sectors p new plan now whole has images) b) in
+    let memory = settled.memory laws m f.blocks.kept f.root f.slot f.inodes f.map f.log f.pledged table s serves f.sectors p new plan now whole has images holds
     c.in-Ok-carry_out.file c.settle-in-Ok-carry_out.new.self c.settle.new.self f.sizes c.in-Ok-carry_out.ensures.file c.settle-in-Ok-carry_out.ensures.volume entries in
-    let shown = settled.shows laws m f.blocks.kept f.root f.slot f.inodes f.map f.log table s serves f.sectors p new plan now whole has images kept same.sectors
+    let shown = settled.shows laws m f.blocks.kept f.root f.slot f.inodes f.map f.log f.pledged table s serves f.sectors p new plan now whole has images kept same.sectors
     (c.in-Ok-carry_out.ensures.shows (blocks_of m.seen.disk) (c.plan-map.ensures.reads.same (blocks_of m.seen.disk) serves.shows)) in
     let stands = c.go_on.ensures.covered f.root.generation serves.bodies m.seen.nvram (omega (arith, f.is_root.head.last)) (c.epoch_after.ensures ∙ ap (λ (n : ℕ). n + 1) epoch)
     (serves.left serves.honest m.seen here).log_stands in
     let goes = subst (λ (l : LogEnd). IsFalse l.is_stopped) (sym c.go_on.ensures.end) serves.goes in
-    let done : OnceCovered now kept c.settle-in-Ok-carry_out.new.self c.settle.new.self c.go_on.new.self table s new p.slot = (
-      settled.settled laws m f.blocks.kept f.root f.slot f.inodes f.map f.log table s serves f.sectors p new plan now whole has images holds
+    let done : OnceCovered now kept c.settle-in-Ok-carry_out.new.self c.settle.new.self c.go_on.new.self 0 table s new p.slot = (
+      settled.settled laws m f.blocks.kept f.root f.slot f.inodes f.map f.log f.pledged table s serves f.sectors p new plan now whole has images holds
           kept c.settle-in-Ok-carry_out.new.self c.settle.new.self c.go_on.new.self honest c.in-Ok-carry_out.ensures.just shown newest stands goes memory,
       refl {a = no_bodies},
       refl {a = serves.running},
     ) in
     let slot : p.slot ≡ c.other_slot-slot.result = of_ok c.plan-map.result.1 c.in-Ok.point (λ (x : Point). x.plan.slot ≡ c.other_slot-slot.result) c.in-Ok.is c.plan-map.ensures.slot in
-    let there = subst (λ (r : Root). OnceCovered now kept c.settle-in-Ok-carry_out.new.self c.settle.new.self c.go_on.new.self table s r c.other_slot-slot.result) (sym c.in-Ok-carry_out.ensures.root)
-    (subst (OnceCovered now kept c.settle-in-Ok-carry_out.new.self c.settle.new.self c.go_on.new.self table s new) slot done) in
+    let there = subst (λ (r : Root). OnceCovered now kept c.settle-in-Ok-carry_out.new.self c.settle.new.self c.go_on.new.self 0 table s r c.other_slot-slot.result) (sym c.in-Ok-carry_out.ensures.root)
+    (subst (OnceCovered now kept c.settle-in-Ok-carry_out.new.self c.settle.new.self c.go_on.new.self 0 table s new) slot done) in
     record { serves = there.0; no_record = there.1; held = there.2 }

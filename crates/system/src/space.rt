@@ -1,0 +1,53 @@
+//! The room of the disk of a mounted system.
+
+ghost use Rattle.std.specs.Prelude.{◌≡◌, ℕ, Bool, Option, IsTrue};
+ghost use Rattle.layout.specs.Places.{blocks_of};
+ghost use Rattle.model.specs.Records as records;
+ghost use Rattle.model.specs.Records.{TellsRoom};
+ghost use Rattle.model.specs.States.{State};
+ghost use Rattle.model.specs.Trees.{Description};
+ghost use Rattle.images.specs.Roots.{whole};
+ghost use Rattle.system.specs.Room.{free_under};
+ghost use Rattle.system.specs.Systems.{Serves, meaning_of};
+
+use crate::System;
+use station::Station;
+
+/// The room of a disk, in blocks.
+#[derive(Clone, Copy, Debug, PartialEq, Eq)]
+pub struct Space {
+    /// All blocks of the disk.
+    pub blocks: u32,
+    /// Those that are free under the newest root.
+    pub free: u32,
+    /// Those that a consistency point may store for what that root doesn't cover.
+    pub pledged: u64,
+}
+
+impl<S: Station> System<S> {
+    /// The room of the disk, with no device call.
+    pub fn space(&self) -> Space
+        ensures blocks { result.blocks ≡ self.now.root.geometry.blocks }
+        ensures free { (table : ℕ → Option Description) (s : State) → Serves self.now table s
+            → let disk = blocks_of (meaning_of self.now).seen.disk in
+            result.free
+            ≡ free_under (whole disk self.now.root).active self.now.root.geometry.blocks }
+        ensures told { (table : ℕ → Option Description) (s : State)
+            → (serves : Serves self.now table s) → (covered : Bool)
+            → (IsTrue covered
+            → records.IsCovered serves.first serves.running serves.replayed.changes)
+            → TellsRoom self.now.root.geometry.inodes serves.first serves.running
+            serves.replayed.changes (record {
+              blocks = result.blocks;
+              free = result.free;
+              pledged = result.pledged;
+              is_covered = covered;
+            }) }
+    {
+        Space {
+            blocks: self.map.count(),
+            free: self.map.free_count(),
+            pledged: self.pledged,
+        }
+    }
+}
