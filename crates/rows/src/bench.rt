@@ -112,7 +112,7 @@ impl<'a> Bench<'a> {
         let Ok(sim) = Sim::load(self.alloc, disk, nvram) else {
             return Ok(false);
         };
-        let Ok(sim) = make(sim, blocks, inodes, half) else {
+        let Ok(sim) = make(self.alloc, sim, blocks, inodes, half) else {
             return Ok(false);
         };
         let (disk, nvram) = sim.images();

@@ -41,6 +41,7 @@ list_only : (t : List ℕ) (c : Command) → IsBytes t → IsCommand c → codes
 list_only t (command.Path (call.List p)) bytes good e = ap (λ q. command.Path (call.List q)) (text_word-unique t p bytes good (grind (arith, e)))
 list_only t (command.Path (call.Mkdir p m)) bytes good e = absurd (grind (arith, e))
 list_only t command.Sync bytes good e = absurd (grind (arith, e))
+list_only t command.Df bytes good e = absurd (grind (arith, e))
 list_only t c bytes good e = absurd good
 
 mkdir_only : (t : List ℕ) (m : ℕ) (c : Command) → IsBytes t → IsCommand c → codes "mkdir" ∷ text_word t ∷ mode_words 493 m ≡ command_words c → command.Path (call.Mkdir t m) ≡ c
@@ -52,16 +53,26 @@ mkdir_only t m (command.Path (call.Mkdir p n)) bytes good e =
     let mode = mode_words-unique m n modes in
     ap (λ q. command.Path (call.Mkdir q m)) same ∙ ap (λ k. command.Path (call.Mkdir p k)) mode
 mkdir_only t m command.Sync bytes good e = absurd (grind (arith, e))
+mkdir_only t m command.Df bytes good e = absurd (grind (arith, e))
 mkdir_only t m c bytes good e = absurd good
 
 sync_only : (fields : List (List ℕ)) (c : Command) → IsCommand c → codes "sync" ∷ fields ≡ command_words c → (fields ≡ []) × (command.Sync ≡ c)
 sync_only fields (command.Path (call.List p)) good e = absurd (grind (arith, e))
 sync_only fields (command.Path (call.Mkdir p m)) good e = absurd (grind (arith, e))
 sync_only fields command.Sync good e = (grind (arith, e), refl)
+sync_only fields command.Df good e = absurd (grind (arith, e))
 sync_only fields c good e = absurd good
+
+df_only : (fields : List (List ℕ)) (c : Command) → IsCommand c → codes "df" ∷ fields ≡ command_words c → (fields ≡ []) × (command.Df ≡ c)
+df_only fields (command.Path (call.List p)) good e = absurd (grind (arith, e))
+df_only fields (command.Path (call.Mkdir p m)) good e = absurd (grind (arith, e))
+df_only fields command.Sync good e = absurd (grind (arith, e))
+df_only fields command.Df good e = (grind (arith, e), refl)
+df_only fields c good e = absurd good
 
 alone_only : (lone : Command) (fields : List (List ℕ)) (c : Command) → IsAlone lone → IsCommand c → command_words lone ++ fields ≡ command_words c → (fields ≡ []) × (lone ≡ c)
 alone_only command.Sync fields c alone good e = sync_only fields c good e
+alone_only command.Df fields c alone good e = df_only fields c good e
 alone_only lone fields c alone good e = absurd alone
 
 -- `list` and a text's word
@@ -90,6 +101,7 @@ reads_alone v [] lone alone none = record {
   where
     is_command : (c : Command) → IsAlone c → IsCommand c
     is_command command.Sync alone = tt
+    is_command command.Df alone = tt
     is_command c alone = absurd alone
 reads_alone v (x ∷ xs) lone alone none = absurd (omega (arith, none))
 
@@ -117,6 +129,7 @@ reads_none v (x ∷ xs) d some none = record {
     begins v x xs (command.Path (call.List p)) good none e = none verb.List (grind (arith, e))
     begins v x xs (command.Path (call.Mkdir p m)) good none e = none verb.Mkdir (grind (arith, e))
     begins v x xs command.Sync good none e = none verb.Sync (grind (arith, e))
+    begins v x xs command.Df good none e = none verb.Df (grind (arith, e))
     begins v x xs c good none e = good
 
 -- `mkdir` with one field
@@ -128,6 +141,7 @@ is_served : (c : Command) → IsCommand c → IsServed c
 is_served (command.Path (call.List p)) good = tt
 is_served (command.Path (call.Mkdir p m)) good = tt
 is_served command.Sync good = tt
+is_served command.Df good = tt
 is_served c good = absurd good
 
 pub all_served : (r : Result Command ScriptError) → IfOk r IsCommand → IfOk r IsServed

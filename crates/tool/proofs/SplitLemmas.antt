@@ -68,6 +68,7 @@ command_has_words : (c : Command) → AreWords (command_words c)
 command_has_words (command.Path (call.List p)) = (letters_are_word (codes "list") refl, (text_is_word p, tt))
 command_has_words (command.Path (call.Mkdir p m)) = (letters_are_word (codes "mkdir") refl, (text_is_word p, modes_are_words m))
 command_has_words command.Sync = (letters_are_word (codes "sync") refl, tt)
+command_has_words command.Df = (letters_are_word (codes "df") refl, tt)
 command_has_words c = tt
 
 -- a line is cut at its spaces into its words
@@ -89,6 +90,7 @@ pub parts_of_command : (c : Command) → IsCommand c → slice_split (λ b. eqb 
 parts_of_command (command.Path (call.List p)) good = split_line _ _ (command_has_words (command.Path (call.List p)))
 parts_of_command (command.Path (call.Mkdir p m)) good = split_line _ _ (command_has_words (command.Path (call.Mkdir p m)))
 parts_of_command command.Sync good = split_line _ _ (command_has_words command.Sync)
+parts_of_command command.Df good = split_line _ _ (command_has_words command.Df)
 parts_of_command c good = absurd good
 
 -- where the parts of a line are a command's words, the line is its line

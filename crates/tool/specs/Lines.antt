@@ -36,6 +36,7 @@ abbrev pub command_words : Command → List (List ℕ)
 command_words (command.Path (call.List path)) = codes "list" ∷ text_word path ∷ []
 command_words (command.Path (call.Mkdir path mode)) = codes "mkdir" ∷ text_word path ∷ mode_words 0o755 mode
 command_words command.Sync = codes "sync" ∷ []
+command_words command.Df = codes "df" ∷ []
 command_words c = []
 
 -- a command's line
@@ -45,6 +46,7 @@ command_line c = line_of (command_words c)
 -- a command of one word
 abbrev pub IsAlone : Command → Type 0
 IsAlone command.Sync = Unit {0}
+IsAlone command.Df = Unit {0}
 IsAlone c = ⊥
 
 -- a command is served, its texts are bytes, and its mode is one
@@ -58,6 +60,7 @@ abbrev pub verb_name : Verb → List ℕ
 verb_name verb.List = codes "list"
 verb_name verb.Mkdir = codes "mkdir"
 verb_name verb.Sync = codes "sync"
+verb_name verb.Df = codes "df"
 
 -- words are read as the command that they spell, and as none where they spell none, but for memory
 pub record ReadsWords (words : List (List ℕ)) (result : Result Command ScriptError) : Type 0 where

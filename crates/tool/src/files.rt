@@ -208,12 +208,13 @@ pub fn make_image<'a, R: Files + AllocGlobal>(
         return Err(FileError::Make(MakeError::BadSize));
     };
     let (new, disk_file, nvram_file) = Replacement::begin(rt, disk, nvram)?;
-    let made = make_on(disk, nvram, disk_file, nvram_file, geometry);
+    let made = make_on(rt.alloc(), disk, nvram, disk_file, nvram_file, geometry);
     new.settle(rt, made)
 }
 
 /// Makes an empty image on two empty files, and syncs them.
 fn make_on<'a, F: Read + Write + Seek + OpenFile + Drop>(
+    alloc: Global,
     disk: &'a str,
     nvram: &'a str,
     disk_file: F,
@@ -227,6 +228,7 @@ fn make_on<'a, F: Read + Write + Seek + OpenFile + Drop>(
         Err(error) => return Err(FileError::Size { disk, nvram, error }),
     };
     match make(
+        alloc,
         station,
         geometry.blocks(),
         geometry.inodes(),

@@ -33,6 +33,11 @@ pub enum Line<'a> {
         script: &'a str,
         faults: RunFaults<'a>,
     },
+    /// `wafl df DISK NVRAM`: mounts the image and tells the room of its disk.
+    Df {
+        disk: &'a str,
+        nvram: &'a str,
+    },
     /// `--help` and the like: this text is asked for.
     Help(String),
 }
@@ -100,6 +105,7 @@ pub fn read_line<'a, S: AsStr>(alloc: Global, words: &'a [S]) -> Result<Line<'a>
     let line = match matches.subcommand() {
         Some(("make", made)) => make_line(made),
         Some(("run", run)) => run_line(run),
+        Some(("df", df)) => df_line(df),
         _ => None,
     };
     match line {
@@ -148,6 +154,13 @@ fn run_line<'a>(matches: &ArgMatches<'a>) -> Option<Line<'a>> {
             bytes: matches.get_one::<u32>("bytes")?,
             fail_sync: matches.get_one::<u32>("fail-sync"),
         },
+    })
+}
+
+fn df_line<'a>(matches: &ArgMatches<'a>) -> Option<Line<'a>> {
+    Some(Line::Df {
+        disk: matches.get_str("disk")?,
+        nvram: matches.get_str("nvram")?,
     })
 }
 

@@ -76,6 +76,7 @@ pub fn write_command(alloc: Global, command: &Command) -> Result<Vec<u8>, Script
             push_mode(&mut line, *mode, Mode::NEW_DIRECTORY)?;
         }
         Command::Sync => line.extend_from_slice(b"sync")?,
+        Command::Df => line.extend_from_slice(b"df")?,
         _ => unreachable!(),
     }
     Ok(line)

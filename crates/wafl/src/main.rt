@@ -6,7 +6,7 @@ ghost use Rattle.wafl.specs.Words.{refusal_status};
 
 mod run;
 
-use run::{run_in_memory, run_on_files};
+use run::{run_in_memory, run_on_files, show_room};
 use std::process::ExitCode;
 use std::{env, io};
 use tool::files::{FileError, make_image};
@@ -83,6 +83,7 @@ fn obey_line(rt: &HostRuntime, line: &Line<'_>) -> u8 {
             script,
             faults,
         } => run_in_memory(rt, disk, nvram, script, *faults),
+        Line::Df { disk, nvram } => show_room(rt, disk, nvram),
     }
 }
 

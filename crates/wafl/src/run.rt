@@ -12,10 +12,19 @@ use tool::{Kept, RunFaults, Status};
 
 /// Runs a script on the image's files.
 pub fn run_on_files(rt: &HostRuntime, disk: &str, nvram: &str, script: &str) -> u8 {
-    let script = match read_script(rt, script) {
-        Ok(script) => script,
-        Err(error) => return tell(rt, &error).number(),
-    };
+    match read_script(rt, script) {
+        Ok(script) => run_bytes(rt, disk, nvram, script.as_slice()),
+        Err(error) => tell(rt, &error).number(),
+    }
+}
+
+/// Tells the room of the image's disk.
+pub fn show_room(rt: &HostRuntime, disk: &str, nvram: &str) -> u8 {
+    run_bytes(rt, disk, nvram, b"df\n")
+}
+
+/// Runs a script's bytes on the image's files.
+fn run_bytes(rt: &HostRuntime, disk: &str, nvram: &str, script: &[u8]) -> u8 {
     let station = match open_station(rt, disk, nvram) {
         Ok(station) => station,
         Err(error) => return tell(rt, &error).number(),
@@ -23,7 +32,7 @@ pub fn run_on_files(rt: &HostRuntime, disk: &str, nvram: &str, script: &str) -> 
     let (status, _station) = session(
         rt.alloc(),
         station,
-        script.as_slice(),
+        script,
         |_| false,
         &mut rt.stdout(),
         &mut rt.stderr(),

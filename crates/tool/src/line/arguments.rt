@@ -12,7 +12,8 @@ pub(super) fn wafl_command<'a>(alloc: Global) -> Result<Command<'a>, AllocError>
         )
         .subcommand_required(true)
         .subcommand(make_command(alloc)?)?
-        .subcommand(run_command(alloc)?)
+        .subcommand(run_command(alloc)?)?
+        .subcommand(df_command(alloc)?)
 }
 
 fn make_command<'a>(alloc: Global) -> Result<Command<'a>, AllocError> {
@@ -44,7 +45,7 @@ fn run_command<'a>(alloc: Global) -> Result<Command<'a>, AllocError> {
     Command::new(alloc, "run")
         .about("Mount an image and run a script: one command a line, one reply a line")
         .after_help(
-            "Commands: list PATH, mkdir PATH [MODE], sync, as in list / and mkdir /a 0700.\n\nExamples:\n  wafl run disk nvram script\n  wafl run disk nvram - --cut 5 --bytes 1 < script",
+            "Commands: list PATH, mkdir PATH [MODE], sync, df, as in list / and mkdir /a 0700.\n\nExamples:\n  wafl run disk nvram script\n  wafl run disk nvram - --cut 5 --bytes 1 < script",
         )
         .arg(place(alloc, "disk", "DISK").help("The disk's file"))?
         .arg(place(alloc, "nvram", "NVRAM").help("The NVRAM's file"))?
@@ -67,6 +68,16 @@ fn run_command<'a>(alloc: Global) -> Result<Command<'a>, AllocError> {
         .arg(count(alloc, "fail-sync").help(
             "Let sync N of this run fail, from 1, which mounting makes, as in --fail-sync 2",
         ))
+}
+
+fn df_command<'a>(alloc: Global) -> Result<Command<'a>, AllocError> {
+    Command::new(alloc, "df")
+        .about("Mount an image and tell the room of its disk")
+        .after_help(
+            "Prints the disk's blocks, those that are free, and those that are pledged for what the newest root doesn't hold. The image stays as it is.\n\nExample:\n  wafl df disk nvram",
+        )
+        .arg(place(alloc, "disk", "DISK").help("The disk's file"))?
+        .arg(place(alloc, "nvram", "NVRAM").help("The NVRAM's file"))
 }
 
 fn cut_option<'a>(alloc: Global) -> Arg<'a> {

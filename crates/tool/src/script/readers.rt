@@ -15,6 +15,7 @@ enum Verb {
     List,
     Mkdir,
     Sync,
+    Df,
 }
 
 /// The command that words spell.
@@ -28,6 +29,7 @@ pub(super) fn read_words(alloc: Global, words: &[&[u8]]) -> Result<Command, Scri
         Some(Verb::List) => read_list(alloc, fields),
         Some(Verb::Mkdir) => read_mkdir(alloc, fields),
         Some(Verb::Sync) => read_alone(Command::Sync, fields),
+        Some(Verb::Df) => read_alone(Command::Df, fields),
         None => Err(ScriptError::NotACommand),
     }
 }
@@ -40,6 +42,7 @@ fn read_verb(word: &[u8]) -> Option<Verb>
         b"list" => Some(Verb::List),
         b"mkdir" => Some(Verb::Mkdir),
         b"sync" => Some(Verb::Sync),
+        b"df" => Some(Verb::Df),
         _ => None,
     }
 }
