@@ -1,20 +1,19 @@
-//! Runs rows on files, directories and inodes over a station in memory. A row is a line of the input with the answer that it is
-//! to have behind ` -> `, or `ok`. The rows from a line `group NAME` on are a group: it begins with a disk of zeros up to block
-//! 7, block b from there on full of the letter with the code 65 + b % 26, an empty file, two empty directories, `a` and `b`, and
-//! no object. The program names each row with another answer, and tells how many of a group's rows answered as they are to.
+//! Runs rows on a file and a directory over a station in memory: what reading costs in calls of the device, and what comes of a
+//! call that fails. A row is a line of the input with the answer that it is to have behind ` -> `, or `ok`. The rows from a line
+//! `group NAME` on are a group: it begins with a disk of zeros up to block 7, block b from there on full of the letter with the
+//! code 65 + b % 26, an empty file and an empty directory. The program names each row with another answer, and tells how many of a group's rows answered as they are to.
 //! Lines with `#` first, and empty ones, say nothing.
 //!
 //!     put BLOCK OFFSET HEX    these bytes lie on the disk
 //!     fail N                  device call N from the last `put` on, counted from 1, is to fail
 //!
-//! The rows on the file are told in `file_row`, those on directories in `directory_row`, those on inodes in `inode_row`.
+//! The rows on the file are told in `file_row`, those on the directory in `directory_row`.
 #![tactic(auto)]
 
 mod bodies;
 mod directory_row;
 mod disk;
 mod file_row;
-mod inode_row;
 mod world;
 
 use std::alloc::{AllocError, Global};

@@ -1,10 +1,9 @@
 //! What the rows of a group are about.
 
 use crate::bodies::inline_inode;
-use crate::directory_row::{Directories, directory_row};
+use crate::directory_row::directory_row;
 use crate::disk::{made_disk, station_of};
 use crate::file_row::file_row;
-use crate::inode_row::{Inodes, inode_row};
 use buffers::Buffers;
 use inode::File;
 use layout::Kind;
@@ -17,8 +16,7 @@ pub struct World {
     disk: Vec<u8>,
     buffers: Buffers<Sim>,
     file: File,
-    directories: Directories,
-    inodes: Option<Inodes>,
+    directory: File,
 }
 
 impl World {
@@ -30,8 +28,7 @@ impl World {
             disk,
             buffers,
             file: File::load(alloc, inline_inode(Kind::File, ""))?,
-            directories: Directories::new(alloc)?,
-            inodes: None,
+            directory: File::load(alloc, inline_inode(Kind::Directory, ""))?,
         })
     }
 
@@ -51,20 +48,7 @@ impl World {
             "pointers" | "inline" | "read" | "write" | "size" => {
                 file_row(alloc, &mut self.buffers, &mut self.file, word, rest)
             }
-            "directory"
-            | "find"
-            | "list"
-            | "add"
-            | "remove"
-            | "rename"
-            | "prepare"
-            | "fill"
-            | "found"
-            | "clear"
-            | "names" => {
-                directory_row(alloc, &mut self.buffers, &mut self.directories, word, rest)
-            }
-            _ => inode_row(alloc, &mut self.buffers, &mut self.inodes, word, rest),
+            _ => directory_row(alloc, &mut self.buffers, &mut self.directory, word, rest),
         };
         Ok(answer?)
     }
