@@ -1,0 +1,7 @@
+pub mod CommandLemmas
+pub mod DataLemmas
+pub mod LineLemmas
+pub mod NumberLemmas
+pub mod UniqueLemmas
+pub mod VerbLemmas
+pub mod WordLemmas

@@ -1,0 +1,102 @@
+-- The first words of commands, and the fields behind each.
+use Rattle.std.specs.Prelude.{ℕ, Bool, true, false, List, codes}
+use Rattle.script.specs.declared.verb.Verb.{Verb}
+use Rattle.script.specs.declared.verb.Verb.TheVariants as verb
+use Rattle.script.specs.Forms.{end, field, last_mode, none, Form}
+use Rattle.script.specs.Forms as form
+
+abbrev pub verb_name : Verb → List ℕ
+verb_name verb.List = codes "list"
+verb_name verb.Stat = codes "stat"
+verb_name verb.Lstat = codes "lstat"
+verb_name verb.Readlink = codes "readlink"
+verb_name verb.Get = codes "get"
+verb_name verb.Mkdir = codes "mkdir"
+verb_name verb.Rmdir = codes "rmdir"
+verb_name verb.Unlink = codes "unlink"
+verb_name verb.Link = codes "link"
+verb_name verb.Symlink = codes "symlink"
+verb_name verb.Rename = codes "rename"
+verb_name verb.Chmod = codes "chmod"
+verb_name verb.Truncate = codes "truncate"
+verb_name verb.Open = codes "open"
+verb_name verb.Close = codes "close"
+verb_name verb.Read = codes "read"
+verb_name verb.Write = codes "write"
+verb_name verb.Pread = codes "pread"
+verb_name verb.Pwrite = codes "pwrite"
+verb_name verb.Lseek = codes "lseek"
+verb_name verb.Ftruncate = codes "ftruncate"
+verb_name verb.Fstat = codes "fstat"
+verb_name verb.Fsync = codes "fsync"
+verb_name verb.Sync = codes "sync"
+verb_name verb.Df = codes "df"
+verb_name verb.Snap = codes "snap"
+verb_name verb.Take = codes "take"
+verb_name verb.Delete = codes "delete"
+verb_name verb.In = codes "in"
+
+-- a call that names a path begins with it
+abbrev pub is_call : Verb → Bool
+is_call verb.List = true
+is_call verb.Stat = true
+is_call verb.Lstat = true
+is_call verb.Readlink = true
+is_call verb.Get = true
+is_call verb.Mkdir = true
+is_call verb.Rmdir = true
+is_call verb.Unlink = true
+is_call verb.Link = true
+is_call verb.Symlink = true
+is_call verb.Rename = true
+is_call verb.Chmod = true
+is_call verb.Truncate = true
+is_call v = false
+
+-- the fields of a call that changes the tree; a new directory has mode 0755 unless another is written
+abbrev pub change_form : Verb → Form
+change_form verb.Mkdir = field form.text (last_mode 0o755)
+change_form verb.Rmdir = field form.text end
+change_form verb.Unlink = field form.text end
+change_form verb.Link = field form.text (field form.text end)
+change_form verb.Symlink = field form.text (field form.text end)
+change_form verb.Rename = field form.text (field form.text end)
+change_form verb.Chmod = field form.text (field form.mode end)
+change_form verb.Truncate = field form.text (field form.offset end)
+change_form v = none
+
+-- the fields of a call that names a path
+abbrev pub call_form : Verb → Form
+call_form verb.List = field form.text end
+call_form verb.Stat = field form.text end
+call_form verb.Lstat = field form.text end
+call_form verb.Readlink = field form.text end
+call_form verb.Get = field form.text (field form.offset (field form.count end))
+call_form v = change_form v
+
+-- the fields of a command that moves bytes of an open file, or its offset
+abbrev pub file_form : Verb → Form
+file_form verb.Read = field form.count (field form.count end)
+file_form verb.Write = field form.count (field form.bytes end)
+file_form verb.Pread = field form.count (field form.offset (field form.count end))
+file_form verb.Pwrite = field form.count (field form.offset (field form.bytes end))
+file_form verb.Lseek = field form.count (field form.whence (field form.offset end))
+file_form verb.Ftruncate = field form.count (field form.offset end)
+file_form v = none
+
+-- the fields of other commands; a new file has mode 0644 unless another is written
+abbrev pub command_form : Verb → Form
+command_form verb.Open = field form.text (field form.flags (last_mode 0o644))
+command_form verb.Close = field form.count end
+command_form verb.Fstat = field form.count end
+command_form verb.Fsync = field form.count end
+command_form verb.Sync = end
+command_form verb.Df = end
+command_form v = file_form v
+
+-- the fields behind `snap` and a second word
+abbrev pub snap_form : Verb → Form
+snap_form verb.Take = field form.text end
+snap_form verb.Delete = field form.text end
+snap_form verb.List = end
+snap_form v = none

@@ -1,0 +1,168 @@
+//! Reading a command from its words: the first says which it is, and the others are its fields in order.
+
+ghost use Rattle.std.specs.Prelude.{◌≡◌, ◌≢◌, ◌∷◌, [], map, IfOk, OnErr};
+ghost use Rattle.script.specs.Lines.{command_words, IsCommand};
+ghost use Rattle.script.specs.Readings.{ReadsFields, ReadsWords};
+ghost use Rattle.script.specs.Verbs.{command_form, file_form, verb_name};
+
+use crate::ScriptError;
+use crate::calls::{read_call, read_fields};
+use crate::fields::{Data, End, Fields, ModeOr, Then};
+use crate::verb::Verb;
+use crate::words::read_text;
+use model::{Command, Flags, Text};
+use std::alloc::Global;
+
+/// The command that words spell.
+pub(crate) fn read_words(alloc: Global, words: &[&[u8]]) -> Result<Command, ScriptError>
+    ensures { ReadsWords command_words IsCommand (map (λ word. word.now) words.now) result }
+{
+    let [first, fields @ ..] = words else {
+        return Err(ScriptError::NotACommand);
+    };
+    let Some(verb) = Verb::named(first) else {
+        return Err(ScriptError::NotACommand);
+    };
+    read_behind(alloc, verb, fields)
+}
+
+/// The command that a first word and those behind it spell.
+fn read_behind(alloc: Global, verb: Verb, words: &[&[u8]]) -> Result<Command, ScriptError>
+    ensures { ReadsWords command_words IsCommand
+        (verb_name verb ∷ map (λ word. word.now) words.now) result }
+{
+    if verb.is_call() {
+        return Ok(Command::Path(read_fields(alloc, verb, words)?));
+    }
+    match verb {
+        Verb::Snap => read_snap(alloc, words),
+        Verb::In => read_within(alloc, words),
+        _ => read_plain(alloc, verb, words),
+    }
+}
+
+/// `in`, a snapshot's name and a call that names a path.
+fn read_within(alloc: Global, words: &[&[u8]]) -> Result<Command, ScriptError>
+    ensures { ReadsWords command_words IsCommand
+        (verb_name Verb.In ∷ map (λ word. word.now) words.now) result }
+{
+    let [name, call @ ..] = words else {
+        return Err(ScriptError::NotACommand);
+    };
+    Ok(Command::Within {
+        name: read_text(alloc, name)?,
+        call: read_call(alloc, call)?,
+    })
+}
+
+/// `snap`, and which of its commands it is.
+fn read_snap(alloc: Global, words: &[&[u8]]) -> Result<Command, ScriptError>
+    ensures { ReadsWords command_words IsCommand
+        (verb_name Verb.Snap ∷ map (λ word. word.now) words.now) result }
+{
+    let [second, fields @ ..] = words else {
+        return Err(ScriptError::NotACommand);
+    };
+    let Some(verb) = Verb::named(second) else {
+        return Err(ScriptError::NotACommand);
+    };
+    read_snapping(alloc, verb, fields)
+}
+
+/// The command that `snap`, a second word and those behind it spell.
+fn read_snapping(alloc: Global, verb: Verb, words: &[&[u8]]) -> Result<Command, ScriptError>
+    ensures { ReadsWords command_words IsCommand
+        (verb_name Verb.Snap ∷ verb_name verb ∷ map (λ word. word.now) words.now) result }
+{
+    match verb {
+        Verb::Take => {
+            let Then(name, End) = Fields::read(alloc, words)?;
+            Ok(Command::SnapTake { name })
+        }
+        Verb::Delete => {
+            let Then(name, End) = Fields::read(alloc, words)?;
+            Ok(Command::SnapDelete { name })
+        }
+        Verb::List => read_alone(Command::SnapList, words),
+        _ => Err(ScriptError::NotACommand),
+    }
+}
+
+/// A command that has no fields.
+fn read_alone(command: Command, words: &[&[u8]]) -> Result<Command, ScriptError>
+    ensures read { IfOk result
+        (λ read. (read ≡ command) × (map (λ word. word.now) words.now ≡ [])) }
+    ensures refused { OnErr result (map (λ word. word.now) words.now ≢ []) }
+{
+    if words.is_empty() {
+        return Ok(command);
+    }
+    Err(ScriptError::NotACommand)
+}
+
+/// The command that a first word and its fields spell.
+fn read_plain(alloc: Global, verb: Verb, words: &[&[u8]]) -> Result<Command, ScriptError>
+    ensures { ReadsFields (command_form verb) command_words IsCommand (verb_name verb ∷ [])
+        (map (λ word. word.now) words.now) result }
+{
+    match verb {
+        Verb::Open => {
+            let Then(path, Then(flags, mode)): Then<Text, Then<Flags, ModeOr<0o644>>> =
+                Fields::read(alloc, words)?;
+            Ok(Command::Open {
+                path,
+                flags,
+                mode: mode.0,
+            })
+        }
+        Verb::Close => {
+            let Then(fd, End) = Fields::read(alloc, words)?;
+            Ok(Command::Close { fd })
+        }
+        Verb::Fstat => {
+            let Then(fd, End) = Fields::read(alloc, words)?;
+            Ok(Command::Fstat { fd })
+        }
+        Verb::Fsync => {
+            let Then(fd, End) = Fields::read(alloc, words)?;
+            Ok(Command::Fsync { fd })
+        }
+        Verb::Sync => read_alone(Command::Sync, words),
+        Verb::Df => read_alone(Command::Df, words),
+        _ => read_file(alloc, verb, words),
+    }
+}
+
+/// The command that a first word and its fields spell, one that moves bytes of an open file, or its offset.
+fn read_file(alloc: Global, verb: Verb, words: &[&[u8]]) -> Result<Command, ScriptError>
+    ensures { ReadsFields (file_form verb) command_words IsCommand (verb_name verb ∷ [])
+        (map (λ word. word.now) words.now) result }
+{
+    match verb {
+        Verb::Read => {
+            let Then(fd, Then(count, End)) = Fields::read(alloc, words)?;
+            Ok(Command::Read { fd, count })
+        }
+        Verb::Write => {
+            let Then(fd, Then(Data(data), End)) = Fields::read(alloc, words)?;
+            Ok(Command::Write { fd, data })
+        }
+        Verb::Pread => {
+            let Then(fd, Then(offset, Then(count, End))) = Fields::read(alloc, words)?;
+            Ok(Command::Pread { fd, offset, count })
+        }
+        Verb::Pwrite => {
+            let Then(fd, Then(offset, Then(Data(data), End))) = Fields::read(alloc, words)?;
+            Ok(Command::Pwrite { fd, offset, data })
+        }
+        Verb::Lseek => {
+            let Then(fd, Then(whence, Then(offset, End))) = Fields::read(alloc, words)?;
+            Ok(Command::Lseek { fd, whence, offset })
+        }
+        Verb::Ftruncate => {
+            let Then(fd, Then(size, End)) = Fields::read(alloc, words)?;
+            Ok(Command::Ftruncate { fd, size })
+        }
+        _ => Err(ScriptError::NotACommand),
+    }
+}

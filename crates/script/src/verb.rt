@@ -1,0 +1,150 @@
+//! The first words of commands.
+
+ghost use Rattle.std.specs.Prelude.{◌≡◌, ◌≢◌, All, IfSome, IfNone};
+ghost use Rattle.script.specs.Verbs.{is_call, verb_name};
+
+/// The first word of a command; of `snap`, the second one too.
+#[derive(Clone, Copy)]
+pub(crate) enum Verb {
+    List,
+    Stat,
+    Lstat,
+    Readlink,
+    Get,
+    Mkdir,
+    Rmdir,
+    Unlink,
+    Link,
+    Symlink,
+    Rename,
+    Chmod,
+    Truncate,
+    Open,
+    Close,
+    Read,
+    Write,
+    Pread,
+    Pwrite,
+    Lseek,
+    Ftruncate,
+    Fstat,
+    Fsync,
+    Sync,
+    Df,
+    Snap,
+    Take,
+    Delete,
+    In,
+}
+
+impl Verb {
+    const ALL: [Verb; 29] = [
+        Verb::List,
+        Verb::Stat,
+        Verb::Lstat,
+        Verb::Readlink,
+        Verb::Get,
+        Verb::Mkdir,
+        Verb::Rmdir,
+        Verb::Unlink,
+        Verb::Link,
+        Verb::Symlink,
+        Verb::Rename,
+        Verb::Chmod,
+        Verb::Truncate,
+        Verb::Open,
+        Verb::Close,
+        Verb::Read,
+        Verb::Write,
+        Verb::Pread,
+        Verb::Pwrite,
+        Verb::Lseek,
+        Verb::Ftruncate,
+        Verb::Fstat,
+        Verb::Fsync,
+        Verb::Sync,
+        Verb::Df,
+        Verb::Snap,
+        Verb::Take,
+        Verb::Delete,
+        Verb::In,
+    ];
+
+    /// The verb of this name.
+    pub(crate) fn named(word: &[u8]) -> Option<Verb>
+        ensures some { IfSome result (λ verb. word.now ≡ verb_name verb) }
+        ensures none { IfNone result ((verb : _) → word.now ≢ verb_name verb) }
+    {
+        Verb::find(&Verb::ALL, word)
+    }
+
+    fn find(verbs: &[Verb], word: &[u8]) -> Option<Verb>
+        ensures some { IfSome result (λ verb. word.now ≡ verb_name verb) }
+        ensures none { IfNone result (All (λ verb. word.now ≢ verb_name verb) verbs.now) }
+    {
+        for verb in verbs {
+            if verb.name() == word {
+                return Some(*verb);
+            }
+        }
+        None
+    }
+
+    /// Whether it begins a call that names a path.
+    pub(crate) fn is_call(self) -> bool
+        ensures { result ≡ is_call self }
+    {
+        matches!(
+            self,
+            Verb::List
+                | Verb::Stat
+                | Verb::Lstat
+                | Verb::Readlink
+                | Verb::Get
+                | Verb::Mkdir
+                | Verb::Rmdir
+                | Verb::Unlink
+                | Verb::Link
+                | Verb::Symlink
+                | Verb::Rename
+                | Verb::Chmod
+                | Verb::Truncate
+        )
+    }
+
+    pub(crate) fn name(self) -> &'static [u8]
+        ensures { result.now ≡ verb_name self }
+    {
+        match self {
+            Verb::List => b"list",
+            Verb::Stat => b"stat",
+            Verb::Lstat => b"lstat",
+            Verb::Readlink => b"readlink",
+            Verb::Get => b"get",
+            Verb::Mkdir => b"mkdir",
+            Verb::Rmdir => b"rmdir",
+            Verb::Unlink => b"unlink",
+            Verb::Link => b"link",
+            Verb::Symlink => b"symlink",
+            Verb::Rename => b"rename",
+            Verb::Chmod => b"chmod",
+            Verb::Truncate => b"truncate",
+            Verb::Open => b"open",
+            Verb::Close => b"close",
+            Verb::Read => b"read",
+            Verb::Write => b"write",
+            Verb::Pread => b"pread",
+            Verb::Pwrite => b"pwrite",
+            Verb::Lseek => b"lseek",
+            Verb::Ftruncate => b"ftruncate",
+            Verb::Fstat => b"fstat",
+            Verb::Fsync => b"fsync",
+            Verb::Sync => b"sync",
+            Verb::Df => b"df",
+            Verb::Snap => b"snap",
+            Verb::Take => b"take",
+            Verb::Delete => b"delete",
+            Verb::In => b"in",
+        }
+    }
+}

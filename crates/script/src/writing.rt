@@ -1,0 +1,137 @@
+//! The lines of commands.
+
+ghost use Rattle.std.specs.Prelude.{◌≡◌, ◌∷◌, ◌++◌, OnOk};
+ghost use Rattle.script.specs.Forms.{form_words};
+ghost use Rattle.script.specs.Lines.{call_words, command_line, line_of};
+ghost use Rattle.script.specs.Verbs.{verb_name};
+ghost use Rattle.script.specs.Words.{text_word, Adds};
+
+use crate::fields::{End, ModeOr, Then};
+use crate::spelling::{DataOf, SpelledFields, push_fields};
+use crate::verb::Verb;
+use crate::words::push_text;
+use model::{Command, PathCall, Text};
+use std::alloc::{AllocError, Global};
+
+/// Adds a command's line.
+pub(crate) fn push_command(
+    alloc: Global,
+    line: &mut Vec<u8>,
+    command: &Command,
+) -> Result<(), AllocError>
+    ensures { OnOk result (Adds line.old line.new (command_line command.now)) }
+{
+    match command {
+        Command::Path(call) => push_call(alloc, line, call),
+        Command::Open { path, flags, mode } => {
+            let fields = Then(path, Then(*flags, ModeOr::<0o644>(*mode)));
+            push_fields(alloc, line, Verb::Open, &fields)
+        }
+        Command::Close { fd } => push_fields(alloc, line, Verb::Close, &Then(*fd, End)),
+        Command::Read { fd, count } => {
+            push_fields(alloc, line, Verb::Read, &Then(*fd, Then(*count, End)))
+        }
+        Command::Write { fd, data } => {
+            push_fields(
+                alloc,
+                line,
+                Verb::Write,
+                &Then(*fd, Then(DataOf(data), End)),
+            )
+        }
+        Command::Pread { fd, offset, count } => {
+            let fields = Then(*fd, Then(*offset, Then(*count, End)));
+            push_fields(alloc, line, Verb::Pread, &fields)
+        }
+        Command::Pwrite { fd, offset, data } => {
+            let fields = Then(*fd, Then(*offset, Then(DataOf(data), End)));
+            push_fields(alloc, line, Verb::Pwrite, &fields)
+        }
+        Command::Lseek { fd, whence, offset } => {
+            let fields = Then(*fd, Then(*whence, Then(*offset, End)));
+            push_fields(alloc, line, Verb::Lseek, &fields)
+        }
+        Command::Ftruncate { fd, size } => {
+            push_fields(alloc, line, Verb::Ftruncate, &Then(*fd, Then(*size, End)))
+        }
+        Command::Fstat { fd } => push_fields(alloc, line, Verb::Fstat, &Then(*fd, End)),
+        Command::Fsync { fd } => push_fields(alloc, line, Verb::Fsync, &Then(*fd, End)),
+        Command::Sync => push_fields(alloc, line, Verb::Sync, &End),
+        Command::Df => push_fields(alloc, line, Verb::Df, &End),
+        Command::SnapTake { name } => push_snap(alloc, line, Verb::Take, &Then(name, End)),
+        Command::SnapDelete { name } => push_snap(alloc, line, Verb::Delete, &Then(name, End)),
+        Command::SnapList => push_snap(alloc, line, Verb::List, &End),
+        Command::Within { name, call } => push_within(alloc, line, name, call),
+    }
+}
+
+/// Adds `snap`, a second word and its fields to a line.
+fn push_snap<F: SpelledFields>(
+    alloc: Global,
+    line: &mut Vec<u8>,
+    verb: Verb,
+    fields: &F,
+) -> Result<(), AllocError>
+    ensures { OnOk result (Adds line.old line.new
+        (line_of (verb_name Verb.Snap ∷ verb_name verb ∷ form_words F.form (F.values fields.now)))) }
+{
+    line.extend_from_slice(b"snap ")?;
+    push_fields(alloc, line, verb, fields)
+}
+
+/// Adds `in`, a snapshot's name and a call to a line.
+fn push_within(
+    alloc: Global,
+    line: &mut Vec<u8>,
+    name: &Text,
+    call: &PathCall,
+) -> Result<(), AllocError>
+    ensures { OnOk result (Adds line.old line.new
+        (line_of (verb_name Verb.In ∷ text_word name.now ∷ call_words call.now))) }
+{
+    line.extend_from_slice(b"in ")?;
+    push_text(line, name.as_bytes())?;
+    line.extend_from_slice(b" ")?;
+    push_call(alloc, line, call)
+}
+
+/// Adds the line of a call that names a path.
+fn push_call(alloc: Global, line: &mut Vec<u8>, call: &PathCall) -> Result<(), AllocError>
+    ensures { OnOk result (Adds line.old line.new (line_of (call_words call.now))) }
+{
+    match call {
+        PathCall::List { path } => push_fields(alloc, line, Verb::List, &Then(path, End)),
+        PathCall::Stat { path } => push_fields(alloc, line, Verb::Stat, &Then(path, End)),
+        PathCall::Lstat { path } => push_fields(alloc, line, Verb::Lstat, &Then(path, End)),
+        PathCall::Readlink { path } => push_fields(alloc, line, Verb::Readlink, &Then(path, End)),
+        PathCall::Get {
+            path,
+            offset,
+            count,
+        } => {
+            let fields = Then(path, Then(*offset, Then(*count, End)));
+            push_fields(alloc, line, Verb::Get, &fields)
+        }
+        PathCall::Mkdir { path, mode } => {
+            let fields = Then(path, ModeOr::<0o755>(*mode));
+            push_fields(alloc, line, Verb::Mkdir, &fields)
+        }
+        PathCall::Rmdir { path } => push_fields(alloc, line, Verb::Rmdir, &Then(path, End)),
+        PathCall::Unlink { path } => push_fields(alloc, line, Verb::Unlink, &Then(path, End)),
+        PathCall::Link { old, new } => {
+            push_fields(alloc, line, Verb::Link, &Then(old, Then(new, End)))
+        }
+        PathCall::Symlink { text, path } => {
+            push_fields(alloc, line, Verb::Symlink, &Then(text, Then(path, End)))
+        }
+        PathCall::Rename { old, new } => {
+            push_fields(alloc, line, Verb::Rename, &Then(old, Then(new, End)))
+        }
+        PathCall::Chmod { path, mode } => {
+            push_fields(alloc, line, Verb::Chmod, &Then(path, Then(*mode, End)))
+        }
+        PathCall::Truncate { path, size } => {
+            push_fields(alloc, line, Verb::Truncate, &Then(path, Then(*size, End)))
+        }
+    }
+}
