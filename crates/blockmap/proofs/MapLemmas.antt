@@ -1,13 +1,15 @@
 -- Entries of the map, where one of them changes.
-use Rattle.std.proofs.Common.{suc, ◌≡◌, ◌≢◌, ℕ, ◌+◌, ◌*◌, ◌/◌, ◌%◌, ◌<◌, ◌≤◌, Bool, true, false, List, length, inl, inr, ap, sym, subst, ◌∙◌, arith}
+use Rattle.std.proofs.Common.{suc, ◌≡◌, ◌≢◌, ℕ, ◌+◌, ◌*◌, ◌/◌, ◌%◌, ◌<◌, ◌≤◌, Bool, true, false, List, length, take, zero, inl, inr, refl, ap, sym, subst, ◌∙◌, arith}
 use Rattle.std.specs.Prelude.{slice_index, slice_index_or, slice_set, if◌then◌else◌, ◌==◌}
 use Rattle.std.specs.Int.{bit_at}
 use Rattle.std.proofs.lemmas.Bool.{cases_eq}
 use Rattle.std.proofs.lemmas.Bool.Decides.{nat_tests}
 use Rattle.std.proofs.lemmas.Nat.Bits.{bit_at_lowest}
-use Rattle.std.proofs.lemmas.List.{get_or-set_same, get_or_default}
+use Rattle.std.proofs.lemmas.Grind.{common_steps}
+use Rattle.std.proofs.lemmas.List.{get_or-set_same, get_or_default, take_all}
+use Rattle.std.proofs.lemmas.List.Sums.{count_by_more_yes, count_by_more_no}
 use Rattle.blockmap.specs.Bits.{SetsBit, SetsPlane}
-use Rattle.blockmap.specs.Parts.{Part}
+use Rattle.blockmap.specs.Parts.{Part, free_entries}
 use Rattle.blockmap.specs.Maps.{no_part, entry_at, settled_at, free_below, IsFree}
 
 -- the bit of the entry that is changed
@@ -91,3 +93,33 @@ free_not parts b n so_far taken =
 pub free_none : (parts : List Part) → 0 ≡ free_below parts 0
 unfolding free_below
 free_none parts = λ i. 0
+
+-- so many entries of a part are counted
+free_first : (parts : List Part) (j n : ℕ) (p : Part) → j < length parts → p ≡ slice_index_or parts j p → length p.settled ≡ 1024 → n ≤ 1024
+    → free_below parts (1024 * j + n) ≡ free_below parts (1024 * j) + free_entries (take n p.settled)
+free_first parts j zero p within at size small = grind (arith, common_steps)
+free_first parts j (suc n) p within at size small =
+    let here : settled_at parts (1024 * j + n) ≡ slice_index p.settled n =
+    settled_in parts (1024 * j + n) j p (omega arith) within at ∙ ap (slice_index p.settled) (omega arith) in
+    let below = free_first parts j n p within at size (omega arith) in
+    let more : suc n ≡ n + 1 = omega arith in
+    let next : 1024 * j + (n + 1) ≡ 1024 * j + n + 1 = omega arith in
+    rw (more, next) (elim (cases_eq (slice_index p.settled n) 0) [
+      | inl free ↦
+          let one = free_here parts (1024 * j + n) (free_below parts (1024 * j + n)) refl (here ∙ free) in
+          let counted = count_by_more_yes (λ (e : ℕ). e == 0) p.settled n 0 (omega (arith, size)) (grind (arith, nat_tests, free)) in
+          omega (arith, one, counted, below)
+      | inr taken ↦
+          let one = free_not parts (1024 * j + n) (free_below parts (1024 * j + n)) refl (λ free. taken (sym here ∙ free)) in
+          let counted = count_by_more_no (λ (e : ℕ). e == 0) p.settled n 0 (omega (arith, size)) (grind (arith, nat_tests, taken)) in
+          omega (arith, one, counted, below)
+    ])
+
+-- all entries of a part are counted
+pub free_part : (parts : List Part) (j : ℕ) (p : Part) → j < length parts → p ≡ slice_index_or parts j p → length p.settled ≡ 1024
+    → free_below parts (1024 * (j + 1)) ≡ free_below parts (1024 * j) + free_entries p.settled
+free_part parts j p within at size =
+    let all = free_first parts j 1024 p within at size (omega arith) in
+    let whole : take 1024 p.settled ≡ p.settled = take_all 1024 p.settled (omega (arith, size)) in
+    let next : 1024 * (j + 1) ≡ 1024 * j + 1024 = omega arith in
+    rw next (rw whole at all)

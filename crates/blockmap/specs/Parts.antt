@@ -1,5 +1,5 @@
 -- The entries of one block of the map.
-use Rattle.std.specs.Prelude.{ℕ, ◌≡◌, ◌<◌, List, length, slice_index, Bool, Option, Some, None, is_some}
+use Rattle.std.specs.Prelude.{ℕ, ◌≡◌, ◌==◌, ◌<◌, List, length, slice_index, count_by, Bool, Option, Some, None, is_some}
 use Rattle.layout.specs.Maps.{map_entry}
 use Rattle.layout.specs.declared.TheConstants.{BLOCK_POINTERS}
 
@@ -9,9 +9,15 @@ pub record Part : Type 0 where
   pub entries : List ℕ
   pub is_touched : Bool
 
-pub record IsPart (p : Part) : Type 0 where
+-- how many of these entries are those of free blocks
+abbrev pub free_entries : List ℕ → ℕ
+free_entries entries = count_by (λ e. e == 0) entries
+
+-- a block's entries, and beside them how many settled ones are free
+pub record IsPart (p : Part) (free : ℕ) : Type 0 where
   pub settled : length p.settled ≡ BLOCK_POINTERS
   pub entries : length p.entries ≡ BLOCK_POINTERS
+  pub counted : free ≡ free_entries p.settled
 
 abbrev pub or_else : Option (List ℕ) → List ℕ → List ℕ
 or_else (Some entries) settled = entries

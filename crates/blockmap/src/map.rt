@@ -283,15 +283,29 @@ impl BlockMap {
         self.next = FIRST_BLOCK;
     }
 
-    /// How many blocks are free under the settled root.
+    /// How many blocks are free under the settled root. Only a last part of the map that goes past the disk's end is gone over.
     pub fn free_count(&self) -> u32
         ensures { result ≡ free_below self.now.parts.items self.now.count }
     {
-        let mut free = 0;
-        for b in 0..self.count {
+        let whole = self.count / ENTRIES;
+        let mut free = self.free_in_parts(whole);
+        for b in ENTRIES * whole..self.count {
             if self.is_free(BlockNumber::new(b)) {
                 free += 1;
             }
+        }
+        free
+    }
+
+    /// How many blocks are free that the first so many blocks of the map are about.
+    fn free_in_parts(&self, parts: u32) -> u32
+        requires { ENTRIES * parts ≤ self.now.count }
+        ensures free { result ≡ free_below self.now.parts.items (ENTRIES * parts) }
+        ensures most { result ≤ ENTRIES * parts }
+    {
+        let mut free = 0;
+        for j in 0..parts {
+            free += self.parts[j as usize].free_count();
         }
         free
     }

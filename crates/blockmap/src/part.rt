@@ -1,9 +1,9 @@
 //! One block of the block map.
 
-ghost use Rattle.std.specs.Prelude.{◌≡◌, ℕ, ◌+◌, ◌<◌, ◌≤◌, true, false, IsTrue, IfOk, OnOk, IfSome, IfNone, slice_index, slice_set, ◌↔◌, count_by, ◌==◌};
+ghost use Rattle.std.specs.Prelude.{◌≡◌, ℕ, ◌+◌, ◌<◌, ◌≤◌, true, false, IsTrue, IfOk, OnOk, IfSome, IfNone, slice_index, slice_set, ◌↔◌, length};
 ghost use Rattle.std.specs.Int.{bit_at};
 ghost use Rattle.blockmap.specs.Bits.{SetsPlane};
-ghost use Rattle.blockmap.specs.Parts.{Spells};
+ghost use Rattle.blockmap.specs.Parts.{Spells, free_entries};
 ghost use Rattle.layout.specs.declared.TheConstants.{BLOCK_POINTERS};
 
 use crate::bits::with_bit;
@@ -15,6 +15,8 @@ use std::marker::Model;
 #[derive(Debug, Drop)]
 pub struct MapPart {
     settled: Vec<u32>,
+    /// How many of the settled entries are zero.
+    free: u32,
     /// What the next consistency point stores, where it stores the block.
     changed: Option<Vec<u32>>,
 }
@@ -28,7 +30,15 @@ impl Model for MapPart {
     ghost view = { λ p. part_of p.settled.items (option_map (λ v. v.items) p.changed) };
 
     ghost invariant = { λ p. IsPart
-        (part_of p.settled.items (option_map (λ v. v.items) p.changed)) };
+        (part_of p.settled.items (option_map (λ v. v.items) p.changed)) p.free };
+}
+
+/// How many of a block's entries are zero.
+fn count_free(entries: &[u32]) -> u32
+    requires { length entries.now ≡ BLOCK_POINTERS }
+    ensures { result ≡ free_entries entries.now }
+{
+    entries.iter().filter(|entry| **entry == 0).count() as u32
 }
 
 impl MapPart {
@@ -42,8 +52,10 @@ impl MapPart {
         for i in 0..BLOCK_POINTERS as u32 {
             settled.push(map_entry(bytes, i))?;
         }
+        let free = count_free(&settled);
         Ok(MapPart {
             settled,
+            free,
             changed: None,
         })
     }
@@ -138,7 +150,15 @@ impl MapPart {
         bytes
     }
 
-    /// The first settled entry from one place on that is zero.
+    /// How many settled entries are zero. Nothing is counted anew for it.
+    pub fn free_count(&self) -> u32
+        ensures free { result ≡ free_entries self.now.settled }
+        ensures size { length self.now.settled ≡ BLOCK_POINTERS }
+    {
+        self.free
+    }
+
+    /// The first settled entry from one place on that is zero. A block of the map without one isn't gone over.
     pub fn first_free(&self, from: u32) -> Option<u32>
         ensures found { IfSome result (λ i. (from ≤ i) × (i < BLOCK_POINTERS)
             × (slice_index self.now.settled i ≡ 0)) }
@@ -147,6 +167,9 @@ impl MapPart {
         ensures none { IfNone result ((k : ℕ) → from ≤ k → k < BLOCK_POINTERS
             → slice_index self.now.settled k ≡ 0 → ⊥) }
     {
+        if self.free == 0 {
+            return None;
+        }
         for i in from..BLOCK_POINTERS as u32 {
             if self.settled[i as usize] == 0 {
                 return Some(i);
@@ -162,6 +185,7 @@ impl MapPart {
         ensures untouched { self.new.is_touched ≡ false }
     {
         if let Some(entries) = self.changed.take() {
+            self.free = count_free(&entries);
             self.settled = entries;
         }
     }

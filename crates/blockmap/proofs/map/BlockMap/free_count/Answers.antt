@@ -1,7 +1,7 @@
 use Rattle.std.proofs.Common.{subst, sym, ◌∙◌, arith, refl, rules, false}
 use Rattle.std.specs.Prelude.{IsTrue}
 use Rattle.blockmap.specs.Maps.{IsFree}
-use Rattle.blockmap.proofs.MapLemmas.{free_here, free_not, free_none}
+use Rattle.blockmap.proofs.MapLemmas.{free_here, free_not}
 use Rattle.blockmap.proofs.map.BlockMap.free_count.Goals.{then-is_free, else-is_free}
 use Rattle.blockmap.proofs.map.BlockMap.free_count.Goals as goal
 
@@ -10,7 +10,7 @@ untrue : IsTrue false → ⊥
 untrue is = search (rules, is)
 
 pub loop-b-init : goal.loop-b-init
-loop-b-init c = record { count = free_none c.args.self.now.parts.items; most = omega arith }
+loop-b-init c = record { count = c.free_in_parts-free.ensures.free; most = c.free_in_parts-free.ensures.most }
 
 pub loop-b-preserved : goal.loop-b-preserved
 loop-b-preserved c =
