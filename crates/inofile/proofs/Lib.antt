@@ -1,5 +1,6 @@
 pub mod BitLaws
 mod ObjectLaws
 mod VolumeLaws
+mod SlotLaws
 mod FileLaws
 mod ChangedLaws

@@ -56,7 +56,7 @@ ghost use Rattle.inofile.specs.Settled.{AreSettled, content_of, held_content, se
 ghost use Rattle.inofile.specs.Slots.{ChangesObjects};
 
 impl InodeFile {
-    ghost use Rattle.inofile.specs.Inodes.{is_changed_slot, object_at, SameObjects, IsKnown, HasRoomFor, HasNoChange, IsChanged};
+    ghost use Rattle.inofile.specs.Inodes.{is_changed_slot, object_at, SameObjects, IsKnown, HasRoomFor, HasNoChange, IsChanged, loaded};
     ghost use Rattle.inofile.specs.Volumes.{IsVolumeOf, MapsVolume};
     ghost use Rattle.layout.specs.Maps.{IsTaken};
 
@@ -221,6 +221,7 @@ impl InodeFile {
             ≡ Some (content_of disk o.now)) }
         ensures none { (disk : ℕ → List ℕ) (settled : ℕ → Inode)
             → IfNone result (object_at disk settled self.now number ≡ None) }
+        ensures loaded { IfSome result (λ o. loaded self.now number ≡ Some o.now) }
         ensures stands { (count : ℕ) (disk : ℕ → List ℕ) (settled : ℕ → Inode) (v : Volume)
             → IsVolumeOf count disk settled self.now v → IfSome result (λ o.
             IsObject disk self.now.geometry.inodes (settled number) o.now (v number)) }
