@@ -53,3 +53,11 @@ trimmed_room m n count e j lt had = rw (trimmed_slot m n count e j, below_true j
 
 pub trimmed_changed : (m n : BTreeMap ℕ Slot) (count : ℕ) → n.entries ≡ filter (λ e. nat_lt e.0 count) m.entries → (j : ℕ) → j < count → IsChangedSlot (get nat_cmp m j) → IsChangedSlot (get nat_cmp n j)
 trimmed_changed m n count e j lt had = rw (trimmed_slot m n count e j, below_true j count lt) had
+
+-- of the changed blocks none is new
+pub trimmed_only : (m n : BTreeMap ℕ Slot) (count : ℕ) → n.entries ≡ filter (λ e. nat_lt e.0 count) m.entries → (j : ℕ) → IsChangedSlot (get nat_cmp n j) → IsChangedSlot (get nat_cmp m j)
+trimmed_only m n count e j had = among (nat_lt j count) (rw (trimmed_slot m n count e j) at had)
+  where
+    among : (b : Bool) → IsChangedSlot (if b then get nat_cmp m j else None) → IsChangedSlot (get nat_cmp m j)
+    among true had = had
+    among false had = absurd had

@@ -87,6 +87,7 @@ impl BlockTree {
         ensures kept { result.kept ≡ block_count size }
         ensures blocks { (disk : ℕ → List ℕ) (i : ℕ) → tree_block disk result i
             ≡ settled_block disk pointers (depth_of size) (block_count size) i }
+        ensures unchanged { (i : ℕ) → IsChanged result i → ⊥ }
     {
         let count = block_count(size);
         BlockTree {
@@ -102,6 +103,7 @@ impl BlockTree {
     pub fn empty(alloc: Global) -> BlockTree
         ensures count { result.count ≡ 0 }
         ensures blocks { (disk : ℕ → List ℕ) (i : ℕ) → tree_block disk result i ≡ zeros 4096 }
+        ensures unchanged { (i : ℕ) → IsChanged result i → ⊥ }
     {
         BlockTree::settled(alloc, [Pointer::Hole; BODY_POINTERS], 0)
     }
@@ -344,6 +346,7 @@ impl BlockTree {
         ensures keeps { (j : ℕ) → j < count → HasRoom self.old j → HasRoom self.new j }
         ensures sound { KeepsSound self.old self.new }
         ensures settled { SameSettled self.old self.new }
+        ensures changed { (j : ℕ) → IsChanged self.new j → IsChanged self.old j }
     {
         self.slots.retain(|i, _| *i < count);
         self.kept = self.kept.min(count);

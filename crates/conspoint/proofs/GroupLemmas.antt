@@ -10,6 +10,7 @@ use Rattle.layout.specs.declared.pointer.Pointer.{Pointer}
 use Rattle.layout.specs.declared.pointer.Pointer.TheVariants.{Hole, Block}
 use Rattle.conspoint.specs.declared.draft.Draft.{Draft}
 use Rattle.conspoint.specs.Drafts.{Grows}
+use Rattle.conspoint.specs.Space.{StoresNone}
 use Rattle.conspoint.specs.Groups.{pointer_at, group, IsGroup, ComesFrom, ArePlaced}
 use Rattle.conspoint.proofs.DraftLemmas.{taken_later, taken_earlier}
 
@@ -76,6 +77,14 @@ pub part_group : (e : Blocks) (settled over : Pointer) (old new : List Pointer) 
     → IsGroup e settled (pointer_at (take (1024 * j + 1024 - 1024 * j) (drop (1024 * j) old))) (pointer_at (take (1024 * j + 1024 - 1024 * j) (drop (1024 * j) new))) over
     → IsGroup e settled (group old j) (group new j) over
 part_group e settled over old new j is = same_group e settled over (group old j) _ (group new j) _ (part_read old (1024 * j)) (part_read new (1024 * j)) is
+
+-- where nothing is stored over a group, nothing is over that part of the nodes
+pub part_none : (old new : List Pointer) (j : ℕ) → StoresNone (group old j) (group new j)
+    → StoresNone (pointer_at (take (1024 * j + 1024 - 1024 * j) (drop (1024 * j) old))) (pointer_at (take (1024 * j + 1024 - 1024 * j) (drop (1024 * j) new)))
+part_none old new j none = elim none [
+  | inl same ↦ inl (λ i lt. part_read new (1024 * j) i lt ∙ same i lt ∙ sym (part_read old (1024 * j) i lt))
+  | inr holes ↦ inr (λ i lt. part_read new (1024 * j) i lt ∙ holes i lt)
+]
 
 -- what holds of each node holds of each and one more
 pub each_more : (P : ℕ → Pointer → Type 0) (nodes : List Pointer) (p : Pointer) (n : ℕ) → length nodes ≡ n → ((j : ℕ) → j < n → P j (pointer_at nodes j)) → P n p

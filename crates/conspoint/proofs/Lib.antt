@@ -4,6 +4,7 @@ mod Cuts
 mod PointCuts
 mod DraftLemmas
 mod SpaceLemmas
+pub mod SumLemmas
 mod GroupLemmas
 mod ClosureLemmas
 mod MarkLemmas

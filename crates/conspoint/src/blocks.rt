@@ -1,6 +1,6 @@
 //! The blocks of a changed file.
 
-ghost use Rattle.std.specs.Prelude.{◌≡◌, ◌≢◌, ℕ, ◌<◌, ◌≤◌, ◌^◌, All, IfOk, IfErr, IsErrOf, length, ◌+◌, ◌-◌, min, OnOk};
+ghost use Rattle.std.specs.Prelude.{◌≡◌, ◌≢◌, ℕ, ◌<◌, ◌≤◌, ◌^◌, All, IfOk, IfErr, IsErrOf, length, OnOk};
 ghost use Rattle.layout.specs.Places.{pointed};
 ghost use Rattle.layout.specs.Pointer.{PointsBelow};
 ghost use Rattle.layout.specs.declared.geometry.TheConstants.{MOST_BLOCKS};
@@ -9,7 +9,7 @@ ghost use Rattle.blocktree.specs.Trees.{IsChanged};
 ghost use Rattle.conspoint.specs.Blocks.{changed_or};
 ghost use Rattle.conspoint.specs.Drafts.{OnEach, Grows, IsFull, IsReserved, IsShortage};
 ghost use Rattle.conspoint.specs.Groups.{pointer_at, ComesFrom, ArePlaced};
-ghost use Rattle.conspoint.specs.Space.{Lacks, TakesAtMost};
+ghost use Rattle.conspoint.specs.Space.{Lacks, TakesAtMost, block_stores, changed_blocks};
 
 use crate::draft::Draft;
 use crate::error::PlanError;
@@ -40,8 +40,10 @@ fn place_block(
     ensures parts { draft.new.map.parts.items ≡ draft.old.map.parts.items }
     ensures others { (p : ℕ) → IsReserved draft.old p → IsReserved draft.new p }
     ensures full { IsErrOf result PlanError.NoSpace → IsFull draft.old }
-    ensures takes { OnOk result (TakesAtMost (min 1 (i + 1 - first)) draft.old draft.new) }
-    ensures lacks { IsErrOf result PlanError.NoSpace → Lacks (min 1 (i + 1 - first)) draft.old }
+    ensures unchanged { IfOk result (λ p. (IsChanged tree.now i → ⊥) → p ≡ settled) }
+    ensures takes { OnOk result (TakesAtMost (block_stores tree.now first i) draft.old draft.new) }
+    ensures lacks { IsErrOf result PlanError.NoSpace
+        → Lacks (block_stores tree.now first i) draft.old }
     ensures shortage { IfErr result IsShortage }
 {
     if i < first {
@@ -75,6 +77,8 @@ pub fn place_blocks(
         → pointer_at nodes.items i ≡ Hole → pointer_at settled.now i ≡ Hole) }
     ensures stored { IfOk result (λ nodes. (i : ℕ) → i < length settled.now → first ≤ i
         → IsChanged tree.now i → pointer_at nodes.items i ≢ Hole) }
+    ensures unchanged { IfOk result (λ nodes. (i : ℕ) → i < length settled.now
+        → (IsChanged tree.now i → ⊥) → pointer_at nodes.items i ≡ pointer_at settled.now i) }
     ensures blocks { IfOk result (λ nodes. OnEach draft.new (λ e. (i : ℕ) → i < length settled.now
         → first ≤ i → pointed e (pointer_at nodes.items i)
         ≡ changed_or tree.now i (pointed e (pointer_at settled.now i)))) }
@@ -82,9 +86,10 @@ pub fn place_blocks(
     ensures parts { draft.new.map.parts.items ≡ draft.old.map.parts.items }
     ensures others { (p : ℕ) → IsReserved draft.old p → IsReserved draft.new p }
     ensures full { IsErrOf result PlanError.NoSpace → IsFull draft.new }
-    ensures takes { OnOk result (TakesAtMost (length settled.now - first) draft.old draft.new) }
+    ensures takes { OnOk result
+        (TakesAtMost (changed_blocks tree.now first (length settled.now)) draft.old draft.new) }
     ensures lacks { IsErrOf result PlanError.NoSpace
-        → Lacks (length settled.now - first) draft.old }
+        → Lacks (changed_blocks tree.now first (length settled.now)) draft.old }
     ensures shortage { IfErr result IsShortage }
 {
     let mut nodes = Vec::new(alloc);

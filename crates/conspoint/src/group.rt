@@ -8,7 +8,7 @@ ghost use Rattle.layout.specs.declared.geometry.TheConstants.{MOST_BLOCKS};
 ghost use Rattle.layout.specs.declared.pointer.Pointer.TheVariants.{Hole};
 ghost use Rattle.conspoint.specs.Drafts.{OnEach, Grows, IsFull, IsReserved, IsShortage};
 ghost use Rattle.conspoint.specs.Groups.{pointer_at, group, IsGroup, ComesFrom, ArePlaced};
-ghost use Rattle.conspoint.specs.Space.{Lacks, TakesAtMost};
+ghost use Rattle.conspoint.specs.Space.{CountsGroups, Lacks, StoresNone, TakesAtMost, sum_below};
 
 use crate::draft::Draft;
 use crate::error::PlanError;
@@ -63,8 +63,8 @@ fn same_pointer(a: Pointer, b: Pointer) -> bool
 /// Whether no node moved.
 fn same_pointers(old: &[Pointer], new: &[Pointer]) -> bool
     requires { length old.now ≡ length new.now }
-    ensures { IsTrue result → (i : ℕ) → i < length new.now
-        → pointer_at new.now i ≡ pointer_at old.now i }
+    ensures { IsTrue result ↔ ((i : ℕ) → i < length new.now
+        → pointer_at new.now i ≡ pointer_at old.now i) }
 {
     for i in 0..new.len() {
         if !same_pointer(new[i], old[i]) {
@@ -96,7 +96,11 @@ pub fn place_group(
     ensures others { (p : ℕ) → IsReserved draft.old p → IsReserved draft.new p }
     ensures full { IsErrOf result PlanError.NoSpace → IsFull draft.old }
     ensures takes { OnOk result (TakesAtMost 1 draft.old draft.new) }
+    ensures takes_none { StoresNone (pointer_at old.now) (pointer_at new.now)
+        → OnOk result (TakesAtMost 0 draft.old draft.new) }
     ensures lacks { IsErrOf result PlanError.NoSpace → Lacks 1 draft.old }
+    ensures lacks_none { IsErrOf result PlanError.NoSpace
+        → StoresNone (pointer_at old.now) (pointer_at new.now) → ⊥ }
     ensures shortage { IfErr result IsShortage }
 {
     let Some(_) = first_block(new) else {
@@ -132,8 +136,12 @@ pub fn place_over(
     ensures parts { draft.new.map.parts.items ≡ draft.old.map.parts.items }
     ensures others { (p : ℕ) → IsReserved draft.old p → IsReserved draft.new p }
     ensures full { IsErrOf result PlanError.NoSpace → IsFull draft.new }
-    ensures takes { OnOk result (TakesAtMost (length settled.now) draft.old draft.new) }
-    ensures lacks { IsErrOf result PlanError.NoSpace → Lacks (length settled.now) draft.old }
+    ensures takes { OnOk result ((w : ℕ → ℕ)
+        → CountsGroups w (length settled.now) (group old.now) (group new.now)
+        → TakesAtMost (sum_below w (length settled.now)) draft.old draft.new) }
+    ensures lacks { IsErrOf result PlanError.NoSpace → (w : ℕ → ℕ)
+        → CountsGroups w (length settled.now) (group old.now) (group new.now)
+        → Lacks (sum_below w (length settled.now)) draft.old }
     ensures shortage { IfErr result IsShortage }
 {
     let mut over = Vec::new(alloc);

@@ -71,6 +71,7 @@ impl File {
         ensures base { KeepsBase self.old.tree self.new.tree }
         ensures sound { KeepsSound self.old.tree self.new.tree }
         ensures settled { SameSettled self.old.tree self.new.tree }
+        ensures changed { (j : ℕ) → IsChanged self.new.tree j → IsChanged self.old.tree j }
     {
         self.tree.trim(block_count(size));
         self.size = size;

@@ -26,7 +26,7 @@ impl File {
     ghost use Rattle.layout.specs.Bytes.{zeros};
     ghost use Rattle.layout.specs.Limits.{Sizes};
     ghost use Rattle.layout.specs.declared.inode.Inode.{Inode};
-    ghost use Rattle.blocktree.specs.Trees.{IsSoundAt, IsAt, OnDisk};
+    ghost use Rattle.blocktree.specs.Trees.{IsChanged, IsSoundAt, IsAt, OnDisk};
     ghost use Rattle.images.specs.Nodes.{held};
     ghost use Rattle.images.specs.Soundness.{IsSoundFile};
     ghost use Rattle.inode.specs.Bases.{IsBased, StartsFrom};
@@ -59,6 +59,7 @@ impl File {
         ensures size { result.size ≡ 0 }
         ensures blocks { (disk : ℕ → List ℕ) (i : ℕ) → file_block disk result i ≡ zeros 4096 }
         ensures base { (settled : Inode) → IsBased settled result.tree }
+        ensures unchanged { (i : ℕ) → IsChanged result.tree i → ⊥ }
     {
         File {
             tree: BlockTree::empty(alloc),

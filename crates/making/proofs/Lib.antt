@@ -9,3 +9,4 @@ mod TreeLaws
 mod RootLaws
 mod SlotLemmas
 mod MadeLemmas
+mod RoomLaws

@@ -1,3 +1,4 @@
 pub mod Starts
 pub mod Plans
 pub mod Images
+pub mod Space

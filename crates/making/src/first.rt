@@ -1,19 +1,22 @@
 //! The first consistency point, planned.
 
-ghost use Rattle.std.specs.Prelude.{◌≡◌, ℕ, ◌*◌, ◌<◌, ◌≤◌, All, IfErr, IfOk, [], length};
+ghost use Rattle.std.specs.Prelude.{◌≡◌, ℕ, ◌*◌, ◌<◌, ◌≤◌, All, IfErr, IfOk, IsErrOf, OnOk, [], length};
+ghost use Rattle.std.specs.Int.{div_ceil};
 ghost use Rattle.layout.specs.Inode.{inode_bytes};
 ghost use Rattle.layout.specs.Places.{Blocks};
 ghost use Rattle.layout.specs.Root.{IsRoot, root_bytes};
-ghost use Rattle.layout.specs.declared.TheConstants.{SLOT_A};
+ghost use Rattle.layout.specs.declared.TheConstants.{BLOCK_POINTERS, SLOT_A};
 ghost use Rattle.layout.specs.declared.numbers.TheConstants.{FIRST_GENERATION};
 ghost use Rattle.layout.specs.declared.pointer.Pointer.TheVariants.{Hole};
 ghost use Rattle.conspoint.specs.Drafts.{Grows, HasAll, IsReserved, IsShortage, OnEach};
 ghost use Rattle.conspoint.specs.Groups.{pointer_at};
 ghost use Rattle.conspoint.specs.MapFiles.{map_nodes};
 ghost use Rattle.conspoint.specs.Plans.{FitsDisk};
+ghost use Rattle.conspoint.specs.Space.{Lacks, TakesAtMost};
 ghost use Rattle.images.specs.FirstRoots.{root_alone};
 ghost use Rattle.images.specs.Roots.{whole};
 ghost use Rattle.images.specs.States.{Holds};
+ghost use Rattle.making.specs.Space.{NUMBERS_STORES, TOP_STORES};
 ghost use Rattle.making.specs.Plans.{HasFile, HasTree, IsBlockMapOn, IsNumbersOn, IsPlacedOver, IsTopOn};
 ghost use Rattle.making.specs.Starts.{IsEmptyMap};
 
@@ -50,6 +53,8 @@ fn place_numbers(
     ensures grows { Grows draft.old draft.new }
     ensures file { IfOk result (HasFile geometry draft.old draft.new) }
     ensures numbers { IfOk result (λ f. OnEach draft.new (λ e. IsNumbersOn e f)) }
+    ensures takes { OnOk result (TakesAtMost NUMBERS_STORES draft.old draft.new) }
+    ensures lacks { IsErrOf result PlanError.NoSpace → Lacks NUMBERS_STORES draft.old }
     ensures shortage { IfErr result IsShortage }
 {
     free_files_hold_nothing();
@@ -74,6 +79,8 @@ fn place_top(
     ensures reserved { IfOk result (λ r. IsReserved draft.new r.1) }
     ensures file { IfOk result (λ r. HasFile geometry draft.old draft.new r.0) }
     ensures top { IfOk result (λ r. OnEach draft.new (λ e. IsTopOn e r.1 r.0)) }
+    ensures takes { OnOk result (TakesAtMost TOP_STORES draft.old draft.new) }
+    ensures lacks { IsErrOf result PlanError.NoSpace → Lacks TOP_STORES draft.old }
     ensures shortage { IfErr result IsShortage }
 {
     free_files_hold_nothing();
@@ -109,6 +116,8 @@ fn place_map(alloc: Global, draft: &mut Draft, geometry: Geometry) -> Result<Ino
     ensures others { (p : ℕ) → IsReserved draft.old p → IsReserved draft.new p }
     ensures file { IfOk result (HasFile geometry draft.old draft.new) }
     ensures map { IfOk result (λ f. OnEach draft.new (λ e. IsBlockMapOn e draft.new f)) }
+    ensures lacks { IsErrOf result PlanError.NoSpace
+        → Lacks (map_nodes (div_ceil geometry.blocks BLOCK_POINTERS)) draft.old }
     ensures shortage { IfErr result IsShortage }
 {
     written_disks_have_the_blocks();
@@ -123,6 +132,7 @@ fn plan_files(alloc: Global, draft: &mut Draft, geometry: Geometry) -> Result<In
     requires map { IsEmptyMap geometry.blocks draft.old.map }
     ensures grows { Grows draft.old draft.new }
     ensures tree { IfOk result (HasTree geometry draft.new) }
+    ensures room { IsErrOf result PlanError.NoSpace → ⊥ }
     ensures shortage { IfErr result IsShortage }
 {
     inodes_are_put_one_by_one();
@@ -138,7 +148,7 @@ fn plan_files(alloc: Global, draft: &mut Draft, geometry: Geometry) -> Result<In
 }
 
 /// Plans the first consistency point of an image of this geometry: every place and every byte of it, and its root, of generation
-/// 1 and for slot A. Nothing is read and nothing is written. `NoSpace` where the disk is too small for it.
+/// 1 and for slot A. Nothing is read and nothing is written. `NoMemory` is the only error: the least disk has room for it.
 pub fn plan_first(alloc: Global, geometry: Geometry) -> Result<FirstPoint, PlanError>
     ensures none { IfOk result (λ p. p.plan.written ≡ 0) }
     ensures slot { IfOk result (λ p. p.plan.slot ≡ SLOT_A) }
@@ -151,7 +161,7 @@ pub fn plan_first(alloc: Global, geometry: Geometry) -> Result<FirstPoint, PlanE
     ensures geometry { IfOk result (λ p. p.root.geometry ≡ geometry) }
     ensures holds { IfOk result (λ p. (e : Blocks) → HasAll e p.plan.blocks
         → Holds p.root (whole e p.root) root_alone []) }
-    ensures shortage { IfErr result IsShortage }
+    ensures memory { IfErr result (λ e. e ≡ PlanError.NoMemory) }
 {
     first_roots_hold();
     written_disks_have_the_blocks();

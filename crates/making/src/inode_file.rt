@@ -7,6 +7,7 @@ ghost use Rattle.layout.specs.Inode.{inode_bytes};
 ghost use Rattle.images.specs.FirstRoots.{empty_directory};
 ghost use Rattle.images.specs.InodeFiles.{put_at};
 ghost use Rattle.images.specs.Roots.{free_inode};
+ghost use Rattle.blocktree.specs.Trees.{IsChanged};
 ghost use Rattle.inode.specs.Bases.{IsBased};
 ghost use Rattle.inode.specs.Files.{file_block};
 ghost use Rattle.making.specs.Starts.{inodes_block};
@@ -25,6 +26,7 @@ pub(crate) fn inode_file(alloc: Global, geometry: Geometry) -> Object
     ensures size { result.file.size ≡ 4096 * div_ceil geometry.inodes 21 }
     ensures base { IsBased free_inode result.file.tree }
     ensures blocks { (disk : ℕ → List ℕ) (i : ℕ) → file_block disk result.file i ≡ zeros 4096 }
+    ensures unchanged { (i : ℕ) → IsChanged result.file.tree i → ⊥ }
 {
     let mut file = File::empty(alloc);
     file.set_size(4096 * u64::from(geometry.inodes().div_ceil(21)));

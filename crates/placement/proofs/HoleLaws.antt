@@ -1,5 +1,5 @@
 -- No hole comes into a file of which each block is stored, nor into one of which each is changed.
-use Rattle.std.proofs.Common.{◌≡◌, ◌≢◌, ℕ, ◌<◌, ◌≤◌, sym, ap, subst, ◌∙◌, arith}
+use Rattle.std.proofs.Common.{◌≡◌, ◌≢◌, ℕ, ◌<◌, ◌≤◌, sym, subst, ◌∙◌}
 use Rattle.std.proofs.lemmas.Bool.{cond_below}
 use Rattle.std.specs.Prelude.{nat_lt, if◌then◌else◌}
 use Rattle.layout.specs.Places.{Blocks}

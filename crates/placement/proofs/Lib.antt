@@ -8,3 +8,4 @@ mod SettledLaws
 mod ListLaws
 mod FirstLaws
 mod HoleLaws
+mod CostLaws

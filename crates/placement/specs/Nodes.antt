@@ -1,9 +1,11 @@
 -- Where the nodes of a file are: its blocks, and the indirect blocks over each 1,024 of them.
-use Rattle.std.specs.Prelude.{ℕ, zero, suc, ◌≡◌, ◌⊎◌, List, All}
+use Rattle.std.specs.Prelude.{ℕ, zero, suc, ◌≡◌, ◌≤◌, ◌⊎◌, List, length, All}
 use Rattle.layout.specs.Pointer.{PointsBelow}
 use Rattle.layout.specs.declared.pointer.Pointer.{Pointer}
 use Rattle.layout.specs.declared.pointer.Pointer.TheVariants.{Hole, Block}
+use Rattle.layout.specs.declared.TheConstants.{BODY_POINTERS}
 use Rattle.images.specs.Nodes.{Held}
+use Rattle.blocktree.specs.declared.tree.BlockTree.{BlockTree}
 use Rattle.conspoint.specs.declared.draft.Draft.{Draft}
 use Rattle.conspoint.specs.Drafts.{WasTaken}
 use Rattle.conspoint.specs.Groups.{pointer_at}
@@ -42,3 +44,7 @@ pub record ArePlacedOver (old new : Draft) (settled placed : Nodes) : Type 0 whe
   pub from : (m i b : ℕ) → node placed m i ≡ Block b → (node settled m i ≡ Block b) ⊎ WasTaken old new b
   pub apart : (m i k j b : ℕ) → node placed m i ≡ Block b → node placed k j ≡ Block b
       → ((node settled m i ≡ Block b) ⊎ (node settled k j ≡ Block b)) ⊎ ((m ≡ k) × (i ≡ j))
+
+-- of a file without settled indirect blocks no more settled blocks count than an inode has pointers
+abbrev pub AreFew : BlockTree → Nodes → Type 0
+AreFew t n = length n.over.items ≡ 0 → t.kept ≤ BODY_POINTERS

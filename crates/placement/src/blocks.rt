@@ -1,6 +1,6 @@
 //! A changed file's blocks, at their new places.
 
-ghost use Rattle.std.specs.Prelude.{◌≡◌, ◌≢◌, ℕ, ◌<◌, ◌≤◌, ◌^◌, All, IfOk, IfErr, IsErrOf, length, nat_lt, if◌then◌else◌, ◌-◌, OnOk};
+ghost use Rattle.std.specs.Prelude.{◌≡◌, ◌≢◌, ℕ, ◌<◌, ◌≤◌, ◌^◌, All, IfOk, IfErr, IsErrOf, length, nat_lt, if◌then◌else◌, OnOk};
 ghost use Rattle.layout.specs.Places.{pointed};
 ghost use Rattle.layout.specs.Pointer.{PointsBelow};
 ghost use Rattle.layout.specs.declared.pointer.Pointer.TheVariants.{Hole};
@@ -8,7 +8,7 @@ ghost use Rattle.blocktree.specs.Trees.{IsChanged};
 ghost use Rattle.conspoint.specs.Blocks.{changed_or};
 ghost use Rattle.conspoint.specs.Drafts.{OnEach, Grows, IsFull, IsReserved, IsShortage};
 ghost use Rattle.conspoint.specs.Groups.{pointer_at};
-ghost use Rattle.conspoint.specs.Space.{Lacks, TakesAtMost};
+ghost use Rattle.conspoint.specs.Space.{Lacks, TakesAtMost, changed_blocks};
 ghost use Rattle.placement.specs.Nodes.{ArePlacedAt};
 
 use crate::nodes::stretched;
@@ -33,8 +33,10 @@ pub(crate) fn place_lowest(
     ensures parts { draft.new.map.parts.items ≡ draft.old.map.parts.items }
     ensures others { (p : ℕ) → IsReserved draft.old p → IsReserved draft.new p }
     ensures full { IsErrOf result PlanError.NoSpace → IsFull draft.new }
-    ensures takes { OnOk result (TakesAtMost (count - first) draft.old draft.new) }
-    ensures lacks { IsErrOf result PlanError.NoSpace → Lacks (count - first) draft.old }
+    ensures takes { OnOk result
+        (TakesAtMost (changed_blocks tree.now first count) draft.old draft.new) }
+    ensures lacks { IsErrOf result PlanError.NoSpace
+        → Lacks (changed_blocks tree.now first count) draft.old }
     ensures shortage { IfErr result IsShortage }
     ensures count { IfOk result (λ nodes. length nodes.items ≡ count) }
     ensures blocks { IfOk result (λ nodes. OnEach draft.new (λ e. (i : ℕ) → i < count
@@ -45,6 +47,9 @@ pub(crate) fn place_lowest(
         → (if nat_lt i tree.now.kept then pointer_at settled.now i else Hole) ≡ Hole) }
     ensures stored { IfOk result (λ nodes. (i : ℕ) → i < count → first ≤ i
         → IsChanged tree.now i → pointer_at nodes.items i ≢ Hole) }
+    ensures unchanged { IfOk result (λ nodes. (i : ℕ) → i < count
+        → (IsChanged tree.now i → ⊥) → pointer_at nodes.items i
+        ≡ (if nat_lt i tree.now.kept then pointer_at settled.now i else Hole)) }
     ensures placed { IfOk result (λ nodes.
         ArePlacedAt draft.old draft.new settled.now nodes.items) }
 {

@@ -1,6 +1,6 @@
 //! A changed file whose first block comes later: the inode file's, which has the inode of the block map.
 
-ghost use Rattle.std.specs.Prelude.{◌≡◌, ℕ, ◌<◌, ◌≤◌, ◌^◌, true, List, length, All, IfOk, IfErr, OnOk, IsErrOf, nat_lt, if◌then◌else◌};
+ghost use Rattle.std.specs.Prelude.{◌≡◌, ℕ, ◌<◌, ◌≤◌, ◌^◌, ◌+◌, true, List, length, All, IfOk, IfErr, OnOk, IsErrOf, nat_lt, if◌then◌else◌};
 ghost use Rattle.layout.specs.Limits.{Sizes};
 ghost use Rattle.layout.specs.Places.{pointed};
 ghost use Rattle.layout.specs.Pointer.{PointsBelow};
@@ -10,14 +10,15 @@ ghost use Rattle.layout.specs.declared.pointer.Pointer.TheVariants.{Hole, Block}
 ghost use Rattle.images.specs.Contents.{content_of};
 ghost use Rattle.images.specs.Nodes.{held, Agrees, Names};
 ghost use Rattle.buffers.specs.Failures.{HasGrown};
+ghost use Rattle.blocktree.specs.Trees.{IsChanged};
 ghost use Rattle.conspoint.specs.Blocks.{changed_or};
 ghost use Rattle.conspoint.specs.Drafts.{OnEach, Grows, IsFull, IsReserved, IsShortage, WasTaken};
 ghost use Rattle.conspoint.specs.Groups.{pointer_at};
-ghost use Rattle.conspoint.specs.Space.{Lacks, TakesAtMost};
+ghost use Rattle.conspoint.specs.Space.{Lacks, TakesAtMost, changed_blocks};
 ghost use Rattle.placement.specs.Files.{IsChangeOf, IsPlaced, content_with, is_one, object_block, with_first};
 ghost use Rattle.placement.specs.Layouts.{AreSettled, IsLaidOut, inode_with};
-ghost use Rattle.placement.specs.Nodes.{ArePlacedAt, ArePlacedOver};
-ghost use Rattle.placement.specs.Space.{file_nodes};
+ghost use Rattle.placement.specs.Nodes.{AreFew, ArePlacedAt, ArePlacedOver};
+ghost use Rattle.placement.specs.Space.{first_stores};
 
 use crate::blocks::place_lowest;
 use crate::file::{Laid, PlacedFile, block_count, lay_over, placed_file};
@@ -57,8 +58,13 @@ fn place_but_first(
     ensures parts { draft.new.map.parts.items ≡ draft.old.map.parts.items }
     ensures others { (p : ℕ) → IsReserved draft.old p → IsReserved draft.new p }
     ensures full { IsErrOf result PlanError.NoSpace → IsFull draft.new }
-    ensures takes { OnOk result (TakesAtMost count draft.old draft.new) }
-    ensures lacks { IsErrOf result PlanError.NoSpace → Lacks count draft.old }
+    ensures takes { OnOk result
+        (TakesAtMost (changed_blocks tree.now 1 count + 1) draft.old draft.new) }
+    ensures lacks { IsErrOf result PlanError.NoSpace
+        → Lacks (changed_blocks tree.now 1 count + 1) draft.old }
+    ensures unchanged { IfOk result (λ r. (i : ℕ) → i < count → 1 ≤ i
+        → (IsChanged tree.now i → ⊥) → pointer_at r.0.items i
+        ≡ (if nat_lt i tree.now.kept then pointer_at settled.now i else Hole)) }
     ensures shortage { IfErr result IsShortage }
     ensures reserved { IfOk result (λ r. IsReserved draft.new r.1) }
     ensures count { IfOk result (λ r. length r.0.items ≡ count) }
@@ -83,14 +89,15 @@ fn lay_but_first(
     requires some { BLOCK_BYTES ≤ object.now.file.size }
     requires blocks { All (PointsBelow draft.old.map.count) settled.now.blocks.items }
     requires over { All (PointsBelow draft.old.map.count) settled.now.over.items }
+    requires few { AreFew object.now.file.tree settled.now }
     ensures grows { Grows draft.old draft.new }
     ensures parts { draft.new.map.parts.items ≡ draft.old.map.parts.items }
     ensures others { (p : ℕ) → IsReserved draft.old p → IsReserved draft.new p }
     ensures full { IsErrOf result PlanError.NoSpace → IsFull draft.new }
     ensures takes { OnOk result
-        (TakesAtMost (file_nodes object.now.file.size) draft.old draft.new) }
+        (TakesAtMost (first_stores object.now.file) draft.old draft.new) }
     ensures lacks { IsErrOf result PlanError.NoSpace
-        → Lacks (file_nodes object.now.file.size) draft.old }
+        → Lacks (first_stores object.now.file) draft.old }
     ensures shortage { IfErr result IsShortage }
     ensures reserved { IfOk result (λ r. IsReserved draft.new r.1) }
     ensures placed { IfOk result (λ r. ArePlacedOver draft.old draft.new settled.now r.0.nodes) }
@@ -145,9 +152,9 @@ pub fn place_file_but_first<B: Blocks>(
         ≡ content_with object.now (with_first (e r.1) (object_block disk object.now)))) }
     ensures full { IsErrOf result PlanError.NoSpace → IsFull draft.new }
     ensures takes { OnOk result
-        (TakesAtMost (file_nodes object.now.file.size) draft.old draft.new) }
+        (TakesAtMost (first_stores object.now.file) draft.old draft.new) }
     ensures lacks { IsErrOf result PlanError.NoSpace
-        → Lacks (file_nodes object.now.file.size) draft.old }
+        → Lacks (first_stores object.now.file) draft.old }
     ensures damaged { (s : Sizes) (disk : ℕ → List ℕ) (base : Inode) → B.Shows blocks.old disk
         → IsChangeOf s draft.old disk base object.now → IsErrOf result PlanError.Damaged → ⊥ }
 {

@@ -16,12 +16,12 @@ ghost use Rattle.blocktree.specs.Places.{block_count};
 ghost use Rattle.blocktree.specs.Trees.{IsChanged, IsSoundAt};
 ghost use Rattle.inode.specs.Files.{IsFile};
 ghost use Rattle.conspoint.specs.Drafts.{OnEach, Grows, IsFull, IsReserved, IsShortage, WasTaken};
-ghost use Rattle.conspoint.specs.Groups.{pointer_at};
+ghost use Rattle.conspoint.specs.Groups.{group, pointer_at};
 ghost use Rattle.placement.specs.Files.{AreAllChanged, IsChangeOf, IsPlaced, IsWholeOver, is_one, object_block, object_content};
-ghost use Rattle.conspoint.specs.Space.{Lacks, TakesAtMost};
-ghost use Rattle.placement.specs.Layouts.{AreSettled, Carries, IsLaidOut, LeadTo, StandsIn, inode_with};
-ghost use Rattle.placement.specs.Nodes.{ArePlacedAt, ArePlacedOver, HasMoved};
-ghost use Rattle.placement.specs.Space.{file_nodes, over_nodes};
+ghost use Rattle.conspoint.specs.Space.{CountsGroups, Lacks, TakesAtMost, sum_below};
+ghost use Rattle.placement.specs.Layouts.{AreSettled, Carries, IsLaidOut, LeadTo, StandsIn, inode_with, under};
+ghost use Rattle.placement.specs.Nodes.{AreFew, ArePlacedAt, ArePlacedOver, HasMoved};
+ghost use Rattle.placement.specs.Space.{file_stores, over_nodes};
 
 use crate::blocks::place_lowest;
 use crate::indirect::place_indirect;
@@ -93,10 +93,14 @@ fn lay_indirect(
     ensures parts { draft.new.map.parts.items ≡ draft.old.map.parts.items }
     ensures others { (p : ℕ) → IsReserved draft.old p → IsReserved draft.new p }
     ensures full { IsErrOf result PlanError.NoSpace → IsFull draft.new }
-    ensures takes { OnOk result (TakesAtMost
-        (div_ceil (block_count object.now.file.size) BLOCK_POINTERS) draft.old draft.new) }
-    ensures lacks { IsErrOf result PlanError.NoSpace
-        → Lacks (div_ceil (block_count object.now.file.size) BLOCK_POINTERS) draft.old }
+    ensures takes { OnOk result ((w : ℕ → ℕ) → CountsGroups w
+        (div_ceil (block_count object.now.file.size) BLOCK_POINTERS) (under settled.now)
+        (group blocks.items) → TakesAtMost (sum_below w
+        (div_ceil (block_count object.now.file.size) BLOCK_POINTERS)) draft.old draft.new) }
+    ensures lacks { IsErrOf result PlanError.NoSpace → (w : ℕ → ℕ) → CountsGroups w
+        (div_ceil (block_count object.now.file.size) BLOCK_POINTERS) (under settled.now)
+        (group blocks.items) → Lacks (sum_below w
+        (div_ceil (block_count object.now.file.size) BLOCK_POINTERS)) draft.old }
     ensures shortage { IfErr result IsShortage }
     ensures blocks { IfOk result (λ l. l.nodes.blocks.items ≡ blocks.items) }
     ensures over { IfOk result (λ l.
@@ -128,11 +132,16 @@ pub(crate) fn lay_over(
     ensures parts { draft.new.map.parts.items ≡ draft.old.map.parts.items }
     ensures others { (p : ℕ) → IsReserved draft.old p → IsReserved draft.new p }
     ensures full { IsErrOf result PlanError.NoSpace → IsFull draft.new }
-    ensures takes { OnOk result (TakesAtMost (over_nodes (level_of object.now.file.size)
-        (block_count object.now.file.size)) draft.old draft.new) }
-    ensures lacks { IsErrOf result PlanError.NoSpace
-        → Lacks (over_nodes (level_of object.now.file.size)
-        (block_count object.now.file.size)) draft.old }
+    ensures takes { OnOk result ((w : ℕ → ℕ) → CountsGroups w
+        (over_nodes (level_of object.now.file.size) (block_count object.now.file.size))
+        (under settled.now) (group blocks.items) → TakesAtMost (sum_below w
+        (over_nodes (level_of object.now.file.size) (block_count object.now.file.size)))
+        draft.old draft.new) }
+    ensures lacks { IsErrOf result PlanError.NoSpace → (w : ℕ → ℕ) → CountsGroups w
+        (over_nodes (level_of object.now.file.size) (block_count object.now.file.size))
+        (under settled.now) (group blocks.items) → Lacks (sum_below w
+        (over_nodes (level_of object.now.file.size) (block_count object.now.file.size)))
+        draft.old }
     ensures shortage { IfErr result IsShortage }
     ensures blocks { IfOk result (λ l. l.nodes.blocks.items ≡ blocks.items) }
     ensures over { IfOk result (λ l.
@@ -159,14 +168,15 @@ fn lay_blocks(
     requires level { 1 ≤ level_of object.now.file.size }
     requires blocks { All (PointsBelow draft.old.map.count) settled.now.blocks.items }
     requires over { All (PointsBelow draft.old.map.count) settled.now.over.items }
+    requires few { AreFew object.now.file.tree settled.now }
     ensures grows { Grows draft.old draft.new }
     ensures parts { draft.new.map.parts.items ≡ draft.old.map.parts.items }
     ensures others { (p : ℕ) → IsReserved draft.old p → IsReserved draft.new p }
     ensures full { IsErrOf result PlanError.NoSpace → IsFull draft.new }
     ensures takes { OnOk result
-        (TakesAtMost (file_nodes object.now.file.size) draft.old draft.new) }
+        (TakesAtMost (file_stores object.now.file) draft.old draft.new) }
     ensures lacks { IsErrOf result PlanError.NoSpace
-        → Lacks (file_nodes object.now.file.size) draft.old }
+        → Lacks (file_stores object.now.file) draft.old }
     ensures shortage { IfErr result IsShortage }
     ensures holes { IfOk result (λ l. (i : ℕ) → i < block_count object.now.file.size
         → pointer_at l.nodes.blocks.items i ≡ Hole
@@ -223,6 +233,7 @@ fn lay<B: Blocks>(
 ) -> Result<Laid, PlanError>
     requires blocks { All (PointsBelow draft.old.map.count) settled.now.blocks.items }
     requires over { All (PointsBelow draft.old.map.count) settled.now.over.items }
+    requires few { AreFew object.now.file.tree settled.now }
     ensures count { B.count blocks.new ≡ B.count blocks.old }
     ensures counted { OnOk result (B.failed blocks.new ≡ B.failed blocks.old) }
     ensures device { IsErrOf result PlanError.Device
@@ -234,9 +245,9 @@ fn lay<B: Blocks>(
     ensures others { (p : ℕ) → IsReserved draft.old p → IsReserved draft.new p }
     ensures full { IsErrOf result PlanError.NoSpace → IsFull draft.new }
     ensures takes { OnOk result
-        (TakesAtMost (file_nodes object.now.file.size) draft.old draft.new) }
+        (TakesAtMost (file_stores object.now.file) draft.old draft.new) }
     ensures lacks { IsErrOf result PlanError.NoSpace
-        → Lacks (file_nodes object.now.file.size) draft.old }
+        → Lacks (file_stores object.now.file) draft.old }
     ensures holes { IfOk result (λ l. (i : ℕ)
         → 1 ≤ level_of object.now.file.size → i < block_count object.now.file.size
         → pointer_at l.nodes.blocks.items i ≡ Hole
@@ -340,9 +351,9 @@ pub fn place_file<B: Blocks>(
         → content_of (held e p.inode) ≡ object_content disk object.now)) }
     ensures full { IsErrOf result PlanError.NoSpace → IsFull draft.new }
     ensures takes { OnOk result
-        (TakesAtMost (file_nodes object.now.file.size) draft.old draft.new) }
+        (TakesAtMost (file_stores object.now.file) draft.old draft.new) }
     ensures lacks { IsErrOf result PlanError.NoSpace
-        → Lacks (file_nodes object.now.file.size) draft.old }
+        → Lacks (file_stores object.now.file) draft.old }
     ensures damaged { (s : Sizes) (disk : ℕ → List ℕ) (base : Inode) → B.Shows blocks.old disk
         → IsChangeOf s draft.old disk base object.now → IsErrOf result PlanError.Damaged → ⊥ }
 {

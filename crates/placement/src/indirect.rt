@@ -5,7 +5,7 @@ ghost use Rattle.std.specs.Int.{div_ceil};
 ghost use Rattle.layout.specs.Pointer.{PointsBelow};
 ghost use Rattle.conspoint.specs.Drafts.{OnEach, Grows, IsFull, IsReserved, IsShortage};
 ghost use Rattle.conspoint.specs.Groups.{group};
-ghost use Rattle.conspoint.specs.Space.{Lacks, TakesAtMost};
+ghost use Rattle.conspoint.specs.Space.{CountsGroups, Lacks, TakesAtMost, sum_below};
 ghost use Rattle.placement.specs.Layouts.{StandOver, under};
 ghost use Rattle.placement.specs.Nodes.{ArePlacedAt};
 
@@ -46,10 +46,12 @@ pub(crate) fn place_indirect(
     ensures parts { draft.new.map.parts.items ≡ draft.old.map.parts.items }
     ensures others { (p : ℕ) → IsReserved draft.old p → IsReserved draft.new p }
     ensures full { IsErrOf result PlanError.NoSpace → IsFull draft.new }
-    ensures takes { OnOk result (TakesAtMost (div_ceil (length blocks.now) 1024)
-        draft.old draft.new) }
-    ensures lacks { IsErrOf result PlanError.NoSpace
-        → Lacks (div_ceil (length blocks.now) 1024) draft.old }
+    ensures takes { OnOk result ((w : ℕ → ℕ)
+        → CountsGroups w (div_ceil (length blocks.now) 1024) (under settled.now) (group blocks.now)
+        → TakesAtMost (sum_below w (div_ceil (length blocks.now) 1024)) draft.old draft.new) }
+    ensures lacks { IsErrOf result PlanError.NoSpace → (w : ℕ → ℕ)
+        → CountsGroups w (div_ceil (length blocks.now) 1024) (under settled.now) (group blocks.now)
+        → Lacks (sum_below w (div_ceil (length blocks.now) 1024)) draft.old }
     ensures shortage { IfErr result IsShortage }
     ensures count { IfOk result (λ over. length over.items ≡ div_ceil (length blocks.now) 1024) }
     ensures groups { IfOk result (λ over.

@@ -16,3 +16,4 @@ mod StartLaws
 mod SettledLaws
 mod LoopLaws
 mod SpaceLaws
+mod CountLaws

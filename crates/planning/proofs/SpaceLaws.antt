@@ -1,17 +1,21 @@
 -- How many blocks are counted for what changed.
-use Rattle.std.proofs.Common.{◌≡◌, ℕ, zero, suc, ◌+◌, ◌<◌, ◌≤◌, Option, Some, None, length, inl, inr, ap, sym, subst, arith}
+use Rattle.std.proofs.Common.{◌≡◌, ℕ, zero, suc, ◌+◌, ◌<◌, ◌≤◌, Option, Some, None, true, length, inl, inr, refl, ap, sym, subst, arith}
 use Rattle.std.proofs.lemmas.Bool.{cases_lt}
 use Rattle.std.proofs.lemmas.List.Kept.{AllPairs-from_increasing}
 use Rattle.std.specs.List.Sorted.{IsStrictlyIncreasing}
 use Rattle.std.specs.Prelude.{List, slice_index}
 use Rattle.images.specs.Contents.{Content}
 use Rattle.inode.specs.declared.object.Object.{Object}
-use Rattle.inofile.specs.Inodes.{IsChangedSlot, slot_content}
-use Rattle.inofile.specs.Settled.{content_of}
+use Rattle.inofile.specs.Inodes.{IsChangedSlot, is_changed_slot, slot_content, slot_object}
 use Rattle.inofile.specs.declared.inode_file.Slot.{Slot}
 use Rattle.inofile.specs.declared.inode_file.Slot.TheVariants.{AsSettled, Loaded, Changed}
 use Rattle.inofile.specs.declared.inode_file.InodeFile.{InodeFile}
-use Rattle.placement.specs.Space.{file_nodes}
+use Rattle.layout.specs.Version.{level_of}
+use Rattle.blocktree.specs.Places.{block_count}
+use Rattle.inode.specs.declared.file.File.{File}
+use Rattle.conspoint.specs.Space.{changed_blocks}
+use Rattle.conspoint.proofs.SumLemmas.{changed_within}
+use Rattle.placement.specs.Space.{file_nodes, file_stores, first_stores, level_nodes, level_stores}
 use Rattle.planning.specs.Space.{nodes_below, number_nodes, slot_nodes}
 
 -- below a later number as many are counted, or more
@@ -31,18 +35,55 @@ unfolding nodes_below
 is_counted s n m lt = counts_rise s (suc n) m (omega arith)
 
 -- what is changed is counted as the object that it is
-pub counts_object : (disk : ℕ → List ℕ) (slot : Option Slot) (below : Option Content) (o : Object) → IsChangedSlot slot → slot_content disk slot below ≡ Some (content_of disk o)
-    → slot_nodes slot ≡ file_nodes o.file.size
-counts_object disk None below o changed is = absurd changed
-counts_object disk (Some AsSettled) below o changed is = absurd changed
-counts_object disk (Some (Loaded object)) below o changed is = absurd changed
-counts_object disk (Some (Changed None)) below o changed is = cc
-counts_object disk (Some (Changed (Some p))) below o changed is =
-    let same : content_of disk p ≡ content_of disk o = cc in
-    ap (λ (x : Content). file_nodes x.size) same
+pub counts_object : (slot : Option Slot) (o : Object) → IsChangedSlot slot → slot_object slot ≡ Some o → slot_nodes slot ≡ file_stores o.file
+counts_object None o changed is = absurd changed
+counts_object (Some AsSettled) o changed is = absurd changed
+counts_object (Some (Loaded object)) o changed is = absurd changed
+counts_object (Some (Changed None)) o changed is = cc
+counts_object (Some (Changed (Some p))) o changed is =
+    let same : p ≡ o = cc in
+    ap (λ (x : Object). file_stores x.file) same
 
 -- a number of a list that rises is behind those before it
 pub is_behind : (xs : List ℕ) (i n k : ℕ) → IsStrictlyIncreasing xs → i < length xs → n ≡ slice_index xs i → k < i → slice_index xs k < n
 is_behind xs i n k rises within is lt =
     let below : slice_index xs k < slice_index xs i = AllPairs-from_increasing xs rises k i 0 lt within in
     omega (arith, below, is)
+
+-- ---- no more is stored of a file than it has
+
+level_within : (level blocks changed : ℕ) → changed ≤ blocks → level_stores level blocks changed ≤ level_nodes level blocks
+level_within zero blocks changed le = omega arith
+level_within (suc level) blocks changed le = omega (arith, le)
+
+pub stores_within : (f : File) → file_stores f ≤ file_nodes f.size
+stores_within f = level_within (level_of f.size) (block_count f.size) (changed_blocks f.tree 0 (block_count f.size)) (omega (arith, changed_within f.tree 0 (block_count f.size)))
+
+pub first_within : (f : File) → 4096 ≤ f.size → first_stores f ≤ file_nodes f.size
+first_within f some =
+    let one : 1 ≤ block_count f.size = omega (arith, some) in
+    level_within (level_of f.size) (block_count f.size) (changed_blocks f.tree 1 (block_count f.size) + 1) (omega (arith, one, changed_within f.tree 1 (block_count f.size)))
+
+-- ---- what is counted in memory
+
+pub counts_none : (s : InodeFile) → nodes_below s 0 ≡ 0
+unfolding nodes_below
+counts_none s = refl
+
+pub counts_more : (s : InodeFile) (n : ℕ) → nodes_below s (n + 1) ≡ nodes_below s n + number_nodes s n
+unfolding nodes_below
+counts_more s n = let next : n + 1 ≡ suc n = omega arith in rw next refl
+
+pub changed_is : (slot : Option Slot) → is_changed_slot slot ≡ true → IsChangedSlot slot
+changed_is None is = absurd cc
+changed_is (Some AsSettled) is = absurd cc
+changed_is (Some (Loaded object)) is = absurd cc
+changed_is (Some (Changed object)) is = tt
+
+-- where a changed number has no object, none of its blocks is counted
+pub counts_no_object : (disk : ℕ → List ℕ) (slot : Option Slot) (below : Option Content) → IsChangedSlot slot → slot_content disk slot below ≡ None → slot_nodes slot ≡ 0
+counts_no_object disk None below changed is = refl
+counts_no_object disk (Some AsSettled) below changed is = refl
+counts_no_object disk (Some (Loaded object)) below changed is = refl
+counts_no_object disk (Some (Changed None)) below changed is = refl
+counts_no_object disk (Some (Changed (Some p))) below changed is = absurd cc

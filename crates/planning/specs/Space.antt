@@ -1,4 +1,4 @@
--- How many blocks a consistency point may take: what changed is counted file by file, each as a whole.
+-- How many blocks a consistency point may take: of each changed file what is changed of it; of the system's own files all.
 use Rattle.std.specs.Prelude.{ℕ, zero, suc, ◌+◌, ◌<◌, Option, Some, None}
 use Rattle.std.specs.Int.{div_ceil}
 use Rattle.std.specs.Ordering.{nat_cmp}
@@ -11,15 +11,15 @@ use Rattle.conspoint.specs.MapFiles.{map_nodes}
 use Rattle.inofile.specs.declared.inode_file.Slot.{Slot}
 use Rattle.inofile.specs.declared.inode_file.Slot.TheVariants.{AsSettled, Loaded, Changed}
 use Rattle.inofile.specs.declared.inode_file.InodeFile.{InodeFile}
-use Rattle.placement.specs.Space.{file_nodes}
+use Rattle.placement.specs.Space.{file_nodes, file_stores}
 
--- the blocks of what memory has of a number, where a point stores it
+-- the blocks that a point stores of what memory has of a number
 abbrev pub slot_nodes : Option Slot → ℕ
 slot_nodes None = 0
 slot_nodes (Some AsSettled) = 0
 slot_nodes (Some (Loaded object)) = 0
 slot_nodes (Some (Changed None)) = 0
-slot_nodes (Some (Changed (Some object))) = file_nodes object.file.size
+slot_nodes (Some (Changed (Some object))) = file_stores object.file
 
 -- those of a number
 abbrev pub number_nodes : InodeFile → ℕ → ℕ

@@ -127,6 +127,8 @@ pub(crate) fn plan_last<B: Blocks>(
         → IsOverTree (B.count blocks.old) disk settled inodes.now v before
         → IsSoundAt (B.count blocks.old) disk file.now.tree 0
         → IsErrOf result PlanError.Damaged → ⊥ }
+    ensures takes { OnOk result (TakesAtMost (map_file_nodes draft.old.map.count)
+        draft.old draft.new) }
     ensures lacks { IsErrOf result PlanError.NoSpace
         → Lacks (map_file_nodes draft.old.map.count) draft.old }
 {

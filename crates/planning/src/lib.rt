@@ -2,6 +2,7 @@
 #![tactic(auto)]
 
 mod block_map;
+mod counts;
 mod inode_blocks;
 mod inode_map;
 mod number;
@@ -9,4 +10,5 @@ mod placing;
 mod points;
 mod top;
 
+pub use counts::point_blocks;
 pub use points::{Point, plan};

@@ -17,7 +17,7 @@ ghost use Rattle.inofile.specs.Inodes.{IsChanged, files_of};
 ghost use Rattle.conspoint.specs.Drafts.{Grows, IsFull, IsReserved, OnEach, WasTaken};
 ghost use Rattle.conspoint.specs.Errors.{IsReadFault};
 ghost use Rattle.conspoint.specs.Space.{Lacks, TakesAtMost};
-ghost use Rattle.placement.specs.Space.{file_nodes};
+ghost use Rattle.placement.specs.Space.{file_stores};
 ghost use Rattle.placement.specs.Files.{IsPlaced, is_one, object_content};
 ghost use Rattle.planning.specs.Space.{number_nodes};
 ghost use Rattle.planning.specs.Numbers.{IsCleared, IsNumberPlaced, IsOverSettled, IsSettledFile, IsObjectOver, trimmed};
@@ -99,8 +99,8 @@ fn place_object<B: Blocks>(
         → IfOk result (λ p. OnEach draft.new (λ e. Agrees (Names (held disk settled)) disk e
         → content_of (held e p.inode) ≡ object_content disk object.now)) }
     ensures full { IsErrOf result PlanError.NoSpace → IsFull draft.new }
-    ensures takes { OnOk result (TakesAtMost (file_nodes object.now.file.size) draft.old draft.new) }
-    ensures lacks { IsErrOf result PlanError.NoSpace → Lacks (file_nodes object.now.file.size) draft.old }
+    ensures takes { OnOk result (TakesAtMost (file_stores object.now.file) draft.old draft.new) }
+    ensures lacks { IsErrOf result PlanError.NoSpace → Lacks (file_stores object.now.file) draft.old }
     ensures damaged { (s : Sizes) (disk : ℕ → List ℕ) → B.Shows blocks.old disk
         → IsSettledFile s draft.old disk settled → IsObjectOver s disk settled object.now
         → IsErrOf result PlanError.Damaged → ⊥ }

@@ -1,6 +1,6 @@
 //! The whole plan of a consistency point.
 
-ghost use Rattle.std.specs.Prelude.{ℕ, ◌≡◌, ◌*◌, ◌<◌, ◌≤◌, List, IfErr, IfOk, OnOk, IsErrOf};
+ghost use Rattle.std.specs.Prelude.{ℕ, ◌≡◌, ◌+◌, ◌*◌, ◌<◌, ◌≤◌, List, IfErr, IfOk, OnOk, IsErrOf};
 ghost use Rattle.layout.specs.Inode.{IsInode};
 ghost use Rattle.layout.specs.Limits.{AreSizes};
 ghost use Rattle.layout.specs.Places.{blocks_of};
@@ -14,6 +14,7 @@ ghost use Rattle.model.specs.Volumes.{Volume};
 ghost use Rattle.buffers.specs.Reads.{ReadsBlocks};
 ghost use Rattle.blocktree.specs.Trees.{IsSoundAt, KeepsSound, SameSettled};
 ghost use Rattle.blockmap.specs.Maps.{settled_at};
+ghost use Rattle.blockmap.specs.Space.{left};
 ghost use Rattle.conspoint.specs.Drafts.{Grows};
 ghost use Rattle.conspoint.specs.Errors.{IsReadFault};
 ghost use Rattle.conspoint.specs.Plans.{FitsDisk, IsSlot};
@@ -108,6 +109,8 @@ fn plan_files<B: Blocks>(
         → B.Shows blocks.old disk
         → IsPlanStart (B.count blocks.old) draft.old disk root.now settled inodes.now v before
         → IsErrOf result PlanError.Damaged → ⊥ }
+    ensures takes { OnOk result (TakesAtMost
+        (point_nodes root.now inodes.now draft.old.map.count) draft.old draft.new) }
     ensures lacks { IsErrOf result PlanError.NoSpace
         → Lacks (point_nodes root.now inodes.now draft.old.map.count) draft.old }
 {
@@ -172,6 +175,8 @@ fn plan_root<B: Blocks>(
         → B.Shows blocks.old disk
         → IsPlanStart (B.count blocks.old) draft.old disk root.now settled inodes.now v before
         → IsErrOf result PlanError.Damaged → ⊥ }
+    ensures takes { OnOk result (TakesAtMost
+        (point_nodes root.now inodes.now draft.old.map.count) draft.old draft.new) }
     ensures lacks { IsErrOf result PlanError.NoSpace
         → Lacks (point_nodes root.now inodes.now draft.old.map.count) draft.old }
 {
@@ -182,8 +187,8 @@ fn plan_root<B: Blocks>(
 }
 
 /// Plans a consistency point that settles all that memory has changed: every place and every byte of it, and its root. Nothing
-/// is written. Where it fails, the map has no change. For want of space it fails only where fewer blocks are left to be given out
-/// than the files that it stores have, each counted as a whole.
+/// is written. Where it fails, the map has no change. It gives out no more blocks than are counted for what changed
+/// (`point_blocks` tells how many), and for want of space it fails only where fewer are left.
 pub fn plan<B: Blocks>(
     alloc: Global,
     blocks: &mut B,
@@ -226,6 +231,8 @@ pub fn plan<B: Blocks>(
         → B.Shows blocks.old (blocks_of d)
         → IsPlannable root.now d slot generation map inodes.now first v snapshots
         → IsErrOf result.1 PlanError.Damaged → ⊥ }
+    ensures takes { OnOk result.1
+        (left map ≤ left result.0 + point_nodes root.now inodes.now map.count) }
     ensures full { IsErrOf result.1 PlanError.NoSpace → LacksBlocks root.now inodes.now map }
 {
     inodes_are_what_their_bytes_spell();

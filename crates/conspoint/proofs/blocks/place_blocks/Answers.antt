@@ -1,4 +1,4 @@
-use Rattle.std.proofs.Common.{◌≡◌, ◌≢◌, ℕ, ◌<◌, ◌≤◌, List, length, length-append, ap, sym, subst, ◌∙◌, arith}
+use Rattle.std.proofs.Common.{◌≡◌, ◌≢◌, ℕ, ◌<◌, ◌≤◌, List, length, length-append, ap, sym, subst, ◌∙◌, arith, rules}
 use Rattle.std.proofs.lemmas.List.{get_or_default}
 use Rattle.layout.specs.Places.{pointed}
 use Rattle.layout.specs.declared.pointer.Pointer.{Pointer}
@@ -7,7 +7,9 @@ use Rattle.blocktree.specs.Trees.{IsChanged}
 use Rattle.conspoint.specs.Blocks.{changed_or}
 use Rattle.conspoint.specs.Groups.{pointer_at, ComesFrom}
 use Rattle.conspoint.proofs.DraftLemmas.{grows_twice}
+use Rattle.conspoint.specs.Space.{block_stores}
 use Rattle.conspoint.proofs.GroupLemmas.{placed_more, each_more}
+use Rattle.conspoint.proofs.SumLemmas.{is_in_sum, one_more}
 use Rattle.conspoint.proofs.blocks.place_blocks.Goals as goal
 
 pub returns-in_err-place_block-clause-grows : goal.returns-in_err-place_block-clause-grows
@@ -37,8 +39,14 @@ loop-i-preserved c =
           c.in_ok-place_block.ensures.stored);
       blocks = λ e has. rw c.in_ok-push.ensures.items (each_more (λ j q. c.args.first ≤ j → pointed e q ≡ changed_or c.args.tree.now j (pointed e (pointer_at settled j))) nodes p i so_far.count (so_far.blocks e (now.has e has))
           (rw settled_is at (c.in_ok-place_block.ensures.block e has)));
-      takes = omega (arith, so_far.takes, c.in_ok-place_block.ensures.takes);
+      unchanged = rw c.in_ok-push.ensures.items (each_more (λ j q. (IsChanged c.args.tree.now j → ⊥) → q ≡ pointer_at settled j) nodes p i so_far.count so_far.unchanged
+          (λ not. c.in_ok-place_block.ensures.unchanged not ∙ settled_is));
+      takes = omega (arith, so_far.takes, c.in_ok-place_block.ensures.takes, one_more (block_stores c.args.tree.now c.args.first) i);
       parts = c.place_block.ensures.parts ∙ so_far.parts;
       others = λ x is. c.place_block.ensures.others x (so_far.others x is);
       placed = rw c.in_ok-push.ensures.items (placed_more c.args.draft.now c.loop-i.draft c.place_block.new.draft settled nodes p so_far.grows now so_far.placed from c.in_ok-place_block.ensures.within);
     }
+
+pub returns-in_err-place_block-clause-lacks : goal.returns-in_err-place_block-clause-lacks
+returns-in_err-place_block-clause-lacks c = λ bad.
+    omega (arith, c.loop-i.invariant.takes, c.in_err-place_block.ensures.lacks (search rules), is_in_sum (block_stores c.args.tree.now c.args.first) c.loop-i.i (length c.args.settled.now) c.loop-i-test.true)

@@ -1,6 +1,10 @@
-use Rattle.std.proofs.Common.{◌≡◌, ℕ, List, refl, ap, length, ◌<◌, ◌∙◌, arith}
+use Rattle.std.proofs.Common.{◌≡◌, inl, inr, ℕ, List, refl, ap, length, ◌<◌, ◌∙◌, arith, rules}
+use Rattle.layout.specs.declared.pointer.Pointer.{Pointer}
+use Rattle.layout.specs.declared.pointer.Pointer.TheVariants.{Hole}
 use Rattle.layout.specs.Maps.{indirect_pointer}
+use Rattle.conspoint.specs.Groups.{pointer_at}
 use Rattle.conspoint.specs.Groups.IsGroup.{spells}
+use Rattle.conspoint.specs.Space.{StoresNone}
 use Rattle.conspoint.proofs.group.place_group.Goals as goal
 
 pub returns-clause-group : goal.returns-clause-group
@@ -12,3 +16,23 @@ returns-clause-group c e has =
     spells c.in_ok-place.place refl (ap (λ (xs : List ℕ). length xs) there ∙ size)
     (λ i lt. ap (λ (xs : List ℕ). indirect_pointer xs i) there ∙ c.spell.ensures.spelled i lt)
     (c.in-Some.field-0, low, found.1)
+
+-- a node moved, and a node is no hole
+stores : (old new : List Pointer) (k : ℕ) → k < 1024 → (pointer_at new k ≡ Hole → ⊥) → (((i : ℕ) → i < length new → pointer_at new i ≡ pointer_at old i) → ⊥) → length new ≡ 1024
+    → StoresNone (pointer_at old) (pointer_at new) → ⊥
+stores old new k low some moved count none = elim none [
+  | inl same ↦ moved (λ i lt. same i (omega (arith, lt, count)))
+  | inr holes ↦ some (holes k low)
+]
+
+pub returns-clause-takes_none : goal.returns-clause-takes_none
+returns-clause-takes_none c = λ none.
+    let found = c.in-Some.ensures.found in
+    absurd (stores c.args.old.now c.args.new.now c.in-Some.field-0 (omega (arith, found.0, c.requires.new)) found.1
+    (λ same. let is = c.same_pointers.ensures.1 same in let not = c.if-same_pointers.false in search (rules, is, not)) c.requires.new none)
+
+pub returns-in_err-place-clause-lacks_none : goal.returns-in_err-place-clause-lacks_none
+returns-in_err-place-clause-lacks_none c = λ bad none.
+    let found = c.in-Some.ensures.found in
+    stores c.args.old.now c.args.new.now c.in-Some.field-0 (omega (arith, found.0, c.requires.new)) found.1
+    (λ same. let is = c.same_pointers.ensures.1 same in let not = c.if-same_pointers.false in search (rules, is, not)) c.requires.new none

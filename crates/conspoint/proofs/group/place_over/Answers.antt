@@ -1,10 +1,11 @@
-use Rattle.std.proofs.Common.{◌≡◌, ℕ, List, length, length-append, ap, sym, subst, ◌∙◌, arith}
+use Rattle.std.proofs.Common.{◌≡◌, ℕ, List, length, length-append, ap, sym, subst, ◌∙◌, arith, rules}
 use Rattle.layout.specs.declared.pointer.Pointer.{Pointer}
 use Rattle.layout.specs.declared.pointer.Pointer.TheVariants.{Hole}
 use Rattle.conspoint.specs.Groups.{pointer_at, group, IsGroup, ComesFrom}
 use Rattle.std.proofs.lemmas.List.{get_or_default}
 use Rattle.conspoint.proofs.DraftLemmas.{grows_twice}
-use Rattle.conspoint.proofs.GroupLemmas.{placed_more, part_group, each_more}
+use Rattle.conspoint.proofs.GroupLemmas.{placed_more, part_group, part_none, each_more}
+use Rattle.conspoint.proofs.SpaceLemmas.{group_takes, group_lacks}
 use Rattle.conspoint.proofs.group.place_over.Goals as goal
 
 pub returns-in_err-place_group-clause-grows : goal.returns-in_err-place_group-clause-grows
@@ -28,7 +29,8 @@ loop-j-preserved c =
       groups = λ e has. rw c.in_ok-push.ensures.items (each_more (λ i q. IsGroup e (pointer_at settled i) (group c.args.old.now i) (group c.args.new.now i) q) over p j so_far.count (so_far.groups e (now.has e has))
           (part_group e (pointer_at settled j) p c.args.old.now c.args.new.now j (rw settled_is at (c.in_ok-place_group.ensures.group e has))));
       count = ap (λ (xs : List Pointer). length xs) c.in_ok-push.ensures.items ∙ length-append over _ ∙ omega (arith, so_far.count);
-      takes = omega (arith, so_far.takes, c.in_ok-place_group.ensures.takes);
+      takes = λ w counts. group_takes c.args.draft.now c.loop-j.draft c.place_group.new.draft w j (so_far.takes w counts) c.in_ok-place_group.ensures.takes
+          (λ none. c.in_ok-place_group.ensures.takes_none (part_none c.args.old.now c.args.new.now j (counts j c.loop-j-test.true none)));
       parts = c.place_group.ensures.parts ∙ so_far.parts;
       others = λ x is. c.place_group.ensures.others x (so_far.others x is);
       placed = rw c.in_ok-push.ensures.items (placed_more c.args.draft.now c.loop-j.draft c.place_group.new.draft settled over p so_far.grows now so_far.placed from c.in_ok-place_group.ensures.within);
@@ -36,3 +38,8 @@ loop-j-preserved c =
 
 pub returns-clause-groups : goal.returns-clause-groups
 returns-clause-groups c e has j lt = c.loop-j.invariant.groups e has j (omega (arith, lt, c.loop-j-test.false))
+
+pub returns-in_err-place_group-clause-lacks : goal.returns-in_err-place_group-clause-lacks
+returns-in_err-place_group-clause-lacks c = λ bad w counts.
+    group_lacks c.args.draft.now c.loop-j.draft w c.loop-j.j (length c.args.settled.now) c.loop-j-test.true (c.loop-j.invariant.takes w counts) (c.in_err-place_group.ensures.lacks (search rules))
+    (λ none. c.in_err-place_group.ensures.lacks_none (search rules) (part_none c.args.old.now c.args.new.now c.loop-j.j (counts c.loop-j.j c.loop-j-test.true none)))

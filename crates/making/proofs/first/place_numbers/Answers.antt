@@ -1,4 +1,4 @@
-use Rattle.std.proofs.Common.{ℕ, List, length, true, refl, sym, subst, rules}
+use Rattle.std.proofs.Common.{ℕ, List, length, true, refl, sym, subst, rules, arith}
 use Rattle.conspoint.specs.Marks.{AreMarked}
 use Rattle.layout.specs.declared.kind.Kind.TheVariants as kinds
 use Rattle.images.specs.Roots.{free_inode}
@@ -6,6 +6,7 @@ use Rattle.placement.specs.Files.{is_one}
 use Rattle.making.specs.Starts.{nothing}
 use Rattle.making.proofs.DraftLaws.{grows_twice, has_file, own_change, refused, shortage}
 use Rattle.making.proofs.NumbersLaws.{numbers_end, numbers_on}
+use Rattle.making.proofs.RoomLaws.{numbers_few}
 use Rattle.making.proofs.first.place_numbers.Goals as goal
 
 pub returns-in_err-mark_all-clause-grows : goal.returns-in_err-mark_all-clause-grows
@@ -49,3 +50,14 @@ returns-clause-numbers c = λ e has.
     numbers_on e placed.inode o s.inodes c.in_ok-object.ensures.attributes c.in_ok-object.ensures.size c.inodes.ensures.within.least_inodes (c.in_ok-object.ensures.blocks nothing)
     (c.in_ok-placed.ensures.content s nothing free_inode (λ place. refl) change e before (λ b names. absurd (law.none nothing b names)))
     (c.in_ok-placed.ensures.whole s nothing free_inode (λ place. refl) change c.in_ok-object.ensures.changed e before (λ b names. absurd (law.none nothing b names)))
+
+pub returns-clause-takes : goal.returns-clause-takes
+returns-clause-takes c =
+    let few = numbers_few c.in_ok-object.object.file c.args.geometry.inodes c.in_ok-object.ensures.size c.inodes.ensures.within.most_inodes in
+    omega (arith, few, c.in_ok-placed.ensures.takes, c.mark_all.ensures.left)
+
+pub returns-in_err-placed-clause-lacks : goal.returns-in_err-placed-clause-lacks
+returns-in_err-placed-clause-lacks c = λ bad.
+    let few = numbers_few c.in_ok-object.object.file c.args.geometry.inodes c.in_ok-object.ensures.size c.inodes.ensures.within.most_inodes in
+    let lacks = c.in_err-placed.ensures.lacks (search rules) in
+    omega (arith, few, lacks)

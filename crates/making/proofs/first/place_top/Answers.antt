@@ -1,4 +1,4 @@
-use Rattle.std.proofs.Common.{ℕ, List, length, true, refl, sym, subst, rules}
+use Rattle.std.proofs.Common.{ℕ, List, length, true, refl, sym, subst, rules, arith}
 use Rattle.conspoint.specs.Marks.{AreMarked}
 use Rattle.layout.specs.declared.kind.Kind.TheVariants as kinds
 use Rattle.images.specs.Roots.{free_inode}
@@ -6,6 +6,7 @@ use Rattle.placement.specs.Files.{is_one}
 use Rattle.making.specs.Starts.{nothing}
 use Rattle.making.proofs.DraftLaws.{grows_twice, has_file, own_change, refused, shortage}
 use Rattle.making.proofs.TopLaws.{zeros_end, top_on}
+use Rattle.making.proofs.RoomLaws.{top_few}
 use Rattle.making.proofs.first.place_top.Goals as goal
 
 pub returns-in_err-mark_all-clause-grows : goal.returns-in_err-mark_all-clause-grows
@@ -47,3 +48,14 @@ returns-in_err-all-clause-shortage c =
     (zeros_end o.file (c.inode_file-object.ensures.blocks nothing)) c.inode_file-object.ensures.attributes (refl, refl, c.inode_file-object.ensures.size) in
     refused c.in_err-all.field-0.0 c.from_residual.result (search rules)
     (shortage c.in_err-all.field-0.0 c.in_err-all.ensures.device (c.in_err-all.ensures.damaged s nothing free_inode (λ place. refl) change))
+
+pub returns-clause-takes : goal.returns-clause-takes
+returns-clause-takes c =
+    let few = top_few c.inode_file-object.result.file c.inode_file-object.ensures.unchanged in
+    omega (arith, few, c.in_ok-all.ensures.takes, c.mark_all.ensures.left)
+
+pub returns-in_err-all-clause-lacks : goal.returns-in_err-all-clause-lacks
+returns-in_err-all-clause-lacks c = λ bad.
+    let few = top_few c.inode_file-object.result.file c.inode_file-object.ensures.unchanged in
+    let lacks = c.in_err-all.ensures.lacks (search rules) in
+    omega (arith, few, lacks)

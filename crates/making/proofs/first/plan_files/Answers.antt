@@ -1,7 +1,9 @@
-use Rattle.std.proofs.Common.{◌∙◌}
+use Rattle.std.proofs.Common.{◌∙◌, rules, arith}
+use Rattle.std.specs.Int.{div_ceil}
 use Rattle.conspoint.specs.Cuts.{disk_with_blocks}
 use Rattle.making.specs.Starts.{nothing}
 use Rattle.making.proofs.DraftLaws.{grows_twice}
+use Rattle.making.proofs.RoomLaws.{empty_left, map_few}
 use Rattle.making.proofs.TreeLaws.{all_planned}
 use Rattle.making.proofs.first.plan_files.Goals as goal
 
@@ -33,3 +35,22 @@ returns-clause-tree c =
     (λ e has. c.in_ok-put.ensures.stored e has ∙ c.in_ok-first_block.ensures.bytes)
     c.in_ok-first_block.ensures.numbers c.in_ok-first_block.ensures.map c.in_ok-first_block.ensures.directory
     (disk_with_blocks d4.blocks.items nothing) (c.written_disks_have_the_blocks.ensures.has d4.blocks.items nothing d4.drafted.planned.apart)
+
+pub returns-in_err-numbers-clause-room : goal.returns-in_err-numbers-clause-room
+returns-in_err-numbers-clause-room c = λ bad.
+    let all = empty_left c.args.geometry.blocks c.args.draft.now.map c.requires.map in
+    let lacks = c.in_err-numbers.ensures.lacks (search rules) in
+    omega (arith, all, lacks, c.blocks-2.ensures.within.least_blocks)
+
+pub returns-in_err-top-clause-room : goal.returns-in_err-top-clause-room
+returns-in_err-top-clause-room c = λ bad.
+    let all = empty_left c.args.geometry.blocks c.args.draft.now.map c.requires.map in
+    let lacks = c.in_err-top.ensures.lacks (search rules) in
+    omega (arith, all, c.in_ok-numbers.ensures.takes, lacks, c.blocks-2.ensures.within.least_blocks)
+
+pub returns-in_err-map-clause-room : goal.returns-in_err-map-clause-room
+returns-in_err-map-clause-room c = λ bad.
+    let blocks = c.args.geometry.blocks in
+    let all = empty_left blocks c.args.draft.now.map c.requires.map in
+    let lacks = c.in_err-map.ensures.lacks (search rules) in
+    omega (arith, all, c.in_ok-numbers.ensures.takes, c.in_ok-top.ensures.takes, lacks, map_few (div_ceil blocks 1024), c.blocks-2.ensures.within.least_blocks)

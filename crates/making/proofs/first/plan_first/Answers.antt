@@ -1,9 +1,10 @@
-use Rattle.std.proofs.Common.{◌≤◌, refl, subst, sym}
+use Rattle.std.proofs.Common.{◌≤◌, refl, subst, sym, rules}
 use Rattle.std.specs.Prelude.{All}
 use Rattle.conspoint.specs.Cuts.{disk_with_blocks}
 use Rattle.conspoint.specs.Drafts.{HasAll}
 use Rattle.conspoint.specs.Plans.{Planned}
 use Rattle.making.specs.Starts.{nothing}
+use Rattle.making.proofs.RoomLaws.{memory_alone, refused_so}
 use Rattle.making.proofs.RootLaws.{first_is, root_is}
 use Rattle.making.proofs.first.plan_first.Goals as goal
 
@@ -22,3 +23,8 @@ returns-clause-holds c = λ e all.
 pub returns-clause-behind : goal.returns-clause-behind
 returns-clause-behind c =
     subst (λ (p : Planned). All (λ b. 2 ≤ b.place) p.blocks) (sym c.into_plan-map.ensures.plan) c.plan_files.new.draft.drafted.planned.behind
+
+pub returns-in_err-inode_file-clause-memory : goal.returns-in_err-inode_file-clause-memory
+returns-in_err-inode_file-clause-memory c =
+    let e = c.in_err-inode_file.field-0.0 in
+    refused_so e c.from_residual-in_err-inode_file.result (search rules) (memory_alone e c.in_err-inode_file.ensures.shortage c.in_err-inode_file.ensures.room)

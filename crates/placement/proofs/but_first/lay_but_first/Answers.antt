@@ -1,7 +1,13 @@
-use Rattle.std.proofs.Common.{List, sym, subst, ◌∙◌}
+use Rattle.std.proofs.Common.{◌≡◌, ◌≤◌, ◌+◌, ◌/◌, List, length, ap, sym, subst, ◌∙◌, arith, rules}
+use Rattle.std.specs.Prelude.{min}
+use Rattle.layout.specs.Version.{level_of}
+use Rattle.blocktree.specs.Places.{block_count}
+use Rattle.conspoint.specs.Space.{TakesAtMost, block_stores, changed_blocks, sum_below}
+use Rattle.placement.specs.Space.{over_nodes}
 use Rattle.layout.specs.declared.pointer.Pointer.{Pointer}
 use Rattle.placement.specs.Files.{object_block, with_first}
 use Rattle.placement.specs.Nodes.{ArePlacedAt}
+use Rattle.placement.proofs.CostLaws.{counts_groups, not_changed, one_added, some_index, some_stored, stores_some, weights_most, with_one}
 use Rattle.placement.proofs.PlacedLaws.{grows_twice, placed_over}
 use Rattle.placement.proofs.StandLaws.{block_is, first_is}
 use Rattle.placement.proofs.but_first.lay_but_first.Goals as goal
@@ -29,3 +35,39 @@ returns-clause-stands c = λ s disk base change known e has same.
     (first_is e nodes first (object_block disk o) c.in_ok-placed.ensures.first
     (λ i some. block_is disk e base o c.args.settled.now known same nodes i (c.in_ok-placed.ensures.count ∙ c.block_count-count.ensures)
     (λ lt. (rw (c.deref.ensures.value, c.tree.ensures, c.block_count-count.ensures) at (c.in_ok-placed.ensures.blocks e (before.has e has))) i lt some)))
+
+pub returns-clause-takes : goal.returns-clause-takes
+returns-clause-takes c =
+    let o = c.args.object.now in
+    let t = o.file.tree in
+    let blocks = c.in_ok-placed.placed.0.items in
+    let count = block_count o.file.size in
+    let level : 1 ≤ level_of o.file.size = search rules in
+    let size : length blocks ≡ count = c.in_ok-placed.ensures.count ∙ c.block_count-count.ensures in
+    let counts = counts_groups (with_one (block_stores t 1)) t.kept (over_nodes (level_of o.file.size) count) c.args.settled.now blocks c.requires.few
+    (λ i lt none. (rw (c.deref.ensures.value, c.tree.ensures) at (c.in_ok-placed.ensures.unchanged i (omega (arith, lt, c.in_ok-placed.ensures.count)) (some_index (block_stores t 1) i none)
+    (rw c.tree.ensures (not_changed t 1 i (some_index (block_stores t 1) i none) (some_stored (block_stores t 1) i none)))))) in
+    let most = weights_most (with_one (block_stores t 1)) (length blocks) (min t.kept (length blocks) / 1024) (over_nodes (level_of o.file.size) count) in
+    let lowest : TakesAtMost (changed_blocks t 1 count + 1) c.args.draft.now c.place_but_first.new.draft = rw (c.tree.ensures, c.block_count-count.ensures) at c.in_ok-placed.ensures.takes in
+    let same : sum_below (with_one (block_stores t 1)) (length blocks) ≡ sum_below (with_one (block_stores t 1)) count = ap (sum_below (with_one (block_stores t 1))) size in
+    let is = stores_some (level_of o.file.size) count (changed_blocks t 1 count + 1) level in
+    let added = one_added (block_stores t 1) count in
+    omega (arith, c.in_ok-laid.ensures.takes _ counts, most, lowest, same, is, added)
+
+pub returns-in_err-laid-clause-lacks : goal.returns-in_err-laid-clause-lacks
+returns-in_err-laid-clause-lacks c = λ bad.
+    let o = c.args.object.now in
+    let t = o.file.tree in
+    let blocks = c.in_ok-placed.placed.0.items in
+    let count = block_count o.file.size in
+    let level : 1 ≤ level_of o.file.size = search rules in
+    let size : length blocks ≡ count = c.in_ok-placed.ensures.count ∙ c.block_count-count.ensures in
+    let counts = counts_groups (with_one (block_stores t 1)) t.kept (over_nodes (level_of o.file.size) count) c.args.settled.now blocks c.requires.few
+    (λ i lt none. (rw (c.deref.ensures.value, c.tree.ensures) at (c.in_ok-placed.ensures.unchanged i (omega (arith, lt, c.in_ok-placed.ensures.count)) (some_index (block_stores t 1) i none)
+    (rw c.tree.ensures (not_changed t 1 i (some_index (block_stores t 1) i none) (some_stored (block_stores t 1) i none)))))) in
+    let most = weights_most (with_one (block_stores t 1)) (length blocks) (min t.kept (length blocks) / 1024) (over_nodes (level_of o.file.size) count) in
+    let lowest : TakesAtMost (changed_blocks t 1 count + 1) c.args.draft.now c.place_but_first.new.draft = rw (c.tree.ensures, c.block_count-count.ensures) at c.in_ok-placed.ensures.takes in
+    let same : sum_below (with_one (block_stores t 1)) (length blocks) ≡ sum_below (with_one (block_stores t 1)) count = ap (sum_below (with_one (block_stores t 1))) size in
+    let is = stores_some (level_of o.file.size) count (changed_blocks t 1 count + 1) level in
+    let added = one_added (block_stores t 1) count in
+    omega (arith, c.in_err-laid.ensures.lacks (search rules) _ counts, most, lowest, same, is, added)

@@ -1,7 +1,13 @@
-use Rattle.std.proofs.Common.{List, sym, subst, ◌∙◌, arith}
+use Rattle.std.proofs.Common.{◌≡◌, ◌≤◌, ◌/◌, List, length, ap, sym, subst, ◌∙◌, arith, rules}
+use Rattle.std.specs.Prelude.{min}
+use Rattle.layout.specs.Version.{level_of}
+use Rattle.blocktree.specs.Places.{block_count}
+use Rattle.conspoint.specs.Space.{TakesAtMost, block_stores, changed_blocks, sum_below}
+use Rattle.placement.specs.Space.{over_nodes}
 use Rattle.layout.specs.declared.pointer.Pointer.{Pointer}
 use Rattle.placement.specs.Files.{object_block}
 use Rattle.placement.specs.Nodes.{ArePlacedAt}
+use Rattle.placement.proofs.CostLaws.{counts_groups, not_changed, stores_some, weights_most}
 use Rattle.placement.proofs.PlacedLaws.{grows_twice, placed_over}
 use Rattle.placement.proofs.StandLaws.{block_is}
 use Rattle.placement.proofs.file.lay_blocks.Goals as goal
@@ -27,3 +33,35 @@ returns-clause-stands c = λ s disk base change known e has same.
     c.in_ok-laid.ensures.stands s disk base (change.blocks ∙ sym c.place_lowest.ensures.grows.count) change.sound known e has same (object_block disk o)
     (λ i. block_is disk e base o c.args.settled.now known same nodes i (c.in_ok-blocks.ensures.count ∙ c.block_count-count.ensures)
     (λ lt. (rw (c.deref.ensures.value, c.tree.ensures, c.block_count-count.ensures) at (c.in_ok-blocks.ensures.blocks e (before.has e has))) i lt (omega arith)))
+
+pub returns-clause-takes : goal.returns-clause-takes
+returns-clause-takes c =
+    let o = c.args.object.now in
+    let t = o.file.tree in
+    let blocks = c.in_ok-blocks.blocks.items in
+    let count = block_count o.file.size in
+    let level : 1 ≤ level_of o.file.size = c.requires.level in
+    let size : length blocks ≡ count = c.in_ok-blocks.ensures.count ∙ c.block_count-count.ensures in
+    let counts = counts_groups (block_stores t 0) t.kept (over_nodes (level_of o.file.size) count) c.args.settled.now blocks c.requires.few
+    (λ i lt none. (rw (c.deref.ensures.value, c.tree.ensures) at (c.in_ok-blocks.ensures.unchanged i (omega (arith, lt, c.in_ok-blocks.ensures.count)) (rw c.tree.ensures (not_changed t 0 i (omega arith) none))))) in
+    let most = weights_most (block_stores t 0) (length blocks) (min t.kept (length blocks) / 1024) (over_nodes (level_of o.file.size) count) in
+    let lowest : TakesAtMost (changed_blocks t 0 count) c.args.draft.now c.place_lowest.new.draft = rw (c.tree.ensures, c.block_count-count.ensures) at c.in_ok-blocks.ensures.takes in
+    let same : sum_below (block_stores t 0) (length blocks) ≡ sum_below (block_stores t 0) count = ap (sum_below (block_stores t 0)) size in
+    let is = stores_some (level_of o.file.size) count (changed_blocks t 0 count) level in
+    omega (arith, c.in_ok-laid.ensures.takes _ counts, most, lowest, same, is)
+
+pub returns-in_err-laid-clause-lacks : goal.returns-in_err-laid-clause-lacks
+returns-in_err-laid-clause-lacks c = λ bad.
+    let o = c.args.object.now in
+    let t = o.file.tree in
+    let blocks = c.in_ok-blocks.blocks.items in
+    let count = block_count o.file.size in
+    let level : 1 ≤ level_of o.file.size = c.requires.level in
+    let size : length blocks ≡ count = c.in_ok-blocks.ensures.count ∙ c.block_count-count.ensures in
+    let counts = counts_groups (block_stores t 0) t.kept (over_nodes (level_of o.file.size) count) c.args.settled.now blocks c.requires.few
+    (λ i lt none. (rw (c.deref.ensures.value, c.tree.ensures) at (c.in_ok-blocks.ensures.unchanged i (omega (arith, lt, c.in_ok-blocks.ensures.count)) (rw c.tree.ensures (not_changed t 0 i (omega arith) none))))) in
+    let most = weights_most (block_stores t 0) (length blocks) (min t.kept (length blocks) / 1024) (over_nodes (level_of o.file.size) count) in
+    let lowest : TakesAtMost (changed_blocks t 0 count) c.args.draft.now c.place_lowest.new.draft = rw (c.tree.ensures, c.block_count-count.ensures) at c.in_ok-blocks.ensures.takes in
+    let same : sum_below (block_stores t 0) (length blocks) ≡ sum_below (block_stores t 0) count = ap (sum_below (block_stores t 0)) size in
+    let is = stores_some (level_of o.file.size) count (changed_blocks t 0 count) level in
+    omega (arith, c.in_err-laid.ensures.lacks (search rules) _ counts, most, lowest, same, is)

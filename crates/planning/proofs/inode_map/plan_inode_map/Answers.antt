@@ -10,6 +10,7 @@ use Rattle.placement.specs.Files.{is_one}
 use Rattle.placement.specs.Space.{file_nodes}
 use Rattle.planning.specs.Plans.{IsInodeMapOn}
 use Rattle.planning.specs.Steps.{settled_tree}
+use Rattle.planning.proofs.SpaceLaws.{stores_within}
 use Rattle.planning.proofs.JoinLaws.{map_planned, map_stays, marked_over, taken_later}
 use Rattle.planning.proofs.NumberLaws.{grows_twice}
 use Rattle.planning.proofs.OwnLaws.{held_bytes, kind_of, map_bytes, map_change, map_kind, map_size_is, map_whole}
@@ -129,9 +130,9 @@ returns-clause-planned g c = λ disk settled v before found shows memory no_hole
 pub returns-in_err-placed-clause-lacks : goal.returns-in_err-placed-clause-lacks
 returns-in_err-placed-clause-lacks g c = λ bad.
     let size = ap file_nodes (c.put_parts.ensures.size ∙ c.in_ok-object.ensures.size ∙ c.in_ok-settled.ensures.size) in
-    omega (arith, size, c.in_err-placed.ensures.lacks (search rules))
+    omega (arith, size, c.in_err-placed.ensures.lacks (search rules), stores_within c.put_parts.new.file)
 
 pub returns-clause-takes : goal.returns-clause-takes
 returns-clause-takes g c =
     let size = ap file_nodes (c.put_parts.ensures.size ∙ c.in_ok-object.ensures.size ∙ c.in_ok-settled.ensures.size) in
-    omega (arith, size, c.in_ok-placed.ensures.takes, c.mark_placed.ensures.left)
+    omega (arith, size, c.in_ok-placed.ensures.takes, c.mark_placed.ensures.left, stores_within c.put_parts.new.file)

@@ -5,6 +5,7 @@ use Rattle.inode.specs.Files.{file_block}
 use Rattle.inode.specs.declared.object.Object.{Object}
 use Rattle.placement.specs.Files.{IsChangeOf}
 use Rattle.placement.specs.Space.{file_nodes}
+use Rattle.planning.proofs.SpaceLaws.{stores_within}
 use Rattle.planning.proofs.NumberLaws.{cleared_change, is_cleared, cut_off}
 use Rattle.planning.proofs.placing.clear.Goals as goal
 
@@ -30,9 +31,9 @@ pub returns-in_err-placed-clause-some : goal.returns-in_err-placed-clause-some
 returns-in_err-placed-clause-some g c = λ bad.
     let none : file_nodes c.set_size.new.self.size ≡ 0 = ap file_nodes c.set_size.ensures.size in
     let lacks = c.in_err-placed.ensures.lacks (search rules) in
-    omega (arith, none, lacks)
+    omega (arith, none, lacks, stores_within c.set_size.new.self)
 
 pub returns-clause-takes : goal.returns-clause-takes
 returns-clause-takes g c =
     let none : file_nodes c.set_size.new.self.size ≡ 0 = ap file_nodes c.set_size.ensures.size in
-    omega (arith, none, c.in_ok-placed.ensures.takes)
+    omega (arith, none, c.in_ok-placed.ensures.takes, stores_within c.set_size.new.self)

@@ -1,7 +1,6 @@
-use Rattle.std.proofs.Common.{◌≡◌, [], rules, arith}
+use Rattle.std.proofs.Common.{◌≡◌, rules, arith}
 use Rattle.std.specs.Ordering.{nat_cmp}
 use Rattle.std.specs.BTreeMap as tree
-use Rattle.images.specs.Roots.{free_inode}
 use Rattle.planning.proofs.LoopLaws.{changed_known}
 use Rattle.planning.proofs.SpaceLaws.{counts_object}
 use Rattle.planning.proofs.NumberLaws.{agrees_now, file_over, none_placed, object_over, object_placed}
@@ -51,11 +50,11 @@ get-requires g c = changed_known (tree.get nat_cmp c.args.inodes.now.slots c.arg
 
 pub returns-in_err-placed-clause-lacks : goal.returns-in_err-placed-clause-lacks
 returns-in_err-placed-clause-lacks g c = λ bad.
-    let count = counts_object (λ n. []) (tree.get nat_cmp c.args.inodes.now.slots c.args.number) _ c.in-Some.object.now c.requires.changed (c.in-Some.ensures.some (λ n. []) (λ n. free_inode)) in
+    let count = counts_object (tree.get nat_cmp c.args.inodes.now.slots c.args.number) c.in-Some.object.now c.requires.changed c.in-Some.ensures.loaded in
     let lacks = c.in_err-placed.ensures.lacks (search rules) in
     omega (arith, count, lacks)
 
 pub returns-clause-takes : goal.returns-clause-takes
 returns-clause-takes g c =
-    let count = counts_object (λ n. []) (tree.get nat_cmp c.args.inodes.now.slots c.args.number) _ c.in-Some.object.now c.requires.changed (c.in-Some.ensures.some (λ n. []) (λ n. free_inode)) in
+    let count = counts_object (tree.get nat_cmp c.args.inodes.now.slots c.args.number) c.in-Some.object.now c.requires.changed c.in-Some.ensures.loaded in
     omega (arith, count, c.in_ok-placed.ensures.takes)

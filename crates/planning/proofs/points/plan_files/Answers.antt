@@ -14,6 +14,9 @@ use Rattle.inode.specs.declared.object.Attributes.{Attributes}
 use Rattle.inofile.specs.Inodes.{files_of}
 use Rattle.planning.specs.Numbers.{trimmed}
 use Rattle.planning.specs.Progress.{with_file}
+use Rattle.std.specs.Result.{IfErr}
+use Rattle.buffers.specs.Failures.{HasGrown}
+use Rattle.conspoint.specs.Errors.{IsReadFault}
 use Rattle.planning.specs.Steps.{IsOverTree, settled_tree}
 use Rattle.planning.proofs.NumberLaws.{grows_twice}
 use Rattle.planning.proofs.OwnLaws.{own_change}
@@ -68,7 +71,7 @@ pub returns-in_err-plan_last-clause-reads : goal.returns-in_err-plan_last-clause
 returns-in_err-plan_last-clause-reads g c = record {
   count = c.plan_last.ensures.reads.count ∙ c.place_top.ensures.reads.count ∙ c.plan_changes.ensures.reads.count;
   counted = search rules;
-  device = search rules;
+  device = subst (λ n. IfErr c.from_residual-in_err-plan_last.result (λ e. IsReadFault e → HasGrown n (g.B.Blocks.failed c.plan_last.new.blocks))) (c.in_ok-placed.ensures.reads.counted ∙ c.in_ok-plan_changes.ensures.reads.counted) (search rules);
   reads = λ start is. c.plan_last.ensures.reads.reads start (c.place_top.ensures.reads.reads start (c.plan_changes.ensures.reads.reads start is));
   same = λ disk shows. c.plan_last.ensures.reads.same disk (c.place_top.ensures.reads.same disk (c.plan_changes.ensures.reads.same disk shows));
 }

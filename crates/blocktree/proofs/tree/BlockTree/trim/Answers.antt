@@ -1,6 +1,6 @@
 use Rattle.std.proofs.Common.{rules, arith, nat_lt, ◌<◌}
 use Rattle.std.proofs.lemmas.Map.Made.{filter_same_pairs}
-use Rattle.blocktree.proofs.SlotLaws.{trimmed_block, trimmed_room, trimmed_changed}
+use Rattle.blocktree.proofs.SlotLaws.{trimmed_block, trimmed_room, trimmed_changed, trimmed_only}
 use Rattle.blocktree.proofs.tree.BlockTree.trim.Goals as goal
 
 pub returns-clause-blocks : goal.returns-clause-blocks
@@ -13,3 +13,6 @@ pub returns-clause-sound : goal.returns-clause-sound
 returns-clause-sound c = λ blocks disk i sound same within.
     let below : i < c.args.count = omega arith in
     sound (λ changed. same (trimmed_changed c.args.self.now.slots c.retain.new.self c.args.count (filter_same_pairs _ (λ e. nat_lt e.0 c.args.count) _ (λ k v b w f t. search rules) _ _ c.retain.ensures.filtered) i below changed)) (omega arith)
+
+pub returns-clause-changed : goal.returns-clause-changed
+returns-clause-changed c = λ j had. trimmed_only c.args.self.now.slots c.retain.new.self c.args.count (filter_same_pairs _ (λ e. nat_lt e.0 c.args.count) _ (λ k v b w f t. search rules) _ _ c.retain.ensures.filtered) j had

@@ -1,0 +1,107 @@
+-- A new image's files against the blocks of an empty disk.
+use Rattle.std.proofs.Common.{◌≡◌, inl, inr, ℕ, zero, suc, ◌+◌, ◌-◌, ◌*◌, ◌<◌, ◌≤◌, Bool, true, false, Option, Some, None, List, refl, sym, subst, ◌∙◌, arith}
+use Rattle.std.proofs.lemmas.Bool.{cases_lt}
+use Rattle.std.specs.Prelude.{if◌then◌else◌, ◌==◌, nat_le, nat_lt}
+use Rattle.std.specs.Prelude.{Err, IfErr, IsErrOf, Result}
+use Rattle.std.specs.Int.{div_ceil}
+use Rattle.std.specs.Ordering.{nat_cmp}
+use Rattle.std.specs.BTreeMap as tree
+use Rattle.layout.specs.Version.{level_of}
+use Rattle.blocktree.specs.Places.{block_count}
+use Rattle.blocktree.specs.Trees.{IsChanged, IsChangedSlot}
+use Rattle.blocktree.specs.declared.tree.BlockTree.{BlockTree}
+use Rattle.blocktree.specs.declared.tree.Slot.{Slot}
+use Rattle.blocktree.specs.declared.tree.Slot.TheVariants.{AsSettled, Changed}
+use Rattle.blockmap.specs.Maps.{free_below, settled_at}
+use Rattle.blockmap.specs.Parts.{Part}
+use Rattle.blockmap.specs.Space.{left}
+use Rattle.blockmap.specs.declared.map.BlockMap.{BlockMap}
+use Rattle.conspoint.specs.Drafts.{IsShortage}
+use Rattle.conspoint.specs.declared.error.PlanError.{PlanError}
+use Rattle.conspoint.specs.declared.error.PlanError.TheVariants.{NoMemory, Device, NoSpace, Damaged}
+use Rattle.conspoint.specs.MapFiles.{map_nodes}
+use Rattle.conspoint.specs.Space.{changed_blocks, slot_stores, sum_below}
+use Rattle.conspoint.proofs.SumLemmas.{changed_within}
+use Rattle.inode.specs.declared.file.File.{File}
+use Rattle.placement.specs.Space.{file_stores, first_stores, level_stores}
+use Rattle.making.specs.Space.{NUMBERS_STORES, TOP_STORES}
+use Rattle.making.specs.Starts.{IsEmptyMap, system_entry}
+use Rattle.making.proofs.EmptyMapLaws.{system_low, system_past}
+
+one_free : (x : ℕ) → x ≡ 0 → ◌≡◌ {A = ℕ} (if x == 0 then 1 else 0) 1
+one_free x is = rw is refl
+
+none_free : (x : ℕ) → x ≡ 2147483648 → ◌≡◌ {A = ℕ} (if x == 0 then 1 else 0) 0
+none_free x is = rw is refl
+
+-- of the first blocks all are free but two
+free_of_empty : (parts : List Part) → ((b : ℕ) → settled_at parts b ≡ system_entry b) → (n : ℕ) → free_below parts n ≡ n - 2
+unfolding free_below
+free_of_empty parts settled zero = refl
+free_of_empty parts settled (suc n) =
+    let below = free_of_empty parts settled n in
+    elim (cases_lt n 2) [
+      | inl lt ↦ (let none = none_free (settled_at parts n) (settled n ∙ system_low n lt) in omega (arith, below, none, lt))
+      | inr ge ↦ (let one = one_free (settled_at parts n) (settled n ∙ system_past n ge) in omega (arith, below, one, ge))
+    ]
+
+-- on an empty disk all blocks are left but two
+pub empty_left : (blocks : ℕ) (m : BlockMap) → IsEmptyMap blocks m → left m ≡ blocks - 2
+unfolding left
+empty_left blocks m empty =
+    rw (empty.count, empty.next) (omega (arith, free_of_empty m.parts.items empty.settled blocks, free_of_empty m.parts.items empty.settled 2))
+
+-- not many more blocks are stored of a file than are changed
+stores_few : (level blocks changed : ℕ) → level_stores level blocks changed ≤ 2 * changed + 1
+stores_few zero blocks changed = omega arith
+stores_few (suc level) blocks changed = omega arith
+
+unchanged_slot : (s : Option Slot) → (IsChangedSlot s → ⊥) → slot_stores s ≡ 0
+unchanged_slot None not = refl
+unchanged_slot (Some AsSettled) not = refl
+unchanged_slot (Some (Changed block)) not = absurd (not tt)
+
+none_or : (t : Bool) (x : ℕ) → x ≡ 0 → (if t then 0 else x) ≡ 0
+none_or true x is = refl
+none_or false x is = is
+
+none_changed : (t : BlockTree) (first n : ℕ) → ((i : ℕ) → IsChanged t i → ⊥) → changed_blocks t first n ≡ 0
+unfolding sum_below
+none_changed t first zero not = refl
+none_changed t first (suc n) not =
+    let below = none_changed t first n not in
+    let here = none_or (nat_lt n first) (slot_stores (tree.get nat_cmp t.slots n)) (unchanged_slot (tree.get nat_cmp t.slots n) (not n)) in
+    omega (arith, below, here)
+
+-- the inode map has two blocks at the most
+pub numbers_few : (f : File) (inodes : ℕ) → f.size ≡ div_ceil inodes 8 → inodes ≤ 65536 → file_stores f ≤ NUMBERS_STORES
+numbers_few f inodes size most =
+    let few = stores_few (level_of f.size) (block_count f.size) (changed_blocks f.tree 0 (block_count f.size)) in
+    let within = changed_within f.tree 0 (block_count f.size) in
+    let blocks : block_count f.size ≤ 2 = omega (arith, size, most) in
+    omega (arith, few, within, blocks)
+
+-- of the inode file only the first block is stored
+pub top_few : (f : File) → ((i : ℕ) → IsChanged f.tree i → ⊥) → first_stores f ≤ TOP_STORES
+top_few f not =
+    let few = stores_few (level_of f.size) (block_count f.size) (changed_blocks f.tree 1 (block_count f.size) + 1) in
+    let none = none_changed f.tree 1 (block_count f.size) not in
+    omega (arith, few, none)
+
+one_more : (t : Bool) (n : ℕ) → (if t then n else n + 1) ≤ n + 1
+one_more true n = omega arith
+one_more false n = omega arith
+
+-- the block map has one indirect block at the most
+pub map_few : (n : ℕ) → map_nodes n ≤ n + 1
+map_few n = one_more (nat_le n 16) n
+
+-- a shortage that isn't one of space
+pub memory_alone : {T : Type 0} (e : PlanError) → IsShortage e → (IsErrOf {T = T} (Err e) NoSpace → ⊥) → e ≡ NoMemory
+memory_alone NoMemory short room = refl
+memory_alone NoSpace short room = absurd (room refl)
+memory_alone Device short room = absurd short
+memory_alone Damaged short room = absurd short
+
+pub refused_so : {T : Type 0} (e : PlanError) (r : Result T PlanError) → r ≡ Err e → e ≡ NoMemory → IfErr r (λ e. e ≡ NoMemory)
+refused_so e r is memory = subst (λ x. IfErr x (λ e. e ≡ NoMemory)) (sym is) memory
