@@ -70,7 +70,7 @@ pub takes_accepted : (v : Volume) (d : ℕ) (entry : Entry) → IsName entry.nam
 takes_accepted v d entry name accepts = takes_name v d entry.name.now accepts.mode accepts.names accepts.is name accepts.takes
 
 -- names are told apart
-names_apart : (a b : Name) → (a ≡ b) ⊎ (a ≢ b)
+pub names_apart : (a b : Name) → (a ≡ b) ⊎ (a ≢ b)
 names_apart a b = elim (cases_Bool (bytes_eq a b)) [
   | inl same ↦ inl ((bytes_eq-Decides a b).0 same)
   | inr other ↦ inr (λ e. both_ways (bytes_eq a b) other ((bytes_eq-Decides a b).1 e))

@@ -1,14 +1,13 @@
 -- Files of a volume, and their counts of names.
-use Rattle.std.proofs.Common.{◌≡◌, ◌≢◌, ℕ, ◌≤◌, ◌<◌, ◌-◌, ◌+◌, ◌==◌, ◌↔◌, ◌++◌, drop, zero, suc, List, [], ◌∷◌, length, map, Option, Some, None, IsTrue, IsSome, true, false, inl, inr, refl, sym, ap, subst, ◌∙◌, arith}
+use Rattle.std.proofs.Common.{◌≡◌, ◌≢◌, ℕ, ◌-◌, ◌+◌, ◌==◌, ◌↔◌, ◌++◌, drop, zero, suc, List, [], ◌∷◌, length, map, Option, Some, None, IsTrue, IsSome, true, false, inl, inr, refl, sym, ap, subst, ◌∙◌, arith}
 use Rattle.std.proofs.lemmas.Bool.{false≢true}
 use Rattle.std.proofs.lemmas.Bool.Decides.{nat_tests}
-use Rattle.layout.specs.Directory.{IsEntry, Named}
-use Rattle.layout.specs.declared.inode.Inode.{Inode}
+use Rattle.layout.specs.Directory.{IsEntry}
 use Rattle.layout.specs.declared.kind.Kind.{Kind}
 use Rattle.layout.specs.declared.kind.Kind.TheVariants as kinds
 use Rattle.model.specs.Paths.{Name, IsName}
 use Rattle.model.specs.Records.{IsEmpty}
-use Rattle.model.specs.Volumes.{Node, Volume, directory_node, file_node, link_node, entries, names_in, is_directory_node, is_file_node, set_name, with_entry, with_name_less, with_name_more, with_node, IsVolume}
+use Rattle.model.specs.Volumes.{Node, Volume, directory_node, file_node, link_node, entries, names_in, is_directory_node, is_file_node, with_entry, with_name_less, with_name_more, with_node, IsVolume}
 use Rattle.images.specs.Contents.{Content, StandsAs}
 use Rattle.layout.specs.DirectoryNames.{NameMap}
 use Rattle.dirs.specs.Directory.{with_name}
@@ -16,13 +15,12 @@ use Rattle.dirs.specs.Listings.{IsListing}
 use Rattle.inode.specs.Edges.{written_list}
 use Rattle.layout.specs.Bytes.{zeros}
 use Rattle.inofile.specs.Inodes.{IsKnown}
-use Rattle.inofile.specs.Objects.{IsObjectKind}
 use Rattle.inofile.specs.declared.inode_file.InodeFile.{InodeFile}
 use Rattle.calls.specs.Entering.{with_names}
 use Rattle.calls.specs.Steps.{IsAlone, IsApart, IsFileOf, TakesUpdate, with_links}
 use Rattle.calls.specs.declared.steps.Update.{Update}
 use Rattle.calls.specs.declared.steps.Update.TheVariants as updates
-use Rattle.calls.proofs.EnterLaws.{directory_is, names_set, node_other, put_volume}
+use Rattle.calls.proofs.EnterLaws.{names_set, put_volume}
 
 pub not_file : (k : Kind) (inodes : ℕ) (c : Content) (o : Option Node) → StandsAs k inodes c o → (k ≡ kinds.File → ⊥) → is_file_node o ≡ false
 not_file kinds.Free inodes c o stands other = ap is_file_node stands
@@ -114,12 +112,14 @@ pub alone_takes : (s : InodeFile) (number : ℕ) (u : Update) → IsAlone u → 
 alone_takes s number (updates.Set object) alone known = tt
 alone_takes s number (updates.Names edit) alone known = absurd alone
 alone_takes s number (updates.SetMode mode) alone known = known
+alone_takes s number (updates.Bytes change) alone known = absurd alone
 alone_takes s number (updates.Links links) alone known = known
 
 pub alone_apart : (n number : ℕ) (u : Update) → IsAlone u → IsApart n number u
 alone_apart n number (updates.Set object) alone = tt
 alone_apart n number (updates.Names edit) alone = absurd alone
 alone_apart n number (updates.SetMode mode) alone = tt
+alone_apart n number (updates.Bytes change) alone = absurd alone
 alone_apart n number (updates.Links links) alone = tt
 
 -- ---- listings

@@ -1,4 +1,4 @@
--- What the definitions say of making a directory over a path, by what was found in a volume.
+-- What the definitions say of making an object over a path, by what was found in a volume.
 use Rattle.std.proofs.Common.{◌≡◌, ◌↔◌, inl, inr, ℕ, ◌<◌, ◌≤◌, List, [], ◌∷◌, ◌++◌, length, Bool, true, false, ◌||◌, Option, Some, None, IsSome, is_some, Result, Ok, Err, IfOk, refl, sym, ap, subst, ◌∙◌, arith}
 use Rattle.std.specs.Prelude.{nat_le}
 use Rattle.std.proofs.Math.Path.{fun_ext}
@@ -7,15 +7,14 @@ use Rattle.std.proofs.lemmas.Cmp.{nat_list_eq_equiv}
 use Rattle.std.proofs.lemmas.List.{take_all}
 use Rattle.std.proofs.lemmas.Map.Views.{list_any-from_Contains, Contains-from_any}
 use Rattle.std.proofs.lemmas.Slice.Eq.{bytes_eq-Decides}
-use Rattle.model.specs.Changes.{ChangesTree}
-use Rattle.model.specs.Changing.{makes_directory}
+use Rattle.model.specs.Changes.{ChangesTree, with_made}
+use Rattle.model.specs.Changing.{creates}
 use Rattle.model.specs.Counting.{Counts}
-use Rattle.model.specs.Edits.{with_directory}
 use Rattle.model.specs.Finding.{at_directory, at_entry, at_gap, at_refusal, here, IsPlaceOf}
 use Rattle.model.specs.Laws.{VolumesTellFresh, RecordsChangeTrees}
 use Rattle.model.specs.Outcomes.{Outcome, refuses, changes, tested, leads, IsListing, with_place, with_fresh}
 use Rattle.model.specs.Paths.{Name, Path, IsName, Tests, first_refusal, new_text_tests, is_dot, is_dot_dot, last_part}
-use Rattle.model.specs.Records.{Change, Applies, TakesName, applied, create, directory, is_vacant}
+use Rattle.model.specs.Records.{Change, Made, file, directory, symbolic_link, Applies, IsMade, TakesName, applied, create, is_vacant, node_of}
 use Rattle.model.specs.Resolution.{Resolution, named, missing, refused, resolve}
 use Rattle.model.specs.Room.{Need, nothing, logs, adds_name}
 use Rattle.model.specs.Trees.{Tree, Object, Description, IsTree, IsUsed, is_directory}
@@ -23,13 +22,13 @@ use Rattle.model.specs.Trees as trees
 use Rattle.model.specs.Volumes.{Node, directory_node, file_node, link_node, Volume, entries, number_at, object_of, object_at, enter, is_directory_node, set_name, with_node, created, is_open, swept_node, tree_of, swept, IsVolume, IsMounted}
 use Rattle.model.specs.declared.errno.Errno.{Errno}
 use Rattle.model.specs.declared.errno.Errno.TheVariants.{EINVAL, EEXIST, DIRFULL, NONUMBER}
-use Rattle.model.specs.declared.limits.TheConstants.{DIRECTORY_NAMES, FIRST_NUMBER, MODE_BITS}
+use Rattle.model.specs.declared.limits.TheConstants.{DIRECTORY_NAMES, FIRST_NUMBER}
 use Rattle.model.specs.declared.reply.Reply.{Reply}
 use Rattle.model.specs.declared.reply.Reply.TheVariants.{Done, Refused}
 use Rattle.model.proofs.LeadLemmas.{AnswersWell, resolves_well}
 use Rattle.model.proofs.SweepLemmas.{not_unused}
 use Rattle.model.proofs.WalkLemmas.{number_at-push}
-use Rattle.calls.specs.Making.{MakesIn, Answers, IsLeastFree}
+use Rattle.calls.specs.Making.{MakesAt, MakesIn, Answers, IsLeastFree}
 use Rattle.calls.specs.declared.made.Making.{Making}
 use Rattle.calls.proofs.EnterLaws.{node_here, node_other}
 use Rattle.calls.proofs.CountedLists.{counted_list}
@@ -54,13 +53,24 @@ module _ (t : Tree) where
   not_full false rest reply new need e done = done
 
 -- a text that doesn't pass its tests
-pub text_refused : (inodes : ℕ) (v : Volume) (table : ℕ → Option Description) (text : List ℕ) (mode : ℕ) (errno : Errno) → first_refusal (new_text_tests text) ≡ Some errno
-    → makes_directory inodes (tree_of v table) text mode (Refused errno) (tree_of v table) nothing
-text_refused inodes v table text mode errno is = tested_some (tree_of v table) (new_text_tests text) _ errno is
+pub text_refused : (inodes : ℕ) (v : Volume) (table : ℕ → Option Description) (text : List ℕ) (make : Path → ℕ → Tree → Tree) (errno : Errno) → first_refusal (new_text_tests text) ≡ Some errno
+    → creates inodes (tree_of v table) text make (Refused errno) (tree_of v table) nothing
+text_refused inodes v table text make errno is = tested_some (tree_of v table) (new_text_tests text) _ errno is
 
 pub told_answers : {A E : Type 0} (r : Result A E) (P Q : A → Type 0) → ((a : A) → P a → Q a) → IfOk r P → IfOk r Q
 told_answers (Ok a) P Q then p = then a p
 told_answers (Err e) P Q then p = tt
+
+-- what is made of the least free number
+pub makes_numbered : (inodes : ℕ) (v : Volume) (n d : ℕ) (x : Name) (what : Made) → IsMade what → IsLeastFree inodes v n → (r : Result Making Errno)
+    → MakesAt v n d x what r → MakesIn inodes v d x what r
+makes_numbered inodes v n d x what good least (Err errno) told = inl told
+makes_numbered inodes v n d x what good least (Ok m) (says, same, takes) = (
+  says ∙ ap (λ (k : ℕ). create k d what x) (sym same),
+  good,
+  takes,
+  subst (IsLeastFree inodes v) (sym same) least,
+)
 
 -- ---- objects
 
@@ -82,10 +92,16 @@ some_object n (Some (directory_node mode names)) some = refl
 some_object n (Some (file_node mode links bytes)) some = refl
 some_object n (Some (link_node text)) some = refl
 
--- a volume with a new directory has no more to sweep
-module _ (table : ℕ → Option Description) (v : Volume) (n d : ℕ) (x : Name) (mode : ℕ) (parent : is_directory_node (v d) ≡ true) (is_swept : (k : ℕ) → swept table v k ≡ v k) where
+-- what is made isn't swept: it has a name
+new_stays : (what : Made) (open_now : Bool) → swept_node open_now (Some (node_of what)) ≡ Some (node_of what)
+new_stays (file mode) open_now = refl
+new_stays (directory mode) open_now = refl
+new_stays (symbolic_link text) open_now = refl
+
+-- a volume with a new object has no more to sweep
+module _ (table : ℕ → Option Description) (v : Volume) (n d : ℕ) (x : Name) (what : Made) (parent : is_directory_node (v d) ≡ true) (apart : d ≡ n → ⊥) (is_swept : (k : ℕ) → swept table v k ≡ v k) where
   abbrev node : Node
-  node = directory_node mode (λ y. None)
+  node = node_of what
 
   stays : (open_now : Bool) (to : Option ℕ) (o : Option Node) → is_directory_node o ≡ true → swept_node open_now (set_name x to o) ≡ set_name x to o
   stays open_now to None is = absurd (false≢true is)
@@ -97,11 +113,7 @@ module _ (table : ℕ → Option Description) (v : Volume) (n d : ℕ) (x : Name
   put = with_node n (Some node) v
 
   still : is_directory_node (put d) ≡ true
-  still =
-      elim (cases_eq d n) [
-        | inl same ↦ ap is_directory_node (node_here n d (Some node) v same)
-        | inr other ↦ ap is_directory_node (node_other n d (Some node) v other) ∙ parent
-      ]
+  still = ap is_directory_node (node_other n d (Some node) v apart) ∙ parent
 
   each : (k : ℕ) → swept table (created n d x node v) k ≡ created n d x node v k
   each k =
@@ -115,7 +127,7 @@ module _ (table : ℕ → Option Description) (v : Volume) (n d : ℕ) (x : Name
             elim (cases_eq k n) [
               | inl is_n ↦
                   let f = e ∙ node_here n k (Some node) v is_n in
-                  ap (swept_node open_now) f ∙ sym f
+                  ap (swept_node open_now) f ∙ new_stays what open_now ∙ sym f
               | inr not_n ↦
                   let f = e ∙ node_other n k (Some node) v not_n in
                   ap (swept_node open_now) f ∙ is_swept k ∙ sym f
@@ -158,14 +170,14 @@ module _ (inodes : ℕ) (v : Volume) (table : ℕ → Option Description) (volum
           are.many,
         )
 
-  -- ---- a call that makes a directory
+  -- ---- a call that makes an object
 
-  module _ (text : List ℕ) (mode : ℕ) where
+  module _ (text : List ℕ) (what : Made) where
     abbrev makes : Reply → Tree → Need → Type 0
-    makes = makes_directory inodes t text mode
+    makes = creates inodes t text (with_made what)
 
     abbrev made_at : Path → ℕ → Tree
-    made_at p n = with_directory p n mode t
+    made_at p n = with_made what p n t
 
     abbrev makes_in : Path → Name → Outcome
     makes_in p name = with_place t p (with_fresh inodes t (λ n. changes Done (made_at (p ++ name ∷ []) n) (logs adds_name)))
@@ -286,9 +298,9 @@ module _ (inodes : ℕ) (v : Volume) (table : ℕ → Option Description) (volum
               (refl, refl, refl),
             )
 
-        module _ (fresh_law : VolumesTellFresh) (change_law : RecordsChangeTrees) (good : mode ≤ MODE_BITS) (n : ℕ) (can : TakesName v d name) (free : IsLeastFree inodes v n) where
+        module _ (fresh_law : VolumesTellFresh) (change_law : RecordsChangeTrees) (good : IsMade what) (n : ℕ) (can : TakesName v d name) (free : IsLeastFree inodes v n) where
           abbrev change : Change
-          change = create n d (directory mode) name
+          change = create n d what name
 
           abbrev new : Tree
           new = tree_of (applied change v) table
@@ -302,9 +314,12 @@ module _ (inodes : ℕ) (v : Volume) (table : ℕ → Option Description) (volum
             good = good;
           }
 
+          apart : d ≡ n → ⊥
+          apart same = false≢true (sym (ap is_directory_node free.free) ∙ subst (λ (k : ℕ). is_directory_node (v k) ≡ true) same is_parent)
+
           -- nothing is to be swept of what it leaves
           unswept : swept table (applied change v) ≡ applied change v
-          unswept = created_unswept table v n d name mode is_parent mounted.is_swept
+          unswept = created_unswept table v n d name what is_parent apart mounted.is_swept
 
           changed : IsMounted (applied change v) table × ChangesTree change t new
           changed = subst (λ (w : Volume). IsMounted w table × ChangesTree change t (tree_of w table)) unswept (change_law inodes v table change volume mounted applies free.free)
@@ -321,10 +336,10 @@ module _ (inodes : ℕ) (v : Volume) (table : ℕ → Option Description) (volum
               no_file : {X : Type 0} → trees.directory d ≡ trees.file d → X
               no_file e = cc
 
-        module _ (fresh_law : VolumesTellFresh) (change_law : RecordsChangeTrees) (good : mode ≤ MODE_BITS) where
-          pub gap_answers : (making : Result Making Errno) → MakesIn inodes v d name mode making → Answers makes inodes v table making
+        module _ (fresh_law : VolumesTellFresh) (change_law : RecordsChangeTrees) where
+          pub gap_answers : (making : Result Making Errno) → MakesIn inodes v d name what making → Answers makes inodes v table making
           gap_answers (Err errno) (inl (is, not)) = subst (λ e. makes (Refused e) t nothing) (sym is) (dir_full not)
           gap_answers (Err errno) (inr (is, can, none)) = subst (λ e. makes (Refused e) t nothing) (sym is) (no_number can none)
-          gap_answers (Ok m) (says, can, free) =
+          gap_answers (Ok m) (says, good, can, free) =
               subst (λ (x : Change). Applies inodes v x × IsMounted (applied x v) table × makes Done (tree_of (applied x v) table) (logs adds_name)) (sym says)
               (applies fresh_law change_law good m.creation.number can free, (changed fresh_law change_law good m.creation.number can free).0, made fresh_law change_law good m.creation.number can free)

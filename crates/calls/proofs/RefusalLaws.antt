@@ -1,6 +1,7 @@
 -- Refusals of calls by a path are their own.
 use Rattle.std.proofs.Common.{◌≡◌, inl, inr, ℕ, List, [], ◌∷◌, Some, None, IsTrue, refl, sym, subst, ◌∙◌}
 use Rattle.std.proofs.lemmas.Bool.{cases_Bool, cond-true, cond-false, false≢true}
+use Rattle.model.specs.Changing.{link_text_tests}
 use Rattle.model.specs.Paths.{Tests, first_refusal, text_tests, new_text_tests}
 use Rattle.model.specs.declared.errno.Errno.{Errno}
 use Rattle.model.specs.declared.errno.Errno.TheVariants.{ENOENT, ENOTDIR, ENAMETOOLONG, ELOOP, DAMAGED}
@@ -38,3 +39,6 @@ text_own text e is = first_own (text_tests text) e (refl, (refl, (refl, (refl, (
 
 pub new_text_own : (text : List ℕ) (e : Errno) → first_refusal (new_text_tests text) ≡ Some e → IsTrue (is_path_refusal e)
 new_text_own text e is = first_own (new_text_tests text) e (refl, (refl, (refl, (refl, (refl, (refl, (refl, tt))))))) is
+
+pub link_text_own : (text : List ℕ) (e : Errno) → first_refusal (link_text_tests text) ≡ Some e → IsTrue (is_path_refusal e)
+link_text_own text e is = first_own (link_text_tests text) e (refl, (refl, (refl, tt))) is

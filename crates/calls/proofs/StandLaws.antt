@@ -5,7 +5,7 @@ use Rattle.model.specs.Volumes.{Volume}
 use Rattle.buffers.specs.declared.blocks.Blocks.{Ghosts}
 use Rattle.inofile.specs.Volumes.{IsVolumeOf}
 use Rattle.inofile.specs.declared.inode_file.InodeFile.{InodeFile}
-use Rattle.calls.specs.Standing.{Stands}
+use Rattle.paths.specs.Standing.{Stands}
 
 -- memory stands for all volumes that it stood for before
 abbrev pub StaysVolume : InodeFile → InodeFile → Type 0

@@ -14,9 +14,10 @@ use Rattle.inofile.specs.Inodes.{HasRoomFor, IsKnown, loaded}
 use Rattle.inofile.specs.Objects.{IsObject}
 use Rattle.inofile.specs.Settled.{content_of}
 use Rattle.inofile.specs.declared.inode_file.InodeFile.{InodeFile}
+use Rattle.calls.specs.Contents.{FitsFile}
 use Rattle.calls.specs.Entering.{FitsObject}
 use Rattle.calls.specs.Prepared.{AreBeside, IsApartFrom}
-use Rattle.calls.specs.Steps.{IsApart, IsBeside, IsSomeApart, Steps, StepsSome, TakesSome, TakesStep, TakesUpdate, Updates, with_links}
+use Rattle.calls.specs.Steps.{IsApart, IsBeside, IsSomeApart, Steps, StepsSome, TakesSome, TakesUpdate, Updates, with_links}
 use Rattle.calls.specs.declared.steps.Update.{Update}
 use Rattle.calls.specs.declared.steps.Update.TheVariants as updates
 use Rattle.calls.specs.declared.steps.Step.{Step}
@@ -122,6 +123,8 @@ takes_update_after s t n number (updates.Set object) stays rest apart takes = tt
 takes_update_after s t n number (updates.Names edit) stays rest apart takes =
     (stays number takes.0, subst (λ (o : Option Object). FitsObject o edit) (sym (rest number apart)) takes.1)
 takes_update_after s t n number (updates.SetMode mode) stays rest apart takes = stays number takes
+takes_update_after s t n number (updates.Bytes change) stays rest apart takes =
+    (stays number takes.0, subst (λ (o : Option Object). FitsFile o change) (sym (rest number apart)) takes.1)
 takes_update_after s t n number (updates.Links links) stays rest apart takes = stays number takes
 
 pub takes_step_after : (s t : InodeFile) (n : ℕ) (step : Option Step) → t.geometry ≡ s.geometry → ((k : ℕ) → HasRoomFor s k → HasRoomFor t k)
@@ -140,6 +143,7 @@ takes_same : (s t : InodeFile) (number : ℕ) (u : Update) → ((k : ℕ) → Is
 takes_same s t number (updates.Set object) stays same takes = tt
 takes_same s t number (updates.Names edit) stays same takes = (stays number takes.0, subst (λ (o : Option Object). FitsObject o edit) (sym same) takes.1)
 takes_same s t number (updates.SetMode mode) stays same takes = stays number takes
+takes_same s t number (updates.Bytes change) stays same takes = (stays number takes.0, subst (λ (o : Option Object). FitsFile o change) (sym same) takes.1)
 takes_same s t number (updates.Links links) stays same takes = stays number takes
 
 -- the same behind a step that there may be

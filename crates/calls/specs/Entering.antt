@@ -5,7 +5,7 @@ use Rattle.layout.specs.DirectoryNames.{NameMap}
 use Rattle.layout.specs.declared.kind.Kind.TheVariants as kinds
 use Rattle.model.specs.declared.limits.TheConstants.{ROOT_NUMBER}
 use Rattle.model.specs.Paths.{Name}
-use Rattle.model.specs.Volumes.{Node, directory_node, file_node, link_node}
+use Rattle.model.specs.Volumes.{Node, directory_node}
 use Rattle.dirs.specs.Directory.{HasCount, with_name}
 use Rattle.dirs.specs.Edits.{HasNames, FitsIn}
 use Rattle.dirs.specs.declared.TheConstants.{MOST_NAMES}

@@ -6,7 +6,7 @@ abbrev pub IsServed : Change → Type 0
 IsServed (create number parent made name) = Unit {0}
 IsServed (link number parent name) = Unit {0}
 IsServed (unname parent name) = Unit {0}
-IsServed (rename parent name new_parent new_name) = ⊥
-IsServed (write number offset bytes) = ⊥
-IsServed (cut number size) = ⊥
+IsServed (rename parent name new_parent new_name) = Unit {0}
+IsServed (write number offset bytes) = Unit {0}
+IsServed (cut number size) = Unit {0}
 IsServed (change_mode number mode) = Unit {0}

@@ -3,12 +3,13 @@ use Rattle.std.specs.Prelude.{ℕ, ◌≡◌, ◌≢◌, ◌≤◌, ◌<◌, ◌
 use Rattle.layout.specs.declared.inode.Inode.{Inode}
 use Rattle.layout.specs.DirectoryNames.{NameMap}
 use Rattle.model.specs.declared.limits.TheConstants.{FILE_NAMES, ROOT_NUMBER}
-use Rattle.model.specs.Records.{with_node_mode}
-use Rattle.model.specs.Volumes.{Node, Volume, directory_node, file_node, link_node, is_directory_node, is_file_node, with_node}
+use Rattle.model.specs.Records.{with_file_bytes, with_node_mode}
+use Rattle.model.specs.Volumes.{Node, Volume, file_node, is_directory_node, is_file_node, with_node}
 use Rattle.inode.specs.declared.object.Object.{Object}
 use Rattle.inofile.specs.Inodes.{HasRoomFor, IsKnown, loaded}
 use Rattle.inofile.specs.Objects.{IsObjectOrNone}
 use Rattle.inofile.specs.declared.inode_file.InodeFile.{InodeFile}
+use Rattle.calls.specs.Contents.{FitsFile, RewritesIn}
 use Rattle.calls.specs.Entering.{EditsIn, FitsObject, with_names}
 use Rattle.calls.specs.declared.steps.Step.{Step}
 use Rattle.calls.specs.declared.steps.Update.{Update}
@@ -19,6 +20,7 @@ abbrev pub TakesUpdate : InodeFile → ℕ → Update → Type 0
 TakesUpdate s number (updates.Set object) = Unit {0}
 TakesUpdate s number (updates.Names edit) = IsKnown s number × FitsObject (loaded s number) edit
 TakesUpdate s number (updates.SetMode mode) = IsKnown s number
+TakesUpdate s number (updates.Bytes change) = IsKnown s number × FitsFile (loaded s number) change
 TakesUpdate s number (updates.Links links) = IsKnown s number
 
 -- memory has room for what a step sets
@@ -31,11 +33,13 @@ pub record TakesStep (s : InodeFile) (step : Step) : Type 0 where
 -- an update doesn't depend on what the object of this number is in memory
 abbrev pub IsApart : ℕ → ℕ → Update → Type 0
 IsApart n number (updates.Names edit) = number ≢ n
+IsApart n number (updates.Bytes change) = number ≢ n
 IsApart n number update = Unit {0}
 
 -- an update that doesn't depend on any object in memory
 abbrev pub IsAlone : Update → Type 0
 IsAlone (updates.Names edit) = ⊥
+IsAlone (updates.Bytes change) = ⊥
 IsAlone update = Unit {0}
 
 -- memory has room for a step, if there is one
@@ -69,6 +73,8 @@ Updates disk inodes settled found o (updates.Names edit) to =
     (f : NameMap → NameMap) × EditsIn disk inodes f found o edit × (to ≡ with_names f found)
 Updates disk inodes settled found o (updates.SetMode mode) to =
     IsTrue (is_file_node found || is_directory_node found) × (to ≡ with_node_mode mode found)
+Updates disk inodes settled found o (updates.Bytes change) to =
+    (f : List ℕ → List ℕ) × IsTrue (is_file_node found) × RewritesIn disk f o change × (to ≡ with_file_bytes f found)
 Updates disk inodes settled found o (updates.Links links) to =
     IsTrue (is_file_node found) × (links ≤ FILE_NAMES) × (to ≡ with_links links found)
 

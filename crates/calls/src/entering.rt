@@ -12,7 +12,7 @@ ghost use Rattle.inofile.specs.Inodes.{HasRoomFor, IsKnown, loaded};
 ghost use Rattle.inofile.specs.Objects.{IsObjectOrNone, IsSameOrNone};
 ghost use Rattle.inofile.specs.Volumes.{IsVolumeOf};
 ghost use Rattle.calls.specs.Entering.{Accepts, CanEdit, EditsIn, FitsObject, IsDirectoryObject, IsNameEdit, names_after, with_names};
-ghost use Rattle.calls.specs.Standing.{Looks, Stands};
+ghost use Rattle.paths.specs.Standing.{Looks, Stands};
 
 use crate::loading::load_to_change;
 use crate::naming::{NameEdit, edit_file};

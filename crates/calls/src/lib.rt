@@ -1,10 +1,18 @@
 //! What calls by a path and the records of the log do to the image in memory. A change is prepared, with all memory taken and all
-//! blocks read, and then committed, which can't fail; a replay goes the same way. This version makes directories and lists them; of the
-//! records it does all but those that move an object or change a file's bytes.
+//! blocks read, and then committed, which can't fail; a replay goes the same way. This version makes directories and symbolic
+//! links, gives files names more, lists directories, tells what stands where a path leads, reads symbolic links and files, changes
+//! modes and takes names away; of the records it does all.
 #![tactic(auto)]
 
+mod below;
+mod changed;
+mod changing_mode;
+mod contents;
 mod entering;
 mod finding;
+mod getting;
+mod leading;
+mod linking;
 mod links;
 mod listing;
 mod loading;
@@ -13,11 +21,26 @@ mod making;
 mod moding;
 mod naming;
 mod prepared;
+mod reading;
+mod reading_link;
+mod removing;
+mod renaming;
+mod rewriting;
+mod stating;
 mod steps;
 mod unnaming;
 mod vacancy;
 
+pub use changed::{Changing, EntryName, OwnedChange};
+pub use changing_mode::change_mode;
+pub use getting::get;
+pub use linking::link;
 pub use listing::list;
-pub use made::{Creation, Making};
-pub use making::make_directory;
+pub use made::{Creation, LinkText, Making, OwnedObject};
+pub use making::{make_directory, symlink};
 pub use prepared::{Prepared, commit, prepare};
+pub use reading::read_bytes;
+pub use reading_link::readlink;
+pub use removing::{remove_directory, unlink};
+pub use rewriting::{cut_bytes, write_bytes};
+pub use stating::{lstat, stat};

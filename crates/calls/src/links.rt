@@ -8,7 +8,7 @@ ghost use Rattle.blocktree.specs.Errors.{IsFault};
 ghost use Rattle.inofile.specs.Inodes.{IsKnown};
 ghost use Rattle.inofile.specs.Volumes.{IsVolumeOf};
 ghost use Rattle.calls.specs.Prepared.{IsReady, Does};
-ghost use Rattle.calls.specs.Standing.{Looks, Stands};
+ghost use Rattle.paths.specs.Standing.{Looks, Stands};
 ghost use Rattle.calls.specs.Steps.{IsFileOf};
 
 use crate::Prepared;
@@ -81,8 +81,8 @@ pub(crate) fn prepare_link<B: Blocks>(
     }))
 }
 
-// How many names a file has; None where the number is of none.
-fn links_of(inodes: &InodeFile, number: u32) -> Option<u32>
+/// How many names a file has; None where the number is of none.
+pub(crate) fn links_of(inodes: &InodeFile, number: u32) -> Option<u32>
     requires { IsKnown inodes.now number }
     ensures file { (count : ℕ) (disk : ℕ → List ℕ) (settled : ℕ → Inode) (v : Volume)
         → IsVolumeOf count disk settled inodes.now v

@@ -5,7 +5,7 @@ ghost use Rattle.layout.specs.declared.inode.Inode.{Inode};
 ghost use Rattle.model.specs.Volumes.{Volume};
 ghost use Rattle.blocktree.specs.Errors.{IsFault};
 ghost use Rattle.inofile.specs.Inodes.{HasRoomFor, IsKnown};
-ghost use Rattle.calls.specs.Standing.{Looks, Stands};
+ghost use Rattle.paths.specs.Standing.{Looks, Stands};
 
 use blocktree::ReadError;
 use buffers::Blocks;

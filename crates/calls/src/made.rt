@@ -1,22 +1,100 @@
-//! A directory that is to be made.
+//! An object that is to be made.
 
-ghost use Rattle.model.specs.Paths.{IsName};
+ghost use Rattle.std.specs.Prelude.{◌≡◌, IfNone, IfSome};
+ghost use Rattle.model.specs.Paths.{IsLinkText};
 
-use crate::Prepared;
-use layout::InodeNumber;
+use crate::{EntryName, Prepared};
+use layout::{InodeNumber, NewObject, Record, is_link_text};
 use model::Mode;
 
-/// What the record of a new directory says, with a name of its own.
+/// The text of a symbolic link.
+#[derive(Debug, Drop)]
+pub struct LinkText {
+    pub(crate) bytes: Vec<u8>,
+    ghost said: { IsLinkText bytes.items },
+}
+
+impl LinkText {
+    /// The text of these bytes; None where no link has it.
+    pub(crate) fn new(bytes: Vec<u8>) -> Option<LinkText>
+        ensures some { IfSome result (λ text. text.bytes.items ≡ bytes.items) }
+        ensures none { IfNone result (IsLinkText bytes.items → ⊥) }
+    {
+        if !is_link_text(&bytes) {
+            return None;
+        }
+        Some(LinkText { bytes })
+    }
+}
+
+/// What a call makes, with a text of its own.
+#[derive(Debug, Drop)]
+pub enum OwnedObject {
+    Directory { mode: Mode },
+    Link { text: LinkText },
+}
+
+impl OwnedObject {
+    ghost use Rattle.std.specs.Prelude.{◌≡◌, ◌≤◌, length};
+    ghost use Rattle.layout.specs.Record.{KeepsMadeLimits, made_of, mode_of_made, text_bytes};
+    ghost use Rattle.model.specs.Records.{IsMade};
+    ghost use Rattle.calls.specs.Making.{made_by};
+
+    /// The same, as a record has it.
+    pub(crate) fn as_new(&self) -> NewObject<'_>
+        ensures says { made_of result ≡ made_by self.now }
+        ensures good { IsMade (made_of result) }
+        ensures limits { KeepsMadeLimits (made_of result) }
+        ensures mode { mode_of_made (made_of result) ≤ 4095 }
+        ensures short { length (text_bytes (made_of result)) ≤ 1025 }
+    {
+        match self {
+            OwnedObject::Directory { mode } => {
+                // The type of a mode holds it to its bits.
+                let _ = mode.bits();
+                NewObject::Directory { mode: *mode }
+            }
+            OwnedObject::Link { text } => NewObject::Link { text: &text.bytes },
+        }
+    }
+}
+
+/// What the record of a new object says, with a name of its own.
 #[derive(Debug, Drop)]
 pub struct Creation {
     pub(crate) number: InodeNumber,
     pub(crate) parent: InodeNumber,
-    pub(crate) mode: Mode,
-    pub(crate) name: Vec<u8>,
-    ghost named: { IsName name.items },
+    pub(crate) object: OwnedObject,
+    pub(crate) name: EntryName,
 }
 
-/// A directory that is to be made: what its record says, and its prepared change.
+impl Creation {
+    ghost use Rattle.std.specs.Prelude.{◌≡◌, ◌≤◌, length};
+    ghost use Rattle.layout.specs.Record.{body_of, change_of, IsChange, KeepsLimits};
+    ghost use Rattle.calls.specs.Making.{creation_of};
+    ghost use Rattle.calls.specs.Served.{IsServed};
+
+    /// The record, as the log takes it.
+    pub fn record(&self) -> Record<'_>
+        ensures says { change_of result ≡ creation_of self.now }
+        ensures limits { KeepsLimits (change_of result) }
+        ensures is { IsChange (change_of result) }
+        ensures served { IsServed (change_of result) }
+        ensures short { length (body_of result) ≤ 1300 }
+    {
+        // Each of these types holds its values to what their fields have room for.
+        let _ = (self.number.get(), self.parent.get());
+        let object = self.object.as_new();
+        Record::Create {
+            number: self.number,
+            parent: self.parent,
+            object,
+            name: &self.name.bytes,
+        }
+    }
+}
+
+/// An object that is to be made: what its record says, and its prepared change.
 #[derive(Debug, Drop)]
 pub struct Making {
     pub creation: Creation,

@@ -1,56 +1,41 @@
-//! Making a directory over a path.
+//! Making a directory or a symbolic link over a path.
 
-ghost use Rattle.std.specs.Prelude.{◌≡◌, ◌≤◌, ◌<◌, ℕ, List, Option, None, IfErr, IfOk, IfSome, IsErrOf, IsTrue};
-ghost use Rattle.layout.specs.declared.inode.Inode.{Inode};
-ghost use Rattle.model.specs.Changing.{makes_directory};
+ghost use Rattle.std.specs.Prelude.{◌≡◌, ◌≤◌, ◌<◌, ◌==◌, ℕ, List, Option, Some, None, IfErr, IfOk, IsTrue};
+ghost use Rattle.std.specs.List.{list_any};
+ghost use Rattle.model.specs.Changing.{creates, link_text_tests, makes_directory, makes_symlink};
+ghost use Rattle.model.specs.Changes.{with_made};
 ghost use Rattle.model.specs.Paths.{first_refusal, new_text_tests, parts as parts_of};
-ghost use Rattle.model.specs.Trees.{Description};
-ghost use Rattle.model.specs.Volumes.{Volume, IsMounted, IsVolume, tree_of};
+ghost use Rattle.model.specs.Records.{Made, node_of};
+ghost use Rattle.model.specs.Room.{adds_name};
+ghost use Rattle.model.specs.Volumes.{IsVolume, tree_of};
+ghost use Rattle.model.specs.declared.limits.TheConstants.{FIRST_NUMBER};
 ghost use Rattle.blocktree.specs.Errors.{IsFault};
-ghost use Rattle.calls.specs.Making.{Answers, HasNoNumber, MakesIn, creation_of};
-ghost use Rattle.calls.specs.Prepared.{Does, IsReady};
+ghost use Rattle.inofile.specs.Objects.{IsObject};
+ghost use Rattle.calls.specs.Changing.{AllDo, AllReady, Comes};
+ghost use Rattle.calls.specs.Making.{Answers, HasNoNumber, MakesAt, MakesDo, MakesIn, MakesReady, creation_of, made_by};
+ghost use Rattle.calls.specs.Prepared.{Does};
 ghost use Rattle.calls.specs.Refusals.{is_path_refusal};
-ghost use Rattle.calls.specs.Standing.{Looks, Stands};
+ghost use Rattle.calls.specs.Shown.{NeverDamaged, OnMounted, OnVolumes};
+ghost use Rattle.paths.specs.Standing.{Looks};
 
 use crate::finding::find;
 use crate::prepared::prepare_new;
-use crate::vacancy::new_directory;
-use crate::{Creation, Making};
+use crate::vacancy::{is_vacant, new_object};
+use crate::{Changing, Creation, EntryName, LinkText, Making, OwnedChange, OwnedObject};
 use blocktree::ReadError;
 use buffers::Blocks;
+use inode::{Object, based_trees_are_sound};
 use inofile::InodeFile;
-use layout::{FIRST_NUMBER, InodeNumber, NewObject, Record};
-use model::{Errno, Mode, records_change_trees, volumes_are_trees, volumes_tell_fresh_numbers};
+use layout::{FIRST_NUMBER, InodeNumber};
+use model::{
+    Errno, Mode, PATH_BYTES, records_change_trees, volumes_are_trees, volumes_tell_fresh_numbers,
+};
 use paths::{Parts, Place, refusal_of_new_text};
 use std::alloc::Global;
 
-impl Creation {
-    ghost use Rattle.std.specs.Prelude.{◌≡◌, ◌≤◌, length};
-    ghost use Rattle.layout.specs.Record.{body_of, change_of, IsChange, KeepsLimits};
-    ghost use Rattle.calls.specs.Making.{creation_of};
-    ghost use Rattle.calls.specs.Served.{IsServed};
-
-    /// The record, as the log takes it.
-    pub fn record(&self) -> Record<'_>
-        ensures says { change_of result ≡ creation_of self.now }
-        ensures limits { KeepsLimits (change_of result) }
-        ensures is { IsChange (change_of result) }
-        ensures served { IsServed (change_of result) }
-        ensures short { length (body_of result) ≤ 300 }
-    {
-        // Each of these types holds its values to what their fields have room for.
-        let _ = (self.number.get(), self.parent.get(), self.mode.bits());
-        Record::Create {
-            number: self.number,
-            parent: self.parent,
-            object: NewObject::Directory { mode: self.mode },
-            name: &self.name,
-        }
-    }
-}
-
 /// Makes a directory of this mode where a path leads, as far as nothing of it is seen yet: prepares its record, or tells why the
-/// call is refused. NoMemory; Device where a read failed; Damaged where a block on the way is outside its format.
+/// call is refused. NoMemory; Device where a read failed; Damaged where a block on the way is outside its format, or where a number
+/// that is free has an object.
 pub fn make_directory<B: Blocks>(
     alloc: Global,
     inodes: &mut InodeFile,
@@ -60,26 +45,95 @@ pub fn make_directory<B: Blocks>(
 ) -> Result<Result<Making, Errno>, ReadError>
     ensures looks { Looks B.Blocks IsFault blocks.old blocks.new inodes.old inodes.new result }
     ensures own { IfOk result (λ r. IfErr r (λ e. IsTrue (is_path_refusal e))) }
-    ensures ready { IfOk result (λ m. IfOk m (λ x. IsReady inodes.new x.prepared)) }
-    ensures does { (disk : ℕ → List ℕ) (settled : ℕ → Inode) (v : Volume)
-        → Stands B.Blocks disk settled v blocks.old inodes.old
-        → IfOk result (λ m. IfOk m
-        (λ x. Does disk settled inodes.new v x.prepared (creation_of x.creation))) }
-    ensures answers { (disk : ℕ → List ℕ) (settled : ℕ → Inode) (v : Volume)
-        (table : ℕ → Option Description) → Stands B.Blocks disk settled v blocks.old inodes.old
-        → IsVolume inodes.old.geometry.inodes v → IsMounted v table
-        → IfOk result (Answers
-        (makes_directory inodes.old.geometry.inodes (tree_of v table) path.now mode)
-        inodes.old.geometry.inodes v table) }
-    ensures damaged { (disk : ℕ → List ℕ) (settled : ℕ → Inode) (v : Volume)
-        → Stands B.Blocks disk settled v blocks.old inodes.old
-        → IsErrOf result ReadError.Damaged → ⊥ }
+    ensures ready { MakesReady inodes.new result }
+    ensures does { MakesDo B.Blocks blocks.old inodes.old inodes.new result }
+    ensures answers { OnMounted B.Blocks blocks.old inodes.old (λ v table. IfOk result
+        (Answers (makes_directory inodes.old.geometry.inodes (tree_of v table) path.now mode)
+        inodes.old.geometry.inodes v table)) }
+    ensures damaged { NeverDamaged B.Blocks blocks.old inodes.old result }
+{
+    make(alloc, inodes, blocks, path, OwnedObject::Directory { mode })
+}
+
+/// Makes a symbolic link of this text where a path leads, as `make_directory` does a directory.
+pub fn symlink<B: Blocks>(
+    alloc: Global,
+    inodes: &mut InodeFile,
+    blocks: &mut B,
+    text: &[u8],
+    path: &[u8],
+) -> Result<Result<Changing, Errno>, ReadError>
+    ensures looks { Looks B.Blocks IsFault blocks.old blocks.new inodes.old inodes.new result }
+    ensures own { IfOk result (λ r. IfErr r (λ e. IsTrue (is_path_refusal e))) }
+    ensures ready { AllReady inodes.new result }
+    ensures does { AllDo B.Blocks blocks.old inodes.old inodes.new result }
+    ensures answers { OnMounted B.Blocks blocks.old inodes.old (λ v table. IfOk result
+        (Comes (makes_symlink inodes.old.geometry.inodes (tree_of v table) text.now path.now)
+        adds_name inodes.old.geometry.inodes v table)) }
+    ensures damaged { NeverDamaged B.Blocks blocks.old inodes.old result }
+{
+    if let Some(errno) = refusal_of_link_text(text) {
+        return Ok(Err(errno));
+    }
+    let bytes = Vec::from_slice(alloc, text)?;
+    let Some(text) = LinkText::new(bytes) else {
+        unreachable!()
+    };
+    let made = make(alloc, inodes, blocks, path, OwnedObject::Link { text })?;
+    match made {
+        Ok(making) => Ok(Ok(Changing {
+            change: OwnedChange::Create {
+                creation: making.creation,
+            },
+            prepared: making.prepared,
+        })),
+        Err(errno) => Ok(Err(errno)),
+    }
+}
+
+// Why the text of a symbolic link is refused.
+fn refusal_of_link_text(text: &[u8]) -> Option<Errno>
+    ensures { result ≡ first_refusal (link_text_tests text.now) }
+{
+    if text.is_empty() {
+        Some(Errno::ENOENT)
+    } else if has_zero(text) {
+        Some(Errno::EINVAL)
+    } else if text.len() > PATH_BYTES {
+        Some(Errno::ENAMETOOLONG)
+    } else {
+        None
+    }
+}
+
+fn has_zero(text: &[u8]) -> bool
+    ensures { result ≡ list_any (λ byte. byte == 0) text.now }
+{
+    text.iter().any(|byte| *byte == 0)
+}
+
+// Makes an object where a path leads.
+fn make<B: Blocks>(
+    alloc: Global,
+    inodes: &mut InodeFile,
+    blocks: &mut B,
+    path: &[u8],
+    object: OwnedObject,
+) -> Result<Result<Making, Errno>, ReadError>
+    ensures looks { Looks B.Blocks IsFault blocks.old blocks.new inodes.old inodes.new result }
+    ensures own { IfOk result (λ r. IfErr r (λ e. IsTrue (is_path_refusal e))) }
+    ensures ready { MakesReady inodes.new result }
+    ensures does { MakesDo B.Blocks blocks.old inodes.old inodes.new result }
+    ensures answers { OnMounted B.Blocks blocks.old inodes.old (λ v table. IfOk result
+        (Answers (creates inodes.old.geometry.inodes (tree_of v table) path.now
+        (with_made (made_by object))) inodes.old.geometry.inodes v table)) }
+    ensures damaged { NeverDamaged B.Blocks blocks.old inodes.old result }
 {
     let parts = Parts::of(alloc, path)?;
     if let Some(errno) = refusal_of_new_text(path, &parts) {
         return Ok(Err(errno));
     }
-    make_along(alloc, inodes, blocks, path, parts, mode)
+    make_along(alloc, inodes, blocks, path, parts, object)
 }
 
 // The same with a text that passed its tests, and its parts.
@@ -89,32 +143,22 @@ fn make_along<B: Blocks>(
     blocks: &mut B,
     path: &[u8],
     parts: Parts,
-    mode: Mode,
+    object: OwnedObject,
 ) -> Result<Result<Making, Errno>, ReadError>
     requires parts { parts ≡ parts_of path.now }
     requires passed { first_refusal (new_text_tests path.now) ≡ None }
     ensures looks { Looks B.Blocks IsFault blocks.old blocks.new inodes.old inodes.new result }
     ensures own { IfOk result (λ r. IfErr r (λ e. IsTrue (is_path_refusal e))) }
-    ensures ready { IfOk result (λ m. IfOk m (λ x. IsReady inodes.new x.prepared)) }
-    ensures does { (disk : ℕ → List ℕ) (settled : ℕ → Inode) (v : Volume)
-        → Stands B.Blocks disk settled v blocks.old inodes.old
-        → IfOk result (λ m. IfOk m
-        (λ x. Does disk settled inodes.new v x.prepared (creation_of x.creation))) }
-    ensures answers { (disk : ℕ → List ℕ) (settled : ℕ → Inode) (v : Volume)
-        (table : ℕ → Option Description) → Stands B.Blocks disk settled v blocks.old inodes.old
-        → IsVolume inodes.old.geometry.inodes v → IsMounted v table
-        → IfOk result (Answers
-        (makes_directory inodes.old.geometry.inodes (tree_of v table) path.now mode)
-        inodes.old.geometry.inodes v table) }
-    ensures damaged { (disk : ℕ → List ℕ) (settled : ℕ → Inode) (v : Volume)
-        → Stands B.Blocks disk settled v blocks.old inodes.old
-        → IsErrOf result ReadError.Damaged → ⊥ }
+    ensures ready { MakesReady inodes.new result }
+    ensures does { MakesDo B.Blocks blocks.old inodes.old inodes.new result }
+    ensures answers { OnMounted B.Blocks blocks.old inodes.old (λ v table. IfOk result
+        (Answers (creates inodes.old.geometry.inodes (tree_of v table) path.now
+        (with_made (made_by object))) inodes.old.geometry.inodes v table)) }
+    ensures damaged { NeverDamaged B.Blocks blocks.old inodes.old result }
 {
     volumes_are_trees();
     volumes_tell_fresh_numbers();
     records_change_trees();
-    // The type of a mode holds it to its bits.
-    let _ = mode.bits();
     let place = find(alloc, inodes, blocks, parts, false)?;
     let (trail, name) = match place {
         Place::Gap { trail, name } => (trail, name),
@@ -126,55 +170,78 @@ fn make_along<B: Blocks>(
             number: _number,
         } => return Ok(Err(Errno::EEXIST)),
     };
-    make_in(alloc, inodes, blocks, trail.here(), name, mode)
+    make_in(alloc, inodes, blocks, trail.here(), name, object)
 }
 
-// Makes a directory at a name that its parent doesn't have.
+// Makes an object at a name that its parent doesn't have.
 fn make_in<B: Blocks>(
     alloc: Global,
     inodes: &mut InodeFile,
     blocks: &mut B,
     parent: u32,
     name: Vec<u8>,
-    mode: Mode,
+    object: OwnedObject,
 ) -> Result<Result<Making, Errno>, ReadError>
     ensures looks { Looks B.Blocks IsFault blocks.old blocks.new inodes.old inodes.new result }
     ensures own { IfOk result (λ r. IfErr r (λ e. IsTrue (is_path_refusal e))) }
-    ensures ready { IfOk result (λ m. IfOk m (λ x. IsReady inodes.new x.prepared)) }
-    ensures does { (disk : ℕ → List ℕ) (settled : ℕ → Inode) (v : Volume)
-        → Stands B.Blocks disk settled v blocks.old inodes.old
-        → IfOk result (λ m. IfOk m
-        (λ x. Does disk settled inodes.new v x.prepared (creation_of x.creation))) }
-    ensures makes { (disk : ℕ → List ℕ) (settled : ℕ → Inode) (v : Volume)
-        → Stands B.Blocks disk settled v blocks.old inodes.old
-        → IsVolume inodes.old.geometry.inodes v → IfOk result
-        (MakesIn inodes.old.geometry.inodes v parent name.items mode) }
-    ensures damaged { (disk : ℕ → List ℕ) (settled : ℕ → Inode) (v : Volume)
-        → Stands B.Blocks disk settled v blocks.old inodes.old
-        → IsErrOf result ReadError.Damaged → ⊥ }
+    ensures ready { MakesReady inodes.new result }
+    ensures does { MakesDo B.Blocks blocks.old inodes.old inodes.new result }
+    ensures makes { OnVolumes B.Blocks blocks.old inodes.old (λ disk settled v.
+        IsVolume inodes.old.geometry.inodes v → IfOk result
+        (MakesIn inodes.old.geometry.inodes v parent name.items (made_by object))) }
+    ensures damaged { NeverDamaged B.Blocks blocks.old inodes.old result }
 {
+    based_trees_are_sound();
+    let new = new_object(alloc, blocks, &object.as_new())?;
     let Some(free) = inodes.least_free() else {
-        return refuse_in(alloc, inodes, blocks, parent, name.as_slice(), mode);
+        return refuse_in(alloc, inodes, blocks, parent, name.as_slice(), new);
     };
-    let number = InodeNumber::new(free);
-    let object = new_directory(alloc, mode);
-    let planned = prepare_new(
-        alloc,
-        inodes,
-        blocks,
-        number,
-        parent,
-        name.as_slice(),
-        object,
-    )?;
+    let vacant = is_vacant(alloc, inodes, blocks, free)?;
+    if !vacant {
+        return Err(ReadError::Damaged);
+    }
+    make_numbered(alloc, inodes, blocks, free, parent, name, object, new)
+}
+
+// Makes an object of this number.
+fn make_numbered<B: Blocks>(
+    alloc: Global,
+    inodes: &mut InodeFile,
+    blocks: &mut B,
+    number: u32,
+    parent: u32,
+    name: Vec<u8>,
+    object: OwnedObject,
+    new: Object,
+) -> Result<Result<Making, Errno>, ReadError>
+    requires low { FIRST_NUMBER ≤ number }
+    requires high { number < inodes.old.geometry.inodes }
+    ensures looks { Looks B.Blocks IsFault blocks.old blocks.new inodes.old inodes.new result }
+    ensures own { IfOk result (λ r. IfErr r (λ e. IsTrue (is_path_refusal e))) }
+    ensures ready { MakesReady inodes.new result }
+    ensures does { OnVolumes B.Blocks blocks.old inodes.old (λ disk settled v. v number ≡ None
+        → ((k : ℕ) → IsObject disk k (settled number) new (Some (node_of (made_by object))))
+        → IfOk result (λ r. IfOk r
+        (λ m. Does disk settled inodes.new v m.prepared (creation_of m.creation)))) }
+    ensures makes { OnVolumes B.Blocks blocks.old inodes.old (λ disk settled v.
+        IsVolume inodes.old.geometry.inodes v → IfOk result
+        (MakesAt v number parent name.items (made_by object))) }
+    ensures damaged { NeverDamaged B.Blocks blocks.old inodes.old result }
+{
+    let Some(name) = EntryName::new(name) else {
+        return Ok(Err(Errno::DIRFULL));
+    };
+    let given = InodeNumber::new(number);
+    let planned = prepare_new(alloc, inodes, blocks, given, parent, &name.bytes, new)?;
     let Some(prepared) = planned else {
         return Ok(Err(Errno::DIRFULL));
     };
+    let directory = InodeNumber::new(parent);
     Ok(Ok(Making {
         creation: Creation {
-            number,
-            parent: InodeNumber::new(parent),
-            mode,
+            number: given,
+            parent: directory,
+            object,
             name,
         },
         prepared,
@@ -188,27 +255,21 @@ fn refuse_in<B: Blocks>(
     blocks: &mut B,
     parent: u32,
     name: &[u8],
-    mode: Mode,
+    new: Object,
 ) -> Result<Result<Making, Errno>, ReadError>
     ensures looks { Looks B.Blocks IsFault blocks.old blocks.new inodes.old inodes.new result }
     ensures own { IfOk result (λ r. IfErr r (λ e. IsTrue (is_path_refusal e))) }
-    ensures ready { IfOk result (λ m. IfOk m (λ x. IsReady inodes.new x.prepared)) }
-    ensures does { (disk : ℕ → List ℕ) (settled : ℕ → Inode) (v : Volume)
-        → IfOk result (λ m. IfOk m
-        (λ x. Does disk settled inodes.new v x.prepared (creation_of x.creation))) }
-    ensures makes { (disk : ℕ → List ℕ) (settled : ℕ → Inode) (v : Volume)
-        → Stands B.Blocks disk settled v blocks.old inodes.old
-        → IsVolume inodes.old.geometry.inodes v → HasNoNumber inodes.old.geometry.inodes v
-        → IfOk result (MakesIn inodes.old.geometry.inodes v parent name.now mode) }
-    ensures damaged { (disk : ℕ → List ℕ) (settled : ℕ → Inode) (v : Volume)
-        → Stands B.Blocks disk settled v blocks.old inodes.old
-        → IsErrOf result ReadError.Damaged → ⊥ }
+    ensures ready { MakesReady inodes.new result }
+    ensures does { MakesDo B.Blocks blocks.old inodes.old inodes.new result }
+    ensures makes { (made : Made) → OnVolumes B.Blocks blocks.old inodes.old (λ disk settled v.
+        IsVolume inodes.old.geometry.inodes v → HasNoNumber inodes.old.geometry.inodes v
+        → IfOk result (MakesIn inodes.old.geometry.inodes v parent name.now made)) }
+    ensures damaged { NeverDamaged B.Blocks blocks.old inodes.old result }
 {
     // An image has more inode numbers than the first.
     let _ = inodes.geometry().inodes();
     let number = InodeNumber::new(FIRST_NUMBER);
-    let object = new_directory(alloc, mode);
-    let planned = prepare_new(alloc, inodes, blocks, number, parent, name, object)?;
+    let planned = prepare_new(alloc, inodes, blocks, number, parent, name, new)?;
     if planned.is_none() {
         return Ok(Err(Errno::DIRFULL));
     }

@@ -11,12 +11,14 @@ ghost use Rattle.inofile.specs.Objects.{IsObject};
 ghost use Rattle.inofile.specs.Volumes.{IsVolumeOf};
 ghost use Rattle.calls.specs.Prepared.{IsReady, Does};
 ghost use Rattle.calls.specs.Served.{IsServed};
-ghost use Rattle.calls.specs.Standing.{Looks, Stands};
+ghost use Rattle.paths.specs.Standing.{Looks, Stands};
 
+use crate::contents::{Rewrite, prepare_bytes};
 use crate::entering::edit_parent;
 use crate::links::prepare_link;
 use crate::moding::prepare_mode;
 use crate::naming::NameEdit;
+use crate::renaming::prepare_rename;
 use crate::steps::{Step, Update, commit_some, commit_step};
 use crate::unnaming::prepare_unname;
 use crate::vacancy::{is_made, is_vacant, new_object};
@@ -71,6 +73,21 @@ pub fn prepare<B: Blocks>(
             object,
             name,
         } => prepare_create(alloc, inodes, blocks, *number, parent.get(), name, object),
+        Record::Write {
+            number,
+            offset,
+            bytes,
+        } => {
+            let rewrite = Rewrite::Write {
+                offset: *offset,
+                bytes,
+            };
+            prepare_bytes(alloc, inodes, blocks, number.get(), &rewrite)
+        }
+        Record::Cut { number, size } => {
+            let rewrite = Rewrite::Cut { size: *size };
+            prepare_bytes(alloc, inodes, blocks, number.get(), &rewrite)
+        }
         Record::Link {
             number,
             parent,
@@ -79,10 +96,18 @@ pub fn prepare<B: Blocks>(
         Record::Unname { parent, name } => {
             prepare_unname(alloc, inodes, blocks, parent.get(), name)
         }
+        Record::Rename {
+            parent,
+            name,
+            new_parent,
+            new_name,
+        } => {
+            let to = new_parent.get();
+            prepare_rename(alloc, inodes, blocks, parent.get(), name, to, new_name)
+        }
         Record::ChangeMode { number, mode } => {
             prepare_mode(alloc, inodes, blocks, number.get(), *mode)
         }
-        _ => unreachable!(),
     }
 }
 

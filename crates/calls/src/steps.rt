@@ -10,9 +10,10 @@ ghost use Rattle.inofile.specs.Volumes.{IsVolumeOf};
 ghost use Rattle.model.specs.declared.limits.TheConstants.{FILE_NAMES};
 ghost use Rattle.calls.specs.Steps.{IsBeside, Steps, StepsSome, TakesSome, TakesStep, with_links};
 
+use crate::contents::commit_bytes;
 use crate::entering::commit_edit;
 use dirs::Edit;
-use inode::Object;
+use inode::{Change, Object};
 use inofile::InodeFile;
 use layout::ROOT_NUMBER;
 use model::Mode;
@@ -26,6 +27,8 @@ pub(crate) enum Update {
     Names(Edit),
     /// The file or directory has this mode.
     SetMode(Mode),
+    /// The file has the bytes that this change gives it.
+    Bytes(Change),
     /// The file has so many names.
     Links(u32),
 }
@@ -53,6 +56,7 @@ pub(crate) fn commit_step(inodes: &mut InodeFile, step: Step)
         Update::Set(object) => inodes.commit_set(number, object),
         Update::Names(edit) => commit_edit(inodes, number, edit),
         Update::SetMode(mode) => commit_mode(inodes, number, mode),
+        Update::Bytes(change) => commit_bytes(inodes, number, change),
         Update::Links(links) => commit_links(inodes, number, links),
     }
 }

@@ -11,7 +11,7 @@ ghost use Rattle.inofile.specs.Inodes.{HasRoomFor, IsKnown};
 ghost use Rattle.inofile.specs.Volumes.{IsVolumeOf};
 ghost use Rattle.paths.specs.Numbers.{IsNumber};
 ghost use Rattle.calls.specs.Prepared.{IsReady, Does};
-ghost use Rattle.calls.specs.Standing.{Looks, Stands};
+ghost use Rattle.paths.specs.Standing.{Looks, Stands};
 ghost use Rattle.calls.specs.Steps.{IsAlone, Updates};
 
 use crate::Prepared;

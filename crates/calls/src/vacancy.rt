@@ -13,7 +13,7 @@ ghost use Rattle.blocktree.specs.Trees.{IsSoundAt};
 ghost use Rattle.blocktree.specs.declared.tree.BlockTree.{BlockTree};
 ghost use Rattle.inode.specs.Bases.{IsBased};
 ghost use Rattle.inofile.specs.Objects.{IsObject};
-ghost use Rattle.calls.specs.Standing.{Looks, Stands};
+ghost use Rattle.paths.specs.Standing.{Looks, Stands};
 
 use crate::loading::load;
 use blocktree::ReadError;

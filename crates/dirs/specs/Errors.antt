@@ -1,4 +1,5 @@
 -- Errors of the layer below, as those of this one.
+use Rattle.std.specs.Prelude.{◌≡◌}
 use Rattle.blocktree.specs.declared.error.ReadError.{ReadError}
 use Rattle.blocktree.specs.declared.error.ReadError.TheVariants as below
 use Rattle.dirs.specs.declared.error.AddError.{AddError}
@@ -8,3 +9,7 @@ abbrev pub add_error : ReadError → AddError
 add_error below.NoMemory = NoMemory
 add_error below.Device = Device
 add_error below.Damaged = Damaged
+
+-- a device call failed
+abbrev pub IsAddFault : AddError → Type 0
+IsAddFault e = e ≡ Device

@@ -2,7 +2,9 @@
 
 ghost use Rattle.std.specs.Prelude.{[], ◌∷◌, ◌++◌, ◌+◌, length, Some, ◌≢◌, OnErr, ◌≤◌, ◌≡◌, ◌<◌, ℕ, List, OnOk, IsErrOf, None};
 ghost use Rattle.layout.specs.Directory.{Named, HoldsEntries, IsEntry, named_of, entry_bytes};
-ghost use Rattle.buffers.specs.Failures.{HasGrown};
+ghost use Rattle.buffers.specs.Reads.{ReadsBlocks};
+ghost use Rattle.blocktree.specs.Errors.{IsFault};
+ghost use Rattle.dirs.specs.Errors.{IsAddFault};
 ghost use Rattle.dirs.specs.declared.TheConstants.{MOST_BLOCKS, MOST_NAMES};
 
 use crate::entries::add;
@@ -34,14 +36,9 @@ impl Edit {
         entry: &Entry<'_>,
     ) -> Result<(), AddError>
         requires { IsEntry inodes (named_of entry.now) }
-        ensures count { B.count blocks.new ≡ B.count blocks.old }
-        ensures counted { OnOk result (B.failed blocks.new ≡ B.failed blocks.old) }
+        ensures reads { ReadsBlocks B.Blocks IsAddFault blocks.old blocks.new result }
         ensures counted_full { IsErrOf result AddError.DirFull →
             (B.failed blocks.new ≡ B.failed blocks.old) }
-        ensures device { IsErrOf result AddError.Device →
-            HasGrown (B.failed blocks.old) (B.failed blocks.new) }
-        ensures reads { (start : B) → B.ReadsOn start blocks.old → B.ReadsOn start blocks.new }
-        ensures same { (disk : ℕ → List ℕ) → B.Shows blocks.old disk → B.Shows blocks.new disk }
         ensures file { IsSameFile file.old file.new }
         ensures keeps { KeepsRoom file.old.tree file.new.tree }
         ensures fits { FitsIn file.old self.old → FitsIn file.new self.new }
@@ -92,12 +89,7 @@ impl Edit {
         entry: &Entry<'_>,
     ) -> Result<(), ReadError>
         requires { IsEntry inodes (named_of entry.now) }
-        ensures count { B.count blocks.new ≡ B.count blocks.old }
-        ensures counted { OnOk result (B.failed blocks.new ≡ B.failed blocks.old) }
-        ensures device { IsErrOf result ReadError.Device →
-            HasGrown (B.failed blocks.old) (B.failed blocks.new) }
-        ensures reads { (start : B) → B.ReadsOn start blocks.old → B.ReadsOn start blocks.new }
-        ensures same { (disk : ℕ → List ℕ) → B.Shows blocks.old disk → B.Shows blocks.new disk }
+        ensures reads { ReadsBlocks B.Blocks IsFault blocks.old blocks.new result }
         ensures file { IsSameFile file.old file.new }
         ensures keeps { KeepsRoom file.old.tree file.new.tree }
         ensures fits { FitsIn file.old self.old → FitsIn file.new self.new }

@@ -1,13 +1,13 @@
 //! Looking into a directory.
 
-ghost use Rattle.std.specs.Prelude.{◌≡◌, ◌<◌, ◌/◌, ◌||◌, ℕ, List, OnOk, OnErr, IfOk, IfErr, IfSome, IsErrOf, map, is_some};
+ghost use Rattle.std.specs.Prelude.{◌≡◌, ◌<◌, ◌/◌, ◌||◌, ℕ, List, OnOk, IfOk, IfSome, IsErrOf, map, is_some};
 ghost use Rattle.std.specs.Ordering.{nat_cmp};
 ghost use Rattle.std.specs.Cmp.Lexicographic.{slice_cmp};
 ghost use Rattle.std.specs.List.Sorted.{IsStrictlySortedBy};
 ghost use Rattle.layout.specs.Directory.{Named, HoldsEntries};
-ghost use Rattle.buffers.specs.Failures.{HasGrown};
-ghost use Rattle.blocktree.specs.Trees.{IsSoundAt};
-ghost use Rattle.blocktree.specs.declared.error.ReadError.TheVariants.{NoMemory, Damaged};
+ghost use Rattle.buffers.specs.Reads.{ReadsBlocks};
+ghost use Rattle.blocktree.specs.Errors.{IsFault};
+ghost use Rattle.blocktree.specs.declared.error.ReadError.TheVariants.{Damaged};
 ghost use Rattle.inode.specs.Files.{file_block};
 ghost use Rattle.model.specs.Paths.{Name};
 ghost use Rattle.layout.specs.DirectoryNames.{number_of, NameMap};
@@ -33,12 +33,7 @@ pub fn find<B: Blocks>(
     inodes: u32,
     name: &[u8],
 ) -> Result<Option<u32>, ReadError>
-    ensures count { B.count blocks.new ≡ B.count blocks.old }
-    ensures counted { OnOk result (B.failed blocks.new ≡ B.failed blocks.old) }
-    ensures device { IsErrOf result ReadError.Device →
-        HasGrown (B.failed blocks.old) (B.failed blocks.new) }
-    ensures reads { (start : B) → B.ReadsOn start blocks.old → B.ReadsOn start blocks.new }
-    ensures same { (disk : ℕ → List ℕ) → B.Shows blocks.old disk → B.Shows blocks.new disk }
+    ensures reads { ReadsBlocks B.Blocks IsFault blocks.old blocks.new result }
     ensures found { (disk : ℕ → List ℕ) (names : NameMap) → B.Shows blocks.old disk →
         IsDirectory inodes disk file.now names → IfOk result (λ number. number ≡ names name.now) }
     ensures sound { (disk : ℕ → List ℕ) → B.Shows blocks.old disk →
@@ -60,12 +55,7 @@ pub fn list<B: Blocks>(
     blocks: &mut B,
     inodes: u32,
 ) -> Result<Names, ReadError>
-    ensures count { B.count blocks.new ≡ B.count blocks.old }
-    ensures counted { OnOk result (B.failed blocks.new ≡ B.failed blocks.old) }
-    ensures device { IsErrOf result ReadError.Device →
-        HasGrown (B.failed blocks.old) (B.failed blocks.new) }
-    ensures reads { (start : B) → B.ReadsOn start blocks.old → B.ReadsOn start blocks.new }
-    ensures same { (disk : ℕ → List ℕ) → B.Shows blocks.old disk → B.Shows blocks.new disk }
+    ensures reads { ReadsBlocks B.Blocks IsFault blocks.old blocks.new result }
     ensures listed { (disk : ℕ → List ℕ) (names : NameMap) → B.Shows blocks.old disk →
         IsDirectory inodes disk file.now names → IfOk result (IsListing names) }
     ensures sound { (disk : ℕ → List ℕ) → B.Shows blocks.old disk →

@@ -31,7 +31,8 @@ ghost use Rattle.std.specs.Option.{option_map};
 ghost use Rattle.std.specs.Ordering.{nat_cmp};
 ghost use Rattle.std.specs.BTreeMap as tree;
 ghost use Rattle.layout.specs.Directory.{Named, HoldsEntries};
-ghost use Rattle.buffers.specs.Failures.{HasGrown};
+ghost use Rattle.buffers.specs.Reads.{ReadsBlocks};
+ghost use Rattle.blocktree.specs.Errors.{IsFault};
 ghost use Rattle.dirs.specs.declared.TheConstants.{MOST_BLOCKS};
 
 impl Edit {
@@ -66,12 +67,7 @@ impl Edit {
         inodes: u32,
         name: &[u8],
     ) -> Result<Look, ReadError>
-        ensures count { B.count blocks.new ≡ B.count blocks.old }
-        ensures counted { OnOk result (B.failed blocks.new ≡ B.failed blocks.old) }
-        ensures device { IsErrOf result ReadError.Device →
-            HasGrown (B.failed blocks.old) (B.failed blocks.new) }
-        ensures reads { (start : B) → B.ReadsOn start blocks.old → B.ReadsOn start blocks.new }
-        ensures same { (disk : ℕ → List ℕ) → B.Shows blocks.old disk → B.Shows blocks.new disk }
+        ensures reads { ReadsBlocks B.Blocks IsFault blocks.old blocks.new result }
         ensures tells { (disk : ℕ → List ℕ) → B.Shows blocks.old disk →
             IfOk result (Tells inodes (edited_block disk file.now self.now i) name.now) }
         ensures ordinary { IfOk result (λ l. IfSome l.number (IsObjectNumber inodes)) }
@@ -96,12 +92,7 @@ impl Edit {
         i: u32,
         out: &mut [u8; BLOCK_BYTES],
     ) -> Result<(), ReadError>
-        ensures count { B.count blocks.new ≡ B.count blocks.old }
-        ensures counted { OnOk result (B.failed blocks.new ≡ B.failed blocks.old) }
-        ensures device { IsErrOf result ReadError.Device →
-            HasGrown (B.failed blocks.old) (B.failed blocks.new) }
-        ensures reads { (start : B) → B.ReadsOn start blocks.old → B.ReadsOn start blocks.new }
-        ensures same { (disk : ℕ → List ℕ) → B.Shows blocks.old disk → B.Shows blocks.new disk }
+        ensures reads { ReadsBlocks B.Blocks IsFault blocks.old blocks.new result }
         ensures bytes { (disk : ℕ → List ℕ) → B.Shows blocks.old disk →
             OnOk result (out.new ≡ edited_block disk file.now self.now i) }
         ensures damaged { (disk : ℕ → List ℕ) → B.Shows blocks.old disk →
@@ -153,12 +144,7 @@ impl Edit {
         inodes: u32,
         name: &[u8],
     ) -> Result<Option<Place>, ReadError>
-        ensures count { B.count blocks.new ≡ B.count blocks.old }
-        ensures counted { OnOk result (B.failed blocks.new ≡ B.failed blocks.old) }
-        ensures device { IsErrOf result ReadError.Device →
-            HasGrown (B.failed blocks.old) (B.failed blocks.new) }
-        ensures reads { (start : B) → B.ReadsOn start blocks.old → B.ReadsOn start blocks.new }
-        ensures same { (disk : ℕ → List ℕ) → B.Shows blocks.old disk → B.Shows blocks.new disk }
+        ensures reads { ReadsBlocks B.Blocks IsFault blocks.old blocks.new result }
         ensures within { IfOk result (λ place. IfSome place (λ p. p.block < self.now.count)) }
         ensures ordinary { IfOk result (λ place. IfSome place
             (λ p. IsObjectNumber inodes p.number)) }
@@ -190,12 +176,7 @@ impl Edit {
         inodes: u32,
         name: &[u8],
     ) -> Result<Option<u32>, ReadError>
-        ensures count { B.count blocks.new ≡ B.count blocks.old }
-        ensures counted { OnOk result (B.failed blocks.new ≡ B.failed blocks.old) }
-        ensures device { IsErrOf result ReadError.Device →
-            HasGrown (B.failed blocks.old) (B.failed blocks.new) }
-        ensures reads { (start : B) → B.ReadsOn start blocks.old → B.ReadsOn start blocks.new }
-        ensures same { (disk : ℕ → List ℕ) → B.Shows blocks.old disk → B.Shows blocks.new disk }
+        ensures reads { ReadsBlocks B.Blocks IsFault blocks.old blocks.new result }
         ensures found { (disk : ℕ → List ℕ) (names : NameMap) → B.Shows blocks.old disk →
             HasNames inodes disk file.now self.now names →
             IfOk result (λ number. number ≡ names name.now) }

@@ -1,6 +1,6 @@
 //! The entries of one block. A block outside its grammar is safe to look at, and nothing is said of what comes out.
 
-ghost use Rattle.std.specs.Prelude.{◌≡◌, ℕ, ◌+◌, ◌<◌, ◌≤◌, ◌^◌, ◌∷◌, [], ◌++◌, List, length, Option, IfSome, IfNone, None, take, drop};
+ghost use Rattle.std.specs.Prelude.{◌≡◌, ◌+◌, ◌<◌, ◌≤◌, ◌∷◌, [], ◌++◌, List, length, Option, IfSome, IfNone, None, take, drop};
 ghost use Rattle.layout.specs.Bytes.{zeros};
 ghost use Rattle.layout.specs.Directory.{Named, HoldsEntries, IsEntry, entry_bytes, named_of};
 ghost use Rattle.layout.specs.DirectoryNames.{number_of};

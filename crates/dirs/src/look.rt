@@ -1,6 +1,6 @@
 //! A look at one block of a directory.
 
-ghost use Rattle.std.specs.Prelude.{◌≡◌, ◌*◌, ◌≤◌, List, IfOk, IfErr, IfSome, OnErr};
+ghost use Rattle.std.specs.Prelude.{◌≡◌, List, IfOk, IfErr, IfSome, OnErr};
 ghost use Rattle.layout.specs.Directory.{Named, HoldsEntries};
 ghost use Rattle.blocktree.specs.declared.error.ReadError.TheVariants.{Damaged};
 ghost use Rattle.dirs.specs.Entries.{IsObjectNumber};

@@ -2,7 +2,8 @@
 
 ghost use Rattle.std.specs.Prelude.{[], OnErr, ◌≤◌, ◌≡◌, ◌<◌, ℕ, List, Option, IfOk, OnOk, IsErrOf, None};
 ghost use Rattle.layout.specs.Directory.{Named};
-ghost use Rattle.buffers.specs.Failures.{HasGrown};
+ghost use Rattle.buffers.specs.Reads.{ReadsBlocks};
+ghost use Rattle.blocktree.specs.Errors.{IsFault};
 
 use crate::Edit;
 use crate::entries::{count, remove};
@@ -27,12 +28,7 @@ impl Edit {
         inodes: u32,
         end: u32,
     ) -> Result<u32, ReadError>
-        ensures count { B.count blocks.new ≡ B.count blocks.old }
-        ensures counted { OnOk result (B.failed blocks.new ≡ B.failed blocks.old) }
-        ensures device { IsErrOf result ReadError.Device →
-            HasGrown (B.failed blocks.old) (B.failed blocks.new) }
-        ensures reads { (start : B) → B.ReadsOn start blocks.old → B.ReadsOn start blocks.new }
-        ensures same { (disk : ℕ → List ℕ) → B.Shows blocks.old disk → B.Shows blocks.new disk }
+        ensures reads { ReadsBlocks B.Blocks IsFault blocks.old blocks.new result }
         ensures within { IfOk result (λ count. count ≤ end) }
         ensures empty { (disk : ℕ → List ℕ) (entries : ℕ → List Named) → B.Shows blocks.old disk →
             AllHold inodes end (edited_block disk file.now self.now) entries →
@@ -61,12 +57,7 @@ impl Edit {
         inodes: u32,
         name: &[u8],
     ) -> Result<(), ReadError>
-        ensures count { B.count blocks.new ≡ B.count blocks.old }
-        ensures counted { OnOk result (B.failed blocks.new ≡ B.failed blocks.old) }
-        ensures device { IsErrOf result ReadError.Device →
-            HasGrown (B.failed blocks.old) (B.failed blocks.new) }
-        ensures reads { (start : B) → B.ReadsOn start blocks.old → B.ReadsOn start blocks.new }
-        ensures same { (disk : ℕ → List ℕ) → B.Shows blocks.old disk → B.Shows blocks.new disk }
+        ensures reads { ReadsBlocks B.Blocks IsFault blocks.old blocks.new result }
         ensures file { IsSameFile file.old file.new }
         ensures keeps { KeepsRoom file.old.tree file.new.tree }
         ensures fits { FitsIn file.old self.old → FitsIn file.new self.new }

@@ -1,8 +1,8 @@
 //! A survey of a directory, before a name is added to it.
 
-ghost use Rattle.std.specs.Prelude.{◌≡◌, ◌+◌, ◌*◌, ◌^◌, ◌<◌, ◌≤◌, ℕ, List, IfOk, OnOk, IsErrOf};
-ghost use Rattle.layout.specs.Directory.{Named, HoldsEntries};
-ghost use Rattle.buffers.specs.Failures.{HasGrown};
+ghost use Rattle.std.specs.Prelude.{◌≡◌, ◌+◌, ◌^◌, ◌<◌, ◌≤◌, ℕ, List, IfOk, IsErrOf};
+ghost use Rattle.buffers.specs.Reads.{ReadsBlocks};
+ghost use Rattle.blocktree.specs.Errors.{IsFault};
 ghost use Rattle.dirs.specs.Edits.{edited_block, IsReached, IsSound};
 ghost use Rattle.dirs.specs.Surveys.{Finds, IsBounded, next_room};
 
@@ -31,12 +31,7 @@ pub(crate) fn survey_of<B: Blocks>(
     bytes: usize,
 ) -> Result<Survey, ReadError>
     requires { bytes ≤ 260 }
-    ensures count { B.count blocks.new ≡ B.count blocks.old }
-    ensures counted { OnOk result (B.failed blocks.new ≡ B.failed blocks.old) }
-    ensures device { IsErrOf result ReadError.Device →
-        HasGrown (B.failed blocks.old) (B.failed blocks.new) }
-    ensures reads { (start : B) → B.ReadsOn start blocks.old → B.ReadsOn start blocks.new }
-    ensures same { (disk : ℕ → List ℕ) → B.Shows blocks.old disk → B.Shows blocks.new disk }
+    ensures reads { ReadsBlocks B.Blocks IsFault blocks.old blocks.new result }
     ensures finds { (disk : ℕ → List ℕ) → B.Shows blocks.old disk →
         IfOk result (Finds inodes (edited_block disk file.now edit.now) edit.now.count bytes) }
     ensures bounded { IfOk result (λ s. IsBounded edit.now.count s s.room) }

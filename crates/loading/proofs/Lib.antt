@@ -1,3 +1,4 @@
+mod ReadLaws
 mod FileLaws
 mod MapLaws
 mod EndLaws

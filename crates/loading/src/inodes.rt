@@ -5,7 +5,8 @@ ghost use Rattle.layout.specs.Inode.{IsInode, inode_bytes};
 ghost use Rattle.layout.specs.declared.TheConstants.{BLOCK_BYTES};
 ghost use Rattle.layout.specs.declared.inode.Inode.{Inode};
 ghost use Rattle.layout.specs.declared.version.TheConstants.{VERSION};
-ghost use Rattle.buffers.specs.Failures.{HasGrown};
+ghost use Rattle.buffers.specs.Reads.{ReadsBlocks};
+ghost use Rattle.blocktree.specs.Errors.{IsFault};
 ghost use Rattle.blocktree.specs.Trees.{IsSoundAt};
 ghost use Rattle.inode.specs.Files.{file_block};
 ghost use Rattle.images.specs.Roots.{inode_part};
@@ -23,12 +24,7 @@ pub(crate) fn check_inodes<B: Blocks>(
     file: &File,
     geometry: Geometry,
 ) -> Result<(), ReadError>
-    ensures count { B.count blocks.new ≡ B.count blocks.old }
-    ensures counted { OnOk result (B.failed blocks.new ≡ B.failed blocks.old) }
-    ensures device { IsErrOf result ReadError.Device
-        → HasGrown (B.failed blocks.old) (B.failed blocks.new) }
-    ensures reads { (start : B) → B.ReadsOn start blocks.old → B.ReadsOn start blocks.new }
-    ensures shown { (disk : ℕ → List ℕ) → B.Shows blocks.old disk → B.Shows blocks.new disk }
+    ensures reads { ReadsBlocks B.Blocks IsFault blocks.old blocks.new result }
     ensures are { (disk : ℕ → List ℕ) → B.Shows blocks.old disk
         → OnOk result (AreInodeBlocks geometry (file_block disk file.now)) }
     ensures damaged { (disk : ℕ → List ℕ) → B.Shows blocks.old disk
@@ -55,12 +51,7 @@ pub(crate) fn own_inode<B: Blocks>(
     geometry: Geometry,
 ) -> Result<Inode, ReadError>
     requires { number < INODES_PER_BLOCK }
-    ensures count { B.count blocks.new ≡ B.count blocks.old }
-    ensures counted { OnOk result (B.failed blocks.new ≡ B.failed blocks.old) }
-    ensures device { IsErrOf result ReadError.Device
-        → HasGrown (B.failed blocks.old) (B.failed blocks.new) }
-    ensures reads { (start : B) → B.ReadsOn start blocks.old → B.ReadsOn start blocks.new }
-    ensures shown { (disk : ℕ → List ℕ) → B.Shows blocks.old disk → B.Shows blocks.new disk }
+    ensures reads { ReadsBlocks B.Blocks IsFault blocks.old blocks.new result }
     ensures is { IfOk result (IsInode VERSION geometry) }
     ensures kind { IfOk result (λ i. i.kind ≡ kind) }
     ensures spelled { (disk : ℕ → List ℕ) → B.Shows blocks.old disk

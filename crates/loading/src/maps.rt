@@ -10,7 +10,8 @@ ghost use Rattle.layout.specs.declared.kind.Kind.TheVariants as kinds;
 ghost use Rattle.layout.specs.declared.pointer.Pointer.TheVariants.{Hole};
 ghost use Rattle.layout.specs.Version.{greatest_size};
 ghost use Rattle.layout.specs.declared.version.TheConstants.{VERSION};
-ghost use Rattle.buffers.specs.Failures.{HasGrown};
+ghost use Rattle.buffers.specs.Reads.{ReadsBlocks};
+ghost use Rattle.blocktree.specs.Errors.{IsFault};
 ghost use Rattle.blocktree.specs.Trees.{AreSound, IsSoundAt};
 ghost use Rattle.inode.specs.Bodies.{inode_block};
 ghost use Rattle.inode.specs.Files.{byte_at, bytes_of, file_block};
@@ -33,12 +34,7 @@ pub(crate) fn load_numbers<B: Blocks>(
 ) -> Result<Vec<u8>, ReadError>
     requires is { IsInode VERSION geometry inode }
     requires kind { inode.kind ≡ kinds.InodeMap }
-    ensures count { B.count blocks.new ≡ B.count blocks.old }
-    ensures counted { OnOk result (B.failed blocks.new ≡ B.failed blocks.old) }
-    ensures device { IsErrOf result ReadError.Device
-        → HasGrown (B.failed blocks.old) (B.failed blocks.new) }
-    ensures reads { (start : B) → B.ReadsOn start blocks.old → B.ReadsOn start blocks.new }
-    ensures shown { (disk : ℕ → List ℕ) → B.Shows blocks.old disk → B.Shows blocks.new disk }
+    ensures reads { ReadsBlocks B.Blocks IsFault blocks.old blocks.new result }
     ensures size { IfOk result (λ v. vec_len v ≡ div_ceil geometry.inodes 8) }
     ensures map { IfOk result (λ v. IsInodeMap 0 geometry.inodes v.items) }
     ensures file { (disk : ℕ → List ℕ) → B.Shows blocks.old disk
@@ -63,12 +59,7 @@ pub(crate) fn load_numbers<B: Blocks>(
 
 /// All bytes of a file.
 fn read_all<B: Blocks>(alloc: Global, blocks: &mut B, file: &File) -> Result<Vec<u8>, ReadError>
-    ensures count { B.count blocks.new ≡ B.count blocks.old }
-    ensures counted { OnOk result (B.failed blocks.new ≡ B.failed blocks.old) }
-    ensures device { IsErrOf result ReadError.Device
-        → HasGrown (B.failed blocks.old) (B.failed blocks.new) }
-    ensures reads { (start : B) → B.ReadsOn start blocks.old → B.ReadsOn start blocks.new }
-    ensures shown { (disk : ℕ → List ℕ) → B.Shows blocks.old disk → B.Shows blocks.new disk }
+    ensures reads { ReadsBlocks B.Blocks IsFault blocks.old blocks.new result }
     ensures size { IfOk result (λ v. vec_len v ≡ file.now.size) }
     ensures bytes { (disk : ℕ → List ℕ) → B.Shows blocks.old disk
         → IfOk result (λ v. v.items ≡ bytes_of disk file.now) }
@@ -90,12 +81,7 @@ pub(crate) fn load_parts<B: Blocks>(
 ) -> Result<Vec<MapPart>, ReadError>
     requires is { IsInode VERSION geometry inode }
     requires kind { inode.kind ≡ kinds.BlockMap }
-    ensures count { B.count blocks.new ≡ B.count blocks.old }
-    ensures counted { OnOk result (B.failed blocks.new ≡ B.failed blocks.old) }
-    ensures device { IsErrOf result ReadError.Device
-        → HasGrown (B.failed blocks.old) (B.failed blocks.new) }
-    ensures reads { (start : B) → B.ReadsOn start blocks.old → B.ReadsOn start blocks.new }
-    ensures shown { (disk : ℕ → List ℕ) → B.Shows blocks.old disk → B.Shows blocks.new disk }
+    ensures reads { ReadsBlocks B.Blocks IsFault blocks.old blocks.new result }
     ensures size { IfOk result
         (λ parts. length parts.items ≡ div_ceil geometry.blocks BLOCK_POINTERS) }
     ensures file { (disk : ℕ → List ℕ) → B.Shows blocks.old disk
@@ -122,12 +108,7 @@ pub(crate) fn load_parts<B: Blocks>(
 /// The file of a map: all of its blocks are stored, and zeros stand past its end.
 fn map_file<B: Blocks>(alloc: Global, blocks: &mut B, inode: Inode) -> Result<File, ReadError>
     requires { inode.size ≤ greatest_size 1 }
-    ensures count { B.count blocks.new ≡ B.count blocks.old }
-    ensures counted { OnOk result (B.failed blocks.new ≡ B.failed blocks.old) }
-    ensures device { IsErrOf result ReadError.Device
-        → HasGrown (B.failed blocks.old) (B.failed blocks.new) }
-    ensures reads { (start : B) → B.ReadsOn start blocks.old → B.ReadsOn start blocks.new }
-    ensures shown { (disk : ℕ → List ℕ) → B.Shows blocks.old disk → B.Shows blocks.new disk }
+    ensures reads { ReadsBlocks B.Blocks IsFault blocks.old blocks.new result }
     ensures size { IfOk result (λ f. f.size ≡ inode.size) }
     ensures blocks { IfOk result (λ f. (disk : ℕ → List ℕ) (i : ℕ)
         → file_block disk f i ≡ inode_block disk inode i) }
@@ -148,12 +129,7 @@ fn map_file<B: Blocks>(alloc: Global, blocks: &mut B, inode: Inode) -> Result<Fi
 
 /// Tests that each block that the settled inode counts is stored.
 fn check_stored<B: Blocks>(alloc: Global, blocks: &mut B, file: &File) -> Result<(), ReadError>
-    ensures count { B.count blocks.new ≡ B.count blocks.old }
-    ensures counted { OnOk result (B.failed blocks.new ≡ B.failed blocks.old) }
-    ensures device { IsErrOf result ReadError.Device
-        → HasGrown (B.failed blocks.old) (B.failed blocks.new) }
-    ensures reads { (start : B) → B.ReadsOn start blocks.old → B.ReadsOn start blocks.new }
-    ensures shown { (disk : ℕ → List ℕ) → B.Shows blocks.old disk → B.Shows blocks.new disk }
+    ensures reads { ReadsBlocks B.Blocks IsFault blocks.old blocks.new result }
     ensures stored { (disk : ℕ → List ℕ) → B.Shows blocks.old disk
         → OnOk result (HasAllPlaces disk file.now.tree) }
     ensures damaged { (disk : ℕ → List ℕ) → B.Shows blocks.old disk
@@ -185,12 +161,7 @@ fn has_hole(places: &[Pointer]) -> bool
 
 /// Tests that zeros stand past a file's end in its last block.
 fn check_end<B: Blocks>(blocks: &mut B, file: &File) -> Result<(), ReadError>
-    ensures count { B.count blocks.new ≡ B.count blocks.old }
-    ensures counted { OnOk result (B.failed blocks.new ≡ B.failed blocks.old) }
-    ensures device { IsErrOf result ReadError.Device
-        → HasGrown (B.failed blocks.old) (B.failed blocks.new) }
-    ensures reads { (start : B) → B.ReadsOn start blocks.old → B.ReadsOn start blocks.new }
-    ensures shown { (disk : ℕ → List ℕ) → B.Shows blocks.old disk → B.Shows blocks.new disk }
+    ensures reads { ReadsBlocks B.Blocks IsFault blocks.old blocks.new result }
     ensures ends { (disk : ℕ → List ℕ) → B.Shows blocks.old disk
         → OnOk result ((p : ℕ) → file.now.size ≤ p → p / 4096 ≡ file.now.size / 4096
         → byte_at disk file.now p ≡ 0) }

@@ -1,6 +1,6 @@
 //! The two slots, and the newest root that stands in one.
 
-ghost use Rattle.std.specs.Prelude.{◌≡◌, ◌⊎◌, ◌↔◌, ◌*◌, ◌<◌, ◌≤◌, List, ℕ, Ok, OnErr, IfErr, IfOk, IsErrOf, IsOkAnd, IsTrue, MatchResult, None, Some};
+ghost use Rattle.std.specs.Prelude.{◌≡◌, ◌⊎◌, ◌↔◌, ◌<◌, ◌≤◌, List, ℕ, Ok, OnErr, IfErr, IfOk, IsErrOf, IsOkAnd, IsTrue, MatchResult, None, Some};
 ghost use Rattle.std.specs.Option.{ForSome};
 ghost use Rattle.station.specs.Calls.{OnlyReads};
 ghost use Rattle.station.specs.Moments.{Shows};

@@ -1,11 +1,12 @@
 //! All that mount reads under a root.
 
-ghost use Rattle.std.specs.Prelude.{◌≡◌, ◌⊎◌, ℕ, List, OnOk, IfOk, IsErrOf, MatchResult, length};
+ghost use Rattle.std.specs.Prelude.{◌≡◌, ◌⊎◌, ℕ, List, IfOk, MatchResult, length};
 ghost use Rattle.std.specs.Int.{div_ceil};
 ghost use Rattle.layout.specs.Maps.{IsInodeMap};
 ghost use Rattle.layout.specs.Root.{IsRoot};
 ghost use Rattle.layout.specs.declared.TheConstants.{BLOCK_POINTERS};
-ghost use Rattle.buffers.specs.Failures.{HasGrown};
+ghost use Rattle.buffers.specs.Reads.{ReadsBlocks};
+ghost use Rattle.blocktree.specs.Errors.{IsFault};
 ghost use Rattle.inode.specs.Files.{file_block};
 ghost use Rattle.loading.specs.InodeBlocks.{AreInodeBlocks};
 
@@ -37,12 +38,7 @@ ghost use Rattle.loading.specs.Readings.{AreUnchanged};
 pub fn load<B: Blocks>(alloc: Global, blocks: &mut B, root: &Root) -> Result<Loaded, ReadError>
     requires root { IsRoot root.now }
     requires size { B.count blocks.old ≡ root.now.geometry.blocks }
-    ensures count { B.count blocks.new ≡ B.count blocks.old }
-    ensures counted { OnOk result (B.failed blocks.new ≡ B.failed blocks.old) }
-    ensures device { IsErrOf result ReadError.Device
-        → HasGrown (B.failed blocks.old) (B.failed blocks.new) }
-    ensures reads { (start : B) → B.ReadsOn start blocks.old → B.ReadsOn start blocks.new }
-    ensures shown { (disk : ℕ → List ℕ) → B.Shows blocks.old disk → B.Shows blocks.new disk }
+    ensures reads { ReadsBlocks B.Blocks IsFault blocks.old blocks.new result }
     ensures blocks { IfOk result (λ l. l.map.count ≡ root.now.geometry.blocks) }
     ensures parts { IfOk result (λ l. length l.map.parts.items
         ≡ div_ceil root.now.geometry.blocks BLOCK_POINTERS) }

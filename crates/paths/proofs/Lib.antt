@@ -1,5 +1,6 @@
 pub mod Links
-pub mod Loads
+pub mod Looks
 pub mod Tests
 pub mod Walks
 pub mod Objects
+pub mod EndLaws

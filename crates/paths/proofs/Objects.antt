@@ -7,14 +7,14 @@ use Rattle.layout.specs.DirectoryNames.{NameMap, HoldNames}
 use Rattle.layout.specs.declared.kind.Kind.{Kind}
 use Rattle.layout.specs.declared.kind.Kind.TheVariants as kinds
 use Rattle.layout.specs.declared.inode.Inode.{Inode}
-use Rattle.images.specs.Contents.{StandsAs, bytes_of}
+use Rattle.images.specs.Contents.{Content, StandsAs, bytes_of}
 use Rattle.inode.specs.Files.{file_block}
 use Rattle.inode.specs.declared.object.Object.{Object}
 use Rattle.inofile.specs.Objects.{IsObject, IsObjectKind}
 use Rattle.inofile.specs.Settled.{content_of}
 use Rattle.model.specs.Paths.{Name}
 use Rattle.model.specs.Volumes.{Node, directory_node, names_in}
-use Rattle.paths.specs.Steps.{text_in}
+use Rattle.paths.specs.Steps.{found_as, found_in, text_in}
 
 module _ (disk : ℕ → List ℕ) (inodes : ℕ) (settled : Inode) (o : Object) (node : Option Node) (object : IsObject disk inodes settled o node) where
   -- it stands for what its kind says
@@ -62,6 +62,16 @@ module _ (disk : ℕ → List ℕ) (inodes : ℕ) (settled : Inode) (o : Object)
 
   pub without_text : (o.attributes.kind ≢ kinds.Link) → text_in node ≡ []
   without_text other = no_text o.attributes.kind other object.kind object.stands
+
+-- an object is what its kind says
+pub found_is : (kind : Kind) (inodes : ℕ) (c : Content) (node : Option Node) → StandsAs kind inodes c node → found_as kind ≡ found_in node
+found_is kinds.Free inodes c node is = sym (ap found_in is)
+found_is kinds.File inodes c node is = sym (ap found_in is)
+found_is kinds.Directory inodes c node is = sym (ap found_in is.2)
+found_is kinds.Link inodes c node is = sym (ap found_in is)
+found_is kinds.InodeFile inodes c node is = sym (ap found_in is)
+found_is kinds.InodeMap inodes c node is = sym (ap found_in is)
+found_is kinds.BlockMap inodes c node is = sym (ap found_in is)
 
 -- what has no names
 pub nothing_listed : (names : NameMap) → ((x : Name) → names x ≡ None) → IsListing names []

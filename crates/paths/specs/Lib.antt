@@ -1,7 +1,9 @@
 pub mod Numbers
 pub mod Refusals
+pub mod Standing
 pub mod Loads
 pub mod Places
 pub mod Steps
 pub mod Halts
 pub mod Following
+pub mod Ends

@@ -1,5 +1,7 @@
 -- A step of a walk, in the words of the model.
 use Rattle.std.specs.Prelude.{ℕ, ◌-◌, ◌&&◌, not, Bool, IsTrue, if◌then◌else◌, List, [], ◌∷◌, ◌++◌, length, take, Option, Some, None}
+use Rattle.layout.specs.declared.kind.Kind.{Kind}
+use Rattle.layout.specs.declared.kind.Kind.TheVariants as kinds
 use Rattle.model.specs.declared.errno.Errno.TheVariants.{ENOENT, ENOTDIR, ENAMETOOLONG, DAMAGED}
 use Rattle.model.specs.Finding as model
 use Rattle.model.specs.Finding.{find_along, halts, halts_at_link, at_entry, at_gap, at_refusal}
@@ -18,6 +20,13 @@ found_in None = found.Nothing
 found_in (Some (directory_node mode names)) = found.Directory
 found_in (Some (file_node mode links bytes)) = found.File
 found_in (Some (link_node text)) = found.Link
+
+-- what an object of this kind is
+abbrev pub found_as : Kind → Found
+found_as kinds.Directory = found.Directory
+found_as kinds.File = found.File
+found_as kinds.Link = found.Link
+found_as _ = found.Nothing
 
 -- the text of a link
 abbrev pub text_in : Option Node → List ℕ

@@ -2,6 +2,7 @@
 //! looked at comes into memory; nothing else changes.
 #![tactic(auto)]
 
+mod loading;
 mod lookup;
 mod place;
 mod resolution;
@@ -10,7 +11,8 @@ mod text;
 mod trail;
 mod walk;
 
-pub use lookup::{list, number_at};
+pub use loading::load;
+pub use lookup::{Found, list, number_at, object_at, text_at};
 pub use place::Place;
 pub use resolution::resolve;
 pub use text::{Parts, refusal_of_new_text, refusal_of_text};

@@ -1,16 +1,17 @@
 //! Where the parts of a path lead.
 
-ghost use Rattle.std.specs.Prelude.{◌≡◌, ℕ, List, [], Option, OnOk, IfOk, IsErrOf};
-ghost use Rattle.buffers.specs.Failures.{HasGrown};
-ghost use Rattle.inofile.specs.Volumes.{IsVolumeOf};
+ghost use Rattle.std.specs.Prelude.{◌≡◌, ℕ, List, [], Option, IfOk, IsErrOf, IsFalse};
+ghost use Rattle.blocktree.specs.Errors.{IsFault};
 ghost use Rattle.layout.specs.declared.inode.Inode.{Inode};
 ghost use Rattle.model.specs.Finding.{IsPlaceOf, find_within};
 ghost use Rattle.model.specs.Paths.{parts};
 ghost use Rattle.model.specs.Resolution.{resolve};
 ghost use Rattle.model.specs.Trees.{Description};
 ghost use Rattle.model.specs.Volumes.{IsVolume, Volume, tree_of};
+ghost use Rattle.paths.specs.Ends.{EndsInName, EndsWell, IsAtName};
 ghost use Rattle.paths.specs.Loads.{OnlyLoads};
 ghost use Rattle.paths.specs.Places.{place_of, IsPlaceWithin};
+ghost use Rattle.paths.specs.Standing.{Looks, Stands};
 
 use crate::text::starts_with_slash;
 use crate::walk::{Halt, walk};
@@ -31,32 +32,27 @@ pub fn resolve<B: Blocks>(
     path: Parts,
     follow: bool,
 ) -> Result<Place, ReadError>
-    ensures count { B.count blocks.new ≡ B.count blocks.old }
-    ensures counted { OnOk result (B.failed blocks.new ≡ B.failed blocks.old) }
-    ensures device { IsErrOf result ReadError.Device →
-        HasGrown (B.failed blocks.old) (B.failed blocks.new) }
-    ensures reads { (start : B) → B.ReadsOn start blocks.old → B.ReadsOn start blocks.new }
-    ensures shown { (disk : ℕ → List ℕ) → B.Shows blocks.old disk → B.Shows blocks.new disk }
-    ensures geometry { inodes.new.geometry ≡ inodes.old.geometry }
+    ensures looks { Looks B.Blocks IsFault blocks.old blocks.new inodes.old inodes.new result }
     ensures loads { OnlyLoads inodes.old inodes.new }
-    ensures kept { (disk : ℕ → List ℕ) (settled : ℕ → Inode) (v : Volume) →
-        B.Shows blocks.old disk →
-        IsVolumeOf (B.count blocks.old) disk settled inodes.old v →
-        IsVolumeOf (B.count blocks.old) disk settled inodes.new v }
-    ensures damaged { (disk : ℕ → List ℕ) (settled : ℕ → Inode) (v : Volume) →
-        B.Shows blocks.old disk →
-        IsVolumeOf (B.count blocks.old) disk settled inodes.old v →
-        IsErrOf result ReadError.Damaged → ⊥ }
+    ensures damaged { (disk : ℕ → List ℕ) (settled : ℕ → Inode) (v : Volume)
+        → Stands B.Blocks disk settled v blocks.old inodes.old
+        → IsErrOf result ReadError.Damaged → ⊥ }
     ensures within { IfOk result (IsPlaceWithin inodes.old.geometry.inodes) }
-    ensures place { (disk : ℕ → List ℕ) (settled : ℕ → Inode) (v : Volume) →
-        B.Shows blocks.old disk →
-        IsVolumeOf (B.count blocks.old) disk settled inodes.old v →
-        IfOk result (λ p. place_of p ≡ find_within LINKS_FOLLOWED v follow [] path) }
+    ensures place { (disk : ℕ → List ℕ) (settled : ℕ → Inode) (v : Volume)
+        → Stands B.Blocks disk settled v blocks.old inodes.old
+        → IfOk result (λ p. place_of p ≡ find_within LINKS_FOLLOWED v follow [] path) }
     ensures resolved { (disk : ℕ → List ℕ) (settled : ℕ → Inode) (v : Volume)
-        (table : ℕ → Option Description) (text : List ℕ) → B.Shows blocks.old disk →
-        IsVolumeOf (B.count blocks.old) disk settled inodes.old v →
-        IsVolume inodes.old.geometry.inodes v → path ≡ parts text →
-        IfOk result (λ p. IsPlaceOf v (place_of p) (resolve (tree_of v table) follow text)) }
+        (table : ℕ → Option Description) (text : List ℕ)
+        → Stands B.Blocks disk settled v blocks.old inodes.old
+        → IsVolume inodes.old.geometry.inodes v → path ≡ parts text
+        → IfOk result (λ p. IsPlaceOf v (place_of p) (resolve (tree_of v table) follow text)) }
+    ensures ends { (disk : ℕ → List ℕ) (settled : ℕ → Inode) (v : Volume)
+        → Stands B.Blocks disk settled v blocks.old inodes.old
+        → IsVolume inodes.old.geometry.inodes v
+        → IfOk result (λ p. EndsWell v follow (place_of p)) }
+    ensures named { (disk : ℕ → List ℕ) (settled : ℕ → Inode) (v : Volume)
+        → Stands B.Blocks disk settled v blocks.old inodes.old
+        → IsFalse follow → EndsInName path → IfOk result (λ p. IsAtName (place_of p)) }
 {
     // An image has more inode numbers than the root's, where each walk begins.
     let _ = inodes.geometry().inodes();

@@ -1,14 +1,14 @@
 //! A step of a walk: what one part of a path leads to.
 
-ghost use Rattle.std.specs.Prelude.{◌≡◌, ◌∷◌, ℕ, List, Bool, OnOk, IfOk, IsErrOf};
-ghost use Rattle.buffers.specs.Failures.{HasGrown};
-ghost use Rattle.inofile.specs.Volumes.{IsVolumeOf};
+ghost use Rattle.std.specs.Prelude.{◌≡◌, ◌∷◌, ℕ, List, Bool, IfOk, IsErrOf};
+ghost use Rattle.blocktree.specs.Errors.{IsFault};
 ghost use Rattle.layout.specs.declared.inode.Inode.{Inode};
 ghost use Rattle.model.specs.Finding.{find_along, finds_nothing, here, turn_at};
 ghost use Rattle.model.specs.Paths.{Name, is_empty};
 ghost use Rattle.model.specs.Volumes.{Volume};
 ghost use Rattle.paths.specs.Loads.{OnlyLoads};
 ghost use Rattle.paths.specs.Numbers.{IsNumber};
+ghost use Rattle.paths.specs.Standing.{Looks, Stands};
 ghost use Rattle.paths.specs.Steps.{IsStepWithin, after, after_turn, found_in};
 
 use crate::lookup::{Found, number_at, object_at};
@@ -49,29 +49,17 @@ pub(crate) fn step_by<B: Blocks>(
     follow: bool,
 ) -> Result<Step, ReadError>
     requires { IsNumber inodes.old.geometry.inodes directory }
-    ensures count { B.count blocks.new ≡ B.count blocks.old }
-    ensures counted { OnOk result (B.failed blocks.new ≡ B.failed blocks.old) }
-    ensures device { IsErrOf result ReadError.Device →
-        HasGrown (B.failed blocks.old) (B.failed blocks.new) }
-    ensures reads { (start : B) → B.ReadsOn start blocks.old → B.ReadsOn start blocks.new }
-    ensures shown { (disk : ℕ → List ℕ) → B.Shows blocks.old disk → B.Shows blocks.new disk }
-    ensures geometry { inodes.new.geometry ≡ inodes.old.geometry }
+    ensures looks { Looks B.Blocks IsFault blocks.old blocks.new inodes.old inodes.new result }
     ensures loads { OnlyLoads inodes.old inodes.new }
-    ensures kept { (disk : ℕ → List ℕ) (settled : ℕ → Inode) (v : Volume) →
-        B.Shows blocks.old disk →
-        IsVolumeOf (B.count blocks.old) disk settled inodes.old v →
-        IsVolumeOf (B.count blocks.old) disk settled inodes.new v }
     ensures within { IfOk result (IsStepWithin inodes.old.geometry.inodes) }
     ensures step { (disk : ℕ → List ℕ) (settled : ℕ → Inode) (v : Volume) (trail : List ℕ)
-        (rest : List Name) → B.Shows blocks.old disk →
-        IsVolumeOf (B.count blocks.old) disk settled inodes.old v →
-        here trail ≡ directory → is_empty rest ≡ is_last →
-        IfOk result (λ s. after v follow trail part.now rest s
+        (rest : List Name) → Stands B.Blocks disk settled v blocks.old inodes.old
+        → here trail ≡ directory → is_empty rest ≡ is_last
+        → IfOk result (λ s. after v follow trail part.now rest s
         ≡ find_along v follow trail (part.now ∷ rest)) }
-    ensures damaged { (disk : ℕ → List ℕ) (settled : ℕ → Inode) (v : Volume) →
-        B.Shows blocks.old disk →
-        IsVolumeOf (B.count blocks.old) disk settled inodes.old v →
-        IsErrOf result ReadError.Damaged → ⊥ }
+    ensures damaged { (disk : ℕ → List ℕ) (settled : ℕ → Inode) (v : Volume)
+        → Stands B.Blocks disk settled v blocks.old inodes.old
+        → IsErrOf result ReadError.Damaged → ⊥ }
 {
     if part == ITSELF {
         return Ok(Step::Stays);

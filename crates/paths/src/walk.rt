@@ -1,8 +1,7 @@
 //! A walk along the parts of a path, up to a link that is followed.
 
-ghost use Rattle.std.specs.Prelude.{◌≡◌, ◌<◌, ℕ, List, OnOk, IfOk, IsErrOf};
-ghost use Rattle.buffers.specs.Failures.{HasGrown};
-ghost use Rattle.inofile.specs.Volumes.{IsVolumeOf};
+ghost use Rattle.std.specs.Prelude.{◌≡◌, ◌<◌, ℕ, List, IfOk, IsErrOf};
+ghost use Rattle.blocktree.specs.Errors.{IsFault};
 ghost use Rattle.layout.specs.declared.inode.Inode.{Inode};
 ghost use Rattle.model.specs.declared.limits.TheConstants.{ROOT_NUMBER};
 ghost use Rattle.model.specs.Finding.{find_along};
@@ -10,6 +9,7 @@ ghost use Rattle.model.specs.Volumes.{Volume};
 ghost use Rattle.paths.specs.Loads.{OnlyLoads};
 ghost use Rattle.paths.specs.Numbers.{AreNumbers};
 ghost use Rattle.paths.specs.Halts.{halt_of, IsHaltWithin};
+ghost use Rattle.paths.specs.Standing.{Looks, Stands};
 
 use crate::lookup::text_at;
 use crate::step::{Step, step_by};
@@ -43,27 +43,15 @@ pub(crate) fn walk<B: Blocks>(
 ) -> Result<Halt, ReadError>
     requires root { ROOT_NUMBER < inodes.old.geometry.inodes }
     requires numbers { AreNumbers inodes.old.geometry.inodes trail }
-    ensures count { B.count blocks.new ≡ B.count blocks.old }
-    ensures counted { OnOk result (B.failed blocks.new ≡ B.failed blocks.old) }
-    ensures device { IsErrOf result ReadError.Device →
-        HasGrown (B.failed blocks.old) (B.failed blocks.new) }
-    ensures reads { (start : B) → B.ReadsOn start blocks.old → B.ReadsOn start blocks.new }
-    ensures shown { (disk : ℕ → List ℕ) → B.Shows blocks.old disk → B.Shows blocks.new disk }
-    ensures geometry { inodes.new.geometry ≡ inodes.old.geometry }
+    ensures looks { Looks B.Blocks IsFault blocks.old blocks.new inodes.old inodes.new result }
     ensures loads { OnlyLoads inodes.old inodes.new }
-    ensures kept { (disk : ℕ → List ℕ) (settled : ℕ → Inode) (v : Volume) →
-        B.Shows blocks.old disk →
-        IsVolumeOf (B.count blocks.old) disk settled inodes.old v →
-        IsVolumeOf (B.count blocks.old) disk settled inodes.new v }
     ensures within { IfOk result (IsHaltWithin inodes.old.geometry.inodes) }
-    ensures halts { (disk : ℕ → List ℕ) (settled : ℕ → Inode) (v : Volume) →
-        B.Shows blocks.old disk →
-        IsVolumeOf (B.count blocks.old) disk settled inodes.old v →
-        IfOk result (λ h. halt_of h ≡ find_along v follow trail parts) }
-    ensures damaged { (disk : ℕ → List ℕ) (settled : ℕ → Inode) (v : Volume) →
-        B.Shows blocks.old disk →
-        IsVolumeOf (B.count blocks.old) disk settled inodes.old v →
-        IsErrOf result ReadError.Damaged → ⊥ }
+    ensures halts { (disk : ℕ → List ℕ) (settled : ℕ → Inode) (v : Volume)
+        → Stands B.Blocks disk settled v blocks.old inodes.old
+        → IfOk result (λ h. halt_of h ≡ find_along v follow trail parts) }
+    ensures damaged { (disk : ℕ → List ℕ) (settled : ℕ → Inode) (v : Volume)
+        → Stands B.Blocks disk settled v blocks.old inodes.old
+        → IsErrOf result ReadError.Damaged → ⊥ }
 {
     while let Some(name) = parts.next() {
         let is_last = parts.is_empty();

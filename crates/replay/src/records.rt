@@ -20,8 +20,7 @@ use model::records_keep_volumes;
 use std::alloc::Global;
 
 /// Replays the records from a gate on over the inodes in memory, and answers how many bytes stand from the closed gate on.
-/// `Damaged` where the bytes hold no records, and where one doesn't apply; so far a record is refused
-/// so too that moves an object or changes a file's bytes. After an error it isn't known what memory stands for.
+/// `Damaged` where the bytes hold no records, and where one doesn't apply. After an error it isn't known what memory stands for.
 pub(crate) fn replay_all<B: Blocks>(
     alloc: Global,
     inodes: &mut InodeFile,
@@ -93,6 +92,9 @@ fn is_served(logged: &Record<'_>) -> bool
         Record::Create { .. }
             | Record::Link { .. }
             | Record::Unname { .. }
+            | Record::Rename { .. }
+            | Record::Write { .. }
+            | Record::Cut { .. }
             | Record::ChangeMode { .. }
     )
 }

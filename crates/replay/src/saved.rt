@@ -32,8 +32,8 @@ pub struct Replayed {
 }
 
 /// Replays the records of a saved log over the inodes in memory, epoch after epoch, and drops the files without names behind
-/// the last one. `Damaged` where what is saved is no record that applies; so far this version does
-/// all but those that move an object or change a file's bytes. After an error it isn't known what memory stands for.
+/// the last one. `Damaged` where what is saved is no record that applies. After an error it isn't known what memory stands
+/// for.
 pub fn replay<B: Blocks>(
     alloc: Global,
     inodes: &mut InodeFile,

@@ -1,17 +1,22 @@
-//! Reads files of rows, worked examples written as text, runs each over a station in memory, and says which don't hold.
-//! The head of `data/sessions.rows` says how a row is written.
+//! Reads files of rows, worked examples written as text, runs each, and says which don't hold. What a file's name ends with says what
+//! its rows are: sessions over a station in memory (`.rows`; the head of `data/sessions.rows` says how they are written), tables of
+//! bytes in a format (`.tables`), or calls on a file and a directory (`.groups`).
 #![tactic(auto)]
 
 mod bench;
 mod choices;
 mod fault;
 mod files;
+mod formats;
 mod image;
+mod levels;
 mod run;
 mod text;
 
 use bench::Bench;
 use fault::Fault;
+use formats::check_tables;
+use levels::check_groups;
 use std::process::ExitCode;
 use std::{env, fs, io};
 
@@ -27,7 +32,7 @@ fn main(rt: HostRuntime) -> ExitCode {
 }
 
 /// Checks the files that the program's words name. Whether all their rows hold.
-fn check_all(rt: &HostRuntime) -> io::Result<bool> {
+fn check_all(rt: &HostRuntime) -> anyhow::Result<bool> {
     let mut all_hold = true;
     for name in env::args(rt)?.skip(1) {
         let text = fs::read_to_string(rt, name.as_str())?;
@@ -36,8 +41,19 @@ fn check_all(rt: &HostRuntime) -> io::Result<bool> {
     Ok(all_hold)
 }
 
+/// Checks a file's text, as its name says. Whether all its rows hold.
+fn check_file(rt: &HostRuntime, name: &str, text: &str) -> anyhow::Result<bool> {
+    if name.ends_with(".groups") {
+        return check_groups(rt, text);
+    }
+    if name.ends_with(".tables") {
+        return Ok(check_tables(rt, text)?);
+    }
+    Ok(check_rows(rt, name, text)?)
+}
+
 /// Checks the rows of a file's text and prints each that fails, and then how many there are.
-fn check_file(rt: &HostRuntime, name: &str, text: &str) -> io::Result<bool> {
+fn check_rows(rt: &HostRuntime, name: &str, text: &str) -> io::Result<bool> {
     let mut rows = 0_u64;
     let mut failed = 0_u64;
     // What stands before the first row is about the file itself.

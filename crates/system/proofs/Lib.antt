@@ -1,4 +1,3 @@
-mod CutLaws
 mod SystemLaws
 mod PointLaws
 mod SettledLaws
@@ -6,6 +5,7 @@ mod OpenLaws
 mod LoggedLaws
 mod ServingLaws
 mod MakingLaws
+mod ChangingLaws
 mod RoomLaws
 mod CoveredLaws
 mod SpaceLaws

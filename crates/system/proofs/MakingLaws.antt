@@ -12,7 +12,7 @@ use Rattle.layout.specs.Limits.{Sizes}
 use Rattle.layout.specs.declared.root.Root.{Root}
 use Rattle.model.specs.Changing.{makes_directory}
 use Rattle.model.specs.Records.{Applies, applied}
-use Rattle.model.specs.Room.{nothing, logs, adds_name}
+use Rattle.model.specs.Room.{Work, nothing, logs, adds_name}
 use Rattle.model.specs.States.{State}
 use Rattle.model.specs.Trees.{Tree}
 use Rattle.model.specs.Volumes.{Volume, IsMounted, tree_of}
@@ -127,7 +127,7 @@ does_over m n root inodes v r making change is says same does =
     (subst (λ (c : Change). Does (blocks_of m.seen.disk) (inodes_of (whole (blocks_of m.seen.disk) root).active) inodes v making.prepared c) (sym says) here)
 
 -- a short record fits an empty log
-pub short_fits : {S : Type 0} {G : Ghosts S} (f : System S G) (change : Change) → HasEmptyLog f → length (body_of change) ≤ 300
+pub short_fits : {S : Type 0} {G : Ghosts S} (f : System S G) (change : Change) → HasEmptyLog f → length (body_of change) ≤ 1300
     → (f.log.epoch ≢ f.root.generation + 1) ⊎ (HasRoom f.log (length (body_of change)) → ⊥) → ⊥
 short_fits f change empty short (inl not) = not empty.epoch
 short_fits f change empty short (inr full) =
@@ -136,19 +136,19 @@ short_fits f change empty short (inr full) =
     full (subst (λ (n : ℕ). n + 5 + length (body_of change) + 1 ≤ f.log.half) (sym empty.end) room)
 
 -- What a call's record comes to on a system in which objects came into memory.
-pub record LeadsOn {S : Type 0} {G : Ghosts S} (old new : System S G) (mid : Meaning) (s : State) (call : PathCall) : Type 0 where
+pub record LeadsOn {S : Type 0} {G : Ghosts S} (old new : System S G) (mid : Meaning) (s : State) (call : PathCall) (work : Work) : Type 0 where
   pub after : State
-  pub step : WouldCall s call Done after (logs adds_name)
+  pub step : WouldCall s call Done after (logs work)
   pub leaves : LeavesEither mid (meaning_of new) s after
 
 -- no write failed before this one
 abbrev pub IsFirstFault : LogEnd → AppendError → Type 0
 IsFirstFault log e = (e ≡ append.Device) × IsFalse log.is_stopped
 
-module _ {S : Type 0} {G : Ghosts S} (old new : System S G) (mid : Meaning) (call : PathCall) (reads : ReadsOn (meaning_of old) mid)
+module _ {S : Type 0} {G : Ghosts S} (old new : System S G) (mid : Meaning) (call : PathCall) (work : Work) (reads : ReadsOn (meaning_of old) mid)
     (counted : mid.failed_reads ≡ (meaning_of old).failed_reads) (epoch : new.log.epoch ≡ old.log.epoch)
     (opens : (s : State) → ServesState old s → EachCut (meaning_of old) (OpensTo (meaning_of old) s))
-    (leads : (s : State) → ServesState old s → LeadsOn old new mid s call) where
+    (leads : (s : State) → ServesState old s → LeadsOn old new mid s call work) where
   leaves_either : (s : State) (served : ServesState old s) → LeavesEither (meaning_of old) (meaning_of new) s (leads s served).after
   leaves_either s served =
       let m = meaning_of old in
@@ -167,7 +167,7 @@ module _ {S : Type 0} {G : Ghosts S} (old new : System S G) (mid : Meaning) (cal
   would_change s served = record {
     reply = Done;
     after = (leads s served).after;
-    need = logs adds_name;
+    need = logs work;
     step = (leads s served).step;
     needs = λ is. cc;
   }
@@ -199,7 +199,7 @@ module _ {S : Type 0} {G : Ghosts S} (old new : System S G) (mid : Meaning) (cal
     serves = λ s served. tt;
     done = λ s served. record {
       after = (leads s served).after;
-      need = logs adds_name;
+      need = logs work;
       step = (leads s served).step;
       serves = serves s served;
       leaves = leaves_either s served;
@@ -252,7 +252,7 @@ module _ {S : Type 0} {G : Ghosts S} (old new : System S G) (mid : Meaning) (cal
     broken = λ s served is. record {
       reply = Done;
       after = (leads s served).after;
-      need = logs adds_name;
+      need = logs work;
       step = (leads s served).step;
       leaves = leaves_either s served;
     };

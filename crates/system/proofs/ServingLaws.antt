@@ -11,18 +11,16 @@ use Rattle.layout.specs.Places.{Blocks, blocks_of}
 use Rattle.layout.specs.declared.root.Root.{Root}
 use Rattle.layout.specs.Limits.{Sizes}
 use Rattle.layout.specs.declared.inode.Inode.{Inode}
-use Rattle.model.specs.Reading.{lists}
 use Rattle.model.specs.Room.{nothing}
 use Rattle.model.specs.States.{State}
+use Rattle.model.specs.Steps.{calls}
 use Rattle.model.specs.Trees.{Description, Tree}
 use Rattle.model.specs.Volumes.{Volume, IsVolume, tree_of}
 use Rattle.model.specs.declared.command.PathCall.{PathCall}
-use Rattle.model.specs.declared.command.PathCall.TheVariants as path_calls
 use Rattle.model.specs.declared.errno.Errno.{Errno}
 use Rattle.model.specs.declared.errno.Errno.TheVariants.{EIO}
 use Rattle.model.specs.declared.reply.Reply.{Reply}
-use Rattle.model.specs.declared.reply.Reply.TheVariants.{Names, Refused}
-use Rattle.calls.specs.Listing.{reply_of}
+use Rattle.model.specs.declared.reply.Reply.TheVariants.{Refused}
 use Rattle.calls.specs.Refusals.{is_path_refusal}
 use Rattle.buffers.specs.Disks.{ShowsDisk, ReadsOn}
 use Rattle.buffers.specs.declared.block.Block.{Block}
@@ -106,15 +104,17 @@ its_volume f s serves =
       subst (λ (g : Sizes). IsVolume g.inodes serves.running) (sym f.sizes) serves.memory.volume,
     )
 
--- what is listed of a system's volume is listed of the state that it serves
-pub listed : {S : Type 0} {G : Ghosts S} (f : System S G) (s : State) (serves : ServesState f s) (path : List ℕ) (r : Result (List (List ℕ)) Errno) (reply : Reply) → reply_of r ≡ reply
-    → lists (tree_of serves.running s.tree.descriptors) path (reply_of r) (tree_of serves.running s.tree.descriptors) nothing → WouldCall s (path_calls.List path) reply s nothing
-listed f s serves path r reply is told =
-    let tree : s.tree ≡ tree_of serves.running s.tree.descriptors = ap (λ (u : State). u.tree) serves.state in (
-      subst (λ (t : Tree). lists t path reply t nothing) (sym tree)
-          (subst (λ (x : Reply). lists (tree_of serves.running s.tree.descriptors) path x (tree_of serves.running s.tree.descriptors) nothing) is told),
-      refl,
-    )
+-- what is told of a system's volume is told of the state that it serves
+pub told_of : {S : Type 0} {G : Ghosts S} (f : System S G) (s : State) (serves : ServesState f s) (call : PathCall) (reply : Reply)
+    → calls s.inodes (tree_of serves.running s.tree.descriptors) call reply (tree_of serves.running s.tree.descriptors) nothing → WouldCall s call reply s nothing
+told_of f s serves call reply told =
+    let tree : s.tree ≡ tree_of serves.running s.tree.descriptors = ap (λ (u : State). u.tree) serves.state in
+    (subst (λ (t : Tree). calls s.inodes t call reply t nothing) (sym tree) told, refl)
+
+-- what a call is answered that was asked in these words
+pub as_asked : (count : ℕ) (t : Tree) (call asked : PathCall) (reply told : Reply) → call ≡ asked → reply ≡ told → calls count t asked told t nothing → calls count t call reply t nothing
+as_asked count t call asked reply told is same here =
+    subst (λ (k : PathCall). calls count t k reply t nothing) (sym is) (subst (λ (r : Reply). calls count t asked r t nothing) (sym same) here)
 
 -- a refusal of the call's own
 pub own_refusal : {T : Type 0} (r : Result T Errno) (errno : Errno) → r ≡ Err errno → IfErr r (λ e. IsTrue (is_path_refusal e)) → TellsNoFault (Refused errno)
@@ -125,9 +125,6 @@ own_refusal {T} r errno is own same =
   where
     not_true : IsTrue false → ⊥
     not_true is = cc
-
-pub names_refuse_nothing : (names : List (List ℕ)) → TellsNoFault (Names names)
-names_refuse_nothing names is = cc
 
 module _ {S : Type 0} {G : Ghosts S} (old new : System S G) (call : PathCall) (reads : ReadsOn (meaning_of old) (meaning_of new))
     (log : new.log ≡ old.log) (stays : (s : State) → ServesState old s → ServesState new s) where

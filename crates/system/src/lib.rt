@@ -1,6 +1,7 @@
 //! A mounted system: what it has in memory and on its station, over any root, and its consistency points.
 #![tactic(auto)]
 
+mod changing;
 mod covered;
 mod error;
 mod laws;
@@ -8,6 +9,7 @@ mod logging;
 mod open_error;
 mod opening;
 mod point;
+mod reading;
 mod serving;
 mod space;
 mod system;

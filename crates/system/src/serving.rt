@@ -1,11 +1,12 @@
 //! Calls by paths, served on a mounted system.
 
-ghost use Rattle.std.specs.Prelude.{◌≡◌, ◌≢◌, IsFalse, IfOk, IfErr, IsErrOf, MatchResult};
+ghost use Rattle.std.specs.Prelude.{◌≡◌, ◌≢◌, IsFalse, IsTrue, IfOk, IfErr, IsErrOf, MatchResult};
 ghost use Rattle.station.specs.Calls.{Uses};
 ghost use Rattle.station.specs.Images.{Unchanged};
 ghost use Rattle.station.specs.Moments.{Goes, HasGrown};
 ghost use Rattle.model.specs.Served.{IsServed};
 ghost use Rattle.model.specs.States.{State};
+ghost use Rattle.model.specs.Steps.{is_reading_call};
 ghost use Rattle.model.specs.declared.command.Command.TheVariants as commands;
 ghost use Rattle.model.specs.declared.command.PathCall.TheVariants as path_calls;
 ghost use Rattle.system.specs.Errors.{call_error, log_error};
@@ -13,6 +14,7 @@ ghost use Rattle.system.specs.Serving.{Handles, HasEmptyLog, IsBrokenOff, IsCall
 ghost use Rattle.system.specs.Systems.{meaning_of};
 
 use crate::laws::served_states_open;
+use crate::reading::read;
 use crate::{CallError, System};
 use blocktree::ReadError;
 use calls::Making;
@@ -21,7 +23,7 @@ use oplog::AppendError;
 use station::Station;
 
 /// A failed read, to who gave the call.
-fn call_error(error: ReadError) -> CallError
+pub(crate) fn call_error(error: ReadError) -> CallError
     ensures { result ≡ call_error error }
 {
     match error {
@@ -32,7 +34,7 @@ fn call_error(error: ReadError) -> CallError
 }
 
 /// A failed append, to who gave the call.
-fn log_error(error: AppendError) -> CallError
+pub(crate) fn log_error(error: AppendError) -> CallError
     ensures { result ≡ log_error error }
 {
     match error {
@@ -44,8 +46,9 @@ fn log_error(error: AppendError) -> CallError
 
 impl<S: Station> System<S> {
     /// Serves a call by a path: answers it where it changes nothing, or else logs its record and puts it in force; so far
-    /// `list` and `mkdir`. `LogFull` only for a call that would change something, where a consistency point has to come first.
-    /// After an error nothing has changed, but for `NotWritten`: then a cut leaves the state before the call or the one after it.
+    /// the calls that only read, `mkdir` and `chmod`. `LogFull` only for a call that would change something, where a consistency
+    /// point has to come first. After an error nothing has changed, but for `NotWritten`: then a cut leaves the state before the
+    /// call or the one after it.
     pub fn call(&mut self, call: &PathCall) -> Result<Reply, CallError>
         requires { IsServed (commands.Path call.now) }
         ensures uses { Uses (meaning_of self.old) (meaning_of self.new) }
@@ -81,21 +84,34 @@ impl<S: Station> System<S> {
         ensures damaged { (s : State) → ServesState self.old s
             → IsErrOf result CallError.Damaged → ⊥ }
     {
+        self.serve(call)
+    }
+
+    // The same, promised at once.
+    fn serve(&mut self, call: &PathCall) -> Result<Reply, CallError>
+        requires { IsServed (commands.Path call.now) }
+        ensures { Handles self.old self.new call.now result }
+    {
         match call {
-            PathCall::List { path } => self.list(path.as_bytes()),
+            PathCall::List { .. } => self.look(call),
+            PathCall::Stat { .. } => self.look(call),
+            PathCall::Lstat { .. } => self.look(call),
+            PathCall::Readlink { .. } => self.look(call),
+            PathCall::Get { .. } => self.look(call),
             PathCall::Mkdir { path, mode } => self.make_directory(path.as_bytes(), *mode),
+            PathCall::Chmod { path, mode } => self.change_mode(path.as_bytes(), *mode),
             _ => unreachable!(),
         }
     }
 
-    // The names in the directory that a path leads to.
-    fn list(&mut self, path: &[u8]) -> Result<Reply, CallError>
-        ensures { Handles self.old self.new (path_calls.List path.now) result }
+    // Answers a call that only reads.
+    fn look(&mut self, call: &PathCall) -> Result<Reply, CallError>
+        requires { IsTrue (is_reading_call call.now) }
+        ensures { Handles self.old self.new call.now result }
     {
         served_states_open(self);
-        match calls::list(self.alloc, &mut self.inodes, &mut self.blocks, path) {
-            Ok(Ok(names)) => Ok(Reply::Names(names)),
-            Ok(Err(errno)) => Ok(Reply::Refused(errno)),
+        match read(self.alloc, &mut self.inodes, &mut self.blocks, call) {
+            Ok(reply) => Ok(reply),
             Err(error) => Err(call_error(error)),
         }
     }

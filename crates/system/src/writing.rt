@@ -7,12 +7,12 @@ ghost use Rattle.layout.specs.Root.{IsRoot};
 ghost use Rattle.buffers.specs.Disks.{ShowsDisk, disk_with_sector};
 ghost use Rattle.loading.specs.Images.{IsFileOf};
 ghost use Rattle.conspoint.specs.Plans.{FitsDisk};
-ghost use Rattle.conspoint.specs.Cuts.{StaysOutside, HasNewRoot, IsFault, disk_with_blocks};
+ghost use Rattle.conspoint.specs.Cuts.{StaysOutside, HasNewRoot, disk_with_blocks};
 ghost use Rattle.system.specs.Errors.{IsNotWritten, IsRefused};
 
 use crate::PointError;
-use buffers::{BufferError, Buffers};
-use conspoint::{Plan, PlanError};
+use buffers::Buffers;
+use conspoint::{PlanError, write_point};
 use inode::File;
 use layout::Root;
 use planning::Point;
@@ -57,30 +57,4 @@ pub(crate) fn carry_out<S: Station>(
         Ok(()) => Ok((root, file)),
         Err(_) => Err(PointError::NotWritten),
     }
-}
-
-/// Writes all blocks of a plan, and then its root. It takes no memory.
-fn write_point<S: Station>(mut plan: Plan, buffers: &mut Buffers<S>) -> Result<(), BufferError>
-    requires fits { FitsDisk (S.meaning buffers.old.station).sectors plan }
-    requires none { plan.written ≡ 0 }
-    ensures writes { OnlyWrites IsFault
-        (S.meaning buffers.old.station) (S.meaning buffers.new.station) result }
-    ensures device { IfErr result IsFault }
-    // A cut at any moment leaves what one might have left before, with some of the blocks, or all of them with the new root.
-    ensures any_moment { LeavesOnly (S.meaning buffers.old.station) (S.meaning buffers.new.station)
-        (λ c. After (StaysOutside plan.blocks) (S.meaning buffers.old.station) c
-        ⊎ HasNewRoot plan (S.meaning buffers.old.station).seen c) }
-    ensures settled { (S.meaning buffers.old.station).is_honest
-        → OnOk result (EachCut (S.meaning buffers.new.station)
-        (HasNewRoot plan (S.meaning buffers.old.station).seen)) }
-    ensures just { OnOk result
-        (LeavesJust (S.meaning buffers.new.station) (S.meaning buffers.new.station).seen) }
-    ensures shows { (disk : ℕ → List ℕ)
-        → ShowsDisk (S.meaning buffers.old.station) buffers.old.kept disk
-        → OnOk result (ShowsDisk (S.meaning buffers.new.station) buffers.new.kept
-        (disk_with_sector plan.slot plan.root (disk_with_blocks plan.blocks disk))) }
-{
-    let left = plan.left();
-    plan.write_some(buffers, left)?;
-    plan.finish(buffers)
 }

@@ -1,5 +1,2 @@
-mod LineLemmas
 mod ScriptLemmas
 mod SessionLemmas
-mod SplitLemmas
-mod WordLemmas

@@ -1,5 +1,3 @@
-pub mod Lines
 pub mod Scripts
 pub mod Sessions
 pub mod Statuses
-pub mod Words

@@ -19,7 +19,7 @@ use Rattle.mount.specs.Systems.{mounted, Serves, IsYoung}
 use Rattle.mount.specs.declared.error.MountError.{MountError}
 use Rattle.mount.specs.declared.error.MountError.TheVariants as error
 use Rattle.mount.specs.declared.fs.Fs.{Fs}
-use Rattle.tool.specs.Lines.{reply_line}
+use Rattle.script.specs.Replies.{reply_line}
 use Rattle.tool.specs.Scripts.{line_fault, IsScriptFault, IsScriptOf}
 use Rattle.tool.specs.Statuses.{status_number}
 use Rattle.tool.specs.declared.session.Fault.{Fault}

@@ -1,12 +1,12 @@
-//! The program `wafl`: its command line, its scripts, its devices over files, and its sessions.
+//! The program `wafl`: its command line, its devices over files, and its sessions.
 #![tactic(auto)]
 
 pub mod files;
 mod line;
-mod script;
+mod served;
 pub mod session;
 mod status;
 
 pub use line::{Kept, Line, LineError, RunFaults, read_line};
-pub use script::{ScriptError, read_command, write_command, write_reply};
+pub use served::is_served;
 pub use status::Status;

@@ -5,14 +5,15 @@ ghost use Rattle.std.specs.Prelude.{All, ◌≡◌, ◌⊎◌, ◌∷◌, ◌++�
 ghost use Rattle.std.specs.List.{position};
 ghost use Rattle.std.specs.Io.KnownBytes.{Appends};
 ghost use Rattle.mount.specs.Served.{IsServed};
-ghost use Rattle.tool.specs.Lines.{reply_line};
+ghost use Rattle.script.specs.Replies.{reply_line};
 ghost use Rattle.tool.specs.Scripts.{is_skipped, line_fault, lines_of, HasBadLine, IsBadLine, IsScriptFault, IsLineOf, IsScriptOf};
 ghost use Rattle.tool.specs.Sessions.{answered, is_failed_call, mount_fault, reply_lines, CanNotShow, EndsRun, EndsShowing, EndsTelling, EndsWith, written};
 ghost use Rattle.tool.specs.declared.session.Fault.TheVariants.{NoMemory};
 
-use crate::{ScriptError, Status, read_command, write_reply};
+use crate::{Status, is_served};
 use model::{Command, Errno, Reply};
 use mount::{Fs, MountError, RunError, mount};
+use script::{ScriptError, read_command, write_reply};
 use station::Station;
 use std::alloc::{AllocError, AllocFailed, Global};
 use std::io::Write;
@@ -131,7 +132,11 @@ fn read_script_line(alloc: Global, line: &[u8]) -> Result<Option<Command>, Scrip
     if is_skipped(line) {
         return Ok(None);
     }
-    Ok(Some(read_command(alloc, line)?))
+    let command = read_command(alloc, line)?;
+    if !is_served(&command) {
+        return Err(ScriptError::NotACommand);
+    }
+    Ok(Some(command))
 }
 
 /// The parts of a script between its line ends. Behind the last line's end stands an empty one.

@@ -45,7 +45,7 @@ fn run_command<'a>(alloc: Global) -> Result<Command<'a>, AllocError> {
     Command::new(alloc, "run")
         .about("Mount an image and run a script: one command a line, one reply a line")
         .after_help(
-            "Commands: list PATH, mkdir PATH [MODE], sync, df, as in list / and mkdir /a 0700.\n\nExamples:\n  wafl run disk nvram script\n  wafl run disk nvram - --cut 5 --bytes 1 < script",
+            "Commands: list PATH, stat PATH, lstat PATH, readlink PATH, get PATH OFFSET COUNT, mkdir PATH [MODE], chmod PATH MODE, sync, df, as in list / and mkdir /a 0700.\n\nExamples:\n  wafl run disk nvram script\n  wafl run disk nvram - --cut 5 --bytes 1 < script",
         )
         .arg(place(alloc, "disk", "DISK").help("The disk's file"))?
         .arg(place(alloc, "nvram", "NVRAM").help("The NVRAM's file"))?

@@ -1,4 +1,4 @@
-use Rattle.std.proofs.Common.{Some, Option, sym, subst}
+use Rattle.std.proofs.Common.{Option, sym, subst}
 use Rattle.layout.specs.Limits.{Sizes}
 use Rattle.inode.specs.declared.object.Object.{Object}
 use Rattle.inofile.specs.Objects.{IsObjectOrNone}

@@ -1,4 +1,4 @@
-use Rattle.std.proofs.Common.{◌≡◌, ℕ, ◌*◌, ◌%◌, Some, Option, ap, sym, subst, ◌∙◌, arith}
+use Rattle.std.proofs.Common.{◌≡◌, ℕ, ◌*◌, ◌%◌, Option, ap, sym, subst, ◌∙◌, arith}
 use Rattle.layout.specs.Inode.{FitsKind}
 use Rattle.layout.specs.declared.kind.Kind.{Kind}
 use Rattle.images.specs.Contents.{StandsAs}

@@ -4,7 +4,6 @@ use Rattle.inode.specs.declared.object.Object.{Object}
 use Rattle.inofile.specs.Objects.{IsObjectOrNone, IsSameOrNone}
 use Rattle.inofile.specs.Settled.{content_of}
 use Rattle.layout.specs.DirectoryNames.{NameMap}
-use Rattle.model.specs.Volumes.{Node, directory_node}
 use Rattle.dirs.specs.Edits.{HasNames}
 use Rattle.calls.specs.Entering.{Accepts, EditsIn, IsDirectoryObject, Takes, names_after}
 use Rattle.calls.proofs.EnterLaws.{told_so, refused_so, is_directory_object, same_object, directory_stands, found_directory, same_names}

@@ -5,7 +5,7 @@ use Rattle.model.specs.Resolution.{resolve}
 use Rattle.model.specs.Volumes.{IsVolume, tree_of}
 use Rattle.paths.specs.Places.{place_of, IsPlaceWithin}
 use Rattle.calls.proofs.RefusalLaws.{walk_refusal}
-use Rattle.calls.specs.Making.{MakesIn}
+use Rattle.calls.specs.Making.{MakesIn, made_by}
 use Rattle.calls.proofs.MakeLaws.{path_refused, directory_there, entry_there, gap_answers, told_answers}
 use Rattle.calls.proofs.making.make_along.Goals as goal
 
@@ -17,21 +17,21 @@ returns-in-Refusal-clause-answers g c = λ disk settled v table stands volume mo
     let inodes = c.args.inodes.now.geometry.inodes in
     let tree = c.volumes_are_trees.ensures inodes v table volume mounted in
     let at = subst (λ p. IsPlaceOf v (place_of p) (resolve (tree_of v table) false c.args.path.now)) c.in-Refusal.is (c.in_ok-place.ensures.found disk settled v table c.args.path.now stands volume c.requires.parts) in
-    path_refused inodes v table volume mounted tree c.args.path.now c.args.mode c.requires.passed c.in-Refusal.errno at
+    path_refused inodes v table volume mounted tree c.args.path.now (made_by c.args.object) c.requires.passed c.in-Refusal.errno at
 
 pub returns-in-Directory-clause-answers : goal.returns-in-Directory-clause-answers
 returns-in-Directory-clause-answers g c = λ disk settled v table stands volume mounted.
     let inodes = c.args.inodes.now.geometry.inodes in
     let tree = c.volumes_are_trees.ensures inodes v table volume mounted in
     let at = subst (λ p. IsPlaceOf v (place_of p) (resolve (tree_of v table) false c.args.path.now)) c.in-Directory.is (c.in_ok-place.ensures.found disk settled v table c.args.path.now stands volume c.requires.parts) in
-    directory_there inodes v table volume mounted tree c.args.path.now c.args.mode c.requires.passed c.in-Directory._trail at
+    directory_there inodes v table volume mounted tree c.args.path.now (made_by c.args.object) c.requires.passed c.in-Directory._trail at
 
 pub returns-in-Entry-clause-answers : goal.returns-in-Entry-clause-answers
 returns-in-Entry-clause-answers g c = λ disk settled v table stands volume mounted.
     let inodes = c.args.inodes.now.geometry.inodes in
     let tree = c.volumes_are_trees.ensures inodes v table volume mounted in
     let at = subst (λ p. IsPlaceOf v (place_of p) (resolve (tree_of v table) false c.args.path.now)) c.in-Entry.is (c.in_ok-place.ensures.found disk settled v table c.args.path.now stands volume c.requires.parts) in
-    entry_there inodes v table volume mounted tree c.args.path.now c.args.mode c.requires.passed c.in-Entry._trail c.in-Entry._name.items c.in-Entry._number at
+    entry_there inodes v table volume mounted tree c.args.path.now (made_by c.args.object) c.requires.passed c.in-Entry._trail c.in-Entry._name.items c.in-Entry._number at
 
 pub returns-clause-looks : goal.returns-clause-looks
 returns-clause-looks g c = record {
@@ -51,13 +51,12 @@ returns-clause-answers g c = λ disk settled v table stands volume mounted.
     let inodes = c.args.inodes.now.geometry.inodes in
     let tree = c.volumes_are_trees.ensures inodes v table volume mounted in
     let at = subst (λ p. IsPlaceOf v (place_of p) (resolve (tree_of v table) false c.args.path.now)) c.in-Gap.is (c.in_ok-place.ensures.found disk settled v table c.args.path.now stands volume c.requires.parts) in
-    let good : c.args.mode ≤ 4095 = subst (λ (m : ℕ). m ≤ 4095) c.bits.ensures.same c.bits.ensures.fits in
     let all = subst (λ (s : Sizes). IsVolume s.inodes v) (sym c.find.ensures.looks.geometry) volume in
     let now = c.find.ensures.looks.kept disk settled v stands in
-    let makes = subst (λ (s : Sizes). IfOk c.make_in.result (MakesIn s.inodes v c.here.result c.in-Gap.name.items c.args.mode)) c.find.ensures.looks.geometry (c.make_in.ensures.makes disk settled v now all) in
-    let there = subst (λ (d : ℕ). IfOk c.make_in.result (MakesIn inodes v d c.in-Gap.name.items c.args.mode)) c.here.ensures makes in
+    let makes = subst (λ (s : Sizes). IfOk c.make_in.result (MakesIn s.inodes v c.here.result c.in-Gap.name.items (made_by c.args.object))) c.find.ensures.looks.geometry (c.make_in.ensures.makes disk settled v now all) in
+    let there = subst (λ (d : ℕ). IfOk c.make_in.result (MakesIn inodes v d c.in-Gap.name.items (made_by c.args.object))) c.here.ensures makes in
     told_answers c.make_in.result _ _
-    (gap_answers inodes v table volume mounted tree c.args.path.now c.args.mode c.requires.passed c.in-Gap.trail c.in-Gap.name.items at c.volumes_tell_fresh_numbers.ensures c.records_change_trees.ensures good) there
+    (gap_answers inodes v table volume mounted tree c.args.path.now (made_by c.args.object) c.requires.passed c.in-Gap.trail c.in-Gap.name.items at c.volumes_tell_fresh_numbers.ensures c.records_change_trees.ensures) there
 
 pub returns-in-Refusal-clause-own : goal.returns-in-Refusal-clause-own
 returns-in-Refusal-clause-own g c =

@@ -1,90 +1,142 @@
-use Rattle.std.proofs.Common.{rules, ℕ, List, IfOk, IfNone, IfSome, IsTrue, inl, refl, sym, ap, subst, ◌∙◌}
+use Rattle.std.proofs.Common.{rules, ◌≡◌, ◌∙◌, ℕ, List, Some, true, IfOk, IsTrue, inl, inr, refl, sym, ap, subst}
+use Rattle.std.proofs.lemmas.Bool.{false≢true}
 use Rattle.layout.specs.Limits.{Sizes}
-use Rattle.model.specs.Records.{TakesName, create, directory, is_vacant}
+use Rattle.layout.specs.Record.{made_of}
+use Rattle.model.specs.Records.{Made, IsMade, is_vacant, node_of}
 use Rattle.model.specs.Volumes.{IsVolume}
-use Rattle.calls.specs.Making.{HasNoNumber, IsLeastFree, MakesIn}
-use Rattle.calls.specs.Prepared.{Does}
-use Rattle.calls.proofs.StandLaws.{stands_with}
+use Rattle.blocktree.specs.Trees.{IsSoundAt}
+use Rattle.inofile.specs.Objects.{IsObject}
+use Rattle.calls.specs.Making.{HasNoNumber, IsLeastFree, MakesIn, made_by}
+use Rattle.calls.proofs.MakeLaws.{makes_numbered, told_answers}
+use Rattle.calls.proofs.StandLaws.{stands_with, stands_over}
 use Rattle.calls.proofs.making.make_in.Goals as goal
+
+pub returns-in_err-new-clause-looks : goal.returns-in_err-new-clause-looks
+returns-in_err-new-clause-looks g c = record {
+  reads = search rules;
+  geometry = refl;
+  kept = λ disk settled v stands.
+      let read = stands_over c.args.blocks.now c.new_object.new.blocks c.args.inodes.now c.new_object.ensures.reads.count (c.new_object.ensures.reads.same disk stands.shows) stands.volume in
+      read;
+}
+
+pub returns-in_err-new-clause-damaged : goal.returns-in_err-new-clause-damaged
+returns-in_err-new-clause-damaged g c = λ disk settled v stands is.
+    let inodes = stands.volume.inodes in
+    c.in_err-new.ensures.damaged disk stands.shows (search rules)
+    (λ t i based. subst (λ (n : ℕ). IsSoundAt n disk t i) inodes.count
+    (c.based_trees_are_sound.ensures.at c.args.inodes.now.geometry disk (settled 4) t i (inodes.sound 4) (based (settled 4))))
 
 pub returns-in_default-clause-looks : goal.returns-in_default-clause-looks
 returns-in_default-clause-looks g c = record {
   reads = search rules;
   geometry = c.refuse_in.ensures.looks.geometry ∙ c.least_free.ensures.geometry;
-  kept = λ disk settled v stands. c.refuse_in.ensures.looks.kept disk settled v (stands_with c.args.blocks.now c.args.inodes.now c.least_free.new.self c.least_free.ensures.volume stands);
+  kept = λ disk settled v stands.
+      let read = stands_over c.args.blocks.now c.new_object.new.blocks c.args.inodes.now c.new_object.ensures.reads.count (c.new_object.ensures.reads.same disk stands.shows) stands.volume in
+      let now = stands_with c.new_object.new.blocks c.args.inodes.now c.least_free.new.self c.least_free.ensures.volume read in
+      c.refuse_in.ensures.looks.kept disk settled v now;
 }
 
 pub returns-in_default-clause-does : goal.returns-in_default-clause-does
-returns-in_default-clause-does g c = λ disk settled v stands. c.refuse_in.ensures.does disk settled v
+returns-in_default-clause-does g c = λ disk settled v stands.
+    let read = stands_over c.args.blocks.now c.new_object.new.blocks c.args.inodes.now c.new_object.ensures.reads.count (c.new_object.ensures.reads.same disk stands.shows) stands.volume in
+    let now = stands_with c.new_object.new.blocks c.args.inodes.now c.least_free.new.self c.least_free.ensures.volume read in
+    c.refuse_in.ensures.does disk settled v now
 
 pub returns-in_default-clause-makes : goal.returns-in_default-clause-makes
 returns-in_default-clause-makes g c = λ disk settled v stands volume.
-    let now = stands_with c.args.blocks.now c.args.inodes.now c.least_free.new.self c.least_free.ensures.volume stands in
+    let read = stands_over c.args.blocks.now c.new_object.new.blocks c.args.inodes.now c.new_object.ensures.reads.count (c.new_object.ensures.reads.same disk stands.shows) stands.volume in
+    let now = stands_with c.new_object.new.blocks c.args.inodes.now c.least_free.new.self c.least_free.ensures.volume read in
+    let made = made_by c.args.object in
     let all = subst (λ (s : Sizes). IsVolume s.inodes v) (sym c.least_free.ensures.geometry) volume in
-    let none = subst (λ (s : Sizes). HasNoNumber s.inodes v) (sym c.least_free.ensures.geometry) (c.in_default.ensures.none _ disk settled v stands.volume) in
-    subst (λ (s : Sizes). IfOk c.refuse_in.result (MakesIn s.inodes v c.args.parent c.args.name.items c.args.mode)) c.least_free.ensures.geometry
-    (subst (λ (x : List ℕ). IfOk c.refuse_in.result (MakesIn c.least_free.new.self.geometry.inodes v c.args.parent x c.args.mode)) c.as_slice.ensures.value
-    (c.refuse_in.ensures.makes disk settled v now all none))
+    let none = subst (λ (s : Sizes). HasNoNumber s.inodes v) (sym c.least_free.ensures.geometry) (c.in_default.ensures.none _ disk settled v read.volume) in
+    subst (λ (s : Sizes). IfOk c.refuse_in.result (MakesIn s.inodes v c.args.parent c.args.name.items made)) c.least_free.ensures.geometry
+    (subst (λ (x : List ℕ). IfOk c.refuse_in.result (MakesIn c.least_free.new.self.geometry.inodes v c.args.parent x made)) c.as_slice.ensures.value
+    (c.refuse_in.ensures.makes made disk settled v now all none))
 
 pub returns-in_default-clause-damaged : goal.returns-in_default-clause-damaged
 returns-in_default-clause-damaged g c = λ disk settled v stands is.
-    c.refuse_in.ensures.damaged disk settled v (stands_with c.args.blocks.now c.args.inodes.now c.least_free.new.self c.least_free.ensures.volume stands) is
+    let read = stands_over c.args.blocks.now c.new_object.new.blocks c.args.inodes.now c.new_object.ensures.reads.count (c.new_object.ensures.reads.same disk stands.shows) stands.volume in
+    let now = stands_with c.new_object.new.blocks c.args.inodes.now c.least_free.new.self c.least_free.ensures.volume read in
+    c.refuse_in.ensures.damaged disk settled v now is
 
-pub returns-in_err-planned-clause-looks : goal.returns-in_err-planned-clause-looks
-returns-in_err-planned-clause-looks g c = record {
+pub returns-in_err-vacant-clause-looks : goal.returns-in_err-vacant-clause-looks
+returns-in_err-vacant-clause-looks g c = record {
   reads = search rules;
-  geometry = c.prepare_new.ensures.looks.geometry ∙ c.least_free.ensures.geometry;
-  kept = λ disk settled v stands. c.prepare_new.ensures.looks.kept disk settled v (stands_with c.args.blocks.now c.args.inodes.now c.least_free.new.self c.least_free.ensures.volume stands);
+  geometry = c.is_vacant.ensures.looks.geometry ∙ c.least_free.ensures.geometry;
+  kept = λ disk settled v stands.
+      let read = stands_over c.args.blocks.now c.new_object.new.blocks c.args.inodes.now c.new_object.ensures.reads.count (c.new_object.ensures.reads.same disk stands.shows) stands.volume in
+      let now = stands_with c.new_object.new.blocks c.args.inodes.now c.least_free.new.self c.least_free.ensures.volume read in
+      let then = c.is_vacant.ensures.looks.kept disk settled v now in
+      then;
 }
 
-pub returns-in_err-planned-clause-damaged : goal.returns-in_err-planned-clause-damaged
-returns-in_err-planned-clause-damaged g c = λ disk settled v stands is.
-    c.in_err-planned.ensures.damaged disk settled v (stands_with c.args.blocks.now c.args.inodes.now c.least_free.new.self c.least_free.ensures.volume stands) (search rules)
+pub returns-in_err-vacant-clause-damaged : goal.returns-in_err-vacant-clause-damaged
+returns-in_err-vacant-clause-damaged g c = λ disk settled v stands is.
+    let read = stands_over c.args.blocks.now c.new_object.new.blocks c.args.inodes.now c.new_object.ensures.reads.count (c.new_object.ensures.reads.same disk stands.shows) stands.volume in
+    let now = stands_with c.new_object.new.blocks c.args.inodes.now c.least_free.new.self c.least_free.ensures.volume read in
+    c.in_err-vacant.ensures.damaged disk settled v now (search rules)
 
-pub returns-in_default-planned-clause-looks : goal.returns-in_default-planned-clause-looks
-returns-in_default-planned-clause-looks g c = record {
+pub returns-then-not-vacant-clause-looks : goal.returns-then-not-vacant-clause-looks
+returns-then-not-vacant-clause-looks g c = record {
   reads = search rules;
-  geometry = c.prepare_new.ensures.looks.geometry ∙ c.least_free.ensures.geometry;
-  kept = λ disk settled v stands. c.prepare_new.ensures.looks.kept disk settled v (stands_with c.args.blocks.now c.args.inodes.now c.least_free.new.self c.least_free.ensures.volume stands);
+  geometry = c.is_vacant.ensures.looks.geometry ∙ c.least_free.ensures.geometry;
+  kept = λ disk settled v stands.
+      let read = stands_over c.args.blocks.now c.new_object.new.blocks c.args.inodes.now c.new_object.ensures.reads.count (c.new_object.ensures.reads.same disk stands.shows) stands.volume in
+      let now = stands_with c.new_object.new.blocks c.args.inodes.now c.least_free.new.self c.least_free.ensures.volume read in
+      let then = c.is_vacant.ensures.looks.kept disk settled v now in
+      then;
 }
 
-pub returns-in_default-planned-clause-makes : goal.returns-in_default-planned-clause-makes
-returns-in_default-planned-clause-makes g c = λ disk settled v stands volume.
-    let now = stands_with c.args.blocks.now c.args.inodes.now c.least_free.new.self c.least_free.ensures.volume stands in
-    let all = subst (λ (s : Sizes). IsVolume s.inodes v) (sym c.least_free.ensures.geometry) volume in
-    let not = subst (λ o. IfNone o (TakesName v c.args.parent c.as_slice-2.result.now → ⊥)) c.in_default-planned.is (c.in_ok-planned.ensures.refused disk settled v now all) in
-    inl (refl, λ takes. not (subst (λ (x : List ℕ). TakesName v c.args.parent x) (sym c.as_slice-2.ensures.value) takes))
+pub returns-then-not-vacant-clause-damaged : goal.returns-then-not-vacant-clause-damaged
+returns-then-not-vacant-clause-damaged g c = λ disk settled v stands is.
+    let read = stands_over c.args.blocks.now c.new_object.new.blocks c.args.inodes.now c.new_object.ensures.reads.count (c.new_object.ensures.reads.same disk stands.shows) stands.volume in
+    let now = stands_with c.new_object.new.blocks c.args.inodes.now c.least_free.new.self c.least_free.ensures.volume read in
+    let free = c.in-Some.ensures.free _ disk settled v read.volume in
+    absurd (false≢true (sym c.if-not-vacant.true ∙ c.in_ok-vacant.ensures.vacant disk settled v now ∙ ap is_vacant free))
 
 pub returns-clause-looks : goal.returns-clause-looks
 returns-clause-looks g c = record {
   reads = search rules;
-  geometry = c.prepare_new.ensures.looks.geometry ∙ c.least_free.ensures.geometry;
-  kept = λ disk settled v stands. c.prepare_new.ensures.looks.kept disk settled v (stands_with c.args.blocks.now c.args.inodes.now c.least_free.new.self c.least_free.ensures.volume stands);
+  geometry = c.make_numbered.ensures.looks.geometry ∙ c.is_vacant.ensures.looks.geometry ∙ c.least_free.ensures.geometry;
+  kept = λ disk settled v stands.
+      let read = stands_over c.args.blocks.now c.new_object.new.blocks c.args.inodes.now c.new_object.ensures.reads.count (c.new_object.ensures.reads.same disk stands.shows) stands.volume in
+      let now = stands_with c.new_object.new.blocks c.args.inodes.now c.least_free.new.self c.least_free.ensures.volume read in
+      let then = c.is_vacant.ensures.looks.kept disk settled v now in
+      c.make_numbered.ensures.looks.kept disk settled v then;
 }
-
-pub returns-clause-makes : goal.returns-clause-makes
-returns-clause-makes g c = λ disk settled v stands volume.
-    let now = stands_with c.args.blocks.now c.args.inodes.now c.least_free.new.self c.least_free.ensures.volume stands in
-    let takes = subst (λ o. IfSome o (λ _. TakesName v c.args.parent c.as_slice-2.result.now)) c.in-Some-planned.is (c.in_ok-planned.ensures.takes disk settled v now) in
-    let least : IsLeastFree c.args.inodes.now.geometry.inodes v c.in-Some.free = record {
-      low = c.in-Some.ensures.within.0;
-      high = c.in-Some.ensures.within.1;
-      free = c.in-Some.ensures.free _ disk settled v stands.volume;
-      least = c.in-Some.ensures.least _ disk settled v stands.volume;
-    } in (
-      ap (λ (k : ℕ). create c.new-number.result k (directory c.args.mode) c.args.name.items) c.new.ensures,
-      subst (λ (x : List ℕ). TakesName v c.args.parent x) c.as_slice-2.ensures.value takes,
-      subst (λ (k : ℕ). IsLeastFree c.args.inodes.now.geometry.inodes v k) (sym c.new-number.ensures) least,
-    )
 
 pub returns-clause-does : goal.returns-clause-does
 returns-clause-does g c = λ disk settled v stands.
-    let now = stands_with c.args.blocks.now c.args.inodes.now c.least_free.new.self c.least_free.ensures.volume stands in
-    let s = c.prepare_new.new.inodes in
-    let n = c.new-number.result in
-    let made = directory c.args.mode in
-    let is_free : IsTrue (is_vacant (v n)) =
-    subst (λ (k : ℕ). IsTrue (is_vacant (v k))) (sym c.new-number.ensures) (ap is_vacant (c.in-Some.ensures.free _ disk settled v stands.volume)) in
-    let does = subst (λ o. IfSome o (λ x. Does disk settled s v x (create n c.args.parent made c.as_slice-2.result.now))) c.in-Some-planned.is (c.in_ok-planned.ensures.does disk settled v made now is_free (λ k. c.new_directory-object.ensures.object disk k (settled n))) in
-    subst (λ (k : ℕ). Does disk settled s v c.in-Some-planned.prepared (create n k made c.args.name.items)) (sym c.new.ensures)
-    (subst (λ (x : List ℕ). Does disk settled s v c.in-Some-planned.prepared (create n c.args.parent made x)) c.as_slice-2.ensures.value does)
+    let read = stands_over c.args.blocks.now c.new_object.new.blocks c.args.inodes.now c.new_object.ensures.reads.count (c.new_object.ensures.reads.same disk stands.shows) stands.volume in
+    let now = stands_with c.new_object.new.blocks c.args.inodes.now c.least_free.new.self c.least_free.ensures.volume read in
+    let then = c.is_vacant.ensures.looks.kept disk settled v now in
+    let free = c.in-Some.ensures.free _ disk settled v read.volume in
+    let says = c.as_new.ensures.says in
+    let there = λ (k : ℕ). subst (λ (m : Made). IsObject disk k (settled c.in-Some.free) c.in_ok-new.new (Some (node_of m))) says (c.in_ok-new.ensures.object disk stands.shows k (settled c.in-Some.free)) in
+    c.make_numbered.ensures.does disk settled v then free there
+
+pub returns-clause-damaged : goal.returns-clause-damaged
+returns-clause-damaged g c = λ disk settled v stands is.
+    let read = stands_over c.args.blocks.now c.new_object.new.blocks c.args.inodes.now c.new_object.ensures.reads.count (c.new_object.ensures.reads.same disk stands.shows) stands.volume in
+    let now = stands_with c.new_object.new.blocks c.args.inodes.now c.least_free.new.self c.least_free.ensures.volume read in
+    let then = c.is_vacant.ensures.looks.kept disk settled v now in
+    c.make_numbered.ensures.damaged disk settled v then is
+
+pub returns-clause-makes : goal.returns-clause-makes
+returns-clause-makes g c = λ disk settled v stands volume.
+    let read = stands_over c.args.blocks.now c.new_object.new.blocks c.args.inodes.now c.new_object.ensures.reads.count (c.new_object.ensures.reads.same disk stands.shows) stands.volume in
+    let now = stands_with c.new_object.new.blocks c.args.inodes.now c.least_free.new.self c.least_free.ensures.volume read in
+    let then = c.is_vacant.ensures.looks.kept disk settled v now in
+    let made = made_by c.args.object in
+    let geometry = c.is_vacant.ensures.looks.geometry ∙ c.least_free.ensures.geometry in
+    let all = subst (λ (s : Sizes). IsVolume s.inodes v) (sym geometry) volume in
+    let good : IsMade made = subst IsMade c.as_new.ensures.says c.as_new.ensures.good in
+    let least : IsLeastFree c.args.inodes.now.geometry.inodes v c.in-Some.free = record {
+      low = c.in-Some.ensures.within.0;
+      high = c.in-Some.ensures.within.1;
+      free = c.in-Some.ensures.free _ disk settled v read.volume;
+      least = c.in-Some.ensures.least _ disk settled v read.volume;
+    } in
+    told_answers c.make_numbered.result _ _ (makes_numbered c.args.inodes.now.geometry.inodes v c.in-Some.free c.args.parent c.args.name.items made good least)
+    (c.make_numbered.ensures.makes disk settled v then all)

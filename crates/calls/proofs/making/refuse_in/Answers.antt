@@ -12,12 +12,12 @@ of_some None P is told = absurd (false≢true (sym is))
 of_some (Some a) P is told = told
 
 pub returns-then-is_none-clause-makes : goal.returns-then-is_none-clause-makes
-returns-then-is_none-clause-makes g c = λ disk settled v stands volume none.
+returns-then-is_none-clause-makes g c = λ made disk settled v stands volume none.
     let is : is_none c.in_ok-planned.planned ≡ true = search rules in
     inl (refl, of_none c.in_ok-planned.planned (TakesName v c.args.parent c.args.name.now → ⊥) is (c.in_ok-planned.ensures.refused disk settled v stands volume))
 
 pub returns-clause-makes : goal.returns-clause-makes
-returns-clause-makes g c = λ disk settled v stands volume none.
+returns-clause-makes g c = λ made disk settled v stands volume none.
     let is : is_none c.in_ok-planned.planned ≡ false = search rules in
     inr (refl, of_some c.in_ok-planned.planned (TakesName v c.args.parent c.args.name.now) is (c.in_ok-planned.ensures.takes disk settled v stands), none)
 

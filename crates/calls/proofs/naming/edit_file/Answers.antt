@@ -1,4 +1,4 @@
-use Rattle.std.proofs.Common.{rules, IfOk, IfSome, IfNone, sym, subst}
+use Rattle.std.proofs.Common.{IfOk, IfSome, IfNone, sym, subst}
 use Rattle.dirs.specs.Edits.{HasNames}
 use Rattle.calls.specs.Entering.{IsNameEdit, Takes, names_after}
 use Rattle.calls.specs.declared.naming.NameEdit.{NameEdit}

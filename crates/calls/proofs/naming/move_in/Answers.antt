@@ -1,4 +1,4 @@
-use Rattle.std.proofs.Common.{rules, ℕ, Some, None, IfOk, IfSome, subst}
+use Rattle.std.proofs.Common.{rules, Some, None, IfOk, IfSome, subst}
 use Rattle.layout.specs.DirectoryNames.{NameMap}
 use Rattle.dirs.specs.Directory.{with_name}
 use Rattle.dirs.specs.Edits.{HasNames}

@@ -1,4 +1,3 @@
-use Rattle.std.proofs.Common.{◌≢◌, ℕ}
 use Rattle.model.specs.Records.{applied}
 use Rattle.calls.proofs.StepLaws.{takes_step_after, takes_some_after, steps_some_behind, steps_last_behind}
 use Rattle.calls.proofs.prepared.commit.Goals as goal

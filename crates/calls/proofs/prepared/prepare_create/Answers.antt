@@ -1,4 +1,4 @@
-use Rattle.std.proofs.Common.{rules, ◌≡◌, ◌≤◌, ◌<◌, ℕ, IsTrue, ap, sym, subst, ◌∙◌}
+use Rattle.std.proofs.Common.{rules, ◌≤◌, ◌<◌, ℕ, IsTrue, ap, sym, subst, ◌∙◌}
 use Rattle.std.proofs.lemmas.Bool.{both_ways}
 use Rattle.blocktree.specs.Trees.{IsSoundAt}
 use Rattle.layout.specs.Limits.{Sizes}

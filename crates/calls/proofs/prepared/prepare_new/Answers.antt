@@ -1,7 +1,7 @@
-use Rattle.std.proofs.Common.{rules, ℕ, Option, None, Some, IfSome, IfNone, IsTrue, refl, ap, sym, subst, ◌∙◌}
+use Rattle.std.proofs.Common.{rules, ℕ, Some, IfSome, IfNone, refl, ap, sym, subst, ◌∙◌}
 use Rattle.layout.specs.Limits.{Sizes}
 use Rattle.layout.specs.declared.entry.Entry.{Entry}
-use Rattle.model.specs.Records.{is_vacant, node_of}
+use Rattle.model.specs.Records.{node_of}
 use Rattle.model.specs.Volumes.{with_node, IsVolume}
 use Rattle.inofile.specs.Inodes.{loaded}
 use Rattle.inofile.specs.Objects.{IsObject}

@@ -29,6 +29,14 @@ returns-in-SetMode-clause-volume c = λ count disk settled v w volume steps.
     subst (λ (x : Volume). IsVolumeOf count disk settled c.commit_mode.new.inodes x) (ap (λ (o : Option Node). with_node n o v) (sym up.1) ∙ sym steps.2)
     (c.commit_mode.ensures.volume count disk settled v volume up.0)
 
+pub returns-in-Bytes-clause-volume : goal.returns-in-Bytes-clause-volume
+returns-in-Bytes-clause-volume c = λ count disk settled v w volume steps.
+    let s = c.args.inodes.now in
+    let n = c.args.step.number in
+    let up = subst (λ (u : Update). Updates disk s.geometry.inodes (settled n) (v n) (loaded s n) u steps.0) c.in-Bytes.is steps.1 in
+    subst (λ (x : Volume). IsVolumeOf count disk settled c.commit_bytes.new.inodes x) (ap (λ (o : Option Node). with_node n o v) (sym up.3) ∙ sym steps.2)
+    (c.commit_bytes.ensures.volume count disk settled v up.0 volume up.1 up.2)
+
 pub returns-in-Links-clause-volume : goal.returns-in-Links-clause-volume
 returns-in-Links-clause-volume c = λ count disk settled v w volume steps.
     let s = c.args.inodes.now in

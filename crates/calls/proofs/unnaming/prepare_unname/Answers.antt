@@ -1,8 +1,7 @@
-use Rattle.std.proofs.Common.{rules, ◌≡◌, ◌<◌, ℕ, Option, None, Some, IfSome, IfNone, IsTrue, refl, ap, sym, subst, ◌∙◌}
+use Rattle.std.proofs.Common.{rules, ◌≡◌, ◌<◌, ℕ, Option, None, Some, IfSome, IfNone, refl, ap, sym, subst, ◌∙◌}
 use Rattle.layout.specs.Limits.{Sizes}
 use Rattle.model.specs.Records.{IsEmpty}
-use Rattle.model.specs.Volumes.{Node, Volume, entries, released, with_entry, with_name_less, with_node, IsVolume}
-use Rattle.dirs.specs.Directory.{with_name}
+use Rattle.model.specs.Volumes.{Node, entries, released, with_entry, with_name_less, with_node, IsVolume}
 use Rattle.inode.specs.declared.object.Object.{Object}
 use Rattle.inofile.specs.Inodes.{HasRoomFor, IsKnown, loaded}
 use Rattle.paths.specs.Numbers.{IsNumber}

@@ -1,4 +1,4 @@
-use Rattle.std.proofs.Common.{rules, ◌≡◌, ◌↔◌, IsTrue, sym, subst}
+use Rattle.std.proofs.Common.{◌↔◌, IsTrue, sym, subst}
 use Rattle.layout.specs.Record.{made_of}
 use Rattle.layout.specs.declared.record.NewObject.{NewObject}
 use Rattle.model.specs.Records.{IsMade}

@@ -1,4 +1,4 @@
-use Rattle.std.proofs.Common.{◌≡◌, ℕ, ◌/◌, ◌%◌, List, Some, ◌≤◌, slice_index, ap, sym, subst, arith, ◌∙◌}
+use Rattle.std.proofs.Common.{ℕ, ◌/◌, ◌%◌, List, Some, ◌≤◌, slice_index, ap, sym, subst, arith, ◌∙◌}
 use Rattle.layout.specs.FileBytes.{byte_in, first_bytes}
 use Rattle.model.specs.Volumes.{file_node}
 use Rattle.inode.specs.Files.{file_block}

@@ -1,5 +1,4 @@
-use Rattle.std.proofs.Common.{rules, ◌≡◌, ◌≤◌, ◌<◌, ◌+◌, ℕ, ◌/◌, ◌%◌, List, [], ◌++◌, length, max, Some, slice_index, refl, ap, sym, subst, ◌∙◌, arith}
-use Rattle.layout.specs.Bytes.{zeros}
+use Rattle.std.proofs.Common.{rules, ◌≡◌, ◌+◌, ℕ, ◌/◌, ◌%◌, List, length, max, Some, slice_index, refl, ap, sym, ◌∙◌, arith}
 use Rattle.layout.specs.FileBytes.{EndsAt, first_bytes}
 use Rattle.model.specs.Volumes.{link_node}
 use Rattle.buffers.specs.Positions.{written}

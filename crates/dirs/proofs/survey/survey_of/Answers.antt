@@ -9,9 +9,9 @@ pub returns-in_err-look-clause-damaged : goal.returns-in_err-look-clause-damaged
 returns-in_err-look-clause-damaged g c = λ disk shows is reached sound.
     let i = c.loop-i.i in
     let so_far = c.loop-i.invariant in
-    let here = subst (λ n. IsSoundAt n disk c.args.file.now.tree i) (sym so_far.count) (reached i c.loop-i-test.true) in
+    let here = subst (λ n. IsSoundAt n disk c.args.file.now.tree i) (sym so_far.read.count) (reached i c.loop-i-test.true) in
     let held = sound i c.loop-i-test.true in
-    c.in_err-look.ensures.damaged disk (so_far.same disk shows) (search rules) here held.0 held.1
+    c.in_err-look.ensures.damaged disk (so_far.read.same disk shows) (search rules) here held.0 held.1
 
 pub loop-i-preserved : goal.loop-i-preserved
 loop-i-preserved g c =
@@ -19,11 +19,8 @@ loop-i-preserved g c =
     let look = c.in_ok-look.ensures in
     let more = c.with_block-survey.ensures in
     record {
-      count = look.count ∙ so_far.count;
-      failed = look.counted ∙ so_far.failed;
-      reads = λ start so. look.reads start (so_far.reads start so);
-      same = λ disk shows. look.same disk (so_far.same disk shows);
+      read = search rules;
       most = omega (arith, so_far.most, more.names, look.likely.names);
       bounded = subst (IsBounded (c.loop-i.i + 1) c.with_block-survey.result) (sym more.room) (bounded_more c.loop-i.i c.args.bytes c.loop-i.survey c.with_block-survey.result c.in_ok-look.look c.requires look.likely more.names c.loop-i.survey.room so_far.bounded);
-      finds = λ disk shows. finds_more c.args.inodes (edited_block disk c.args.file.now c.args.edit.now) c.loop-i.i c.args.bytes _ c.loop-i.survey c.with_block-survey.result c.in_ok-look.look (so_far.finds disk shows) (look.tells disk (so_far.same disk shows)) more.names more.room;
+      finds = λ disk shows. finds_more c.args.inodes (edited_block disk c.args.file.now c.args.edit.now) c.loop-i.i c.args.bytes _ c.loop-i.survey c.with_block-survey.result c.in_ok-look.look (so_far.finds disk shows) (look.tells disk (so_far.read.same disk shows)) more.names more.room;
     }

@@ -6,7 +6,7 @@ use Rattle.loading.proofs.maps.load_numbers.Goals as goal
 pub returns-clause-damaged : goal.returns-clause-damaged
 returns-clause-damaged g c = λ disk shows is paths map own.
     let read : c.in_ok-bytes.bytes.items ≡ inode_bytes_of disk c.args.inode =
-    c.in_ok-bytes.ensures.bytes disk (c.in_ok-file.ensures.shown disk shows) ∙ same_bytes disk c.args.inode c.in_ok-file.file c.in_ok-file.ensures.size (c.in_ok-file.ensures.blocks disk) in
+    c.in_ok-bytes.ensures.bytes disk (c.in_ok-file.ensures.reads.same disk shows) ∙ same_bytes disk c.args.inode c.in_ok-file.file c.in_ok-file.ensures.size (c.in_ok-file.ensures.blocks disk) in
     let told : c.is_inode_map.result ≡ true = (c.is_inode_map.ensures).1
     (is_map_of c.inodes-inodes.result c.args.geometry.inodes c.deref.result.now c.in_ok-bytes.bytes.items (inode_bytes_of disk c.args.inode) c.inodes-inodes.ensures.value c.deref.ensures.value read own) in
     not_both c.is_inode_map.result told c.if-is_inode_map.false

@@ -7,15 +7,12 @@ use Rattle.loading.proofs.maps.load_parts.Goals as goal
 
 pub loop-j-preserved : goal.loop-j-preserved
 loop-j-preserved g c = record {
-  count = search rules;
-  failed = search rules;
-  reads = search rules;
-  shows = search rules;
+  read = search rules;
   size = ap length c.in_ok-push.ensures.items ∙ length_push c.loop-j.parts.items c.in_ok-part.part ∙ ap (λ n. n + 1) c.loop-j.invariant.size;
   parts = λ disk shows. part_more (inode_block disk c.args.inode) c.loop-j.j c.loop-j.parts.items c.push.new.self.items c.in_ok-part.part
       (c.loop-j.invariant.parts disk shows) c.in_ok-push.ensures.items
       (subst (λ (b : List ℕ). Spells b c.in_ok-part.part.settled)
-      (c.bytes.ensures disk (c.in_ok-location.ensures.reads.same disk (c.loop-j.invariant.shows disk shows)) (c.in_ok-location.ensures.found disk (c.loop-j.invariant.shows disk shows))
+      (c.bytes.ensures disk (c.in_ok-location.ensures.reads.same disk (c.loop-j.invariant.read.same disk shows)) (c.in_ok-location.ensures.found disk (c.loop-j.invariant.read.same disk shows))
       ∙ c.in_ok-file.ensures.blocks disk c.loop-j.j) c.in_ok-part.ensures.settled);
   unchanged = unchanged_more c.loop-j.parts.items c.push.new.self.items c.in_ok-part.part c.loop-j.invariant.unchanged c.in_ok-push.ensures.items
       c.in_ok-part.ensures.same c.in_ok-part.ensures.untouched;

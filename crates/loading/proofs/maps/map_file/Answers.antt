@@ -11,9 +11,9 @@ returns-in_err-check_stored-clause-damaged g c = λ disk shows is paths map.
 
 pub returns-in_err-check_end-clause-damaged : goal.returns-in_err-check_end-clause-damaged
 returns-in_err-check_end-clause-damaged g c = λ disk shows is paths map.
-    c.in_err-check_end.ensures.damaged disk (c.in_ok-check_stored.ensures.shown disk shows) (search rules)
+    c.in_err-check_end.ensures.damaged disk (c.in_ok-check_stored.ensures.reads.same disk shows) (search rules)
     (λ i. starts_sound_at (g.B.Blocks.count c.check_stored.new.blocks) disk c.args.inode.body c.args.inode.size i c.in_ok-file.file.tree c.in_ok-file.file.tree.fits.1
-    c.in_ok-file.ensures.settled (subst (λ n. IsBodyPath n disk c.args.inode.body c.args.inode.size i) (sym c.in_ok-check_stored.ensures.count) (paths i)))
+    c.in_ok-file.ensures.settled (subst (λ n. IsBodyPath n disk c.args.inode.body c.args.inode.size i) (sym c.in_ok-check_stored.ensures.reads.count) (paths i)))
     (file_ends disk c.args.inode c.in_ok-file.file c.in_ok-file.ensures.size (c.in_ok-file.ensures.blocks disk) map.ends)
 
 pub returns-clause-sound : goal.returns-clause-sound
@@ -23,4 +23,4 @@ returns-clause-sound g c = λ disk count i path.
 pub returns-clause-file : goal.returns-clause-file
 returns-clause-file g c = λ disk shows.
     map_file_is disk c.args.inode c.in_ok-file.file c.in_ok-file.ensures.settled (c.in_ok-check_stored.ensures.stored disk shows) c.in_ok-file.ensures.size
-    (c.in_ok-file.ensures.blocks disk) (c.in_ok-check_end.ensures.ends disk (c.in_ok-check_stored.ensures.shown disk shows))
+    (c.in_ok-file.ensures.blocks disk) (c.in_ok-check_end.ensures.ends disk (c.in_ok-check_stored.ensures.reads.same disk shows))

@@ -3,6 +3,7 @@ use Rattle.loading.specs.Images.{inodes_of}
 use Rattle.images.specs.Roots.{tree}
 use Rattle.loading.proofs.EndLaws.{block_map_size}
 use Rattle.loading.proofs.LoadLaws as laws
+use Rattle.loading.proofs.ReadLaws.{reads_ok, reads_err, reads_more}
 use Rattle.loading.proofs.under_root.load.Goals as goal
 
 pub returns-in_err-check_inodes-clause-loads : goal.returns-in_err-check_inodes-clause-loads
@@ -16,23 +17,23 @@ pub returns-in_err-inode_map-clause-loads : goal.returns-in_err-inode_map-clause
 returns-in_err-inode_map-clause-loads g c = λ disk shows ready.
     laws.refused _ c.from_residual-in_err-inode_map.result (search rules) (λ is.
     laws.no_inode_map c.trees_read_as_held.ensures disk c.args.root.now c.requires.root.head.sizes ready c.in_ok-file.file c.in_ok-file.ensures.blocks c.in_ok-file.ensures.settled
-    (g.B.Blocks.count c.check_inodes.new.blocks) (c.in_ok-check_inodes.ensures.count ∙ c.requires.size)
-    (c.in_err-inode_map.ensures.damaged disk (c.in_ok-check_inodes.ensures.shown disk shows) (search rules)))
+    (g.B.Blocks.count c.check_inodes.new.blocks) (c.in_ok-check_inodes.ensures.reads.count ∙ c.requires.size)
+    (c.in_err-inode_map.ensures.damaged disk (c.in_ok-check_inodes.ensures.reads.same disk shows) (search rules)))
 
 pub returns-in_err-block_map-clause-loads : goal.returns-in_err-block_map-clause-loads
 returns-in_err-block_map-clause-loads g c = λ disk shows ready.
     laws.refused _ c.from_residual-in_err-block_map.result (search rules) (λ is.
     laws.no_block_map c.trees_read_as_held.ensures disk c.args.root.now c.requires.root.head.sizes ready c.in_ok-file.file c.in_ok-file.ensures.blocks c.in_ok-file.ensures.settled
-    (g.B.Blocks.count c.own_inode.new.blocks) (c.in_ok-inode_map.ensures.count ∙ c.in_ok-check_inodes.ensures.count ∙ c.requires.size)
-    (c.in_err-block_map.ensures.damaged disk (c.in_ok-inode_map.ensures.shown disk (c.in_ok-check_inodes.ensures.shown disk shows)) (search rules)))
+    (g.B.Blocks.count c.own_inode.new.blocks) (c.in_ok-inode_map.ensures.reads.count ∙ c.in_ok-check_inodes.ensures.reads.count ∙ c.requires.size)
+    (c.in_err-block_map.ensures.damaged disk (c.in_ok-inode_map.ensures.reads.same disk (c.in_ok-check_inodes.ensures.reads.same disk shows)) (search rules)))
 
 pub returns-in_err-numbers-clause-loads : goal.returns-in_err-numbers-clause-loads
 returns-in_err-numbers-clause-loads g c = λ disk shows ready.
-    let shows1 = c.in_ok-check_inodes.ensures.shown disk shows in
-    let shows2 = c.in_ok-inode_map.ensures.shown disk shows1 in
-    let shows3 = c.in_ok-block_map.ensures.shown disk shows2 in
+    let shows1 = c.in_ok-check_inodes.ensures.reads.same disk shows in
+    let shows2 = c.in_ok-inode_map.ensures.reads.same disk shows1 in
+    let shows3 = c.in_ok-block_map.ensures.reads.same disk shows2 in
     let count : g.B.Blocks.count c.own_inode-2.new.blocks ≡ c.args.root.now.geometry.blocks =
-    c.in_ok-block_map.ensures.count ∙ c.in_ok-inode_map.ensures.count ∙ c.in_ok-check_inodes.ensures.count ∙ c.requires.size in
+    c.in_ok-block_map.ensures.reads.count ∙ c.in_ok-inode_map.ensures.reads.count ∙ c.in_ok-check_inodes.ensures.reads.count ∙ c.requires.size in
     let there = laws.memory_is c.trees_read_as_held.ensures disk c.args.root.now c.requires.root.head.sizes ready c.in_ok-file.file c.in_ok-file.ensures.blocks c.in_ok-file.ensures.settled
     1 c.in_ok-inode_map.inode_map c.in_ok-inode_map.ensures.is (omega arith) (omega arith) (c.in_ok-inode_map.ensures.spelled disk shows1) in
     laws.refused _ c.from_residual-in_err-numbers.result (search rules) (λ is.
@@ -43,12 +44,12 @@ returns-in_err-numbers-clause-loads g c = λ disk shows ready.
 
 pub returns-in_err-parts-clause-loads : goal.returns-in_err-parts-clause-loads
 returns-in_err-parts-clause-loads g c = λ disk shows ready.
-    let shows1 = c.in_ok-check_inodes.ensures.shown disk shows in
-    let shows2 = c.in_ok-inode_map.ensures.shown disk shows1 in
-    let shows3 = c.in_ok-block_map.ensures.shown disk shows2 in
-    let shows4 = c.in_ok-numbers.ensures.shown disk shows3 in
+    let shows1 = c.in_ok-check_inodes.ensures.reads.same disk shows in
+    let shows2 = c.in_ok-inode_map.ensures.reads.same disk shows1 in
+    let shows3 = c.in_ok-block_map.ensures.reads.same disk shows2 in
+    let shows4 = c.in_ok-numbers.ensures.reads.same disk shows3 in
     let count : g.B.Blocks.count c.load_numbers.new.blocks ≡ c.args.root.now.geometry.blocks =
-    c.in_ok-numbers.ensures.count ∙ c.in_ok-block_map.ensures.count ∙ c.in_ok-inode_map.ensures.count ∙ c.in_ok-check_inodes.ensures.count ∙ c.requires.size in
+    c.in_ok-numbers.ensures.reads.count ∙ c.in_ok-block_map.ensures.reads.count ∙ c.in_ok-inode_map.ensures.reads.count ∙ c.in_ok-check_inodes.ensures.reads.count ∙ c.requires.size in
     let there = laws.memory_is c.trees_read_as_held.ensures disk c.args.root.now c.requires.root.head.sizes ready c.in_ok-file.file c.in_ok-file.ensures.blocks c.in_ok-file.ensures.settled
     2 c.in_ok-block_map.block_map c.in_ok-block_map.ensures.is (omega arith) (omega arith) (c.in_ok-block_map.ensures.spelled disk shows2) in
     laws.refused _ c.from_residual-in_err-parts.result (search rules) (λ is.
@@ -58,10 +59,10 @@ returns-in_err-parts-clause-loads g c = λ disk shows ready.
 
 pub returns-clause-loads : goal.returns-clause-loads
 returns-clause-loads g c = λ disk shows ready.
-    let shows1 = c.in_ok-check_inodes.ensures.shown disk shows in
-    let shows2 = c.in_ok-inode_map.ensures.shown disk shows1 in
-    let shows3 = c.in_ok-block_map.ensures.shown disk shows2 in
-    let shows4 = c.in_ok-numbers.ensures.shown disk shows3 in
+    let shows1 = c.in_ok-check_inodes.ensures.reads.same disk shows in
+    let shows2 = c.in_ok-inode_map.ensures.reads.same disk shows1 in
+    let shows3 = c.in_ok-block_map.ensures.reads.same disk shows2 in
+    let shows4 = c.in_ok-numbers.ensures.reads.same disk shows3 in
     laws.loaded c.trees_read_as_held.ensures disk c.args.root.now c.requires.root.head.sizes ready c.in_ok-file.file c.in_ok-file.ensures.blocks c.in_ok-file.ensures.settled
     c.in_ok-inode_map.inode_map c.in_ok-block_map.block_map c.in_ok-numbers.numbers.items c.in_ok-parts.parts.items c.new-map.result c.new-inodes.result
     (laws.memory_is c.trees_read_as_held.ensures disk c.args.root.now c.requires.root.head.sizes ready c.in_ok-file.file c.in_ok-file.ensures.blocks c.in_ok-file.ensures.settled
@@ -74,3 +75,21 @@ returns-clause-loads g c = λ disk shows ready.
     c.new-map.ensures.parts (search rules) c.new-map.ensures.next
     c.new-inodes.ensures.geometry c.new-inodes.ensures.file c.new-inodes.ensures.map c.new-inodes.ensures.unchanged
     (λ v are maps holds. c.new-inodes.ensures.volume c.args.root.now.geometry.blocks disk (inodes_of (tree disk c.args.root.now.geometry.inodes c.args.root.now.inode_file)) v are maps holds)
+
+pub returns-in_err-check_inodes-clause-reads : goal.returns-in_err-check_inodes-clause-reads
+returns-in_err-check_inodes-clause-reads g c = reads_err c.from_residual-in_err-check_inodes.result c.from_residual-in_err-check_inodes.ensures.1 c.in_err-check_inodes.ensures.reads
+
+pub returns-in_err-inode_map-clause-reads : goal.returns-in_err-inode_map-clause-reads
+returns-in_err-inode_map-clause-reads g c = reads_err c.from_residual-in_err-inode_map.result c.from_residual-in_err-inode_map.ensures.1 (reads_more _ c.in_ok-check_inodes.ensures.reads c.in_err-inode_map.ensures.reads)
+
+pub returns-in_err-block_map-clause-reads : goal.returns-in_err-block_map-clause-reads
+returns-in_err-block_map-clause-reads g c = reads_err c.from_residual-in_err-block_map.result c.from_residual-in_err-block_map.ensures.1 (reads_more _ (reads_more _ c.in_ok-check_inodes.ensures.reads c.in_ok-inode_map.ensures.reads) c.in_err-block_map.ensures.reads)
+
+pub returns-in_err-numbers-clause-reads : goal.returns-in_err-numbers-clause-reads
+returns-in_err-numbers-clause-reads g c = reads_err c.from_residual-in_err-numbers.result c.from_residual-in_err-numbers.ensures.1 (reads_more _ (reads_more _ (reads_more _ c.in_ok-check_inodes.ensures.reads c.in_ok-inode_map.ensures.reads) c.in_ok-block_map.ensures.reads) c.in_err-numbers.ensures.reads)
+
+pub returns-in_err-parts-clause-reads : goal.returns-in_err-parts-clause-reads
+returns-in_err-parts-clause-reads g c = reads_err c.from_residual-in_err-parts.result c.from_residual-in_err-parts.ensures.1 (reads_more _ (reads_more _ (reads_more _ (reads_more _ c.in_ok-check_inodes.ensures.reads c.in_ok-inode_map.ensures.reads) c.in_ok-block_map.ensures.reads) c.in_ok-numbers.ensures.reads) c.in_err-parts.ensures.reads)
+
+pub returns-clause-reads : goal.returns-clause-reads
+returns-clause-reads g c = reads_ok (reads_more _ (reads_more _ (reads_more _ (reads_more _ c.in_ok-check_inodes.ensures.reads c.in_ok-inode_map.ensures.reads) c.in_ok-block_map.ensures.reads) c.in_ok-numbers.ensures.reads) c.in_ok-parts.ensures.reads)

@@ -1,38 +1,49 @@
-use Rattle.std.proofs.Common.{rules, ◌≡◌, ◌∙◌, ◌/◌, IfOk, sym, ap, subst}
-use Rattle.blocktree.specs.Trees.{IsSoundAt}
+use Rattle.std.proofs.Common.{rules, ◌≡◌, ◌≢◌, ◌∙◌, ◌/◌, IfOk, sym, ap, subst}
 use Rattle.dirs.specs.Directory.{AreDirectoryBlocks}
 use Rattle.inode.specs.Files.{file_block}
 use Rattle.inofile.specs.Objects.{IsObject}
 use Rattle.layout.specs.declared.kind.Kind.TheVariants as kinds
 use Rattle.model.specs.Volumes.{names_in}
-use Rattle.paths.proofs.Objects.{of_names, blocks_of}
+use Rattle.paths.proofs.Objects.{of_names, blocks_of, without_names}
+use Rattle.paths.proofs.Looks.{looks_reads}
 use Rattle.paths.proofs.lookup.number_at.Goals as goal
 
+pub returns-clause-looks : goal.returns-clause-looks
+returns-clause-looks g c = looks_reads c.in_ok-load.ensures.looks c.find.ensures.reads
+
 pub returns-in_err-load-clause-damaged : goal.returns-in_err-load-clause-damaged
-returns-in_err-load-clause-damaged g c = λ disk settled v shows vol is. c.in_err-load.ensures.damaged disk settled shows (search rules) vol.inodes
+returns-in_err-load-clause-damaged g c = λ disk settled v stands is. c.in_err-load.ensures.damaged disk settled v stands (search rules)
 
 pub returns-in_default-clause-number : goal.returns-in_default-clause-number
-returns-in_default-clause-number g c = λ disk settled v shows vol.
-    sym (ap (λ node. names_in node c.args.name.now) (c.in_default.ensures.stands_for_none _ disk settled v (c.load.ensures.volume disk settled v shows vol)))
+returns-in_default-clause-number g c = λ disk settled v stands.
+    sym (ap (λ node. names_in node c.args.name.now) (c.in_default.ensures.stands_for_none _ disk settled v (c.load.ensures.looks.kept disk settled v stands).volume))
 
 pub returns-clause-damaged : goal.returns-clause-damaged
-returns-clause-damaged g c = λ disk settled v shows vol is.
+returns-clause-damaged g c = λ disk settled v stands is.
     let o = c.in-Some.object.now in
-    let stands = c.load.ensures.volume disk settled v shows vol in
-    let is_object = c.in-Some.ensures.stands _ disk settled v stands in
-    let same : c.load.new.self.geometry.inodes ≡ c.inodes-count.result = sym (c.inodes-count.ensures.value ∙ ap (λ s. s.inodes) c.geometry.ensures) in
+    let now = c.load.ensures.looks.kept disk settled v stands in
+    let is_object = c.in-Some.ensures.stands _ disk settled v now.volume in
+    let same : c.load.new.inodes.geometry.inodes ≡ c.inodes-count.result = sym (c.inodes-count.ensures.value ∙ ap (λ s. s.inodes) c.geometry.ensures) in
     let kind : o.attributes.kind ≡ kinds.Directory = search rules in
-    let blocks = blocks_of disk c.load.new.self.geometry.inodes (settled c.args.directory) o (v c.args.directory) is_object kind in
-    c.find.ensures.damaged disk (c.load.ensures.reads.same disk shows) is
-    (λ i below. subst (λ n. IsSoundAt n disk o.file.tree i) (sym c.load.ensures.reads.count) (c.objects_stand_in_their_grammar.ensures _ disk settled c.load.new.self v c.args.directory i o (v c.args.directory) stands is_object))
+    let blocks = blocks_of disk c.load.new.inodes.geometry.inodes (settled c.args.directory) o (v c.args.directory) is_object kind in
+    c.find.ensures.damaged disk now.shows is
+    (λ i below. c.objects_stand_in_their_grammar.ensures _ disk settled c.load.new.inodes v c.args.directory i o (v c.args.directory) now.volume is_object)
     (subst (λ n. AreDirectoryBlocks n (o.file.size / 4096) (file_block disk o.file)) same blocks)
 
 pub returns-clause-number : goal.returns-clause-number
-returns-clause-number g c = λ disk settled v shows vol.
+returns-clause-number g c = λ disk settled v stands.
     let o = c.in-Some.object.now in
-    let stands = c.load.ensures.volume disk settled v shows vol in
-    let is_object = c.in-Some.ensures.stands _ disk settled v stands in
-    let same : c.load.new.self.geometry.inodes ≡ c.inodes-count.result = sym (c.inodes-count.ensures.value ∙ ap (λ s. s.inodes) c.geometry.ensures) in
+    let now = c.load.ensures.looks.kept disk settled v stands in
+    let is_object = c.in-Some.ensures.stands _ disk settled v now.volume in
+    let same : c.load.new.inodes.geometry.inodes ≡ c.inodes-count.result = sym (c.inodes-count.ensures.value ∙ ap (λ s. s.inodes) c.geometry.ensures) in
     let kind : o.attributes.kind ≡ kinds.Directory = search rules in
     let counted = subst (λ n. IsObject disk n (settled c.args.directory) o (v c.args.directory)) same is_object in
-    of_names disk c.inodes-count.result (settled c.args.directory) o (v c.args.directory) counted (λ names. IfOk c.find.result (λ n. n ≡ names c.args.name.now)) kind (λ names are. c.find.ensures.found disk names (c.load.ensures.reads.same disk shows) are)
+    of_names disk c.inodes-count.result (settled c.args.directory) o (v c.args.directory) counted (λ names. IfOk c.find.result (λ n. n ≡ names c.args.name.now)) kind (λ names are. c.find.ensures.found disk names now.shows are)
+
+pub returns-then-ne-clause-number : goal.returns-then-ne-clause-number
+returns-then-ne-clause-number g c = λ disk settled v stands.
+    let o = c.in-Some.object.now in
+    let now = c.load.ensures.looks.kept disk settled v stands in
+    let is_object = c.in-Some.ensures.stands _ disk settled v now.volume in
+    let other : o.attributes.kind ≢ kinds.Directory = search rules in
+    sym (without_names disk c.load.new.inodes.geometry.inodes (settled c.args.directory) o (v c.args.directory) is_object other c.args.name.now)

@@ -21,10 +21,10 @@ returns-in_err-log-clause-has g c disk nvram first last snapshots changes shows 
     let inodes = c.in_ok-map.field-0.inodes in
     let geometry = c.in_ok-map.ensures.geometry in
     let tested = c.in_ok-check_snapshots.ensures.reads in
-    let count = c.in_ok-map.ensures.count ∙ tested.count ∙ c.requires.size in
+    let count = c.in_ok-map.ensures.reads.count ∙ tested.count ∙ c.requires.size in
     let loaded = c.in_ok-map.ensures.loads disk (tested.same disk shows) (c.volumes_are_readable.ensures disk r first snapshots holds.holds) in
     read_refused _ c.from_residual-in_err-log.result c.in_err-log.field-0.0 c.from_residual-in_err-log.ensures.1
-    (c.in_err-log.ensures.replays disk (inodes_of (whole disk r).active) first last changes nvram (c.in_ok-map.ensures.shown disk (tested.same disk shows))
+    (c.in_err-log.ensures.replays disk (inodes_of (whole disk r).active) first last changes nvram (c.in_ok-map.ensures.reads.same disk (tested.same disk shows))
     (has_volume disk r nvram first last snapshots changes c.args.saved c.requires.half c.requires.generation holds inodes c.in_ok-map.field-0.map (g.B.Blocks.count c.load.new.blocks) geometry count loaded)
     tells (saves disk r nvram first last snapshots changes c.args.saved c.requires.half c.requires.generation holds inodes geometry))
 
@@ -34,9 +34,9 @@ returns-clause-has g c disk nvram first last snapshots changes shows tells holds
     let inodes = c.in_ok-map.field-0.inodes in
     let geometry = c.in_ok-map.ensures.geometry in
     let tested = c.in_ok-check_snapshots.ensures.reads in
-    let count = c.in_ok-map.ensures.count ∙ tested.count ∙ c.requires.size in
+    let count = c.in_ok-map.ensures.reads.count ∙ tested.count ∙ c.requires.size in
     let loaded = c.in_ok-map.ensures.loads disk (tested.same disk shows) (c.volumes_are_readable.ensures disk r first snapshots holds.holds) in
-    let did = c.in_ok-log.ensures.replays disk (inodes_of (whole disk r).active) first last changes nvram (c.in_ok-map.ensures.shown disk (tested.same disk shows))
+    let did = c.in_ok-log.ensures.replays disk (inodes_of (whole disk r).active) first last changes nvram (c.in_ok-map.ensures.reads.same disk (tested.same disk shows))
     (has_volume disk r nvram first last snapshots changes c.args.saved c.requires.half c.requires.generation holds inodes c.in_ok-map.field-0.map (g.B.Blocks.count c.load.new.blocks) geometry count loaded)
     tells (saves disk r nvram first last snapshots changes c.args.saved c.requires.half c.requires.generation holds inodes geometry) in
     has_image disk r nvram first last snapshots changes c.args.saved c.requires.half c.requires.generation holds inodes

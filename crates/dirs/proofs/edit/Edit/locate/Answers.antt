@@ -10,14 +10,14 @@ pub returns-in_err-look-clause-damaged : goal.returns-in_err-look-clause-damaged
 returns-in_err-look-clause-damaged g c = λ disk shows is reached sound.
     let i = c.loop-i.i in
     let so_far = c.loop-i.invariant in
-    let here = subst (λ n. IsSoundAt n disk c.args.file.now.tree i) (sym so_far.count) (reached i c.loop-i-test.true) in
+    let here = subst (λ n. IsSoundAt n disk c.args.file.now.tree i) (sym so_far.read.count) (reached i c.loop-i-test.true) in
     let held = sound i c.loop-i-test.true in
-    c.in_err-look.ensures.damaged disk (so_far.same disk shows) (search rules) here held.0 held.1
+    c.in_err-look.ensures.damaged disk (so_far.read.same disk shows) (search rules) here held.0 held.1
 
 pub returns-in-Some-clause-first : goal.returns-in-Some-clause-first
 returns-in-Some-clause-first g c = λ disk shows.
     let block = edited_block disk c.args.file.now c.args.self.now in
-    let told = number_told c.args.inodes (block c.loop-i.i) c.args.name.now c.in_ok-look.look (c.in_ok-look.ensures.tells disk (c.loop-i.invariant.same disk shows)) in
+    let told = number_told c.args.inodes (block c.loop-i.i) c.args.name.now c.in_ok-look.look (c.in_ok-look.ensures.tells disk (c.loop-i.invariant.read.same disk shows)) in
     (c.loop-i.i, c.loop-i-test.true, c.loop-i.invariant.first disk shows, subst (HasNumber c.args.inodes (block c.loop-i.i) c.args.name.now) c.in-Some.is told)
 
 pub loop-i-preserved : goal.loop-i-preserved
@@ -26,17 +26,14 @@ loop-i-preserved g c =
     let look = c.in_ok-look.ensures in
     let i = c.loop-i.i in
     record {
-      count = look.count ∙ so_far.count;
-      failed = look.counted ∙ so_far.failed;
-      reads = λ start so. look.reads start (so_far.reads start so);
-      same = λ disk shows. look.same disk (so_far.same disk shows);
+      read = search rules;
       passed = λ disk shows j below entries holds. elim (cases_eq j i) [
-        | inl same ↦ sym ((look.tells disk (so_far.same disk shows)).number entries (subst (λ k. HoldsEntries c.args.inodes (edited_block disk c.args.file.now c.args.self.now k) entries) same holds)) ∙ c.in_default.is
+        | inl same ↦ sym ((look.tells disk (so_far.read.same disk shows)).number entries (subst (λ k. HoldsEntries c.args.inodes (edited_block disk c.args.file.now c.args.self.now k) entries) same holds)) ∙ c.in_default.is
         | inr else ↦ so_far.passed disk shows j (omega (arith, below, else)) entries holds
       ];
       first = λ disk shows.
           let block = edited_block disk c.args.file.now c.args.self.now in
-          let told = number_told c.args.inodes (block i) c.args.name.now c.in_ok-look.look (look.tells disk (so_far.same disk shows)) in
+          let told = number_told c.args.inodes (block i) c.args.name.now c.in_ok-look.look (look.tells disk (so_far.read.same disk shows)) in
           none_more c.args.inodes block i c.args.name.now (so_far.first disk shows) (subst (HasNumber c.args.inodes (block i) c.args.name.now) c.in_default.is told);
     }
 

@@ -21,8 +21,8 @@ returns-in_err-add_to-in-Some-clause-damaged g c = λ disk shows is reached soun
     let i = c.in-Some.i in
     let survey = c.in_ok-survey.ensures in
     let below = subst (IsBounded c.args.self.now.count c.in_ok-survey.survey) c.in-Some.is survey.bounded in
-    let here = subst (λ n. IsSoundAt n disk c.args.file.now.tree i) (sym survey.count) (reached i below) in
-    c.in_err-add_to-in-Some.ensures.damaged disk (survey.same disk shows) (search (rules, damaged_below)) here
+    let here = subst (λ n. IsSoundAt n disk c.args.file.now.tree i) (sym survey.reads.count) (reached i below) in
+    c.in_err-add_to-in-Some.ensures.damaged disk (survey.reads.same disk shows) (search (rules, damaged_below)) here
 
 pub returns-then-is_full-clause-full : goal.returns-then-is_full-clause-full
 returns-then-is_full-clause-full g c = λ disk names shows has is.
@@ -48,7 +48,7 @@ returns-in_ok-add_to-in-Some-clause-added g c = λ disk names shows has free.
     subst (λ n. HoldNames c.args.inodes n new (with_name e.name (Some e.number) names)) (sym add.many)
     (hold_added c.args.inodes c.args.self.now.count old new names i c.args.self.now.count e has free (record {
       others = λ j below else. (below, add.others disk j else);
-      here = λ below. add.here disk (has.entries i) (c.in_ok-survey.ensures.same disk shows) (has.holds i room.0) within;
+      here = λ below. add.here disk (has.entries i) (c.in_ok-survey.ensures.reads.same disk shows) (has.holds i room.0) within;
       past = λ j beyond else. has.past j beyond;
       gone = λ beyond. absurd (omega (arith, beyond, room.0));
     }))
@@ -80,7 +80,7 @@ returns-in_ok-add_to-in-Some-clause-first g c = λ disk names shows has.
       at = i;
       full = λ j before. omega (arith, room.2 j before, c.encoded_len.ensures);
       room = within;
-      here = add.here disk (has.entries i) (c.in_ok-survey.ensures.same disk shows) (has.holds i room.0) within;
+      here = add.here disk (has.entries i) (c.in_ok-survey.ensures.reads.same disk shows) (has.holds i room.0) within;
       others = λ j else. add.others disk j else;
       many = omega (arith, add.many, room.0);
     }

@@ -16,11 +16,11 @@ returns-in_default-clause-removed g c = λ disk names shows has.
 
 pub returns-in_err-self-clause-damaged : goal.returns-in_err-self-clause-damaged
 returns-in_err-self-clause-damaged g c = λ disk shows is reached sound.
-    let same = c.in_ok-copy.ensures.count ∙ c.in_ok-place.ensures.count in
+    let same = c.in_ok-copy.ensures.reads.count ∙ c.in_ok-place.ensures.reads.count in
     let last : c.in-Some.place.block + 1 ≡ c.args.self.now.count = omega arith in
     let before : IsReached (g.B.Blocks.count c.copy.new.blocks) disk c.args.file.now c.in-Some.place.block =
     subst (λ n. IsReached n disk c.args.file.now c.in-Some.place.block) (sym same) (λ i below. reached i (omega (arith, below))) in
-    c.in_err-self.ensures.damaged disk (c.in_ok-copy.ensures.same disk (c.in_ok-place.ensures.same disk shows)) (search rules) before (λ i below. sound i (omega (arith, below)))
+    c.in_err-self.ensures.damaged disk (c.in_ok-copy.ensures.reads.same disk (c.in_ok-place.ensures.reads.same disk shows)) (search rules) before (λ i below. sound i (omega (arith, below)))
 
 pub returns-then-count-eq0-clause-removed : goal.returns-then-count-eq0-clause-removed
 returns-then-count-eq0-clause-removed g c = λ disk names shows has.
@@ -28,14 +28,14 @@ returns-then-count-eq0-clause-removed g c = λ disk names shows has.
     let i = c.in-Some.place.block in
     let last : i + 1 ≡ c.args.self.now.count = omega arith in
     let placed = subst (IsPlaced has.entries c.args.self.now.count c.args.name.now) c.in-Some.is (c.in_ok-place.ensures.placed disk has.entries shows has.holds) in
-    let located = c.in_ok-place.ensures.same disk shows in
+    let located = c.in_ok-place.ensures.reads.same disk shows in
     let copied = c.in_ok-copy.ensures.bytes disk located in
     let left = c.remove.ensures.holds (has.entries i) (subst (λ b. HoldsEntries c.args.inodes b (has.entries i)) (sym copied) (has.holds i placed.0)) in
     let none = c.count.ensures.count (without c.args.name.now (has.entries i)) left in
     let gone : without c.args.name.now (has.entries i) ≡ [] = nil_from_length (without c.args.name.now (has.entries i)) (omega (arith, none)) in
     let more = c.in_ok-self.field-0 in
     let most : more ≤ i = c.in_ok-self.ensures.within in
-    let empty = c.in_ok-self.ensures.empty disk has.entries (c.in_ok-copy.ensures.same disk located) (λ j below. has.holds j (omega (arith, below))) in
+    let empty = c.in_ok-self.ensures.empty disk has.entries (c.in_ok-copy.ensures.reads.same disk located) (λ j below. has.holds j (omega (arith, below))) in
     hold_removed c.args.inodes c.args.self.now.count old old names i more c.in-Some.place.number c.args.name.now has placed.1 (record {
       others = λ j below else. (omega (arith, below), refl);
       here = λ below. absurd (omega (arith, below, most));
@@ -52,7 +52,7 @@ returns-clause-removed g c = λ disk names shows has.
     let new = edited_block disk c.put.new.file c.put.new.self in
     let i = c.in-Some.place.block in
     let placed = subst (IsPlaced has.entries c.args.self.now.count c.args.name.now) c.in-Some.is (c.in_ok-place.ensures.placed disk has.entries shows has.holds) in
-    let copied = c.in_ok-copy.ensures.bytes disk (c.in_ok-place.ensures.same disk shows) in
+    let copied = c.in_ok-copy.ensures.bytes disk (c.in_ok-place.ensures.reads.same disk shows) in
     let left = c.remove.ensures.holds (has.entries i) (subst (λ b. HoldsEntries c.args.inodes b (has.entries i)) (sym copied) (has.holds i placed.0)) in
     subst (λ n. HoldNames c.args.inodes n new (with_name c.args.name.now None names)) (sym c.in_ok-put.ensures.count)
     (hold_removed c.args.inodes c.args.self.now.count old new names i c.args.self.now.count c.in-Some.place.number c.args.name.now has placed.1 (record {

@@ -9,9 +9,9 @@ returns-in_err-look-clause-damaged g c = λ disk shows is reached sound.
     let i = c.loop-i.i - 1 in
     let below : i < c.args.end = omega arith in
     let so_far = c.loop-i.invariant in
-    let here = subst (λ n. IsSoundAt n disk c.args.file.now.tree i) (sym so_far.count) (reached i below) in
+    let here = subst (λ n. IsSoundAt n disk c.args.file.now.tree i) (sym so_far.read.count) (reached i below) in
     let held = sound i below in
-    c.in_err-look.ensures.damaged disk (so_far.same disk shows) (search rules) here held.0 held.1
+    c.in_err-look.ensures.damaged disk (so_far.read.same disk shows) (search rules) here held.0 held.1
 
 pub returns-then-look-gt0-clause-empty : goal.returns-then-look-gt0-clause-empty
 returns-then-look-gt0-clause-empty g c = λ disk entries shows holds i from below.
@@ -22,15 +22,12 @@ loop-i-preserved g c =
     let so_far = c.loop-i.invariant in
     let look = c.in_ok-look.ensures in
     record {
-      count = look.count ∙ so_far.count;
-      failed = look.counted ∙ so_far.failed;
-      reads = λ start so. look.reads start (so_far.reads start so);
-      same = λ disk shows. look.same disk (so_far.same disk shows);
+      read = search rules;
       empty = λ disk entries shows holds j from below. elim (cases_lt j c.loop-i.i) [
         | inl here ↦
             let is : c.loop-i.i - 1 ≡ j = omega (arith, from, here) in
             let within : c.loop-i.i - 1 < c.args.end = omega (arith, is, below) in
-            let names = (look.tells disk (so_far.same disk shows)).names (entries (c.loop-i.i - 1)) (holds (c.loop-i.i - 1) within) in
+            let names = (look.tells disk (so_far.read.same disk shows)).names (entries (c.loop-i.i - 1)) (holds (c.loop-i.i - 1) within) in
             subst (λ (k : ℕ). entries k ≡ []) is (nil_from_length (entries (c.loop-i.i - 1)) (omega (arith, names)))
         | inr behind ↦ so_far.empty disk entries shows holds j behind below
       ];

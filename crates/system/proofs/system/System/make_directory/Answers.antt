@@ -2,6 +2,7 @@ use Rattle.std.proofs.Common.{ap, sym, refl}
 use Rattle.std.specs.Prelude.{Err}
 use Rattle.layout.specs.Places.{blocks_of}
 use Rattle.layout.specs.Record.{change_of}
+use Rattle.model.specs.Room.{adds_name}
 use Rattle.model.specs.States.{State}
 use Rattle.model.specs.declared.command.PathCall.TheVariants as path_calls
 use Rattle.buffers.specs.Disks.{ReadsOn}
@@ -66,7 +67,7 @@ returns-in-Ok g c =
     let its = its_volume {G = g.S.Station} fs s served in
     making_told {G = g.S.Station} fs s served c.args.path.now c.args.mode _ c.in-Ok-Ok.making change c.in-Ok-Ok.field-0-is c.record.ensures.says c.record.ensures.is c.record.ensures.served
     (told.answers d settled served.running s.tree.descriptors (record { shows = served.shows; volume = its.0 }) its.1 served.mounted) in
-    logged {G = g.S.Station} fs c.log.new.self mid (path_calls.Mkdir c.args.path.now c.args.mode) reads looks.reads.counted c.log.ensures.epoch
+    logged {G = g.S.Station} fs c.log.new.self mid (path_calls.Mkdir c.args.path.now c.args.mode) adds_name reads looks.reads.counted c.log.ensures.epoch
     (λ s served. c.served_states_open.ensures s.tree.descriptors s served)
     (λ s served. record {
       after = _;
@@ -101,7 +102,7 @@ returns-in-Ok-Ok g c =
     making_told {G = g.S.Station} fs s served c.args.path.now c.args.mode _ c.in-Ok-Ok.making change c.in-Ok-Ok.field-0-is c.record.ensures.says c.record.ensures.is c.record.ensures.served
     (told.answers d settled served.running s.tree.descriptors (record { shows = served.shows; volume = its.0 }) its.1 served.mounted) in
     let failed = c.in-Err-log.ensures in
-    not_logged {G = g.S.Station} fs c.log.new.self mid (path_calls.Mkdir c.args.path.now c.args.mode) reads looks.reads.counted c.log.ensures.epoch
+    not_logged {G = g.S.Station} fs c.log.new.self mid (path_calls.Mkdir c.args.path.now c.args.mode) adds_name reads looks.reads.counted c.log.ensures.epoch
     (λ s served. c.served_states_open.ensures s.tree.descriptors s served)
     (λ s served. record {
       after = _;

@@ -244,6 +244,13 @@ returns-in-Err-carry_out-clause-refused g c = λ table s serves refused.
     reads c.plan-map.ensures.reads.same
     (λ b. c.give_up.ensures.settled b ∙ c.plan-map.ensures.settled b ∙ ap (λ (x : BlockMap). settled_at x.parts.items b) c.replace-map.ensures.value))
 
+pub returns-in-Err-carry_out-clause-written : goal.returns-in-Err-carry_out-clause-written
+returns-in-Err-carry_out-clause-written g c = λ refused.
+    let f = c.args.self.now in
+    let m = g.S.Station.meaning f.blocks.station in
+    let reads = c.plan-map.ensures.reads.reads f.blocks (reads_none m) in
+    ap (λ (b : Buffers g.row.S.Denot). (g.S.Station.meaning b.station).failed_writes) (c.in-Err-carry_out.ensures.refused refused) ∙ reads.writes
+
 pub returns-in-Err-carry_out-clause-device : goal.returns-in-Err-carry_out-clause-device
 returns-in-Err-carry_out-clause-device g c = λ is.
     let f = c.args.self.now in

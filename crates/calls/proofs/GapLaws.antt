@@ -1,0 +1,88 @@
+-- A name that a path leads to, and that its directory doesn't have.
+use Rattle.std.proofs.Common.{◌≡◌, inl, inr, ℕ, ◌<◌, ◌≤◌, List, [], ◌∷◌, length, Bool, true, false, Option, Some, None, IsSome, refl, sym, ap, subst, ◌∙◌}
+use Rattle.std.specs.Prelude.{nat_le}
+use Rattle.std.proofs.lemmas.Bool.{cases_lt, lt-leb, le-leb}
+use Rattle.model.specs.Counting.{Counts}
+use Rattle.model.specs.Finding.{at_gap, here, IsPlaceOf}
+use Rattle.model.specs.Outcomes.{Outcome, tested, with_place}
+use Rattle.model.specs.Paths.{Name, Path, IsName}
+use Rattle.model.specs.Records.{TakesName}
+use Rattle.model.specs.Resolution.{Resolution, named, missing, refused}
+use Rattle.model.specs.Room.{Need, nothing}
+use Rattle.model.specs.Trees.{Tree, Object, Description, IsTree, is_directory}
+use Rattle.model.specs.Trees as trees
+use Rattle.model.specs.Volumes.{Node, directory_node, file_node, link_node, Volume, entries, number_at, object_at, object_of, is_directory_node, tree_of, IsMounted, IsVolume}
+use Rattle.model.specs.declared.errno.Errno.TheVariants.{DIRFULL}
+use Rattle.model.specs.declared.limits.TheConstants.{DIRECTORY_NAMES}
+use Rattle.model.specs.declared.reply.Reply.{Reply}
+use Rattle.model.specs.declared.reply.Reply.TheVariants.{Refused}
+use Rattle.model.proofs.LeadLemmas.{AnswersWell}
+use Rattle.model.proofs.MountedLemmas.{node_directory}
+use Rattle.calls.proofs.LeadLaws.{trail_end}
+use Rattle.calls.proofs.MakeLaws.{listing, tested_some, tested_none}
+
+directory_of : (n : ℕ) (o : Option Node) → is_directory (object_of n o) ≡ is_directory_node o
+directory_of n None = refl
+directory_of n (Some (directory_node mode names)) = refl
+directory_of n (Some (file_node mode links bytes)) = refl
+directory_of n (Some (link_node text)) = refl
+
+module _ (inodes : ℕ) (v : Volume) (table : ℕ → Option Description) (volume : IsVolume inodes v) (mounted : IsMounted v table) (tree : IsTree inodes (tree_of v table)) where
+  abbrev t : Tree
+  t = tree_of v table
+
+  pub record FindsGap (r : Resolution) (d : ℕ) (x : Name) : Type 0 where
+    pub path : Path
+    pub is : r ≡ missing path x
+    pub at : number_at (entries v) path ≡ Some d
+    pub free : entries v d x ≡ None
+    pub good : IsName x
+    pub parent : is_directory_node (v d) ≡ true
+
+  pub finds_gap : (trail : List ℕ) (x : Name) (r : Resolution) → AnswersWell t r → IsPlaceOf v (at_gap trail x) r → FindsGap r (here trail) x
+  finds_gap trail x (named p) well is = absurd is
+  finds_gap trail x (refused errno) well is = absurd is
+  finds_gap trail x (missing p y) well is =
+      let at = trail_end v p trail is.0 in
+      record {
+        path = p;
+        is = ap (missing p) is.1;
+        at = at;
+        free = is.2;
+        good = subst IsName is.1 well.good;
+        parent = sym (directory_of (here trail) (v (here trail))) ∙ ap (λ o. is_directory (object_at v o)) (sym at) ∙ well.directory;
+      }
+
+  module _ (d : ℕ) (x : Name) (r : Resolution) (gap : FindsGap r d x) where
+    pub gap_parent : t.objects gap.path ≡ Some (trees.directory d)
+    gap_parent = ap (object_at v) gap.at ∙ node_directory d (v d) gap.parent
+
+    gap_takes : (count : ℕ) → Counts (λ y. IsSome (entries v d y)) count → count < DIRECTORY_NAMES → TakesName v d x
+    gap_takes count counts room = record {
+      directory = gap.parent;
+      missing = gap.free;
+      name = gap.good;
+      count = count;
+      counts = counts;
+      room = room;
+    }
+
+    -- a directory that doesn't take the name is full
+    pub place_full : (rest : Outcome) → (TakesName v d x → ⊥) → with_place t gap.path rest (Refused DIRFULL) t nothing
+    place_full rest not =
+        let (count, counts, most) = volume.limits.children d in
+        let (names, are, many) = listing inodes v table volume mounted tree gap.path d gap.at count counts in
+        let full : nat_le DIRECTORY_NAMES (length names) ≡ true =
+        le-leb DIRECTORY_NAMES (length names) (elim (cases_lt count DIRECTORY_NAMES) [
+          | inl below ↦ absurd (not (gap_takes count counts below))
+          | inr beyond ↦ subst (λ (n : ℕ). DIRECTORY_NAMES ≤ n) (sym many) beyond
+        ]) in
+        (names, are, subst (λ (b : Bool). tested t ((b, DIRFULL) ∷ []) rest (Refused DIRFULL) t nothing) (sym full) (refl, refl, refl))
+
+    -- one that takes it has room
+    pub place_free : TakesName v d x → (rest : Outcome) (reply : Reply) (new : Tree) (need : Need) → rest reply new need → with_place t gap.path rest reply new need
+    place_free can rest reply new need done =
+        let (names, are, many) = listing inodes v table volume mounted tree gap.path d gap.at can.count can.counts in
+        let free : nat_le DIRECTORY_NAMES (length names) ≡ false =
+        lt-leb DIRECTORY_NAMES (length names) (subst (λ (n : ℕ). n < DIRECTORY_NAMES) (sym many) can.room) in
+        (names, are, subst (λ (b : Bool). tested t ((b, DIRFULL) ∷ []) rest reply new need) (sym free) done)

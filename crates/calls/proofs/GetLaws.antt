@@ -1,0 +1,122 @@
+-- What the definitions say of reading a file over a path, by what was found in a volume.
+use Rattle.std.proofs.Common.{◌≡◌, ◌≢◌, ℕ, ℤ, nat_abs, ◌||◌, List, [], ◌∷◌, ◌++◌, ◌+◌, ◌-◌, ◌<◌, length, take, drop, min, slice_index, true, false, Option, Some, None, Result, Ok, Err, unwrap_or, refl, sym, ap, subst, ◌∙◌, arith, inl, inr}
+use Rattle.std.proofs.lemmas.Bool.{cases_Bool, cond-true, cond-false, false≢true}
+use Rattle.std.proofs.lemmas.List.{length-drop, length-take}
+use Rattle.std.proofs.lemmas.List.FromFn.{get_or-map-range_with_len, length-map-range_with_len}
+use Rattle.layout.specs.FileBytes.{first_bytes}
+use Rattle.model.specs.Edits.{read_at}
+use Rattle.model.specs.Outcomes.{Outcome, answers, refuses}
+use Rattle.model.specs.Paths.{Path, Tests, first_refusal, text_tests, text_tests_then}
+use Rattle.model.specs.Reading.{gets, is_negative, is_too_many}
+use Rattle.model.specs.Resolution.{resolve}
+use Rattle.model.specs.Room.{nothing}
+use Rattle.model.specs.Trees.{Tree, Object, Description, IsTree}
+use Rattle.model.specs.Trees as trees
+use Rattle.model.specs.Volumes.{Node, directory_node, file_node, link_node, Volume, object_of, is_file_node, tree_of}
+use Rattle.model.specs.declared.errno.Errno.{Errno}
+use Rattle.model.specs.declared.errno.Errno.TheVariants.{EISDIR, EINVAL}
+use Rattle.model.specs.declared.reply.Reply.TheVariants.{Data, Refused}
+use Rattle.inode.proofs.BytePositions.{slice_index-between}
+use Rattle.inode.proofs.EdgeLaws.{same_bytes}
+use Rattle.calls.specs.Getting.{GetsNumber, data_reply, range_tests}
+use Rattle.model.proofs.LooseLemmas.{some_same}
+use Rattle.paths.specs.Steps.{found_in}
+use Rattle.paths.specs.declared.lookup.Found.TheVariants as found
+use Rattle.calls.specs.Leading.{IsLed}
+use Rattle.calls.proofs.LeadLaws.{led_refused, led_there}
+use Rattle.calls.proofs.MakeLaws.{tested_some}
+
+none_some : {X Y : Type 0} {x : X} → None ≡ Some x → Y
+none_some e = cc
+
+some_none : {X Y : Type 0} {x : X} → Some x ≡ None → Y
+some_none e = cc
+
+-- ---- tests before others
+
+first_of_both : (a b : Tests) (e : Errno) → first_refusal a ≡ Some e → first_refusal (a ++ b) ≡ Some e
+first_of_both [] b e is = none_some is
+first_of_both (test ∷ a) b e is =
+    elim (cases_Bool test.0) [
+      | inl t ↦ cond-true test.0 (Some test.1) (first_refusal (a ++ b)) t ∙ sym (cond-true test.0 (Some test.1) (first_refusal a) t) ∙ is
+      | inr f ↦ cond-false test.0 (Some test.1) (first_refusal (a ++ b)) f ∙ first_of_both a b e (sym (cond-false test.0 (Some test.1) (first_refusal a) f) ∙ is)
+    ]
+
+none_of_first : (a b : Tests) → first_refusal a ≡ None → first_refusal (a ++ b) ≡ first_refusal b
+none_of_first [] b is = refl
+none_of_first (test ∷ a) b is =
+    elim (cases_Bool test.0) [
+      | inl t ↦ some_none (sym (cond-true test.0 (Some test.1) (first_refusal a) t) ∙ is)
+      | inr f ↦ cond-false test.0 (Some test.1) (first_refusal (a ++ b)) f ∙ none_of_first a b (sym (cond-false test.0 (Some test.1) (first_refusal a) f) ∙ is)
+    ]
+
+-- ---- a refusal of what is asked
+
+pub text_first : (text : List ℕ) (more : Tests) (e : Errno) → first_refusal (text_tests text) ≡ Some e → first_refusal (text_tests_then more text) ≡ Some e
+text_first text more e is = first_of_both (text_tests text) more e is
+
+pub text_before : (text : List ℕ) (more : Tests) → first_refusal (text_tests text) ≡ None → first_refusal (text_tests_then more text) ≡ first_refusal more
+text_before text more is = none_of_first (text_tests text) more is
+
+pub range_refused : (offset : ℤ) (count : ℕ) → (is_negative offset || is_too_many count) ≡ true → first_refusal (range_tests offset count) ≡ Some EINVAL
+range_refused offset count is = cond-true (is_negative offset || is_too_many count) (Some EINVAL) None is
+
+pub range_passed : (offset : ℤ) (count : ℕ) → (is_negative offset || is_too_many count) ≡ false → first_refusal (range_tests offset count) ≡ None
+range_passed offset count is = cond-false (is_negative offset || is_too_many count) (Some EINVAL) None is
+
+pub get_passed : (text : List ℕ) (offset : ℤ) (count : ℕ) → first_refusal (text_tests text) ≡ None → (is_negative offset || is_too_many count) ≡ false
+    → first_refusal (text_tests_then (range_tests offset count) text) ≡ None
+get_passed text offset count none within = text_before text (range_tests offset count) none ∙ range_passed offset count within
+
+pub get_refused : (v : Volume) (table : ℕ → Option Description) (text : List ℕ) (offset : ℤ) (count : ℕ) (errno : Errno) → first_refusal (text_tests_then (range_tests offset count) text) ≡ Some errno
+    → gets (tree_of v table) text offset count (Refused errno) (tree_of v table) nothing
+get_refused v table text offset count errno is = tested_some (tree_of v table) (text_tests_then (range_tests offset count) text) _ errno is
+
+-- ---- where a path leads
+
+module _ (v : Volume) (table : ℕ → Option Description) (text : List ℕ) (offset : ℤ) (count : ℕ) where
+  abbrev t : Tree
+  t = tree_of v table
+
+  abbrev tests : Tests
+  tests = text_tests_then (range_tests offset count) text
+
+  abbrev there : Path → Object → Outcome
+  there p o = elim o as (λ _. Outcome) [
+    | trees.file n ↦ answers t (Data (read_at (nat_abs offset) count (unwrap_or (t.bytes n) [])))
+    | trees.directory n ↦ refuses t EISDIR
+    | trees.symlink n link ↦ λ _ _ _. ⊥
+  ]
+
+  at_object : (n : ℕ) (o : Option Node) → v n ≡ o → found_in o ≢ found.Link → (p : Path) (x : Object) → object_of n o ≡ Some x → (r : Result (List ℕ) Errno) → GetsNumber v n (nat_abs offset) count r
+      → there p x (data_reply r) t nothing
+  at_object n None is plain p x object r got = none_some object
+  at_object n (Some (directory_node mode names)) is plain p x object (Ok bytes) got = absurd (false≢true (sym (ap is_file_node is) ∙ got.0))
+  at_object n (Some (directory_node mode names)) is plain p x object (Err errno) got =
+      subst (λ (y : Object). there p y (Refused errno) t nothing) (some_same object) (ap Refused got.1, refl, refl)
+  at_object n (Some (file_node mode links bytes)) is plain p x object (Ok list) got =
+      subst (λ (y : Object). there p y (Data list) t nothing) (some_same object) (ap Data got.1, refl, refl)
+  at_object n (Some (file_node mode links bytes)) is plain p x object (Err errno) got = absurd (false≢true (sym got.0 ∙ ap is_file_node is))
+  at_object n (Some (link_node link)) is plain p x object r got = absurd (plain refl)
+
+  pub get_led : (n : ℕ) (r : Result (List ℕ) Errno) → IsLed tests v (resolve t true text) (Ok n) → found_in (v n) ≢ found.Link → GetsNumber v n (nat_abs offset) count r
+      → gets t text offset count (data_reply r) t nothing
+  get_led n r led plain got =
+      led_there v table there n (data_reply r) t nothing (λ p x at object. at_object n (v n) refl plain p x object r got) tests (resolve t true text) led
+
+  pub get_led_nowhere : (errno : Errno) → IsLed tests v (resolve t true text) (Err errno) → gets t text offset count (Refused errno) t nothing
+  get_led_nowhere errno led = led_refused v table there tests (resolve t true text) errno led
+
+-- ---- the bytes of a file
+
+-- what is read from an offset on, as far as there is anything
+pub part_read : (f : ℕ → ℕ) (size offset count start : ℕ) (bytes : List ℕ) → start ≡ min offset size → length bytes ≡ min (size - start) count
+    → ((k : ℕ) → k < length bytes → slice_index bytes k ≡ f (start + k)) → bytes ≡ read_at offset count (first_bytes f size)
+part_read f size offset count start bytes starts long is =
+    same_bytes bytes (take count (drop offset (first_bytes f size))) (length bytes) refl
+    (omega (arith, length-take count (drop offset (first_bytes f size)), length-drop offset (first_bytes f size), length-map-range_with_len f 0 size))
+    (λ k lt.
+    let same : start ≡ offset = omega (arith, lt) in
+    let within : offset + k < size = omega (arith, lt) in
+    is k lt ∙ ap (λ (n : ℕ). f (n + k)) same
+    ∙ sym (slice_index-between (first_bytes f size) offset count k (omega (arith, lt)) ∙ get_or-map-range_with_len f 0 size (offset + k) (offset + k) 0 within (omega arith)))

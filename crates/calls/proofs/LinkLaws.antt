@@ -1,0 +1,242 @@
+-- What the definitions say of giving a file one more name over paths, by what was found in a volume.
+use Rattle.std.proofs.Common.{◌≡◌, ◌≢◌, inl, inr, ℕ, zero, suc, ◌+◌, ◌<◌, ◌≤◌, List, [], ◌∷◌, ◌++◌, Bool, true, false, Option, Some, None, IsSome, Result, Ok, Err, add-one, refl, sym, ap, subst, ◌∙◌}
+use Rattle.std.specs.Prelude.{nat_le, ◌||◌}
+use Rattle.std.proofs.Math.Path.{fun_ext}
+use Rattle.std.proofs.lemmas.Bool.{cases_Bool, cases_eq, cond-true, cond-false, false≢true, lt-leb, le-leb}
+use Rattle.model.specs.Changes.{ChangesTree}
+use Rattle.model.specs.Changing.{links}
+use Rattle.model.specs.Edits.{with_object}
+use Rattle.model.specs.Finding.{at_refusal, IsPlaceOf}
+use Rattle.model.specs.Laws.{RecordsChangeTrees, VolumesTellLinks}
+use Rattle.model.specs.Outcomes.{Outcome, changes, leads, leads_to, refuses, tested, with_links, with_place}
+use Rattle.model.specs.Paths.{Name, Path, Tests, first_refusal, new_text_tests, text_tests, is_dot, is_dot_dot, last_part}
+use Rattle.model.specs.Records.{Change, Applies, TakesName, applied, link}
+use Rattle.model.specs.Resolution.{Resolution, named, missing, refused, resolve}
+use Rattle.model.specs.Room.{Need, adds_name, logs, nothing}
+use Rattle.model.specs.Trees.{Tree, Object, Description, IsTree}
+use Rattle.model.specs.Trees as trees
+use Rattle.model.specs.Volumes.{Node, directory_node, file_node, link_node, Volume, entries, number_at, object_at, object_of, is_directory_node, is_file_node, is_open, set_name, swept, swept_node, tree_of, with_name_more, with_node, IsMounted, IsVolume}
+use Rattle.model.specs.declared.errno.Errno.{Errno}
+use Rattle.model.specs.declared.errno.Errno.TheVariants.{DIRFULL, EEXIST, EINVAL, EMLINK, EPERM}
+use Rattle.model.specs.declared.limits.TheConstants.{FILE_NAMES}
+use Rattle.model.specs.declared.reply.Reply.{Reply}
+use Rattle.model.specs.declared.reply.Reply.TheVariants.{Done, Refused}
+use Rattle.model.proofs.LeadLemmas.{AnswersWell, resolves_well}
+use Rattle.model.proofs.LooseLemmas.{some_same}
+use Rattle.calls.specs.Changing.{Comes, said_by}
+use Rattle.calls.specs.Leading.{LeadsTo}
+use Rattle.calls.specs.Linking.{LinksFile}
+use Rattle.calls.specs.Steps.{IsFileOf}
+use Rattle.calls.specs.Served.{IsServed}
+use Rattle.calls.specs.declared.changed.Changing.{Changing}
+use Rattle.calls.proofs.EnterLaws.{node_here, node_other}
+use Rattle.calls.proofs.GapLaws.{FindsGap, gap_parent, place_free, place_full}
+use Rattle.calls.proofs.LeadLaws.{first_append, leads_refused, leads_there, node_object}
+use Rattle.calls.proofs.MakeLaws.{tested_none, tested_some}
+
+-- texts that don't pass their tests
+pub link_tests_refused : (v : Volume) (table : ℕ → Option Description) (old path : List ℕ) (errno : Errno) → first_refusal (text_tests old ++ new_text_tests path) ≡ Some errno
+    → links (tree_of v table) old path (Refused errno) (tree_of v table) nothing
+link_tests_refused v table old path errno is = tested_some (tree_of v table) (text_tests old ++ new_text_tests path) _ errno is
+
+-- tests that pass with more behind them pass
+some_none : {X : Type 0} {e : Errno} → Some e ≡ None → X
+some_none e = cc
+
+first_front : (tests more : Tests) → first_refusal (tests ++ more) ≡ None → first_refusal tests ≡ None
+first_front [] more passed = refl
+first_front (test ∷ tests) more passed =
+    elim (cases_Bool test.0) [
+      | inl t ↦ some_none (sym (cond-true test.0 (Some test.1) (first_refusal (tests ++ more)) t) ∙ passed)
+      | inr f ↦ cond-false test.0 (Some test.1) (first_refusal tests) f ∙ first_front tests more (sym (cond-false test.0 (Some test.1) (first_refusal (tests ++ more)) f) ∙ passed)
+    ]
+
+-- a file that has names isn't swept
+file_stays : (open_now : Bool) (mode links : ℕ) (bytes : List ℕ) → swept_node open_now (Some (file_node mode (links + 1) bytes)) ≡ Some (file_node mode (links + 1) bytes)
+file_stays open_now mode links bytes =
+    subst (λ (n : ℕ). swept_node open_now (Some (file_node mode n bytes)) ≡ Some (file_node mode n bytes)) (sym (add-one links)) refl
+
+directory_stays : (open_now : Bool) (x : Name) (to : Option ℕ) (o : Option Node) → is_directory_node o ≡ true → swept_node open_now (set_name x to o) ≡ set_name x to o
+directory_stays open_now x to None is = absurd (false≢true is)
+directory_stays open_now x to (Some (directory_node mode names)) is = refl
+directory_stays open_now x to (Some (file_node mode links bytes)) is = absurd (false≢true is)
+directory_stays open_now x to (Some (link_node text)) is = absurd (false≢true is)
+
+object_file : (n : ℕ) (o : Option Node) (y : Object) (mode count : ℕ) (bytes : List ℕ) → o ≡ Some (file_node mode count bytes) → object_of n o ≡ Some y → trees.file n ≡ y
+object_file n o y mode count bytes is object = some_same (sym (ap (object_of n) is) ∙ object)
+
+module _ (inodes : ℕ) (v : Volume) (table : ℕ → Option Description) (volume : IsVolume inodes v) (mounted : IsMounted v table) (tree : IsTree inodes (tree_of v table)) where
+  abbrev t : Tree
+  t = tree_of v table
+
+  pub target_well : (old path : List ℕ) → first_refusal (text_tests old ++ new_text_tests path) ≡ None → AnswersWell t (resolve t false path)
+  target_well old path passed =
+      resolves_well inodes t tree ((is_dot (last_part path) || is_dot_dot (last_part path), EINVAL) ∷ []) false path
+      (sym (first_append (text_tests old) (new_text_tests path) (first_front (text_tests old) (new_text_tests path) passed)) ∙ passed)
+
+  module _ (old path : List ℕ) (passed : first_refusal (text_tests old ++ new_text_tests path) ≡ None) where
+    abbrev from : Resolution
+    from = resolve t false old
+
+    abbrev target : Resolution
+    target = resolve t false path
+
+    abbrev gone : ℕ → Path → Name → Outcome
+    gone n q x =
+        with_links t (trees.file n)
+        (λ count. tested t ((nat_le FILE_NAMES count, EMLINK) ∷ []) (with_place t q (changes Done (with_object (q ++ x ∷ []) (trees.file n) t) (logs adds_name))))
+
+    abbrev there : Path → Object → Outcome
+    there p o = elim o as (λ _. Outcome) [
+      | trees.file n ↦ leads t target (λ q r. refuses t EEXIST) (λ q x. gone n q x)
+      | trees.directory n ↦ refuses t EPERM
+      | trees.symlink n text ↦ refuses t EPERM
+    ]
+
+    led : (reply : Reply) (new : Tree) (need : Need) → leads_to t from there reply new need → links t old path reply new need
+    led reply new need done = tested_none t (text_tests old ++ new_text_tests path) (leads_to t from there) reply new need passed done
+
+    pub link_nowhere : (errno : Errno) → LeadsTo v from (Err errno) → links t old path (Refused errno) t nothing
+    link_nowhere errno is = led (Refused errno) t nothing (leads_refused v table there from errno is)
+
+    no_file : (n : ℕ) (o : Option Node) (p : Path) (y : Object) → is_file_node o ≡ false → object_of n o ≡ Some y → there p y (Refused EPERM) t nothing
+    no_file n None p y other object = none_some object
+      where
+        none_some : {X : Type 0} → None ≡ Some y → X
+        none_some e = cc
+    no_file n (Some (directory_node mode names)) p y other object = subst (λ (z : Object). there p z (Refused EPERM) t nothing) (some_same object) (refl, refl, refl)
+    no_file n (Some (file_node mode count bytes)) p y other object = absurd (false≢true (sym other))
+    no_file n (Some (link_node text)) p y other object = subst (λ (z : Object). there p z (Refused EPERM) t nothing) (some_same object) (refl, refl, refl)
+
+    pub link_no_file : (n : ℕ) → LeadsTo v from (Ok n) → is_file_node (v n) ≡ false → links t old path (Refused EPERM) t nothing
+    link_no_file n leads other =
+        led (Refused EPERM) t nothing (leads_there v table there n (Refused EPERM) t nothing (λ p y at object. no_file n (v n) p y other object) from leads)
+
+    module _ (n mode count : ℕ) (bytes : List ℕ) (is : v n ≡ Some (file_node mode count bytes)) (leads_from : LeadsTo v from (Ok n)) where
+      at_target : (reply : Reply) (new : Tree) (need : Need) → leads t target (λ q r. refuses t EEXIST) (λ q x. gone n q x) reply new need → links t old path reply new need
+      at_target reply new need done =
+          led reply new need
+          (leads_there v table there n reply new need (λ p y at object.
+          subst (λ (z : Object). there p z reply new need) (object_file n (v n) y mode count bytes is object) done) from leads_from)
+
+      pub link_target_refused : (errno : Errno) → IsPlaceOf v (at_refusal errno) target → links t old path (Refused errno) t nothing
+      link_target_refused errno place = at_target (Refused errno) t nothing (by target place)
+        where
+          by : (r : Resolution) → IsPlaceOf v (at_refusal errno) r → leads t r (λ q r. refuses t EEXIST) (λ q x. gone n q x) (Refused errno) t nothing
+          by (named p) place = absurd place
+          by (missing p x) place = absurd place
+          by (refused other) place = (ap Refused (sym place), refl, refl)
+
+      pub link_exists : (m : ℕ) → LeadsTo v target (Ok m) → links t old path (Refused EEXIST) t nothing
+      link_exists m leads_target = at_target (Refused EEXIST) t nothing (by target leads_target)
+        where
+          some : (o : Option Object) → IsSome o → (elim o as (λ _. Outcome) [ Some y ↦ refuses t EEXIST | None ↦ λ _ _ _. ⊥ ]) (Refused EEXIST) t nothing
+          some None e = absurd (false≢true e)
+          some (Some y) e = (refl, refl, refl)
+
+          by : (r : Resolution) → LeadsTo v r (Ok m) → leads t r (λ q r. refuses t EEXIST) (λ q x. gone n q x) (Refused EEXIST) t nothing
+          by (named p) (at, stands) = some (t.objects p) (subst (λ (o : Option Object). IsSome o) (sym (ap (object_at v) at)) (node_object m (v m) stands))
+          by (missing p x) place = absurd place
+          by (refused other) place = absurd place
+
+      module _ (law : RecordsChangeTrees) (tell : VolumesTellLinks) (d : ℕ) (x : Name) (gap : FindsGap inodes v table volume mounted tree target d x) (served : IsServed (link n d x)) where
+        in_gap : (reply : Reply) (new : Tree) (need : Need) → gone n gap.path x reply new need → links t old path reply new need
+        in_gap reply new need done =
+            at_target reply new need (subst (λ (r : Resolution). leads t r (λ q r. refuses t EEXIST) (λ q y. gone n q y) reply new need) (sym gap.is) done)
+
+        abbrev change : Change
+        change = link n d x
+
+        abbrev new : Volume
+        new = applied change v
+
+        abbrev between : Volume
+        between = with_node n (with_name_more (v n)) v
+
+        apart : d ≡ n → ⊥
+        apart same =
+            let directory = subst (λ (k : ℕ). is_directory_node (v k) ≡ true) same gap.parent in
+            false≢true (sym (ap is_directory_node is) ∙ directory)
+
+        each : (k : ℕ) → swept table new k ≡ new k
+        each k =
+            let open_now = is_open table 32 k in
+            elim (cases_eq k d) [
+              | inl is_d ↦
+                  let e = node_here d k (set_name x (Some n) (between d)) between is_d in
+                  let directory = ap is_directory_node (node_other n d (with_name_more (v n)) v apart) ∙ gap.parent in
+                  ap (swept_node open_now) e ∙ directory_stays open_now x (Some n) (between d) directory ∙ sym e
+              | inr not_d ↦
+                  let e = node_other d k (set_name x (Some n) (between d)) between not_d in
+                  elim (cases_eq k n) [
+                    | inl is_n ↦
+                        let f = e ∙ node_here n k (with_name_more (v n)) v is_n ∙ ap with_name_more is in
+                        ap (swept_node open_now) f ∙ file_stays open_now mode count bytes ∙ sym f
+                    | inr not_n ↦
+                        let f = e ∙ node_other n k (with_name_more (v n)) v not_n in
+                        ap (swept_node open_now) f ∙ mounted.is_swept k ∙ sym f
+                  ]
+            ]
+
+        unswept : swept table new ≡ new
+        unswept = fun_ext {f = swept table new} {g = new} each
+
+        abbrev made : Tree
+        made = with_object (gap.path ++ x ∷ []) (trees.file n) t
+
+        record Gives : Type 0 where
+          still_mounted : IsMounted new table
+          gives : tree_of new table ≡ made
+
+        gives : Applies inodes v change → Gives
+        gives applies =
+            let told = subst (λ (w : Volume). IsMounted w table × ChangesTree change t (tree_of w table)) unswept (law inodes v table change volume mounted applies tt) in
+            let same : told.1.0 ≡ gap.path =
+            elim (tree.single told.1.0 gap.path (trees.directory d) (trees.directory d) told.1.1 (gap_parent inodes v table volume mounted tree d x target gap) refl)
+            [ inl e ↦ e | inr other ↦ is_no_file other.0 ] in
+            record {
+              still_mounted = told.0;
+              gives = told.1.2 ∙ ap (λ (p : Path). with_object (p ++ x ∷ []) (trees.file n) t) same;
+            }
+          where
+            is_no_file : {X : Type 0} → trees.directory d ≡ trees.file d → X
+            is_no_file e = cc
+
+        -- a file with room for a name more
+        few_names : (k : ℕ) → k < FILE_NAMES → (rest : Outcome) (reply : Reply) (after : Tree) (need : Need) → rest reply after need
+            → tested t ((nat_le FILE_NAMES k, EMLINK) ∷ []) rest reply after need
+        few_names k few rest reply after need done =
+            subst (λ (b : Bool). tested t ((b, EMLINK) ∷ []) rest reply after need) (sym (lt-leb FILE_NAMES k few)) done
+
+        pub link_comes : (c : Result Changing Errno) → LinksFile inodes v n d x c → Comes (links t old path) adds_name inodes v table c
+        link_comes (Ok c) (says, applies) =
+            let after = tree_of new table in
+            let here = gives applies in
+            subst (λ (y : Change). IsServed y × Applies inodes v y × IsMounted (applied y v) table × links t old path Done (tree_of (applied y v) table) (logs adds_name)) (sym says) (
+              served,
+              applies,
+              here.still_mounted,
+              in_gap Done after (logs adds_name) (
+                applies.links,
+                tell inodes v table n applies.mode applies.links applies.bytes volume applies.file,
+                few_names applies.links applies.few _ Done after (logs adds_name)
+                    (place_free inodes v table volume mounted tree d x target gap applies.takes (changes Done made (logs adds_name)) Done after (logs adds_name) (refl, here.gives, refl)),
+              ),
+            )
+        link_comes (Err errno) (k, file, inl (which, many)) =
+            subst (λ (e : Errno). links t old path (Refused e) t nothing) (sym which)
+            (in_gap (Refused EMLINK) t nothing (
+              k,
+              tell inodes v table n file.0 k file.1 volume file.2,
+              subst (λ (b : Bool). tested t ((b, EMLINK) ∷ []) (with_place t gap.path (changes Done made (logs adds_name))) (Refused EMLINK) t nothing)
+                  (sym (le-leb FILE_NAMES k many)) (refl, refl, refl),
+            ))
+        link_comes (Err errno) (k, file, inr (which, few, not)) =
+            subst (λ (e : Errno). links t old path (Refused e) t nothing) (sym which)
+            (in_gap (Refused DIRFULL) t nothing (
+              k,
+              tell inodes v table n file.0 k file.1 volume file.2,
+              few_names k few _ (Refused DIRFULL) t nothing
+                  (place_full inodes v table volume mounted tree d x target gap (changes Done made (logs adds_name))
+                  (λ takes. not (record { mode = file.0; links = k; bytes = file.1; file = file.2; few = few; takes = takes }))),
+            ))

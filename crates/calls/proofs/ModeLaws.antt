@@ -1,0 +1,107 @@
+-- What the definitions say of changing a mode over a path, by what was found in a volume.
+use Rattle.std.proofs.Common.{◌≡◌, ◌≢◌, inl, inr, ℕ, zero, suc, ◌≤◌, List, Bool, true, false, ◌||◌, Option, Some, None, IsSome, Result, Ok, Err, refl, sym, ap, subst, ◌∙◌}
+use Rattle.std.proofs.Math.Path.{fun_ext}
+use Rattle.std.proofs.lemmas.Bool.{cases_eq, false≢true}
+use Rattle.model.specs.Changes.{ChangesTree}
+use Rattle.model.specs.Changing.{changes_mode}
+use Rattle.model.specs.Edits.{with_mode}
+use Rattle.model.specs.Laws.{RecordsChangeTrees}
+use Rattle.model.specs.Outcomes.{Outcome, changes}
+use Rattle.model.specs.Paths.{Path, text_tests}
+use Rattle.model.specs.Records.{Change, Applies, applied, change_mode, with_node_mode}
+use Rattle.model.specs.Resolution.{resolve}
+use Rattle.model.specs.Room.{logs, changes_bits, nothing}
+use Rattle.model.specs.Trees.{Tree, Object, Description}
+use Rattle.model.specs.Trees as trees
+use Rattle.model.specs.Volumes.{Node, directory_node, file_node, link_node, Volume, is_directory_node, is_file_node, is_open, object_of, swept_node, tree_of, swept, IsVolume, IsMounted}
+use Rattle.model.specs.declared.errno.Errno.{Errno}
+use Rattle.model.specs.declared.limits.TheConstants.{MODE_BITS}
+use Rattle.model.specs.declared.reply.Reply.TheVariants.{Done, Refused}
+use Rattle.model.proofs.LooseLemmas.{some_same}
+use Rattle.paths.specs.Steps.{found_in}
+use Rattle.paths.specs.declared.lookup.Found.TheVariants as found
+use Rattle.calls.specs.Changing.{Comes}
+use Rattle.calls.specs.ChangingMode.{ModesNumber}
+use Rattle.calls.specs.Leading.{IsLed}
+use Rattle.calls.specs.Served.{IsServed}
+use Rattle.calls.specs.declared.changed.Changing.{Changing}
+use Rattle.calls.proofs.EnterLaws.{node_here, node_other}
+use Rattle.calls.proofs.LeadLaws.{led_some, led_there, led_refused}
+
+-- a mode is not what makes an object stay or go
+mode_swept : (open_now : Bool) (mode : ℕ) (o : Option Node) → swept_node open_now o ≡ o → swept_node open_now (with_node_mode mode o) ≡ with_node_mode mode o
+mode_swept open_now mode None stays = refl
+mode_swept open_now mode (Some (directory_node old names)) stays = refl
+mode_swept true mode (Some (file_node old zero bytes)) stays = refl
+mode_swept false mode (Some (file_node old zero bytes)) stays = gone stays
+  where
+    gone : {X : Type 0} → None ≡ Some (file_node old zero bytes) → X
+    gone e = cc
+mode_swept open_now mode (Some (file_node old (suc links) bytes)) stays = refl
+mode_swept open_now mode (Some (link_node text)) stays = refl
+
+-- what isn't a link has a mode
+has_mode : (o : Option Node) → IsSome o → found_in o ≢ found.Link → (is_file_node o || is_directory_node o) ≡ true
+has_mode None some other = absurd (false≢true some)
+has_mode (Some (directory_node mode names)) some other = refl
+has_mode (Some (file_node mode links bytes)) some other = refl
+has_mode (Some (link_node text)) some other = absurd (other refl)
+
+module _ (inodes : ℕ) (v : Volume) (table : ℕ → Option Description) (text : List ℕ) (mode : ℕ) where
+  abbrev t : Tree
+  t = tree_of v table
+
+  abbrev there : Path → Object → Outcome
+  there p o = elim o as (λ _. Outcome) [
+    | trees.directory n ↦ changes Done (with_mode n mode t) (logs changes_bits)
+    | trees.file n ↦ changes Done (with_mode n mode t) (logs changes_bits)
+    | trees.symlink n text ↦ λ _ _ _. ⊥
+  ]
+
+  pub mode_refused : (errno : Errno) → IsLed (text_tests text) v (resolve t true text) (Err errno) → changes_mode t text mode (Refused errno) t nothing
+  mode_refused errno led = led_refused v table there (text_tests text) (resolve t true text) errno led
+
+  module _ (volume : IsVolume inodes v) (mounted : IsMounted v table) (good : mode ≤ MODE_BITS) (law : RecordsChangeTrees) (n : ℕ) where
+    abbrev change : Change
+    change = change_mode n mode
+
+    abbrev new : Volume
+    new = applied change v
+
+    each : (k : ℕ) → swept table new k ≡ new k
+    each k =
+        elim (cases_eq k n) [
+          | inl same ↦
+              let e = node_here n k (with_node_mode mode (v n)) v same in
+              let kept = subst (λ (i : ℕ). swept_node (is_open table 32 k) (v i) ≡ v i) same (mounted.is_swept k) in
+              ap (swept_node (is_open table 32 k)) e ∙ mode_swept (is_open table 32 k) mode (v n) kept ∙ sym e
+          | inr other ↦
+              let e = node_other n k (with_node_mode mode (v n)) v other in
+              ap (swept_node (is_open table 32 k)) e ∙ mounted.is_swept k ∙ sym e
+        ]
+
+    unswept : swept table new ≡ new
+    unswept = fun_ext {f = swept table new} {g = new} each
+
+    changed : Applies inodes v change → IsMounted new table × ChangesTree change t (tree_of new table)
+    changed applies = subst (λ (w : Volume). IsMounted w table × ChangesTree change t (tree_of w table)) unswept (law inodes v table change volume mounted applies tt)
+
+    done : (o : Option Node) (p : Path) (x : Object) → (is_file_node o || is_directory_node o) ≡ true → object_of n o ≡ Some x → tree_of new table ≡ with_mode n mode t
+        → there p x Done (tree_of new table) (logs changes_bits)
+    done None p x is object same = absurd (false≢true is)
+    done (Some (directory_node old names)) p x is object same =
+        subst (λ (y : Object). there p y Done (tree_of new table) (logs changes_bits)) (some_same object) (refl, same, refl)
+    done (Some (file_node old links bytes)) p x is object same =
+        subst (λ (y : Object). there p y Done (tree_of new table) (logs changes_bits)) (some_same object) (refl, same, refl)
+    done (Some (link_node text)) p x is object same = absurd (false≢true is)
+
+    pub mode_comes : (r : Result Changing Errno) → IsLed (text_tests text) v (resolve t true text) (Ok n) → found_in (v n) ≢ found.Link → ModesNumber inodes v n mode r
+        → Comes (changes_mode t text mode) changes_bits inodes v table r
+    mode_comes (Ok c) led other (says, applies) =
+        subst (λ (x : Change). IsServed x × Applies inodes v x × IsMounted (applied x v) table × changes_mode t text mode Done (tree_of (applied x v) table) (logs changes_bits)) (sym says) (
+          tt,
+          applies,
+          (changed applies).0,
+          led_there v table there n Done (tree_of new table) (logs changes_bits) (λ p x at object. done (v n) p x applies.0 object (changed applies).1) (text_tests text) (resolve t true text) led,
+        )
+    mode_comes (Err errno) led other not = absurd (not (has_mode (v n) (led_some v (resolve t true text) n led.1) other, good))

@@ -1,0 +1,178 @@
+-- What the definitions say of telling of an object, and of reading a link, by what was found in a volume.
+use Rattle.std.proofs.Common.{◌≡◌, ◌≢◌, ℕ, List, [], length, Bool, false, Option, Some, None, IsSome, Result, Ok, Err, refl, sym, ap, subst, ◌∙◌}
+use Rattle.std.specs.Prelude.{unwrap_or}
+use Rattle.std.proofs.lemmas.Bool.{false≢true}
+use Rattle.std.proofs.lemmas.List.FromFn.{length-map-range_with_len}
+use Rattle.layout.specs.FileBytes.{byte_in}
+use Rattle.layout.specs.Inode.{FitsKind}
+use Rattle.layout.specs.Limits.{Sizes}
+use Rattle.layout.specs.declared.inode.Inode.{Inode}
+use Rattle.layout.specs.declared.kind.Kind.{Kind as LayoutKind}
+use Rattle.layout.specs.declared.kind.Kind.TheVariants as kinds
+use Rattle.images.specs.Contents.{StandsAs, bytes_of as file_bytes}
+use Rattle.inode.specs.declared.object.Object.{Object as MemoryObject}
+use Rattle.inofile.specs.Objects.{IsObject, IsObjectKind}
+use Rattle.inofile.specs.Settled.{content_of}
+use Rattle.model.specs.Laws.{VolumesTellLinks}
+use Rattle.model.specs.Outcomes.{Outcome, answers, refuses}
+use Rattle.model.specs.Paths.{Path, text_tests}
+use Rattle.model.specs.Reading.{stats, reads_link, tells_stat}
+use Rattle.model.specs.Resolution.{resolve}
+use Rattle.model.specs.Room.{nothing}
+use Rattle.model.specs.Trees.{Tree, Object, Description}
+use Rattle.model.specs.Trees as trees
+use Rattle.model.specs.Volumes.{Node, directory_node, file_node, link_node, Volume, mode_of, bytes_of, object_of, tree_of, IsVolume}
+use Rattle.model.specs.declared.errno.Errno.{Errno}
+use Rattle.model.specs.declared.errno.Errno.TheVariants.{EINVAL}
+use Rattle.model.specs.declared.reply.Kind.TheVariants.{File, Dir, Link}
+use Rattle.model.specs.declared.reply.Reply.TheVariants as replies
+use Rattle.model.specs.declared.reply.Stat.{Stat}
+use Rattle.model.proofs.LooseLemmas.{some_same}
+use Rattle.paths.specs.Steps.{found_in, text_in}
+use Rattle.paths.specs.declared.lookup.Found.{Found}
+use Rattle.paths.specs.declared.lookup.Found.TheVariants as found
+use Rattle.calls.specs.Leading.{IsLed}
+use Rattle.calls.specs.ReadingLink.{TellsText, text_reply}
+use Rattle.calls.specs.Stating.{IsStatOf, TellsStat, stat_in, stat_reply}
+use Rattle.calls.proofs.LeadLaws.{led_some, led_there, led_refused}
+
+-- what is no object isn't there
+pub nothing_there : {X : Type 0} (o : Option Node) → IsSome o → ((x : Node) → o ≡ Some x → ⊥) → X
+nothing_there None some none = absurd (false≢true some)
+nothing_there (Some x) some none = absurd (none x refl)
+
+-- an object of the tree, by that of the volume
+pub object_by : (n : ℕ) (v : Volume) (o : Node) (y x : Object) → v n ≡ Some o → object_of n (Some o) ≡ Some y → object_of n (v n) ≡ Some x → y ≡ x
+object_by n v o y x is made told = some_same (sym made ∙ sym (ap (object_of n) is) ∙ told)
+
+module _ (v : Volume) (table : ℕ → Option Description) where
+  abbrev t : Tree
+  t = tree_of v table
+
+  module _ (inodes : ℕ) (volume : IsVolume inodes v) (tell_links : VolumesTellLinks) (n : ℕ) where
+    told : (o : Node) (x : Object) → v n ≡ Some o → object_of n (v n) ≡ Some x → tells_stat t x (replies.Stat (stat_in n o)) t nothing
+    told (directory_node mode names) x is object =
+        subst (λ (y : Object). tells_stat t y (replies.Stat (stat_in n (directory_node mode names))) t nothing)
+        (object_by n v (directory_node mode names) (trees.directory n) x is refl object)
+        (1, refl, (ap (λ (m : ℕ). replies.Stat (record { number = n; kind = Dir; mode = m; links = 1; size = 0 })) (sym (ap (λ (o : Option Node). unwrap_or (mode_of o) 0) is)), refl, refl))
+    told (file_node mode links bytes) x is object =
+        subst (λ (y : Object). tells_stat t y (replies.Stat (stat_in n (file_node mode links bytes))) t nothing)
+        (object_by n v (file_node mode links bytes) (trees.file n) x is refl object) (
+          links,
+          tell_links inodes v table n mode links bytes volume is,
+          (
+            ap (λ (o : Option Node). replies.Stat (record { number = n; kind = File; mode = unwrap_or (mode_of o) 0; links = links; size = length (unwrap_or (bytes_of o) []) })) (sym is),
+            refl,
+            refl,
+          ),
+        )
+    told (link_node text) x is object =
+        subst (λ (y : Object). tells_stat t y (replies.Stat (stat_in n (link_node text))) t nothing)
+        (object_by n v (link_node text) (trees.symlink n text) x is refl object)
+        (1, refl, (refl, refl, refl))
+
+    pub stat_answers : (follow : Bool) (text : List ℕ) (r : Result Stat Errno) → IsLed (text_tests text) v (resolve t follow text) (Ok n) → TellsStat v n r
+        → stats t follow text (stat_reply r) t nothing
+    stat_answers follow text (Ok stat) led (o, is, same) =
+        led_there v table (λ p o. tells_stat t o) n (replies.Stat stat) t nothing
+        (λ p x at object. subst (λ (s : Stat). tells_stat t x (replies.Stat s) t nothing) (sym same) (told o x is object))
+        (text_tests text) (resolve t follow text) led
+    stat_answers follow text (Err errno) led none = nothing_there (v n) (led_some v (resolve t follow text) n led.1) none
+
+  pub stat_refused : (follow : Bool) (text : List ℕ) (errno : Errno) → IsLed (text_tests text) v (resolve t follow text) (Err errno)
+      → stats t follow text (replies.Refused errno) t nothing
+  stat_refused follow text errno led = led_refused v table (λ p o. tells_stat t o) (text_tests text) (resolve t follow text) errno led
+
+  -- ---- links
+
+  abbrev there : Path → Object → Outcome
+  there p o = elim o as (λ _. Outcome) [
+    | trees.symlink n text ↦ answers t (replies.Text text)
+    | trees.directory n ↦ refuses t EINVAL
+    | trees.file n ↦ refuses t EINVAL
+  ]
+
+  no_link : (n : ℕ) (o : Option Node) (p : Path) (x : Object) → found_in o ≢ found.Link → object_of n o ≡ Some x → there p x (replies.Refused EINVAL) t nothing
+  no_link n None p x other is = none_some is
+    where
+      none_some : {X : Type 0} → None ≡ Some x → X
+      none_some e = cc
+  no_link n (Some (directory_node mode names)) p x other is = subst (λ (y : Object). there p y (replies.Refused EINVAL) t nothing) (some_same is) (refl, refl, refl)
+  no_link n (Some (file_node mode links bytes)) p x other is = subst (λ (y : Object). there p y (replies.Refused EINVAL) t nothing) (some_same is) (refl, refl, refl)
+  no_link n (Some (link_node text)) p x other is = absurd (other refl)
+
+  pub link_answers : (text : List ℕ) (n : ℕ) (r : Result (List ℕ) Errno) → IsLed (text_tests text) v (resolve t false text) (Ok n) → TellsText v n r
+      → reads_link t text (text_reply r) t nothing
+  link_answers text n (Ok told) led is =
+      led_there v table there n (replies.Text told) t nothing
+      (λ p x at object. subst (λ (y : Object). there p y (replies.Text told) t nothing) (object_by n v (link_node told) (trees.symlink n told) x is refl object) (refl, refl, refl))
+      (text_tests text) (resolve t false text) led
+  link_answers text n (Err errno) led (other, is) =
+      led_there v table there n (replies.Refused errno) t nothing
+      (λ p x at object. subst (λ (e : Errno). there p x (replies.Refused e) t nothing) (sym is) (no_link n (v n) p x other object))
+      (text_tests text) (resolve t false text) led
+
+  pub link_refused : (text : List ℕ) (errno : Errno) → IsLed (text_tests text) v (resolve t false text) (Err errno)
+      → reads_link t text (replies.Refused errno) t nothing
+  link_refused text errno led = led_refused v table there (text_tests text) (resolve t false text) errno led
+
+-- a number that nothing has
+pub none_there : (o : Option Node) → o ≡ None → (x : Node) → o ≡ Some x → ⊥
+none_there o none x some = cc
+
+-- the text of what is a link
+pub link_text : (o : Option Node) (f : Found) (text : List ℕ) → f ≡ found_in o → f ≡ found.Link → text ≡ text_in o → o ≡ Some (link_node text)
+link_text None f text are is told = absurd (no_directory are is)
+  where
+    no_directory : f ≡ found.Nothing → f ≡ found.Link → ⊥
+    no_directory a b = cc
+link_text (Some (directory_node mode names)) f text are is told = absurd (no_directory are is)
+  where
+    no_directory : f ≡ found.Directory → f ≡ found.Link → ⊥
+    no_directory a b = cc
+link_text (Some (file_node mode links bytes)) f text are is told = absurd (no_file are is)
+  where
+    no_file : f ≡ found.File → f ≡ found.Link → ⊥
+    no_file a b = cc
+link_text (Some (link_node link)) f text are is told = ap (λ (t : List ℕ). Some (link_node t)) (sym told)
+
+-- ---- an object in memory
+
+module _ (disk : ℕ → List ℕ) (inodes : ℕ) (settled : Inode) (o : MemoryObject) (node : Option Node) (is_object : IsObject disk inodes settled o node) (n : ℕ) where
+  stands : (kind : LayoutKind) → o.attributes.kind ≡ kind → StandsAs kind inodes (content_of disk o) node
+  stands kind is = subst (λ (k : LayoutKind). StandsAs k inodes (content_of disk o) node) is is_object.stands
+
+  pub stat_directory : o.attributes.kind ≡ kinds.Directory → IsStatOf n node (record { number = n; kind = Dir; mode = o.attributes.mode; links = 1; size = 0 })
+  stat_directory is =
+      let d = stands kinds.Directory is in
+      (directory_node o.attributes.mode d.0, d.2, refl)
+
+  pub stat_file : (size : ℕ) → size ≡ o.file.size → o.attributes.kind ≡ kinds.File
+      → IsStatOf n node (record { number = n; kind = File; mode = o.attributes.mode; links = o.attributes.links; size = size })
+  stat_file size same is = (
+    file_node o.attributes.mode o.attributes.links (file_bytes (content_of disk o)),
+    stands kinds.File is,
+    ap (λ (s : ℕ). record { number = n; kind = File; mode = o.attributes.mode; links = o.attributes.links; size = s })
+        (same ∙ sym (length-map-range_with_len (byte_in (content_of disk o).block) 0 o.file.size)),
+  )
+
+  pub stat_link : (size : ℕ) → size ≡ o.file.size → o.attributes.kind ≡ kinds.Link
+      → IsStatOf n node (record { number = n; kind = Link; mode = o.attributes.mode; links = 1; size = size })
+  stat_link size same is =
+      let some : Sizes = record { blocks = 64; inodes = 32; half = 131072 } in
+      let fits = subst (λ (k : LayoutKind). FitsKind k some o.attributes.mode o.attributes.links o.file.size) is (is_object.fits some) in (
+        link_node (file_bytes (content_of disk o)),
+        stands kinds.Link is,
+        ap (λ (m : ℕ). record { number = n; kind = Link; mode = m; links = 1; size = size }) fits.0
+            ∙ ap (λ (s : ℕ). record { number = n; kind = Link; mode = 0o777; links = 1; size = s })
+            (same ∙ sym (length-map-range_with_len (byte_in (content_of disk o).block) 0 o.file.size)),
+      )
+
+  pub stat_none : (kind : LayoutKind) → IsObjectKind kind → (kind ≡ kinds.Directory → ⊥) → (kind ≡ kinds.File → ⊥) → (kind ≡ kinds.Link → ⊥) → ⊥
+  stat_none kinds.Free is d f l = is
+  stat_none kinds.File is d f l = f refl
+  stat_none kinds.Directory is d f l = d refl
+  stat_none kinds.Link is d f l = l refl
+  stat_none kinds.InodeFile is d f l = is
+  stat_none kinds.InodeMap is d f l = is
+  stat_none kinds.BlockMap is d f l = is

@@ -1,0 +1,11 @@
+use Rattle.std.proofs.Common.{◌≡◌, length, ap, arith}
+use Rattle.layout.proofs.RecordLengths.{length-text_bytes}
+use Rattle.calls.proofs.made.OwnedObject.as_new.Goals as goal
+
+pub returns-in-Link-clause-short : goal.returns-in-Link-clause-short
+returns-in-Link-clause-short c =
+    let text = c.in-Link.text in
+    let same : length c.deref.result.now ≡ length text.bytes.items = ap length c.deref.ensures.value in
+    let short = text.said.short in
+    let long = length-text_bytes c.deref.result.now in
+    omega (arith, same, short, long)

@@ -1,0 +1,42 @@
+use Rattle.std.proofs.Common.{rules, ◌∙◌, Result, IfErr, IsTrue, ℕ, false, subst}
+use Rattle.model.specs.Paths.{text_tests}
+use Rattle.model.specs.Resolution.{resolve}
+use Rattle.model.specs.Volumes.{tree_of}
+use Rattle.model.specs.declared.errno.Errno.{Errno}
+use Rattle.calls.specs.Leading.{IsLed}
+use Rattle.calls.specs.Refusals.{is_path_refusal}
+use Rattle.calls.proofs.MakeLaws.{told_answers}
+use Rattle.calls.proofs.StatLaws.{link_answers, link_refused}
+use Rattle.calls.proofs.reading_link.readlink.Goals as goal
+
+pub returns-in_err-found-clause-damaged : goal.returns-in_err-found-clause-damaged
+returns-in_err-found-clause-damaged g c = λ disk settled v stands is. c.in_err-found.ensures.damaged disk settled v stands (search rules)
+
+pub returns-in-Ok-clause-looks : goal.returns-in-Ok-clause-looks
+returns-in-Ok-clause-looks g c = record {
+  reads = search rules;
+  geometry = c.read_number.ensures.looks.geometry ∙ c.lead.ensures.looks.geometry;
+  kept = λ disk settled v stands. c.read_number.ensures.looks.kept disk settled v (c.lead.ensures.looks.kept disk settled v stands);
+}
+
+pub returns-in-Ok-clause-answers : goal.returns-in-Ok-clause-answers
+returns-in-Ok-clause-answers g c = λ disk settled v table stands volume mounted.
+    let text = c.args.path.now in
+    let r = resolve (tree_of v table) false text in
+    let led = subst (λ (x : Result ℕ Errno). IsLed (text_tests text) v r x) c.in-Ok.is (c.in_ok-found.ensures.led disk settled v table stands volume) in
+    told_answers c.read_number.result _ _
+    (λ told tells. link_answers v table text c.in-Ok.number told led tells)
+    (c.read_number.ensures.tells disk settled v (c.lead.ensures.looks.kept disk settled v stands))
+
+pub returns-in-Ok-clause-damaged : goal.returns-in-Ok-clause-damaged
+returns-in-Ok-clause-damaged g c = λ disk settled v stands is. c.read_number.ensures.damaged disk settled v (c.lead.ensures.looks.kept disk settled v stands) is
+
+pub returns-in-Err-clause-answers : goal.returns-in-Err-clause-answers
+returns-in-Err-clause-answers g c = λ disk settled v table stands volume mounted.
+    let text = c.args.path.now in
+    let r = resolve (tree_of v table) false text in
+    let led = subst (λ (x : Result ℕ Errno). IsLed (text_tests text) v r x) c.in-Err.is (c.in_ok-found.ensures.led disk settled v table stands volume) in
+    link_refused v table text c.in-Err.errno led
+
+pub returns-in-Err-clause-own : goal.returns-in-Err-clause-own
+returns-in-Err-clause-own g c = subst (λ (x : Result ℕ Errno). IfErr x (λ e. IsTrue (is_path_refusal e))) c.in-Err.is c.in_ok-found.ensures.own

@@ -1,0 +1,36 @@
+use Rattle.std.proofs.Common.{rules, ◌≡◌, ◌∙◌, ℕ, List, IfNone, IfSome, is_some, refl, sym, ap, subst}
+use Rattle.model.specs.Records.{Applies, unname}
+use Rattle.calls.specs.Prepared.{Does}
+use Rattle.calls.proofs.removing.remove_name.Goals as goal
+
+pub returns-in_default-clause-removes : goal.returns-in_default-clause-removes
+returns-in_default-clause-removes g c = λ disk settled v stands volume. (
+  refl,
+  λ applies. c.in_default.ensures.none (volume.graph.names c.args.parent c.args.name.items (ap is_some applies.there)),
+)
+
+pub returns-in_err-planned-clause-damaged : goal.returns-in_err-planned-clause-damaged
+returns-in_err-planned-clause-damaged g c = λ disk settled v stands is. c.in_err-planned.ensures.damaged disk settled v stands (search rules)
+
+pub returns-in_default-planned-clause-removes : goal.returns-in_default-planned-clause-removes
+returns-in_default-planned-clause-removes g c = λ disk settled v stands volume.
+    let inodes = c.args.inodes.now.geometry.inodes in
+    let same : c.deref.result.now ≡ c.args.name.items = c.deref.ensures.value ∙ c.in-Some.ensures.some in
+    let not = subst (λ p. IfNone p (Applies inodes v (unname c.args.parent c.deref.result.now) → ⊥)) c.in_default-planned.is (c.in_ok-planned.ensures.refused disk settled v stands volume) in
+    (refl, subst (λ (x : List ℕ). Applies inodes v (unname c.args.parent x) → ⊥) same not)
+
+pub returns-clause-removes : goal.returns-clause-removes
+returns-clause-removes g c = λ disk settled v stands volume.
+    let inodes = c.args.inodes.now.geometry.inodes in
+    let same : c.deref.result.now ≡ c.args.name.items = c.deref.ensures.value ∙ c.in-Some.ensures.some in
+    let applies = subst (λ p. IfSome p (λ _. Applies inodes v (unname c.args.parent c.deref.result.now))) c.in-Some-planned.is (c.in_ok-planned.ensures.applies disk settled v stands) in (
+      ap (λ (d : ℕ). unname d c.in-Some.name.bytes.items) c.new-parent.ensures ∙ ap (unname c.args.parent) c.in-Some.ensures.some,
+      subst (λ (x : List ℕ). Applies inodes v (unname c.args.parent x)) same applies,
+    )
+
+pub returns-clause-does : goal.returns-clause-does
+returns-clause-does g c = λ disk settled v stands.
+    let s = c.prepare_unname.new.inodes in
+    let does = subst (λ p. IfSome p (λ x. Does disk settled s v x (unname c.args.parent c.deref.result.now))) c.in-Some-planned.is (c.in_ok-planned.ensures.does disk settled v stands) in
+    subst (λ (d : ℕ). Does disk settled s v c.in-Some-planned.prepared (unname d c.in-Some.name.bytes.items)) (sym c.new-parent.ensures)
+    (subst (λ (x : List ℕ). Does disk settled s v c.in-Some-planned.prepared (unname c.args.parent x)) c.deref.ensures.value does)

@@ -1,0 +1,13 @@
+use Rattle.std.proofs.Common.{◌≡◌, ◌∙◌, Some, sym}
+use Rattle.model.specs.Paths.{first_refusal, new_text_tests}
+use Rattle.calls.proofs.RefusalLaws.{new_text_own}
+use Rattle.calls.proofs.RemoveLaws.{unlink_text_refused}
+use Rattle.calls.proofs.removing.unlink.Goals as goal
+
+pub returns-in-Some-clause-answers : goal.returns-in-Some-clause-answers
+returns-in-Some-clause-answers g c = λ disk settled v table stands volume mounted.
+    let is : first_refusal (new_text_tests c.args.path.now) ≡ Some c.in-Some.errno = sym c.refusal_of_new_text.ensures ∙ c.in-Some.is in
+    unlink_text_refused v table c.args.path.now c.in-Some.errno is
+
+pub returns-in-Some-clause-own : goal.returns-in-Some-clause-own
+returns-in-Some-clause-own g c = new_text_own c.args.path.now c.in-Some.errno (sym c.refusal_of_new_text.ensures ∙ c.in-Some.is)

@@ -1,0 +1,36 @@
+use Rattle.std.proofs.Common.{rules, ◌∙◌, inl, IfOk, refl, sym, subst}
+use Rattle.layout.specs.Limits.{Sizes}
+use Rattle.model.specs.Volumes.{IsVolume}
+use Rattle.model.specs.declared.errno.Errno.TheVariants.{DAMAGED}
+use Rattle.calls.specs.Removing.{RemovesName}
+use Rattle.calls.proofs.MakeLaws.{told_answers}
+use Rattle.calls.proofs.RemoveLaws.{unlinks_other}
+use Rattle.calls.proofs.removing.unlink_entry.Goals as goal
+
+pub returns-in_err-found-clause-damaged : goal.returns-in_err-found-clause-damaged
+returns-in_err-found-clause-damaged g c = λ disk settled v stands is. c.in_err-found.ensures.damaged disk settled v stands (search rules)
+
+pub returns-in-Directory-clause-takes : goal.returns-in-Directory-clause-takes
+returns-in-Directory-clause-takes g c = λ disk settled v stands volume. inl (refl, sym (c.in_ok-found.ensures.found disk settled v stands) ∙ c.in-Directory.is)
+
+pub returns-in_default-clause-looks : goal.returns-in_default-clause-looks
+returns-in_default-clause-looks g c = record {
+  reads = search rules;
+  geometry = c.remove_name.ensures.looks.geometry ∙ c.kind_at.ensures.looks.geometry;
+  kept = λ disk settled v stands. c.remove_name.ensures.looks.kept disk settled v (c.kind_at.ensures.looks.kept disk settled v stands);
+}
+
+pub returns-in_default-clause-does : goal.returns-in_default-clause-does
+returns-in_default-clause-does g c = λ disk settled v stands. c.remove_name.ensures.does disk settled v (c.kind_at.ensures.looks.kept disk settled v stands)
+
+pub returns-in_default-clause-damaged : goal.returns-in_default-clause-damaged
+returns-in_default-clause-damaged g c = λ disk settled v stands is. c.remove_name.ensures.damaged disk settled v (c.kind_at.ensures.looks.kept disk settled v stands) is
+
+pub returns-in_default-clause-takes : goal.returns-in_default-clause-takes
+returns-in_default-clause-takes g c = λ disk settled v stands volume.
+    let inodes = c.args.inodes.now.geometry.inodes in
+    let all = subst (λ (s : Sizes). IsVolume s.inodes v) (sym c.kind_at.ensures.looks.geometry) volume in
+    told_answers c.remove_name.result _ _
+    (λ r told. unlinks_other inodes v c.args.parent c.args.name.items c.args.number DAMAGED (λ is. c.in_default.not-Directory (c.in_ok-found.ensures.found disk settled v stands ∙ is)) r told)
+    (subst (λ (s : Sizes). IfOk c.remove_name.result (RemovesName s.inodes v c.args.parent c.args.name.items DAMAGED)) c.kind_at.ensures.looks.geometry
+    (c.remove_name.ensures.removes disk settled v (c.kind_at.ensures.looks.kept disk settled v stands) all))

@@ -1,0 +1,104 @@
+//! What a call is to change.
+
+ghost use Rattle.std.specs.Prelude.{◌≡◌, ◌≤◌, IfNone, IfSome, length};
+ghost use Rattle.layout.specs.Record.{body_of, change_of, IsChange, KeepsLimits};
+ghost use Rattle.model.specs.Paths.{IsName};
+
+use crate::{Creation, Prepared};
+use layout::{InodeNumber, Record, is_name};
+use model::Mode;
+
+/// A name that a directory has, or may have.
+#[derive(Debug, Drop)]
+pub struct EntryName {
+    pub(crate) bytes: Vec<u8>,
+    ghost named: { IsName bytes.items },
+}
+
+impl EntryName {
+    /// A name of these bytes; None where they are none.
+    pub(crate) fn new(bytes: Vec<u8>) -> Option<EntryName>
+        ensures some { IfSome result (λ name. name.bytes.items ≡ bytes.items) }
+        ensures none { IfNone result (IsName bytes.items → ⊥) }
+    {
+        if !is_name(&bytes) {
+            return None;
+        }
+        Some(EntryName { bytes })
+    }
+}
+
+/// What the record of a call says, with names of its own.
+#[derive(Debug, Drop)]
+pub enum OwnedChange {
+    /// The object is made.
+    Create {
+        creation: Creation,
+    },
+    /// The file gets this name in the directory `parent`.
+    Link {
+        number: InodeNumber,
+        parent: InodeNumber,
+        name: EntryName,
+    },
+    /// The name is taken away, and what has no other name.
+    Unname {
+        parent: InodeNumber,
+        name: EntryName,
+    },
+    /// The file or directory gets this mode.
+    ChangeMode {
+        number: InodeNumber,
+        mode: Mode,
+    },
+}
+
+/// What a call is to change: what its record says, and its prepared change.
+#[derive(Debug, Drop)]
+pub struct Changing {
+    pub change: OwnedChange,
+    pub prepared: Prepared,
+}
+
+impl OwnedChange {
+    ghost use Rattle.calls.specs.Changing.{said_by};
+
+    /// The record, as the log takes it.
+    pub fn record(&self) -> Record<'_>
+        ensures says { change_of result ≡ said_by self.now }
+        ensures limits { KeepsLimits (change_of result) }
+        ensures is { IsChange (change_of result) }
+        ensures short { length (body_of result) ≤ 1300 }
+    {
+        // Each of these types holds its values to what their fields have room for.
+        match self {
+            OwnedChange::Create { creation } => creation.record(),
+            OwnedChange::Link {
+                number,
+                parent,
+                name,
+            } => {
+                let _ = (number.get(), parent.get());
+                Record::Link {
+                    number: *number,
+                    parent: *parent,
+                    name: &name.bytes,
+                }
+            }
+            OwnedChange::Unname { parent, name } => {
+                let _ = parent.get();
+                Record::Unname {
+                    parent: *parent,
+                    name: &name.bytes,
+                }
+            }
+            OwnedChange::ChangeMode { number, mode } => {
+                let _ = (number.get(), mode.bits());
+                Record::ChangeMode {
+                    number: *number,
+                    mode: *mode,
+                }
+            }
+        }
+    }
+}

@@ -1,0 +1,25 @@
+//! The commands that this version serves.
+
+ghost use Rattle.std.specs.Prelude.{◌↔◌, IsTrue};
+ghost use Rattle.mount.specs.Served.{IsServed};
+
+use model::{Command, PathCall};
+
+/// Whether this version serves a command: a line that spells another is a bad one.
+pub fn is_served(command: &Command) -> bool
+    ensures { IsTrue result ↔ IsServed command.now }
+{
+    matches!(
+        command,
+        Command::Path(
+            PathCall::List { .. }
+                | PathCall::Stat { .. }
+                | PathCall::Lstat { .. }
+                | PathCall::Readlink { .. }
+                | PathCall::Get { .. }
+                | PathCall::Chmod { .. }
+                | PathCall::Mkdir { .. }
+        ) | Command::Sync
+            | Command::Df
+    )
+}
