@@ -1,11 +1,11 @@
 -- A plan that grows.
-use Rattle.std.proofs.Common.{◌≡◌, ℕ, ◌<◌, ◌≤◌, List, get_or, sym, subst, ◌∙◌, arith}
+use Rattle.std.proofs.Common.{◌≡◌, ℕ, ◌<◌, ◌≤◌, List, get_or, refl, sym, subst, ◌∙◌, arith}
 use Rattle.blockmap.specs.Parts.{Part}
 use Rattle.blockmap.specs.Maps.{IsFree, KeepsSettled}
 use Rattle.conspoint.specs.declared.plan.PlannedBlock.{PlannedBlock}
 use Rattle.conspoint.specs.declared.draft.Draft.{Draft}
 use Rattle.conspoint.specs.Plans.{AreDrafted, ChangesTouched}
-use Rattle.conspoint.specs.Drafts.{Grows, WasTaken}
+use Rattle.conspoint.specs.Drafts.{Grows, IsFull, WasTaken}
 
 -- more places are given out
 pub drafted_later : (count next more later : ℕ) (parts same : List Part) (blocks : List PlannedBlock) → same ≡ parts → more ≡ count → next ≤ later
@@ -31,6 +31,19 @@ grows_twice a b c first second = record {
   next = omega (arith, first.next, second.next);
   has = λ e has. first.has e (second.has e has);
 }
+
+pub grows_none : (d : Draft) → Grows d d
+grows_none d = record {
+  settled = record { count = refl; settled = λ n. refl; touched = λ j was. was };
+  count = refl;
+  next = omega arith;
+  has = λ e has. has;
+}
+
+-- over the same map, what is full stays full
+pub full_later : (a b : Draft) → Grows a b → b.map.parts.items ≡ a.map.parts.items → IsFull a → IsFull b
+full_later a b grows same full x from lt free =
+    full x (omega (arith, grows.next, from)) (omega (arith, grows.count, lt)) (subst (λ (ps : List Part). IsFree ps x) same free)
 
 -- what was given out before, or later
 pub taken_later : (a b c : Draft) (x : ℕ) → WasTaken a b x → Grows b c → WasTaken a c x

@@ -8,7 +8,7 @@ use crate::entry::{Entry, read_fields};
 use crate::fields::is_zero;
 
 /// What stands at an entry's place in a directory's block.
-#[derive(Clone, Copy, Debug)]
+#[derive(Clone, Copy)]
 pub enum NextEntry<'a> {
     /// No entry, here or behind: zeros to the block's end.
     End,

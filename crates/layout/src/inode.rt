@@ -23,7 +23,7 @@ use model::Mode;
 pub const MOST_LINKS: u32 = 1000;
 
 /// The bytes of a small object, or where a larger one's blocks are.
-#[derive(Clone, Copy, Debug, PartialEq, Eq)]
+#[derive(Clone, Copy, Debug)]
 pub enum Body {
     /// Level 0: the bytes, and zeros behind them.
     Inline([u8; INLINE_BYTES]),
@@ -32,7 +32,7 @@ pub enum Body {
 }
 
 /// An inode. Its level is that of its size.
-#[derive(Clone, Copy, Debug, PartialEq, Eq)]
+#[derive(Clone, Copy, Debug)]
 pub struct Inode {
     pub kind: Kind,
     pub mode: Mode,

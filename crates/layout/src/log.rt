@@ -32,7 +32,7 @@ pub const LENGTH_BYTES: usize = 4;
 pub const RECORD_HEAD_BYTES: usize = 5;
 
 /// What a half's header says.
-#[derive(Clone, Copy, Debug, PartialEq, Eq)]
+#[derive(Clone, Copy)]
 pub enum Header {
     /// The half holds nothing, whatever stands behind its gate.
     Closed,
@@ -54,7 +54,7 @@ impl Header {
 }
 
 /// What stands at a record's gate.
-#[derive(Clone, Copy, Debug, PartialEq, Eq)]
+#[derive(Clone, Copy)]
 pub enum Gate<'a> {
     /// The records end here.
     Closed,

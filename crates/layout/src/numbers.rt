@@ -15,7 +15,7 @@ pub const ROOT_NUMBER: u32 = 3;
 pub const FIRST_NUMBER: u32 = 4;
 
 /// The number of an inode.
-#[derive(Clone, Copy, Debug, PartialEq, Eq, PartialOrd, Ord)]
+#[derive(Clone, Copy, Debug)]
 pub struct InodeNumber {
     number: u32,
 }
@@ -43,7 +43,7 @@ impl InodeNumber {
 }
 
 /// The number of a block of the disk.
-#[derive(Clone, Copy, Debug, PartialEq, Eq, PartialOrd, Ord)]
+#[derive(Clone, Copy, Debug, PartialEq, Eq)]
 pub struct BlockNumber {
     number: u32,
 }
@@ -71,7 +71,7 @@ impl BlockNumber {
 }
 
 /// The generation of a root, from 1 to 2^62 - 1.
-#[derive(Clone, Copy, Debug, PartialEq, Eq, PartialOrd, Ord)]
+#[derive(Clone, Copy, Debug)]
 pub struct Generation {
     number: u64,
 }
@@ -122,7 +122,7 @@ impl Generation {
 }
 
 /// The number of an epoch of the log: a root of generation g covers all epochs to g.
-#[derive(Clone, Copy, Debug, PartialEq, Eq, PartialOrd, Ord)]
+#[derive(Clone, Copy, Debug, PartialEq, Eq)]
 pub struct Epoch {
     number: u64,
 }

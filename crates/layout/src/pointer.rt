@@ -10,7 +10,7 @@ use crate::writing::put_u32;
 use byteorder::{ByteOrder, LittleEndian};
 
 /// Where a block of a file lies.
-#[derive(Clone, Copy, Debug, PartialEq, Eq)]
+#[derive(Clone, Copy, Debug)]
 pub enum Pointer {
     /// Nowhere: it reads as zeros.
     Hole,

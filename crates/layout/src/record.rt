@@ -9,7 +9,7 @@ use model::Mode;
 pub const WRITE_BYTES: usize = 65_536;
 
 /// What a record makes.
-#[derive(Clone, Copy, Debug, PartialEq, Eq)]
+#[derive(Clone, Copy)]
 pub enum NewObject<'a> {
     File { mode: Mode },
     Directory { mode: Mode },
@@ -18,7 +18,7 @@ pub enum NewObject<'a> {
 }
 
 /// A record of the log.
-#[derive(Clone, Copy, Debug, PartialEq, Eq)]
+#[derive(Clone, Copy)]
 pub enum Record<'a> {
     /// Makes the object, with this name in the directory `parent`.
     Create {

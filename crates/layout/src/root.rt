@@ -34,7 +34,7 @@ const BEHIND_AT: usize = SNAPSHOTS_AT + SNAPSHOTS_BYTES;
 const MAGIC: u64 = 0x544f_4f52_4c46_4157;
 
 /// A root.
-#[derive(Clone, Copy, Debug, PartialEq, Eq)]
+#[derive(Clone, Copy, Debug)]
 pub struct Root {
     pub generation: Generation,
     pub geometry: Geometry,

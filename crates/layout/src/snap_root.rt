@@ -21,7 +21,7 @@ const INODE_AT: usize = 9 + NAME_BYTES;
 const BEHIND_AT: usize = INODE_AT + INODE_BYTES;
 
 /// The root of a snapshot.
-#[derive(Clone, Copy, Debug)]
+#[derive(Clone, Copy)]
 pub struct SnapRoot<'a> {
     /// From 1 to 2^62 - 1, rising from one snapshot to the next.
     pub order: u64,

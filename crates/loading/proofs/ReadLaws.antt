@@ -2,7 +2,7 @@
 use Rattle.std.proofs.Common.{◌≡◌, ◌∙◌, Result, Ok, Err, subst}
 use Rattle.std.specs.Result.{IsErrAnd}
 use Rattle.buffers.specs.Failures.{HasGrown}
-use Rattle.buffers.specs.Reads.{ReadsBlocks}
+use Rattle.buffers.specs.Reads.{HasOnlyRead, ReadsBlocks}
 use Rattle.buffers.specs.declared.blocks.Blocks.{Ghosts}
 
 module _ {B T E : Type 0} {G : Ghosts B} {F : E → Type 0} where
@@ -28,6 +28,36 @@ module _ {B T E : Type 0} {G : Ghosts B} {F : E → Type 0} where
     count = last.count ∙ first.count;
     counted = tt;
     device = λ fault. subst (λ n. HasGrown n (G.failed c)) first.counted (last.device fault);
+    reads = λ start so. last.reads start (first.reads start so);
+    same = λ disk shows. last.same disk (first.same disk shows);
+  }
+
+  -- a reading after what only read, in a loop
+  pub only_more : {a b c : B} (r : Result T E) → HasOnlyRead G a b → ReadsBlocks G F b c r → ReadsBlocks G F a c r
+  only_more (Ok y) first last = record {
+    count = last.count ∙ first.count;
+    counted = last.counted ∙ first.counted;
+    device = tt;
+    reads = λ start so. last.reads start (first.reads start so);
+    same = λ disk shows. last.same disk (first.same disk shows);
+  }
+  only_more {c = c} (Err e) first last = record {
+    count = last.count ∙ first.count;
+    counted = tt;
+    device = λ fault. subst (λ n. HasGrown n (G.failed c)) first.counted (last.device fault);
+    reads = λ start so. last.reads start (first.reads start so);
+    same = λ disk shows. last.same disk (first.same disk shows);
+  }
+
+  -- the loop at its end
+  pub only_ok : {a b : B} {y : T} → HasOnlyRead G a b → ReadsBlocks G F a b (Ok y)
+  only_ok read = record { count = read.count; counted = read.counted; device = tt; reads = read.reads; same = read.same }
+
+  -- the loop one step on
+  pub only_then : {a b c : B} {x : T} → HasOnlyRead G a b → ReadsBlocks G F b c (Ok x) → HasOnlyRead G a c
+  only_then first last = record {
+    count = last.count ∙ first.count;
+    counted = last.counted ∙ first.counted;
     reads = λ start so. last.reads start (first.reads start so);
     same = λ disk shows. last.same disk (first.same disk shows);
   }

@@ -1,12 +1,12 @@
 //! Appending to the log.
 
-ghost use Rattle.std.specs.Prelude.{◌≡◌, ◌⊎◌, ℕ, ◌+◌, ◌*◌, ◌<◌, ◌≤◌, ◌^◌, true, List, [], length, IsTrue, IsFalse, IsErrOf, OnOk, ◌↔◌};
+ghost use Rattle.std.specs.Prelude.{◌≡◌, ◌⊎◌, ℕ, ◌+◌, ◌*◌, ◌<◌, ◌≤◌, ◌^◌, true, List, [], length, IsTrue, IsFalse, IsErrOf, IfOk, IsOk, OnOk, ◌↔◌};
 ghost use Rattle.station.specs.Moments.{LeavesOnly, KeepsDisk, EachCut};
 ghost use Rattle.station.specs.Calls.{OnlyWrites};
-ghost use Rattle.oplog.specs.Internal.{start_of};
+ghost use Rattle.oplog.specs.Internal.{start_of, IsBehind};
 ghost use Rattle.oplog.specs.LogEnd.{LogEnd, AreHalfBytes, next_of, HasRoom, behind, Bodies, no_bodies, all_of, with_body, body_of, StandsAt, LogStands, ReadsDisk, WithOrWithout};
 ghost use Rattle.layout.specs.Record.{KeepsLimits, change_of};
-ghost use Rattle.layout.specs.declared.log.TheConstants.{FIRST_GATE};
+ghost use Rattle.layout.specs.declared.log.TheConstants.{FIRST_GATE, RECORD_HEAD_BYTES};
 
 use crate::append::{behind_the_gate, write_record};
 use layout::{Epoch, FIRST_GATE, RECORD_HEAD_BYTES, Record};
@@ -145,19 +145,34 @@ impl Log {
             → OnOk result (EachCut (S.meaning station.new) (KeepsDisk (S.meaning station.old)
             (StandsAt self.new g (with_body bodies (body_of (change_of change.now)))))) }
     {
-        if self.is_stopped {
-            return Err(AppendError::Device);
-        }
-        if !self.room(change.encoded_len()) {
-            return Err(AppendError::LogFull);
-        }
-        let behind = behind_the_gate(alloc, change)?;
+        let behind = self.prepare(alloc, change)?;
         let Ok(()) = write_record(station, self.start(), self.epoch, self.end, &behind) else {
             self.is_stopped = true;
             return Err(AppendError::Device);
         };
         self.end = End::At(self.next() + behind.len() as u32);
         Ok(())
+    }
+
+    /// What is to stand behind the gate of a record. It makes no device call: `Device` says that the log has stopped.
+    fn prepare(&self, alloc: Global, change: &Record) -> Result<Vec<u8>, AppendError>
+        requires fits { KeepsLimits (change_of change.now) }
+        ensures stopped { IsErrOf result AppendError.Device ↔ IsTrue self.now.is_stopped }
+        ensures full { IsErrOf result AppendError.LogFull ↔ (IsFalse self.now.is_stopped
+            × ¬ HasRoom self.now (length (body_of (change_of change.now)))) }
+        ensures goes_on { IsOk result → IsFalse self.now.is_stopped }
+        ensures room { IsOk result → HasRoom self.now (length (body_of (change_of change.now))) }
+        ensures length { IfOk result
+            (λ v. length v.items ≡ length (body_of (change_of change.now)) + RECORD_HEAD_BYTES) }
+        ensures spelled { IfOk result (λ v. IsBehind (body_of (change_of change.now)) v.items) }
+    {
+        if self.is_stopped {
+            return Err(AppendError::Device);
+        }
+        if !self.room(change.encoded_len()) {
+            return Err(AppendError::LogFull);
+        }
+        Ok(behind_the_gate(alloc, change)?)
     }
 
     /// Where the half of the epoch begins in the NVRAM.

@@ -6,7 +6,7 @@ use Rattle.layout.specs.declared.pointer.Pointer.TheVariants.{Hole}
 use Rattle.blocktree.specs.Trees.{IsChanged}
 use Rattle.conspoint.specs.Blocks.{changed_or}
 use Rattle.conspoint.specs.Groups.{pointer_at, ComesFrom}
-use Rattle.conspoint.proofs.DraftLemmas.{grows_twice}
+use Rattle.conspoint.proofs.DraftLemmas.{full_later, grows_twice}
 use Rattle.conspoint.specs.Space.{block_stores}
 use Rattle.conspoint.proofs.GroupLemmas.{placed_more, each_more}
 use Rattle.conspoint.proofs.SumLemmas.{is_in_sum, one_more}
@@ -50,3 +50,18 @@ loop-i-preserved c =
 pub returns-in_err-place_block-clause-lacks : goal.returns-in_err-place_block-clause-lacks
 returns-in_err-place_block-clause-lacks c = λ bad.
     omega (arith, c.loop-i.invariant.takes, c.in_err-place_block.ensures.lacks (search rules), is_in_sum (block_stores c.args.tree.now c.args.first) c.loop-i.i (length c.args.settled.now) c.loop-i-test.true)
+
+pub returns-in_err-place_block-clause-parts : goal.returns-in_err-place_block-clause-parts
+returns-in_err-place_block-clause-parts c = c.place_block.ensures.parts ∙ c.loop-i.invariant.parts
+
+pub returns-in_err-place_block-clause-others : goal.returns-in_err-place_block-clause-others
+returns-in_err-place_block-clause-others c p is = c.place_block.ensures.others p (c.loop-i.invariant.others p is)
+
+pub returns-in_err-push-clause-parts : goal.returns-in_err-push-clause-parts
+returns-in_err-push-clause-parts c = c.place_block.ensures.parts ∙ c.loop-i.invariant.parts
+
+pub returns-in_err-push-clause-others : goal.returns-in_err-push-clause-others
+returns-in_err-push-clause-others c p is = c.place_block.ensures.others p (c.loop-i.invariant.others p is)
+
+pub returns-in_err-place_block-clause-full : goal.returns-in_err-place_block-clause-full
+returns-in_err-place_block-clause-full c bad = full_later c.loop-i.draft c.place_block.new.draft c.place_block.ensures.grows c.place_block.ensures.parts (c.in_err-place_block.ensures.full (search rules))

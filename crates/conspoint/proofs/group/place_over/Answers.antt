@@ -3,7 +3,7 @@ use Rattle.layout.specs.declared.pointer.Pointer.{Pointer}
 use Rattle.layout.specs.declared.pointer.Pointer.TheVariants.{Hole}
 use Rattle.conspoint.specs.Groups.{pointer_at, group, IsGroup, ComesFrom}
 use Rattle.std.proofs.lemmas.List.{get_or_default}
-use Rattle.conspoint.proofs.DraftLemmas.{grows_twice}
+use Rattle.conspoint.proofs.DraftLemmas.{full_later, grows_twice}
 use Rattle.conspoint.proofs.GroupLemmas.{placed_more, part_group, part_none, each_more}
 use Rattle.conspoint.proofs.SpaceLemmas.{group_takes, group_lacks}
 use Rattle.conspoint.proofs.group.place_over.Goals as goal
@@ -43,3 +43,18 @@ pub returns-in_err-place_group-clause-lacks : goal.returns-in_err-place_group-cl
 returns-in_err-place_group-clause-lacks c = λ bad w counts.
     group_lacks c.args.draft.now c.loop-j.draft w c.loop-j.j (length c.args.settled.now) c.loop-j-test.true (c.loop-j.invariant.takes w counts) (c.in_err-place_group.ensures.lacks (search rules))
     (λ none. c.in_err-place_group.ensures.lacks_none (search rules) (part_none c.args.old.now c.args.new.now c.loop-j.j (counts c.loop-j.j c.loop-j-test.true none)))
+
+pub returns-in_err-place_group-clause-parts : goal.returns-in_err-place_group-clause-parts
+returns-in_err-place_group-clause-parts c = c.place_group.ensures.parts ∙ c.loop-j.invariant.parts
+
+pub returns-in_err-place_group-clause-others : goal.returns-in_err-place_group-clause-others
+returns-in_err-place_group-clause-others c p is = c.place_group.ensures.others p (c.loop-j.invariant.others p is)
+
+pub returns-in_err-push-clause-parts : goal.returns-in_err-push-clause-parts
+returns-in_err-push-clause-parts c = c.place_group.ensures.parts ∙ c.loop-j.invariant.parts
+
+pub returns-in_err-push-clause-others : goal.returns-in_err-push-clause-others
+returns-in_err-push-clause-others c p is = c.place_group.ensures.others p (c.loop-j.invariant.others p is)
+
+pub returns-in_err-place_group-clause-full : goal.returns-in_err-place_group-clause-full
+returns-in_err-place_group-clause-full c bad = full_later c.loop-j.draft c.place_group.new.draft c.place_group.ensures.grows c.place_group.ensures.parts (c.in_err-place_group.ensures.full (search rules))

@@ -25,3 +25,15 @@ returns-in_err-mark-clause-left c =
 
 pub returns-clause-left : goal.returns-clause-left
 returns-clause-left c = same_left c.args.draft.now c.loop-i.draft c.loop-i.invariant.grows c.loop-i.invariant.next
+
+pub returns-in_err-mark-clause-grows : goal.returns-in_err-mark-clause-grows
+returns-in_err-mark-clause-grows c = grows_twice c.args.draft.now c.loop-i.draft c.mark.new.self c.loop-i.invariant.grows c.mark.ensures.grows
+
+pub returns-in_err-mark-clause-next : goal.returns-in_err-mark-clause-next
+returns-in_err-mark-clause-next c = c.mark.ensures.next ∙ c.loop-i.invariant.next
+
+pub returns-in_err-mark-clause-blocks : goal.returns-in_err-mark-clause-blocks
+returns-in_err-mark-clause-blocks c = c.mark.ensures.blocks ∙ c.loop-i.invariant.blocks
+
+pub returns-in_err-mark-clause-others : goal.returns-in_err-mark-clause-others
+returns-in_err-mark-clause-others c p is = c.mark.ensures.others p (c.loop-i.invariant.others p is)

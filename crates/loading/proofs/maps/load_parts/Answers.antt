@@ -3,11 +3,12 @@ use Rattle.std.proofs.lemmas.List.{length_push}
 use Rattle.inode.specs.Bodies.{inode_block}
 use Rattle.blockmap.specs.Parts.{Spells}
 use Rattle.loading.proofs.MapLaws.{part_more, unchanged_more}
+use Rattle.loading.proofs.ReadLaws.{only_more, only_ok, only_then, reads_err, reads_more}
 use Rattle.loading.proofs.maps.load_parts.Goals as goal
 
 pub loop-j-preserved : goal.loop-j-preserved
 loop-j-preserved g c = record {
-  read = search rules;
+  read = only_then c.loop-j.invariant.read c.in_ok-location.ensures.reads;
   size = ap length c.in_ok-push.ensures.items ∙ length_push c.loop-j.parts.items c.in_ok-part.part ∙ ap (λ n. n + 1) c.loop-j.invariant.size;
   parts = λ disk shows. part_more (inode_block disk c.args.inode) c.loop-j.j c.loop-j.parts.items c.push.new.self.items c.in_ok-part.part
       (c.loop-j.invariant.parts disk shows) c.in_ok-push.ensures.items
@@ -17,3 +18,12 @@ loop-j-preserved g c = record {
   unchanged = unchanged_more c.loop-j.parts.items c.push.new.self.items c.in_ok-part.part c.loop-j.invariant.unchanged c.in_ok-push.ensures.items
       c.in_ok-part.ensures.same c.in_ok-part.ensures.untouched;
 }
+
+pub returns-in_err-file-clause-reads : goal.returns-in_err-file-clause-reads
+returns-in_err-file-clause-reads g c = reads_err c.from_residual.result c.from_residual.ensures.1 c.in_err-file.ensures.reads
+
+pub returns-in_err-location-clause-reads : goal.returns-in_err-location-clause-reads
+returns-in_err-location-clause-reads g c = reads_err c.from_residual-in_err-location.result c.from_residual-in_err-location.ensures.1 (reads_more _ c.in_ok-file.ensures.reads (only_more _ c.loop-j.invariant.read c.in_err-location.ensures.reads))
+
+pub returns-clause-reads : goal.returns-clause-reads
+returns-clause-reads g c = reads_more _ c.in_ok-file.ensures.reads (only_ok c.loop-j.invariant.read)

@@ -1,6 +1,7 @@
 use Rattle.std.proofs.Common.{rules, sym, subst}
 use Rattle.loading.specs.Readings.{IsBodyPath}
 use Rattle.loading.proofs.EndLaws.{all_stored, file_ends, map_file_is, starts_sound, starts_sound_at}
+use Rattle.loading.proofs.ReadLaws.{reads_err, reads_more, reads_ok}
 use Rattle.loading.proofs.maps.map_file.Goals as goal
 
 pub returns-in_err-check_stored-clause-damaged : goal.returns-in_err-check_stored-clause-damaged
@@ -24,3 +25,12 @@ pub returns-clause-file : goal.returns-clause-file
 returns-clause-file g c = λ disk shows.
     map_file_is disk c.args.inode c.in_ok-file.file c.in_ok-file.ensures.settled (c.in_ok-check_stored.ensures.stored disk shows) c.in_ok-file.ensures.size
     (c.in_ok-file.ensures.blocks disk) (c.in_ok-check_end.ensures.ends disk (c.in_ok-check_stored.ensures.reads.same disk shows))
+
+pub returns-in_err-check_stored-clause-reads : goal.returns-in_err-check_stored-clause-reads
+returns-in_err-check_stored-clause-reads g c = reads_err c.from_residual-in_err-check_stored.result c.from_residual-in_err-check_stored.ensures.1 c.in_err-check_stored.ensures.reads
+
+pub returns-in_err-check_end-clause-reads : goal.returns-in_err-check_end-clause-reads
+returns-in_err-check_end-clause-reads g c = reads_err c.from_residual-in_err-check_end.result c.from_residual-in_err-check_end.ensures.1 (reads_more _ c.in_ok-check_stored.ensures.reads c.in_err-check_end.ensures.reads)
+
+pub returns-clause-reads : goal.returns-clause-reads
+returns-clause-reads g c = reads_ok (reads_more _ c.in_ok-check_stored.ensures.reads c.in_ok-check_end.ensures.reads)

@@ -4,6 +4,7 @@ use Rattle.std.proofs.lemmas.List.{get_or_read}
 use Rattle.layout.specs.declared.pointer.Pointer.TheVariants.{Hole}
 use Rattle.images.specs.Roots.{slot}
 use Rattle.loading.proofs.SnapshotLaws.{apart, at_slot}
+use Rattle.loading.proofs.ReadLaws.{only_more, only_ok, reads_err, reads_more}
 use Rattle.loading.proofs.snapshots.check_snapshots.Goals as goal
 
 pub returns-in_err-check_snapshot-clause-damaged : goal.returns-in_err-check_snapshot-clause-damaged
@@ -17,3 +18,12 @@ pub returns-in_err-check_apart-clause-damaged : goal.returns-in_err-check_apart-
 returns-in_err-check_apart-clause-damaged g c disk shows damaged are =
     c.in_err-check_apart.ensures.damaged disk (c.in_ok-check_snapshot.ensures.reads.same disk (c.loop-k.invariant.read.same disk shows)) (search rules)
     (λ l lt. apart disk c.args.root.now are c.snapshots_are_what_their_bytes_spell.ensures l c.loop-k.k (slice_index_or c.args.root.now.snapshots l Hole) (slice_index_or c.args.root.now.snapshots c.loop-k.k Hole) lt refl refl)
+
+pub returns-in_err-check_snapshot-clause-reads : goal.returns-in_err-check_snapshot-clause-reads
+returns-in_err-check_snapshot-clause-reads g c = reads_err c.from_residual.result c.from_residual.ensures.1 (only_more _ c.loop-k.invariant.read c.in_err-check_snapshot.ensures.reads)
+
+pub returns-in_err-check_apart-clause-reads : goal.returns-in_err-check_apart-clause-reads
+returns-in_err-check_apart-clause-reads g c = reads_err c.from_residual-in_err-check_apart.result c.from_residual-in_err-check_apart.ensures.1 (only_more _ c.loop-k.invariant.read (reads_more _ c.in_ok-check_snapshot.ensures.reads c.in_err-check_apart.ensures.reads))
+
+pub returns-clause-reads : goal.returns-clause-reads
+returns-clause-reads g c = only_ok c.loop-k.invariant.read

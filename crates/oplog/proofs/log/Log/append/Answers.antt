@@ -22,13 +22,12 @@ appends g c gen bodies stands =
     let body = body_of (change_of c.args.change.now) in
     let end : c.self.inside.end ≡ log.end = ap (λ (l : LogEnd). l.end) c.self.view_is in
     let half : c.self.inside.half ≡ log.half = ap (λ (l : LogEnd). l.half) c.self.view_is in
-    let room : HasRoom log c.encoded_len.result = c.room.ensures.0 (search rules) in
-    let room_here : next_of c.self.inside.end + 5 + c.encoded_len.result + 1 ≤ log.half = subst (λ (e : End). next_of e + 5 + c.encoded_len.result + 1 ≤ log.half) (sym end) room in
+    let room : HasRoom log (length body) = c.prepare.ensures.room (search rules) in
+    let room_here : next_of c.self.inside.end + 5 + length body + 1 ≤ log.half = subst (λ (e : End). next_of e + 5 + length body + 1 ≤ log.half) (sym end) room in
     let long : length c.deref.result.now ≡ length body + 5 = ap (λ (l : List ℕ). length l) c.deref.ensures.value ∙ c.in_ok-behind.ensures.length in
-    let size : c.encoded_len.result ≡ length body = c.encoded_len.ensures in
     c.write_record.ensures.appends log gen bodies body
     (subst (IsBehind body) (sym c.deref.ensures.value) c.in_ok-behind.ensures.spelled)
-    (omega (arith, room_here, long, size))
+    (omega (arith, room_here, long))
     (omega (arith, half, c.self.invariant))
     c.start.ensures.place
     (ap (λ (l : LogEnd). l.epoch) c.self.view_is)
