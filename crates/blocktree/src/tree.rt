@@ -314,6 +314,7 @@ impl BlockTree {
         ensures settled { SameSettled self.old self.new }
         ensures kept { self.new.kept ≡ self.old.kept }
         ensures changed { (j : ℕ) → IsChanged self.old j → IsChanged self.new j }
+        ensures only { (j : ℕ) → IsChanged self.new j → IsChanged self.old j }
     {
         if !self.slots.contains_key(&i) {
             return match self.slots.insert(i, Slot::AsSettled) {
@@ -334,6 +335,7 @@ impl BlockTree {
         ensures settled { SameSettled self.old self.new }
         ensures kept { self.new.kept ≡ self.old.kept }
         ensures changed { (j : ℕ) → (j ≡ i) ⊎ IsChanged self.old j → IsChanged self.new j }
+        ensures only { (j : ℕ) → IsChanged self.new j → (j ≡ i) ⊎ IsChanged self.old j }
     {
         let _ = self.slots.insert(i, Slot::Changed(block));
     }

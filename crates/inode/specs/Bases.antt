@@ -5,6 +5,7 @@ use Rattle.layout.specs.declared.inode.Body.TheVariants.{Inline, Pointers}
 use Rattle.layout.specs.declared.inode.Inode.{Inode}
 use Rattle.layout.specs.declared.pointer.Pointer.{Pointer}
 use Rattle.blocktree.specs.Places.{block_count, depth_of}
+use Rattle.blocktree.specs.Trees.{IsChanged}
 use Rattle.blocktree.specs.declared.tree.BlockTree.{BlockTree}
 
 -- the tree has the pointers of a settled file of this size, and counts blocks of it
@@ -17,6 +18,11 @@ pub record HasPointers (pointers : List Pointer) (size : ℕ) (t : BlockTree) : 
 abbrev pub StartsFrom : Body → ℕ → BlockTree → Type 0
 StartsFrom (Inline bytes) size t = t.count ≡ 0
 StartsFrom (Pointers pointers) size t = HasPointers pointers size t × (t.kept ≡ t.count)
+
+-- no block is changed after loading, but the one that an inline body became
+abbrev pub StartsUnchanged : Body → BlockTree → Type 0
+StartsUnchanged (Inline bytes) t = Unit {0}
+StartsUnchanged (Pointers pointers) t = (i : ℕ) → IsChanged t i → ⊥
 
 -- The settled blocks of a tree are those that this inode names, or it has none.
 pub data IsBased (settled : Inode) (t : BlockTree) : Type 0 where

@@ -39,6 +39,7 @@ impl File {
         ensures settled { SameSettled self.old.tree self.new.tree }
         ensures kept { self.new.tree.kept ≡ self.old.tree.kept }
         ensures changed { (j : ℕ) → IsChanged self.old.tree j → IsChanged self.new.tree j }
+        ensures only { (j : ℕ) → IsChanged self.new.tree j → IsChanged self.old.tree j }
     {
         self.tree.make_room(i)
     }
@@ -55,6 +56,7 @@ impl File {
         ensures settled { SameSettled self.old.tree self.new.tree }
         ensures kept { self.new.tree.kept ≡ self.old.tree.kept }
         ensures changed { (j : ℕ) → (j ≡ i) ⊎ IsChanged self.old.tree j → IsChanged self.new.tree j }
+        ensures only { (j : ℕ) → IsChanged self.new.tree j → (j ≡ i) ⊎ IsChanged self.old.tree j }
     {
         self.tree.set(i, block);
     }

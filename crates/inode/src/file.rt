@@ -29,7 +29,7 @@ impl File {
     ghost use Rattle.blocktree.specs.Trees.{IsChanged, IsSoundAt, IsAt, OnDisk};
     ghost use Rattle.images.specs.Nodes.{held};
     ghost use Rattle.images.specs.Soundness.{IsSoundFile};
-    ghost use Rattle.inode.specs.Bases.{IsBased, StartsFrom};
+    ghost use Rattle.inode.specs.Bases.{IsBased, StartsFrom, StartsUnchanged};
     ghost use Rattle.inode.specs.Bodies.{inode_block};
     ghost use Rattle.inode.specs.Files.{IsAsHeld, file_block, byte_at, IsFile};
 
@@ -44,6 +44,7 @@ impl File {
         ensures ends { (s : Sizes) (disk : ℕ → List ℕ) → IsSoundFile s (held disk inode)
             → IfOk result (IsFile disk) }
         ensures settled { IfOk result (λ f. StartsFrom inode.body inode.size f.tree) }
+        ensures unchanged { IfOk result (λ f. StartsUnchanged inode.body f.tree) }
         ensures base { IfOk result (λ f. IsBased inode f.tree) }
     {
         settled_files_are_as_held();

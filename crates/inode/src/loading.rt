@@ -5,7 +5,7 @@ ghost use Rattle.layout.specs.Version.{greatest_size};
 ghost use Rattle.layout.specs.declared.inode.Body.TheVariants.{Inline};
 ghost use Rattle.layout.specs.declared.version.TheConstants.{VERSION};
 ghost use Rattle.blocktree.specs.Trees.{tree_block};
-ghost use Rattle.inode.specs.Bases.{StartsFrom};
+ghost use Rattle.inode.specs.Bases.{StartsFrom, StartsUnchanged};
 ghost use Rattle.inode.specs.Bodies.{body_block};
 
 use blocktree::BlockTree;
@@ -19,6 +19,7 @@ pub(crate) fn settled_tree(alloc: Global, body: Body, size: u64) -> Result<Block
     ensures blocks { IfOk result (λ t. (disk : ℕ → List ℕ) (i : ℕ)
         → tree_block disk t i ≡ body_block disk body size i) }
     ensures settled { IfOk result (StartsFrom body size) }
+    ensures unchanged { IfOk result (StartsUnchanged body) }
 {
     match body {
         Body::Inline(bytes) => inline_tree(alloc, &bytes, size),

@@ -30,7 +30,7 @@ impl Object {
     ghost use Rattle.layout.specs.Limits.{Sizes};
     ghost use Rattle.images.specs.Nodes.{held};
     ghost use Rattle.images.specs.Soundness.{IsSoundFile};
-    ghost use Rattle.inode.specs.Bases.{IsBased, StartsFrom};
+    ghost use Rattle.inode.specs.Bases.{IsBased, StartsFrom, StartsUnchanged};
     ghost use Rattle.inode.specs.Files.{IsAsHeld, IsFile, file_block};
 
     /// The object of a settled inode.
@@ -47,6 +47,7 @@ impl Object {
         ensures ends { (s : Sizes) (disk : ℕ → List ℕ) → IsSoundFile s (held disk inode)
             → IfOk result (λ o. IsFile disk o.file) }
         ensures settled { IfOk result (λ o. StartsFrom inode.body inode.size o.file.tree) }
+        ensures unchanged { IfOk result (λ o. StartsUnchanged inode.body o.file.tree) }
         ensures base { IfOk result (λ o. IsBased inode o.file.tree) }
     {
         let attributes = Attributes {

@@ -1,13 +1,13 @@
 -- A new image's files against the blocks of an empty disk.
-use Rattle.std.proofs.Common.{◌≡◌, inl, inr, ℕ, zero, suc, ◌+◌, ◌-◌, ◌*◌, ◌<◌, ◌≤◌, Bool, true, false, Option, Some, None, List, refl, sym, subst, ◌∙◌, arith}
+use Rattle.std.proofs.Common.{◌≡◌, inl, inr, ℕ, zero, suc, ◌+◌, ◌-◌, ◌*◌, ◌≤◌, Bool, true, false, Option, Some, None, List, refl, sym, subst, ◌∙◌, arith}
 use Rattle.std.proofs.lemmas.Bool.{cases_lt}
-use Rattle.std.specs.Prelude.{if◌then◌else◌, ◌==◌, nat_le, nat_lt}
+use Rattle.std.specs.Prelude.{if◌then◌else◌, ◌==◌, min, nat_le, nat_lt}
 use Rattle.std.specs.Prelude.{Err, IfErr, IsErrOf, Result}
 use Rattle.std.specs.Int.{div_ceil}
 use Rattle.std.specs.Ordering.{nat_cmp}
 use Rattle.std.specs.BTreeMap as tree
 use Rattle.layout.specs.Version.{level_of}
-use Rattle.blocktree.specs.Places.{block_count}
+use Rattle.blocktree.specs.Places.{block_count, depth_of}
 use Rattle.blocktree.specs.Trees.{IsChanged, IsChangedSlot}
 use Rattle.blocktree.specs.declared.tree.BlockTree.{BlockTree}
 use Rattle.blocktree.specs.declared.tree.Slot.{Slot}
@@ -23,7 +23,7 @@ use Rattle.conspoint.specs.MapFiles.{map_nodes}
 use Rattle.conspoint.specs.Space.{changed_blocks, slot_stores, sum_below}
 use Rattle.conspoint.proofs.SumLemmas.{changed_within}
 use Rattle.inode.specs.declared.file.File.{File}
-use Rattle.placement.specs.Space.{file_stores, first_stores, level_stores}
+use Rattle.placement.specs.Space.{file_stores, first_stores, level_stores, more_over}
 use Rattle.making.specs.Space.{NUMBERS_STORES, TOP_STORES}
 use Rattle.making.specs.Starts.{IsEmptyMap, system_entry}
 use Rattle.making.proofs.EmptyMapLaws.{system_low, system_past}
@@ -52,9 +52,17 @@ empty_left blocks m empty =
     rw (empty.count, empty.next) (omega (arith, free_of_empty m.parts.items empty.settled blocks, free_of_empty m.parts.items empty.settled 2))
 
 -- not many more blocks are stored of a file than are changed
-stores_few : (level blocks changed : ℕ) → level_stores level blocks changed ≤ 2 * changed + 1
-stores_few zero blocks changed = omega arith
-stores_few (suc level) blocks changed = omega arith
+stores_few : (level blocks changed more : ℕ) → more ≤ 1 → level_stores level blocks changed more ≤ 2 * changed + 1
+stores_few zero blocks changed more one = omega arith
+stores_few (suc level) blocks changed more one = omega (arith, one)
+
+one_of : (s t : Bool) → (if s then 1 else if t then 0 else 1) ≤ 1
+one_of true t = omega arith
+one_of false true = omega arith
+one_of false false = omega arith
+
+more_few : (f : File) → more_over f ≤ 1
+more_few f = one_of (nat_lt (min f.tree.kept (block_count f.size)) f.tree.count) (f.tree.depth == depth_of f.size)
 
 unchanged_slot : (s : Option Slot) → (IsChangedSlot s → ⊥) → slot_stores s ≡ 0
 unchanged_slot None not = refl
@@ -76,7 +84,7 @@ none_changed t first (suc n) not =
 -- the inode map has two blocks at the most
 pub numbers_few : (f : File) (inodes : ℕ) → f.size ≡ div_ceil inodes 8 → inodes ≤ 65536 → file_stores f ≤ NUMBERS_STORES
 numbers_few f inodes size most =
-    let few = stores_few (level_of f.size) (block_count f.size) (changed_blocks f.tree 0 (block_count f.size)) in
+    let few = stores_few (level_of f.size) (block_count f.size) (changed_blocks f.tree 0 (block_count f.size)) (more_over f) (more_few f) in
     let within = changed_within f.tree 0 (block_count f.size) in
     let blocks : block_count f.size ≤ 2 = omega (arith, size, most) in
     omega (arith, few, within, blocks)
@@ -84,7 +92,7 @@ numbers_few f inodes size most =
 -- of the inode file only the first block is stored
 pub top_few : (f : File) → ((i : ℕ) → IsChanged f.tree i → ⊥) → first_stores f ≤ TOP_STORES
 top_few f not =
-    let few = stores_few (level_of f.size) (block_count f.size) (changed_blocks f.tree 1 (block_count f.size) + 1) in
+    let few = stores_few (level_of f.size) (block_count f.size) (changed_blocks f.tree 1 (block_count f.size) + 1) (more_over f) (more_few f) in
     let none = none_changed f.tree 1 (block_count f.size) not in
     omega (arith, few, none)
 

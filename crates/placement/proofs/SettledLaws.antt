@@ -1,5 +1,5 @@
 -- The settled nodes that were read are those that hang from the settled inode.
-use Rattle.std.proofs.Common.{◌≡◌, inl, inr, ℕ, zero, suc, ◌-◌, ◌<◌, length, ap, sym, ◌∙◌, arith}
+use Rattle.std.proofs.Common.{◌≡◌, ◌⊎◌, inl, inr, ℕ, zero, suc, ◌-◌, ◌*◌, ◌^◌, ◌<◌, ◌≤◌, length, ap, sym, ◌∙◌, arith}
 use Rattle.std.specs.Int.{div_ceil}
 use Rattle.std.proofs.lemmas.Bool.{cases_lt, cases_eq}
 use Rattle.std.proofs.lemmas.List.{get_or_past}
@@ -83,3 +83,20 @@ module _ (s : Sizes) (d : Blocks) (base : Inode) (t : BlockTree) (n : Nodes) (so
     blocks = blocks;
     over = inr (over_empty empty);
   }
+
+-- ---- how many there are
+
+pub over_none : (depth count over : ℕ) → (0 < depth → over ≡ div_ceil count 1024) → over ≡ 0 → (depth ≡ 0) ⊎ (count ≡ 0)
+over_none depth count over some none = elim (cases_eq depth 0) [
+  | inl flat ↦ inl flat
+  | inr deep ↦ (let is = some (omega (arith, deep)) in inr (omega (arith, is, none)))
+]
+
+pub few_kept : (t : BlockTree) (over : ℕ) → (0 < t.depth → over ≡ div_ceil t.count 1024) → over ≡ 0 → t.kept ≤ 16
+few_kept t over some none = elim (over_none t.depth t.count over some none) [
+  | inl flat ↦
+      let fits : (t.count ≤ 16 * 1024 ^ t.depth) × (t.kept ≤ t.count) = t.fits in
+      let one : 1024 ^ t.depth ≡ 1 = ap (λ (k : ℕ). 1024 ^ k) flat in
+      omega (arith, fits.0, fits.1, one)
+  | inr empty ↦ (let fits : (t.count ≤ 16 * 1024 ^ t.depth) × (t.kept ≤ t.count) = t.fits in omega (arith, fits.1, empty))
+]

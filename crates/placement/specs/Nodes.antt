@@ -45,6 +45,9 @@ pub record ArePlacedOver (old new : Draft) (settled placed : Nodes) : Type 0 whe
   pub apart : (m i k j b : ℕ) → node placed m i ≡ Block b → node placed k j ≡ Block b
       → ((node settled m i ≡ Block b) ⊎ (node settled k j ≡ Block b)) ⊎ ((m ≡ k) × (i ≡ j))
 
--- of a file without settled indirect blocks no more settled blocks count than an inode has pointers
-abbrev pub AreFew : BlockTree → Nodes → Type 0
-AreFew t n = length n.over.items ≡ 0 → t.kept ≤ BODY_POINTERS
+-- How many settled nodes of a file there are: as many blocks as the tree counts, and indirect blocks where it counts some below them;
+-- without these no more blocks count than an inode has pointers.
+pub record AreCounted (t : BlockTree) (n : Nodes) : Type 0 where
+  pub blocks : length n.blocks.items ≡ t.count
+  pub over : length n.over.items ≡ 0 → (t.depth ≡ 0) ⊎ (t.count ≡ 0)
+  pub few : length n.over.items ≡ 0 → t.kept ≤ BODY_POINTERS

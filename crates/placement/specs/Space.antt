@@ -1,9 +1,9 @@
 -- How many blocks a file may take of a disk.
-use Rattle.std.specs.Prelude.{ℕ, zero, suc, ◌+◌, min}
+use Rattle.std.specs.Prelude.{ℕ, zero, suc, ◌+◌, ◌==◌, min, nat_lt, if◌then◌else◌}
 use Rattle.std.specs.Int.{div_ceil}
 use Rattle.layout.specs.Version.{level_of}
 use Rattle.layout.specs.declared.TheConstants.{BLOCK_POINTERS}
-use Rattle.blocktree.specs.Places.{block_count}
+use Rattle.blocktree.specs.Places.{block_count, depth_of}
 use Rattle.inode.specs.declared.file.File.{File}
 use Rattle.conspoint.specs.Space.{changed_blocks}
 
@@ -22,16 +22,26 @@ level_nodes (suc level) blocks = blocks + over_nodes (suc level) blocks
 abbrev pub file_nodes : ℕ → ℕ
 file_nodes size = level_nodes (level_of size) (block_count size)
 
--- What a consistency point stores of a file at a level, where so many of its blocks are changed: these, and indirect blocks, one
--- for each of them at the most and one where the file was cut or got its level.
-abbrev pub level_stores : ℕ → ℕ → ℕ → ℕ
-level_stores zero blocks changed = 0
-level_stores (suc level) blocks changed = changed + min (over_nodes (suc level) blocks) (changed + 1)
+-- What a consistency point stores of a file at a level, where so many of its blocks are changed: these, and at the most one indirect
+-- block for each of them, and so many more.
+abbrev pub level_stores : ℕ → ℕ → ℕ → ℕ → ℕ
+level_stores zero blocks changed more = 0
+level_stores (suc level) blocks changed more =
+    changed + min (over_nodes (suc level) blocks) (changed + more)
+
+-- one indirect block more where settled blocks of the file were cut off, or it has another level than it had
+abbrev pub more_over : File → ℕ
+more_over f =
+    if nat_lt (min f.tree.kept (block_count f.size)) f.tree.count
+    then 1
+    else if f.tree.depth == depth_of f.size then 0 else 1
 
 -- what it stores of a changed file
 abbrev pub file_stores : File → ℕ
-file_stores f = level_stores (level_of f.size) (block_count f.size) (changed_blocks f.tree 0 (block_count f.size))
+file_stores f =
+    level_stores (level_of f.size) (block_count f.size) (changed_blocks f.tree 0 (block_count f.size)) (more_over f)
 
 -- and of one whose block 0 is stored in any case
 abbrev pub first_stores : File → ℕ
-first_stores f = level_stores (level_of f.size) (block_count f.size) (changed_blocks f.tree 1 (block_count f.size) + 1)
+first_stores f =
+    level_stores (level_of f.size) (block_count f.size) (changed_blocks f.tree 1 (block_count f.size) + 1) (more_over f)

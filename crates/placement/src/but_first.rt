@@ -17,7 +17,7 @@ ghost use Rattle.conspoint.specs.Groups.{pointer_at};
 ghost use Rattle.conspoint.specs.Space.{Lacks, TakesAtMost, changed_blocks};
 ghost use Rattle.placement.specs.Files.{IsChangeOf, IsPlaced, content_with, is_one, object_block, with_first};
 ghost use Rattle.placement.specs.Layouts.{AreSettled, IsLaidOut, inode_with};
-ghost use Rattle.placement.specs.Nodes.{AreFew, ArePlacedAt, ArePlacedOver};
+ghost use Rattle.placement.specs.Nodes.{AreCounted, ArePlacedAt, ArePlacedOver};
 ghost use Rattle.placement.specs.Space.{first_stores};
 
 use crate::blocks::place_lowest;
@@ -89,7 +89,7 @@ fn lay_but_first(
     requires some { BLOCK_BYTES ≤ object.now.file.size }
     requires blocks { All (PointsBelow draft.old.map.count) settled.now.blocks.items }
     requires over { All (PointsBelow draft.old.map.count) settled.now.over.items }
-    requires few { AreFew object.now.file.tree settled.now }
+    requires counted { AreCounted object.now.file.tree settled.now }
     ensures grows { Grows draft.old draft.new }
     ensures parts { draft.new.map.parts.items ≡ draft.old.map.parts.items }
     ensures others { (p : ℕ) → IsReserved draft.old p → IsReserved draft.new p }

@@ -20,7 +20,7 @@ ghost use Rattle.conspoint.specs.Groups.{group, pointer_at};
 ghost use Rattle.placement.specs.Files.{AreAllChanged, IsChangeOf, IsPlaced, IsWholeOver, is_one, object_block, object_content};
 ghost use Rattle.conspoint.specs.Space.{CountsGroups, Lacks, TakesAtMost, sum_below};
 ghost use Rattle.placement.specs.Layouts.{AreSettled, Carries, IsLaidOut, LeadTo, StandsIn, inode_with, under};
-ghost use Rattle.placement.specs.Nodes.{AreFew, ArePlacedAt, ArePlacedOver, HasMoved};
+ghost use Rattle.placement.specs.Nodes.{AreCounted, ArePlacedAt, ArePlacedOver, HasMoved};
 ghost use Rattle.placement.specs.Space.{file_stores, over_nodes};
 
 use crate::blocks::place_lowest;
@@ -168,7 +168,7 @@ fn lay_blocks(
     requires level { 1 ≤ level_of object.now.file.size }
     requires blocks { All (PointsBelow draft.old.map.count) settled.now.blocks.items }
     requires over { All (PointsBelow draft.old.map.count) settled.now.over.items }
-    requires few { AreFew object.now.file.tree settled.now }
+    requires counted { AreCounted object.now.file.tree settled.now }
     ensures grows { Grows draft.old draft.new }
     ensures parts { draft.new.map.parts.items ≡ draft.old.map.parts.items }
     ensures others { (p : ℕ) → IsReserved draft.old p → IsReserved draft.new p }
@@ -233,7 +233,7 @@ fn lay<B: Blocks>(
 ) -> Result<Laid, PlanError>
     requires blocks { All (PointsBelow draft.old.map.count) settled.now.blocks.items }
     requires over { All (PointsBelow draft.old.map.count) settled.now.over.items }
-    requires few { AreFew object.now.file.tree settled.now }
+    requires counted { AreCounted object.now.file.tree settled.now }
     ensures count { B.count blocks.new ≡ B.count blocks.old }
     ensures counted { OnOk result (B.failed blocks.new ≡ B.failed blocks.old) }
     ensures device { IsErrOf result PlanError.Device

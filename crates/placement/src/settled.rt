@@ -13,7 +13,7 @@ ghost use Rattle.blocktree.specs.Trees.{AreSound};
 ghost use Rattle.conspoint.specs.Groups.{pointer_at};
 ghost use Rattle.placement.specs.Files.{IsBasedOn};
 ghost use Rattle.placement.specs.Layouts.{AreSettled};
-ghost use Rattle.placement.specs.Nodes.{AreFew};
+ghost use Rattle.placement.specs.Nodes.{AreCounted};
 
 use crate::nodes::Nodes;
 use blocktree::BlockTree;
@@ -66,7 +66,7 @@ pub fn settled_nodes<B: Blocks>(
     ensures same { (disk : ℕ → List ℕ) → B.Shows blocks.old disk → B.Shows blocks.new disk }
     ensures blocks { IfOk result (λ n. All (PointsBelow (B.count blocks.old)) n.blocks.items) }
     ensures over { IfOk result (λ n. All (PointsBelow (B.count blocks.old)) n.over.items) }
-    ensures few { IfOk result (AreFew tree.now) }
+    ensures sizes { IfOk result (AreCounted tree.now) }
     ensures settled { (s : Sizes) (disk : ℕ → List ℕ) (base : Inode) → B.Shows blocks.old disk
         → IsBasedOn base tree.now → IsSoundFile s (held disk base)
         → IfOk result (AreSettled disk base tree.now) }

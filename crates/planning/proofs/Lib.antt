@@ -17,3 +17,5 @@ mod SettledLaws
 mod LoopLaws
 mod SpaceLaws
 mod CountLaws
+mod TopLaws
+mod TellLaws

@@ -13,7 +13,7 @@ use Rattle.images.specs.Soundness.{IsOrdinary, MapsNumbers}
 use Rattle.inofile.specs.Volumes.{MapsVolume}
 
 -- what isn't free stands for an object
-stands_some : (k : Kind) (inodes : ℕ) (c : Content) (o : Option Node) → IsOrdinary k → k ≢ kinds.Free → StandsAs k inodes c o → IsSome o
+pub stands_some : (k : Kind) (inodes : ℕ) (c : Content) (o : Option Node) → IsOrdinary k → k ≢ kinds.Free → StandsAs k inodes c o → IsSome o
 stands_some kinds.Free inodes c o ordinary other is = absurd (other refl)
 stands_some kinds.File inodes c o ordinary other is = subst (λ x. IsSome x) (sym is) refl
 stands_some kinds.Directory inodes c o ordinary other is = subst (λ x. IsSome x) (sym is.2) refl
@@ -22,7 +22,7 @@ stands_some kinds.InodeFile inodes c o ordinary other is = absurd ordinary
 stands_some kinds.InodeMap inodes c o ordinary other is = absurd ordinary
 stands_some kinds.BlockMap inodes c o ordinary other is = absurd ordinary
 
-stands_none : (k : Kind) (inodes : ℕ) (c : Content) (o : Option Node) → k ≡ kinds.Free → StandsAs k inodes c o → IsSome o → ⊥
+pub stands_none : (k : Kind) (inodes : ℕ) (c : Content) (o : Option Node) → k ≡ kinds.Free → StandsAs k inodes c o → IsSome o → ⊥
 stands_none k inodes c o free is some =
     let none : o ≡ None = subst (λ x. StandsAs x inodes c o) free is in let both : IsSome {T = Node} None = subst (λ x. IsSome x) none some in absurd (cc)
 

@@ -61,7 +61,7 @@ HoldsAgreed = (d e : Blocks) (f : Inode) → Agrees (Names (held d f)) d e → h
 abbrev pub files_after : Planned → (ℕ → Content) → HeldTree → ℕ → Content
 files_after p found t n = if p.changed n then found n else contents t n
 
-ordinary_from : (n : ℕ) (k : Kind) → 3 ≤ n → FitsNumber n k → IsOrdinary k
+pub ordinary_from : (n : ℕ) (k : Kind) → 3 ≤ n → FitsNumber n k → IsOrdinary k
 ordinary_from zero k low is = absurd (omega arith)
 ordinary_from (suc zero) k low is = absurd (omega arith)
 ordinary_from (suc (suc zero)) k low is = absurd (omega arith)

@@ -15,7 +15,7 @@ use Rattle.blocktree.specs.Places.{block_count}
 use Rattle.inode.specs.declared.file.File.{File}
 use Rattle.conspoint.specs.Space.{changed_blocks}
 use Rattle.conspoint.proofs.SumLemmas.{changed_within}
-use Rattle.placement.specs.Space.{file_nodes, file_stores, first_stores, level_nodes, level_stores}
+use Rattle.placement.specs.Space.{file_nodes, file_stores, level_nodes, level_stores, more_over}
 use Rattle.planning.specs.Space.{nodes_below, number_nodes, slot_nodes}
 
 -- below a later number as many are counted, or more
@@ -52,17 +52,12 @@ is_behind xs i n k rises within is lt =
 
 -- ---- no more is stored of a file than it has
 
-level_within : (level blocks changed : ℕ) → changed ≤ blocks → level_stores level blocks changed ≤ level_nodes level blocks
-level_within zero blocks changed le = omega arith
-level_within (suc level) blocks changed le = omega (arith, le)
+level_within : (level blocks changed more : ℕ) → changed ≤ blocks → level_stores level blocks changed more ≤ level_nodes level blocks
+level_within zero blocks changed more le = omega arith
+level_within (suc level) blocks changed more le = omega (arith, le)
 
 pub stores_within : (f : File) → file_stores f ≤ file_nodes f.size
-stores_within f = level_within (level_of f.size) (block_count f.size) (changed_blocks f.tree 0 (block_count f.size)) (omega (arith, changed_within f.tree 0 (block_count f.size)))
-
-pub first_within : (f : File) → 4096 ≤ f.size → first_stores f ≤ file_nodes f.size
-first_within f some =
-    let one : 1 ≤ block_count f.size = omega (arith, some) in
-    level_within (level_of f.size) (block_count f.size) (changed_blocks f.tree 1 (block_count f.size) + 1) (omega (arith, one, changed_within f.tree 1 (block_count f.size)))
+stores_within f = level_within (level_of f.size) (block_count f.size) (changed_blocks f.tree 0 (block_count f.size)) (more_over f) (omega (arith, changed_within f.tree 0 (block_count f.size)))
 
 -- ---- what is counted in memory
 

@@ -1,11 +1,15 @@
--- The inodes that the blocks of the inode file spell.
-use Rattle.std.specs.Prelude.{ℕ, ◌≡◌, ◌-◌, ◌*◌, ◌/◌, ◌%◌, ◌<◌, ◌≤◌, ◌==◌, List, drop, if◌then◌else◌}
+-- The inodes that the blocks of the inode file spell, and which of its blocks are changed.
+use Rattle.std.specs.Prelude.{ℕ, ◌≡◌, ◌⊎◌, ◌-◌, ◌*◌, ◌/◌, ◌%◌, ◌<◌, ◌≤◌, ◌==◌, List, drop, if◌then◌else◌}
 use Rattle.layout.specs.Bytes.{zeros}
 use Rattle.layout.specs.Inode.{inode_bytes}
 use Rattle.layout.specs.declared.TheConstants.{BLOCK_BYTES, INODE_BYTES, INODES_PER_BLOCK}
 use Rattle.layout.specs.declared.inode.Inode.{Inode}
+use Rattle.blocktree.specs.Trees.{IsChanged}
+use Rattle.blocktree.specs.declared.tree.BlockTree.{BlockTree}
 use Rattle.images.specs.InodeFiles.{put_at}
 use Rattle.images.specs.Roots.{inode_bytes_at}
+use Rattle.inofile.specs.Inodes as numbers
+use Rattle.inofile.specs.declared.inode_file.InodeFile.{InodeFile}
 
 -- The blocks spell these inodes, and zeros elsewhere: for number 0, past the last number, and behind the last inode of each block.
 pub record AreSpelled (inodes : ℕ) (block : ℕ → List ℕ) (inode : ℕ → Inode) : Type 0 where
@@ -25,3 +29,12 @@ with_inode_at block n f i =
 -- these inodes with that of a number
 abbrev pub with_number : (ℕ → Inode) → ℕ → Inode → ℕ → Inode
 with_number inode n f k = if k == n then f else inode k
+
+-- a changed number has its inode in block i
+abbrev pub HasChange : InodeFile → ℕ → Type 0
+HasChange s i = (n : ℕ) × (n / INODES_PER_BLOCK ≡ i) × numbers.IsChanged s n
+
+-- only these blocks of a file become changed, and no block is cut off
+pub record ChangesOnly (IsOne : ℕ → Type 0) (old new : BlockTree) : Type 0 where
+  pub kept : new.kept ≡ old.kept
+  pub only : (i : ℕ) → IsChanged new i → IsOne i ⊎ IsChanged old i

@@ -1,17 +1,23 @@
--- How many blocks a consistency point may take: of each changed file what is changed of it; of the system's own files all.
-use Rattle.std.specs.Prelude.{ℕ, zero, suc, ◌+◌, ◌<◌, Option, Some, None}
+-- How many blocks a consistency point may take: of each changed file, and of the inode file, what is changed of it; of the two maps all.
+use Rattle.std.specs.Prelude.{ℕ, zero, suc, ◌≡◌, ◌↔◌, ◌+◌, ◌*◌, ◌/◌, ◌<◌, ◌==◌, min, List, Option, Some, None, IsSome, if◌then◌else◌}
 use Rattle.std.specs.Int.{div_ceil}
 use Rattle.std.specs.Ordering.{nat_cmp}
 use Rattle.std.specs.BTreeMap as tree
-use Rattle.layout.specs.declared.TheConstants.{BLOCK_POINTERS}
+use Rattle.layout.specs.declared.TheConstants.{BLOCK_BYTES, BLOCK_POINTERS, INODES_PER_BLOCK}
+use Rattle.layout.specs.Maps.{IsTaken}
+use Rattle.layout.specs.Version.{level_of}
+use Rattle.model.specs.Volumes.{Volume}
 use Rattle.layout.specs.declared.root.Root.{Root}
 use Rattle.blockmap.specs.Space.{left}
 use Rattle.blockmap.specs.declared.map.BlockMap.{BlockMap}
+use Rattle.blocktree.specs.Places.{block_count}
 use Rattle.conspoint.specs.MapFiles.{map_nodes}
+use Rattle.conspoint.specs.Space.{sum_below}
+use Rattle.inofile.specs.Inodes.{is_changed_slot}
 use Rattle.inofile.specs.declared.inode_file.Slot.{Slot}
 use Rattle.inofile.specs.declared.inode_file.Slot.TheVariants.{AsSettled, Loaded, Changed}
 use Rattle.inofile.specs.declared.inode_file.InodeFile.{InodeFile}
-use Rattle.placement.specs.Space.{file_nodes, file_stores}
+use Rattle.placement.specs.Space.{file_nodes, file_stores, level_stores}
 
 -- the blocks that a point stores of what memory has of a number
 abbrev pub slot_nodes : Option Slot → ℕ
@@ -34,6 +40,41 @@ nodes_below s (suc n) = nodes_below s n + number_nodes s n
 abbrev pub change_nodes : InodeFile → ℕ
 change_nodes s = nodes_below s s.geometry.inodes + file_nodes (div_ceil s.geometry.inodes 8)
 
+-- so many numbers one block of the inode map tells of
+abbrev pub MAP_NUMBERS : ℕ
+MAP_NUMBERS = 8 * BLOCK_BYTES
+
+-- block i of a map with these bytes tells of its numbers what this block does
+abbrev pub TellsSame : List ℕ → List ℕ → ℕ → Type 0
+TellsSame bytes block i = (k : ℕ) → k < MAP_NUMBERS → IsTaken block k ↔ IsTaken bytes (MAP_NUMBERS * i + k)
+
+-- these numbers count each block of the inode map that tells other than the settled one of its numbers
+abbrev pub CountsBlocks : (ℕ → ℕ) → List ℕ → (ℕ → List ℕ) → Type 0
+CountsBlocks w bytes settled = (i : ℕ) → w i ≡ 0 → TellsSame bytes (settled i) i
+
+-- these numbers count each block of the inode map of whose numbers an object came or went between two volumes
+abbrev pub CountsMoves : (ℕ → ℕ) → Volume → Volume → Type 0
+CountsMoves w old new = (n : ℕ) → w (n / MAP_NUMBERS) ≡ 0 → IsSome (old n) ↔ IsSome (new n)
+
+-- the blocks of the inode map that these numbers count
+abbrev pub map_stores : (ℕ → ℕ) → InodeFile → ℕ
+map_stores w s = sum_below w (block_count (div_ceil s.geometry.inodes 8))
+
+-- one for a number that is changed
+abbrev pub number_changes : InodeFile → ℕ → ℕ
+number_changes s n = if is_changed_slot (tree.get nat_cmp s.slots n) then 1 else 0
+
+-- one for a block of the inode file that is stored: the first, which has the inodes of the maps, and each that has a changed number
+abbrev pub top_block : InodeFile → ℕ → ℕ
+top_block s i =
+    if i == 0
+    then 1
+    else min 1 (sum_below (λ k. number_changes s (INODES_PER_BLOCK * i + k)) INODES_PER_BLOCK)
+
+-- the blocks of an inode file of so many bytes: those, and the indirect ones over them
+abbrev pub top_nodes : InodeFile → ℕ → ℕ
+top_nodes s size = level_stores (level_of size) (block_count size) (sum_below (top_block s) (block_count size)) 0
+
 -- the blocks of a block map, an entry for each block of a disk of so many
 abbrev pub map_file_nodes : ℕ → ℕ
 map_file_nodes blocks = map_nodes (div_ceil blocks BLOCK_POINTERS)
@@ -41,8 +82,13 @@ map_file_nodes blocks = map_nodes (div_ceil blocks BLOCK_POINTERS)
 -- The blocks that a point of this memory over this root may take, on a disk of so many: those of the changed numbers, of the inode
 -- map, of the inode file, and of the block map.
 abbrev pub point_nodes : Root → InodeFile → ℕ → ℕ
-point_nodes r s blocks = change_nodes s + file_nodes r.inode_file.size + map_file_nodes blocks
+point_nodes r s blocks = change_nodes s + top_nodes s r.inode_file.size + map_file_nodes blocks
 
--- the settled root leaves fewer blocks free than that
+-- the same where of the inode map only the blocks that are counted so are stored
+abbrev pub point_stores : (ℕ → ℕ) → Root → InodeFile → ℕ → ℕ
+point_stores w r s blocks =
+    nodes_below s s.geometry.inodes + map_stores w s + top_nodes s r.inode_file.size + map_file_nodes blocks
+
+-- the settled root leaves fewer blocks free than point_nodes
 abbrev pub LacksBlocks : Root → InodeFile → BlockMap → Type 0
 LacksBlocks r s m = left m < point_nodes r s m.count

@@ -3,16 +3,17 @@
 ghost use Rattle.std.specs.Prelude.{ℕ, ◌≡◌, ◌*◌, ◌+◌, ◌<◌, ◌≤◌};
 ghost use Rattle.layout.specs.Root.{IsRoot};
 ghost use Rattle.layout.specs.Version.{greatest_size};
+ghost use Rattle.layout.specs.declared.TheConstants.{INODES_PER_BLOCK};
 ghost use Rattle.layout.specs.declared.version.TheConstants.{VERSION};
 ghost use Rattle.conspoint.specs.MapFiles.{map_nodes};
-ghost use Rattle.conspoint.specs.Space.{block_stores, changed_blocks};
-ghost use Rattle.placement.specs.Space.{file_nodes, file_stores};
-ghost use Rattle.planning.specs.Space.{change_nodes, map_file_nodes, nodes_below, number_nodes, point_nodes};
+ghost use Rattle.conspoint.specs.Space.{block_stores, changed_blocks, sum_below};
+ghost use Rattle.placement.specs.Space.{file_nodes, file_stores, more_over};
+ghost use Rattle.planning.specs.Space.{change_nodes, map_file_nodes, nodes_below, number_changes, number_nodes, point_nodes, top_block, top_nodes};
 
 use blocktree::BlockTree;
 use inode::File;
 use inofile::InodeFile;
-use layout::{BLOCK_BYTES, BLOCK_POINTERS, BODY_POINTERS, Root, level_of};
+use layout::{BLOCK_BYTES, BLOCK_POINTERS, BODY_POINTERS, INODES_PER_BLOCK, Root, level_of};
 
 /// How many blocks a file of so many bytes has at the most, with the indirect blocks over them.
 fn file_blocks(size: u64) -> u64
@@ -51,6 +52,21 @@ fn changed_in(tree: &BlockTree, count: u32) -> u64
     blocks
 }
 
+/// One where settled blocks of a file were cut off, or where it has another level than it had.
+fn one_more(file: &File) -> u64
+    ensures count { result ≡ more_over file.now }
+    ensures most { result ≤ 1 }
+{
+    let tree = file.tree();
+    let count = file.size().div_ceil(BLOCK_BYTES as u64) as u32;
+    let depth = u32::from(level_of(file.size()).saturating_sub(1));
+    if tree.kept().min(count) < tree.count() || tree.depth() != depth {
+        1
+    } else {
+        0
+    }
+}
+
 /// How many blocks a point stores of a changed file at the most.
 fn stored_blocks(file: &File) -> u64
     ensures count { result ≡ file_stores file.now }
@@ -58,10 +74,11 @@ fn stored_blocks(file: &File) -> u64
 {
     let count = file.size().div_ceil(BLOCK_BYTES as u64);
     let changed = changed_in(file.tree(), count as u32);
+    let more = one_more(file);
     match level_of(file.size()) {
         0 => 0,
         1 => changed,
-        _ => changed + count.div_ceil(BLOCK_POINTERS as u64).min(changed + 1),
+        _ => changed + count.div_ceil(BLOCK_POINTERS as u64).min(changed + more),
     }
 }
 
@@ -91,6 +108,67 @@ fn all_changed(inodes: &InodeFile) -> u64
     blocks
 }
 
+/// One for a number that is changed.
+fn one_number(inodes: &InodeFile, number: u32) -> u64
+    ensures count { result ≡ number_changes inodes.now number }
+    ensures most { result ≤ 1 }
+{
+    if inodes.is_changed(number) { 1 } else { 0 }
+}
+
+/// How many numbers are changed whose inodes are in block `i` of the inode file.
+fn changed_numbers(inodes: &InodeFile, i: u32) -> u64
+    requires { i < 16384 }
+    ensures { result ≡ sum_below (λ k. number_changes inodes.now (INODES_PER_BLOCK * i + k))
+        INODES_PER_BLOCK }
+{
+    let mut numbers = 0;
+    for k in 0..INODES_PER_BLOCK {
+        numbers += one_number(inodes, INODES_PER_BLOCK * i + k);
+    }
+    numbers
+}
+
+/// One for a block of the inode file that is stored.
+fn stored_one(inodes: &InodeFile, i: u32) -> u64
+    requires { i < 16384 }
+    ensures count { result ≡ top_block inodes.now i }
+    ensures most { result ≤ 1 }
+{
+    if i == 0 {
+        return 1;
+    }
+    changed_numbers(inodes, i).min(1)
+}
+
+/// How many of its first blocks are stored.
+fn stored_in(inodes: &InodeFile, count: u32) -> u64
+    requires { count ≤ 16384 }
+    ensures count { result ≡ sum_below (top_block inodes.now) count }
+    ensures most { result ≤ count }
+{
+    let mut blocks = 0;
+    for i in 0..count {
+        blocks += stored_one(inodes, i);
+    }
+    blocks
+}
+
+/// How many blocks a point stores of an inode file of so many bytes.
+fn top_blocks(inodes: &InodeFile, size: u64) -> u64
+    requires { size ≤ greatest_size VERSION }
+    ensures count { result ≡ top_nodes inodes.now size }
+    ensures most { result ≤ 16400 }
+{
+    let count = size.div_ceil(BLOCK_BYTES as u64);
+    let stored = stored_in(inodes, count as u32);
+    match level_of(size) {
+        0 => 0,
+        1 => stored,
+        _ => stored + count.div_ceil(BLOCK_POINTERS as u64).min(stored),
+    }
+}
+
 /// How many blocks the map of a disk of so many blocks has, with an indirect one over them.
 fn map_blocks(count: u32) -> u64
     ensures count { result ≡ map_file_nodes count }
@@ -113,5 +191,5 @@ pub fn point_blocks(root: &Root, inodes: &InodeFile, count: u32) -> u64
 {
     let inode_map = file_blocks(u64::from(inodes.geometry().inodes().div_ceil(8)));
     let changes = all_changed(inodes) + inode_map;
-    changes + file_blocks(root.inode_file.size) + map_blocks(count)
+    changes + top_blocks(inodes, root.inode_file.size) + map_blocks(count)
 }

@@ -9,7 +9,7 @@ ghost use Rattle.blocktree.specs.declared.error.ReadError.TheVariants as read;
 ghost use Rattle.blocktree.specs.Trees.{IsSoundAt, KeepsSound, SameSettled};
 ghost use Rattle.inode.specs.Files.{file_block};
 ghost use Rattle.images.specs.InodeFiles.{put_at};
-ghost use Rattle.planning.specs.Inodes.{with_inode_at};
+ghost use Rattle.planning.specs.Inodes.{ChangesOnly, with_inode_at};
 
 use blocktree::ReadError;
 use buffers::{Block, Blocks};
@@ -54,6 +54,8 @@ pub(crate) fn put_inode<B: Blocks>(
     ensures size { file.new.size ≡ file.old.size }
     ensures settled { SameSettled file.old.tree file.new.tree }
     ensures sound { KeepsSound file.old.tree file.new.tree }
+    ensures changes { ChangesOnly (λ i. i ≡ number / INODES_PER_BLOCK)
+        file.old.tree file.new.tree }
     ensures put { (disk : ℕ → List ℕ) → B.Shows blocks.old disk → OnOk result ((i : ℕ)
         → file_block disk file.new i ≡ with_inode_at (file_block disk file.old) number inode.now i) }
     ensures whole { (disk : ℕ → List ℕ) → B.Shows blocks.old disk → OnOk result

@@ -1,16 +1,17 @@
 //! The inode map's file.
 
-ghost use Rattle.std.specs.Prelude.{ℕ, ◌≡◌, ◌≢◌, ◌+◌, ◌*◌, ◌<◌, ◌≤◌, List, IsTrue, IfOk, OnOk, IsErrOf, false, length, slice_index};
+ghost use Rattle.std.specs.Prelude.{ℕ, ◌≡◌, ◌≢◌, ◌⊎◌, ◌+◌, ◌*◌, ◌<◌, ◌≤◌, List, IsFalse, IsTrue, IfOk, OnOk, IsErrOf, false, length, slice_index};
 ghost use Rattle.std.specs.Int.{div_ceil};
 ghost use Rattle.layout.specs.Limits.{AreSizes};
 ghost use Rattle.layout.specs.Version.{greatest_size};
+ghost use Rattle.layout.specs.declared.TheConstants.{BLOCK_BYTES};
 ghost use Rattle.layout.specs.declared.inode.Inode.{Inode};
 ghost use Rattle.layout.specs.declared.version.TheConstants.{VERSION};
 ghost use Rattle.model.specs.Volumes.{Volume};
 ghost use Rattle.buffers.specs.Positions.{IsPart};
 ghost use Rattle.buffers.specs.Reads.{ReadsBlocks};
 ghost use Rattle.blocktree.specs.Errors.{IsFault};
-ghost use Rattle.blocktree.specs.Trees.{IsSoundAt, KeepsSound, SameSettled};
+ghost use Rattle.blocktree.specs.Trees.{IsChanged, IsSoundAt, KeepsSound, SameSettled};
 ghost use Rattle.blocktree.specs.declared.error.ReadError.TheVariants as read;
 ghost use Rattle.blockmap.specs.Maps.{settled_at};
 ghost use Rattle.conspoint.specs.Drafts.{Grows, IsReserved};
@@ -18,11 +19,14 @@ ghost use Rattle.conspoint.specs.Errors.{IsReadFault};
 ghost use Rattle.conspoint.specs.Space.{Lacks, TakesAtMost};
 ghost use Rattle.images.specs.Contents.{Content};
 ghost use Rattle.images.specs.Nodes.{held};
+ghost use Rattle.images.specs.Nodes as nodes;
 ghost use Rattle.images.specs.Soundness.{HasNoHole};
 ghost use Rattle.inode.specs.Files.{byte_at, file_block};
 ghost use Rattle.inofile.specs.Settled.{AreSettled};
 ghost use Rattle.placement.specs.Space.{file_nodes};
+ghost use Rattle.planning.specs.Inodes.{ChangesOnly};
 ghost use Rattle.planning.specs.Plans.{HasInodeMap};
+ghost use Rattle.planning.specs.Space.{CountsBlocks, TellsSame, map_stores};
 ghost use Rattle.planning.specs.Steps.{IsOverTree, IsUnderWay, settled_tree};
 
 use crate::inode_blocks::put_inode;
@@ -69,6 +73,16 @@ fn part_of(alloc: Global, bytes: &[u8], i: u32) -> Result<Block, AllocError>
     Ok(block)
 }
 
+/// Whether two blocks are the same. Those of a map that differ tell other of their numbers.
+fn are_same(block: &[u8; BLOCK_BYTES], part: &[u8; BLOCK_BYTES]) -> bool
+    ensures same { IsTrue result → block.now ≡ part.now }
+    ensures other { IsFalse result → (bytes : List ℕ) (i : ℕ) → ((k : ℕ) → k < BLOCK_BYTES
+        → slice_index part.now k ≡ slice_index bytes (BLOCK_BYTES * i + k))
+        → TellsSame bytes block.now i → ⊥ }
+{
+    block == part
+}
+
 /// Changes block `i` of a file to what these bytes have there, where it differs.
 fn put_part<B: Blocks>(
     alloc: Global,
@@ -82,6 +96,10 @@ fn put_part<B: Blocks>(
     ensures sound { KeepsSound file.old.tree file.new.tree }
     ensures settled { SameSettled file.old.tree file.new.tree }
     ensures kept { file.new.tree.kept ≡ file.old.tree.kept }
+    ensures only { (disk : ℕ → List ℕ) → B.Shows blocks.old disk → (j : ℕ)
+        → IsChanged file.new.tree j
+        → ((j ≡ i) × (TellsSame bytes.now (file_block disk file.old i) i → ⊥))
+        ⊎ IsChanged file.old.tree j }
     ensures here { (disk : ℕ → List ℕ) → B.Shows blocks.old disk → OnOk result ((k : ℕ) → k < 4096
         → slice_index (file_block disk file.new i) k ≡ slice_index bytes.now (4096 * i + k)) }
     ensures others { OnOk result ((disk : ℕ → List ℕ) (j : ℕ) → j ≢ i
@@ -91,7 +109,7 @@ fn put_part<B: Blocks>(
 {
     let part = part_of(alloc, bytes, i)?;
     let before = file.copy(alloc, blocks, i)?;
-    if before.bytes() == part.bytes() {
+    if are_same(before.bytes(), part.bytes()) {
         return Ok(());
     }
     file.make_room(i)?;
@@ -112,6 +130,9 @@ fn put_parts<B: Blocks>(
     ensures sound { KeepsSound file.old.tree file.new.tree }
     ensures settled { SameSettled file.old.tree file.new.tree }
     ensures kept { file.new.tree.kept ≡ file.old.tree.kept }
+    ensures only { (disk : ℕ → List ℕ) → B.Shows blocks.old disk → (j : ℕ)
+        → IsChanged file.new.tree j → (TellsSame bytes.now (file_block disk file.old j) j → ⊥)
+        ⊎ IsChanged file.old.tree j }
     ensures here { (disk : ℕ → List ℕ) → B.Shows blocks.old disk
         → OnOk result ((i k : ℕ) → k < 4096 → i < div_ceil (length bytes.now) 4096
         → slice_index (file_block disk file.new i) k ≡ slice_index bytes.now (4096 * i + k)) }
@@ -163,6 +184,7 @@ pub(crate) fn plan_inode_map<B: Blocks>(
     ensures others { (p : ℕ) → IsReserved draft.old p → IsReserved draft.new p }
     ensures size { file.new.size ≡ file.old.size }
     ensures sound { KeepsSound file.old.tree file.new.tree }
+    ensures changes { ChangesOnly (λ i. i ≡ 0) file.old.tree file.new.tree }
     ensures settled { SameSettled file.old.tree file.new.tree }
     ensures planned { (disk : ℕ → List ℕ) (settled : ℕ → Inode) (v : Volume) (before : ℕ → ℕ)
         (found : ℕ → Content) → B.Shows blocks.old disk
@@ -183,6 +205,16 @@ pub(crate) fn plan_inode_map<B: Blocks>(
         draft.old draft.new) }
     ensures lacks { IsErrOf result PlanError.NoSpace
         → Lacks (file_nodes (div_ceil inodes.now.geometry.inodes 8)) draft.old }
+    ensures stores { (disk : ℕ → List ℕ) (settled : ℕ → Inode) (v : Volume) (before : ℕ → ℕ)
+        → B.Shows blocks.old disk
+        → IsOverTree (B.count blocks.old) disk settled inodes.now v before → (w : ℕ → ℕ)
+        → CountsBlocks w inodes.now.numbers.bytes.items (nodes.file_block (held disk (settled 1)))
+        → OnOk result (TakesAtMost (map_stores w inodes.now) draft.old draft.new) }
+    ensures short { (disk : ℕ → List ℕ) (settled : ℕ → Inode) (v : Volume) (before : ℕ → ℕ)
+        → B.Shows blocks.old disk
+        → IsOverTree (B.count blocks.old) disk settled inodes.now v before → (w : ℕ → ℕ)
+        → CountsBlocks w inodes.now.numbers.bytes.items (nodes.file_block (held disk (settled 1)))
+        → IsErrOf result PlanError.NoSpace → Lacks (map_stores w inodes.now) draft.old }
 {
     inodes_are_put_one_by_one();
     disks_that_agree_hold_the_same();

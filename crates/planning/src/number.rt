@@ -14,6 +14,7 @@ ghost use Rattle.conspoint.specs.Errors.{IsReadFault};
 ghost use Rattle.conspoint.specs.Space.{Lacks, TakesAtMost};
 ghost use Rattle.inofile.specs.Inodes.{IsChanged, files_of};
 ghost use Rattle.placement.specs.Files.{is_one};
+ghost use Rattle.planning.specs.Inodes.{ChangesOnly, HasChange};
 ghost use Rattle.planning.specs.Space.{nodes_below, number_nodes};
 ghost use Rattle.planning.specs.Numbers.{trimmed};
 ghost use Rattle.planning.specs.Progress.{IsMarked};
@@ -68,6 +69,8 @@ pub(crate) fn plan_number<B: Blocks>(
     ensures size { file.new.size ≡ file.old.size }
     ensures settled { SameSettled file.old.tree file.new.tree }
     ensures sound { KeepsSound file.old.tree file.new.tree }
+    ensures changes { ChangesOnly (λ i. i ≡ number / INODES_PER_BLOCK)
+        file.old.tree file.new.tree }
     ensures planned { (disk : ℕ → List ℕ) (settled : ℕ → Inode) (v : Volume) (before : ℕ → ℕ)
         → B.Shows blocks.old disk
         → IsOverTree (B.count blocks.old) disk settled inodes.now v before
@@ -109,6 +112,7 @@ pub(crate) fn plan_numbers<B: Blocks>(
     ensures size { file.new.size ≡ file.old.size }
     ensures settled { SameSettled file.old.tree file.new.tree }
     ensures sound { KeepsSound file.old.tree file.new.tree }
+    ensures changes { ChangesOnly (HasChange inodes.now) file.old.tree file.new.tree }
     ensures planned { (disk : ℕ → List ℕ) (settled : ℕ → Inode) (v : Volume) (before : ℕ → ℕ)
         → B.Shows blocks.old disk
         → IsOverTree (B.count blocks.old) disk settled inodes.now v before

@@ -1,6 +1,6 @@
 //! The whole plan of a consistency point.
 
-ghost use Rattle.std.specs.Prelude.{ℕ, ◌≡◌, ◌+◌, ◌*◌, ◌<◌, ◌≤◌, List, IfErr, IfOk, OnOk, IsErrOf};
+ghost use Rattle.std.specs.Prelude.{ℕ, ◌≡◌, ◌⊎◌, ◌+◌, ◌*◌, ◌<◌, ◌≤◌, List, IfErr, IfOk, OnOk, IsErrOf};
 ghost use Rattle.layout.specs.Inode.{IsInode};
 ghost use Rattle.layout.specs.Limits.{AreSizes};
 ghost use Rattle.layout.specs.Places.{blocks_of};
@@ -21,12 +21,13 @@ ghost use Rattle.conspoint.specs.Plans.{FitsDisk, IsSlot};
 ghost use Rattle.conspoint.specs.Space.{Lacks, TakesAtMost};
 ghost use Rattle.conspoint.specs.Writes.{writes_of};
 ghost use Rattle.images.specs.Cuts.{IsPoint};
-ghost use Rattle.images.specs.Nodes.{held};
+ghost use Rattle.images.specs.Nodes.{file_block, held};
 ghost use Rattle.images.specs.Soundness.{HasNoHole};
 ghost use Rattle.inofile.specs.Inodes.{files_of};
+ghost use Rattle.planning.specs.Inodes.{ChangesOnly, HasChange};
 ghost use Rattle.planning.specs.Numbers.{trimmed};
 ghost use Rattle.planning.specs.Plans.{HasNumbers, IsAllPlanned, IsClean, IsPlanStart, IsPlannable, PlansEntries};
-ghost use Rattle.planning.specs.Space.{LacksBlocks, change_nodes, point_nodes};
+ghost use Rattle.planning.specs.Space.{CountsBlocks, CountsMoves, LacksBlocks, change_nodes, map_stores, nodes_below, point_nodes, point_stores};
 ghost use Rattle.planning.specs.Steps.{ArePlanned, IsOverTree, settled_tree};
 
 use crate::block_map::plan_last;
@@ -66,6 +67,8 @@ fn plan_changes<B: Blocks>(
     ensures size { file.new.size ≡ file.old.size }
     ensures sound { KeepsSound file.old.tree file.new.tree }
     ensures settled { SameSettled file.old.tree file.new.tree }
+    ensures changes { ChangesOnly (λ i. (i ≡ 0) ⊎ HasChange inodes.now i)
+        file.old.tree file.new.tree }
     ensures planned { (disk : ℕ → List ℕ) (settled : ℕ → Inode) (v : Volume) (before : ℕ → ℕ)
         → B.Shows blocks.old disk
         → IsOverTree (B.count blocks.old) disk settled inodes.now v before
@@ -80,6 +83,18 @@ fn plan_changes<B: Blocks>(
         → IsErrOf result PlanError.Damaged → ⊥ }
     ensures takes { OnOk result (TakesAtMost (change_nodes inodes.now) draft.old draft.new) }
     ensures lacks { IsErrOf result PlanError.NoSpace → Lacks (change_nodes inodes.now) draft.old }
+    ensures stores { (disk : ℕ → List ℕ) (settled : ℕ → Inode) (v : Volume) (before : ℕ → ℕ)
+        → B.Shows blocks.old disk
+        → IsOverTree (B.count blocks.old) disk settled inodes.now v before → (w : ℕ → ℕ)
+        → CountsBlocks w inodes.now.numbers.bytes.items (file_block (held disk (settled 1)))
+        → OnOk result (TakesAtMost (nodes_below inodes.now inodes.now.geometry.inodes
+        + map_stores w inodes.now) draft.old draft.new) }
+    ensures short { (disk : ℕ → List ℕ) (settled : ℕ → Inode) (v : Volume) (before : ℕ → ℕ)
+        → B.Shows blocks.old disk
+        → IsOverTree (B.count blocks.old) disk settled inodes.now v before → (w : ℕ → ℕ)
+        → CountsBlocks w inodes.now.numbers.bytes.items (file_block (held disk (settled 1)))
+        → IsErrOf result PlanError.NoSpace → Lacks (nodes_below inodes.now
+        inodes.now.geometry.inodes + map_stores w inodes.now) draft.old }
 {
     plan_numbers(alloc, draft, blocks, inodes, file)?;
     plan_inode_map(alloc, draft, blocks, inodes, file)?;
@@ -113,6 +128,18 @@ fn plan_files<B: Blocks>(
         (point_nodes root.now inodes.now draft.old.map.count) draft.old draft.new) }
     ensures lacks { IsErrOf result PlanError.NoSpace
         → Lacks (point_nodes root.now inodes.now draft.old.map.count) draft.old }
+    ensures stores { (disk : ℕ → List ℕ) (settled : ℕ → Inode) (v : Volume) (before : ℕ → ℕ)
+        → B.Shows blocks.old disk
+        → IsOverTree (B.count blocks.old) disk settled inodes.now v before → (w : ℕ → ℕ)
+        → CountsBlocks w inodes.now.numbers.bytes.items (file_block (held disk (settled 1)))
+        → OnOk result (TakesAtMost
+        (point_stores w root.now inodes.now draft.old.map.count) draft.old draft.new) }
+    ensures short { (disk : ℕ → List ℕ) (settled : ℕ → Inode) (v : Volume) (before : ℕ → ℕ)
+        → B.Shows blocks.old disk
+        → IsOverTree (B.count blocks.old) disk settled inodes.now v before → (w : ℕ → ℕ)
+        → CountsBlocks w inodes.now.numbers.bytes.items (file_block (held disk (settled 1)))
+        → IsErrOf result PlanError.NoSpace
+        → Lacks (point_stores w root.now inodes.now draft.old.map.count) draft.old }
 {
     inodes_are_put_one_by_one();
     based_trees_are_sound();
@@ -179,6 +206,18 @@ fn plan_root<B: Blocks>(
         (point_nodes root.now inodes.now draft.old.map.count) draft.old draft.new) }
     ensures lacks { IsErrOf result PlanError.NoSpace
         → Lacks (point_nodes root.now inodes.now draft.old.map.count) draft.old }
+    ensures stores { (disk : ℕ → List ℕ) (settled : ℕ → Inode) (v : Volume) (before : ℕ → ℕ)
+        → B.Shows blocks.old disk
+        → IsOverTree (B.count blocks.old) disk settled inodes.now v before → (w : ℕ → ℕ)
+        → CountsBlocks w inodes.now.numbers.bytes.items (file_block (held disk (settled 1)))
+        → OnOk result (TakesAtMost
+        (point_stores w root.now inodes.now draft.old.map.count) draft.old draft.new) }
+    ensures short { (disk : ℕ → List ℕ) (settled : ℕ → Inode) (v : Volume) (before : ℕ → ℕ)
+        → B.Shows blocks.old disk
+        → IsOverTree (B.count blocks.old) disk settled inodes.now v before → (w : ℕ → ℕ)
+        → CountsBlocks w inodes.now.numbers.bytes.items (file_block (held disk (settled 1)))
+        → IsErrOf result PlanError.NoSpace
+        → Lacks (point_stores w root.now inodes.now draft.old.map.count) draft.old }
 {
     written_disks_have_the_blocks();
     let inode_file = plan_files(alloc, draft, blocks, root, inodes)?;
@@ -234,6 +273,17 @@ pub fn plan<B: Blocks>(
     ensures takes { OnOk result.1
         (left map ≤ left result.0 + point_nodes root.now inodes.now map.count) }
     ensures full { IsErrOf result.1 PlanError.NoSpace → LacksBlocks root.now inodes.now map }
+    // Over a disk that holds a volume the inode map's blocks are counted as objects came or went in it.
+    ensures stores { (d : ℕ → List ℕ) (first v : Volume) (snapshots : List (Name × Tree))
+        → B.Shows blocks.old (blocks_of d)
+        → IsPlannable root.now d slot generation map inodes.now first v snapshots
+        → (w : ℕ → ℕ) → CountsMoves w first v → OnOk result.1
+        (left map ≤ left result.0 + point_stores w root.now inodes.now map.count) }
+    ensures short { (d : ℕ → List ℕ) (first v : Volume) (snapshots : List (Name × Tree))
+        → B.Shows blocks.old (blocks_of d)
+        → IsPlannable root.now d slot generation map inodes.now first v snapshots
+        → (w : ℕ → ℕ) → CountsMoves w first v → IsErrOf result.1 PlanError.NoSpace
+        → left map < point_stores w root.now inodes.now map.count }
 {
     inodes_are_what_their_bytes_spell();
     disks_that_agree_hold_the_same();

@@ -12,7 +12,7 @@ ghost use Rattle.conspoint.specs.Errors.{IsReadFault};
 ghost use Rattle.images.specs.BlockMap.{NamesOnce};
 ghost use Rattle.conspoint.specs.Space.{Lacks, TakesAtMost};
 ghost use Rattle.placement.specs.Files.{IsChangeOf};
-ghost use Rattle.placement.specs.Space.{file_nodes};
+ghost use Rattle.placement.specs.Space.{first_stores};
 ghost use Rattle.planning.specs.Plans.{HasTop, Progresses};
 ghost use Rattle.planning.specs.Progress.{IsExactPlane, Planned};
 ghost use Rattle.planning.specs.Steps.{settled_tree};
@@ -52,9 +52,8 @@ pub(crate) fn place_top<B: Blocks>(
         top.now r.0 r.1) }
     ensures damaged { (s : Sizes) (disk : ℕ → List ℕ) (base : Inode) → B.Shows blocks.old disk
         → IsChangeOf s draft.old disk base top.now → IsErrOf result PlanError.Damaged → ⊥ }
-    ensures takes { OnOk result (TakesAtMost (file_nodes top.now.file.size) draft.old draft.new) }
-    ensures lacks { IsErrOf result PlanError.NoSpace
-        → Lacks (file_nodes top.now.file.size) draft.old }
+    ensures takes { OnOk result (TakesAtMost (first_stores top.now.file) draft.old draft.new) }
+    ensures lacks { IsErrOf result PlanError.NoSpace → Lacks (first_stores top.now.file) draft.old }
 {
     let all = place_file_but_first(alloc, draft, blocks, top)?;
     let (placed, first) = all;

@@ -3,7 +3,7 @@ use Rattle.std.specs.Prelude.{min}
 use Rattle.layout.specs.Version.{level_of}
 use Rattle.blocktree.specs.Places.{block_count}
 use Rattle.conspoint.specs.Space.{TakesAtMost, block_stores, changed_blocks, sum_below}
-use Rattle.placement.specs.Space.{over_nodes}
+use Rattle.placement.specs.Space.{more_over, over_nodes}
 use Rattle.layout.specs.declared.pointer.Pointer.{Pointer}
 use Rattle.placement.specs.Files.{object_block, with_first}
 use Rattle.placement.specs.Nodes.{ArePlacedAt}
@@ -44,13 +44,13 @@ returns-clause-takes c =
     let count = block_count o.file.size in
     let level : 1 ≤ level_of o.file.size = search rules in
     let size : length blocks ≡ count = c.in_ok-placed.ensures.count ∙ c.block_count-count.ensures in
-    let counts = counts_groups (with_one (block_stores t 1)) t.kept (over_nodes (level_of o.file.size) count) c.args.settled.now blocks c.requires.few
+    let counts = counts_groups (with_one (block_stores t 1)) o.file c.args.settled.now blocks c.requires.counted size
     (λ i lt none. (rw (c.deref.ensures.value, c.tree.ensures) at (c.in_ok-placed.ensures.unchanged i (omega (arith, lt, c.in_ok-placed.ensures.count)) (some_index (block_stores t 1) i none)
     (rw c.tree.ensures (not_changed t 1 i (some_index (block_stores t 1) i none) (some_stored (block_stores t 1) i none)))))) in
-    let most = weights_most (with_one (block_stores t 1)) (length blocks) (min t.kept (length blocks) / 1024) (over_nodes (level_of o.file.size) count) in
+    let most = weights_most (with_one (block_stores t 1)) (length blocks) (min t.kept (length blocks) / 1024) (more_over o.file) (over_nodes (level_of o.file.size) count) in
     let lowest : TakesAtMost (changed_blocks t 1 count + 1) c.args.draft.now c.place_but_first.new.draft = rw (c.tree.ensures, c.block_count-count.ensures) at c.in_ok-placed.ensures.takes in
     let same : sum_below (with_one (block_stores t 1)) (length blocks) ≡ sum_below (with_one (block_stores t 1)) count = ap (sum_below (with_one (block_stores t 1))) size in
-    let is = stores_some (level_of o.file.size) count (changed_blocks t 1 count + 1) level in
+    let is = stores_some (level_of o.file.size) count (changed_blocks t 1 count + 1) (more_over o.file) level in
     let added = one_added (block_stores t 1) count in
     omega (arith, c.in_ok-laid.ensures.takes _ counts, most, lowest, same, is, added)
 
@@ -62,12 +62,12 @@ returns-in_err-laid-clause-lacks c = λ bad.
     let count = block_count o.file.size in
     let level : 1 ≤ level_of o.file.size = search rules in
     let size : length blocks ≡ count = c.in_ok-placed.ensures.count ∙ c.block_count-count.ensures in
-    let counts = counts_groups (with_one (block_stores t 1)) t.kept (over_nodes (level_of o.file.size) count) c.args.settled.now blocks c.requires.few
+    let counts = counts_groups (with_one (block_stores t 1)) o.file c.args.settled.now blocks c.requires.counted size
     (λ i lt none. (rw (c.deref.ensures.value, c.tree.ensures) at (c.in_ok-placed.ensures.unchanged i (omega (arith, lt, c.in_ok-placed.ensures.count)) (some_index (block_stores t 1) i none)
     (rw c.tree.ensures (not_changed t 1 i (some_index (block_stores t 1) i none) (some_stored (block_stores t 1) i none)))))) in
-    let most = weights_most (with_one (block_stores t 1)) (length blocks) (min t.kept (length blocks) / 1024) (over_nodes (level_of o.file.size) count) in
+    let most = weights_most (with_one (block_stores t 1)) (length blocks) (min t.kept (length blocks) / 1024) (more_over o.file) (over_nodes (level_of o.file.size) count) in
     let lowest : TakesAtMost (changed_blocks t 1 count + 1) c.args.draft.now c.place_but_first.new.draft = rw (c.tree.ensures, c.block_count-count.ensures) at c.in_ok-placed.ensures.takes in
     let same : sum_below (with_one (block_stores t 1)) (length blocks) ≡ sum_below (with_one (block_stores t 1)) count = ap (sum_below (with_one (block_stores t 1))) size in
-    let is = stores_some (level_of o.file.size) count (changed_blocks t 1 count + 1) level in
+    let is = stores_some (level_of o.file.size) count (changed_blocks t 1 count + 1) (more_over o.file) level in
     let added = one_added (block_stores t 1) count in
     omega (arith, c.in_err-laid.ensures.lacks (search rules) _ counts, most, lowest, same, is, added)

@@ -3,7 +3,7 @@ use Rattle.std.specs.Prelude.{min}
 use Rattle.layout.specs.Version.{level_of}
 use Rattle.blocktree.specs.Places.{block_count}
 use Rattle.conspoint.specs.Space.{TakesAtMost, block_stores, changed_blocks, sum_below}
-use Rattle.placement.specs.Space.{over_nodes}
+use Rattle.placement.specs.Space.{more_over, over_nodes}
 use Rattle.layout.specs.declared.pointer.Pointer.{Pointer}
 use Rattle.placement.specs.Files.{object_block}
 use Rattle.placement.specs.Nodes.{ArePlacedAt}
@@ -42,12 +42,12 @@ returns-clause-takes c =
     let count = block_count o.file.size in
     let level : 1 ≤ level_of o.file.size = c.requires.level in
     let size : length blocks ≡ count = c.in_ok-blocks.ensures.count ∙ c.block_count-count.ensures in
-    let counts = counts_groups (block_stores t 0) t.kept (over_nodes (level_of o.file.size) count) c.args.settled.now blocks c.requires.few
+    let counts = counts_groups (block_stores t 0) o.file c.args.settled.now blocks c.requires.counted size
     (λ i lt none. (rw (c.deref.ensures.value, c.tree.ensures) at (c.in_ok-blocks.ensures.unchanged i (omega (arith, lt, c.in_ok-blocks.ensures.count)) (rw c.tree.ensures (not_changed t 0 i (omega arith) none))))) in
-    let most = weights_most (block_stores t 0) (length blocks) (min t.kept (length blocks) / 1024) (over_nodes (level_of o.file.size) count) in
+    let most = weights_most (block_stores t 0) (length blocks) (min t.kept (length blocks) / 1024) (more_over o.file) (over_nodes (level_of o.file.size) count) in
     let lowest : TakesAtMost (changed_blocks t 0 count) c.args.draft.now c.place_lowest.new.draft = rw (c.tree.ensures, c.block_count-count.ensures) at c.in_ok-blocks.ensures.takes in
     let same : sum_below (block_stores t 0) (length blocks) ≡ sum_below (block_stores t 0) count = ap (sum_below (block_stores t 0)) size in
-    let is = stores_some (level_of o.file.size) count (changed_blocks t 0 count) level in
+    let is = stores_some (level_of o.file.size) count (changed_blocks t 0 count) (more_over o.file) level in
     omega (arith, c.in_ok-laid.ensures.takes _ counts, most, lowest, same, is)
 
 pub returns-in_err-laid-clause-lacks : goal.returns-in_err-laid-clause-lacks
@@ -58,10 +58,10 @@ returns-in_err-laid-clause-lacks c = λ bad.
     let count = block_count o.file.size in
     let level : 1 ≤ level_of o.file.size = c.requires.level in
     let size : length blocks ≡ count = c.in_ok-blocks.ensures.count ∙ c.block_count-count.ensures in
-    let counts = counts_groups (block_stores t 0) t.kept (over_nodes (level_of o.file.size) count) c.args.settled.now blocks c.requires.few
+    let counts = counts_groups (block_stores t 0) o.file c.args.settled.now blocks c.requires.counted size
     (λ i lt none. (rw (c.deref.ensures.value, c.tree.ensures) at (c.in_ok-blocks.ensures.unchanged i (omega (arith, lt, c.in_ok-blocks.ensures.count)) (rw c.tree.ensures (not_changed t 0 i (omega arith) none))))) in
-    let most = weights_most (block_stores t 0) (length blocks) (min t.kept (length blocks) / 1024) (over_nodes (level_of o.file.size) count) in
+    let most = weights_most (block_stores t 0) (length blocks) (min t.kept (length blocks) / 1024) (more_over o.file) (over_nodes (level_of o.file.size) count) in
     let lowest : TakesAtMost (changed_blocks t 0 count) c.args.draft.now c.place_lowest.new.draft = rw (c.tree.ensures, c.block_count-count.ensures) at c.in_ok-blocks.ensures.takes in
     let same : sum_below (block_stores t 0) (length blocks) ≡ sum_below (block_stores t 0) count = ap (sum_below (block_stores t 0)) size in
-    let is = stores_some (level_of o.file.size) count (changed_blocks t 0 count) level in
+    let is = stores_some (level_of o.file.size) count (changed_blocks t 0 count) (more_over o.file) level in
     omega (arith, c.in_err-laid.ensures.lacks (search rules) _ counts, most, lowest, same, is)

@@ -2,7 +2,7 @@ use Rattle.std.proofs.Common.{rules, ◌≡◌, ℕ, ◌-◌, ◌<◌, length, a
 use Rattle.layout.specs.Places.{place}
 use Rattle.blocktree.specs.Names.{nodes_at}
 use Rattle.blocktree.specs.Places.{IsPath}
-use Rattle.placement.proofs.SettledLaws.{paths_sound, are_settled}
+use Rattle.placement.proofs.SettledLaws.{are_settled, few_kept, over_none, paths_sound}
 use Rattle.placement.proofs.settled.settled_nodes.Goals as goal
 
 pub returns-in_err-below-clause-damaged : goal.returns-in_err-below-clause-damaged
@@ -23,3 +23,16 @@ returns-clause-settled g c = λ s disk base shows based sound.
     are_settled s disk base t (record { blocks = below; over = c.in_ok-over.over }) sound count
     (λ i lt. c.in_ok-below.ensures.nodes disk shows i lt ∙ ap (λ (k : ℕ). place disk t.pointers k i) deep)
     c.in_ok-over.ensures.none c.in_ok-over.ensures.some (c.in_ok-over.ensures.nodes disk (search rules)) based
+
+pub returns-clause-sizes : goal.returns-clause-sizes
+unfolding nodes_at
+returns-clause-sizes g c =
+    let t = c.args.tree.now in
+    let below = c.in_ok-below.below in
+    let ok = below.ok in
+    let length_is = c.in_ok-below.ensures.length in
+    record {
+      blocks = omega (arith, length_is, ok.0);
+      over = over_none t.depth t.count (length c.in_ok-over.over.items) c.in_ok-over.ensures.some;
+      few = few_kept t (length c.in_ok-over.over.items) c.in_ok-over.ensures.some;
+    }

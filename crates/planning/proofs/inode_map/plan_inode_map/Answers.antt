@@ -1,10 +1,13 @@
-use Rattle.std.proofs.Common.{◌≡◌, ℕ, List, length, ap, sym, subst, ◌∙◌, arith, rules}
+use Rattle.std.proofs.Common.{◌≡◌, inl, inr, ℕ, List, length, ap, sym, subst, ◌∙◌, arith, rules}
+use Rattle.blocktree.specs.Places.{block_count}
 use Rattle.blocktree.specs.Trees.{IsSoundAt}
 use Rattle.buffers.specs.Positions.{IsPart}
+use Rattle.conspoint.specs.Space.{sum_below}
 use Rattle.images.specs.Contents.{Content, bytes_of}
 use Rattle.images.specs.Nodes.{held}
+use Rattle.images.specs.Nodes as nodes
 use Rattle.images.specs.Soundness.{IsSoundFile}
-use Rattle.inode.specs.Files.{IsAsHeld, byte_at}
+use Rattle.inode.specs.Files.{IsAsHeld, byte_at, file_block}
 use Rattle.layout.specs.declared.inode.Inode.{Inode}
 use Rattle.placement.specs.Files.{is_one}
 use Rattle.placement.specs.Space.{file_nodes}
@@ -13,8 +16,9 @@ use Rattle.planning.specs.Steps.{settled_tree}
 use Rattle.planning.proofs.SpaceLaws.{stores_within}
 use Rattle.planning.proofs.JoinLaws.{map_planned, map_stays, marked_over, taken_later}
 use Rattle.planning.proofs.NumberLaws.{grows_twice}
-use Rattle.planning.proofs.OwnLaws.{held_bytes, kind_of, map_bytes, map_change, map_kind, map_size_is, map_whole}
+use Rattle.planning.proofs.OwnLaws.{held_bytes, inode_is, kind_of, map_bytes, map_change, map_kind, map_size_is, map_whole}
 use Rattle.planning.proofs.PointLaws.{held_inode}
+use Rattle.planning.proofs.TellLaws.{counts_one, few_stored}
 use Rattle.planning.proofs.inode_map.plan_inode_map.Goals as goal
 
 pub returns-in_err-settled-clause-damaged : goal.returns-in_err-settled-clause-damaged
@@ -136,3 +140,41 @@ pub returns-clause-takes : goal.returns-clause-takes
 returns-clause-takes g c =
     let size = ap file_nodes (c.put_parts.ensures.size ∙ c.in_ok-object.ensures.size ∙ c.in_ok-settled.ensures.size) in
     omega (arith, size, c.in_ok-placed.ensures.takes, c.mark_placed.ensures.left, stores_within c.put_parts.new.file)
+
+pub returns-in_err-placed-clause-short : goal.returns-in_err-placed-clause-short
+returns-in_err-placed-clause-short g c = λ disk settled v before shows memory w counts bad.
+    let now : c.in_ok-settled.settled ≡ settled 1 = c.in_ok-settled.ensures.read disk settled shows memory.volume.inodes in
+    let s = c.args.inodes.now.geometry in
+    let bytes = c.args.inodes.now.numbers.bytes.items in
+    let first = c.in_ok-object.object.file in
+    let sound = subst (λ (x : Inode). IsSoundFile s (held disk x)) (sym now) (memory.volume.inodes.sound 1) in
+    let shown = c.has_bytes.ensures.reads.same disk (c.settled_map.ensures.reads.same disk shows) in
+    let only = rw c.map_bytes-2.ensures.bytes at (c.put_parts.ensures.only disk shown) in
+    let few = few_stored w c.in_ok-settled.settled.body s.blocks c.in_ok-settled.settled.size first c.put_parts.new.file (inode_is s disk c.in_ok-settled.settled sound).body
+    (omega (arith, c.in_ok-settled.ensures.size, c.requires.sizes.most_inodes)) (c.put_parts.ensures.size ∙ c.in_ok-object.ensures.size) c.in_ok-object.ensures.unchanged
+    (λ i changed. elim (only i changed) [
+      | inl other ↦ inl (counts_one w bytes (nodes.file_block (held disk (settled 1))) (file_block disk first i) i counts
+          (c.in_ok-object.ensures.held s disk sound i ∙ ap (λ (x : Inode). nodes.file_block (held disk x) i) now) other)
+      | inr before ↦ inr before
+    ]) in
+    let all = ap (λ (n : ℕ). sum_below w (block_count n)) c.in_ok-settled.ensures.size in
+    omega (arith, few, all, c.in_err-placed.ensures.lacks (search rules))
+
+pub returns-clause-stores : goal.returns-clause-stores
+returns-clause-stores g c = λ disk settled v before shows memory w counts.
+    let now : c.in_ok-settled.settled ≡ settled 1 = c.in_ok-settled.ensures.read disk settled shows memory.volume.inodes in
+    let s = c.args.inodes.now.geometry in
+    let bytes = c.args.inodes.now.numbers.bytes.items in
+    let first = c.in_ok-object.object.file in
+    let sound = subst (λ (x : Inode). IsSoundFile s (held disk x)) (sym now) (memory.volume.inodes.sound 1) in
+    let shown = c.has_bytes.ensures.reads.same disk (c.settled_map.ensures.reads.same disk shows) in
+    let only = rw c.map_bytes-2.ensures.bytes at (c.put_parts.ensures.only disk shown) in
+    let few = few_stored w c.in_ok-settled.settled.body s.blocks c.in_ok-settled.settled.size first c.put_parts.new.file (inode_is s disk c.in_ok-settled.settled sound).body
+    (omega (arith, c.in_ok-settled.ensures.size, c.requires.sizes.most_inodes)) (c.put_parts.ensures.size ∙ c.in_ok-object.ensures.size) c.in_ok-object.ensures.unchanged
+    (λ i changed. elim (only i changed) [
+      | inl other ↦ inl (counts_one w bytes (nodes.file_block (held disk (settled 1))) (file_block disk first i) i counts
+          (c.in_ok-object.ensures.held s disk sound i ∙ ap (λ (x : Inode). nodes.file_block (held disk x) i) now) other)
+      | inr before ↦ inr before
+    ]) in
+    let all = ap (λ (n : ℕ). sum_below w (block_count n)) c.in_ok-settled.ensures.size in
+    omega (arith, few, all, c.in_ok-placed.ensures.takes, c.mark_placed.ensures.left)

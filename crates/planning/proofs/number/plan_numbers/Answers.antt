@@ -2,10 +2,12 @@ use Rattle.std.proofs.Common.{◌≡◌, ◌<◌, ◌≤◌, ◌/◌, ℕ, lengt
 use Rattle.std.proofs.lemmas.List.{get_or_default}
 use Rattle.blocktree.specs.Trees.{IsSoundAt}
 use Rattle.inofile.specs.Inodes.{IsChanged}
+use Rattle.planning.specs.Inodes.{HasChange}
 use Rattle.planning.specs.Steps.{IsOverTree}
 use Rattle.planning.proofs.LoopLaws.{all_planned, none_before, one_more}
 use Rattle.planning.proofs.NumberLaws.{grows_twice}
 use Rattle.planning.proofs.SpaceLaws.{is_behind, is_counted}
+use Rattle.planning.proofs.TopLaws.{changes_none, changes_twice}
 use Rattle.planning.proofs.number.plan_numbers.Given.{Over}
 use Rattle.planning.proofs.number.plan_numbers.Goals as goal
 use Rattle.planning.proofs.number.plan_numbers.Goals.{After-index}
@@ -19,6 +21,7 @@ loop-i-init g c = record {
   size = refl;
   settled = record { pointers = refl; depth = refl; count = refl };
   sound = λ blocks disk i is. is;
+  changes = changes_none (HasChange c.args.inodes.now) c.args.file.now.tree;
   planned = λ disk settled v before shows over start. none_before c.args.draft.now disk settled before c.args.inodes.now c.args.file.now c.in_ok-numbers.numbers.items start;
 }
 
@@ -37,6 +40,7 @@ loop-i-preserved g c =
     let xs = c.in_ok-numbers.numbers.items in
     let within : c.loop-i.i < length xs = omega arith in
     let is : c.index.result.now ≡ slice_index xs c.loop-i.i = c.index.ensures ∙ get_or_default xs c.loop-i.i c.index.result.now 0 within in
+    let one_changed = (c.in_ok-numbers.ensures.members c.index.result.now).0 (c.loop-i.i, within, sym c.index.ensures) in
     record {
       read = search rules;
       grows = grows_twice c.args.draft.now c.loop-i.draft c.plan_number.new.draft so_far.grows c.plan_number.ensures.grows;
@@ -48,6 +52,9 @@ loop-i-preserved g c =
       size = c.plan_number.ensures.size ∙ so_far.size;
       settled = search rules;
       sound = λ blocks disk i is. c.plan_number.ensures.sound blocks disk i (so_far.sound blocks disk i is);
+      changes = changes_twice (HasChange c.args.inodes.now) (λ i. i ≡ c.index.result.now / 21) c.args.file.now.tree c.loop-i.file.tree c.plan_number.new.file.tree
+          (λ i at. (c.index.result.now, sym at, one_changed))
+          so_far.changes c.plan_number.ensures.changes;
       planned = λ disk settled v before shows over start.
           let now = so_far.planned disk settled v before shows over start in
           let over_now = subst (λ (n : ℕ). IsOverTree n disk settled c.args.inodes.now v before) (sym so_far.read.count) over in
@@ -94,3 +101,9 @@ returns-clause-takes g c =
     c.loop-i.invariant.counted c.args.inodes.now.geometry.inodes (λ k lt.
     let within : k < length xs = omega (arith, lt) in
     (c.in_ok-numbers.ensures.within (slice_index xs k) (k, within, get_or_default xs k (slice_index xs k) 0 within)).1)
+
+pub returns-in_err-plan_number-clause-changes : goal.returns-in_err-plan_number-clause-changes
+returns-in_err-plan_number-clause-changes g c =
+    changes_twice (HasChange c.args.inodes.now) (λ i. i ≡ c.index.result.now / 21) c.args.file.now.tree c.loop-i.file.tree c.plan_number.new.file.tree
+    (λ i at. (c.index.result.now, sym at, (c.in_ok-numbers.ensures.members c.index.result.now).0 (c.loop-i.i, omega arith, sym c.index.ensures)))
+    c.loop-i.invariant.changes c.plan_number.ensures.changes

@@ -6,6 +6,7 @@ use Rattle.blocktree.specs.Trees.{KeepsSound, SameSettled}
 use Rattle.conspoint.specs.Drafts.{Grows, IsReserved}
 use Rattle.conspoint.specs.Marks.{IsAmong}
 use Rattle.conspoint.specs.Space.{TakesAtMost}
+use Rattle.planning.specs.Inodes.{ChangesOnly, HasChange}
 use Rattle.planning.specs.Space.{nodes_below}
 use Rattle.planning.specs.Steps.{ArePlanned, IsOverTree}
 use Rattle.planning.proofs.number.plan_numbers.Given as goal
@@ -19,6 +20,7 @@ invariant-loop-i g l = record {
   size : l.file.size ≡ l.fn.file.size;
   settled : SameSettled l.fn.file.tree l.file.tree;
   sound : KeepsSound l.fn.file.tree l.file.tree;
+  changes : ChangesOnly (HasChange l.inodes) l.fn.file.tree l.file.tree;
   planned : (disk : ℕ → List ℕ) (settled : ℕ → Inode) (v : Volume) (before : ℕ → ℕ) → g.B.Blocks.Shows l.initial.blocks disk
       → IsOverTree (g.B.Blocks.count l.initial.blocks) disk settled l.inodes v before
       → ArePlanned (λ n. ⊥) l.fn.draft disk settled before l.inodes l.fn.file

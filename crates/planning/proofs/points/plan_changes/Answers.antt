@@ -36,3 +36,17 @@ returns-clause-planned g c = λ disk settled v before shows memory no_hole start
           (subst (λ n. IsOverTree n disk settled c.args.inodes.now v before) count memory) no_hole done.way
           (not_own c.args.inodes.now done.way.plan.changed done.just c.args.inodes.now.changes 1 (omega arith));
     }
+
+pub returns-in_err-plan_inode_map-clause-short : goal.returns-in_err-plan_inode_map-clause-short
+returns-in_err-plan_inode_map-clause-short g c = λ disk settled v before shows memory w counts bad.
+    let count : g.B.Blocks.count c.args.blocks.now ≡ g.B.Blocks.count c.plan_numbers.new.blocks = sym c.plan_numbers.ensures.reads.count in
+    let short = c.in_err-plan_inode_map.ensures.short disk settled v before (c.plan_numbers.ensures.reads.same disk shows)
+    (subst (λ n. IsOverTree n disk settled c.args.inodes.now v before) count memory) w counts (search rules) in
+    omega (arith, c.in_ok-plan_numbers.ensures.takes, short)
+
+pub returns-clause-stores : goal.returns-clause-stores
+returns-clause-stores g c = λ disk settled v before shows memory w counts.
+    let count : g.B.Blocks.count c.args.blocks.now ≡ g.B.Blocks.count c.plan_numbers.new.blocks = sym c.plan_numbers.ensures.reads.count in
+    let stores = c.in_ok-plan_inode_map.ensures.stores disk settled v before (c.plan_numbers.ensures.reads.same disk shows)
+    (subst (λ n. IsOverTree n disk settled c.args.inodes.now v before) count memory) w counts in
+    omega (arith, c.in_ok-plan_numbers.ensures.takes, stores)

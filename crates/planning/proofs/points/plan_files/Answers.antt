@@ -17,10 +17,12 @@ use Rattle.planning.specs.Progress.{with_file}
 use Rattle.std.specs.Result.{IfErr}
 use Rattle.buffers.specs.Failures.{HasGrown}
 use Rattle.conspoint.specs.Errors.{IsReadFault}
+use Rattle.planning.specs.Space.{map_file_nodes}
 use Rattle.planning.specs.Steps.{IsOverTree, settled_tree}
 use Rattle.planning.proofs.NumberLaws.{grows_twice}
 use Rattle.planning.proofs.OwnLaws.{own_change}
 use Rattle.planning.proofs.StartLaws.{not_own, spelled_ends, started, top_size}
+use Rattle.planning.proofs.TopLaws.{top_few}
 use Rattle.planning.proofs.WholeLaws.{all_planned}
 use Rattle.planning.proofs.points.plan_files.Goals as goal
 
@@ -132,3 +134,69 @@ returns-clause-planned g c = λ disk settled v before shows start.
     all_planned (record { there = said.there; others = said.others; behind = said.behind }) c.plan_changes.new.draft c.place_top.new.draft c.plan_last.new.draft disk before s (settled_tree disk settled)
     (λ n. trimmed (files_of disk settled c.args.inodes.now n)) c.args.inodes.now o f last.map first (put_at (192 * (2 % 21)) (inode_bytes last.map) (file_block disk o.file (2 / 21))) numbers.changed numbers.just
     (λ n is. (c.args.inodes.now.changes n is).1) (omega (arith, least.least_inodes)) numbers.map top last.planned large c.place_top.ensures.grows c.plan_last.ensures.grows last.put refl last.whole last.long
+
+pub returns-in_err-placed-clause-reads : goal.returns-in_err-placed-clause-reads
+returns-in_err-placed-clause-reads g c = record {
+  count = c.place_top.ensures.reads.count ∙ c.plan_changes.ensures.reads.count;
+  counted = search rules;
+  device = subst (λ n. IfErr c.from_residual-in_err-placed.result (λ e. IsReadFault e → HasGrown n (g.B.Blocks.failed c.place_top.new.blocks))) c.in_ok-plan_changes.ensures.reads.counted (search rules);
+  reads = λ start is. c.place_top.ensures.reads.reads start (c.plan_changes.ensures.reads.reads start is);
+  same = λ disk shows. c.place_top.ensures.reads.same disk (c.plan_changes.ensures.reads.same disk shows);
+}
+
+pub returns-clause-reads : goal.returns-clause-reads
+returns-clause-reads g c = record {
+  count = c.plan_last.ensures.reads.count ∙ c.place_top.ensures.reads.count ∙ c.plan_changes.ensures.reads.count;
+  counted = c.in_ok-plan_last.ensures.reads.counted ∙ c.in_ok-placed.ensures.reads.counted ∙ c.in_ok-plan_changes.ensures.reads.counted;
+  device = search rules;
+  reads = λ start is. c.plan_last.ensures.reads.reads start (c.place_top.ensures.reads.reads start (c.plan_changes.ensures.reads.reads start is));
+  same = λ disk shows. c.plan_last.ensures.reads.same disk (c.place_top.ensures.reads.same disk (c.plan_changes.ensures.reads.same disk shows));
+}
+
+pub returns-in_err-placed-clause-lacks : goal.returns-in_err-placed-clause-lacks
+returns-in_err-placed-clause-lacks g c = λ bad.
+    let top = top_few c.args.inodes.now c.args.root.now c.in_ok-top.top.file c.plan_changes.new.file c.requires.root c.in_ok-top.ensures.settled c.in_ok-top.ensures.unchanged
+    c.in_ok-top.ensures.size c.plan_changes.ensures.size c.plan_changes.ensures.settled c.plan_changes.ensures.changes in
+    omega (arith, c.in_ok-plan_changes.ensures.takes, c.in_err-placed.ensures.lacks (search rules), top)
+
+pub returns-in_err-plan_last-clause-lacks : goal.returns-in_err-plan_last-clause-lacks
+returns-in_err-plan_last-clause-lacks g c = λ bad.
+    let top = top_few c.args.inodes.now c.args.root.now c.in_ok-top.top.file c.plan_changes.new.file c.requires.root c.in_ok-top.ensures.settled c.in_ok-top.ensures.unchanged
+    c.in_ok-top.ensures.size c.plan_changes.ensures.size c.plan_changes.ensures.settled c.plan_changes.ensures.changes in
+    let count = ap map_file_nodes (c.place_top.ensures.grows.count ∙ c.plan_changes.ensures.grows.count) in
+    omega (arith, c.in_ok-plan_changes.ensures.takes, c.in_ok-placed.ensures.takes, c.in_err-plan_last.ensures.lacks (search rules), top, count)
+
+pub returns-clause-takes : goal.returns-clause-takes
+returns-clause-takes g c =
+    let top = top_few c.args.inodes.now c.args.root.now c.in_ok-top.top.file c.plan_changes.new.file c.requires.root c.in_ok-top.ensures.settled c.in_ok-top.ensures.unchanged
+    c.in_ok-top.ensures.size c.plan_changes.ensures.size c.plan_changes.ensures.settled c.plan_changes.ensures.changes in
+    let count = ap map_file_nodes (c.place_top.ensures.grows.count ∙ c.plan_changes.ensures.grows.count) in
+    omega (arith, c.in_ok-plan_changes.ensures.takes, c.in_ok-placed.ensures.takes, c.in_ok-plan_last.ensures.takes, top, count)
+
+pub returns-in_err-plan_changes-clause-short : goal.returns-in_err-plan_changes-clause-short
+returns-in_err-plan_changes-clause-short g c = λ disk settled v before shows memory w counts bad.
+    let short = c.in_err-plan_changes.ensures.short disk settled v before shows memory w counts (search rules) in
+    omega (arith, short)
+
+pub returns-in_err-placed-clause-short : goal.returns-in_err-placed-clause-short
+returns-in_err-placed-clause-short g c = λ disk settled v before shows memory w counts bad.
+    let top = top_few c.args.inodes.now c.args.root.now c.in_ok-top.top.file c.plan_changes.new.file c.requires.root c.in_ok-top.ensures.settled c.in_ok-top.ensures.unchanged
+    c.in_ok-top.ensures.size c.plan_changes.ensures.size c.plan_changes.ensures.settled c.plan_changes.ensures.changes in
+    let stores = c.in_ok-plan_changes.ensures.stores disk settled v before shows memory w counts in
+    omega (arith, stores, c.in_err-placed.ensures.lacks (search rules), top)
+
+pub returns-in_err-plan_last-clause-short : goal.returns-in_err-plan_last-clause-short
+returns-in_err-plan_last-clause-short g c = λ disk settled v before shows memory w counts bad.
+    let top = top_few c.args.inodes.now c.args.root.now c.in_ok-top.top.file c.plan_changes.new.file c.requires.root c.in_ok-top.ensures.settled c.in_ok-top.ensures.unchanged
+    c.in_ok-top.ensures.size c.plan_changes.ensures.size c.plan_changes.ensures.settled c.plan_changes.ensures.changes in
+    let stores = c.in_ok-plan_changes.ensures.stores disk settled v before shows memory w counts in
+    let count = ap map_file_nodes (c.place_top.ensures.grows.count ∙ c.plan_changes.ensures.grows.count) in
+    omega (arith, stores, c.in_ok-placed.ensures.takes, c.in_err-plan_last.ensures.lacks (search rules), top, count)
+
+pub returns-clause-stores : goal.returns-clause-stores
+returns-clause-stores g c = λ disk settled v before shows memory w counts.
+    let top = top_few c.args.inodes.now c.args.root.now c.in_ok-top.top.file c.plan_changes.new.file c.requires.root c.in_ok-top.ensures.settled c.in_ok-top.ensures.unchanged
+    c.in_ok-top.ensures.size c.plan_changes.ensures.size c.plan_changes.ensures.settled c.plan_changes.ensures.changes in
+    let stores = c.in_ok-plan_changes.ensures.stores disk settled v before shows memory w counts in
+    let count = ap map_file_nodes (c.place_top.ensures.grows.count ∙ c.plan_changes.ensures.grows.count) in
+    omega (arith, stores, c.in_ok-placed.ensures.takes, c.in_ok-plan_last.ensures.takes, top, count)

@@ -29,3 +29,6 @@ returns-in_err-next-clause-damaged g c = λ disk settled v before shows start ba
     (top_kind writes d disk before s (settled_tree disk settled) (λ n. trimmed (files_of disk settled c.args.inodes.now n)) c.args.inodes.now c.in_ok-inode_file.inode_file all start.memory.exact same)
     (subst (λ (z : Sizes). IsInode VERSION z c.in_ok-inode_file.inode_file) c.requires.sizes
     (top_fits writes d disk before s (settled_tree disk settled) (λ n. trimmed (files_of disk settled c.args.inodes.now n)) c.args.inodes.now c.in_ok-inode_file.inode_file all start.memory.exact same))
+
+pub returns-in_err-inode_file-clause-short : goal.returns-in_err-inode_file-clause-short
+returns-in_err-inode_file-clause-short g c = λ disk settled v before shows memory w counts bad. c.in_err-inode_file.ensures.short disk settled v before shows memory w counts (search rules)

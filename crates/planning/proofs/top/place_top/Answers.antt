@@ -1,4 +1,4 @@
-use Rattle.std.proofs.Common.{sym, ap, ◌∙◌, arith, rules}
+use Rattle.std.proofs.Common.{sym, ap, ◌∙◌}
 use Rattle.layout.specs.declared.inode.Inode.{Inode}
 use Rattle.images.specs.Contents.{Content}
 use Rattle.placement.specs.Files.{is_one}
@@ -6,7 +6,6 @@ use Rattle.planning.specs.Steps.{settled_tree}
 use Rattle.planning.proofs.JoinLaws.{marked_over, progress_more, taken_later}
 use Rattle.planning.proofs.NumberLaws.{grows_twice}
 use Rattle.planning.proofs.PointLaws.{held_inode}
-use Rattle.planning.proofs.SpaceLaws.{first_within}
 use Rattle.planning.proofs.top.place_top.Goals as goal
 
 pub returns-in_err-mark_placed-clause-grows : goal.returns-in_err-mark_placed-clause-grows
@@ -36,11 +35,3 @@ returns-clause-planned g c = λ s disk settled before p shows change kind once e
       blocks = λ e has agrees i.
           ap (λ (x : Content). x.block i) (c.in_ok-all.ensures.content s disk (settled 0) shows change e (goes.has e has) (λ b names. agrees b (record { file = 0; names = names })));
     }
-
-pub returns-in_err-all-clause-lacks : goal.returns-in_err-all-clause-lacks
-returns-in_err-all-clause-lacks g c = λ bad.
-    omega (arith, c.in_err-all.ensures.lacks (search rules), first_within c.args.top.now.file c.requires.some)
-
-pub returns-clause-takes : goal.returns-clause-takes
-returns-clause-takes g c =
-    omega (arith, c.in_ok-all.ensures.takes, c.mark_placed.ensures.left, first_within c.args.top.now.file c.requires.some)

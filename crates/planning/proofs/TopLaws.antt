@@ -1,0 +1,181 @@
+-- How many blocks of the inode file are stored.
+use Rattle.std.proofs.Common.{◌≡◌, ℕ, zero, suc, ◌+◌, ◌*◌, ◌%◌, ◌≤◌, Option, Some, None, true, false, ◌⊎◌, inl, inr, refl, ap, sym, subst, ◌∙◌, arith}
+use Rattle.std.specs.Prelude.{min, nat_lt, ◌==◌, if◌then◌else◌}
+use Rattle.std.specs.Ordering.{nat_cmp}
+use Rattle.std.specs.BTreeMap as tree
+use Rattle.std.proofs.lemmas.Bool.{cases_eq}
+use Rattle.std.proofs.lemmas.Bool.Decides.{nat_tests}
+use Rattle.layout.specs.Inode.{FitsBody}
+use Rattle.layout.specs.Root.{IsRoot}
+use Rattle.layout.specs.Version.{level_of}
+use Rattle.layout.specs.declared.inode.Body.{Body}
+use Rattle.layout.specs.declared.root.Root.{Root}
+use Rattle.layout.specs.declared.inode.Body.TheVariants.{Inline, Pointers}
+use Rattle.blocktree.specs.Places.{block_count, depth_of}
+use Rattle.blocktree.specs.Trees.{IsChanged, IsChangedSlot, SameSettled}
+use Rattle.blocktree.specs.declared.tree.BlockTree.{BlockTree}
+use Rattle.blocktree.specs.declared.tree.Slot.TheVariants as slots
+use Rattle.blocktree.specs.declared.tree.Slot.{Slot}
+use Rattle.conspoint.specs.Space.{block_stores, changed_blocks, slot_stores, sum_below}
+use Rattle.conspoint.proofs.SumLemmas.{is_in_sum, one_more, sum_of_none}
+use Rattle.inode.specs.Bases.{StartsFrom, StartsUnchanged}
+use Rattle.inode.specs.declared.file.File.{File}
+use Rattle.inofile.specs.Inodes as numbers
+use Rattle.inofile.specs.Inodes.{is_changed_slot}
+use Rattle.inofile.specs.declared.inode_file.InodeFile.{InodeFile}
+use Rattle.inofile.specs.declared.inode_file.Slot.TheVariants as inode_slots
+use Rattle.inofile.specs.declared.inode_file.Slot as inode_slot
+use Rattle.placement.specs.Space.{first_stores, level_stores, more_over}
+use Rattle.planning.specs.Inodes.{ChangesOnly, HasChange}
+use Rattle.planning.specs.Space.{number_changes, top_block, top_nodes}
+use Rattle.planning.proofs.StartLaws.{top_size}
+
+-- ---- which blocks are changed
+
+-- nothing is changed
+pub changes_none : (IsOne : ℕ → Type 0) (t : BlockTree) → ChangesOnly IsOne t t
+changes_none IsOne t = record { kept = refl; only = λ i is. inr is }
+
+-- one change after the other
+pub changes_twice : (IsOne IsOther : ℕ → Type 0) (a b c : BlockTree) → ((i : ℕ) → IsOther i → IsOne i) → ChangesOnly IsOne a b → ChangesOnly IsOther b c → ChangesOnly IsOne a c
+changes_twice IsOne IsOther a b c are first second = record {
+  kept = second.kept ∙ first.kept;
+  only = λ i is. elim (second.only i is) [
+    | inl here ↦ inl (are i here)
+    | inr before ↦ first.only i before
+  ];
+}
+
+-- as changes of more blocks
+pub changes_some : (IsOne IsOther : ℕ → Type 0) (a b : BlockTree) → ((i : ℕ) → IsOther i → IsOne i) → ChangesOnly IsOther a b → ChangesOnly IsOne a b
+changes_some IsOne IsOther a b are first = changes_twice IsOne IsOther a a b are (changes_none IsOne a) first
+
+-- ---- how many they are
+
+changed_counts : (slot : Option inode_slot.Slot) → numbers.IsChangedSlot slot → ◌≡◌ {A = ℕ} (if is_changed_slot slot then 1 else 0) 1
+changed_counts None is = absurd is
+changed_counts (Some inode_slots.AsSettled) is = absurd is
+changed_counts (Some (inode_slots.Loaded object)) is = absurd is
+changed_counts (Some (inode_slots.Changed object)) is = refl
+
+at_first : (s : InodeFile) (i : ℕ) → i ≡ 0 → top_block s i ≡ 1
+at_first s i is = let yes : (i == 0) ≡ true = grind (arith, nat_tests, is) in rw yes refl
+
+-- a block that has a changed number counts
+has_change : (s : InodeFile) (i : ℕ) → HasChange s i → top_block s i ≡ 1
+has_change s i has = elim (cases_eq i 0) [
+  | inl first ↦ at_first s i first
+  | inr later ↦
+      let no : (i == 0) ≡ false = grind (arith, nat_tests, later) in
+      let f : ℕ → ℕ = λ k. number_changes s (21 * i + k) in
+      let at : 21 * i + has.0 % 21 ≡ has.0 = omega (arith, has.1) in
+      let one : f (has.0 % 21) ≡ 1 = ap (number_changes s) at ∙ changed_counts (tree.get nat_cmp s.slots has.0) has.2 in
+      let counted = is_in_sum f (has.0 % 21) 21 (omega arith) in
+      let all : min 1 (sum_below f 21) ≡ 1 = omega (arith, counted, one) in
+      rw no all
+]
+
+stored_or_not : (s : Option Slot) → (slot_stores s ≡ 0) ⊎ IsChangedSlot s
+stored_or_not None = inl refl
+stored_or_not (Some slots.AsSettled) = inl refl
+stored_or_not (Some (slots.Changed block)) = inr tt
+
+one_at_most : (s : Option Slot) → slot_stores s ≤ 1
+one_at_most None = omega arith
+one_at_most (Some slots.AsSettled) = omega arith
+one_at_most (Some (slots.Changed block)) = omega arith
+
+-- what is counted of a block is one where it is changed, and else none
+pub stored_most : (t : BlockTree) (i m : ℕ) → (IsChanged t i → 1 ≤ m) → block_stores t 0 i ≤ m
+stored_most t i m counts =
+    let no : nat_lt i 0 ≡ false = grind (arith, nat_tests) in
+    let slot = tree.get nat_cmp t.slots i in
+    let is : block_stores t 0 i ≡ slot_stores slot = rw no refl in
+    elim (stored_or_not slot) [
+      | inl none ↦ omega (arith, is, none)
+      | inr changed ↦ omega (arith, is, one_at_most slot, counts changed)
+    ]
+
+not_first : (t : BlockTree) (i : ℕ) → i ≡ 0 → block_stores t 1 i ≡ 0
+not_first t i is = let yes : nat_lt i 1 ≡ true = grind (arith, nat_tests, is) in rw yes refl
+
+later_one : (s : InodeFile) (t : BlockTree) (i : ℕ) → (i ≡ 0 → ⊥) → (IsChanged t i → (i ≡ 0) ⊎ HasChange s i) → block_stores t 1 i ≤ top_block s i
+later_one s t i later only =
+    let no : nat_lt i 1 ≡ false = grind (arith, nat_tests, later) in
+    let slot = tree.get nat_cmp t.slots i in
+    let is : block_stores t 1 i ≡ slot_stores slot = rw no refl in
+    elim (stored_or_not slot) [
+      | inl none ↦ omega (arith, is, none)
+      | inr changed ↦ elim (only changed) [
+        | inl first ↦ absurd (later first)
+        | inr has ↦ omega (arith, is, one_at_most slot, has_change s i has)
+      ]
+    ]
+
+-- the changed blocks after the first are counted, and the first
+top_counts : (s : InodeFile) (t : BlockTree) (n : ℕ) → ((i : ℕ) → IsChanged t i → (i ≡ 0) ⊎ HasChange s i) → changed_blocks t 1 n + min 1 n ≤ sum_below (top_block s) n
+top_counts s t zero only = omega (arith, sum_of_none (block_stores t 1))
+top_counts s t (suc n) only =
+    let next : suc n ≡ n + 1 = omega arith in
+    subst (λ (m : ℕ). changed_blocks t 1 m + min 1 m ≤ sum_below (top_block s) m) (sym next) (
+    let before = top_counts s t n only in
+    let these = one_more (block_stores t 1) n in
+    let those = one_more (top_block s) n in
+    elim (cases_eq n 0) [
+      | inl first ↦ omega (arith, before, these, those, not_first t n first, at_first s n first, first)
+      | inr later ↦ omega (arith, before, these, those, later_one s t n later (only n), later)
+    ]
+    )
+
+-- ---- the inode file of a plan
+
+level_rises : (level blocks a b more : ℕ) → a ≤ b → level_stores level blocks a more ≤ level_stores level blocks b more
+level_rises zero blocks a b more le = omega arith
+level_rises (suc level) blocks a b more le = omega (arith, le)
+
+-- all of a settled file of this size counts
+pub record IsWhole (size : ℕ) (t : BlockTree) : Type 0 where
+  kept : t.kept ≡ t.count
+  count : t.count ≡ block_count size
+  depth : t.depth ≡ depth_of size
+
+none_more : (f : File) → IsWhole f.size f.tree → more_over f ≡ 0
+none_more f whole =
+    let no : nat_lt (min f.tree.kept (block_count f.size)) f.tree.count ≡ false = grind (arith, nat_tests, whole.kept, whole.count) in
+    let yes : (f.tree.depth == depth_of f.size) ≡ true = grind (arith, nat_tests, whole.depth) in
+    rw (no, yes) refl
+
+-- of such a file at most these blocks are stored
+pub top_within : (s : InodeFile) (size : ℕ) (f : File) → f.size ≡ size → 4096 ≤ size → IsWhole f.size f.tree → ((i : ℕ) → IsChanged f.tree i → (i ≡ 0) ⊎ HasChange s i) → first_stores f ≤ top_nodes s size
+top_within s size f is large whole only =
+    let some : 1 ≤ block_count f.size = omega (arith, is, large) in
+    let counts = top_counts s f.tree (block_count f.size) only in
+    let level = level_rises (level_of f.size) (block_count f.size) (changed_blocks f.tree 1 (block_count f.size) + 1) (sum_below (top_block s) (block_count f.size)) 0 (omega (arith, counts, some)) in
+    subst (λ (n : ℕ). first_stores f ≤ top_nodes s n) is
+    (subst (λ (m : ℕ). level_stores (level_of f.size) (block_count f.size) (changed_blocks f.tree 1 (block_count f.size) + 1) m ≤ top_nodes s f.size) (sym (none_more f whole)) level)
+
+-- what is loaded of a large inode
+record IsLoaded (size : ℕ) (t : BlockTree) : Type 0 where
+  whole : IsWhole size t
+  unchanged : (i : ℕ) → IsChanged t i → ⊥
+
+is_loaded : (b : Body) (blocks size : ℕ) (t : BlockTree) → FitsBody b blocks size → 4096 ≤ size → StartsFrom b size t → StartsUnchanged b t → IsLoaded size t
+is_loaded (Inline bytes) blocks size t fits large starts unchanged = absurd (omega (arith, fits.0, large))
+is_loaded (Pointers pointers) blocks size t fits large starts unchanged =
+    record { whole = record { kept = starts.1; count = starts.0.count; depth = starts.0.depth }; unchanged = unchanged }
+
+-- the inode file, loaded and changed
+pub top_few : (s : InodeFile) (r : Root) (first last : File) → IsRoot r → StartsFrom r.inode_file.body r.inode_file.size first.tree → StartsUnchanged r.inode_file.body first.tree
+    → first.size ≡ r.inode_file.size → last.size ≡ first.size → SameSettled first.tree last.tree → ChangesOnly (λ i. (i ≡ 0) ⊎ HasChange s i) first.tree last.tree → first_stores last ≤ top_nodes s r.inode_file.size
+top_few s r first last root starts unchanged loaded same settled changes =
+    let size : last.size ≡ r.inode_file.size = same ∙ loaded in
+    let large : 4096 ≤ r.inode_file.size = omega (arith, top_size r.geometry r root refl, root.head.sizes.least_inodes) in
+    let is = is_loaded r.inode_file.body r.geometry.blocks r.inode_file.size first.tree root.inode_file.body large starts unchanged in
+    top_within s r.inode_file.size last size large (record {
+      kept = changes.kept ∙ is.whole.kept ∙ sym settled.count;
+      count = settled.count ∙ is.whole.count ∙ ap block_count (sym size);
+      depth = settled.depth ∙ is.whole.depth ∙ ap depth_of (sym size);
+    }) (λ i changed. elim (changes.only i changed) [
+      | inl one ↦ one
+      | inr before ↦ absurd (is.unchanged i before)
+    ])
