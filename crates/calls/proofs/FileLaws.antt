@@ -109,7 +109,8 @@ both_steps n d x to node after v apart same =
 -- ---- updates that depend on nothing else
 
 pub alone_takes : (s : InodeFile) (number : ℕ) (u : Update) → IsAlone u → IsKnown s number → TakesUpdate s number u
-alone_takes s number (updates.Set object) alone known = tt
+alone_takes s number (updates.Set (Some object)) alone known = tt
+alone_takes s number (updates.Set None) alone known = known
 alone_takes s number (updates.Names edit) alone known = absurd alone
 alone_takes s number (updates.SetMode mode) alone known = known
 alone_takes s number (updates.Bytes change) alone known = absurd alone

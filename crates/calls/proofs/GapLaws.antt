@@ -19,7 +19,7 @@ use Rattle.model.specs.declared.reply.Reply.TheVariants.{Refused}
 use Rattle.model.proofs.LeadLemmas.{AnswersWell}
 use Rattle.model.proofs.MountedLemmas.{node_directory}
 use Rattle.calls.proofs.LeadLaws.{trail_end}
-use Rattle.calls.proofs.MakeLaws.{listing, tested_some, tested_none}
+use Rattle.calls.proofs.MakeLaws.{listing}
 
 directory_of : (n : ℕ) (o : Option Node) → is_directory (object_of n o) ≡ is_directory_node o
 directory_of n None = refl

@@ -20,3 +20,9 @@ pub mod MoveLaws
 pub mod SymlinkLaws
 pub mod GapLaws
 pub mod LinkLaws
+pub mod SweepLaws
+pub mod RenameLaws
+pub mod RenameEnds
+pub mod RenameTests
+pub mod RenameComes
+pub mod TruncateLaws

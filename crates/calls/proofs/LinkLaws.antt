@@ -1,5 +1,5 @@
 -- What the definitions say of giving a file one more name over paths, by what was found in a volume.
-use Rattle.std.proofs.Common.{◌≡◌, ◌≢◌, inl, inr, ℕ, zero, suc, ◌+◌, ◌<◌, ◌≤◌, List, [], ◌∷◌, ◌++◌, Bool, true, false, Option, Some, None, IsSome, Result, Ok, Err, add-one, refl, sym, ap, subst, ◌∙◌}
+use Rattle.std.proofs.Common.{◌≡◌, inl, inr, ℕ, ◌+◌, ◌<◌, List, [], ◌∷◌, ◌++◌, Bool, true, false, Option, Some, None, IsSome, Result, Ok, Err, add-one, refl, sym, ap, subst, ◌∙◌}
 use Rattle.std.specs.Prelude.{nat_le, ◌||◌}
 use Rattle.std.proofs.Math.Path.{fun_ext}
 use Rattle.std.proofs.lemmas.Bool.{cases_Bool, cases_eq, cond-true, cond-false, false≢true, lt-leb, le-leb}
@@ -10,12 +10,12 @@ use Rattle.model.specs.Finding.{at_refusal, IsPlaceOf}
 use Rattle.model.specs.Laws.{RecordsChangeTrees, VolumesTellLinks}
 use Rattle.model.specs.Outcomes.{Outcome, changes, leads, leads_to, refuses, tested, with_links, with_place}
 use Rattle.model.specs.Paths.{Name, Path, Tests, first_refusal, new_text_tests, text_tests, is_dot, is_dot_dot, last_part}
-use Rattle.model.specs.Records.{Change, Applies, TakesName, applied, link}
+use Rattle.model.specs.Records.{Change, Applies, applied, link}
 use Rattle.model.specs.Resolution.{Resolution, named, missing, refused, resolve}
 use Rattle.model.specs.Room.{Need, adds_name, logs, nothing}
 use Rattle.model.specs.Trees.{Tree, Object, Description, IsTree}
 use Rattle.model.specs.Trees as trees
-use Rattle.model.specs.Volumes.{Node, directory_node, file_node, link_node, Volume, entries, number_at, object_at, object_of, is_directory_node, is_file_node, is_open, set_name, swept, swept_node, tree_of, with_name_more, with_node, IsMounted, IsVolume}
+use Rattle.model.specs.Volumes.{Node, directory_node, file_node, link_node, Volume, object_at, object_of, is_directory_node, is_file_node, is_open, set_name, swept, swept_node, tree_of, with_name_more, with_node, IsMounted, IsVolume}
 use Rattle.model.specs.declared.errno.Errno.{Errno}
 use Rattle.model.specs.declared.errno.Errno.TheVariants.{DIRFULL, EEXIST, EINVAL, EMLINK, EPERM}
 use Rattle.model.specs.declared.limits.TheConstants.{FILE_NAMES}
@@ -23,10 +23,9 @@ use Rattle.model.specs.declared.reply.Reply.{Reply}
 use Rattle.model.specs.declared.reply.Reply.TheVariants.{Done, Refused}
 use Rattle.model.proofs.LeadLemmas.{AnswersWell, resolves_well}
 use Rattle.model.proofs.LooseLemmas.{some_same}
-use Rattle.calls.specs.Changing.{Comes, said_by}
+use Rattle.calls.specs.Changing.{Comes}
 use Rattle.calls.specs.Leading.{LeadsTo}
 use Rattle.calls.specs.Linking.{LinksFile}
-use Rattle.calls.specs.Steps.{IsFileOf}
 use Rattle.calls.specs.Served.{IsServed}
 use Rattle.calls.specs.declared.changed.Changing.{Changing}
 use Rattle.calls.proofs.EnterLaws.{node_here, node_other}

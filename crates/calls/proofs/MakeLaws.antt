@@ -28,8 +28,10 @@ use Rattle.model.specs.declared.reply.Reply.TheVariants.{Done, Refused}
 use Rattle.model.proofs.LeadLemmas.{AnswersWell, resolves_well}
 use Rattle.model.proofs.SweepLemmas.{not_unused}
 use Rattle.model.proofs.WalkLemmas.{number_at-push}
-use Rattle.calls.specs.Making.{MakesAt, MakesIn, Answers, IsLeastFree}
-use Rattle.calls.specs.declared.made.Making.{Making}
+use Rattle.calls.specs.Changing.{Comes}
+use Rattle.calls.specs.Making.{MakesAt, MakesIn, IsLeastFree}
+use Rattle.calls.specs.Served.{IsServed}
+use Rattle.calls.specs.declared.changed.Changing.{Changing}
 use Rattle.calls.proofs.EnterLaws.{node_here, node_other}
 use Rattle.calls.proofs.CountedLists.{counted_list}
 
@@ -62,15 +64,10 @@ told_answers (Ok a) P Q then p = then a p
 told_answers (Err e) P Q then p = tt
 
 -- what is made of the least free number
-pub makes_numbered : (inodes : ℕ) (v : Volume) (n d : ℕ) (x : Name) (what : Made) → IsMade what → IsLeastFree inodes v n → (r : Result Making Errno)
+pub makes_numbered : (inodes : ℕ) (v : Volume) (n d : ℕ) (x : Name) (what : Made) → IsMade what → IsLeastFree inodes v n → (r : Result Changing Errno)
     → MakesAt v n d x what r → MakesIn inodes v d x what r
 makes_numbered inodes v n d x what good least (Err errno) told = inl told
-makes_numbered inodes v n d x what good least (Ok m) (says, same, takes) = (
-  says ∙ ap (λ (k : ℕ). create k d what x) (sym same),
-  good,
-  takes,
-  subst (IsLeastFree inodes v) (sym same) least,
-)
+makes_numbered inodes v n d x what good least (Ok c) (says, takes) = (n, says, good, takes, least)
 
 -- ---- objects
 
@@ -337,9 +334,9 @@ module _ (inodes : ℕ) (v : Volume) (table : ℕ → Option Description) (volum
               no_file e = cc
 
         module _ (fresh_law : VolumesTellFresh) (change_law : RecordsChangeTrees) where
-          pub gap_answers : (making : Result Making Errno) → MakesIn inodes v d name what making → Answers makes inodes v table making
-          gap_answers (Err errno) (inl (is, not)) = subst (λ e. makes (Refused e) t nothing) (sym is) (dir_full not)
-          gap_answers (Err errno) (inr (is, can, none)) = subst (λ e. makes (Refused e) t nothing) (sym is) (no_number can none)
-          gap_answers (Ok m) (says, good, can, free) =
-              subst (λ (x : Change). Applies inodes v x × IsMounted (applied x v) table × makes Done (tree_of (applied x v) table) (logs adds_name)) (sym says)
-              (applies fresh_law change_law good m.creation.number can free, (changed fresh_law change_law good m.creation.number can free).0, made fresh_law change_law good m.creation.number can free)
+          pub gap_comes : (told : Result Changing Errno) → MakesIn inodes v d name what told → Comes makes adds_name inodes v table told
+          gap_comes (Err errno) (inl (is, not)) = subst (λ e. makes (Refused e) t nothing) (sym is) (dir_full not)
+          gap_comes (Err errno) (inr (is, can, none)) = subst (λ e. makes (Refused e) t nothing) (sym is) (no_number can none)
+          gap_comes (Ok c) (n, says, good, can, free) =
+              subst (λ (x : Change). IsServed x × Applies inodes v x × IsMounted (applied x v) table × makes Done (tree_of (applied x v) table) (logs adds_name)) (sym says)
+              (tt, applies fresh_law change_law good n can free, (changed fresh_law change_law good n can free).0, made fresh_law change_law good n can free)

@@ -155,7 +155,7 @@ module _ (inodes : ℕ) (v : Volume) (table : ℕ → Option Description) (volum
     removed applies = (refl, (unnames applies).swept, refl)
 
     -- what comes of the object there
-    there_comes : (there : Path → Object → Outcome) (reply : Reply) (new : Tree) (need : Need) → ((o : Object) → object_of n (v n) ≡ Some o → there q o reply new need)
+    pub there_comes : (there : Path → Object → Outcome) (reply : Reply) (new : Tree) (need : Need) → ((o : Object) → object_of n (v n) ≡ Some o → there q o reply new need)
         → leads_to t r there reply new need
     there_comes there reply new need comes =
         subst (λ (s : Resolution). leads_to t s there reply new need) (sym finds.is)

@@ -1,11 +1,12 @@
 -- Memory that stands for a volume, from one moment to the next.
-use Rattle.std.proofs.Common.{◌≡◌, ℕ, List, sym, subst}
+use Rattle.std.proofs.Common.{◌≡◌, ◌∙◌, ℕ, List, Result, Ok, refl, sym, subst}
 use Rattle.layout.specs.declared.inode.Inode.{Inode}
 use Rattle.model.specs.Volumes.{Volume}
+use Rattle.buffers.specs.Reads.{ReadsBlocks}
 use Rattle.buffers.specs.declared.blocks.Blocks.{Ghosts}
 use Rattle.inofile.specs.Volumes.{IsVolumeOf}
 use Rattle.inofile.specs.declared.inode_file.InodeFile.{InodeFile}
-use Rattle.paths.specs.Standing.{Stands}
+use Rattle.paths.specs.Standing.{Looks, Stands}
 
 -- memory stands for all volumes that it stood for before
 abbrev pub StaysVolume : InodeFile → InodeFile → Type 0
@@ -22,4 +23,29 @@ module _ {B : Type 0} {G : Ghosts B} {disk : ℕ → List ℕ} {settled : ℕ �
   stands_over blocks after t same shows volume = record {
     shows = shows;
     volume = subst (λ (n : ℕ). IsVolumeOf n disk settled t v) (sym same) volume;
+  }
+
+-- a look at nothing
+pub no_look : {B E : Type 0} {G : Ghosts B} {F : E → Type 0} {a : B} {s : InodeFile} → Looks {T = ℕ} G F a a s s (Ok 0)
+no_look = record {
+  reads = record { count = refl; counted = refl; device = tt; reads = λ start so. so; same = λ disk shows. shows };
+  geometry = refl;
+  kept = λ disk settled v stands. stands;
+}
+
+module _ {B T E : Type 0} {G : Ghosts B} {F : E → Type 0} where
+  -- blocks that are read are a look
+  pub looks_of_reads : {a b : B} {s : InodeFile} {r : Result T E} → ReadsBlocks G F a b r → Looks G F a b s s r
+  looks_of_reads {a = a} {b = b} {s = s} read = record {
+    reads = read;
+    geometry = refl;
+    kept = λ disk settled v stands. stands_over a b s read.count (read.same disk stands.shows) stands.volume;
+  }
+
+  -- a look behind which memory changes, and what it stands for stays
+  pub looks_stays : {a b : B} {s t u : InodeFile} {r : Result T E} → Looks G F a b s t r → u.geometry ≡ t.geometry → StaysVolume t u → Looks G F a b s u r
+  looks_stays {b = b} {t = t} {u = u} look same stays = record {
+    reads = look.reads;
+    geometry = same ∙ look.geometry;
+    kept = λ disk settled v stands. stands_with b t u stays (look.kept disk settled v stands);
   }

@@ -119,7 +119,8 @@ links_set disk inodes settled o found links few was is = record {
 -- what an update has need of stays
 pub takes_update_after : (s t : InodeFile) (n number : ℕ) (u : Update) → ((k : ℕ) → IsKnown s k → IsKnown t k) → ((k : ℕ) → k ≢ n → loaded t k ≡ loaded s k)
     → IsApart n number u → TakesUpdate s number u → TakesUpdate t number u
-takes_update_after s t n number (updates.Set object) stays rest apart takes = tt
+takes_update_after s t n number (updates.Set (Some object)) stays rest apart takes = tt
+takes_update_after s t n number (updates.Set None) stays rest apart takes = stays number takes
 takes_update_after s t n number (updates.Names edit) stays rest apart takes =
     (stays number takes.0, subst (λ (o : Option Object). FitsObject o edit) (sym (rest number apart)) takes.1)
 takes_update_after s t n number (updates.SetMode mode) stays rest apart takes = stays number takes
@@ -140,7 +141,8 @@ takes_step_after s t n (Some step) same keeps stays rest apart takes = record {
 
 -- what an update has need of stays where its object is the same in memory
 takes_same : (s t : InodeFile) (number : ℕ) (u : Update) → ((k : ℕ) → IsKnown s k → IsKnown t k) → loaded t number ≡ loaded s number → TakesUpdate s number u → TakesUpdate t number u
-takes_same s t number (updates.Set object) stays same takes = tt
+takes_same s t number (updates.Set (Some object)) stays same takes = tt
+takes_same s t number (updates.Set None) stays same takes = stays number takes
 takes_same s t number (updates.Names edit) stays same takes = (stays number takes.0, subst (λ (o : Option Object). FitsObject o edit) (sym same) takes.1)
 takes_same s t number (updates.SetMode mode) stays same takes = stays number takes
 takes_same s t number (updates.Bytes change) stays same takes = (stays number takes.0, subst (λ (o : Option Object). FitsFile o change) (sym same) takes.1)

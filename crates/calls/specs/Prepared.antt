@@ -4,7 +4,7 @@ use Rattle.layout.specs.declared.inode.Inode.{Inode}
 use Rattle.model.specs.Records.{Change, applied}
 use Rattle.model.specs.Volumes.{Volume}
 use Rattle.inofile.specs.declared.inode_file.InodeFile.{InodeFile}
-use Rattle.calls.specs.Steps.{IsBeside, IsSomeApart, Steps, StepsSome, TakesSome, TakesStep}
+use Rattle.calls.specs.Steps.{IsAtHand, IsBeside, IsSomeApart, IsSomeAtHand, Steps, StepsSome, TakesSome, TakesStep}
 use Rattle.calls.specs.declared.prepared.Prepared.{Prepared}
 use Rattle.calls.specs.declared.steps.Step.{Step}
 
@@ -26,6 +26,12 @@ pub record IsReady (s : InodeFile) (p : Prepared) : Type 0 where
   pub next_apart : IsSomeApart p.first.number p.next
   pub last_apart : IsSomeApart p.first.number p.last
   pub apart : IsApartFrom p.next p.last
+
+-- what a prepared change sets is in memory, with room for a change of it
+pub record AreAtHand (s : InodeFile) (p : Prepared) : Type 0 where
+  pub first : IsAtHand s p.first.number
+  pub next : IsSomeAtHand s p.next
+  pub last : IsSomeAtHand s p.last
 
 -- Put in force on this memory, which stands for this volume, a prepared change does to it what the record says: each of its
 -- steps is on an object of its own.

@@ -17,7 +17,8 @@ use Rattle.calls.specs.declared.steps.Update.TheVariants as updates
 
 -- memory has what an update needs beside room for its object
 abbrev pub TakesUpdate : InodeFile → ℕ → Update → Type 0
-TakesUpdate s number (updates.Set object) = Unit {0}
+TakesUpdate s number (updates.Set (Some object)) = Unit {0}
+TakesUpdate s number (updates.Set None) = IsKnown s number
 TakesUpdate s number (updates.Names edit) = IsKnown s number × FitsObject (loaded s number) edit
 TakesUpdate s number (updates.SetMode mode) = IsKnown s number
 TakesUpdate s number (updates.Bytes change) = IsKnown s number × FitsFile (loaded s number) change
@@ -29,6 +30,18 @@ pub record TakesStep (s : InodeFile) (step : Step) : Type 0 where
   pub high : step.number < s.geometry.inodes
   pub room : HasRoomFor s step.number
   pub takes : TakesUpdate s step.number step.update
+
+-- an object, or that there is none, is in memory, with room for a change of it
+pub record IsAtHand (s : InodeFile) (number : ℕ) : Type 0 where
+  pub low : ROOT_NUMBER ≤ number
+  pub high : number < s.geometry.inodes
+  pub room : HasRoomFor s number
+  pub known : IsKnown s number
+
+-- so is the object of a step, if there is one
+abbrev pub IsSomeAtHand : InodeFile → Option Step → Type 0
+IsSomeAtHand s None = Unit {0}
+IsSomeAtHand s (Some step) = IsAtHand s step.number
 
 -- an update doesn't depend on what the object of this number is in memory
 abbrev pub IsApart : ℕ → ℕ → Update → Type 0

@@ -9,7 +9,7 @@ use layout::{InodeNumber, Record, is_name};
 use model::Mode;
 
 /// A name that a directory has, or may have.
-#[derive(Debug, Drop)]
+#[derive(Drop)]
 pub struct EntryName {
     pub(crate) bytes: Vec<u8>,
     ghost named: { IsName bytes.items },
@@ -29,7 +29,7 @@ impl EntryName {
 }
 
 /// What the record of a call says, with names of its own.
-#[derive(Debug, Drop)]
+#[derive(Drop)]
 pub enum OwnedChange {
     /// The object is made.
     Create {
@@ -46,15 +46,27 @@ pub enum OwnedChange {
         parent: InodeNumber,
         name: EntryName,
     },
+    /// What has the name gets the new one in its place, and what had the new name has it no more.
+    Rename {
+        parent: InodeNumber,
+        name: EntryName,
+        new_parent: InodeNumber,
+        new_name: EntryName,
+    },
     /// The file or directory gets this mode.
     ChangeMode {
         number: InodeNumber,
         mode: Mode,
     },
+    /// The file gets this size, in bytes.
+    Cut {
+        number: InodeNumber,
+        size: u64,
+    },
 }
 
 /// What a call is to change: what its record says, and its prepared change.
-#[derive(Debug, Drop)]
+#[derive(Drop)]
 pub struct Changing {
     pub change: OwnedChange,
     pub prepared: Prepared,
@@ -92,11 +104,32 @@ impl OwnedChange {
                     name: &name.bytes,
                 }
             }
+            OwnedChange::Rename {
+                parent,
+                name,
+                new_parent,
+                new_name,
+            } => {
+                let _ = (parent.get(), new_parent.get());
+                Record::Rename {
+                    parent: *parent,
+                    name: &name.bytes,
+                    new_parent: *new_parent,
+                    new_name: &new_name.bytes,
+                }
+            }
             OwnedChange::ChangeMode { number, mode } => {
                 let _ = (number.get(), mode.bits());
                 Record::ChangeMode {
                     number: *number,
                     mode: *mode,
+                }
+            }
+            OwnedChange::Cut { number, size } => {
+                let _ = (number.get(), *size);
+                Record::Cut {
+                    number: *number,
+                    size: *size,
                 }
             }
         }

@@ -30,7 +30,7 @@ use model::{GREATEST_FILE, TRANSFER_BYTES};
 use std::alloc::Global;
 
 /// What becomes of a file's bytes.
-#[derive(Clone, Copy, Debug)]
+#[derive(Clone, Copy)]
 pub(crate) enum Rewrite<'a> {
     /// These are written, from an offset on.
     Write { offset: u64, bytes: &'a [u8] },

@@ -3,12 +3,12 @@
 ghost use Rattle.std.specs.Prelude.{◌≡◌, IfNone, IfSome};
 ghost use Rattle.model.specs.Paths.{IsLinkText};
 
-use crate::{EntryName, Prepared};
+use crate::EntryName;
 use layout::{InodeNumber, NewObject, Record, is_link_text};
 use model::Mode;
 
 /// The text of a symbolic link.
-#[derive(Debug, Drop)]
+#[derive(Drop)]
 pub struct LinkText {
     pub(crate) bytes: Vec<u8>,
     ghost said: { IsLinkText bytes.items },
@@ -28,7 +28,7 @@ impl LinkText {
 }
 
 /// What a call makes, with a text of its own.
-#[derive(Debug, Drop)]
+#[derive(Drop)]
 pub enum OwnedObject {
     Directory { mode: Mode },
     Link { text: LinkText },
@@ -38,7 +38,7 @@ impl OwnedObject {
     ghost use Rattle.std.specs.Prelude.{◌≡◌, ◌≤◌, length};
     ghost use Rattle.layout.specs.Record.{KeepsMadeLimits, made_of, mode_of_made, text_bytes};
     ghost use Rattle.model.specs.Records.{IsMade};
-    ghost use Rattle.calls.specs.Making.{made_by};
+    ghost use Rattle.calls.specs.Changing.{made_by};
 
     /// The same, as a record has it.
     pub(crate) fn as_new(&self) -> NewObject<'_>
@@ -60,7 +60,7 @@ impl OwnedObject {
 }
 
 /// What the record of a new object says, with a name of its own.
-#[derive(Debug, Drop)]
+#[derive(Drop)]
 pub struct Creation {
     pub(crate) number: InodeNumber,
     pub(crate) parent: InodeNumber,
@@ -71,7 +71,7 @@ pub struct Creation {
 impl Creation {
     ghost use Rattle.std.specs.Prelude.{◌≡◌, ◌≤◌, length};
     ghost use Rattle.layout.specs.Record.{body_of, change_of, IsChange, KeepsLimits};
-    ghost use Rattle.calls.specs.Making.{creation_of};
+    ghost use Rattle.calls.specs.Changing.{creation_of};
     ghost use Rattle.calls.specs.Served.{IsServed};
 
     /// The record, as the log takes it.
@@ -92,11 +92,4 @@ impl Creation {
             name: &self.name.bytes,
         }
     }
-}
-
-/// An object that is to be made: what its record says, and its prepared change.
-#[derive(Debug, Drop)]
-pub struct Making {
-    pub creation: Creation,
-    pub prepared: Prepared,
 }

@@ -11,8 +11,8 @@ ghost use Rattle.model.specs.Volumes.{IsVolume, tree_of};
 ghost use Rattle.model.specs.declared.limits.TheConstants.{FIRST_NUMBER};
 ghost use Rattle.blocktree.specs.Errors.{IsFault};
 ghost use Rattle.inofile.specs.Objects.{IsObject};
-ghost use Rattle.calls.specs.Changing.{AllDo, AllReady, Comes};
-ghost use Rattle.calls.specs.Making.{Answers, HasNoNumber, MakesAt, MakesDo, MakesIn, MakesReady, creation_of, made_by};
+ghost use Rattle.calls.specs.Changing.{AllDo, AllReady, Comes, made_by, said_by};
+ghost use Rattle.calls.specs.Making.{HasNoNumber, MakesAt, MakesIn};
 ghost use Rattle.calls.specs.Prepared.{Does};
 ghost use Rattle.calls.specs.Refusals.{is_path_refusal};
 ghost use Rattle.calls.specs.Shown.{NeverDamaged, OnMounted, OnVolumes};
@@ -21,7 +21,7 @@ ghost use Rattle.paths.specs.Standing.{Looks};
 use crate::finding::find;
 use crate::prepared::prepare_new;
 use crate::vacancy::{is_vacant, new_object};
-use crate::{Changing, Creation, EntryName, LinkText, Making, OwnedChange, OwnedObject};
+use crate::{Changing, Creation, EntryName, LinkText, OwnedChange, OwnedObject};
 use blocktree::ReadError;
 use buffers::Blocks;
 use inode::{Object, based_trees_are_sound};
@@ -42,14 +42,14 @@ pub fn make_directory<B: Blocks>(
     blocks: &mut B,
     path: &[u8],
     mode: Mode,
-) -> Result<Result<Making, Errno>, ReadError>
+) -> Result<Result<Changing, Errno>, ReadError>
     ensures looks { Looks B.Blocks IsFault blocks.old blocks.new inodes.old inodes.new result }
     ensures own { IfOk result (λ r. IfErr r (λ e. IsTrue (is_path_refusal e))) }
-    ensures ready { MakesReady inodes.new result }
-    ensures does { MakesDo B.Blocks blocks.old inodes.old inodes.new result }
+    ensures ready { AllReady inodes.new result }
+    ensures does { AllDo B.Blocks blocks.old inodes.old inodes.new result }
     ensures answers { OnMounted B.Blocks blocks.old inodes.old (λ v table. IfOk result
-        (Answers (makes_directory inodes.old.geometry.inodes (tree_of v table) path.now mode)
-        inodes.old.geometry.inodes v table)) }
+        (Comes (makes_directory inodes.old.geometry.inodes (tree_of v table) path.now mode)
+        adds_name inodes.old.geometry.inodes v table)) }
     ensures damaged { NeverDamaged B.Blocks blocks.old inodes.old result }
 {
     make(alloc, inodes, blocks, path, OwnedObject::Directory { mode })
@@ -79,16 +79,7 @@ pub fn symlink<B: Blocks>(
     let Some(text) = LinkText::new(bytes) else {
         unreachable!()
     };
-    let made = make(alloc, inodes, blocks, path, OwnedObject::Link { text })?;
-    match made {
-        Ok(making) => Ok(Ok(Changing {
-            change: OwnedChange::Create {
-                creation: making.creation,
-            },
-            prepared: making.prepared,
-        })),
-        Err(errno) => Ok(Err(errno)),
-    }
+    make(alloc, inodes, blocks, path, OwnedObject::Link { text })
 }
 
 // Why the text of a symbolic link is refused.
@@ -119,14 +110,14 @@ fn make<B: Blocks>(
     blocks: &mut B,
     path: &[u8],
     object: OwnedObject,
-) -> Result<Result<Making, Errno>, ReadError>
+) -> Result<Result<Changing, Errno>, ReadError>
     ensures looks { Looks B.Blocks IsFault blocks.old blocks.new inodes.old inodes.new result }
     ensures own { IfOk result (λ r. IfErr r (λ e. IsTrue (is_path_refusal e))) }
-    ensures ready { MakesReady inodes.new result }
-    ensures does { MakesDo B.Blocks blocks.old inodes.old inodes.new result }
+    ensures ready { AllReady inodes.new result }
+    ensures does { AllDo B.Blocks blocks.old inodes.old inodes.new result }
     ensures answers { OnMounted B.Blocks blocks.old inodes.old (λ v table. IfOk result
-        (Answers (creates inodes.old.geometry.inodes (tree_of v table) path.now
-        (with_made (made_by object))) inodes.old.geometry.inodes v table)) }
+        (Comes (creates inodes.old.geometry.inodes (tree_of v table) path.now
+        (with_made (made_by object))) adds_name inodes.old.geometry.inodes v table)) }
     ensures damaged { NeverDamaged B.Blocks blocks.old inodes.old result }
 {
     let parts = Parts::of(alloc, path)?;
@@ -144,16 +135,16 @@ fn make_along<B: Blocks>(
     path: &[u8],
     parts: Parts,
     object: OwnedObject,
-) -> Result<Result<Making, Errno>, ReadError>
+) -> Result<Result<Changing, Errno>, ReadError>
     requires parts { parts ≡ parts_of path.now }
     requires passed { first_refusal (new_text_tests path.now) ≡ None }
     ensures looks { Looks B.Blocks IsFault blocks.old blocks.new inodes.old inodes.new result }
     ensures own { IfOk result (λ r. IfErr r (λ e. IsTrue (is_path_refusal e))) }
-    ensures ready { MakesReady inodes.new result }
-    ensures does { MakesDo B.Blocks blocks.old inodes.old inodes.new result }
+    ensures ready { AllReady inodes.new result }
+    ensures does { AllDo B.Blocks blocks.old inodes.old inodes.new result }
     ensures answers { OnMounted B.Blocks blocks.old inodes.old (λ v table. IfOk result
-        (Answers (creates inodes.old.geometry.inodes (tree_of v table) path.now
-        (with_made (made_by object))) inodes.old.geometry.inodes v table)) }
+        (Comes (creates inodes.old.geometry.inodes (tree_of v table) path.now
+        (with_made (made_by object))) adds_name inodes.old.geometry.inodes v table)) }
     ensures damaged { NeverDamaged B.Blocks blocks.old inodes.old result }
 {
     volumes_are_trees();
@@ -181,11 +172,11 @@ fn make_in<B: Blocks>(
     parent: u32,
     name: Vec<u8>,
     object: OwnedObject,
-) -> Result<Result<Making, Errno>, ReadError>
+) -> Result<Result<Changing, Errno>, ReadError>
     ensures looks { Looks B.Blocks IsFault blocks.old blocks.new inodes.old inodes.new result }
     ensures own { IfOk result (λ r. IfErr r (λ e. IsTrue (is_path_refusal e))) }
-    ensures ready { MakesReady inodes.new result }
-    ensures does { MakesDo B.Blocks blocks.old inodes.old inodes.new result }
+    ensures ready { AllReady inodes.new result }
+    ensures does { AllDo B.Blocks blocks.old inodes.old inodes.new result }
     ensures makes { OnVolumes B.Blocks blocks.old inodes.old (λ disk settled v.
         IsVolume inodes.old.geometry.inodes v → IfOk result
         (MakesIn inodes.old.geometry.inodes v parent name.items (made_by object))) }
@@ -213,16 +204,16 @@ fn make_numbered<B: Blocks>(
     name: Vec<u8>,
     object: OwnedObject,
     new: Object,
-) -> Result<Result<Making, Errno>, ReadError>
+) -> Result<Result<Changing, Errno>, ReadError>
     requires low { FIRST_NUMBER ≤ number }
     requires high { number < inodes.old.geometry.inodes }
     ensures looks { Looks B.Blocks IsFault blocks.old blocks.new inodes.old inodes.new result }
     ensures own { IfOk result (λ r. IfErr r (λ e. IsTrue (is_path_refusal e))) }
-    ensures ready { MakesReady inodes.new result }
+    ensures ready { AllReady inodes.new result }
     ensures does { OnVolumes B.Blocks blocks.old inodes.old (λ disk settled v. v number ≡ None
         → ((k : ℕ) → IsObject disk k (settled number) new (Some (node_of (made_by object))))
         → IfOk result (λ r. IfOk r
-        (λ m. Does disk settled inodes.new v m.prepared (creation_of m.creation)))) }
+        (λ c. Does disk settled inodes.new v c.prepared (said_by c.change)))) }
     ensures makes { OnVolumes B.Blocks blocks.old inodes.old (λ disk settled v.
         IsVolume inodes.old.geometry.inodes v → IfOk result
         (MakesAt v number parent name.items (made_by object))) }
@@ -237,13 +228,14 @@ fn make_numbered<B: Blocks>(
         return Ok(Err(Errno::DIRFULL));
     };
     let directory = InodeNumber::new(parent);
-    Ok(Ok(Making {
-        creation: Creation {
-            number: given,
-            parent: directory,
-            object,
-            name,
-        },
+    let creation = Creation {
+        number: given,
+        parent: directory,
+        object,
+        name,
+    };
+    Ok(Ok(Changing {
+        change: OwnedChange::Create { creation },
         prepared,
     }))
 }
@@ -256,11 +248,11 @@ fn refuse_in<B: Blocks>(
     parent: u32,
     name: &[u8],
     new: Object,
-) -> Result<Result<Making, Errno>, ReadError>
+) -> Result<Result<Changing, Errno>, ReadError>
     ensures looks { Looks B.Blocks IsFault blocks.old blocks.new inodes.old inodes.new result }
     ensures own { IfOk result (λ r. IfErr r (λ e. IsTrue (is_path_refusal e))) }
-    ensures ready { MakesReady inodes.new result }
-    ensures does { MakesDo B.Blocks blocks.old inodes.old inodes.new result }
+    ensures ready { AllReady inodes.new result }
+    ensures does { AllDo B.Blocks blocks.old inodes.old inodes.new result }
     ensures makes { (made : Made) → OnVolumes B.Blocks blocks.old inodes.old (λ disk settled v.
         IsVolume inodes.old.geometry.inodes v → HasNoNumber inodes.old.geometry.inodes v
         → IfOk result (MakesIn inodes.old.geometry.inodes v parent name.now made)) }

@@ -19,7 +19,7 @@ use layout::Entry;
 use std::alloc::Global;
 
 /// What becomes of the names of a directory.
-#[derive(Clone, Copy, Debug)]
+#[derive(Clone, Copy)]
 pub(crate) enum NameEdit<'a> {
     /// There is an entry more, whose name the directory doesn't have yet.
     Add(Entry<'a>),

@@ -9,7 +9,7 @@ ghost use Rattle.model.specs.Volumes.{Volume, IsVolume};
 ghost use Rattle.blocktree.specs.Errors.{IsFault};
 ghost use Rattle.inofile.specs.Objects.{IsObject};
 ghost use Rattle.inofile.specs.Volumes.{IsVolumeOf};
-ghost use Rattle.calls.specs.Prepared.{IsReady, Does};
+ghost use Rattle.calls.specs.Prepared.{AreAtHand, IsReady, Does};
 ghost use Rattle.calls.specs.Served.{IsServed};
 ghost use Rattle.paths.specs.Standing.{Looks, Stands};
 
@@ -31,7 +31,7 @@ use std::alloc::Global;
 
 /// A record's change of the image in memory, with all memory taken and all blocks read: what becomes of one object, and then of
 /// two more, if need be.
-#[derive(Debug, Drop)]
+#[derive(Drop)]
 pub struct Prepared {
     pub(crate) first: Step,
     pub(crate) next: Option<Step>,
@@ -213,6 +213,7 @@ pub(crate) fn prepare_new<B: Blocks>(
 pub fn commit(inodes: &mut InodeFile, prepared: Prepared)
     requires { IsReady inodes.old prepared }
     ensures geometry { inodes.new.geometry ≡ inodes.old.geometry }
+    ensures at_hand { AreAtHand inodes.new prepared }
     ensures volume { (count : ℕ) (disk : ℕ → List ℕ) (settled : ℕ → Inode) (v : Volume)
         (change : Change) → IsVolumeOf count disk settled inodes.old v
         → Does disk settled inodes.old v prepared change

@@ -241,8 +241,8 @@ fn remove_name<B: Blocks>(
     }))
 }
 
-// Whether the text of a path is `/`.
-fn is_root(path: &[u8]) -> bool
+/// Whether the text of a path is `/`.
+pub(crate) fn is_root(path: &[u8]) -> bool
     ensures { result ≡ is_root_text path.now }
 {
     path == ROOT_PATH

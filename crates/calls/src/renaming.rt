@@ -188,8 +188,8 @@ fn replace<B: Blocks>(
     }))
 }
 
-// Whether a directory has this number.
-fn is_directory_at<B: Blocks>(
+/// Whether a directory has this number.
+pub(crate) fn is_directory_at<B: Blocks>(
     alloc: Global,
     inodes: &mut InodeFile,
     blocks: &mut B,

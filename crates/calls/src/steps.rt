@@ -8,7 +8,7 @@ ghost use Rattle.inofile.specs.Inodes.{HasRoomFor, IsKnown, loaded};
 ghost use Rattle.inofile.specs.Objects.{IsObjectOrNone};
 ghost use Rattle.inofile.specs.Volumes.{IsVolumeOf};
 ghost use Rattle.model.specs.declared.limits.TheConstants.{FILE_NAMES};
-ghost use Rattle.calls.specs.Steps.{IsBeside, Steps, StepsSome, TakesSome, TakesStep, with_links};
+ghost use Rattle.calls.specs.Steps.{IsAtHand, IsBeside, IsSomeAtHand, Steps, StepsSome, TakesSome, TakesStep, with_links};
 
 use crate::contents::commit_bytes;
 use crate::entering::commit_edit;
@@ -19,7 +19,7 @@ use layout::ROOT_NUMBER;
 use model::Mode;
 
 /// What becomes of an object.
-#[derive(Debug, Drop)]
+#[derive(Drop)]
 pub(crate) enum Update {
     /// It is this one from then on, or none.
     Set(Option<Object>),
@@ -34,7 +34,7 @@ pub(crate) enum Update {
 }
 
 /// The object with a number, and what becomes of it.
-#[derive(Debug, Drop)]
+#[derive(Drop)]
 pub(crate) struct Step {
     pub(crate) number: u32,
     pub(crate) update: Update,
@@ -46,6 +46,7 @@ pub(crate) fn commit_step(inodes: &mut InodeFile, step: Step)
     ensures geometry { inodes.new.geometry ≡ inodes.old.geometry }
     ensures keeps { (n : ℕ) → HasRoomFor inodes.old n → HasRoomFor inodes.new n }
     ensures stays { (n : ℕ) → IsKnown inodes.old n → IsKnown inodes.new n }
+    ensures at_hand { IsAtHand inodes.new step.number }
     ensures rest { (n : ℕ) → (n ≢ step.number) → loaded inodes.new n ≡ loaded inodes.old n }
     ensures volume { (count : ℕ) (disk : ℕ → List ℕ) (settled : ℕ → Inode) (v w : Volume)
         → IsVolumeOf count disk settled inodes.old v → Steps disk settled inodes.old v step w
@@ -67,6 +68,7 @@ pub(crate) fn commit_some(inodes: &mut InodeFile, step: Option<Step>)
     ensures geometry { inodes.new.geometry ≡ inodes.old.geometry }
     ensures keeps { (n : ℕ) → HasRoomFor inodes.old n → HasRoomFor inodes.new n }
     ensures stays { (n : ℕ) → IsKnown inodes.old n → IsKnown inodes.new n }
+    ensures at_hand { IsSomeAtHand inodes.new step }
     ensures rest { (n : ℕ) → IsBeside n step → loaded inodes.new n ≡ loaded inodes.old n }
     ensures volume { (count : ℕ) (disk : ℕ → List ℕ) (settled : ℕ → Inode) (v w : Volume)
         → IsVolumeOf count disk settled inodes.old v

@@ -1,5 +1,5 @@
 -- A volume whose files without names are dropped, number after number.
-use Rattle.std.proofs.Common.{◌≡◌, inl, inr, ℕ, zero, suc, ◌+◌, ◌<◌, ◌≤◌, Bool, true, false, refl, sym, ap, subst, ◌∙◌, arith, add-one}
+use Rattle.std.proofs.Common.{◌≡◌, inl, inr, ℕ, suc, ◌+◌, ◌<◌, ◌≤◌, Bool, true, false, refl, sym, ap, subst, ◌∙◌, arith, add-one}
 use Rattle.std.specs.Prelude.{Option, Some, None, IsSome, IsTrue, nat_lt, if◌then◌else◌, ◌==◌}
 use Rattle.std.specs.Int.{from_bool}
 use Rattle.std.proofs.Math.Path.{fun_ext}
@@ -14,20 +14,6 @@ abbrev pub dropped_below : ℕ → Volume → Volume
 dropped_below m v n = if nat_lt n m then swept_node false (v n) else v n
 
 -- ---- one object
-
-stays : (o : Option Node) → is_nameless o ≡ false → swept_node false o ≡ o
-stays None is = refl
-stays (Some (directory_node mode names)) is = refl
-stays (Some (link_node text)) is = refl
-stays (Some (file_node mode zero bytes)) is = cc
-stays (Some (file_node mode (suc links) bytes)) is = refl
-
-goes : (o : Option Node) → is_nameless o ≡ true → swept_node false o ≡ None
-goes None is = cc
-goes (Some (directory_node mode names)) is = cc
-goes (Some (link_node text)) is = cc
-goes (Some (file_node mode zero bytes)) is = refl
-goes (Some (file_node mode (suc links) bytes)) is = cc
 
 directory_stays : (o : Option Node) → IsTrue (is_directory_node o) → swept_node false o ≡ o
 directory_stays None is = cc
@@ -47,17 +33,6 @@ put_there m k o p same = grind (arith, nat_tests)
 
 put_elsewhere : (m k : ℕ) (o p : Option Node) → (k ≡ m → ⊥) → (if k == m then o else p) ≡ p
 put_elsewhere m k o p other = grind (arith, nat_tests)
-
--- a file without a name is dropped
-pub dropped : (m : ℕ) (v : Volume) → is_nameless (v m) ≡ true → with_node m None v ≡ with_node m (swept_node false (v m)) v
-dropped m v is = ap (λ o. with_node m o v) (sym (goes (v m) is))
-
--- anything else stays
-pub kept : (m : ℕ) (v : Volume) → is_nameless (v m) ≡ false → v ≡ with_node m (swept_node false (v m)) v
-kept m v is = fun_ext {f = v} {g = with_node m (swept_node false (v m)) v} (λ k. elim (cases_eq k m) [
-  | inl same ↦ ap v same ∙ sym (stays (v m) is) ∙ sym (put_there m k (swept_node false (v m)) (v k) same)
-  | inr other ↦ sym (put_elsewhere m k (swept_node false (v m)) (v k) other)
-])
 
 -- ---- number after number
 

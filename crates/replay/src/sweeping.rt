@@ -8,14 +8,14 @@ ghost use Rattle.model.specs.Records.{count_nameless, without_nameless};
 ghost use Rattle.model.specs.Volumes.{Volume, is_nameless, swept_node, with_node};
 ghost use Rattle.buffers.specs.Reads.{ReadsBlocks};
 ghost use Rattle.blocktree.specs.Errors.{IsFault};
-ghost use Rattle.inofile.specs.Inodes.{IsKnown};
 ghost use Rattle.inofile.specs.Volumes.{IsVolumeOf};
 ghost use Rattle.replay.specs.Volumes.{HasVolume};
 
 use blocktree::ReadError;
 use buffers::Blocks;
+use calls::is_nameless;
 use inofile::InodeFile;
-use layout::{FIRST_NUMBER, Kind};
+use layout::FIRST_NUMBER;
 use model::mounts_find_volumes;
 use std::alloc::Global;
 
@@ -65,7 +65,7 @@ pub(crate) fn drop_nameless<B: Blocks>(
     Ok(())
 }
 
-/// Drops the file with this number, where it has no name.
+/// Drops the file with this number, where it has no name. Where nothing has the number, no block is read.
 fn drop_if_nameless<B: Blocks>(
     alloc: Global,
     inodes: &mut InodeFile,
@@ -83,11 +83,12 @@ fn drop_if_nameless<B: Blocks>(
         (with_node number (swept_node false (v number)) v))
         (λ e. (e ≡ ReadError.NoMemory) ⊎ (e ≡ ReadError.Device)) }
 {
-    let is_one = has_nameless(alloc, inodes, blocks, number)?;
-    if is_one {
-        inodes.prepare_set(number)?;
-        inodes.commit_set(number, None);
+    if !inodes.is_taken(number) {
+        return Ok(());
     }
+    inodes.load(alloc, blocks, number)?;
+    inodes.prepare_set(number)?;
+    calls::drop_nameless(inodes, number);
     Ok(())
 }
 
@@ -114,19 +115,4 @@ fn has_nameless<B: Blocks>(
     }
     inodes.load(alloc, blocks, number)?;
     Ok(is_nameless(inodes, number))
-}
-
-/// Whether a file in memory has no name.
-fn is_nameless(inodes: &InodeFile, number: u32) -> bool
-    requires { IsKnown inodes.now number }
-    ensures { (count : ℕ) (disk : ℕ → List ℕ) (settled : ℕ → Inode) (v : Volume)
-        → IsVolumeOf count disk settled inodes.now v → result ≡ is_nameless (v number) }
-{
-    let Some(object) = inodes.get(number) else {
-        return false;
-    };
-    match object.attributes.kind {
-        Kind::File => object.attributes.links == 0,
-        _ => false,
-    }
 }

@@ -1,4 +1,4 @@
-use Rattle.std.proofs.Common.{rules, ◌≢◌, ◌≤◌, ◌∙◌, ℕ, true, Result, IfErr, IsTrue, IfOk, refl, sym, subst}
+use Rattle.std.proofs.Common.{rules, ◌≢◌, ◌≤◌, ℕ, true, Result, IfErr, IsTrue, IfOk, refl, sym, subst}
 use Rattle.layout.specs.Limits.{Sizes}
 use Rattle.model.specs.Paths.{text_tests}
 use Rattle.model.specs.Resolution.{resolve}
@@ -6,6 +6,7 @@ use Rattle.model.specs.Volumes.{IsVolume, tree_of}
 use Rattle.model.specs.declared.errno.Errno.{Errno}
 use Rattle.paths.specs.Steps.{found_in}
 use Rattle.paths.specs.declared.lookup.Found.TheVariants as found
+use Rattle.paths.proofs.Looks.{looks_err, looks_more, looks_ok}
 use Rattle.calls.specs.ChangingMode.{ModesNumber}
 use Rattle.calls.specs.Leading.{IsLed}
 use Rattle.calls.specs.Refusals.{is_path_refusal}
@@ -17,11 +18,7 @@ pub returns-in_err-found-clause-damaged : goal.returns-in_err-found-clause-damag
 returns-in_err-found-clause-damaged g c = λ disk settled v stands is. c.in_err-found.ensures.damaged disk settled v stands (search rules)
 
 pub returns-in-Ok-clause-looks : goal.returns-in-Ok-clause-looks
-returns-in-Ok-clause-looks g c = record {
-  reads = search rules;
-  geometry = c.change_number.ensures.looks.geometry ∙ c.lead.ensures.looks.geometry;
-  kept = λ disk settled v stands. c.change_number.ensures.looks.kept disk settled v (c.lead.ensures.looks.kept disk settled v stands);
-}
+returns-in-Ok-clause-looks g c = looks_more c.in_ok-found.ensures.looks c.change_number.ensures.looks
 
 pub returns-in-Ok-clause-does : goal.returns-in-Ok-clause-does
 returns-in-Ok-clause-does g c = λ disk settled v stands. c.change_number.ensures.does disk settled v (c.lead.ensures.looks.kept disk settled v stands)
@@ -51,3 +48,9 @@ returns-in-Err-clause-answers g c = λ disk settled v table stands volume mounte
 
 pub returns-in-Err-clause-own : goal.returns-in-Err-clause-own
 returns-in-Err-clause-own g c = subst (λ (x : Result ℕ Errno). IfErr x (λ e. IsTrue (is_path_refusal e))) c.in-Err.is c.in_ok-found.ensures.own
+
+pub returns-in_err-found-clause-looks : goal.returns-in_err-found-clause-looks
+returns-in_err-found-clause-looks g c = looks_err c.from_residual.result c.from_residual.ensures.1 c.in_err-found.ensures.looks
+
+pub returns-in-Err-clause-looks : goal.returns-in-Err-clause-looks
+returns-in-Err-clause-looks g c = looks_ok c.in_ok-found.ensures.looks

@@ -1,4 +1,4 @@
-use Rattle.std.proofs.Common.{rules, ◌≡◌, ℕ, Option, IfOk, IfSome, ap, sym, subst, ◌∙◌}
+use Rattle.std.proofs.Common.{◌≡◌, ℕ, Option, IfOk, IfSome, ap, sym, subst, ◌∙◌}
 use Rattle.layout.specs.Limits.{Sizes}
 use Rattle.inode.specs.declared.object.Object.{Object}
 use Rattle.inofile.specs.Objects.{IsObjectOrNone}
@@ -9,8 +9,8 @@ use Rattle.calls.proofs.entering.edit_known.Goals as goal
 
 pub returns-clause-looks : goal.returns-clause-looks
 returns-clause-looks g c = record {
-  reads = search rules;
-  geometry = search rules;
+  reads = c.edit_object-edit.ensures.reads;
+  geometry = c.put_back.ensures.geometry ∙ c.take-object.ensures.geometry;
   kept = λ disk settled v stands.
       let count = g.B.Blocks.count c.args.blocks.now in
       stands_over c.args.blocks.now c.edit_object-edit.new.blocks c.put_back.new.self c.edit_object-edit.ensures.reads.count (c.edit_object-edit.ensures.reads.same disk stands.shows)

@@ -5,9 +5,11 @@ use Rattle.model.specs.declared.errno.Errno.TheVariants.{EINVAL}
 use Rattle.model.specs.Reading.{gets, is_negative, is_too_many}
 use Rattle.model.specs.Room.{nothing}
 use Rattle.model.specs.Volumes.{tree_of}
+use Rattle.paths.proofs.Looks.{looks_ok}
 use Rattle.calls.specs.Getting.{data_reply, range_tests}
 use Rattle.calls.proofs.RefusalLaws.{text_own}
 use Rattle.calls.proofs.GetLaws.{get_passed, get_refused, range_refused, text_before, text_first}
+use Rattle.calls.proofs.StandLaws.{no_look}
 use Rattle.calls.proofs.getting.get.Goals as goal
 
 pub returns-in-Some-clause-answers : goal.returns-in-Some-clause-answers
@@ -35,3 +37,9 @@ pub returns-clause-answers : goal.returns-clause-answers
 returns-clause-answers g c = λ disk settled v table stands volume mounted.
     subst (λ (z : ℤ). IfOk c.get_along.result (λ r. gets (tree_of v table) c.args.path.now z c.args.count (data_reply r) (tree_of v table) nothing)) (to_z-of_z w64 c.args.offset c.ranges.offset)
     (c.get_along.ensures.answers disk settled v table stands volume mounted)
+
+pub returns-in-Some-clause-looks : goal.returns-in-Some-clause-looks
+returns-in-Some-clause-looks g c = looks_ok no_look
+
+pub returns-then-is_no_range-clause-looks : goal.returns-then-is_no_range-clause-looks
+returns-then-is_no_range-clause-looks g c = looks_ok no_look

@@ -1,10 +1,11 @@
-use Rattle.std.proofs.Common.{◌≢◌, IfOk, rules, ◌∙◌, true, ℤ, ℕ, nat_abs, w64, Result, IfErr, IsTrue, inr, refl, subst}
+use Rattle.std.proofs.Common.{◌≢◌, IfOk, rules, true, ℤ, ℕ, nat_abs, w64, Result, IfErr, IsTrue, inr, refl, subst}
 use Rattle.std.proofs.lemmas.Int.{to_z-of_z}
 use Rattle.model.specs.Resolution.{resolve}
 use Rattle.model.specs.Volumes.{tree_of}
 use Rattle.model.specs.declared.errno.Errno.{Errno}
 use Rattle.paths.specs.Steps.{found_in}
 use Rattle.paths.specs.declared.lookup.Found.TheVariants as found
+use Rattle.paths.proofs.Looks.{looks_err, looks_more, looks_ok}
 use Rattle.calls.specs.Getting.{GetsNumber}
 use Rattle.calls.specs.Leading.{LeadsTo}
 use Rattle.calls.specs.Refusals.{is_path_refusal}
@@ -16,11 +17,7 @@ pub returns-in_err-found-clause-damaged : goal.returns-in_err-found-clause-damag
 returns-in_err-found-clause-damaged g c = λ disk settled v stands is. c.in_err-found.ensures.damaged disk settled v stands (search rules)
 
 pub returns-in-Ok-clause-looks : goal.returns-in-Ok-clause-looks
-returns-in-Ok-clause-looks g c = record {
-  reads = search rules;
-  geometry = c.get_number.ensures.looks.geometry ∙ c.find_object.ensures.looks.geometry;
-  kept = λ disk settled v stands. c.get_number.ensures.looks.kept disk settled v (c.find_object.ensures.looks.kept disk settled v stands);
-}
+returns-in-Ok-clause-looks g c = looks_more c.in_ok-found.ensures.looks c.get_number.ensures.looks
 
 pub returns-in-Ok-clause-answers : goal.returns-in-Ok-clause-answers
 returns-in-Ok-clause-answers g c = λ disk settled v table stands volume mounted.
@@ -47,3 +44,9 @@ returns-in-Err-clause-answers g c = λ disk settled v table stands volume mounte
 
 pub returns-in-Err-clause-own : goal.returns-in-Err-clause-own
 returns-in-Err-clause-own g c = subst (λ (x : Result ℕ Errno). IfErr x (λ e. IsTrue (is_path_refusal e))) c.in-Err.is c.in_ok-found.ensures.own
+
+pub returns-in_err-found-clause-looks : goal.returns-in_err-found-clause-looks
+returns-in_err-found-clause-looks g c = looks_err c.from_residual.result c.from_residual.ensures.1 c.in_err-found.ensures.looks
+
+pub returns-in-Err-clause-looks : goal.returns-in-Err-clause-looks
+returns-in-Err-clause-looks g c = looks_ok c.in_ok-found.ensures.looks

@@ -1,8 +1,10 @@
-use Rattle.std.proofs.Common.{rules, ◌≡◌, ◌∙◌, ◌++◌, Some, None, sym}
+use Rattle.std.proofs.Common.{rules, ◌≡◌, ◌∙◌, Some, None, sym}
 use Rattle.model.specs.Paths.{first_refusal, text_tests, new_text_tests}
+use Rattle.paths.proofs.Looks.{looks_ok}
 use Rattle.calls.proofs.LeadLaws.{first_append, first_in_front}
 use Rattle.calls.proofs.LinkLaws.{link_tests_refused}
 use Rattle.calls.proofs.RefusalLaws.{new_text_own, text_own}
+use Rattle.calls.proofs.StandLaws.{no_look}
 use Rattle.calls.proofs.linking.link.Goals as goal
 
 pub returns-in-Some-clause-answers : goal.returns-in-Some-clause-answers
@@ -25,3 +27,9 @@ returns-in-Some-refusal_of_new_text-clause-answers g c = λ disk settled v table
 
 pub returns-in-Some-refusal_of_new_text-clause-own : goal.returns-in-Some-refusal_of_new_text-clause-own
 returns-in-Some-refusal_of_new_text-clause-own g c = new_text_own c.args.path.now c.in-Some-refusal_of_new_text.errno (sym c.refusal_of_new_text.ensures ∙ c.in-Some-refusal_of_new_text.is)
+
+pub returns-in-Some-clause-looks : goal.returns-in-Some-clause-looks
+returns-in-Some-clause-looks g c = looks_ok no_look
+
+pub returns-in-Some-refusal_of_new_text-clause-looks : goal.returns-in-Some-refusal_of_new_text-clause-looks
+returns-in-Some-refusal_of_new_text-clause-looks g c = looks_ok no_look

@@ -1,10 +1,11 @@
-use Rattle.std.proofs.Common.{rules, ◌≡◌, ◌∙◌, ℕ, false, Ok, Err, Result, IfOk, IfSome, IfNone, sym, subst}
+use Rattle.std.proofs.Common.{rules, ◌≡◌, ◌∙◌, ℕ, false, Result, IfOk, IfSome, IfNone, sym, subst}
 use Rattle.layout.specs.Limits.{Sizes}
 use Rattle.model.specs.Changing.{links}
 use Rattle.model.specs.Resolution.{resolve}
 use Rattle.model.specs.Room.{adds_name}
 use Rattle.model.specs.Volumes.{IsVolume, is_file_node, tree_of}
 use Rattle.model.specs.declared.errno.Errno.{Errno}
+use Rattle.paths.proofs.Looks.{looks_err, looks_more, looks_ok}
 use Rattle.calls.specs.Changing.{Comes}
 use Rattle.calls.specs.Leading.{LeadsTo}
 use Rattle.calls.specs.Steps.{IsFileOf}
@@ -23,22 +24,16 @@ returns-in-Err-clause-answers g c = λ disk settled v table stands volume mounte
     link_nowhere inodes v table volume mounted tree old c.args.path.now c.requires.passed c.in-Err.errno leads
 
 pub returns-in_err-file-clause-looks : goal.returns-in_err-file-clause-looks
-returns-in_err-file-clause-looks g c = record {
-  reads = search rules;
-  geometry = c.file_at.ensures.looks.geometry ∙ c.find_object.ensures.looks.geometry;
-  kept = λ disk settled v stands. c.file_at.ensures.looks.kept disk settled v (c.find_object.ensures.looks.kept disk settled v stands);
-}
+returns-in_err-file-clause-looks g c =
+    looks_err c.from_residual-in_err-file.result c.from_residual-in_err-file.ensures.1
+    (looks_more c.in_ok-led.ensures.looks c.in_err-file.ensures.looks)
 
 pub returns-in_err-file-clause-damaged : goal.returns-in_err-file-clause-damaged
 returns-in_err-file-clause-damaged g c = λ disk settled v stands is.
     c.in_err-file.ensures.damaged disk settled v (c.find_object.ensures.looks.kept disk settled v stands) (search rules)
 
 pub returns-in_default-clause-looks : goal.returns-in_default-clause-looks
-returns-in_default-clause-looks g c = record {
-  reads = search rules;
-  geometry = c.file_at.ensures.looks.geometry ∙ c.find_object.ensures.looks.geometry;
-  kept = λ disk settled v stands. c.file_at.ensures.looks.kept disk settled v (c.find_object.ensures.looks.kept disk settled v stands);
-}
+returns-in_default-clause-looks g c = looks_ok (looks_more c.in_ok-led.ensures.looks c.in_ok-file.ensures.looks)
 
 pub returns-in_default-clause-answers : goal.returns-in_default-clause-answers
 returns-in_default-clause-answers g c = λ disk settled v table stands volume mounted.
@@ -50,11 +45,7 @@ returns-in_default-clause-answers g c = λ disk settled v table stands volume mo
     link_no_file inodes v table volume mounted tree old c.args.path.now c.requires.passed c.in-Ok.number leads other
 
 pub returns-clause-looks : goal.returns-clause-looks
-returns-clause-looks g c = record {
-  reads = search rules;
-  geometry = c.link_file.ensures.looks.geometry ∙ c.file_at.ensures.looks.geometry ∙ c.find_object.ensures.looks.geometry;
-  kept = λ disk settled v stands. c.link_file.ensures.looks.kept disk settled v (c.file_at.ensures.looks.kept disk settled v (c.find_object.ensures.looks.kept disk settled v stands));
-}
+returns-clause-looks g c = looks_more (looks_more c.in_ok-led.ensures.looks c.in_ok-file.ensures.looks) c.link_file.ensures.looks
 
 pub returns-clause-does : goal.returns-clause-does
 returns-clause-does g c = λ disk settled v stands. c.link_file.ensures.does disk settled v (c.file_at.ensures.looks.kept disk settled v (c.find_object.ensures.looks.kept disk settled v stands))
@@ -75,3 +66,9 @@ returns-clause-answers g c = λ disk settled v table stands volume mounted.
     let file = subst (λ f. IfSome f (λ (count : ℕ). IsFileOf count (v c.in-Ok.number))) c.in-Some.is (c.in_ok-file.ensures.file disk settled v now) in
     subst (λ (s : Sizes). IfOk c.link_file.result (Comes (links t old c.args.path.now) adds_name s.inodes v table)) geometry
     (c.link_file.ensures.answers disk settled v table then all mounted file leads)
+
+pub returns-in_err-led-clause-looks : goal.returns-in_err-led-clause-looks
+returns-in_err-led-clause-looks g c = looks_err c.from_residual.result c.from_residual.ensures.1 c.in_err-led.ensures.looks
+
+pub returns-in-Err-clause-looks : goal.returns-in-Err-clause-looks
+returns-in-Err-clause-looks g c = looks_ok c.in_ok-led.ensures.looks

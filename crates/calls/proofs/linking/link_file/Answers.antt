@@ -1,10 +1,10 @@
-use Rattle.std.proofs.Common.{rules, ◌∙◌, ℕ, false, IfOk, Ok, sym, subst}
+use Rattle.std.proofs.Common.{rules, ℕ, false, IfOk, sym, subst}
 use Rattle.layout.specs.Limits.{Sizes}
 use Rattle.model.specs.Finding.{IsPlaceOf}
-use Rattle.model.specs.Paths.{new_text_tests, text_tests}
 use Rattle.model.specs.Resolution.{resolve}
 use Rattle.model.specs.Volumes.{IsVolume, tree_of}
 use Rattle.paths.specs.Places.{place_of, IsPlaceWithin}
+use Rattle.paths.proofs.Looks.{looks_err, looks_more, looks_ok}
 use Rattle.calls.specs.Linking.{LinksFile}
 use Rattle.calls.proofs.GapLaws.{finds_gap}
 use Rattle.calls.proofs.LeadLaws.{leads_directory, leads_entry}
@@ -17,11 +17,7 @@ pub returns-in_err-place-clause-damaged : goal.returns-in_err-place-clause-damag
 returns-in_err-place-clause-damaged g c = λ disk settled v stands is. c.in_err-place.ensures.damaged disk settled v stands (search rules)
 
 pub returns-in-Gap-clause-looks : goal.returns-in-Gap-clause-looks
-returns-in-Gap-clause-looks g c = record {
-  reads = search rules;
-  geometry = c.link_in.ensures.looks.geometry ∙ c.find.ensures.looks.geometry;
-  kept = λ disk settled v stands. c.link_in.ensures.looks.kept disk settled v (c.find.ensures.looks.kept disk settled v stands);
-}
+returns-in-Gap-clause-looks g c = looks_more c.in_ok-place.ensures.looks c.link_in.ensures.looks
 
 pub returns-in-Gap-clause-does : goal.returns-in-Gap-clause-does
 returns-in-Gap-clause-does g c = λ disk settled v stands. c.link_in.ensures.does disk settled v (c.find.ensures.looks.kept disk settled v stands)
@@ -76,3 +72,15 @@ returns-in-Entry-clause-answers g c = λ disk settled v table stands volume moun
     let tree = c.volumes_are_trees.ensures inodes v table volume mounted in
     let at = subst (λ p. IsPlaceOf v (place_of p) r) c.in-Entry.is (c.in_ok-place.ensures.found disk settled v table path stands volume c.requires.parts) in
     link_exists inodes v table volume mounted tree c.args.old.now path c.requires.passed c.args.number file.0 c.args.count file.1 file.2 leads c.in-Entry._number (leads_entry inodes v volume c.in-Entry._trail c.in-Entry._name.items c.in-Entry._number r at)
+
+pub returns-in_err-place-clause-looks : goal.returns-in_err-place-clause-looks
+returns-in_err-place-clause-looks g c = looks_err c.from_residual.result c.from_residual.ensures.1 c.in_err-place.ensures.looks
+
+pub returns-in-Refusal-clause-looks : goal.returns-in-Refusal-clause-looks
+returns-in-Refusal-clause-looks g c = looks_ok c.in_ok-place.ensures.looks
+
+pub returns-in-Directory-clause-looks : goal.returns-in-Directory-clause-looks
+returns-in-Directory-clause-looks g c = looks_ok c.in_ok-place.ensures.looks
+
+pub returns-in-Entry-clause-looks : goal.returns-in-Entry-clause-looks
+returns-in-Entry-clause-looks g c = looks_ok c.in_ok-place.ensures.looks

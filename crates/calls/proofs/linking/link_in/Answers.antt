@@ -1,4 +1,4 @@
-use Rattle.std.proofs.Common.{rules, ◌≡◌, ◌∙◌, ℕ, List, IfNone, IfSome, inl, inr, refl, sym, ap, subst, arith}
+use Rattle.std.proofs.Common.{rules, ◌≡◌, ◌∙◌, ℕ, List, IfNone, IfSome, inr, refl, sym, ap, subst, arith}
 use Rattle.model.specs.Records.{Applies, link}
 use Rattle.calls.specs.Prepared.{Does}
 use Rattle.calls.proofs.linking.link_in.Goals as goal

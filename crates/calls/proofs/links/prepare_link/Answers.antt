@@ -6,6 +6,7 @@ use Rattle.layout.specs.declared.entry.Entry.{Entry}
 use Rattle.model.specs.Volumes.{linked, with_name_more, with_node, is_file_node, IsVolume}
 use Rattle.dirs.specs.Directory.{with_name}
 use Rattle.inofile.specs.Inodes.{loaded}
+use Rattle.paths.proofs.Looks.{looks_err, looks_more, looks_ok}
 use Rattle.calls.specs.Entering.{Accepts, EditsIn, names_after, with_names}
 use Rattle.calls.specs.Steps.{IsFileOf, with_links}
 use Rattle.calls.specs.declared.naming.NameEdit.TheVariants as edits
@@ -38,22 +39,16 @@ returns-then-links-ge-FILE_NAMES-clause-refused g c = λ disk settled v stands g
     omega (arith, same, few)
 
 pub returns-in_err-planned-clause-looks : goal.returns-in_err-planned-clause-looks
-returns-in_err-planned-clause-looks g c = record {
-  reads = search rules;
-  geometry = search rules;
-  kept = λ disk settled v stands. c.edit_parent.ensures.looks.kept disk settled v (c.load_to_change.ensures.looks.kept disk settled v stands);
-}
+returns-in_err-planned-clause-looks g c =
+    looks_err c.from_residual-in_err-planned.result c.from_residual-in_err-planned.ensures.1
+    (looks_more c.in_ok-load_to_change.ensures.looks c.in_err-planned.ensures.looks)
 
 pub returns-in_err-planned-clause-damaged : goal.returns-in_err-planned-clause-damaged
 returns-in_err-planned-clause-damaged g c = λ disk settled v stands is.
     c.in_err-planned.ensures.damaged disk settled v (c.load_to_change.ensures.looks.kept disk settled v stands) (search rules)
 
 pub returns-in_default-planned-clause-looks : goal.returns-in_default-planned-clause-looks
-returns-in_default-planned-clause-looks g c = record {
-  reads = search rules;
-  geometry = search rules;
-  kept = λ disk settled v stands. c.edit_parent.ensures.looks.kept disk settled v (c.load_to_change.ensures.looks.kept disk settled v stands);
-}
+returns-in_default-planned-clause-looks g c = looks_ok (looks_more c.in_ok-load_to_change.ensures.looks c.in_ok-planned.ensures.looks)
 
 pub returns-in_default-planned-clause-refused : goal.returns-in_default-planned-clause-refused
 returns-in_default-planned-clause-refused g c = λ disk settled v stands graph can.
@@ -64,11 +59,7 @@ returns-in_default-planned-clause-refused g c = λ disk settled v stands graph c
     (accepts_entry v c.args.parent entry can.takes)
 
 pub returns-clause-looks : goal.returns-clause-looks
-returns-clause-looks g c = record {
-  reads = search rules;
-  geometry = search rules;
-  kept = λ disk settled v stands. c.edit_parent.ensures.looks.kept disk settled v (c.load_to_change.ensures.looks.kept disk settled v stands);
-}
+returns-clause-looks g c = looks_ok (looks_more c.in_ok-load_to_change.ensures.looks c.in_ok-planned.ensures.looks)
 
 pub returns-clause-applies : goal.returns-clause-applies
 returns-clause-applies g c = λ disk settled v stands.
@@ -117,3 +108,12 @@ returns-clause-does g c = λ disk settled v stands.
       last_beside = tt;
       beside = tt;
     }
+
+pub returns-in_err-load_to_change-clause-looks : goal.returns-in_err-load_to_change-clause-looks
+returns-in_err-load_to_change-clause-looks g c = looks_err c.from_residual.result c.from_residual.ensures.1 c.in_err-load_to_change.ensures.looks
+
+pub returns-in_default-clause-looks : goal.returns-in_default-clause-looks
+returns-in_default-clause-looks g c = looks_ok c.in_ok-load_to_change.ensures.looks
+
+pub returns-then-links-ge-FILE_NAMES-clause-looks : goal.returns-then-links-ge-FILE_NAMES-clause-looks
+returns-then-links-ge-FILE_NAMES-clause-looks g c = looks_ok c.in_ok-load_to_change.ensures.looks

@@ -1,8 +1,9 @@
-use Rattle.std.proofs.Common.{rules, ◌∙◌, true, sym, subst}
+use Rattle.std.proofs.Common.{rules, true, sym, subst}
 use Rattle.model.specs.Finding.{IsPlaceOf}
 use Rattle.model.specs.Resolution.{resolve}
 use Rattle.model.specs.Volumes.{tree_of}
 use Rattle.paths.specs.Places.{place_of, IsPlaceWithin}
+use Rattle.paths.proofs.Looks.{looks_err, looks_more, looks_ok}
 use Rattle.calls.proofs.RefusalLaws.{walk_refusal}
 use Rattle.calls.proofs.ListLaws.{list_path_refused, list_gap, list_directory, list_entry}
 use Rattle.calls.proofs.MakeLaws.{told_answers}
@@ -44,18 +45,10 @@ returns-in-Entry-clause-answers g c = λ disk settled v table stands volume moun
     (c.list_number-in-Entry.ensures.listed disk settled v (c.find.ensures.looks.kept disk settled v stands))
 
 pub returns-in-Directory-clause-looks : goal.returns-in-Directory-clause-looks
-returns-in-Directory-clause-looks g c = record {
-  reads = search rules;
-  geometry = c.list_number.ensures.looks.geometry ∙ c.find.ensures.looks.geometry;
-  kept = λ disk settled v stands. c.list_number.ensures.looks.kept disk settled v (c.find.ensures.looks.kept disk settled v stands);
-}
+returns-in-Directory-clause-looks g c = looks_more c.in_ok-place.ensures.looks c.list_number.ensures.looks
 
 pub returns-in-Entry-clause-looks : goal.returns-in-Entry-clause-looks
-returns-in-Entry-clause-looks g c = record {
-  reads = search rules;
-  geometry = c.list_number-in-Entry.ensures.looks.geometry ∙ c.find.ensures.looks.geometry;
-  kept = λ disk settled v stands. c.list_number-in-Entry.ensures.looks.kept disk settled v (c.find.ensures.looks.kept disk settled v stands);
-}
+returns-in-Entry-clause-looks g c = looks_more c.in_ok-place.ensures.looks c.list_number-in-Entry.ensures.looks
 
 pub returns-in-Directory-clause-damaged : goal.returns-in-Directory-clause-damaged
 returns-in-Directory-clause-damaged g c = λ disk settled v stands is. c.list_number.ensures.damaged disk settled v (c.find.ensures.looks.kept disk settled v stands) is
@@ -66,3 +59,12 @@ returns-in-Entry-clause-damaged g c = λ disk settled v stands is. c.list_number
 pub returns-in-Refusal-clause-own : goal.returns-in-Refusal-clause-own
 returns-in-Refusal-clause-own g c =
     walk_refusal c.in-Refusal.errno (subst (IsPlaceWithin c.args.inodes.now.geometry.inodes) c.in-Refusal.is c.in_ok-place.ensures.within)
+
+pub returns-in_err-place-clause-looks : goal.returns-in_err-place-clause-looks
+returns-in_err-place-clause-looks g c = looks_err c.from_residual.result c.from_residual.ensures.1 c.in_err-place.ensures.looks
+
+pub returns-in-Refusal-clause-looks : goal.returns-in-Refusal-clause-looks
+returns-in-Refusal-clause-looks g c = looks_ok c.in_ok-place.ensures.looks
+
+pub returns-in-Gap-clause-looks : goal.returns-in-Gap-clause-looks
+returns-in-Gap-clause-looks g c = looks_ok c.in_ok-place.ensures.looks

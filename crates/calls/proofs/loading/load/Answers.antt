@@ -1,11 +1,10 @@
-use Rattle.std.proofs.Common.{rules}
 use Rattle.calls.proofs.StandLaws.{stands_over}
 use Rattle.calls.proofs.loading.load.Goals as goal
 
 pub returns-clause-looks : goal.returns-clause-looks
 returns-clause-looks g c = record {
-  reads = search rules;
-  geometry = search rules;
+  reads = c.load.ensures.reads;
+  geometry = c.load.ensures.geometry;
   kept = λ disk settled v stands.
       stands_over c.args.blocks.now c.load.new.blocks c.load.new.self c.load.ensures.reads.count (c.load.ensures.reads.same disk stands.shows)
       (c.load.ensures.volume disk settled v stands.shows stands.volume);

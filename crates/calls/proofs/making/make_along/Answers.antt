@@ -1,12 +1,14 @@
-use Rattle.std.proofs.Common.{rules, ◌≤◌, ◌∙◌, ℕ, IfOk, false, sym, subst}
+use Rattle.std.proofs.Common.{rules, ℕ, IfOk, false, sym, subst}
 use Rattle.layout.specs.Limits.{Sizes}
 use Rattle.model.specs.Finding.{IsPlaceOf}
 use Rattle.model.specs.Resolution.{resolve}
 use Rattle.model.specs.Volumes.{IsVolume, tree_of}
 use Rattle.paths.specs.Places.{place_of, IsPlaceWithin}
+use Rattle.paths.proofs.Looks.{looks_err, looks_more, looks_ok}
 use Rattle.calls.proofs.RefusalLaws.{walk_refusal}
-use Rattle.calls.specs.Making.{MakesIn, made_by}
-use Rattle.calls.proofs.MakeLaws.{path_refused, directory_there, entry_there, gap_answers, told_answers}
+use Rattle.calls.specs.Changing.{made_by}
+use Rattle.calls.specs.Making.{MakesIn}
+use Rattle.calls.proofs.MakeLaws.{path_refused, directory_there, entry_there, gap_comes, told_answers}
 use Rattle.calls.proofs.making.make_along.Goals as goal
 
 pub returns-in_err-place-clause-damaged : goal.returns-in_err-place-clause-damaged
@@ -34,11 +36,7 @@ returns-in-Entry-clause-answers g c = λ disk settled v table stands volume moun
     entry_there inodes v table volume mounted tree c.args.path.now (made_by c.args.object) c.requires.passed c.in-Entry._trail c.in-Entry._name.items c.in-Entry._number at
 
 pub returns-clause-looks : goal.returns-clause-looks
-returns-clause-looks g c = record {
-  reads = search rules;
-  geometry = c.make_in.ensures.looks.geometry ∙ c.find.ensures.looks.geometry;
-  kept = λ disk settled v stands. c.make_in.ensures.looks.kept disk settled v (c.find.ensures.looks.kept disk settled v stands);
-}
+returns-clause-looks g c = looks_more c.in_ok-place.ensures.looks c.make_in.ensures.looks
 
 pub returns-clause-does : goal.returns-clause-does
 returns-clause-does g c = λ disk settled v stands. c.make_in.ensures.does disk settled v (c.find.ensures.looks.kept disk settled v stands)
@@ -56,8 +54,20 @@ returns-clause-answers g c = λ disk settled v table stands volume mounted.
     let makes = subst (λ (s : Sizes). IfOk c.make_in.result (MakesIn s.inodes v c.here.result c.in-Gap.name.items (made_by c.args.object))) c.find.ensures.looks.geometry (c.make_in.ensures.makes disk settled v now all) in
     let there = subst (λ (d : ℕ). IfOk c.make_in.result (MakesIn inodes v d c.in-Gap.name.items (made_by c.args.object))) c.here.ensures makes in
     told_answers c.make_in.result _ _
-    (gap_answers inodes v table volume mounted tree c.args.path.now (made_by c.args.object) c.requires.passed c.in-Gap.trail c.in-Gap.name.items at c.volumes_tell_fresh_numbers.ensures c.records_change_trees.ensures) there
+    (gap_comes inodes v table volume mounted tree c.args.path.now (made_by c.args.object) c.requires.passed c.in-Gap.trail c.in-Gap.name.items at c.volumes_tell_fresh_numbers.ensures c.records_change_trees.ensures) there
 
 pub returns-in-Refusal-clause-own : goal.returns-in-Refusal-clause-own
 returns-in-Refusal-clause-own g c =
     walk_refusal c.in-Refusal.errno (subst (IsPlaceWithin c.args.inodes.now.geometry.inodes) c.in-Refusal.is c.in_ok-place.ensures.within)
+
+pub returns-in_err-place-clause-looks : goal.returns-in_err-place-clause-looks
+returns-in_err-place-clause-looks g c = looks_err c.from_residual.result c.from_residual.ensures.1 c.in_err-place.ensures.looks
+
+pub returns-in-Refusal-clause-looks : goal.returns-in-Refusal-clause-looks
+returns-in-Refusal-clause-looks g c = looks_ok c.in_ok-place.ensures.looks
+
+pub returns-in-Directory-clause-looks : goal.returns-in-Directory-clause-looks
+returns-in-Directory-clause-looks g c = looks_ok c.in_ok-place.ensures.looks
+
+pub returns-in-Entry-clause-looks : goal.returns-in-Entry-clause-looks
+returns-in-Entry-clause-looks g c = looks_ok c.in_ok-place.ensures.looks

@@ -1,24 +1,21 @@
-use Rattle.std.proofs.Common.{rules, ◌≡◌, ◌∙◌, ℕ, List, Some, true, IfOk, IsTrue, inl, inr, refl, sym, ap, subst}
+use Rattle.std.proofs.Common.{rules, ◌∙◌, ℕ, List, Some, IfOk, sym, ap, subst}
 use Rattle.std.proofs.lemmas.Bool.{false≢true}
 use Rattle.layout.specs.Limits.{Sizes}
-use Rattle.layout.specs.Record.{made_of}
 use Rattle.model.specs.Records.{Made, IsMade, is_vacant, node_of}
 use Rattle.model.specs.Volumes.{IsVolume}
 use Rattle.blocktree.specs.Trees.{IsSoundAt}
 use Rattle.inofile.specs.Objects.{IsObject}
-use Rattle.calls.specs.Making.{HasNoNumber, IsLeastFree, MakesIn, made_by}
+use Rattle.paths.proofs.Looks.{looks_err, looks_more}
+use Rattle.calls.specs.Changing.{made_by}
+use Rattle.calls.specs.Making.{HasNoNumber, IsLeastFree, MakesIn}
 use Rattle.calls.proofs.MakeLaws.{makes_numbered, told_answers}
-use Rattle.calls.proofs.StandLaws.{stands_with, stands_over}
+use Rattle.calls.proofs.StandLaws.{looks_of_reads, looks_stays, stands_over, stands_with}
 use Rattle.calls.proofs.making.make_in.Goals as goal
 
 pub returns-in_err-new-clause-looks : goal.returns-in_err-new-clause-looks
-returns-in_err-new-clause-looks g c = record {
-  reads = search rules;
-  geometry = refl;
-  kept = λ disk settled v stands.
-      let read = stands_over c.args.blocks.now c.new_object.new.blocks c.args.inodes.now c.new_object.ensures.reads.count (c.new_object.ensures.reads.same disk stands.shows) stands.volume in
-      read;
-}
+returns-in_err-new-clause-looks g c =
+    looks_err c.from_residual.result c.from_residual.ensures.1
+    (looks_of_reads c.in_err-new.ensures.reads)
 
 pub returns-in_err-new-clause-damaged : goal.returns-in_err-new-clause-damaged
 returns-in_err-new-clause-damaged g c = λ disk settled v stands is.
@@ -28,14 +25,8 @@ returns-in_err-new-clause-damaged g c = λ disk settled v stands is.
     (c.based_trees_are_sound.ensures.at c.args.inodes.now.geometry disk (settled 4) t i (inodes.sound 4) (based (settled 4))))
 
 pub returns-in_default-clause-looks : goal.returns-in_default-clause-looks
-returns-in_default-clause-looks g c = record {
-  reads = search rules;
-  geometry = c.refuse_in.ensures.looks.geometry ∙ c.least_free.ensures.geometry;
-  kept = λ disk settled v stands.
-      let read = stands_over c.args.blocks.now c.new_object.new.blocks c.args.inodes.now c.new_object.ensures.reads.count (c.new_object.ensures.reads.same disk stands.shows) stands.volume in
-      let now = stands_with c.new_object.new.blocks c.args.inodes.now c.least_free.new.self c.least_free.ensures.volume read in
-      c.refuse_in.ensures.looks.kept disk settled v now;
-}
+returns-in_default-clause-looks g c =
+    looks_more (looks_stays (looks_of_reads c.in_ok-new.ensures.reads) c.least_free.ensures.geometry c.least_free.ensures.volume) c.refuse_in.ensures.looks
 
 pub returns-in_default-clause-does : goal.returns-in_default-clause-does
 returns-in_default-clause-does g c = λ disk settled v stands.
@@ -61,15 +52,9 @@ returns-in_default-clause-damaged g c = λ disk settled v stands is.
     c.refuse_in.ensures.damaged disk settled v now is
 
 pub returns-in_err-vacant-clause-looks : goal.returns-in_err-vacant-clause-looks
-returns-in_err-vacant-clause-looks g c = record {
-  reads = search rules;
-  geometry = c.is_vacant.ensures.looks.geometry ∙ c.least_free.ensures.geometry;
-  kept = λ disk settled v stands.
-      let read = stands_over c.args.blocks.now c.new_object.new.blocks c.args.inodes.now c.new_object.ensures.reads.count (c.new_object.ensures.reads.same disk stands.shows) stands.volume in
-      let now = stands_with c.new_object.new.blocks c.args.inodes.now c.least_free.new.self c.least_free.ensures.volume read in
-      let then = c.is_vacant.ensures.looks.kept disk settled v now in
-      then;
-}
+returns-in_err-vacant-clause-looks g c =
+    looks_err c.from_residual-in_err-vacant.result c.from_residual-in_err-vacant.ensures.1
+    (looks_more (looks_stays (looks_of_reads c.in_ok-new.ensures.reads) c.least_free.ensures.geometry c.least_free.ensures.volume) c.in_err-vacant.ensures.looks)
 
 pub returns-in_err-vacant-clause-damaged : goal.returns-in_err-vacant-clause-damaged
 returns-in_err-vacant-clause-damaged g c = λ disk settled v stands is.
@@ -96,15 +81,8 @@ returns-then-not-vacant-clause-damaged g c = λ disk settled v stands is.
     absurd (false≢true (sym c.if-not-vacant.true ∙ c.in_ok-vacant.ensures.vacant disk settled v now ∙ ap is_vacant free))
 
 pub returns-clause-looks : goal.returns-clause-looks
-returns-clause-looks g c = record {
-  reads = search rules;
-  geometry = c.make_numbered.ensures.looks.geometry ∙ c.is_vacant.ensures.looks.geometry ∙ c.least_free.ensures.geometry;
-  kept = λ disk settled v stands.
-      let read = stands_over c.args.blocks.now c.new_object.new.blocks c.args.inodes.now c.new_object.ensures.reads.count (c.new_object.ensures.reads.same disk stands.shows) stands.volume in
-      let now = stands_with c.new_object.new.blocks c.args.inodes.now c.least_free.new.self c.least_free.ensures.volume read in
-      let then = c.is_vacant.ensures.looks.kept disk settled v now in
-      c.make_numbered.ensures.looks.kept disk settled v then;
-}
+returns-clause-looks g c =
+    looks_more (looks_more (looks_stays (looks_of_reads c.in_ok-new.ensures.reads) c.least_free.ensures.geometry c.least_free.ensures.volume) c.in_ok-vacant.ensures.looks) c.make_numbered.ensures.looks
 
 pub returns-clause-does : goal.returns-clause-does
 returns-clause-does g c = λ disk settled v stands.

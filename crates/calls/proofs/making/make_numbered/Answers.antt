@@ -1,7 +1,7 @@
 use Rattle.std.proofs.Common.{rules, ◌≡◌, ◌∙◌, ℕ, List, Some, IfNone, IfSome, IsTrue, refl, sym, ap, subst}
 use Rattle.model.specs.Records.{TakesName, create, is_vacant, node_of}
 use Rattle.inofile.specs.Objects.{IsObject}
-use Rattle.calls.specs.Making.{made_by}
+use Rattle.calls.specs.Changing.{made_by}
 use Rattle.calls.specs.Prepared.{Does}
 use Rattle.calls.proofs.making.make_numbered.Goals as goal
 
@@ -25,7 +25,6 @@ returns-clause-makes g c = λ disk settled v stands volume.
       ap (λ (k : ℕ). create k c.new-directory.result made c.in-Some.name.bytes.items) c.new-given.ensures
           ∙ ap (λ (k : ℕ). create c.args.number k made c.in-Some.name.bytes.items) c.new-directory.ensures
           ∙ ap (create c.args.number c.args.parent made) c.in-Some.ensures.some,
-      c.new-given.ensures,
       subst (λ (x : List ℕ). TakesName v c.args.parent x) same takes,
     )
 

@@ -1,5 +1,6 @@
 use Rattle.model.specs.Records.{applied}
 use Rattle.calls.proofs.StepLaws.{takes_step_after, takes_some_after, steps_some_behind, steps_last_behind}
+use Rattle.calls.proofs.SweepLaws.{some_stays_at_hand, stays_at_hand}
 use Rattle.calls.proofs.prepared.commit.Goals as goal
 
 pub commit_some-requires : goal.commit_some-requires
@@ -30,3 +31,18 @@ returns-clause-volume c = λ count disk settled v change volume does.
     (steps_some_behind disk settled s t p.first.number does.between does.second p.next first.geometry first.rest does.next_beside does.next))
     (steps_last_behind disk settled t u p.next does.second w p.last next.geometry next.rest does.beside
     (steps_some_behind disk settled s t p.first.number does.second w p.last first.geometry first.rest does.last_beside does.last))
+
+pub returns-clause-at_hand : goal.returns-clause-at_hand
+returns-clause-at_hand c =
+    let p = c.args.prepared in
+    let t = c.commit_step.new.inodes in
+    let u = c.commit_some.new.inodes in
+    let new = c.commit_some-2.new.inodes in
+    let first = c.commit_step.ensures in
+    let next = c.commit_some.ensures in
+    let last = c.commit_some-2.ensures in
+    record {
+      first = stays_at_hand u new last.geometry last.keeps p.first.number last.stays (stays_at_hand t u next.geometry next.keeps p.first.number next.stays first.at_hand);
+      next = some_stays_at_hand u new last.geometry last.keeps p.next last.stays next.at_hand;
+      last = last.at_hand;
+    }

@@ -5,6 +5,7 @@ use Rattle.layout.specs.Limits.{Sizes}
 use Rattle.layout.specs.Record.{made_of}
 use Rattle.model.specs.Records.{IsMade, is_vacant}
 use Rattle.model.specs.Volumes.{IsVolume}
+use Rattle.paths.proofs.Looks.{looks_err, looks_more, looks_ok, looks_reads}
 use Rattle.calls.proofs.EnterLaws.{refused_so, told_so}
 use Rattle.calls.proofs.StandLaws.{stands_over}
 use Rattle.calls.proofs.prepared.prepare_create.Goals as goal
@@ -21,13 +22,9 @@ pub returns-in_err-vacant-clause-damaged : goal.returns-in_err-vacant-clause-dam
 returns-in_err-vacant-clause-damaged g c = λ disk settled v stands is. c.in_err-vacant.ensures.damaged disk settled v stands (search rules)
 
 pub returns-in_err-new-clause-looks : goal.returns-in_err-new-clause-looks
-returns-in_err-new-clause-looks g c = record {
-  reads = search rules;
-  geometry = search rules;
-  kept = λ disk settled v stands.
-      let now = c.is_vacant.ensures.looks.kept disk settled v stands in
-      stands_over c.is_vacant.new.blocks c.new_object.new.blocks c.is_vacant.new.inodes c.new_object.ensures.reads.count (c.new_object.ensures.reads.same disk now.shows) now.volume;
-}
+returns-in_err-new-clause-looks g c =
+    looks_err c.from_residual-in_err-new.result c.from_residual-in_err-new.ensures.1
+    (looks_reads c.in_ok-vacant.ensures.looks c.in_err-new.ensures.reads)
 
 pub returns-in_err-new-clause-damaged : goal.returns-in_err-new-clause-damaged
 returns-in_err-new-clause-damaged g c = λ disk settled v stands is.
@@ -53,14 +50,7 @@ returns-clause-damaged g c = λ disk settled v stands is.
     c.prepare_new.ensures.damaged disk settled v then is
 
 pub returns-clause-looks : goal.returns-clause-looks
-returns-clause-looks g c = record {
-  reads = search rules;
-  geometry = search rules;
-  kept = λ disk settled v stands.
-      let now = c.is_vacant.ensures.looks.kept disk settled v stands in
-      let then = stands_over c.is_vacant.new.blocks c.new_object.new.blocks c.is_vacant.new.inodes c.new_object.ensures.reads.count (c.new_object.ensures.reads.same disk now.shows) now.volume in
-      c.prepare_new.ensures.looks.kept disk settled v then;
-}
+returns-clause-looks g c = looks_more (looks_reads c.in_ok-vacant.ensures.looks c.in_ok-new.ensures.reads) c.prepare_new.ensures.looks
 
 pub returns-clause-refused : goal.returns-clause-refused
 returns-clause-refused g c = λ disk settled v stands graph.
@@ -80,3 +70,9 @@ returns-clause-applies g c = λ disk settled v stands.
     let high : c.args.number < c.args.inodes.now.geometry.inodes = search rules in
     let good : IsMade (made_of c.args.object.now) = c.is_made.ensures.0 c.if-not-is_made.false in
     told_so c.prepare_new.result _ _ (λ p taken. record { low = low; high = high; vacant = is_free; takes = taken; good = good }) takes
+
+pub returns-in_err-vacant-clause-looks : goal.returns-in_err-vacant-clause-looks
+returns-in_err-vacant-clause-looks g c = looks_err c.from_residual.result c.from_residual.ensures.1 c.in_err-vacant.ensures.looks
+
+pub returns-then-not-vacant-clause-looks : goal.returns-then-not-vacant-clause-looks
+returns-then-not-vacant-clause-looks g c = looks_ok c.in_ok-vacant.ensures.looks

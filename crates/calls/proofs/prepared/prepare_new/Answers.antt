@@ -5,10 +5,11 @@ use Rattle.model.specs.Records.{node_of}
 use Rattle.model.specs.Volumes.{with_node, IsVolume}
 use Rattle.inofile.specs.Inodes.{loaded}
 use Rattle.inofile.specs.Objects.{IsObject}
+use Rattle.paths.proofs.Looks.{looks_err, looks_more, looks_ok}
 use Rattle.calls.specs.Entering.{Accepts, EditsIn, names_after, with_names}
 use Rattle.calls.specs.declared.naming.NameEdit.TheVariants as edits
 use Rattle.calls.proofs.EnterLaws.{accepts_entry, found_directory, names_set, put_volume, takes_accepted, vacant_apart}
-use Rattle.calls.proofs.StandLaws.{stands_with}
+use Rattle.calls.proofs.StandLaws.{looks_stays, no_look, stands_with}
 use Rattle.calls.proofs.prepared.prepare_new.Goals as goal
 
 pub returns-in_err-prepare_set-clause-looks : goal.returns-in_err-prepare_set-clause-looks
@@ -19,28 +20,17 @@ returns-in_err-prepare_set-clause-looks g c = record {
 }
 
 pub returns-in_err-planned-clause-looks : goal.returns-in_err-planned-clause-looks
-returns-in_err-planned-clause-looks g c = record {
-  reads = search rules;
-  geometry = search rules;
-  kept = λ disk settled v stands.
-      c.edit_parent.ensures.looks.kept disk settled v (stands_with c.args.blocks.now c.args.inodes.now c.prepare_set.new.self c.prepare_set.ensures.volume stands);
-}
+returns-in_err-planned-clause-looks g c =
+    looks_err c.from_residual-in_err-planned.result c.from_residual-in_err-planned.ensures.1
+    (looks_more (looks_stays no_look c.prepare_set.ensures.geometry c.prepare_set.ensures.volume) c.in_err-planned.ensures.looks)
 
 pub returns-in_default-clause-looks : goal.returns-in_default-clause-looks
-returns-in_default-clause-looks g c = record {
-  reads = search rules;
-  geometry = search rules;
-  kept = λ disk settled v stands.
-      c.edit_parent.ensures.looks.kept disk settled v (stands_with c.args.blocks.now c.args.inodes.now c.prepare_set.new.self c.prepare_set.ensures.volume stands);
-}
+returns-in_default-clause-looks g c =
+    looks_ok (looks_more (looks_stays no_look c.prepare_set.ensures.geometry c.prepare_set.ensures.volume) c.in_ok-planned.ensures.looks)
 
 pub returns-clause-looks : goal.returns-clause-looks
-returns-clause-looks g c = record {
-  reads = search rules;
-  geometry = search rules;
-  kept = λ disk settled v stands.
-      c.edit_parent.ensures.looks.kept disk settled v (stands_with c.args.blocks.now c.args.inodes.now c.prepare_set.new.self c.prepare_set.ensures.volume stands);
-}
+returns-clause-looks g c =
+    looks_ok (looks_more (looks_stays no_look c.prepare_set.ensures.geometry c.prepare_set.ensures.volume) c.in_ok-planned.ensures.looks)
 
 pub returns-in_err-planned-clause-damaged : goal.returns-in_err-planned-clause-damaged
 returns-in_err-planned-clause-damaged g c = λ disk settled v stands is.

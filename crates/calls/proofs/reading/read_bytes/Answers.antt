@@ -2,8 +2,8 @@ use Rattle.std.proofs.Common.{rules, ◌∙◌, [], unwrap_or, ap, sym}
 use Rattle.model.specs.Edits.{read_at}
 use Rattle.model.specs.Volumes.{bytes_of, is_file_node}
 use Rattle.inofile.specs.Settled.{content_of}
+use Rattle.paths.proofs.Looks.{looks_err, looks_ok, looks_reads}
 use Rattle.calls.proofs.ContentLaws.{file_stands, not_file}
-use Rattle.calls.proofs.StandLaws.{stands_over}
 use Rattle.calls.proofs.reading.read_bytes.Goals as goal
 
 pub returns-in_err-load-clause-damaged : goal.returns-in_err-load-clause-damaged
@@ -22,13 +22,9 @@ returns-in_default-kind-clause-read g c = λ disk settled v stands.
     sym (not_file object.attributes.kind c.load.new.inodes.geometry.inodes (content_of disk object) (v c.args.number) o.stands c.in_default-kind.not-File)
 
 pub returns-in_err-bytes-clause-looks : goal.returns-in_err-bytes-clause-looks
-returns-in_err-bytes-clause-looks g c = record {
-  reads = search rules;
-  geometry = search rules;
-  kept = λ disk settled v stands.
-      let now = c.load.ensures.looks.kept disk settled v stands in
-      stands_over c.load.new.blocks c.part.new.blocks c.load.new.inodes c.part.ensures.reads.count (c.part.ensures.reads.same disk now.shows) now.volume;
-}
+returns-in_err-bytes-clause-looks g c =
+    looks_err c.from_residual-in_err-bytes.result c.from_residual-in_err-bytes.ensures.1
+    (looks_reads c.in_ok-load.ensures.looks c.in_err-bytes.ensures.reads)
 
 pub returns-in_err-bytes-clause-damaged : goal.returns-in_err-bytes-clause-damaged
 returns-in_err-bytes-clause-damaged g c = λ disk settled v stands is.
@@ -39,13 +35,7 @@ returns-in_err-bytes-clause-damaged g c = λ disk settled v stands is.
     (λ i. c.objects_stand_in_their_grammar.ensures _ disk settled c.load.new.inodes v c.args.number i object (v c.args.number) now.volume o)
 
 pub returns-clause-looks : goal.returns-clause-looks
-returns-clause-looks g c = record {
-  reads = search rules;
-  geometry = search rules;
-  kept = λ disk settled v stands.
-      let now = c.load.ensures.looks.kept disk settled v stands in
-      stands_over c.load.new.blocks c.part.new.blocks c.load.new.inodes c.part.ensures.reads.count (c.part.ensures.reads.same disk now.shows) now.volume;
-}
+returns-clause-looks g c = looks_ok (looks_reads c.in_ok-load.ensures.looks c.in_ok-bytes.ensures.reads)
 
 pub returns-clause-read : goal.returns-clause-read
 returns-clause-read g c = λ disk settled v stands.
@@ -56,3 +46,12 @@ returns-clause-read g c = λ disk settled v stands.
       ap is_file_node is,
       c.new.ensures ∙ c.in_ok-bytes.ensures.bytes disk now.shows ∙ ap (λ node. read_at c.args.offset c.args.count (unwrap_or (bytes_of node) [])) (sym is),
     )
+
+pub returns-in_err-load-clause-looks : goal.returns-in_err-load-clause-looks
+returns-in_err-load-clause-looks g c = looks_err c.from_residual.result c.from_residual.ensures.1 c.in_err-load.ensures.looks
+
+pub returns-in_default-clause-looks : goal.returns-in_default-clause-looks
+returns-in_default-clause-looks g c = looks_ok c.in_ok-load.ensures.looks
+
+pub returns-in_default-kind-clause-looks : goal.returns-in_default-kind-clause-looks
+returns-in_default-kind-clause-looks g c = looks_ok c.in_ok-load.ensures.looks

@@ -1,7 +1,9 @@
 use Rattle.std.proofs.Common.{◌≡◌, ◌∙◌, Some, sym}
 use Rattle.model.specs.Paths.{first_refusal, new_text_tests}
+use Rattle.paths.proofs.Looks.{looks_ok}
 use Rattle.calls.proofs.RefusalLaws.{new_text_own}
 use Rattle.calls.proofs.RemoveLaws.{unlink_text_refused}
+use Rattle.calls.proofs.StandLaws.{no_look}
 use Rattle.calls.proofs.removing.unlink.Goals as goal
 
 pub returns-in-Some-clause-answers : goal.returns-in-Some-clause-answers
@@ -11,3 +13,6 @@ returns-in-Some-clause-answers g c = λ disk settled v table stands volume mount
 
 pub returns-in-Some-clause-own : goal.returns-in-Some-clause-own
 returns-in-Some-clause-own g c = new_text_own c.args.path.now c.in-Some.errno (sym c.refusal_of_new_text.ensures ∙ c.in-Some.is)
+
+pub returns-in-Some-clause-looks : goal.returns-in-Some-clause-looks
+returns-in-Some-clause-looks g c = looks_ok no_look

@@ -1,10 +1,11 @@
-use Rattle.std.proofs.Common.{rules, ◌∙◌, ℕ, false, IfOk, sym, subst}
+use Rattle.std.proofs.Common.{rules, ℕ, false, IfOk, sym, subst}
 use Rattle.layout.specs.Limits.{Sizes}
 use Rattle.model.specs.Finding.{IsPlaceOf}
 use Rattle.model.specs.Resolution.{resolve}
 use Rattle.model.specs.Volumes.{IsVolume, tree_of}
 use Rattle.paths.specs.Ends.{EndsWell}
 use Rattle.paths.specs.Places.{place_of, IsPlaceWithin}
+use Rattle.paths.proofs.Looks.{looks_err, looks_more, looks_ok}
 use Rattle.calls.specs.Removing.{UnlinksEntry}
 use Rattle.calls.proofs.LeadLaws.{leads_directory, leads_gap, leads_refusal}
 use Rattle.calls.proofs.MakeLaws.{told_answers}
@@ -16,11 +17,7 @@ pub returns-in_err-place-clause-damaged : goal.returns-in_err-place-clause-damag
 returns-in_err-place-clause-damaged g c = λ disk settled v stands is. c.in_err-place.ensures.damaged disk settled v stands (search rules)
 
 pub returns-in-Entry-clause-looks : goal.returns-in-Entry-clause-looks
-returns-in-Entry-clause-looks g c = record {
-  reads = search rules;
-  geometry = c.unlink_entry.ensures.looks.geometry ∙ c.find.ensures.looks.geometry;
-  kept = λ disk settled v stands. c.unlink_entry.ensures.looks.kept disk settled v (c.find.ensures.looks.kept disk settled v stands);
-}
+returns-in-Entry-clause-looks g c = looks_more c.in_ok-place.ensures.looks c.unlink_entry.ensures.looks
 
 pub returns-in-Entry-clause-does : goal.returns-in-Entry-clause-does
 returns-in-Entry-clause-does g c = λ disk settled v stands. c.unlink_entry.ensures.does disk settled v (c.find.ensures.looks.kept disk settled v stands)
@@ -76,3 +73,15 @@ returns-in-Gap-clause-answers g c = λ disk settled v table stands volume mounte
     let tree = c.volumes_are_trees.ensures inodes v table volume mounted in
     let at = subst (λ p. IsPlaceOf v (place_of p) r) c.in-Gap.is (c.in_ok-place.ensures.found disk settled v table text stands volume c.requires.parts) in
     unlink_refused inodes v table volume mounted tree c.records_change_trees.ensures text c.requires.passed _ (leads_gap v c.in-Gap._trail c.in-Gap._name.items r at)
+
+pub returns-in_err-place-clause-looks : goal.returns-in_err-place-clause-looks
+returns-in_err-place-clause-looks g c = looks_err c.from_residual.result c.from_residual.ensures.1 c.in_err-place.ensures.looks
+
+pub returns-in-Refusal-clause-looks : goal.returns-in-Refusal-clause-looks
+returns-in-Refusal-clause-looks g c = looks_ok c.in_ok-place.ensures.looks
+
+pub returns-in-Directory-clause-looks : goal.returns-in-Directory-clause-looks
+returns-in-Directory-clause-looks g c = looks_ok c.in_ok-place.ensures.looks
+
+pub returns-in-Gap-clause-looks : goal.returns-in-Gap-clause-looks
+returns-in-Gap-clause-looks g c = looks_ok c.in_ok-place.ensures.looks

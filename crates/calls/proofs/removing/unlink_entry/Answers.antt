@@ -2,6 +2,7 @@ use Rattle.std.proofs.Common.{rules, ◌∙◌, inl, IfOk, refl, sym, subst}
 use Rattle.layout.specs.Limits.{Sizes}
 use Rattle.model.specs.Volumes.{IsVolume}
 use Rattle.model.specs.declared.errno.Errno.TheVariants.{DAMAGED}
+use Rattle.paths.proofs.Looks.{looks_err, looks_more, looks_ok}
 use Rattle.calls.specs.Removing.{RemovesName}
 use Rattle.calls.proofs.MakeLaws.{told_answers}
 use Rattle.calls.proofs.RemoveLaws.{unlinks_other}
@@ -14,11 +15,7 @@ pub returns-in-Directory-clause-takes : goal.returns-in-Directory-clause-takes
 returns-in-Directory-clause-takes g c = λ disk settled v stands volume. inl (refl, sym (c.in_ok-found.ensures.found disk settled v stands) ∙ c.in-Directory.is)
 
 pub returns-in_default-clause-looks : goal.returns-in_default-clause-looks
-returns-in_default-clause-looks g c = record {
-  reads = search rules;
-  geometry = c.remove_name.ensures.looks.geometry ∙ c.kind_at.ensures.looks.geometry;
-  kept = λ disk settled v stands. c.remove_name.ensures.looks.kept disk settled v (c.kind_at.ensures.looks.kept disk settled v stands);
-}
+returns-in_default-clause-looks g c = looks_more c.in_ok-found.ensures.looks c.remove_name.ensures.looks
 
 pub returns-in_default-clause-does : goal.returns-in_default-clause-does
 returns-in_default-clause-does g c = λ disk settled v stands. c.remove_name.ensures.does disk settled v (c.kind_at.ensures.looks.kept disk settled v stands)
@@ -34,3 +31,9 @@ returns-in_default-clause-takes g c = λ disk settled v stands volume.
     (λ r told. unlinks_other inodes v c.args.parent c.args.name.items c.args.number DAMAGED (λ is. c.in_default.not-Directory (c.in_ok-found.ensures.found disk settled v stands ∙ is)) r told)
     (subst (λ (s : Sizes). IfOk c.remove_name.result (RemovesName s.inodes v c.args.parent c.args.name.items DAMAGED)) c.kind_at.ensures.looks.geometry
     (c.remove_name.ensures.removes disk settled v (c.kind_at.ensures.looks.kept disk settled v stands) all))
+
+pub returns-in_err-found-clause-looks : goal.returns-in_err-found-clause-looks
+returns-in_err-found-clause-looks g c = looks_err c.from_residual.result c.from_residual.ensures.1 c.in_err-found.ensures.looks
+
+pub returns-in-Directory-clause-looks : goal.returns-in-Directory-clause-looks
+returns-in-Directory-clause-looks g c = looks_ok c.in_ok-found.ensures.looks

@@ -3,6 +3,7 @@ use Rattle.layout.specs.Limits.{Sizes}
 use Rattle.model.specs.Edits.{contents}
 use Rattle.model.specs.Records.{Applies, applied, cut}
 use Rattle.model.specs.Volumes.{IsVolume, tree_of}
+use Rattle.paths.proofs.Looks.{looks_err, looks_more, looks_ok}
 use Rattle.calls.specs.declared.contents.Rewrite.TheVariants.{Cut}
 use Rattle.calls.proofs.RewriteLaws.{cut_answers, cuts_all, cuts_nothing, other_size, rewritten, same_size}
 use Rattle.calls.proofs.rewriting.cut_bytes.Goals as goal
@@ -16,11 +17,7 @@ returns-then-now-size-clause-answers g c = λ disk settled v table stands volume
     cuts_nothing (tree_of v table) c.args.number c.args.size (same_size c.args.size (length (contents (tree_of v table) c.args.number)) (sym c.if-now-size.true ∙ size))
 
 pub returns-clause-looks : goal.returns-clause-looks
-returns-clause-looks g c = record {
-  reads = search rules;
-  geometry = c.prepare_bytes.ensures.looks.geometry ∙ c.size_at.ensures.looks.geometry;
-  kept = λ disk settled v stands. c.prepare_bytes.ensures.looks.kept disk settled v (c.size_at.ensures.looks.kept disk settled v stands);
-}
+returns-clause-looks g c = looks_more c.in_ok-now.ensures.looks c.prepare_bytes.ensures.looks
 
 pub returns-clause-does : goal.returns-clause-does
 returns-clause-does g c = λ disk settled v stands. c.prepare_bytes.ensures.does disk settled v (c.size_at.ensures.looks.kept disk settled v stands)
@@ -41,3 +38,9 @@ returns-clause-answers g c = λ disk settled v table stands volume mounted is.
 
 pub returns-clause-damaged : goal.returns-clause-damaged
 returns-clause-damaged g c = λ disk settled v stands is. c.prepare_bytes.ensures.damaged disk settled v (c.size_at.ensures.looks.kept disk settled v stands) is
+
+pub returns-in_err-now-clause-looks : goal.returns-in_err-now-clause-looks
+returns-in_err-now-clause-looks g c = looks_err c.from_residual.result c.from_residual.ensures.1 c.in_err-now.ensures.looks
+
+pub returns-then-now-size-clause-looks : goal.returns-then-now-size-clause-looks
+returns-then-now-size-clause-looks g c = looks_ok c.in_ok-now.ensures.looks

@@ -5,6 +5,7 @@ use Rattle.model.specs.Volumes.{Node, entries, released, with_entry, with_name_l
 use Rattle.inode.specs.declared.object.Object.{Object}
 use Rattle.inofile.specs.Inodes.{HasRoomFor, IsKnown, loaded}
 use Rattle.paths.specs.Numbers.{IsNumber}
+use Rattle.paths.proofs.Looks.{looks_err, looks_more, looks_ok}
 use Rattle.calls.specs.Entering.{Accepts, CanEdit, EditsIn, names_after, with_names}
 use Rattle.calls.specs.Steps.{IsAlone, Updates}
 use Rattle.calls.specs.declared.naming.NameEdit.TheVariants as edits
@@ -21,22 +22,16 @@ returns-in_default-clause-refused g c = λ disk settled v stands graph can.
     none_some (sym c.in_default.is ∙ c.in_ok-found.ensures.number disk settled v stands ∙ can.there)
 
 pub returns-in_err-released-clause-looks : goal.returns-in_err-released-clause-looks
-returns-in_err-released-clause-looks g c = record {
-  reads = search rules;
-  geometry = search rules;
-  kept = λ disk settled v stands. c.release.ensures.looks.kept disk settled v (c.number_in.ensures.looks.kept disk settled v stands);
-}
+returns-in_err-released-clause-looks g c =
+    looks_err c.from_residual-in_err-released.result c.from_residual-in_err-released.ensures.1
+    (looks_more c.in_ok-found.ensures.looks c.in_err-released.ensures.looks)
 
 pub returns-in_err-released-clause-damaged : goal.returns-in_err-released-clause-damaged
 returns-in_err-released-clause-damaged g c = λ disk settled v stands is.
     c.in_err-released.ensures.damaged disk settled v (c.number_in.ensures.looks.kept disk settled v stands) (search rules)
 
 pub returns-in_default-released-clause-looks : goal.returns-in_default-released-clause-looks
-returns-in_default-released-clause-looks g c = record {
-  reads = search rules;
-  geometry = search rules;
-  kept = λ disk settled v stands. c.release.ensures.looks.kept disk settled v (c.number_in.ensures.looks.kept disk settled v stands);
-}
+returns-in_default-released-clause-looks g c = looks_ok (looks_more c.in_ok-found.ensures.looks c.in_ok-released.ensures.looks)
 
 pub returns-in_default-released-clause-refused : goal.returns-in_default-released-clause-refused
 returns-in_default-released-clause-refused g c = λ disk settled v stands graph can.
@@ -46,24 +41,17 @@ returns-in_default-released-clause-refused g c = λ disk settled v stands graph 
     full (subst (λ (n : ℕ). IsEmpty v n) (sym same) can.empty)
 
 pub returns-in_err-planned-clause-looks : goal.returns-in_err-planned-clause-looks
-returns-in_err-planned-clause-looks g c = record {
-  reads = search rules;
-  geometry = search rules;
-  kept = λ disk settled v stands.
-      c.edit_parent.ensures.looks.kept disk settled v (c.release.ensures.looks.kept disk settled v (c.number_in.ensures.looks.kept disk settled v stands));
-}
+returns-in_err-planned-clause-looks g c =
+    looks_err c.from_residual-in_err-planned.result c.from_residual-in_err-planned.ensures.1
+    (looks_more (looks_more c.in_ok-found.ensures.looks c.in_ok-released.ensures.looks) c.in_err-planned.ensures.looks)
 
 pub returns-in_err-planned-clause-damaged : goal.returns-in_err-planned-clause-damaged
 returns-in_err-planned-clause-damaged g c = λ disk settled v stands is.
     c.in_err-planned.ensures.damaged disk settled v (c.release.ensures.looks.kept disk settled v (c.number_in.ensures.looks.kept disk settled v stands)) (search rules)
 
 pub returns-in_default-planned-clause-looks : goal.returns-in_default-planned-clause-looks
-returns-in_default-planned-clause-looks g c = record {
-  reads = search rules;
-  geometry = search rules;
-  kept = λ disk settled v stands.
-      c.edit_parent.ensures.looks.kept disk settled v (c.release.ensures.looks.kept disk settled v (c.number_in.ensures.looks.kept disk settled v stands));
-}
+returns-in_default-planned-clause-looks g c =
+    looks_ok (looks_more (looks_more c.in_ok-found.ensures.looks c.in_ok-released.ensures.looks) c.in_ok-planned.ensures.looks)
 
 pub returns-in_default-planned-clause-refused : goal.returns-in_default-planned-clause-refused
 returns-in_default-planned-clause-refused g c = λ disk settled v stands graph can.
@@ -75,12 +63,8 @@ returns-in_default-planned-clause-refused g c = λ disk settled v stands graph c
     (record { mode = is.0; names = is.1; is = is.2; takes = tt })
 
 pub returns-clause-looks : goal.returns-clause-looks
-returns-clause-looks g c = record {
-  reads = search rules;
-  geometry = search rules;
-  kept = λ disk settled v stands.
-      c.edit_parent.ensures.looks.kept disk settled v (c.release.ensures.looks.kept disk settled v (c.number_in.ensures.looks.kept disk settled v stands));
-}
+returns-clause-looks g c =
+    looks_ok (looks_more (looks_more c.in_ok-found.ensures.looks c.in_ok-released.ensures.looks) c.in_ok-planned.ensures.looks)
 
 pub returns-clause-ready : goal.returns-clause-ready
 returns-clause-ready g c =
@@ -144,3 +128,9 @@ returns-clause-does g c = λ disk settled v stands.
       last_beside = tt;
       beside = tt;
     }
+
+pub returns-in_err-found-clause-looks : goal.returns-in_err-found-clause-looks
+returns-in_err-found-clause-looks g c = looks_err c.from_residual.result c.from_residual.ensures.1 c.in_err-found.ensures.looks
+
+pub returns-in_default-clause-looks : goal.returns-in_default-clause-looks
+returns-in_default-clause-looks g c = looks_ok c.in_ok-found.ensures.looks

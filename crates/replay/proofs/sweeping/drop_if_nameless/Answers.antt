@@ -1,24 +1,25 @@
-use Rattle.std.proofs.Common.{rules, sym, subst, ◌∙◌}
-use Rattle.model.specs.Volumes.{Volume}
+use Rattle.std.proofs.Common.{rules, ap, subst}
+use Rattle.model.specs.Volumes.{Volume, is_nameless}
 use Rattle.inofile.specs.Volumes.{IsVolumeOf}
-use Rattle.replay.proofs.Errors.{passed}
-use Rattle.replay.proofs.SweepLaws.{dropped, kept}
+use Rattle.calls.proofs.SweepLaws.{kept}
+use Rattle.replay.proofs.Errors.{undamaged}
 use Rattle.replay.proofs.sweeping.drop_if_nameless.Goals as goal
 
-pub returns-in_err-is_one-clause-drops : goal.returns-in_err-is_one-clause-drops
-returns-in_err-is_one-clause-drops g c disk settled v shows stands =
-    passed _ c.from_residual.result c.in_err-is_one.field-0.0 (search rules) (c.in_err-is_one.ensures.tells disk settled v shows stands)
-
-pub returns-in_ok-prepare_set-clause-drops : goal.returns-in_ok-prepare_set-clause-drops
-returns-in_ok-prepare_set-clause-drops g c disk settled v shows stands =
+pub returns-then-not-is_taken-clause-drops : goal.returns-then-not-is_taken-clause-drops
+returns-then-not-is_taken-clause-drops g c disk settled v shows stands =
     let count = g.B.Blocks.count c.args.blocks.now in
-    let told = c.in_ok-is_one.ensures.tells disk settled v shows stands in
-    let ready = c.in_ok-prepare_set.ensures.volume count disk settled v told.1 in
-    subst (λ (w : Volume). IsVolumeOf count disk settled c.commit_set.new.self w) (dropped c.args.number v (sym told.0 ∙ c.if-is_one.true))
-    (c.commit_set.ensures.volume count disk settled v _ ready (search rules))
+    let none = c.is_taken.ensures.free count disk settled v stands (search rules) in
+    subst (λ (w : Volume). IsVolumeOf count disk settled c.args.inodes.now w) (kept c.args.number v (ap is_nameless none)) stands
 
-pub returns-else-is_one-clause-drops : goal.returns-else-is_one-clause-drops
-returns-else-is_one-clause-drops g c disk settled v shows stands =
+pub returns-in_err-load-clause-drops : goal.returns-in_err-load-clause-drops
+returns-in_err-load-clause-drops g c disk settled v shows stands =
+    undamaged _ c.from_residual.result (search rules) (λ is. c.in_err-load.ensures.damaged disk settled shows (search rules) stands.inodes)
+
+pub drop_nameless-requires : goal.drop_nameless-requires
+drop_nameless-requires g c = record { low = search rules; high = search rules; room = search rules; known = search rules }
+
+pub returns-clause-drops : goal.returns-clause-drops
+returns-clause-drops g c disk settled v shows stands =
     let count = g.B.Blocks.count c.args.blocks.now in
-    let told = c.in_ok-is_one.ensures.tells disk settled v shows stands in
-    subst (λ (w : Volume). IsVolumeOf count disk settled c.has_nameless.new.inodes w) (kept c.args.number v (sym told.0 ∙ c.if-is_one.false)) told.1
+    let loaded = c.in_ok-load.ensures.volume disk settled v shows stands in
+    c.drop_nameless.ensures.volume count disk settled v (c.in_ok-prepare_set.ensures.volume count disk settled v loaded)

@@ -1,5 +1,5 @@
 use Rattle.std.proofs.Common.{◌≡◌, length, ap, arith}
-use Rattle.layout.proofs.RecordLengths.{length-change_mode, length-link, length-unname}
+use Rattle.layout.proofs.RecordLengths.{length-change_mode, length-cut, length-link, length-rename, length-unname}
 use Rattle.calls.proofs.changed.OwnedChange.record.Goals as goal
 
 pub returns-in-Link-clause-short : goal.returns-in-Link-clause-short
@@ -18,5 +18,19 @@ returns-in-Unname-clause-short c =
     let long = length-unname c.in-Unname.parent c.deref-in-Unname.result.now in
     omega (arith, same, short, long)
 
+pub returns-in-Rename-clause-short : goal.returns-in-Rename-clause-short
+returns-in-Rename-clause-short c =
+    let name = c.in-Rename.name in
+    let new_name = c.in-Rename.new_name in
+    let same : length c.deref-in-Rename.result.now ≡ length name.bytes.items = ap length c.deref-in-Rename.ensures.value in
+    let new_same : length c.deref-in-Rename-2.result.now ≡ length new_name.bytes.items = ap length c.deref-in-Rename-2.ensures.value in
+    let short = name.named.short in
+    let new_short = new_name.named.short in
+    let long = length-rename c.in-Rename.parent c.deref-in-Rename.result.now c.in-Rename.new_parent c.deref-in-Rename-2.result.now in
+    omega (arith, same, new_same, short, new_short, long)
+
 pub returns-in-ChangeMode-clause-short : goal.returns-in-ChangeMode-clause-short
 returns-in-ChangeMode-clause-short c = let long = length-change_mode c.in-ChangeMode.number c.in-ChangeMode.mode in omega (arith, long)
+
+pub returns-in-Cut-clause-short : goal.returns-in-Cut-clause-short
+returns-in-Cut-clause-short c = let long = length-cut c.in-Cut.number c.in-Cut.size in omega (arith, long)

@@ -1,0 +1,373 @@
+-- What the definitions say of moving a name over paths, by what was found in a volume.
+use Rattle.std.proofs.Common.{append_assoc, ◌≡◌, ◌≢◌, ◌↔◌, inl, inr, ℕ, ◌<◌, ◌==◌, [], ◌∷◌, ◌++◌, length, Bool, true, false, not, ◌&&◌, ◌||◌, IsTrue, Option, Some, None, IsSome, is_some, fold, refl, sym, ap, subst, ◌∙◌, arith}
+use Rattle.std.specs.Prelude.{nat_le}
+use Rattle.std.specs.Ordering.{nat_cmp}
+use Rattle.std.specs.Cmp.Lexicographic.{slice_cmp}
+use Rattle.std.specs.List.Sorted.{IsStrictlySortedBy}
+use Rattle.std.proofs.lemmas.Bool.{cases_Bool, false≢true, lt-leb, ne_eqb}
+use Rattle.std.proofs.lemmas.Bool.Decides.{nat_tests}
+use Rattle.model.specs.Changing.{is_same_file, move_tests, moves, with_target}
+use Rattle.model.specs.Laws.{BelowIsByPaths}
+use Rattle.model.specs.Outcomes.{Outcome, answers, either, with_place}
+use Rattle.model.specs.Paths.{Name, Path, IsName, Tests, behind, begins_with, first_refusal, path_eq}
+use Rattle.model.specs.Records.{CanRename, CanReplace, IsBelow, TakesName, applied, rename}
+use Rattle.model.specs.Resolution.{parent}
+use Rattle.model.specs.Room.{Need, adds_name, logs, nothing}
+use Rattle.model.specs.Trees.{Tree, Object, Description, IsTree, is_directory, number}
+use Rattle.model.specs.Trees as trees
+use Rattle.model.specs.Volumes.{Node, directory_node, file_node, link_node, Volume, enter, entries, is_directory_node, is_file_node, names_in, number_at, object_at, object_of, swept, tree_of, IsMounted, IsVolume}
+use Rattle.model.specs.declared.errno.Errno.{Errno}
+use Rattle.model.specs.declared.errno.Errno.TheVariants.{ENOTDIR, EISDIR, EINVAL, DIRFULL}
+use Rattle.model.specs.declared.limits.TheConstants.{DIRECTORY_NAMES}
+use Rattle.model.specs.declared.reply.Reply.{Reply}
+use Rattle.model.specs.declared.reply.Reply.TheVariants.{Done, Refused}
+use Rattle.model.proofs.KeptLemmas.{is_apart}
+use Rattle.model.proofs.LeadLemmas.{parent-push}
+use Rattle.model.proofs.RenameLemmas.{rename_done}
+use Rattle.model.proofs.WalkLemmas.{behind-append, behind-is, number_at-push, path_eq-same, same_path}
+use Rattle.calls.specs.Renaming.{FirstOfTests, is_directory_at}
+use Rattle.calls.proofs.MakeLaws.{child_some, listing, tested_none, tested_some}
+use Rattle.calls.proofs.FileLaws.{named_directory, none_some, same_some}
+
+-- ---- numbers and objects
+
+object_number : (n : ℕ) (o : Option Node) (x : Object) → object_of n o ≡ Some x → number x ≡ n
+object_number n None x is = none_some is
+  where
+    none_some : {X : Type 0} → None ≡ Some x → X
+    none_some e = cc
+object_number n (Some (directory_node mode names)) x is = ap number (sym (same is))
+  where
+    same : {a b : Object} → Some a ≡ Some b → a ≡ b
+    same e = cc
+object_number n (Some (file_node mode links bytes)) x is = ap number (sym (same is))
+  where
+    same : {a b : Object} → Some a ≡ Some b → a ≡ b
+    same e = cc
+object_number n (Some (link_node text)) x is = ap number (sym (same is))
+  where
+    same : {a b : Object} → Some a ≡ Some b → a ≡ b
+    same e = cc
+
+kind_of : (n : ℕ) (o : Option Node) → is_directory (object_of n o) ≡ is_directory_node o
+kind_of n None = refl
+kind_of n (Some (directory_node mode names)) = refl
+kind_of n (Some (file_node mode links bytes)) = refl
+kind_of n (Some (link_node text)) = refl
+
+some_of : (n : ℕ) (o : Option Node) → IsSome o → is_some (object_of n o) ≡ true
+some_of n None some = absurd (false≢true some)
+some_of n (Some (directory_node mode names)) some = refl
+some_of n (Some (file_node mode links bytes)) some = refl
+some_of n (Some (link_node text)) some = refl
+
+eqb_same : (n : ℕ) → (n == n) ≡ true
+eqb_same n = grind (arith, nat_tests)
+
+-- files of two numbers are two
+not_same_file : (o : Object) (m : ℕ) (node : Option Node) → m ≢ number o → is_same_file o (object_of m node) ≡ false
+not_same_file (trees.directory n) m found other = refl
+not_same_file (trees.symlink n text) m found other = refl
+not_same_file (trees.file n) m None other = refl
+not_same_file (trees.file n) m (Some (directory_node mode names)) other = refl
+not_same_file (trees.file n) m (Some (file_node mode links bytes)) other = ne_eqb n m (λ e. other (sym e))
+not_same_file (trees.file n) m (Some (link_node text)) other = refl
+
+directory_object : (n : ℕ) (o : Option Node) → is_directory_node o ≡ true → object_of n o ≡ Some (trees.directory n)
+directory_object n None is = absurd (false≢true is)
+directory_object n (Some (directory_node mode names)) is = refl
+directory_object n (Some (file_node mode links bytes)) is = absurd (false≢true is)
+directory_object n (Some (link_node text)) is = absurd (false≢true is)
+
+none_sorted : IsStrictlySortedBy (slice_cmp nat_cmp) []
+unfolding IsStrictlySortedBy
+none_sorted = tt
+
+-- ---- paths
+
+-- what a path begins with that goes on by a name, but for itself
+begins_more : (w p : Path) (y : Name) → p ≢ w ++ y ∷ [] → begins_with (w ++ y ∷ []) p ≡ begins_with w p
+begins_more w p y other = by (behind p w) refl (behind p (w ++ y ∷ [])) refl
+  where
+    by : (a : Option Path) → behind p w ≡ a → (b : Option Path) → behind p (w ++ y ∷ []) ≡ b → is_some (behind p (w ++ y ∷ [])) ≡ is_some (behind p w)
+    by (Some u) is (Some z) more = ap is_some more ∙ sym (ap is_some is)
+    by None is None more = ap is_some more ∙ sym (ap is_some is)
+    by None is (Some z) more = absurd (is_apart p w y is other z (sym (behind-is p (w ++ y ∷ []) z more)))
+    by (Some u) is None more =
+        let longer : w ++ y ∷ [] ≡ p ++ (u ++ y ∷ []) = ap (λ (r : Path). r ++ y ∷ []) (behind-is p w u is) ∙ append_assoc p u (y ∷ []) in
+        let some : behind p (w ++ y ∷ []) ≡ Some (u ++ y ∷ []) = ap (behind p) longer ∙ behind-append p (u ++ y ∷ []) in
+        none_path (sym more ∙ some)
+      where
+        none_path : {X : Type 0} {z : Path} → None ≡ Some z → X
+        none_path e = cc
+
+pub not_either : (this that : Outcome) (a : Bool) → a ≡ false → (reply : Reply) (new : Tree) (need : Need) → that reply new need → either a this that reply new need
+not_either this that true is reply new need done = absurd (false≢true (sym is))
+not_either this that false is reply new need done = done
+
+module _ (inodes : ℕ) (v : Volume) (table : ℕ → Option Description) (volume : IsVolume inodes v) (mounted : IsMounted v table) (tree : IsTree inodes (tree_of v table)) where
+  abbrev t : Tree
+  t = tree_of v table
+
+  -- the object n stands at the name x of the directory at p, and another name goes to the directory at w
+  module _ (front : Path) (d : ℕ) (x : Name) (n : ℕ) (at_old : number_at (entries v) front ≡ Some d) (edge : entries v d x ≡ Some n)
+      (w : Path) (k : ℕ) (y : Name) (at_new : number_at (entries v) w ≡ Some k) (o : Object) (object : object_of n (v n) ≡ Some o) where
+    abbrev p : Path
+    p = front ++ x ∷ []
+
+    abbrev q : Path
+    q = w ++ y ∷ []
+
+    abbrev target : Option ℕ
+    target = entries v k y
+
+    at_p : number_at (entries v) p ≡ Some n
+    at_p = number_at-push (entries v) front x ∙ ap (λ (a : Option ℕ). enter (entries v) a x) at_old ∙ edge
+
+    pub at_q : number_at (entries v) q ≡ target
+    at_q = number_at-push (entries v) w y ∙ ap (λ (a : Option ℕ). enter (entries v) a y) at_new
+
+    stands_p : t.objects p ≡ Some o
+    stands_p = ap (object_at v) at_p ∙ object
+
+    pub stands_q : t.objects q ≡ object_at v target
+    stands_q = ap (object_at v) at_q
+
+    number_is : number o ≡ n
+    number_is = object_number n (v n) o object
+
+    -- nothing changes where the object has the name already, or another one of the same file
+    pub same_there : target ≡ Some n → (path_eq p q || is_same_file o (t.objects q)) ≡ true
+    same_there is =
+        let there : t.objects q ≡ Some o = stands_q ∙ ap (object_at v) is ∙ object in
+        elim (tree.single p q o o stands_p there refl) [
+          | inl same ↦ either_first (path_eq p q) (is_same_file o (t.objects q)) (ap (path_eq p) (sym same) ∙ path_eq-same p)
+          | inr file ↦ either_last (path_eq p q) (is_same_file o (t.objects q))
+              (ap (is_same_file o) there ∙ ap (λ (a : Object). is_same_file a (Some a)) file.0 ∙ eqb_same (number o))
+        ]
+      where
+        either_first : (a b : Bool) → a ≡ true → (a || b) ≡ true
+        either_first true b is = refl
+        either_first false b is = absurd (false≢true is)
+
+        either_last : (a b : Bool) → b ≡ true → (a || b) ≡ true
+        either_last true b is = refl
+        either_last false b is = is
+
+    pub paths_differ : target ≢ Some n → p ≢ q
+    paths_differ other same = other (sym at_q ∙ ap (number_at (entries v)) (sym same) ∙ at_p)
+
+    pub other_there : target ≢ Some n → (path_eq p q || is_same_file o (t.objects q)) ≡ false
+    other_there other =
+        neither (path_eq p q) (is_same_file o (t.objects q))
+        (elim (cases_Bool (path_eq p q)) [ inl same ↦ absurd (paths_differ other (same_path p q same)) | inr differ ↦ differ ])
+        (ap (is_same_file o) stands_q ∙ by target other)
+      where
+        neither : (a b : Bool) → a ≡ false → b ≡ false → (a || b) ≡ false
+        neither true b is also = absurd (false≢true (sym is))
+        neither false b is also = also
+
+        no_file : (a : Object) → is_same_file a None ≡ false
+        no_file (trees.directory j) = refl
+        no_file (trees.symlink j text) = refl
+        no_file (trees.file j) = refl
+
+        by : (a : Option ℕ) → a ≢ Some n → is_same_file o (object_at v a) ≡ false
+        by None differ = no_file o
+        by (Some m) differ = not_same_file o m (v m) (λ e. differ (ap (λ j. Some j) (e ∙ number_is)))
+
+    -- ---- tests
+
+    kind_is : is_directory (Some o) ≡ is_directory_node (v n)
+    kind_is = ap is_directory (sym object) ∙ kind_of n (v n)
+
+    target_kind : is_directory (t.objects q) ≡ is_directory_at v target
+    target_kind = ap is_directory stands_q ∙ by target
+      where
+        by : (a : Option ℕ) → is_directory (object_at v a) ≡ is_directory_at v a
+        by None = refl
+        by (Some m) = kind_of m (v m)
+
+    target_some : is_some (t.objects q) ≡ is_some target
+    target_some = ap is_some stands_q ∙ by target refl
+      where
+        by : (a : Option ℕ) → target ≡ a → is_some (object_at v a) ≡ is_some a
+        by None is = refl
+        by (Some m) is = some_of m (v m) (volume.graph.used k m y is)
+
+    -- the directory of the new name lies below the object just where its path does
+    module _ (law : BelowIsByPaths) (directory : is_directory_node (v k) ≡ true) (other : target ≢ Some n) where
+      not_file : (a : Option Node) → is_directory_node a ≡ true → is_file_node a ≡ false
+      not_file None is = absurd (false≢true is)
+      not_file (Some (directory_node mode names)) is = refl
+      not_file (Some (file_node mode links bytes)) is = absurd (false≢true is)
+      not_file (Some (link_node text)) is = absurd (false≢true is)
+
+      below_paths : IsBelow (entries v) n k ↔ IsTrue (begins_with w p)
+      below_paths = law inodes v p w n k volume at_p at_new (not_file (v k) directory)
+
+      abbrev first : Bool → Bool
+      first below = is_directory_node (v n) && below
+
+      same_first : (below : Bool) → (IsTrue (is_directory_node (v n)) → IsTrue below ↔ IsBelow (entries v) n k) → (is_directory (Some o) && begins_with q p) ≡ first below
+      same_first below tells = ap (λ (a : Bool). a && begins_with q p) kind_is ∙ ap (λ (a : Bool). is_directory_node (v n) && a) (begins_more w p y (paths_differ other)) ∙ by (is_directory_node (v n)) refl
+        where
+          same_truth : (a b : Bool) → (IsTrue a → IsTrue b) → (IsTrue b → IsTrue a) → a ≡ b
+          same_truth true b to back = sym (to refl)
+          same_truth false true to back = absurd (false≢true (back refl))
+          same_truth false false to back = refl
+
+          by : (a : Bool) → is_directory_node (v n) ≡ a → (a && begins_with w p) ≡ (a && below)
+          by false is = refl
+          by true is = same_truth (begins_with w p) below (λ begins. (tells is).1 (below_paths.1 begins)) (λ below_is. below_paths.0 ((tells is).0 below_is))
+
+      pub same_tests : (refusal : Option Errno) → FirstOfTests v n k target refusal → first_refusal (move_tests p o q (t.objects q)) ≡ refusal
+      same_tests refusal tested_so =
+          let is = is_directory_node (v n) in
+          ap (λ (a : Bool). first_refusal ((a, EINVAL) ∷ (is_directory (Some o) && is_some (t.objects q) && not (is_directory (t.objects q)), ENOTDIR) ∷ (not (is_directory (Some o)) && is_directory (t.objects q), EISDIR) ∷ [])) (same_first tested_so.below tested_so.tells)
+          ∙ ap (λ (a : Bool). first_refusal ((first tested_so.below, EINVAL) ∷ (a && is_some (t.objects q) && not (is_directory (t.objects q)), ENOTDIR) ∷ (not a && is_directory (t.objects q), EISDIR) ∷ [])) kind_is
+          ∙ ap (λ (a : Bool). first_refusal ((first tested_so.below, EINVAL) ∷ (is && is_some (t.objects q) && not a, ENOTDIR) ∷ (not is && a, EISDIR) ∷ [])) target_kind
+          ∙ ap (λ (a : Bool). first_refusal ((first tested_so.below, EINVAL) ∷ (is && a && not (is_directory_at v target), ENOTDIR) ∷ (not is && is_directory_at v target, EISDIR) ∷ [])) target_some
+          ∙ sym tested_so.is
+
+      -- ---- what a move comes to
+
+      abbrev outcome : Outcome
+      outcome = moves t p o q
+
+      -- the name is there already
+      pub move_refused : (errno : Errno) → FirstOfTests v n k target (Some errno) → outcome (Refused errno) t nothing
+      move_refused errno tested_so =
+          not_either _ _ (path_eq p q || is_same_file o (t.objects q)) (other_there other) (Refused errno) t nothing
+          (tested_some t (move_tests p o q (t.objects q)) _ errno (same_tests (Some errno) tested_so))
+
+      -- the record, where it applies, does what the call does
+      module _ (can : CanRename v d x k y) where
+        same_number : can.number ≡ n
+        same_number = same_some (sym can.there ∙ edge)
+
+        emptied : (m : ℕ) (z : Name) → entries v k y ≡ Some m → entries v m z ≡ None
+        emptied m z is = (subst (λ (a : Option ℕ). CanReplace v d k y can.number a) is can.replaces).2 z
+
+        outside : behind p w ≡ None
+        outside = by (behind p w) refl
+          where
+            by : (a : Option Path) → behind p w ≡ a → behind p w ≡ None
+            by None is = is
+            by (Some u) is = absurd (can.outside (subst (λ (j : ℕ). IsBelow (entries v) j k) (sym same_number) (below_paths.1 (ap is_some is))))
+
+        -- where its target can take it
+        pub move_done : (passed : FirstOfTests v n k target None)
+            → ((rest : Outcome) → rest Done (tree_of (swept table (applied (rename d x k y) v)) table) (logs adds_name)
+            → with_target t p q (t.objects q) rest Done (tree_of (swept table (applied (rename d x k y) v)) table) (logs adds_name))
+            → outcome Done (tree_of (swept table (applied (rename d x k y) v)) table) (logs adds_name)
+        move_done passed takes =
+            rename_done v volume.graph table mounted.bounded mounted.files front w x y d k n at_old at_new edge
+            (named_directory (v d) x n edge) directory emptied outside (paths_differ other) other can.name
+            o (other_there other) (same_tests None passed) takes
+
+        -- its target can take it
+        pub target_takes : (rest : Outcome) (reply : Reply) (new : Tree) (need : Need) → rest reply new need → with_target t p q (t.objects q) rest reply new need
+        target_takes rest reply new need done =
+            subst (λ (a : Option Object). with_target t p q a rest reply new need) (sym stands_q) (by target refl)
+          where
+            at_node : (m : ℕ) (a : Option Node) → IsSome a → v m ≡ a → target ≡ Some m → with_target t p q (object_of m a) rest reply new need
+            at_node m None some is at = absurd (false≢true some)
+            at_node m (Some (directory_node mode names)) some is at = (
+              [],
+              record {
+                sorted = none_sorted;
+                whole = λ z. (
+                  λ there. absurd (omega (arith, there.1)),
+                  λ there. absurd (false≢true (subst (λ (a : Option ℕ). IsSome a) (emptied m z at) ((child_some inodes v table volume mounted tree q m (at_q ∙ at) z).0 there))),
+                );
+              },
+              done,
+            )
+            at_node m (Some (file_node mode links bytes)) some is at = done
+            at_node m (Some (link_node text)) some is at = done
+
+            free : CanReplace v d k y can.number None → with_target t p q None rest reply new need
+            free may = place (path_eq (parent p) (parent q)) refl
+              where
+                place : (a : Bool) → path_eq (parent p) (parent q) ≡ a → either a rest (with_place t (parent q) rest) reply new need
+                place true is = done
+                place false is = elim may [
+                  | inl same ↦ absurd (false≢true (sym is ∙ same_parents same))
+                  | inr takes ↦ with_room takes
+                ]
+                  where
+                    same_parents : d ≡ k → path_eq (parent p) (parent q) ≡ true
+                    same_parents same =
+                        ap (λ (a : Path). path_eq a (parent q)) (parent-push front x)
+                        ∙ ap (path_eq front) (parent-push w y)
+                        ∙ elim (tree.single front w (trees.directory d) (trees.directory k) old_stands new_stands same) [
+                          | inl one ↦ ap (path_eq front) (sym one) ∙ path_eq-same front
+                          | inr file ↦ no_file file.0
+                        ]
+                      where
+                        old_stands : t.objects front ≡ Some (trees.directory d)
+                        old_stands = ap (object_at v) at_old ∙ directory_object d (v d) (named_directory (v d) x n edge)
+
+                        new_stands : t.objects w ≡ Some (trees.directory k)
+                        new_stands = ap (object_at v) at_new ∙ directory_object k (v k) directory
+
+                        no_file : {X : Type 0} → trees.directory d ≡ trees.file d → X
+                        no_file e = cc
+
+                    with_room : TakesName v k y → with_place t (parent q) rest reply new need
+                    with_room takes =
+                        let (names, are, many) = listing inodes v table volume mounted tree w k at_new takes.count takes.counts in
+                        subst (λ (a : Path). with_place t a rest reply new need) (sym (parent-push w y)) (
+                          names,
+                          are,
+                          tested_none t ((nat_le DIRECTORY_NAMES (length names), DIRFULL) ∷ []) rest reply new need
+                              (ap (λ (b : Bool). first_refusal ((b, DIRFULL) ∷ [])) (lt-leb DIRECTORY_NAMES (length names) (subst (λ (j : ℕ). j < DIRECTORY_NAMES) (sym many) takes.room)))
+                              done,
+                        )
+
+            by : (a : Option ℕ) → target ≡ a → with_target t p q (object_at v a) rest reply new need
+            by None is = free (subst (CanReplace v d k y can.number) is can.replaces)
+            by (Some m) is = at_node m (v m) (volume.graph.used k m y is) refl is
+
+      -- what lies below something else than a directory is itself
+      module _ (passed : FirstOfTests v n k target None) where
+        pub not_below : IsBelow (entries v) n k → ⊥
+        not_below below = by (is_directory_node (v n)) refl
+          where
+            refused_first : (a b : Bool) (rest : Tests) → a ≡ true → b ≡ true → None ≡ first_refusal ((a && b, EINVAL) ∷ rest) → ⊥
+            refused_first true true rest is so none = none_errno none
+              where
+                none_errno : {X : Type 0} {e : Errno} → None ≡ Some e → X
+                none_errno e = cc
+            refused_first true false rest is so none = false≢true so
+            refused_first false b rest is so none = false≢true is
+
+            stays_none : (r : Path) (j : ℕ) → fold (enter (entries v)) None r ≡ Some j → ⊥
+            stays_none [] j is = none_some is
+            stays_none (z ∷ r) j is = stays_none r j is
+
+            no_names : (a : Option Node) (z : Name) → is_directory_node a ≡ false → names_in a z ≡ None
+            no_names None z is = refl
+            no_names (Some (directory_node mode names)) z is = absurd (false≢true (sym is))
+            no_names (Some (file_node mode links bytes)) z is = refl
+            no_names (Some (link_node text)) z is = refl
+
+            alone : (r : Path) → fold (enter (entries v)) (Some n) r ≡ Some k → is_directory_node (v n) ≡ false → ⊥
+            alone [] is none = false≢true (sym none ∙ ap (λ (j : ℕ). is_directory_node (v j)) (same_some is) ∙ directory)
+            alone (z ∷ r) is none = stays_none r k (ap (λ (a : Option ℕ). fold (enter (entries v)) a r) (sym (no_names (v n) z none)) ∙ is)
+
+            by : (a : Bool) → is_directory_node (v n) ≡ a → ⊥
+            by true is = refused_first (is_directory_node (v n)) passed.below ((is_directory_node (v n) && is_some target && not (is_directory_at v target), ENOTDIR) ∷ (not (is_directory_node (v n)) && is_directory_at v target, EISDIR) ∷ []) is ((passed.tells is).1 below) passed.is
+            by false is = alone below.0 below.1 is
+
+        -- the record applies where the target can take the name
+        pub applies : IsName y → CanReplace v d k y n target → CanRename v d x k y
+        applies name may = record { number = n; there = edge; directory = directory; name = name; outside = not_below; replaces = may }
+
+    pub move_stays : target ≡ Some n → moves t p o q Done t nothing
+    move_stays is = by _ (path_eq p q || is_same_file o (t.objects q)) (same_there is)
+      where
+        by : (that : Outcome) (a : Bool) → a ≡ true → either a (answers t Done) that Done t nothing
+        by that true same = (refl, refl, refl)
+        by that false same = absurd (false≢true same)

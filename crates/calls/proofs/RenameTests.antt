@@ -1,0 +1,89 @@
+-- The tests of a move by numbers, one by one.
+use Rattle.std.proofs.Common.{◌≡◌, ◌↔◌, ℕ, [], ◌∷◌, ◌≢◌, inr, Result, Ok, Err, Bool, true, false, not, ◌&&◌, IsTrue, Option, Some, None, refl, sym, subst, ◌∙◌}
+use mathlib.Core.Bool.{beq}
+use Rattle.std.proofs.lemmas.Bool.{false≢true}
+use Rattle.model.specs.Paths.{Name, Tests, first_refusal}
+use Rattle.model.specs.Records.{IsBelow}
+use Rattle.model.specs.Volumes.{Volume, entries, is_directory_node}
+use Rattle.model.specs.declared.errno.Errno.{Errno}
+use Rattle.model.specs.declared.errno.Errno.TheVariants.{ENOTDIR, EISDIR, EINVAL}
+use Rattle.calls.specs.Renaming.{FirstOfTests, MovesName, RecordsMove, kind_tests, otherwise}
+use Rattle.calls.specs.declared.changed.Changing.{Changing}
+
+-- ---- kinds
+
+abbrev kinds : Bool → Bool → Tests
+kinds a b = (a && true && not b, ENOTDIR) ∷ (not a && b, EISDIR) ∷ []
+
+pub no_kinds : (v : Volume) (is : Bool) → None ≡ first_refusal (kind_tests v is None)
+no_kinds v true = refl
+no_kinds v false = refl
+
+same_kinds : (a b : Bool) → beq a b ≡ true → None ≡ first_refusal (kinds a b)
+same_kinds true true same = refl
+same_kinds true false same = absurd (false≢true same)
+same_kinds false true same = absurd (false≢true same)
+same_kinds false false same = refl
+
+first_alone : (a b : Bool) → beq a b ≡ false → a ≡ true → Some ENOTDIR ≡ first_refusal (kinds a b)
+first_alone true true other is = absurd (false≢true (sym other))
+first_alone true false other is = refl
+first_alone false b other is = absurd (false≢true is)
+
+other_alone : (a b : Bool) → beq a b ≡ false → a ≡ false → Some EISDIR ≡ first_refusal (kinds a b)
+other_alone true b other is = absurd (false≢true (sym is))
+other_alone false true other is = refl
+other_alone false false other is = absurd (false≢true (sym other))
+
+module _ (v : Volume) (is other_is : Bool) (m : ℕ) (told : other_is ≡ is_directory_node (v m)) where
+  by : (refusal : Option Errno) → refusal ≡ first_refusal (kinds is other_is) → refusal ≡ first_refusal (kind_tests v is (Some m))
+  by refusal = subst (λ (b : Bool). refusal ≡ first_refusal (kinds is b)) told
+
+  pub kinds_same : beq is other_is ≡ true → None ≡ first_refusal (kind_tests v is (Some m))
+  kinds_same same = by None (same_kinds is other_is same)
+
+  pub kinds_first : beq is other_is ≡ false → is ≡ true → Some ENOTDIR ≡ first_refusal (kind_tests v is (Some m))
+  kinds_first other one = by (Some ENOTDIR) (first_alone is other_is other one)
+
+  pub kinds_other : beq is other_is ≡ false → is ≡ false → Some EISDIR ≡ first_refusal (kind_tests v is (Some m))
+  kinds_other other one = by (Some EISDIR) (other_alone is other_is other one)
+
+-- ---- all tests
+
+first_holds : (a b : Bool) (rest : Tests) → a ≡ true → b ≡ true → Some EINVAL ≡ first_refusal ((a && b, EINVAL) ∷ rest)
+first_holds true true rest one two = refl
+first_holds true false rest one two = absurd (false≢true two)
+first_holds false b rest one two = absurd (false≢true one)
+
+first_passes : (a b : Bool) (rest : Tests) → b ≡ false → first_refusal rest ≡ first_refusal ((a && b, EINVAL) ∷ rest)
+first_passes true true rest two = absurd (false≢true (sym two))
+first_passes true false rest two = refl
+first_passes false b rest two = refl
+
+module _ (v : Volume) (n k : ℕ) (target : Option ℕ) (is below : Bool) (told : is ≡ is_directory_node (v n)) (both : IsTrue below ↔ (IsTrue is × IsBelow (entries v) n k)) where
+  tells : IsTrue (is_directory_node (v n)) → IsTrue below ↔ IsBelow (entries v) n k
+  tells directory = (λ one. (both.0 one).1, λ under. both.1 (subst (λ (b : Bool). IsTrue b) (sym told) directory, under))
+
+  pub move_below : below ≡ true → FirstOfTests v n k target (Some EINVAL)
+  move_below one = record {
+    below = below;
+    tells = tells;
+    is = first_holds (is_directory_node (v n)) below (kind_tests v (is_directory_node (v n)) target) (subst (λ (b : Bool). IsTrue b) told (both.0 one).0) one;
+  }
+
+  pub move_kinds : below ≡ false → (refusal : Option Errno) → refusal ≡ first_refusal (kind_tests v is target) → FirstOfTests v n k target refusal
+  move_kinds never refusal first = record {
+    below = below;
+    tells = tells;
+    is = subst (λ (b : Bool). refusal ≡ first_refusal ((b && below, EINVAL) ∷ kind_tests v b target)) told (by_test first);
+  }
+    where
+      by_test : refusal ≡ first_refusal (kind_tests v is target) → refusal ≡ first_refusal ((is && below, EINVAL) ∷ kind_tests v is target)
+      by_test e = subst (λ (o : Option Errno). refusal ≡ o) (first_passes is below (kind_tests v is target) never) e
+
+-- what comes of a record behind tests that pass
+pub moves_recorded : (inodes : ℕ) (v : Volume) (d : ℕ) (x : Name) (n k : ℕ) (y : Name) (target : Option ℕ) (refusal : Errno) → target ≢ Some n → FirstOfTests v n k target None
+    → refusal ≡ otherwise target → (r : Result (Option Changing) Errno) → RecordsMove inodes v d x k y refusal r → MovesName inodes v d x n k y target r
+moves_recorded inodes v d x n k y target refusal other first which (Ok None) told = absurd told
+moves_recorded inodes v d x n k y target refusal other first which (Ok (Some c)) told = (other, first, told.0, told.1)
+moves_recorded inodes v d x n k y target refusal other first which (Err errno) told = (other, inr (first, told.0 ∙ which, told.1))

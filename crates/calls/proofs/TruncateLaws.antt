@@ -1,0 +1,110 @@
+-- What the definitions say of changing a file's size over a path, by what was found in a volume.
+use Rattle.std.proofs.Common.{◌≡◌, ◌≢◌, ℕ, ℤ, nat_abs, List, true, false, Option, Some, None, Result, Ok, Err, refl, sym, ap, subst, ◌∙◌}
+use Rattle.std.proofs.Math.Path.{fun_ext}
+use Rattle.std.proofs.lemmas.Bool.{false≢true}
+use Rattle.model.specs.Changing.{cuts, size_tests, truncates}
+use Rattle.model.specs.Edits.{contents}
+use Rattle.model.specs.Outcomes.{Outcome, refuses}
+use Rattle.model.specs.Paths.{Path, Tests, first_refusal, text_tests_then}
+use Rattle.model.specs.Records.{Applies, Change, applied, work_of}
+use Rattle.model.specs.Records as records
+use Rattle.model.specs.Resolution.{resolve}
+use Rattle.model.specs.Room.{Need, logs, nothing}
+use Rattle.model.specs.Trees.{Tree, Object, Description}
+use Rattle.model.specs.Trees as trees
+use Rattle.model.specs.Volumes.{IsMounted, Node, directory_node, file_node, link_node, Volume, is_file_node, object_of, swept, tree_of}
+use Rattle.model.specs.declared.errno.Errno.{Errno}
+use Rattle.model.specs.declared.errno.Errno.TheVariants.{EISDIR}
+use Rattle.model.specs.declared.reply.Reply.{Reply}
+use Rattle.model.specs.declared.reply.Reply.TheVariants.{Done, Refused}
+use Rattle.model.proofs.LooseLemmas.{some_same}
+use Rattle.paths.specs.Steps.{found_in}
+use Rattle.paths.specs.declared.lookup.Found.{Found}
+use Rattle.paths.specs.declared.lookup.Found.TheVariants as found
+use Rattle.calls.specs.Changing.{said_by}
+use Rattle.calls.specs.Leading.{IsLed}
+use Rattle.calls.specs.Served.{IsServed}
+use Rattle.calls.specs.Truncating.{ComesToSize, CutsNumber}
+use Rattle.calls.specs.declared.changed.Changing.{Changing}
+use Rattle.calls.proofs.LeadLaws.{led_refused, led_there}
+use Rattle.calls.proofs.MakeLaws.{tested_some}
+
+none_some : {X Y : Type 0} {x : X} → None ≡ Some x → Y
+none_some e = cc
+
+-- ---- what is found
+
+pub found_file : (o : Option Node) → found_in o ≡ found.File → is_file_node o ≡ true
+found_file None e = cc
+found_file (Some (directory_node mode names)) e = cc
+found_file (Some (file_node mode links bytes)) e = refl
+found_file (Some (link_node text)) e = cc
+
+pub found_other : (o : Option Node) → found_in o ≢ found.File → is_file_node o ≡ false
+found_other None other = refl
+found_other (Some (directory_node mode names)) other = refl
+found_other (Some (file_node mode links bytes)) other = absurd (other refl)
+found_other (Some (link_node text)) other = refl
+
+-- ---- where a path leads
+
+pub truncate_refused : (v : Volume) (table : ℕ → Option Description) (text : List ℕ) (size : ℤ) (errno : Errno) → first_refusal (text_tests_then (size_tests size) text) ≡ Some errno
+    → truncates (tree_of v table) text size (Refused errno) (tree_of v table) nothing
+truncate_refused v table text size errno is = tested_some (tree_of v table) (text_tests_then (size_tests size) text) _ errno is
+
+module _ (inodes : ℕ) (v : Volume) (table : ℕ → Option Description) (text : List ℕ) (size : ℤ) where
+  abbrev t : Tree
+  t = tree_of v table
+
+  abbrev tests : Tests
+  tests = text_tests_then (size_tests size) text
+
+  abbrev there : Path → Object → Outcome
+  there p o = elim o as (λ _. Outcome) [
+    | trees.file n ↦ cuts t n (nat_abs size)
+    | trees.directory n ↦ refuses t EISDIR
+    | trees.symlink n link ↦ λ _ _ _. ⊥
+  ]
+
+  pub truncate_nowhere : (errno : Errno) → IsLed tests v (resolve t true text) (Err errno) → truncates t text size (Refused errno) t nothing
+  truncate_nowhere errno led = led_refused v table there tests (resolve t true text) errno led
+
+  -- what a file is cut to is what the call comes to
+  at_file : (n : ℕ) (o : Option Node) → is_file_node o ≡ true → (p : Path) (x : Object) → object_of n o ≡ Some x
+      → (reply : Reply) (new : Tree) (need : Need) → cuts t n (nat_abs size) reply new need → there p x reply new need
+  at_file n None is p x object reply new need cut = none_some object
+  at_file n (Some (directory_node mode names)) is p x object reply new need cut = absurd (false≢true is)
+  at_file n (Some (file_node mode links bytes)) is p x object reply new need cut = subst (λ (y : Object). there p y reply new need) (some_same object) cut
+  at_file n (Some (link_node link)) is p x object reply new need cut = absurd (false≢true is)
+
+  at_other : (n : ℕ) (o : Option Node) → is_file_node o ≡ false → found_in o ≢ found.Link → (p : Path) (x : Object) → object_of n o ≡ Some x → there p x (Refused EISDIR) t nothing
+  at_other n None is plain p x object = none_some object
+  at_other n (Some (directory_node mode names)) is plain p x object = subst (λ (y : Object). there p y (Refused EISDIR) t nothing) (some_same object) (refl, refl, refl)
+  at_other n (Some (file_node mode links bytes)) is plain p x object = absurd (false≢true (sym is))
+  at_other n (Some (link_node link)) is plain p x object = absurd (plain refl)
+
+  abbrev cut_change : ℕ → Change
+  cut_change n = records.cut n (nat_abs size)
+
+  module _ (n : ℕ) (led : IsLed tests v (resolve t true text) (Ok n)) where
+    cut_there : (reply : Reply) (new : Tree) (need : Need) → is_file_node (v n) ≡ true → cuts t n (nat_abs size) reply new need → truncates t text size reply new need
+    cut_there reply new need is cut =
+        led_there v table there n reply new need (λ p x at object. at_file n (v n) is p x object reply new need cut) tests (resolve t true text) led
+
+    -- a mounted volume has nothing to be swept
+    whole : IsMounted (applied (cut_change n) v) table → swept table (applied (cut_change n) v) ≡ applied (cut_change n) v
+    whole mounted = fun_ext {f = swept table (applied (cut_change n) v)} {g = applied (cut_change n) v} mounted.is_swept
+
+    pub truncate_comes : found_in (v n) ≢ found.Link → (r : Result (Option Changing) Errno) → CutsNumber inodes v table n (nat_abs size) r
+        → ComesToSize (truncates t text size) inodes v table r
+    truncate_comes plain (Err errno) (is, same) =
+        led_there v table there n (Refused errno) t nothing
+        (λ p x at object. subst (λ (e : Errno). there p x (Refused e) t nothing) (sym same) (at_other n (v n) is plain p x object)) tests (resolve t true text) led
+    truncate_comes plain (Ok None) (is, cut) = cut_there Done t nothing is cut
+    truncate_comes plain (Ok (Some c)) (is, (says, (over, cut))) =
+        subst (λ (x : Change). IsServed x × Applies inodes v x × IsMounted (swept table (applied x v)) table × truncates t text size Done (tree_of (swept table (applied x v)) table) (logs (work_of v x))) (sym says) (
+          tt,
+          over.0,
+          subst (λ (w : Volume). IsMounted w table) (sym (whole over.1)) over.1,
+          subst (λ (w : Volume). truncates t text size Done (tree_of w table) (logs (work_of v (cut_change n)))) (sym (whole over.1)) (cut_there Done (tree_of (applied (cut_change n) v) table) (logs (work_of v (cut_change n))) is cut),
+        )
