@@ -12,6 +12,7 @@ wafl=${WAFL:-$here/wafl}
 folder=$(mktemp -d)
 trap 'rm -rf "$folder"' EXIT
 cd "$folder"
+. "$here/bench/measure.sh"
 
 names() { # names FORMAT_OF_A_PARENT FORMAT_OF_A_CHILD EVERY_1000
     awk -v parent="$1" -v child="$2" -v every="$3" 'BEGIN {
@@ -23,36 +24,14 @@ names() { # names FORMAT_OF_A_PARENT FORMAT_OF_A_CHILD EVERY_1000
     }'
 }
 
-measure() { # measure NAME COMMAND.. : one line of the table
-    name=$1; shift
-    begin=$(date +%s.%N)
-    "$@" > replies 2> faults
-    end=$(date +%s.%N)
-    seconds=$(echo "$begin $end" | awk '{printf "%.2f", $2 - $1}')
-    writes=- ; syncs=- ; memory=-
-    if command -v strace > /dev/null; then
-        "$again" > /dev/null
-        strace -f -e trace=write,pwrite64,pwritev,fsync,fdatasync -o calls "$@" > replies 2> faults
-        writes=$(grep -cE 'write(v|64)?\(([02-9]|1[0-9])' calls || true) # replies go to 1
-        syncs=$(grep -c 'sync(' calls || true)
-    fi
-    if [ -x /usr/bin/time ]; then
-        "$again" > /dev/null
-        /usr/bin/time -f %M -o peak "$@" > replies 2> faults
-        memory="$(awk 'END {printf "%.1f", $1 / 1024}' peak)"
-    fi
-    printf '%-10s %9s s %9s writes %9s syncs %8s MiB\n' "$name" "$seconds" "$writes" "$syncs" "$memory"
-}
-
 fresh_wafl() { rm -f disk nvram; "$wafl" make disk nvram --blocks 16384 --inodes 32768 --half 131072; }
-fresh_debugfs() { rm -f ext2; mke2fs -q -t ext2 -b 4096 -N 32768 ext2 16384 2> faults; }
+fresh_debugfs() { rm -f ext2; mke2fs -q -t ext2 -b 4096 -N 32768 ext2 16384 > faults 2>&1; }
 fresh_sqlite() { rm -f names.db names.db-journal; sqlite3 names.db 'create table directory (path text primary key)'; }
 
 names 'mkdir /d%d' 'mkdir /d%d/n%04d' sync > wafl.script
 again=fresh_wafl; fresh_wafl
 measure wafl "$wafl" run disk nvram wafl.script
-grep -vc '^ok$' replies > wrong || true
-[ "$(cat wrong)" = 0 ] || { echo "wafl refused commands" >&2; exit 1; }
+refused '^ok$'
 
 if command -v debugfs > /dev/null && command -v mke2fs > /dev/null; then
     names 'mkdir d%d' 'mkdir d%d/n%04d' '' > debugfs.script

@@ -8,7 +8,7 @@ use crate::run::{Images, Run};
 use crate::text::{is_one_of, random_bytes};
 use mount::make;
 use station::Sim;
-use std::alloc::Global;
+use std::alloc::{AllocError, Global};
 use tool::{LineError, read_line};
 
 /// A row under way.
@@ -107,19 +107,13 @@ impl<'a> Bench<'a> {
         let [Some(blocks), Some(inodes), Some(half)] = self.choices.numbers(words) else {
             return Ok(false);
         };
-        let disk = vec![in self.alloc; 0xaa; 4096_usize.saturating_mul(blocks as usize)]?;
-        let nvram = vec![in self.alloc; 0x55; 2_usize.saturating_mul(half as usize)]?;
-        let Ok(sim) = Sim::load(self.alloc, disk, nvram) else {
+        let Some(sim) = used_station(self.alloc, blocks, half)? else {
             return Ok(false);
         };
-        let Ok(sim) = make(self.alloc, sim, blocks, inodes, half) else {
+        let Some(sim) = made(self.alloc, sim, blocks, inodes, half) else {
             return Ok(false);
         };
-        let (disk, nvram) = sim.images();
-        self.images = Images {
-            disk: Vec::from_slice(self.alloc, disk)?,
-            nvram: Vec::from_slice(self.alloc, nvram)?,
-        };
+        self.images = Images::of(self.alloc, &sim)?;
         Ok(true)
     }
 
@@ -133,6 +127,21 @@ impl<'a> Bench<'a> {
             nvram: random_bytes(self.alloc, seed, nvram)?,
         };
         Ok(true)
+    }
+}
+
+/// A station of these sizes that held other bytes before. None where no station has them.
+fn used_station(alloc: Global, blocks: u32, half: u32) -> Result<Option<Sim>, AllocError> {
+    let disk = vec![in alloc; 0xaa; 4096_usize.saturating_mul(blocks as usize)]?;
+    let nvram = vec![in alloc; 0x55; 2_usize.saturating_mul(half as usize)]?;
+    Ok(Sim::load(alloc, disk, nvram).ok())
+}
+
+/// The station with a new image. None where none is made.
+fn made(alloc: Global, sim: Sim, blocks: u32, inodes: u32, half: u32) -> Option<Sim> {
+    match make(alloc, sim, blocks, inodes, half) {
+        Ok(sim) => Some(sim),
+        Err(_) => None,
     }
 }
 

@@ -1,6 +1,7 @@
 //! Why a row doesn't hold.
 
 use std::alloc::{AllocError, AllocFailed, Global};
+use std::io;
 use thiserror::Error;
 
 /// Why a row doesn't hold.
@@ -8,6 +9,8 @@ use thiserror::Error;
 pub enum Fault {
     #[error("no memory")]
     NoMemory,
+    #[error("the output can't be written")]
+    NotWritten,
     /// A line of the row isn't understood, or what came differs from what it says.
     #[error("{0}")]
     Told(String),
@@ -49,5 +52,11 @@ impl From<AllocError> for Fault {
 impl<T: Drop> From<AllocFailed<T>> for Fault {
     fn from(_error: AllocFailed<T>) -> Fault {
         Fault::NoMemory
+    }
+}
+
+impl From<io::Error> for Fault {
+    fn from(_error: io::Error) -> Fault {
+        Fault::NotWritten
     }
 }

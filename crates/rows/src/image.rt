@@ -138,7 +138,7 @@ fn part(image: &Vec<u8>, at: u32, count: u32) -> Option<&[u8]> {
 }
 
 /// Puts bytes in the place of others. False where the image ends before.
-fn put(image: &mut Vec<u8>, at: u32, bytes: &[u8]) -> bool {
+pub fn put(image: &mut Vec<u8>, at: u32, bytes: &[u8]) -> bool {
     let start = at as usize;
     let Some(end) = start.checked_add(bytes.len()) else {
         return false;

@@ -32,7 +32,7 @@ fn main(rt: HostRuntime) -> ExitCode {
 }
 
 /// Checks the files that the program's words name. Whether all their rows hold.
-fn check_all(rt: &HostRuntime) -> anyhow::Result<bool> {
+fn check_all(rt: &HostRuntime) -> io::Result<bool> {
     let mut all_hold = true;
     for name in env::args(rt)?.skip(1) {
         let text = fs::read_to_string(rt, name.as_str())?;
@@ -42,14 +42,14 @@ fn check_all(rt: &HostRuntime) -> anyhow::Result<bool> {
 }
 
 /// Checks a file's text, as its name says. Whether all its rows hold.
-fn check_file(rt: &HostRuntime, name: &str, text: &str) -> anyhow::Result<bool> {
+fn check_file(rt: &HostRuntime, name: &str, text: &str) -> io::Result<bool> {
     if name.ends_with(".groups") {
         return check_groups(rt, text);
     }
     if name.ends_with(".tables") {
-        return Ok(check_tables(rt, text)?);
+        return check_tables(rt, text);
     }
-    Ok(check_rows(rt, name, text)?)
+    check_rows(rt, name, text)
 }
 
 /// Checks the rows of a file's text and prints each that fails, and then how many there are.

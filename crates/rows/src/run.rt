@@ -41,6 +41,26 @@ pub struct Images {
     pub nvram: Vec<u8>,
 }
 
+/// What a run gave.
+#[derive(Drop)]
+struct Outcome {
+    status: u8,
+    out: Vec<u8>,
+    err: Vec<u8>,
+    images: Images,
+}
+
+impl Images {
+    /// What reads of a station give.
+    pub fn of(alloc: Global, sim: &Sim) -> Result<Images, AllocError> {
+        let (disk, nvram) = sim.images();
+        Ok(Images {
+            disk: Vec::from_slice(alloc, disk)?,
+            nvram: Vec::from_slice(alloc, nvram)?,
+        })
+    }
+}
+
 impl<'a> Run<'a> {
     /// A run by the words behind `run`: none, or some of `cut=N`, `keep=none|all|BITS`, `bytes=K`, `fail=N`, `fail-sync=N`.
     pub fn new(alloc: Global, words: &'a str, choices: &mut Choices) -> Result<Run<'a>, Fault> {
@@ -106,29 +126,45 @@ impl<'a> Run<'a> {
 
     /// Runs it on these images, compares what it gives, and leaves the images that it left.
     pub fn finish(&self, alloc: Global, images: &mut Images) -> Result<(), Fault> {
+        let outcome = self.outcome(alloc, images)?;
+        self.compare(alloc, &outcome, images)?;
+        *images = outcome.images;
+        Ok(())
+    }
+
+    /// What it gives on these images.
+    fn outcome(&self, alloc: Global, images: &Images) -> Result<Outcome, Fault> {
         let mut out = Vec::new(alloc);
         let mut err = Vec::new(alloc);
+        let station = self.plan.station(alloc, images)?;
         let (status, sim) = session(
             alloc,
-            self.plan.station(alloc, images)?,
+            station,
             &self.script,
             |sim: &Sim| sim.is_cut(),
             &mut out,
             &mut err,
         );
-        let is_refused = status == 4 || status == 5;
-        self.compare_status(alloc, status)?;
-        self.compare_replies(alloc, &out, is_refused)?;
-        self.compare_fault(alloc, &err, is_refused)?;
-        let (disk, nvram) = sim.images();
-        let is_same = disk == images.disk.as_slice() && nvram == images.nvram.as_slice();
+        let images = Images::of(alloc, &sim)?;
+        Ok(Outcome {
+            status,
+            out,
+            err,
+            images,
+        })
+    }
+
+    /// Compares what it gave on some images with what is expected.
+    fn compare(&self, alloc: Global, outcome: &Outcome, before: &Images) -> Result<(), Fault> {
+        let is_refused = outcome.status == 4 || outcome.status == 5;
+        self.compare_status(alloc, outcome.status)?;
+        self.compare_replies(alloc, &outcome.out, is_refused)?;
+        self.compare_fault(alloc, &outcome.err, is_refused)?;
+        let is_same = outcome.images.disk.as_slice() == before.disk.as_slice()
+            && outcome.images.nvram.as_slice() == before.nvram.as_slice();
         if !is_same && (self.is_unchanged || is_refused) {
             return Err(Fault::differs(alloc, "images", b"others", "the same"));
         }
-        *images = Images {
-            disk: Vec::from_slice(alloc, disk)?,
-            nvram: Vec::from_slice(alloc, nvram)?,
-        };
         Ok(())
     }
 

@@ -4,7 +4,7 @@ mod SettledLaws
 mod OpenLaws
 mod LoggedLaws
 mod ServingLaws
-mod MakingLaws
+mod HandlingLaws
 mod ChangingLaws
 mod RoomLaws
 mod CoveredLaws

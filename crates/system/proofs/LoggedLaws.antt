@@ -1,6 +1,6 @@
 -- A system whose log gets a record more.
 use Rattle.std.proofs.Common.{◌≡◌, ◌⊎◌, inl, inr, ℕ, ◌+◌, ◌*◌, ◌≤◌, List, [], ◌∷◌, ◌++◌, Option, refl, ap, sym, subst, ◌∙◌, append_assoc}
-use Rattle.std.specs.Prelude.{IsFalse, IsSome, map}
+use Rattle.std.specs.Prelude.{IsFalse, map}
 use Rattle.std.proofs.lemmas.List.{map-append}
 use Rattle.std.proofs.lemmas.List.Elements.{All-push}
 use Rattle.std.specs.BTreeMap.{BTreeMap}
@@ -15,7 +15,7 @@ use Rattle.model.specs.Records.{Applies, Extends, Replays, applied, work_of}
 use Rattle.model.specs.Room.{cost}
 use Rattle.model.specs.States.{State}
 use Rattle.model.specs.Trees.{Description}
-use Rattle.model.specs.Volumes.{Node, Volume, IsVolume}
+use Rattle.model.specs.Volumes.{Volume, IsVolume, swept}
 use Rattle.buffers.specs.Disks.{IsBlock, ShowsDisk}
 use Rattle.buffers.specs.declared.block.Block.{Block}
 use Rattle.blockmap.specs.declared.map.BlockMap.{BlockMap}
@@ -48,16 +48,14 @@ module _ (laws : CutLaws) (records : RecordLaws) (m : Meaning) (kept : BTreeMap 
       ∙ ap (λ (l : List (List ℕ)). l ++ change_bytes change ∷ []) serves.replayed.spelled
       ∙ sym (map-append change_bytes serves.replayed.changes (change ∷ []))
 
-  extends : Extends (applied change serves.running) (applied change serves.replayed.last)
-  extends =
-      let e = (records.follow root.geometry.inodes serves.running serves.replayed.last table change serves.replayed.extends advances.applies).1 in
-      let swept = advances.mounted.is_swept in
-      record {
-        kept = λ n some. e.kept n (subst (λ (o : Option Node). IsSome o) (sym (swept n)) some) ∙ swept n;
-        rest = λ n none. e.rest n (swept n ∙ none);
-      }
+  -- the volume that the record leads to
+  abbrev pub volume_after : Volume
+  volume_after = swept table (applied change serves.running)
 
-  abbrev replayed : IsReplayed root.geometry.inodes (with_body serves.bodies (change_bytes change)) serves.first (applied change serves.running)
+  extends : Extends volume_after (applied change serves.replayed.last)
+  extends = (records.follow root.geometry.inodes serves.running serves.replayed.last table change serves.replayed.extends advances.applies).1
+
+  abbrev replayed : IsReplayed root.geometry.inodes (with_body serves.bodies (change_bytes change)) serves.first volume_after
   replayed = record {
     changes = serves.replayed.changes ++ change ∷ [];
     are = All-push IsChange serves.replayed.changes change serves.replayed.are advances.is;
@@ -69,12 +67,13 @@ module _ (laws : CutLaws) (records : RecordLaws) (m : Meaning) (kept : BTreeMap 
     extends = extends;
   }
 
-  volume : IsVolume root.geometry.inodes (applied change serves.running)
-  volume = records.volumes root.geometry.inodes serves.running change serves.memory.volume advances.applies
+  volume : IsVolume root.geometry.inodes volume_after
+  volume = records.sweeps root.geometry.inodes (applied change serves.running) table
+      (records.volumes root.geometry.inodes serves.running change serves.memory.volume advances.applies)
 
   -- the state that the record leads to
   abbrev pub state_after : State
-  state_after = state_with root.geometry.inodes (applied change serves.running) table serves.snapshots
+  state_after = state_with root.geometry.inodes volume_after table serves.snapshots
 
   -- the log before it
   pub log_stands : LogStands m log root.generation serves.bodies
@@ -91,7 +90,7 @@ module _ (laws : CutLaws) (records : RecordLaws) (m : Meaning) (kept : BTreeMap 
         weaker m now (KeepsDisk m (WithOrWithout log.half root.generation serves.bodies (change_bytes change))) (λ c. OpensTo m s c ⊎ OpensTo m state_after c) leaves (λ c keeps. elim keeps.3 [
           | inl without ↦ inl (same_open laws m m.seen.disk root slot serves.first serves.snapshots serves.under size serves.bodies serves.running serves.memory.volume serves.replayed table s serves.state
               c (same_disk c keeps.0 keeps.1 keeps.2) (subst (λ (h : ℕ). LogHolds h root.generation c.nvram (all_of serves.bodies)) half without))
-          | inr with_it ↦ inr (same_open laws m m.seen.disk root slot serves.first serves.snapshots serves.under size (with_body serves.bodies (change_bytes change)) (applied change serves.running) volume replayed
+          | inr with_it ↦ inr (same_open laws m m.seen.disk root slot serves.first serves.snapshots serves.under size (with_body serves.bodies (change_bytes change)) volume_after volume replayed
               table state_after refl c (same_disk c keeps.0 keeps.1 keeps.2) (subst (λ (h : ℕ). LogHolds h root.generation c.nvram (all_of (with_body serves.bodies (change_bytes change)))) half with_it))
         ])
 
@@ -99,7 +98,7 @@ module _ (laws : CutLaws) (records : RecordLaws) (m : Meaning) (kept : BTreeMap 
   pub logged : (now : Meaning) (now_log : LogEnd) → ((disk : ℕ → Sector) → ReadsDisk m disk → ReadsDisk now disk) → IsSameStation m now
       → EachCut now (KeepsDisk m (StandsAt now_log root.generation (with_body serves.bodies (change_bytes change)))) → IsFalse now_log.is_stopped
       → (k : ℕ) → ((v : Volume) → k ≡ cost (work_of v change)) → (now_inodes : InodeFile)
-      → IsVolumeOf root.geometry.blocks (blocks_of m.seen.disk) (inodes_of (whole (blocks_of m.seen.disk) root).active) now_inodes (applied change serves.running)
+      → IsVolumeOf root.geometry.blocks (blocks_of m.seen.disk) (inodes_of (whole (blocks_of m.seen.disk) root).active) now_inodes volume_after
       → IsServing now kept root slot now_inodes map_now now_log (pledged + k) table state_after
   logged now now_log disks same appended goes k costs_it now_inodes stands =
       let there = disks m.seen.disk (serves.honest, refl) in
@@ -119,12 +118,12 @@ module _ (laws : CutLaws) (records : RecordLaws) (m : Meaning) (kept : BTreeMap 
             let keeps = appended honest c left in
             subst (λ (d : ℕ → Sector). IsLeft root now_log (with_body serves.bodies (change_bytes change)) d c) disk
             (record { same = same_disk c keeps.0 keeps.1 keeps.2; log_stands = keeps.3 });
-        running = applied change serves.running;
+        running = volume_after;
         mounted = advances.mounted;
         replayed = replayed;
         pledges = one_pledged root.geometry.inodes serves.first serves.replayed.changes change pledged k costs_it serves.pledges;
         closed = serves.closed;
-        memory = subst (λ (d : ℕ → Sector). IsInMemory (blocks_of d) root now_inodes map_now (applied change serves.running)) disk
+        memory = subst (λ (d : ℕ → Sector). IsInMemory (blocks_of d) root now_inodes map_now volume_after) disk
             (record { stands = stands; volume = volume; entries = serves.memory.entries });
         goes = goes;
         state = refl;

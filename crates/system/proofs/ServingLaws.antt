@@ -20,7 +20,7 @@ use Rattle.model.specs.declared.command.PathCall.{PathCall}
 use Rattle.model.specs.declared.errno.Errno.{Errno}
 use Rattle.model.specs.declared.errno.Errno.TheVariants.{EIO}
 use Rattle.model.specs.declared.reply.Reply.{Reply}
-use Rattle.model.specs.declared.reply.Reply.TheVariants.{Refused}
+use Rattle.model.specs.declared.reply.Reply.TheVariants.{Done, Refused}
 use Rattle.calls.specs.Refusals.{is_path_refusal}
 use Rattle.buffers.specs.Disks.{ShowsDisk, ReadsOn}
 use Rattle.buffers.specs.declared.block.Block.{Block}
@@ -125,6 +125,9 @@ own_refusal {T} r errno is own same =
   where
     not_true : IsTrue false → ⊥
     not_true is = cc
+
+pub done_is_no_fault : TellsNoFault Done
+done_is_no_fault is = cc
 
 module _ {S : Type 0} {G : Ghosts S} (old new : System S G) (call : PathCall) (reads : ReadsOn (meaning_of old) (meaning_of new))
     (log : new.log ≡ old.log) (stays : (s : State) → ServesState old s → ServesState new s) where

@@ -8,7 +8,7 @@ use Rattle.layout.specs.Record.{Change}
 use Rattle.layout.specs.Root.{IsRoot, root_bytes}
 use Rattle.layout.specs.declared.TheConstants.{SLOT_A, SLOT_B}
 use Rattle.layout.specs.declared.root.Root.{Root}
-use Rattle.model.specs.Laws.{MountsForget, RecordsKeepVolumes, ReplayEndsSame, ReplayFollows}
+use Rattle.model.specs.Laws.{MountsForget, RecordsKeepVolumes, ReplayEndsSame, ReplayFollows, SweepsKeepVolumes}
 use Rattle.model.specs.Paths.{Name}
 use Rattle.model.specs.Records.{Replays, without_nameless}
 use Rattle.model.specs.States.{State}
@@ -84,3 +84,4 @@ pub record RootLaws : Type 0 where
 pub record RecordLaws : Type 0 where
   pub follow : ReplayFollows
   pub volumes : RecordsKeepVolumes
+  pub sweeps : SweepsKeepVolumes

@@ -11,3 +11,4 @@ pub mod Opening
 pub mod Logging
 pub mod Serving
 pub mod Room
+pub mod Changing

@@ -6,7 +6,7 @@ use Rattle.layout.specs.Record.{IsChange}
 use Rattle.model.specs.Records.{Change, Applies, applied}
 use Rattle.model.specs.States.{State}
 use Rattle.model.specs.Trees.{Description}
-use Rattle.model.specs.Volumes.{Volume, IsMounted}
+use Rattle.model.specs.Volumes.{Volume, IsMounted, swept}
 use Rattle.calls.specs.Prepared.{Does}
 use Rattle.calls.specs.declared.prepared.Prepared.{Prepared}
 use Rattle.inofile.specs.Volumes.{IsVolumeOf}
@@ -17,13 +17,14 @@ use Rattle.calls.specs.Served.{IsServed}
 use Rattle.system.specs.Systems.{IsServing, meaning_of}
 use Rattle.system.specs.declared.system.System.{System}
 
--- a record that this version does applies to a volume of so many inodes, and leads to one that these descriptors fit
+-- a record that this version does applies to a volume of so many inodes, and leads to one that these descriptors fit once the
+-- files are dropped that it leaves with neither name nor descriptor
 pub record Advances (inodes : ℕ) (running : Volume) (table : ℕ → Option Description)
     (change : Change) : Type 0 where
   pub is : IsChange change
   pub served : IsServed change
   pub applies : Applies inodes running change
-  pub mounted : IsMounted (applied change running) table
+  pub mounted : IsMounted (swept table (applied change running)) table
 
 -- once memory stands for a volume, over the disk that a system read, the system serves a state
 abbrev pub WouldServe : {S : Type 0} {G : Ghosts S} → System S G → System S G → Volume

@@ -1,31 +1,88 @@
-//! Calls by paths that change an object.
+//! What calls by paths are to change.
 
-ghost use Rattle.model.specs.declared.command.PathCall.TheVariants as path_calls;
-ghost use Rattle.system.specs.Serving.{Handles};
+ghost use Rattle.std.specs.Prelude.{◌≡◌, IfErr, IfOk, IsFalse, IsTrue};
+ghost use Rattle.model.specs.Served.{IsServed};
+ghost use Rattle.model.specs.Steps.{is_reading_call};
+ghost use Rattle.model.specs.declared.command.Command.TheVariants as commands;
+ghost use Rattle.blocktree.specs.Errors.{IsFault};
+ghost use Rattle.calls.specs.Changing.{AllDo, AllReady, AnyDo, AnyReady};
+ghost use Rattle.calls.specs.Refusals.{is_path_refusal};
+ghost use Rattle.calls.specs.Shown.{NeverDamaged, OnMounted};
+ghost use Rattle.calls.specs.Standing.{Looks};
+ghost use Rattle.system.specs.Changing.{CallComes, RecordComes, is_rename};
 
-use crate::laws::served_states_open;
-use crate::serving::{call_error, log_error};
-use crate::{CallError, System};
+use blocktree::ReadError;
+use buffers::Blocks;
 use calls::Changing;
-use model::{Mode, Reply};
-use station::Station;
+use inofile::InodeFile;
+use model::{Errno, PathCall};
+use std::alloc::Global;
 
-impl<S: Station> System<S> {
-    // Gives this mode to the file or directory that a path leads to.
-    pub(crate) fn change_mode(&mut self, path: &[u8], mode: Mode) -> Result<Reply, CallError>
-        ensures { Handles self.old self.new (path_calls.Chmod path.now mode) result }
-    {
-        served_states_open(self);
-        match calls::change_mode(self.alloc, &mut self.inodes, &mut self.blocks, path, mode) {
-            Ok(Ok(changing)) => {
-                let Changing { change, prepared } = changing;
-                match self.log(&change.record(), prepared) {
-                    Ok(()) => Ok(Reply::Done),
-                    Err(error) => Err(log_error(error)),
-                }
-            }
-            Ok(Err(errno)) => Ok(Reply::Refused(errno)),
-            Err(error) => Err(call_error(error)),
+/// What a call is to change on the image in memory, as far as nothing of it is seen yet: prepares its record, or tells why the call
+/// is refused; None where it is answered and changes nothing. NoMemory; Device where a read failed; Damaged where a block on the
+/// way is outside its format.
+pub(crate) fn prepare<B: Blocks>(
+    alloc: Global,
+    inodes: &mut InodeFile,
+    blocks: &mut B,
+    call: &PathCall,
+) -> Result<Result<Option<Changing>, Errno>, ReadError>
+    requires served { IsServed (commands.Path call.now) }
+    requires changes { IsFalse (is_reading_call call.now) }
+    ensures looks { Looks B.Blocks IsFault blocks.old blocks.new inodes.old inodes.new result }
+    ensures own { IfOk result (λ r. IfErr r (λ e. IsTrue (is_path_refusal e))) }
+    ensures ready { AnyReady inodes.new result }
+    ensures does { AnyDo B.Blocks blocks.old inodes.old inodes.new result }
+    ensures answers { OnMounted B.Blocks blocks.old inodes.old (λ v table. IfOk result
+        (CallComes inodes.old.geometry.inodes call.now v table)) }
+    ensures damaged { NeverDamaged B.Blocks blocks.old inodes.old result }
+{
+    match call {
+        PathCall::Rename { old, new } => {
+            calls::rename(alloc, inodes, blocks, old.as_bytes(), new.as_bytes())
         }
+        _ => match prepare_record(alloc, inodes, blocks, call)? {
+            Ok(changing) => Ok(Ok(Some(changing))),
+            Err(errno) => Ok(Err(errno)),
+        },
+    }
+}
+
+// The same of a call that has a record where it isn't refused.
+fn prepare_record<B: Blocks>(
+    alloc: Global,
+    inodes: &mut InodeFile,
+    blocks: &mut B,
+    call: &PathCall,
+) -> Result<Result<Changing, Errno>, ReadError>
+    requires served { IsServed (commands.Path call.now) }
+    requires changes { IsFalse (is_reading_call call.now) }
+    requires other { IsFalse (is_rename call.now) }
+    ensures looks { Looks B.Blocks IsFault blocks.old blocks.new inodes.old inodes.new result }
+    ensures own { IfOk result (λ r. IfErr r (λ e. IsTrue (is_path_refusal e))) }
+    ensures ready { AllReady inodes.new result }
+    ensures does { AllDo B.Blocks blocks.old inodes.old inodes.new result }
+    ensures answers { OnMounted B.Blocks blocks.old inodes.old (λ v table. IfOk result
+        (RecordComes inodes.old.geometry.inodes call.now v table)) }
+    ensures damaged { NeverDamaged B.Blocks blocks.old inodes.old result }
+{
+    match call {
+        PathCall::Mkdir { path, mode } => {
+            calls::make_directory(alloc, inodes, blocks, path.as_bytes(), *mode)
+        }
+        PathCall::Symlink { text, path } => {
+            calls::symlink(alloc, inodes, blocks, text.as_bytes(), path.as_bytes())
+        }
+        PathCall::Link { old, new } => {
+            calls::link(alloc, inodes, blocks, old.as_bytes(), new.as_bytes())
+        }
+        PathCall::Unlink { path } => calls::unlink(alloc, inodes, blocks, path.as_bytes()),
+        PathCall::Rmdir { path } => {
+            calls::remove_directory(alloc, inodes, blocks, path.as_bytes())
+        }
+        PathCall::Chmod { path, mode } => {
+            calls::change_mode(alloc, inodes, blocks, path.as_bytes(), *mode)
+        }
+        _ => unreachable!(),
     }
 }

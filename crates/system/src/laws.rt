@@ -17,7 +17,10 @@ use images::{
     free_blocks_are_unneeded, needed_blocks_are_of_the_disk, roots_cover_epochs,
 };
 use loading::{readable_inodes_are_settled, volumes_are_readable};
-use model::{mounts_forget_open_files, records_keep_volumes, replays_end_same, replays_follow};
+use model::{
+    mounts_forget_open_files, records_keep_volumes, replays_end_same, replays_follow,
+    sweeps_keep_volumes,
+};
 use station::Station;
 
 /// Whatever a cut may leave of a system opens to the state that it serves. It does nothing.
@@ -59,4 +62,5 @@ pub(crate) fn records_lead_on()
 {
     replays_follow();
     records_keep_volumes();
+    sweeps_keep_volumes();
 }

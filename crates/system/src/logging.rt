@@ -7,6 +7,7 @@ ghost use Rattle.layout.specs.Record.{KeepsLimits, change_of};
 ghost use Rattle.model.specs.Records.{applied};
 ghost use Rattle.model.specs.States.{State};
 ghost use Rattle.model.specs.Trees.{Description};
+ghost use Rattle.model.specs.Volumes.{swept};
 ghost use Rattle.oplog.specs.LogEnd.{HasRoom, behind, body_of};
 ghost use Rattle.system.specs.Images.{OpensTo};
 ghost use Rattle.calls.specs.Prepared.{IsReady};
@@ -16,7 +17,7 @@ ghost use Rattle.system.specs.Systems.{Serves, meaning_of, state_with};
 
 use crate::System;
 use crate::laws::{cuts_open, records_lead_on, served_states_open};
-use calls::{Prepared, commit};
+use calls::{Prepared, commit_swept};
 use layout::Record;
 use oplog::AppendError;
 use replay::cost_of;
@@ -50,14 +51,14 @@ impl<S: Station> System<S> {
             → LeavesOnly (meaning_of self.old) (meaning_of self.new)
             (λ c. OpensTo (meaning_of self.old) s c ⊎ OpensTo (meaning_of self.old)
             (state_with self.old.root.geometry.inodes
-            (applied (change_of change.now) serves.running) table serves.snapshots) c) }
+            (swept table (applied (change_of change.now) serves.running)) table serves.snapshots) c) }
         ensures logged { (table : ℕ → Option Description) (s : State)
             → (serves : Serves self.old table s)
             → Advances self.old.root.geometry.inodes serves.running table (change_of change.now)
             → OnOk result (WouldServe self.old self.new
-            (applied (change_of change.now) serves.running) table
+            (swept table (applied (change_of change.now) serves.running)) table
             (state_with self.old.root.geometry.inodes
-            (applied (change_of change.now) serves.running) table serves.snapshots)) }
+            (swept table (applied (change_of change.now) serves.running)) table serves.snapshots)) }
     {
         cuts_open();
         records_lead_on();
@@ -100,20 +101,20 @@ impl<S: Station> System<S> {
             → Advances self.old.root.geometry.inodes serves.running table (change_of change.now)
             → LeavesEither (meaning_of self.old) (meaning_of self.new) s
             (state_with self.old.root.geometry.inodes
-            (applied (change_of change.now) serves.running) table serves.snapshots) }
+            (swept table (applied (change_of change.now) serves.running)) table serves.snapshots) }
         ensures done { (table : ℕ → Option Description) (s : State)
             → (serves : Serves self.old table s)
             → Advances self.old.root.geometry.inodes serves.running table (change_of change.now)
             → DoesOver self.old serves.running prepared (change_of change.now)
             → OnOk result (Serves self.new table (state_with self.old.root.geometry.inodes
-            (applied (change_of change.now) serves.running) table serves.snapshots)) }
+            (swept table (applied (change_of change.now) serves.running)) table serves.snapshots)) }
     {
         served_states_open(self);
         if self.log.epoch() != self.root.generation.epoch_after(1) {
             return Err(AppendError::LogFull);
         }
         self.log_record(change)?;
-        commit(&mut self.inodes, prepared);
+        commit_swept(&mut self.inodes, prepared);
         Ok(())
     }
 }

@@ -8,17 +8,17 @@ ghost use Rattle.model.specs.Served.{IsServed};
 ghost use Rattle.model.specs.States.{State};
 ghost use Rattle.model.specs.Steps.{is_reading_call};
 ghost use Rattle.model.specs.declared.command.Command.TheVariants as commands;
-ghost use Rattle.model.specs.declared.command.PathCall.TheVariants as path_calls;
 ghost use Rattle.system.specs.Errors.{call_error, log_error};
 ghost use Rattle.system.specs.Serving.{Handles, HasEmptyLog, IsBrokenOff, IsCalled, ServesState, TellsNoFault, WouldChange};
 ghost use Rattle.system.specs.Systems.{meaning_of};
 
+use crate::changing::prepare;
 use crate::laws::served_states_open;
 use crate::reading::read;
 use crate::{CallError, System};
 use blocktree::ReadError;
-use calls::Making;
-use model::{Mode, PathCall, Reply};
+use calls::Changing;
+use model::{PathCall, Reply};
 use oplog::AppendError;
 use station::Station;
 
@@ -45,8 +45,8 @@ pub(crate) fn log_error(error: AppendError) -> CallError
 }
 
 impl<S: Station> System<S> {
-    /// Serves a call by a path: answers it where it changes nothing, or else logs its record and puts it in force; so far
-    /// the calls that only read, `mkdir` and `chmod`. `LogFull` only for a call that would change something, where a consistency
+    /// Serves a call by a path: answers it where it changes nothing, or else logs its record and puts it in force; all
+    /// calls but `truncate`. `LogFull` only for a call that would change something, where a consistency
     /// point has to come first. After an error nothing has changed, but for `NotWritten`: then a cut leaves the state before the
     /// call or the one after it.
     pub fn call(&mut self, call: &PathCall) -> Result<Reply, CallError>
@@ -98,9 +98,7 @@ impl<S: Station> System<S> {
             PathCall::Lstat { .. } => self.look(call),
             PathCall::Readlink { .. } => self.look(call),
             PathCall::Get { .. } => self.look(call),
-            PathCall::Mkdir { path, mode } => self.make_directory(path.as_bytes(), *mode),
-            PathCall::Chmod { path, mode } => self.change_mode(path.as_bytes(), *mode),
-            _ => unreachable!(),
+            _ => self.change(call),
         }
     }
 
@@ -116,19 +114,22 @@ impl<S: Station> System<S> {
         }
     }
 
-    // Makes a directory of this mode.
-    fn make_directory(&mut self, path: &[u8], mode: Mode) -> Result<Reply, CallError>
-        ensures { Handles self.old self.new (path_calls.Mkdir path.now mode) result }
+    // Logs the record of a call that changes something, and puts it in force.
+    fn change(&mut self, call: &PathCall) -> Result<Reply, CallError>
+        requires served { IsServed (commands.Path call.now) }
+        requires changes { IsFalse (is_reading_call call.now) }
+        ensures { Handles self.old self.new call.now result }
     {
         served_states_open(self);
-        match calls::make_directory(self.alloc, &mut self.inodes, &mut self.blocks, path, mode) {
-            Ok(Ok(making)) => {
-                let Making { creation, prepared } = making;
-                match self.log(&creation.record(), prepared) {
+        match prepare(self.alloc, &mut self.inodes, &mut self.blocks, call) {
+            Ok(Ok(Some(changing))) => {
+                let Changing { change, prepared } = changing;
+                match self.log(&change.record(), prepared) {
                     Ok(()) => Ok(Reply::Done),
                     Err(error) => Err(log_error(error)),
                 }
             }
+            Ok(Ok(None)) => Ok(Reply::Done),
             Ok(Err(errno)) => Ok(Reply::Refused(errno)),
             Err(error) => Err(call_error(error)),
         }

@@ -13,7 +13,7 @@ use file_station::{FileStation, OpenFiles, SizeError};
 use layout::Geometry;
 use mount::{MakeError, make};
 use replacement::{Replacement, is_one_file};
-use station::{LoadError, Sim};
+use station::{LoadError, Sim, Station};
 use std::alloc::{AllocError, Global};
 use std::fs::{OpenFile, OpenOptions};
 use std::io::{Read, Seek, Write};
@@ -162,7 +162,21 @@ pub fn load_station<'a, R: Files + AllocGlobal>(
     let (disk_file, nvram_file) = open_both(rt, disk, nvram)?;
     let disk_bytes = read_to_end(rt.alloc(), disk, disk_file)?;
     let nvram_bytes = read_to_end(rt.alloc(), nvram, nvram_file)?;
-    match Sim::load(rt.alloc(), disk_bytes, nvram_bytes) {
+    load_bytes(rt.alloc(), disk, nvram, disk_bytes, nvram_bytes)
+}
+
+/// A station in memory with these bytes of two files.
+fn load_bytes<'a>(
+    alloc: Global,
+    disk: &'a str,
+    nvram: &'a str,
+    disk_bytes: Vec<u8>,
+    nvram_bytes: Vec<u8>,
+) -> Result<Sim, FileError<'a>>
+    ensures power { IfOk result (λ sim. was_cut sim ≡ false) }
+    ensures plan { IfOk result (λ sim. plan_of sim ≡ no_plan) }
+{
+    match Sim::load(alloc, disk_bytes, nvram_bytes) {
         Ok(sim) => Ok(sim),
         Err(error) => Err(FileError::Load { disk, nvram, error }),
     }
@@ -227,6 +241,18 @@ fn make_on<'a, F: Read + Write + Seek + OpenFile + Drop>(
         Ok(station) => station,
         Err(error) => return Err(FileError::Size { disk, nvram, error }),
     };
+    match make_sized(alloc, station, geometry) {
+        Ok(mut station) => on(disk, station.sync_both()),
+        Err(error) => Err(FileError::Make(error)),
+    }
+}
+
+/// Makes an empty image of these sizes on a station, which is let go where that fails.
+fn make_sized<S: Station + Drop>(
+    alloc: Global,
+    station: S,
+    geometry: Geometry,
+) -> Result<S, MakeError> {
     match make(
         alloc,
         station,
@@ -234,8 +260,8 @@ fn make_on<'a, F: Read + Write + Seek + OpenFile + Drop>(
         geometry.inodes(),
         geometry.half(),
     ) {
-        Ok(mut station) => on(disk, station.sync_both()),
-        Err((error, _station)) => Err(FileError::Make(error)),
+        Ok(station) => Ok(station),
+        Err((error, _station)) => Err(error),
     }
 }
 

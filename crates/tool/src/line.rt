@@ -43,7 +43,7 @@ pub enum Line<'a> {
 }
 
 /// What is to go wrong in a run.
-#[derive(Clone, Copy, Debug, PartialEq, Eq)]
+#[derive(Clone, Copy, Debug)]
 pub struct RunFaults<'a> {
     /// The device write of this run, counted from 1, within which the power is cut.
     pub cut: Option<u32>,
@@ -55,7 +55,7 @@ pub struct RunFaults<'a> {
 }
 
 /// Which of the sector writes since the last sync a power cut keeps.
-#[derive(Clone, Copy, Debug, PartialEq, Eq)]
+#[derive(Clone, Copy, Debug)]
 pub enum Kept<'a> {
     /// `none`.
     Nothing,

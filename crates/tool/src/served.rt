@@ -17,8 +17,13 @@ pub fn is_served(command: &Command) -> bool
                 | PathCall::Lstat { .. }
                 | PathCall::Readlink { .. }
                 | PathCall::Get { .. }
-                | PathCall::Chmod { .. }
                 | PathCall::Mkdir { .. }
+                | PathCall::Rmdir { .. }
+                | PathCall::Unlink { .. }
+                | PathCall::Link { .. }
+                | PathCall::Symlink { .. }
+                | PathCall::Rename { .. }
+                | PathCall::Chmod { .. }
         ) | Command::Sync
             | Command::Df
     )

@@ -6,7 +6,7 @@ use super::format::{Format, holds};
 use std::alloc::{AllocError, Global};
 
 /// Why a line is no row, or no row that is right.
-#[derive(Clone, Copy, Debug)]
+#[derive(Clone, Copy)]
 pub enum RowError {
     NoMemory,
     /// The line isn't understood.
@@ -22,7 +22,7 @@ impl From<AllocError> for RowError {
 }
 
 /// A table, and how many of its rows were right.
-#[derive(Debug, Drop)]
+#[derive(Drop)]
 pub struct Table {
     pub format: Format,
     pub rows: u64,

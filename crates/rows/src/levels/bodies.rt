@@ -1,4 +1,4 @@
-//! Settled inodes, as rows write them.
+//! Settled inodes of files, as rows write them.
 
 ghost use Rattle.std.specs.Prelude.{◌≡◌, ◌≤◌};
 
@@ -6,7 +6,7 @@ use layout::{BODY_POINTERS, Body, INLINE_BYTES, Inode, Kind, Pointer};
 use model::Mode;
 
 /// An inode of so many bytes, with these pointers.
-pub fn pointer_inode(kind: Kind, size: u64, words: &str) -> Inode
+pub fn pointer_inode(size: u64, words: &str) -> Inode
     ensures { result.size ≡ size }
 {
     let mut pointers = [Pointer::Hole; BODY_POINTERS];
@@ -15,24 +15,24 @@ pub fn pointer_inode(kind: Kind, size: u64, words: &str) -> Inode
             pointers[i] = Pointer::from_number(word.parse::<u32>().unwrap_or(0));
         }
     }
-    inode(kind, size, Body::Pointers(pointers))
+    inode(size, Body::Pointers(pointers))
 }
 
 /// An inode with these bytes of its own, up to the 128 that it has room for.
-pub fn inline_inode(kind: Kind, text: &str) -> Inode
+pub fn inline_inode(text: &str) -> Inode
     ensures { result.size ≤ 128 }
 {
     let mut bytes = [0; INLINE_BYTES];
     let length = text.len().min(INLINE_BYTES);
     bytes[..length].copy_from_slice(&text.as_bytes()[..length]);
-    inode(kind, length as u64, Body::Inline(bytes))
+    inode(length as u64, Body::Inline(bytes))
 }
 
-fn inode(kind: Kind, size: u64, body: Body) -> Inode
+fn inode(size: u64, body: Body) -> Inode
     ensures { result.size ≡ size }
 {
     Inode {
-        kind,
+        kind: Kind::File,
         mode: Mode::new(0).unwrap(),
         links: 1,
         size,

@@ -1,14 +1,14 @@
 //! The disk that the rows read.
 
-use hex::FromHexError;
+use crate::fault::Fault;
 use layout::BLOCK_BYTES;
 use station::Sim;
-use std::alloc::Global;
+use std::alloc::{AllocError, Global};
 
 const BLOCKS: u8 = 64;
 
 /// A disk of zeros up to block 7; block b from there on is full of the letter with the code 65 + b % 26.
-pub fn made_disk(alloc: Global) -> anyhow::Result<Vec<u8>> {
+pub fn made_disk(alloc: Global) -> Result<Vec<u8>, AllocError> {
     let mut disk = Vec::new(alloc);
     for block in 0..BLOCKS {
         let letter = if block < 8 { 0 } else { 65 + block % 26 };
@@ -18,6 +18,9 @@ pub fn made_disk(alloc: Global) -> anyhow::Result<Vec<u8>> {
 }
 
 /// A station with this disk.
-pub fn station_of(alloc: Global, disk: &[u8]) -> anyhow::Result<Sim> {
-    Ok(Sim::load(alloc, Vec::from_slice(alloc, disk)?, Vec::new(alloc))?)
+pub fn station_of(alloc: Global, disk: &[u8]) -> Result<Sim, Fault> {
+    match Sim::load(alloc, Vec::from_slice(alloc, disk)?, Vec::new(alloc)) {
+        Ok(sim) => Ok(sim),
+        Err(_) => Err(Fault::misread(alloc, "no station has these sizes")),
+    }
 }

@@ -9,7 +9,7 @@
 use super::bodies::{inline_inode, pointer_inode};
 use buffers::Buffers;
 use inode::File;
-use layout::{Kind, VERSION, greatest_size};
+use layout::{VERSION, greatest_size};
 use station::Sim;
 use std::alloc::{AllocError, Global};
 
@@ -40,11 +40,11 @@ pub fn file_row(
             Err(error) => format!(in alloc; "{error}"),
         },
         "inline" => {
-            *file = File::load(alloc, inline_inode(Kind::File, rest))?;
+            *file = File::load(alloc, inline_inode(rest))?;
             size_of(alloc, file)
         }
         "pointers" if number <= greatest_size(VERSION) => {
-            *file = File::load(alloc, pointer_inode(Kind::File, number, text))?;
+            *file = File::load(alloc, pointer_inode(number, text))?;
             size_of(alloc, file)
         }
         _ => format!(in alloc; "no row"),

@@ -1,46 +1,31 @@
 -- What a call comes to that a record is logged for, once objects came into memory.
-use Rattle.std.proofs.Common.{◌≡◌, ◌≢◌, ◌⊎◌, inl, inr, ℕ, ◌+◌, ◌≤◌, List, length, Result, Ok, Err, refl, ap, sym, subst, ◌∙◌, arith}
-use Rattle.std.specs.Prelude.{All, IfOk, IsFalse, IsErrOf}
+use Rattle.std.proofs.Common.{◌≡◌, ◌≢◌, ◌⊎◌, inl, inr, ℕ, ◌+◌, ◌≤◌, length, Result, Ok, Err, refl, ap, sym, subst, ◌∙◌, arith}
+use Rattle.std.specs.Prelude.{All, IsFalse, IsErrOf}
 use Rattle.station.specs.Calls.{OnlyWrites, Uses}
 use Rattle.station.specs.Images.{Images}
 use Rattle.station.specs.Moments.{Meaning, EachCut, HasGrown}
 use Rattle.station.specs.declared.station.Station.{Ghosts}
 use Rattle.station.proofs.Moments.{joined, leaves_unchanged, may_grow_twice, same_twice, weaker}
-use Rattle.layout.specs.Places.{blocks_of}
-use Rattle.layout.specs.Record.{Change, IsChange}
-use Rattle.layout.specs.Limits.{Sizes}
+use Rattle.layout.specs.Record.{Change}
 use Rattle.layout.specs.declared.root.Root.{Root}
-use Rattle.model.specs.Changing.{makes_directory}
-use Rattle.model.specs.Records.{Applies, applied}
-use Rattle.model.specs.Room.{Work, nothing, logs, adds_name}
+use Rattle.model.specs.Room.{Work, logs}
 use Rattle.model.specs.States.{State}
-use Rattle.model.specs.Trees.{Tree}
-use Rattle.model.specs.Volumes.{Volume, IsMounted, tree_of}
 use Rattle.model.specs.declared.command.PathCall.{PathCall}
-use Rattle.model.specs.declared.command.PathCall.TheVariants as path_calls
-use Rattle.model.specs.declared.errno.Errno.{Errno}
 use Rattle.model.specs.declared.reply.Reply.{Reply}
-use Rattle.model.specs.declared.reply.Reply.TheVariants.{Done, Refused}
+use Rattle.model.specs.declared.reply.Reply.TheVariants.{Done}
 use Rattle.buffers.specs.Disks.{ReadsOn}
 use Rattle.buffers.specs.declared.cache.Buffers.{Buffers}
 use Rattle.blockmap.specs.declared.map.BlockMap.{BlockMap}
 use Rattle.inofile.specs.declared.inode_file.InodeFile.{InodeFile}
-use Rattle.calls.specs.Making.{Answers, creation_of}
-use Rattle.calls.specs.Prepared.{Does}
 use Rattle.calls.specs.Served.{IsServed}
-use Rattle.calls.specs.declared.made.Making.{Making}
-use Rattle.images.specs.Roots.{whole}
 use Rattle.images.specs.States.{Opens}
-use Rattle.loading.specs.Images.{inodes_of}
-use Rattle.oplog.specs.LogEnd.{LogEnd, HasRoom, body_of, next_of}
+use Rattle.oplog.specs.LogEnd.{LogEnd, HasRoom, body_of}
 use Rattle.oplog.specs.declared.log.AppendError.{AppendError}
 use Rattle.oplog.specs.declared.log.AppendError.TheVariants as append
-use Rattle.oplog.specs.declared.log.End.{End}
 use Rattle.system.specs.Errors.{log_error}
 use Rattle.system.specs.Images.{OpensTo}
-use Rattle.system.specs.Logging.{Advances}
 use Rattle.system.specs.Serving.{Handles, HasEmptyLog, LeavesEither, ServesState, WouldCall, WouldChange}
-use Rattle.system.specs.Systems.{IsServing, meaning_of, state_with}
+use Rattle.system.specs.Systems.{IsServing, meaning_of}
 use Rattle.system.specs.declared.error.CallError.{CallError}
 use Rattle.system.specs.declared.error.CallError.TheVariants as call_errors
 use Rattle.system.specs.declared.error.CallError.TheVariants.{Damaged, LogFull, NotRead, NotWritten}
@@ -69,63 +54,6 @@ serves_same {S} {G} f g blocks inodes s same_blocks root slot same_inodes map lo
     (subst (λ (l : LogEnd). IsServing (G.meaning blocks.station) blocks.kept f.root f.slot inodes f.map l g.pledged table s) (sym log)
     (subst (λ (n : ℕ). IsServing (G.meaning blocks.station) blocks.kept f.root f.slot inodes f.map f.log n table s) (sym pledged) serves))))))
 
--- a refused making of a directory is refused by the state that the system serves
-pub making_refused : {S : Type 0} {G : Ghosts S} (f : System S G) (s : State) (serves : ServesState f s) (path : List ℕ) (mode : ℕ) (r : Result Making Errno) (errno : Errno) → r ≡ Err errno
-    → Answers (makes_directory f.inodes.geometry.inodes (tree_of serves.running s.tree.descriptors) path mode) f.inodes.geometry.inodes serves.running s.tree.descriptors r
-    → WouldCall s (path_calls.Mkdir path mode) (Refused errno) s nothing
-making_refused f s serves path mode r errno is told =
-    let tree : s.tree ≡ tree_of serves.running s.tree.descriptors = ap (λ (u : State). u.tree) serves.state in
-    let inodes : s.inodes ≡ f.inodes.geometry.inodes = ap (λ (u : State). u.inodes) serves.state ∙ sym (ap (λ (g : Sizes). g.inodes) f.sizes) in
-    let v = serves.running in
-    let here = subst (Answers (makes_directory f.inodes.geometry.inodes (tree_of v s.tree.descriptors) path mode) f.inodes.geometry.inodes v s.tree.descriptors) is told in (
-      subst (λ (n : ℕ). makes_directory n s.tree path mode (Refused errno) s.tree nothing) (sym inodes)
-          (subst (λ (t : Tree). makes_directory f.inodes.geometry.inodes t path mode (Refused errno) t nothing) (sym tree) here),
-      refl,
-    )
-
--- What is told of a directory that is made, by a system that serves a state.
-pub record IsMade {S : Type 0} {G : Ghosts S} (f : System S G) (s : State) (serves : ServesState f s) (path : List ℕ) (mode : ℕ) (change : Change) : Type 0 where
-  pub advances : Advances f.root.geometry.inodes serves.running s.tree.descriptors change
-  pub step : WouldCall s (path_calls.Mkdir path mode) Done
-      (state_with f.root.geometry.inodes (applied change serves.running) s.tree.descriptors serves.snapshots) (logs adds_name)
-
-pub making_told : {S : Type 0} {G : Ghosts S} (f : System S G) (s : State) (serves : ServesState f s) (path : List ℕ) (mode : ℕ) (r : Result Making Errno) (m : Making) (change : Change) → r ≡ Ok m
-    → change ≡ creation_of m.creation → IsChange change → IsServed change
-    → Answers (makes_directory f.inodes.geometry.inodes (tree_of serves.running s.tree.descriptors) path mode) f.inodes.geometry.inodes serves.running s.tree.descriptors r
-    → IsMade f s serves path mode change
-making_told f s serves path mode r m change is says is_change is_served told =
-    let v = serves.running in
-    let table = s.tree.descriptors in
-    let sizes : f.inodes.geometry.inodes ≡ f.root.geometry.inodes = ap (λ (g : Sizes). g.inodes) f.sizes in
-    let tree : s.tree ≡ tree_of v table = ap (λ (u : State). u.tree) serves.state in
-    let inodes : s.inodes ≡ f.root.geometry.inodes = ap (λ (u : State). u.inodes) serves.state in
-    let here = subst (λ (n : ℕ). Answers (makes_directory n (tree_of v table) path mode) n v table (Ok m)) sizes
-    (subst (Answers (makes_directory f.inodes.geometry.inodes (tree_of v table) path mode) f.inodes.geometry.inodes v table) is told) in
-    let of_change = λ (P : Change → Type 0) (p : P (creation_of m.creation)). subst P (sym says) p in
-    record {
-      advances = record {
-        is = is_change;
-        served = is_served;
-        applies = of_change (Applies f.root.geometry.inodes v) here.0;
-        mounted = of_change (λ (c : Change). IsMounted (applied c v) table) here.1;
-      };
-      step = (
-        subst (λ (n : ℕ). makes_directory n s.tree path mode Done (tree_of (applied change v) table) (logs adds_name)) (sym inodes)
-            (subst (λ (t : Tree). makes_directory f.root.geometry.inodes t path mode Done (tree_of (applied change v) table) (logs adds_name)) (sym tree)
-            (of_change (λ (c : Change). makes_directory f.root.geometry.inodes (tree_of v table) path mode Done (tree_of (applied c v) table) (logs adds_name)) here.2)),
-        ap (λ (u : State). record u { tree = tree_of (applied change v) table }) (sym serves.state),
-      );
-    }
-
--- a prepared change does the same on a disk that reads the same
-pub does_over : (m n : Meaning) (root : Root) (inodes : InodeFile) (v : Volume) (r : Result Making Errno) (making : Making) (change : Change) → r ≡ Ok making → change ≡ creation_of making.creation → m.seen ≡ n.seen
-    → IfOk r (λ x. Does (blocks_of m.seen.disk) (inodes_of (whole (blocks_of m.seen.disk) root).active) inodes v x.prepared (creation_of x.creation))
-    → Does (blocks_of n.seen.disk) (inodes_of (whole (blocks_of n.seen.disk) root).active) inodes v making.prepared change
-does_over m n root inodes v r making change is says same does =
-    let here = subst (λ (x : Result Making Errno). IfOk x (λ x. Does (blocks_of m.seen.disk) (inodes_of (whole (blocks_of m.seen.disk) root).active) inodes v x.prepared (creation_of x.creation))) is does in
-    subst (λ (i : Images). Does (blocks_of i.disk) (inodes_of (whole (blocks_of i.disk) root).active) inodes v making.prepared change) same
-    (subst (λ (c : Change). Does (blocks_of m.seen.disk) (inodes_of (whole (blocks_of m.seen.disk) root).active) inodes v making.prepared c) (sym says) here)
-
 -- a short record fits an empty log
 pub short_fits : {S : Type 0} {G : Ghosts S} (f : System S G) (change : Change) → HasEmptyLog f → length (body_of change) ≤ 1300
     → (f.log.epoch ≢ f.root.generation + 1) ⊎ (HasRoom f.log (length (body_of change)) → ⊥) → ⊥
@@ -136,8 +64,9 @@ short_fits f change empty short (inr full) =
     full (subst (λ (n : ℕ). n + 5 + length (body_of change) + 1 ≤ f.log.half) (sym empty.end) room)
 
 -- What a call's record comes to on a system in which objects came into memory.
-pub record LeadsOn {S : Type 0} {G : Ghosts S} (old new : System S G) (mid : Meaning) (s : State) (call : PathCall) (work : Work) : Type 0 where
+pub record LeadsOn {S : Type 0} {G : Ghosts S} (old new : System S G) (mid : Meaning) (s : State) (call : PathCall) : Type 0 where
   pub after : State
+  pub work : Work
   pub step : WouldCall s call Done after (logs work)
   pub leaves : LeavesEither mid (meaning_of new) s after
 
@@ -145,10 +74,10 @@ pub record LeadsOn {S : Type 0} {G : Ghosts S} (old new : System S G) (mid : Mea
 abbrev pub IsFirstFault : LogEnd → AppendError → Type 0
 IsFirstFault log e = (e ≡ append.Device) × IsFalse log.is_stopped
 
-module _ {S : Type 0} {G : Ghosts S} (old new : System S G) (mid : Meaning) (call : PathCall) (work : Work) (reads : ReadsOn (meaning_of old) mid)
+module _ {S : Type 0} {G : Ghosts S} (old new : System S G) (mid : Meaning) (call : PathCall) (reads : ReadsOn (meaning_of old) mid)
     (counted : mid.failed_reads ≡ (meaning_of old).failed_reads) (epoch : new.log.epoch ≡ old.log.epoch)
     (opens : (s : State) → ServesState old s → EachCut (meaning_of old) (OpensTo (meaning_of old) s))
-    (leads : (s : State) → ServesState old s → LeadsOn old new mid s call work) where
+    (leads : (s : State) → ServesState old s → LeadsOn old new mid s call) where
   leaves_either : (s : State) (served : ServesState old s) → LeavesEither (meaning_of old) (meaning_of new) s (leads s served).after
   leaves_either s served =
       let m = meaning_of old in
@@ -167,7 +96,7 @@ module _ {S : Type 0} {G : Ghosts S} (old new : System S G) (mid : Meaning) (cal
   would_change s served = record {
     reply = Done;
     after = (leads s served).after;
-    need = logs work;
+    need = logs (leads s served).work;
     step = (leads s served).step;
     needs = λ is. cc;
   }
@@ -199,7 +128,7 @@ module _ {S : Type 0} {G : Ghosts S} (old new : System S G) (mid : Meaning) (cal
     serves = λ s served. tt;
     done = λ s served. record {
       after = (leads s served).after;
-      need = logs work;
+      need = logs (leads s served).work;
       step = (leads s served).step;
       serves = serves s served;
       leaves = leaves_either s served;
@@ -252,7 +181,7 @@ module _ {S : Type 0} {G : Ghosts S} (old new : System S G) (mid : Meaning) (cal
     broken = λ s served is. record {
       reply = Done;
       after = (leads s served).after;
-      need = logs work;
+      need = logs (leads s served).work;
       step = (leads s served).step;
       leaves = leaves_either s served;
     };

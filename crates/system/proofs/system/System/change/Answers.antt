@@ -1,20 +1,19 @@
-use Rattle.std.proofs.Common.{ap, sym, refl}
+use Rattle.std.proofs.Common.{◌∙◌, Ok, ap, sym, refl}
 use Rattle.std.specs.Prelude.{Err}
 use Rattle.layout.specs.Places.{blocks_of}
 use Rattle.layout.specs.Record.{change_of}
-use Rattle.model.specs.Room.{adds_name}
 use Rattle.model.specs.States.{State}
-use Rattle.model.specs.declared.command.PathCall.TheVariants as path_calls
 use Rattle.buffers.specs.Disks.{ReadsOn}
+use Rattle.buffers.specs.Readings.{reads_none}
 use Rattle.buffers.specs.declared.cache.Buffers.{Buffers}
 use Rattle.images.specs.Roots.{whole}
 use Rattle.loading.specs.Images.{inodes_of}
-use Rattle.buffers.specs.Readings.{reads_none}
 use Rattle.system.specs.Serving.{ServesState}
 use Rattle.system.specs.Systems.{meaning_of}
-use Rattle.system.proofs.ServingLaws.{answered, unanswered_read, looked_on, its_volume, own_refusal}
-use Rattle.system.proofs.MakingLaws.{does_over, logged, making_refused, making_told, not_logged, serves_same, short_fits}
-use Rattle.system.proofs.system.System.make_directory.Goals as goal
+use Rattle.system.proofs.ServingLaws.{answered, done_is_no_fault, unanswered_read, looked_on, its_volume, own_refusal}
+use Rattle.system.proofs.ChangingLaws.{changing_nothing, changing_over, changing_refused, changing_told}
+use Rattle.system.proofs.HandlingLaws.{logged, not_logged, serves_same, short_fits}
+use Rattle.system.proofs.system.System.change.Goals as goal
 
 pub returns-in-Ok-Err : goal.returns-in-Ok-Err
 returns-in-Ok-Err g c =
@@ -29,7 +28,23 @@ returns-in-Ok-Err g c =
     _ looks.reads.counted (own_refusal _ c.in-Ok-Err.errno c.in-Ok-Err.field-0-is told.own) (λ s served. c.served_states_open.ensures s.tree.descriptors s served)
     (λ s served.
     let its = its_volume {G = g.S.Station} fs s served in
-    making_refused {G = g.S.Station} fs s served c.args.path.now c.args.mode _ c.in-Ok-Err.errno c.in-Ok-Err.field-0-is
+    changing_refused {G = g.S.Station} fs s served c.args.call.now _ c.in-Ok-Err.errno c.in-Ok-Err.field-0-is
+    (told.answers d (inodes_of (whole d fs.root).active) served.running s.tree.descriptors (record { shows = served.shows; volume = its.0 }) its.1 served.mounted))
+
+pub returns-in-Ok-Ok-None : goal.returns-in-Ok-Ok-None
+returns-in-Ok-Ok-None g c =
+    let fs = c.args.self.now in
+    let m = meaning_of {G = g.S.Station} fs in
+    let d = blocks_of m.seen.disk in
+    let told = c.in-Ok-Ok-None.ensures in
+    let looks = told.looks in
+    answered fs _ _ (looks.reads.reads fs.blocks (reads_none m)) refl
+    (λ s served. looked_on _ _ _ _ _ _ _ _ _ _ _ _ s fs.sectors (looks.reads.reads fs.blocks (reads_none m)) looks.reads.same
+    (λ disk settled v shows over. (looks.kept disk settled v (record { shows = shows; volume = over })).volume) served)
+    _ looks.reads.counted done_is_no_fault (λ s served. c.served_states_open.ensures s.tree.descriptors s served)
+    (λ s served.
+    let its = its_volume {G = g.S.Station} fs s served in
+    changing_nothing {G = g.S.Station} fs s served c.args.call.now _ (c.in-Ok-Ok-None.field-0-is ∙ ap Ok c.in-Ok-Ok-None.field-0-0-is)
     (told.answers d (inodes_of (whole d fs.root).active) served.running s.tree.descriptors (record { shows = served.shows; volume = its.0 }) its.1 served.mounted))
 
 pub returns : goal.returns
@@ -53,10 +68,10 @@ returns-in-Ok g c =
     let m = meaning_of {G = g.S.Station} fs in
     let d = blocks_of m.seen.disk in
     let settled = inodes_of (whole d fs.root).active in
-    let told = c.in-Ok-Ok.ensures in
+    let told = c.in-Ok-Ok-Some.ensures in
     let looks = told.looks in
-    let blocks = c.make_directory.new.blocks in
-    let inodes = c.make_directory.new.inodes in
+    let blocks = c.prepare.new.blocks in
+    let inodes = c.prepare.new.inodes in
     let mid = g.S.Station.meaning blocks.station in
     let reads : ReadsOn m mid = looks.reads.reads fs.blocks (reads_none m) in
     let change = change_of c.record.result in
@@ -65,12 +80,13 @@ returns-in-Ok g c =
     (λ disk sets v shows over. (looks.kept disk sets v (record { shows = shows; volume = over })).volume) served in
     let made = λ (s : State) (served : ServesState {G = g.S.Station} fs s).
     let its = its_volume {G = g.S.Station} fs s served in
-    making_told {G = g.S.Station} fs s served c.args.path.now c.args.mode _ c.in-Ok-Ok.making change c.in-Ok-Ok.field-0-is c.record.ensures.says c.record.ensures.is c.record.ensures.served
+    changing_told {G = g.S.Station} fs s served c.args.call.now _ c.in-Ok-Ok-Some.changing change (c.in-Ok-Ok-Some.field-0-is ∙ ap Ok c.in-Ok-Ok-Some.field-0-0-is) c.record.ensures.says c.record.ensures.is
     (told.answers d settled served.running s.tree.descriptors (record { shows = served.shows; volume = its.0 }) its.1 served.mounted) in
-    logged {G = g.S.Station} fs c.log.new.self mid (path_calls.Mkdir c.args.path.now c.args.mode) adds_name reads looks.reads.counted c.log.ensures.epoch
+    logged {G = g.S.Station} fs c.log.new.self mid c.args.call.now reads looks.reads.counted c.log.ensures.epoch
     (λ s served. c.served_states_open.ensures s.tree.descriptors s served)
     (λ s served. record {
       after = _;
+      work = (made s served).work;
       step = (made s served).step;
       leaves = c.log.ensures.any_moment s.tree.descriptors s (before s served) (made s served).advances;
     })
@@ -78,19 +94,19 @@ returns-in-Ok g c =
     (λ s served.
     let its = its_volume {G = g.S.Station} fs s served in
     c.in-Ok.ensures.done s.tree.descriptors s (before s served) (made s served).advances
-    (does_over m mid fs.root inodes served.running _ c.in-Ok-Ok.making change c.in-Ok-Ok.field-0-is c.record.ensures.says (sym (reads.goes served.honest).seen)
+    (changing_over m mid fs.root inodes served.running _ c.in-Ok-Ok-Some.changing change (c.in-Ok-Ok-Some.field-0-is ∙ ap Ok c.in-Ok-Ok-Some.field-0-0-is) c.record.ensures.says (sym (reads.goes served.honest).seen)
     (told.does d settled served.running (record { shows = served.shows; volume = its.0 }))))
 
-pub returns-in-Ok-Ok : goal.returns-in-Ok-Ok
-returns-in-Ok-Ok g c =
+pub returns-in-Ok-Ok-Some : goal.returns-in-Ok-Ok-Some
+returns-in-Ok-Ok-Some g c =
     let fs = c.args.self.now in
     let m = meaning_of {G = g.S.Station} fs in
     let d = blocks_of m.seen.disk in
     let settled = inodes_of (whole d fs.root).active in
-    let told = c.in-Ok-Ok.ensures in
+    let told = c.in-Ok-Ok-Some.ensures in
     let looks = told.looks in
-    let blocks = c.make_directory.new.blocks in
-    let inodes = c.make_directory.new.inodes in
+    let blocks = c.prepare.new.blocks in
+    let inodes = c.prepare.new.inodes in
     let mid = g.S.Station.meaning blocks.station in
     let reads : ReadsOn m mid = looks.reads.reads fs.blocks (reads_none m) in
     let change = change_of c.record.result in
@@ -99,13 +115,14 @@ returns-in-Ok-Ok g c =
     (λ disk sets v shows over. (looks.kept disk sets v (record { shows = shows; volume = over })).volume) served in
     let made = λ (s : State) (served : ServesState {G = g.S.Station} fs s).
     let its = its_volume {G = g.S.Station} fs s served in
-    making_told {G = g.S.Station} fs s served c.args.path.now c.args.mode _ c.in-Ok-Ok.making change c.in-Ok-Ok.field-0-is c.record.ensures.says c.record.ensures.is c.record.ensures.served
+    changing_told {G = g.S.Station} fs s served c.args.call.now _ c.in-Ok-Ok-Some.changing change (c.in-Ok-Ok-Some.field-0-is ∙ ap Ok c.in-Ok-Ok-Some.field-0-0-is) c.record.ensures.says c.record.ensures.is
     (told.answers d settled served.running s.tree.descriptors (record { shows = served.shows; volume = its.0 }) its.1 served.mounted) in
     let failed = c.in-Err-log.ensures in
-    not_logged {G = g.S.Station} fs c.log.new.self mid (path_calls.Mkdir c.args.path.now c.args.mode) adds_name reads looks.reads.counted c.log.ensures.epoch
+    not_logged {G = g.S.Station} fs c.log.new.self mid c.args.call.now reads looks.reads.counted c.log.ensures.epoch
     (λ s served. c.served_states_open.ensures s.tree.descriptors s served)
     (λ s served. record {
       after = _;
+      work = (made s served).work;
       step = (made s served).step;
       leaves = c.log.ensures.any_moment s.tree.descriptors s (before s served) (made s served).advances;
     })

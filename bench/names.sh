@@ -1,0 +1,74 @@
+#!/bin/sh
+# Looks up 10,000 directories by their paths, and then moves each of them into another directory under another name, with a sync every
+# 1,000, on an image of 16,384 blocks. Tells seconds, writes and peak memory of both; beside it the same through debugfs and on rows of
+# SQLite, where these are installed.
+#
+#   sh bench/names.sh [1|10]         the 10,000 stand in one directory, or (without a word) 1,000 each in ten
+#
+# over ./wafl; WAFL=path takes another program. debugfs has no rename: it makes the new name and takes the old one away, keeps no log and
+# syncs once, at its end. SQLite commits each changed row by itself and syncs for it, as wafl logs and syncs each command. Making the
+# 10,000 is what directories.sh measures, and isn't measured here.
+set -eu
+here=$(cd "$(dirname "$0")/.." && pwd)
+wafl=${WAFL:-$here/wafl}
+case ${1:-10} in 1 | 10) parents=${1:-10} ;; *) sed -n '2,12s/^# \{0,1\}//p' "$0" >&2; exit 1 ;; esac
+folder=$(mktemp -d)
+trap 'rm -rf "$folder"' EXIT
+cd "$folder"
+. "$here/bench/measure.sh"
+
+# commands FIRST EACH EVERY_1000 : FIRST for each of the parents, by its number, and EACH for each of the 10,000, by the numbers of its
+# parent, of itself, and of the parent that it moves to and itself again; behind each 1,000 of them EVERY_1000.
+commands() {
+    awk -v first="$1" -v each="$2" -v every="$3" -v parents="$parents" 'BEGIN {
+        if (first != "") for (i = 0; i < parents; i++) printf first "\n", i, i
+        for (n = 0; n < 10000; n++) {
+            i = int(n * parents / 10000)
+            if (each != "") printf each "\n", i, n, (i + 1) % parents, n
+            if (every != "" && n % 1000 == 999) print every
+        }
+    }'
+}
+
+restore() { for file in $files; do cp "$file.before" "$file"; done; }
+keep() { for file in $files; do cp "$file" "$file.before"; done; }
+
+commands 'mkdir /d%d\nmkdir /e%d' 'mkdir /d%d/n%04d' sync > make.script
+commands '' 'stat /d%d/n%04d' '' > look.script
+commands '' 'rename /d%d/n%04d /e%d/m%04d' sync > move.script
+files='disk nvram'
+"$wafl" make disk nvram --blocks 16384 --inodes 32768 --half 131072
+"$wafl" run disk nvram make.script > replies; refused '^ok$'
+keep; again=restore
+measure 'wafl look' "$wafl" run disk nvram look.script
+refused '^stat number [0-9]+ kind dir '
+measure 'wafl move' "$wafl" run disk nvram move.script
+refused '^ok$'
+
+if command -v debugfs > /dev/null && command -v mke2fs > /dev/null; then
+    files=ext2
+    mke2fs -q -t ext2 -b 4096 -N 32768 ext2 16384 > faults 2>&1
+    commands 'mkdir d%d\nmkdir e%d' 'mkdir d%d/n%04d' '' > make.debugfs
+    commands '' 'stat d%d/n%04d' '' > look.debugfs
+    commands '' 'ln d%d/n%04d e%d/m%04d' '' |
+        awk '{print; print "unlink " $2}' > move.debugfs
+    debugfs -w -f make.debugfs ext2 > replies 2> faults
+    keep
+    measure 'debugfs look' debugfs -f look.debugfs ext2
+    measure 'debugfs move' debugfs -w -f move.debugfs ext2
+fi
+if command -v sqlite3 > /dev/null; then
+    files=names.db
+    { echo 'create table directory (path text primary key, number integer);'
+      echo 'begin;'
+      commands '' "insert into directory values ('/d%d/n%04d', 0);" ''
+      echo 'commit;'; } | sqlite3 names.db
+    { echo 'pragma synchronous = full;'
+      commands '' "select number from directory where path = '/d%d/n%04d';" ''; } > look.sqlite
+    { echo 'pragma synchronous = full;'
+      commands '' "/d%d/n%04d /e%d/m%04d" '' |
+          awk -v q="'" '{print "update directory set path = " q $2 q " where path = " q $1 q ";"}'; } > move.sqlite
+    keep
+    measure 'sqlite look' sqlite3 -init look.sqlite names.db .quit
+    measure 'sqlite move' sqlite3 -init move.sqlite names.db .quit
+fi
