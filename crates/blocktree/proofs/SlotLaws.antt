@@ -1,6 +1,7 @@
 -- What a change of the slots does to a file's blocks.
-use Rattle.std.proofs.Common.{◌≡◌, ℕ, ◌<◌, ◌≤◌, List, refl, Bool, true, false, None, arith, if◌then◌else◌, nat_lt, ltb, min}
+use Rattle.std.proofs.Common.{◌≡◌, inl, inr, ℕ, ◌<◌, ◌≤◌, List, refl, Bool, true, false, None, arith, if◌then◌else◌, nat_lt, ltb, min}
 use Rattle.std.proofs.lemmas.Grind.{common_steps}
+use Rattle.std.proofs.lemmas.Bool.{cases_lt}
 use Rattle.std.proofs.lemmas.Bool.Decides.{nat_tests}
 use Rattle.std.proofs.lemmas.Map.Entries.{lookup-filter-keys}
 use Rattle.std.specs.List.{filter}
@@ -61,3 +62,12 @@ trimmed_only m n count e j had = among (nat_lt j count) (rw (trimmed_slot m n co
     among : (b : Bool) → IsChangedSlot (if b then get nat_cmp m j else None) → IsChangedSlot (get nat_cmp m j)
     among true had = had
     among false had = absurd had
+
+-- none is changed behind the cut
+pub trimmed_below : (m n : BTreeMap ℕ Slot) (count : ℕ) → n.entries ≡ filter (λ e. nat_lt e.0 count) m.entries → (j : ℕ) → IsChangedSlot (get nat_cmp n j) → j < count
+trimmed_below m n count e j had = elim (cases_lt j count) [
+  | inl lt ↦ lt
+  | inr ge ↦
+      let no : nat_lt j count ≡ false = grind (arith, nat_tests, ge) in
+      absurd (rw (trimmed_slot m n count e j, no) at had)
+]

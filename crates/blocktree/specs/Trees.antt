@@ -54,6 +54,12 @@ IsChangedSlot None = ⊥
 abbrev pub IsChanged : BlockTree → ℕ → Type 0
 IsChanged t i = IsChangedSlot (tree.get nat_cmp t.slots i)
 
+-- no block more is changed, and as many settled ones count
+pub record SameChanges (old new : BlockTree) : Type 0 where
+  pub settled : SameSettled old new
+  pub kept : new.kept ≡ old.kept
+  pub only : (i : ℕ) → IsChanged new i → IsChanged old i
+
 -- what stands on a disk of so many blocks over block i, where the settled inode counts for it, is in the grammar
 abbrev pub IsSoundAt : ℕ → (ℕ → List ℕ) → BlockTree → ℕ → Type 0
 IsSoundAt blocks disk t i =

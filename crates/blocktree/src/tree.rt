@@ -72,7 +72,7 @@ fn zero_block() -> &'static [u8; BLOCK_BYTES]
 }
 
 impl BlockTree {
-    ghost use Rattle.std.specs.Prelude.{if◌then◌else◌, ◌==◌, ◌↔◌, nat_lt, IfSome, IfNone, Contains};
+    ghost use Rattle.std.specs.Prelude.{if◌then◌else◌, ◌==◌, ◌↔◌, min, nat_lt, IfSome, IfNone, Contains};
     ghost use Rattle.std.specs.Ordering.{nat_cmp};
     ghost use Rattle.std.specs.BTreeMap as tree;
     ghost use Rattle.buffers.specs.Positions.{laid};
@@ -348,7 +348,9 @@ impl BlockTree {
         ensures keeps { (j : ℕ) → j < count → HasRoom self.old j → HasRoom self.new j }
         ensures sound { KeepsSound self.old self.new }
         ensures settled { SameSettled self.old self.new }
+        ensures kept { self.new.kept ≡ min self.old.kept count }
         ensures changed { (j : ℕ) → IsChanged self.new j → IsChanged self.old j }
+        ensures cut { (j : ℕ) → IsChanged self.new j → j < count }
     {
         self.slots.retain(|i, _| *i < count);
         self.kept = self.kept.min(count);
@@ -363,6 +365,9 @@ impl BlockTree {
         ensures keeps { KeepsRoom self.old self.new }
         ensures sound { KeepsSound self.old self.new }
         ensures settled { SameSettled self.old self.new }
+        ensures kept { self.new.kept ≡ self.old.kept }
+        ensures only { (j : ℕ) → IsChanged self.new j
+            → ((first ≤ j) × (j < first + length pieces.items)) ⊎ IsChanged self.old j }
     {
         let mut rest = pieces;
         while let Some(block) = rest.pop() {

@@ -1,6 +1,6 @@
 -- What a tree is based on, and files that stay the same.
 use Rattle.std.proofs.Common.{◌∙◌, refl}
-use Rattle.blocktree.specs.Trees.{SameSettled}
+use Rattle.blocktree.specs.Trees.{SameChanges, SameSettled}
 use Rattle.blocktree.specs.declared.tree.BlockTree.{BlockTree}
 use Rattle.inode.specs.Bases.{anew, over, KeepsBase}
 use Rattle.inode.specs.Files.{IsSameFile}
@@ -15,6 +15,17 @@ same_base old new same settled (over pointers body has) = over pointers body (re
   count = same.count ∙ has.count;
 })
 
+same_twice : (a b c : BlockTree) → SameChanges a b → SameChanges b c → SameChanges a c
+same_twice a b c first then = record {
+  settled = record {
+    pointers = then.settled.pointers ∙ first.settled.pointers;
+    depth = then.settled.depth ∙ first.settled.depth;
+    count = then.settled.count ∙ first.settled.count;
+  };
+  kept = then.kept ∙ first.kept;
+  only = λ i is. first.only i (then.only i is);
+}
+
 pub same_itself : (f : File) → IsSameFile f f
 same_itself f = record {
   size = refl;
@@ -22,6 +33,7 @@ same_itself f = record {
   base = λ settled was. was;
   sound = λ blocks disk i was. was;
   was_sound = λ blocks disk i is. is;
+  changes = record { settled = record { pointers = refl; depth = refl; count = refl }; kept = refl; only = λ i is. is };
 }
 
 pub still_same : (a b c : File) → IsSameFile a b → IsSameFile b c → IsSameFile a c
@@ -31,4 +43,5 @@ still_same a b c first then = record {
   base = λ settled was. then.base settled (first.base settled was);
   sound = λ blocks disk i was. then.sound blocks disk i (first.sound blocks disk i was);
   was_sound = λ blocks disk i is. first.was_sound blocks disk i (then.was_sound blocks disk i is);
+  changes = same_twice a.tree b.tree c.tree first.changes then.changes;
 }

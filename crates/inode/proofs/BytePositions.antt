@@ -145,6 +145,27 @@ cut_laid_none blocks old_size size first pieces none whole zero_past p =
           ]
     ]
 
+-- what is cut away of the last block is zeros
+pub cut_laid_hole : (blocks : ℕ → List ℕ) (size first : ℕ) (pieces : List (List ℕ)) → pieces ≡ [] → blocks (size / 4096) ≡ zeros 4096
+    → (p : ℕ) → byte_in (changed_block blocks size first pieces) p ≡ cut (byte_in blocks) size p
+cut_laid_hole blocks size first pieces none hole p =
+    elim (cases_lt (p / 4096) (block_count size)) [
+      | inr past ↦ changed_past blocks size first pieces p past ∙ sym (cut_past (byte_in blocks) size p (omega arith))
+      | inl within ↦
+          changed_within blocks size first pieces p within
+          ∙ ap (λ (ps : List (List ℕ)). slice_index (laid blocks first ps (p / 4096)) (p % 4096)) none
+          ∙ ap (λ (b : List ℕ). slice_index b (p % 4096)) (laid_none blocks first (p / 4096))
+          ∙ elim (cases_lt p size) [
+            | inl lt ↦ sym (cut_below (byte_in blocks) size p lt)
+            | inr le ↦
+                let here : p / 4096 ≡ size / 4096 = omega arith in
+                ap (λ (i : ℕ). slice_index (blocks i) (p % 4096)) here
+                ∙ ap (λ (b : List ℕ). slice_index b (p % 4096)) hole
+                ∙ slice_index-zeros 4096 (p % 4096)
+                ∙ sym (cut_past (byte_in blocks) size p le)
+          ]
+    ]
+
 -- the last block is cut
 pub cut_laid_one : (blocks : ℕ → List ℕ) (size first rest : ℕ) (block : List ℕ) (pieces : List (List ℕ)) → first ≡ size / 4096 → rest ≡ size % 4096 → (rest ≡ 0 → ⊥) → pieces ≡ block ∷ []
     → ((r : ℕ) → r < 4096 → slice_index block r ≡ cut (slice_index (blocks first)) rest r)

@@ -1,8 +1,9 @@
 -- A file in memory, and a change of it that is prepared.
-use Rattle.std.specs.Prelude.{ℕ, ◌≡◌, ◌+◌, ◌<◌, List, length}
+use Rattle.std.specs.Prelude.{ℕ, ◌≡◌, ◌⊎◌, ◌+◌, ◌<◌, ◌≤◌, min, List, length}
 use Rattle.layout.specs.FileBytes.{byte_in, first_bytes, EndsAt}
 use Rattle.layout.specs.declared.inode.Inode.{Inode}
-use Rattle.blocktree.specs.Trees.{tree_block, HasRoom, KeepsSound, SameBlocks}
+use Rattle.blocktree.specs.Trees.{tree_block, HasRoom, IsChanged, KeepsSound, SameBlocks, SameChanges, SameSettled}
+use Rattle.blocktree.specs.Places.{block_count}
 use Rattle.images.specs.Nodes as nodes
 use Rattle.inode.specs.Bases.{KeepsBase}
 use Rattle.blocktree.specs.declared.tree.BlockTree.{BlockTree}
@@ -46,6 +47,10 @@ bytes_with disk f w = first_bytes (byte_with disk f w) w.size
 abbrev pub Fits : BlockTree → Change → Type 0
 Fits t w = (j : ℕ) → j < length w.pieces.items → HasRoom t (w.first + j)
 
+-- a prepared change changes block j
+abbrev pub IsPiece : Change → ℕ → Type 0
+IsPiece w j = (w.first ≤ j) × (j < w.first + length w.pieces.items)
+
 -- the same file, whatever the disk
 pub record IsSameFile (old new : File) : Type 0 where
   pub size : new.size ≡ old.size
@@ -53,6 +58,7 @@ pub record IsSameFile (old new : File) : Type 0 where
   pub base : KeepsBase old.tree new.tree
   pub sound : KeepsSound old.tree new.tree
   pub was_sound : KeepsSound new.tree old.tree
+  pub changes : SameChanges old.tree new.tree
 
 -- a prepared change was put in force
 pub record IsCommitted (old : File) (w : Change) (new : File) : Type 0 where
@@ -60,3 +66,6 @@ pub record IsCommitted (old : File) (w : Change) (new : File) : Type 0 where
   pub blocks : (disk : ℕ → List ℕ) (i : ℕ) → file_block disk new i ≡ block_with disk old w i
   pub base : KeepsBase old.tree new.tree
   pub sound : KeepsSound old.tree new.tree
+  pub settled : SameSettled old.tree new.tree
+  pub kept : new.tree.kept ≡ min old.tree.kept (block_count w.size)
+  pub only : (j : ℕ) → IsChanged new.tree j → IsPiece w j ⊎ (IsChanged old.tree j × (j < block_count w.size))

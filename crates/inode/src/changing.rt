@@ -1,6 +1,6 @@
 //! Changes of a file.
 
-ghost use Rattle.std.specs.Prelude.{◌≡◌, ◌≢◌, ◌⊎◌, ℕ, ◌+◌, ◌*◌, ◌<◌, ◌≤◌, ◌/◌, List, length, slice_index, OnOk, OnErr, IsErrOf, IfOk, max};
+ghost use Rattle.std.specs.Prelude.{◌≡◌, ◌≢◌, ◌⊎◌, ℕ, ◌+◌, ◌*◌, ◌<◌, ◌≤◌, ◌/◌, ◌%◌, List, length, slice_index, OnOk, OnErr, IsErrOf, IsFalse, IsTrue, IfOk, max};
 ghost use Rattle.layout.specs.Version.{greatest_size};
 ghost use Rattle.buffers.specs.Reads.{ReadsBlocks};
 ghost use Rattle.blocktree.specs.Errors.{IsFault};
@@ -9,9 +9,9 @@ ghost use Rattle.blocktree.specs.Places.{block_count};
 ghost use Rattle.inode.specs.Errors.{IsChangeFault};
 
 use crate::{Change, ChangeError, File};
-use blocktree::ReadError;
+use blocktree::{Location, ReadError};
 use buffers::{Block, Blocks};
-use layout::{VERSION, greatest_size};
+use layout::{INLINE_BYTES, VERSION, greatest_size};
 use std::alloc::{AllocError, Global};
 
 /// How many blocks hold so many bytes.
@@ -20,6 +20,18 @@ fn block_count(size: u64) -> u32
     ensures { result ≡ block_count size }
 {
     size.div_ceil(4096) as u32
+}
+
+/// Whether a new size leaves the block that the file then ends in as it is: where it ends at that block's end, or nothing is cut
+/// off. Bytes that the inode can hold are block 0 all the same, zeros too, so that it goes to a place as the file grows further.
+fn keeps_last_block(old: u64, new: u64) -> bool
+    ensures whole { IsTrue result → (old ≤ new) ⊎ (new % 4096 ≡ 0) }
+    ensures within { IsFalse result → new % 4096 ≢ 0 }
+{
+    if new % 4096 == 0 {
+        return true;
+    }
+    old == new || (old < new && new > INLINE_BYTES as u64)
 }
 
 impl File {
@@ -189,6 +201,26 @@ impl File {
         self.copy(alloc, blocks, i)
     }
 
+    /// Whether a file of this size ends within a hole, of which nothing is to be cut away. Of a size that the inode can hold the
+    /// bytes are block 0, zeros too.
+    fn ends_in_hole<B: Blocks>(&self, blocks: &mut B, size: u64) -> Result<bool, ReadError>
+        requires { size ≤ greatest_size VERSION }
+        ensures reads { ReadsBlocks B.Blocks IsFault blocks.old blocks.new result }
+        ensures sound { (disk : ℕ → List ℕ) → B.Shows blocks.old disk
+            → OnOk result (IsSoundAt (B.count blocks.old) disk self.now.tree (size / 4096)) }
+        ensures damaged { (disk : ℕ → List ℕ) → B.Shows blocks.old disk
+            → IsErrOf result ReadError.Damaged
+            → IsSoundAt (B.count blocks.old) disk self.now.tree (size / 4096) → ⊥ }
+        ensures hole { (disk : ℕ → List ℕ) → B.Shows blocks.old disk → IfOk result (λ is.
+            IsTrue is → file_block disk self.now (size / 4096) ≡ zeros 4096) }
+    {
+        let location = self.tree.locate(blocks, (size / 4096) as u32)?;
+        match location {
+            Location::Hole => Ok(size > INLINE_BYTES as u64),
+            _ => Ok(false),
+        }
+    }
+
     /// Prepares a new size: nothing changes before the commit. Bytes past a smaller one are gone, and those up to a greater
     /// one are zeros.
     pub fn prepare_cut<B: Blocks>(
@@ -220,7 +252,15 @@ impl File {
         }
         let first = (size / 4096) as u32;
         let mut pieces = Vec::new(alloc);
-        if size >= self.size || size % 4096 == 0 {
+        if keeps_last_block(self.size, size) {
+            return Ok(Change {
+                size,
+                first,
+                pieces,
+            });
+        }
+        let in_hole = self.ends_in_hole(blocks, size)?;
+        if in_hole {
             return Ok(Change {
                 size,
                 first,

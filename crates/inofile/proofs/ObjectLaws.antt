@@ -4,6 +4,7 @@ use Rattle.layout.specs.Bytes.{zeros}
 use Rattle.layout.specs.FileBytes.{byte_in, EndsAt}
 use Rattle.layout.specs.Inode.{IsInode, FitsKind, FitsBody}
 use Rattle.layout.specs.Limits.{Sizes}
+use Rattle.layout.specs.Version.{level_of}
 use Rattle.layout.specs.declared.inode.Body.{Body}
 use Rattle.layout.specs.declared.inode.Body.TheVariants.{Inline, Pointers}
 use Rattle.layout.specs.declared.inode.Inode.{Inode}
@@ -11,18 +12,20 @@ use Rattle.layout.specs.declared.kind.Kind.{Kind}
 use Rattle.layout.specs.declared.kind.Kind.TheVariants as kinds
 use Rattle.layout.specs.declared.version.TheConstants.{VERSION}
 use Rattle.model.specs.Volumes.{Node}
+use Rattle.blocktree.specs.Places.{block_count, depth_of}
 use Rattle.images.specs.Contents.{Content, StandsAs}
 use Rattle.images.specs.Nodes.{held}
 use Rattle.images.specs.Roots.{free_inode}
 use Rattle.images.specs.Soundness.{IsOrdinary, IsSoundFile}
-use Rattle.inode.specs.Bases.{IsBased}
+use Rattle.inode.specs.Bases.{IsBased, StartsFrom, StartsUnchanged}
 use Rattle.inode.specs.Files.{file_block, IsAsHeld, IsFile, IsSameFile}
 use Rattle.inode.specs.declared.file.File.{File}
 use Rattle.inode.specs.declared.object.Attributes.{Attributes}
 use Rattle.inode.specs.declared.object.Object.{Object}
-use Rattle.inofile.specs.Objects.{StandsFor, IsObjectKind, IsObject, IsObjectOrNone, IsAsSettled, IsSameObject, IsSameOrNone}
+use Rattle.inofile.specs.Objects.{StandsFor, IsObjectKind, IsObject, IsObjectOrNone, IsAsSettled, IsSameObject, IsSameOrNone, IsUntouched}
 use Rattle.inofile.specs.Settled.{content_of, held_content, unless_free, settled_content}
 use Rattle.std.proofs.lemmas.Bool.{false≢true}
+use Rattle.std.proofs.lemmas.Bool.Decides.{nat_tests}
 use Rattle.std.proofs.Math.Path.{fun_ext}
 
 -- ---- free inodes
@@ -155,3 +158,27 @@ pub object_some : (disk : ℕ → List ℕ) (inodes : ℕ) (settled : Inode) (ob
     → IsTrue (is_some object) ↔ IsSome found
 object_some disk inodes settled (Some o) found is = ((λ yes. kind_some o.attributes.kind inodes (content_of disk o) found is.kind is.stands), (λ some. refl))
 object_some disk inodes settled None found is = ((λ yes. absurd (false≢true yes)), (λ some. absurd (false≢true (subst IsSome is some))))
+
+-- ---- objects as they are loaded
+
+inline_level : (size : ℕ) → size ≤ 128 → level_of size ≡ 0
+inline_level size le = grind (arith, nat_tests)
+
+untouched_body : (b : Body) (blocks size : ℕ) (o : Object) → FitsBody b blocks size → o.file.size ≡ size → StartsFrom b size o.file.tree → StartsUnchanged b o.file.tree → IsUntouched o
+untouched_body (Inline bytes) blocks size o fits same starts unchanged =
+    let flat = inline_level o.file.size (omega (arith, same, fits.0)) in
+    record {
+      kept = λ deep. absurd (omega (arith, deep, flat));
+      count = λ deep. absurd (omega (arith, deep, flat));
+      depth = λ deep. absurd (omega (arith, deep, flat));
+      none = λ deep i is. absurd (omega (arith, deep, flat));
+    }
+untouched_body (Pointers pointers) blocks size o fits same starts unchanged = record {
+  kept = λ deep. starts.1;
+  count = λ deep. starts.0.count ∙ ap block_count (sym same);
+  depth = λ deep. starts.0.depth ∙ ap depth_of (sym same);
+  none = λ deep i is. unchanged i is;
+}
+
+pub loaded_untouched : (s : Sizes) (i : Inode) (o : Object) → IsInode VERSION s i → o.file.size ≡ i.size → StartsFrom i.body i.size o.file.tree → StartsUnchanged i.body o.file.tree → IsUntouched o
+loaded_untouched s i o is same starts unchanged = untouched_body i.body s.blocks i.size o is.body same starts unchanged

@@ -2,11 +2,14 @@
 use Rattle.std.specs.Prelude.{ℕ, ◌≡◌, ◌≤◌, List, Option, Some, None}
 use Rattle.layout.specs.Inode.{FitsKind}
 use Rattle.layout.specs.Limits.{Sizes}
+use Rattle.layout.specs.Version.{level_of}
 use Rattle.layout.specs.declared.inode.Inode.{Inode}
 use Rattle.layout.specs.declared.kind.Kind.{Kind}
 use Rattle.layout.specs.declared.kind.Kind.TheVariants as kinds
 use Rattle.model.specs.declared.limits.TheConstants.{MODE_BITS}
 use Rattle.model.specs.Volumes.{Node}
+use Rattle.blocktree.specs.Places.{block_count, depth_of}
+use Rattle.blocktree.specs.Trees.{IsChanged}
 use Rattle.images.specs.Contents.{Content, StandsAs}
 use Rattle.images.specs.Roots.{free_inode}
 use Rattle.inode.specs.Bases.{IsBased}
@@ -43,6 +46,13 @@ pub record IsObject (disk : ℕ → List ℕ) (inodes : ℕ) (settled : Inode) (
 abbrev pub IsObjectOrNone : (ℕ → List ℕ) → ℕ → Inode → Option Object → Option Node → Type 0
 IsObjectOrNone disk inodes settled (Some o) found = IsObject disk inodes settled o found
 IsObjectOrNone disk inodes settled None found = found ≡ None
+
+-- An object as it is loaded: where its bytes don't stand in its inode, no block of its file is changed, and all settled ones count.
+pub record IsUntouched (o : Object) : Type 0 where
+  pub kept : 1 ≤ level_of o.file.size → o.file.tree.kept ≡ o.file.tree.count
+  pub count : 1 ≤ level_of o.file.size → o.file.tree.count ≡ block_count o.file.size
+  pub depth : 1 ≤ level_of o.file.size → o.file.tree.depth ≡ depth_of o.file.size
+  pub none : 1 ≤ level_of o.file.size → (i : ℕ) → IsChanged o.file.tree i → ⊥
 
 -- what was loaded is as it is settled
 abbrev pub IsAsSettled : (ℕ → List ℕ) → Inode → Option Object → Type 0

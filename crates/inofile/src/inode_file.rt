@@ -32,7 +32,7 @@ pub struct InodeFile {
     ghost changes: { ChangesObjects geometry.inodes slots },
 }
 
-ghost use Rattle.std.specs.Prelude.{◌≡◌, ◌≤◌, ◌<◌, ◌*◌, ◌↔◌, ℕ, List, Option, Some, None, OnOk, IfOk, IfSome, IfNone, IsErrOf, IsTrue, IsFalse, Contains, filter, length, option_copied, vec_len};
+ghost use Rattle.std.specs.Prelude.{◌≡◌, ◌≢◌, ◌≤◌, ◌<◌, ◌*◌, ◌↔◌, ℕ, List, Option, Some, None, OnOk, IfOk, IfSome, IfNone, IsErrOf, IsTrue, IsFalse, Contains, filter, length, option_copied, vec_len};
 ghost use Rattle.std.specs.List.{list_any};
 ghost use Rattle.std.specs.Int.{div_ceil};
 ghost use Rattle.std.specs.List.Sorted.{IsStrictlyIncreasing};
@@ -51,7 +51,7 @@ ghost use Rattle.blocktree.specs.Errors.{IsFault};
 ghost use Rattle.images.specs.Contents.{HoldsVolume};
 ghost use Rattle.images.specs.Nodes.{held};
 ghost use Rattle.images.specs.Soundness.{IsOrdinary, IsSoundFile};
-ghost use Rattle.inofile.specs.Objects.{IsAsSettled, IsObject, IsObjectOrNone, StandsFor};
+ghost use Rattle.inofile.specs.Objects.{IsAsSettled, IsObject, IsObjectOrNone, IsUntouched, StandsFor};
 ghost use Rattle.inofile.specs.Settled.{AreSettled, content_of, held_content, settled_content};
 ghost use Rattle.inofile.specs.Slots.{ChangesObjects};
 
@@ -122,6 +122,11 @@ impl InodeFile {
         ensures stays { (n : ℕ) → IsKnown self.old n → IsKnown self.new n }
         ensures keeps { (n : ℕ) → HasRoomFor self.old n → HasRoomFor self.new n }
         ensures changed { (n : ℕ) → IsChanged self.new n ↔ IsChanged self.old n }
+        ensures loaded { IsKnown self.old number
+            → loaded self.new number ≡ loaded self.old number }
+        ensures untouched { (IsKnown self.old number → ⊥)
+            → OnOk result (IfSome (loaded self.new number) IsUntouched) }
+        ensures rest { (n : ℕ) → (n ≢ number) → loaded self.new n ≡ loaded self.old n }
         ensures same { (disk : ℕ → List ℕ) (settled : ℕ → Inode) → B.Shows blocks.old disk
             → AreSettled (B.count blocks.old) disk self.old.geometry self.old.file settled
             → SameObjects disk settled self.old self.new }
@@ -273,6 +278,8 @@ fn load_object(alloc: Global, inode: Inode) -> Result<Option<Object>, AllocError
         → IfOk result (λ o. option_map (content_of disk) o ≡ settled_content disk inode) }
     ensures as_settled { (s : Sizes) (disk : ℕ → List ℕ) → IsSoundFile s (held disk inode)
         → IfOk result (IsAsSettled disk inode) }
+    ensures untouched { (s : Sizes) → IsInode VERSION s inode
+        → IfOk result (λ o. IfSome o IsUntouched) }
     ensures stands { (s : Sizes) (disk : ℕ → List ℕ) (inodes : ℕ) (found : Option Node)
         → IsSoundFile s (held disk inode) → IsOrdinary inode.kind
         → StandsFor inodes (held_content disk inode) found

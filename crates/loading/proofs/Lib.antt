@@ -1,4 +1,3 @@
-mod ReadLaws
 mod FileLaws
 mod MapLaws
 mod EndLaws

@@ -1,4 +1,6 @@
-use Rattle.std.proofs.Common.{◌≡◌, ap, subst, sym, ◌∙◌, arith, rules}
+use Rattle.std.proofs.Common.{◌≡◌, List, ap, subst, sym, ◌∙◌, arith, rules}
+use Rattle.blockmap.specs.Maps.{entry_at}
+use Rattle.blockmap.specs.Parts.{Part}
 use Rattle.blockmap.specs.Space.{left}
 use Rattle.conspoint.specs.declared.draft.Draft.{Draft}
 use Rattle.conspoint.specs.Drafts.{Grows, IsReserved}
@@ -55,3 +57,19 @@ returns-clause-others c p is =
       | in_default w ↦ subst (λ (d : Draft). IsReserved d p) (sym w.draft-is) is
     ] in
     c.touch-2.ensures.others p (c.reserve.ensures.others p first)
+
+pub returns-in_err-place-clause-entries : goal.returns-in_err-place-clause-entries
+returns-in_err-place-clause-entries c b =
+    let first : entry_at c.match-before.draft.map.parts.items b ≡ entry_at c.args.draft.now.map.parts.items b = elim c.match-before.branch [
+      | in-Block+in_ok-touch w ↦ ap (λ (d : Draft). entry_at d.map.parts.items b) w.draft-is ∙ w.touch.ensures.entries b
+      | in_default w ↦ ap (λ (d : Draft). entry_at d.map.parts.items b) w.draft-is
+    ] in
+    ap (λ (ps : List Part). entry_at ps b) c.reserve.ensures.parts ∙ first
+
+pub returns-clause-entries : goal.returns-clause-entries
+returns-clause-entries c b =
+    let first : entry_at c.match-before.draft.map.parts.items b ≡ entry_at c.args.draft.now.map.parts.items b = elim c.match-before.branch [
+      | in-Block+in_ok-touch w ↦ ap (λ (d : Draft). entry_at d.map.parts.items b) w.draft-is ∙ w.touch.ensures.entries b
+      | in_default w ↦ ap (λ (d : Draft). entry_at d.map.parts.items b) w.draft-is
+    ] in
+    c.touch-2.ensures.entries b ∙ ap (λ (ps : List Part). entry_at ps b) c.reserve.ensures.parts ∙ first

@@ -3,6 +3,7 @@ use Rattle.blocktree.specs.Trees.{IsSoundAt}
 use Rattle.dirs.specs.Edits.{edited_block}
 use Rattle.dirs.specs.Surveys.{IsBounded}
 use Rattle.dirs.proofs.SurveyLaws.{bounded_more, finds_more}
+use Rattle.buffers.proofs.ReadLaws.{only_more, only_ok, only_then, reads_err}
 use Rattle.dirs.proofs.survey.survey_of.Goals as goal
 
 pub returns-in_err-look-clause-damaged : goal.returns-in_err-look-clause-damaged
@@ -19,8 +20,14 @@ loop-i-preserved g c =
     let look = c.in_ok-look.ensures in
     let more = c.with_block-survey.ensures in
     record {
-      read = search rules;
+      read = only_then so_far.read look.reads;
       most = omega (arith, so_far.most, more.names, look.likely.names);
       bounded = subst (IsBounded (c.loop-i.i + 1) c.with_block-survey.result) (sym more.room) (bounded_more c.loop-i.i c.args.bytes c.loop-i.survey c.with_block-survey.result c.in_ok-look.look c.requires look.likely more.names c.loop-i.survey.room so_far.bounded);
       finds = λ disk shows. finds_more c.args.inodes (edited_block disk c.args.file.now c.args.edit.now) c.loop-i.i c.args.bytes _ c.loop-i.survey c.with_block-survey.result c.in_ok-look.look (so_far.finds disk shows) (look.tells disk (so_far.read.same disk shows)) more.names more.room;
     }
+
+pub returns-in_err-look-clause-reads : goal.returns-in_err-look-clause-reads
+returns-in_err-look-clause-reads g c = reads_err c.from_residual.result c.from_residual.ensures.1 (only_more _ c.loop-i.invariant.read c.in_err-look.ensures.reads)
+
+pub returns-clause-reads : goal.returns-clause-reads
+returns-clause-reads g c = only_ok c.loop-i.invariant.read

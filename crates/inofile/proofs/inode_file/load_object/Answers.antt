@@ -1,5 +1,5 @@
 use Rattle.std.proofs.Common.{sym}
-use Rattle.inofile.proofs.ObjectLaws.{IsLoaded, free_is, free_stands, free_content, held_inode, loaded_content, loaded_settled, loaded_object}
+use Rattle.inofile.proofs.ObjectLaws.{IsLoaded, free_is, free_stands, free_content, held_inode, loaded_content, loaded_object, loaded_settled, loaded_untouched}
 use Rattle.inofile.proofs.inode_file.load_object.Goals as goal
 
 pub returns-in-Free-clause-content : goal.returns-in-Free-clause-content
@@ -28,3 +28,7 @@ returns-in_ok-object-in_default-clause-as_settled c = λ s disk sound. loaded_co
 pub returns-in_ok-object-in_default-clause-stands : goal.returns-in_ok-object-in_default-clause-stands
 returns-in_ok-object-in_default-clause-stands c = λ s disk inodes found sound ordinary stands.
     loaded_object disk inodes s c.args.inode c.in_ok-object-in_default.object found (held_inode s disk c.args.inode sound) (loaded c) (c.in_ok-object-in_default.ensures.held s disk sound) (c.in_ok-object-in_default.ensures.ends s disk sound) ordinary stands
+
+pub returns-in_ok-object-in_default-clause-untouched : goal.returns-in_ok-object-in_default-clause-untouched
+returns-in_ok-object-in_default-clause-untouched c = λ s is.
+    loaded_untouched s c.args.inode c.in_ok-object-in_default.object is c.in_ok-object-in_default.ensures.size c.in_ok-object-in_default.ensures.settled c.in_ok-object-in_default.ensures.unchanged

@@ -1,4 +1,4 @@
-use Rattle.loading.proofs.ReadLaws.{only_more, only_ok, reads_err}
+use Rattle.buffers.proofs.ReadLaws.{only_more, only_ok, reads_err}
 use Rattle.loading.proofs.inodes.check_inodes.Goals as goal
 
 pub returns-in_err-location-clause-reads : goal.returns-in_err-location-clause-reads

@@ -1,7 +1,7 @@
 use Rattle.std.proofs.Common.{◌≡◌, ◌∙◌, true}
 use Rattle.loading.specs.Readings.{inode_bytes_of}
 use Rattle.loading.proofs.EndLaws.{is_map_of, not_both, same_bytes}
-use Rattle.loading.proofs.ReadLaws.{reads_err, reads_more}
+use Rattle.buffers.proofs.ReadLaws.{reads_err, reads_more}
 use Rattle.loading.proofs.maps.load_numbers.Goals as goal
 
 pub returns-clause-damaged : goal.returns-clause-damaged

@@ -3,7 +3,7 @@ use Rattle.std.proofs.lemmas.List.{length_push}
 use Rattle.inode.specs.Bodies.{inode_block}
 use Rattle.blockmap.specs.Parts.{Spells}
 use Rattle.loading.proofs.MapLaws.{part_more, unchanged_more}
-use Rattle.loading.proofs.ReadLaws.{only_more, only_ok, only_then, reads_err, reads_more}
+use Rattle.buffers.proofs.ReadLaws.{only_more, only_ok, only_then, reads_err, reads_more}
 use Rattle.loading.proofs.maps.load_parts.Goals as goal
 
 pub loop-j-preserved : goal.loop-j-preserved

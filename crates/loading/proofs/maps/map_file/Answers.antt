@@ -1,7 +1,7 @@
 use Rattle.std.proofs.Common.{rules, sym, subst}
 use Rattle.loading.specs.Readings.{IsBodyPath}
 use Rattle.loading.proofs.EndLaws.{all_stored, file_ends, map_file_is, starts_sound, starts_sound_at}
-use Rattle.loading.proofs.ReadLaws.{reads_err, reads_more, reads_ok}
+use Rattle.buffers.proofs.ReadLaws.{reads_err, reads_more, reads_ok}
 use Rattle.loading.proofs.maps.map_file.Goals as goal
 
 pub returns-in_err-check_stored-clause-damaged : goal.returns-in_err-check_stored-clause-damaged

@@ -1,4 +1,4 @@
-use Rattle.loading.proofs.ReadLaws.{only_more, only_ok, reads_err}
+use Rattle.buffers.proofs.ReadLaws.{only_more, only_ok, reads_err}
 use Rattle.loading.proofs.snapshots.check_apart.Goals as goal
 
 pub returns-in_err-apart-clause-reads : goal.returns-in_err-apart-clause-reads

@@ -4,7 +4,7 @@ use Rattle.std.proofs.lemmas.List.{get_or_read}
 use Rattle.layout.specs.declared.pointer.Pointer.TheVariants.{Hole}
 use Rattle.images.specs.Roots.{slot}
 use Rattle.loading.proofs.SnapshotLaws.{apart, at_slot}
-use Rattle.loading.proofs.ReadLaws.{only_more, only_ok, reads_err, reads_more}
+use Rattle.buffers.proofs.ReadLaws.{only_more, only_ok, reads_err, reads_more}
 use Rattle.loading.proofs.snapshots.check_snapshots.Goals as goal
 
 pub returns-in_err-check_snapshot-clause-damaged : goal.returns-in_err-check_snapshot-clause-damaged

@@ -3,7 +3,7 @@ use Rattle.loading.specs.Images.{inodes_of}
 use Rattle.images.specs.Roots.{tree}
 use Rattle.loading.proofs.EndLaws.{block_map_size}
 use Rattle.loading.proofs.LoadLaws as laws
-use Rattle.loading.proofs.ReadLaws.{reads_ok, reads_err, reads_more}
+use Rattle.buffers.proofs.ReadLaws.{reads_ok, reads_err, reads_more}
 use Rattle.loading.proofs.under_root.load.Goals as goal
 
 pub returns-in_err-check_inodes-clause-loads : goal.returns-in_err-check_inodes-clause-loads

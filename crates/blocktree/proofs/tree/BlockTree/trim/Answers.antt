@@ -1,6 +1,6 @@
 use Rattle.std.proofs.Common.{rules, arith, nat_lt, ◌<◌}
 use Rattle.std.proofs.lemmas.Map.Made.{filter_same_pairs}
-use Rattle.blocktree.proofs.SlotLaws.{trimmed_block, trimmed_room, trimmed_changed, trimmed_only}
+use Rattle.blocktree.proofs.SlotLaws.{trimmed_below, trimmed_block, trimmed_changed, trimmed_only, trimmed_room}
 use Rattle.blocktree.proofs.tree.BlockTree.trim.Goals as goal
 
 pub returns-clause-blocks : goal.returns-clause-blocks
@@ -16,3 +16,6 @@ returns-clause-sound c = λ blocks disk i sound same within.
 
 pub returns-clause-changed : goal.returns-clause-changed
 returns-clause-changed c = λ j had. trimmed_only c.args.self.now.slots c.retain.new.self c.args.count (filter_same_pairs _ (λ e. nat_lt e.0 c.args.count) _ (λ k v b w f t. search rules) _ _ c.retain.ensures.filtered) j had
+
+pub returns-clause-cut : goal.returns-clause-cut
+returns-clause-cut c = λ j had. trimmed_below c.args.self.now.slots c.retain.new.self c.args.count (filter_same_pairs _ (λ e. nat_lt e.0 c.args.count) _ (λ k v b w f t. search rules) _ _ c.retain.ensures.filtered) j had

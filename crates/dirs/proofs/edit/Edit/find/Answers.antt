@@ -2,6 +2,7 @@ use Rattle.std.proofs.Common.{sym, subst}
 use Rattle.std.specs.Option.{option_map}
 use Rattle.dirs.specs.Edits.{IsPlaced, IsFirst, edited_block}
 use Rattle.dirs.proofs.HoldLaws.{missing_name}
+use Rattle.buffers.proofs.ReadLaws.{reads_err, reads_ok}
 use Rattle.dirs.proofs.edit.Edit.find.Goals as goal
 
 pub returns-in-Some-clause-found : goal.returns-in-Some-clause-found
@@ -18,3 +19,12 @@ pub returns-in-None-clause-sound : goal.returns-in-None-clause-sound
 returns-in-None-clause-sound g c = λ disk shows.
     subst (λ p. IsFirst c.args.inodes (edited_block disk c.args.file.now c.args.self.now) c.args.self.now.count c.args.name.now (option_map (λ q. q.number) p))
     c.in-None.is (c.in_ok-place.ensures.first disk shows)
+
+pub returns-in_err-place-clause-reads : goal.returns-in_err-place-clause-reads
+returns-in_err-place-clause-reads g c = reads_err c.from_residual.result c.from_residual.ensures.1 c.in_err-place.ensures.reads
+
+pub returns-in-Some-clause-reads : goal.returns-in-Some-clause-reads
+returns-in-Some-clause-reads g c = reads_ok c.in_ok-place.ensures.reads
+
+pub returns-in-None-clause-reads : goal.returns-in-None-clause-reads
+returns-in-None-clause-reads g c = reads_ok c.in_ok-place.ensures.reads

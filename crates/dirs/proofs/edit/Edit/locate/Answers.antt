@@ -4,6 +4,7 @@ use Rattle.layout.specs.Directory.{HoldsEntries}
 use Rattle.blocktree.specs.Trees.{IsSoundAt}
 use Rattle.dirs.specs.Edits.{edited_block, HasNumber}
 use Rattle.dirs.proofs.LookLaws.{number_told, none_more}
+use Rattle.buffers.proofs.ReadLaws.{only_more, only_ok, only_then, reads_err, reads_ok}
 use Rattle.dirs.proofs.edit.Edit.locate.Goals as goal
 
 pub returns-in_err-look-clause-damaged : goal.returns-in_err-look-clause-damaged
@@ -26,7 +27,7 @@ loop-i-preserved g c =
     let look = c.in_ok-look.ensures in
     let i = c.loop-i.i in
     record {
-      read = search rules;
+      read = only_then so_far.read look.reads;
       passed = λ disk shows j below entries holds. elim (cases_eq j i) [
         | inl same ↦ sym ((look.tells disk (so_far.read.same disk shows)).number entries (subst (λ k. HoldsEntries c.args.inodes (edited_block disk c.args.file.now c.args.self.now k) entries) same holds)) ∙ c.in_default.is
         | inr else ↦ so_far.passed disk shows j (omega (arith, below, else)) entries holds
@@ -39,3 +40,12 @@ loop-i-preserved g c =
 
 pub returns-clause-first : goal.returns-clause-first
 returns-clause-first g c = λ disk shows j below. c.loop-i.invariant.first disk shows j (omega (arith, below, c.loop-i-test.false))
+
+pub returns-in_err-look-clause-reads : goal.returns-in_err-look-clause-reads
+returns-in_err-look-clause-reads g c = reads_err c.from_residual.result c.from_residual.ensures.1 (only_more _ c.loop-i.invariant.read c.in_err-look.ensures.reads)
+
+pub returns-in-Some-clause-reads : goal.returns-in-Some-clause-reads
+returns-in-Some-clause-reads g c = reads_ok (only_more _ c.loop-i.invariant.read c.in_ok-look.ensures.reads)
+
+pub returns-clause-reads : goal.returns-clause-reads
+returns-clause-reads g c = only_ok c.loop-i.invariant.read

@@ -7,6 +7,7 @@ use Rattle.layout.specs.DirectoryNames.{HoldNames}
 use Rattle.dirs.specs.Directory.{with_name}
 use Rattle.dirs.specs.Edits.{IsPlaced, IsReached, edited_block}
 use Rattle.dirs.proofs.HoldLaws.{removed_nothing, hold_removed}
+use Rattle.buffers.proofs.ReadLaws.{reads_err, reads_more, reads_ok}
 use Rattle.dirs.proofs.edit.Edit.prepare_remove.Goals as goal
 
 pub returns-in_default-clause-removed : goal.returns-in_default-clause-removed
@@ -61,3 +62,21 @@ returns-clause-removed g c = λ disk names shows has.
       past = λ j beyond else. has.past j beyond;
       gone = λ beyond. absurd (omega (arith, beyond, placed.0));
     }))
+
+pub returns-in_err-place-clause-reads : goal.returns-in_err-place-clause-reads
+returns-in_err-place-clause-reads g c = reads_err c.from_residual.result c.from_residual.ensures.1 c.in_err-place.ensures.reads
+
+pub returns-in_default-clause-reads : goal.returns-in_default-clause-reads
+returns-in_default-clause-reads g c = reads_ok c.in_ok-place.ensures.reads
+
+pub returns-in_err-copy-clause-reads : goal.returns-in_err-copy-clause-reads
+returns-in_err-copy-clause-reads g c = reads_err c.from_residual-in_err-copy.result c.from_residual-in_err-copy.ensures.1 (reads_more _ c.in_ok-place.ensures.reads c.in_err-copy.ensures.reads)
+
+pub returns-in_err-self-clause-reads : goal.returns-in_err-self-clause-reads
+returns-in_err-self-clause-reads g c = reads_err c.from_residual-in_err-self.result c.from_residual-in_err-self.ensures.1 (reads_more _ (reads_more _ c.in_ok-place.ensures.reads c.in_ok-copy.ensures.reads) c.in_err-self.ensures.reads)
+
+pub returns-then-count-eq0-clause-reads : goal.returns-then-count-eq0-clause-reads
+returns-then-count-eq0-clause-reads g c = reads_ok (reads_more _ (reads_more _ c.in_ok-place.ensures.reads c.in_ok-copy.ensures.reads) c.in_ok-self.ensures.reads)
+
+pub returns-clause-reads : goal.returns-clause-reads
+returns-clause-reads g c = reads_ok (reads_more _ c.in_ok-place.ensures.reads c.in_ok-copy.ensures.reads)

@@ -2,6 +2,7 @@ use Rattle.std.proofs.Common.{rules, sym, ◌≡◌, ◌∙◌, inl, inr, ◌-�
 use Rattle.std.proofs.lemmas.Bool.{cases_lt}
 use Rattle.std.proofs.lemmas.List.{nil_from_length}
 use Rattle.blocktree.specs.Trees.{IsSoundAt}
+use Rattle.buffers.proofs.ReadLaws.{only_more, only_ok, only_then, reads_err, reads_ok}
 use Rattle.dirs.proofs.edit.Edit.trimmed.Goals as goal
 
 pub returns-in_err-look-clause-damaged : goal.returns-in_err-look-clause-damaged
@@ -22,7 +23,7 @@ loop-i-preserved g c =
     let so_far = c.loop-i.invariant in
     let look = c.in_ok-look.ensures in
     record {
-      read = search rules;
+      read = only_then so_far.read look.reads;
       empty = λ disk entries shows holds j from below. elim (cases_lt j c.loop-i.i) [
         | inl here ↦
             let is : c.loop-i.i - 1 ≡ j = omega (arith, from, here) in
@@ -36,3 +37,12 @@ loop-i-preserved g c =
 pub returns-clause-empty : goal.returns-clause-empty
 returns-clause-empty g c = λ disk entries shows holds i from below.
     c.loop-i.invariant.empty disk entries shows holds i (omega arith) below
+
+pub returns-in_err-look-clause-reads : goal.returns-in_err-look-clause-reads
+returns-in_err-look-clause-reads g c = reads_err c.from_residual.result c.from_residual.ensures.1 (only_more _ c.loop-i.invariant.read c.in_err-look.ensures.reads)
+
+pub returns-then-look-gt0-clause-reads : goal.returns-then-look-gt0-clause-reads
+returns-then-look-gt0-clause-reads g c = reads_ok (only_more _ c.loop-i.invariant.read c.in_ok-look.ensures.reads)
+
+pub returns-clause-reads : goal.returns-clause-reads
+returns-clause-reads g c = only_ok c.loop-i.invariant.read

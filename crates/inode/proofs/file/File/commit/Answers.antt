@@ -1,4 +1,4 @@
-use Rattle.std.proofs.Common.{◌∙◌, ap, refl, ℕ, ltb, if◌then◌else◌}
+use Rattle.std.proofs.Common.{◌∙◌, ◌<◌, ap, inl, inr, min, refl, subst, ℕ, ltb, if◌then◌else◌}
 use Rattle.layout.specs.Bytes.{zeros}
 use Rattle.blocktree.specs.Places.{block_count}
 use Rattle.blocktree.specs.Trees.{tree_block}
@@ -15,4 +15,14 @@ returns c = record {
       (c.install.ensures.blocks disk);
   base = λ settled was. same_base _ _ c.install.ensures.settled settled (same_base _ _ c.trim.ensures.settled settled was);
   sound = λ blocks disk i was. c.install.ensures.sound blocks disk i (c.trim.ensures.sound blocks disk i was);
+  settled = record {
+    pointers = c.install.ensures.settled.pointers ∙ c.trim.ensures.settled.pointers;
+    depth = c.install.ensures.settled.depth ∙ c.trim.ensures.settled.depth;
+    count = c.install.ensures.settled.count ∙ c.trim.ensures.settled.count;
+  };
+  kept = c.install.ensures.kept ∙ c.trim.ensures.kept ∙ ap (min c.args.self.now.tree.kept) c.block_count-count.ensures;
+  only = λ j is. elim (c.install.ensures.only j is) [
+    | inl piece ↦ inl piece
+    | inr before ↦ inr (c.trim.ensures.changed j before, subst (λ (n : ℕ). j < n) c.block_count-count.ensures (c.trim.ensures.cut j before))
+  ];
 }

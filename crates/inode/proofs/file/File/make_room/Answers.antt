@@ -9,4 +9,5 @@ returns-clause-same c = record {
   base = same_base _ _ c.make_room.ensures.settled;
   sound = c.make_room.ensures.sound;
   was_sound = c.make_room.ensures.was_sound;
+  changes = record { settled = c.make_room.ensures.settled; kept = c.make_room.ensures.kept; only = c.make_room.ensures.only };
 }
