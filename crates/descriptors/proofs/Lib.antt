@@ -1,2 +1,4 @@
 pub mod FreeLemmas
 pub mod FitLemmas
+pub mod CountLemmas
+pub mod MoveLemmas

@@ -1,3 +1,4 @@
 pub mod Files
 pub mod Tables
 pub mod Fits
+pub mod Nameless

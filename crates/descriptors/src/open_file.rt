@@ -1,8 +1,10 @@
 //! An open file.
 
-ghost use Rattle.std.specs.Prelude.{◌≡◌};
+ghost use Rattle.std.specs.Prelude.{◌≡◌, ◌≤◌};
+ghost use Rattle.model.specs.Descriptors.{described_by};
+ghost use Rattle.model.specs.declared.limits.TheConstants.{GREATEST_FILE};
 
-use model::Access;
+use model::{Access, Flags};
 
 /// An open file: what it is open by, and what it has as a file.
 #[derive(Clone, Copy, Debug, PartialEq, Eq)]
@@ -21,7 +23,23 @@ pub struct OpenFile {
 }
 
 impl OpenFile {
-    ghost use Rattle.descriptors.specs.Files.{relinked_file, resized_file};
+    ghost use Rattle.descriptors.specs.Files.{KeepsBounds, description_of, figures_of, relinked_file, resized_file};
+
+    /// The file with a number as it is just opened with these flags, at offset 0; it has so many bytes and so many names.
+    pub fn opened(number: u32, flags: Flags, size: u64, links: u32) -> OpenFile
+        ensures described { description_of result ≡ described_by number flags }
+        ensures figures { figures_of result ≡ record { links = links; size = size } }
+        ensures within { size ≤ GREATEST_FILE → KeepsBounds result }
+    {
+        OpenFile {
+            number,
+            offset: 0,
+            access: flags.access,
+            appends: flags.appends,
+            size,
+            links,
+        }
+    }
 
     /// The same with so many bytes, where it is the file with this number.
     pub(crate) fn resized(mut self, number: u32, size: u64) -> OpenFile

@@ -3,7 +3,8 @@
 ghost use Rattle.std.specs.Prelude.{ℕ, ◌≡◌, ◌≤◌, ◌<◌, Some, None, IfSome, IsSome, length, slice_index_or};
 ghost use Rattle.std.specs.Option.{ForSome, option_map};
 ghost use Rattle.model.specs.Outcomes.{lowest_free};
-ghost use Rattle.model.specs.Volumes.{Volume, is_numbered, is_open};
+ghost use Rattle.model.specs.Records.{count_nameless};
+ghost use Rattle.model.specs.Volumes.{IsMounted, IsVolume, Volume, is_numbered, is_open};
 ghost use Rattle.model.specs.declared.limits.TheConstants.{GREATEST_FILE, GREATEST_OFFSET, OPEN_FILES};
 ghost use Rattle.descriptors.specs.Files.{KeepsBounds, description_of, relinked_file, resized_file, with_links, with_size};
 ghost use Rattle.descriptors.specs.declared.open_file.OpenFile.{OpenFile};
@@ -24,7 +25,8 @@ pub struct Descriptors {
 
 impl Descriptors {
     ghost use Rattle.descriptors.specs.Fits.{ChangesFigures, FitsVolume, IsFileOf};
-    ghost use Rattle.descriptors.specs.Tables.{open_at, put_open, table_of};
+    ghost use Rattle.descriptors.specs.Nameless.{is_first_nameless};
+    ghost use Rattle.descriptors.specs.Tables.{moved_to, open_at, put_open, table_of};
 
     /// The table with no file open.
     pub fn new() -> Descriptors
@@ -62,6 +64,33 @@ impl Descriptors {
             found = self.is_numbered(fd, number) || found;
         }
         found
+    }
+
+    /// How many files with no name are open, each counted once: of a mounted volume, all its files that have no name.
+    pub fn nameless_files(&self) -> u32
+        ensures few { result ≤ OPEN_FILES }
+        ensures counted { (inodes : ℕ) (v : Volume) → IsVolume inodes v
+            → IsMounted v (table_of self.now) → FitsVolume self.now v
+            → result ≡ count_nameless inodes v }
+    {
+        let mut count = 0;
+        for fd in 0..OPEN_FILES {
+            if self.is_first_nameless(fd) {
+                count += 1;
+            }
+        }
+        count
+    }
+
+    // Whether a descriptor is the lowest that is open for its file, and this has no name.
+    fn is_first_nameless(&self, fd: u32) -> bool
+        requires { fd < OPEN_FILES }
+        ensures { result ≡ is_first_nameless self.now fd }
+    {
+        match self.files[fd as usize] {
+            Some(file) => file.links == 0 && !self.is_open_among(fd, file.number),
+            None => false,
+        }
     }
 
     // Whether a descriptor is open for the file with a number.
@@ -110,7 +139,7 @@ impl Descriptors {
         ensures fits { (v : Volume) → FitsVolume self.old v → IsFileOf v file
             → FitsVolume self.new v }
     {
-        self.files[fd as usize] = Some(file);
+        self.put(fd, file);
     }
 
     /// Frees a descriptor, and gives the file that was open there; None, and nothing changes, where it was free.
@@ -138,12 +167,26 @@ impl Descriptors {
         ensures table { (f : OpenFile) → open_at self.old fd ≡ Some f → table_of self.new
             ≡ put_open fd (Some (record (description_of f) { offset = offset }))
             (table_of self.old) }
+        ensures moved { table_of self.new ≡ moved_to fd offset (table_of self.old) }
+        ensures mounted { (v : Volume) → IsMounted v (table_of self.old)
+            → IsMounted v (table_of self.new) }
         ensures fits { (v : Volume) → FitsVolume self.old v → FitsVolume self.new v }
     {
         if let Some(mut file) = self.get(fd) {
             file.offset = offset;
-            self.files[fd as usize] = Some(file);
+            self.put(fd, file);
         }
+    }
+
+    // Puts an open file where a descriptor's is, or would be.
+    fn put(&mut self, fd: u32, file: OpenFile)
+        requires within { fd < OPEN_FILES }
+        requires bounds { KeepsBounds file }
+        ensures files { (d : ℕ) → open_at self.new d ≡ put_open fd (Some file) (open_at self.old) d }
+        ensures table { table_of self.new
+            ≡ put_open fd (Some (description_of file)) (table_of self.old) }
+    {
+        self.files[fd as usize] = Some(file);
     }
 
     /// Notes that the file with a number has so many bytes now.
