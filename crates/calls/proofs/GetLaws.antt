@@ -106,17 +106,3 @@ module _ (v : Volume) (table : ℕ → Option Description) (text : List ℕ) (of
 
   pub get_led_nowhere : (errno : Errno) → IsLed tests v (resolve t true text) (Err errno) → gets t text offset count (Refused errno) t nothing
   get_led_nowhere errno led = led_refused v table there tests (resolve t true text) errno led
-
--- ---- the bytes of a file
-
--- what is read from an offset on, as far as there is anything
-pub part_read : (f : ℕ → ℕ) (size offset count start : ℕ) (bytes : List ℕ) → start ≡ min offset size → length bytes ≡ min (size - start) count
-    → ((k : ℕ) → k < length bytes → slice_index bytes k ≡ f (start + k)) → bytes ≡ read_at offset count (first_bytes f size)
-part_read f size offset count start bytes starts long is =
-    same_bytes bytes (take count (drop offset (first_bytes f size))) (length bytes) refl
-    (omega (arith, length-take count (drop offset (first_bytes f size)), length-drop offset (first_bytes f size), length-map-range_with_len f 0 size))
-    (λ k lt.
-    let same : start ≡ offset = omega (arith, lt) in
-    let within : offset + k < size = omega (arith, lt) in
-    is k lt ∙ ap (λ (n : ℕ). f (n + k)) same
-    ∙ sym (slice_index-between (first_bytes f size) offset count k (omega (arith, lt)) ∙ get_or-map-range_with_len f 0 size (offset + k) (offset + k) 0 within (omega arith)))

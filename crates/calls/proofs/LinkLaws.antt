@@ -26,9 +26,9 @@ use Rattle.model.proofs.LooseLemmas.{some_same}
 use Rattle.calls.specs.Changing.{Comes}
 use Rattle.calls.specs.Leading.{LeadsTo}
 use Rattle.calls.specs.Linking.{LinksFile}
-use Rattle.calls.specs.Served.{IsServed}
+use Rattle.records.specs.Served.{IsServed}
 use Rattle.calls.specs.declared.changed.Changing.{Changing}
-use Rattle.calls.proofs.EnterLaws.{node_here, node_other}
+use Rattle.records.proofs.EnterLaws.{node_here, node_other}
 use Rattle.calls.proofs.GapLaws.{FindsGap, gap_parent, place_free, place_full}
 use Rattle.calls.proofs.LeadLaws.{first_append, leads_refused, leads_there, node_object}
 use Rattle.calls.proofs.MakeLaws.{tested_none, tested_some}

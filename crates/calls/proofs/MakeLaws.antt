@@ -30,9 +30,9 @@ use Rattle.model.proofs.SweepLemmas.{not_unused}
 use Rattle.model.proofs.WalkLemmas.{number_at-push}
 use Rattle.calls.specs.Changing.{Comes}
 use Rattle.calls.specs.Making.{MakesAt, MakesIn, IsLeastFree}
-use Rattle.calls.specs.Served.{IsServed}
+use Rattle.records.specs.Served.{IsServed}
 use Rattle.calls.specs.declared.changed.Changing.{Changing}
-use Rattle.calls.proofs.EnterLaws.{node_here, node_other}
+use Rattle.records.proofs.EnterLaws.{node_here, node_other}
 use Rattle.calls.proofs.CountedLists.{counted_list}
 
 -- ---- tests

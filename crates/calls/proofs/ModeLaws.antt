@@ -23,9 +23,9 @@ use Rattle.paths.specs.declared.lookup.Found.TheVariants as found
 use Rattle.calls.specs.Changing.{Comes}
 use Rattle.calls.specs.ChangingMode.{ModesNumber}
 use Rattle.calls.specs.Leading.{IsLed}
-use Rattle.calls.specs.Served.{IsServed}
+use Rattle.records.specs.Served.{IsServed}
 use Rattle.calls.specs.declared.changed.Changing.{Changing}
-use Rattle.calls.proofs.EnterLaws.{node_here, node_other}
+use Rattle.records.proofs.EnterLaws.{node_here, node_other}
 use Rattle.calls.proofs.LeadLaws.{led_some, led_there, led_refused}
 
 -- a mode is not what makes an object stay or go

@@ -27,7 +27,7 @@ use Rattle.paths.specs.declared.lookup.Found.TheVariants as found
 use Rattle.calls.specs.Changing.{ComesSwept}
 use Rattle.calls.specs.Leading.{LeadsTo}
 use Rattle.calls.specs.Removing.{RemovesDirectory, RemovesName, UnlinksEntry}
-use Rattle.calls.specs.Served.{IsServed}
+use Rattle.records.specs.Served.{IsServed}
 use Rattle.calls.specs.declared.changed.Changing.{Changing}
 use Rattle.calls.proofs.LeadLaws.{first_append, first_in_front, leads_refused, leads_there, node_object, trail_end}
 use Rattle.calls.proofs.MakeLaws.{child_some, listing, tested_some, tested_none}

@@ -20,9 +20,9 @@ use Rattle.model.proofs.WalkLemmas.{number_at-push}
 use Rattle.calls.specs.Changing.{ComesOrStays}
 use Rattle.calls.specs.Leading.{LeadsTo}
 use Rattle.calls.specs.Renaming.{MovesName, PassTests, otherwise}
-use Rattle.calls.specs.Served.{IsServed}
+use Rattle.records.specs.Served.{IsServed}
 use Rattle.calls.specs.declared.changed.Changing.{Changing}
-use Rattle.calls.proofs.FileLaws.{named_directory}
+use Rattle.records.proofs.FileLaws.{named_directory}
 use Rattle.calls.proofs.GapLaws.{finds_gap}
 use Rattle.calls.proofs.LeadLaws.{first_append, first_in_front, leads_refused, node_object}
 use Rattle.calls.proofs.MakeLaws.{tested_none, tested_some}

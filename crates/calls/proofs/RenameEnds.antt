@@ -17,7 +17,7 @@ use Rattle.model.specs.declared.reply.Reply.TheVariants.{Done, Refused}
 use Rattle.model.proofs.LeadLemmas.{parent-push}
 use Rattle.model.proofs.WalkLemmas.{same_path}
 use Rattle.calls.specs.Renaming.{FirstOfTests, number_tests, otherwise}
-use Rattle.calls.proofs.FileLaws.{same_some}
+use Rattle.records.proofs.FileLaws.{same_some}
 use Rattle.calls.proofs.GapLaws.{FindsGap, place_full}
 use Rattle.calls.proofs.MakeLaws.{child_some, listing, tested_none}
 use Rattle.calls.proofs.RenameLaws.{applies, at_q, not_either, other_there, same_tests, stands_q}

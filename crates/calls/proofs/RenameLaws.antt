@@ -27,7 +27,7 @@ use Rattle.model.proofs.RenameLemmas.{rename_done}
 use Rattle.model.proofs.WalkLemmas.{behind-append, behind-is, number_at-push, path_eq-same, same_path}
 use Rattle.calls.specs.Renaming.{FirstOfTests, is_directory_at}
 use Rattle.calls.proofs.MakeLaws.{child_some, listing, tested_none, tested_some}
-use Rattle.calls.proofs.FileLaws.{named_directory, none_some, same_some}
+use Rattle.records.proofs.FileLaws.{named_directory, none_some, same_some}
 
 -- ---- numbers and objects
 

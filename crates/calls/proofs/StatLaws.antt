@@ -50,7 +50,7 @@ module _ (v : Volume) (table : ℕ → Option Description) where
   t = tree_of v table
 
   module _ (inodes : ℕ) (volume : IsVolume inodes v) (tell_links : VolumesTellLinks) (n : ℕ) where
-    told : (o : Node) (x : Object) → v n ≡ Some o → object_of n (v n) ≡ Some x → tells_stat t x (replies.Stat (stat_in n o)) t nothing
+    pub told : (o : Node) (x : Object) → v n ≡ Some o → object_of n (v n) ≡ Some x → tells_stat t x (replies.Stat (stat_in n o)) t nothing
     told (directory_node mode names) x is object =
         subst (λ (y : Object). tells_stat t y (replies.Stat (stat_in n (directory_node mode names))) t nothing)
         (object_by n v (directory_node mode names) (trees.directory n) x is refl object)

@@ -23,7 +23,7 @@ use Rattle.paths.specs.declared.lookup.Found.{Found}
 use Rattle.paths.specs.declared.lookup.Found.TheVariants as found
 use Rattle.calls.specs.Changing.{said_by}
 use Rattle.calls.specs.Leading.{IsLed}
-use Rattle.calls.specs.Served.{IsServed}
+use Rattle.records.specs.Served.{IsServed}
 use Rattle.calls.specs.Truncating.{ComesToSize, CutsNumber}
 use Rattle.calls.specs.declared.changed.Changing.{Changing}
 use Rattle.calls.proofs.LeadLaws.{led_refused, led_there}

@@ -1,7 +1,7 @@
 -- What calls by a path that change something come to.
 use Rattle.std.specs.Prelude.{ℕ, Option, Some, None, Result, Ok, Err, IfOk, IfSome}
 use Rattle.model.specs.Outcomes.{Outcome}
-use Rattle.model.specs.Records.{Change, Made, Applies, applied, create, directory, symbolic_link, link, unname, rename, cut, change_mode}
+use Rattle.model.specs.Records.{Change, Made, Applies, applied, create, file, directory, symbolic_link, link, unname, rename, cut, change_mode}
 use Rattle.model.specs.Room.{Work, nothing, logs}
 use Rattle.model.specs.Trees.{Description}
 use Rattle.model.specs.Volumes.{Volume, IsMounted, swept, tree_of}
@@ -10,9 +10,9 @@ use Rattle.model.specs.declared.reply.Reply.TheVariants.{Done, Refused}
 use Rattle.blocktree.specs.declared.error.ReadError.{ReadError}
 use Rattle.buffers.specs.declared.blocks.Blocks.{Ghosts}
 use Rattle.inofile.specs.declared.inode_file.InodeFile.{InodeFile}
-use Rattle.calls.specs.Prepared.{Does, IsReady}
-use Rattle.calls.specs.Served.{IsServed}
-use Rattle.calls.specs.Shown.{OnVolumes}
+use Rattle.records.specs.Prepared.{Does, IsReady}
+use Rattle.records.specs.Served.{IsServed}
+use Rattle.records.specs.Shown.{OnVolumes}
 use Rattle.calls.specs.declared.changed.Changing.{Changing}
 use Rattle.calls.specs.declared.changed.OwnedChange.{OwnedChange}
 use Rattle.calls.specs.declared.changed.OwnedChange.TheVariants as owned
@@ -22,6 +22,7 @@ use Rattle.calls.specs.declared.made.OwnedObject.TheVariants as objects
 
 -- what a call makes
 abbrev pub made_by : OwnedObject → Made
+made_by (objects.File mode) = file mode
 made_by (objects.Directory mode) = directory mode
 made_by (objects.Link text) = symbolic_link text.bytes.items
 

@@ -1,12 +1,6 @@
 pub use Rattle.paths.specs.Standing
 pub mod Refusals
-pub mod Served
-pub mod Entering
-pub mod Contents
-pub mod Steps
-pub mod Prepared
 pub mod Listing
-pub mod Shown
 pub mod Leading
 pub mod Stating
 pub mod ReadingLink
@@ -15,11 +9,7 @@ pub mod Making
 pub mod ChangingMode
 pub mod Removing
 pub mod Getting
-pub mod Reading
-pub mod Rewriting
 pub mod Truncating
-pub mod Below
-pub mod Moving
 pub mod Linking
-pub mod Sweeping
 pub mod Renaming
+pub mod Opening

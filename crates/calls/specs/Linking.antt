@@ -7,7 +7,7 @@ use Rattle.model.specs.declared.errno.Errno.{Errno}
 use Rattle.model.specs.declared.errno.Errno.TheVariants.{EMLINK, DIRFULL}
 use Rattle.model.specs.declared.limits.TheConstants.{FILE_NAMES}
 use Rattle.calls.specs.Changing.{said_by}
-use Rattle.calls.specs.Steps.{IsFileOf}
+use Rattle.records.specs.Steps.{IsFileOf}
 use Rattle.calls.specs.declared.changed.Changing.{Changing}
 
 -- what is told of a file that gets a name which its new directory doesn't have

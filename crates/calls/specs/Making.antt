@@ -7,7 +7,10 @@ use Rattle.model.specs.declared.errno.Errno.{Errno}
 use Rattle.model.specs.declared.errno.Errno.TheVariants.{DIRFULL, NONUMBER}
 use Rattle.model.specs.declared.limits.TheConstants.{FIRST_NUMBER}
 use Rattle.calls.specs.Changing.{said_by}
+use Rattle.paths.specs.Numbers.{IsNumber}
 use Rattle.calls.specs.declared.changed.Changing.{Changing}
+use Rattle.calls.specs.declared.changed.OwnedChange.{OwnedChange}
+use Rattle.calls.specs.declared.changed.OwnedChange.TheVariants as owned
 
 -- each number that an object may have is taken
 abbrev pub HasNoNumber : ℕ → Volume → Type 0
@@ -31,3 +34,12 @@ MakesIn inodes v parent name made (Ok c) =
 abbrev pub MakesAt : Volume → ℕ → ℕ → Name → Made → Result Changing Errno → Type 0
 MakesAt v number parent name made (Err errno) = (errno ≡ DIRFULL) × (TakesName v parent name → ⊥)
 MakesAt v number parent name made (Ok c) = (said_by c.change ≡ create number parent made name) × TakesName v parent name
+
+-- what is changed is that an object of this number is made
+abbrev pub CreatesNumber : ℕ → OwnedChange → Type 0
+CreatesNumber n (owned.Create creation) = creation.number ≡ n
+CreatesNumber n _ = ⊥
+
+-- the same of some number of an image of so many inodes
+abbrev pub CreatesObject : ℕ → OwnedChange → Type 0
+CreatesObject inodes change = (n : ℕ) × CreatesNumber n change × IsNumber inodes n

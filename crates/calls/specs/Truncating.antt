@@ -9,7 +9,7 @@ use Rattle.model.specs.declared.errno.Errno.{Errno}
 use Rattle.model.specs.declared.errno.Errno.TheVariants.{EISDIR}
 use Rattle.model.specs.declared.reply.Reply.TheVariants.{Done, Refused}
 use Rattle.calls.specs.Changing.{ComesSwept, said_by}
-use Rattle.calls.specs.Rewriting.{CutsBytes}
+use Rattle.records.specs.Rewriting.{CutsBytes}
 use Rattle.calls.specs.declared.changed.Changing.{Changing}
 
 -- what a call comes to that may find nothing to change, and whose work is told by its record

@@ -1,12 +1,13 @@
 //! What a call is to change.
 
-ghost use Rattle.std.specs.Prelude.{◌≡◌, ◌≤◌, IfNone, IfSome, length};
+ghost use Rattle.std.specs.Prelude.{ℕ, ◌≡◌, ◌≤◌, IfNone, IfSome, length};
 ghost use Rattle.layout.specs.Record.{body_of, change_of, IsChange, KeepsLimits};
 ghost use Rattle.model.specs.Paths.{IsName};
 
-use crate::{Creation, Prepared};
+use crate::Creation;
 use layout::{InodeNumber, Record, is_name};
 use model::Mode;
+use records::Prepared;
 
 /// A name that a directory has, or may have.
 #[derive(Drop)]
@@ -74,6 +75,18 @@ pub struct Changing {
 
 impl OwnedChange {
     ghost use Rattle.calls.specs.Changing.{said_by};
+    ghost use Rattle.calls.specs.Making.{CreatesNumber};
+
+    /// The number of the object that is made, if one is.
+    pub(crate) fn number_made(&self) -> Option<u32>
+        ensures some { IfSome result (λ n. CreatesNumber n self.now) }
+        ensures none { IfNone result ((n : ℕ) → CreatesNumber n self.now → ⊥) }
+    {
+        match self {
+            OwnedChange::Create { creation } => Some(creation.number.get()),
+            _ => None,
+        }
+    }
 
     /// The record, as the log takes it.
     pub fn record(&self) -> Record<'_>

@@ -9,17 +9,17 @@ ghost use Rattle.paths.specs.Numbers.{IsNumber};
 ghost use Rattle.calls.specs.Changing.{AllDo, AllReady, Comes};
 ghost use Rattle.calls.specs.ChangingMode.{ModesNumber};
 ghost use Rattle.calls.specs.Refusals.{is_path_refusal};
-ghost use Rattle.calls.specs.Shown.{NeverDamaged, OnMounted, OnVolumes};
+ghost use Rattle.records.specs.Shown.{NeverDamaged, OnMounted, OnVolumes};
 ghost use Rattle.paths.specs.Standing.{Looks};
 
 use crate::leading::lead;
-use crate::moding::prepare_mode;
 use crate::{Changing, OwnedChange};
 use blocktree::ReadError;
 use buffers::Blocks;
 use inofile::InodeFile;
 use layout::InodeNumber;
 use model::{Errno, Mode, records_change_trees};
+use records::prepare_mode;
 use std::alloc::Global;
 
 /// Gives this mode to the file or directory where a path leads, where a last symbolic link is followed, as far as nothing of it is

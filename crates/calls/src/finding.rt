@@ -10,7 +10,7 @@ ghost use Rattle.model.specs.Volumes.{Volume, IsVolume, tree_of};
 ghost use Rattle.blocktree.specs.Errors.{IsFault};
 ghost use Rattle.paths.specs.Ends.{EndsInName, EndsWell, IsAtName};
 ghost use Rattle.paths.specs.Places.{place_of, IsPlaceWithin};
-ghost use Rattle.calls.specs.Shown.{OnVolumes};
+ghost use Rattle.records.specs.Shown.{OnVolumes};
 ghost use Rattle.paths.specs.Standing.{Looks, Stands};
 
 use blocktree::ReadError;

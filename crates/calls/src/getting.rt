@@ -14,12 +14,12 @@ ghost use Rattle.calls.specs.Refusals.{is_path_refusal};
 ghost use Rattle.paths.specs.Standing.{Looks, Stands};
 
 use crate::leading::find_object;
-use crate::reading::read_bytes;
 use blocktree::ReadError;
 use buffers::Blocks;
 use inofile::InodeFile;
 use model::{Errno, TRANSFER_BYTES, Text};
 use paths::{Parts, refusal_of_text};
+use records::read_bytes;
 use std::alloc::Global;
 
 /// As many bytes as asked and there, from an offset on, of the file that a path leads to, or why the call is refused. NoMemory;

@@ -12,7 +12,7 @@ ghost use Rattle.paths.specs.Steps.{found_in, text_in};
 ghost use Rattle.paths.specs.declared.lookup.Found.TheVariants as found;
 ghost use Rattle.calls.specs.Leading.{IsLed, LeadsTo};
 ghost use Rattle.calls.specs.Refusals.{is_path_refusal};
-ghost use Rattle.calls.specs.Shown.{NeverDamaged, OnVolumes};
+ghost use Rattle.records.specs.Shown.{NeverDamaged, OnVolumes};
 ghost use Rattle.paths.specs.Standing.{Looks, Stands};
 
 use crate::finding::find;
@@ -22,22 +22,6 @@ use inofile::InodeFile;
 use model::Errno;
 use paths::{Found, Parts, Place, refusal_of_text};
 use std::alloc::Global;
-
-/// What stands at a number.
-pub(crate) fn kind_at<B: Blocks>(
-    alloc: Global,
-    inodes: &mut InodeFile,
-    blocks: &mut B,
-    number: u32,
-) -> Result<Found, ReadError>
-    requires { IsNumber inodes.old.geometry.inodes number }
-    ensures looks { Looks B.Blocks IsFault blocks.old blocks.new inodes.old inodes.new result }
-    ensures found { OnVolumes B.Blocks blocks.old inodes.old
-        (λ disk settled v. IfOk result (λ f. f ≡ found_in (v number))) }
-    ensures damaged { NeverDamaged B.Blocks blocks.old inodes.old result }
-{
-    paths::object_at(alloc, inodes, blocks, number)
-}
 
 /// The text of a symbolic link; none where the number is of something else.
 pub(crate) fn text_at<B: Blocks>(

@@ -12,14 +12,12 @@ ghost use Rattle.calls.specs.Changing.{AllDo, AllReady, Comes};
 ghost use Rattle.calls.specs.Leading.{LeadsTo};
 ghost use Rattle.calls.specs.Linking.{LinksFile};
 ghost use Rattle.calls.specs.Refusals.{is_path_refusal};
-ghost use Rattle.calls.specs.Steps.{IsFileOf};
-ghost use Rattle.calls.specs.Shown.{NeverDamaged, OnMounted, OnVolumes};
+ghost use Rattle.records.specs.Steps.{IsFileOf};
+ghost use Rattle.records.specs.Shown.{NeverDamaged, OnMounted, OnVolumes};
 ghost use Rattle.paths.specs.Standing.{Looks};
 
 use crate::finding::find;
 use crate::leading::find_object;
-use crate::links::{links_of, prepare_link};
-use crate::loading::load;
 use crate::{Changing, EntryName, OwnedChange};
 use blocktree::ReadError;
 use buffers::Blocks;
@@ -27,6 +25,7 @@ use inofile::InodeFile;
 use layout::InodeNumber;
 use model::{Errno, FILE_NAMES, records_change_trees, volumes_are_trees, volumes_tell_links};
 use paths::{Parts, Place, refusal_of_new_text, refusal_of_text};
+use records::{links_of, load, prepare_link};
 use std::alloc::Global;
 
 /// Gives the file where the path `old` leads one more name, where `path` leads, as far as nothing of it is seen yet: prepares its

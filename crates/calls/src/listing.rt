@@ -14,13 +14,13 @@ ghost use Rattle.calls.specs.Refusals.{is_path_refusal};
 ghost use Rattle.paths.specs.Standing.{Looks, Stands};
 
 use crate::finding::find;
-use crate::loading::load;
 use blocktree::ReadError;
 use buffers::Blocks;
 use inofile::InodeFile;
 use layout::Kind;
 use model::{Errno, Names, volumes_are_trees};
 use paths::{Parts, Place, refusal_of_text};
+use records::load;
 use std::alloc::Global;
 
 /// The names of the directory that a path leads to, sorted by their bytes, or why the call is refused. NoMemory; Device where a

@@ -30,6 +30,7 @@ impl LinkText {
 /// What a call makes, with a text of its own.
 #[derive(Drop)]
 pub enum OwnedObject {
+    File { mode: Mode },
     Directory { mode: Mode },
     Link { text: LinkText },
 }
@@ -48,9 +49,13 @@ impl OwnedObject {
         ensures mode { mode_of_made (made_of result) ≤ 4095 }
         ensures short { length (text_bytes (made_of result)) ≤ 1025 }
     {
+        // The type of a mode holds it to its bits.
         match self {
+            OwnedObject::File { mode } => {
+                let _ = mode.bits();
+                NewObject::File { mode: *mode }
+            }
             OwnedObject::Directory { mode } => {
-                // The type of a mode holds it to its bits.
                 let _ = mode.bits();
                 NewObject::Directory { mode: *mode }
             }
@@ -72,7 +77,7 @@ impl Creation {
     ghost use Rattle.std.specs.Prelude.{◌≡◌, ◌≤◌, length};
     ghost use Rattle.layout.specs.Record.{body_of, change_of, IsChange, KeepsLimits};
     ghost use Rattle.calls.specs.Changing.{creation_of};
-    ghost use Rattle.calls.specs.Served.{IsServed};
+    ghost use Rattle.records.specs.Served.{IsServed};
 
     /// The record, as the log takes it.
     pub fn record(&self) -> Record<'_>

@@ -12,15 +12,13 @@ ghost use Rattle.model.specs.declared.limits.TheConstants.{FIRST_NUMBER};
 ghost use Rattle.blocktree.specs.Errors.{IsFault};
 ghost use Rattle.inofile.specs.Objects.{IsObject};
 ghost use Rattle.calls.specs.Changing.{AllDo, AllReady, Comes, made_by, said_by};
-ghost use Rattle.calls.specs.Making.{HasNoNumber, MakesAt, MakesIn};
-ghost use Rattle.calls.specs.Prepared.{Does};
+ghost use Rattle.calls.specs.Making.{CreatesObject, HasNoNumber, MakesAt, MakesIn};
+ghost use Rattle.records.specs.Prepared.{Does};
 ghost use Rattle.calls.specs.Refusals.{is_path_refusal};
-ghost use Rattle.calls.specs.Shown.{NeverDamaged, OnMounted, OnVolumes};
+ghost use Rattle.records.specs.Shown.{NeverDamaged, OnMounted, OnVolumes};
 ghost use Rattle.paths.specs.Standing.{Looks};
 
 use crate::finding::find;
-use crate::prepared::prepare_new;
-use crate::vacancy::{is_vacant, new_object};
 use crate::{Changing, Creation, EntryName, LinkText, OwnedChange, OwnedObject};
 use blocktree::ReadError;
 use buffers::Blocks;
@@ -31,6 +29,7 @@ use model::{
     Errno, Mode, PATH_BYTES, records_change_trees, volumes_are_trees, volumes_tell_fresh_numbers,
 };
 use paths::{Parts, Place, refusal_of_new_text};
+use records::{is_vacant, new_object, prepare_new};
 use std::alloc::Global;
 
 /// Makes a directory of this mode where a path leads, as far as nothing of it is seen yet: prepares its record, or tells why the
@@ -164,8 +163,8 @@ fn make_along<B: Blocks>(
     make_in(alloc, inodes, blocks, trail.here(), name, object)
 }
 
-// Makes an object at a name that its parent doesn't have.
-fn make_in<B: Blocks>(
+/// Makes an object at a name that its parent doesn't have.
+pub(crate) fn make_in<B: Blocks>(
     alloc: Global,
     inodes: &mut InodeFile,
     blocks: &mut B,
@@ -175,6 +174,8 @@ fn make_in<B: Blocks>(
 ) -> Result<Result<Changing, Errno>, ReadError>
     ensures looks { Looks B.Blocks IsFault blocks.old blocks.new inodes.old inodes.new result }
     ensures own { IfOk result (λ r. IfErr r (λ e. IsTrue (is_path_refusal e))) }
+    ensures creates { IfOk result (λ r. IfOk r
+        (λ c. CreatesObject inodes.old.geometry.inodes c.change)) }
     ensures ready { AllReady inodes.new result }
     ensures does { AllDo B.Blocks blocks.old inodes.old inodes.new result }
     ensures makes { OnVolumes B.Blocks blocks.old inodes.old (λ disk settled v.
@@ -209,6 +210,8 @@ fn make_numbered<B: Blocks>(
     requires high { number < inodes.old.geometry.inodes }
     ensures looks { Looks B.Blocks IsFault blocks.old blocks.new inodes.old inodes.new result }
     ensures own { IfOk result (λ r. IfErr r (λ e. IsTrue (is_path_refusal e))) }
+    ensures creates { IfOk result (λ r. IfOk r
+        (λ c. CreatesObject inodes.old.geometry.inodes c.change)) }
     ensures ready { AllReady inodes.new result }
     ensures does { OnVolumes B.Blocks blocks.old inodes.old (λ disk settled v. v number ≡ None
         → ((k : ℕ) → IsObject disk k (settled number) new (Some (node_of (made_by object))))
@@ -251,6 +254,8 @@ fn refuse_in<B: Blocks>(
 ) -> Result<Result<Changing, Errno>, ReadError>
     ensures looks { Looks B.Blocks IsFault blocks.old blocks.new inodes.old inodes.new result }
     ensures own { IfOk result (λ r. IfErr r (λ e. IsTrue (is_path_refusal e))) }
+    ensures creates { IfOk result (λ r. IfOk r
+        (λ c. CreatesObject inodes.old.geometry.inodes c.change)) }
     ensures ready { AllReady inodes.new result }
     ensures does { AllDo B.Blocks blocks.old inodes.old inodes.new result }
     ensures makes { (made : Made) → OnVolumes B.Blocks blocks.old inodes.old (λ disk settled v.

@@ -14,12 +14,10 @@ ghost use Rattle.paths.specs.Standing.{Looks};
 ghost use Rattle.calls.specs.Changing.{AnyDo, AnyReady, ComesOrStays};
 ghost use Rattle.calls.specs.Refusals.{is_path_refusal};
 ghost use Rattle.calls.specs.Renaming.{FirstOfTests, MovesName, PassTests, RecordsMove, kind_tests, otherwise};
-ghost use Rattle.calls.specs.Shown.{NeverDamaged, OnMounted, OnVolumes};
+ghost use Rattle.records.specs.Shown.{NeverDamaged, OnMounted, OnVolumes};
 
-use crate::below::is_below;
 use crate::finding::find;
 use crate::removing::is_root;
-use crate::renaming::{is_directory_at, prepare_rename};
 use crate::{Changing, EntryName, OwnedChange};
 use blocktree::ReadError;
 use buffers::Blocks;
@@ -27,6 +25,7 @@ use inofile::InodeFile;
 use layout::InodeNumber;
 use model::{Errno, numbers_tell_what_lies_below, records_change_trees, volumes_are_trees};
 use paths::{Parts, Place, Trail, refusal_of_new_text};
+use records::{is_below, is_directory_at, prepare_rename};
 use std::alloc::Global;
 
 /// Moves what stands where the path `old` leads, with all below it, to where `path` leads, in place of what stood there, as far as

@@ -8,15 +8,16 @@ ghost use Rattle.blocktree.specs.Errors.{IsFault};
 ghost use Rattle.paths.specs.Numbers.{IsNumber};
 ghost use Rattle.calls.specs.ReadingLink.{TellsText, text_reply};
 ghost use Rattle.calls.specs.Refusals.{is_path_refusal};
-ghost use Rattle.calls.specs.Shown.{NeverDamaged, OnMounted, OnVolumes};
+ghost use Rattle.records.specs.Shown.{NeverDamaged, OnMounted, OnVolumes};
 ghost use Rattle.paths.specs.Standing.{Looks};
 
-use crate::leading::{kind_at, lead, text_at};
+use crate::leading::{lead, text_at};
 use blocktree::ReadError;
 use buffers::Blocks;
 use inofile::InodeFile;
 use model::{Errno, Text};
 use paths::Found;
+use records::kind_at;
 use std::alloc::Global;
 
 /// The text of the symbolic link that a path leads to, which isn't followed, or why the call is refused. NoMemory; Device where

@@ -10,12 +10,10 @@ ghost use Rattle.paths.specs.Numbers.{IsNumber};
 ghost use Rattle.calls.specs.Changing.{AllDo, AllReady, ComesSwept};
 ghost use Rattle.calls.specs.Refusals.{is_path_refusal};
 ghost use Rattle.calls.specs.Removing.{RemovesDirectory, RemovesName, UnlinksEntry};
-ghost use Rattle.calls.specs.Shown.{NeverDamaged, OnMounted, OnVolumes};
+ghost use Rattle.records.specs.Shown.{NeverDamaged, OnMounted, OnVolumes};
 ghost use Rattle.paths.specs.Standing.{Looks};
 
 use crate::finding::find;
-use crate::leading::kind_at;
-use crate::unnaming::prepare_unname;
 use crate::{Changing, EntryName, OwnedChange};
 use blocktree::ReadError;
 use buffers::Blocks;
@@ -23,6 +21,7 @@ use inofile::InodeFile;
 use layout::InodeNumber;
 use model::{Errno, records_change_trees, volumes_are_trees};
 use paths::{Found, Parts, Place, refusal_of_new_text};
+use records::{kind_at, prepare_unname};
 use std::alloc::Global;
 
 // The path of the root.

@@ -1,26 +1,27 @@
 //! What stands where a path leads: its number, kind, mode, links and size.
 
-ghost use Rattle.std.specs.Prelude.{◌≡◌, ℕ, List, Option, IfOk, IfErr, IsTrue, MatchOption, false, true};
+ghost use Rattle.std.specs.Prelude.{◌≡◌, ◌≤◌, ℕ, List, Option, IfOk, IfErr, IfSome, IsTrue, MatchOption, false, true};
 ghost use Rattle.layout.specs.declared.inode.Inode.{Inode};
 ghost use Rattle.model.specs.Reading.{stats};
 ghost use Rattle.model.specs.Room.{nothing};
 ghost use Rattle.model.specs.Volumes.{Node, tree_of};
+ghost use Rattle.model.specs.declared.limits.TheConstants.{GREATEST_FILE};
 ghost use Rattle.blocktree.specs.Errors.{IsFault};
 ghost use Rattle.inofile.specs.Objects.{IsObject};
 ghost use Rattle.paths.specs.Numbers.{IsNumber};
 ghost use Rattle.calls.specs.Refusals.{is_path_refusal};
-ghost use Rattle.calls.specs.Shown.{NeverDamaged, OnMounted, OnVolumes};
+ghost use Rattle.records.specs.Shown.{NeverDamaged, OnMounted, OnVolumes};
 ghost use Rattle.paths.specs.Standing.{Looks};
 ghost use Rattle.calls.specs.Stating.{IsStatOf, TellsStat, stat_reply};
 
 use crate::leading::lead;
-use crate::loading::load;
 use blocktree::ReadError;
 use buffers::Blocks;
 use inode::Object;
 use inofile::InodeFile;
 use layout::Kind;
 use model::{Errno, Stat, volumes_tell_links};
+use records::load;
 use std::alloc::Global;
 
 /// What stands where a path leads, where a last symbolic link is followed, or why the call is refused. NoMemory; Device where a
@@ -78,8 +79,9 @@ fn stat_at<B: Blocks>(
     }
 }
 
-// What the object with a number is; DAMAGED where there is none.
-fn stat_number<B: Blocks>(
+/// What the object with a number is; DAMAGED where there is none. NoMemory; Device where a read failed; Damaged where a block on
+/// the way is outside its format.
+pub fn stat_number<B: Blocks>(
     alloc: Global,
     inodes: &mut InodeFile,
     blocks: &mut B,
@@ -90,6 +92,7 @@ fn stat_number<B: Blocks>(
     ensures own { IfOk result (λ r. IfErr r (λ e. IsTrue (is_path_refusal e))) }
     ensures tells { OnVolumes B.Blocks blocks.old inodes.old
         (λ disk settled v. IfOk result (TellsStat v number)) }
+    ensures within { IfOk result (λ r. IfOk r (λ s. s.size ≤ GREATEST_FILE)) }
     ensures damaged { NeverDamaged B.Blocks blocks.old inodes.old result }
 {
     load(alloc, inodes, blocks, number)?;
@@ -104,9 +107,10 @@ fn stat_number<B: Blocks>(
 
 // What is told of an object in memory; None where it is one of the file system's own files.
 fn stat_of(number: u32, object: &Object) -> Option<Stat>
-    ensures { (disk : ℕ → List ℕ) (inodes : ℕ) (settled : Inode) (found : Option Node)
+    ensures told { (disk : ℕ → List ℕ) (inodes : ℕ) (settled : Inode) (found : Option Node)
         → IsObject disk inodes settled object.now found
         → MatchOption result ⊥ (IsStatOf number found) }
+    ensures within { IfSome result (λ s. s.size ≤ GREATEST_FILE) }
 {
     let mode = object.attributes.mode;
     match object.attributes.kind {

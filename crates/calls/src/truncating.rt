@@ -9,13 +9,12 @@ ghost use Rattle.blocktree.specs.Errors.{IsFault};
 ghost use Rattle.paths.specs.Numbers.{IsNumber};
 ghost use Rattle.paths.specs.Standing.{Looks};
 ghost use Rattle.calls.specs.Changing.{AnyDo, AnyReady, said_by};
-ghost use Rattle.calls.specs.Prepared.{Does, IsReady};
+ghost use Rattle.records.specs.Prepared.{Does, IsReady};
 ghost use Rattle.calls.specs.Refusals.{is_path_refusal};
-ghost use Rattle.calls.specs.Shown.{NeverDamaged, OnMounted, OnVolumes};
+ghost use Rattle.records.specs.Shown.{NeverDamaged, OnMounted, OnVolumes};
 ghost use Rattle.calls.specs.Truncating.{ComesToSize, CutsFile, CutsNumber};
 
-use crate::leading::{find_object, kind_at};
-use crate::rewriting::cut_bytes;
+use crate::leading::find_object;
 use crate::{Changing, OwnedChange};
 use blocktree::ReadError;
 use buffers::Blocks;
@@ -23,6 +22,7 @@ use inofile::InodeFile;
 use layout::InodeNumber;
 use model::{Errno, GREATEST_FILE};
 use paths::{Found, Parts, refusal_of_text};
+use records::{cut_bytes, kind_at};
 use std::alloc::Global;
 
 /// Gives a size to the file where a path leads, where a last symbolic link is followed, as far as nothing of it is seen yet:
@@ -123,8 +123,9 @@ fn cut_number<B: Blocks>(
     }
 }
 
-// The same where it is a file; none where it has the size.
-fn cut_file<B: Blocks>(
+/// Gives a size to the file with a number, as far as nothing of it is seen yet: prepares its record; none where the file has the
+/// size. NoMemory; Device where a read failed; Damaged where a block on the way is outside its format.
+pub fn cut_file<B: Blocks>(
     alloc: Global,
     inodes: &mut InodeFile,
     blocks: &mut B,

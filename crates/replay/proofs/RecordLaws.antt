@@ -8,7 +8,7 @@ use Rattle.layout.specs.Log.{record_of, records_of, HoldsBodies, IsClosed}
 use Rattle.layout.specs.Record.{Change, IsChange, change_bytes}
 use Rattle.model.specs.Records.{Applies, applied}
 use Rattle.model.specs.Volumes.{Volume}
-use Rattle.calls.specs.Served.{IsServed}
+use Rattle.records.specs.Served.{IsServed}
 use Rattle.oplog.specs.SavedLog.{HoldsLeaving}
 use Rattle.replay.specs.Volumes.{LeadTo, Spells, bodies_of}
 

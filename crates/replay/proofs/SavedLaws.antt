@@ -8,7 +8,7 @@ use Rattle.layout.specs.Record.{Change, IsChange, change_bytes}
 use Rattle.model.specs.Records.{Replays, applied}
 use Rattle.model.specs.Volumes.{Volume}
 use Rattle.oplog.specs.SavedLog.{Saved, TellsLog}
-use Rattle.calls.specs.Served.{IsServed}
+use Rattle.records.specs.Served.{IsServed}
 use Rattle.replay.specs.Volumes.{LeadTo, SavesRecords, bodies_of}
 
 all_first : (P : Change → Type 0) (one two : List Change) → All P (one ++ two) → All P one

@@ -8,7 +8,7 @@ use Rattle.model.specs.Volumes.{Volume, IsVolume}
 use Rattle.inofile.specs.Volumes.{IsVolumeOf}
 use Rattle.inofile.specs.declared.inode_file.InodeFile.{InodeFile}
 use Rattle.oplog.specs.SavedLog.{Saved}
-use Rattle.calls.specs.Served.{IsServed}
+use Rattle.records.specs.Served.{IsServed}
 
 -- memory stands for this volume, over a disk of so many blocks with these inodes settled
 pub record HasVolume (count : ℕ) (disk : ℕ → List ℕ) (settled : ℕ → Inode) (s : InodeFile) (v : Volume) : Type 0 where

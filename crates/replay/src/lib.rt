@@ -3,7 +3,7 @@
 #![tactic(auto)]
 
 mod costs;
-mod records;
+mod replaying;
 mod saved;
 mod sweeping;
 

@@ -10,7 +10,7 @@ ghost use Rattle.oplog.specs.SavedLog.{StandsBehind, TellsLog};
 ghost use Rattle.replay.specs.Volumes.{HasVolume, SavesRecords, bodies_of};
 
 use crate::costs::costs_of;
-use crate::records::replay_all;
+use crate::replaying::replay_all;
 use crate::sweeping::{count_nameless, drop_nameless};
 use blocktree::ReadError;
 use buffers::Blocks;

@@ -13,10 +13,10 @@ ghost use Rattle.replay.specs.Volumes.{HasVolume};
 
 use blocktree::ReadError;
 use buffers::Blocks;
-use calls::is_nameless;
 use inofile::InodeFile;
 use layout::FIRST_NUMBER;
 use model::mounts_find_volumes;
+use records::is_nameless;
 use std::alloc::Global;
 
 /// How many files have no name. `Damaged` where an inode isn't in its grammar. What memory stands for stays.
@@ -88,7 +88,7 @@ fn drop_if_nameless<B: Blocks>(
     }
     inodes.load(alloc, blocks, number)?;
     inodes.prepare_set(number)?;
-    calls::drop_nameless(inodes, number);
+    records::drop_nameless(inodes, number);
     Ok(())
 }
 

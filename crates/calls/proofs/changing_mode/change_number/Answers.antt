@@ -1,6 +1,6 @@
 use Rattle.std.proofs.Common.{rules, ℕ, IfNone, IfSome, ap, sym, subst}
 use Rattle.model.specs.Records.{Applies, change_mode}
-use Rattle.calls.specs.Prepared.{Does}
+use Rattle.records.specs.Prepared.{Does}
 use Rattle.calls.proofs.changing_mode.change_number.Goals as goal
 
 pub returns-in_err-planned-clause-damaged : goal.returns-in_err-planned-clause-damaged

@@ -9,7 +9,7 @@ use Rattle.paths.proofs.Looks.{looks_ok}
 use Rattle.calls.specs.Getting.{data_reply, range_tests}
 use Rattle.calls.proofs.RefusalLaws.{text_own}
 use Rattle.calls.proofs.GetLaws.{get_passed, get_refused, range_refused, text_before, text_first}
-use Rattle.calls.proofs.StandLaws.{no_look}
+use Rattle.records.proofs.StandLaws.{no_look}
 use Rattle.calls.proofs.getting.get.Goals as goal
 
 pub returns-in-Some-clause-answers : goal.returns-in-Some-clause-answers

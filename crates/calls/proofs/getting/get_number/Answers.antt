@@ -1,6 +1,6 @@
 use Rattle.std.proofs.Common.{rules, ◌∙◌, ℕ, nat_abs, w64, Some, refl, ap, subst}
 use Rattle.std.proofs.lemmas.Int.{to_z-of_z}
-use Rattle.calls.specs.Reading.{ReadsNumber}
+use Rattle.records.specs.Reading.{ReadsNumber}
 use Rattle.calls.proofs.getting.get_number.Goals as goal
 
 pub returns-in_err-found-clause-damaged : goal.returns-in_err-found-clause-damaged

@@ -6,7 +6,7 @@ use Rattle.paths.proofs.Looks.{looks_ok}
 use Rattle.calls.proofs.LeadLaws.{led_by}
 use Rattle.calls.proofs.MakeLaws.{told_answers}
 use Rattle.calls.proofs.RefusalLaws.{text_own}
-use Rattle.calls.proofs.StandLaws.{no_look}
+use Rattle.records.proofs.StandLaws.{no_look}
 use Rattle.calls.proofs.leading.lead.Goals as goal
 
 pub returns-in-Some-clause-led : goal.returns-in-Some-clause-led

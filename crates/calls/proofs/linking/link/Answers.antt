@@ -4,7 +4,7 @@ use Rattle.paths.proofs.Looks.{looks_ok}
 use Rattle.calls.proofs.LeadLaws.{first_append, first_in_front}
 use Rattle.calls.proofs.LinkLaws.{link_tests_refused}
 use Rattle.calls.proofs.RefusalLaws.{new_text_own, text_own}
-use Rattle.calls.proofs.StandLaws.{no_look}
+use Rattle.records.proofs.StandLaws.{no_look}
 use Rattle.calls.proofs.linking.link.Goals as goal
 
 pub returns-in-Some-clause-answers : goal.returns-in-Some-clause-answers

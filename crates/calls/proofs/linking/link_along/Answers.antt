@@ -8,7 +8,7 @@ use Rattle.model.specs.declared.errno.Errno.{Errno}
 use Rattle.paths.proofs.Looks.{looks_err, looks_more, looks_ok}
 use Rattle.calls.specs.Changing.{Comes}
 use Rattle.calls.specs.Leading.{LeadsTo}
-use Rattle.calls.specs.Steps.{IsFileOf}
+use Rattle.records.specs.Steps.{IsFileOf}
 use Rattle.calls.proofs.LinkLaws.{link_no_file, link_nowhere}
 use Rattle.calls.proofs.linking.link_along.Goals as goal
 

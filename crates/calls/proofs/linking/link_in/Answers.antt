@@ -1,6 +1,6 @@
 use Rattle.std.proofs.Common.{rules, ◌≡◌, ◌∙◌, ℕ, List, IfNone, IfSome, inr, refl, sym, ap, subst, arith}
 use Rattle.model.specs.Records.{Applies, link}
-use Rattle.calls.specs.Prepared.{Does}
+use Rattle.records.specs.Prepared.{Does}
 use Rattle.calls.proofs.linking.link_in.Goals as goal
 
 pub returns-in_default-clause-links : goal.returns-in_default-clause-links

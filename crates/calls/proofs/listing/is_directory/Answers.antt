@@ -1,7 +1,7 @@
 use Rattle.std.proofs.Common.{rules, ap, sym}
 use Rattle.model.specs.Volumes.{is_directory_node}
 use Rattle.inofile.specs.Settled.{content_of}
-use Rattle.calls.proofs.EnterLaws.{directory_stands, not_directory}
+use Rattle.records.proofs.EnterLaws.{directory_stands, not_directory}
 use Rattle.calls.proofs.listing.is_directory.Goals as goal
 
 pub returns-in_err-load-clause-damaged : goal.returns-in_err-load-clause-damaged

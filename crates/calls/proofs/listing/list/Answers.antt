@@ -3,7 +3,7 @@ use Rattle.model.specs.Paths.{first_refusal, text_tests}
 use Rattle.paths.proofs.Looks.{looks_ok}
 use Rattle.calls.proofs.RefusalLaws.{text_own}
 use Rattle.calls.proofs.ListLaws.{list_refused}
-use Rattle.calls.proofs.StandLaws.{no_look}
+use Rattle.records.proofs.StandLaws.{no_look}
 use Rattle.calls.proofs.listing.list.Goals as goal
 
 pub returns-in-Some-clause-answers : goal.returns-in-Some-clause-answers

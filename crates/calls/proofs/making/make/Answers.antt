@@ -5,7 +5,7 @@ use Rattle.paths.proofs.Looks.{looks_ok}
 use Rattle.calls.specs.Changing.{made_by}
 use Rattle.calls.proofs.RefusalLaws.{new_text_own}
 use Rattle.calls.proofs.MakeLaws.{text_refused}
-use Rattle.calls.proofs.StandLaws.{no_look}
+use Rattle.records.proofs.StandLaws.{no_look}
 use Rattle.calls.proofs.making.make.Goals as goal
 
 pub returns-in-Some-clause-answers : goal.returns-in-Some-clause-answers

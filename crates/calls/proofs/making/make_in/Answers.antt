@@ -7,9 +7,9 @@ use Rattle.blocktree.specs.Trees.{IsSoundAt}
 use Rattle.inofile.specs.Objects.{IsObject}
 use Rattle.paths.proofs.Looks.{looks_err, looks_more}
 use Rattle.calls.specs.Changing.{made_by}
-use Rattle.calls.specs.Making.{HasNoNumber, IsLeastFree, MakesIn}
+use Rattle.calls.specs.Making.{CreatesObject, HasNoNumber, IsLeastFree, MakesIn}
 use Rattle.calls.proofs.MakeLaws.{makes_numbered, told_answers}
-use Rattle.calls.proofs.StandLaws.{looks_of_reads, looks_stays, stands_over, stands_with}
+use Rattle.records.proofs.StandLaws.{looks_of_reads, looks_stays, stands_over, stands_with}
 use Rattle.calls.proofs.making.make_in.Goals as goal
 
 pub returns-in_err-new-clause-looks : goal.returns-in_err-new-clause-looks
@@ -118,3 +118,12 @@ returns-clause-makes g c = λ disk settled v stands volume.
     } in
     told_answers c.make_numbered.result _ _ (makes_numbered c.args.inodes.now.geometry.inodes v c.in-Some.free c.args.parent c.args.name.items made good least)
     (c.make_numbered.ensures.makes disk settled v then all)
+
+pub returns-in_default-clause-creates : goal.returns-in_default-clause-creates
+returns-in_default-clause-creates g c =
+    subst (λ (s : Sizes). IfOk c.refuse_in.result (λ r. IfOk r (λ x. CreatesObject s.inodes x.change))) c.least_free.ensures.geometry c.refuse_in.ensures.creates
+
+pub returns-clause-creates : goal.returns-clause-creates
+returns-clause-creates g c =
+    subst (λ (s : Sizes). IfOk c.make_numbered.result (λ r. IfOk r (λ x. CreatesObject s.inodes x.change)))
+    (c.is_vacant.ensures.looks.geometry ∙ c.least_free.ensures.geometry) c.make_numbered.ensures.creates

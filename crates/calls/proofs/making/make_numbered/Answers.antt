@@ -2,7 +2,7 @@ use Rattle.std.proofs.Common.{rules, ◌≡◌, ◌∙◌, ℕ, List, Some, IfNo
 use Rattle.model.specs.Records.{TakesName, create, is_vacant, node_of}
 use Rattle.inofile.specs.Objects.{IsObject}
 use Rattle.calls.specs.Changing.{made_by}
-use Rattle.calls.specs.Prepared.{Does}
+use Rattle.records.specs.Prepared.{Does}
 use Rattle.calls.proofs.making.make_numbered.Goals as goal
 
 pub returns-in_default-clause-makes : goal.returns-in_default-clause-makes

@@ -10,7 +10,7 @@ use Rattle.calls.specs.Changing.{Comes}
 use Rattle.calls.proofs.MakeLaws.{told_answers}
 use Rattle.calls.proofs.RefusalLaws.{link_text_own}
 use Rattle.calls.proofs.SymlinkLaws.{link_text_refused, symlink_comes}
-use Rattle.calls.proofs.StandLaws.{no_look}
+use Rattle.records.proofs.StandLaws.{no_look}
 use Rattle.calls.proofs.making.symlink.Goals as goal
 
 pub returns-in-Some-clause-answers : goal.returns-in-Some-clause-answers

@@ -1,6 +1,6 @@
 use Rattle.std.proofs.Common.{rules, ◌≡◌, ◌∙◌, ℕ, List, IfNone, IfSome, is_some, refl, sym, ap, subst}
 use Rattle.model.specs.Records.{Applies, rename}
-use Rattle.calls.specs.Prepared.{Does}
+use Rattle.records.specs.Prepared.{Does}
 use Rattle.calls.proofs.moving.record_move.Goals as goal
 
 pub returns-in_default-clause-records : goal.returns-in_default-clause-records

@@ -3,7 +3,7 @@ use Rattle.model.specs.Paths.{first_refusal, new_text_tests}
 use Rattle.paths.proofs.Looks.{looks_ok}
 use Rattle.calls.proofs.RefusalLaws.{new_text_own}
 use Rattle.calls.proofs.RemoveLaws.{remove_refused, remove_root}
-use Rattle.calls.proofs.StandLaws.{no_look}
+use Rattle.records.proofs.StandLaws.{no_look}
 use Rattle.calls.proofs.removing.remove_directory.Goals as goal
 
 pub returns-in-Some-clause-answers : goal.returns-in-Some-clause-answers

@@ -1,6 +1,6 @@
 use Rattle.std.proofs.Common.{rules, ◌≡◌, ◌∙◌, ℕ, List, IfNone, IfSome, is_some, refl, sym, ap, subst}
 use Rattle.model.specs.Records.{Applies, unname}
-use Rattle.calls.specs.Prepared.{Does}
+use Rattle.records.specs.Prepared.{Does}
 use Rattle.calls.proofs.removing.remove_name.Goals as goal
 
 pub returns-in_default-clause-removes : goal.returns-in_default-clause-removes

@@ -15,10 +15,10 @@ pub returns-clause-tells : goal.returns-clause-tells
 returns-clause-tells g c = λ disk settled v stands.
     let now = c.load.ensures.looks.kept disk settled v stands in
     subst (λ s. MatchOption s ⊥ (IsStatOf c.args.number (v c.args.number))) c.in-Some-stat_of.is
-    (c.stat_of.ensures disk c.load.new.inodes.geometry.inodes (settled c.args.number) (v c.args.number) (c.in-Some.ensures.stands _ disk settled v now.volume))
+    (c.stat_of.ensures.told disk c.load.new.inodes.geometry.inodes (settled c.args.number) (v c.args.number) (c.in-Some.ensures.stands _ disk settled v now.volume))
 
 pub returns-in_default-stat_of-clause-tells : goal.returns-in_default-stat_of-clause-tells
 returns-in_default-stat_of-clause-tells g c = λ disk settled v stands.
     let now = c.load.ensures.looks.kept disk settled v stands in
     absurd (subst (λ s. MatchOption s ⊥ (IsStatOf c.args.number (v c.args.number))) c.in_default-stat_of.is
-    (c.stat_of.ensures disk c.load.new.inodes.geometry.inodes (settled c.args.number) (v c.args.number) (c.in-Some.ensures.stands _ disk settled v now.volume)))
+    (c.stat_of.ensures.told disk c.load.new.inodes.geometry.inodes (settled c.args.number) (v c.args.number) (c.in-Some.ensures.stands _ disk settled v now.volume)))

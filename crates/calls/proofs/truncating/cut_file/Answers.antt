@@ -1,7 +1,7 @@
 use Rattle.std.proofs.Common.{rules, ℕ, IfSome, ap, sym, subst}
 use Rattle.model.specs.Records.{cut}
-use Rattle.calls.specs.Prepared.{Does}
-use Rattle.calls.specs.Rewriting.{CutsBytes}
+use Rattle.records.specs.Prepared.{Does}
+use Rattle.records.specs.Rewriting.{CutsBytes}
 use Rattle.calls.proofs.truncating.cut_file.Goals as goal
 
 pub returns-in_err-planned-clause-damaged : goal.returns-in_err-planned-clause-damaged

@@ -1,7 +1,7 @@
 use Rattle.std.proofs.Common.{rules, ap, subst}
 use Rattle.model.specs.Volumes.{Volume, is_nameless}
 use Rattle.inofile.specs.Volumes.{IsVolumeOf}
-use Rattle.calls.proofs.SweepLaws.{kept}
+use Rattle.records.proofs.SweepLaws.{kept}
 use Rattle.replay.proofs.Errors.{undamaged}
 use Rattle.replay.proofs.sweeping.drop_if_nameless.Goals as goal
 

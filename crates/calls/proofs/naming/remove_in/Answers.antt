@@ -1,6 +1,0 @@
-use Rattle.std.proofs.Common.{rules}
-use Rattle.calls.proofs.naming.remove_in.Goals as goal
-
-pub returns-in_err-prepare_remove-clause-damaged : goal.returns-in_err-prepare_remove-clause-damaged
-returns-in_err-prepare_remove-clause-damaged g c = λ disk names shows is has sound.
-    c.in_err-prepare_remove.ensures.damaged disk shows (search rules) (λ i below. sound i) (λ i below. (has.entries i, has.holds i below))

@@ -1,0 +1,172 @@
+-- What lies below an object.
+use Rattle.std.proofs.Common.{◌≡◌, ◌⊎◌, inl, inr, ℕ, zero, suc, ◌+◌, ◌<◌, ◌≤◌, ◌↔◌, Bool, true, false, cond, List, [], ◌∷◌, ◌++◌, length, get_or, Option, Some, None, IfSome, fold, refl, sym, ap, subst, ◌∙◌, arith}
+use Rattle.std.proofs.Math.ListN.{replicate, set, length-set}
+use Rattle.std.proofs.lemmas.Bool.{cases_eq, false≢true}
+use Rattle.std.proofs.lemmas.List.{get_or-set_other, get_or-set_same, length_push}
+use Rattle.std.proofs.lemmas.List.Elements.{All-head, All-replicate, All-tail, Contains-append_left, Contains-push, Contains-push_cases}
+use Rattle.std.proofs.lemmas.List.Sums.{sum_by-set}
+use Rattle.std.specs.List.{All, Contains}
+use Rattle.model.specs.Paths.{Name, Path}
+use Rattle.model.specs.Records.{IsBelow}
+use Rattle.model.specs.Volumes.{Entries, enter}
+use Rattle.records.specs.Below.{IsChild, IsMarked, Marks, Searches, count_unmarked}
+use Rattle.records.proofs.FileLaws.{none_some, same_some}
+
+-- an object is below itself
+pub below_self : (e : Entries) (n : ℕ) → IsBelow e n n
+below_self e n = ([], refl)
+
+fold_more : (e : Entries) (o : Option ℕ) (p : Path) (x : Name) → fold (enter e) o (p ++ x ∷ []) ≡ enter e (fold (enter e) o p) x
+fold_more e o [] x = refl
+fold_more e o (y ∷ p) x = fold_more e (enter e o y) p x
+
+-- and so is what a name of one below it stands for
+pub below_child : (e : Entries) (n d m : ℕ) → IsBelow e n d → IsChild e d m → IsBelow e n m
+below_child e n d m below child =
+    (below.0 ++ child.0 ∷ [], fold_more e (Some n) below.0 child.0 ∙ ap (λ o. enter e o child.0) below.1 ∙ child.1)
+
+-- marks that are closed under names have all below them
+module _ (e : Entries) (marks : List Bool) (closed : (d n : ℕ) → IsMarked marks d → IsChild e d n → IsMarked marks n) where
+  child_marked : (n : ℕ) (x : Name) (o : Option ℕ) → IsMarked marks n → e n x ≡ o → IfSome o (IsMarked marks)
+  child_marked n x None is at = tt
+  child_marked n x (Some m) is at = closed n m is (x, at)
+
+  closed_from : (p : Path) (o : Option ℕ) (k : ℕ) → IfSome o (IsMarked marks) → fold (enter e) o p ≡ Some k → IsMarked marks k
+  closed_from [] None k is at = none_some at
+  closed_from [] (Some n) k is at = subst (IsMarked marks) (same_some at) is
+  closed_from (x ∷ p) None k is at = closed_from p None k tt at
+  closed_from (x ∷ p) (Some n) k is at = closed_from p (e n x) k (child_marked n x (e n x) is refl) at
+
+  pub closed_below : (n k : ℕ) → IsMarked marks n → IsBelow e n k → IsMarked marks k
+  closed_below n k is below = closed_from below.0 (Some n) k is below.1
+
+-- ---- marks
+
+pub marks_more : (a b c : List Bool) (l m r : List ℕ) → Marks a b l m → Marks b c m r → Marks a c l r
+marks_more a b c l m r first last = record {
+  same_length = last.same_length ∙ first.same_length;
+  fewer = omega (arith, first.fewer, last.fewer);
+  kept = λ n is. last.kept n (first.kept n is);
+  still_left = λ n is. last.still_left n (first.still_left n is);
+  fresh = λ n is. elim (last.fresh n is) [
+    | inl before ↦ elim (first.fresh n before) [ inl old ↦ inl old | inr left ↦ inr (last.still_left n left) ]
+    | inr left ↦ inr left
+  ];
+  marked = λ all. last.marked (first.marked all);
+}
+
+module _ (marks : List Bool) (left : List ℕ) (n : ℕ) (within : n < length marks) where
+  abbrev after : List Bool
+  after = set marks n true
+
+  marked_now : IsMarked after n
+  marked_now = rw get_or-set_same
+
+  -- what is marked then was so, or is this
+  pub marked_one : (k : ℕ) → IsMarked after k → IsMarked marks k ⊎ (k ≡ n)
+  marked_one k is = elim (cases_eq k n) [
+    | inl same ↦ inr same
+    | inr other ↦ inl (rw get_or-set_other at is)
+  ]
+
+  keeps_mark : (k : ℕ) → IsMarked marks k → IsMarked after k
+  keeps_mark k is = elim (cases_eq k n) [
+    | inl same ↦ subst (IsMarked after) (sym same) marked_now
+    | inr other ↦ rw get_or-set_other is
+  ]
+
+  pub marks_one : get_or marks n false ≡ false → Marks marks after left (left ++ n ∷ [])
+  marks_one not = record {
+    same_length = length-set marks n true;
+    fewer = count;
+    kept = keeps_mark;
+    still_left = λ k is. Contains-append_left left (n ∷ []) k is;
+    fresh = λ k is. elim (marked_one k is) [
+      | inl before ↦ inl before
+      | inr same ↦ inr (subst (Contains (left ++ n ∷ [])) (sym same) (Contains-push left n))
+    ];
+    marked = λ all k is. elim (Contains-push_cases left n k is) [
+      | inl before ↦ keeps_mark k (all k before)
+      | inr same ↦ subst (IsMarked after) same marked_now
+    ];
+  }
+    where
+      weight : Bool → ℕ
+      weight mark = cond mark 0 1
+
+      count : count_unmarked after + length (left ++ n ∷ []) ≤ count_unmarked marks + length left
+      count =
+          let e : count_unmarked after + weight (get_or marks n false) ≡ count_unmarked marks + 0 = sum_by-set weight marks n true false within in
+          let one : weight (get_or marks n false) ≡ 1 = ap weight not in
+          let longer : length (left ++ n ∷ []) ≡ length left + 1 = length_push left n in
+          omega arith
+
+-- ---- children
+
+pub has_more : (o : Option ℕ) (xs ys : List ℕ) → ((n : ℕ) → Contains xs n → Contains ys n) → IfSome o (Contains xs) → IfSome o (Contains ys)
+has_more None xs ys more has = tt
+has_more (Some n) xs ys more has = more n has
+
+-- ---- a search
+
+nothing : {X : Type 0} {n : ℕ} → Contains [] n → X
+nothing is = absurd (omega (arith, is.1))
+
+all_false : (marks : List Bool) → All (λ mark. mark ≡ false) marks → (n : ℕ) → get_or marks n false ≡ false
+all_false [] all n = refl
+all_false (x ∷ xs) all zero = All-head (λ mark. mark ≡ false) x xs all
+all_false (x ∷ xs) all (suc n) = all_false xs (All-tail (λ mark. mark ≡ false) x xs all) n
+
+-- where no mark is set, no number is marked
+pub unmarked : (count n : ℕ) → IsMarked (replicate count false) n → ⊥
+unmarked count n is = false≢true (sym (all_false (replicate count false) (All-replicate (λ mark. mark ≡ false) count false refl) n) ∙ is)
+
+-- an object that is marked, and nothing else
+pub searched_first : (e : Entries) (top : ℕ) (none marks : List Bool) (empty left : List ℕ) → ((n : ℕ) → IsMarked none n → ⊥) → empty ≡ []
+    → Marks none marks empty left → IsMarked marks top → ((n : ℕ) → IsMarked marks n → IsMarked none n ⊎ (n ≡ top)) → Searches e top marks left
+searched_first e top none marks empty left none_yet is_empty marking marked only = record {
+  itself = marked;
+  below = λ n is. elim (only n is) [
+    | inl before ↦ absurd (none_yet n before)
+    | inr same ↦ subst (λ (k : ℕ). IsBelow e top k) (sym same) (below_self e top)
+  ];
+  marked = marking.marked (λ n is. nothing (subst (λ (xs : List ℕ). Contains xs n) is_empty is));
+  closed = λ d n is child. elim (marking.fresh d is) [ inl before ↦ absurd (none_yet d before) | inr waits ↦ inr waits ];
+}
+
+module _ (e : Entries) (top here : ℕ) (marks after : List Bool) (left rest more : List ℕ) (children : List ℕ) where
+  -- one number less is left to be looked into, and its children are marked
+  pub searched_more : left ≡ rest ++ here ∷ [] → ((n : ℕ) → Contains children n ↔ IsChild e here n) → Marks marks after rest more
+      → ((n : ℕ) → Contains children n → IsMarked after n) → ((n : ℕ) → IsMarked after n → IsMarked marks n ⊎ Contains children n)
+      → Searches e top marks left → Searches e top after more
+  searched_more splits are marking all only was = record {
+    itself = marking.kept top was.itself;
+    below = λ n is. elim (only n is) [
+      | inl before ↦ was.below n before
+      | inr child ↦ below_child e top here n (was.below here here_marked) ((are n).0 child)
+    ];
+    marked = marking.marked (λ n is. was.marked n (subst (λ (xs : List ℕ). Contains xs n) (sym splits) (Contains-append_left rest (here ∷ []) n is)));
+    closed = λ d n is child. elim (marking.fresh d is) [
+      | inl before ↦ elim (was.closed d n before child) [
+        | inl marked ↦ inl (marking.kept n marked)
+        | inr waits ↦ elim (Contains-push_cases rest here d (subst (λ (xs : List ℕ). Contains xs d) splits waits)) [
+          | inl still ↦ inr (marking.still_left d still)
+          | inr same ↦ inl (all n ((are n).1 (subst (λ (k : ℕ). IsChild e k n) (sym same) child)))
+        ]
+      ]
+      | inr waits ↦ inr waits
+    ];
+  }
+    where
+      here_marked : IsMarked marks here
+      here_marked = was.marked here (subst (λ (xs : List ℕ). Contains xs here) (sym splits) (Contains-push rest here))
+
+-- a search in which nothing is left has marked what lies below
+pub searched_all : (e : Entries) (top : ℕ) (marks : List Bool) (left : List ℕ) → left ≡ [] → Searches e top marks left → (n : ℕ) → IsMarked marks n ↔ IsBelow e top n
+searched_all e top marks left none was n = (
+  was.below n,
+  closed_below e marks (λ d m is child. elim (was.closed d m is child) [
+    | inl marked ↦ marked
+    | inr waits ↦ nothing (subst (λ (xs : List ℕ). Contains xs d) none waits)
+  ]) top n was.itself,
+)

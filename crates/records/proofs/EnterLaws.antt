@@ -1,0 +1,261 @@
+-- Names that directories of a volume get and lose.
+use Rattle.std.proofs.Common.{◌≡◌, ◌≢◌, ◌⊎◌, inl, inr, ℕ, zero, suc, ◌==◌, ◌<◌, ◌≤◌, List, Option, Some, None, IsTrue, IsSome, is_some, IfSome, IfNone, IfOk, Result, Ok, Err, false, bytes_eq, refl, sym, ap, subst, ◌∙◌, arith}
+use Rattle.std.proofs.Math.Path.{fun_ext}
+use Rattle.std.proofs.lemmas.Bool.{cases_Bool, cases_eq, false≢true, both_ways}
+use Rattle.std.proofs.lemmas.Bool.Decides.{nat_tests}
+use Rattle.std.proofs.lemmas.Slice.Eq.{bytes_eq-Decides}
+use Rattle.layout.specs.DirectoryNames.{NameMap}
+use Rattle.layout.specs.declared.inode.Inode.{Inode}
+use Rattle.layout.specs.declared.kind.Kind.{Kind}
+use Rattle.layout.specs.declared.kind.Kind.TheVariants as kinds
+use Rattle.model.specs.Counting.{Counts}
+use Rattle.model.specs.Paths.{Name, IsName}
+use Rattle.model.specs.Records.{TakesName, is_vacant}
+use Rattle.model.specs.Volumes.{Node, directory_node, file_node, link_node, Volume, names_in, is_directory_node, with_node, set_name, with_entry, IsVolume}
+use Rattle.model.proofs.CountLemmas.{counts_once}
+use Rattle.images.specs.Contents.{Content, StandsAs, IsDirectoryOf}
+use Rattle.inode.specs.declared.object.Object.{Object}
+use Rattle.inofile.specs.Objects.{IsObject, IsObjectKind, IsObjectOrNone, IsSameOrNone}
+use Rattle.inofile.specs.Settled.{content_of}
+use Rattle.layout.specs.declared.entry.Entry.{Entry}
+use Rattle.dirs.specs.Directory.{HasCount, with_name}
+use Rattle.records.specs.declared.naming.NameEdit.TheVariants as edits
+use Rattle.records.specs.Entering.{Accepts, HasPlace, IsDirectoryObject, TakesEntry, with_names}
+
+-- ---- a directory of a volume and one in memory
+
+module _ (v : Volume) (d : ℕ) (x : Name) (mode : ℕ) (names : NameMap) (is : v d ≡ Some (directory_node mode names)) where
+  pub takes_name : IsName x → TakesEntry names x → TakesName v d x
+  takes_name name takes = record {
+    directory = subst (λ (o : Option Node). IsTrue (is_directory_node o)) (sym is) refl;
+    missing = subst (λ (o : Option Node). names_in o x ≡ None) (sym is) takes.missing;
+    name = name;
+    count = takes.place.count;
+    counts = subst (λ (o : Option Node). Counts (λ y. IsSome (names_in o y)) takes.place.count) (sym is) takes.place.counts;
+    room = takes.place.room;
+  }
+
+  pub takes_entry : TakesName v d x → TakesEntry names x
+  takes_entry takes = record {
+    missing = subst (λ (o : Option Node). names_in o x ≡ None) is takes.missing;
+    place = record {
+      count = takes.count;
+      counts = subst (λ (o : Option Node). Counts (λ y. IsSome (names_in o y)) takes.count) is takes.counts;
+      room = takes.room;
+    };
+  }
+
+-- a directory, with its mode and its names
+pub directory_is : (o : Option Node) → IsTrue (is_directory_node o) → (mode : ℕ) × (names : NameMap) × (o ≡ Some (directory_node mode names))
+directory_is None is = absurd (false≢true is)
+directory_is (Some (directory_node mode names)) is = (mode, names, refl)
+directory_is (Some (file_node mode links bytes)) is = absurd (false≢true is)
+directory_is (Some (link_node text)) is = absurd (false≢true is)
+
+pub found_directory : (o : Option Node) (mode : ℕ) (names : NameMap) → o ≡ Some (directory_node mode names) → IsTrue (is_directory_node o)
+found_directory o mode names is = ap is_directory_node is
+
+-- an object has its names once
+pub same_names : (mode old : ℕ) (names others : NameMap) → Some (directory_node mode names) ≡ Some (directory_node old others) → names ≡ others
+same_names mode old names others e = cc
+
+-- a directory that takes a name has place for its entry
+pub accepts_entry : (v : Volume) (d : ℕ) (entry : Entry) → TakesName v d entry.name.now → Accepts (edits.Add entry) (v d)
+accepts_entry v d entry takes =
+    let there = directory_is (v d) takes.directory in
+    record { mode = there.0; names = there.1; is = there.2; takes = takes_entry v d entry.name.now there.0 there.1 there.2 takes }
+
+-- and the other way round
+pub takes_accepted : (v : Volume) (d : ℕ) (entry : Entry) → IsName entry.name.now → Accepts (edits.Add entry) (v d) → TakesName v d entry.name.now
+takes_accepted v d entry name accepts = takes_name v d entry.name.now accepts.mode accepts.names accepts.is name accepts.takes
+
+-- names are told apart
+pub names_apart : (a b : Name) → (a ≡ b) ⊎ (a ≢ b)
+names_apart a b = elim (cases_Bool (bytes_eq a b)) [
+  | inl same ↦ inl ((bytes_eq-Decides a b).0 same)
+  | inr other ↦ inr (λ e. both_ways (bytes_eq a b) other ((bytes_eq-Decides a b).1 e))
+]
+
+-- a full directory has no place for a name
+pub full_has_no_place : (names : NameMap) (n : ℕ) → HasCount names n → 65536 ≤ n → HasPlace names → ⊥
+full_has_no_place names n count many place =
+    let same : n ≡ place.count = counts_once (λ (y : Name). IsSome (names y)) names_apart n place.count count place.counts in
+    let room = place.room in
+    omega (arith, same, room, many)
+
+-- ---- kinds
+
+none_directory : (o : Option Node) → o ≡ None → IsTrue (is_directory_node o) → ⊥
+none_directory o none is = false≢true (subst (λ (x : Option Node). IsTrue (is_directory_node x)) none is)
+
+some_directory : (o : Option Node) (node : Node) → o ≡ Some node → is_directory_node (Some node) ≡ false → IsTrue (is_directory_node o) → ⊥
+some_directory o node some not is = both_ways (is_directory_node (Some node)) not (subst (λ (x : Option Node). IsTrue (is_directory_node x)) some is)
+
+-- what stands for a directory is one
+pub directory_kind : (k : Kind) (inodes : ℕ) (c : Content) (o : Option Node) → StandsAs k inodes c o → IsTrue (is_directory_node o) → k ≡ kinds.Directory
+directory_kind kinds.Free inodes c o stands is = absurd (none_directory o stands is)
+directory_kind kinds.File inodes c o stands is = absurd (some_directory o _ stands refl is)
+directory_kind kinds.Directory inodes c o stands is = refl
+directory_kind kinds.Link inodes c o stands is = absurd (some_directory o _ stands refl is)
+directory_kind kinds.InodeFile inodes c o stands is = absurd (none_directory o stands is)
+directory_kind kinds.InodeMap inodes c o stands is = absurd (none_directory o stands is)
+directory_kind kinds.BlockMap inodes c o stands is = absurd (none_directory o stands is)
+
+-- a directory in memory, with its names
+pub directory_stands : (k : Kind) (inodes : ℕ) (c : Content) (o : Option Node) → k ≡ kinds.Directory → StandsAs k inodes c o
+    → (names : NameMap) × IsDirectoryOf inodes c names × (o ≡ Some (directory_node c.mode names))
+directory_stands k inodes c o is stands = subst (λ (x : Kind). StandsAs x inodes c o) is stands
+
+pub not_directory : (k : Kind) (inodes : ℕ) (c : Content) (o : Option Node) → StandsAs k inodes c o → (k ≡ kinds.Directory → ⊥) → false ≡ is_directory_node o
+not_directory k inodes c o stands other =
+    elim (cases_Bool (is_directory_node o)) [ inl is ↦ absurd (other (directory_kind k inodes c o stands is)) | inr isnt ↦ sym isnt ]
+
+-- what stands for a directory is one in memory
+pub is_directory_object : (disk : ℕ → List ℕ) (inodes : ℕ) (settled : Inode) (x : Option Object) (found : Option Node) → IsObjectOrNone disk inodes settled x found
+    → IsTrue (is_directory_node found) → IsDirectoryObject x
+is_directory_object disk inodes settled (Some o) found stands is = directory_kind o.attributes.kind inodes (content_of disk o) found stands.stands is
+is_directory_object disk inodes settled None found stands is = absurd (none_directory found stands is)
+
+nameless_file : (mode links : ℕ) (bytes : List ℕ) → (links == 0) ≡ is_vacant (Some (file_node mode links bytes))
+nameless_file mode zero bytes = refl
+nameless_file mode (suc links) bytes = grind (arith, nat_tests)
+
+-- a file without links is vacant, and nothing else that stands there is
+pub file_vacancy : (inodes : ℕ) (c : Content) (o : Option Node) → StandsAs kinds.File inodes c o → (c.links == 0) ≡ is_vacant o
+file_vacancy inodes c o stands = nameless_file c.mode c.links _ ∙ ap is_vacant (sym stands)
+
+pub other_vacancy : (k : Kind) (inodes : ℕ) (c : Content) (o : Option Node) → (k ≡ kinds.File → ⊥) → IsObjectKind k → StandsAs k inodes c o → false ≡ is_vacant o
+other_vacancy kinds.Free inodes c o other kind stands = absurd kind
+other_vacancy kinds.File inodes c o other kind stands = absurd (other refl)
+other_vacancy kinds.Directory inodes c o other kind stands = ap is_vacant (sym stands.2)
+other_vacancy kinds.Link inodes c o other kind stands = ap is_vacant (sym stands)
+other_vacancy kinds.InodeFile inodes c o other kind stands = absurd kind
+other_vacancy kinds.InodeMap inodes c o other kind stands = absurd kind
+other_vacancy kinds.BlockMap inodes c o other kind stands = absurd kind
+
+-- a directory's number isn't vacant
+pub vacant_apart : (v : Volume) (n d : ℕ) → IsTrue (is_vacant (v n)) → IsTrue (is_directory_node (v d)) → n ≢ d
+vacant_apart v n d vacant directory same = apart (v d) (subst (λ k. IsTrue (is_vacant (v k))) same vacant) directory
+  where
+    apart : (o : Option Node) → IsTrue (is_vacant o) → IsTrue (is_directory_node o) → ⊥
+    apart None vacant directory = false≢true directory
+    apart (Some (directory_node mode names)) vacant directory = false≢true vacant
+    apart (Some (file_node mode links bytes)) vacant directory = false≢true directory
+    apart (Some (link_node text)) vacant directory = false≢true directory
+
+-- ---- answers
+
+-- what is true of what is told, from two other facts of it
+pub both_told : {A E : Type 0} (r : Result (Option A) E) (P Q R : A → Type 0) → ((a : A) → P a → Q a → R a)
+    → IfOk r (λ o. IfSome o P) → IfOk r (λ o. IfSome o Q) → IfOk r (λ o. IfSome o R)
+both_told (Ok (Some a)) P Q R then p q = then a p q
+both_told (Ok None) P Q R then p q = tt
+both_told (Err e) P Q R then p q = tt
+
+pub told_so : {A E : Type 0} (r : Result (Option A) E) (P Q : A → Type 0) → ((a : A) → P a → Q a) → IfOk r (λ o. IfSome o P) → IfOk r (λ o. IfSome o Q)
+told_so (Ok (Some a)) P Q then p = then a p
+told_so (Ok None) P Q then p = tt
+told_so (Err e) P Q then p = tt
+
+pub refused_so : {A E : Type 0} (r : Result (Option A) E) (P Q : Type 0) → (P → Q) → IfOk r (λ o. IfNone o P) → IfOk r (λ o. IfNone o Q)
+refused_so (Ok (Some a)) P Q then p = tt
+refused_so (Ok None) P Q then p = then p
+refused_so (Err e) P Q then p = tt
+
+pub some_told : {A E : Type 0} (r : Result (Option A) E) (P : Type 0) → P → IfOk r (λ o. IfSome o (λ _. P))
+some_told (Ok (Some a)) P is = is
+some_told (Ok None) P is = tt
+some_told (Err e) P is = tt
+
+pub always_some : {A E : Type 0} (r : Result (Option A) E) (P : Type 0) → IfOk r (λ o. IfNone o ⊥) → IfOk r (λ o. IfNone o P)
+always_some (Ok (Some a)) P is = tt
+always_some (Ok None) P is = absurd is
+always_some (Err e) P is = tt
+
+pub not_some : {A : Type 0} (o : Option A) → is_some o ≡ false → o ≡ None
+not_some None is = refl
+not_some (Some a) is = absurd (false≢true (sym is))
+
+-- what isn't touched is the same
+pub same_object : (x : Option Object) → IsSameOrNone x x
+same_object (Some o) = record {
+  attributes = refl;
+  file = record {
+    size = refl;
+    blocks = λ disk i. refl;
+    base = λ settled is. is;
+    sound = λ blocks disk i is. is;
+    was_sound = λ blocks disk i is. is;
+    changes = record { settled = record { pointers = refl; depth = refl; count = refl }; kept = refl; only = λ i is. is };
+  };
+}
+same_object None = tt
+
+-- an object that was taken out, or none
+pub object_or_none : (disk : ℕ → List ℕ) (inodes : ℕ) (settled : Inode) (o : Option Object) (found : Option Node)
+    → IfSome o (λ x. IsObject disk inodes settled x found) → IfNone o (found ≡ None) → IsObjectOrNone disk inodes settled o found
+object_or_none disk inodes settled (Some x) found stands none = stands
+object_or_none disk inodes settled None found stands none = none
+
+-- ---- the volume
+
+pub node_here : (n k : ℕ) (node : Option Node) (v : Volume) → k ≡ n → with_node n node v k ≡ node
+node_here n k o v e = grind (arith, nat_tests)
+
+pub node_other : (n k : ℕ) (node : Option Node) (v : Volume) → k ≢ n → with_node n node v k ≡ v k
+node_other n k o v ne = grind (arith, nat_tests)
+
+-- a name and its object, the name first, make what both make at once
+module _ (n d : ℕ) (x : Name) (to : Option ℕ) (node : Option Node) (v : Volume) (apart : n ≢ d) where
+  abbrev object_put : Volume
+  object_put = with_node n node v
+
+  abbrev name_put : Volume
+  name_put = with_node d (set_name x to (v d)) v
+
+  at_parent : object_put d ≡ v d
+  at_parent = node_other n d node v (λ e. apart (sym e))
+
+  put_each : (k : ℕ) → with_node n node name_put k ≡ with_entry d x to object_put k
+  put_each k = elim (cases_eq k n) [
+    | inl is_n ↦
+        node_here n k node name_put is_n
+        ∙ sym (node_here n k node v is_n)
+        ∙ sym (node_other d k (set_name x to (object_put d)) object_put (λ e. apart (sym is_n ∙ e)))
+    | inr other ↦
+        node_other n k node name_put other
+        ∙ elim (cases_eq k d) [
+          | inl is_d ↦
+              node_here d k (set_name x to (v d)) v is_d
+              ∙ ap (set_name x to) (sym at_parent)
+              ∙ sym (node_here d k (set_name x to (object_put d)) object_put is_d)
+          | inr ne ↦
+              node_other d k (set_name x to (v d)) v ne
+              ∙ sym (node_other n k node v other)
+              ∙ sym (node_other d k (set_name x to (object_put d)) object_put ne)
+        ]
+  ]
+
+  pub put_volume : with_node n node (with_node d (set_name x to (v d)) v) ≡ with_entry d x to (with_node n node v)
+  put_volume = fun_ext {f = with_node n node name_put} {g = with_entry d x to object_put} put_each
+
+-- one name of a directory changed
+pub names_set : (x : Name) (to : Option ℕ) (o : Option Node) → with_names (with_name x to) o ≡ set_name x to o
+names_set x to None = refl
+names_set x to (Some (directory_node mode names)) = refl
+names_set x to (Some (file_node mode links bytes)) = refl
+names_set x to (Some (link_node text)) = refl
+
+-- ---- numbers
+
+-- a directory of a volume has a number of the image
+pub directory_number : (inodes : ℕ) (v : Volume) (d : ℕ) → 32 ≤ inodes → IsVolume inodes v → IsTrue (is_directory_node (v d)) → d < inodes
+directory_number inodes v d least volume directory =
+    elim (volume.limits.numbers d (some (v d) directory)) [
+      | inl root ↦ omega (arith, root, least)
+      | inr within ↦ within.1
+    ]
+  where
+    some : (o : Option Node) → IsTrue (is_directory_node o) → IsSome o
+    some None is = absurd (false≢true is)
+    some (Some node) is = refl

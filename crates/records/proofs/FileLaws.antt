@@ -1,0 +1,161 @@
+-- Files of a volume, and their counts of names.
+use Rattle.std.proofs.Common.{◌≡◌, ◌≢◌, ℕ, ◌-◌, ◌+◌, ◌==◌, ◌↔◌, ◌++◌, drop, zero, suc, List, [], ◌∷◌, length, map, Option, Some, None, IsTrue, IsSome, true, false, inl, inr, refl, sym, ap, subst, ◌∙◌, arith}
+use Rattle.std.proofs.lemmas.Bool.{false≢true}
+use Rattle.std.proofs.lemmas.Bool.Decides.{nat_tests}
+use Rattle.layout.specs.Directory.{IsEntry}
+use Rattle.layout.specs.declared.kind.Kind.{Kind}
+use Rattle.layout.specs.declared.kind.Kind.TheVariants as kinds
+use Rattle.model.specs.Paths.{Name, IsName}
+use Rattle.model.specs.Records.{IsEmpty}
+use Rattle.model.specs.Volumes.{Node, Volume, directory_node, file_node, link_node, entries, names_in, is_directory_node, is_file_node, with_entry, with_name_less, with_name_more, with_node, IsVolume}
+use Rattle.images.specs.Contents.{Content, StandsAs}
+use Rattle.layout.specs.DirectoryNames.{NameMap}
+use Rattle.dirs.specs.Directory.{with_name}
+use Rattle.dirs.specs.Listings.{IsListing}
+use Rattle.inode.specs.Edges.{written_list}
+use Rattle.layout.specs.Bytes.{zeros}
+use Rattle.inofile.specs.Inodes.{IsKnown}
+use Rattle.inofile.specs.declared.inode_file.InodeFile.{InodeFile}
+use Rattle.records.specs.Entering.{with_names}
+use Rattle.records.specs.Steps.{IsAlone, IsApart, IsFileOf, TakesUpdate, with_links}
+use Rattle.records.specs.declared.steps.Update.{Update}
+use Rattle.records.specs.declared.steps.Update.TheVariants as updates
+use Rattle.records.proofs.EnterLaws.{names_set, put_volume}
+
+pub not_file : (k : Kind) (inodes : ℕ) (c : Content) (o : Option Node) → StandsAs k inodes c o → (k ≡ kinds.File → ⊥) → is_file_node o ≡ false
+not_file kinds.Free inodes c o stands other = ap is_file_node stands
+not_file kinds.File inodes c o stands other = absurd (other refl)
+not_file kinds.Directory inodes c o stands other = ap is_file_node stands.2
+not_file kinds.Link inodes c o stands other = ap is_file_node stands
+not_file kinds.InodeFile inodes c o stands other = ap is_file_node stands
+not_file kinds.InodeMap inodes c o stands other = ap is_file_node stands
+not_file kinds.BlockMap inodes c o stands other = ap is_file_node stands
+
+-- what isn't a file is gone with its name
+pub gone_with_name : (k : Kind) (inodes : ℕ) (c : Content) (o : Option Node) → StandsAs k inodes c o → (k ≡ kinds.File → ⊥) → with_name_less o ≡ None
+gone_with_name kinds.Free inodes c o stands other = ap with_name_less stands
+gone_with_name kinds.File inodes c o stands other = absurd (other refl)
+gone_with_name kinds.Directory inodes c o stands other = ap with_name_less stands.2
+gone_with_name kinds.Link inodes c o stands other = ap with_name_less stands
+gone_with_name kinds.InodeFile inodes c o stands other = ap with_name_less stands
+gone_with_name kinds.InodeMap inodes c o stands other = ap with_name_less stands
+gone_with_name kinds.BlockMap inodes c o stands other = ap with_name_less stands
+
+-- ---- files by their count of names
+
+pub file_is : (links : ℕ) (o : Option Node) → IsFileOf links o → IsTrue (is_file_node o)
+file_is links o is = ap is_file_node is.2
+
+pub same_links : (mode old links others : ℕ) (bytes more : List ℕ) → Some (file_node mode links bytes) ≡ Some (file_node old others more) → links ≡ others
+same_links mode old links others bytes more e = cc
+
+pub less_links : (links : ℕ) (o : Option Node) → IsFileOf links o → with_name_less o ≡ with_links (links - 1) o
+less_links links o is = ap with_name_less is.2 ∙ sym (ap (with_links (links - 1)) is.2)
+
+pub more_links : (links : ℕ) (o : Option Node) → IsFileOf links o → with_links (links + 1) o ≡ with_name_more o
+more_links links o is = ap (with_links (links + 1)) is.2 ∙ sym (ap with_name_more is.2)
+
+-- a file's number isn't a directory's
+pub file_apart : (v : Volume) (n d : ℕ) → IsTrue (is_file_node (v n)) → IsTrue (is_directory_node (v d)) → n ≢ d
+file_apart v n d file directory same = apart (v d) (subst (λ k. IsTrue (is_file_node (v k))) same file) directory
+  where
+    apart : (o : Option Node) → IsTrue (is_file_node o) → IsTrue (is_directory_node o) → ⊥
+    apart None file directory = false≢true directory
+    apart (Some (directory_node mode names)) file directory = false≢true file
+    apart (Some (file_node mode links bytes)) file directory = false≢true directory
+    apart (Some (link_node text)) file directory = false≢true directory
+
+-- a file of a volume has a number of the image, and a name can stand for it
+pub file_entry : (inodes : ℕ) (v : Volume) (n : ℕ) (x : Name) → IsVolume inodes v → IsTrue (is_file_node (v n)) → IsName x → IsEntry inodes (record { number = n; name = x })
+file_entry inodes v n x volume file name =
+    elim (volume.limits.numbers n (some (v n) file)) [
+      | inl root ↦ absurd (file_apart v n 3 file volume.graph.root root)
+      | inr within ↦ record { ordinary = within.0; below = within.1; name = name }
+    ]
+  where
+    some : (o : Option Node) → IsTrue (is_file_node o) → IsSome o
+    some None is = absurd (false≢true is)
+    some (Some node) is = refl
+
+-- ---- names
+
+pub none_some : {X : Type 0} {n : ℕ} → None ≡ Some n → X
+none_some e = cc
+
+pub same_some : {m n : ℕ} → Some m ≡ Some n → m ≡ n
+same_some e = cc
+
+-- where a name is, there is a directory
+pub named_directory : (o : Option Node) (x : Name) (n : ℕ) → names_in o x ≡ Some n → IsTrue (is_directory_node o)
+named_directory None x n is = none_some is
+named_directory (Some (directory_node mode names)) x n is = refl
+named_directory (Some (file_node mode links bytes)) x n is = none_some is
+named_directory (Some (link_node text)) x n is = none_some is
+
+-- an object without names isn't the directory of its name
+pub empty_apart : (v : Volume) (n d : ℕ) (x : Name) → IsEmpty v n → entries v d x ≡ Some n → n ≢ d
+empty_apart v n d x empty is same = none_some (sym (subst (λ k. IsEmpty v k) same empty x) ∙ is)
+
+-- ---- steps
+
+-- the names of a directory changed, and then another object, make what both make at once
+pub both_steps : (n d : ℕ) (x : Name) (to : Option ℕ) (node after : Option Node) (v : Volume) → n ≢ d → after ≡ node
+    → with_entry d x to (with_node n node v) ≡ with_node n after (with_node d (with_names (with_name x to) (v d)) v)
+both_steps n d x to node after v apart same =
+    sym (put_volume n d x to node v apart)
+    ∙ ap (λ o. with_node n node (with_node d o v)) (sym (names_set x to (v d)))
+    ∙ ap (λ o. with_node n o (with_node d (with_names (with_name x to) (v d)) v)) (sym same)
+
+-- ---- updates that depend on nothing else
+
+pub alone_takes : (s : InodeFile) (number : ℕ) (u : Update) → IsAlone u → IsKnown s number → TakesUpdate s number u
+alone_takes s number (updates.Set (Some object)) alone known = tt
+alone_takes s number (updates.Set None) alone known = known
+alone_takes s number (updates.Names edit) alone known = absurd alone
+alone_takes s number (updates.SetMode mode) alone known = known
+alone_takes s number (updates.Bytes change) alone known = absurd alone
+alone_takes s number (updates.Links links) alone known = known
+
+pub alone_apart : (n number : ℕ) (u : Update) → IsAlone u → IsApart n number u
+alone_apart n number (updates.Set object) alone = tt
+alone_apart n number (updates.Names edit) alone = absurd alone
+alone_apart n number (updates.SetMode mode) alone = tt
+alone_apart n number (updates.Bytes change) alone = absurd alone
+alone_apart n number (updates.Links links) alone = tt
+
+-- ---- listings
+
+none_listed : (names : NameMap) → IsListing names [] → (x : Name) (o : Option ℕ) → names x ≡ o → o ≡ None
+none_listed names listing x None is = refl
+none_listed names listing x (Some n) is =
+    let listed = (listing.whole x).1 (subst (λ (o : Option ℕ). IsSome o) (sym is) refl) in
+    absurd (omega (arith, listed.1))
+
+some_listed : (n : ℕ) → (suc n == 0) ≡ false
+some_listed n = grind (arith, nat_tests)
+
+first_listed : (names : NameMap) (a : Name) (rest : List Name) → IsListing names (a ∷ rest) → names a ≡ None → ⊥
+first_listed names a rest listing none = false≢true (subst (λ (o : Option ℕ). IsSome o) none ((listing.whole a).0 (0, omega arith, refl)))
+
+-- an object has no names just where none are listed
+pub empty_listing : {X : Type 0} (f : X → Name) (raw : List X) (names : NameMap) → IsListing names (map f raw) → ((length raw == 0) ≡ true) ↔ ((x : Name) → names x ≡ None)
+empty_listing f [] names listing = (λ is x. none_listed names listing x (names x) refl, λ none. refl)
+empty_listing f (a ∷ raw) names listing = (
+  λ is. absurd (false≢true (sym (some_listed (length raw)) ∙ is)),
+  λ none. absurd (first_listed names (f a) (map f raw) listing (none (f a))),
+)
+
+-- ---- bytes
+
+drop_none : (n : ℕ) → ◌≡◌ {A = List ℕ} (drop n []) []
+drop_none zero = refl
+drop_none (suc n) = refl
+
+append_none : (xs : List ℕ) → xs ++ [] ≡ xs
+append_none [] = refl
+append_none (x ∷ xs) = ap (λ (l : List ℕ). x ∷ l) (append_none xs)
+
+-- what is written into a file without bytes is all that it has
+pub written_first : (text : List ℕ) → written_list [] 0 text ≡ text
+unfolding zeros
+written_first text = ap (λ (l : List ℕ). text ++ l) (drop_none (0 + length text)) ∙ append_none text

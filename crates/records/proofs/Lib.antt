@@ -1,0 +1,12 @@
+pub mod EnterLaws
+pub mod StandLaws
+pub mod StepLaws
+pub mod ContentLaws
+pub mod RewriteLaws
+pub mod NamingLaws
+pub mod FileLaws
+pub mod BelowLaws
+pub mod MoveLaws
+pub mod SweepLaws
+pub mod FollowLaws
+pub mod PartLaws

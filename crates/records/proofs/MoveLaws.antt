@@ -1,0 +1,359 @@
+-- A move, as changes of one object after another.
+use Rattle.std.proofs.Common.{◌≡◌, ◌≢◌, ◌≤◌, ◌↔◌, ◌⊎◌, inl, inr, ℕ, Bool, true, false, List, Option, Some, None, IsSome, is_some, IsTrue, bytes_eq, refl, sym, ap, subst, ◌∙◌, arith}
+use mathlib.Core.Bool.{beq, not}
+use Rattle.std.proofs.Math.Path.{fun_ext}
+use Rattle.std.proofs.lemmas.Bool.{both_ways, cases_Bool, cases_eq, cond-false, cond-true, false≢true}
+use Rattle.std.proofs.lemmas.Slice.Eq.{bytes_eq-Decides}
+use Rattle.layout.specs.Directory.{IsEntry}
+use Rattle.layout.specs.DirectoryNames.{NameMap}
+use Rattle.layout.specs.declared.entry.Entry.{Entry}
+use Rattle.layout.specs.declared.inode.Inode.{Inode}
+use Rattle.model.specs.Counting.{Counts}
+use Rattle.model.specs.Paths.{IsName, Name}
+use Rattle.model.specs.Records.{CanRename, CanReplace, IsEmpty, TakesName as TakesNewName}
+use Rattle.model.specs.Volumes.{IsVolume, Node, Volume, directory_node, entries, file_node, is_directory_node, link_node, names_in, released, set_name, with_entry, with_name_less, with_node}
+use Rattle.model.proofs.CountLemmas.{one_less, same_count}
+use Rattle.dirs.specs.Directory.{HasCount, with_name}
+use Rattle.inofile.specs.Inodes.{loaded}
+use Rattle.inofile.specs.declared.inode_file.InodeFile.{InodeFile}
+use Rattle.paths.specs.Steps.{found_in}
+use Rattle.paths.specs.declared.lookup.Found.TheVariants as found
+use Rattle.records.specs.Entering.{Accepts, HasPlace, names_after, with_names}
+use Rattle.records.specs.Moving.{Moves, Replaces, edit_for}
+use Rattle.records.specs.Prepared.{AreBeside}
+use Rattle.records.specs.Steps.{IsBeside, StepsSome, Updates}
+use Rattle.records.specs.declared.naming.NameEdit.TheVariants as edits
+use Rattle.records.specs.declared.steps.Step.{Step}
+use Rattle.records.proofs.EnterLaws.{accepts_entry, directory_is, names_apart, names_set, node_here, node_other}
+use Rattle.records.proofs.FileLaws.{none_some, same_some}
+
+-- objects of two numbers are changed in either order
+pub nodes_apart : (a b : ℕ) (o p : Option Node) (v : Volume) → a ≢ b → with_node a o (with_node b p v) ≡ with_node b p (with_node a o v)
+nodes_apart a b o p v apart = fun_ext {f = with_node a o (with_node b p v)} {g = with_node b p (with_node a o v)} each
+  where
+    each : (k : ℕ) → with_node a o (with_node b p v) k ≡ with_node b p (with_node a o v) k
+    each k = elim (cases_eq k a) [
+      | inl is_a ↦ node_here a k o (with_node b p v) is_a ∙ sym (node_here a k o v is_a) ∙ sym (node_other b k p (with_node a o v) (λ e. apart (sym is_a ∙ e)))
+      | inr other ↦
+          node_other a k o (with_node b p v) other
+          ∙ elim (cases_eq k b) [
+            | inl is_b ↦ node_here b k p v is_b ∙ sym (node_here b k p (with_node a o v) is_b)
+            | inr ne ↦ node_other b k p v ne ∙ sym (node_other a k o v other) ∙ sym (node_other b k p (with_node a o v) ne)
+          ]
+    ]
+
+-- an object that is changed twice is as it was changed last
+pub node_twice : (a : ℕ) (o p : Option Node) (v : Volume) → with_node a o (with_node a p v) ≡ with_node a o v
+node_twice a o p v = fun_ext {f = with_node a o (with_node a p v)} {g = with_node a o v} each
+  where
+    each : (k : ℕ) → with_node a o (with_node a p v) k ≡ with_node a o v k
+    each k = elim (cases_eq k a) [
+      | inl is ↦ node_here a k o (with_node a p v) is ∙ sym (node_here a k o v is)
+      | inr ne ↦ node_other a k o (with_node a p v) ne ∙ node_other a k p v ne ∙ sym (node_other a k o v ne)
+    ]
+
+-- two names of a directory changed
+pub names_set_twice : (x y : Name) (to : Option ℕ) (o : Option Node) → with_names (λ (names : NameMap). with_name y to (with_name x None names)) o ≡ set_name y to (set_name x None o)
+names_set_twice x y to None = refl
+names_set_twice x y to (Some (directory_node mode names)) = refl
+names_set_twice x y to (Some (file_node mode links bytes)) = refl
+names_set_twice x y to (Some (link_node text)) = refl
+
+-- both names of a move within one directory
+pub moved_within : (d : ℕ) (x y : Name) (to : Option ℕ) (v : Volume)
+    → with_entry d y to (with_entry d x None v) ≡ with_node d (with_names (λ (names : NameMap). with_name y to (with_name x None names)) (v d)) v
+moved_within d x y to v =
+    node_twice d (set_name y to (with_entry d x None v d)) (set_name x None (v d)) v
+    ∙ ap (λ (o : Option Node). with_node d (set_name y to o) v) (node_here d d (set_name x None (v d)) v refl)
+    ∙ ap (λ (o : Option Node). with_node d o v) (sym (names_set_twice x y to (v d)))
+
+-- ---- places
+
+-- the other names are those that are left
+left_names : (names : NameMap) (x b : Name) → IsSome (with_name x None names b) ↔ (IsSome (names b) × (b ≢ x))
+left_names names x b = (
+  λ is. elim (cases_Bool (bytes_eq b x)) [
+    | inl same ↦ absurd (false≢true (subst (λ (o : Option ℕ). IsSome o) (cond-true (bytes_eq b x) None (names b) same) is))
+    | inr other ↦ (
+      subst (λ (o : Option ℕ). IsSome o) (cond-false (bytes_eq b x) None (names b) other) is,
+      λ e. both_ways (bytes_eq b x) other ((bytes_eq-Decides b x).1 e),
+    )
+  ],
+  λ is. elim (cases_Bool (bytes_eq b x)) [
+    | inl same ↦ absurd (is.1 ((bytes_eq-Decides b x).0 same))
+    | inr other ↦ subst (λ (o : Option ℕ). IsSome o) (sym (cond-false (bytes_eq b x) None (names b) other)) is.0
+  ],
+)
+
+-- where a name goes that was there, a directory within the limit has place for one
+pub place_left : (names : NameMap) (x : Name) (n count : ℕ) → names x ≡ Some n → HasCount names count → count ≤ 65536 → HasPlace (with_name x None names)
+place_left names x n count is counts most =
+    let less = one_less (λ (y : Name). IsSome (names y)) x count names_apart (subst (λ (o : Option ℕ). IsSome o) (sym is) refl) counts in
+    let same = less.1 in
+    record {
+      count = less.0;
+      counts = same_count (λ (b : Name). IsSome (names b) × (b ≢ x)) (λ (b : Name). IsSome (with_name x None names b)) less.0 (λ b. ((left_names names x b).1, (left_names names x b).0)) less.2;
+      room = omega (arith, same, most);
+    }
+
+-- where another name goes, a directory has no more names than before
+left_count : (names : NameMap) (y : Name) (count : ℕ) → HasCount names count → (rest : ℕ) × (rest ≤ count) × HasCount (with_name y None names) rest
+left_count names y count counts = by (names y) refl
+  where
+    by : (o : Option ℕ) → names y ≡ o → (rest : ℕ) × (rest ≤ count) × HasCount (with_name y None names) rest
+    by None none = (
+      count,
+      omega arith,
+      same_count (λ (b : Name). IsSome (names b)) (λ (b : Name). IsSome (with_name y None names b)) count (λ b. (
+        λ is. (left_names names y b).1 (is, λ same. none_some (sym none ∙ ap names (sym same) ∙ is_some_of (names b) is)),
+        λ is. ((left_names names y b).0 is).0,
+      )) counts,
+    )
+      where
+        is_some_of : (o : Option ℕ) → IsSome o → o ≡ Some (elim o as (λ _. ℕ) [ Some n ↦ n | None ↦ 0 ])
+        is_some_of None is = absurd (false≢true is)
+        is_some_of (Some n) is = refl
+    by (Some n) is =
+        let less = one_less (λ (b : Name). IsSome (names b)) y count names_apart (subst (λ (o : Option ℕ). IsSome o) (sym is) refl) counts in
+        let same = less.1 in
+        (less.0, omega arith, same_count (λ (b : Name). IsSome (names b) × (b ≢ y)) (λ (b : Name). IsSome (with_name y None names b)) less.0 (λ b. ((left_names names y b).1, (left_names names y b).0)) less.2)
+
+-- where one name goes and another one that was there, a directory within the limit has place for one
+place_moved : (names : NameMap) (x y : Name) (n count : ℕ) → names x ≡ Some n → x ≢ y → HasCount names count → count ≤ 65536 → HasPlace (with_name x None (with_name y None names))
+place_moved names x y n count is apart counts most =
+    let rest = left_count names y count counts in
+    let fewer = rest.1 in
+    let other : bytes_eq x y ≡ false = elim (cases_Bool (bytes_eq x y)) [ inl same ↦ absurd (apart ((bytes_eq-Decides x y).0 same)) | inr other ↦ other ] in
+    place_left (with_name y None names) x n rest.0 (cond-false (bytes_eq x y) None (names x) other ∙ is) rest.2 (omega (arith, fewer, most))
+
+-- ---- what had the new name
+
+-- what has the new name isn't this object
+abbrev IsAside : ℕ → Option ℕ → Type 0
+IsAside a None = Unit {0}
+IsAside a (Some m) = m ≢ a
+
+aside_at : (a : ℕ) (target : Option ℕ) → IsAside a target → (m : ℕ) → target ≡ Some m → m ≢ a
+aside_at a None aside m is = none_some is
+aside_at a (Some j) aside m is = λ same. aside (same_some is ∙ same)
+
+released_same : (target : Option ℕ) (a : ℕ) (v : Volume) → IsAside a target → released target v a ≡ v a
+released_same None a v aside = refl
+released_same (Some m) a v aside = node_other m a (with_name_less (v m)) v (λ same. aside (sym same))
+
+released_after : (target : Option ℕ) (a : ℕ) (to : Option Node) (v : Volume) → IsAside a target → released target (with_node a to v) ≡ with_node a to (released target v)
+released_after None a to v aside = refl
+released_after (Some m) a to v aside =
+    ap (λ (o : Option Node). with_node m (with_name_less o) (with_node a to v)) (node_other a m to v aside) ∙ nodes_apart m a (with_name_less (v m)) to v aside
+
+-- a move within one directory, and what had the new name behind it
+pub moved_inside : (d k : ℕ) (x y : Name) (to target : Option ℕ) (v : Volume) → d ≡ k → IsAside k target
+    → with_entry k y to (with_entry d x None (released target v)) ≡ released target (with_node k (with_names (λ (names : NameMap). with_name y to (with_name x None names)) (v k)) v)
+moved_inside d k x y to target v same aside =
+    let w = released target v in
+    let both = λ (o : Option Node). with_names (λ (names : NameMap). with_name y to (with_name x None names)) o in
+    ap (λ (j : ℕ). with_entry k y to (with_entry j x None w)) same
+    ∙ moved_within k x y to w
+    ∙ ap (λ (o : Option Node). with_node k (both o) w) (released_same target k v aside)
+    ∙ sym (released_after target k (both (v k)) v aside)
+
+-- a move from one directory to another, and what had the new name behind it
+pub moved_across : (d k : ℕ) (x y : Name) (to target : Option ℕ) (v : Volume) → d ≢ k → IsAside k target → IsAside d target
+    → with_entry k y to (with_entry d x None (released target v))
+    ≡ released target (with_node d (with_names (with_name x None) (with_node k (with_names (with_name y to) (v k)) v d)) (with_node k (with_names (with_name y to) (v k)) v))
+moved_across d k x y to target v other aside aside_old =
+    let w = released target v in
+    let added = with_names (with_name y to) (v k) in
+    let less = with_names (with_name x None) (v d) in
+    let between = with_node k added v in
+    let first : set_name x None (w d) ≡ less = ap (set_name x None) (released_same target d v aside_old) ∙ sym (names_set x None (v d)) in
+    let there : with_entry d x None w k ≡ v k = node_other d k (set_name x None (w d)) w (λ same. other (sym same)) ∙ released_same target k v aside in
+    let then : set_name y to (with_entry d x None w k) ≡ added = ap (set_name y to) there ∙ sym (names_set y to (v k)) in
+    ap (λ (o : Option Node). with_node k o (with_entry d x None w)) then
+    ∙ ap (λ (o : Option Node). with_node k added (with_node d o w)) first
+    ∙ nodes_apart k d added less w (λ same. other (sym same))
+    ∙ ap (λ (u : Volume). with_node d less u) (sym (released_after target k added v aside))
+    ∙ sym (released_after target d less between aside_old)
+    ∙ ap (λ (o : Option Node). released target (with_node d (with_names (with_name x None) o) between)) (sym (node_other k d added v other))
+
+-- ---- a step on what had the new name
+
+module _ (disk : ℕ → List ℕ) (settled : ℕ → Inode) (v : Volume) (n : ℕ) where
+  -- it isn't the directory of a name
+  pub replaced_aside : (target : Option ℕ) (step : Option Step) → Replaces disk settled v n target step → (d : ℕ) (x : Name) (j : ℕ) → entries v d x ≡ Some j → IsAside d target
+  replaced_aside None step replaces d x j at = tt
+  replaced_aside (Some m) None replaces d x j at = absurd replaces
+  replaced_aside (Some m) (Some step) (number, may, takes) d x j at = λ same. none_some (sym (subst (λ (k : ℕ). IsEmpty v k) same may.2 x) ∙ at)
+
+  pub replaced_beside : (target : Option ℕ) (step : Option Step) → Replaces disk settled v n target step → (a : ℕ) → IsAside a target → IsBeside a step
+  replaced_beside None None replaces a aside = tt
+  replaced_beside None (Some step) replaces a aside = absurd replaces
+  replaced_beside (Some m) None replaces a aside = absurd replaces
+  replaced_beside (Some m) (Some step) (number, may, takes) a aside = λ same. aside (sym number ∙ same)
+
+  pub replaced_steps : (s : InodeFile) (w : Volume) (target : Option ℕ) (step : Option Step) → Replaces disk settled v n target step
+      → ((m : ℕ) → target ≡ Some m → w m ≡ v m) → StepsSome disk settled s w step (released target w)
+  replaced_steps s w None None replaces same = refl
+  replaced_steps s w None (Some step) replaces same = absurd replaces
+  replaced_steps s w (Some m) None replaces same = absurd replaces
+  replaced_steps s w (Some m) (Some step) (number, may, takes) same =
+      let to = with_name_less (w m) in
+      let o = loaded s step.number in (
+        to,
+        subst (λ (k : ℕ). Updates disk s.geometry.inodes (settled k) (w k) o step.update to) (sym number)
+            (subst (λ (x : Option Node). Updates disk s.geometry.inodes (settled m) x o step.update (with_name_less x)) (sym (same m refl)) (takes s.geometry.inodes o)),
+        ap (λ (k : ℕ). with_node k to w) (sym number),
+      )
+
+-- ---- what a move does
+
+module _ (disk : ℕ → List ℕ) (settled : ℕ → Inode) (v : Volume) (d : ℕ) (x : Name) (n k : ℕ) (y : Name) (step : Option Step) (moves : Moves disk settled v d x n k y step) where
+  abbrev target : Option ℕ
+  target = entries v k y
+
+  pub aside_old : IsAside d target
+  aside_old = replaced_aside disk settled v n target step moves.replaces d x n moves.there
+
+  pub aside_new : IsAside k target
+  aside_new = by target refl
+    where
+      by : (o : Option ℕ) → target ≡ o → IsAside k o
+      by None none = tt
+      by (Some m) is = subst (IsAside k) is (replaced_aside disk settled v n target step moves.replaces k y m is)
+
+  -- the target is as it was where only the directories have changed
+  pub same_target : (w : Volume) → ((m : ℕ) → m ≢ d → m ≢ k → w m ≡ v m) → (m : ℕ) → target ≡ Some m → w m ≡ v m
+  same_target w same m is = same m (aside_at d target aside_old m is) (aside_at k target aside_new m is)
+
+  pub beside_old : IsBeside d step
+  beside_old = replaced_beside disk settled v n target step moves.replaces d aside_old
+
+  pub beside_new : IsBeside k step
+  beside_new = replaced_beside disk settled v n target step moves.replaces k aside_new
+
+  pub steps_on : (s : InodeFile) (w : Volume) → ((m : ℕ) → m ≢ d → m ≢ k → w m ≡ v m) → StepsSome disk settled s w step (released target w)
+  steps_on s w same = replaced_steps disk settled v n s w target step moves.replaces (same_target w same)
+
+  -- ---- when it applies
+
+  pub can_rename : IsTrue (is_directory_node (v k)) → IsName y → (step ≡ None → (d ≡ k) ⊎ TakesNewName v k y) → CanRename v d x k y
+  can_rename directory name takes = record {
+    number = n;
+    there = moves.there;
+    directory = directory;
+    name = name;
+    outside = moves.outside;
+    replaces = by target step refl moves.replaces;
+  }
+    where
+      by : (o : Option ℕ) (s : Option Step) → step ≡ s → Replaces disk settled v n o s → CanReplace v d k y n o
+      by None None is replaces = takes is
+      by None (Some s) is replaces = absurd replaces
+      by (Some m) None is replaces = absurd replaces
+      by (Some m) (Some s) is replaces = replaces.1
+
+  -- the object has one name alone here
+  names_differ : d ≡ k → x ≢ y
+  names_differ same equal = by target step (ap (λ (j : ℕ). entries v j y) (sym same) ∙ ap (entries v d) (sym equal) ∙ moves.there) moves.replaces
+    where
+      by : (o : Option ℕ) (s : Option Step) → o ≡ Some n → Replaces disk settled v n o s → ⊥
+      by None s is replaces = none_some is
+      by (Some m) None is replaces = replaces
+      by (Some m) (Some s) is replaces = replaces.1.0 (same_some is)
+
+  -- a directory within its limit takes another name for one that it has
+  pub accepts_move : (inodes : ℕ) (old : Entry) (entry : Entry) → old.name.now ≡ x → entry.name.now ≡ y → IsVolume inodes v → d ≡ k → Accepts (edits.Move old.name entry) (v k)
+  accepts_move inodes old entry is_old is_new volume same =
+      let there : entries v k x ≡ Some n = ap (λ (j : ℕ). entries v j x) (sym same) ∙ moves.there in
+      let is = directory_is (v k) (named (v k) there) in
+      let (count, counts, most) = volume.limits.children k in
+      record {
+        mode = is.0;
+        names = is.1;
+        is = is.2;
+        takes =
+            subst (λ (a : Name). HasPlace (with_name a None (with_name entry.name.now None is.1))) (sym is_old)
+            (subst (λ (b : Name). HasPlace (with_name x None (with_name b None is.1))) (sym is_new)
+            (place_moved is.1 x y n count (sym (ap (λ (o : Option Node). names_in o x) is.2) ∙ there) (names_differ same)
+            (subst (λ (o : Option Node). Counts (λ (b : Name). IsSome (names_in o b)) count) is.2 counts) most));
+      }
+    where
+      named : (o : Option Node) → names_in o x ≡ Some n → IsTrue (is_directory_node o)
+      named None at = none_some at
+      named (Some (directory_node mode names)) at = refl
+      named (Some (file_node mode links bytes)) at = none_some at
+      named (Some (link_node text)) at = none_some at
+
+  -- and another directory takes a name for what had it, or one more
+  pub accepts_other : (inodes : ℕ) (entry : Entry) → entry.name.now ≡ y → IsVolume inodes v → d ≢ k → CanRename v d x k y → Accepts (edit_for entry step) (v k)
+  accepts_other inodes entry is_new volume other can = by target step refl moves.replaces can.replaces
+    where
+      by : (o : Option ℕ) (s : Option Step) → target ≡ o → Replaces disk settled v n o s → CanReplace v d k y can.number o → Accepts (edit_for entry s) (v k)
+      by None None none replaces (inl same) = absurd (other same)
+      by None None none replaces (inr takes) = accepts_entry v k entry (subst (λ (b : Name). TakesNewName v k b) (sym is_new) takes)
+      by None (Some s) none replaces may = absurd replaces
+      by (Some m) None is replaces may = absurd replaces
+      by (Some m) (Some s) is replaces may =
+          let there = directory_is (v k) can.directory in
+          let (count, counts, most) = volume.limits.children k in
+          record {
+            mode = there.0;
+            names = there.1;
+            is = there.2;
+            takes =
+                subst (λ (b : Name). HasPlace (with_name b None there.1)) (sym is_new)
+                (place_left there.1 y m count (sym (ap (λ (o : Option Node). names_in o y) there.2) ∙ is)
+                (subst (λ (o : Option Node). Counts (λ (b : Name). IsSome (names_in o b)) count) there.2 counts) most);
+          }
+
+-- ---- kinds
+
+pub directory_found : (o : Option Node) → found_in o ≡ found.Directory → true ≡ is_directory_node o
+directory_found None is = cc
+directory_found (Some (directory_node mode names)) is = refl
+directory_found (Some (file_node mode links bytes)) is = cc
+directory_found (Some (link_node text)) is = cc
+
+pub other_found : (o : Option Node) → (found_in o ≡ found.Directory → ⊥) → false ≡ is_directory_node o
+other_found None other = refl
+other_found (Some (directory_node mode names)) other = absurd (other refl)
+other_found (Some (file_node mode links bytes)) other = refl
+other_found (Some (link_node text)) other = refl
+
+pub same_kind : (a b : Bool) → not (beq a b) ≡ false → a ≡ b
+same_kind true true is = refl
+same_kind true false is = absurd (false≢true (sym is))
+same_kind false true is = absurd (false≢true (sym is))
+same_kind false false is = refl
+
+pub other_kind : (a b : Bool) → not (beq a b) ≡ true → a ≡ b → ⊥
+other_kind true true is same = false≢true is
+other_kind true false is same = false≢true (sym same)
+other_kind false true is same = false≢true same
+other_kind false false is same = false≢true is
+
+-- ---- edits
+
+pub names_for : (entry : Entry) (step : Option Step) → names_after (edit_for entry step) ≡ with_name entry.name.now (Some entry.number)
+names_for entry None = refl
+names_for entry (Some step) = refl
+
+pub wanted_some : (entry : Entry) (step : Option Step) → is_some step ≡ true → edits.Replace entry ≡ edit_for entry step
+wanted_some entry None is = absurd (false≢true is)
+wanted_some entry (Some step) is = refl
+
+pub wanted_none : (entry : Entry) (step : Option Step) → is_some step ≡ false → edits.Add entry ≡ edit_for entry step
+wanted_none entry None is = refl
+wanted_none entry (Some step) is = absurd (false≢true (sym is))
+
+pub beside_none : (step : Option Step) → AreBeside step None
+beside_none None = tt
+beside_none (Some step) = tt
+
+-- what has a name has an ordinary number, and may have another name
+pub entry_named : (inodes : ℕ) (v : Volume) (d : ℕ) (x : Name) (n : ℕ) (y : Name) → IsVolume inodes v → entries v d x ≡ Some n → IsName y → IsEntry inodes (record { number = n; name = y })
+entry_named inodes v d x n y volume there name =
+    elim (volume.limits.numbers n (volume.graph.used d n x there)) [
+      | inl root ↦ absurd (volume.graph.not_root d x (there ∙ ap (λ k. Some k) root))
+      | inr within ↦ record { ordinary = within.0; below = within.1; name = name }
+    ]

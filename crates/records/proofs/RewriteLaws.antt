@@ -1,0 +1,152 @@
+-- What the definitions say of changes of a file's bytes, by what was found in a volume.
+use Rattle.std.proofs.Common.{◌≡◌, ◌≤◌, ◌<◌, ◌+◌, ◌==◌, ℕ, zero, suc, List, [], length, Bool, true, false, nat_lt, Option, Some, None, Result, Ok, Err, IfOk, IfNone, IsTrue, unwrap_or, refl, sym, ap, subst, ◌∙◌, inl, inr, arith}
+use Rattle.std.proofs.Math.Path.{fun_ext}
+use Rattle.std.proofs.lemmas.Bool.{cases_eq, cond-true, cond-false, false≢true}
+use Rattle.std.proofs.lemmas.Bool.Decides.{nat_tests}
+use Rattle.std.proofs.lemmas.List.FromFn.{length-map-range_with_len}
+use Rattle.layout.specs.FileBytes.{byte_in}
+use Rattle.layout.specs.declared.kind.Kind.{Kind}
+use Rattle.layout.specs.declared.kind.Kind.TheVariants as kinds
+use Rattle.model.specs.Changing.{cuts}
+use Rattle.model.specs.Changes.{ChangesTree, TakesFreeNumber}
+use Rattle.model.specs.Descriptors.{puts}
+use Rattle.model.specs.Edits.{contents, with_bytes, written}
+use Rattle.model.specs.Laws.{RecordsChangeTrees}
+use Rattle.model.specs.Paths.{is_empty}
+use Rattle.model.specs.Records.{Applies, applied, cut, with_file_bytes}
+use Rattle.model.specs.Room.{nothing, logs, changes_size, puts_bytes}
+use Rattle.model.specs.Trees.{Tree, Description}
+use Rattle.model.specs.Volumes.{Node, directory_node, file_node, link_node, Volume, IsMounted, IsVolume, bytes_of, is_file_node, is_open, swept, swept_node, tree_of, with_node}
+use Rattle.model.specs.declared.errno.Errno.TheVariants.{EFBIG}
+use Rattle.model.specs.declared.limits.TheConstants.{GREATEST_FILE, OPEN_FILES}
+use Rattle.model.specs.declared.reply.Reply.TheVariants.{Done, Refused, Wrote}
+use Rattle.records.specs.Contents.{bytes_after, rewriting}
+use Rattle.records.specs.Rewriting.{CutsBytes, GoesOver}
+use Rattle.records.specs.declared.prepared.Prepared.{Prepared}
+use Rattle.records.specs.declared.contents.Rewrite.{Rewrite}
+use Rattle.records.specs.declared.contents.Rewrite.TheVariants.{Write, Cut}
+use Rattle.images.specs.Contents.{Content, StandsAs}
+use Rattle.records.proofs.ContentLaws.{not_file, rewriting_applied}
+use Rattle.records.proofs.EnterLaws.{node_here, node_other}
+
+-- ---- nothing is to be swept
+
+swept_bytes : (f : List ℕ → List ℕ) (open_now : Bool) (o : Option Node) → swept_node open_now o ≡ o → swept_node open_now (with_file_bytes f o) ≡ with_file_bytes f o
+swept_bytes f open_now None is = refl
+swept_bytes f open_now (Some (directory_node mode names)) is = refl
+swept_bytes f true (Some (file_node mode zero bytes)) is = refl
+swept_bytes f false (Some (file_node mode zero bytes)) is = absurd (none_some is)
+  where
+    none_some : {X Y : Type 0} {x : X} → None ≡ Some x → Y
+    none_some e = cc
+swept_bytes f open_now (Some (file_node mode (suc links) bytes)) is = refl
+swept_bytes f open_now (Some (link_node text)) is = refl
+
+module _ (v : Volume) (table : ℕ → Option Description) (n : ℕ) (f : List ℕ → List ℕ) (is_swept : (k : ℕ) → swept table v k ≡ v k) where
+  abbrev changed : Volume
+  changed = with_node n (with_file_bytes f (v n)) v
+
+  each : (k : ℕ) → swept table changed k ≡ changed k
+  each k = elim (cases_eq k n) [
+    | inl here ↦
+        let same : changed k ≡ with_file_bytes f (v k) = node_here n k (with_file_bytes f (v n)) v here ∙ ap (λ (m : ℕ). with_file_bytes f (v m)) (sym here) in
+        subst (λ (o : Option Node). swept_node (is_open table OPEN_FILES k) o ≡ o) (sym same) (swept_bytes f (is_open table OPEN_FILES k) (v k) (is_swept k))
+    | inr other ↦ subst (λ (o : Option Node). swept_node (is_open table OPEN_FILES k) o ≡ o) (sym (node_other n k (with_file_bytes f (v n)) v other)) (is_swept k)
+  ]
+
+  bytes_unswept : swept table changed ≡ changed
+  bytes_unswept = fun_ext {f = swept table changed} {g = changed} each
+
+-- ---- the record and the tree
+
+takes_free : (v : Volume) (n : ℕ) (rewrite : Rewrite) → TakesFreeNumber v (rewriting n rewrite)
+takes_free v n (Write offset bytes) = tt
+takes_free v n (Cut size) = tt
+
+tree_after : (n : ℕ) (rewrite : Rewrite) (old new : Tree) → ChangesTree (rewriting n rewrite) old new → new ≡ with_bytes n (bytes_after rewrite (contents old n)) old
+tree_after n (Write offset bytes) old new is = is
+tree_after n (Cut size) old new is = is
+
+module _ (inodes : ℕ) (v : Volume) (table : ℕ → Option Description) (volume : IsVolume inodes v) (mounted : IsMounted v table) (law : RecordsChangeTrees) (n : ℕ) where
+  abbrev t : Tree
+  t = tree_of v table
+
+  -- the record leads to the tree with these bytes
+  pub rewritten : (rewrite : Rewrite) → Applies inodes v (rewriting n rewrite)
+      → GoesOver inodes v table (rewriting n rewrite) × (tree_of (applied (rewriting n rewrite) v) table ≡ with_bytes n (bytes_after rewrite (contents t n)) t)
+  rewritten rewrite can = ((can, told.0), tree_after n rewrite t (tree_of (applied (rewriting n rewrite) v) table) told.1)
+    where
+      whole : swept table (applied (rewriting n rewrite) v) ≡ applied (rewriting n rewrite) v
+      whole = subst (λ (w : Volume). swept table w ≡ w) (sym (rewriting_applied n rewrite v)) (bytes_unswept v table n (bytes_after rewrite) mounted.is_swept)
+
+      told : IsMounted (applied (rewriting n rewrite) v) table × ChangesTree (rewriting n rewrite) t (tree_of (applied (rewriting n rewrite) v) table)
+      told = subst (λ (w : Volume). IsMounted w table × ChangesTree (rewriting n rewrite) t (tree_of w table)) whole (law inodes v table (rewriting n rewrite) volume mounted can (takes_free v n rewrite))
+
+-- ---- writing
+
+module _ (t : Tree) (n offset : ℕ) (given : List ℕ) (also : Tree → Tree) where
+  pub puts_nothing : is_empty given ≡ true → puts t n offset given also (Wrote 0) t nothing
+  puts_nothing none = rw none (refl, refl, refl)
+
+  pub puts_too_much : is_empty given ≡ false → nat_lt GREATEST_FILE (offset + length given) ≡ true → puts t n offset given also (Refused EFBIG) t nothing
+  puts_too_much some past = rw some (rw past (refl, refl, refl))
+
+  pub puts_all : (new : Tree) → is_empty given ≡ false → nat_lt GREATEST_FILE (offset + length given) ≡ false → new ≡ with_bytes n (written offset given (contents t n)) t
+      → puts t n offset given also (Wrote (length given)) (also new) (logs (puts_bytes (length (contents t n)) offset (length given)))
+  puts_all new some within is = rw some (rw within (refl, ap also is, refl))
+
+-- ---- a new size
+
+pub cuts_nothing : (t : Tree) (n size : ℕ) → (size == length (contents t n)) ≡ true → cuts t n size Done t nothing
+cuts_nothing t n size same = (
+  refl,
+  sym (cond-true (size == length (contents t n)) t _ same),
+  sym (cond-true (size == length (contents t n)) nothing _ same),
+)
+
+pub cuts_all : (t : Tree) (n size : ℕ) (new : Tree) → (size == length (contents t n)) ≡ false → new ≡ with_bytes n (bytes_after (Cut size) (contents t n)) t
+    → cuts t n size Done new (logs (changes_size (length (contents t n)) size))
+cuts_all t n size new other is = (
+  refl,
+  is ∙ sym (cond-false (size == length (contents t n)) t _ other),
+  sym (cond-false (size == length (contents t n)) nothing _ other),
+)
+
+-- ---- tests
+
+pub filled : (xs : List ℕ) → is_empty xs ≡ false → 1 ≤ length xs
+filled xs some = grind (arith, nat_tests)
+
+pub some_bytes : (xs : List ℕ) → 1 ≤ length xs → is_empty xs ≡ false
+some_bytes xs some = grind (arith, nat_tests)
+
+pub past_limit : (m n : ℕ) → m < n → nat_lt m n ≡ true
+past_limit m n lt = grind (arith, nat_tests)
+
+pub within_limit : (m n : ℕ) → n ≤ m → nat_lt m n ≡ false
+within_limit m n le = grind (arith, nat_tests)
+
+pub same_size : (m n : ℕ) → m ≡ n → (m == n) ≡ true
+same_size m n e = grind (arith, nat_tests)
+
+pub other_size : (m n : ℕ) → (m ≡ n → ⊥) → (m == n) ≡ false
+other_size m n ne = grind (arith, nat_tests)
+
+-- a cut that applies is prepared
+pub cut_answers : {E : Type 0} (r : Result (Option Prepared) E) (inodes : ℕ) (v : Volume) (table : ℕ → Option Description) (n size : ℕ) → Applies inodes v (cut n size)
+    → IfOk r (λ p. IfNone p (Applies inodes v (cut n size) → ⊥))
+    → GoesOver inodes v table (cut n size) × cuts (tree_of v table) n size Done (tree_of (applied (cut n size) v) table) (logs (changes_size (length (contents (tree_of v table) n)) size))
+    → IfOk r (CutsBytes inodes v table n size)
+cut_answers (Ok (Some p)) inodes v table n size can not all = all
+cut_answers (Ok None) inodes v table n size can not all = absurd (not can)
+cut_answers (Err e) inodes v table n size can not all = tt
+
+-- a file in memory has as many bytes as in the volume
+pub file_size : (k : Kind) (inodes : ℕ) (c : Content) (found : Option Node) → StandsAs k inodes c found → IsTrue (is_file_node found) → c.size ≡ length (unwrap_or (bytes_of found) [])
+file_size kinds.Free inodes c found stands is = absurd (false≢true (not_file kinds.Free inodes c found stands (λ e. cc) ∙ is))
+file_size kinds.File inodes c found stands is = sym (ap (λ (o : Option Node). length (unwrap_or (bytes_of o) [])) stands ∙ length-map-range_with_len (byte_in c.block) 0 c.size)
+file_size kinds.Directory inodes c found stands is = absurd (false≢true (not_file kinds.Directory inodes c found stands (λ e. cc) ∙ is))
+file_size kinds.Link inodes c found stands is = absurd (false≢true (not_file kinds.Link inodes c found stands (λ e. cc) ∙ is))
+file_size kinds.InodeFile inodes c found stands is = absurd (false≢true (not_file kinds.InodeFile inodes c found stands (λ e. cc) ∙ is))
+file_size kinds.InodeMap inodes c found stands is = absurd (false≢true (not_file kinds.InodeMap inodes c found stands (λ e. cc) ∙ is))
+file_size kinds.BlockMap inodes c found stands is = absurd (false≢true (not_file kinds.BlockMap inodes c found stands (λ e. cc) ∙ is))

@@ -1,0 +1,12 @@
+use Rattle.std.proofs.Common.{Option, subst}
+use Rattle.inode.specs.declared.object.Object.{Object}
+use Rattle.inofile.specs.Objects.{IsObjectOrNone}
+use Rattle.records.specs.Contents.{RewritesIn}
+use Rattle.records.proofs.ContentLaws.{bytes_put}
+use Rattle.records.proofs.contents.commit_object.Goals as goal
+
+pub returns-in-Some : goal.returns-in-Some
+returns-in-Some c = λ disk inodes settled found f stands is rewrites.
+    let o = subst (λ (x : Option Object). IsObjectOrNone disk inodes settled x found) c.in-Some.is stands in
+    let gives = subst (λ (x : Option Object). RewritesIn disk f x c.args.change) c.in-Some.is rewrites in
+    bytes_put disk inodes settled c.in-Some.object found f c.args.change c.commit.new.self o is gives c.commit.ensures

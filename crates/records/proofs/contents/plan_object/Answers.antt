@@ -1,0 +1,9 @@
+use Rattle.std.proofs.Common.{◌≡◌, Option, Some, sym, subst, ◌∙◌}
+use Rattle.inode.specs.declared.object.Object.{Object}
+use Rattle.inofile.specs.Objects.{IsObjectOrNone}
+use Rattle.records.proofs.contents.plan_object.Goals as goal
+
+pub returns-clause-told : goal.returns-clause-told
+returns-clause-told g c = λ disk inodes settled found stands.
+    let was : c.args.object.now ≡ Some c.in-Some.taken = sym c.take.ensures.value ∙ c.in-Some.is in
+    c.plan_taken-planned.ensures.told disk inodes settled found (subst (λ (x : Option Object). IsObjectOrNone disk inodes settled x found) was stands)

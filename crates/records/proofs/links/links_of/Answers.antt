@@ -1,0 +1,20 @@
+use Rattle.std.proofs.Common.{ap, subst}
+use Rattle.images.specs.Contents.{StandsAs, bytes_of}
+use Rattle.model.specs.Volumes.{is_file_node}
+use Rattle.inofile.specs.Settled.{content_of}
+use Rattle.records.proofs.FileLaws.{not_file}
+use Rattle.records.proofs.links.links_of.Goals as goal
+
+pub returns-in_default-clause-other : goal.returns-in_default-clause-other
+returns-in_default-clause-other c = λ count disk settled v volume. ap is_file_node (c.in_default.ensures.stands_for_none count disk settled v volume)
+
+pub returns-in-File-clause-file : goal.returns-in-File-clause-file
+returns-in-File-clause-file c = λ count disk settled v volume.
+    let o = c.in-Some.ensures.stands count disk settled v volume in
+    let content = content_of disk c.in-Some.object.now in
+    (content.mode, bytes_of content, subst (λ k. StandsAs k c.args.inodes.now.geometry.inodes content (v c.args.number)) c.in-File.is o.stands)
+
+pub returns-in_default-kind-clause-other : goal.returns-in_default-kind-clause-other
+returns-in_default-kind-clause-other c = λ count disk settled v volume.
+    let o = c.in-Some.ensures.stands count disk settled v volume in
+    not_file c.in-Some.object.now.attributes.kind c.args.inodes.now.geometry.inodes (content_of disk c.in-Some.object.now) (v c.args.number) o.stands c.in_default-kind.not-File

@@ -1,0 +1,12 @@
+use Rattle.std.proofs.Common.{ℕ, Some, ap, sym, ◌∙◌}
+use Rattle.records.proofs.FollowLaws.{noted_fits, object_figures}
+use Rattle.records.proofs.sweeping.note_figures.Goals as goal
+
+pub returns-in-Some-clause-fits : goal.returns-in-Some-clause-fits
+returns-in-Some-clause-fits c = λ count disk settled v w stands file fits.
+    let n = c.args.number in
+    let links = c.in-Some.object.now.attributes.links in
+    let size : ℕ = c.size.result in
+    let figures = object_figures disk c.args.inodes.now.geometry.inodes (settled n) c.in-Some.object.now (w n) (c.in-Some.ensures.stands count disk settled w stands) file in
+    noted_fits n size links c.args.files.now c.resized.new.self c.relinked.new.self c.resized.ensures.files c.relinked.ensures.files v (w n)
+    (figures ∙ ap (λ (s : ℕ). Some (record { links = links; size = s })) (sym c.size.ensures.value)) fits

@@ -1,0 +1,35 @@
+use Rattle.std.proofs.Common.{◌≡◌, ℕ, ◌/◌, ◌%◌, List, [], None, Some, ◌≤◌, slice_index, refl, ap, subst, arith, ◌∙◌}
+use Rattle.inode.proofs.BytePositions.{slice_index-zeros}
+use Rattle.records.proofs.vacancy.new_directory.Goals as goal
+
+none_some : {X : Type 0} {n : ℕ} → None ≡ Some n → X
+none_some e = cc
+
+pub returns-clause-object : goal.returns-clause-object
+returns-clause-object c = λ disk inodes settled.
+    let none : c.empty.result.size / 4096 ≡ 0 = ap (λ s. s / 4096) c.empty.ensures.size in
+    record {
+      kind = tt;
+      mode = subst (λ (m : ℕ). m ≤ 4095) c.bits.ensures.same c.bits.ensures.fits;
+      fits = λ s. (refl, ap (λ (n : ℕ). n % 4096) c.empty.ensures.size);
+      stands = (
+        λ name. None,
+        record {
+          entries = λ i. [];
+          holds = λ i below. absurd (omega (arith, below, none));
+          past = λ i beyond. refl;
+          are = record {
+            each = λ i. tt;
+            once = λ i j name m n a b. none_some a;
+            found = λ i name n is. none_some is;
+            only = λ name absent. refl;
+          };
+        },
+        refl,
+      );
+      ends = λ p beyond. ap (λ (b : List ℕ). slice_index b (p % 4096)) (c.empty.ensures.blocks disk (p / 4096)) ∙ slice_index-zeros 4096 (p % 4096);
+      base = c.empty.ensures.base settled;
+    }
+
+pub returns-clause-good : goal.returns-clause-good
+returns-clause-good c = subst (λ (m : ℕ). m ≤ 4095) c.bits.ensures.same c.bits.ensures.fits

@@ -1,0 +1,39 @@
+use Rattle.std.proofs.Common.{rules, ◌≡◌, ◌+◌, ℕ, ◌/◌, ◌%◌, List, length, max, Some, slice_index, refl, ap, sym, ◌∙◌, arith}
+use Rattle.layout.specs.FileBytes.{EndsAt, first_bytes}
+use Rattle.model.specs.Volumes.{link_node}
+use Rattle.buffers.specs.Positions.{written}
+use Rattle.inode.specs.Edges.{written_list}
+use Rattle.inode.specs.Files.{byte_at}
+use Rattle.inode.proofs.BytePositions.{slice_index-zeros}
+use Rattle.inode.proofs.ComposingLaws.{committed_byte, written_ends}
+use Rattle.inode.proofs.EdgeLaws.{list_of_write}
+use Rattle.records.proofs.FileLaws.{written_first}
+use Rattle.records.proofs.vacancy.new_link.Goals as goal
+
+pub returns-clause-object : goal.returns-clause-object
+returns-clause-object g c = λ disk shows inodes settled.
+    let text = c.args.text.now in
+    let old = c.empty-file.result in
+    let new = c.commit.new.self in
+    let ends : EndsAt old.size (byte_at disk old) = λ p beyond. ap (λ (b : List ℕ). slice_index b (p % 4096)) (c.empty-file.ensures.blocks disk (p / 4096)) ∙ slice_index-zeros 4096 (p % 4096) in
+    let size : new.size ≡ max old.size (0 + length text) = c.commit.ensures.size ∙ c.in-Ok.ensures.size in
+    let none : old.size ≡ 0 = c.empty-file.ensures.size in
+    let many : new.size ≡ length text = omega (arith, size, none) in
+    let byte = committed_byte disk old c.prepare_write.new.self new c.in-Ok.change (written (byte_at disk old) 0 text) c.prepare_write.ensures.same c.commit.ensures (c.in-Ok.ensures.bytes disk shows ends) in
+    let all = list_of_write (byte_at disk old) (byte_at disk new) old.size new.size 0 text size ends byte in
+    let bytes : first_bytes (byte_at disk new) new.size ≡ text = all ∙ ap (λ (n : ℕ). written_list (first_bytes (byte_at disk old) n) 0 text) none ∙ written_first text in
+    let is = c.requires in
+    let some = is.some in
+    let short = is.short in
+    record {
+      kind = tt;
+      mode = omega (arith, c.in-Some.ensures.value);
+      fits = λ s. (c.in-Some.ensures.value, refl, omega (arith, many, some), omega (arith, many, short));
+      stands = ap (λ (l : List ℕ). Some (link_node l)) (sym bytes);
+      ends = written_ends (byte_at disk old) (byte_at disk new) old.size new.size 0 text size ends byte;
+      base = c.commit.ensures.base settled (c.prepare_write.ensures.same.base settled (c.empty-file.ensures.base settled));
+    }
+
+pub returns-in-Err-Damaged-clause-damaged : goal.returns-in-Err-Damaged-clause-damaged
+returns-in-Err-Damaged-clause-damaged g c = λ disk shows is sound.
+    c.in-Err-Damaged.ensures.damaged disk shows (search rules) (λ i. sound c.empty-file.result.tree i c.empty-file.ensures.base)

@@ -1,0 +1,43 @@
+-- What becomes of a file's bytes.
+use Rattle.std.specs.Prelude.{ℕ, ◌≡◌, ◌+◌, ◌≤◌, List, length, Option, Some, None}
+use Rattle.layout.specs.FileBytes.{EndsAt}
+use Rattle.model.specs.Edits.{resized, written}
+use Rattle.model.specs.Records as records
+use Rattle.model.specs.declared.limits.TheConstants.{GREATEST_FILE, TRANSFER_BYTES}
+use Rattle.inode.specs.Files.{Fits, bytes_of, bytes_with, byte_with}
+use Rattle.inode.specs.declared.change.Change.{Change}
+use Rattle.inode.specs.declared.file.File.{File}
+use Rattle.inode.specs.declared.object.Object.{Object}
+use Rattle.records.specs.declared.contents.Rewrite.{Rewrite}
+use Rattle.records.specs.declared.contents.Rewrite.TheVariants.{Write, Cut}
+
+-- the record of such a change of the file with this number
+abbrev pub rewriting : ℕ → Rewrite → records.Change
+rewriting number (Write offset bytes) = records.write number offset bytes.now
+rewriting number (Cut size) = records.cut number size
+
+-- the bytes that it makes of others
+abbrev pub bytes_after : Rewrite → List ℕ → List ℕ
+bytes_after (Write offset bytes) = written offset bytes.now
+bytes_after (Cut size) = resized size
+
+-- it keeps to the limits
+abbrev pub KeepsBounds : Rewrite → Type 0
+KeepsBounds (Write offset bytes) =
+    (1 ≤ length bytes.now) × (length bytes.now ≤ TRANSFER_BYTES) × (offset + length bytes.now ≤ GREATEST_FILE)
+KeepsBounds (Cut size) = size ≤ GREATEST_FILE
+
+-- a prepared change makes these bytes of those that a file has
+pub record Rewrites (disk : ℕ → List ℕ) (f : List ℕ → List ℕ) (file : File) (change : Change) : Type 0 where
+  pub ends : EndsAt change.size (byte_with disk file change)
+  pub bytes : bytes_with disk file change ≡ f (bytes_of disk file)
+
+-- there is an object, and a change does so with its bytes
+abbrev pub RewritesIn : (ℕ → List ℕ) → (List ℕ → List ℕ) → Option Object → Change → Type 0
+RewritesIn disk f (Some o) change = Rewrites disk f o.file change
+RewritesIn disk f None change = ⊥
+
+-- there is an object, and it has room for a change of its bytes
+abbrev pub FitsFile : Option Object → Change → Type 0
+FitsFile (Some o) change = Fits o.file.tree change
+FitsFile None change = ⊥

@@ -1,0 +1,91 @@
+-- Names that directories get and lose.
+use Rattle.std.specs.Prelude.{ℕ, ◌≡◌, ◌≤◌, ◌<◌, List, Option, Some, None}
+use Rattle.layout.specs.Directory.{IsEntry, named_of}
+use Rattle.layout.specs.DirectoryNames.{NameMap}
+use Rattle.layout.specs.declared.kind.Kind.TheVariants as kinds
+use Rattle.model.specs.declared.limits.TheConstants.{ROOT_NUMBER}
+use Rattle.model.specs.Paths.{Name}
+use Rattle.model.specs.Volumes.{Node, directory_node}
+use Rattle.dirs.specs.Directory.{HasCount, with_name}
+use Rattle.dirs.specs.Edits.{HasNames, FitsIn}
+use Rattle.dirs.specs.declared.TheConstants.{MOST_NAMES}
+use Rattle.dirs.specs.declared.edit.Edit.{Edit}
+use Rattle.inode.specs.declared.object.Object.{Object}
+use Rattle.inofile.specs.Inodes.{HasRoomFor, IsKnown, loaded}
+use Rattle.inofile.specs.declared.inode_file.InodeFile.{InodeFile}
+use Rattle.records.specs.declared.naming.NameEdit.{NameEdit}
+use Rattle.records.specs.declared.naming.NameEdit.TheVariants as edits
+
+-- a directory with these names has place for one more
+pub record HasPlace (names : NameMap) : Type 0 where
+  pub count : ℕ
+  pub counts : HasCount names count
+  pub room : count < MOST_NAMES
+
+-- a directory with these names has no such one yet, and has place for one more
+pub record TakesEntry (names : NameMap) (name : Name) : Type 0 where
+  pub missing : names name ≡ None
+  pub place : HasPlace names
+
+-- an entry that an edit makes is one of an image of so many inodes
+abbrev pub IsNameEdit : ℕ → NameEdit → Type 0
+IsNameEdit inodes (edits.Add entry) = IsEntry inodes (named_of entry)
+IsNameEdit inodes (edits.Remove name) = Unit {0}
+IsNameEdit inodes (edits.Replace entry) = IsEntry inodes (named_of entry)
+IsNameEdit inodes (edits.Move old entry) = IsEntry inodes (named_of entry)
+
+-- a directory with these names can be edited so
+abbrev pub Takes : NameEdit → NameMap → Type 0
+Takes (edits.Add entry) names = TakesEntry names entry.name.now
+Takes (edits.Remove name) names = Unit {0}
+Takes (edits.Replace entry) names = HasPlace (with_name entry.name.now None names)
+Takes (edits.Move old entry) names = HasPlace (with_name old.now None (with_name entry.name.now None names))
+
+-- the names that it has then
+abbrev pub names_after : NameEdit → NameMap → NameMap
+names_after (edits.Add entry) names = with_name entry.name.now (Some entry.number) names
+names_after (edits.Remove name) names = with_name name.now None names
+names_after (edits.Replace entry) names = with_name entry.name.now (Some entry.number) names
+names_after (edits.Move old entry) names = with_name entry.name.now (Some entry.number) (with_name old.now None names)
+
+-- an object is a directory whose names can be edited so
+pub record Accepts (wanted : NameEdit) (found : Option Node) : Type 0 where
+  pub mode : ℕ
+  pub names : NameMap
+  pub is : found ≡ Some (directory_node mode names)
+  pub takes : Takes wanted names
+
+-- a directory with its names changed
+abbrev pub with_names : (NameMap → NameMap) → Option Node → Option Node
+with_names f (Some (directory_node mode names)) = Some (directory_node mode (f names))
+with_names f o = o
+
+-- an edit of a directory in memory makes this of its names; before, it stands for this object of a volume
+pub record Edits (disk : ℕ → List ℕ) (inodes : ℕ) (f : NameMap → NameMap) (found : Option Node) (o : Object) (edit : Edit) : Type 0 where
+  pub names : NameMap
+  pub stands : found ≡ Some (directory_node o.attributes.mode names)
+  pub kind : o.attributes.kind ≡ kinds.Directory
+  pub edited : HasNames inodes disk o.file edit (f names)
+
+-- there is an object, and an edit does so with it
+abbrev pub EditsIn : (ℕ → List ℕ) → ℕ → (NameMap → NameMap) → Option Node → Option Object → Edit → Type 0
+EditsIn disk inodes f found (Some o) edit = Edits disk inodes f found o edit
+EditsIn disk inodes f found None edit = ⊥
+
+-- there is an object, and it is a directory
+abbrev pub IsDirectoryObject : Option Object → Type 0
+IsDirectoryObject (Some o) = o.attributes.kind ≡ kinds.Directory
+IsDirectoryObject None = ⊥
+
+-- there is an object, and it has room for an edit
+abbrev pub FitsObject : Option Object → Edit → Type 0
+FitsObject (Some o) edit = FitsIn o.file edit
+FitsObject None edit = ⊥
+
+-- the object with this number is in memory, with room for an edit of it
+pub record CanEdit (s : InodeFile) (number : ℕ) (edit : Edit) : Type 0 where
+  pub low : ROOT_NUMBER ≤ number
+  pub high : number < s.geometry.inodes
+  pub room : HasRoomFor s number
+  pub known : IsKnown s number
+  pub fits : FitsObject (loaded s number) edit

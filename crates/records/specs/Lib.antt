@@ -1,0 +1,13 @@
+pub use Rattle.paths.specs.Standing
+pub mod Served
+pub mod Entering
+pub mod Contents
+pub mod Steps
+pub mod Prepared
+pub mod Shown
+pub mod Reading
+pub mod Rewriting
+pub mod Below
+pub mod Moving
+pub mod Sweeping
+pub mod Opened

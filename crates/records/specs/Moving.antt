@@ -1,0 +1,43 @@
+-- What a move does to names.
+use Rattle.std.specs.Prelude.{ℕ, ◌≡◌, ◌≢◌, List, Option, Some, None}
+use Rattle.layout.specs.declared.entry.Entry.{Entry}
+use Rattle.layout.specs.declared.inode.Inode.{Inode}
+use Rattle.model.specs.Paths.{Name}
+use Rattle.model.specs.Records.{IsBelow, IsEmpty}
+use Rattle.model.specs.Volumes.{Volume, entries, is_directory_node, with_name_less}
+use Rattle.inode.specs.declared.object.Object.{Object}
+use Rattle.records.specs.Steps.{IsAlone, Updates}
+use Rattle.records.specs.declared.naming.NameEdit.{NameEdit}
+use Rattle.records.specs.declared.naming.NameEdit.TheVariants as edits
+use Rattle.records.specs.declared.steps.Step.{Step}
+use Rattle.records.specs.declared.steps.Update.{Update}
+
+-- an object may take another one's name: both are directories or neither is, and a directory that goes is empty
+abbrev pub MayReplace : Volume → ℕ → ℕ → Type 0
+MayReplace v n m = (m ≢ n) × (is_directory_node (v m) ≡ is_directory_node (v n)) × IsEmpty v m
+
+-- an update takes a name of the object m, whatever it is in memory
+abbrev pub TakesName : (ℕ → List ℕ) → (ℕ → Inode) → Volume → ℕ → Update → Type 0
+TakesName disk settled v m update = (count : ℕ) (o : Option Object) → Updates disk count (settled m) (v m) o update (with_name_less (v m))
+
+-- a step, if there is one, depends on no object in memory
+abbrev pub IsSomeAlone : Option Step → Type 0
+IsSomeAlone None = Unit {0}
+IsSomeAlone (Some step) = IsAlone step.update
+
+-- the object n may take the name of what has it, if anything does, which a step takes away
+abbrev pub Replaces : (ℕ → List ℕ) → (ℕ → Inode) → Volume → ℕ → Option ℕ → Option Step → Type 0
+Replaces disk settled v n None None = Unit {0}
+Replaces disk settled v n (Some m) (Some step) = (step.number ≡ m) × MayReplace v n m × TakesName disk settled v m step.update
+Replaces disk settled v n target step = ⊥
+
+-- the object n has the name x in d, may get the name y in k, which doesn't lie below it, and a step takes away the name of what has it
+pub record Moves (disk : ℕ → List ℕ) (settled : ℕ → Inode) (v : Volume) (d : ℕ) (x : Name) (n k : ℕ) (y : Name) (step : Option Step) : Type 0 where
+  pub there : entries v d x ≡ Some n
+  pub outside : IsBelow (entries v) n k → ⊥
+  pub replaces : Replaces disk settled v n (entries v k y) step
+
+-- how a directory gets a name from another one, by what is done to what had it there
+abbrev pub edit_for : Entry → Option Step → NameEdit
+edit_for entry None = edits.Add entry
+edit_for entry (Some step) = edits.Replace entry

@@ -1,0 +1,46 @@
+-- Prepared changes of the image in memory.
+use Rattle.std.specs.Prelude.{ℕ, List, Option, Some, None}
+use Rattle.layout.specs.declared.inode.Inode.{Inode}
+use Rattle.model.specs.Records.{Change, applied}
+use Rattle.model.specs.Volumes.{Volume}
+use Rattle.inofile.specs.declared.inode_file.InodeFile.{InodeFile}
+use Rattle.records.specs.Steps.{IsAtHand, IsBeside, IsSomeApart, IsSomeAtHand, Steps, StepsSome, TakesSome, TakesStep}
+use Rattle.records.specs.declared.prepared.Prepared.{Prepared}
+use Rattle.records.specs.declared.steps.Step.{Step}
+
+-- a step, if there is one, doesn't depend on what another one, if there is one, does to memory
+abbrev pub IsApartFrom : Option Step → Option Step → Type 0
+IsApartFrom None step = Unit {0}
+IsApartFrom (Some other) step = IsSomeApart other.number step
+
+-- a step, if there is one, isn't of the same number as another one, if there is one
+abbrev pub AreBeside : Option Step → Option Step → Type 0
+AreBeside None step = Unit {0}
+AreBeside (Some other) step = IsBeside other.number step
+
+-- memory has room for all that a prepared change sets
+pub record IsReady (s : InodeFile) (p : Prepared) : Type 0 where
+  pub first : TakesStep s p.first
+  pub next : TakesSome s p.next
+  pub last : TakesSome s p.last
+  pub next_apart : IsSomeApart p.first.number p.next
+  pub last_apart : IsSomeApart p.first.number p.last
+  pub apart : IsApartFrom p.next p.last
+
+-- what a prepared change sets is in memory, with room for a change of it
+pub record AreAtHand (s : InodeFile) (p : Prepared) : Type 0 where
+  pub first : IsAtHand s p.first.number
+  pub next : IsSomeAtHand s p.next
+  pub last : IsSomeAtHand s p.last
+
+-- Put in force on this memory, which stands for this volume, a prepared change does to it what the record says: each of its
+-- steps is on an object of its own.
+pub record Does (disk : ℕ → List ℕ) (settled : ℕ → Inode) (s : InodeFile) (v : Volume) (p : Prepared) (change : Change) : Type 0 where
+  pub between : Volume
+  pub second : Volume
+  pub first : Steps disk settled s v p.first between
+  pub next : StepsSome disk settled s between p.next second
+  pub last : StepsSome disk settled s second p.last (applied change v)
+  pub next_beside : IsBeside p.first.number p.next
+  pub last_beside : IsBeside p.first.number p.last
+  pub beside : AreBeside p.next p.last

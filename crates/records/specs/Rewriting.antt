@@ -1,0 +1,35 @@
+-- What a change of the bytes of a file with a number comes to.
+use Rattle.std.specs.Prelude.{ℕ, List, length, Option, Some, None, Result, Ok, Err}
+use Rattle.model.specs.Changing.{cuts}
+use Rattle.model.specs.Descriptors.{puts}
+use Rattle.model.specs.Edits.{contents}
+use Rattle.model.specs.Records.{Change, Applies, applied, cut, write}
+use Rattle.model.specs.Room.{nothing, logs, changes_size, puts_bytes}
+use Rattle.model.specs.Trees.{Tree, Description}
+use Rattle.model.specs.Volumes.{Volume, IsMounted, tree_of}
+use Rattle.model.specs.declared.errno.Errno.{Errno}
+use Rattle.model.specs.declared.reply.Reply.TheVariants.{Done, Refused, Wrote}
+use Rattle.records.specs.declared.prepared.Prepared.{Prepared}
+
+-- the record applies, and needs no sweep
+abbrev pub GoesOver : ℕ → Volume → (ℕ → Option Description) → Change → Type 0
+GoesOver inodes v table change = Applies inodes v change × IsMounted (applied change v) table
+
+-- what writing bytes into a file comes to, whatever else changes by the call: a refusal, nothing where there are no bytes, or what
+-- the record does
+abbrev pub PutsBytes : ℕ → Volume → (ℕ → Option Description) → ℕ → ℕ → List ℕ → Result (Option Prepared) Errno → Type 0
+PutsBytes inodes v table n offset bytes (Err errno) =
+    (also : Tree → Tree) → puts (tree_of v table) n offset bytes also (Refused errno) (tree_of v table) nothing
+PutsBytes inodes v table n offset bytes (Ok None) =
+    (also : Tree → Tree) → puts (tree_of v table) n offset bytes also (Wrote 0) (tree_of v table) nothing
+PutsBytes inodes v table n offset bytes (Ok (Some p)) =
+    GoesOver inodes v table (write n offset bytes)
+    × ((also : Tree → Tree) → puts (tree_of v table) n offset bytes also (Wrote (length bytes))
+    (also (tree_of (applied (write n offset bytes) v) table)) (logs (puts_bytes (length (contents (tree_of v table) n)) offset (length bytes))))
+
+-- what a new size of a file comes to: nothing where it is the old one, or what the record does
+abbrev pub CutsBytes : ℕ → Volume → (ℕ → Option Description) → ℕ → ℕ → Option Prepared → Type 0
+CutsBytes inodes v table n size None = cuts (tree_of v table) n size Done (tree_of v table) nothing
+CutsBytes inodes v table n size (Some p) =
+    GoesOver inodes v table (cut n size)
+    × cuts (tree_of v table) n size Done (tree_of (applied (cut n size) v) table) (logs (changes_size (length (contents (tree_of v table) n)) size))

@@ -1,0 +1,103 @@
+-- Steps of a prepared change: each changes one object in memory.
+use Rattle.std.specs.Prelude.{ℕ, ◌≡◌, ◌≢◌, ◌≤◌, ◌<◌, ◌||◌, IsTrue, List, Option, Some, None}
+use Rattle.layout.specs.declared.inode.Inode.{Inode}
+use Rattle.layout.specs.DirectoryNames.{NameMap}
+use Rattle.model.specs.declared.limits.TheConstants.{FILE_NAMES, ROOT_NUMBER}
+use Rattle.model.specs.Records.{with_file_bytes, with_node_mode}
+use Rattle.model.specs.Volumes.{Node, Volume, file_node, is_directory_node, is_file_node, with_node}
+use Rattle.inode.specs.declared.object.Object.{Object}
+use Rattle.inofile.specs.Inodes.{HasRoomFor, IsKnown, loaded}
+use Rattle.inofile.specs.Objects.{IsObjectOrNone}
+use Rattle.inofile.specs.declared.inode_file.InodeFile.{InodeFile}
+use Rattle.records.specs.Contents.{FitsFile, RewritesIn}
+use Rattle.records.specs.Entering.{EditsIn, FitsObject, with_names}
+use Rattle.records.specs.declared.steps.Step.{Step}
+use Rattle.records.specs.declared.steps.Update.{Update}
+use Rattle.records.specs.declared.steps.Update.TheVariants as updates
+
+-- memory has what an update needs beside room for its object
+abbrev pub TakesUpdate : InodeFile → ℕ → Update → Type 0
+TakesUpdate s number (updates.Set (Some object)) = Unit {0}
+TakesUpdate s number (updates.Set None) = IsKnown s number
+TakesUpdate s number (updates.Names edit) = IsKnown s number × FitsObject (loaded s number) edit
+TakesUpdate s number (updates.SetMode mode) = IsKnown s number
+TakesUpdate s number (updates.Bytes change) = IsKnown s number × FitsFile (loaded s number) change
+TakesUpdate s number (updates.Links links) = IsKnown s number
+
+-- memory has room for what a step sets
+pub record TakesStep (s : InodeFile) (step : Step) : Type 0 where
+  pub low : ROOT_NUMBER ≤ step.number
+  pub high : step.number < s.geometry.inodes
+  pub room : HasRoomFor s step.number
+  pub takes : TakesUpdate s step.number step.update
+
+-- an object, or that there is none, is in memory, with room for a change of it
+pub record IsAtHand (s : InodeFile) (number : ℕ) : Type 0 where
+  pub low : ROOT_NUMBER ≤ number
+  pub high : number < s.geometry.inodes
+  pub room : HasRoomFor s number
+  pub known : IsKnown s number
+
+-- so is the object of a step, if there is one
+abbrev pub IsSomeAtHand : InodeFile → Option Step → Type 0
+IsSomeAtHand s None = Unit {0}
+IsSomeAtHand s (Some step) = IsAtHand s step.number
+
+-- an update doesn't depend on what the object of this number is in memory
+abbrev pub IsApart : ℕ → ℕ → Update → Type 0
+IsApart n number (updates.Names edit) = number ≢ n
+IsApart n number (updates.Bytes change) = number ≢ n
+IsApart n number update = Unit {0}
+
+-- an update that doesn't depend on any object in memory
+abbrev pub IsAlone : Update → Type 0
+IsAlone (updates.Names edit) = ⊥
+IsAlone (updates.Bytes change) = ⊥
+IsAlone update = Unit {0}
+
+-- memory has room for a step, if there is one
+abbrev pub TakesSome : InodeFile → Option Step → Type 0
+TakesSome s None = Unit {0}
+TakesSome s (Some step) = TakesStep s step
+
+-- a step, if there is one, doesn't depend on what the object of this number is in memory
+abbrev pub IsSomeApart : ℕ → Option Step → Type 0
+IsSomeApart n None = Unit {0}
+IsSomeApart n (Some step) = IsApart n step.number step.update
+
+-- a step, if there is one, isn't of this number
+abbrev pub IsBeside : ℕ → Option Step → Type 0
+IsBeside n None = Unit {0}
+IsBeside n (Some step) = step.number ≢ n
+
+-- a file that has so many names
+abbrev pub IsFileOf : ℕ → Option Node → Type 0
+IsFileOf links found = (mode : ℕ) × (bytes : List ℕ) × (found ≡ Some (file_node mode links bytes))
+
+-- a file with so many names
+abbrev pub with_links : ℕ → Option Node → Option Node
+with_links links (Some (file_node mode old bytes)) = Some (file_node mode links bytes)
+with_links links o = o
+
+-- an update makes one object of a volume of another, or of none; in memory it is this one, or none
+abbrev pub Updates : (ℕ → List ℕ) → ℕ → Inode → Option Node → Option Object → Update → Option Node → Type 0
+Updates disk inodes settled found o (updates.Set object) to = IsObjectOrNone disk inodes settled object to
+Updates disk inodes settled found o (updates.Names edit) to =
+    (f : NameMap → NameMap) × EditsIn disk inodes f found o edit × (to ≡ with_names f found)
+Updates disk inodes settled found o (updates.SetMode mode) to =
+    IsTrue (is_file_node found || is_directory_node found) × (to ≡ with_node_mode mode found)
+Updates disk inodes settled found o (updates.Bytes change) to =
+    (f : List ℕ → List ℕ) × IsTrue (is_file_node found) × RewritesIn disk f o change × (to ≡ with_file_bytes f found)
+Updates disk inodes settled found o (updates.Links links) to =
+    IsTrue (is_file_node found) × (links ≤ FILE_NAMES) × (to ≡ with_links links found)
+
+-- a step makes one volume of another
+abbrev pub Steps : (ℕ → List ℕ) → (ℕ → Inode) → InodeFile → Volume → Step → Volume → Type 0
+Steps disk settled s v step w =
+    (to : Option Node) × Updates disk s.geometry.inodes (settled step.number) (v step.number) (loaded s step.number) step.update to
+    × (w ≡ with_node step.number to v)
+
+-- so does a step, if there is one, and else nothing changes
+abbrev pub StepsSome : (ℕ → List ℕ) → (ℕ → Inode) → InodeFile → Volume → Option Step → Volume → Type 0
+StepsSome disk settled s v None w = w ≡ v
+StepsSome disk settled s v (Some step) w = Steps disk settled s v step w

@@ -1,0 +1,111 @@
+//! What lies below an object.
+
+ghost use Rattle.std.specs.Prelude.{◌≡◌, ◌<◌, ◌↔◌, ◌⊎◌, ℕ, List, IfOk, IsErrOf, IsTrue, OnOk, length};
+ghost use Rattle.std.specs.List.{Contains};
+ghost use Rattle.layout.specs.declared.inode.Inode.{Inode};
+ghost use Rattle.model.specs.Records.{IsBelow};
+ghost use Rattle.model.specs.Volumes.{Volume, entries};
+ghost use Rattle.blocktree.specs.Errors.{IsFault};
+ghost use Rattle.paths.specs.Loads.{OnlyLoads};
+ghost use Rattle.paths.specs.Numbers.{AreNumbers, IsNumber};
+ghost use Rattle.paths.specs.Standing.{Looks, Stands};
+ghost use Rattle.records.specs.Below.{IsChild, IsMarked, Marks};
+
+use blocktree::ReadError;
+use buffers::Blocks;
+use inofile::InodeFile;
+use std::alloc::{AllocError, Global};
+
+/// Whether a number is that of an object, or of one below it.
+pub fn is_below<B: Blocks>(
+    alloc: Global,
+    inodes: &mut InodeFile,
+    blocks: &mut B,
+    top: u32,
+    number: u32,
+) -> Result<bool, ReadError>
+    requires top { IsNumber inodes.old.geometry.inodes top }
+    requires number { number < inodes.old.geometry.inodes }
+    ensures looks { Looks B.Blocks IsFault blocks.old blocks.new inodes.old inodes.new result }
+    ensures loads { OnlyLoads inodes.old inodes.new }
+    ensures below { (disk : ℕ → List ℕ) (settled : ℕ → Inode) (v : Volume)
+        → Stands B.Blocks disk settled v blocks.old inodes.old
+        → IfOk result (λ below. IsTrue below ↔ IsBelow (entries v) top number) }
+    ensures damaged { (disk : ℕ → List ℕ) (settled : ℕ → Inode) (v : Volume)
+        → Stands B.Blocks disk settled v blocks.old inodes.old
+        → IsErrOf result ReadError.Damaged → ⊥ }
+{
+    let count = inodes.geometry().inodes();
+    let mut marks = vec![in alloc; false; count as usize]?;
+    let mut left = Vec::new(alloc);
+    mark(&mut marks, &mut left, top)?;
+    while let Some(here) = left.pop() {
+        let children = children_of(alloc, inodes, blocks, here)?;
+        mark_all(&mut marks, &mut left, children.as_slice())?;
+    }
+    Ok(marks[number as usize])
+}
+
+// The numbers at the names of a directory; none where it is no directory.
+fn children_of<B: Blocks>(
+    alloc: Global,
+    inodes: &mut InodeFile,
+    blocks: &mut B,
+    number: u32,
+) -> Result<Vec<u32>, ReadError>
+    requires { IsNumber inodes.old.geometry.inodes number }
+    ensures looks { Looks B.Blocks IsFault blocks.old blocks.new inodes.old inodes.new result }
+    ensures loads { OnlyLoads inodes.old inodes.new }
+    ensures within { IfOk result (λ c. AreNumbers inodes.old.geometry.inodes c.items) }
+    ensures children { (disk : ℕ → List ℕ) (settled : ℕ → Inode) (v : Volume)
+        → Stands B.Blocks disk settled v blocks.old inodes.old
+        → IfOk result (λ c. (n : ℕ) → Contains c.items n ↔ IsChild (entries v) number n) }
+    ensures damaged { (disk : ℕ → List ℕ) (settled : ℕ → Inode) (v : Volume)
+        → Stands B.Blocks disk settled v blocks.old inodes.old
+        → IsErrOf result ReadError.Damaged → ⊥ }
+{
+    let names = paths::list(alloc, inodes, blocks, number)?;
+    let mut children = Vec::new(alloc);
+    for name in names.as_slice() {
+        let found = paths::number_at(alloc, inodes, blocks, number, name.as_slice())?;
+        if let Some(child) = found {
+            children.push(child)?;
+        }
+    }
+    Ok(children)
+}
+
+// Marks these numbers. Those that weren't marked yet are left to be looked into.
+fn mark_all(marks: &mut Vec<bool>, left: &mut Vec<u32>, numbers: &[u32]) -> Result<(), AllocError>
+    requires { AreNumbers (length marks.old.items) numbers.now }
+    ensures marks { Marks marks.old.items marks.new.items left.old.items left.new.items }
+    ensures all { OnOk result ((n : ℕ) → Contains numbers.now n → IsMarked marks.new.items n) }
+    ensures only { (n : ℕ) → IsMarked marks.new.items n
+        → IsMarked marks.old.items n ⊎ Contains numbers.now n }
+    ensures within { (count : ℕ) → AreNumbers count numbers.now → AreNumbers count left.old.items
+        → AreNumbers count left.new.items }
+{
+    for number in numbers {
+        mark(marks, left, *number)?;
+    }
+    Ok(())
+}
+
+// Marks a number. One that wasn't marked yet is left to be looked into.
+fn mark(marks: &mut Vec<bool>, left: &mut Vec<u32>, number: u32) -> Result<(), AllocError>
+    requires { number < length marks.old.items }
+    ensures marks { Marks marks.old.items marks.new.items left.old.items left.new.items }
+    ensures marked { OnOk result (IsMarked marks.new.items number) }
+    ensures only { (n : ℕ) → IsMarked marks.new.items n
+        → IsMarked marks.old.items n ⊎ (n ≡ number) }
+    ensures within { (count : ℕ) → IsNumber count number → AreNumbers count left.old.items
+        → AreNumbers count left.new.items }
+{
+    let at = number as usize;
+    if marks[at] {
+        return Ok(());
+    }
+    left.push(number)?;
+    marks[at] = true;
+    Ok(())
+}

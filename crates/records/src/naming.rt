@@ -1,0 +1,250 @@
+//! Edits of the names in a directory's file.
+
+ghost use Rattle.std.specs.Prelude.{◌≡◌, ℕ, List, None, Some, IfOk, IfSome, IfNone, IsErrOf};
+ghost use Rattle.layout.specs.Directory.{IsEntry, named_of};
+ghost use Rattle.layout.specs.DirectoryNames.{NameMap};
+ghost use Rattle.buffers.specs.Reads.{ReadsBlocks};
+ghost use Rattle.blocktree.specs.Errors.{IsFault};
+ghost use Rattle.blocktree.specs.Trees.{IsSoundAt};
+ghost use Rattle.inode.specs.Files.{IsSameFile};
+ghost use Rattle.dirs.specs.Directory.{with_name};
+ghost use Rattle.dirs.specs.Edits.{FitsIn, HasNames, IsDirectory};
+ghost use Rattle.records.specs.Entering.{HasPlace, IsNameEdit, Takes, TakesEntry, names_after};
+
+use blocktree::ReadError;
+use buffers::Blocks;
+use dirs::{AddError, Edit};
+use inode::File;
+use layout::Entry;
+use std::alloc::Global;
+
+/// What becomes of the names of a directory.
+#[derive(Clone, Copy)]
+pub(crate) enum NameEdit<'a> {
+    /// There is an entry more, whose name the directory doesn't have yet.
+    Add(Entry<'a>),
+    /// The name is gone.
+    Remove(&'a [u8]),
+    /// The entry stands in place of the one with its name.
+    Replace(Entry<'a>),
+    /// The name is gone, and the entry stands in place of the one with its name, if there is one.
+    Move(&'a [u8], Entry<'a>),
+}
+
+/// Prepares an edit of a directory's file; None where it has a name already that is to be added, or no place for one more. Names
+/// are taken away before one is added.
+pub(crate) fn edit_file<B: Blocks>(
+    alloc: Global,
+    file: &mut File,
+    blocks: &mut B,
+    inodes: u32,
+    wanted: &NameEdit<'_>,
+) -> Result<Option<Edit>, ReadError>
+    requires { IsNameEdit inodes wanted.now }
+    ensures reads { ReadsBlocks B.Blocks IsFault blocks.old blocks.new result }
+    ensures same { IsSameFile file.old file.new }
+    ensures fits { IfOk result (λ e. IfSome e (FitsIn file.new)) }
+    ensures takes { (disk : ℕ → List ℕ) (names : NameMap) → B.Shows blocks.old disk
+        → IsDirectory inodes disk file.old names
+        → IfOk result (λ e. IfSome e (λ _. Takes wanted.now names)) }
+    ensures edited { (disk : ℕ → List ℕ) (names : NameMap) → B.Shows blocks.old disk
+        → IsDirectory inodes disk file.old names → IfOk result (λ e. IfSome e
+        (λ x. HasNames inodes disk file.new x (names_after wanted.now names))) }
+    ensures refused { (disk : ℕ → List ℕ) (names : NameMap) → B.Shows blocks.old disk
+        → IsDirectory inodes disk file.old names
+        → IfOk result (λ e. IfNone e (Takes wanted.now names → ⊥)) }
+    ensures damaged { (disk : ℕ → List ℕ) (names : NameMap) → B.Shows blocks.old disk
+        → IsErrOf result ReadError.Damaged → IsDirectory inodes disk file.old names
+        → ((i : ℕ) → IsSoundAt (B.count blocks.old) disk file.old.tree i) → ⊥ }
+{
+    let edit = Edit::of(alloc, file);
+    match wanted {
+        NameEdit::Add(entry) => add_new(alloc, file, blocks, inodes, edit, entry),
+        NameEdit::Remove(name) => remove_one(alloc, file, blocks, inodes, edit, name),
+        NameEdit::Replace(entry) => replace_in(alloc, file, blocks, inodes, edit, entry),
+        NameEdit::Move(old, entry) => move_in(alloc, file, blocks, inodes, edit, old, entry),
+    }
+}
+
+// One more name, which the directory doesn't have yet; None where it has it, or has no place.
+fn add_new<B: Blocks>(
+    alloc: Global,
+    file: &mut File,
+    blocks: &mut B,
+    inodes: u32,
+    edit: Edit,
+    entry: &Entry<'_>,
+) -> Result<Option<Edit>, ReadError>
+    requires { IsEntry inodes (named_of entry.now) }
+    ensures reads { ReadsBlocks B.Blocks IsFault blocks.old blocks.new result }
+    ensures same { IsSameFile file.old file.new }
+    ensures fits { FitsIn file.old edit → IfOk result (λ e. IfSome e (FitsIn file.new)) }
+    ensures takes { (disk : ℕ → List ℕ) (names : NameMap) → B.Shows blocks.old disk
+        → HasNames inodes disk file.old edit names
+        → IfOk result (λ e. IfSome e (λ _. TakesEntry names entry.now.name.now)) }
+    ensures edited { (disk : ℕ → List ℕ) (names : NameMap) → B.Shows blocks.old disk
+        → HasNames inodes disk file.old edit names
+        → IfOk result (λ e. IfSome e (λ x. HasNames inodes disk file.new x
+        (with_name entry.now.name.now (Some entry.now.number) names))) }
+    ensures refused { (disk : ℕ → List ℕ) (names : NameMap) → B.Shows blocks.old disk
+        → HasNames inodes disk file.old edit names
+        → IfOk result (λ e. IfNone e (TakesEntry names entry.now.name.now → ⊥)) }
+    ensures damaged { (disk : ℕ → List ℕ) (names : NameMap) → B.Shows blocks.old disk
+        → IsErrOf result ReadError.Damaged → HasNames inodes disk file.old edit names
+        → ((i : ℕ) → IsSoundAt (B.count blocks.old) disk file.old.tree i) → ⊥ }
+{
+    let found = edit.find(file, blocks, inodes, entry.name)?;
+    if found.is_some() {
+        return Ok(None);
+    }
+    add_in(alloc, file, blocks, inodes, edit, entry)
+}
+
+// A name is gone; never None.
+fn remove_one<B: Blocks>(
+    alloc: Global,
+    file: &mut File,
+    blocks: &mut B,
+    inodes: u32,
+    edit: Edit,
+    name: &[u8],
+) -> Result<Option<Edit>, ReadError>
+    ensures reads { ReadsBlocks B.Blocks IsFault blocks.old blocks.new result }
+    ensures same { IsSameFile file.old file.new }
+    ensures some { IfOk result (λ e. IfNone e ⊥) }
+    ensures fits { FitsIn file.old edit → IfOk result (λ e. IfSome e (FitsIn file.new)) }
+    ensures edited { (disk : ℕ → List ℕ) (names : NameMap) → B.Shows blocks.old disk
+        → HasNames inodes disk file.old edit names → IfOk result (λ e. IfSome e
+        (λ x. HasNames inodes disk file.new x (with_name name.now None names))) }
+    ensures damaged { (disk : ℕ → List ℕ) (names : NameMap) → B.Shows blocks.old disk
+        → IsErrOf result ReadError.Damaged → HasNames inodes disk file.old edit names
+        → ((i : ℕ) → IsSoundAt (B.count blocks.old) disk file.old.tree i) → ⊥ }
+{
+    let edit = remove_in(alloc, file, blocks, inodes, edit, name)?;
+    Ok(Some(edit))
+}
+
+// An entry stands in place of the one with its name; None where there is no place for one more.
+fn replace_in<B: Blocks>(
+    alloc: Global,
+    file: &mut File,
+    blocks: &mut B,
+    inodes: u32,
+    edit: Edit,
+    entry: &Entry<'_>,
+) -> Result<Option<Edit>, ReadError>
+    requires { IsEntry inodes (named_of entry.now) }
+    ensures reads { ReadsBlocks B.Blocks IsFault blocks.old blocks.new result }
+    ensures same { IsSameFile file.old file.new }
+    ensures fits { FitsIn file.old edit → IfOk result (λ e. IfSome e (FitsIn file.new)) }
+    ensures takes { (disk : ℕ → List ℕ) (names : NameMap) → B.Shows blocks.old disk
+        → HasNames inodes disk file.old edit names → IfOk result (λ e. IfSome e
+        (λ _. HasPlace (with_name entry.now.name.now None names))) }
+    ensures edited { (disk : ℕ → List ℕ) (names : NameMap) → B.Shows blocks.old disk
+        → HasNames inodes disk file.old edit names
+        → IfOk result (λ e. IfSome e (λ x. HasNames inodes disk file.new x
+        (with_name entry.now.name.now (Some entry.now.number) names))) }
+    ensures refused { (disk : ℕ → List ℕ) (names : NameMap) → B.Shows blocks.old disk
+        → HasNames inodes disk file.old edit names → IfOk result (λ e. IfNone e
+        (HasPlace (with_name entry.now.name.now None names) → ⊥)) }
+    ensures damaged { (disk : ℕ → List ℕ) (names : NameMap) → B.Shows blocks.old disk
+        → IsErrOf result ReadError.Damaged → HasNames inodes disk file.old edit names
+        → ((i : ℕ) → IsSoundAt (B.count blocks.old) disk file.old.tree i) → ⊥ }
+{
+    let edit = remove_in(alloc, file, blocks, inodes, edit, entry.name)?;
+    add_in(alloc, file, blocks, inodes, edit, entry)
+}
+
+// A name is gone, and the entry stands in place of the one with its name; None where there is no place for one more.
+fn move_in<B: Blocks>(
+    alloc: Global,
+    file: &mut File,
+    blocks: &mut B,
+    inodes: u32,
+    edit: Edit,
+    old: &[u8],
+    entry: &Entry<'_>,
+) -> Result<Option<Edit>, ReadError>
+    requires { IsEntry inodes (named_of entry.now) }
+    ensures reads { ReadsBlocks B.Blocks IsFault blocks.old blocks.new result }
+    ensures same { IsSameFile file.old file.new }
+    ensures fits { FitsIn file.old edit → IfOk result (λ e. IfSome e (FitsIn file.new)) }
+    ensures takes { (disk : ℕ → List ℕ) (names : NameMap) → B.Shows blocks.old disk
+        → HasNames inodes disk file.old edit names → IfOk result (λ e. IfSome e
+        (λ _. HasPlace (with_name old.now None (with_name entry.now.name.now None names)))) }
+    ensures edited { (disk : ℕ → List ℕ) (names : NameMap) → B.Shows blocks.old disk
+        → HasNames inodes disk file.old edit names
+        → IfOk result (λ e. IfSome e (λ x. HasNames inodes disk file.new x
+        (with_name entry.now.name.now (Some entry.now.number) (with_name old.now None names)))) }
+    ensures refused { (disk : ℕ → List ℕ) (names : NameMap) → B.Shows blocks.old disk
+        → HasNames inodes disk file.old edit names → IfOk result (λ e. IfNone e
+        (HasPlace (with_name old.now None (with_name entry.now.name.now None names)) → ⊥)) }
+    ensures damaged { (disk : ℕ → List ℕ) (names : NameMap) → B.Shows blocks.old disk
+        → IsErrOf result ReadError.Damaged → HasNames inodes disk file.old edit names
+        → ((i : ℕ) → IsSoundAt (B.count blocks.old) disk file.old.tree i) → ⊥ }
+{
+    let edit = remove_in(alloc, file, blocks, inodes, edit, entry.name)?;
+    let edit = remove_in(alloc, file, blocks, inodes, edit, old)?;
+    add_in(alloc, file, blocks, inodes, edit, entry)
+}
+
+// One more name in an edit that doesn't have it; None where there is no place for it.
+fn add_in<B: Blocks>(
+    alloc: Global,
+    file: &mut File,
+    blocks: &mut B,
+    inodes: u32,
+    edit: Edit,
+    entry: &Entry<'_>,
+) -> Result<Option<Edit>, ReadError>
+    requires { IsEntry inodes (named_of entry.now) }
+    ensures reads { ReadsBlocks B.Blocks IsFault blocks.old blocks.new result }
+    ensures same { IsSameFile file.old file.new }
+    ensures fits { FitsIn file.old edit → IfOk result (λ e. IfSome e (FitsIn file.new)) }
+    ensures takes { (disk : ℕ → List ℕ) (names : NameMap) → B.Shows blocks.old disk
+        → HasNames inodes disk file.old edit names
+        → IfOk result (λ e. IfSome e (λ _. HasPlace names)) }
+    ensures edited { (disk : ℕ → List ℕ) (names : NameMap) → B.Shows blocks.old disk
+        → HasNames inodes disk file.old edit names → names entry.now.name.now ≡ None
+        → IfOk result (λ e. IfSome e (λ x. HasNames inodes disk file.new x
+        (with_name entry.now.name.now (Some entry.now.number) names))) }
+    ensures refused { (disk : ℕ → List ℕ) (names : NameMap) → B.Shows blocks.old disk
+        → HasNames inodes disk file.old edit names
+        → IfOk result (λ e. IfNone e (HasPlace names → ⊥)) }
+    ensures damaged { (disk : ℕ → List ℕ) (names : NameMap) → B.Shows blocks.old disk
+        → IsErrOf result ReadError.Damaged → HasNames inodes disk file.old edit names
+        → ((i : ℕ) → IsSoundAt (B.count blocks.old) disk file.old.tree i) → ⊥ }
+{
+    let mut edit = edit;
+    match edit.prepare_add(alloc, file, blocks, inodes, entry) {
+        Ok(()) => Ok(Some(edit)),
+        Err(AddError::DirFull) => Ok(None),
+        Err(AddError::NoMemory) => Err(ReadError::NoMemory),
+        Err(AddError::Device) => Err(ReadError::Device),
+        Err(AddError::Damaged) => Err(ReadError::Damaged),
+    }
+}
+
+// A name is gone.
+fn remove_in<B: Blocks>(
+    alloc: Global,
+    file: &mut File,
+    blocks: &mut B,
+    inodes: u32,
+    edit: Edit,
+    name: &[u8],
+) -> Result<Edit, ReadError>
+    ensures reads { ReadsBlocks B.Blocks IsFault blocks.old blocks.new result }
+    ensures same { IsSameFile file.old file.new }
+    ensures fits { FitsIn file.old edit → IfOk result (FitsIn file.new) }
+    ensures edited { (disk : ℕ → List ℕ) (names : NameMap) → B.Shows blocks.old disk
+        → HasNames inodes disk file.old edit names → IfOk result
+        (λ x. HasNames inodes disk file.new x (with_name name.now None names)) }
+    ensures damaged { (disk : ℕ → List ℕ) (names : NameMap) → B.Shows blocks.old disk
+        → IsErrOf result ReadError.Damaged → HasNames inodes disk file.old edit names
+        → ((i : ℕ) → IsSoundAt (B.count blocks.old) disk file.old.tree i) → ⊥ }
+{
+    let mut edit = edit;
+    edit.prepare_remove(alloc, file, blocks, inodes, name)?;
+    Ok(edit)
+}

@@ -1,0 +1,226 @@
+//! Records, prepared and committed.
+
+ghost use Rattle.std.specs.Prelude.{◌≡◌, ◌≤◌, ◌<◌, ℕ, List, Some, IfOk, IfSome, IfNone, IsErrOf, IsTrue};
+ghost use Rattle.layout.specs.Record.{change_of, made_of};
+ghost use Rattle.layout.specs.declared.inode.Inode.{Inode};
+ghost use Rattle.model.specs.Paths.{IsName};
+ghost use Rattle.model.specs.Records.{Applies, Change, Made, TakesName, applied, create, is_vacant, node_of};
+ghost use Rattle.model.specs.Volumes.{Volume, IsVolume};
+ghost use Rattle.blocktree.specs.Errors.{IsFault};
+ghost use Rattle.inofile.specs.Objects.{IsObject};
+ghost use Rattle.inofile.specs.Volumes.{IsVolumeOf};
+ghost use Rattle.records.specs.Prepared.{AreAtHand, IsReady, Does};
+ghost use Rattle.records.specs.Served.{IsServed};
+ghost use Rattle.paths.specs.Standing.{Looks, Stands};
+
+use crate::contents::{Rewrite, prepare_bytes};
+use crate::entering::edit_parent;
+use crate::links::prepare_link;
+use crate::moding::prepare_mode;
+use crate::naming::NameEdit;
+use crate::renaming::prepare_rename;
+use crate::steps::{Step, Update, commit_some, commit_step};
+use crate::unnaming::prepare_unname;
+use crate::vacancy::{is_made, is_vacant, new_object};
+use blocktree::ReadError;
+use buffers::Blocks;
+use inode::{Object, based_trees_are_sound};
+use inofile::InodeFile;
+use layout::{Entry, FIRST_NUMBER, InodeNumber, NewObject, Record};
+use std::alloc::Global;
+
+/// A record's change of the image in memory, with all memory taken and all blocks read: what becomes of one object, and then of
+/// two more, if need be.
+#[derive(Drop)]
+pub struct Prepared {
+    pub(crate) first: Step,
+    pub(crate) next: Option<Step>,
+    pub(crate) last: Option<Step>,
+}
+
+/// Prepares what a record says; None where it doesn't apply. Nothing changes by it. NoMemory and Device tell what is said of
+/// reading; Damaged that a block is out of its grammar.
+pub fn prepare<B: Blocks>(
+    alloc: Global,
+    inodes: &mut InodeFile,
+    blocks: &mut B,
+    logged: &Record<'_>,
+) -> Result<Option<Prepared>, ReadError>
+    requires { IsServed (change_of logged.now) }
+    ensures looks { Looks B.Blocks IsFault blocks.old blocks.new inodes.old inodes.new result }
+    ensures ready { IfOk result (λ p. IfSome p (IsReady inodes.new)) }
+    ensures does { (disk : ℕ → List ℕ) (settled : ℕ → Inode) (v : Volume)
+        → Stands B.Blocks disk settled v blocks.old inodes.old
+        → IfOk result (λ p. IfSome p
+        (λ x. Does disk settled inodes.new v x (change_of logged.now))) }
+    ensures applies { (disk : ℕ → List ℕ) (settled : ℕ → Inode) (v : Volume)
+        → Stands B.Blocks disk settled v blocks.old inodes.old
+        → IfOk result (λ p. IfSome p
+        (λ _. Applies inodes.old.geometry.inodes v (change_of logged.now))) }
+    ensures refused { (disk : ℕ → List ℕ) (settled : ℕ → Inode) (v : Volume)
+        → Stands B.Blocks disk settled v blocks.old inodes.old
+        → IsVolume inodes.old.geometry.inodes v
+        → IfOk result (λ p. IfNone p
+        (Applies inodes.old.geometry.inodes v (change_of logged.now) → ⊥)) }
+    ensures damaged { (disk : ℕ → List ℕ) (settled : ℕ → Inode) (v : Volume)
+        → Stands B.Blocks disk settled v blocks.old inodes.old
+        → IsErrOf result ReadError.Damaged → ⊥ }
+{
+    match logged {
+        Record::Create {
+            number,
+            parent,
+            object,
+            name,
+        } => prepare_create(alloc, inodes, blocks, *number, parent.get(), name, object),
+        Record::Write {
+            number,
+            offset,
+            bytes,
+        } => {
+            let rewrite = Rewrite::Write {
+                offset: *offset,
+                bytes,
+            };
+            prepare_bytes(alloc, inodes, blocks, number.get(), &rewrite)
+        }
+        Record::Cut { number, size } => {
+            let rewrite = Rewrite::Cut { size: *size };
+            prepare_bytes(alloc, inodes, blocks, number.get(), &rewrite)
+        }
+        Record::Link {
+            number,
+            parent,
+            name,
+        } => prepare_link(alloc, inodes, blocks, *number, parent.get(), name),
+        Record::Unname { parent, name } => {
+            prepare_unname(alloc, inodes, blocks, parent.get(), name)
+        }
+        Record::Rename {
+            parent,
+            name,
+            new_parent,
+            new_name,
+        } => {
+            let to = new_parent.get();
+            prepare_rename(alloc, inodes, blocks, parent.get(), name, to, new_name)
+        }
+        Record::ChangeMode { number, mode } => {
+            prepare_mode(alloc, inodes, blocks, number.get(), *mode)
+        }
+    }
+}
+
+// Prepares that an object is made.
+fn prepare_create<B: Blocks>(
+    alloc: Global,
+    inodes: &mut InodeFile,
+    blocks: &mut B,
+    number: InodeNumber,
+    parent: u32,
+    name: &[u8],
+    object: &NewObject<'_>,
+) -> Result<Option<Prepared>, ReadError>
+    ensures looks { Looks B.Blocks IsFault blocks.old blocks.new inodes.old inodes.new result }
+    ensures ready { IfOk result (λ p. IfSome p (IsReady inodes.new)) }
+    ensures does { (disk : ℕ → List ℕ) (settled : ℕ → Inode) (v : Volume)
+        → Stands B.Blocks disk settled v blocks.old inodes.old
+        → IfOk result (λ p. IfSome p
+        (λ x. Does disk settled inodes.new v x (create number parent (made_of object.now) name.now))) }
+    ensures applies { (disk : ℕ → List ℕ) (settled : ℕ → Inode) (v : Volume)
+        → Stands B.Blocks disk settled v blocks.old inodes.old
+        → IfOk result (λ p. IfSome p (λ _. Applies inodes.old.geometry.inodes v
+        (create number parent (made_of object.now) name.now))) }
+    ensures refused { (disk : ℕ → List ℕ) (settled : ℕ → Inode) (v : Volume)
+        → Stands B.Blocks disk settled v blocks.old inodes.old
+        → IsVolume inodes.old.geometry.inodes v
+        → IfOk result (λ p. IfNone p (Applies inodes.old.geometry.inodes v
+        (create number parent (made_of object.now) name.now) → ⊥)) }
+    ensures damaged { (disk : ℕ → List ℕ) (settled : ℕ → Inode) (v : Volume)
+        → Stands B.Blocks disk settled v blocks.old inodes.old
+        → IsErrOf result ReadError.Damaged → ⊥ }
+{
+    let n = number.get();
+    if n < FIRST_NUMBER || n >= inodes.geometry().inodes() {
+        return Ok(None);
+    }
+    if !is_made(object) {
+        return Ok(None);
+    }
+    let vacant = is_vacant(alloc, inodes, blocks, n)?;
+    if !vacant {
+        return Ok(None);
+    }
+    based_trees_are_sound();
+    let new = new_object(alloc, blocks, object)?;
+    prepare_new(alloc, inodes, blocks, number, parent, name, new)
+}
+
+/// Prepares that this object is made of this number, which is vacant; None where the parent doesn't take the name.
+pub fn prepare_new<B: Blocks>(
+    alloc: Global,
+    inodes: &mut InodeFile,
+    blocks: &mut B,
+    number: InodeNumber,
+    parent: u32,
+    name: &[u8],
+    object: Object,
+) -> Result<Option<Prepared>, ReadError>
+    requires low { FIRST_NUMBER ≤ number }
+    requires high { number < inodes.old.geometry.inodes }
+    ensures looks { Looks B.Blocks IsFault blocks.old blocks.new inodes.old inodes.new result }
+    ensures ready { IfOk result (λ p. IfSome p (IsReady inodes.new)) }
+    ensures does { (disk : ℕ → List ℕ) (settled : ℕ → Inode) (v : Volume) (made : Made)
+        → Stands B.Blocks disk settled v blocks.old inodes.old → IsTrue (is_vacant (v number))
+        → ((k : ℕ) → IsObject disk k (settled number) object (Some (node_of made)))
+        → IfOk result (λ p. IfSome p
+        (λ x. Does disk settled inodes.new v x (create number parent made name.now))) }
+    ensures named { IfOk result (λ p. IfSome p (λ _. IsName name.now)) }
+    ensures takes { (disk : ℕ → List ℕ) (settled : ℕ → Inode) (v : Volume)
+        → Stands B.Blocks disk settled v blocks.old inodes.old
+        → IfOk result (λ p. IfSome p (λ _. TakesName v parent name.now)) }
+    ensures refused { (disk : ℕ → List ℕ) (settled : ℕ → Inode) (v : Volume)
+        → Stands B.Blocks disk settled v blocks.old inodes.old
+        → IsVolume inodes.old.geometry.inodes v
+        → IfOk result (λ p. IfNone p (TakesName v parent name.now → ⊥)) }
+    ensures damaged { (disk : ℕ → List ℕ) (settled : ℕ → Inode) (v : Volume)
+        → Stands B.Blocks disk settled v blocks.old inodes.old
+        → IsErrOf result ReadError.Damaged → ⊥ }
+{
+    let entry = Entry { number, name };
+    if !entry.fits(inodes.geometry().inodes()) {
+        return Ok(None);
+    }
+    inodes.prepare_set(number.get())?;
+    let planned = edit_parent(alloc, inodes, blocks, parent, &NameEdit::Add(entry))?;
+    let Some(edit) = planned else {
+        return Ok(None);
+    };
+    Ok(Some(Prepared {
+        first: Step {
+            number: parent,
+            update: Update::Names(edit),
+        },
+        next: Some(Step {
+            number: number.get(),
+            update: Update::Set(Some(object)),
+        }),
+        last: None,
+    }))
+}
+
+/// Puts a prepared change in force. It takes no memory and can't fail.
+pub fn commit(inodes: &mut InodeFile, prepared: Prepared)
+    requires { IsReady inodes.old prepared }
+    ensures geometry { inodes.new.geometry ≡ inodes.old.geometry }
+    ensures at_hand { AreAtHand inodes.new prepared }
+    ensures volume { (count : ℕ) (disk : ℕ → List ℕ) (settled : ℕ → Inode) (v : Volume)
+        (change : Change) → IsVolumeOf count disk settled inodes.old v
+        → Does disk settled inodes.old v prepared change
+        → IsVolumeOf count disk settled inodes.new (applied change v) }
+{
+    let Prepared { first, next, last } = prepared;
+    commit_step(inodes, first);
+    commit_some(inodes, next);
+    commit_some(inodes, last);
+}

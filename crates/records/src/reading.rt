@@ -1,0 +1,77 @@
+//! Reading the file with a number, which a descriptor or a path leads to.
+
+ghost use Rattle.std.specs.Prelude.{◌≡◌, ℕ, List, IfOk, IsErrOf};
+ghost use Rattle.layout.specs.declared.inode.Inode.{Inode};
+ghost use Rattle.model.specs.Edits.{read_at};
+ghost use Rattle.model.specs.Volumes.{Volume};
+ghost use Rattle.buffers.specs.Reads.{ReadsBlocks};
+ghost use Rattle.blocktree.specs.Errors.{IsFault};
+ghost use Rattle.blocktree.specs.Trees.{IsSoundAt};
+ghost use Rattle.inode.specs.Files.{bytes_of};
+ghost use Rattle.paths.specs.Numbers.{IsNumber};
+ghost use Rattle.records.specs.Reading.{ReadsNumber};
+ghost use Rattle.paths.specs.Standing.{Looks, Stands};
+
+use crate::loading::load;
+use blocktree::ReadError;
+use buffers::Blocks;
+use inode::File;
+use inofile::{InodeFile, objects_stand_in_their_grammar};
+use layout::Kind;
+use model::Text;
+use std::alloc::Global;
+
+/// As many bytes as asked and there, from an offset on, of the file with a number; None where it is none. NoMemory; Device where a
+/// read failed; Damaged where a block on the way is outside its format.
+pub fn read_bytes<B: Blocks>(
+    alloc: Global,
+    inodes: &mut InodeFile,
+    blocks: &mut B,
+    number: u32,
+    offset: u64,
+    count: u32,
+) -> Result<Option<Text>, ReadError>
+    requires { IsNumber inodes.old.geometry.inodes number }
+    ensures looks { Looks B.Blocks IsFault blocks.old blocks.new inodes.old inodes.new result }
+    ensures read { (disk : ℕ → List ℕ) (settled : ℕ → Inode) (v : Volume)
+        → Stands B.Blocks disk settled v blocks.old inodes.old
+        → IfOk result (ReadsNumber v number offset count) }
+    ensures damaged { (disk : ℕ → List ℕ) (settled : ℕ → Inode) (v : Volume)
+        → Stands B.Blocks disk settled v blocks.old inodes.old
+        → IsErrOf result ReadError.Damaged → ⊥ }
+{
+    objects_stand_in_their_grammar();
+    load(alloc, inodes, blocks, number)?;
+    let Some(object) = inodes.get(number) else {
+        return Ok(None);
+    };
+    match object.attributes.kind {
+        Kind::File => {}
+        _ => return Ok(None),
+    }
+    let bytes = part(alloc, blocks, &object.file, offset, count)?;
+    Ok(Some(Text::new(bytes)))
+}
+
+// As many bytes of a file as asked and there, from an offset on.
+fn part<B: Blocks>(
+    alloc: Global,
+    blocks: &mut B,
+    file: &File,
+    offset: u64,
+    count: u32,
+) -> Result<Vec<u8>, ReadError>
+    ensures reads { ReadsBlocks B.Blocks IsFault blocks.old blocks.new result }
+    ensures bytes { (disk : ℕ → List ℕ) → B.Shows blocks.old disk
+        → IfOk result (λ b. b.items ≡ read_at offset count (bytes_of disk file.now)) }
+    ensures damaged { (disk : ℕ → List ℕ) → B.Shows blocks.old disk
+        → IsErrOf result ReadError.Damaged
+        → ((i : ℕ) → IsSoundAt (B.count blocks.old) disk file.now.tree i) → ⊥ }
+{
+    let size = file.size();
+    let start = offset.min(size);
+    let length = (size - start).min(u64::from(count)) as usize;
+    let mut bytes = vec![in alloc; 0; length]?;
+    file.read_at(blocks, start, &mut bytes)?;
+    Ok(bytes)
+}

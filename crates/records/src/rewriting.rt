@@ -1,0 +1,122 @@
+//! Changes of the bytes of a file with a number, which a descriptor or a path leads to.
+
+ghost use Rattle.std.specs.Prelude.{◌≡◌, ◌+◌, ◌≤◌, ℕ, List, Option, IfErr, IfOk, IfSome, IsErrOf, IsTrue, length, unwrap_or, []};
+ghost use Rattle.layout.specs.declared.inode.Inode.{Inode};
+ghost use Rattle.model.specs.Records.{cut, write};
+ghost use Rattle.model.specs.Trees.{Description};
+ghost use Rattle.model.specs.Volumes.{Volume, IsMounted, IsVolume, bytes_of, is_file_node};
+ghost use Rattle.model.specs.declared.limits.TheConstants.{GREATEST_FILE, TRANSFER_BYTES};
+ghost use Rattle.blocktree.specs.Errors.{IsFault};
+ghost use Rattle.paths.specs.Numbers.{IsNumber};
+ghost use Rattle.records.specs.Prepared.{Does, IsReady};
+ghost use Rattle.records.specs.Rewriting.{CutsBytes, PutsBytes};
+ghost use Rattle.paths.specs.Standing.{Looks, Stands};
+
+use crate::Prepared;
+use crate::contents::{Rewrite, prepare_bytes};
+use crate::loading::load;
+use blocktree::ReadError;
+use buffers::Blocks;
+use inofile::InodeFile;
+use model::{Errno, records_change_trees};
+use std::alloc::Global;
+
+/// Prepares that bytes are written into the file with a number, at an offset; None where there are none, EFBIG where the file would
+/// be too great. NoMemory; Device where a read failed; Damaged where a block on the way is outside its format.
+pub fn write_bytes<B: Blocks>(
+    alloc: Global,
+    inodes: &mut InodeFile,
+    blocks: &mut B,
+    number: u32,
+    offset: u64,
+    bytes: &[u8],
+) -> Result<Result<Option<Prepared>, Errno>, ReadError>
+    requires { length bytes.now ≤ TRANSFER_BYTES }
+    ensures looks { Looks B.Blocks IsFault blocks.old blocks.new inodes.old inodes.new result }
+    ensures own { IfOk result (λ r. IfErr r (λ e. e ≡ Errno.EFBIG)) }
+    ensures some { IfOk result (λ r. IfOk r (λ p. IfSome p (λ _. 1 ≤ length bytes.now))) }
+    ensures within { IfOk result (λ r. IfOk r (λ p. IfSome p
+        (λ _. offset + length bytes.now ≤ GREATEST_FILE))) }
+    ensures ready { IfOk result (λ r. IfOk r (λ p. IfSome p (IsReady inodes.new))) }
+    ensures does { (disk : ℕ → List ℕ) (settled : ℕ → Inode) (v : Volume)
+        → Stands B.Blocks disk settled v blocks.old inodes.old
+        → IfOk result (λ r. IfOk r (λ p. IfSome p
+        (λ x. Does disk settled inodes.new v x (write number offset bytes.now)))) }
+    ensures answers { (disk : ℕ → List ℕ) (settled : ℕ → Inode) (v : Volume)
+        (table : ℕ → Option Description) → Stands B.Blocks disk settled v blocks.old inodes.old
+        → IsVolume inodes.old.geometry.inodes v → IsMounted v table
+        → IsTrue (is_file_node (v number)) → IfOk result
+        (PutsBytes inodes.old.geometry.inodes v table number offset bytes.now) }
+    ensures damaged { (disk : ℕ → List ℕ) (settled : ℕ → Inode) (v : Volume)
+        → Stands B.Blocks disk settled v blocks.old inodes.old
+        → IsErrOf result ReadError.Damaged → ⊥ }
+{
+    records_change_trees();
+    if bytes.is_empty() {
+        return Ok(Ok(None));
+    }
+    let rewrite = Rewrite::Write { offset, bytes };
+    let planned = prepare_bytes(alloc, inodes, blocks, number, &rewrite)?;
+    let Some(prepared) = planned else {
+        return Ok(Err(Errno::EFBIG));
+    };
+    Ok(Ok(Some(prepared)))
+}
+
+/// Prepares that the file with a number gets a size; None where it has it. NoMemory; Device where a read failed; Damaged where a
+/// block on the way is outside its format.
+pub fn cut_bytes<B: Blocks>(
+    alloc: Global,
+    inodes: &mut InodeFile,
+    blocks: &mut B,
+    number: u32,
+    size: u64,
+) -> Result<Option<Prepared>, ReadError>
+    requires number { IsNumber inodes.old.geometry.inodes number }
+    requires within { size ≤ GREATEST_FILE }
+    ensures looks { Looks B.Blocks IsFault blocks.old blocks.new inodes.old inodes.new result }
+    ensures ready { IfOk result (λ p. IfSome p (IsReady inodes.new)) }
+    ensures does { (disk : ℕ → List ℕ) (settled : ℕ → Inode) (v : Volume)
+        → Stands B.Blocks disk settled v blocks.old inodes.old
+        → IfOk result (λ p. IfSome p
+        (λ x. Does disk settled inodes.new v x (cut number size))) }
+    ensures answers { (disk : ℕ → List ℕ) (settled : ℕ → Inode) (v : Volume)
+        (table : ℕ → Option Description) → Stands B.Blocks disk settled v blocks.old inodes.old
+        → IsVolume inodes.old.geometry.inodes v → IsMounted v table
+        → IsTrue (is_file_node (v number)) → IfOk result
+        (CutsBytes inodes.old.geometry.inodes v table number size) }
+    ensures damaged { (disk : ℕ → List ℕ) (settled : ℕ → Inode) (v : Volume)
+        → Stands B.Blocks disk settled v blocks.old inodes.old
+        → IsErrOf result ReadError.Damaged → ⊥ }
+{
+    records_change_trees();
+    let now = size_at(alloc, inodes, blocks, number)?;
+    if now == size {
+        return Ok(None);
+    }
+    let rewrite = Rewrite::Cut { size };
+    prepare_bytes(alloc, inodes, blocks, number, &rewrite)
+}
+
+// How many bytes the file with a number has.
+fn size_at<B: Blocks>(
+    alloc: Global,
+    inodes: &mut InodeFile,
+    blocks: &mut B,
+    number: u32,
+) -> Result<u64, ReadError>
+    requires { IsNumber inodes.old.geometry.inodes number }
+    ensures looks { Looks B.Blocks IsFault blocks.old blocks.new inodes.old inodes.new result }
+    ensures size { (disk : ℕ → List ℕ) (settled : ℕ → Inode) (v : Volume)
+        → Stands B.Blocks disk settled v blocks.old inodes.old → IsTrue (is_file_node (v number))
+        → IfOk result (λ n. n ≡ length (unwrap_or (bytes_of (v number)) [])) }
+    ensures damaged { (disk : ℕ → List ℕ) (settled : ℕ → Inode) (v : Volume)
+        → Stands B.Blocks disk settled v blocks.old inodes.old
+        → IsErrOf result ReadError.Damaged → ⊥ }
+{
+    load(alloc, inodes, blocks, number)?;
+    match inodes.get(number) {
+        Some(object) => Ok(object.file.size()),
+        None => Ok(0),
+    }
+}

@@ -1,0 +1,131 @@
+//! Files that a change leaves with neither name nor descriptor, and the table of open files behind a change.
+
+ghost use Rattle.std.specs.Prelude.{◌≡◌, ℕ, List, Option, None, IfSome, IsTrue, false};
+ghost use Rattle.std.specs.Option.{option_map};
+ghost use Rattle.layout.specs.declared.inode.Inode.{Inode};
+ghost use Rattle.model.specs.Records.{Change, applied};
+ghost use Rattle.model.specs.Volumes.{Volume, IsMounted, is_file_node, is_nameless, swept, swept_node, with_node};
+ghost use Rattle.inofile.specs.Inodes.{HasRoomFor, IsKnown};
+ghost use Rattle.inofile.specs.Volumes.{IsVolumeOf};
+ghost use Rattle.descriptors.specs.Fits.{FitsVolume};
+ghost use Rattle.descriptors.specs.Tables.{table_of};
+ghost use Rattle.records.specs.Opened.{HasNumbers};
+ghost use Rattle.records.specs.Prepared.{Does, IsReady};
+ghost use Rattle.records.specs.Steps.{IsAtHand};
+ghost use Rattle.records.specs.Sweeping.{OpensFiles, with_object_of, without_file};
+
+use crate::prepared::{Prepared, commit};
+use crate::steps::Step;
+use descriptors::Descriptors;
+use inofile::InodeFile;
+use layout::Kind;
+
+/// Puts a prepared change in force, and drops a file that it leaves with neither name nor descriptor. The table then has the size
+/// and links of each open file as memory has them. It takes no memory and can't fail.
+pub fn commit_swept(inodes: &mut InodeFile, files: &mut Descriptors, prepared: Prepared)
+    requires { IsReady inodes.old prepared }
+    ensures geometry { inodes.new.geometry ≡ inodes.old.geometry }
+    ensures opened { table_of files.new ≡ table_of files.old }
+    ensures numbers { (n : ℕ) → HasNumbers n files.old → HasNumbers n files.new }
+    ensures volume { (count : ℕ) (disk : ℕ → List ℕ) (settled : ℕ → Inode) (v : Volume)
+        (change : Change) → IsVolumeOf count disk settled inodes.old v
+        → Does disk settled inodes.old v prepared change → IsMounted v (table_of files.old)
+        → IsVolumeOf count disk settled inodes.new
+        (swept (table_of files.old) (applied change v)) }
+    ensures fits { (count : ℕ) (disk : ℕ → List ℕ) (settled : ℕ → Inode) (v : Volume)
+        (change : Change) → IsVolumeOf count disk settled inodes.old v
+        → Does disk settled inodes.old v prepared change → IsMounted v (table_of files.old)
+        → FitsVolume files.old v
+        → IsMounted (swept (table_of files.old) (applied change v)) (table_of files.old)
+        → FitsVolume files.new (swept (table_of files.old) (applied change v)) }
+{
+    let first = prepared.first.number;
+    let next = number_of(&prepared.next);
+    let last = number_of(&prepared.last);
+    commit(inodes, prepared);
+    settle(inodes, files, Some(first));
+    settle(inodes, files, next);
+    settle(inodes, files, last);
+}
+
+// The number of a step, if there is one.
+fn number_of(step: &Option<Step>) -> Option<u32>
+    ensures { result ≡ option_map (λ step. step.number) step.now }
+{
+    match step {
+        Some(step) => Some(step.number),
+        None => None,
+    }
+}
+
+/// Drops the file of a number where it has no name; any other object stays. It takes no memory and can't fail.
+pub fn drop_nameless(inodes: &mut InodeFile, number: u32)
+    requires { IsAtHand inodes.old number }
+    ensures geometry { inodes.new.geometry ≡ inodes.old.geometry }
+    ensures stays { (n : ℕ) → IsKnown inodes.old n → IsKnown inodes.new n }
+    ensures keeps { (n : ℕ) → HasRoomFor inodes.old n → HasRoomFor inodes.new n }
+    ensures volume { (count : ℕ) (disk : ℕ → List ℕ) (settled : ℕ → Inode) (v : Volume)
+        → IsVolumeOf count disk settled inodes.old v
+        → IsVolumeOf count disk settled inodes.new
+        (with_node number (swept_node false (v number)) v) }
+{
+    if is_nameless(inodes, number) {
+        inodes.commit_set(number, None);
+    }
+}
+
+// Drops the file of a number, if there is one, where it has neither name nor descriptor; where it is open, the table then has its
+// size and links as memory has them.
+fn settle(inodes: &mut InodeFile, files: &mut Descriptors, number: Option<u32>)
+    requires { IfSome number (IsAtHand inodes.old) }
+    ensures geometry { inodes.new.geometry ≡ inodes.old.geometry }
+    ensures stays { (n : ℕ) → IsKnown inodes.old n → IsKnown inodes.new n }
+    ensures keeps { (n : ℕ) → HasRoomFor inodes.old n → HasRoomFor inodes.new n }
+    ensures opened { table_of files.new ≡ table_of files.old }
+    ensures numbers { (n : ℕ) → HasNumbers n files.old → HasNumbers n files.new }
+    ensures volume { (count : ℕ) (disk : ℕ → List ℕ) (settled : ℕ → Inode) (v : Volume)
+        → IsVolumeOf count disk settled inodes.old v
+        → IsVolumeOf count disk settled inodes.new
+        (without_file (table_of files.old) number v) }
+    ensures fits { (count : ℕ) (disk : ℕ → List ℕ) (settled : ℕ → Inode) (v w : Volume)
+        → IsVolumeOf count disk settled inodes.old w → OpensFiles (table_of files.old) w
+        → FitsVolume files.old v → FitsVolume files.new (with_object_of w number v) }
+{
+    if let Some(number) = number {
+        if files.is_open(number) {
+            note_figures(inodes, files, number);
+        } else {
+            drop_nameless(inodes, number);
+        }
+    }
+}
+
+// Notes in the table the size and links that an open file has in memory.
+fn note_figures(inodes: &InodeFile, files: &mut Descriptors, number: u32)
+    requires { IsKnown inodes.now number }
+    ensures opened { table_of files.new ≡ table_of files.old }
+    ensures numbers { (n : ℕ) → HasNumbers n files.old → HasNumbers n files.new }
+    ensures fits { (count : ℕ) (disk : ℕ → List ℕ) (settled : ℕ → Inode) (v w : Volume)
+        → IsVolumeOf count disk settled inodes.now w → IsTrue (is_file_node (w number))
+        → FitsVolume files.old v → FitsVolume files.new (with_node number (w number) v) }
+{
+    if let Some(object) = inodes.get(number) {
+        files.resized(number, object.file.size());
+        files.relinked(number, object.attributes.links);
+    }
+}
+
+/// Whether a file in memory has no name.
+pub fn is_nameless(inodes: &InodeFile, number: u32) -> bool
+    requires { IsKnown inodes.now number }
+    ensures { (count : ℕ) (disk : ℕ → List ℕ) (settled : ℕ → Inode) (v : Volume)
+        → IsVolumeOf count disk settled inodes.now v → result ≡ is_nameless (v number) }
+{
+    let Some(object) = inodes.get(number) else {
+        return false;
+    };
+    match object.attributes.kind {
+        Kind::File => object.attributes.links == 0,
+        _ => false,
+    }
+}

@@ -1,0 +1,159 @@
+//! Numbers for what is made.
+
+ghost use Rattle.std.specs.Prelude.{◌≡◌, ◌<◌, ◌≤◌, ◌↔◌, ℕ, List, [], Some, None, IfOk, IsErrOf, IsTrue};
+ghost use Rattle.layout.specs.Record.{made_of};
+ghost use Rattle.layout.specs.declared.inode.Inode.{Inode};
+ghost use Rattle.model.specs.Records.{IsMade, is_vacant, node_of};
+ghost use Rattle.layout.specs.LinkText.{IsLinkText};
+ghost use Rattle.model.specs.Volumes.{Volume, directory_node, file_node, link_node};
+ghost use Rattle.model.specs.declared.limits.TheConstants.{MODE_BITS};
+ghost use Rattle.buffers.specs.Reads.{ReadsBlocks};
+ghost use Rattle.blocktree.specs.Errors.{IsFault};
+ghost use Rattle.blocktree.specs.Trees.{IsSoundAt};
+ghost use Rattle.blocktree.specs.declared.tree.BlockTree.{BlockTree};
+ghost use Rattle.inode.specs.Bases.{IsBased};
+ghost use Rattle.inofile.specs.Objects.{IsObject};
+ghost use Rattle.paths.specs.Standing.{Looks, Stands};
+
+use crate::loading::load;
+use blocktree::ReadError;
+use buffers::Blocks;
+use inode::{Attributes, ChangeError, File, Object};
+use inofile::InodeFile;
+use layout::{FIRST_NUMBER, Kind, NewObject, is_link_text};
+use model::{MODE_BITS, Mode};
+use std::alloc::Global;
+
+/// The mode of each symbolic link.
+const LINK_MODE: u16 = 0o777;
+
+/// Whether nothing has a number, or a file without names.
+pub fn is_vacant<B: Blocks>(
+    alloc: Global,
+    inodes: &mut InodeFile,
+    blocks: &mut B,
+    number: u32,
+) -> Result<bool, ReadError>
+    requires low { FIRST_NUMBER ≤ number }
+    requires high { number < inodes.old.geometry.inodes }
+    ensures looks { Looks B.Blocks IsFault blocks.old blocks.new inodes.old inodes.new result }
+    ensures vacant { (disk : ℕ → List ℕ) (settled : ℕ → Inode) (v : Volume)
+        → Stands B.Blocks disk settled v blocks.old inodes.old
+        → IfOk result (λ vacant. vacant ≡ is_vacant (v number)) }
+    ensures damaged { (disk : ℕ → List ℕ) (settled : ℕ → Inode) (v : Volume)
+        → Stands B.Blocks disk settled v blocks.old inodes.old
+        → IsErrOf result ReadError.Damaged → ⊥ }
+{
+    load(alloc, inodes, blocks, number)?;
+    let Some(object) = inodes.get(number) else {
+        return Ok(true);
+    };
+    match object.attributes.kind {
+        Kind::File => Ok(object.attributes.links == 0),
+        _ => Ok(false),
+    }
+}
+
+/// Whether what a record makes keeps to the limits.
+pub(crate) fn is_made(object: &NewObject<'_>) -> bool
+    ensures { IsTrue result ↔ IsMade (made_of object.now) }
+{
+    match object {
+        NewObject::Directory { mode } => mode.bits() <= MODE_BITS,
+        NewObject::File { mode } => mode.bits() <= MODE_BITS,
+        NewObject::Link { text } => is_link_text(text),
+    }
+}
+
+/// The object that a record makes, with its one name.
+pub fn new_object<B: Blocks>(
+    alloc: Global,
+    blocks: &mut B,
+    object: &NewObject<'_>,
+) -> Result<Object, ReadError>
+    requires { IsMade (made_of object.now) }
+    ensures reads { ReadsBlocks B.Blocks IsFault blocks.old blocks.new result }
+    ensures object { (disk : ℕ → List ℕ) → B.Shows blocks.old disk → IfOk result
+        (λ o. (inodes : ℕ) (settled : Inode)
+        → IsObject disk inodes settled o (Some (node_of (made_of object.now)))) }
+    ensures damaged { (disk : ℕ → List ℕ) → B.Shows blocks.old disk
+        → IsErrOf result ReadError.Damaged
+        → ((t : BlockTree) (i : ℕ) → ((settled : Inode) → IsBased settled t)
+        → IsSoundAt (B.count blocks.old) disk t i) → ⊥ }
+{
+    match object {
+        NewObject::Directory { mode } => Ok(new_directory(alloc, *mode)),
+        NewObject::File { mode } => Ok(new_file(alloc, *mode)),
+        NewObject::Link { text } => new_link(alloc, blocks, text),
+    }
+}
+
+// A symbolic link of this text.
+fn new_link<B: Blocks>(alloc: Global, blocks: &mut B, text: &[u8]) -> Result<Object, ReadError>
+    requires { IsLinkText text.now }
+    ensures reads { ReadsBlocks B.Blocks IsFault blocks.old blocks.new result }
+    ensures object { (disk : ℕ → List ℕ) → B.Shows blocks.old disk → IfOk result
+        (λ o. (inodes : ℕ) (settled : Inode)
+        → IsObject disk inodes settled o (Some (link_node text.now))) }
+    ensures damaged { (disk : ℕ → List ℕ) → B.Shows blocks.old disk
+        → IsErrOf result ReadError.Damaged
+        → ((t : BlockTree) (i : ℕ) → ((settled : Inode) → IsBased settled t)
+        → IsSoundAt (B.count blocks.old) disk t i) → ⊥ }
+{
+    let Some(mode) = Mode::new(LINK_MODE) else {
+        unreachable!()
+    };
+    let mut file = File::empty(alloc);
+    let change = match file.prepare_write(alloc, blocks, 0, text) {
+        Ok(change) => change,
+        Err(ChangeError::NoMemory) => return Err(ReadError::NoMemory),
+        Err(ChangeError::Device) => return Err(ReadError::Device),
+        Err(ChangeError::Damaged) => return Err(ReadError::Damaged),
+        Err(ChangeError::TooBig) => unreachable!(),
+    };
+    file.commit(change);
+    Ok(Object {
+        attributes: Attributes {
+            kind: Kind::Link,
+            mode,
+            links: 1,
+        },
+        file,
+    })
+}
+
+// A file of one name without bytes.
+fn new_file(alloc: Global, mode: Mode) -> Object
+    ensures object { (disk : ℕ → List ℕ) (inodes : ℕ) (settled : Inode)
+        → IsObject disk inodes settled result (Some (file_node mode 1 [])) }
+    ensures good { mode ≤ MODE_BITS }
+{
+    // The type of a mode holds it to its bits.
+    let _ = mode.bits();
+    Object {
+        attributes: Attributes {
+            kind: Kind::File,
+            mode,
+            links: 1,
+        },
+        file: File::empty(alloc),
+    }
+}
+
+/// A directory without names.
+pub(crate) fn new_directory(alloc: Global, mode: Mode) -> Object
+    ensures object { (disk : ℕ → List ℕ) (inodes : ℕ) (settled : Inode)
+        → IsObject disk inodes settled result (Some (directory_node mode (λ name. None))) }
+    ensures good { mode ≤ MODE_BITS }
+{
+    // The type of a mode holds it to its bits.
+    let _ = mode.bits();
+    Object {
+        attributes: Attributes {
+            kind: Kind::Directory,
+            mode,
+            links: 1,
+        },
+        file: File::empty(alloc),
+    }
+}

@@ -1,0 +1,57 @@
+use Rattle.std.proofs.Common.{◌∙◌, ℕ, length, refl, rules, arith, length-append, sym, subst, ap}
+use Rattle.layout.specs.Log.{record_of}
+use Rattle.layout.specs.Limits.{Sizes}
+use Rattle.model.specs.Records.{Applies, applied}
+use Rattle.model.specs.Volumes.{Volume}
+use Rattle.replay.specs.Volumes.{HasVolume, bodies_of}
+use Rattle.replay.proofs.Errors.{passed}
+use Rattle.replay.proofs.RecordLaws.{none_done, one_more, all_done}
+use Rattle.replay.proofs.replaying.replay_all.Goals as goal
+
+pub loop-body-init : goal.loop-body-init
+loop-body-init g c = record {
+  read = search rules;
+  geometry = refl;
+  shorter = search rules;
+  leads = λ disk settled v w changes shows has leads. (v, has, none_done c.args.inodes.now.geometry.inodes c.args.records.now changes v w leads);
+}
+
+pub loop-body-preserved : goal.loop-body-preserved
+loop-body-preserved g c = record {
+  read = search rules;
+  geometry = c.in_ok-replay_one-in-Open.ensures.geometry ∙ c.loop-body.invariant.geometry;
+  shorter = omega (arith, c.loop-body.invariant.shorter, ap length c.in-Open.ensures.1, length-append (record_of c.in-Open.body.now) c.in-Open.after.now);
+  leads = λ disk settled v w changes shows has leads.
+      let read = c.loop-body.invariant.read in
+      let count = g.B.Blocks.count c.args.blocks.now in
+      let inodes = c.args.inodes.now.geometry.inodes in
+      let sizes = c.loop-body.invariant.geometry in
+      let back = c.loop-body.invariant.leads disk settled v w changes shows has leads in
+      let next = one_more inodes c.args.records.now c.loop-body.rest.now changes back.0 w back.2 c.in-Open.body.now c.in-Open.after.now c.in-Open.ensures.0 c.in-Open.ensures.1 in
+      let did = c.in_ok-replay_one-in-Open.ensures.replays disk settled back.0 next.0.change (read.same disk shows)
+      (subst (λ (n : ℕ). HasVolume n disk settled c.loop-body.inodes back.0) (sym read.count) back.1) next.0.spells
+      (subst (λ (s : Sizes). Applies s.inodes back.0 next.0.change) (sym sizes) next.0.applies) in
+      (applied next.0.change back.0, subst (λ (n : ℕ). HasVolume n disk settled c.replay_one.new.inodes (applied next.0.change back.0)) read.count did, next.1);
+}
+
+pub returns-in-Closed-clause-replays : goal.returns-in-Closed-clause-replays
+returns-in-Closed-clause-replays g c disk settled v w changes shows has leads =
+    let back = c.loop-body.invariant.leads disk settled v w changes shows has leads in
+    let done = all_done c.args.inodes.now.geometry.inodes c.args.records.now c.loop-body.rest.now changes back.0 w back.2 leads.held c.in-Closed.ensures in
+    (done.0, subst (λ (u : Volume). HasVolume (g.B.Blocks.count c.args.blocks.now) disk settled c.loop-body.inodes u) (sym done.1) back.1)
+
+pub returns-in-Malformed-clause-replays : goal.returns-in-Malformed-clause-replays
+returns-in-Malformed-clause-replays g c disk settled v w changes shows has leads =
+    let back = c.loop-body.invariant.leads disk settled v w changes shows has leads in
+    absurd (c.in-Malformed.ensures (bodies_of back.2.more) back.2.leads.held)
+
+pub returns-in_err-replay_one-in-Open-clause-replays : goal.returns-in_err-replay_one-in-Open-clause-replays
+returns-in_err-replay_one-in-Open-clause-replays g c disk settled v w changes shows has leads =
+    let read = c.loop-body.invariant.read in
+    let inodes = c.args.inodes.now.geometry.inodes in
+    let back = c.loop-body.invariant.leads disk settled v w changes shows has leads in
+    let next = one_more inodes c.args.records.now c.loop-body.rest.now changes back.0 w back.2 c.in-Open.body.now c.in-Open.after.now c.in-Open.ensures.0 c.in-Open.ensures.1 in
+    let why = c.in_err-replay_one-in-Open.ensures.replays disk settled back.0 next.0.change (read.same disk shows)
+    (subst (λ (n : ℕ). HasVolume n disk settled c.loop-body.inodes back.0) (sym read.count) back.1) next.0.spells
+    (subst (λ (s : Sizes). Applies s.inodes back.0 next.0.change) (sym c.loop-body.invariant.geometry) next.0.applies) in
+    passed _ c.from_residual.result c.in_err-replay_one-in-Open.field-0.0 (search rules) why

@@ -1,0 +1,22 @@
+use Rattle.std.proofs.Common.{◌≡◌, ◌≤◌, ℕ, List, length}
+use Rattle.layout.specs.Record.{Change}
+use Rattle.layout.specs.declared.inode.Inode.{Inode}
+use Rattle.model.specs.Volumes.{Volume}
+use Rattle.buffers.specs.Reads.{HasOnlyRead}
+use Rattle.replay.specs.Volumes.{HasVolume, LeadTo}
+use Rattle.replay.proofs.RecordLaws.{IsLeft}
+use Rattle.replay.proofs.replaying.replay_all.Given as goal
+
+abbrev pub invariant-loop-body : goal.invariant-loop-body
+invariant-loop-body g l = record {
+  read : HasOnlyRead g.B.Blocks l.fn.blocks l.blocks;
+  geometry : l.inodes.geometry ≡ l.fn.inodes.geometry;
+  shorter : length l.rest ≤ length l.records;
+  leads : (disk : ℕ → List ℕ) (settled : ℕ → Inode) (v w : Volume) (changes : List Change) → g.B.Blocks.Shows l.fn.blocks disk
+      → HasVolume (g.B.Blocks.count l.fn.blocks) disk settled l.fn.inodes v → LeadTo l.fn.inodes.geometry.inodes l.records changes v w
+      → (now : Volume) × HasVolume (g.B.Blocks.count l.fn.blocks) disk settled l.inodes now
+      × IsLeft l.fn.inodes.geometry.inodes l.records l.rest changes now w;
+}
+
+abbrev pub decreases-loop-body : goal.decreases-loop-body
+decreases-loop-body g l = length l.rest

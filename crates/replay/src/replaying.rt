@@ -1,0 +1,100 @@
+//! The records of the log, one after the other.
+
+ghost use Rattle.std.specs.Prelude.{◌≡◌, ◌⊎◌, ◌↔◌, ◌≤◌, List, ℕ, IfOk, IsTrue, MatchResult, length};
+ghost use Rattle.layout.specs.declared.inode.Inode.{Inode};
+ghost use Rattle.model.specs.Records.{Applies, Change, applied};
+ghost use Rattle.model.specs.Volumes.{Volume};
+ghost use Rattle.buffers.specs.Reads.{ReadsBlocks};
+ghost use Rattle.layout.specs.Record.{change_of};
+ghost use Rattle.blocktree.specs.Errors.{IsFault};
+ghost use Rattle.records.specs.Served.{IsServed};
+ghost use Rattle.oplog.specs.SavedLog.{HoldsLeaving};
+ghost use Rattle.replay.specs.Volumes.{HasVolume, LeadTo, Spells, bodies_of};
+
+use blocktree::ReadError;
+use buffers::Blocks;
+use inofile::InodeFile;
+use layout::{Gate, Record, read_gate};
+use model::records_keep_volumes;
+use records::{commit, prepare};
+use std::alloc::Global;
+
+/// Replays the records from a gate on over the inodes in memory, and answers how many bytes stand from the closed gate on.
+/// `Damaged` where the bytes hold no records, and where one doesn't apply. After an error it isn't known what memory stands for.
+pub(crate) fn replay_all<B: Blocks>(
+    alloc: Global,
+    inodes: &mut InodeFile,
+    blocks: &mut B,
+    records: &[u8],
+) -> Result<usize, ReadError>
+    ensures reads { ReadsBlocks B.Blocks IsFault blocks.old blocks.new result }
+    ensures geometry { inodes.new.geometry ≡ inodes.old.geometry }
+    ensures some { IfOk result (λ left. (1 ≤ left) × (left ≤ length records.now)) }
+    ensures replays { (disk : ℕ → List ℕ) (settled : ℕ → Inode) (v w : Volume)
+        (changes : List Change) → B.Shows blocks.old disk
+        → HasVolume (B.count blocks.old) disk settled inodes.old v
+        → LeadTo inodes.old.geometry.inodes records.now changes v w
+        → MatchResult result (λ left. HoldsLeaving records.now (bodies_of changes) left
+        × HasVolume (B.count blocks.old) disk settled inodes.new w)
+        (λ e. (e ≡ ReadError.NoMemory) ⊎ (e ≡ ReadError.Device)) }
+{
+    let mut rest = records;
+    loop {
+        match read_gate(rest) {
+            Gate::Closed => return Ok(rest.len()),
+            Gate::Malformed => return Err(ReadError::Damaged),
+            Gate::Open { body, rest: after } => {
+                replay_one(alloc, inodes, blocks, body)?;
+                rest = after;
+            }
+        }
+    }
+}
+
+/// Does to the inodes in memory what the record with this body says.
+fn replay_one<B: Blocks>(
+    alloc: Global,
+    inodes: &mut InodeFile,
+    blocks: &mut B,
+    body: &[u8],
+) -> Result<(), ReadError>
+    ensures reads { ReadsBlocks B.Blocks IsFault blocks.old blocks.new result }
+    ensures geometry { inodes.new.geometry ≡ inodes.old.geometry }
+    ensures replays { (disk : ℕ → List ℕ) (settled : ℕ → Inode) (v : Volume) (change : Change)
+        → B.Shows blocks.old disk
+        → HasVolume (B.count blocks.old) disk settled inodes.old v
+        → Spells body.now change
+        → Applies inodes.old.geometry.inodes v change
+        → MatchResult result (λ _. HasVolume (B.count blocks.old) disk settled inodes.new
+        (applied change v)) (λ e. (e ≡ ReadError.NoMemory) ⊎ (e ≡ ReadError.Device)) }
+{
+    records_keep_volumes();
+    let Some(logged) = Record::read(body) else {
+        return Err(ReadError::Damaged);
+    };
+    if !is_served(&logged) {
+        return Err(ReadError::Damaged);
+    }
+    let planned = prepare(alloc, inodes, blocks, &logged)?;
+    let Some(prepared) = planned else {
+        return Err(ReadError::Damaged);
+    };
+    commit(inodes, prepared);
+    Ok(())
+}
+
+/// Whether this version does what a record says.
+fn is_served(logged: &Record<'_>) -> bool
+    ensures { IsTrue result ↔ IsServed (change_of logged.now) }
+{
+    matches!(
+        logged,
+        Record::Create { .. }
+            | Record::Link { .. }
+            | Record::Unname { .. }
+            | Record::Rename { .. }
+            | Record::Write { .. }
+            | Record::Cut { .. }
+            | Record::ChangeMode { .. }
+    )
+}
