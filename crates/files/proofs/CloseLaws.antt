@@ -1,0 +1,176 @@
+-- What the definitions say of closing a descriptor.
+use Rattle.std.proofs.Common.{◌≡◌, ◌≢◌, ◌<◌, ◌≤◌, ◌==◌, inl, inr, ℕ, zero, suc, Bool, true, false, Option, Some, None, Result, Ok, Err, OnErr, OnOk, refl, sym, ap, subst, ◌∙◌, arith}
+use Rattle.std.proofs.Math.Path.{fun_ext}
+use Rattle.std.proofs.lemmas.Bool.{cases_Bool, cases_eq, cases_lt, cond-true, cond-false, eq-eqb, ne_eqb}
+use Rattle.std.proofs.lemmas.List.{get_or_past}
+use Rattle.std.specs.Option.{option_map}
+use Rattle.model.specs.Descriptors.{closes}
+use Rattle.model.specs.Edits.{IsSwept, with_descriptor}
+use Rattle.model.specs.Outcomes.{Outcome, changes_swept}
+use Rattle.model.specs.Room.{nothing}
+use Rattle.model.specs.Trees.{Tree, Description}
+use Rattle.model.specs.Volumes.{IsMounted, IsVolume, Node, Volume, directory_node, file_node, link_node, is_file_node, is_nameless, is_open, swept, swept_node, tree_of, with_node}
+use Rattle.model.specs.declared.reply.Reply.TheVariants.{Done}
+use Rattle.model.proofs.LooseLemmas.{some_same}
+use Rattle.model.proofs.RecordLemmas.{swept_twice}
+use Rattle.model.proofs.SweepLemmas.{IsNameless, found_open, opened_by, stays_named, stays_open, swept_from}
+use Rattle.layout.specs.Limits.{Sizes}
+use Rattle.inofile.specs.Inodes.{HasRoomFor, IsKnown}
+use Rattle.inofile.specs.declared.inode_file.InodeFile.{InodeFile}
+use Rattle.paths.specs.Numbers.{IsNumber}
+use Rattle.records.specs.Steps.{IsAtHand}
+use Rattle.records.proofs.EnterLaws.{node_here, node_other}
+use Rattle.descriptors.specs.Files.{Figures, description_of, figures_of, node_figures}
+use Rattle.descriptors.specs.Fits.{FitsVolume}
+use Rattle.descriptors.specs.Tables.{open_at, put_open, table_of}
+use Rattle.descriptors.specs.declared.open_file.OpenFile.{OpenFile}
+use Rattle.descriptors.specs.declared.table.Descriptors.{Descriptors}
+use Rattle.files.specs.Closing.{ClosesReady, IsOpenNameless, swept_at}
+use Rattle.files.specs.Opened.{tree_with}
+use Rattle.records.specs.Opened.{HasNumbers}
+use Rattle.files.proofs.OpenLaws as laws
+
+-- nothing is open past the table's end
+past_end : (t : Descriptors) (d : ℕ) → 32 ≤ d → table_of t d ≡ None
+past_end t d past = ap (option_map description_of) (get_or_past t.files d None (omega (arith, past, t.whole)))
+
+-- what stays where nothing is open stays whatever is open
+stays_any : (open_now : Bool) (o : Option Node) → swept_node false o ≡ o → swept_node open_now o ≡ o
+stays_any true o is = stays_open o
+stays_any false o is = is
+
+-- a file with names isn't nameless
+not_nameless : (o : Option Node) (figures : Figures) → node_figures o ≡ Some figures → 0 < figures.links → ¬ IsNameless o
+not_nameless o figures is some (mode, bytes, same) =
+    let none : 0 ≡ figures.links = ap (λ (k : Figures). k.links) (some_same (sym (ap node_figures same) ∙ is)) in omega (arith, none, some)
+
+module _ (old new : Descriptors) (fd : ℕ) (freed : table_of new ≡ put_open fd None (table_of old)) where
+  -- another descriptor is as it was
+  as_it_was : (d : ℕ) → d ≢ fd → table_of new d ≡ table_of old d
+  as_it_was d other = ap (λ (g : ℕ → Option Description). g d) freed ∙ cond-false (d == fd) None (table_of old d) (ne_eqb d fd other)
+
+  -- what is open then was open
+  was_open : (d : ℕ) (g : Description) → table_of new d ≡ Some g → table_of old d ≡ Some g
+  was_open d g e =
+      elim (cases_eq d fd) [
+        | inl same ↦ let none : None ≡ Some g = sym (ap (λ (h : ℕ → Option Description). h d) freed ∙ cond-true (d == fd) None (table_of old d) (eq-eqb d fd same)) ∙ e in cc
+        | inr other ↦ sym (as_it_was d other) ∙ e
+      ]
+
+  module _ (v : Volume) where
+    abbrev t : Tree
+    t = tree_with old v
+
+    abbrev rest : Description → Outcome
+    rest f = changes_swept Done (with_descriptor fd None t) nothing
+
+    abbrev left : Volume
+    left = swept (table_of new) v
+
+    pub close_done : (inodes : ℕ) (f : OpenFile) → IsVolume inodes v → open_at old fd ≡ Some f → closes t fd Done (tree_with new left) nothing
+    close_done inodes f volume some = laws.is_open old v fd rest f Done (tree_with new left) nothing some (refl, is_swept, refl)
+      where
+        whole : IsSwept (tree_of v (table_of new)) (tree_of left (table_of new))
+        whole = swept_from v volume.graph (table_of new) (past_end new) (tree_of v (table_of new)) refl refl (λ n used. (refl, refl))
+
+        is_swept : IsSwept (with_descriptor fd None t) (tree_of left (table_of new))
+        is_swept = subst (λ (s : Tree). IsSwept s (tree_of left (table_of new))) (ap (tree_of v) freed) whole
+
+    pub close_mounted : IsMounted v (table_of old) → IsMounted left (table_of new)
+    close_mounted mounted = record {
+      files = λ d g e.
+          let was = was_open d g e in
+          elim (cases_lt d 32) [
+            | inl below ↦ ap is_file_node (ap (λ b. swept_node b (v g.number)) (found_open (table_of new) 32 d g.number g below e refl) ∙ stays_open (v g.number)) ∙ mounted.files d g was
+            | inr past ↦ let none : None ≡ Some g = sym (past_end new d past) ∙ e in cc
+          ];
+      is_swept = λ n. swept_twice (is_open (table_of new) 32 n) (v n);
+      bounded = past_end new;
+      offsets = λ d g e. mounted.offsets d g (was_open d g e);
+    }
+
+    module _ (f : OpenFile) (some : open_at old fd ≡ Some f) where
+      -- a number that is open elsewhere stays open
+      open_other : (n : ℕ) → n ≢ f.number → is_open (table_of old) 32 n ≡ true → is_open (table_of new) 32 n ≡ true
+      open_other n differs opened =
+          let at = opened_by (table_of old) 32 n opened in
+          let d : ℕ = at.0 in
+          let g : Description = at.1 in
+          let here : table_of old fd ≡ Some (description_of f) = ap (option_map description_of) some in
+          let other : d ≢ fd = λ same. differs (sym at.3 ∙ ap (λ (k : Description). k.number) (some_same (sym at.2 ∙ ap (table_of old) same ∙ here))) in
+          let now : table_of new d ≡ Some g = as_it_was d other ∙ at.2 in
+          elim (cases_lt d 32) [
+            | inl below ↦ found_open (table_of new) 32 d n g below now at.3
+            | inr past ↦ let none : None ≡ Some g = sym (past_end new d past) ∙ now in cc
+          ]
+
+      swept_other : IsMounted v (table_of old) → (n : ℕ) → n ≢ f.number → swept (table_of new) v n ≡ v n
+      swept_other mounted n differs =
+          elim (cases_Bool (is_open (table_of old) 32 n)) [
+            | inl opened ↦ ap (λ b. swept_node b (v n)) (open_other n differs opened) ∙ stays_open (v n)
+            | inr closed ↦ stays_any (is_open (table_of new) 32 n) (v n) (sym (ap (λ b. swept_node b (v n)) closed) ∙ mounted.is_swept n)
+          ]
+
+      pub one_swept : IsMounted v (table_of old) → swept_at (table_of new) f.number v ≡ left
+      one_swept mounted =
+          fun_ext {f = swept_at (table_of new) f.number v} {g = left}
+          (λ n. elim (cases_eq n f.number) [
+            | inl same ↦
+                node_here f.number n (swept_node (is_open (table_of new) 32 f.number) (v f.number)) v same
+                ∙ ap (λ (m : ℕ). swept_node (is_open (table_of new) 32 m) (v m)) (sym same)
+            | inr differs ↦ node_other f.number n (swept_node (is_open (table_of new) 32 f.number) (v f.number)) v differs ∙ sym (swept_other mounted n differs)
+          ])
+
+-- ---- the file of a descriptor that is freed
+
+module _ (table : ℕ → Option Description) (n : ℕ) (v : Volume) where
+  pub drops : is_open table 32 n ≡ false → with_node n (swept_node false (v n)) v ≡ swept_at table n v
+  drops closed = ap (λ (b : Bool). with_node n (swept_node b (v n)) v) (sym closed)
+
+  stays_at : swept_node (is_open table 32 n) (v n) ≡ v n → v ≡ swept_at table n v
+  stays_at same =
+      fun_ext {f = v} {g = swept_at table n v}
+      (λ k. elim (cases_eq k n) [
+        | inl here ↦ ap v here ∙ sym same ∙ sym (node_here n k (swept_node (is_open table 32 n) (v n)) v here)
+        | inr other ↦ sym (node_other n k (swept_node (is_open table 32 n) (v n)) v other)
+      ])
+
+  pub open_stays : is_open table 32 n ≡ true → v ≡ swept_at table n v
+  open_stays opened = stays_at (ap (λ (b : Bool). swept_node b (v n)) opened ∙ stays_open (v n))
+
+  pub named_stays : (figures : Figures) → node_figures (v n) ≡ Some figures → 0 < figures.links → v ≡ swept_at table n v
+  named_stays figures is some = stays_at (stays_named (is_open table 32 n) (v n) (not_nameless (v n) figures is some))
+
+-- a descriptor less changes no number
+pub freed_numbers : (inodes : ℕ) (old new : Descriptors) (fd : ℕ) → ((d : ℕ) → open_at new d ≡ put_open fd None (open_at old) d) → HasNumbers inodes old → HasNumbers inodes new
+freed_numbers inodes old new fd files has = record {
+  numbers = λ d g e.
+      elim (cases_eq d fd) [
+        | inl same ↦ let none : None ≡ Some g = sym (cond-true (d == fd) _ _ (eq-eqb d fd same)) ∙ sym (files d) ∙ e in cc
+        | inr other ↦ has.numbers d g (sym (cond-false (d == fd) _ _ (ne_eqb d fd other)) ∙ sym (files d) ∙ e)
+      ];
+}
+
+-- the file of a descriptor has no name in the volume
+pub open_nameless : (table : Descriptors) (fd : ℕ) (f : OpenFile) (v : Volume) → FitsVolume table v → open_at table fd ≡ Some f → f.links ≡ 0 → IsOpenNameless v table fd
+open_nameless table fd f v fits some none = (f, some, nameless (v f.number) (figures_of f) (fits.files fd f some) none)
+  where
+    nameless : (o : Option Node) (figures : Figures) → node_figures o ≡ Some figures → figures.links ≡ 0 → is_nameless o ≡ true
+    nameless None figures is none = cc
+    nameless (Some (directory_node mode names)) figures is none = cc
+    nameless (Some (file_node mode zero bytes)) figures is none = refl
+    nameless (Some (file_node mode (suc links) bytes)) figures is none =
+        let many : suc links ≡ figures.links = ap (λ (k : Figures). k.links) (some_same is) in absurd (omega (arith, many, none))
+    nameless (Some (link_node text)) figures is none = cc
+
+pub on_err : {T E : Type 0} {P : Type 0} (r : Result T E) → P → OnErr r P
+on_err (Ok x) is = tt
+on_err (Err e) is = is
+
+-- what is taken into memory is at hand
+pub ready_by : {T E : Type 0} (r : Result T E) (s t : InodeFile) → t.geometry ≡ s.geometry → (table : Descriptors) (fd : ℕ) (f : OpenFile) → open_at table fd ≡ Some f
+    → IsNumber s.geometry.inodes f.number → OnOk r (IsKnown t f.number) → OnOk r (HasRoomFor t f.number) → OnOk r (ClosesReady t table fd)
+ready_by (Err e) s t same table fd f some number known room = tt
+ready_by (Ok x) s t same table fd f some number known room = λ g is none.
+    subst (λ (k : OpenFile). IsAtHand t k.number) (some_same (sym some ∙ is))
+    (record { low = number.0; high = subst (λ (z : Sizes). f.number < z.inodes) (sym same) number.1; room = room; known = known })

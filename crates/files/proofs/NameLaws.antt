@@ -1,0 +1,70 @@
+-- A file of a volume stands at a path just where it has a name; and what is told of an open file.
+use Rattle.std.proofs.Common.{◌≡◌, ℕ, zero, suc, List, true, false, Option, Some, None, Result, Ok, Err, refl, sym, ap, subst, ◌∙◌}
+use Rattle.std.proofs.lemmas.Bool.{false≢true}
+use Rattle.model.specs.Descriptors.{stats_open}
+use Rattle.model.specs.Laws.{VolumesTellLinks}
+use Rattle.model.specs.Reading.{tells_stat}
+use Rattle.model.specs.Room.{nothing}
+use Rattle.model.specs.Trees.{Description, HasPath, Tree, file}
+use Rattle.model.specs.Volumes.{IsVolume, Node, Volume, directory_node, file_node, link_node, is_file_node, is_nameless, number_at, entries, object_at, object_of, tree_of}
+use Rattle.model.specs.declared.errno.Errno.{Errno}
+use Rattle.model.specs.declared.errno.Errno.TheVariants.{EBADF}
+use Rattle.model.specs.declared.reply.Reply.TheVariants as replies
+use Rattle.model.specs.declared.reply.Stat.{Stat}
+use Rattle.model.proofs.SweepLemmas.{found_number}
+use Rattle.calls.specs.Stating.{TellsStat, stat_reply}
+use Rattle.calls.proofs.StatLaws.{told}
+use Rattle.descriptors.specs.Files.{figures_of}
+use Rattle.descriptors.specs.Fits.{FitsVolume}
+use Rattle.descriptors.specs.Tables.{open_at, table_of}
+use Rattle.descriptors.specs.declared.open_file.OpenFile.{OpenFile}
+use Rattle.descriptors.specs.declared.table.Descriptors.{Descriptors}
+use Rattle.files.specs.Opened.{tree_with}
+use Rattle.files.proofs.OpenLaws.{is_open, not_open}
+use Rattle.files.proofs.ReadLaws.{figured_file}
+
+-- a file of a volume
+file_of : (o : Option Node) → is_file_node o ≡ true → (mode : ℕ) × (links : ℕ) × (bytes : List ℕ) × (o ≡ Some (file_node mode links bytes))
+file_of None is = cc
+file_of (Some (directory_node mode names)) is = cc
+file_of (Some (file_node mode links bytes)) is = (mode, links, bytes, refl)
+file_of (Some (link_node text)) is = cc
+
+module _ (inodes n : ℕ) (v : Volume) (table : ℕ → Option Description) (tell_links : VolumesTellLinks) (volume : IsVolume inodes v) (a_file : is_file_node (v n) ≡ true) where
+  abbrev t : Tree
+  t = tree_of v table
+
+  path_by : (mode links : ℕ) (bytes : List ℕ) → v n ≡ Some (file_node mode links bytes) → is_nameless (v n) ≡ false → HasPath t n
+  path_by mode zero bytes is named = absurd (false≢true (sym named ∙ ap is_nameless is))
+  path_by mode (suc links) bytes is named = let one = tell_links inodes v table n mode (suc links) bytes volume is in (one.0, file n, one.1, refl)
+
+  pub has_path : is_nameless (v n) ≡ false → HasPath t n
+  has_path named = let f = file_of (v n) a_file in path_by f.0 f.1 f.2 f.3 named
+
+  name_by : (mode links : ℕ) (bytes : List ℕ) → v n ≡ Some (file_node mode links bytes) → HasPath t n → is_nameless (v n) ≡ false
+  name_by mode zero bytes is (p, o, at, same) =
+      let number_is = found_number v (number_at (entries v) p) o n at same in
+      absurd (tell_links inodes v table n mode 0 bytes volume is p (ap (object_at v) number_is ∙ ap (object_of n) is))
+  name_by mode (suc links) bytes is path = ap is_nameless is
+
+  pub has_name : HasPath t n → is_nameless (v n) ≡ false
+  has_name path = let f = file_of (v n) a_file in name_by f.0 f.1 f.2 f.3 path
+
+-- ---- what is told of an open file
+
+module _ (table : Descriptors) (v : Volume) (fd : ℕ) where
+  abbrev tree : Tree
+  tree = tree_with table v
+
+  pub stat_closed : open_at table fd ≡ None → stats_open tree fd (replies.Refused EBADF) tree nothing
+  stat_closed none = not_open table v fd (λ f. tells_stat tree (file f.number)) none
+
+  pub stat_told : (inodes : ℕ) (f : OpenFile) (r : Result Stat Errno) → IsVolume inodes v → VolumesTellLinks → FitsVolume table v → open_at table fd ≡ Some f → TellsStat v f.number r
+      → stats_open tree fd (stat_reply r) tree nothing
+  stat_told inodes f (Ok stat) volume tell_links fits some (o, is, same) =
+      let a_file = file_of (v f.number) (figured_file (v f.number) (figures_of f) (fits.files fd f some)) in
+      is_open table v fd (λ d. tells_stat tree (file d.number)) f (replies.Stat stat) tree nothing some
+      (subst (λ (s : Stat). tells_stat tree (file f.number) (replies.Stat s) tree nothing) (sym same) (told v (table_of table) inodes volume tell_links f.number o (file f.number) is (ap (object_of f.number) a_file.3)))
+  stat_told inodes f (Err errno) volume tell_links fits some none =
+      let a_file = file_of (v f.number) (figured_file (v f.number) (figures_of f) (fits.files fd f some)) in
+      absurd (none _ a_file.3)

@@ -1,0 +1,107 @@
+-- What the definitions say of writing through a descriptor.
+use Rattle.std.proofs.Common.{◌≡◌, ◌+◌, ◌||◌, ℕ, ℤ, nat_abs, List, length, if◌then◌else◌, Option, Some, None, Result, Ok, Err, sym, ap, subst, ◌∙◌}
+use Rattle.std.specs.Option.{option_map}
+use Rattle.model.specs.Descriptors.{puts, with_offset, writes, writes_to}
+use Rattle.model.specs.Edits.{contents}
+use Rattle.model.specs.Outcomes.{Outcome}
+use Rattle.model.specs.Reading.{is_negative, is_too_many}
+use Rattle.model.specs.Records.{Change, applied, work_of, write}
+use Rattle.model.specs.Room.{logs, nothing}
+use Rattle.model.specs.Trees.{Tree, Description}
+use Rattle.model.specs.Volumes.{IsMounted, Volume, tree_of}
+use Rattle.model.specs.declared.errno.Errno.{Errno}
+use Rattle.model.specs.declared.reply.Reply.TheVariants.{Refused, Wrote}
+use Rattle.records.specs.Rewriting.{GoesOver}
+use Rattle.descriptors.specs.Files.{description_of, figures_of}
+use Rattle.descriptors.specs.Fits.{FitsVolume}
+use Rattle.descriptors.specs.Tables.{at_place, moved_to, open_at, put_open, table_of}
+use Rattle.descriptors.proofs.MoveLemmas.{mounted_moved}
+use Rattle.descriptors.specs.declared.open_file.OpenFile.{OpenFile}
+use Rattle.descriptors.specs.declared.table.Descriptors.{Descriptors}
+use Rattle.files.specs.Opened.{tree_with}
+use Rattle.files.specs.Reading.{PassesOpen}
+use Rattle.files.specs.Writing.{IsWritten, PutsFile, Writes, write_of, write_place, write_tests}
+use Rattle.files.specs.declared.written.Written.{Written}
+use Rattle.files.specs.declared.written.Writing.{Writing}
+use Rattle.files.proofs.ReadLaws.{figured_size, open_passes}
+
+-- a moved offset in the tree
+moved_in_tree : (table : ℕ → Option Description) (fd place : ℕ) (v : Volume) (f : Description) → table fd ≡ Some f → with_offset fd f place (tree_of v table) ≡ tree_of v (moved_to fd place table)
+moved_in_tree table fd place v f is = ap (λ (o : Option Description). tree_of v (put_open fd (option_map (at_place place) o) table)) (sym is)
+
+-- ---- bytes that go to an open file
+
+module _ (inodes : ℕ) (v : Volume) (table : Descriptors) (fd : ℕ) (f : OpenFile) (bytes : List ℕ) (some : open_at table fd ≡ Some f) (fits : FitsVolume table v) where
+  abbrev t : Tree
+  t = tree_with table v
+
+  size_now : length (contents t f.number) ≡ f.size
+  size_now = figured_size (v f.number) (figures_of f) (fits.files fd f some)
+
+  module _ (offset : ℕ) (w : Written) (is : IsWritten f offset bytes w) (over : GoesOver inodes v (table_of table) (write f.number offset bytes)) where
+    pub behind_is : w.behind ≡ offset + length bytes
+    behind_is = is.behind_is
+
+    pub same_change : write_of w bytes ≡ write f.number offset bytes
+    same_change = ap (λ (k : ℕ). write k w.offset bytes) is.number_is ∙ ap (λ (k : ℕ). write f.number k bytes) is.offset_is
+
+    -- all that a write comes to, said of the file's number and the place
+    pub written_all : (outcome : Outcome) (after : ℕ → Option Description) → IsMounted (applied (write f.number offset bytes) v) after
+        → outcome (Wrote (length bytes)) (tree_of (applied (write f.number offset bytes) v) after) (logs (work_of v (write f.number offset bytes)))
+        → GoesOver inodes v (table_of table) (write_of w bytes) × IsMounted (applied (write_of w bytes) v) after
+        × outcome (Wrote (length bytes)) (tree_of (applied (write_of w bytes) v) after) (logs (work_of v (write_of w bytes)))
+    written_all outcome after mounted done =
+        subst
+        (λ (x : Change).
+        GoesOver inodes v (table_of table) x × IsMounted (applied x v) after × outcome (Wrote (length bytes)) (tree_of (applied x v) after) (logs (work_of v x)))
+        (sym same_change) (over, mounted, done)
+
+  -- ---- at the descriptor's place
+
+  abbrev place : ℕ
+  place = write_place f
+
+  abbrev place_in : Description → ℕ
+  place_in d = if d.appends then length (contents t d.number) else d.offset
+
+  same_place : place ≡ place_in (description_of f)
+  same_place = ap (λ (s : ℕ). if f.appends then s else f.offset) (sym size_now)
+
+  abbrev putting : Description → Outcome
+  putting d = puts t d.number (place_in d) bytes (with_offset fd d (place_in d + length bytes))
+
+  pub write_told : (r : Result (Option Writing) Errno) → PassesOpen (write_tests (is_too_many (length bytes))) table fd (Ok f) → PutsFile inodes v (table_of table) f place bytes r
+      → Writes (writes t fd bytes) inodes v table bytes (λ w. moved_to fd w.behind (table_of table)) r
+  write_told (Err errno) opened put =
+      open_passes table v fd (write_tests (is_too_many (length bytes))) putting f (Refused errno) t nothing opened
+      (subst (λ (p : ℕ). puts t f.number p bytes (with_offset fd (description_of f) (p + length bytes)) (Refused errno) t nothing) same_place (put (with_offset fd (description_of f) (place + length bytes))))
+  write_told (Ok None) opened put =
+      open_passes table v fd (write_tests (is_too_many (length bytes))) putting f (Wrote 0) t nothing opened
+      (subst (λ (p : ℕ). puts t f.number p bytes (with_offset fd (description_of f) (p + length bytes)) (Wrote 0) t nothing) same_place (put (with_offset fd (description_of f) (place + length bytes))))
+  write_told (Ok (Some w)) opened (is, (over, put)) =
+      written_all place w.written is over (writes t fd bytes) (moved_to fd w.written.behind (table_of table)) (mounted_moved (table_of table) fd w.written.behind new w.written.behind_within over.1)
+      (open_passes table v fd (write_tests (is_too_many (length bytes))) putting f (Wrote (length bytes)) (tree_of new (moved_to fd w.written.behind (table_of table))) (logs (work_of v change)) opened
+      (subst (λ (p : ℕ). puts t f.number p bytes (with_offset fd (description_of f) (p + length bytes)) (Wrote (length bytes)) (tree_of new (moved_to fd w.written.behind (table_of table))) (logs (work_of v change))) same_place
+      (subst (λ (s : Tree). puts t f.number place bytes (with_offset fd (description_of f) (place + length bytes)) (Wrote (length bytes)) s (logs (work_of v change))) tree_is (put (with_offset fd (description_of f) (place + length bytes))))))
+    where
+      change : Change
+      change = write f.number place bytes
+
+      new : Volume
+      new = applied (write f.number place bytes) v
+
+      tree_is : with_offset fd (description_of f) (place + length bytes) (tree_of new (table_of table)) ≡ tree_of new (moved_to fd w.written.behind (table_of table))
+      tree_is = ap (λ (p : ℕ). with_offset fd (description_of f) p (tree_of new (table_of table))) (sym (behind_is place w.written is over)) ∙ moved_in_tree (table_of table) fd w.written.behind new (description_of f) (ap (option_map description_of) some)
+
+  -- ---- at an offset
+
+  pub pwrite_told : (offset : ℤ) (r : Result (Option Writing) Errno) → PassesOpen (write_tests (is_negative offset || is_too_many (length bytes))) table fd (Ok f)
+      → PutsFile inodes v (table_of table) f (nat_abs offset) bytes r → Writes (writes_to t fd offset bytes) inodes v table bytes (λ w. table_of table) r
+  pwrite_told offset (Err errno) opened put =
+      open_passes table v fd (write_tests (is_negative offset || is_too_many (length bytes))) (λ d. puts t d.number (nat_abs offset) bytes (λ after. after)) f (Refused errno) t nothing opened (put (λ after. after))
+  pwrite_told offset (Ok None) opened put =
+      open_passes table v fd (write_tests (is_negative offset || is_too_many (length bytes))) (λ d. puts t d.number (nat_abs offset) bytes (λ after. after)) f (Wrote 0) t nothing opened (put (λ after. after))
+  pwrite_told offset (Ok (Some w)) opened (is, (over, put)) =
+      written_all (nat_abs offset) w.written is over (writes_to t fd offset bytes) (table_of table) over.1
+      (open_passes table v fd (write_tests (is_negative offset || is_too_many (length bytes))) (λ d. puts t d.number (nat_abs offset) bytes (λ after. after)) f (Wrote (length bytes))
+      (tree_of (applied (write f.number (nat_abs offset) bytes) v) (table_of table)) (logs (work_of v (write f.number (nat_abs offset) bytes))) opened (put (λ after. after)))

@@ -1,0 +1,25 @@
+use Rattle.std.proofs.Common.{sym, subst, ◌∙◌, ◌<◌, arith}
+use Rattle.model.specs.Volumes.{Volume}
+use Rattle.inofile.specs.Volumes.{IsVolumeOf}
+use Rattle.descriptors.specs.Files.{figures_of}
+use Rattle.descriptors.specs.Tables.{table_of}
+use Rattle.files.proofs.CloseLaws.{drops, named_stays, open_stays}
+use Rattle.files.proofs.closing.drop_unused.Goals.{else-file-eq0-via-then-file-eq0+else-not-is_open, else-file-eq0-via-else-file-eq0}
+use Rattle.files.proofs.closing.drop_unused.Goals as goal
+
+pub returns-then-not-is_open-clause-volume : goal.returns-then-not-is_open-clause-volume
+returns-then-not-is_open-clause-volume c = λ count disk settled v stands is.
+    let closed = sym c.is_open.ensures ∙ c.if-not-is_open.true in
+    subst (λ (w : Volume). IsVolumeOf count disk settled c.drop_nameless.new.inodes w) (drops (table_of c.args.table.now) c.args.file.now.number v closed)
+    (c.drop_nameless.ensures.volume count disk settled v stands)
+
+pub returns-else-file-eq0-clause-volume : goal.returns-else-file-eq0-clause-volume
+returns-else-file-eq0-clause-volume c = λ count disk settled v stands is.
+    subst (λ (w : Volume). IsVolumeOf count disk settled c.args.inodes.now w)
+    (elim c.else-file-eq0.branch [
+      | else-file-eq0-via-then-file-eq0+else-not-is_open w ↦ open_stays (table_of c.args.table.now) c.args.file.now.number v (sym w.is_open.ensures ∙ w.if-not-is_open.false)
+      | else-file-eq0-via-else-file-eq0 w ↦
+          let some : 0 < c.args.file.now.links = omega arith in
+          named_stays (table_of c.args.table.now) c.args.file.now.number v (figures_of c.args.file.now) is some
+    ])
+    stands

@@ -1,0 +1,9 @@
+pub use Rattle.paths.specs.Standing
+pub mod Opened
+pub mod Replies
+pub mod Seeking
+pub mod Closing
+pub mod Reading
+pub mod Writing
+pub mod Cutting
+pub mod Opening

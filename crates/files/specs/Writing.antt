@@ -1,0 +1,53 @@
+-- What writing through a descriptor comes to.
+use Rattle.std.specs.Prelude.{ℕ, ◌≡◌, ◌+◌, Bool, not, List, [], ◌∷◌, length, Option, Some, None, Result, Ok, Err, if◌then◌else◌}
+use Rattle.model.specs.Outcomes.{Outcome}
+use Rattle.model.specs.Paths.{Tests}
+use Rattle.model.specs.Records.{Change, applied, work_of, write}
+use Rattle.model.specs.Room.{logs, nothing}
+use Rattle.model.specs.Trees.{Description}
+use Rattle.model.specs.Volumes.{IsMounted, Volume, tree_of}
+use Rattle.model.specs.declared.errno.Errno.{Errno}
+use Rattle.model.specs.declared.errno.Errno.TheVariants.{EBADF, EINVAL}
+use Rattle.model.specs.declared.reply.Reply.TheVariants.{Refused, Wrote}
+use Rattle.records.specs.Rewriting.{GoesOver, PutsBytes}
+pub use Rattle.descriptors.specs.Tables.{moved_to}
+use Rattle.descriptors.specs.Tables.{table_of}
+use Rattle.descriptors.specs.declared.open_file.OpenFile.{OpenFile}
+use Rattle.descriptors.specs.declared.table.Descriptors.{Descriptors}
+use Rattle.files.specs.Opened.{tree_with}
+use Rattle.files.specs.declared.written.Written.{Written}
+use Rattle.files.specs.declared.written.Writing.{Writing}
+
+-- the tests of a write, of which it is told whether what is asked can't be
+abbrev pub write_tests : Bool → Description → Tests
+write_tests is_wrong f = (not f.writes, EBADF) ∷ (is_wrong, EINVAL) ∷ []
+
+-- where a write goes that names no offset: behind the last byte under append
+abbrev pub write_place : OpenFile → ℕ
+write_place f = if f.appends then f.size else f.offset
+
+-- the record of bytes that go to a file
+abbrev pub write_of : Written → List ℕ → Change
+write_of w bytes = write w.number w.offset bytes
+
+-- bytes go to an open file, at an offset, and this place is behind them
+pub record IsWritten (f : OpenFile) (offset : ℕ) (bytes : List ℕ) (w : Written) : Type 0 where
+  pub number_is : w.number ≡ f.number
+  pub offset_is : w.offset ≡ offset
+  pub behind_is : w.behind ≡ offset + length bytes
+
+-- what bytes that go to an open file come to, whatever else changes by the call
+abbrev pub PutsFile : ℕ → Volume → (ℕ → Option Description) → OpenFile → ℕ → List ℕ → Result (Option Writing) Errno → Type 0
+PutsFile inodes v table f offset bytes (Err errno) = PutsBytes inodes v table f.number offset bytes (Err errno)
+PutsFile inodes v table f offset bytes (Ok None) = PutsBytes inodes v table f.number offset bytes (Ok None)
+PutsFile inodes v table f offset bytes (Ok (Some w)) =
+    IsWritten f offset bytes w.written × PutsBytes inodes v table f.number offset bytes (Ok (Some w.prepared))
+
+-- what a write comes to: a refusal, nothing where there are no bytes, or what its record does, with these descriptors then
+abbrev pub Writes : Outcome → ℕ → Volume → Descriptors → List ℕ → (Written → ℕ → Option Description) → Result (Option Writing) Errno → Type 0
+Writes outcome inodes v table bytes after (Err errno) = outcome (Refused errno) (tree_with table v) nothing
+Writes outcome inodes v table bytes after (Ok None) = outcome (Wrote 0) (tree_with table v) nothing
+Writes outcome inodes v table bytes after (Ok (Some w)) =
+    GoesOver inodes v (table_of table) (write_of w.written bytes)
+    × IsMounted (applied (write_of w.written bytes) v) (after w.written)
+    × outcome (Wrote (length bytes)) (tree_of (applied (write_of w.written bytes) v) (after w.written)) (logs (work_of v (write_of w.written bytes)))

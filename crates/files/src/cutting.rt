@@ -1,0 +1,73 @@
+//! Changing the size of a descriptor's file.
+
+ghost use Rattle.std.specs.Prelude.{◌≤◌, IfErr, IfOk, IsTrue, nat_abs};
+ghost use Rattle.model.specs.Descriptors.{truncates_open};
+ghost use Rattle.model.specs.declared.limits.TheConstants.{GREATEST_FILE};
+ghost use Rattle.blocktree.specs.Errors.{IsFault};
+ghost use Rattle.paths.specs.Standing.{Looks};
+ghost use Rattle.calls.specs.Changing.{AnyDo, AnyReady};
+ghost use Rattle.calls.specs.Refusals.{is_path_refusal};
+ghost use Rattle.records.specs.Opened.{HasNumbers};
+ghost use Rattle.records.specs.Shown.{NeverDamaged};
+ghost use Rattle.calls.specs.Truncating.{ComesToSize};
+ghost use Rattle.descriptors.specs.Tables.{table_of};
+ghost use Rattle.files.specs.Cutting.{cut_tests};
+ghost use Rattle.files.specs.Opened.{OnOpen, tree_with};
+ghost use Rattle.files.specs.Reading.{PassesOpen};
+
+use crate::writing::is_writing;
+use blocktree::ReadError;
+use buffers::Blocks;
+use calls::{Changing, cut_file, refusal_of_size};
+use descriptors::{Descriptors, OpenFile};
+use inofile::InodeFile;
+use model::Errno;
+use std::alloc::Global;
+
+/// Gives a size to the file of a descriptor, as far as nothing of it is seen yet: prepares its record, or tells that the file has
+/// the size, or why the call is refused: EBADF where the descriptor isn't open, EINVAL where it isn't for writing or the size is
+/// negative, EFBIG where the file would be too great. NoMemory; Device where a read failed; Damaged where a block on the way is
+/// outside its format.
+pub fn prepare_ftruncate<B: Blocks>(
+    alloc: Global,
+    inodes: &mut InodeFile,
+    blocks: &mut B,
+    table: &Descriptors,
+    fd: u32,
+    size: i64,
+) -> Result<Result<Option<Changing>, Errno>, ReadError>
+    requires { HasNumbers inodes.old.geometry.inodes table.now }
+    ensures looks { Looks B.Blocks IsFault blocks.old blocks.new inodes.old inodes.new result }
+    ensures own { IfOk result (λ r. IfErr r (λ e. IsTrue (is_path_refusal e))) }
+    ensures ready { AnyReady inodes.new result }
+    ensures does { AnyDo B.Blocks blocks.old inodes.old inodes.new result }
+    ensures answers { OnOpen B.Blocks blocks.old inodes.old table.now (λ v. IfOk result
+        (ComesToSize (truncates_open (tree_with table.now v) fd size)
+        inodes.old.geometry.inodes v (table_of table.now))) }
+    ensures damaged { NeverDamaged B.Blocks blocks.old inodes.old result }
+{
+    let file = match file_to_cut(table, fd, size) {
+        Ok(file) => file,
+        Err(errno) => return Ok(Err(errno)),
+    };
+    let cut = cut_file(alloc, inodes, blocks, file.number, size.unsigned_abs())?;
+    Ok(Ok(cut))
+}
+
+// The file of a descriptor that may get this size; the refusal of the first test that holds.
+fn file_to_cut(table: &Descriptors, fd: u32, size: i64) -> Result<OpenFile, Errno>
+    ensures passes { PassesOpen (cut_tests size) table.now fd result }
+    ensures within { IfOk result (λ _. nat_abs size ≤ GREATEST_FILE) }
+    ensures own { IfErr result (λ e. IsTrue (is_path_refusal e)) }
+{
+    let Some(file) = table.get(fd) else {
+        return Err(Errno::EBADF);
+    };
+    if !is_writing(file.access) {
+        return Err(Errno::EINVAL);
+    }
+    if let Some(errno) = refusal_of_size(size) {
+        return Err(errno);
+    }
+    Ok(file)
+}

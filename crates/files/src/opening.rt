@@ -1,0 +1,105 @@
+//! Opening a file.
+
+ghost use Rattle.std.specs.Prelude.{◌≡◌, ◌<◌, IfErr, IfOk, IfSome, IsTrue, None};
+ghost use Rattle.model.specs.Descriptors.{open_tests, opens};
+ghost use Rattle.model.specs.Paths.{first_refusal};
+ghost use Rattle.model.specs.declared.limits.TheConstants.{OPEN_FILES};
+ghost use Rattle.blocktree.specs.Errors.{IsFault};
+ghost use Rattle.paths.specs.Numbers.{IsNumber};
+ghost use Rattle.paths.specs.Standing.{Looks};
+ghost use Rattle.calls.specs.Changing.{said_by};
+ghost use Rattle.calls.specs.Refusals.{is_path_refusal};
+ghost use Rattle.records.specs.Prepared.{Does, IsReady};
+ghost use Rattle.records.specs.Shown.{NeverDamaged, OnVolumes};
+ghost use Rattle.descriptors.specs.Files.{KeepsBounds};
+ghost use Rattle.descriptors.specs.Tables.{open_at};
+ghost use Rattle.files.specs.Opened.{OnOpen, tree_with};
+ghost use Rattle.files.specs.Opening.{Opens};
+
+use crate::writing::is_writing;
+use blocktree::ReadError;
+use buffers::Blocks;
+use calls::{Changing, open_along};
+use descriptors::{Descriptors, OpenFile};
+use inofile::InodeFile;
+use model::{Errno, Flags, Mode};
+use paths::{Parts, refusal_of_text};
+use std::alloc::Global;
+
+/// A file that is to be opened, and its descriptor.
+#[derive(Drop)]
+pub struct Opening {
+    /// The lowest descriptor that is free.
+    pub fd: u32,
+    /// The file as it is open then.
+    pub file: OpenFile,
+    /// What is changed beside: the file is made, or cut to no bytes.
+    pub changing: Option<Changing>,
+}
+
+/// Opens the file where a path leads, or makes one where the flags say so, as far as nothing of it is seen yet: prepares the
+/// record, if there is one, and tells the descriptor and the open file that the table is to have. Or tells why the call is
+/// refused: EINVAL where the flags want a new file and don't say that one is made, or want a file cut that isn't for writing;
+/// EMFILE where no descriptor is free; EEXIST where a new file is wanted and something stands there; EISDIR of a directory;
+/// ENOENT where nothing stands there and no file is to be made. NoMemory; Device where a read failed; Damaged where a block on the
+/// way is outside its format, or where a number that is free has an object.
+pub fn prepare_open<B: Blocks>(
+    alloc: Global,
+    inodes: &mut InodeFile,
+    blocks: &mut B,
+    table: &Descriptors,
+    path: &[u8],
+    flags: Flags,
+    mode: Mode,
+) -> Result<Result<Opening, Errno>, ReadError>
+    ensures looks { Looks B.Blocks IsFault blocks.old blocks.new inodes.old inodes.new result }
+    ensures own { IfOk result (λ r. IfErr r (λ e. IsTrue (is_path_refusal e))) }
+    ensures ready { IfOk result (λ r. IfOk r (λ o. IfSome o.changing
+        (λ c. IsReady inodes.new c.prepared))) }
+    ensures does { OnVolumes B.Blocks blocks.old inodes.old (λ disk settled v. IfOk result
+        (λ r. IfOk r (λ o. IfSome o.changing
+        (λ c. Does disk settled inodes.new v c.prepared (said_by c.change))))) }
+    ensures free { IfOk result (λ r. IfOk r (λ o. (o.fd < OPEN_FILES)
+        × (open_at table.now o.fd ≡ None) × KeepsBounds o.file
+        × IsNumber inodes.old.geometry.inodes o.file.number)) }
+    ensures answers { OnOpen B.Blocks blocks.old inodes.old table.now (λ v. IfOk result
+        (Opens (opens inodes.old.geometry.inodes (tree_with table.now v) path.now flags mode)
+        inodes.old.geometry.inodes v table.now)) }
+    ensures damaged { NeverDamaged B.Blocks blocks.old inodes.old result }
+{
+    let parts = Parts::of(alloc, path)?;
+    if let Some(errno) = refusal_of_text(path, &parts) {
+        return Ok(Err(errno));
+    }
+    if let Some(errno) = refusal_of_flags(flags) {
+        return Ok(Err(errno));
+    }
+    let Some(fd) = table.lowest_free() else {
+        return Ok(Err(Errno::EMFILE));
+    };
+    let found = open_along(alloc, inodes, blocks, path, parts, flags, mode)?;
+    let opened = match found {
+        Ok(opened) => opened,
+        Err(errno) => return Ok(Err(errno)),
+    };
+    let file = OpenFile::opened(opened.number, flags, opened.size, opened.links);
+    Ok(Ok(Opening {
+        fd,
+        file,
+        changing: opened.changing,
+    }))
+}
+
+// Why flags are refused: they want a new file and don't say that one is made, or want a file cut that isn't for writing.
+fn refusal_of_flags(flags: Flags) -> Option<Errno>
+    ensures first { result ≡ first_refusal (open_tests flags) }
+    ensures own { IfSome result (λ e. IsTrue (is_path_refusal e)) }
+{
+    if flags.exclusive && !flags.creates {
+        return Some(Errno::EINVAL);
+    }
+    if flags.truncates && !is_writing(flags.access) {
+        return Some(Errno::EINVAL);
+    }
+    None
+}

@@ -1,0 +1,188 @@
+//! Writing through a descriptor: prepared, with all memory taken and all blocks read.
+
+ghost use Rattle.std.specs.Prelude.{ℕ, ◌≡◌, ◌+◌, ◌||◌, ◌≤◌, ◌^◌, List, Option, IfErr, IfOk, IfSome, IsSome, IsTrue, length, min};
+ghost use Rattle.layout.specs.declared.inode.Inode.{Inode};
+ghost use Rattle.model.specs.Descriptors.{is_writing, writes, writes_to};
+ghost use Rattle.model.specs.Reading.{is_negative, is_too_many};
+ghost use Rattle.model.specs.Trees.{Description};
+ghost use Rattle.model.specs.Volumes.{IsMounted, IsVolume, Volume};
+ghost use Rattle.model.specs.declared.limits.TheConstants.{GREATEST_FILE, TRANSFER_BYTES};
+ghost use Rattle.blocktree.specs.Errors.{IsFault};
+ghost use Rattle.paths.specs.Standing.{Looks, Stands};
+ghost use Rattle.records.specs.Prepared.{Does, IsReady};
+ghost use Rattle.calls.specs.Refusals.{is_path_refusal};
+ghost use Rattle.records.specs.Opened.{HasNumbers};
+ghost use Rattle.records.specs.Shown.{NeverDamaged, OnVolumes};
+ghost use Rattle.descriptors.specs.Files.{KeepsBounds};
+ghost use Rattle.descriptors.specs.Fits.{IsFileOf};
+ghost use Rattle.descriptors.specs.Tables.{table_of};
+ghost use Rattle.files.specs.Opened.{OnOpen, tree_with};
+ghost use Rattle.files.specs.Reading.{PassesOpen};
+ghost use Rattle.files.specs.Writing.{PutsFile, Writes, moved_to, write_of, write_place, write_tests};
+
+use crate::{Writing, Written};
+use blocktree::ReadError;
+use buffers::Blocks;
+use descriptors::{Descriptors, OpenFile};
+use inofile::InodeFile;
+use model::{Access, Errno, TRANSFER_BYTES};
+use records::write_bytes;
+use std::alloc::Global;
+
+/// Prepares that bytes are written at a descriptor's offset, or behind the last byte under append; none where there are no bytes; or
+/// tells why the call is refused: EBADF where the descriptor isn't open, or not for writing, EINVAL where one call doesn't write so
+/// many, EFBIG where the file would be too great. NoMemory; Device where a read failed; Damaged where a block on the way is outside
+/// its format.
+pub fn prepare_write<B: Blocks>(
+    alloc: Global,
+    inodes: &mut InodeFile,
+    blocks: &mut B,
+    table: &Descriptors,
+    fd: u32,
+    bytes: &[u8],
+) -> Result<Result<Option<Writing>, Errno>, ReadError>
+    ensures looks { Looks B.Blocks IsFault blocks.old blocks.new inodes.old inodes.new result }
+    ensures own { IfOk result (λ r. IfErr r (λ e. IsTrue (is_path_refusal e))) }
+    ensures some { IfOk result (λ r. IfOk r (λ o. IfSome o (λ _. 1 ≤ length bytes.now))) }
+    ensures few { IfOk result (λ r. IfOk r (λ o. IfSome o
+        (λ _. length bytes.now ≤ TRANSFER_BYTES))) }
+    ensures ready { IfOk result (λ r. IfOk r (λ o. IfSome o (λ w.
+        IsReady inodes.new w.prepared))) }
+    ensures does { OnVolumes B.Blocks blocks.old inodes.old (λ disk settled v. IfOk result (λ r.
+        IfOk r (λ o. IfSome o (λ w.
+        Does disk settled inodes.new v w.prepared (write_of w.written bytes.now))))) }
+    ensures answers { OnOpen B.Blocks blocks.old inodes.old table.now (λ v. IfOk result
+        (Writes (writes (tree_with table.now v) fd bytes.now) inodes.old.geometry.inodes v
+        table.now bytes.now (λ w. moved_to fd w.behind (table_of table.now)))) }
+    ensures opened { IfOk result (λ r. IfOk r (λ o. IfSome o
+        (λ _. IsSome (table_of table.now fd)))) }
+    ensures damaged { NeverDamaged B.Blocks blocks.old inodes.old result }
+{
+    let file = match file_to_write(table, fd, bytes.len() > TRANSFER_BYTES) {
+        Ok(file) => file,
+        Err(errno) => return Ok(Err(errno)),
+    };
+    write_file(alloc, inodes, blocks, &file, place_of(&file), bytes)
+}
+
+/// Prepares that bytes are written at an offset, whatever the descriptor's own; none where there are no bytes; or tells why the call
+/// is refused: EBADF where the descriptor isn't open, or not for writing, EINVAL where the offset is negative or one call doesn't
+/// write so many, EFBIG where the file would be too great. NoMemory; Device where a read failed; Damaged where a block on the way is
+/// outside its format.
+pub fn prepare_pwrite<B: Blocks>(
+    alloc: Global,
+    inodes: &mut InodeFile,
+    blocks: &mut B,
+    table: &Descriptors,
+    fd: u32,
+    offset: i64,
+    bytes: &[u8],
+) -> Result<Result<Option<Writing>, Errno>, ReadError>
+    ensures looks { Looks B.Blocks IsFault blocks.old blocks.new inodes.old inodes.new result }
+    ensures own { IfOk result (λ r. IfErr r (λ e. IsTrue (is_path_refusal e))) }
+    ensures some { IfOk result (λ r. IfOk r (λ o. IfSome o (λ _. 1 ≤ length bytes.now))) }
+    ensures few { IfOk result (λ r. IfOk r (λ o. IfSome o
+        (λ _. length bytes.now ≤ TRANSFER_BYTES))) }
+    ensures ready { IfOk result (λ r. IfOk r (λ o. IfSome o (λ w.
+        IsReady inodes.new w.prepared))) }
+    ensures does { OnVolumes B.Blocks blocks.old inodes.old (λ disk settled v. IfOk result (λ r.
+        IfOk r (λ o. IfSome o (λ w.
+        Does disk settled inodes.new v w.prepared (write_of w.written bytes.now))))) }
+    ensures answers { OnOpen B.Blocks blocks.old inodes.old table.now (λ v. IfOk result
+        (Writes (writes_to (tree_with table.now v) fd offset bytes.now)
+        inodes.old.geometry.inodes v table.now bytes.now (λ _. table_of table.now))) }
+    ensures damaged { NeverDamaged B.Blocks blocks.old inodes.old result }
+{
+    let is_wrong = is_no_range(offset, bytes);
+    let file = match file_to_write(table, fd, is_wrong) {
+        Ok(file) => file,
+        Err(errno) => return Ok(Err(errno)),
+    };
+    write_file(alloc, inodes, blocks, &file, offset.unsigned_abs(), bytes)
+}
+
+// Whether nothing is written at such an offset, or these are too many bytes.
+fn is_no_range(offset: i64, bytes: &[u8]) -> bool
+    ensures { result ≡ (is_negative offset || is_too_many (length bytes.now)) }
+{
+    offset < 0 || bytes.len() > TRANSFER_BYTES
+}
+
+// Where a write goes that names no offset.
+fn place_of(file: &OpenFile) -> u64
+    ensures { result ≡ write_place file.now }
+{
+    if file.appends { file.size } else { file.offset }
+}
+
+// The file that a descriptor has open for writing; the refusal of the first test that holds.
+fn file_to_write(table: &Descriptors, fd: u32, is_wrong: bool) -> Result<OpenFile, Errno>
+    ensures passes { PassesOpen (write_tests is_wrong) table.now fd result }
+    ensures within { IfOk result KeepsBounds }
+    ensures own { IfErr result (λ e. IsTrue (is_path_refusal e)) }
+{
+    let Some(file) = table.get(fd) else {
+        return Err(Errno::EBADF);
+    };
+    if !is_writing(file.access) {
+        return Err(Errno::EBADF);
+    }
+    if is_wrong {
+        return Err(Errno::EINVAL);
+    }
+    Ok(file)
+}
+
+/// Whether a file opened so may be written.
+pub(crate) fn is_writing(access: Access) -> bool
+    ensures { result ≡ is_writing access }
+{
+    match access {
+        Access::Reading => false,
+        _ => true,
+    }
+}
+
+// Prepares that bytes go to an open file, at an offset.
+fn write_file<B: Blocks>(
+    alloc: Global,
+    inodes: &mut InodeFile,
+    blocks: &mut B,
+    file: &OpenFile,
+    offset: u64,
+    bytes: &[u8],
+) -> Result<Result<Option<Writing>, Errno>, ReadError>
+    requires few { length bytes.now ≤ TRANSFER_BYTES }
+    requires bounds { KeepsBounds file.now }
+    requires within { offset ≤ 2 ^ 63 }
+    ensures looks { Looks B.Blocks IsFault blocks.old blocks.new inodes.old inodes.new result }
+    ensures own { IfOk result (λ r. IfErr r (λ e. IsTrue (is_path_refusal e))) }
+    ensures some { IfOk result (λ r. IfOk r (λ o. IfSome o (λ _. 1 ≤ length bytes.now))) }
+    ensures few { IfOk result (λ r. IfOk r (λ o. IfSome o
+        (λ _. length bytes.now ≤ TRANSFER_BYTES))) }
+    ensures ready { IfOk result (λ r. IfOk r (λ o. IfSome o (λ w.
+        IsReady inodes.new w.prepared))) }
+    ensures does { OnVolumes B.Blocks blocks.old inodes.old (λ disk settled v. IfOk result (λ r.
+        IfOk r (λ o. IfSome o (λ w.
+        Does disk settled inodes.new v w.prepared (write_of w.written bytes.now))))) }
+    ensures puts { (disk : ℕ → List ℕ) (settled : ℕ → Inode) (v : Volume)
+        (table : ℕ → Option Description) → Stands B.Blocks disk settled v blocks.old inodes.old
+        → IsVolume inodes.old.geometry.inodes v → IsMounted v table → IsFileOf v file.now
+        → IfOk result (PutsFile inodes.old.geometry.inodes v table file.now offset bytes.now) }
+    ensures damaged { NeverDamaged B.Blocks blocks.old inodes.old result }
+{
+    let planned = write_bytes(alloc, inodes, blocks, file.number, offset, bytes)?;
+    match planned {
+        Ok(Some(prepared)) => {
+            let end = offset + bytes.len() as u64;
+            let written = Written {
+                number: file.number,
+                offset,
+                behind: end,
+            };
+            Ok(Ok(Some(Writing { written, prepared })))
+        }
+        Ok(None) => Ok(Ok(None)),
+        Err(errno) => Ok(Err(errno)),
+    }
+}
