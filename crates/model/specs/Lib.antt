@@ -17,5 +17,4 @@ pub mod Volumes
 pub mod Records
 pub mod Changes
 pub mod Finding
-pub mod Served
 pub mod Laws

@@ -13,11 +13,10 @@ use Rattle.model.specs.declared.errno.Errno.TheVariants.{ENOSPC, ENOMEM, EIO}
 use Rattle.model.specs.declared.reply.Reply.{Reply}
 use Rattle.model.specs.declared.reply.Reply.TheVariants.{Done, Space, Refused}
 use Rattle.model.specs.declared.command.Command.{Command}
-use Rattle.model.specs.declared.command.Command.TheVariants.{Path, Sync, Df}
-use Rattle.model.specs.declared.command.PathCall.{PathCall}
+use Rattle.model.specs.declared.command.Command.TheVariants.{Sync, Df}
 use Rattle.model.specs.States.{State, going, failed, as_failed}
 use Rattle.model.specs.Trees.{Description}
-use Rattle.model.specs.Circumstances.{Circumstances, IsSure, IsExcused}
+use Rattle.model.specs.Circumstances.{Circumstances, IsSure, IsDone, IsExcused, Allowed, clear}
 use Rattle.model.specs.Room.{Room, nothing}
 use Rattle.model.specs.Records as records
 use Rattle.model.specs.Records.{pledged_for}
@@ -30,7 +29,7 @@ use Rattle.layout.specs.Record.{Change, change_bytes}
 use Rattle.images.specs.Roots.{whole}
 use Rattle.oplog.specs.LogEnd.{LogEnd, all_of, next_of}
 use Rattle.oplog.specs.declared.log.End.TheVariants.{Unopened}
-use Rattle.system.specs.Serving.{HasEmptyLog, ServesState, WouldChange, IsCalled, IsBrokenOff}
+use Rattle.system.specs.Serving.{HasEmptyLog, ServesState, IsCall, WouldChange, IsCalled, IsBrokenOff}
 use Rattle.system.specs.Room.{free_under}
 use Rattle.system.specs.Systems as systems
 use Rattle.system.specs.declared.error.CallError.{CallError}
@@ -43,6 +42,7 @@ use Rattle.mount.specs.Refusals.{errno_of_call, errno_of_point, fails_call, fail
 use Rattle.mount.specs.Systems.{OpensToSome, mounted, Serves, IsYoung}
 use Rattle.mount.specs.declared.fs.Fs.{Fs}
 use Rattle.mount.proofs.ApplyLemmas.{is_going, not_both, allowed_by, allowed_surely, no_room, done, stayed, broken, applied_after}
+use Rattle.mount.proofs.CallLemmas.{not_settling}
 use Rattle.mount.proofs.StationLemmas.{told}
 
 -- what came in the way
@@ -68,13 +68,21 @@ no_changes : (changes : List Change) → [] ≡ map change_bytes changes → cha
 no_changes [] is = refl
 no_changes (change ∷ changes) is = cc
 
--- a command that would change something needs place
-pub change_needs : (s : State) (c : PathCall) → WouldChange s c → NeedsPlace s (Path c)
-change_needs s c would = record { not_sure = λ no. no; stores = λ room. (would.reply, would.after, would.need, would.step, inl would.needs) }
+-- a call that may be refused and would change something needs place
+pub change_needs : (s : State) (c : Command) → ¬ IsSure s c → WouldChange s c → NeedsPlace s c
+change_needs s c not_sure would =
+    record { not_sure = not_sure; stores = λ room. (would.reply, would.after, would.need, would.step room, inl would.needs) }
 
 -- and so does `sync`
 pub sync_needs : (s : State) → NeedsPlace s Sync
 sync_needs s = record { not_sure = λ no. no; stores = λ room. (Done, s, nothing, (refl, refl, refl), inr (tt, refl)) }
+
+-- a call that was done, be it sure or not
+allowed_call : (s : State) (c : Command) (room : Room) (reply : Reply) (t : State) → s.mark ≡ going → IsCall c → IsSure s c ⊎ ¬ IsSure s c
+    → IsDone (clear room) s c reply t → Allowed (clear room) s c reply t
+allowed_call s c room reply t is is_call (inl sure) done = allowed_surely s c (clear room) reply t is sure refl done
+allowed_call s c room reply t is is_call (inr not_sure) done =
+    allowed_by s c (clear room) reply t is not_sure (inl (done, λ settling. absurd (not_settling c is_call settling)))
 
 -- a system that goes on shows a state that does
 pub still_going : {S : Type 0} {G : Ghosts S} (f : Fs S G) (s : State) → Serves (mounted f s) → IsFalse f.has_failed → s.mark ≡ going
@@ -149,16 +157,16 @@ module _ {S : Type 0} {G : Ghosts S} (old new : Fs S G) (s : State) where
       stays_read runs_on served goes opens = stays_by runs_on served (leaves_unchanged before behind (OpensTo before s) opens goes)
 
       -- a call that was answered
-      pub called : (c : PathCall) (reply : Reply) → IsFalse new.has_failed → behind.failed_reads ≡ before.failed_reads → behind.failed_writes ≡ before.failed_writes
-          → IsCalled old.system new.system s c reply → ((t : State) → ServesState new.system t → EachCut behind (OpensTo behind t)) → IsAppliedAt old s new (Path c) reply
-      called c reply runs_on reads writes is opens =
+      pub called : (c : Command) (reply : Reply) → IsCall c → IsSure s c ⊎ ¬ IsSure s c → IsFalse new.has_failed → behind.failed_reads ≡ before.failed_reads → behind.failed_writes ≡ before.failed_writes
+          → IsCalled old.system new.system s c reply → ((t : State) → ServesState new.system t → EachCut behind (OpensTo behind t)) → IsAppliedAt old s new c reply
+      called c reply is_call sure runs_on reads writes is opens =
           let t = is.after in
-          let still : t.mark ≡ going = ap (λ (u : State). u.mark) is.step.1 ∙ is_still in
-          let c_now = came false false false false (room_at new.system t is.serves false) in (
+          let still : t.mark ≡ going = ap (λ (u : State). u.mark) is.serves.state in
+          let room = room_at new.system t is.serves false in (
             t,
-            done old new s t (Path c) is_still still same (going_serves t (same.honest.0 serves.honest) still runs_on is.serves) serves.honest reply c_now
+            done old new s t c is_still still same (going_serves t (same.honest.0 serves.honest) still runs_on is.serves) serves.honest reply (clear room)
                 (record { reads = reads; writes = writes; full = λ e. absurd (false≢true e); room = λ _. has_room new.system t is.serves false (λ e. absurd (false≢true e)) })
-                (allowed_by s (Path c) c_now reply t is_still (λ no. no) (inl ((is.need, is.step), λ settling. absurd settling)))
+                (allowed_call s c room reply t is_still is_call sure (is.need, is.step room))
                 is.leaves (opens t is.serves),
           )
 
@@ -189,30 +197,30 @@ module _ {S : Type 0} {G : Ghosts S} (old new : Fs S G) (s : State) where
           )
 
       -- a call that wasn't answered, and was written in part
-      pub broken_off : (c : PathCall) → IsTrue new.has_failed → MayGrow before.failed_reads behind.failed_reads → HasGrown before.failed_writes behind.failed_writes
-          → IsBrokenOff old.system new.system s c → IsAppliedAt old s new (Path c) (Refused EIO)
-      broken_off c stopped reads writes is =
-          cut_short (Path c) (λ no. no) stopped reads writes
-          (weaker before behind (λ i. OpensTo before s i ⊎ OpensTo before is.after i) (OpensToSome before (IsWithin s (Path c))) is.leaves (λ i one. elim one [
+      pub broken_off : (c : Command) → ¬ IsSure s c → IsTrue new.has_failed → MayGrow before.failed_reads behind.failed_reads → HasGrown before.failed_writes behind.failed_writes
+          → IsBrokenOff old.system new.system s c → IsAppliedAt old s new c (Refused EIO)
+      broken_off c not_sure stopped reads writes is =
+          cut_short c not_sure stopped reads writes
+          (weaker before behind (λ i. OpensTo before s i ⊎ OpensTo before is.after i) (OpensToSome before (IsWithin s c)) is.leaves (λ i one. elim one [
             | inl first ↦ (s, first, inl refl)
-            | inr last ↦ (is.after, last, inr (came false false false false no_room, is.reply, (is.need, is.step)))
+            | inr last ↦ (is.after, last, inr (clear no_room, is.reply, (is.need, is.step no_room)))
           ]))
 
     -- a call that wasn't answered
-    pub not_answered : (c : PathCall) (e : CallError) → e ≢ call.LogFull → new.has_failed ≡ fails_call e → Uses before behind → (e ≢ call.NotWritten → behind.failed_writes ≡ before.failed_writes)
+    pub not_answered : (c : Command) (e : CallError) → ¬ IsSure s c → e ≢ call.LogFull → new.has_failed ≡ fails_call e → Uses before behind → (e ≢ call.NotWritten → behind.failed_writes ≡ before.failed_writes)
         → (e ≡ call.NotRead → HasGrown before.failed_reads behind.failed_reads) → (e ≡ call.NotWritten → HasGrown before.failed_writes behind.failed_writes)
         → (e ≡ call.Damaged → ⊥) → (e ≢ call.NotWritten → Goes Unchanged before behind) → (e ≢ call.NotWritten → ServesState new.system s)
-        → (e ≡ call.NotWritten → IsBrokenOff old.system new.system s c) → EachCut before (OpensTo before s) → IsAppliedAt old s new (Path c) (Refused (errno_of_call e))
-    not_answered c call.NoMemory room flag uses writes reads written damaged goes served off opens =
+        → (e ≡ call.NotWritten → IsBrokenOff old.system new.system s c) → EachCut before (OpensTo before s) → IsAppliedAt old s new c (Refused (errno_of_call e))
+    not_answered c call.NoMemory not_sure room flag uses writes reads written damaged goes served off opens =
         let other : call.NoMemory ≢ call.NotWritten = λ e. cc in
         let count = told before.failed_reads behind.failed_reads uses.reads in
-        refused uses.same (Path c) (λ no. no) (stays_read uses.same flag (served other) (goes other) opens) count.0 true false ENOMEM count.1 (writes other) (λ e. absurd (false≢true e)) (λ _. refl)
-    not_answered c call.NotRead room flag uses writes reads written damaged goes served off opens =
+        refused uses.same c not_sure (stays_read uses.same flag (served other) (goes other) opens) count.0 true false ENOMEM count.1 (writes other) (λ e. absurd (false≢true e)) (λ _. refl)
+    not_answered c call.NotRead not_sure room flag uses writes reads written damaged goes served off opens =
         let other : call.NotRead ≢ call.NotWritten = λ e. cc in
-        refused uses.same (Path c) (λ no. no) (stays_read uses.same flag (served other) (goes other) opens) true false false EIO (reads refl) (writes other) (λ e. absurd (false≢true e)) (λ _. refl)
-    not_answered c call.Damaged room flag uses writes reads written damaged goes served off opens = absurd (damaged refl)
-    not_answered c call.LogFull room flag uses writes reads written damaged goes served off opens = absurd (room refl)
-    not_answered c call.NotWritten room flag uses writes reads written damaged goes served off opens = broken_off uses.same c flag uses.reads (written refl) (off refl)
+        refused uses.same c not_sure (stays_read uses.same flag (served other) (goes other) opens) true false false EIO (reads refl) (writes other) (λ e. absurd (false≢true e)) (λ _. refl)
+    not_answered c call.Damaged not_sure room flag uses writes reads written damaged goes served off opens = absurd (damaged refl)
+    not_answered c call.LogFull not_sure room flag uses writes reads written damaged goes served off opens = absurd (room refl)
+    not_answered c call.NotWritten not_sure room flag uses writes reads written damaged goes served off opens = broken_off uses.same c not_sure flag uses.reads (written refl) (off refl)
 
     -- a consistency point that wasn't made
     pub no_point : (command : Command) (e : PointError) → NeedsPlace s command → IsYoung old → new.has_failed ≡ fails_point e → Uses before behind → (IsRefused e → behind.failed_writes ≡ before.failed_writes)
@@ -239,7 +247,7 @@ module _ {S : Type 0} {G : Ghosts S} (old new : Fs S G) (s : State) where
     synced stays reads writes covered =
         let no_record : [] ≡ map change_bytes covered.serves.replayed.changes = sym (ap all_of covered.no_record) ∙ covered.serves.replayed.spelled in
         let all : records.IsCovered covered.serves.first covered.serves.running covered.serves.replayed.changes = (covered.held, no_changes covered.serves.replayed.changes no_record) in
-        let c = came false false false false (room_at new.system s covered.serves true) in (
+        let c = clear (room_at new.system s covered.serves true) in (
           s,
           stayed old new s Sync serves is_still stays Done c
               (record { reads = reads; writes = writes; full = λ e. absurd (false≢true e); room = λ _. has_room new.system s covered.serves true (λ _. all) })
@@ -252,7 +260,7 @@ pub told_room : {S : Type 0} {G : Ghosts S} (f : Fs S G) (s : State) → Serves 
 told_room f s serves runs room has opens =
     let m = systems.meaning_of f.system in
     let is = still_going f s serves runs in
-    let c = came false false false false room in
+    let c = clear room in
     let reply = Space room.blocks room.free room.pledged in
     let stays = stays_by f f s serves runs (same_none m) runs (serves.kept is) (started m (OpensTo m s) opens) in (
       s,

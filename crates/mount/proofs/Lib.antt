@@ -1,5 +1,6 @@
 mod StationLemmas
 mod SpanLemmas
 mod ApplyLemmas
+mod CallLemmas
 mod AttemptLemmas
 mod RunLemmas

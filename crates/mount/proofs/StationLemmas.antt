@@ -4,7 +4,7 @@ use Rattle.std.specs.Prelude.{All}
 use Rattle.station.specs.Images.{Images}
 use Rattle.station.specs.Moments.{Meaning, MayLeave, EachCut, IsSameStation, LeftOnly, MayGrow}
 use Rattle.model.specs.States.{State, going}
-use Rattle.calls.specs.Served.{IsServed}
+use Rattle.records.specs.Served.{IsServed}
 use Rattle.system.specs.Images.{OpensTo}
 use Rattle.images.specs.States.{Opens}
 use Rattle.mount.specs.Applying.{GoesOn, LeftWithin, LeftNow, Tells}

@@ -1,11 +1,10 @@
 -- The commands that this version serves.
-use Rattle.model.specs.Served as model
 use Rattle.model.specs.declared.command.Command.{Command}
 use Rattle.model.specs.declared.command.Command.TheVariants as command
+use Rattle.system.specs.Serving.{IsCall}
 
--- the command is one that this version serves: a call by a path that the layer below serves, `sync` or `df`
+-- the command is one that this version serves: a call on the tree or on a descriptor, `sync` or `df`
 abbrev pub IsServed : Command → Type 0
 IsServed command.Sync = Unit {0}
 IsServed command.Df = Unit {0}
-IsServed (command.Path call) = model.IsServed (command.Path call)
-IsServed c = ⊥
+IsServed c = IsCall c

@@ -4,7 +4,7 @@ ghost use Rattle.std.specs.Prelude.{◌≡◌, IsFalse};
 
 use crate::RunError;
 use crate::refusals::{errno_of_call, errno_of_point, fails_call, fails_point};
-use model::{Command, Errno, PathCall, Reply};
+use model::{Command, Errno, Reply};
 use station::Station;
 use std::alloc::Global;
 use system::{CallError, Space, System, served_states_open};
@@ -29,17 +29,17 @@ impl<S: Station> Fs<S> {
     ghost use Rattle.model.specs.declared.errno.Errno.{Errno};
     ghost use Rattle.model.specs.States.{State};
     ghost use Rattle.system.specs.Opening.{HasFailed};
-    ghost use Rattle.system.specs.Serving.{HasEmptyLog, TellsNoFault, WouldChange};
+    ghost use Rattle.system.specs.Serving.{HasEmptyLog, IsCall, TellsNoFault};
     ghost use Rattle.system.specs.Systems.{IsCovered, meaning_of};
     ghost use Rattle.mount.specs.Applying.{NoWriteFailed, NeedsPlace, Stays, IsAppliedAt, IsAppliedAlways, RunsAt};
     ghost use Rattle.mount.specs.Refusals as refusals;
     ghost use Rattle.mount.specs.Served.{IsServed};
     ghost use Rattle.mount.specs.Systems.{mounted, Serves, IsYoung, LeavesState};
 
-    /// Applies a command and answers it. A changing command is logged before it is answered; a refused one is not
-    /// logged. EIO comes where a device call failed; after a failed write every command answers FAILED, with no device
-    /// call. ENOMEM comes where there was no memory, ENOSPC where a consistency point found too few free blocks, and then
-    /// nothing changed.
+    /// Applies a command and answers it. A command that changes the image is logged before it is answered; a refused one
+    /// is not logged. EIO comes where a device call failed; after a failed write every command answers FAILED, with no
+    /// device call. ENOMEM comes where there was no memory, ENOSPC where a consistency point found too few free blocks, and
+    /// then nothing changed; none of these comes to `lseek`, `fsync`, `df`, or `close` but of a file that has no name.
     pub fn apply(&mut self, command: &Command) -> Reply
         requires { IsServed command.now }
         ensures uses { Uses (meaning_of self.old.system) (meaning_of self.new.system) }
@@ -57,10 +57,9 @@ impl<S: Station> Fs<S> {
             return Reply::Refused(Errno::FAILED);
         }
         match command {
-            Command::Path(call) => self.call(call),
             Command::Sync => self.sync(),
             Command::Df => self.space(),
-            _ => unreachable!(),
+            _ => self.call(command),
         }
     }
 
@@ -83,17 +82,18 @@ impl<S: Station> Fs<S> {
         }
     }
 
-    /// The same of a call by a path. Where its record doesn't go into the log, a consistency point runs first.
-    fn call(&mut self, call: &PathCall) -> Reply
+    /// The same of a call on the tree or on a descriptor. Where its record doesn't go into the log, a consistency point
+    /// runs first.
+    fn call(&mut self, call: &Command) -> Reply
         requires going { IsFalse self.old.has_failed }
-        requires served { IsServed (Command.Path call.now) }
+        requires is_call { IsCall call.now }
         ensures uses { Uses (meaning_of self.old.system) (meaning_of self.new.system) }
         ensures eio { result ≡ Reply.Refused Errno.EIO
             → HasFailed (meaning_of self.old.system) (meaning_of self.new.system) }
         ensures refused { (errno : Errno) → result ≡ Reply.Refused errno → errno ≢ Errno.EIO
             → NoWriteFailed (meaning_of self.old.system) (meaning_of self.new.system) }
         ensures ages { self.old.system.log.epoch ≤ self.new.system.log.epoch }
-        ensures applied { IsAppliedAlways self.old self.new (Command.Path call.now) result }
+        ensures applied { IsAppliedAlways self.old self.new call.now result }
     {
         match self.attempt(call) {
             Ok(reply) => reply,
@@ -104,10 +104,10 @@ impl<S: Station> Fs<S> {
         }
     }
 
-    /// Runs a consistency point, and then a call by a path that would change something.
-    fn call_settled(&mut self, call: &PathCall) -> Reply
+    /// Runs a consistency point, and then a call that would change something.
+    fn call_settled(&mut self, call: &Command) -> Reply
         requires going { IsFalse self.old.has_failed }
-        requires served { IsServed (Command.Path call.now) }
+        requires is_call { IsCall call.now }
         ensures uses { Uses (meaning_of self.old.system) (meaning_of self.new.system) }
         ensures eio { result ≡ Reply.Refused Errno.EIO
             → HasFailed (meaning_of self.old.system) (meaning_of self.new.system) }
@@ -115,8 +115,8 @@ impl<S: Station> Fs<S> {
             → NoWriteFailed (meaning_of self.old.system) (meaning_of self.new.system) }
         ensures ages { self.old.system.log.epoch ≤ self.new.system.log.epoch }
         ensures applied { (s : State) → Serves (mounted self.old s) → IsYoung self.old
-            → WouldChange s call.now
-            → IsAppliedAt self.old s self.new (Command.Path call.now) result }
+            → NeedsPlace s call.now
+            → IsAppliedAt self.old s self.new call.now result }
     {
         if let Err(errno) = self.settle() {
             return Reply::Refused(errno);
@@ -127,10 +127,10 @@ impl<S: Station> Fs<S> {
         }
     }
 
-    /// A call by a path, with no consistency point. Nothing changed where its record doesn't go into the log.
-    fn attempt(&mut self, call: &PathCall) -> Result<Reply, CallError>
+    /// A call, with no consistency point. Nothing changed where its record doesn't go into the log.
+    fn attempt(&mut self, call: &Command) -> Result<Reply, CallError>
         requires going { IsFalse self.old.has_failed }
-        requires served { IsServed (Command.Path call.now) }
+        requires is_call { IsCall call.now }
         ensures uses { Uses (meaning_of self.old.system) (meaning_of self.new.system) }
         ensures no_fault { IfOk result TellsNoFault }
         ensures eio { IfErr result (λ e. refusals.errno_of_call e ≡ Errno.EIO
@@ -145,11 +145,11 @@ impl<S: Station> Fs<S> {
         ensures epoch { self.new.system.log.epoch ≡ self.old.system.log.epoch }
         ensures going { IsErrOf result CallError.LogFull → IsFalse self.new.has_failed }
         ensures applied { (s : State) → Serves (mounted self.old s) → MatchResult result
-            (IsAppliedAt self.old s self.new (Command.Path call.now))
-            (λ e. e ≢ CallError.LogFull → IsAppliedAt self.old s self.new (Command.Path call.now)
+            (IsAppliedAt self.old s self.new call.now)
+            (λ e. e ≢ CallError.LogFull → IsAppliedAt self.old s self.new call.now
             (Reply.Refused (refusals.errno_of_call e))) }
         ensures full { (s : State) → Serves (mounted self.old s)
-            → IsErrOf result CallError.LogFull → Stays self.old self.new s × WouldChange s call.now }
+            → IsErrOf result CallError.LogFull → Stays self.old self.new s × NeedsPlace s call.now }
         ensures fits { (s : State) → Serves (mounted self.old s) → HasEmptyLog self.old.system
             → IsErrOf result CallError.LogFull → ⊥ }
     {

@@ -8,12 +8,13 @@ use Rattle.layout.specs.Places.{blocks_of}
 use Rattle.layout.specs.Record.{Change, IsChange}
 use Rattle.layout.specs.Limits.{Sizes}
 use Rattle.layout.specs.declared.root.Root.{Root}
-use Rattle.model.specs.Records.{Applies, applied}
-use Rattle.model.specs.Room.{Work, nothing, logs}
+use Rattle.model.specs.Records.{Applies, applied, work_of}
+use Rattle.model.specs.Room.{Work, nothing, logs, adds_name}
 use Rattle.model.specs.States.{State}
 use Rattle.model.specs.Steps.{calls}
 use Rattle.model.specs.Trees.{Description, Tree}
 use Rattle.model.specs.Volumes.{Volume, IsMounted, swept, tree_of}
+use Rattle.model.specs.declared.command.Command.TheVariants as command
 use Rattle.model.specs.declared.command.PathCall.{PathCall}
 use Rattle.model.specs.declared.errno.Errno.{Errno}
 use Rattle.model.specs.declared.reply.Reply.{Reply}
@@ -21,10 +22,11 @@ use Rattle.model.specs.declared.reply.Reply.TheVariants.{Done, Refused}
 use Rattle.blocktree.specs.declared.error.ReadError.{ReadError}
 use Rattle.inofile.specs.declared.inode_file.InodeFile.{InodeFile}
 use Rattle.calls.specs.Changing.{Comes, ComesOrStays, ComesSwept, said_by}
-use Rattle.calls.specs.Prepared.{Does}
-use Rattle.calls.specs.Served.{IsServed}
+use Rattle.records.specs.Prepared.{Does}
+use Rattle.records.specs.Served.{IsServed}
+use Rattle.calls.specs.Truncating.{ComesToSize}
 use Rattle.calls.specs.declared.changed.Changing.{Changing}
-use Rattle.calls.proofs.SweepLaws.{comes_swept}
+use Rattle.calls.proofs.SweptLaws.{comes_swept}
 use Rattle.images.specs.Roots.{whole}
 use Rattle.loading.specs.Images.{inodes_of}
 use Rattle.system.specs.Changing.{CallComes, RecordComes}
@@ -52,6 +54,14 @@ pub asked_or_stays : (n : ℕ) (call asked : PathCall) (work : Work) (v : Volume
 asked_or_stays n call asked work v table (Ok r) is here = (work, subst (λ (k : PathCall). ComesOrStays (calls n (tree_of v table) k) work n v table r) (sym is) here)
 asked_or_stays n call asked work v table (Err e) is here = tt
 
+-- the same, where the record tells of the work
+pub asked_to_size : (n : ℕ) (call asked : PathCall) (v : Volume) (table : ℕ → Option Description) (r : Result (Result (Option Changing) Errno) ReadError) → call ≡ asked
+    → IfOk r (ComesToSize (calls n (tree_of v table) asked) n v table) → IfOk r (CallComes n call v table)
+asked_to_size n call asked v table (Ok (Ok (Some c))) is here = asked_or_stays n call asked (work_of v (said_by c.change)) v table (Ok (Ok (Some c))) is here
+asked_to_size n call asked v table (Ok (Ok None)) is here = asked_or_stays n call asked adds_name v table (Ok (Ok None)) is here
+asked_to_size n call asked v table (Ok (Err errno)) is here = asked_or_stays n call asked adds_name v table (Ok (Err errno)) is here
+asked_to_size n call asked v table (Err e) is here = tt
+
 -- a call with one text, that was taken as bytes
 pub one_text : (call : PathCall) (of : List ℕ → PathCall) (path bytes : List ℕ) → call ≡ of path → bytes ≡ path → call ≡ of bytes
 one_text call of path bytes is same = is ∙ ap of (sym same)
@@ -71,18 +81,18 @@ same_inodes f s serves = ap (λ (g : Sizes). g.inodes) f.sizes ∙ sym (ap (λ (
 
 -- a call that changes nothing is answered so by the state that the system serves
 stays : {S : Type 0} {G : Ghosts S} (f : System S G) (s : State) (serves : ServesState f s) (call : PathCall) (reply : Reply)
-    → calls f.inodes.geometry.inodes (tree_of serves.running s.tree.descriptors) call reply (tree_of serves.running s.tree.descriptors) nothing → WouldCall s call reply s nothing
+    → calls f.inodes.geometry.inodes (tree_of serves.running s.tree.descriptors) call reply (tree_of serves.running s.tree.descriptors) nothing → WouldCall s (command.Path call) reply s nothing
 stays f s serves call reply told =
     let t : Tree = tree_of serves.running s.tree.descriptors in
     told_of f s serves call reply (subst (λ (n : ℕ). calls n t call reply t nothing) (same_inodes f s serves) told)
 
 pub changing_refused : {S : Type 0} {G : Ghosts S} (f : System S G) (s : State) (serves : ServesState f s) (call : PathCall) (r : Result (Option Changing) Errno) (errno : Errno) → r ≡ Err errno
-    → ComesOver f s serves call r → WouldCall s call (Refused errno) s nothing
+    → ComesOver f s serves call r → WouldCall s (command.Path call) (Refused errno) s nothing
 changing_refused f s serves call r errno is told =
     stays f s serves call (Refused errno) (subst (λ (x : Result (Option Changing) Errno). ComesOver f s serves call x) is told).1
 
 pub changing_nothing : {S : Type 0} {G : Ghosts S} (f : System S G) (s : State) (serves : ServesState f s) (call : PathCall) (r : Result (Option Changing) Errno) → r ≡ Ok None
-    → ComesOver f s serves call r → WouldCall s call Done s nothing
+    → ComesOver f s serves call r → WouldCall s (command.Path call) Done s nothing
 changing_nothing f s serves call r is told =
     stays f s serves call Done (subst (λ (x : Result (Option Changing) Errno). ComesOver f s serves call x) is told).1
 
@@ -90,7 +100,7 @@ changing_nothing f s serves call r is told =
 pub record IsChanged {S : Type 0} {G : Ghosts S} (f : System S G) (s : State) (serves : ServesState f s) (call : PathCall) (change : Change) : Type 0 where
   pub advances : Advances f.root.geometry.inodes serves.running s.tree.descriptors change
   pub work : Work
-  pub step : WouldCall s call Done
+  pub step : WouldCall s (command.Path call) Done
       (state_with f.root.geometry.inodes (swept s.tree.descriptors (applied change serves.running)) s.tree.descriptors serves.snapshots) (logs work)
 
 pub changing_told : {S : Type 0} {G : Ghosts S} (f : System S G) (s : State) (serves : ServesState f s) (call : PathCall) (r : Result (Option Changing) Errno) (c : Changing) (change : Change) → r ≡ Ok (Some c)
@@ -115,7 +125,7 @@ changing_told f s serves call r c change is says is_change told =
         mounted = of_change (λ (k : Change). IsMounted (swept table (applied k v)) table) here.2;
       };
       work = work;
-      step = (
+      step = λ room. (
         subst (λ (n : ℕ). calls n s.tree call Done (tree_of (swept table (applied change v)) table) (logs work)) (sym count)
             (subst (λ (t : Tree). calls inodes t call Done (tree_of (swept table (applied change v)) table) (logs work)) (sym tree)
             (of_change (λ (k : Change). calls inodes (tree_of v table) call Done (tree_of (swept table (applied k v)) table) (logs work)) here.3)),

@@ -20,6 +20,7 @@ use Rattle.images.specs.Roots.{whole}
 use Rattle.inofile.specs.Inodes.{HasNoChange}
 use Rattle.inofile.specs.Settled.{held_content}
 use Rattle.inofile.specs.Volumes.{IsVolumeOf}
+use Rattle.descriptors.specs.declared.table.Descriptors.{Descriptors}
 use Rattle.inofile.specs.declared.inode_file.InodeFile.{InodeFile}
 use Rattle.loading.specs.Images.{inodes_of}
 use Rattle.oplog.specs.LogEnd.{LogEnd, EndsAt, all_of, next_of, no_bodies}
@@ -38,8 +39,8 @@ none_newest Unopened epoch bytes bodies first ends = ends.1
 none_newest (At next) epoch bytes [] first ends = refl
 none_newest (At next) epoch bytes (body ∷ bodies) first ends = absurd (omega (arith, first, ends.3))
 
-module _ (m : Meaning) (kept : BTreeMap ℕ Block) (root : Root) (slot : ℕ) (inodes : InodeFile) (map_now : BlockMap) (log : LogEnd) (pledged : ℕ) (table : ℕ → Option Description) (s : State)
-    (serves : IsServing m kept root slot inodes map_now log pledged table s) where
+module _ (m : Meaning) (kept : BTreeMap ℕ Block) (root : Root) (slot : ℕ) (inodes : InodeFile) (map_now : BlockMap) (log : LogEnd) (pledged : ℕ) (files : Descriptors) (table : ℕ → Option Description) (s : State)
+    (serves : IsServing m kept root slot inodes map_now log pledged files table s) where
   -- no record stands in an empty log
   pub no_record : MayLeave m m.seen → log.epoch ≡ root.generation + 1 → next_of log.end ≡ FIRST_GATE → serves.bodies ≡ no_bodies
   no_record seen next first =

@@ -8,23 +8,24 @@ use Rattle.station.specs.declared.station.Station.{Ghosts}
 use Rattle.station.proofs.Moments.{joined, leaves_unchanged, may_grow_twice, same_twice, weaker}
 use Rattle.layout.specs.Record.{Change}
 use Rattle.layout.specs.declared.root.Root.{Root}
+use Rattle.model.specs.Circumstances.{IsSure}
 use Rattle.model.specs.Room.{Work, logs}
 use Rattle.model.specs.States.{State}
-use Rattle.model.specs.declared.command.PathCall.{PathCall}
+use Rattle.model.specs.declared.command.Command.{Command}
 use Rattle.model.specs.declared.reply.Reply.{Reply}
-use Rattle.model.specs.declared.reply.Reply.TheVariants.{Done}
 use Rattle.buffers.specs.Disks.{ReadsOn}
 use Rattle.buffers.specs.declared.cache.Buffers.{Buffers}
 use Rattle.blockmap.specs.declared.map.BlockMap.{BlockMap}
+use Rattle.descriptors.specs.declared.table.Descriptors.{Descriptors}
 use Rattle.inofile.specs.declared.inode_file.InodeFile.{InodeFile}
-use Rattle.calls.specs.Served.{IsServed}
+use Rattle.records.specs.Served.{IsServed}
 use Rattle.images.specs.States.{Opens}
 use Rattle.oplog.specs.LogEnd.{LogEnd, HasRoom, body_of}
 use Rattle.oplog.specs.declared.log.AppendError.{AppendError}
 use Rattle.oplog.specs.declared.log.AppendError.TheVariants as append
 use Rattle.system.specs.Errors.{log_error}
 use Rattle.system.specs.Images.{OpensTo}
-use Rattle.system.specs.Serving.{Handles, HasEmptyLog, LeavesEither, ServesState, WouldCall, WouldChange}
+use Rattle.system.specs.Serving.{Handles, HasEmptyLog, LeavesEither, ServesState, TellsNoFault, WouldCall, WouldChange}
 use Rattle.system.specs.Systems.{IsServing, meaning_of}
 use Rattle.system.specs.declared.error.CallError.{CallError}
 use Rattle.system.specs.declared.error.CallError.TheVariants as call_errors
@@ -39,20 +40,21 @@ opens_same m n s c same opens =
 
 -- a system serves a state that has these blocks and these inodes in memory, and all else as another
 abbrev pub ServesOver : {S : Type 0} {G : Ghosts S} → System S G → Buffers S → InodeFile → State → Type 0
-ServesOver {S} {G} f blocks inodes s = IsServing (G.meaning blocks.station) blocks.kept f.root f.slot inodes f.map f.log f.pledged s.tree.descriptors s
+ServesOver {S} {G} f blocks inodes s = IsServing (G.meaning blocks.station) blocks.kept f.root f.slot inodes f.map f.log f.pledged f.files s.tree.descriptors s
 
 -- a system that has the same serves the same
 pub serves_same : {S : Type 0} {G : Ghosts S} (f g : System S G) (blocks : Buffers S) (inodes : InodeFile) (s : State) → g.blocks ≡ blocks → g.root ≡ f.root → g.slot ≡ f.slot
-    → g.inodes ≡ inodes → g.map ≡ f.map → g.log ≡ f.log → g.pledged ≡ f.pledged → ServesOver f blocks inodes s → ServesState g s
-serves_same {S} {G} f g blocks inodes s same_blocks root slot same_inodes map log pledged serves =
+    → g.inodes ≡ inodes → g.map ≡ f.map → g.log ≡ f.log → g.pledged ≡ f.pledged → g.files ≡ f.files → ServesOver f blocks inodes s → ServesState g s
+serves_same {S} {G} f g blocks inodes s same_blocks root slot same_inodes map log pledged files serves =
     let table = s.tree.descriptors in
-    subst (λ (b : Buffers S). IsServing (G.meaning b.station) b.kept g.root g.slot g.inodes g.map g.log g.pledged table s) (sym same_blocks)
-    (subst (λ (r : Root). IsServing (G.meaning blocks.station) blocks.kept r g.slot g.inodes g.map g.log g.pledged table s) (sym root)
-    (subst (λ (k : ℕ). IsServing (G.meaning blocks.station) blocks.kept f.root k g.inodes g.map g.log g.pledged table s) (sym slot)
-    (subst (λ (i : InodeFile). IsServing (G.meaning blocks.station) blocks.kept f.root f.slot i g.map g.log g.pledged table s) (sym same_inodes)
-    (subst (λ (m : BlockMap). IsServing (G.meaning blocks.station) blocks.kept f.root f.slot inodes m g.log g.pledged table s) (sym map)
-    (subst (λ (l : LogEnd). IsServing (G.meaning blocks.station) blocks.kept f.root f.slot inodes f.map l g.pledged table s) (sym log)
-    (subst (λ (n : ℕ). IsServing (G.meaning blocks.station) blocks.kept f.root f.slot inodes f.map f.log n table s) (sym pledged) serves))))))
+    subst (λ (b : Buffers S). IsServing (G.meaning b.station) b.kept g.root g.slot g.inodes g.map g.log g.pledged g.files table s) (sym same_blocks)
+    (subst (λ (r : Root). IsServing (G.meaning blocks.station) blocks.kept r g.slot g.inodes g.map g.log g.pledged g.files table s) (sym root)
+    (subst (λ (k : ℕ). IsServing (G.meaning blocks.station) blocks.kept f.root k g.inodes g.map g.log g.pledged g.files table s) (sym slot)
+    (subst (λ (i : InodeFile). IsServing (G.meaning blocks.station) blocks.kept f.root f.slot i g.map g.log g.pledged g.files table s) (sym same_inodes)
+    (subst (λ (m : BlockMap). IsServing (G.meaning blocks.station) blocks.kept f.root f.slot inodes m g.log g.pledged g.files table s) (sym map)
+    (subst (λ (l : LogEnd). IsServing (G.meaning blocks.station) blocks.kept f.root f.slot inodes f.map l g.pledged g.files table s) (sym log)
+    (subst (λ (n : ℕ). IsServing (G.meaning blocks.station) blocks.kept f.root f.slot inodes f.map f.log n g.files table s) (sym pledged)
+    (subst (λ (d : Descriptors). IsServing (G.meaning blocks.station) blocks.kept f.root f.slot inodes f.map f.log f.pledged d table s) (sym files) serves)))))))
 
 -- a short record fits an empty log
 pub short_fits : {S : Type 0} {G : Ghosts S} (f : System S G) (change : Change) → HasEmptyLog f → length (body_of change) ≤ 1300
@@ -64,20 +66,20 @@ short_fits f change empty short (inr full) =
     full (subst (λ (n : ℕ). n + 5 + length (body_of change) + 1 ≤ f.log.half) (sym empty.end) room)
 
 -- What a call's record comes to on a system in which objects came into memory.
-pub record LeadsOn {S : Type 0} {G : Ghosts S} (old new : System S G) (mid : Meaning) (s : State) (call : PathCall) : Type 0 where
+pub record LeadsOn {S : Type 0} {G : Ghosts S} (old new : System S G) (mid : Meaning) (s : State) (call : Command) (reply : Reply) : Type 0 where
   pub after : State
   pub work : Work
-  pub step : WouldCall s call Done after (logs work)
+  pub step : WouldCall s call reply after (logs work)
   pub leaves : LeavesEither mid (meaning_of new) s after
 
 -- no write failed before this one
 abbrev pub IsFirstFault : LogEnd → AppendError → Type 0
 IsFirstFault log e = (e ≡ append.Device) × IsFalse log.is_stopped
 
-module _ {S : Type 0} {G : Ghosts S} (old new : System S G) (mid : Meaning) (call : PathCall) (reads : ReadsOn (meaning_of old) mid)
+module _ {S : Type 0} {G : Ghosts S} (old new : System S G) (mid : Meaning) (call : Command) (reply : Reply) (reads : ReadsOn (meaning_of old) mid)
     (counted : mid.failed_reads ≡ (meaning_of old).failed_reads) (epoch : new.log.epoch ≡ old.log.epoch)
     (opens : (s : State) → ServesState old s → EachCut (meaning_of old) (OpensTo (meaning_of old) s))
-    (leads : (s : State) → ServesState old s → LeadsOn old new mid s call) where
+    (not_sure : (s : State) → ServesState old s → ¬ IsSure s call) (leads : (s : State) → ServesState old s → LeadsOn old new mid s call reply) where
   leaves_either : (s : State) (served : ServesState old s) → LeavesEither (meaning_of old) (meaning_of new) s (leads s served).after
   leaves_either s served =
       let m = meaning_of old in
@@ -94,7 +96,7 @@ module _ {S : Type 0} {G : Ghosts S} (old new : System S G) (mid : Meaning) (cal
 
   would_change : (s : State) → ServesState old s → WouldChange s call
   would_change s served = record {
-    reply = Done;
+    reply = reply;
     after = (leads s served).after;
     need = logs (leads s served).work;
     step = (leads s served).step;
@@ -113,11 +115,11 @@ module _ {S : Type 0} {G : Ghosts S} (old new : System S G) (mid : Meaning) (cal
     same_reads = writes.reads ∙ counted
 
   -- the record is logged, and its change is in force
-  pub logged : {T : Type 0} (u : T) → OnlyWrites {T = T} {E = AppendError} (IsFirstFault old.log) mid (meaning_of new) (Ok u)
-      → new.log.is_stopped ≡ old.log.is_stopped → ((s : State) (served : ServesState old s) → ServesState new (leads s served).after) → Handles old new call (Ok Done)
-  logged {T} u writes stopped serves = record {
+  pub logged : {T : Type 0} (u : T) → TellsNoFault reply → OnlyWrites {T = T} {E = AppendError} (IsFirstFault old.log) mid (meaning_of new) (Ok u)
+      → new.log.is_stopped ≡ old.log.is_stopped → ((s : State) (served : ServesState old s) → ServesState new (leads s served).after) → Handles old new call (Ok reply)
+  logged {T} u own writes stopped serves = record {
     uses = both_uses {T = T} (Ok u) writes;
-    no_fault = λ is. cc;
+    no_fault = own;
     read = same_reads {T = T} (Ok u) writes;
     not_read = λ is. cc;
     written = writes.ok ∙ reads.writes;
@@ -134,6 +136,7 @@ module _ {S : Type 0} {G : Ghosts S} (old new : System S G) (mid : Meaning) (cal
       leaves = leaves_either s served;
     };
     broken = λ s served is. cc;
+    sure = λ s served. inr (not_sure s served);
     full = λ s served is. cc;
     fits = λ s served empty is. cc;
     damaged = λ s served is. cc;
@@ -159,6 +162,7 @@ module _ {S : Type 0} {G : Ghosts S} (old new : System S G) (mid : Meaning) (cal
         serves = λ s served is. stays s served;
         done = λ s served. tt;
         broken = λ s served is. absurd (not_written (error_is e NotWritten (Err e) (Err NotWritten) refl refl is));
+        sure = not_sure;
         full = λ s served is. would_change s served;
         fits = λ s served empty is. fits empty (error_is e LogFull (Err e) (Err LogFull) refl refl is);
         damaged = λ s served is. damaged (error_is e Damaged (Err e) (Err Damaged) refl refl is);
@@ -179,12 +183,13 @@ module _ {S : Type 0} {G : Ghosts S} (old new : System S G) (mid : Meaning) (cal
     serves = λ s served is. absurd (is refl);
     done = λ s served. tt;
     broken = λ s served is. record {
-      reply = Done;
+      reply = reply;
       after = (leads s served).after;
       need = logs (leads s served).work;
       step = (leads s served).step;
       leaves = leaves_either s served;
     };
+    sure = not_sure;
     full = λ s served is. cc;
     fits = λ s served empty is. cc;
     damaged = λ s served is. cc;

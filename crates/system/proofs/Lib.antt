@@ -9,3 +9,8 @@ mod ChangingLaws
 mod RoomLaws
 mod CoveredLaws
 mod SpaceLaws
+mod TableLaws
+mod MovedLaws
+mod OpenFileLaws
+mod CloseLaws
+mod FileChangeLaws

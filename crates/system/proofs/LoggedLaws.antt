@@ -20,11 +20,14 @@ use Rattle.buffers.specs.Disks.{IsBlock, ShowsDisk}
 use Rattle.buffers.specs.declared.block.Block.{Block}
 use Rattle.blockmap.specs.declared.map.BlockMap.{BlockMap}
 use Rattle.inofile.specs.Volumes.{IsVolumeOf}
+use Rattle.descriptors.specs.Fits.{FitsVolume}
+use Rattle.descriptors.specs.Tables.{table_of}
+use Rattle.descriptors.specs.declared.table.Descriptors.{Descriptors}
 use Rattle.inofile.specs.declared.inode_file.InodeFile.{InodeFile}
 use Rattle.images.specs.Roots.{whole}
 use Rattle.images.specs.States.{SameButFree}
 use Rattle.loading.specs.Images.{inodes_of}
-use Rattle.calls.specs.Served.{IsServed}
+use Rattle.records.specs.Served.{IsServed}
 use Rattle.oplog.specs.LogEnd.{LogEnd, LogStands, ReadsDisk, StandsAt, WithOrWithout, all_of, with_body}
 use Rattle.system.specs.Images.{IsLeft, IsReplayed, IsUnder, OpensTo}
 use Rattle.system.specs.Laws.{CutLaws, RecordLaws}
@@ -39,8 +42,8 @@ replays_more : (inodes : ℕ) (v : Volume) (changes : List Change) (w : Volume) 
 replays_more inodes v [] w c is applies = (subst (λ (u : Volume). Applies inodes u c) is applies, ap (applied c) is)
 replays_more inodes v (d ∷ ds) w c rest applies = (rest.0, replays_more inodes (applied d v) ds w c rest.1 applies)
 
-module _ (laws : CutLaws) (records : RecordLaws) (m : Meaning) (kept : BTreeMap ℕ Block) (root : Root) (slot : ℕ) (inodes : InodeFile) (map_now : BlockMap) (log : LogEnd) (pledged : ℕ)
-    (table : ℕ → Option Description) (s : State) (serves : IsServing m kept root slot inodes map_now log pledged table s) (change : Change)
+module _ (laws : CutLaws) (records : RecordLaws) (m : Meaning) (kept : BTreeMap ℕ Block) (root : Root) (slot : ℕ) (inodes : InodeFile) (map_now : BlockMap) (log : LogEnd) (pledged : ℕ) (files : Descriptors)
+    (table : ℕ → Option Description) (s : State) (serves : IsServing m kept root slot inodes map_now log pledged files table s) (change : Change)
     (advances : Advances root.geometry.inodes serves.running table change) where
   spelled : all_of (with_body serves.bodies (change_bytes change)) ≡ map change_bytes (serves.replayed.changes ++ change ∷ [])
   spelled =
@@ -97,13 +100,14 @@ module _ (laws : CutLaws) (records : RecordLaws) (m : Meaning) (kept : BTreeMap 
   -- once it is there, and memory follows
   pub logged : (now : Meaning) (now_log : LogEnd) → ((disk : ℕ → Sector) → ReadsDisk m disk → ReadsDisk now disk) → IsSameStation m now
       → EachCut now (KeepsDisk m (StandsAt now_log root.generation (with_body serves.bodies (change_bytes change)))) → IsFalse now_log.is_stopped
-      → (k : ℕ) → ((v : Volume) → k ≡ cost (work_of v change)) → (now_inodes : InodeFile)
+      → (k : ℕ) → ((v : Volume) → k ≡ cost (work_of v change)) → (now_inodes : InodeFile) (now_files : Descriptors)
       → IsVolumeOf root.geometry.blocks (blocks_of m.seen.disk) (inodes_of (whole (blocks_of m.seen.disk) root).active) now_inodes volume_after
-      → IsServing now kept root slot now_inodes map_now now_log (pledged + k) table state_after
-  logged now now_log disks same appended goes k costs_it now_inodes stands =
+      → table ≡ table_of now_files → FitsVolume now_files volume_after
+      → (serving : IsServing now kept root slot now_inodes map_now now_log (pledged + k) now_files table state_after) × (serving.running ≡ volume_after)
+  logged now now_log disks same appended goes k costs_it now_inodes now_files stands opened fits =
       let there = disks m.seen.disk (serves.honest, refl) in
       let disk : m.seen.disk ≡ now.seen.disk = sym there.1 in
-      record {
+      let serving : IsServing now kept root slot now_inodes map_now now_log (pledged + k) now_files table state_after = record {
         honest = there.0;
         shows = subst (λ (d : ℕ → Sector). ShowsDisk now kept (blocks_of d)) disk (record {
           honest = there.0;
@@ -122,9 +126,10 @@ module _ (laws : CutLaws) (records : RecordLaws) (m : Meaning) (kept : BTreeMap 
         mounted = advances.mounted;
         replayed = replayed;
         pledges = one_pledged root.geometry.inodes serves.first serves.replayed.changes change pledged k costs_it serves.pledges;
-        closed = serves.closed;
+        opened = opened;
+        fits = fits;
         memory = subst (λ (d : ℕ → Sector). IsInMemory (blocks_of d) root now_inodes map_now volume_after) disk
             (record { stands = stands; volume = volume; entries = serves.memory.entries });
         goes = goes;
         state = refl;
-      }
+      } in (serving, refl)

@@ -2,6 +2,7 @@
 use Rattle.std.proofs.Common.{◌≡◌, ◌⊎◌, inl, inr, ℕ, zero, suc, ◌+◌, ◌-◌, ◌*◌, ◌/◌, ◌%◌, ◌<◌, ◌≤◌, List, ◌++◌, length, slice_index, Option, Some, None, false, refl, sym, ap, subst, ◌∙◌, arith, length-append, zero-add}
 use Rattle.std.specs.Prelude.{Result, Ok, Err, IsErrAnd, IsErrOf, IsSome, IsTrue, IsFalse, MatchResult, IfErr}
 use Rattle.std.specs.BTreeMap.{BTreeMap}
+use Rattle.std.specs.Option.{option_map}
 use Rattle.std.proofs.lemmas.Bool.{cases_lt}
 use Rattle.std.proofs.lemmas.List.{get_or_append_left, get_or-append_right}
 use Rattle.station.specs.Images.{Images, Unchanged}
@@ -21,6 +22,10 @@ use Rattle.buffers.specs.declared.block.Block.{Block}
 use Rattle.oplog.specs.LogEnd.{StandsAt}
 use Rattle.oplog.specs.SavedLog.{Saved, StandsBehind}
 use Rattle.blockmap.specs.declared.map.BlockMap.{BlockMap}
+use Rattle.descriptors.specs.Files.{description_of}
+use Rattle.descriptors.specs.Fits.{FitsVolume}
+use Rattle.descriptors.specs.Tables.{open_at}
+use Rattle.descriptors.specs.declared.table.Descriptors.{Descriptors}
 use Rattle.images.specs.Roots.{whole}
 use Rattle.inofile.specs.Volumes.{IsVolumeOf}
 use Rattle.inofile.specs.declared.inode_file.InodeFile.{InodeFile}
@@ -187,7 +192,8 @@ extends v = record { kept = λ n some. kept_nodes (v n) some; rest = λ n none. 
 
 -- ---- the system
 
-module _ (m : Meaning) (kept : BTreeMap ℕ Block) (found : Found) (p : Mounted) (first last : Volume) (snapshots : List (Name × Tree)) (changes : List Change) where
+module _ (m : Meaning) (kept : BTreeMap ℕ Block) (found : Found) (p : Mounted) (first last : Volume) (snapshots : List (Name × Tree)) (changes : List Change)
+    (files : Descriptors) (none : (d : ℕ) → open_at files d ≡ None) (fits : (v : Volume) → FitsVolume files v) where
   -- memory over what was found, where reads give these images
   pub record IsOver (i : Images) : Type 0 where
     pub just : LeavesJust m i
@@ -199,7 +205,7 @@ module _ (m : Meaning) (kept : BTreeMap ℕ Block) (found : Found) (p : Mounted)
   abbrev shown : State
   shown = state_with found.newest.root.geometry.inodes (without_nameless last) (λ d. None) snapshots
 
-  serving : IsMounted (without_nameless last) (λ d. None) → IsFalse p.log.is_stopped → IsOver m.seen → IsServing m kept found.newest.root found.newest.slot p.inodes p.map p.log p.pledged (λ d. None) shown
+  serving : IsMounted (without_nameless last) (λ d. None) → IsFalse p.log.is_stopped → IsOver m.seen → IsServing m kept found.newest.root found.newest.slot p.inodes p.map p.log p.pledged files (λ d. None) shown
   serving mounted runs over = record {
     honest = over.shows.honest;
     shows = over.shows;
@@ -227,9 +233,10 @@ module _ (m : Meaning) (kept : BTreeMap ℕ Block) (found : Found) (p : Mounted)
     memory = over.has.memory;
     goes = runs;
     pledges = over.has.pledges;
-    closed = λ d. refl;
+    opened = λ i d. option_map description_of (sym (none d) i);
+    fits = fits (without_nameless last);
     state = refl;
   }
 
-  pub serves : (i : Images) → m.seen ≡ i → IsMounted (without_nameless last) (λ d. None) → IsFalse p.log.is_stopped → IsOver i → IsServing m kept found.newest.root found.newest.slot p.inodes p.map p.log p.pledged (λ d. None) shown
+  pub serves : (i : Images) → m.seen ≡ i → IsMounted (without_nameless last) (λ d. None) → IsFalse p.log.is_stopped → IsOver i → IsServing m kept found.newest.root found.newest.slot p.inodes p.map p.log p.pledged files (λ d. None) shown
   serves i is mounted runs over = serving mounted runs (subst IsOver (sym is) over)

@@ -13,6 +13,7 @@ use Rattle.model.specs.States.{State}
 use Rattle.model.specs.Trees.{Description}
 use Rattle.buffers.specs.declared.block.Block.{Block}
 use Rattle.blockmap.specs.declared.map.BlockMap.{BlockMap}
+use Rattle.descriptors.specs.declared.table.Descriptors.{Descriptors}
 use Rattle.inofile.specs.declared.inode_file.InodeFile.{InodeFile}
 use Rattle.images.specs.BlockMap.{entry}
 use Rattle.images.specs.Cuts as points
@@ -65,10 +66,10 @@ pub outside : (r : Root) (d : ℕ → List ℕ) (writes : List Write) (n : ℕ) 
 outside r d writes n free some = λ k w lt same. some (ap (entry (whole (blocks_of d) r).active) (sym same) ∙ free k w lt)
 
 -- what a system serves may be planned
-pub plannable : (m : Meaning) (kept : BTreeMap ℕ Block) (root : Root) (slot : ℕ) (inodes : InodeFile) (map : BlockMap) (log : LogEnd) (pledged : ℕ) (table : ℕ → Option Description) (s : State)
-    → (serves : IsServing m kept root slot inodes map log pledged table s) → MayLeave m m.seen → (other generation : ℕ) (given : BlockMap) → other ≡ other_slot slot → generation ≡ log.epoch → given ≡ map
+pub plannable : (m : Meaning) (kept : BTreeMap ℕ Block) (root : Root) (slot : ℕ) (inodes : InodeFile) (map : BlockMap) (log : LogEnd) (pledged : ℕ) (files : Descriptors) (table : ℕ → Option Description) (s : State)
+    → (serves : IsServing m kept root slot inodes map log pledged files table s) → MayLeave m m.seen → (other generation : ℕ) (given : BlockMap) → other ≡ other_slot slot → generation ≡ log.epoch → given ≡ map
     → IsPlannable root m.seen.disk other generation given inodes serves.first serves.running serves.snapshots
-plannable m kept root slot inodes map log pledged table s serves here other generation given other_one epoch same = record {
+plannable m kept root slot inodes map log pledged files table s serves here other generation given other_one epoch same = record {
   other = other_is root m.seen.disk slot other serves.under.newest other_one;
   later = subst (λ (n : ℕ). root.generation < n) (sym epoch) (later log root.generation serves.bodies m.seen.nvram (serves.left serves.honest m.seen here).log_stands);
   holds = serves.under.holds;
@@ -77,13 +78,13 @@ plannable m kept root slot inodes map log pledged table s serves here other gene
   volume = serves.memory.volume;
 }
 
-module _ (laws : CutLaws) (m : Meaning) (kept : BTreeMap ℕ Block) (root : Root) (slot : ℕ) (inodes : InodeFile) (map : BlockMap) (log : LogEnd) (pledged : ℕ) (table : ℕ → Option Description) (s : State)
-    (serves : IsServing m kept root slot inodes map log pledged table s) (size : m.sectors ≡ 8 * root.geometry.blocks) (half : log.half ≡ root.geometry.half)
+module _ (laws : CutLaws) (m : Meaning) (kept : BTreeMap ℕ Block) (root : Root) (slot : ℕ) (inodes : InodeFile) (map : BlockMap) (log : LogEnd) (pledged : ℕ) (files : Descriptors) (table : ℕ → Option Description) (s : State)
+    (serves : IsServing m kept root slot inodes map log pledged files table s) (size : m.sectors ≡ 8 * root.geometry.blocks) (half : log.half ≡ root.geometry.half)
     (p : Planned) (new : Root) (planned : IsPlannedOver m.seen.disk root slot log.epoch p new serves.running) where
   pub unfinished : (c : Images) → After (StaysOutside p.blocks) m c → OpensTo m s c
   unfinished c (d, here, stays) =
       let left = serves.left serves.honest d here in
-      one_opens laws m kept root slot inodes map log pledged table s serves size half c (record {
+      one_opens laws m kept root slot inodes map log pledged files table s serves size half c (record {
         same = λ n some. laws.unfinished p.blocks d c stays n (outside root m.seen.disk (writes_of p.blocks) n planned.point.free some) ∙ left.same n some;
         log_stands = subst (StandsAt log root.generation serves.bodies) (sym stays.nvram) left.log_stands;
       })
@@ -97,7 +98,7 @@ module _ (laws : CutLaws) (m : Meaning) (kept : BTreeMap ℕ Block) (root : Root
 
     -- what the system reads
     abbrev pub reads : Opens m.sectors m.seen.disk m.seen.nvram s
-    reads = reads_open laws m kept root slot inodes map log pledged table s serves size half m.seen.nvram (serves.left serves.honest m.seen here).log_stands.holds
+    reads = reads_open laws m kept root slot inodes map log pledged files table s serves size half m.seen.nvram (serves.left serves.honest m.seen here).log_stands.holds
 
     pub finished : (c : Images) → HasNewRoot p m.seen c → OpensTo m s c
     finished c has =
@@ -118,7 +119,7 @@ module _ (laws : CutLaws) (m : Meaning) (kept : BTreeMap ℕ Block) (root : Root
     pub at_any_moment : (mid now : Meaning) → Goes Unchanged m mid → LeavesOnly mid now (λ c. After (StaysOutside p.blocks) mid c ⊎ HasNewRoot p mid.seen c) → LeavesOnly m now (OpensTo m s)
     at_any_moment mid now goes writes =
         let went = goes serves.honest in
-        joined m mid now (OpensTo m s) (leaves_unchanged m mid (OpensTo m s) (all_open laws m kept root slot inodes map log pledged table s serves size half) goes)
+        joined m mid now (OpensTo m s) (leaves_unchanged m mid (OpensTo m s) (all_open laws m kept root slot inodes map log pledged files table s serves size half) goes)
         (weaker mid now (λ c. After (StaysOutside p.blocks) mid c ⊎ HasNewRoot p mid.seen c) (OpensTo m s) writes (λ c. λ one. elim one [
           | inl after ↦
               let before = went.now after.0 after.1 in

@@ -11,11 +11,14 @@ use Rattle.layout.specs.Places.{Blocks, blocks_of}
 use Rattle.layout.specs.declared.root.Root.{Root}
 use Rattle.layout.specs.Limits.{Sizes}
 use Rattle.layout.specs.declared.inode.Inode.{Inode}
+use Rattle.model.specs.Circumstances.{IsSure}
 use Rattle.model.specs.Room.{nothing}
 use Rattle.model.specs.States.{State}
 use Rattle.model.specs.Steps.{calls}
 use Rattle.model.specs.Trees.{Description, Tree}
 use Rattle.model.specs.Volumes.{Volume, IsVolume, tree_of}
+use Rattle.model.specs.declared.command.Command.{Command}
+use Rattle.model.specs.declared.command.Command.TheVariants as command
 use Rattle.model.specs.declared.command.PathCall.{PathCall}
 use Rattle.model.specs.declared.errno.Errno.{Errno}
 use Rattle.model.specs.declared.errno.Errno.TheVariants.{EIO}
@@ -27,6 +30,7 @@ use Rattle.buffers.specs.declared.block.Block.{Block}
 use Rattle.blockmap.specs.declared.map.BlockMap.{BlockMap}
 use Rattle.images.specs.Roots.{whole}
 use Rattle.inofile.specs.Volumes.{IsVolumeOf}
+use Rattle.descriptors.specs.declared.table.Descriptors.{Descriptors}
 use Rattle.inofile.specs.declared.inode_file.InodeFile.{InodeFile}
 use Rattle.loading.specs.Images.{inodes_of}
 use Rattle.oplog.specs.LogEnd.{LogEnd}
@@ -47,10 +51,10 @@ abbrev pub OverRoot : Blocks → Root → InodeFile → Volume → Type 0
 OverRoot disk root inodes v = IsVolumeOf root.geometry.blocks disk (inodes_of (whole disk root).active) inodes v
 
 -- objects came into memory, and nothing was done but reading
-abbrev pub looked : (m new : Meaning) (kept now_kept : BTreeMap ℕ Block) (root : Root) (slot : ℕ) (inodes now_inodes : InodeFile) (map : BlockMap) (log : LogEnd) (pledged : ℕ) (table : ℕ → Option Description) (s : State)
-    → IsServing m kept root slot inodes map log pledged table s → ReadsOn m new → ((disk : ℕ → List ℕ) → ShowsDisk m kept disk → ShowsDisk new now_kept disk)
-    → ((v : Volume) → OverRoot (blocks_of m.seen.disk) root inodes v → OverRoot (blocks_of m.seen.disk) root now_inodes v) → IsServing new now_kept root slot now_inodes map log pledged table s
-looked m new kept now_kept root slot inodes now_inodes map log pledged table s serves reads shows stays =
+abbrev pub looked : (m new : Meaning) (kept now_kept : BTreeMap ℕ Block) (root : Root) (slot : ℕ) (inodes now_inodes : InodeFile) (map : BlockMap) (log : LogEnd) (pledged : ℕ) (files : Descriptors) (table : ℕ → Option Description) (s : State)
+    → IsServing m kept root slot inodes map log pledged files table s → ReadsOn m new → ((disk : ℕ → List ℕ) → ShowsDisk m kept disk → ShowsDisk new now_kept disk)
+    → ((v : Volume) → OverRoot (blocks_of m.seen.disk) root inodes v → OverRoot (blocks_of m.seen.disk) root now_inodes v) → IsServing new now_kept root slot now_inodes map log pledged files table s
+looked m new kept now_kept root slot inodes now_inodes map log pledged files table s serves reads shows stays =
     let went = reads.goes serves.honest in
     let disk : m.seen.disk ≡ new.seen.disk = sym (ap (λ (i : Images). i.disk) went.seen) in
     record {
@@ -72,7 +76,8 @@ looked m new kept now_kept root slot inodes now_inodes map log pledged table s s
       });
       goes = serves.goes;
       pledges = serves.pledges;
-      closed = serves.closed;
+      opened = serves.opened;
+      fits = serves.fits;
       state = serves.state;
     }
 
@@ -80,16 +85,16 @@ pub eighth : (n b : ℕ) → n ≡ 8 * b → n / 8 ≡ b
 eighth n b is = omega arith
 
 -- the same, where memory is spoken of as a layer below does
-abbrev pub looked_on : (m new : Meaning) (kept now_kept : BTreeMap ℕ Block) (root : Root) (slot : ℕ) (inodes now_inodes : InodeFile) (map : BlockMap) (log : LogEnd) (pledged : ℕ) (table : ℕ → Option Description) (s : State)
+abbrev pub looked_on : (m new : Meaning) (kept now_kept : BTreeMap ℕ Block) (root : Root) (slot : ℕ) (inodes now_inodes : InodeFile) (map : BlockMap) (log : LogEnd) (pledged : ℕ) (files : Descriptors) (table : ℕ → Option Description) (s : State)
     → m.sectors ≡ 8 * root.geometry.blocks → ReadsOn m new → ((disk : ℕ → List ℕ) → ShowsDisk m kept disk → ShowsDisk new now_kept disk)
     → ((disk : ℕ → List ℕ) (settled : ℕ → Inode) (v : Volume) → ShowsDisk m kept disk → IsVolumeOf (m.sectors / 8) disk settled inodes v → IsVolumeOf (new.sectors / 8) disk settled now_inodes v)
-    → IsServing m kept root slot inodes map log pledged table s → IsServing new now_kept root slot now_inodes map log pledged table s
-looked_on m new kept now_kept root slot inodes now_inodes map log pledged table s sectors reads shows stays serves =
+    → IsServing m kept root slot inodes map log pledged files table s → IsServing new now_kept root slot now_inodes map log pledged files table s
+looked_on m new kept now_kept root slot inodes now_inodes map log pledged files table s sectors reads shows stays serves =
     let d = blocks_of m.seen.disk in
     let settled = inodes_of (whole d root).active in
     let before : m.sectors / 8 ≡ root.geometry.blocks = eighth m.sectors root.geometry.blocks sectors in
     let after : new.sectors / 8 ≡ root.geometry.blocks = eighth new.sectors root.geometry.blocks (reads.same.sectors ∙ sectors) in
-    looked m new kept now_kept root slot inodes now_inodes map log pledged table s serves reads shows (λ v over.
+    looked m new kept now_kept root slot inodes now_inodes map log pledged files table s serves reads shows (λ v over.
     subst (λ (n : ℕ). IsVolumeOf n d settled now_inodes v) after
     (stays d settled v serves.shows (subst (λ (n : ℕ). IsVolumeOf n d settled inodes v) (sym before) over)))
 
@@ -106,10 +111,10 @@ its_volume f s serves =
 
 -- what is told of a system's volume is told of the state that it serves
 pub told_of : {S : Type 0} {G : Ghosts S} (f : System S G) (s : State) (serves : ServesState f s) (call : PathCall) (reply : Reply)
-    → calls s.inodes (tree_of serves.running s.tree.descriptors) call reply (tree_of serves.running s.tree.descriptors) nothing → WouldCall s call reply s nothing
+    → calls s.inodes (tree_of serves.running s.tree.descriptors) call reply (tree_of serves.running s.tree.descriptors) nothing → WouldCall s (command.Path call) reply s nothing
 told_of f s serves call reply told =
     let tree : s.tree ≡ tree_of serves.running s.tree.descriptors = ap (λ (u : State). u.tree) serves.state in
-    (subst (λ (t : Tree). calls s.inodes t call reply t nothing) (sym tree) told, refl)
+    λ room. (subst (λ (t : Tree). calls s.inodes t call reply t nothing) (sym tree) told, refl)
 
 -- what a call is answered that was asked in these words
 pub as_asked : (count : ℕ) (t : Tree) (call asked : PathCall) (reply told : Reply) → call ≡ asked → reply ≡ told → calls count t asked told t nothing → calls count t call reply t nothing
@@ -129,18 +134,24 @@ own_refusal {T} r errno is own same =
 pub done_is_no_fault : TellsNoFault Done
 done_is_no_fault is = cc
 
-module _ {S : Type 0} {G : Ghosts S} (old new : System S G) (call : PathCall) (reads : ReadsOn (meaning_of old) (meaning_of new))
-    (log : new.log ≡ old.log) (stays : (s : State) → ServesState old s → ServesState new s) where
+-- A call that logs nothing was answered so at a state, and the system serves the state that it leaves.
+pub record LeadsTo {S : Type 0} {G : Ghosts S} (new : System S G) (s : State) (call : Command) (reply : Reply) : Type 0 where
+  pub after : State
+  pub step : WouldCall s call reply after nothing
+  pub serves : ServesState new after
+
+module _ {S : Type 0} {G : Ghosts S} (old new : System S G) (call : Command) (reads : ReadsOn (meaning_of old) (meaning_of new))
+    (log : new.log ≡ old.log) where
   read_uses : Uses (meaning_of old) (meaning_of new)
   read_uses = record { same = reads.same; reads = reads.reads; writes = inl reads.writes }
 
   runs_on : IsFalse old.log.is_stopped → IsFalse new.log.is_stopped
   runs_on runs = subst (λ (l : LogEnd). IsFalse l.is_stopped) (sym log) runs
 
-  -- a call that only reads was answered
-  pub answered : (reply : Reply) → (meaning_of new).failed_reads ≡ (meaning_of old).failed_reads → TellsNoFault reply
-      → ((s : State) → ServesState old s → EachCut (meaning_of old) (OpensTo (meaning_of old) s)) → ((s : State) → ServesState old s → WouldCall s call reply s nothing) → Handles old new call (Ok reply)
-  answered reply same own opens told =
+  -- a call that logs nothing was answered
+  pub answered_leading : ((s : State) → ServesState old s → IsSure s call ⊎ ¬ IsSure s call) → (reply : Reply) → (meaning_of new).failed_reads ≡ (meaning_of old).failed_reads → TellsNoFault reply
+      → ((s : State) → ServesState old s → EachCut (meaning_of old) (OpensTo (meaning_of old) s)) → ((s : State) → ServesState old s → LeadsTo new s call reply) → Handles old new call (Ok reply)
+  answered_leading sure reply same own opens leads =
       let m = meaning_of old in
       let n = meaning_of new in
       record {
@@ -155,22 +166,29 @@ module _ {S : Type 0} {G : Ghosts S} (old new : System S G) (call : PathCall) (r
         kept = tt;
         serves = λ s served. tt;
         done = λ s served. record {
-          after = s;
+          after = (leads s served).after;
           need = nothing;
-          step = told s served;
-          serves = stays s served;
-          leaves = weaker m n (OpensTo m s) (λ c. OpensTo m s c ⊎ OpensTo m s c) (leaves_unchanged m n (OpensTo m s) (opens s served) reads.goes) (λ c here. inl here);
+          step = (leads s served).step;
+          serves = (leads s served).serves;
+          leaves = weaker m n (OpensTo m s) (λ c. OpensTo m s c ⊎ OpensTo m (leads s served).after c) (leaves_unchanged m n (OpensTo m s) (opens s served) reads.goes) (λ c here. inl here);
         };
         broken = λ s served is. cc;
+        sure = sure;
         full = λ s served is. cc;
         fits = λ s served empty is. cc;
         damaged = λ s served is. cc;
       }
 
+  -- a call that only reads was answered
+  pub answered : ((s : State) → ServesState old s → ServesState new s) → ((s : State) → ServesState old s → IsSure s call ⊎ ¬ IsSure s call) → (reply : Reply)
+      → (meaning_of new).failed_reads ≡ (meaning_of old).failed_reads → TellsNoFault reply → ((s : State) → ServesState old s → EachCut (meaning_of old) (OpensTo (meaning_of old) s))
+      → ((s : State) → ServesState old s → WouldCall s call reply s nothing) → Handles old new call (Ok reply)
+  answered stays sure reply same own opens told = answered_leading sure reply same own opens (λ s served. record { after = s; step = told s served; serves = stays s served })
+
   -- a call wasn't answered, and nothing was written
-  pub unanswered : (e : CallError) → e ≢ NotWritten → e ≢ LogFull → (e ≡ NotRead → HasGrown (meaning_of old).failed_reads (meaning_of new).failed_reads)
+  pub unanswered : ((s : State) → ServesState old s → ServesState new s) → ((s : State) → ServesState old s → ¬ IsSure s call) → (e : CallError) → e ≢ NotWritten → e ≢ LogFull → (e ≡ NotRead → HasGrown (meaning_of old).failed_reads (meaning_of new).failed_reads)
       → ((s : State) → ServesState old s → e ≡ Damaged → ⊥) → Handles old new call (Err e)
-  unanswered e wrote room fault damaged = record {
+  unanswered stays not_sure e wrote room fault damaged = record {
     uses = read_uses;
     no_fault = tt;
     read = λ is. absurd (room is);
@@ -183,6 +201,7 @@ module _ {S : Type 0} {G : Ghosts S} (old new : System S G) (call : PathCall) (r
     serves = λ s served _. stays s served;
     done = λ s served. tt;
     broken = λ s served is. absurd (wrote (error_is e NotWritten (Err e) (Err NotWritten) refl refl is));
+    sure = not_sure;
     full = λ s served is. absurd (room (error_is e LogFull (Err e) (Err LogFull) refl refl is));
     fits = λ s served empty is. room (error_is e LogFull (Err e) (Err LogFull) refl refl is);
     damaged = λ s served is. damaged s served (error_is e Damaged (Err e) (Err Damaged) refl refl is);
@@ -192,12 +211,12 @@ module _ {S : Type 0} {G : Ghosts S} (old new : System S G) (call : PathCall) (r
       error_is x y r q first second is = cc
 
   -- because a read was refused
-  pub unanswered_read : (error : ReadError) (e : CallError) → e ≡ call_error error → (error ≡ read_errors.Device → HasGrown (meaning_of old).failed_reads (meaning_of new).failed_reads)
+  pub unanswered_read : ((s : State) → ServesState old s → ServesState new s) → ((s : State) → ServesState old s → ¬ IsSure s call) → (error : ReadError) (e : CallError) → e ≡ call_error error → (error ≡ read_errors.Device → HasGrown (meaning_of old).failed_reads (meaning_of new).failed_reads)
       → ((s : State) → ServesState old s → error ≡ read_errors.Damaged → ⊥) → Handles old new call (Err e)
-  unanswered_read error e is fault damaged = subst (λ (x : CallError). Handles old new call (Err x)) (sym is) (by_case error fault damaged)
+  unanswered_read stays not_sure error e is fault damaged = subst (λ (x : CallError). Handles old new call (Err x)) (sym is) (by_case error fault damaged)
     where
       by_case : (error : ReadError) → (error ≡ read_errors.Device → HasGrown (meaning_of old).failed_reads (meaning_of new).failed_reads)
           → ((s : State) → ServesState old s → error ≡ read_errors.Damaged → ⊥) → Handles old new call (Err (call_error error))
-      by_case read_errors.NoMemory fault damaged = unanswered call_errors.NoMemory (λ is. cc) (λ is. cc) (λ is. cc) (λ s served is. cc)
-      by_case read_errors.Device fault damaged = unanswered call_errors.NotRead (λ is. cc) (λ is. cc) (λ is. fault refl) (λ s served is. cc)
-      by_case read_errors.Damaged fault damaged = unanswered call_errors.Damaged (λ is. cc) (λ is. cc) (λ is. cc) (λ s served is. damaged s served refl)
+      by_case read_errors.NoMemory fault damaged = unanswered stays not_sure call_errors.NoMemory (λ is. cc) (λ is. cc) (λ is. cc) (λ s served is. cc)
+      by_case read_errors.Device fault damaged = unanswered stays not_sure call_errors.NotRead (λ is. cc) (λ is. cc) (λ is. fault refl) (λ s served is. cc)
+      by_case read_errors.Damaged fault damaged = unanswered stays not_sure call_errors.Damaged (λ is. cc) (λ is. cc) (λ is. cc) (λ s served is. damaged s served refl)

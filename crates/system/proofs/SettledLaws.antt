@@ -12,6 +12,7 @@ use Rattle.layout.specs.Root.{root_bytes}
 use Rattle.layout.specs.declared.TheConstants.{SLOT_A, SLOT_B}
 use Rattle.layout.specs.declared.inode.Inode.{Inode}
 use Rattle.layout.specs.declared.root.Root.{Root}
+use Rattle.model.specs.Records.{count_nameless}
 use Rattle.model.specs.States.{State}
 use Rattle.model.specs.Trees.{Description}
 use Rattle.model.specs.Volumes.{Volume}
@@ -21,6 +22,7 @@ use Rattle.blockmap.specs.Maps.{settled_at}
 use Rattle.blockmap.specs.declared.map.BlockMap.{BlockMap}
 use Rattle.inofile.specs.Settled.{AreSettled, held_content}
 use Rattle.inofile.specs.Volumes.{IsVolumeOf, MapsVolume}
+use Rattle.descriptors.specs.declared.table.Descriptors.{Descriptors}
 use Rattle.inofile.specs.declared.inode_file.InodeFile.{InodeFile}
 use Rattle.inode.specs.declared.file.File.{File}
 use Rattle.images.specs.BlockMap.{entry}
@@ -40,7 +42,7 @@ use Rattle.system.specs.Laws.{RootLaws}
 use Rattle.system.specs.Memory.{IsInMemory}
 use Rattle.system.specs.Points.{IsPlannedOver}
 use Rattle.system.specs.Systems.{IsServing, state_with}
-use Rattle.system.proofs.RoomLaws.{none_pledged}
+use Rattle.system.proofs.RoomLaws.{nameless_pledged}
 
 -- a block whose eight sectors are the same
 same_block : (d e : ℕ → List ℕ) (b : ℕ) → ((i : ℕ) → i < 8 → e (8 * b + i) ≡ d (8 * b + i)) → blocks_of e b ≡ blocks_of d b
@@ -77,8 +79,8 @@ none_replayed inodes running = record {
   extends = record { kept = λ n some. refl; rest = λ n none. rw none refl };
 }
 
-module _ (laws : RootLaws) (m : Meaning) (kept : BTreeMap ℕ Block) (root : Root) (slot : ℕ) (inodes : InodeFile) (map : BlockMap) (log : LogEnd) (pledged : ℕ) (table : ℕ → Option Description) (s : State)
-    (serves : IsServing m kept root slot inodes map log pledged table s) (size : m.sectors ≡ 8 * root.geometry.blocks)
+module _ (laws : RootLaws) (m : Meaning) (kept : BTreeMap ℕ Block) (root : Root) (slot : ℕ) (inodes : InodeFile) (map : BlockMap) (log : LogEnd) (pledged : ℕ) (files : Descriptors) (table : ℕ → Option Description) (s : State)
+    (serves : IsServing m kept root slot inodes map log pledged files table s) (size : m.sectors ≡ 8 * root.geometry.blocks)
     (p : Planned) (new : Root) (planned : IsPlannedOver m.seen.disk root slot log.epoch p new serves.running)
     (now : Meaning) (sizes : AreWhole m.sectors now.seen.disk) (has : HasNewRoot p m.seen now.seen)
     (images : points.HasNewRoot (writes_of p.blocks) p.slot (root_bytes new) m.seen.disk now.seen.disk) where
@@ -163,8 +165,9 @@ module _ (laws : RootLaws) (m : Meaning) (kept : BTreeMap ℕ Block) (root : Roo
         → now.is_honest → LeavesJust now now.seen → ShowsDisk now now_kept (blocks_of now.seen.disk) → IsNewest new (now.seen.disk SLOT_A) (now.seen.disk SLOT_B)
         → StandsAt now_log log.epoch no_bodies m.seen.nvram → IsFalse now_log.is_stopped
         → IsInMemory (blocks_of now.seen.disk) new now_inodes now_map serves.running
-        → IsServing now now_kept new p.slot now_inodes now_map now_log 0 table s
-    settled now_kept now_inodes now_map now_log honest just shown newest stands goes here = record {
+        → (nameless : ℕ) → nameless ≡ count_nameless new.geometry.inodes serves.running
+        → IsServing now now_kept new p.slot now_inodes now_map now_log (4 * nameless) files table s
+    settled now_kept now_inodes now_map now_log honest just shown newest stands goes here nameless counted = record {
       honest = honest;
       shows = shown;
       first = serves.running;
@@ -183,7 +186,8 @@ module _ (laws : RootLaws) (m : Meaning) (kept : BTreeMap ℕ Block) (root : Roo
       replayed = none_replayed new.geometry.inodes serves.running;
       memory = here;
       goes = goes;
-      pledges = sym (none_pledged new.geometry.inodes serves.running table serves.mounted serves.closed);
-      closed = serves.closed;
+      pledges = nameless_pledged new.geometry.inodes nameless serves.running counted;
+      opened = serves.opened;
+      fits = serves.fits;
       state = serves.state ∙ ap (λ (g : Sizes). state_with g.inodes serves.running table serves.snapshots) (sym planned.point.geometry);
     }

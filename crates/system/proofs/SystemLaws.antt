@@ -17,21 +17,22 @@ use Rattle.buffers.specs.Disks.{ShowsDisk, ReadsOn}
 use Rattle.buffers.specs.declared.block.Block.{Block}
 use Rattle.blockmap.specs.Maps.{settled_at}
 use Rattle.blockmap.specs.declared.map.BlockMap.{BlockMap}
+use Rattle.descriptors.specs.declared.table.Descriptors.{Descriptors}
 use Rattle.inofile.specs.declared.inode_file.InodeFile.{InodeFile}
 use Rattle.images.specs.States.{Opens, OpensBy, SameButFree}
 use Rattle.oplog.specs.LogEnd.{LogEnd, Bodies, all_of}
-use Rattle.calls.specs.Served.{IsServed}
+use Rattle.records.specs.Served.{IsServed}
 use Rattle.system.specs.Images.{OpensTo, IsLeft, IsReplayed, IsUnder}
 use Rattle.system.specs.Laws.{CutLaws}
 use Rattle.system.specs.Memory.{IsInMemory}
 use Rattle.system.specs.Systems.{IsServing, state_with}
 
-module _ (m : Meaning) (kept : BTreeMap ℕ Block) (root : Root) (slot : ℕ) (inodes : InodeFile) (map : BlockMap) (log : LogEnd) (pledged : ℕ) (table : ℕ → Option Description) (s : State)
-    (serves : IsServing m kept root slot inodes map log pledged table s) where
+module _ (m : Meaning) (kept : BTreeMap ℕ Block) (root : Root) (slot : ℕ) (inodes : InodeFile) (map : BlockMap) (log : LogEnd) (pledged : ℕ) (files : Descriptors) (table : ℕ → Option Description) (s : State)
+    (serves : IsServing m kept root slot inodes map log pledged files table s) where
   -- where nothing was done but reading
   pub read_on : (new : Meaning) (now_kept : BTreeMap ℕ Block) (now_map : BlockMap) → ReadsOn m new
       → ((disk : ℕ → List ℕ) → ShowsDisk m kept disk → ShowsDisk new now_kept disk)
-      → ((b : ℕ) → settled_at now_map.parts.items b ≡ settled_at map.parts.items b) → IsServing new now_kept root slot inodes now_map log pledged table s
+      → ((b : ℕ) → settled_at now_map.parts.items b ≡ settled_at map.parts.items b) → IsServing new now_kept root slot inodes now_map log pledged files table s
   read_on new now_kept now_map reads shows entries =
       let went = reads.goes serves.honest in
       let disk : m.seen.disk ≡ new.seen.disk = sym (ap (λ (i : Images). i.disk) went.seen) in
@@ -54,7 +55,8 @@ module _ (m : Meaning) (kept : BTreeMap ℕ Block) (root : Root) (slot : ℕ) (i
         });
         goes = serves.goes;
         pledges = serves.pledges;
-        closed = serves.closed;
+        opened = serves.opened;
+        fits = serves.fits;
         state = serves.state;
       }
 
@@ -99,8 +101,8 @@ module _ (laws : CutLaws) (m : Meaning) (disk : ℕ → List ℕ) (root : Root) 
   pub same_open : (c : Images) → SameButFree root disk c.disk → LogHolds root.geometry.half root.generation c.nvram (all_of bodies) → OpensTo m s c
   same_open c same holds = opens_by m s c replayed.changes (laws.free m.sectors disk c.disk c.nvram s (held_open c.nvram holds) same) replayed.served
 
-module _ (laws : CutLaws) (m : Meaning) (kept : BTreeMap ℕ Block) (root : Root) (slot : ℕ) (inodes : InodeFile) (map : BlockMap) (log : LogEnd) (pledged : ℕ) (table : ℕ → Option Description) (s : State)
-    (serves : IsServing m kept root slot inodes map log pledged table s) (size : m.sectors ≡ 8 * root.geometry.blocks) (half : log.half ≡ root.geometry.half) where
+module _ (laws : CutLaws) (m : Meaning) (kept : BTreeMap ℕ Block) (root : Root) (slot : ℕ) (inodes : InodeFile) (map : BlockMap) (log : LogEnd) (pledged : ℕ) (files : Descriptors) (table : ℕ → Option Description) (s : State)
+    (serves : IsServing m kept root slot inodes map log pledged files table s) (size : m.sectors ≡ 8 * root.geometry.blocks) (half : log.half ≡ root.geometry.half) where
   -- what the system reads, with any NVRAM that has its records
   abbrev pub reads_open : (nvram : List ℕ) → LogHolds log.half root.generation nvram (all_of serves.bodies) → Opens m.sectors m.seen.disk nvram s
   reads_open nvram holds =

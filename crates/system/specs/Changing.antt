@@ -20,7 +20,8 @@ abbrev pub RecordComes : ℕ → PathCall → Volume → (ℕ → Option Descrip
 RecordComes inodes c v table r =
     (work : Work) × ComesSwept (calls inodes (tree_of v table) c) work inodes v table r
 
--- the call is `rename`, which may find nothing to change
-abbrev pub is_rename : PathCall → Bool
-is_rename (call.Rename old path) = true
-is_rename _ = false
+-- the call may find nothing to change: it is `rename` or `truncate`
+abbrev pub may_stay : PathCall → Bool
+may_stay (call.Rename old path) = true
+may_stay (call.Truncate path size) = true
+may_stay _ = false

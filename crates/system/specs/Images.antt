@@ -14,7 +14,7 @@ use Rattle.images.specs.Roots.{whole}
 use Rattle.images.specs.States as images
 use Rattle.images.specs.States.{Holds, SameButFree}
 use Rattle.oplog.specs.LogEnd.{LogEnd, Bodies, all_of, StandsAt}
-use Rattle.calls.specs.Served.{IsServed}
+use Rattle.records.specs.Served.{IsServed}
 use Rattle.system.specs.Slots.{IsNewestAt}
 
 -- Images of a station of this meaning open to a state, by records that this version does.

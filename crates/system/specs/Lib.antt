@@ -12,3 +12,4 @@ pub mod Logging
 pub mod Serving
 pub mod Room
 pub mod Changing
+pub mod OpenFiles

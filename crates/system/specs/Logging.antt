@@ -1,5 +1,5 @@
 -- What a record does that a system logs.
-use Rattle.std.specs.Prelude.{ℕ, Option}
+use Rattle.std.specs.Prelude.{ℕ, ◌≡◌, Option}
 use Rattle.station.specs.declared.station.Station.{Ghosts}
 use Rattle.layout.specs.Places.{blocks_of}
 use Rattle.layout.specs.Record.{IsChange}
@@ -7,13 +7,16 @@ use Rattle.model.specs.Records.{Change, Applies, applied}
 use Rattle.model.specs.States.{State}
 use Rattle.model.specs.Trees.{Description}
 use Rattle.model.specs.Volumes.{Volume, IsMounted, swept}
-use Rattle.calls.specs.Prepared.{Does}
-use Rattle.calls.specs.declared.prepared.Prepared.{Prepared}
+use Rattle.records.specs.Prepared.{Does}
+use Rattle.records.specs.declared.prepared.Prepared.{Prepared}
+use Rattle.descriptors.specs.Fits.{FitsVolume}
+use Rattle.descriptors.specs.Tables.{table_of}
+use Rattle.descriptors.specs.declared.table.Descriptors.{Descriptors}
 use Rattle.inofile.specs.Volumes.{IsVolumeOf}
 use Rattle.inofile.specs.declared.inode_file.InodeFile.{InodeFile}
 use Rattle.images.specs.Roots.{whole}
 use Rattle.loading.specs.Images.{inodes_of}
-use Rattle.calls.specs.Served.{IsServed}
+use Rattle.records.specs.Served.{IsServed}
 use Rattle.system.specs.Systems.{IsServing, meaning_of}
 use Rattle.system.specs.declared.system.System.{System}
 
@@ -26,15 +29,17 @@ pub record Advances (inodes : ℕ) (running : Volume) (table : ℕ → Option De
   pub applies : Applies inodes running change
   pub mounted : IsMounted (swept table (applied change running)) table
 
--- once memory stands for a volume, over the disk that a system read, the system serves a state
+-- once memory stands for a volume, over the disk that a system read, and the open files fit it, the system serves a state by it
 abbrev pub WouldServe : {S : Type 0} {G : Ghosts S} → System S G → System S G → Volume
     → (ℕ → Option Description) → State → Type 0
 WouldServe old new running table s =
     let disk = blocks_of (meaning_of old).seen.disk in
     let settled = inodes_of (whole disk old.root).active in
-    (inodes : InodeFile) → IsVolumeOf old.root.geometry.blocks disk settled inodes running
-    → IsServing (meaning_of new) new.blocks.kept new.root new.slot inodes new.map new.log new.pledged
-    table s
+    (inodes : InodeFile) (files : Descriptors)
+    → IsVolumeOf old.root.geometry.blocks disk settled inodes running
+    → table ≡ table_of files → FitsVolume files running
+    → (serves : IsServing (meaning_of new) new.blocks.kept new.root new.slot inodes new.map new.log new.pledged
+    files table s) × (serves.running ≡ running)
 
 -- put in force on a system with this running volume, a prepared change does what the record says
 abbrev pub DoesOver : {S : Type 0} {G : Ghosts S} → System S G → Volume → Prepared → Change → Type 0

@@ -14,7 +14,7 @@ use Rattle.images.specs.Roots.{whole}
 use Rattle.images.specs.States.{Holds, LogHoldsChanges}
 use Rattle.oplog.specs.SavedLog.{StandsBehind, TellsLog}
 use Rattle.loading.specs.Slots.{FitsStation, IsNewestAt}
-use Rattle.calls.specs.Served.{IsServed}
+use Rattle.records.specs.Served.{IsServed}
 use Rattle.replay.specs.Volumes.{bodies_of}
 use Rattle.system.specs.Memory.{IsClean, IsInMemory}
 use Rattle.system.specs.declared.opening.Found.{Found}

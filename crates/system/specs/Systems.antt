@@ -1,5 +1,5 @@
 -- What a mounted system stands for.
-use Rattle.std.specs.Prelude.{ℕ, ◌≡◌, List, Option, None, IsFalse}
+use Rattle.std.specs.Prelude.{ℕ, ◌≡◌, List, Option, IsFalse}
 use Rattle.std.specs.BTreeMap.{BTreeMap}
 use Rattle.station.specs.Moments.{Meaning, EachCut}
 use Rattle.station.specs.declared.station.Station.{Ghosts}
@@ -14,6 +14,9 @@ use Rattle.buffers.specs.Disks.{ShowsDisk}
 use Rattle.buffers.specs.declared.block.Block.{Block}
 use Rattle.blockmap.specs.declared.map.BlockMap.{BlockMap}
 use Rattle.inofile.specs.declared.inode_file.InodeFile.{InodeFile}
+use Rattle.descriptors.specs.Fits.{FitsVolume}
+use Rattle.descriptors.specs.Tables.{table_of}
+use Rattle.descriptors.specs.declared.table.Descriptors.{Descriptors}
 use Rattle.oplog.specs.LogEnd.{LogEnd, Bodies, no_bodies}
 use Rattle.system.specs.Images.{IsUnder, IsLeft, IsReplayed}
 use Rattle.system.specs.Memory.{IsInMemory}
@@ -30,11 +33,11 @@ state_with inodes running table snapshots =
 
 -- What a system has serves a state, over an honest station: the disk that it reads holds a volume under the newest root, the records
 -- that this root doesn't cover lead to the running volume, which memory stands for and which is the state's tree; and
--- whatever a cut may leave has that disk and those records. What these may cost a consistency point is pledged. No file is
--- open, since this version opens none.
+-- whatever a cut may leave has that disk and those records. What these may cost a consistency point is pledged. The open files
+-- are the state's, each with its size and its links.
 pub record IsServing (m : Meaning) (kept : BTreeMap ℕ Block) (root : Root) (slot : ℕ)
     (inodes : InodeFile) (map : BlockMap) (log : LogEnd) (pledged : ℕ)
-    (table : ℕ → Option Description) (s : State) : Type 0 where
+    (files : Descriptors) (table : ℕ → Option Description) (s : State) : Type 0 where
   pub honest : m.is_honest
   pub shows : ShowsDisk m kept (blocks_of m.seen.disk)
   pub first : Volume
@@ -48,14 +51,20 @@ pub record IsServing (m : Meaning) (kept : BTreeMap ℕ Block) (root : Root) (sl
   pub memory : IsInMemory (blocks_of m.seen.disk) root inodes map running
   pub goes : IsFalse log.is_stopped
   pub pledges : pledged ≡ pledged_for root.geometry.inodes first replayed.changes
-  pub closed : (d : ℕ) → table d ≡ None
+  pub opened : table ≡ table_of files
+  pub fits : FitsVolume files running
   pub state : s ≡ state_with root.geometry.inodes running table snapshots
 
 -- a system serves a state
 abbrev pub Serves : {S : Type 0} {G : Ghosts S} → System S G → (ℕ → Option Description) → State
     → Type 0
 Serves f table s =
-    IsServing (meaning_of f) f.blocks.kept f.root f.slot f.inodes f.map f.log f.pledged table s
+    IsServing (meaning_of f) f.blocks.kept f.root f.slot f.inodes f.map f.log f.pledged f.files table s
+
+-- a system serves a state, and this is its running volume
+abbrev pub ServesVolume : {S : Type 0} {G : Ghosts S} → System S G → (ℕ → Option Description) → State
+    → Volume → Type 0
+ServesVolume f table s v = (serves : Serves f table s) × (serves.running ≡ v)
 
 -- a system is covered: its root holds the running volume, and no record stands that this root doesn't cover
 pub record IsCovered {S : Type 0} {G : Ghosts S} (f : System S G) (table : ℕ → Option Description)

@@ -1,15 +1,13 @@
 //! What calls by paths are to change.
 
 ghost use Rattle.std.specs.Prelude.{◌≡◌, IfErr, IfOk, IsFalse, IsTrue};
-ghost use Rattle.model.specs.Served.{IsServed};
 ghost use Rattle.model.specs.Steps.{is_reading_call};
-ghost use Rattle.model.specs.declared.command.Command.TheVariants as commands;
 ghost use Rattle.blocktree.specs.Errors.{IsFault};
 ghost use Rattle.calls.specs.Changing.{AllDo, AllReady, AnyDo, AnyReady};
 ghost use Rattle.calls.specs.Refusals.{is_path_refusal};
-ghost use Rattle.calls.specs.Shown.{NeverDamaged, OnMounted};
+ghost use Rattle.records.specs.Shown.{NeverDamaged, OnMounted};
 ghost use Rattle.calls.specs.Standing.{Looks};
-ghost use Rattle.system.specs.Changing.{CallComes, RecordComes, is_rename};
+ghost use Rattle.system.specs.Changing.{CallComes, RecordComes, may_stay};
 
 use blocktree::ReadError;
 use buffers::Blocks;
@@ -27,8 +25,7 @@ pub(crate) fn prepare<B: Blocks>(
     blocks: &mut B,
     call: &PathCall,
 ) -> Result<Result<Option<Changing>, Errno>, ReadError>
-    requires served { IsServed (commands.Path call.now) }
-    requires changes { IsFalse (is_reading_call call.now) }
+    requires { IsFalse (is_reading_call call.now) }
     ensures looks { Looks B.Blocks IsFault blocks.old blocks.new inodes.old inodes.new result }
     ensures own { IfOk result (λ r. IfErr r (λ e. IsTrue (is_path_refusal e))) }
     ensures ready { AnyReady inodes.new result }
@@ -40,6 +37,9 @@ pub(crate) fn prepare<B: Blocks>(
     match call {
         PathCall::Rename { old, new } => {
             calls::rename(alloc, inodes, blocks, old.as_bytes(), new.as_bytes())
+        }
+        PathCall::Truncate { path, size } => {
+            calls::truncate(alloc, inodes, blocks, path.as_bytes(), *size)
         }
         _ => match prepare_record(alloc, inodes, blocks, call)? {
             Ok(changing) => Ok(Ok(Some(changing))),
@@ -55,9 +55,8 @@ fn prepare_record<B: Blocks>(
     blocks: &mut B,
     call: &PathCall,
 ) -> Result<Result<Changing, Errno>, ReadError>
-    requires served { IsServed (commands.Path call.now) }
     requires changes { IsFalse (is_reading_call call.now) }
-    requires other { IsFalse (is_rename call.now) }
+    requires changes_always { IsFalse (may_stay call.now) }
     ensures looks { Looks B.Blocks IsFault blocks.old blocks.new inodes.old inodes.new result }
     ensures own { IfOk result (λ r. IfErr r (λ e. IsTrue (is_path_refusal e))) }
     ensures ready { AllReady inodes.new result }

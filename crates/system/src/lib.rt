@@ -4,15 +4,20 @@
 mod changing;
 mod covered;
 mod error;
+mod file_change;
 mod laws;
 mod logging;
 mod open_error;
+mod open_file_change;
+mod open_file_reading;
+mod open_files;
 mod opening;
 mod point;
 mod reading;
 mod serving;
 mod space;
 mod system;
+mod table_move;
 mod writing;
 
 pub use error::{CallError, PointError};

@@ -8,18 +8,19 @@ ghost use Rattle.model.specs.Records.{applied};
 ghost use Rattle.model.specs.States.{State};
 ghost use Rattle.model.specs.Trees.{Description};
 ghost use Rattle.model.specs.Volumes.{swept};
+ghost use Rattle.descriptors.specs.Tables.{table_of};
 ghost use Rattle.oplog.specs.LogEnd.{HasRoom, behind, body_of};
 ghost use Rattle.system.specs.Images.{OpensTo};
-ghost use Rattle.calls.specs.Prepared.{IsReady};
+ghost use Rattle.records.specs.Prepared.{IsReady};
 ghost use Rattle.system.specs.Logging.{Advances, DoesOver, WouldServe};
 ghost use Rattle.system.specs.Serving.{LeavesEither};
-ghost use Rattle.system.specs.Systems.{Serves, meaning_of, state_with};
+ghost use Rattle.system.specs.Systems.{Serves, ServesVolume, meaning_of, state_with};
 
 use crate::System;
 use crate::laws::{cuts_open, records_lead_on, served_states_open};
-use calls::{Prepared, commit_swept};
 use layout::Record;
 use oplog::AppendError;
+use records::{Prepared, commit_swept};
 use replay::cost_of;
 use station::Station;
 
@@ -45,6 +46,7 @@ impl<S: Station> System<S> {
         ensures inodes { self.new.inodes ≡ self.old.inodes }
         ensures map { self.new.map ≡ self.old.map }
         ensures pledged { OnErr result (self.new.pledged ≡ self.old.pledged) }
+        ensures files { self.new.files ≡ self.old.files }
         ensures any_moment { (table : ℕ → Option Description) (s : State)
             → (serves : Serves self.old table s)
             → Advances self.old.root.geometry.inodes serves.running table (change_of change.now)
@@ -91,6 +93,8 @@ impl<S: Station> System<S> {
         ensures slot { self.new.slot ≡ self.old.slot }
         ensures map { self.new.map ≡ self.old.map }
         ensures pledged { OnErr result (self.new.pledged ≡ self.old.pledged) }
+        ensures files { OnErr result (self.new.files ≡ self.old.files) }
+        ensures opened { table_of self.new.files ≡ table_of self.old.files }
         ensures full { IsErrOf result AppendError.LogFull
             → (self.old.log.epoch ≢ self.old.root.generation + 1)
             ⊎ (HasRoom self.old.log (length (body_of (change_of change.now))) → ⊥) }
@@ -106,15 +110,16 @@ impl<S: Station> System<S> {
             → (serves : Serves self.old table s)
             → Advances self.old.root.geometry.inodes serves.running table (change_of change.now)
             → DoesOver self.old serves.running prepared (change_of change.now)
-            → OnOk result (Serves self.new table (state_with self.old.root.geometry.inodes
-            (swept table (applied (change_of change.now) serves.running)) table serves.snapshots)) }
+            → let after = swept table (applied (change_of change.now) serves.running) in
+            OnOk result (ServesVolume self.new table
+            (state_with self.old.root.geometry.inodes after table serves.snapshots) after) }
     {
         served_states_open(self);
         if self.log.epoch() != self.root.generation.epoch_after(1) {
             return Err(AppendError::LogFull);
         }
         self.log_record(change)?;
-        commit_swept(&mut self.inodes, prepared);
+        commit_swept(&mut self.inodes, &mut self.files, prepared);
         Ok(())
     }
 }

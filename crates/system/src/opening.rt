@@ -26,6 +26,7 @@ ghost use Rattle.system.specs.Systems.{Serves, meaning_of, state_with};
 use crate::{OpenError, System};
 use blockmap::BlockMap;
 use buffers::{Blocks, Buffers};
+use descriptors::Descriptors;
 use inofile::InodeFile;
 use layout::Root;
 use loading::{Loaded, Newest, check_snapshots, load, newest_root, volumes_are_readable};
@@ -164,6 +165,7 @@ fn open_found<S: Station>(
             map,
             log,
             pledged,
+            files: Descriptors::new(),
         }),
         Err(error) => Err((error, blocks.into_station())),
     }

@@ -98,7 +98,7 @@ impl<S: Station> System<S> {
                 self.root = root;
                 self.slot = slot;
                 self.log.go_on(generation.epoch_after(1));
-                self.pledged = 0;
+                self.pledged = 4 * u64::from(self.files.nameless_files());
                 Ok(())
             }
             Err(error) => {

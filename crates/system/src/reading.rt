@@ -8,7 +8,7 @@ ghost use Rattle.blocktree.specs.Errors.{IsFault};
 ghost use Rattle.calls.specs.Getting.{data_reply};
 ghost use Rattle.calls.specs.Listing.{reply_of};
 ghost use Rattle.calls.specs.ReadingLink.{text_reply};
-ghost use Rattle.calls.specs.Shown.{NeverDamaged, OnMounted};
+ghost use Rattle.records.specs.Shown.{NeverDamaged, OnMounted};
 ghost use Rattle.calls.specs.Stating.{stat_reply};
 ghost use Rattle.calls.specs.Standing.{Looks};
 ghost use Rattle.system.specs.Serving.{TellsNoFault};
@@ -75,7 +75,7 @@ fn names_reply(names: Result<Names, Errno>) -> Reply
 }
 
 // What is told of an object, or a refusal, as they are answered.
-fn stat_reply(stat: Result<Stat, Errno>) -> Reply
+pub(crate) fn stat_reply(stat: Result<Stat, Errno>) -> Reply
     ensures { result ≡ stat_reply stat }
 {
     match stat {
@@ -95,7 +95,7 @@ fn text_reply(text: Result<Text, Errno>) -> Reply
 }
 
 // Bytes, or a refusal, as they are answered.
-fn data_reply(bytes: Result<Text, Errno>) -> Reply
+pub(crate) fn data_reply(bytes: Result<Text, Errno>) -> Reply
     ensures { result ≡ data_reply bytes }
 {
     match bytes {

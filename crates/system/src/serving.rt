@@ -1,15 +1,14 @@
-//! Calls by paths, served on a mounted system.
+//! Calls on the tree, served on a mounted system.
 
-ghost use Rattle.std.specs.Prelude.{◌≡◌, ◌≢◌, IsFalse, IsTrue, IfOk, IfErr, IsErrOf, MatchResult};
+ghost use Rattle.std.specs.Prelude.{◌≡◌, ◌≢◌, ◌⊎◌, IsFalse, IsTrue, IfOk, IfErr, IsErrOf, MatchResult};
 ghost use Rattle.station.specs.Calls.{Uses};
 ghost use Rattle.station.specs.Images.{Unchanged};
 ghost use Rattle.station.specs.Moments.{Goes, HasGrown};
-ghost use Rattle.model.specs.Served.{IsServed};
+ghost use Rattle.model.specs.Circumstances.{IsSure};
 ghost use Rattle.model.specs.States.{State};
 ghost use Rattle.model.specs.Steps.{is_reading_call};
-ghost use Rattle.model.specs.declared.command.Command.TheVariants as commands;
 ghost use Rattle.system.specs.Errors.{call_error, log_error};
-ghost use Rattle.system.specs.Serving.{Handles, HasEmptyLog, IsBrokenOff, IsCalled, ServesState, TellsNoFault, WouldChange};
+ghost use Rattle.system.specs.Serving.{Handles, HasEmptyLog, IsBrokenOff, IsCall, IsCalled, ServesState, TellsNoFault, WouldChange};
 ghost use Rattle.system.specs.Systems.{meaning_of};
 
 use crate::changing::prepare;
@@ -18,7 +17,7 @@ use crate::reading::read;
 use crate::{CallError, System};
 use blocktree::ReadError;
 use calls::Changing;
-use model::{PathCall, Reply};
+use model::{Command, PathCall, Reply};
 use oplog::AppendError;
 use station::Station;
 
@@ -45,12 +44,12 @@ pub(crate) fn log_error(error: AppendError) -> CallError
 }
 
 impl<S: Station> System<S> {
-    /// Serves a call by a path: answers it where it changes nothing, or else logs its record and puts it in force; all
-    /// calls but `truncate`. `LogFull` only for a call that would change something, where a consistency
-    /// point has to come first. After an error nothing has changed, but for `NotWritten`: then a cut leaves the state before the
-    /// call or the one after it.
-    pub fn call(&mut self, call: &PathCall) -> Result<Reply, CallError>
-        requires { IsServed (commands.Path call.now) }
+    /// Serves a call on the tree or on a descriptor: answers it where the image doesn't change by it, or else logs its record and
+    /// puts it in force. `LogFull` only for a call that would change something, where a consistency point has to come first.
+    /// After an error nothing has changed, but for `NotWritten`: then a cut leaves the state before the call or the one after
+    /// it. A sure call is always answered.
+    pub fn call(&mut self, call: &Command) -> Result<Reply, CallError>
+        requires { IsCall call.now }
         ensures uses { Uses (meaning_of self.old) (meaning_of self.new) }
         ensures no_fault { IfOk result TellsNoFault }
         ensures read { MatchResult result
@@ -77,6 +76,8 @@ impl<S: Station> System<S> {
             → IfOk result (IsCalled self.old self.new s call.now) }
         ensures broken { (s : State) → ServesState self.old s
             → IsErrOf result CallError.NotWritten → IsBrokenOff self.old self.new s call.now }
+        ensures sure { (s : State) → ServesState self.old s → MatchResult result
+            (λ _. IsSure s call.now ⊎ ¬ IsSure s call.now) (λ _. ¬ IsSure s call.now) }
         ensures full { (s : State) → ServesState self.old s
             → IsErrOf result CallError.LogFull → WouldChange s call.now }
         ensures fits { (s : State) → ServesState self.old s → HasEmptyLog self.old
@@ -88,9 +89,19 @@ impl<S: Station> System<S> {
     }
 
     // The same, promised at once.
-    fn serve(&mut self, call: &PathCall) -> Result<Reply, CallError>
-        requires { IsServed (commands.Path call.now) }
+    fn serve(&mut self, call: &Command) -> Result<Reply, CallError>
+        requires { IsCall call.now }
         ensures { Handles self.old self.new call.now result }
+    {
+        match call {
+            Command::Path(call) => self.serve_path(call),
+            _ => self.serve_open_file(call),
+        }
+    }
+
+    // Serves a call by a path.
+    fn serve_path(&mut self, call: &PathCall) -> Result<Reply, CallError>
+        ensures { Handles self.old self.new (Command.Path call.now) result }
     {
         match call {
             PathCall::List { .. } => self.look(call),
@@ -105,7 +116,7 @@ impl<S: Station> System<S> {
     // Answers a call that only reads.
     fn look(&mut self, call: &PathCall) -> Result<Reply, CallError>
         requires { IsTrue (is_reading_call call.now) }
-        ensures { Handles self.old self.new call.now result }
+        ensures { Handles self.old self.new (Command.Path call.now) result }
     {
         served_states_open(self);
         match read(self.alloc, &mut self.inodes, &mut self.blocks, call) {
@@ -116,9 +127,8 @@ impl<S: Station> System<S> {
 
     // Logs the record of a call that changes something, and puts it in force.
     fn change(&mut self, call: &PathCall) -> Result<Reply, CallError>
-        requires served { IsServed (commands.Path call.now) }
-        requires changes { IsFalse (is_reading_call call.now) }
-        ensures { Handles self.old self.new call.now result }
+        requires { IsFalse (is_reading_call call.now) }
+        ensures { Handles self.old self.new (Command.Path call.now) result }
     {
         served_states_open(self);
         match prepare(self.alloc, &mut self.inodes, &mut self.blocks, call) {

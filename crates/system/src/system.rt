@@ -3,12 +3,14 @@
 ghost use Rattle.std.specs.Prelude.{◌≡◌, ◌+◌, ◌*◌, ◌≤◌, ◌^◌};
 ghost use Rattle.layout.specs.Root.{IsRoot};
 ghost use Rattle.oplog.specs.LogEnd.{next_of};
+ghost use Rattle.records.specs.Opened.{HasNumbers};
 ghost use Rattle.replay.specs.declared.costs.TheConstants.{MOST_COST};
 ghost use Rattle.system.specs.Memory.{IsClean};
 ghost use Rattle.system.specs.Props.{IsRoot-prop};
 
 use blockmap::BlockMap;
 use buffers::Buffers;
+use descriptors::Descriptors;
 use inofile::InodeFile;
 use layout::Root;
 use oplog::Log;
@@ -29,6 +31,8 @@ pub struct System<S: Station> {
     pub(crate) log: Log,
     /// Blocks that a consistency point may store for what the root doesn't cover.
     pub(crate) pledged: u64,
+    /// The files that are open.
+    pub(crate) files: Descriptors,
     ghost sectors: { (S.meaning blocks.station).sectors ≡ 8 * root.geometry.blocks },
     ghost nvram: { (S.meaning blocks.station).nvram_bytes ≡ 2 * log.half },
     ghost half: { log.half ≡ root.geometry.half },
@@ -37,6 +41,7 @@ pub struct System<S: Station> {
     ghost clean: { IsClean map },
     ghost fresh: { map.next ≡ 2 },
     ghost few: { pledged ≤ 2 ^ 32 + MOST_COST * next_of log.end },
+    ghost numbers: { HasNumbers inodes.geometry.inodes files },
     ghost is_root: { IsRoot root } by { IsRoot-prop root },
 }
 

@@ -5,7 +5,7 @@ use Rattle.std.proofs.lemmas.Result.{IfOk-weaker}
 use Rattle.station.specs.Images.{Images}
 use Rattle.station.specs.Moments.{Meaning}
 use Rattle.model.specs.States.{State}
-use Rattle.calls.specs.Served.{IsServed}
+use Rattle.records.specs.Served.{IsServed}
 use Rattle.making.specs.Images.{OpensAlone}
 use Rattle.system.specs.Images.{OpensTo}
 use Rattle.mount.proofs.image.make.Goals as goal

@@ -31,7 +31,7 @@ returns-in-Ok-clause-serves g c honest just of first last snapshots changes hold
     let on : ReadsOn (g.S.Station.meaning c.new-blocks.result.station) new =
     c.read_image.ensures.reads.reads c.new-blocks.result (reads_none (g.S.Station.meaning c.new-blocks.result.station)) in
     let from : ReadsOn m new = subst (λ (s : g.row.S.Denot). ReadsOn (g.S.Station.meaning s) new) c.new-blocks.ensures.station on in
-    let over : IsOver new c.read_image.new.blocks.kept c.args.found c.in-Ok.field-0 first last snapshots changes i = record {
+    let over : IsOver new c.read_image.new.blocks.kept c.args.found c.in-Ok.field-0 first last snapshots changes c.new.result c.new.ensures.closed c.new.ensures.fits i = record {
       just = still_left m new i from.same from.goes just;
       shows = c.read_image.ensures.reads.same (blocks_of i.disk) shows;
       of = of;
@@ -40,7 +40,7 @@ returns-in-Ok-clause-serves g c honest just of first last snapshots changes hold
     } in
     let inodes = c.args.found.newest.root.geometry.inodes in
     let mounted = (c.mounts_find_volumes.ensures inodes last (c.replays_keep_volumes.ensures inodes first changes last holds.holds.volume holds.replays)).1 in
-    serves new c.read_image.new.blocks.kept c.args.found c.in-Ok.field-0 first last snapshots changes i (from.goes honest).seen mounted c.in-Ok.ensures.fits.runs over
+    serves new c.read_image.new.blocks.kept c.args.found c.in-Ok.field-0 first last snapshots changes c.new.result c.new.ensures.closed c.new.ensures.fits i (from.goes honest).seen mounted c.in-Ok.ensures.fits.runs over
 
 pub returns-in-Err-clause-serves : goal.returns-in-Err-clause-serves
 returns-in-Err-clause-serves g c honest just of first last snapshots changes holds =

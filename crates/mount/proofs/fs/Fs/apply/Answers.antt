@@ -1,5 +1,5 @@
 use Rattle.std.proofs.Common.{◌≡◌}
-use Rattle.model.specs.declared.command.Command.TheVariants.{Path, Sync, Df}
+use Rattle.model.specs.declared.command.Command.TheVariants.{Sync, Df}
 use Rattle.model.specs.declared.errno.Errno.TheVariants.{EIO}
 use Rattle.mount.proofs.ApplyLemmas.{failed_applied}
 use Rattle.mount.proofs.AttemptLemmas.{asked_as}
@@ -7,11 +7,6 @@ use Rattle.mount.proofs.fs.Fs.apply.Goals as goal
 
 pub returns-then-self-clause-applied : goal.returns-then-self-clause-applied
 returns-then-self-clause-applied g c s serves young = (s, failed_applied _ s c.args.command.now serves c.if-self.true)
-
-pub returns-in-Path-clause-applied : goal.returns-in-Path-clause-applied
-returns-in-Path-clause-applied g c s serves young =
-    let is : c.args.command.now ≡ Path c.in-Path.call = cc in
-    asked_as _ _ s (Path c.in-Path.call) c.args.command.now c.call.result is (c.call.ensures.applied s serves young)
 
 pub returns-in-Sync-clause-applied : goal.returns-in-Sync-clause-applied
 returns-in-Sync-clause-applied g c s serves young =

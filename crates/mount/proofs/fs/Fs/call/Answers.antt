@@ -1,6 +1,5 @@
 use Rattle.std.proofs.Common.{◌≡◌, ap, arith}
 use Rattle.std.specs.Prelude.{Err}
-use Rattle.model.specs.declared.command.Command.TheVariants.{Path}
 use Rattle.model.specs.declared.errno.Errno.TheVariants.{EIO}
 use Rattle.system.specs.declared.error.CallError.TheVariants.{LogFull}
 use Rattle.mount.specs.Refusals as refusals
@@ -17,7 +16,7 @@ returns-in-LogFull-clause-applied g c s serves young =
     let full = ap (λ e. Err e) is in
     let both = told.full s serves full in
     let young_still = young_on c.args.self.now.system.log.epoch c.attempt.new.self.system.log.epoch (omega (arith, told.epoch)) young in
-    after_stay c.args.self.now c.attempt.new.self _ s (Path c.args.call.now) c.call_settled.result serves c.requires.going both.0 c.call_settled.ensures.uses (told.read full)
+    after_stay c.args.self.now c.attempt.new.self _ s c.args.call.now c.call_settled.result serves c.requires.going both.0 c.call_settled.ensures.uses (told.read full)
     (told.written (full_is_no_fault _ is)) (c.call_settled.ensures.applied s both.0.serves young_still both.1)
 
 pub returns-in_default : goal.returns-in_default
@@ -28,5 +27,5 @@ returns-in_default g c =
       eio = λ is. let fault : refusals.errno_of_call c.in-Err.error ≡ EIO = cc in told.eio fault;
       refused = λ errno is other. told.written (λ fault. let it : errno ≡ EIO = cc in other it);
       ages = omega (arith, told.epoch);
-      applied = λ s serves young. answered_as _ _ s (Path c.args.call.now) _ _ c.errno_of_call.ensures (told.applied s serves c.in_default.not-LogFull);
+      applied = λ s serves young. answered_as _ _ s c.args.call.now _ _ c.errno_of_call.ensures (told.applied s serves c.in_default.not-LogFull);
     }

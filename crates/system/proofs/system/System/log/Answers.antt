@@ -1,15 +1,19 @@
-use Rattle.std.proofs.Common.{◌⊎◌, inl, sym, subst}
+use Rattle.std.proofs.Common.{◌≡◌, ◌∙◌, ◌⊎◌, ℕ, Option, ap, inl, sym, subst}
 use Rattle.station.specs.Images.{Images}
 use Rattle.station.proofs.Moments.{started, weaker}
 use Rattle.layout.specs.Places.{blocks_of}
 use Rattle.layout.specs.Record.{change_of}
 use Rattle.model.specs.Records.{applied}
-use Rattle.model.specs.Volumes.{swept}
+use Rattle.model.specs.Trees.{Description}
+use Rattle.model.specs.Volumes.{IsMounted, Volume, swept}
+use Rattle.descriptors.specs.Fits.{FitsVolume}
+use Rattle.descriptors.specs.Tables.{table_of}
+use Rattle.descriptors.specs.declared.table.Descriptors.{Descriptors}
 use Rattle.inofile.specs.Volumes.{IsVolumeOf}
 use Rattle.inofile.specs.declared.inode_file.InodeFile.{InodeFile}
 use Rattle.images.specs.Roots.{whole}
 use Rattle.loading.specs.Images.{inodes_of}
-use Rattle.calls.specs.Prepared.{Does}
+use Rattle.records.specs.Prepared.{Does}
 use Rattle.system.specs.Images.{OpensTo}
 use Rattle.system.specs.Systems.{meaning_of, state_with}
 use Rattle.system.proofs.system.System.log.Goals as goal
@@ -25,12 +29,22 @@ pub returns-clause-done : goal.returns-clause-done
 returns-clause-done g c = λ table s serves advances does.
     let f = c.args.self.now in
     let change = change_of c.args.change.now in
+    let v = serves.running in
     let disk = blocks_of (meaning_of {G = g.S.Station} f).seen.disk in
     let settled = inodes_of (whole disk f.root).active in
     let count = f.root.geometry.blocks in
     let same = sym c.log_record.ensures.inodes in
-    c.in_ok-log_record.ensures.logged table s serves advances c.commit_swept.new.inodes
-    (c.commit_swept.ensures.volume count disk settled serves.running change table
-    (subst (λ (i : InodeFile). IsVolumeOf count disk settled i serves.running) same serves.memory.stands)
-    (subst (λ (i : InodeFile). Does disk settled i serves.running c.args.prepared change) same does)
-    serves.closed serves.mounted)
+    let files : f.files ≡ c.log_record.new.self.files = sym c.log_record.ensures.files in
+    let opened : table ≡ table_of c.log_record.new.self.files = serves.opened ∙ ap table_of files in
+    let after : (ℕ → Option Description) → Volume = λ t. swept t (applied change v) in
+    let over = subst (λ (i : InodeFile). IsVolumeOf count disk settled i v) same serves.memory.stands in
+    let doing = subst (λ (i : InodeFile). Does disk settled i v c.args.prepared change) same does in
+    let mounted = subst (λ (t : ℕ → Option Description). IsMounted v t) opened serves.mounted in
+    c.in_ok-log_record.ensures.logged table s serves advances c.commit_swept.new.inodes c.commit_swept.new.files
+    (subst (λ (t : ℕ → Option Description). IsVolumeOf count disk settled c.commit_swept.new.inodes (after t)) (sym opened)
+    (c.commit_swept.ensures.volume count disk settled v change over doing mounted))
+    (opened ∙ sym c.commit_swept.ensures.opened)
+    (subst (λ (t : ℕ → Option Description). FitsVolume c.commit_swept.new.files (after t)) (sym opened)
+    (c.commit_swept.ensures.fits count disk settled v change over doing mounted
+    (subst (λ (d : Descriptors). FitsVolume d v) files serves.fits)
+    (subst (λ (t : ℕ → Option Description). IsMounted (after t) t) opened advances.mounted)))

@@ -31,28 +31,28 @@ returns-in-Err-clause-any_moment g c = λ table s serves advances.
     let f = c.args.self.now in
     let m = g.S.Station.meaning f.blocks.station in
     let change = change_of c.args.change.now in
-    laws.at_any_moment c.cuts_open.ensures c.records_lead_on.ensures m f.blocks.kept f.root f.slot f.inodes f.map f.log f.pledged table s serves change advances f.sectors f.half
+    laws.at_any_moment c.cuts_open.ensures c.records_lead_on.ensures m f.blocks.kept f.root f.slot f.inodes f.map f.log f.pledged f.files table s serves change advances f.sectors f.half
     (g.S.Station.meaning c.append.new.station)
     (c.append.ensures.any_moment f.root.generation serves.bodies
-    (laws.log_stands c.cuts_open.ensures c.records_lead_on.ensures m f.blocks.kept f.root f.slot f.inodes f.map f.log f.pledged table s serves change advances))
+    (laws.log_stands c.cuts_open.ensures c.records_lead_on.ensures m f.blocks.kept f.root f.slot f.inodes f.map f.log f.pledged f.files table s serves change advances))
 
 pub returns-in-Ok-clause-any_moment : goal.returns-in-Ok-clause-any_moment
 returns-in-Ok-clause-any_moment g c = λ table s serves advances.
     let f = c.args.self.now in
     let m = g.S.Station.meaning f.blocks.station in
     let change = change_of c.args.change.now in
-    laws.at_any_moment c.cuts_open.ensures c.records_lead_on.ensures m f.blocks.kept f.root f.slot f.inodes f.map f.log f.pledged table s serves change advances f.sectors f.half
+    laws.at_any_moment c.cuts_open.ensures c.records_lead_on.ensures m f.blocks.kept f.root f.slot f.inodes f.map f.log f.pledged f.files table s serves change advances f.sectors f.half
     (g.S.Station.meaning c.append.new.station)
     (c.append.ensures.any_moment f.root.generation serves.bodies
-    (laws.log_stands c.cuts_open.ensures c.records_lead_on.ensures m f.blocks.kept f.root f.slot f.inodes f.map f.log f.pledged table s serves change advances))
+    (laws.log_stands c.cuts_open.ensures c.records_lead_on.ensures m f.blocks.kept f.root f.slot f.inodes f.map f.log f.pledged f.files table s serves change advances))
 
 pub returns-in-Ok-clause-logged : goal.returns-in-Ok-clause-logged
 returns-in-Ok-clause-logged g c = λ table s serves advances.
     let f = c.args.self.now in
     let m = g.S.Station.meaning f.blocks.station in
     let change = change_of c.args.change.now in
-    laws.logged c.cuts_open.ensures c.records_lead_on.ensures m f.blocks.kept f.root f.slot f.inodes f.map f.log f.pledged table s serves change advances (g.S.Station.meaning c.append.new.station) c.append.new.self
+    laws.logged c.cuts_open.ensures c.records_lead_on.ensures m f.blocks.kept f.root f.slot f.inodes f.map f.log f.pledged f.files table s serves change advances (g.S.Station.meaning c.append.new.station) c.append.new.self
     c.append.ensures.disk c.append.ensures.writes.same
     (c.in-Ok.ensures.appended f.root.generation serves.bodies
-    (laws.log_stands c.cuts_open.ensures c.records_lead_on.ensures m f.blocks.kept f.root f.slot f.inodes f.map f.log f.pledged table s serves change advances))
+    (laws.log_stands c.cuts_open.ensures c.records_lead_on.ensures m f.blocks.kept f.root f.slot f.inodes f.map f.log f.pledged f.files table s serves change advances))
     (subst (λ (l : LogEnd). IsFalse l.is_stopped) (sym c.in-Ok.ensures.end) serves.goes) c.cost_of-cost.result c.cost_of-cost.ensures.cost

@@ -1,9 +1,10 @@
-use Rattle.std.proofs.Common.{ap, refl}
+use Rattle.std.proofs.Common.{ap, inr, refl}
 use Rattle.std.specs.Prelude.{Err}
 use Rattle.layout.specs.Places.{blocks_of}
 use Rattle.images.specs.Roots.{whole}
 use Rattle.loading.specs.Images.{inodes_of}
 use Rattle.buffers.specs.Readings.{reads_none}
+use Rattle.model.specs.declared.command.Command.TheVariants as command
 use Rattle.system.specs.Systems.{meaning_of}
 use Rattle.system.proofs.ServingLaws.{answered, unanswered_read, looked_on, its_volume, told_of}
 use Rattle.system.proofs.system.System.look.Goals as goal
@@ -15,10 +16,10 @@ returns-in-Ok g c =
     let d = blocks_of m.seen.disk in
     let told = c.in-Ok.ensures in
     let looks = told.looks in
-    answered fs _ _ (looks.reads.reads fs.blocks (reads_none m)) refl
-    (λ s served. looked_on _ _ _ _ _ _ _ _ _ _ _ _ s fs.sectors (looks.reads.reads fs.blocks (reads_none m)) looks.reads.same
+    answered fs _ (command.Path c.args.call.now) (looks.reads.reads fs.blocks (reads_none m)) refl
+    (λ s served. looked_on _ _ _ _ _ _ _ _ _ _ _ _ _ s fs.sectors (looks.reads.reads fs.blocks (reads_none m)) looks.reads.same
     (λ disk settled v shows over. (looks.kept disk settled v (record { shows = shows; volume = over })).volume) served)
-    _ looks.reads.counted told.no_fault (λ s served. c.served_states_open.ensures s.tree.descriptors s served)
+    (λ s served. inr (λ x. x)) _ looks.reads.counted told.no_fault (λ s served. c.served_states_open.ensures s.tree.descriptors s served)
     (λ s served.
     let its = its_volume {G = g.S.Station} fs s served in
     told_of {G = g.S.Station} fs s served c.args.call.now c.in-Ok.reply
@@ -31,10 +32,10 @@ returns-in-Err g c =
     let d = blocks_of m.seen.disk in
     let told = c.in-Err.ensures in
     let looks = told.looks in
-    unanswered_read fs _ _ (looks.reads.reads fs.blocks (reads_none m)) refl
-    (λ s served. looked_on _ _ _ _ _ _ _ _ _ _ _ _ s fs.sectors (looks.reads.reads fs.blocks (reads_none m)) looks.reads.same
+    unanswered_read fs _ (command.Path c.args.call.now) (looks.reads.reads fs.blocks (reads_none m)) refl
+    (λ s served. looked_on _ _ _ _ _ _ _ _ _ _ _ _ _ s fs.sectors (looks.reads.reads fs.blocks (reads_none m)) looks.reads.same
     (λ disk settled v shows over. (looks.kept disk settled v (record { shows = shows; volume = over })).volume) served)
-    c.in-Err.error _ c.call_error.ensures looks.reads.device
+    (λ s served x. x) c.in-Err.error _ c.call_error.ensures looks.reads.device
     (λ s served is.
     let its = its_volume {G = g.S.Station} fs s served in
     told.damaged d (inodes_of (whole d fs.root).active) served.running (record { shows = served.shows; volume = its.0 }) (ap (λ e. Err e) is))

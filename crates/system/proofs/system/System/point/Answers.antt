@@ -9,8 +9,11 @@ use Rattle.layout.specs.Limits.{Sizes}
 use Rattle.layout.specs.Places.{blocks_of}
 use Rattle.layout.specs.Root.{IsRoot, root_bytes}
 use Rattle.layout.specs.declared.root.Root.{Root}
+use Rattle.model.specs.Records.{count_nameless}
 use Rattle.model.specs.States.{State}
 use Rattle.model.specs.Trees.{Description}
+use Rattle.model.specs.Volumes.{IsMounted}
+use Rattle.descriptors.specs.declared.table.Descriptors.{Descriptors}
 use Rattle.buffers.specs.declared.block.Block.{Block}
 use Rattle.buffers.specs.Readings.{reads_none}
 use Rattle.buffers.specs.declared.cache.Buffers.{Buffers}
@@ -25,6 +28,7 @@ use Rattle.conspoint.specs.Cuts.{HasNewRoot}
 use Rattle.conspoint.specs.Plans.{FitsDisk}
 use Rattle.conspoint.specs.Writes.{AreWhole, writes_of}
 use Rattle.conspoint.specs.declared.error.PlanError.TheVariants.{Damaged, NoSpace}
+use Rattle.records.specs.Opened.{HasNumbers}
 use Rattle.system.specs.Images.{OpensTo}
 use Rattle.planning.specs.Plans.{PlansEntries}
 use Rattle.system.specs.Memory.{IsClean}
@@ -51,9 +55,9 @@ on_ok {X = X} {E = E} {A = A} r x is h = subst (λ (q : Result X E). OnOk q A) i
 of_err : {X E : Type 0} (r : Result X E) (e : E) (P : E → Type 0) → r ≡ Err e → IfErr r P → P e
 of_err {X = X} {E = E} r e P is h = subst (λ (q : Result X E). IfErr q P) is h
 
-abbrev OnceCovered : Meaning → BTreeMap ℕ Block → InodeFile → BlockMap → LogEnd → ℕ → (ℕ → Option Description) → State → Root → ℕ → Type 0
-OnceCovered m kept inodes map log pledged table s root slot =
-    (serves : IsServing m kept root slot inodes map log pledged table s) × (serves.bodies ≡ no_bodies) × (serves.first ≡ serves.running)
+abbrev OnceCovered : Meaning → BTreeMap ℕ Block → InodeFile → BlockMap → LogEnd → ℕ → Descriptors → (ℕ → Option Description) → State → Root → ℕ → Type 0
+OnceCovered m kept inodes map log pledged files table s root slot =
+    (serves : IsServing m kept root slot inodes map log pledged files table s) × (serves.bodies ≡ no_bodies) × (serves.first ≡ serves.running)
 
 -- ---- what is planned
 
@@ -82,7 +86,7 @@ planned g c table s serves =
       point = subst (λ (n : ℕ). IsPoint f.root m.seen.disk (writes_of q.plan.blocks) n q.root serves.running) (sym slot)
           (of_ok r q (λ (x : Point). IsPoint f.root m.seen.disk (writes_of x.plan.blocks) c.other_slot-slot.result x.root serves.running) c.in-Ok.is
           (c.plan-map.ensures.point m.seen.disk serves.first serves.running serves.snapshots serves.shows
-          (points.plannable m f.blocks.kept f.root f.slot f.inodes f.map f.log f.pledged table s serves here c.other_slot-slot.result c.in-Some.generation c.replace-map.result c.other_slot-slot.ensures epoch c.replace-map.ensures.value)));
+          (points.plannable m f.blocks.kept f.root f.slot f.inodes f.map f.log f.pledged f.files table s serves here c.other_slot-slot.result c.in-Some.generation c.replace-map.result c.other_slot-slot.ensures epoch c.replace-map.ensures.value)));
     }
 
 pub plan-map-requires-clause-root : goal.plan-map-requires-clause-root
@@ -103,7 +107,7 @@ pub returns-in_default-clause-any_moment : goal.returns-in_default-clause-any_mo
 returns-in_default-clause-any_moment g c = λ table s serves.
     let f = c.args.self.now in
     let m = g.S.Station.meaning f.blocks.station in
-    started m (OpensTo m s) (served.all_open c.cuts_open.ensures m f.blocks.kept f.root f.slot f.inodes f.map f.log f.pledged table s serves f.sectors f.half)
+    started m (OpensTo m s) (served.all_open c.cuts_open.ensures m f.blocks.kept f.root f.slot f.inodes f.map f.log f.pledged f.files table s serves f.sectors f.half)
 
 pub returns-in_default-clause-last : goal.returns-in_default-clause-last
 returns-in_default-clause-last g c = λ table s serves is.
@@ -131,14 +135,14 @@ returns-in-Err-clause-any_moment g c = λ table s serves.
     let m = g.S.Station.meaning f.blocks.station in
     let reads = c.plan-map.ensures.reads.reads f.blocks (reads_none m) in
     leaves_unchanged m (g.S.Station.meaning c.plan-map.new.blocks.station) (OpensTo m s)
-    (served.all_open c.cuts_open.ensures m f.blocks.kept f.root f.slot f.inodes f.map f.log f.pledged table s serves f.sectors f.half) reads.goes
+    (served.all_open c.cuts_open.ensures m f.blocks.kept f.root f.slot f.inodes f.map f.log f.pledged f.files table s serves f.sectors f.half) reads.goes
 
 pub returns-in-Err-clause-refused : goal.returns-in-Err-clause-refused
 returns-in-Err-clause-refused g c = λ table s serves refused.
     let f = c.args.self.now in
     let m = g.S.Station.meaning f.blocks.station in
     let reads = c.plan-map.ensures.reads.reads f.blocks (reads_none m) in
-    served.read_on m f.blocks.kept f.root f.slot f.inodes f.map f.log f.pledged table s serves (g.S.Station.meaning c.plan-map.new.blocks.station) c.plan-map.new.blocks.kept c.plan-map.result.0
+    served.read_on m f.blocks.kept f.root f.slot f.inodes f.map f.log f.pledged f.files table s serves (g.S.Station.meaning c.plan-map.new.blocks.station) c.plan-map.new.blocks.kept c.plan-map.result.0
     reads c.plan-map.ensures.reads.same (λ b. c.plan-map.ensures.settled b ∙ ap (λ (x : BlockMap). settled_at x.parts.items b) c.replace-map.ensures.value)
 
 pub returns-in-Err-clause-damaged : goal.returns-in-Err-clause-damaged
@@ -149,7 +153,7 @@ returns-in-Err-clause-damaged g c = λ table s serves is.
     let epoch : c.in-Some.generation ≡ f.log.epoch = c.in-Some.ensures.value ∙ c.get.ensures ∙ c.epoch.ensures in
     let same : c.in-Err.error ≡ Damaged = cc in
     c.plan-map.ensures.damaged m.seen.disk serves.first serves.running serves.snapshots serves.shows
-    (points.plannable m f.blocks.kept f.root f.slot f.inodes f.map f.log f.pledged table s serves here c.other_slot-slot.result c.in-Some.generation c.replace-map.result c.other_slot-slot.ensures epoch c.replace-map.ensures.value)
+    (points.plannable m f.blocks.kept f.root f.slot f.inodes f.map f.log f.pledged f.files table s serves here c.other_slot-slot.result c.in-Some.generation c.replace-map.result c.other_slot-slot.ensures epoch c.replace-map.ensures.value)
     (c.in-Err.is ∙ ap Err same)
 
 pub invariant_of-self : goal.invariant_of-self
@@ -166,6 +170,7 @@ invariant_of-self g c =
       clean = of_err c.plan-map.result.1 c.in-Err.error (λ e. IsClean given) c.in-Err.is c.plan-map.ensures.given;
       fresh = of_err c.plan-map.result.1 c.in-Err.error (λ e. given.next ≡ 2) c.in-Err.is c.plan-map.ensures.next;
       few = f.few;
+      numbers = f.numbers;
       is_root = f.is_root;
     }
 
@@ -208,6 +213,7 @@ invariant_of-self-in-Err-carry_out g c =
       clean = λ b. c.give_up.ensures.entries b ∙ sym (c.give_up.ensures.settled b);
       fresh = c.give_up.ensures.next;
       few = f.few;
+      numbers = f.numbers;
       is_root = f.is_root;
     }
 
@@ -230,7 +236,7 @@ returns-in-Err-carry_out-clause-any_moment g c = λ table s serves.
     let m = g.S.Station.meaning f.blocks.station in
     let reads = c.plan-map.ensures.reads.reads f.blocks (reads_none m) in
     let here = g.met.S.Station.seen_may_be_left f.blocks.station serves.honest in
-    points.at_any_moment c.cuts_open.ensures m f.blocks.kept f.root f.slot f.inodes f.map f.log f.pledged table s serves f.sectors f.half c.in-Ok.point.plan c.in-Ok.point.root
+    points.at_any_moment c.cuts_open.ensures m f.blocks.kept f.root f.slot f.inodes f.map f.log f.pledged f.files table s serves f.sectors f.half c.in-Ok.point.plan c.in-Ok.point.root
     (planned g (goal.at.returns-in-Err-carry_out-clause-any_moment g c).In-Ok table s serves) here (g.met.S.Station.sized f.blocks.station serves.honest m.seen here).sector
     (g.S.Station.meaning c.plan-map.new.blocks.station) (g.S.Station.meaning c.carry_out.new.buffers.station) reads.goes c.carry_out.ensures.any_moment
 
@@ -239,8 +245,8 @@ returns-in-Err-carry_out-clause-refused g c = λ table s serves refused.
     let f = c.args.self.now in
     let m = g.S.Station.meaning f.blocks.station in
     let reads = c.plan-map.ensures.reads.reads f.blocks (reads_none m) in
-    subst (λ (b : Buffers g.row.S.Denot). IsServing (g.S.Station.meaning b.station) b.kept f.root f.slot f.inodes c.give_up.new.self f.log f.pledged table s) (sym (c.in-Err-carry_out.ensures.refused refused))
-    (served.read_on m f.blocks.kept f.root f.slot f.inodes f.map f.log f.pledged table s serves (g.S.Station.meaning c.plan-map.new.blocks.station) c.plan-map.new.blocks.kept c.give_up.new.self
+    subst (λ (b : Buffers g.row.S.Denot). IsServing (g.S.Station.meaning b.station) b.kept f.root f.slot f.inodes c.give_up.new.self f.log f.pledged f.files table s) (sym (c.in-Err-carry_out.ensures.refused refused))
+    (served.read_on m f.blocks.kept f.root f.slot f.inodes f.map f.log f.pledged f.files table s serves (g.S.Station.meaning c.plan-map.new.blocks.station) c.plan-map.new.blocks.kept c.give_up.new.self
     reads c.plan-map.ensures.reads.same
     (λ b. c.give_up.ensures.settled b ∙ c.plan-map.ensures.settled b ∙ ap (λ (x : BlockMap). settled_at x.parts.items b) c.replace-map.ensures.value))
 
@@ -279,7 +285,8 @@ invariant_of-self-in-Ok-carry_out g c =
       count = c.settle.ensures.count ∙ c.plan-map.ensures.count ∙ ap (λ (x : BlockMap). x.count) c.replace-map.ensures.value ∙ f.count ∙ ap (λ (x : Sizes). x.blocks) (sym sizes);
       clean = λ b. c.settle.ensures.entries b ∙ sym (c.settle.ensures.settled b);
       fresh = c.settle.ensures.next;
-      few = omega arith;
+      few = omega (arith, c.nameless_files.ensures.few, c.from.ensures);
+      numbers = subst (λ (x : Sizes). HasNumbers x.inodes f.files) (sym c.settle-in-Ok-carry_out.ensures.geometry) f.numbers;
       is_root = subst IsRoot (sym root) (of_ok c.plan-map.result.1 c.in-Ok.point (λ (x : Point). IsRoot x.root) c.in-Ok.is c.plan-map.ensures.root);
     }
 
@@ -312,7 +319,7 @@ returns-in-Ok-carry_out-clause-any_moment g c = λ table s serves.
     let m = g.S.Station.meaning f.blocks.station in
     let reads = c.plan-map.ensures.reads.reads f.blocks (reads_none m) in
     let here = g.met.S.Station.seen_may_be_left f.blocks.station serves.honest in
-    points.at_any_moment c.cuts_open.ensures m f.blocks.kept f.root f.slot f.inodes f.map f.log f.pledged table s serves f.sectors f.half c.in-Ok.point.plan c.in-Ok.point.root
+    points.at_any_moment c.cuts_open.ensures m f.blocks.kept f.root f.slot f.inodes f.map f.log f.pledged f.files table s serves f.sectors f.half c.in-Ok.point.plan c.in-Ok.point.root
     (planned g (goal.at.returns-in-Ok-carry_out-clause-any_moment g c).In-Ok table s serves) here (g.met.S.Station.sized f.blocks.station serves.honest m.seen here).sector
     (g.S.Station.meaning c.plan-map.new.blocks.station) (g.S.Station.meaning c.carry_out.new.buffers.station) reads.goes c.carry_out.ensures.any_moment
 
@@ -336,32 +343,35 @@ returns-in-Ok-carry_out-clause-covered g c = λ table s serves.
     let whole : AreWhole m.sectors now.seen.disk = λ n low. has.whole n (sizes n low) in
     let cuts = c.cuts_open.ensures in
     let laws = c.new_roots_hold.ensures in
-    let images = points.with_root cuts m f.blocks.kept f.root f.slot f.inodes f.map f.log f.pledged table s serves f.sectors f.half p new plan here sizes now.seen has in
-    let open_now = points.reads cuts m f.blocks.kept f.root f.slot f.inodes f.map f.log f.pledged table s serves f.sectors f.half p new plan here sizes in
+    let images = points.with_root cuts m f.blocks.kept f.root f.slot f.inodes f.map f.log f.pledged f.files table s serves f.sectors f.half p new plan here sizes now.seen has in
+    let open_now = points.reads cuts m f.blocks.kept f.root f.slot f.inodes f.map f.log f.pledged f.files table s serves f.sectors f.half p new plan here sizes in
     let newest = laws.newest m.sectors m.seen.disk now.seen.disk m.seen.nvram s (writes_of p.blocks) p.slot new serves.running open_now plan.point images in
     let holds = laws.holds m.sectors m.seen.disk now.seen.disk m.seen.nvram s (writes_of p.blocks) p.slot new serves.running open_now plan.point images in
     let epoch : c.in-Some.generation ≡ f.log.epoch = c.in-Some.ensures.value ∙ c.get.ensures ∙ c.epoch.ensures in
-    let plannable = points.plannable m f.blocks.kept f.root f.slot f.inodes f.map f.log f.pledged table s serves here c.other_slot-slot.result c.in-Some.generation c.replace-map.result c.other_slot-slot.ensures epoch
+    let plannable = points.plannable m f.blocks.kept f.root f.slot f.inodes f.map f.log f.pledged f.files table s serves here c.other_slot-slot.result c.in-Some.generation c.replace-map.result c.other_slot-slot.ensures epoch
     c.replace-map.ensures.value in
     let entries : (b : ℕ) → settled_at c.settle.new.self.parts.items b ≡ entry (roots.whole (blocks_of now.seen.disk) new).active b = λ b.
     c.settle.ensures.settled b ∙ sym (of_ok c.plan-map.result.1 c.in-Ok.point (λ (x : Point). PlansEntries (blocks_of m.seen.disk) f.root x.plan x.root c.plan-map.result.0) c.in-Ok.is
     (c.plan-map.ensures.entries m.seen.disk serves.first serves.running serves.snapshots serves.shows plannable) (blocks_of now.seen.disk)
-    (settled.has_all laws m f.blocks.kept f.root f.slot f.inodes f.map f.log f.pledged table s serves f.sectors p new plan now whole has images)
-    (settled.agrees laws m f.blocks.kept f.root f.slot f.inodes f.map f.log f.pledged table s serves f.sectors p new plan now whole has images) b) in
-    let memory = settled.memory laws m f.blocks.kept f.root f.slot f.inodes f.map f.log f.pledged table s serves f.sectors p new plan now whole has images holds
+    (settled.has_all laws m f.blocks.kept f.root f.slot f.inodes f.map f.log f.pledged f.files table s serves f.sectors p new plan now whole has images)
+    (settled.agrees laws m f.blocks.kept f.root f.slot f.inodes f.map f.log f.pledged f.files table s serves f.sectors p new plan now whole has images) b) in
+    let memory = settled.memory laws m f.blocks.kept f.root f.slot f.inodes f.map f.log f.pledged f.files table s serves f.sectors p new plan now whole has images holds
     c.in-Ok-carry_out.file c.settle-in-Ok-carry_out.new.self c.settle.new.self f.sizes c.in-Ok-carry_out.ensures.file c.settle-in-Ok-carry_out.ensures.volume entries in
-    let shown = settled.shows laws m f.blocks.kept f.root f.slot f.inodes f.map f.log f.pledged table s serves f.sectors p new plan now whole has images kept same.sectors
+    let shown = settled.shows laws m f.blocks.kept f.root f.slot f.inodes f.map f.log f.pledged f.files table s serves f.sectors p new plan now whole has images kept same.sectors
     (c.in-Ok-carry_out.ensures.shows (blocks_of m.seen.disk) (c.plan-map.ensures.reads.same (blocks_of m.seen.disk) serves.shows)) in
     let stands = c.go_on.ensures.covered f.root.generation serves.bodies m.seen.nvram (omega (arith, f.is_root.head.last)) (c.epoch_after.ensures ∙ ap (λ (n : ℕ). n + 1) epoch)
     (serves.left serves.honest m.seen here).log_stands in
     let goes = subst (λ (l : LogEnd). IsFalse l.is_stopped) (sym c.go_on.ensures.end) serves.goes in
-    let done : OnceCovered now kept c.settle-in-Ok-carry_out.new.self c.settle.new.self c.go_on.new.self 0 table s new p.slot = (
-      settled.settled laws m f.blocks.kept f.root f.slot f.inodes f.map f.log f.pledged table s serves f.sectors p new plan now whole has images holds
-          kept c.settle-in-Ok-carry_out.new.self c.settle.new.self c.go_on.new.self honest c.in-Ok-carry_out.ensures.just shown newest stands goes memory,
+    let counted : c.from.result ≡ count_nameless new.geometry.inodes serves.running =
+    c.from.ensures ∙ c.nameless_files.ensures.counted new.geometry.inodes serves.running memory.volume
+    (subst (λ (t : ℕ → Option Description). IsMounted serves.running t) serves.opened serves.mounted) serves.fits in
+    let done : OnceCovered now kept c.settle-in-Ok-carry_out.new.self c.settle.new.self c.go_on.new.self (4 * c.from.result) f.files table s new p.slot = (
+      settled.settled laws m f.blocks.kept f.root f.slot f.inodes f.map f.log f.pledged f.files table s serves f.sectors p new plan now whole has images holds
+          kept c.settle-in-Ok-carry_out.new.self c.settle.new.self c.go_on.new.self honest c.in-Ok-carry_out.ensures.just shown newest stands goes memory c.from.result counted,
       refl {a = no_bodies},
       refl {a = serves.running},
     ) in
     let slot : p.slot ≡ c.other_slot-slot.result = of_ok c.plan-map.result.1 c.in-Ok.point (λ (x : Point). x.plan.slot ≡ c.other_slot-slot.result) c.in-Ok.is c.plan-map.ensures.slot in
-    let there = subst (λ (r : Root). OnceCovered now kept c.settle-in-Ok-carry_out.new.self c.settle.new.self c.go_on.new.self 0 table s r c.other_slot-slot.result) (sym c.in-Ok-carry_out.ensures.root)
-    (subst (OnceCovered now kept c.settle-in-Ok-carry_out.new.self c.settle.new.self c.go_on.new.self 0 table s new) slot done) in
+    let there = subst (λ (r : Root). OnceCovered now kept c.settle-in-Ok-carry_out.new.self c.settle.new.self c.go_on.new.self (4 * c.from.result) f.files table s r c.other_slot-slot.result) (sym c.in-Ok-carry_out.ensures.root)
+    (subst (OnceCovered now kept c.settle-in-Ok-carry_out.new.self c.settle.new.self c.go_on.new.self (4 * c.from.result) f.files table s new) slot done) in
     record { serves = there.0; no_record = there.1; held = there.2 }

@@ -1,0 +1,157 @@
+-- A system whose open files change, while its log and its disk stay as they are.
+use Rattle.std.proofs.Common.{◌≡◌, ◌⊎◌, inl, inr, ℕ, zero, suc, List, Option, Some, None, Bool, true, false, refl, sym, subst, ◌∙◌}
+use Rattle.std.specs.Prelude.{IsSome, IsTrue}
+use Rattle.std.specs.BTreeMap.{BTreeMap}
+use Rattle.station.specs.Images.{Images}
+use Rattle.station.specs.Moments.{Meaning}
+use Rattle.station.proofs.Moments.{weaker}
+use Rattle.layout.specs.Places.{blocks_of}
+use Rattle.layout.specs.declared.root.Root.{Root}
+use Rattle.model.specs.Paths.{Name}
+use Rattle.model.specs.Records.{Extends, is_vacant}
+use Rattle.model.specs.States.{State}
+use Rattle.model.specs.Trees.{Description, Tree}
+use Rattle.model.specs.Volumes.{IsMounted, Node, Volume, directory_node, file_node, is_open, link_node, swept, swept_node}
+use Rattle.buffers.specs.declared.block.Block.{Block}
+use Rattle.blockmap.specs.declared.map.BlockMap.{BlockMap}
+use Rattle.images.specs.Roots.{whole}
+use Rattle.inofile.specs.Volumes.{IsVolumeOf}
+use Rattle.inofile.specs.declared.inode_file.InodeFile.{InodeFile}
+use Rattle.loading.specs.Images.{inodes_of}
+use Rattle.oplog.specs.LogEnd.{LogEnd}
+use Rattle.descriptors.specs.Fits.{FitsVolume}
+use Rattle.descriptors.specs.Tables.{table_of}
+use Rattle.descriptors.specs.declared.table.Descriptors.{Descriptors}
+use Rattle.system.specs.Images.{OpensTo}
+use Rattle.system.specs.Laws.{RecordLaws}
+use Rattle.system.specs.Serving.{LeavesEither}
+use Rattle.system.specs.Systems.{IsServing, state_with}
+
+-- what opens to a state opens to it with other open files
+pub opens_moved : (m : Meaning) (n : ℕ) (v : Volume) (table after : ℕ → Option Description) (snapshots : List (Name × Tree)) (c : Images)
+    → OpensTo m (state_with n v table snapshots) c → OpensTo m (state_with n v after snapshots) c
+opens_moved m n v table after snapshots c to =
+    let o = to.opens in
+    record {
+      opens = record {
+        root = o.root;
+        newest = o.newest;
+        size = o.size;
+        first = o.first;
+        snapshots = o.snapshots;
+        holds = o.holds;
+        changes = o.changes;
+        log = o.log;
+        last = o.last;
+        replays = o.replays;
+        state = record {
+          tree = record {
+            objects = o.state.tree.objects;
+            descriptors = o.state.tree.descriptors;
+            kept = o.state.tree.kept;
+            gone = o.state.tree.gone;
+          };
+          rest = o.state.rest;
+        };
+      };
+      served = to.served;
+    }
+
+pub leaves_moved : (old new : Meaning) (s : State) (n : ℕ) (v : Volume) (table after : ℕ → Option Description) (snapshots : List (Name × Tree))
+    → LeavesEither old new s (state_with n v table snapshots) → LeavesEither old new s (state_with n v after snapshots)
+leaves_moved old new s n v table after snapshots leaves =
+    weaker old new (λ c. OpensTo old s c ⊎ OpensTo old (state_with n v table snapshots) c) (λ c. OpensTo old s c ⊎ OpensTo old (state_with n v after snapshots) c) leaves (λ c either. elim either [
+      | inl before ↦ inl before
+      | inr behind ↦ inr (opens_moved old n v table after snapshots c behind)
+    ])
+
+-- ---- what a replay keeps that is dropped
+
+-- what a sweep leaves is as it was
+left_same : (open_now : Bool) (o : Option Node) → IsSome (swept_node open_now o) → swept_node open_now o ≡ o
+left_same open_now None some = cc
+left_same open_now (Some (directory_node mode names)) some = refl
+left_same open_now (Some (link_node text)) some = refl
+left_same true (Some (file_node mode zero bytes)) some = refl
+left_same false (Some (file_node mode zero bytes)) some = cc
+left_same open_now (Some (file_node mode (suc links) bytes)) some = refl
+
+-- what it drops has no name
+dropped_vacant : (open_now : Bool) (o kept : Option Node) → (IsSome o → kept ≡ o) → (o ≡ None → IsTrue (is_vacant kept)) → swept_node open_now o ≡ None → IsTrue (is_vacant kept)
+dropped_vacant open_now None kept same vacant none = vacant refl
+dropped_vacant open_now (Some (directory_node mode names)) kept same vacant none = cc
+dropped_vacant open_now (Some (link_node text)) kept same vacant none = cc
+dropped_vacant true (Some (file_node mode zero bytes)) kept same vacant none = cc
+dropped_vacant false (Some (file_node mode zero bytes)) kept same vacant none = subst (λ (x : Option Node). IsTrue (is_vacant x)) (sym (same refl)) refl
+dropped_vacant open_now (Some (file_node mode (suc links) bytes)) kept same vacant none = cc
+
+-- a replayed volume extends what is left of the running one
+pub sweep_extends : (running replayed : Volume) (table : ℕ → Option Description) → Extends running replayed → Extends (swept table running) replayed
+sweep_extends running replayed table extends = record {
+  kept = λ n some.
+      let same = left_same (is_open table 32 n) (running n) some in
+      extends.kept n (subst (λ (o : Option Node). IsSome o) same some) ∙ sym same;
+  rest = λ n none. dropped_vacant (is_open table 32 n) (running n) (replayed n) (extends.kept n) (extends.rest n) none;
+}
+
+-- ---- the system
+
+module _ (m : Meaning) (kept : BTreeMap ℕ Block) (root : Root) (slot : ℕ) (inodes : InodeFile) (map : BlockMap) (log : LogEnd) (pledged : ℕ) (files : Descriptors) (table : ℕ → Option Description) (s : State)
+    (serves : IsServing m kept root slot inodes map log pledged files table s) (now_files : Descriptors) (after : ℕ → Option Description) (opened : after ≡ table_of now_files) where
+  -- with other open files of the same volume
+  abbrev pub moved : FitsVolume now_files serves.running → IsMounted serves.running after
+      → IsServing m kept root slot inodes map log pledged now_files after (state_with root.geometry.inodes serves.running after serves.snapshots)
+  moved fits mounted = record {
+    honest = serves.honest;
+    shows = serves.shows;
+    first = serves.first;
+    snapshots = serves.snapshots;
+    under = serves.under;
+    bodies = serves.bodies;
+    left = serves.left;
+    running = serves.running;
+    mounted = mounted;
+    replayed = serves.replayed;
+    memory = serves.memory;
+    goes = serves.goes;
+    pledges = serves.pledges;
+    opened = opened;
+    fits = fits;
+    state = refl;
+  }
+
+  -- with other open files, and without the files that then have neither name nor descriptor
+  abbrev pub dropped : (records : RecordLaws) (now_inodes : InodeFile)
+      → IsVolumeOf root.geometry.blocks (blocks_of m.seen.disk) (inodes_of (whole (blocks_of m.seen.disk) root).active) now_inodes (swept after serves.running)
+      → FitsVolume now_files (swept after serves.running) → IsMounted (swept after serves.running) after
+      → IsServing m kept root slot now_inodes map log pledged now_files after (state_with root.geometry.inodes (swept after serves.running) after serves.snapshots)
+  dropped records now_inodes stands fits mounted = record {
+    honest = serves.honest;
+    shows = serves.shows;
+    first = serves.first;
+    snapshots = serves.snapshots;
+    under = serves.under;
+    bodies = serves.bodies;
+    left = serves.left;
+    running = swept after serves.running;
+    mounted = mounted;
+    replayed = record {
+      changes = serves.replayed.changes;
+      are = serves.replayed.are;
+      served = serves.replayed.served;
+      spelled = serves.replayed.spelled;
+      last = serves.replayed.last;
+      replays = serves.replayed.replays;
+      extends = sweep_extends serves.running serves.replayed.last after serves.replayed.extends;
+    };
+    memory = record {
+      stands = stands;
+      volume = records.sweeps root.geometry.inodes serves.running after serves.memory.volume;
+      entries = serves.memory.entries;
+    };
+    goes = serves.goes;
+    pledges = serves.pledges;
+    opened = opened;
+    fits = fits;
+    state = refl;
+  }

@@ -1,0 +1,21 @@
+use Rattle.std.proofs.Common.{ℕ, Option, inl, refl, subst}
+use Rattle.model.specs.Trees.{Description}
+use Rattle.model.specs.Volumes.{IsMounted}
+use Rattle.buffers.specs.Readings.{reads_none}
+use Rattle.descriptors.specs.Tables.{table_of}
+use Rattle.system.specs.Systems.{meaning_of}
+use Rattle.system.proofs.OpenFileLaws.{table_leads, table_sure}
+use Rattle.system.proofs.ServingLaws.{answered_leading}
+use Rattle.system.proofs.system.System.answer_at_once.Goals as goal
+
+pub returns : goal.returns
+returns g c =
+    let fs = c.args.self.now in
+    let call = c.args.call.now in
+    let told = c.answer_from_table.ensures in
+    answered_leading fs _ call (reads_none (meaning_of {G = g.S.Station} fs)) refl (λ s served. inl (table_sure s call c.requires)) c.answer_from_table.result refl told.no_fault
+    (λ s served. c.served_states_open.ensures s.tree.descriptors s served)
+    (λ s served.
+    let v = served.running in
+    table_leads {G = g.S.Station} _ s call c.answer_from_table.result fs.files served (table_of c.answer_from_table.new.files) refl (told.fits v served.fits)
+    (told.mounted v (subst (λ (t : ℕ → Option Description). IsMounted v t) served.opened served.mounted)) (told.answers fs.root.geometry.inodes v served.fits))

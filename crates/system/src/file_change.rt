@@ -1,0 +1,68 @@
+//! What calls on descriptors are to do.
+
+ghost use Rattle.std.specs.Prelude.{◌≡◌, ◌≤◌, ◌+◌, length};
+ghost use Rattle.layout.specs.Record.{body_of, change_of, IsChange, KeepsLimits};
+ghost use Rattle.layout.specs.declared.record.TheConstants.{WRITE_BYTES};
+
+use crate::table_move::TableMove;
+use calls::OwnedChange;
+use layout::{InodeNumber, Record};
+use model::Reply;
+use records::Prepared;
+
+/// The record of a call.
+#[derive(Drop)]
+pub(crate) enum CallRecord<'a> {
+    /// It says this.
+    Says(OwnedChange),
+    /// The bytes go to the file with this number, from the offset on.
+    Writes {
+        number: InodeNumber,
+        offset: u64,
+        bytes: &'a [u8],
+    },
+}
+
+/// What a call changes: what its record says, and its prepared change.
+#[derive(Drop)]
+pub(crate) struct FileChange<'a> {
+    pub(crate) record: CallRecord<'a>,
+    pub(crate) prepared: Prepared,
+}
+
+/// What a call is to do that isn't refused: its reply, what it changes beside the table of open files, and what it does to that.
+#[derive(Drop)]
+pub(crate) struct Doing<'a> {
+    pub(crate) reply: Reply,
+    pub(crate) change: Option<FileChange<'a>>,
+    pub(crate) table: TableMove,
+}
+
+impl CallRecord<'_> {
+    ghost use Rattle.system.specs.OpenFiles.{KeepsRecord, recorded};
+
+    /// The record, as the log takes it.
+    pub(crate) fn record(&self) -> Record<'_>
+        requires { KeepsRecord self.now }
+        ensures says { change_of result ≡ recorded self.now }
+        ensures limits { KeepsLimits (change_of result) }
+        ensures is { IsChange (change_of result) }
+        ensures short { length (body_of result) ≤ 17 + WRITE_BYTES }
+    {
+        match self {
+            CallRecord::Says(change) => change.record(),
+            CallRecord::Writes {
+                number,
+                offset,
+                bytes,
+            } => {
+                let _ = (number.get(), *offset);
+                Record::Write {
+                    number: *number,
+                    offset: *offset,
+                    bytes,
+                }
+            }
+        }
+    }
+}

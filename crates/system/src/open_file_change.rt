@@ -1,0 +1,276 @@
+//! What calls on descriptors are to change.
+
+ghost use Rattle.std.specs.Prelude.{◌≡◌, ◌≤◌, IfErr, IfOk, IfSome, IsTrue, length};
+ghost use Rattle.model.specs.declared.command.Command.TheVariants as command;
+ghost use Rattle.blocktree.specs.Errors.{IsFault};
+ghost use Rattle.calls.specs.Standing.{Looks};
+ghost use Rattle.calls.specs.Refusals.{is_path_refusal};
+ghost use Rattle.records.specs.Opened.{HasNumbers};
+ghost use Rattle.records.specs.Prepared.{Does, IsReady};
+ghost use Rattle.records.specs.Shown.{NeverDamaged, OnVolumes};
+ghost use Rattle.descriptors.specs.Tables.{table_of};
+ghost use Rattle.files.specs.Opened.{OnOpen};
+ghost use Rattle.system.specs.OpenFiles.{CanMove, DoesCall, IsNumbered, KeepsRecord, is_logging_call, recorded};
+ghost use Rattle.system.specs.Serving.{TellsNoFault};
+
+use crate::file_change::{CallRecord, Doing, FileChange};
+use crate::table_move::TableMove;
+use blocktree::ReadError;
+use buffers::Blocks;
+use calls::Changing;
+use descriptors::Descriptors;
+use files::{Opening, Writing, prepare_ftruncate, prepare_open, prepare_pwrite, prepare_write};
+use inofile::InodeFile;
+use layout::InodeNumber;
+use model::{Command, Errno, Flags, Mode, Reply};
+use std::alloc::Global;
+
+/// What a call is to do on the image in memory and to the table of open files, as far as nothing of it is seen yet; or why it is
+/// refused. NoMemory; Device where a read failed; Damaged where a block on the way is outside its format.
+pub(crate) fn prepare_open_file<'a, B: Blocks>(
+    alloc: Global,
+    inodes: &mut InodeFile,
+    blocks: &mut B,
+    files: &Descriptors,
+    call: &'a Command,
+) -> Result<Result<Doing<'a>, Errno>, ReadError>
+    requires logs { IsTrue (is_logging_call call.now) }
+    requires numbers { HasNumbers inodes.old.geometry.inodes files.now }
+    ensures looks { Looks B.Blocks IsFault blocks.old blocks.new inodes.old inodes.new result }
+    ensures own { IfOk result (λ r. IfErr r (λ e. IsTrue (is_path_refusal e))) }
+    ensures told { IfOk result (λ r. IfOk r (λ d. TellsNoFault d.reply)) }
+    ensures moves { IfOk result (λ r. IfOk r (λ d. CanMove (table_of files.now) d.table)) }
+    ensures numbered { IfOk result (λ r. IfOk r (λ d.
+        IsNumbered inodes.old.geometry.inodes d.table)) }
+    ensures limits { IfOk result (λ r. IfOk r (λ d. IfSome d.change (λ c.
+        KeepsRecord c.record))) }
+    ensures ready { IfOk result (λ r. IfOk r (λ d. IfSome d.change (λ c.
+        IsReady inodes.new c.prepared))) }
+    ensures does { OnVolumes B.Blocks blocks.old inodes.old (λ disk settled v. IfOk result (λ r.
+        IfOk r (λ d. IfSome d.change (λ c.
+        Does disk settled inodes.new v c.prepared (recorded c.record))))) }
+    ensures answers { OnOpen B.Blocks blocks.old inodes.old files.now (λ v. IfOk result
+        (DoesCall inodes.old.geometry.inodes v (table_of files.now) (call.now))) }
+    ensures damaged { NeverDamaged B.Blocks blocks.old inodes.old result }
+{
+    match call {
+        Command::Open { path, flags, mode } => {
+            prepare_opening(alloc, inodes, blocks, files, path.as_bytes(), *flags, *mode)
+        }
+        Command::Write { fd, data } => {
+            prepare_writing(alloc, inodes, blocks, files, *fd, data.as_bytes())
+        }
+        Command::Pwrite { fd, offset, data } => {
+            prepare_writing_at(alloc, inodes, blocks, files, *fd, *offset, data.as_bytes())
+        }
+        Command::Ftruncate { fd, size } => {
+            prepare_cutting(alloc, inodes, blocks, files, *fd, *size)
+        }
+        _ => unreachable!(),
+    }
+}
+
+// The same of a write at the descriptor's offset, which moves behind the bytes.
+fn prepare_writing<'a, B: Blocks>(
+    alloc: Global,
+    inodes: &mut InodeFile,
+    blocks: &mut B,
+    files: &Descriptors,
+    fd: u32,
+    bytes: &'a [u8],
+) -> Result<Result<Doing<'a>, Errno>, ReadError>
+    ensures looks { Looks B.Blocks IsFault blocks.old blocks.new inodes.old inodes.new result }
+    ensures own { IfOk result (λ r. IfErr r (λ e. IsTrue (is_path_refusal e))) }
+    ensures told { IfOk result (λ r. IfOk r (λ d. TellsNoFault d.reply)) }
+    ensures moves { IfOk result (λ r. IfOk r (λ d. CanMove (table_of files.now) d.table)) }
+    ensures numbered { IfOk result (λ r. IfOk r (λ d.
+        IsNumbered inodes.old.geometry.inodes d.table)) }
+    ensures limits { IfOk result (λ r. IfOk r (λ d. IfSome d.change (λ c.
+        KeepsRecord c.record))) }
+    ensures ready { IfOk result (λ r. IfOk r (λ d. IfSome d.change (λ c.
+        IsReady inodes.new c.prepared))) }
+    ensures does { OnVolumes B.Blocks blocks.old inodes.old (λ disk settled v. IfOk result (λ r.
+        IfOk r (λ d. IfSome d.change (λ c.
+        Does disk settled inodes.new v c.prepared (recorded c.record))))) }
+    ensures answers { OnOpen B.Blocks blocks.old inodes.old files.now (λ v. IfOk result
+        (DoesCall inodes.old.geometry.inodes v (table_of files.now) (command.Write fd bytes.now))) }
+    ensures damaged { NeverDamaged B.Blocks blocks.old inodes.old result }
+{
+    let found = prepare_write(alloc, inodes, blocks, files, fd, bytes)?;
+    match found {
+        Ok(Some(writing)) => {
+            let Writing { written, prepared } = writing;
+            let record = CallRecord::Writes {
+                number: InodeNumber::new(written.number),
+                offset: written.offset,
+                bytes,
+            };
+            Ok(Ok(Doing {
+                reply: Reply::Wrote(bytes.len() as u32),
+                change: Some(FileChange { record, prepared }),
+                table: TableMove::Moves {
+                    fd,
+                    place: written.behind,
+                },
+            }))
+        }
+        Ok(None) => Ok(Ok(Doing {
+            reply: Reply::Wrote(0),
+            change: None,
+            table: TableMove::Stays,
+        })),
+        Err(errno) => Ok(Err(errno)),
+    }
+}
+
+// The same of a write at an offset, whatever the descriptor's own.
+fn prepare_writing_at<'a, B: Blocks>(
+    alloc: Global,
+    inodes: &mut InodeFile,
+    blocks: &mut B,
+    files: &Descriptors,
+    fd: u32,
+    offset: i64,
+    bytes: &'a [u8],
+) -> Result<Result<Doing<'a>, Errno>, ReadError>
+    ensures looks { Looks B.Blocks IsFault blocks.old blocks.new inodes.old inodes.new result }
+    ensures own { IfOk result (λ r. IfErr r (λ e. IsTrue (is_path_refusal e))) }
+    ensures told { IfOk result (λ r. IfOk r (λ d. TellsNoFault d.reply)) }
+    ensures moves { IfOk result (λ r. IfOk r (λ d. CanMove (table_of files.now) d.table)) }
+    ensures numbered { IfOk result (λ r. IfOk r (λ d.
+        IsNumbered inodes.old.geometry.inodes d.table)) }
+    ensures limits { IfOk result (λ r. IfOk r (λ d. IfSome d.change (λ c.
+        KeepsRecord c.record))) }
+    ensures ready { IfOk result (λ r. IfOk r (λ d. IfSome d.change (λ c.
+        IsReady inodes.new c.prepared))) }
+    ensures does { OnVolumes B.Blocks blocks.old inodes.old (λ disk settled v. IfOk result (λ r.
+        IfOk r (λ d. IfSome d.change (λ c.
+        Does disk settled inodes.new v c.prepared (recorded c.record))))) }
+    ensures answers { OnOpen B.Blocks blocks.old inodes.old files.now (λ v. IfOk result
+        (DoesCall inodes.old.geometry.inodes v (table_of files.now) (command.Pwrite fd offset bytes.now))) }
+    ensures damaged { NeverDamaged B.Blocks blocks.old inodes.old result }
+{
+    let found = prepare_pwrite(alloc, inodes, blocks, files, fd, offset, bytes)?;
+    match found {
+        Ok(Some(writing)) => {
+            let Writing { written, prepared } = writing;
+            let record = CallRecord::Writes {
+                number: InodeNumber::new(written.number),
+                offset: written.offset,
+                bytes,
+            };
+            Ok(Ok(Doing {
+                reply: Reply::Wrote(bytes.len() as u32),
+                change: Some(FileChange { record, prepared }),
+                table: TableMove::Stays,
+            }))
+        }
+        Ok(None) => Ok(Ok(Doing {
+            reply: Reply::Wrote(0),
+            change: None,
+            table: TableMove::Stays,
+        })),
+        Err(errno) => Ok(Err(errno)),
+    }
+}
+
+// The same of a new size.
+fn prepare_cutting<'a, B: Blocks>(
+    alloc: Global,
+    inodes: &mut InodeFile,
+    blocks: &mut B,
+    files: &Descriptors,
+    fd: u32,
+    size: i64,
+) -> Result<Result<Doing<'a>, Errno>, ReadError>
+    requires { HasNumbers inodes.old.geometry.inodes files.now }
+    ensures looks { Looks B.Blocks IsFault blocks.old blocks.new inodes.old inodes.new result }
+    ensures own { IfOk result (λ r. IfErr r (λ e. IsTrue (is_path_refusal e))) }
+    ensures told { IfOk result (λ r. IfOk r (λ d. TellsNoFault d.reply)) }
+    ensures moves { IfOk result (λ r. IfOk r (λ d. CanMove (table_of files.now) d.table)) }
+    ensures numbered { IfOk result (λ r. IfOk r (λ d.
+        IsNumbered inodes.old.geometry.inodes d.table)) }
+    ensures limits { IfOk result (λ r. IfOk r (λ d. IfSome d.change (λ c.
+        KeepsRecord c.record))) }
+    ensures ready { IfOk result (λ r. IfOk r (λ d. IfSome d.change (λ c.
+        IsReady inodes.new c.prepared))) }
+    ensures does { OnVolumes B.Blocks blocks.old inodes.old (λ disk settled v. IfOk result (λ r.
+        IfOk r (λ d. IfSome d.change (λ c.
+        Does disk settled inodes.new v c.prepared (recorded c.record))))) }
+    ensures answers { OnOpen B.Blocks blocks.old inodes.old files.now (λ v. IfOk result
+        (DoesCall inodes.old.geometry.inodes v (table_of files.now) (command.Ftruncate fd size))) }
+    ensures damaged { NeverDamaged B.Blocks blocks.old inodes.old result }
+{
+    let found = prepare_ftruncate(alloc, inodes, blocks, files, fd, size)?;
+    match found {
+        Ok(Some(changing)) => {
+            let Changing { change, prepared } = changing;
+            let record = CallRecord::Says(change);
+            Ok(Ok(Doing {
+                reply: Reply::Done,
+                change: Some(FileChange { record, prepared }),
+                table: TableMove::Stays,
+            }))
+        }
+        Ok(None) => Ok(Ok(Doing {
+            reply: Reply::Done,
+            change: None,
+            table: TableMove::Stays,
+        })),
+        Err(errno) => Ok(Err(errno)),
+    }
+}
+
+// The same of a file that is opened.
+fn prepare_opening<'a, B: Blocks>(
+    alloc: Global,
+    inodes: &mut InodeFile,
+    blocks: &mut B,
+    files: &Descriptors,
+    path: &[u8],
+    flags: Flags,
+    mode: Mode,
+) -> Result<Result<Doing<'a>, Errno>, ReadError>
+    ensures looks { Looks B.Blocks IsFault blocks.old blocks.new inodes.old inodes.new result }
+    ensures own { IfOk result (λ r. IfErr r (λ e. IsTrue (is_path_refusal e))) }
+    ensures told { IfOk result (λ r. IfOk r (λ d. TellsNoFault d.reply)) }
+    ensures moves { IfOk result (λ r. IfOk r (λ d. CanMove (table_of files.now) d.table)) }
+    ensures numbered { IfOk result (λ r. IfOk r (λ d.
+        IsNumbered inodes.old.geometry.inodes d.table)) }
+    ensures limits { IfOk result (λ r. IfOk r (λ d. IfSome d.change (λ c.
+        KeepsRecord c.record))) }
+    ensures ready { IfOk result (λ r. IfOk r (λ d. IfSome d.change (λ c.
+        IsReady inodes.new c.prepared))) }
+    ensures does { OnVolumes B.Blocks blocks.old inodes.old (λ disk settled v. IfOk result (λ r.
+        IfOk r (λ d. IfSome d.change (λ c.
+        Does disk settled inodes.new v c.prepared (recorded c.record))))) }
+    ensures answers { OnOpen B.Blocks blocks.old inodes.old files.now (λ v. IfOk result
+        (DoesCall inodes.old.geometry.inodes v (table_of files.now) (command.Open path.now flags mode))) }
+    ensures damaged { NeverDamaged B.Blocks blocks.old inodes.old result }
+{
+    let found = prepare_open(alloc, inodes, blocks, files, path, flags, mode)?;
+    match found {
+        Ok(opening) => {
+            let Opening { fd, file, changing } = opening;
+            let reply = Reply::Fd(fd);
+            let table = TableMove::Opens { fd, file };
+            match changing {
+                Some(Changing { change, prepared }) => {
+                    let record = CallRecord::Says(change);
+                    let change = Some(FileChange { record, prepared });
+                    Ok(Ok(Doing {
+                        reply,
+                        change,
+                        table,
+                    }))
+                }
+                None => Ok(Ok(Doing {
+                    reply,
+                    change: None,
+                    table,
+                })),
+            }
+        }
+        Err(errno) => Ok(Err(errno)),
+    }
+}
