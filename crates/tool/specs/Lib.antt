@@ -1,3 +1,1 @@
-pub mod Scripts
-pub mod Sessions
-pub mod Statuses
+pub mod Refusals

@@ -1,12 +1,8 @@
-//! The program `wafl`: its command line, its devices over files, and its sessions.
+//! The program `wafl`: its command line, and its devices over files.
 #![tactic(auto)]
 
-pub mod files;
+pub mod host_files;
 mod line;
-mod served;
-pub mod session;
-mod status;
+pub mod transfer;
 
 pub use line::{Kept, Line, LineError, RunFaults, read_line};
-pub use served::is_served;
-pub use status::Status;

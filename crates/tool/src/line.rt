@@ -1,11 +1,12 @@
 //! The program's command line, which `clap` reads.
 
 ghost use Rattle.std.specs.Prelude.{◌≡◌};
-ghost use Rattle.tool.specs.Statuses.{line_error_number};
+ghost use Rattle.tool.specs.Refusals.{line_error_number};
 ghost use Rattle.tool.specs.declared.line.LineError.TheVariants.{NoMemory};
 
 mod arguments;
 
+use crate::transfer::Transfer;
 use arguments::wafl_command;
 use clap::ArgMatches;
 use clap::error::ErrorKind;
@@ -38,6 +39,10 @@ pub enum Line<'a> {
         disk: &'a str,
         nvram: &'a str,
     },
+    /// `wafl put DISK NVRAM FILE PATH`: stores a file of the host's in one of the image.
+    Put(Transfer<'a>),
+    /// `wafl get DISK NVRAM PATH FILE`: brings a file of the image back.
+    Get(Transfer<'a>),
     /// `--help` and the like: this text is asked for.
     Help(String),
 }
@@ -106,6 +111,8 @@ pub fn read_line<'a, S: AsStr>(alloc: Global, words: &'a [S]) -> Result<Line<'a>
         Some(("make", made)) => make_line(made),
         Some(("run", run)) => run_line(run),
         Some(("df", df)) => df_line(df),
+        Some(("put", put)) => transfer_words(put).map(Line::Put),
+        Some(("get", get)) => transfer_words(get).map(Line::Get),
         _ => None,
     };
     match line {
@@ -161,6 +168,16 @@ fn df_line<'a>(matches: &ArgMatches<'a>) -> Option<Line<'a>> {
     Some(Line::Df {
         disk: matches.get_str("disk")?,
         nvram: matches.get_str("nvram")?,
+    })
+}
+
+/// What a `put` or a `get` moves.
+fn transfer_words<'a>(matches: &ArgMatches<'a>) -> Option<Transfer<'a>> {
+    Some(Transfer {
+        disk: matches.get_str("disk")?,
+        nvram: matches.get_str("nvram")?,
+        path: matches.get_str("path")?,
+        file: matches.get_str("file")?,
     })
 }
 

@@ -9,8 +9,8 @@ use Rattle.tool.specs.declared.line.Kept.TheVariants as kept
 use Rattle.tool.specs.declared.line.RunFaults.{RunFaults}
 use Rattle.tool.specs.declared.line.LineError.{LineError}
 use Rattle.tool.specs.declared.line.LineError.TheVariants as line_error
-use Rattle.tool.specs.declared.status.Status.{Status}
-use Rattle.tool.specs.declared.status.Status.TheVariants as status
+use Rattle.session.specs.declared.status.Status.{Status}
+use Rattle.session.specs.declared.status.Status.TheVariants as status
 
 -- the status of words that are refused
 abbrev pub refusal_status : LineError → Status

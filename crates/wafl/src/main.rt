@@ -5,12 +5,15 @@ ghost use Rattle.std.specs.Prelude.{◌≡◌};
 ghost use Rattle.wafl.specs.Words.{refusal_status};
 
 mod run;
+mod transfer;
 
 use run::{run_in_memory, run_on_files, show_room};
+use session::Status;
 use std::process::ExitCode;
 use std::{env, io};
-use tool::files::{FileError, make_image};
-use tool::{Line, LineError, RunFaults, Status, read_line};
+use tool::host_files::{FileError, make_image};
+use tool::{Line, LineError, RunFaults, read_line};
+use transfer::{get, put};
 
 fn main(rt: HostRuntime) -> ExitCode {
     ExitCode::from(obey_words(&rt))
@@ -84,6 +87,8 @@ fn obey_line(rt: &HostRuntime, line: &Line<'_>) -> u8 {
             faults,
         } => run_in_memory(rt, disk, nvram, script, *faults),
         Line::Df { disk, nvram } => show_room(rt, disk, nvram),
+        Line::Put(what) => put(rt, *what).number(),
+        Line::Get(what) => get(rt, *what).number(),
     }
 }
 

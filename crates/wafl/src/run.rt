@@ -4,11 +4,11 @@ ghost use Rattle.std.specs.Prelude.{◌≡◌, IfOk};
 ghost use Rattle.wafl.specs.Words.{IsToFail, Keeps};
 
 use crate::tell;
+use session::{Status, session};
 use station::{Keep, Sim};
 use std::alloc::{AllocError, Global};
-use tool::files::{FileError, load_station, open_station, read_script, store_image};
-use tool::session::session;
-use tool::{Kept, RunFaults, Status};
+use tool::host_files::{FileError, load_station, open_station, read_script, store_image};
+use tool::{Kept, RunFaults};
 
 /// Runs a script on the image's files.
 pub fn run_on_files(rt: &HostRuntime, disk: &str, nvram: &str, script: &str) -> u8 {

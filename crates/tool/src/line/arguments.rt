@@ -17,8 +17,23 @@ const SCRIPT_NOTES: &str = "Commands, one a line of the script:
   symlink TEXT PATH       makes a symbolic link
   rename PATH NEW         gives an object another name
   chmod PATH MODE         changes the mode
+  truncate PATH SIZE      gives a file another size
+  open PATH FLAGS [MODE]  opens a file and tells its descriptor, as in open /f rwc 0600
+  close FD                gives a descriptor back, as in close 0
+  read FD COUNT           bytes from the offset on, as in read 0 65536
+  write FD DATA           puts bytes at the offset, as in write 0 616263
+  pread FD OFFSET COUNT   bytes from another place on, as in pread 0 2 9
+  pwrite FD OFFSET DATA   puts bytes at another place, as in pwrite 0 4 64
+  lseek FD FROM OFFSET    moves the offset, as in lseek 0 set 1
+  ftruncate FD SIZE       gives an open file another size, as in ftruncate 0 2
+  fstat FD                what stat tells, of an open file
+  fsync FD                done at once: what was answered is kept
   sync                    makes a consistency point
   df                      tells the room of the disk
+
+FLAGS is r, w or rw, then some of: c makes a file where none is, x refuses one that is,
+t cuts it to no bytes, a has each write go behind the last byte.
+FROM is set, cur or end. DATA is two hexadecimal digits a byte, - for none.
 
 Examples:
   wafl run disk nvram script
@@ -37,6 +52,8 @@ pub(super) fn wafl_command<'a>(alloc: Global) -> Result<Command<'a>, AllocError>
     .subcommand(make_command(alloc))
     .subcommand(run_command(alloc))
     .subcommand(df_command(alloc))
+    .subcommand(put_command(alloc))
+    .subcommand(get_command(alloc))
     .command
 }
 
@@ -138,6 +155,34 @@ fn df_command<'a>(alloc: Global) -> Growing<'a> {
     )
     .arg(place(alloc, "disk", "DISK").help("The disk's file"))
     .arg(place(alloc, "nvram", "NVRAM").help("The NVRAM's file"))
+}
+
+fn put_command<'a>(alloc: Global) -> Growing<'a> {
+    Growing::of(
+        Command::new(alloc, "put")
+            .about("Store a file of the host's in a file of the image")
+            .after_help(
+                "A file that PATH leads to loses its bytes and gets these in their place; where nothing is there, one is made, of mode 0644. Both files of the image are replaced once the new ones are whole; where a call is refused they stay as they were, and standard error tells the path, the refusal and the byte at which it came. On a terminal it tells how many MiB were written.\n\nExamples:\n  wafl put disk nvram notes.txt /notes\n  wafl put disk nvram - /notes < notes.txt",
+            ),
+    )
+    .arg(place(alloc, "disk", "DISK").help("The disk's file"))
+    .arg(place(alloc, "nvram", "NVRAM").help("The NVRAM's file"))
+    .arg(place(alloc, "file", "FILE").help("The host's file; - is standard input"))
+    .arg(place(alloc, "path", "PATH").help("The path in the image, as in /d/notes"))
+}
+
+fn get_command<'a>(alloc: Global) -> Growing<'a> {
+    Growing::of(
+        Command::new(alloc, "get")
+            .about("Bring a file of the image back, whole or not at all")
+            .after_help(
+                "A file FILE that is there is replaced once the new one is whole; where a call is refused it stays as it was, or none is made, and standard error tells the path, the refusal and the byte at which it came. The image stays as it is. On a terminal it tells how many MiB were read.\n\nExamples:\n  wafl get disk nvram /notes notes.txt\n  wafl get disk nvram /notes - | wc -c",
+            ),
+    )
+    .arg(place(alloc, "disk", "DISK").help("The disk's file"))
+    .arg(place(alloc, "nvram", "NVRAM").help("The NVRAM's file"))
+    .arg(place(alloc, "path", "PATH").help("The path in the image, as in /d/notes"))
+    .arg(place(alloc, "file", "FILE").help("The host's file; - is standard output"))
 }
 
 fn keep_option<'a>(alloc: Global) -> Arg<'a> {

@@ -1,0 +1,10 @@
+//! A session: a script run over a mounted station, its replies shown, and the status that tells how it ended.
+#![tactic(auto)]
+
+mod running;
+mod served;
+mod status;
+
+pub use running::session;
+pub use served::is_served;
+pub use status::Status;
