@@ -2,7 +2,7 @@
 
 use crate::choices::Choices;
 use crate::fault::Fault;
-use crate::files::obey_file;
+use crate::host_files::obey_file;
 use crate::image::obey;
 use crate::run::{Images, Run};
 use crate::text::{is_one_of, random_bytes};

@@ -6,12 +6,13 @@
 mod bench;
 mod choices;
 mod fault;
-mod files;
 mod formats;
+mod host_files;
 mod image;
 mod levels;
 mod run;
 mod text;
+mod transfers;
 
 use bench::Bench;
 use fault::Fault;

@@ -3,9 +3,9 @@
 use crate::choices::Choices;
 use crate::fault::Fault;
 use crate::text::{bytes_of, is_one_of, push_text};
+use session::session;
 use station::{Keep, Sim};
 use std::alloc::{AllocError, Global};
-use tool::session::session;
 
 /// What fails in a run, by the numbers that a station counts.
 #[derive(Drop)]

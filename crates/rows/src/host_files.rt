@@ -2,9 +2,10 @@
 
 use crate::fault::Fault;
 use crate::text::is_one_of;
+use crate::transfers::obey_transfer;
 use std::fs;
 use std::os::unix::fs::symlink;
-use tool::files::make_image;
+use tool::host_files::make_image;
 
 /// Does what a line about files says. None where it is about none, false where its words aren't understood.
 pub fn obey_file(rt: &HostRuntime, verb: &str, words: &str) -> Result<Option<bool>, Fault> {
@@ -23,7 +24,7 @@ pub fn obey_file(rt: &HostRuntime, verb: &str, words: &str) -> Result<Option<boo
             compare_size(rt, name, rest)?;
             Ok(Some(true))
         }
-        _ => Ok(None),
+        _ => obey_transfer(rt, verb, words),
     }
 }
 

@@ -1,0 +1,112 @@
+//! Files of the host's that are stored in an image on files, and brought back.
+
+use crate::fault::Fault;
+use crate::text::{is_one_of, random_bytes};
+use std::fs;
+use std::io::sink;
+use tool::transfer::{Progress, Transfer, TransferError, get_file, put_file};
+
+/// Does what a line about transfers says. None where it is about none, false where its words aren't understood.
+pub fn obey_transfer(rt: &HostRuntime, verb: &str, words: &str) -> Result<Option<bool>, Fault> {
+    match verb {
+        "bytes" => Ok(Some(make_bytes(rt, words)?)),
+        "same" => Ok(Some(compare_files(rt, words)?)),
+        "put" => Ok(Some(put(rt, words)?)),
+        "get" => Ok(Some(get(rt, words)?)),
+        _ => Ok(None),
+    }
+}
+
+/// `bytes NAME N`: makes a file of N bytes that follow no format.
+fn make_bytes(rt: &HostRuntime, words: &str) -> Result<bool, Fault> {
+    let Some((name, count)) = words.split_once(' ') else {
+        return Ok(false);
+    };
+    let Ok(count) = count.parse() else {
+        return Ok(false);
+    };
+    let bytes = random_bytes(rt.alloc(), count, count)?;
+    Ok(fs::write(rt, name, bytes.as_slice()).is_ok())
+}
+
+/// `same NAME OTHER`: both files hold the same bytes.
+fn compare_files(rt: &HostRuntime, words: &str) -> Result<bool, Fault> {
+    let Some((name, other)) = words.split_once(' ') else {
+        return Ok(false);
+    };
+    let (Ok(bytes), Ok(others)) = (fs::read(rt, name), fs::read(rt, other)) else {
+        return Err(Fault::differs(rt.alloc(), name, b"no file", other));
+    };
+    if bytes.as_slice() != others.as_slice() {
+        return Err(Fault::differs(rt.alloc(), name, b"another file", other));
+    }
+    Ok(true)
+}
+
+/// `put DISK NVRAM FILE PATH -> DONE`: stores a file; `done`, or why it isn't stored.
+fn put(rt: &HostRuntime, text: &str) -> Result<bool, Fault> {
+    let Some((words, expected)) = text.split_once(" -> ") else {
+        return Ok(false);
+    };
+    let Some(what) = put_words(words) else {
+        return Ok(false);
+    };
+    let mut progress = Progress::new(sink(), false);
+    let came = put_file(rt, what, &mut progress);
+    compare_end(rt, &came, expected)
+}
+
+/// `get DISK NVRAM PATH FILE -> DONE`: brings a file back. What goes to standard output is stored in the file `shown`.
+fn get(rt: &HostRuntime, text: &str) -> Result<bool, Fault> {
+    let Some((words, expected)) = text.split_once(" -> ") else {
+        return Ok(false);
+    };
+    let Some(what) = get_words(words) else {
+        return Ok(false);
+    };
+    let mut shown = Vec::new(rt.alloc());
+    let mut progress = Progress::new(sink(), false);
+    let came = get_file(rt, what, &mut shown, &mut progress);
+    if what.file == "-" {
+        fs::write(rt, "shown", shown.as_slice())?;
+    }
+    compare_end(rt, &came, expected)
+}
+
+/// `DISK NVRAM FILE PATH`
+fn put_words(words: &str) -> Option<Transfer<'_>> {
+    let mut words = words.split(' ');
+    Some(Transfer {
+        disk: words.next()?,
+        nvram: words.next()?,
+        file: words.next()?,
+        path: words.next()?,
+    })
+}
+
+/// `DISK NVRAM PATH FILE`
+fn get_words(words: &str) -> Option<Transfer<'_>> {
+    let mut words = words.split(' ');
+    Some(Transfer {
+        disk: words.next()?,
+        nvram: words.next()?,
+        path: words.next()?,
+        file: words.next()?,
+    })
+}
+
+/// How a transfer ended is what was expected: `done`, or why it failed.
+fn compare_end(
+    rt: &HostRuntime,
+    came: &Result<(), TransferError<'_>>,
+    expected: &str,
+) -> Result<bool, Fault> {
+    let told = match came {
+        Ok(()) => String::from_str(rt.alloc(), "done")?,
+        Err(error) => format!(in rt.alloc(); "{error}")?,
+    };
+    if !is_one_of(rt.alloc(), told.as_bytes(), expected)? {
+        return Err(Fault::differs(rt.alloc(), "transfer", told.as_bytes(), expected));
+    }
+    Ok(true)
+}
