@@ -1,0 +1,172 @@
+"""Commands that a generator of random numbers chooses, with an eye on what a system has."""
+
+import random
+import string
+
+from calls import word_of
+from model import ROOT
+
+NAMES = ['a', 'b', 'c', 'd', 'e']
+ODD_PATHS = ['%', 'a', '/a/', '//', '/', '/.', '/..', '/a/.', '/b/..', '/%00', '/a//b', '//a',
+             '/' + 'n' * 256, '/' + 'l' * 255]
+SIZES = [0, 0, 1, 2, 3, 100, 127, 128, 129, 130, 200, 4095, 4096, 4097, 5000, 8191, 8192, 8193,
+         65535, 65536, 65537, 69632, 70000, 4194303, 4194304, 4194305, 67108863, 67108864]
+SMALL_SIZES = SIZES[:18]
+ODD_SIZES = [-1, -2 ** 63, 67108865, 2 ** 62, 2 ** 63 - 1, 2 ** 63 - 1]
+COUNTS = [0, 1, 3, 9, 200, 5000, 65537]
+TEXTS = ['a', '/b', '../c', 'd/e', '.', '..', '/', 'a/../b', '%', './' * 70 + 'b',
+         '/' * 200 + 'c', 'x' * 256, 'a']
+WEIGHTS = {
+    'open': 14, 'close': 6, 'read': 5, 'write': 10, 'pread': 5, 'pwrite': 9, 'lseek': 4,
+    'ftruncate': 6, 'fstat': 4, 'fsync': 1, 'sync': 4, 'df': 4, 'list': 2, 'stat': 3, 'lstat': 2,
+    'readlink': 2, 'get': 5, 'mkdir': 4, 'rmdir': 4, 'unlink': 8, 'link': 4, 'symlink': 3,
+    'rename': 6, 'chmod': 1, 'truncate': 3,
+}
+CROWDED_WEIGHTS = dict(WEIGHTS, open=50, mkdir=30, symlink=12, rmdir=10, close=1,
+                       sync=2, unlink=1, rename=3)
+FULL_WEIGHTS = dict(WEIGHTS, open=12, write=40, pwrite=30, sync=8, close=2, unlink=3, truncate=1,
+                    ftruncate=1)
+ON_DESCRIPTORS = ['close', 'read', 'write', 'pread', 'pwrite', 'lseek', 'ftruncate', 'fstat',
+                  'fsync']
+
+
+class Numbers(random.Random):
+    """Numbers from a seed, and what is wanted of them.
+
+    Of three seeds one is for all commands alike, one for many names and open files, and one for
+    many bytes, so that the log and the disk get full.
+    """
+
+    def __init__(self, seed):
+        super().__init__(seed)
+        self.names, self.weights, self.longest_run = NAMES, WEIGHTS, 90
+        self.standing_part = 0.45
+        self.is_full = seed % 3 == 2
+        if seed % 3 == 1:
+            self.names, self.weights = list(string.ascii_lowercase), CROWDED_WEIGHTS
+            self.longest_run, self.standing_part = 150, 0.2
+        if self.is_full:
+            self.weights = FULL_WEIGHTS
+
+
+def standing_paths(system):
+    """A path to each object."""
+    paths, left = ['/'], [('', ROOT)]
+    while left:
+        path, number = left.pop()
+        for name, inner in system.volume[number].names.items():
+            paths.append(path + '/' + word_of(name).decode())
+            if system.volume[inner].kind == 'dir':
+                left.append((paths[-1], inner))
+    return paths
+
+
+def path(numbers, system):
+    """A path: an odd one, one that leads to something, or any of few names."""
+    chance = numbers.random()
+    if chance < 0.06:
+        return numbers.choice(ODD_PATHS)
+    if chance < numbers.standing_part:
+        return numbers.choice(standing_paths(system))
+    depth = numbers.choice([1, 1, 1, 1, 1, 1, 2, 2, 3])
+    return '/' + '/'.join(numbers.choice(numbers.names) for _ in range(depth))
+
+
+def size(numbers):
+    """A size or an offset: mostly one beside a border."""
+    chance = numbers.random()
+    if chance < 0.04:
+        return numbers.choice(ODD_SIZES)
+    if chance < 0.7:
+        return numbers.choice(SMALL_SIZES)
+    return max(0, numbers.choice(SIZES) + numbers.choice([0, 0, -1, 1, 5]))
+
+
+def data(numbers):
+    """Bytes: none, a few, or many of one kind."""
+    chance = numbers.random()
+    if chance < 0.03:
+        return '-'
+    if chance < (0.2 if numbers.is_full else 0.6):
+        count = numbers.randrange(1, 9)
+        return ''.join('%02x' % numbers.randrange(256) for _ in range(count))
+    count = numbers.choice([20, 100, 128, 129, 200, 4096, 4097, 5000, 10000])
+    if chance > (0.7 if numbers.is_full else 0.97):
+        count = numbers.choice([65536, 65536, 60000, 65537])
+    return '{3%s*%d}' % (numbers.choice('123456789'), 2 * count)
+
+
+def descriptor(numbers, system):
+    """A descriptor: mostly an open one."""
+    opened = [number for number, what in enumerate(system.descriptors) if what is not None]
+    if opened and numbers.random() < 0.95:
+        return numbers.choice(opened)
+    return numbers.choice([0, 1, 2, 3, 31, 32, 33, 4294967295])
+
+
+def flags(numbers):
+    """Flags of `open`."""
+    letters = [('c', 0.8), ('x', 0.12), ('t', 0.12), ('a', 0.2)]
+    access = numbers.choice(['r', 'w', 'rw', 'rw', 'rw'])
+    return access + ''.join(letter for letter, part in letters if numbers.random() < part)
+
+
+def mode(numbers, default):
+    """A mode behind a space, or nothing, which is how the default one is written."""
+    chosen = numbers.choice([default, default, default, 0, 0o600, 0o7777, 0o444])
+    return '' if chosen == default else ' %04o' % chosen
+
+
+def on_path(numbers, system, name):
+    """A command that goes by a path."""
+    if name == 'open':
+        return 'open %s %s%s' % (path(numbers, system), flags(numbers), mode(numbers, 0o644))
+    if name == 'get':
+        return 'get %s %d %d' % (path(numbers, system), size(numbers), numbers.choice(COUNTS))
+    if name == 'mkdir':
+        return 'mkdir %s%s' % (path(numbers, system), mode(numbers, 0o755))
+    if name in ('link', 'rename'):
+        return '%s %s %s' % (name, path(numbers, system), path(numbers, system))
+    if name == 'symlink':
+        return 'symlink %s %s' % (numbers.choice(TEXTS), path(numbers, system))
+    if name == 'chmod':
+        chosen = numbers.choice([0o700, 0o644, 0o7777, 0])
+        return 'chmod %s %04o' % (path(numbers, system), chosen)
+    if name == 'truncate':
+        return 'truncate %s %d' % (path(numbers, system), size(numbers))
+    if name == 'rmdir' and numbers.random() < 0.5:
+        return 'rmdir ' + numbers.choice(standing_paths(system))
+    return '%s %s' % (name, path(numbers, system))
+
+
+def on_descriptor(numbers, system, name):
+    """A command that goes by a descriptor."""
+    chosen = '%s %d' % (name, descriptor(numbers, system))
+    if name == 'read':
+        return '%s %d' % (chosen, numbers.choice(COUNTS + [65536]))
+    if name == 'write':
+        return '%s %s' % (chosen, data(numbers))
+    if name == 'pread':
+        return '%s %d %d' % (chosen, size(numbers), numbers.choice(COUNTS))
+    if name == 'pwrite':
+        return '%s %d %s' % (chosen, size(numbers), data(numbers))
+    if name == 'lseek':
+        offset = numbers.choice([size(numbers), size(numbers), size(numbers),
+                                 -numbers.choice([0, 1, 5, 100]), 2 ** 63 - 1])
+        return '%s %s %d' % (chosen, numbers.choice(['set', 'cur', 'end']), offset)
+    if name == 'ftruncate':
+        return '%s %d' % (chosen, size(numbers))
+    return chosen
+
+
+def command(numbers, system):
+    """Any command."""
+    name = numbers.choices(list(numbers.weights), list(numbers.weights.values()))[0]
+    if name in ('sync', 'df'):
+        return name
+    if name not in ON_DESCRIPTORS:
+        return on_path(numbers, system, name)
+    if any(system.descriptors) or numbers.random() < 0.1:
+        return on_descriptor(numbers, system, name)
+    wanted = numbers.choice(['rwc', 'rwc', 'wc', 'rw', 'rwca'])
+    return 'open %s %s%s' % (path(numbers, system), wanted, mode(numbers, 0o644))

@@ -1,0 +1,142 @@
+"""The commands of the plain model that go by a descriptor, and `open`."""
+
+import re
+
+from calls import GREATEST_FILE, MOST_BYTES, create, resize, shown_data, shown_stat
+from calls import test_size, text_of
+from model import refuse
+from objects import BLOCK, File
+from paths import resolve, test_text
+
+LAST_OFFSET = 2 ** 63 - 1
+
+
+class Opened:
+    """What a descriptor stands for."""
+
+    def __init__(self, number, reads, writes, appends):
+        self.number = number
+        self.offset = 0
+        self.reads = reads
+        self.writes = writes
+        self.appends = appends
+
+    def moved(self, offset):
+        """The same at another offset."""
+        other = Opened(self.number, self.reads, self.writes, self.appends)
+        other.offset = offset
+        return other
+
+
+def open_file(system, words):
+    text, flags = text_of(words[1]), words[2].decode()
+    letters = re.fullmatch('(rw|r|w)(c?)(x?)(t?)(a?)', flags)
+    access, creates, excludes, cuts, appends = letters.groups()
+    test_text(text)
+    if excludes and not creates or cuts and 'w' not in access:
+        refuse('EINVAL')
+    if None not in system.descriptors:
+        refuse('EMFILE')
+    place = resolve(system, text, not excludes)
+    if place.number is None and not creates:
+        refuse('ENOENT')
+    number = place.number
+    if number is None:
+        number = create(system, place, File(int(words[3], 8) if len(words) > 3 else 0o644), 0)
+    elif excludes:
+        refuse('EEXIST')
+    elif system.volume[number].kind == 'dir':
+        refuse('EISDIR')
+    elif cuts:
+        resize(system, number, 0)
+    descriptor = system.descriptors.index(None)
+    system.descriptors[descriptor] = Opened(number, 'r' in access, 'w' in access, appends == 'a')
+    return b'fd %d' % descriptor
+
+
+def opened_of(system, word):
+    """The descriptor, and what it stands for."""
+    descriptor = int(word)
+    if descriptor >= len(system.descriptors) or system.descriptors[descriptor] is None:
+        refuse('EBADF')
+    return descriptor, system.descriptors[descriptor]
+
+
+def close(system, words):
+    descriptor, opened = opened_of(system, words[1])
+    system.descriptors[descriptor] = None
+    if system.links(opened.number) == 0 and not system.is_open(opened.number):
+        system.drop(opened.number)
+    return b'ok'
+
+
+def fstat(system, words):
+    return shown_stat(system, opened_of(system, words[1])[1].number)
+
+
+def fsync(system, words):
+    opened_of(system, words[1])
+    return b'ok'
+
+
+def read(system, words):
+    descriptor, opened = opened_of(system, words[1])
+    is_placed = words[0] == b'pread'
+    offset, count = int(words[2]) if is_placed else opened.offset, int(words[-1])
+    if not opened.reads:
+        refuse('EBADF')
+    if offset < 0 or count > MOST_BYTES:
+        refuse('EINVAL')
+    data = system.volume[opened.number].read(offset, count)
+    if not is_placed:
+        system.descriptors[descriptor] = opened.moved(offset + len(data))
+    return shown_data(data)
+
+
+def write(system, words):
+    descriptor, opened = opened_of(system, words[1])
+    data = bytes.fromhex('' if words[-1] == b'-' else words[-1].decode())
+    is_placed = words[0] == b'pwrite'
+    end = system.volume[opened.number].size
+    offset = int(words[2]) if is_placed else end if opened.appends else opened.offset
+    if not opened.writes:
+        refuse('EBADF')
+    if offset < 0 or len(data) > MOST_BYTES:
+        refuse('EINVAL')
+    if data:
+        put(system, opened.number, offset, data)
+    if data and not is_placed:
+        system.descriptors[descriptor] = opened.moved(offset + len(data))
+    return b'wrote %d' % len(data)
+
+
+def put(system, number, offset, data):
+    """Logs at least one byte, and puts it."""
+    end = offset + len(data)
+    if end > GREATEST_FILE:
+        refuse('EFBIG')
+    touched = (end - 1) // BLOCK - offset // BLOCK + 1
+    system.log(17 + len(data), 2 * touched + 6)
+    system.volume[number].write(offset, data)
+    system.touch(number)
+
+
+def lseek(system, words):
+    descriptor, opened = opened_of(system, words[1])
+    starts = {b'set': 0, b'cur': opened.offset, b'end': system.volume[opened.number].size}
+    offset = starts[words[2]] + int(words[3])
+    if offset < 0:
+        refuse('EINVAL')
+    if offset > LAST_OFFSET:
+        refuse('EOVERFLOW')
+    system.descriptors[descriptor] = opened.moved(offset)
+    return b'at %d' % offset
+
+
+def ftruncate(system, words):
+    opened, size = opened_of(system, words[1])[1], int(words[2])
+    if not opened.writes:
+        refuse('EINVAL')
+    test_size(size)
+    resize(system, opened.number, size)
+    return b'ok'

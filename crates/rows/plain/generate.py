@@ -1,0 +1,174 @@
+#!/usr/bin/env python3
+"""Makes rows of commands from fixed numbers, with the replies of a plain model.
+
+    generate.py             writes the files data/random_*.rows
+    generate.py --check     says whether they stand as made, and whether the rows that were written
+                            by hand agree with the model, as far as it can read them
+    generate.py --more FIRST COUNT FOLDER
+                            writes as many other lists of 150 commands into a folder, a file for
+                            each seed from FIRST on, for a longer comparison
+
+The program `rows` compares these replies with those of the file system. It reads the data alone:
+no test of the project runs Python.
+"""
+
+import collections
+import sys
+from pathlib import Path
+
+from commands import Numbers, command
+from model import ROOT, System
+from objects import BLOCK
+from calls import word_of
+from scripts import run, step
+from session_rows import bytes_of, difference, is_read, rows_of, shown
+
+DATA = Path(__file__).resolve().parent.parent / 'data'
+HALF = 131072
+LENGTH = 150
+# File, blocks, inodes, and the seed of each list. The seeds are ones with refusals of many kinds.
+FILES = [
+    ('random_64.rows', 64, 32, [24, 87, 106, 152, 160, 164]),
+    ('random_128.rows', 128, 32, [53, 87, 106, 160, 207, 236]),
+    ('random_256.rows', 256, 64, [43, 87, 119, 160, 186, 260]),
+]
+KEEPS = ['none', 'all', '10', '01', '110']
+HEAD = '''\
+# Commands made from fixed numbers, with the replies of a plain model in Python: see the folder
+# `plain`, which writes this file. How a row is written stands in the head of sessions.rows.
+# Each row is one list of commands over a new image, in several runs, half of which end with a
+# cut; the last run reads all that is left. A row's name ends with its seed.
+'''
+
+
+def script(numbers, system, length):
+    """Lines that a system does: pairs of command and reply, and how many writes they make."""
+    system = system.copy()
+    system.mount()
+    pairs, writes = [], 0
+    for _ in range(length):
+        line = command(numbers, system)
+        pairs.append((line, step(system, bytes_of(line))))
+        writes += system.writes
+    return pairs, writes
+
+
+def some_run(numbers, system, length):
+    """The lines of a run, and what it leaves. Half of the runs are cut."""
+    pairs, writes = script(numbers, system, length)
+    lines = [bytes_of(line) for line, _ in pairs]
+    if writes == 0 or numbers.random() < 0.5:
+        replies, left = run(system, lines)
+        return ['run'] + shown_lines(pairs, replies), left
+    cut, keep = numbers.randrange(1, writes + 1), numbers.choice(KEEPS)
+    kept_bytes = numbers.choice([0, 0, 1, 5, 20, 1000])
+    replies, left = run(system, lines, cut, keep, kept_bytes)
+    head = 'run cut=%d keep=%s bytes=%d' % (cut, keep, kept_bytes)
+    return [head] + shown_lines(pairs, replies), left
+
+
+def shown_lines(pairs, replies):
+    """The lines of a run up to the last reply."""
+    return ['  %s -> %s' % (line, shown(reply)) for (line, _), reply in zip(pairs, replies)]
+
+
+def reading(system):
+    """Commands that read all that a system has."""
+    lines, left = [], [('/', ROOT)]
+    while left:
+        path, number = left.pop()
+        thing = system.volume[number]
+        lines.append('lstat ' + path)
+        if thing.kind == 'link':
+            lines.append('readlink ' + path)
+        if thing.kind == 'file':
+            offsets = {0, max(0, thing.size - 3000)}
+            offsets |= {index * BLOCK - 10 for index in thing.data if index}
+            lines += ['get %s %d 4200' % (path, offset) for offset in sorted(offsets)]
+        if thing.kind == 'dir':
+            lines.append('list ' + path)
+            before = '' if path == '/' else path
+            left += [(before + '/' + word_of(name).decode(), inner)
+                     for name, inner in thing.names.items()]
+    return lines + ['df']
+
+
+def some_row(blocks, inodes, seed):
+    """A row of as many commands as `LENGTH`, and then what reads all that is left."""
+    numbers = Numbers(seed)
+    system = System(blocks, inodes, HALF)
+    lines = ['', 'row random %d' % seed, 'image %d %d %d' % (blocks, inodes, HALF)]
+    count = 0
+    while count < LENGTH:
+        length = min(LENGTH - count, numbers.randrange(5, numbers.longest_run))
+        more, system = some_run(numbers, system, length)
+        lines += more
+        count += len(more) - 1
+    mounted = system.copy()
+    mounted.mount()
+    last = reading(mounted)
+    replies, _ = run(system, [bytes_of(line) for line in last])
+    return lines + ['run'] + shown_lines([(line, None) for line in last], replies) + ['unchanged']
+
+
+def made_file(blocks, inodes, seeds):
+    """The text of a file with a row for each seed."""
+    lines = HEAD.splitlines()
+    for seed in seeds:
+        lines += some_row(blocks, inodes, seed)
+    return '\n'.join(lines) + '\n'
+
+
+def fixed_files():
+    """The names and texts of the files that belong to the data."""
+    return [(name, made_file(blocks, inodes, seeds)) for name, blocks, inodes, seeds in FILES]
+
+
+def tell(name, text):
+    """Prints what a file has: its commands, and how many answers of each kind."""
+    lines = [line for line in text.split('\n') if line.startswith('  ')]
+    refusals = collections.Counter(line.rsplit(' -> ')[1] for line in lines if ' -> err ' in line)
+    told = ', '.join('%s %d' % pair for pair in sorted(refusals.items()))
+    print('%s: %d commands; %s' % (name, len(lines), told))
+
+
+def check():
+    """Whether the files stand as made and the other rows agree with the model."""
+    holds = True
+    for name, text in fixed_files():
+        tell(name, text)
+        if (DATA / name).read_text() != text:
+            holds = False
+            print('%s: not as made' % name)
+    count = 0
+    for path in sorted(DATA.glob('*.rows')):
+        rows = [row for row in rows_of(path.read_text()) if is_read(row)]
+        count += len(rows)
+        for found in filter(None, map(difference, rows)):
+            holds = False
+            print('%s: %s' % (path.name, found))
+    print('%d rows compared' % count)
+    return holds
+
+
+def main(words):
+    """Does what the words say: the exit status."""
+    if words == ['--check']:
+        return 0 if check() else 1
+    if len(words) == 4 and words[0] == '--more':
+        for seed in range(int(words[1]), int(words[1]) + int(words[2])):
+            _, blocks, inodes, _ = FILES[seed // 3 % len(FILES)]
+            path = Path(words[3]) / ('random_%d.rows' % seed)
+            path.write_text(made_file(blocks, inodes, [seed]))
+        return 0
+    if words:
+        print(__doc__)
+        return 2
+    for name, text in fixed_files():
+        (DATA / name).write_text(text)
+        tell(name, text)
+    return 0
+
+
+if __name__ == '__main__':
+    sys.exit(main(sys.argv[1:]))

@@ -1,0 +1,212 @@
+"""A plain model of a mounted file system, for comparison with the program.
+
+It is written from the rules in docs/COMMANDS.md and docs/DECISIONS.md, and apart from the
+definitions of the crate `model`. A volume is a map from numbers to objects. Beside it stand
+the open files, what the log holds (its length, whether its epoch is open, the costs of its
+records: these are what it pledges), and the blocks that are free under the newest root. A
+consistency point stores what changed since that root, and empties the log.
+
+Every command tells how many device writes it makes, and what a cut within each of them leaves.
+"""
+
+import copy
+
+from objects import BLOCK, DIRECT, Directory
+
+ROOT = 3
+FIRST = 4
+DESCRIPTORS = 32
+INODES_OF_A_BLOCK = 21
+LOG_START = 9
+
+
+class Refusal(Exception):
+    """What a command answers instead of being done."""
+
+
+def refuse(name):
+    """Ends a command with this answer."""
+    raise Refusal(name)
+
+
+def rounded_up(number, divisor):
+    """The quotient, rounded up."""
+    return -(-number // divisor)
+
+
+class Step:
+    """A write with which something comes into force, and what stands before and behind it."""
+
+    def __init__(self, kind, write, before, after):
+        self.kind = kind
+        self.write = write
+        self.before = before
+        self.after = after
+
+
+class System:
+    """A mounted file system."""
+
+    def __init__(self, blocks, inodes, half):
+        self.block_count, self.inode_count, self.half = blocks, inodes, half
+        self.volume = {ROOT: Directory(0o755)}
+        self.descriptors = [None] * DESCRIPTORS
+        self.log_end, self.is_log_open = LOG_START, False
+        self.costs, self.kept_nameless, self.is_changed = 0, 0, False
+        self.inode_blocks, self.changed_inodes = {0}, set()
+        self.free = self.count_free()
+        self.begin_command()
+
+    def copy(self):
+        """A system of its own with the same contents, between two commands."""
+        other = copy.copy(self)
+        other.volume = {number: thing.copy() for number, thing in self.volume.items()}
+        other.descriptors = list(self.descriptors)
+        other.inode_blocks = set(self.inode_blocks)
+        other.changed_inodes = set(self.changed_inodes)
+        other.begin_command()
+        return other
+
+    def begin_command(self):
+        """Nothing is written yet."""
+        self.writes = 0
+        self.steps = []
+        self.record = None
+
+    # The volume
+
+    def links(self, number):
+        """How many names lead to a number."""
+        directories = [thing for thing in self.volume.values() if thing.kind == 'dir']
+        return sum(list(thing.names.values()).count(number) for thing in directories)
+
+    def is_open(self, number):
+        """Whether a descriptor has this file."""
+        return number in [opened.number for opened in self.descriptors if opened is not None]
+
+    def nameless(self):
+        """The files without a name."""
+        files = [number for number, thing in self.volume.items() if thing.kind == 'file']
+        return [number for number in files if self.links(number) == 0]
+
+    def drop(self, number):
+        """Takes an object out of the volume."""
+        del self.volume[number]
+        self.changed_inodes.add(number)
+        self.is_changed = True
+
+    def lose_name(self, number):
+        """Drops what has lost a name, where nothing holds it any more."""
+        if self.volume[number].kind != 'file':
+            self.drop(number)
+        elif self.links(number) == 0 and not self.is_open(number):
+            self.drop(number)
+
+    def fresh_number(self):
+        """The least free number."""
+        for number in range(FIRST, self.inode_count):
+            if number not in self.volume:
+                return number
+        return refuse('NONUMBER')
+
+    def touch(self, *numbers):
+        """The inodes of these numbers have changed."""
+        self.changed_inodes |= set(numbers)
+
+    def mount(self):
+        """No file is open, and files without a name are gone."""
+        self.descriptors = [None] * DESCRIPTORS
+        for number in self.nameless():
+            self.drop(number)
+
+    # What is stored
+
+    def inode_map_blocks(self):
+        """Blocks of the inode map: none where its bits stand in its inode."""
+        size = rounded_up(self.inode_count, 8)
+        return 0 if size <= 128 else rounded_up(size, BLOCK)
+
+    def inode_file_indirect(self):
+        """Indirect blocks of the inode file."""
+        return 1 if rounded_up(self.inode_count, INODES_OF_A_BLOCK) > DIRECT else 0
+
+    def block_map_blocks(self):
+        """Blocks of the block map, with the indirect one over them."""
+        count = rounded_up(4 * self.block_count, BLOCK)
+        return count + (1 if count > DIRECT else 0)
+
+    def count_free(self):
+        """Blocks that nothing takes, once all is stored."""
+        taken = 2 + len(self.inode_blocks) + self.inode_file_indirect()
+        taken += self.block_map_blocks() + self.inode_map_blocks()
+        return self.block_count - taken - sum(thing.blocks() for thing in self.volume.values())
+
+    def changed_inode_blocks(self):
+        """Blocks of the inode file that a point stores."""
+        return {0} | {number // INODES_OF_A_BLOCK for number in self.changed_inodes}
+
+    def count_stored(self):
+        """Blocks that a point stores; not exact where a disk has more than 1,024 blocks."""
+        count = sum(thing.changed_blocks() for thing in self.volume.values())
+        count += len(self.changed_inode_blocks()) + self.inode_file_indirect()
+        return count + self.inode_map_blocks() + min(2, self.block_map_blocks())
+
+    # A consistency point and the log
+
+    def point(self):
+        """Stores what isn't under the newest root, if anything, and empties the log."""
+        if not (self.is_changed or self.costs or self.log_end > LOG_START):
+            return
+        count = self.count_stored()
+        if count > self.free:
+            refuse('ENOSPC')
+        self.writes += count + 1
+        before = self.copy()
+        self.inode_blocks = self.inode_blocks | self.changed_inode_blocks()
+        self.changed_inodes = set()
+        for thing in self.volume.values():
+            thing.settle()
+        self.free, self.kept_nameless = self.count_free(), len(self.nameless())
+        self.costs, self.is_changed = 0, False
+        self.log_end, self.is_log_open = LOG_START, False
+        self.steps.append(Step('root', self.writes, before, self.copy()))
+
+    def log(self, length, cost):
+        """Appends a record whose body has this length, behind a point where it doesn't fit."""
+        if self.log_end + 5 + length + 1 > self.half:
+            self.point()
+        if not self.is_log_open:
+            self.writes += 3
+            before = self.copy()
+            self.is_log_open = True
+            self.steps.append(Step('open', self.writes, before, self.copy()))
+        self.writes += 2
+        self.record = Step('record', self.writes, self.copy(), None)
+        self.log_end += 5 + length
+        self.costs += cost
+
+    def pledged(self):
+        """Blocks that a point may store for what isn't under the newest root yet."""
+        return self.costs + 4 * self.kept_nameless
+
+    def cut(self, write, before, keep, kept_bytes):
+        """What a cut within this write of the command leaves.
+
+        `before` stood before the command. A sector stays by `keep`, and the one byte of an NVRAM
+        write by `kept_bytes`.
+        """
+        left = before
+        for step in self.steps:
+            if step.write < write:
+                left = step.after
+            elif step.write == write:
+                stays = kept_bytes >= 1 if step.kind == 'open' else is_kept(keep)
+                left = step.after if stays else step.before
+        if self.record is not None and self.record.write == write:
+            left = self if kept_bytes >= 1 else self.record.before
+        return left.copy()
+
+
+def is_kept(keep):
+    """Whether a cut keeps the first sector since a sync."""
+    return keep == 'all' or keep != 'none' and keep[0] == '1'

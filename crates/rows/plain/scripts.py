@@ -1,0 +1,71 @@
+"""Scripts of the plain model: all commands, and runs of them up to a cut."""
+
+import calls
+import descriptors
+from model import Refusal
+
+
+def sync(system, _words):
+    system.point()
+    return b'ok'
+
+
+def free_blocks(system, _words):
+    numbers = (system.block_count, system.free, system.pledged())
+    return b'blocks %d free %d pledged %d' % numbers
+
+
+COMMANDS = {
+    b'list': calls.list_names,
+    b'stat': calls.stat,
+    b'lstat': calls.stat,
+    b'readlink': calls.readlink,
+    b'get': calls.get,
+    b'mkdir': calls.mkdir,
+    b'rmdir': calls.rmdir,
+    b'unlink': calls.unlink,
+    b'link': calls.link,
+    b'symlink': calls.symlink,
+    b'rename': calls.rename,
+    b'chmod': calls.chmod,
+    b'truncate': calls.truncate,
+    b'sync': sync,
+    b'df': free_blocks,
+    b'open': descriptors.open_file,
+    b'close': descriptors.close,
+    b'read': descriptors.read,
+    b'write': descriptors.write,
+    b'pread': descriptors.read,
+    b'pwrite': descriptors.write,
+    b'lseek': descriptors.lseek,
+    b'ftruncate': descriptors.ftruncate,
+    b'fstat': descriptors.fstat,
+    b'fsync': descriptors.fsync,
+}
+
+
+def step(system, line):
+    """Does a line of a script: the reply. A refusal changes nothing; a point before it stays."""
+    system.begin_command()
+    words = line.split(b' ')
+    try:
+        return COMMANDS[words[0]](system, words)
+    except Refusal as refusal:
+        return b'err ' + refusal.args[0].encode()
+
+
+def run(system, lines, cut=None, keep='none', kept_bytes=0):
+    """Mounts a copy and does the lines, until the power is cut: the replies, and what is left."""
+    system = system.copy()
+    system.mount()
+    replies = []
+    writes = 0
+    for line in lines:
+        before = system.copy() if cut is not None else None
+        reply = step(system, line)
+        if cut is not None and writes < cut <= writes + system.writes:
+            left = system.cut(cut - writes, before, keep, kept_bytes)
+            return replies + [b'cut'], left
+        writes += system.writes
+        replies.append(reply)
+    return replies, system

@@ -1,0 +1,104 @@
+"""Rows of sessions, as the head of data/sessions.rows says, compared with the plain model."""
+
+import itertools
+import re
+
+from model import System
+from scripts import run
+
+UNREAD = ('fail', 'fail-sync')
+
+
+def bytes_of(text):
+    """The bytes of a text, in which {HH*N} is so many of a byte."""
+    out = b''
+    for part in re.split(r'(\{[^}]*\})', text):
+        if part.startswith('{'):
+            code, _, count = part[1:-1].partition('*')
+            out += bytes([int(code, 16)]) * int(count or 1)
+        else:
+            out += part.encode('latin-1')
+    return out
+
+
+def shown(reply):
+    """A reply as a row has it: {HH*N} in place of 16 and more of one byte."""
+    text = reply.decode('latin-1')
+    return re.sub(r'(.)\1{15,}', lambda found: '{%02x*%d}' % (ord(found[1]), len(found[0])), text)
+
+
+def is_one_of(reply, expected):
+    """Whether a reply is one of those with ` | ` between; behind `~` stands only how it begins."""
+    for text in expected.split(' | '):
+        if reply == bytes_of(text.removeprefix('~')):
+            return True
+        if text.startswith('~') and reply.startswith(bytes_of(text[1:])):
+            return True
+    return False
+
+
+def words_of_run(line):
+    """The words of a `run` line: pairs of name and value."""
+    return [tuple(word.split('=')) for word in line.split()[1:]]
+
+
+def values_of(name, value):
+    """The values that a word of a `run` line stands for."""
+    if name == 'keep':
+        return value.split(',')
+    first, _, last = value.partition('..')
+    return range(int(first), int(last or first) + 1)
+
+
+def rows_of(text):
+    """The rows of a file: lists of lines, the title first."""
+    rows = [row.split('\n') for row in text.split('\nrow ')[1:]]
+    return [[line for line in row if line and not line.startswith('#')] for row in rows]
+
+
+def is_read(row):
+    """Whether the model can read a row: it has sessions alone, and no failures or changed bytes."""
+    for line in row[1:]:
+        if line.startswith('  ') or line.startswith('image ') or line == 'unchanged':
+            continue
+        if line.split()[0] == 'run' and not set(UNREAD) & {name for name, _ in words_of_run(line)}:
+            continue
+        if re.match('(disk|nvram) (holds|zeros) ', line) or line.split()[0] in ('status', 'says'):
+            continue
+        return False
+    return True
+
+
+def choices_of(row):
+    """All choices of the values of a row's `run` lines, in the order of their words."""
+    words = [word for line in row if line.split()[0] == 'run' for word in words_of_run(line)]
+    return itertools.product(*[values_of(name, value) for name, value in words])
+
+
+def difference(row):
+    """What the first difference of a row is, and None where there is none."""
+    for choice in choices_of(row):
+        found = difference_of_choice(row, list(choice))
+        if found is not None:
+            return '%s: %r: %s' % (row[0], choice, found)
+    return None
+
+
+def difference_of_choice(row, choice):
+    """What the first difference of a row is for one of its choices."""
+    system = None
+    for index, line in enumerate(row):
+        if line.startswith('image '):
+            system = System(*[int(word) for word in line.split()[1:]])
+        if line.split()[0] != 'run' or index == 0:
+            continue
+        options = {name: choice.pop(0) for name, _ in words_of_run(line)}
+        body = list(itertools.takewhile(lambda line: line.startswith('  '), row[index + 1:]))
+        pairs = [line[2:].partition(' -> ')[::2] for line in body if not line.startswith('  |')]
+        lines = [bytes_of(command) for command, _ in pairs]
+        replies, system = run(system, lines, options.get('cut'), options.get('keep', 'none'),
+                              options.get('bytes', 0))
+        for (command, expected), reply in zip(pairs, replies):
+            if not is_one_of(reply, expected):
+                return '%s: the model answers %s' % (command[:80], shown(reply)[:160])
+    return None
