@@ -1,0 +1,2 @@
+mod SlotLaws
+mod NamedLaws

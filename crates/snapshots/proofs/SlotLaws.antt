@@ -1,0 +1,72 @@
+-- What the slots of a root have, pointer by pointer.
+use Rattle.std.proofs.Common.{◌≡◌, inl, inr, ℕ, zero, suc, ◌<◌, ◌≤◌, List, length, true, false, not, Some, refl, ap, sym, subst, ◌∙◌, arith, bytes_eq}
+use Rattle.std.specs.Prelude.{◌≢◌, slice_index_or}
+use Rattle.std.proofs.lemmas.Bool.{cases_Bool, cases_lt, false≢true}
+use Rattle.std.proofs.lemmas.Slice.Eq.{bytes_eq-Decides}
+use Rattle.std.proofs.lemmas.List.{get_or_past}
+use Rattle.layout.specs.Places.{Blocks, pointed}
+use Rattle.layout.specs.SnapRoot.{Snapshot, snapshot_bytes, snapshot_in}
+use Rattle.layout.specs.declared.pointer.Pointer.{Pointer}
+use Rattle.layout.specs.declared.pointer.Pointer.TheVariants.{Hole, Block}
+use Rattle.layout.specs.declared.root.Root.{Root}
+use Rattle.model.proofs.LooseLemmas.{some_same}
+use Rattle.images.specs.Roots.{slot, whole}
+use Rattle.images.specs.Snapshots.{AreSnapshots, HasSnapshot}
+use Rattle.loading.specs.Snapshots.{IsSnapshotAt}
+use Rattle.snapshots.specs.Found.{SpellsSnapshot}
+
+no_block : (b : ℕ) → Hole ≡ Block b → ⊥
+no_block b is = cc
+
+pub has : (disk : Blocks) (r : Root) (k : ℕ) (p : Pointer) (s : Snapshot) → slot r k ≡ p → SpellsSnapshot disk p s → HasSnapshot r (whole disk r) k s
+unfolding whole
+has disk r k Hole s is spells = absurd spells
+has disk r k (Block b) s is spells = record { block = b; there = is; read = ap snapshot_in (ap (pointed disk) is) ∙ spells }
+
+pub spells : (disk : Blocks) (r : Root) (k : ℕ) (s : Snapshot) → HasSnapshot r (whole disk r) k s → SpellsSnapshot disk (slot r k) s
+unfolding whole
+spells disk r k s has = subst (λ p. SpellsSnapshot disk p s) (sym has.there) (ap snapshot_in (sym (ap (pointed disk) has.there)) ∙ has.read)
+
+-- a slot that isn't free is one of the root's
+pub in_slot : (r : Root) (k block : ℕ) → slot r k ≡ Block block → (j : ℕ) × (k ≡ suc j) × (j < length r.snapshots)
+in_slot r zero block is = absurd (no_block block is)
+in_slot r (suc j) block is = elim (cases_lt j (length r.snapshots)) [
+  | inl lt ↦ (j, refl, lt)
+  | inr past ↦ absurd (no_block block (sym (get_or_past r.snapshots j Hole past) ∙ is))
+]
+
+-- where the snapshots are in their grammar, so is the block at each pointer
+pub at_slot : (disk : Blocks) (r : Root) (k : ℕ) (p : Pointer) → AreSnapshots r (whole disk r) → slot r (suc k) ≡ p → IsSnapshotAt r.geometry r.generation disk p
+unfolding whole
+at_slot disk r k Hole are is = tt
+at_slot disk r k (Block b) are is =
+    let one = are.each (suc k) b is in
+    record { snapshot = one.0; is = one.2.is; spelled = sym (ap (pointed disk) is) ∙ one.2.spelled; order = one.2.order; inode_file = one.2.inode_file }
+
+-- no slot has the name, where none of the pointers' blocks does
+pub none_has : (disk : Blocks) (r : Root) (name : List ℕ) (n k : ℕ) (s : Snapshot) → length r.snapshots ≤ n
+    → ((j : ℕ) (q : Snapshot) → j < n → SpellsSnapshot disk (slice_index_or r.snapshots j Hole) q → q.name ≢ name)
+    → HasSnapshot r (whole disk r) k s → s.name ≢ name
+none_has disk r name n k s all none has =
+    let at = in_slot r k has.block has.there in
+    none at.0 s (omega (arith, all, at.2)) (subst (λ i. SpellsSnapshot disk (slot r i) s) at.1 (spells disk r k s has))
+
+-- one slot has one snapshot
+pub one_snapshot : (disk : Blocks) (r : Root) (k : ℕ) (s q : Snapshot) → HasSnapshot r (whole disk r) k s → HasSnapshot r (whole disk r) k q → s ≡ q
+one_snapshot disk r k s q first second = some_same (sym first.read ∙ second.read)
+
+-- a block that spells a snapshot spells no other
+pub one_spelled : (bytes : List ℕ) (v s : Snapshot) → snapshot_in bytes ≡ Some v → snapshot_in bytes ≡ Some s → s ≡ v
+one_spelled bytes v s is other = some_same (sym other ∙ is)
+
+pub is_spelled : (block bytes : List ℕ) (v : Snapshot) → bytes ≡ block → bytes ≡ snapshot_bytes v → snapshot_in (snapshot_bytes v) ≡ Some v → snapshot_in block ≡ Some v
+is_spelled block bytes v there spelled reads = ap snapshot_in (sym there ∙ spelled) ∙ reads
+
+pub other_name : (a b : List ℕ) → not (bytes_eq a b) ≡ true → a ≡ b → ⊥
+other_name a b other same = let told : bytes_eq a b ≡ true = (bytes_eq-Decides a b).1 same in false≢true (sym (ap not told) ∙ other)
+
+pub same_name : (a b : List ℕ) → not (bytes_eq a b) ≡ false → a ≡ b
+same_name a b is = elim (cases_Bool (bytes_eq a b)) [
+  | inl same ↦ (bytes_eq-Decides a b).0 same
+  | inr other ↦ absurd (false≢true (sym is ∙ ap not other))
+]

@@ -1,0 +1,37 @@
+-- A snapshot that is found by its name.
+use Rattle.std.specs.Prelude.{ℕ, ◌≡◌, List, find, bytes_eq, Option, Some, None}
+use Rattle.layout.specs.Places.{Blocks}
+use Rattle.layout.specs.SnapRoot.{Snapshot, snapshot_in}
+use Rattle.layout.specs.declared.pointer.Pointer.{Pointer}
+use Rattle.layout.specs.declared.pointer.Pointer.TheVariants.{Hole, Block}
+use Rattle.layout.specs.declared.root.Root.{Root}
+use Rattle.model.specs.Paths.{Name}
+use Rattle.model.specs.Trees.{Tree}
+use Rattle.images.specs.Roots.{whole}
+use Rattle.images.specs.Snapshots.{HasSnapshot, IsFrozenTree}
+use Rattle.snapshots.specs.declared.finding.Found.{Found}
+
+-- the block at a pointer spells this snapshot
+abbrev pub SpellsSnapshot : Blocks → Pointer → Snapshot → Type 0
+SpellsSnapshot disk Hole s = ⊥
+SpellsSnapshot disk (Block b) s = snapshot_in (disk b) ≡ Some s
+
+-- the snapshot of this name that was found
+abbrev pub snapshot_found : Name → Found → Snapshot
+snapshot_found name f = record { order = f.order; name = name; inode_file = f.inode_file }
+
+-- the snapshot of this name among those with their names and trees
+abbrev pub named : Name → List (Name × Tree) → Option (Name × Tree)
+named name pairs = find (λ pair. bytes_eq pair.0 name) pairs
+
+-- Of the snapshots under a root, slot k has the one of this name, and its tree is the one that the names lead to.
+pub record IsNamed (r : Root) (disk : Blocks) (name : Name) (pairs : List (Name × Tree)) (k : ℕ) : Type 0 where
+  pub tree : Tree
+  pub listed : named name pairs ≡ Some (name, tree)
+  pub frozen : IsFrozenTree r.geometry.inodes ((whole disk r).frozen k) tree
+
+-- What was found under a root by a name: nothing where no snapshot has it, or else the slot of the one that has it.
+abbrev pub Finds : Root → Blocks → Name → List (Name × Tree) → Option Found → Type 0
+Finds r disk name pairs None = named name pairs ≡ None
+Finds r disk name pairs (Some f) =
+    HasSnapshot r (whole disk r) f.slot (snapshot_found name f) × IsNamed r disk name pairs f.slot
