@@ -22,21 +22,24 @@ use Rattle.layout.specs.declared.inode.Inode.{Inode}
 use Rattle.layout.specs.declared.pointer.Pointer.{Pointer}
 use Rattle.layout.specs.declared.pointer.Pointer.TheVariants.{Hole, Block}
 use Rattle.layout.specs.declared.root.Root.{Root}
-use Rattle.model.specs.States.{State}
+use Rattle.model.specs.Paths.{Name}
+use Rattle.model.specs.States.{State, with_snapshots}
+use Rattle.model.specs.Trees.{Tree}
 use Rattle.model.specs.Volumes.{Volume}
 use Rattle.images.specs.Nodes.{Held, held, Agrees, place_at_height, pointers_of}
 use Rattle.images.specs.Roots.{HeldTree, whole, Reach, Needs, active, frozen, head, slot, frozen_at}
 use Rattle.images.specs.BlockMap.{entry, roots}
 use Rattle.images.specs.Soundness.{IsSoundFile, IsSoundTree}
+use Rattle.images.specs.SnapshotSteps.{SnapshotStep, kept_after}
 use Rattle.images.specs.States.{IsSound, Holds, Opens, OpensBy}
-use Rattle.images.specs.Cuts.{Write, IsOfDisk, IsOutside, StaysOutside, AreFree, HasNewRoot, IsPoint}
+use Rattle.images.specs.Cuts.{Write, IsOfDisk, IsOutside, StaysOutside, AreFree, HasNewRoot, IsPointWith}
 use Rattle.images.proofs.Frames.{frozen_none}
 use Rattle.images.proofs.PointLaws.{free_is_free, no_bit, active_base, frozen_read}
 use Rattle.images.proofs.OverlayLaws.{held_up}
 use Rattle.images.proofs.ReadingLaws.{highest}
 use Rattle.images.proofs.StateLaws.{newest_is_root}
 use Rattle.images.proofs.FreeLaws.{open_alike, same_block}
-use Rattle.images.proofs.HoldLaws.{point_holds}
+use Rattle.images.proofs.StepLaws.{step_holds}
 use Rattle.images.proofs.SectorLaws.{sectors_block}
 use Rattle.images.proofs.SettlingLaws.{newest_first, newest_second}
 
@@ -118,11 +121,15 @@ module _ (d : Blocks) (r : Root) (root : IsRoot r) (sound : IsSound r (whole d r
 
 -- ---- with the root
 
+-- what a mount finds of a state has its snapshots, whatever these are
+forgets_with : (pairs : List (Name × Tree)) (s t : State) → Forgets s t → Forgets (with_snapshots pairs s) (with_snapshots pairs t)
+forgets_with pairs s t forgets = record { tree = forgets.tree; rest = ap (with_snapshots pairs) forgets.rest }
+
 low_slot : (r : Root) (d : ℕ → List ℕ) (sector : ℕ) → (sector ≡ SLOT_B) × HoldsRoot (d SLOT_A) r ⊎ (sector ≡ SLOT_A) × HoldsRoot (d SLOT_B) r → sector < 16
 low_slot r d sector (inl b) = omega (arith, b.0)
 low_slot r d sector (inr a) = omega (arith, a.0)
 
-module _ (sectors : ℕ) (d e : ℕ → List ℕ) (nvram : List ℕ) (s : State) (writes : List Write) (sector : ℕ) (new : Root) (v : Volume) (o : Opens sectors d nvram s) (point : IsPoint o.root d writes sector new v) (has : HasNewRoot writes sector (root_bytes new) d e) where
+module _ (sectors : ℕ) (d e : ℕ → List ℕ) (nvram : List ℕ) (s : State) (writes : List Write) (sector : ℕ) (new : Root) (v : Volume) (step : SnapshotStep) (o : Opens sectors d nvram s) (point : IsPointWith step o.root d writes sector new v) (has : HasNewRoot writes sector (root_bytes new) d e) where
   old_root : IsRoot o.root
   old_root = newest_is_root o.root (d SLOT_A) (d SLOT_B) o.newest
 
@@ -136,11 +143,12 @@ module _ (sectors : ℕ) (d e : ℕ → List ℕ) (nvram : List ℕ) (s : State)
       (ap (entry (whole (blocks_of d) o.root).active) (sym block ∙ sym same) ∙ point.free k w within) needs)
       (λ same. absurd (omega (arith, same))))
 
-  pub new_holds : Holds new (whole (blocks_of e) new) v o.snapshots
+  pub new_holds : Holds new (whole (blocks_of e) new) v (kept_after step o.first o.snapshots)
   new_holds =
-      let plans = point.plans (blocks_of e) (λ k w lt. sectors_block e (get_or writes k w).place (get_or writes k w).bytes (point.long k w lt) (has.holds k w lt)) needs_stay in
-      point_holds (blocks_of d) (blocks_of e) o.root new point.files o.first v o.snapshots old_root o.holds needs_stay plans.plan plans.sound
-      (record { generation = omega (arith, point.later); snapshots = point.snapshots }) point.objects point.volume
+      let written : All (λ w. blocks_of e w.place ≡ w.bytes) writes = λ k w lt. sectors_block e (get_or writes k w).place (get_or writes k w).bytes (point.long k w lt) (has.holds k w lt) in
+      let plans = point.plans (blocks_of e) written needs_stay in
+      step_holds (blocks_of d) (blocks_of e) o.root new point.files o.first v o.snapshots old_root o.holds needs_stay plans.plan plans.sound
+      point.later point.objects point.volume step point.possible point.snapshots (point.head (blocks_of e) written)
 
   -- the two slots are in no block that is written
   slot_stays : (n : ℕ) → n / 8 < 2 → n ≢ sector → e n ≡ d n
@@ -161,25 +169,25 @@ module _ (sectors : ℕ) (d e : ℕ → List ℕ) (nvram : List ℕ) (s : State)
   ]
 
   pub new_opens : (rest : List Change) (last : Volume) → LogHoldsChanges new nvram rest → Replays o.root.geometry.inodes v rest last
-      → without_nameless last ≡ without_nameless o.last → OpensBy sectors e nvram s rest
+      → without_nameless last ≡ without_nameless o.last → OpensBy sectors e nvram (with_snapshots (kept_after step o.first o.snapshots) s) rest
   new_opens rest last log replays ends = record {
     opens = record {
       root = new;
       newest = new_newest;
       size = o.size ∙ ap (λ (g : Sizes). 8 * g.blocks) (sym point.geometry);
       first = v;
-      snapshots = o.snapshots;
+      snapshots = kept_after step o.first o.snapshots;
       holds = new_holds;
       changes = rest;
       log = log;
       last = last;
       replays = subst (λ (g : Sizes). Replays g.inodes v rest last) (sym point.geometry) replays;
-      state = subst (Forgets s) (λ i. record {
+      state = forgets_with (kept_after step o.first o.snapshots) s _ (subst (Forgets s) (λ i. record {
         inodes = (sym point.geometry i).inodes;
         tree = tree_of (sym ends i) (λ d. None);
         snapshots = o.snapshots;
         mark = going;
-      }) o.state;
+      }) o.state);
     };
     these = refl;
   }

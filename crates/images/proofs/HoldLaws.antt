@@ -7,7 +7,7 @@ use Rattle.layout.specs.Places.{Blocks}
 use Rattle.layout.specs.Root.{IsRoot}
 use Rattle.layout.specs.SnapRoot.{Snapshot, snapshot_in}
 use Rattle.layout.specs.declared.inode.Inode.{Inode}
-use Rattle.layout.specs.declared.pointer.Pointer.TheVariants.{Hole}
+use Rattle.layout.specs.declared.pointer.Pointer.TheVariants.{Hole, Block}
 use Rattle.layout.specs.declared.root.Root.{Root}
 use Rattle.layout.specs.declared.version.TheConstants.{VERSION}
 use Rattle.model.specs.Paths.{Name}
@@ -18,9 +18,9 @@ use Rattle.images.specs.Roots.{HeldTree, Whole, whole, Needs, slot, inode_of}
 use Rattle.images.specs.BlockMap.{NamesOnce}
 use Rattle.images.specs.Contents.{Content, StandsAs, HoldsVolume, contents}
 use Rattle.images.specs.Soundness.{IsSoundFile, IsSoundTree, FitsNumber}
-use Rattle.images.specs.Snapshots.{HasSnapshot, AreSnapshots, IsFrozenTree, AreKeptAbove}
+use Rattle.images.specs.Snapshots.{HasSnapshot, AreSnapshots, IsFrozenTree, AreKept, AreKeptAbove}
 use Rattle.images.specs.States.{IsSound, Holds}
-use Rattle.images.specs.Points.{IsPlannedOn, IsSoundPlan, HoldObjects, IsLater}
+use Rattle.images.specs.Points.{IsPlannedOn, IsSoundPlan, HoldObjects}
 use Rattle.images.proofs.PointLaws.{point_stands, active_base, frozen_stays, tree_is, is_bool, stays_held}
 
 -- ---- the tree
@@ -127,30 +127,44 @@ objects_held s t files v sound content objects volume n = elim (cases_lt n 3) [
 
 -- ---- all of it
 
-pub point_holds : (d e : Blocks) (r new : Root) (files : ℕ → Content) (first v : Volume) (snapshots : List (Name × Tree))
+-- whatever became of the snapshots
+pub point_with : (d e : Blocks) (r new : Root) (files : ℕ → Content) (first v : Volume) (snapshots : List (Name × Tree))
     → IsRoot r → Holds r (whole d r) first snapshots
     → Agrees (Needs r (whole d r)) d e → (plan : IsPlannedOn (whole d r) (whole d r).active 0 r e new files)
-    → IsSoundPlan r.geometry e plan.inode plan.changed → IsLater r new
+    → IsSoundPlan r.geometry e plan.inode plan.changed
     → HoldObjects r.geometry.inodes files v → IsVolume r.geometry.inodes v
-    → Holds new (whole e new) v snapshots
-point_holds d e r new files first v snapshots root holds same plan good later objects volume =
+    → ((k block : ℕ) → slot new k ≡ Block block → IsSoundTree r.geometry ((whole e new).frozen k))
+    → AreSnapshots new (whole e new) → (pairs : List (Name × Tree)) → AreKept new (whole e new) pairs → Holds new (whole e new) v pairs
+point_with d e r new files first v snapshots root holds same plan good objects volume frozen are pairs kept =
     let sound = holds.sound in
     let base = active_base d r sound.exact sound.active.once in
     let settled = point_stands d e r new (whole d r).active 0 files root sound.exact base same plan in
     let tree : IsSoundTree r.geometry (whole e new).active = subst (IsSoundTree r.geometry) (sym (active_tree e new plan.inode plan.inodes)) (sound_tree d e r new files root sound same plan good) in
-    let slots = slot_same r new later.snapshots in
-    let heads : (k : ℕ) → (whole e new).head k ≡ (whole d r).head k = λ k. (frozen_stays d e r new k same plan.geometry (slots k)).1 in
-    let trees : (k : ℕ) → (whole e new).frozen k ≡ (whole d r).frozen k = λ k. (frozen_stays d e r new k same plan.geometry (slots k)).0 in
     record {
       sound = record {
         active = subst (λ (g : Sizes). IsSoundTree g (whole e new).active) (sym plan.geometry) tree;
-        frozen = λ k block there. subst (λ (g : Sizes). IsSoundTree g ((whole e new).frozen k)) (sym plan.geometry)
-            (subst (IsSoundTree r.geometry) (sym (trees k)) (sound.frozen k block (sym (slots k) ∙ there)));
-        snapshots = snapshots_stay r new (whole d r) (whole e new) slots heads plan.geometry later.generation sound.snapshots;
+        frozen = λ k block there. subst (λ (g : Sizes). IsSoundTree g ((whole e new).frozen k)) (sym plan.geometry) (frozen k block there);
+        snapshots = are;
         exact = settled.exact;
       };
       holds = subst (λ (g : Sizes). HoldsVolume g.inodes (contents (whole e new).active) v) (sym plan.geometry)
           (objects_held r.geometry (whole e new).active files v tree settled.content objects volume);
       volume = subst (λ (g : Sizes). IsVolume g.inodes v) (sym plan.geometry) volume;
-      kept = kept_stay r new (whole d r) (whole e new) slots heads plan.geometry trees 0 snapshots holds.kept;
+      kept = kept;
     }
+
+pub point_holds : (d e : Blocks) (r new : Root) (files : ℕ → Content) (first v : Volume) (snapshots : List (Name × Tree))
+    → IsRoot r → Holds r (whole d r) first snapshots
+    → Agrees (Needs r (whole d r)) d e → (plan : IsPlannedOn (whole d r) (whole d r).active 0 r e new files)
+    → IsSoundPlan r.geometry e plan.inode plan.changed → r.generation < new.generation → new.snapshots ≡ r.snapshots
+    → HoldObjects r.geometry.inodes files v → IsVolume r.geometry.inodes v
+    → Holds new (whole e new) v snapshots
+point_holds d e r new files first v snapshots root holds same plan good later slots_stay objects volume =
+    let sound = holds.sound in
+    let slots = slot_same r new slots_stay in
+    let heads : (k : ℕ) → (whole e new).head k ≡ (whole d r).head k = λ k. (frozen_stays d e r new k same plan.geometry (slots k)).1 in
+    let trees : (k : ℕ) → (whole e new).frozen k ≡ (whole d r).frozen k = λ k. (frozen_stays d e r new k same plan.geometry (slots k)).0 in
+    point_with d e r new files first v snapshots root holds same plan good objects volume
+    (λ k block there. subst (IsSoundTree r.geometry) (sym (trees k)) (sound.frozen k block (sym (slots k) ∙ there)))
+    (snapshots_stay r new (whole d r) (whole e new) slots heads plan.geometry (omega (arith, later)) sound.snapshots)
+    snapshots (kept_stay r new (whole d r) (whole e new) slots heads plan.geometry trees 0 snapshots holds.kept)

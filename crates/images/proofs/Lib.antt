@@ -6,6 +6,7 @@ mod StateLaws
 mod FreeLaws
 mod InodeFileLaws
 mod HoldLaws
+mod StepLaws
 mod SectorLaws
 mod AloneLaws
 mod SlotLaws

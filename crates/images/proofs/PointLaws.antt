@@ -114,7 +114,7 @@ frozen_stays d e r new k same geometry there = (
 )
 
 -- one that is taken
-frozen_takes : (d e : Blocks) (r new : Root) (k block : ℕ) → Agrees (Needs r (whole d r)) d e → new.geometry ≡ r.geometry → slot new k ≡ Block block
+pub frozen_takes : (d e : Blocks) (r new : Root) (k block : ℕ) → Agrees (Needs r (whole d r)) d e → new.geometry ≡ r.geometry → slot new k ≡ Block block
     → frozen_inode_file (e block) ≡ r.inode_file → (whole e new).frozen k ≡ (whole d r).active
 unfolding whole
 frozen_takes d e r new k block same geometry there is =

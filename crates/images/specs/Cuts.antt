@@ -11,6 +11,7 @@ use Rattle.images.specs.Roots.{whole, Needs}
 use Rattle.images.specs.BlockMap.{entry}
 use Rattle.images.specs.Contents.{Content}
 use Rattle.images.specs.Points.{IsPlannedOn, IsSoundPlan, HoldObjects}
+use Rattle.images.specs.SnapshotSteps.{SnapshotStep, unchanged, CanStep, StepsSlots, HasHead}
 
 -- a block of a disk of so many, behind the two that hold the roots
 abbrev pub IsOfDisk : ℕ → ℕ → Type 0
@@ -61,16 +62,22 @@ Plans d r writes new files =
     → PlansOn d r e new files
 
 -- A consistency point over a disk with a root is planned, that leads to this volume: the blocks that it writes, and the new
--- root with its sector. The snapshots stay.
-pub record IsPoint (r : Root) (d : ℕ → List ℕ) (writes : List Write) (sector : ℕ) (new : Root) (v : Volume) : Type 0 where
+-- root with its sector. So is what it does with the snapshots.
+pub record IsPointWith (step : SnapshotStep) (r : Root) (d : ℕ → List ℕ) (writes : List Write) (sector : ℕ) (new : Root) (v : Volume) : Type 0 where
   pub free : AreFree r d writes
   pub long : All (λ w. length w.bytes ≡ BLOCK_BYTES) writes
   pub slot : IsOtherSlot r d sector
   pub root : IsRoot new
   pub later : r.generation < new.generation
   pub geometry : new.geometry ≡ r.geometry
-  pub snapshots : new.snapshots ≡ r.snapshots
+  pub possible : CanStep step r (whole (blocks_of d) r)
+  pub snapshots : StepsSlots step r new
+  pub head : (e : Blocks) → All (λ w. e w.place ≡ w.bytes) writes → HasHead step new e
   pub files : ℕ → Content
   pub plans : Plans (blocks_of d) r writes new files
   pub objects : HoldObjects r.geometry.inodes files v
   pub volume : IsVolume r.geometry.inodes v
+
+-- the same where the snapshots stay
+abbrev pub IsPoint : Root → (ℕ → List ℕ) → List Write → ℕ → Root → Volume → Type 0
+IsPoint = IsPointWith unchanged

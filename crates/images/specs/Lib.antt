@@ -8,5 +8,6 @@ pub mod States
 pub mod Overlays
 pub mod InodeFiles
 pub mod Points
+pub mod SnapshotSteps
 pub mod Cuts
 pub mod FirstRoots

@@ -90,8 +90,3 @@ pub record IsSoundPlan (s : Sizes) (e : Blocks) (inode : ℕ → Inode) (changed
 -- the files from number 3 on hold these objects
 abbrev pub HoldObjects : ℕ → (ℕ → Content) → Volume → Type 0
 HoldObjects inodes files v = (n : ℕ) → 3 ≤ n → StandsAs (files n).kind inodes (files n) (v n)
-
--- a later root of the same image, with the same snapshots
-pub record IsLater (r new : Root) : Type 0 where
-  pub generation : r.generation ≤ new.generation
-  pub snapshots : new.snapshots ≡ r.snapshots

@@ -7,11 +7,12 @@ ghost use Rattle.layout.specs.Root.{IsRoot, root_bytes};
 ghost use Rattle.layout.specs.declared.TheConstants.{SLOT_A, SLOT_B};
 ghost use Rattle.layout.specs.declared.root.Root.{Root};
 ghost use Rattle.model.specs.Records.{Change, Replays, without_nameless};
-ghost use Rattle.model.specs.States.{State};
+ghost use Rattle.model.specs.States.{State, with_snapshots};
 ghost use Rattle.model.specs.Volumes.{Volume};
-ghost use Rattle.images.specs.Cuts.{AreFree, HasNewRoot, IsOfDisk, IsPoint, PlansOn, StaysOutside, Write};
+ghost use Rattle.images.specs.Cuts.{AreFree, HasNewRoot, IsOfDisk, IsPointWith, PlansOn, StaysOutside, Write};
 ghost use Rattle.images.specs.Contents.{contents};
 ghost use Rattle.images.specs.Roots.{Needs, whole};
+ghost use Rattle.images.specs.SnapshotSteps.{SnapshotStep, kept_after};
 ghost use Rattle.images.specs.States.{Holds, IsSound, LogHoldsChanges, Opens, OpensBy};
 
 /// What a root in its grammar needs are blocks of its disk, none of the two that hold the roots. It does nothing.
@@ -28,28 +29,32 @@ pub fn unfinished_points_open_as_before()
         → OpensBy sectors e nvram s o.changes }
 {}
 
-/// Once its root is written, that is the newest one, and it holds the planned volume and the same snapshots. It does nothing.
+/// Once its root is written, that is the newest one, and it holds the planned volume and the same snapshots, but for one that
+/// it takes or deletes. It does nothing.
 pub fn finished_points_hold()
     ensures newest { (sectors : ℕ) (d e : ℕ → List ℕ) (nvram : List ℕ) (s : State)
-        (writes : List Write) (sector : ℕ) (new : Root) (v : Volume)
-        → (o : Opens sectors d nvram s) → IsPoint o.root d writes sector new v
+        (writes : List Write) (sector : ℕ) (new : Root) (v : Volume) (step : SnapshotStep)
+        → (o : Opens sectors d nvram s) → IsPointWith step o.root d writes sector new v
         → HasNewRoot writes sector (root_bytes new) d e → IsNewest new (e SLOT_A) (e SLOT_B) }
     ensures holds { (sectors : ℕ) (d e : ℕ → List ℕ) (nvram : List ℕ) (s : State)
-        (writes : List Write) (sector : ℕ) (new : Root) (v : Volume)
-        → (o : Opens sectors d nvram s) → IsPoint o.root d writes sector new v
+        (writes : List Write) (sector : ℕ) (new : Root) (v : Volume) (step : SnapshotStep)
+        → (o : Opens sectors d nvram s) → IsPointWith step o.root d writes sector new v
         → HasNewRoot writes sector (root_bytes new) d e
-        → Holds new (whole (blocks_of e) new) v o.snapshots }
+        → Holds new (whole (blocks_of e) new) v (kept_after step o.first o.snapshots) }
 {}
 
 /// And where the records that the new root doesn't cover lead from the planned volume to what the old images came to, files
-/// without names aside, the images open as before, by those records. It does nothing.
-pub fn finished_points_open_as_before()
+/// without names aside, the images open as before by those records, but for the snapshot that it takes or deletes. It does
+/// nothing.
+pub fn finished_points_open()
     ensures { (sectors : ℕ) (d e : ℕ → List ℕ) (nvram : List ℕ) (s : State)
-        (writes : List Write) (sector : ℕ) (new : Root) (v : Volume) (rest : List Change) (last : Volume)
-        → (o : Opens sectors d nvram s) → IsPoint o.root d writes sector new v
+        (writes : List Write) (sector : ℕ) (new : Root) (v : Volume) (step : SnapshotStep)
+        (rest : List Change) (last : Volume)
+        → (o : Opens sectors d nvram s) → IsPointWith step o.root d writes sector new v
         → HasNewRoot writes sector (root_bytes new) d e → LogHoldsChanges new nvram rest
         → Replays o.root.geometry.inodes v rest last
-        → without_nameless last ≡ without_nameless o.last → OpensBy sectors e nvram s rest }
+        → without_nameless last ≡ without_nameless o.last
+        → OpensBy sectors e nvram (with_snapshots (kept_after step o.first o.snapshots) s) rest }
 {}
 
 /// A point that changes nothing but the generation can be planned: what is asked of a plan can be met. It does nothing.

@@ -12,7 +12,7 @@ mod settling;
 mod states;
 
 pub use cut::{
-    finished_points_hold, finished_points_open_as_before, needed_blocks_are_of_the_disk,
+    finished_points_hold, finished_points_open, needed_blocks_are_of_the_disk,
     nothing_can_be_planned, unfinished_points_open_as_before,
 };
 pub use first::{first_images_open_to_the_empty_state, first_roots_hold, free_files_hold_nothing};

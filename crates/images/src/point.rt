@@ -1,6 +1,6 @@
 //! What a consistency point that was planned comes to.
 
-ghost use Rattle.std.specs.Prelude.{ℕ, ◌≡◌, ◌≢◌, ◌≤◌, ◌⊎◌, Bool, List, true};
+ghost use Rattle.std.specs.Prelude.{ℕ, ◌≡◌, ◌≢◌, ◌<◌, ◌≤◌, ◌⊎◌, Bool, List, true};
 ghost use Rattle.layout.specs.Places.{Blocks};
 ghost use Rattle.layout.specs.Root.{IsRoot};
 ghost use Rattle.layout.specs.declared.inode.Inode.{Inode};
@@ -13,8 +13,9 @@ ghost use Rattle.images.specs.Roots.{HeldTree, Needs, whole};
 ghost use Rattle.images.specs.BlockMap.{IsExact, NamesOnce, entry};
 ghost use Rattle.images.specs.Contents.{Content, content_of};
 ghost use Rattle.images.specs.Overlays.{IsInline, LaysOut, Overlay, overlaid_content};
-ghost use Rattle.images.specs.Points.{HoldObjects, IsBase, IsLater, IsPlannedOn, IsSettled};
+ghost use Rattle.images.specs.Points.{HoldObjects, IsBase, IsPlannedOn, IsSettled};
 ghost use Rattle.images.specs.Points.{IsSoundPlan};
+ghost use Rattle.images.specs.SnapshotSteps.{CanStep, HasHead, SnapshotStep, StepsSlots, kept_after};
 ghost use Rattle.images.specs.States.{Holds};
 
 /// A block whose entry is 0 is none that the root needs. It does nothing.
@@ -61,14 +62,16 @@ pub fn planned_points_settle()
 {}
 
 /// Where the old root held a volume, and what was planned of the active tree is in its grammar, the new root holds the planned
-/// volume, and the same snapshots. It does nothing.
+/// volume, and the same snapshots but for one that is taken or deleted: the tree of a snapshot that is taken is that of the old
+/// root's volume, without the files that have no name. It does nothing.
 pub fn planned_points_hold()
     ensures { (d e : Blocks) (r new : Root) (files : ℕ → Content) (first v : Volume)
         (snapshots : List (Name × Tree))
         → IsRoot r → Holds r (whole d r) first snapshots
         → Agrees (Needs r (whole d r)) d e
         → (plan : IsPlannedOn (whole d r) (whole d r).active 0 r e new files)
-        → IsSoundPlan r.geometry e plan.inode plan.changed → IsLater r new
+        → IsSoundPlan r.geometry e plan.inode plan.changed → r.generation < new.generation
         → HoldObjects r.geometry.inodes files v → IsVolume r.geometry.inodes v
-        → Holds new (whole e new) v snapshots }
+        → (step : SnapshotStep) → CanStep step r (whole d r) → StepsSlots step r new
+        → HasHead step new e → Holds new (whole e new) v (kept_after step first snapshots) }
 {}
