@@ -13,13 +13,13 @@ use Rattle.blockmap.specs.Parts.{Part, free_entries}
 use Rattle.blockmap.specs.Maps.{no_part, entry_at, settled_at, free_below, IsFree}
 
 -- the bit of the entry that is changed
-pub bit_set : (parts : List Part) (block b entry value : ℕ) (is_in : Bool) (p new : Part) → b ≡ block → b / 1024 < length parts → p ≡ slice_index_or parts (b / 1024) p
-    → entry ≡ slice_index p.entries (b % 1024) → slice_index new.entries (b % 1024) ≡ value → SetsBit 0 is_in entry value
-    → SetsBit 0 is_in (entry_at parts block) (entry_at (slice_set parts (b / 1024) new) block)
-bit_set parts block b entry value is_in p new same within at was now bit =
+pub bit_set : (parts : List Part) (block b entry value k : ℕ) (is_in : Bool) (p new : Part) → b ≡ block → b / 1024 < length parts → p ≡ slice_index_or parts (b / 1024) p
+    → entry ≡ slice_index p.entries (b % 1024) → slice_index new.entries (b % 1024) ≡ value → SetsBit k is_in entry value
+    → SetsBit k is_in (entry_at parts block) (entry_at (slice_set parts (b / 1024) new) block)
+bit_set parts block b entry value k is_in p new same within at was now bit =
     let old_is : entry_at parts b ≡ entry = ap (λ (q : Part). slice_index q.entries (b % 1024)) (get_or_default parts (b / 1024) no_part p within ∙ sym at) ∙ sym was in
     let new_is : entry_at (slice_set parts (b / 1024) new) b ≡ value = ap (λ (q : Part). slice_index q.entries (b % 1024)) (get_or-set_same parts (b / 1024) new no_part within) ∙ now in
-    subst (λ (x : ℕ). SetsBit 0 is_in (entry_at parts x) (entry_at (slice_set parts (b / 1024) new) x)) same (rw (old_is, new_is) bit)
+    subst (λ (x : ℕ). SetsBit k is_in (entry_at parts x) (entry_at (slice_set parts (b / 1024) new) x)) same (rw (old_is, new_is) bit)
 
 -- an odd number's lowest bit
 lowest : (x : ℕ) → (if x % 2 == 1 then 1 else 0) ≡ bit_at x 0

@@ -7,5 +7,5 @@ mod bits;
 mod map;
 mod part;
 
-pub use map::BlockMap;
+pub use map::{BlockMap, SYSTEM_SET};
 pub use part::MapPart;

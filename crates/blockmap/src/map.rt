@@ -4,7 +4,7 @@ ghost use Rattle.std.specs.Prelude.{◌≡◌, ℕ, ◌*◌, ◌/◌, ◌<◌, �
 ghost use Rattle.layout.specs.declared.geometry.TheConstants.{MOST_BLOCKS};
 ghost use Rattle.blockmap.specs.Bits.{SetsBit, SetsPlane};
 ghost use Rattle.std.specs.Int.{bit_at};
-ghost use Rattle.blockmap.specs.declared.map.TheConstants.{FIRST_BLOCK, ENTRIES};
+ghost use Rattle.blockmap.specs.declared.map.TheConstants.{FIRST_BLOCK, SYSTEM_SET};
 
 use crate::bits::with_bit;
 use crate::part::MapPart;
@@ -16,6 +16,9 @@ const ENTRIES: u32 = 1024;
 
 /// The first block that isn't one of the two that hold the roots.
 const FIRST_BLOCK: u32 = 2;
+
+/// The set of the system's own blocks.
+pub const SYSTEM_SET: u32 = 31;
 
 /// The block map: settled entries, and over them those that the next consistency point stores.
 #[derive(Debug, Drop)]
@@ -190,10 +193,45 @@ impl BlockMap {
         ensures same { (j : ℕ)
             → IsTouched self.new.parts.items j → IsTouched self.old.parts.items j }
     {
+        self.put(0, block, is_in);
+    }
+
+    /// Puts a block into the set of the system's own, or takes it out. There is room in the map.
+    pub fn mark_system(&mut self, block: BlockNumber, is_in: bool)
+        requires within { block < self.old.count }
+        requires room { IsTouched self.old.parts.items (block / 1024) }
+        ensures count { self.new.count ≡ self.old.count }
+        ensures next { self.new.next ≡ self.old.next }
+        ensures settled { KeepsSettled self.old.parts.items self.new.parts.items }
+        ensures bit { SetsBit SYSTEM_SET is_in (entry_at self.old.parts.items block)
+            (entry_at self.new.parts.items block) }
+        ensures others { OnlyChanges block self.old.parts.items self.new.parts.items }
+        // No more of the map is stored for it.
+        ensures same { (j : ℕ)
+            → IsTouched self.new.parts.items j → IsTouched self.old.parts.items j }
+    {
+        self.put(SYSTEM_SET, block, is_in);
+    }
+
+    /// Puts a block into a set or takes it out. There is room in the map.
+    fn put(&mut self, set: u32, block: BlockNumber, is_in: bool)
+        requires set { set < 32 }
+        requires within { block < self.old.count }
+        requires room { IsTouched self.old.parts.items (block / 1024) }
+        ensures count { self.new.count ≡ self.old.count }
+        ensures next { self.new.next ≡ self.old.next }
+        ensures settled { KeepsSettled self.old.parts.items self.new.parts.items }
+        ensures bit { SetsBit set is_in (entry_at self.old.parts.items block)
+            (entry_at self.new.parts.items block) }
+        ensures others { OnlyChanges block self.old.parts.items self.new.parts.items }
+        // No more of the map is stored for it.
+        ensures same { (j : ℕ)
+            → IsTouched self.new.parts.items j → IsTouched self.old.parts.items j }
+    {
         let b = block.get();
         let part = &mut self.parts[(b / ENTRIES) as usize];
         let entry = part.entry(b % ENTRIES);
-        part.set(b % ENTRIES, with_bit(entry, 0, is_in));
+        part.set(b % ENTRIES, with_bit(entry, set, is_in));
     }
 
     /// Makes room for changes of all entries. None changes by it.
@@ -218,9 +256,11 @@ impl BlockMap {
         ensures count { self.new.count ≡ self.old.count }
         ensures next { self.new.next ≡ self.old.next }
         ensures settled { KeepsSettled self.old.parts.items self.new.parts.items }
-        ensures plane { OnOk result (SetsPlane (ENTRIES * length self.old.parts.items) set
+        ensures plane { OnOk result ((count : ℕ) → SetsPlane count set
             (λ b. bit_at (settled_at self.old.parts.items b) 0)
             (entry_at self.old.parts.items) (entry_at self.new.parts.items)) }
+        ensures touched { OnOk result ((j : ℕ) → j < length self.old.parts.items
+            → IsTouched self.new.parts.items j) }
         ensures refused { OnErr result ((b : ℕ)
             → entry_at self.new.parts.items b ≡ entry_at self.old.parts.items b) }
     {
@@ -237,8 +277,10 @@ impl BlockMap {
         ensures count { self.new.count ≡ self.old.count }
         ensures next { self.new.next ≡ self.old.next }
         ensures settled { KeepsSettled self.old.parts.items self.new.parts.items }
-        ensures plane { OnOk result (SetsPlane (ENTRIES * length self.old.parts.items) set (λ b. 0)
+        ensures plane { OnOk result ((count : ℕ) → SetsPlane count set (λ b. 0)
             (entry_at self.old.parts.items) (entry_at self.new.parts.items)) }
+        ensures touched { OnOk result ((j : ℕ) → j < length self.old.parts.items
+            → IsTouched self.new.parts.items j) }
         ensures refused { OnErr result ((b : ℕ)
             → entry_at self.new.parts.items b ≡ entry_at self.old.parts.items b) }
     {
