@@ -1,7 +1,13 @@
 -- A plan that grows.
-use Rattle.std.proofs.Common.{◌≡◌, ℕ, ◌<◌, ◌≤◌, List, get_or, refl, sym, subst, ◌∙◌, arith}
+use Rattle.std.proofs.Common.{◌≡◌, ℕ, ◌+◌, ◌/◌, ◌<◌, ◌≤◌, List, length, get_or, inl, inr, refl, ap, sym, subst, ◌∙◌, arith}
+use Rattle.std.proofs.lemmas.Bool.{cases_eq}
+use Rattle.std.proofs.lemmas.Nat.Bits.{bit_at-zero, same_from_bits}
+use Rattle.std.specs.Int.{bit_at}
+use Rattle.std.specs.Prelude.{Result, Ok, Err, OnOk, OnErr}
+use Rattle.blockmap.specs.Bits.{SetsPlane}
 use Rattle.blockmap.specs.Parts.{Part}
-use Rattle.blockmap.specs.Maps.{IsFree, KeepsSettled}
+use Rattle.blockmap.specs.Maps.{IsFree, IsTouched, KeepsSettled, entry_at, settled_at}
+use Rattle.blockmap.specs.declared.map.BlockMap.{BlockMap}
 use Rattle.conspoint.specs.declared.plan.PlannedBlock.{PlannedBlock}
 use Rattle.conspoint.specs.declared.draft.Draft.{Draft}
 use Rattle.conspoint.specs.Plans.{AreDrafted, ChangesTouched}
@@ -60,3 +66,23 @@ taken_earlier a b c x grows taken = record {
 pub changed_same : (count more : ℕ) (parts same : List Part) → same ≡ parts → more ≡ count → ChangesTouched count parts → ChangesTouched more same
 changed_same count more parts same is counts changed =
     subst (λ (k : ℕ). ChangesTouched k same) (sym counts) (subst (λ (ps : List Part). ChangesTouched count ps) (sym is) changed)
+
+-- A plane is set, whose bits are 0 where the settled entry is, or nothing changes.
+pub plane_touched : {E : Type 0} (m new : BlockMap) (k : ℕ) (plane : ℕ → ℕ) (result : Result (Unit {0}) E) → ((b : ℕ) → settled_at m.parts.items b ≡ 0 → plane b ≡ 0) → new.count ≡ m.count
+    → KeepsSettled m.parts.items new.parts.items → OnOk result ((count : ℕ) → SetsPlane count k plane (entry_at m.parts.items) (entry_at new.parts.items))
+    → OnOk result ((j : ℕ) → j < length m.parts.items → IsTouched new.parts.items j) → OnErr result ((b : ℕ) → entry_at new.parts.items b ≡ entry_at m.parts.items b)
+    → ChangesTouched m.count m.parts.items → ChangesTouched new.count new.parts.items
+plane_touched m new k plane (Ok done) zeros counts settled sets touched same old = record {
+  within = λ b lt differs. touched (b / 1024) (omega (arith, lt, counts, m.covers));
+  past = λ b ge none.
+      let was_none : settled_at m.parts.items b ≡ 0 = sym (settled.settled b) ∙ none in
+      let was : entry_at m.parts.items b ≡ 0 = old.past b (omega (arith, ge, counts)) was_none in
+      same_from_bits (entry_at new.parts.items b) 0 (λ i. elim (cases_eq i k) [
+        | inl is ↦ ap (bit_at (entry_at new.parts.items b)) is ∙ (sets (b + 1)).there b (omega arith) ∙ zeros b was_none ∙ sym (bit_at-zero i)
+        | inr other ↦ (sets (b + 1)).others b i (omega arith) other ∙ ap (λ x. bit_at x i) was
+      ]);
+}
+plane_touched m new k plane (Err error) zeros counts settled sets touched same old = record {
+  within = λ b lt differs. settled.touched (b / 1024) (old.within b (omega (arith, lt, counts)) (λ is. differs (same b ∙ is ∙ sym (settled.settled b))));
+  past = λ b ge none. same b ∙ old.past b (omega (arith, ge, counts)) (sym (settled.settled b) ∙ none);
+}

@@ -271,11 +271,26 @@ module _ (s : Sizes) (d e : Blocks) (old : Inode) (before after : Draft) (settle
       let body = body_of old.body s.blocks old.size is.sound.inode.body large in
       ap (λ (b : Body). body_block b (pointed d (place_at_height d old 0 j)) j) body.1 ∙ ap (pointed d) (old_stands.low j lt)
 
+  -- behind the disk's end an entry is 0, and stays
+  old_zero : (b : ℕ) → before.map.count ≤ b → settled_at before.map.parts.items b ≡ 0
+  unfolding held
+  old_zero b ge = is.entries b (λ low. absurd (omega (arith, ge, low))) ∙ word_zero (file_block (held d old) (b / 1024)) (b % 1024) (λ r lt.
+      let block : (4 * b + r) / 4096 ≡ b / 1024 = omega arith in
+      let at : (4 * b + r) % 4096 ≡ 4 * (b % 1024) + r = omega arith in
+      let none : slice_index (file_block (held d old) ((4 * b + r) / 4096)) ((4 * b + r) % 4096) ≡ 0 = is.sound.ends (4 * b + r) (omega (arith, old_size, ge)) in
+      sym (ap (λ j. slice_index (file_block (held d old) j) ((4 * b + r) % 4096)) block ∙ ap (slice_index (file_block (held d old) (b / 1024))) at) ∙ none)
+
+  new_zero : (b : ℕ) → before.map.count ≤ b → entry_at after.map.parts.items b ≡ 0
+  new_zero b ge = w.changed.past b (omega (arith, ge, w.grows.count)) (w.grows.settled.settled b ∙ old_zero b ge)
+
   -- an entry that may not be changed is the settled one
   as_settled : (b : ℕ) → (b < before.map.count → IsTouched after.map.parts.items (b / 1024) → ⊥) → entry_at after.map.parts.items b ≡ settled_at before.map.parts.items b
-  as_settled b not = elim (cases_eq (entry_at after.map.parts.items b) (settled_at after.map.parts.items b)) [
-    | inl same ↦ same ∙ w.grows.settled.settled b
-    | inr differ ↦ (let made = w.changed b differ in absurd (not (omega (arith, made.0, w.grows.count)) made.1))
+  as_settled b not = elim (cases_lt b before.map.count) [
+    | inr ge ↦ new_zero b ge ∙ sym (old_zero b ge)
+    | inl lt ↦ elim (cases_eq (entry_at after.map.parts.items b) (settled_at after.map.parts.items b)) [
+      | inl same ↦ same ∙ w.grows.settled.settled b
+      | inr differ ↦ absurd (not lt (w.changed.within b (omega (arith, lt, w.grows.count)) differ))
+    ]
   ]
 
   entry_in : (b p : ℕ) → b / 1024 < n → node_at settled places (b / 1024) ≡ Block p → map_entry (e p) (b % 1024) ≡ entry_at after.map.parts.items b
@@ -303,20 +318,12 @@ module _ (s : Sizes) (d e : Blocks) (old : Inode) (before after : Draft) (settle
 
   -- ---- its grammar
 
-  old_zero : (b : ℕ) → before.map.count ≤ b → settled_at before.map.parts.items b ≡ 0
-  unfolding held
-  old_zero b ge = is.entries b (λ low. absurd (omega (arith, ge, low))) ∙ word_zero (file_block (held d old) (b / 1024)) (b % 1024) (λ r lt.
-      let block : (4 * b + r) / 4096 ≡ b / 1024 = omega arith in
-      let at : (4 * b + r) % 4096 ≡ 4 * (b % 1024) + r = omega arith in
-      let none : slice_index (file_block (held d old) ((4 * b + r) / 4096)) ((4 * b + r) % 4096) ≡ 0 = is.sound.ends (4 * b + r) (omega (arith, old_size, ge)) in
-      sym (ap (λ j. slice_index (file_block (held d old) j) ((4 * b + r) % 4096)) block ∙ ap (slice_index (file_block (held d old) (b / 1024))) at) ∙ none)
-
   ends_at : EndsAt (4 * before.map.count) (byte_in (file_block (held e (own_inode tops before.map.count))))
   ends_at p ge =
       let b = p / 4 in
       let block : p / 4096 ≡ b / 1024 = omega arith in
       let at : p % 4096 ≡ 4 * (b % 1024) + p % 4 = omega arith in
-      let none : entry_at after.map.parts.items b ≡ 0 = as_settled b (λ low touched. omega arith) ∙ old_zero b (omega arith) in
+      let none : entry_at after.map.parts.items b ≡ 0 = new_zero b (omega arith) in
       let blocks = file_block (held e (own_inode tops before.map.count)) in
       ap (λ j. slice_index (blocks j) (p % 4096)) block ∙ ap (slice_index (blocks (b / 1024))) at
       ∙ zero_bytes (blocks (b / 1024)) (b % 1024) (p % 4) (entries_are b ∙ none) (omega arith)

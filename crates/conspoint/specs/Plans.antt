@@ -45,7 +45,7 @@ pub record AreDrafted (count next : ℕ) (IsFree : ℕ → Type 0) (blocks : Lis
   pub within : All (λ b. b.place < count) blocks
   pub free : All (λ b. IsFree b.place) blocks
 
--- an entry that is changed is of a block of the disk, in a part of the map that is stored anew
-abbrev pub ChangesTouched : ℕ → List Part → Type 0
-ChangesTouched count parts =
-    (b : ℕ) → entry_at parts b ≢ settled_at parts b → (b < count) × IsTouched parts (b / 1024)
+-- A changed entry of a block of the disk lies in a part of the map that is stored anew. Behind the disk's end a 0 stays.
+pub record ChangesTouched (count : ℕ) (parts : List Part) : Type 0 where
+  pub within : (b : ℕ) → b < count → entry_at parts b ≢ settled_at parts b → IsTouched parts (b / 1024)
+  pub past : (b : ℕ) → count ≤ b → settled_at parts b ≡ 0 → entry_at parts b ≡ 0

@@ -2,7 +2,9 @@
 
 ghost use Rattle.std.specs.Prelude.{◌≡◌, ◌≢◌, ◌<◌, ◌≤◌, ◌*◌, ℕ, All, IfOk, IfErr, OnOk, IsErrOf, IsTrue, ◌↔◌, length};
 ghost use Rattle.blockmap.specs.Maps.{IsFree, IsTouched, HoldsPart, entry_at, settled_at, OnlyChanges};
-ghost use Rattle.blockmap.specs.Bits.{SetsBit};
+ghost use Rattle.std.specs.Int.{bit_at};
+ghost use Rattle.blockmap.specs.Bits.{SetsBit, SetsPlane};
+ghost use Rattle.blockmap.specs.declared.map.TheConstants.{SYSTEM_SET};
 ghost use Rattle.conspoint.specs.Plans.{AreDrafted, ChangesTouched, FitsDisk, IsSlot};
 
 use crate::error::PlanError;
@@ -139,6 +141,64 @@ impl Draft {
             → IsTouched self.old.map.parts.items j }
     {
         self.map.mark(block, is_in);
+    }
+
+    /// Puts a block into the set of the system's own in the map, or takes it out.
+    pub fn mark_system(&mut self, block: BlockNumber, is_in: bool) -> Result<(), PlanError>
+        requires { block < self.old.map.count }
+        ensures grows { Grows self.old self.new }
+        ensures next { self.new.map.next ≡ self.old.map.next }
+        ensures blocks { self.new.blocks.items ≡ self.old.blocks.items }
+        ensures others { (p : ℕ) → IsReserved self.old p → IsReserved self.new p }
+        ensures bit { OnOk result (SetsBit SYSTEM_SET is_in
+            (entry_at self.old.map.parts.items block)
+            (entry_at self.new.map.parts.items block)) }
+        ensures stay { OnOk result (OnlyChanges block self.old.map.parts.items
+            self.new.map.parts.items) }
+        ensures touched { OnOk result (HasRoomFor self.new block) }
+        ensures why { IsErrOf result PlanError.NoSpace → ⊥ }
+        ensures shortage { IfErr result IsShortage }
+    {
+        self.touch(block)?;
+        self.map.mark_system(block, is_in);
+        Ok(())
+    }
+
+    /// Makes a set of the map that of the active tree under the settled root.
+    pub fn take_plane(&mut self, set: u32) -> Result<(), PlanError>
+        requires { set < 32 }
+        ensures grows { Grows self.old self.new }
+        ensures next { self.new.map.next ≡ self.old.map.next }
+        ensures blocks { self.new.blocks.items ≡ self.old.blocks.items }
+        ensures others { (p : ℕ) → IsReserved self.old p → IsReserved self.new p }
+        ensures plane { OnOk result ((count : ℕ) → SetsPlane count set 
+            (λ b. bit_at (settled_at self.old.map.parts.items b) 0)
+            (entry_at self.old.map.parts.items) (entry_at self.new.map.parts.items)) }
+        ensures touched { OnOk result ((j : ℕ) → j < length self.old.map.parts.items
+            → IsTouched self.new.map.parts.items j) }
+        ensures why { IsErrOf result PlanError.NoSpace → ⊥ }
+        ensures shortage { IfErr result IsShortage }
+    {
+        self.map.take_plane(set)?;
+        Ok(())
+    }
+
+    /// Makes a set of the map empty.
+    pub fn clear_plane(&mut self, set: u32) -> Result<(), PlanError>
+        requires { set < 32 }
+        ensures grows { Grows self.old self.new }
+        ensures next { self.new.map.next ≡ self.old.map.next }
+        ensures blocks { self.new.blocks.items ≡ self.old.blocks.items }
+        ensures others { (p : ℕ) → IsReserved self.old p → IsReserved self.new p }
+        ensures plane { OnOk result ((count : ℕ) → SetsPlane count set (λ b. 0)
+            (entry_at self.old.map.parts.items) (entry_at self.new.map.parts.items)) }
+        ensures touched { OnOk result ((j : ℕ) → j < length self.old.map.parts.items
+            → IsTouched self.new.map.parts.items j) }
+        ensures why { IsErrOf result PlanError.NoSpace → ⊥ }
+        ensures shortage { IfErr result IsShortage }
+    {
+        self.map.clear_plane(set)?;
+        Ok(())
     }
 
     /// Whether block `k` of the map is stored anew.
