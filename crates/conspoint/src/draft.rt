@@ -171,7 +171,7 @@ impl Draft {
         ensures next { self.new.map.next ≡ self.old.map.next }
         ensures blocks { self.new.blocks.items ≡ self.old.blocks.items }
         ensures others { (p : ℕ) → IsReserved self.old p → IsReserved self.new p }
-        ensures plane { OnOk result ((count : ℕ) → SetsPlane count set 
+        ensures plane { OnOk result ((count : ℕ) → SetsPlane count set
             (λ b. bit_at (settled_at self.old.map.parts.items b) 0)
             (entry_at self.old.map.parts.items) (entry_at self.new.map.parts.items)) }
         ensures touched { OnOk result ((j : ℕ) → j < length self.old.map.parts.items

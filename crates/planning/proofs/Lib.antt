@@ -7,6 +7,7 @@ mod NumberLaws
 mod MapLaws
 mod TrimLaws
 mod StepLaws
+mod ChangeLaws
 mod JoinLaws
 mod OwnLaws
 mod MapFileLaws

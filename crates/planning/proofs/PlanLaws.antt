@@ -3,6 +3,7 @@ use Rattle.std.proofs.Common.{◌≡◌, inl, inr, ℕ, zero, suc, ◌/◌, ◌%
 use Rattle.std.proofs.lemmas.Bool.{cond-true, cond-false}
 use Rattle.std.proofs.lemmas.List.Elements.{All-map}
 use Rattle.std.proofs.lemmas.List.{get_or-map, length-map}
+use Rattle.std.specs.Int.{bit_at}
 use Rattle.std.specs.Prelude.{if◌then◌else◌}
 use Rattle.layout.specs.Inode.{inode_bytes}
 use Rattle.layout.specs.Maps.{map_entry}
@@ -17,28 +18,31 @@ use Rattle.model.specs.Trees.{Tree}
 use Rattle.model.specs.Volumes.{Volume}
 use Rattle.blockmap.specs.Maps.{entry_at, settled_at}
 use Rattle.blockmap.specs.declared.map.BlockMap.{BlockMap}
-use Rattle.conspoint.specs.Drafts.{HasAll}
+use Rattle.conspoint.specs.Drafts.{Grows, HasAll, OnEach}
 use Rattle.conspoint.specs.Writes.{write_of, writes_of}
 use Rattle.conspoint.specs.declared.draft.Draft.{Draft}
 use Rattle.conspoint.specs.declared.plan.PlannedBlock.{PlannedBlock}
 use Rattle.images.specs.BlockMap.{HasBit, entry}
 use Rattle.images.specs.Contents.{Content, HoldsVolume, StandsAs, content_of, contents}
-use Rattle.images.specs.Cuts.{IsPoint, PlansOn, Write}
+use Rattle.images.specs.Cuts.{IsPointWith, PlansOn, Write}
 use Rattle.images.specs.Nodes.{held, Agrees, Names, file_block}
 use Rattle.images.specs.Points.{HoldObjects}
 use Rattle.images.specs.Roots.{HeldTree, Needs, Reach, inode_of, tree, whole}
 use Rattle.images.specs.Roots.Needs.{active}
+use Rattle.images.specs.SnapshotSteps.{SnapshotStep, CanStep, HasHead, StepsSlots}
 use Rattle.images.specs.Soundness.{FitsNumber, IsOrdinary, IsSoundTree, SpellsInodes}
 use Rattle.images.specs.States.{IsSound}
 use Rattle.inofile.specs.Inodes.{IsChanged, files_of}
 use Rattle.inofile.specs.Settled.{held_content}
 use Rattle.inofile.specs.Volumes.{IsVolumeOf, MapsVolume}
 use Rattle.inofile.specs.declared.inode_file.InodeFile.{InodeFile}
+use Rattle.planning.specs.Changes.{StepsEntries}
 use Rattle.planning.specs.Numbers.{trimmed}
 use Rattle.planning.specs.Plans.{IsAllPlanned, IsClean, IsPlanStart, IsPlannable, inodes_under}
 use Rattle.planning.specs.Points.{IsComplete, planned_tree}
-use Rattle.planning.specs.Progress.{IsExactPlane, IsProgress, Planned}
+use Rattle.planning.specs.Progress.{IsExactPlane, IsProgress, KeepsActive, Planned}
 use Rattle.planning.specs.Steps.{settled_tree}
+use Rattle.planning.proofs.ChangeLaws.{SnapshotsSpelled}
 use Rattle.planning.proofs.MapLaws.{numbers_mapped}
 use Rattle.planning.proofs.PointLaws.{ReadsPast, ReadsSpelled, held_inode, point_entries, point_planned}
 use Rattle.planning.proofs.ProgressLaws.{is_bool, true_false}
@@ -74,7 +78,7 @@ entries_of t b x is = is
 
 module _ (spelled : ReadsSpelled) (reads_past : ReadsPast) (same_held : HoldsAgreed) (d : Blocks) (r new : Root) (draft : Draft) (before : ℕ → ℕ) (found : ℕ → Content) (inodes : InodeFile) (v : Volume)
     (all : IsAllPlanned draft d before r.geometry (settled_tree d (inodes_under d r)) found inodes new.inode_file) (root : IsRoot r) (sound : IsSound r (whole d r))
-    (before_is : (b : ℕ) → before b ≡ entry (whole d r).active b) (geometry : new.geometry ≡ r.geometry) (snapshots : new.snapshots ≡ r.snapshots)
+    (before_is : (b : ℕ) → before b ≡ entry (whole d r).active b) (geometry : new.geometry ≡ r.geometry)
     (maps : MapsVolume inodes.numbers.bytes.items v) (objects : HoldObjects r.geometry.inodes (files_after all.plan found (settled_tree d (inodes_under d r))) v)
     (e : Blocks) (has : HasAll e draft.blocks.items) (agrees : Agrees (Needs r (whole d r)) d e) where
   abbrev t : HeldTree
@@ -115,7 +119,6 @@ module _ (spelled : ReadsSpelled) (reads_past : ReadsPast) (same_held : HoldsAgr
   complete = record {
     top = sym all.top_is;
     geometry = geometry;
-    snapshots = snapshots;
     past = all.past;
     inodes = let said = all.spelled e has reach in subst (λ (i : Inode). SpellsInodes r.geometry.inodes (file_block (held e i)) (planned_tree e p)) (sym all.top_is) (record {
       each = λ n low high. said.each n low high ∙ ap inode_bytes (sym (held_inode e (p.inode n)));
@@ -137,7 +140,8 @@ module _ (spelled : ReadsSpelled) (reads_past : ReadsPast) (same_held : HoldsAgr
   progress_now : IsProgress r.geometry (whole d r).active e draft.map.next before (entry_at draft.map.parts.items) p
   progress_now = subst (λ (u : HeldTree). IsProgress r.geometry u e draft.map.next before (entry_at draft.map.parts.items) p) (tree_is d r) progress
 
-  pub plans_on : PlansOn d r e new files
+  pub plans_on : (step : SnapshotStep) → StepsEntries step r new before before (entry_at draft.map.parts.items) → SnapshotsSpelled → CanStep step r (whole d r) → StepsSlots step r new → HasHead step new e
+      → PlansOn d r e new files
   plans_on = point_planned spelled reads_past d e r new draft.map.next before (entry_at draft.map.parts.items) p files root sound before_is progress_now complete_now
 
   pub entries_on : (b : ℕ) → entry (whole e new).active b ≡ entry_at draft.map.parts.items b
@@ -155,7 +159,7 @@ all_from_map P blocks all k x lt =
 
 module _ (spelled : ReadsSpelled) (reads_past : ReadsPast) (same_held : HoldsAgreed) (memory : HoldsMemory) (d : ℕ → List ℕ) (r new : Root) (slot generation : ℕ) (m : BlockMap) (inodes : InodeFile) (first v : Volume)
     (snapshots : List (Name × Tree)) (draft : Draft) (plannable : IsPlannable r d slot generation m inodes first v snapshots) (root : IsRoot r) (new_root : IsRoot new) (geometry : new.geometry ≡ r.geometry)
-    (snapshots_are : new.snapshots ≡ r.snapshots) (generation_is : new.generation ≡ generation) (sizes : inodes.geometry ≡ r.geometry)
+    (generation_is : new.generation ≡ generation) (sizes : inodes.geometry ≡ r.geometry)
     (planned : IsAllPlanned draft (blocks_of d) (settled_at m.parts.items) inodes.geometry (settled_tree (blocks_of d) (inodes_under (blocks_of d) r))
     (λ n. trimmed (files_of (blocks_of d) (inodes_under (blocks_of d) r) inodes n)) inodes new.inode_file)
     (settled : (b : ℕ) → settled_at draft.map.parts.items b ≡ settled_at m.parts.items b) where
@@ -186,8 +190,9 @@ module _ (spelled : ReadsSpelled) (reads_past : ReadsPast) (same_held : HoldsAgr
         (memory.unchanged r.geometry.blocks disk (inodes_under disk r) inodes v n plannable.memory (λ is. true_false ((now_planned.changed n least).1 is) isnt)) (held_volume n))
   ]
 
-  pub point_is : IsPoint r d (writes_of draft.blocks.items) slot new v
-  point_is = record {
+  pub point_is : (step : SnapshotStep) → StepsEntries step r new (settled_at m.parts.items) (settled_at m.parts.items) (entry_at draft.map.parts.items) → SnapshotsSpelled → CanStep step r (whole disk r)
+      → StepsSlots step r new → OnEach draft (HasHead step new) → IsPointWith step r d (writes_of draft.blocks.items) slot new v
+  point_is step stepped heads can slots head = record {
     free = All-map (λ (w : Write). entry (whole disk r).active w.place ≡ 0) write_of draft.blocks.items
         (λ k x lt. sym (plannable.entries _) ∙ sym (settled _) ∙ draft.drafted.free k x lt);
     long = All-map (λ (w : Write). length w.bytes ≡ 4096) write_of draft.blocks.items draft.drafted.planned.sizes;
@@ -195,18 +200,21 @@ module _ (spelled : ReadsSpelled) (reads_past : ReadsPast) (same_held : HoldsAgr
     root = new_root;
     later = subst (λ n. r.generation < n) (sym generation_is) plannable.later;
     geometry = geometry;
-    snapshots = snapshots_are;
+    possible = can;
+    snapshots = slots;
+    head = λ e has. head e (all_from_map (λ (w : Write). e w.place ≡ w.bytes) draft.blocks.items has);
     files = after;
     plans = λ e has agrees.
-        plans_on spelled reads_past same_held disk r new draft (settled_at m.parts.items) found_of inodes v now_planned root plannable.holds.sound plannable.entries geometry snapshots_are plannable.memory.mapped objects_after
-        e (all_from_map (λ (w : Write). e w.place ≡ w.bytes) draft.blocks.items has) agrees;
+        let all = all_from_map (λ (w : Write). e w.place ≡ w.bytes) draft.blocks.items has in
+        plans_on spelled reads_past same_held disk r new draft (settled_at m.parts.items) found_of inodes v now_planned root plannable.holds.sound plannable.entries geometry plannable.memory.mapped objects_after
+        e all agrees step stepped heads can slots (head e all);
     objects = objects_after;
     volume = plannable.volume;
   }
 
   pub entries_are : (e : Blocks) → HasAll e draft.blocks.items → Agrees (Needs r (whole disk r)) disk e → (b : ℕ) → entry (whole e new).active b ≡ entry_at draft.map.parts.items b
   entries_are e has agrees =
-      entries_on spelled reads_past same_held disk r new draft (settled_at m.parts.items) found_of inodes v now_planned root plannable.holds.sound plannable.entries geometry snapshots_are plannable.memory.mapped objects_after e has agrees
+      entries_on spelled reads_past same_held disk r new draft (settled_at m.parts.items) found_of inodes v now_planned root plannable.holds.sound plannable.entries geometry plannable.memory.mapped objects_after e has agrees
 
 -- where a plan of a root starts
 pub start_is : (d : ℕ → List ℕ) (r : Root) (slot generation count : ℕ) (m : BlockMap) (draft : Draft) (inodes : InodeFile) (first v : Volume) (snapshots : List (Name × Tree)) → IsPlannable r d slot generation m inodes first v snapshots
@@ -223,7 +231,19 @@ start_is d r slot generation count m draft inodes first v snapshots plannable si
       };
       sound = subst (λ (s : Sizes). IsSoundTree s (settled_tree (blocks_of d) (inodes_under (blocks_of d) r))) (sym sizes) sound;
       top = top_inode (blocks_of d) r;
-      clean = subst IsClean (sym map_is) clean;
+      active = λ b. ap (λ (x : BlockMap). bit_at (entry_at x.parts.items b) 0) map_is ∙ ap (λ x. bit_at x 0) (clean b);
       same = λ b. ap (λ (x : BlockMap). settled_at x.parts.items b) map_is;
       entries = λ b. plannable.entries b ∙ ap (λ (t : HeldTree). entry t b) (sym (tree_is (blocks_of d) r));
     }
+
+-- the same once set 0 of the map is as it was, in a draft that grew
+pub start_later : (count : ℕ) (old new : Draft) (disk : Blocks) (r : Root) (settled : ℕ → Inode) (inodes : InodeFile) (v : Volume) (before : ℕ → ℕ) → IsPlanStart count old disk r settled inodes v before
+    → Grows old new → KeepsActive (entry_at old.map.parts.items) (entry_at new.map.parts.items) → IsPlanStart count new disk r settled inodes v before
+start_later count old new disk r settled inodes v before start grows keeps = record {
+  memory = start.memory;
+  sound = start.sound;
+  top = start.top;
+  active = λ b. keeps b ∙ start.active b;
+  same = λ b. grows.settled.settled b ∙ start.same b;
+  entries = start.entries;
+}

@@ -1,5 +1,6 @@
 -- When all that changed is planned, a point is planned.
 use Rattle.std.proofs.Common.{◌≡◌, ◌≢◌, ◌⊎◌, inl, inr, ◌↔◌, ℕ, zero, suc, true, ◌/◌, ◌%◌, ◌<◌, ◌≤◌, refl, ap, sym, subst, ◌∙◌, arith}
+use Rattle.std.proofs.Math.Path.{fun_ext}
 use Rattle.std.proofs.lemmas.Bool.{cases_lt}
 use Rattle.std.specs.Int.{bit_at}
 use Rattle.layout.specs.Inode.{IsInode, inode_bytes}
@@ -11,16 +12,17 @@ use Rattle.layout.specs.declared.inode.Inode.{Inode}
 use Rattle.layout.specs.declared.root.Root.{Root}
 use Rattle.layout.specs.declared.version.TheConstants.{VERSION}
 use Rattle.images.specs.Nodes.{held, Names, file_block}
-use Rattle.images.specs.Roots.{HeldTree, free_inode, inode_bytes_at, inode_of, tree, whole, slot}
-use Rattle.images.specs.BlockMap.{HasBit, entry, IsSystem}
-use Rattle.images.specs.BlockMap.IsSystem.{roots, head}
+use Rattle.images.specs.Roots.{HeldTree, free_inode, inode_bytes_at, inode_of, tree, whole}
+use Rattle.images.specs.BlockMap.{HasBit, entry}
 use Rattle.images.specs.Contents.{Content}
 use Rattle.images.specs.Cuts.{PlansOn}
-use Rattle.images.specs.Points.{Marks, Slot}
-use Rattle.images.specs.Points.Slot.{stays}
+use Rattle.images.specs.Points.{Marks}
+use Rattle.images.specs.SnapshotSteps.{SnapshotStep, CanStep, HasHead, StepsSlots}
 use Rattle.images.specs.States.{IsSound}
+use Rattle.planning.specs.Changes.{StepsEntries, StepsSets}
 use Rattle.planning.specs.Progress.{IsProgress, Planned}
 use Rattle.planning.specs.Points.{IsComplete, planned_tree}
+use Rattle.planning.proofs.ChangeLaws.{SnapshotsSpelled, slots_are, system_is}
 use Rattle.planning.proofs.ProgressLaws.{is_bool}
 
 -- what images says of reading inodes
@@ -46,14 +48,6 @@ first_inode d inodes top = refl
 active_is : (d : Blocks) (r : Root) → (whole d r).active ≡ tree d r.geometry.inodes r.inode_file
 unfolding whole
 active_is d r = refl
-
-slot_same : (r new : Root) (k : ℕ) → new.snapshots ≡ r.snapshots → slot new k ≡ slot r k
-slot_same r new zero same = refl
-slot_same r new (suc k) same = rw same refl
-
-system_same : (r new : Root) (b : ℕ) → new.snapshots ≡ r.snapshots → IsSystem r b → IsSystem new b
-system_same r new b same (roots low) = roots low
-system_same r new b same (head k is) = head k (slot_same r new k same ∙ is)
 
 entry_same : (t u : HeldTree) (b : ℕ) → t 2 ≡ u 2 → entry t b ≡ entry u b
 unfolding entry
@@ -94,19 +88,19 @@ module _ (spelled : ReadsSpelled) (reads_past : ReadsPast) (d e : Blocks) (r new
   inodes_are n = ap (λ (top : Inode). inode_of (held e top) new.geometry.inodes n) whole_plan.top
       ∙ ap (λ (s : Sizes). inode_of (held e (p.inode 0)) s.inodes n) whole_plan.geometry ∙ read_inode n
 
-  -- the other planes are as before
-  bit_same : (b k : ℕ) → k ≢ 0 → bit_at (entry (planned_tree e p) b) k ≡ bit_at (entry (whole d r).active b) k
-  bit_same b k other = ap (λ x. bit_at x k) (whole_plan.entries b) ∙ progress.others b k other ∙ ap (λ x. bit_at x k) (before_is b)
+  -- the other planes are as the step makes them
+  abbrev Old : ℕ → ℕ
+  Old = entry (whole d r).active
 
-  slots_are : (k : ℕ) → 1 ≤ k → k ≢ 31 → Slot e r new (entry (whole d r).active) (entry (planned_tree e p)) k
-  slots_are k low other = stays (slot_same r new k whole_plan.snapshots)
-      (λ b. (λ has. sym (bit_same b k (omega arith)) ∙ has, λ has. bit_same b k (omega arith) ∙ has))
+  abbrev New : ℕ → ℕ
+  New = entry (planned_tree e p)
 
-  system_is : (b : ℕ) → HasBit 31 (entry (planned_tree e p) b) ↔ IsSystem new b
-  system_is b = (
-    λ has. system_same r new b whole_plan.snapshots ((sound.exact.system b).0 (sym (bit_same b 31 (omega arith)) ∙ has)),
-    λ is. bit_same b 31 (omega arith) ∙ (sound.exact.system b).1 (system_same new r b (sym whole_plan.snapshots) is),
-  )
+  stepped : (step : SnapshotStep) → StepsEntries step r new before before after → StepsEntries step r new Old Old New
+  stepped step entries = record {
+    between = entries.between;
+    sets = subst (λ (f : ℕ → ℕ). StepsSets step r new f f entries.between) (fun_ext before_is) entries.sets;
+    keeps = λ b i other. ap (λ x. bit_at x i) (whole_plan.entries b) ∙ entries.keeps b i other;
+  }
 
   abbrev Was : ℕ → ℕ → Type 0
   Was b x = (HasBit 0 x × ((n : ℕ) → p.changed n ≡ true → Names ((whole d r).active n) b → ⊥)) ⊎ ((n : ℕ) × (p.changed n ≡ true) × Names (held e (p.inode n)) b)
@@ -118,8 +112,8 @@ module _ (spelled : ReadsSpelled) (reads_past : ReadsPast) (d e : Blocks) (r new
   pub point_entries : (b : ℕ) → entry (whole e new).active b ≡ after b
   point_entries b = entry_same (whole e new).active (planned_tree e p) b (new_map e new (p.inode 2) (inodes_are 2)) ∙ whole_plan.entries b
 
-  pub point_planned : PlansOn d r e new files
-  point_planned = record {
+  pub point_planned : (step : SnapshotStep) → StepsEntries step r new before before after → SnapshotsSpelled → CanStep step r (whole d r) → StepsSlots step r new → HasHead step new e → PlansOn d r e new files
+  point_planned step entries heads can slots head = record {
     plan = record {
       inode = p.inode;
       changed = p.changed;
@@ -134,8 +128,8 @@ module _ (spelled : ReadsSpelled) (reads_past : ReadsPast) (d e : Blocks) (r new
       free = λ n b is. sym (before_is b) ∙ progress.free n b is;
       once = progress.once;
       marks = marks_are;
-      slots = slots_are;
-      system = system_is;
+      slots = slots_are heads r new d e New root sound step can slots head (stepped step entries);
+      system = system_is heads r new d e New root sound step can slots (stepped step entries);
     };
     sound = record {
       files = progress.sound;

@@ -1,5 +1,5 @@
 -- What is planned file by file comes to.
-use Rattle.std.proofs.Common.{◌≡◌, ◌≢◌, ◌⊎◌, inl, inr, ◌==◌, if◌then◌else◌, ℕ, Bool, true, false, ◌<◌, ◌≤◌, refl, ap, sym, subst, ◌∙◌, arith}
+use Rattle.std.proofs.Common.{◌≡◌, ◌≢◌, ◌⊎◌, inl, inr, ◌==◌, if◌then◌else◌, ℕ, Bool, true, false, ◌<◌, ◌≤◌, List, refl, ap, sym, subst, ◌∙◌, arith}
 use Rattle.std.proofs.lemmas.Bool.{cases_eq, cond-true, cond-false, eq-eqb, ne_eqb}
 use Rattle.std.proofs.lemmas.Nat.Bits.{bit_at-zero}
 use Rattle.std.specs.Int.{bit_at}
@@ -10,11 +10,13 @@ use Rattle.images.specs.Nodes.{held, Names, IsOnce}
 use Rattle.images.specs.Roots.{HeldTree, Reach}
 use Rattle.images.specs.BlockMap.{HasBit, NamesOnce}
 use Rattle.images.specs.Soundness.{IsSoundFile, FitsNumber}
+use Rattle.blockmap.specs.Maps.{entry_at}
+use Rattle.blockmap.specs.Parts.{Part}
 use Rattle.placement.specs.Files.{IsPlaced}
-use Rattle.planning.specs.Progress.{AreTaken, IsExactPlane, IsMarked, IsProgress, Planned, unplanned, with_file}
+use Rattle.planning.specs.Progress.{AreTaken, IsExactPlane, IsMarked, IsProgress, KeepsActive, KeepsSets, Planned, unplanned, with_file}
 
-pub none_planned : (s : Sizes) (t : HeldTree) (e : Blocks) (next : ℕ) (before : ℕ → ℕ) → IsProgress s t e next before before (unplanned t)
-none_planned s t e next before = record {
+pub none_planned : (s : Sizes) (t : HeldTree) (e : Blocks) (next : ℕ) (before after : ℕ → ℕ) → KeepsActive before after → IsProgress s t e next before after (unplanned t)
+none_planned s t e next before after same = record {
   comes = λ n b is. absurd (cc);
   each = λ n is. absurd (cc);
   sound = λ n is. absurd (cc);
@@ -23,8 +25,7 @@ none_planned s t e next before = record {
   free = λ n b is. absurd (cc);
   below = λ n b is. absurd (cc);
   once = λ n m b is. absurd (cc);
-  marks = λ b. (λ has. inl (has, λ n is. absurd (cc)), λ which. elim which [ inl kept ↦ kept.0 | inr new ↦ absurd (cc (new.1)) ]);
-  others = λ b i is. refl;
+  marks = λ b. (λ has. inl (sym (same b) ∙ has, λ n is. absurd (cc)), λ which. elim which [ inl kept ↦ same b ∙ kept.0 | inr new ↦ absurd (cc (new.1)) ]);
 }
 
 here : {X : Type 0} (k n : ℕ) (x y : X) → k ≡ n → (if k == n then x else y) ≡ x
@@ -32,6 +33,13 @@ here k n x y is = cond-true (k == n) x y (eq-eqb k n is)
 
 there : {X : Type 0} (k n : ℕ) (x y : X) → k ≢ n → (if k == n then x else y) ≡ y
 there k n x y other = cond-false (k == n) x y (ne_eqb k n other)
+
+pub sets_twice : (a b c : ℕ → ℕ) → KeepsSets a b → KeepsSets b c → KeepsSets a c
+sets_twice a b c one two x i other = two x i other ∙ one x i other
+
+-- where the parts of the map are the same
+pub sets_from : (old mid new : List Part) → mid ≡ old → KeepsSets (entry_at mid) (entry_at new) → KeepsSets (entry_at old) (entry_at new)
+sets_from old mid new same keeps = subst (λ (ps : List Part). KeepsSets (entry_at ps) (entry_at new)) same keeps
 
 pub no_bit : (k x : ℕ) → x ≡ 0 → HasBit k x → ⊥
 no_bit k x e has = let none : bit_at x k ≡ 0 = ap (λ x. bit_at x k) e ∙ bit_at-zero k in absurd (omega (arith, has))
@@ -198,5 +206,4 @@ module _ (s : Sizes) (t : HeldTree) (e : Blocks) (from to : ℕ) (before after l
     below = now_below;
     once = now_once;
     marks = λ b. (now_marked b, was_marked b);
-    others = λ b i other. marked.others b i other ∙ progress.others b i other;
   }

@@ -32,23 +32,22 @@ use Rattle.inode.specs.declared.file.File.{File}
 use Rattle.inofile.specs.Inodes.{IsChanged}
 use Rattle.inofile.specs.declared.inode_file.InodeFile.{InodeFile}
 use Rattle.planning.specs.Inodes.{AreSpelled}
-use Rattle.planning.specs.Plans.{IsAllPlanned, IsClean}
-use Rattle.planning.specs.Progress.{IsExactPlane, IsProgress, unplanned}
+use Rattle.planning.specs.Plans.{IsAllPlanned}
+use Rattle.planning.specs.Progress.{IsExactPlane, IsProgress, KeepsActive, unplanned}
 use Rattle.planning.specs.Steps.{ArePlanned, settled_tree}
 use Rattle.planning.proofs.OwnLaws.{inode_is}
 use Rattle.planning.proofs.NumberLaws.{zero_byte}
 use Rattle.planning.proofs.ProgressLaws.{is_bool, no_bit, none_planned}
 
 -- nothing is planned, and the inode file is as it is settled
-pub started : (d : Draft) (disk : Blocks) (settled : ℕ → Inode) (before : ℕ → ℕ) (inodes : InodeFile) (file : File) → IsClean d.map → ((b : ℕ) → settled_at d.map.parts.items b ≡ before b)
+pub started : (d : Draft) (disk : Blocks) (settled : ℕ → Inode) (before : ℕ → ℕ) (inodes : InodeFile) (file : File) → KeepsActive before (entry_at d.map.parts.items) → ((b : ℕ) → settled_at d.map.parts.items b ≡ before b)
     → IsSoundTree inodes.geometry (settled_tree disk settled) → ((i : ℕ) → file_block disk file i ≡ nodes.file_block (held disk (settled 0)) i) → ArePlanned (λ n. ⊥) d disk settled before inodes file
-started d disk settled before inodes file clean same sound as_held = record {
+started d disk settled before inodes file active same sound as_held = record {
   way = record {
     plan = unplanned (settled_tree disk settled);
     settled = same;
     progress = λ e has agrees.
-        subst (λ (after : ℕ → ℕ). IsProgress inodes.geometry (settled_tree disk settled) e d.map.next before after (unplanned (settled_tree disk settled)))
-        (fun_ext (λ b. sym (clean b ∙ same b))) (none_planned inodes.geometry (settled_tree disk settled) e d.map.next before);
+        none_planned inodes.geometry (settled_tree disk settled) e d.map.next before (entry_at d.map.parts.items) active;
     contents = λ e has agrees n least is. absurd (cc);
     spelled = subst (λ (g : ℕ → List ℕ). AreSpelled inodes.geometry.inodes g (λ n. (settled_tree disk settled n).inode)) (sym (fun_ext as_held)) (record {
       each = sound.inodes.each;

@@ -1,5 +1,6 @@
 pub mod Progress
 pub mod Points
+pub mod Changes
 pub mod Inodes
 pub mod Numbers
 pub mod Steps

@@ -32,7 +32,7 @@ use Rattle.inofile.specs.declared.inode_file.InodeFile.{InodeFile}
 use Rattle.placement.specs.Files.{object_block, with_first}
 use Rattle.planning.specs.Inodes.{AreSpelled}
 use Rattle.planning.specs.Numbers.{trimmed}
-use Rattle.planning.specs.Progress.{IsProgress, Planned, with_file}
+use Rattle.planning.specs.Progress.{IsProgress, KeepsActive, Planned, with_file}
 use Rattle.planning.specs.Steps.{IsOverTree, IsUnderWay, settled_tree}
 
 -- no entry of the map is changed since the root
@@ -59,13 +59,13 @@ PlansEntries disk root p new map =
     (e : Blocks) → HasAll e p.blocks → Agrees (Needs root (whole disk root)) disk e
     → (b : ℕ) → entry (whole e new).active b ≡ entry_at map.parts.items b
 
--- What planning starts from: a tree in its grammar under a root, whose map's entries these are, and none of them changed in the draft;
+-- What planning starts from: a tree in its grammar under a root, whose map's entries these are, and set 0 of them as it is in the draft;
 -- and memory over it.
 pub record IsPlanStart (count : ℕ) (d : Draft) (disk : Blocks) (root : Root) (settled : ℕ → Inode) (inodes : InodeFile) (v : Volume) (before : ℕ → ℕ) : Type 0 where
   pub memory : IsOverTree count disk settled inodes v before
   pub sound : IsSoundTree inodes.geometry (settled_tree disk settled)
   pub top : settled 0 ≡ root.inode_file
-  pub clean : IsClean d.map
+  pub active : KeepsActive before (entry_at d.map.parts.items)
   pub same : (b : ℕ) → settled_at d.map.parts.items b ≡ before b
   pub entries : (b : ℕ) → before b ≡ entry (settled_tree disk settled) b
 

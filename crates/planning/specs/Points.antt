@@ -18,7 +18,6 @@ planned_tree e p n = held e (p.inode n)
 pub record IsComplete (r new : Root) (t : HeldTree) (e : Blocks) (after : ℕ → ℕ) (p : Planned) (files : ℕ → Content) : Type 0 where
   pub top : new.inode_file ≡ p.inode 0
   pub geometry : new.geometry ≡ r.geometry
-  pub snapshots : new.snapshots ≡ r.snapshots
   pub past : (n : ℕ) → r.geometry.inodes ≤ n → p.changed n ≡ false
   pub inodes : SpellsInodes r.geometry.inodes (file_block (held e (p.inode 0))) (planned_tree e p)
   pub entries : (b : ℕ) → entry (planned_tree e p) b ≡ after b

@@ -29,13 +29,21 @@ with_file n f taken p =
       taken = λ k. if k == n then taken else p.taken k;
     }
 
+-- of no block the sets but the active tree's change
+abbrev pub KeepsSets : (ℕ → ℕ) → (ℕ → ℕ) → Type 0
+KeepsSets before after = (b i : ℕ) → i ≢ 0 → bit_at (after b) i ≡ bit_at (before b) i
+
+-- set 0 of these blocks is as it was
+abbrev pub KeepsActive : (ℕ → ℕ) → (ℕ → ℕ) → Type 0
+KeepsActive before after = (b : ℕ) → bit_at (after b) 0 ≡ bit_at (before b) 0
+
 -- the map's marks of a number: the freed blocks go out of set 0, the taken ones into it
 pub record IsMarked (taken freed : ℕ → Bool) (before after : ℕ → ℕ) : Type 0 where
   pub active : (b : ℕ) → HasBit 0 (after b) ↔ ((HasBit 0 (before b) × (freed b ≡ false)) ⊎ (taken b ≡ true))
-  pub others : (b i : ℕ) → i ≢ 0 → bit_at (after b) i ≡ bit_at (before b) i
+  pub others : KeepsSets before after
 
 -- What holds of what is planned so far, on a disk e that has the blocks planned for it: of each changed number, of each other
--- one, of the blocks that were taken, below this one, and of the map's entries, as they were settled and as they are now.
+-- one, of the blocks that were taken, below this one, and of set 0 of the map, as it was settled and as it is now.
 pub record IsProgress (s : Sizes) (t : HeldTree) (e : Blocks) (next : ℕ) (before after : ℕ → ℕ) (p : Planned) : Type 0 where
   pub comes : (n b : ℕ) → p.changed n ≡ true → Names (held e (p.inode n)) b → Names (t n) b ⊎ (p.taken n b ≡ true)
   pub each : (n : ℕ) → p.changed n ≡ true → IsOnce (held e (p.inode n))
@@ -46,7 +54,6 @@ pub record IsProgress (s : Sizes) (t : HeldTree) (e : Blocks) (next : ℕ) (befo
   pub below : (n b : ℕ) → p.taken n b ≡ true → b < next
   pub once : (n m b : ℕ) → p.taken n b ≡ true → p.taken m b ≡ true → n ≡ m
   pub marks : Marks p.changed t 0 (λ n. held e (p.inode n)) before after
-  pub others : (b i : ℕ) → i ≢ 0 → bit_at (after b) i ≡ bit_at (before b) i
 
 -- the blocks that are taken for a number were free, and were given out after those before
 pub record AreTaken (low high : ℕ) (before : ℕ → ℕ) (taken : ℕ → Bool) : Type 0 where

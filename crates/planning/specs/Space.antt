@@ -8,8 +8,6 @@ use Rattle.layout.specs.Maps.{IsTaken}
 use Rattle.layout.specs.Version.{level_of}
 use Rattle.model.specs.Volumes.{Volume}
 use Rattle.layout.specs.declared.root.Root.{Root}
-use Rattle.blockmap.specs.Space.{left}
-use Rattle.blockmap.specs.declared.map.BlockMap.{BlockMap}
 use Rattle.blocktree.specs.Places.{block_count}
 use Rattle.conspoint.specs.MapFiles.{map_nodes}
 use Rattle.conspoint.specs.Space.{sum_below}
@@ -88,7 +86,3 @@ point_nodes r s blocks = change_nodes s + top_nodes s r.inode_file.size + map_fi
 abbrev pub point_stores : (ℕ → ℕ) → Root → InodeFile → ℕ → ℕ
 point_stores w r s blocks =
     nodes_below s s.geometry.inodes + map_stores w s + top_nodes s r.inode_file.size + map_file_nodes blocks
-
--- the settled root leaves fewer blocks free than point_nodes
-abbrev pub LacksBlocks : Root → InodeFile → BlockMap → Type 0
-LacksBlocks r s m = left m < point_nodes r s m.count

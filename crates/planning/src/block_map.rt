@@ -10,7 +10,7 @@ ghost use Rattle.layout.specs.declared.inode.Inode.{Inode};
 ghost use Rattle.model.specs.Volumes.{Volume};
 ghost use Rattle.buffers.specs.Reads.{ReadsBlocks};
 ghost use Rattle.blocktree.specs.Trees.{IsSoundAt};
-ghost use Rattle.blockmap.specs.Maps.{settled_at};
+ghost use Rattle.blockmap.specs.Maps.{entry_at, settled_at};
 ghost use Rattle.conspoint.specs.Drafts.{Grows, IsReserved};
 ghost use Rattle.conspoint.specs.Errors.{IsReadFault};
 ghost use Rattle.conspoint.specs.Groups.{pointer_at};
@@ -20,7 +20,7 @@ ghost use Rattle.images.specs.Nodes.{held};
 ghost use Rattle.images.specs.BlockMap.{entry};
 ghost use Rattle.images.specs.Soundness.{IsSoundFile, IsSoundTree};
 ghost use Rattle.planning.specs.Plans.{HasBlockMap, HasLast, Progresses};
-ghost use Rattle.planning.specs.Progress.{Planned};
+ghost use Rattle.planning.specs.Progress.{KeepsSets, Planned};
 ghost use Rattle.planning.specs.Space.{map_file_nodes};
 ghost use Rattle.planning.specs.Steps.{IsOverTree, settled_tree};
 
@@ -72,6 +72,8 @@ pub(crate) fn plan_block_map<B: Blocks>(
     requires sizes { AreSizes inodes.now.geometry }
     ensures reads { ReadsBlocks B.Blocks IsReadFault blocks.old blocks.new result }
     ensures grows { Grows draft.old draft.new }
+    ensures sets { OnOk result (KeepsSets (entry_at draft.old.map.parts.items)
+        (entry_at draft.new.map.parts.items)) }
     ensures others { (p : ℕ) → IsReserved draft.old p → IsReserved draft.new p }
     ensures planned { (disk : ℕ → List ℕ) (settled : ℕ → Inode) (v : Volume) (before : ℕ → ℕ)
         (p : Planned) → B.Shows blocks.old disk
@@ -112,6 +114,8 @@ pub(crate) fn plan_last<B: Blocks>(
     requires reserved { IsReserved draft.old first }
     ensures reads { ReadsBlocks B.Blocks IsReadFault blocks.old blocks.new result }
     ensures grows { Grows draft.old draft.new }
+    ensures sets { OnOk result (KeepsSets (entry_at draft.old.map.parts.items)
+        (entry_at draft.new.map.parts.items)) }
     ensures planned { (disk : ℕ → List ℕ) (settled : ℕ → Inode) (v : Volume) (before : ℕ → ℕ)
         (p : Planned) → B.Shows blocks.old disk
         → IsOverTree (B.count blocks.old) disk settled inodes.now v before

@@ -13,7 +13,7 @@ ghost use Rattle.buffers.specs.Reads.{ReadsBlocks};
 ghost use Rattle.blocktree.specs.Errors.{IsFault};
 ghost use Rattle.blocktree.specs.Trees.{IsChanged, IsSoundAt, KeepsSound, SameSettled};
 ghost use Rattle.blocktree.specs.declared.error.ReadError.TheVariants as read;
-ghost use Rattle.blockmap.specs.Maps.{settled_at};
+ghost use Rattle.blockmap.specs.Maps.{entry_at, settled_at};
 ghost use Rattle.conspoint.specs.Drafts.{Grows, IsReserved};
 ghost use Rattle.conspoint.specs.Errors.{IsReadFault};
 ghost use Rattle.conspoint.specs.Space.{Lacks, TakesAtMost};
@@ -26,6 +26,7 @@ ghost use Rattle.inofile.specs.Settled.{AreSettled};
 ghost use Rattle.placement.specs.Space.{file_nodes};
 ghost use Rattle.planning.specs.Inodes.{ChangesOnly};
 ghost use Rattle.planning.specs.Plans.{HasInodeMap};
+ghost use Rattle.planning.specs.Progress.{KeepsSets};
 ghost use Rattle.planning.specs.Space.{CountsBlocks, TellsSame, map_stores};
 ghost use Rattle.planning.specs.Steps.{IsOverTree, IsUnderWay, settled_tree};
 
@@ -181,6 +182,8 @@ pub(crate) fn plan_inode_map<B: Blocks>(
     requires sizes { AreSizes inodes.now.geometry }
     ensures reads { ReadsBlocks B.Blocks IsReadFault blocks.old blocks.new result }
     ensures grows { Grows draft.old draft.new }
+    ensures sets { OnOk result (KeepsSets (entry_at draft.old.map.parts.items)
+        (entry_at draft.new.map.parts.items)) }
     ensures others { (p : ℕ) → IsReserved draft.old p → IsReserved draft.new p }
     ensures size { file.new.size ≡ file.old.size }
     ensures sound { KeepsSound file.old.tree file.new.tree }

@@ -2,6 +2,7 @@
 #![tactic(auto)]
 
 mod block_map;
+mod change;
 mod counts;
 mod inode_blocks;
 mod inode_map;
@@ -10,5 +11,6 @@ mod placing;
 mod points;
 mod top;
 
+pub use change::SnapshotChange;
 pub use counts::point_blocks;
 pub use points::{Point, plan};

@@ -17,7 +17,7 @@ ghost use Rattle.placement.specs.Files.{is_one};
 ghost use Rattle.planning.specs.Inodes.{ChangesOnly, HasChange};
 ghost use Rattle.planning.specs.Space.{nodes_below, number_nodes};
 ghost use Rattle.planning.specs.Numbers.{trimmed};
-ghost use Rattle.planning.specs.Progress.{IsMarked};
+ghost use Rattle.planning.specs.Progress.{IsMarked, KeepsSets};
 ghost use Rattle.planning.specs.Steps.{ArePlanned, GoesOn, IsOverTree, IsUnderWay, settled_tree};
 
 use crate::inode_blocks::put_inode;
@@ -65,6 +65,8 @@ pub(crate) fn plan_number<B: Blocks>(
     requires changed { IsChanged inodes.now number }
     ensures reads { ReadsBlocks B.Blocks IsReadFault blocks.old blocks.new result }
     ensures grows { Grows draft.old draft.new }
+    ensures sets { OnOk result (KeepsSets (entry_at draft.old.map.parts.items)
+        (entry_at draft.new.map.parts.items)) }
     ensures others { (p : ℕ) → IsReserved draft.old p → IsReserved draft.new p }
     ensures size { file.new.size ≡ file.old.size }
     ensures settled { SameSettled file.old.tree file.new.tree }
@@ -108,6 +110,8 @@ pub(crate) fn plan_numbers<B: Blocks>(
     requires disk { B.count blocks.old ≡ draft.old.map.count }
     ensures reads { ReadsBlocks B.Blocks IsReadFault blocks.old blocks.new result }
     ensures grows { Grows draft.old draft.new }
+    ensures sets { OnOk result (KeepsSets (entry_at draft.old.map.parts.items)
+        (entry_at draft.new.map.parts.items)) }
     ensures others { (p : ℕ) → IsReserved draft.old p → IsReserved draft.new p }
     ensures size { file.new.size ≡ file.old.size }
     ensures settled { SameSettled file.old.tree file.new.tree }

@@ -13,24 +13,29 @@ ghost use Rattle.model.specs.Trees.{Tree};
 ghost use Rattle.model.specs.Volumes.{Volume};
 ghost use Rattle.buffers.specs.Reads.{ReadsBlocks};
 ghost use Rattle.blocktree.specs.Trees.{IsSoundAt, KeepsSound, SameSettled};
-ghost use Rattle.blockmap.specs.Maps.{settled_at};
+ghost use Rattle.blockmap.specs.Maps.{entry_at, settled_at};
 ghost use Rattle.blockmap.specs.Space.{left};
-ghost use Rattle.conspoint.specs.Drafts.{Grows};
+ghost use Rattle.conspoint.specs.Drafts.{Grows, OnEach};
 ghost use Rattle.conspoint.specs.Errors.{IsReadFault};
 ghost use Rattle.conspoint.specs.Plans.{FitsDisk, IsSlot};
 ghost use Rattle.conspoint.specs.Space.{Lacks, TakesAtMost};
 ghost use Rattle.conspoint.specs.Writes.{writes_of};
-ghost use Rattle.images.specs.Cuts.{IsPoint};
+ghost use Rattle.images.specs.Cuts.{IsPointWith};
 ghost use Rattle.images.specs.Nodes.{file_block, held};
+ghost use Rattle.images.specs.Roots.{whole};
+ghost use Rattle.images.specs.SnapshotSteps.{CanStep, HasHead, SnapshotStep, StepsSlots};
 ghost use Rattle.images.specs.Soundness.{HasNoHole};
 ghost use Rattle.inofile.specs.Inodes.{files_of};
+ghost use Rattle.planning.specs.Changes.{FitsSlots, IsStepOf, StepsEntries, head_nodes};
 ghost use Rattle.planning.specs.Inodes.{ChangesOnly, HasChange};
 ghost use Rattle.planning.specs.Numbers.{trimmed};
 ghost use Rattle.planning.specs.Plans.{HasNumbers, IsAllPlanned, IsClean, IsPlanStart, IsPlannable, PlansEntries};
-ghost use Rattle.planning.specs.Space.{CountsBlocks, CountsMoves, LacksBlocks, change_nodes, map_stores, nodes_below, point_nodes, point_stores};
+ghost use Rattle.planning.specs.Progress.{KeepsSets};
+ghost use Rattle.planning.specs.Space.{CountsBlocks, CountsMoves, change_nodes, map_stores, nodes_below, point_nodes, point_stores};
 ghost use Rattle.planning.specs.Steps.{ArePlanned, IsOverTree, settled_tree};
 
 use crate::block_map::plan_last;
+use crate::change::{SnapshotChange, change_snapshots};
 use crate::inode_map::plan_inode_map;
 use crate::number::plan_numbers;
 use crate::top::place_top;
@@ -39,6 +44,7 @@ use buffers::Blocks;
 use conspoint::{Draft, Plan, PlanError, written_disks_have_the_blocks};
 use images::{
     disks_that_agree_hold_the_same, inodes_are_put_one_by_one, inodes_are_what_their_bytes_spell,
+    snapshots_are_what_their_bytes_spell,
 };
 use inode::{File, Object, based_trees_are_sound};
 use inofile::{InodeFile, memory_holds_its_volume};
@@ -64,6 +70,8 @@ fn plan_changes<B: Blocks>(
     requires sizes { AreSizes inodes.now.geometry }
     ensures reads { ReadsBlocks B.Blocks IsReadFault blocks.old blocks.new result }
     ensures grows { Grows draft.old draft.new }
+    ensures sets { OnOk result (KeepsSets (entry_at draft.old.map.parts.items)
+        (entry_at draft.new.map.parts.items)) }
     ensures size { file.new.size ≡ file.old.size }
     ensures sound { KeepsSound file.old.tree file.new.tree }
     ensures settled { SameSettled file.old.tree file.new.tree }
@@ -114,6 +122,8 @@ fn plan_files<B: Blocks>(
     requires sizes { inodes.now.geometry ≡ root.now.geometry }
     ensures reads { ReadsBlocks B.Blocks IsReadFault blocks.old blocks.new result }
     ensures grows { Grows draft.old draft.new }
+    ensures sets { OnOk result (KeepsSets (entry_at draft.old.map.parts.items)
+        (entry_at draft.new.map.parts.items)) }
     ensures planned { (disk : ℕ → List ℕ) (settled : ℕ → Inode) (v : Volume) (before : ℕ → ℕ)
         → B.Shows blocks.old disk
         → IsPlanStart (B.count blocks.old) draft.old disk root.now settled inodes.now v before
@@ -174,7 +184,7 @@ fn next_root(root: &Root, generation: Generation, inode_file: Inode) -> Result<R
     }
 }
 
-/// Plans all that changed, and gives the root that leads to it.
+/// Plans what is done with the snapshots and all that changed, and gives the root that leads to it.
 fn plan_root<B: Blocks>(
     alloc: Global,
     draft: &mut Draft,
@@ -182,8 +192,11 @@ fn plan_root<B: Blocks>(
     root: &Root,
     generation: Generation,
     inodes: &InodeFile,
+    change: &SnapshotChange<'_>,
 ) -> Result<Root, PlanError>
     requires root { IsRoot root.now }
+    requires fits { FitsSlots change.now }
+    requires size { draft.old.map.count ≡ root.now.geometry.blocks }
     requires disk { B.count blocks.old ≡ draft.old.map.count }
     requires sizes { inodes.now.geometry ≡ root.now.geometry }
     ensures reads { ReadsBlocks B.Blocks IsReadFault blocks.old blocks.new result }
@@ -191,7 +204,14 @@ fn plan_root<B: Blocks>(
     ensures root { IfOk result IsRoot }
     ensures generation { IfOk result (λ r. r.generation ≡ generation) }
     ensures geometry { IfOk result (λ r. r.geometry ≡ root.now.geometry) }
-    ensures snapshots { IfOk result (λ r. r.snapshots ≡ root.now.snapshots) }
+    ensures slots { IfOk result (λ r. (step : SnapshotStep) → IsStepOf change.now root.now step
+        → StepsSlots step root.now r) }
+    ensures head { IfOk result (λ r. (step : SnapshotStep) → IsStepOf change.now root.now step
+        → OnEach draft.new (HasHead step r)) }
+    // The map's entries once the snapshots' sets are changed, and those in the end.
+    ensures sets { IfOk result (λ r. (step : SnapshotStep) → IsStepOf change.now root.now step
+        → StepsEntries step root.now r (settled_at draft.old.map.parts.items)
+        (entry_at draft.old.map.parts.items) (entry_at draft.new.map.parts.items)) }
     ensures planned { (disk : ℕ → List ℕ) (settled : ℕ → Inode) (v : Volume) (before : ℕ → ℕ)
         → B.Shows blocks.old disk
         → IsPlanStart (B.count blocks.old) draft.old disk root.now settled inodes.now v before
@@ -203,31 +223,36 @@ fn plan_root<B: Blocks>(
         → IsPlanStart (B.count blocks.old) draft.old disk root.now settled inodes.now v before
         → IsErrOf result PlanError.Damaged → ⊥ }
     ensures takes { OnOk result (TakesAtMost
-        (point_nodes root.now inodes.now draft.old.map.count) draft.old draft.new) }
+        (point_nodes root.now inodes.now draft.old.map.count + head_nodes change.now)
+        draft.old draft.new) }
     ensures lacks { IsErrOf result PlanError.NoSpace
-        → Lacks (point_nodes root.now inodes.now draft.old.map.count) draft.old }
+        → Lacks (point_nodes root.now inodes.now draft.old.map.count + head_nodes change.now)
+        draft.old }
     ensures stores { (disk : ℕ → List ℕ) (settled : ℕ → Inode) (v : Volume) (before : ℕ → ℕ)
         → B.Shows blocks.old disk
         → IsOverTree (B.count blocks.old) disk settled inodes.now v before → (w : ℕ → ℕ)
         → CountsBlocks w inodes.now.numbers.bytes.items (file_block (held disk (settled 1)))
-        → OnOk result (TakesAtMost
-        (point_stores w root.now inodes.now draft.old.map.count) draft.old draft.new) }
+        → OnOk result (TakesAtMost (point_stores w root.now inodes.now draft.old.map.count
+        + head_nodes change.now) draft.old draft.new) }
     ensures short { (disk : ℕ → List ℕ) (settled : ℕ → Inode) (v : Volume) (before : ℕ → ℕ)
         → B.Shows blocks.old disk
         → IsOverTree (B.count blocks.old) disk settled inodes.now v before → (w : ℕ → ℕ)
         → CountsBlocks w inodes.now.numbers.bytes.items (file_block (held disk (settled 1)))
         → IsErrOf result PlanError.NoSpace
-        → Lacks (point_stores w root.now inodes.now draft.old.map.count) draft.old }
+        → Lacks (point_stores w root.now inodes.now draft.old.map.count
+        + head_nodes change.now) draft.old }
 {
     written_disks_have_the_blocks();
+    let slots = change_snapshots(alloc, draft, root, change)?;
     let inode_file = plan_files(alloc, draft, blocks, root, inodes)?;
-    let next = next_root(root, generation, inode_file)?;
+    let next = next_root(&slots, generation, inode_file)?;
     Ok(next)
 }
 
-/// Plans a consistency point that settles all that memory has changed: every place and every byte of it, and its root. Nothing
-/// is written. Where it fails, the map has no change. It gives out no more blocks than are counted for what changed
-/// (`point_blocks` tells how many), and for want of space it fails only where fewer are left.
+/// Plans a consistency point that settles all that memory has changed, and does with the snapshots what is asked for: every place
+/// and every byte of it, and its root. Nothing is written. Where it fails, the map has no change. A snapshot that is taken has the
+/// tree of the root that is there, so its blocks stay in use. The point gives out no more blocks than are counted for what changed
+/// (`point_blocks` tells how many), and one for a snapshot that is taken; for want of space it fails only where fewer are left.
 pub fn plan<B: Blocks>(
     alloc: Global,
     blocks: &mut B,
@@ -236,9 +261,11 @@ pub fn plan<B: Blocks>(
     slot: u32,
     inodes: &InodeFile,
     map: BlockMap,
+    change: &SnapshotChange<'_>,
 ) -> (BlockMap, Result<Point, PlanError>)
     requires root { IsRoot root.now }
     requires slot { IsSlot slot }
+    requires fits { FitsSlots change.now }
     requires clean { IsClean map }
     requires size { map.count ≡ root.now.geometry.blocks }
     requires disk { B.count blocks.old ≡ root.now.geometry.blocks }
@@ -260,7 +287,9 @@ pub fn plan<B: Blocks>(
     ensures point { (d : ℕ → List ℕ) (first v : Volume) (snapshots : List (Name × Tree))
         → B.Shows blocks.old (blocks_of d)
         → IsPlannable root.now d slot generation map inodes.now first v snapshots
-        → IfOk result.1 (λ p. IsPoint root.now d (writes_of p.plan.blocks) slot p.root v) }
+        → (step : SnapshotStep) → IsStepOf change.now root.now step
+        → CanStep step root.now (whole (blocks_of d) root.now) → IfOk result.1
+        (λ p. IsPointWith step root.now d (writes_of p.plan.blocks) slot p.root v) }
     ensures entries { (d : ℕ → List ℕ) (first v : Volume) (snapshots : List (Name × Tree))
         → B.Shows blocks.old (blocks_of d)
         → IsPlannable root.now d slot generation map inodes.now first v snapshots
@@ -271,25 +300,29 @@ pub fn plan<B: Blocks>(
         → IsPlannable root.now d slot generation map inodes.now first v snapshots
         → IsErrOf result.1 PlanError.Damaged → ⊥ }
     ensures takes { OnOk result.1
-        (left map ≤ left result.0 + point_nodes root.now inodes.now map.count) }
-    ensures full { IsErrOf result.1 PlanError.NoSpace → LacksBlocks root.now inodes.now map }
+        (left map ≤ left result.0 + (point_nodes root.now inodes.now map.count
+        + head_nodes change.now)) }
+    ensures full { IsErrOf result.1 PlanError.NoSpace
+        → left map < point_nodes root.now inodes.now map.count + head_nodes change.now }
     // Over a disk that holds a volume the inode map's blocks are counted as objects came or went in it.
     ensures stores { (d : ℕ → List ℕ) (first v : Volume) (snapshots : List (Name × Tree))
         → B.Shows blocks.old (blocks_of d)
         → IsPlannable root.now d slot generation map inodes.now first v snapshots
         → (w : ℕ → ℕ) → CountsMoves w first v → OnOk result.1
-        (left map ≤ left result.0 + point_stores w root.now inodes.now map.count) }
+        (left map ≤ left result.0 + (point_stores w root.now inodes.now map.count
+        + head_nodes change.now)) }
     ensures short { (d : ℕ → List ℕ) (first v : Volume) (snapshots : List (Name × Tree))
         → B.Shows blocks.old (blocks_of d)
         → IsPlannable root.now d slot generation map inodes.now first v snapshots
         → (w : ℕ → ℕ) → CountsMoves w first v → IsErrOf result.1 PlanError.NoSpace
-        → left map < point_stores w root.now inodes.now map.count }
+        → left map < point_stores w root.now inodes.now map.count + head_nodes change.now }
 {
     inodes_are_what_their_bytes_spell();
+    snapshots_are_what_their_bytes_spell();
     disks_that_agree_hold_the_same();
     memory_holds_its_volume();
     let mut draft = Draft::new(alloc, map);
-    match plan_root(alloc, &mut draft, blocks, root, generation, inodes) {
+    match plan_root(alloc, &mut draft, blocks, root, generation, inodes, change) {
         Ok(root) => {
             let mut bytes = [0; ROOT_BYTES];
             let _ = root.write(&mut bytes);

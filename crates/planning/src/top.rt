@@ -6,7 +6,7 @@ ghost use Rattle.layout.specs.declared.TheConstants.{BLOCK_BYTES};
 ghost use Rattle.layout.specs.declared.inode.Inode.{Inode};
 ghost use Rattle.layout.specs.declared.kind.Kind.TheVariants as kinds;
 ghost use Rattle.buffers.specs.Reads.{ReadsBlocks};
-ghost use Rattle.blockmap.specs.Maps.{settled_at};
+ghost use Rattle.blockmap.specs.Maps.{entry_at, settled_at};
 ghost use Rattle.conspoint.specs.Drafts.{Grows, IsReserved};
 ghost use Rattle.conspoint.specs.Errors.{IsReadFault};
 ghost use Rattle.images.specs.BlockMap.{NamesOnce};
@@ -14,7 +14,7 @@ ghost use Rattle.conspoint.specs.Space.{Lacks, TakesAtMost};
 ghost use Rattle.placement.specs.Files.{IsChangeOf};
 ghost use Rattle.placement.specs.Space.{first_stores};
 ghost use Rattle.planning.specs.Plans.{HasTop, Progresses};
-ghost use Rattle.planning.specs.Progress.{IsExactPlane, Planned};
+ghost use Rattle.planning.specs.Progress.{IsExactPlane, KeepsSets, Planned};
 ghost use Rattle.planning.specs.Steps.{settled_tree};
 
 use crate::number::mark_placed;
@@ -37,6 +37,8 @@ pub(crate) fn place_top<B: Blocks>(
     requires some { BLOCK_BYTES ≤ top.now.file.size }
     ensures reads { ReadsBlocks B.Blocks IsReadFault blocks.old blocks.new result }
     ensures grows { Grows draft.old draft.new }
+    ensures sets { OnOk result (KeepsSets (entry_at draft.old.map.parts.items)
+        (entry_at draft.new.map.parts.items)) }
     ensures others { (p : ℕ) → IsReserved draft.old p → IsReserved draft.new p }
     ensures reserved { IfOk result (λ r. IsReserved draft.new r.1) }
     ensures planned { (s : Sizes) (disk : ℕ → List ℕ) (settled : ℕ → Inode) (before : ℕ → ℕ)

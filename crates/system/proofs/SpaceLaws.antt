@@ -1,12 +1,12 @@
 -- Free blocks of a mounted system.
-use Rattle.std.proofs.Common.{◌≡◌, ℕ, ◌-◌, ◌<◌, ap, sym, subst, ◌∙◌}
+use Rattle.std.proofs.Common.{◌≡◌, ℕ, ◌+◌, ◌-◌, ◌<◌, ap, sym, subst, ◌∙◌, arith}
 use Rattle.layout.specs.declared.root.Root.{Root}
 use Rattle.blockmap.specs.Maps.{free_below, settled_at}
 use Rattle.blockmap.specs.Space.{left}
 use Rattle.blockmap.proofs.SpaceLemmas.{left_same}
 use Rattle.blockmap.specs.declared.map.BlockMap.{BlockMap}
 use Rattle.inofile.specs.declared.inode_file.InodeFile.{InodeFile}
-use Rattle.planning.specs.Space.{LacksBlocks, point_nodes}
+use Rattle.planning.specs.Space.{point_nodes}
 use Rattle.system.specs.Points.{free_blocks}
 
 -- where none is given out, all that are free are left
@@ -14,9 +14,11 @@ all_left : (m : BlockMap) → m.next ≡ 2 → left m ≡ free_blocks m
 unfolding left
 all_left m fresh = ap (λ (n : ℕ). free_below m.parts.items m.count - free_below m.parts.items n) fresh
 
-pub is_filled : (r : Root) (s : InodeFile) (m given : BlockMap) → given ≡ m → m.next ≡ 2 → LacksBlocks r s given → free_blocks m < point_nodes r s m.count
+pub is_filled : (r : Root) (s : InodeFile) (m given : BlockMap) → given ≡ m → m.next ≡ 2 → left given < point_nodes r s given.count + 0 → free_blocks m < point_nodes r s m.count
 is_filled r s m given same fresh lacks =
-    subst (λ (n : ℕ). n < point_nodes r s m.count) (all_left m fresh) (subst (λ (x : BlockMap). LacksBlocks r s x) same lacks)
+    let here : left m < point_nodes r s m.count + 0 = subst (λ (x : BlockMap). left x < point_nodes r s x.count + 0) same lacks in
+    let free = all_left m fresh in
+    omega (arith, here, free)
 
 -- a map that is given back has as many free blocks
 pub still_filled : (r : Root) (s : InodeFile) (m given : BlockMap) → m.next ≡ 2 → given.next ≡ 2 → given.count ≡ m.count

@@ -13,7 +13,7 @@ use conspoint::{
     blocks_are_those_of_images, cuts_are_those_of_images, written_disks_have_the_blocks,
 };
 use images::{
-    finished_points_hold, finished_points_open_as_before, free_blocks_are_no_matter,
+    finished_points_hold, finished_points_open, free_blocks_are_no_matter,
     free_blocks_are_unneeded, needed_blocks_are_of_the_disk, roots_cover_epochs,
 };
 use loading::{readable_inodes_are_settled, volumes_are_readable};
@@ -39,7 +39,7 @@ pub(crate) fn cuts_open()
     replays_end_same();
     free_blocks_are_no_matter();
     cuts_are_those_of_images();
-    finished_points_open_as_before();
+    finished_points_open();
     roots_cover_epochs();
 }
 

@@ -19,7 +19,7 @@ use crate::{PointError, System};
 use blockmap::BlockMap;
 use conspoint::PlanError;
 use layout::{Generation, SLOT_A, SLOT_B};
-use planning::plan;
+use planning::{SnapshotChange, plan};
 use station::Station;
 use std::mem;
 
@@ -85,6 +85,7 @@ impl<S: Station> System<S> {
             slot,
             &self.inodes,
             map,
+            &SnapshotChange::Unchanged,
         );
         self.map = map;
         let point = match planned {

@@ -12,6 +12,11 @@ returns-in_err-first_block-clause-grows c =
     grows_twice c.args.draft.now c.place_numbers.new.draft c.place_map.new.draft c.place_numbers.ensures.grows
     (grows_twice c.place_numbers.new.draft c.place_top.new.draft c.place_map.new.draft c.place_top.ensures.grows c.place_map.ensures.grows)
 
+pub returns-in_err-map-clause-grows : goal.returns-in_err-map-clause-grows
+returns-in_err-map-clause-grows c =
+    grows_twice c.args.draft.now c.place_numbers.new.draft c.place_map.new.draft c.place_numbers.ensures.grows
+    (grows_twice c.place_numbers.new.draft c.place_top.new.draft c.place_map.new.draft c.place_top.ensures.grows c.place_map.ensures.grows)
+
 pub returns-in_err-put-clause-grows : goal.returns-in_err-put-clause-grows
 returns-in_err-put-clause-grows c =
     grows_twice c.args.draft.now c.place_numbers.new.draft c.put.new.self c.place_numbers.ensures.grows

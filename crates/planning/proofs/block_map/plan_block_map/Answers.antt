@@ -34,3 +34,6 @@ returns-clause-planned g c = λ disk settled v before p shows memory sound same 
     sound.block_map now
     (subst (λ n. (k : ℕ) → k < n → pointer_at nodes k ≡ (held disk found).place 0 k) c.map_blocks.ensures (c.in_ok-nodes.ensures.lowest s disk shown file))
     (subst (λ n. 16 < n → pointer_at nodes n ≡ (held disk found).place 1 0) c.map_blocks.ensures (c.in_ok-nodes.ensures.over s disk shown file)))
+
+pub returns-clause-sets : goal.returns-clause-sets
+returns-clause-sets g c = c.in_ok-map.ensures.planned.others

@@ -1,4 +1,7 @@
-use Rattle.std.proofs.Common.{◌∙◌, rules}
+use Rattle.std.proofs.Common.{sym, subst, ◌∙◌, rules}
+use Rattle.blockmap.specs.Maps.{entry_at}
+use Rattle.blockmap.specs.declared.map.BlockMap.{BlockMap}
+use Rattle.planning.specs.Progress.{KeepsSets}
 use Rattle.planning.specs.Steps.{settled_tree}
 use Rattle.planning.proofs.MapFileLaws.{map_file_later}
 use Rattle.planning.proofs.NumberLaws.{grows_twice}
@@ -24,3 +27,7 @@ returns-clause-planned g c = λ disk settled v before p shows memory sound same 
       whole = c.in_ok-block.ensures.whole disk shown;
       long = c.in_ok-block.ensures.long;
     }
+
+pub returns-clause-sets : goal.returns-clause-sets
+returns-clause-sets g c =
+    subst (λ (m : BlockMap). KeepsSets (entry_at c.args.draft.now.map.parts.items) (entry_at m.parts.items)) (sym c.put.ensures.map) c.in_ok-map.ensures.sets

@@ -18,6 +18,7 @@ use Rattle.planning.proofs.JoinLaws.{map_planned, map_stays, marked_over, taken_
 use Rattle.planning.proofs.NumberLaws.{grows_twice}
 use Rattle.planning.proofs.OwnLaws.{held_bytes, inode_is, kind_of, map_bytes, map_change, map_kind, map_size_is, map_whole}
 use Rattle.planning.proofs.PointLaws.{held_inode}
+use Rattle.planning.proofs.ProgressLaws.{sets_from}
 use Rattle.planning.proofs.TellLaws.{counts_one, few_stored}
 use Rattle.planning.proofs.inode_map.plan_inode_map.Goals as goal
 
@@ -178,3 +179,7 @@ returns-clause-stores g c = λ disk settled v before shows memory w counts.
     ]) in
     let all = ap (λ (n : ℕ). sum_below w (block_count n)) c.in_ok-settled.ensures.size in
     omega (arith, few, all, c.in_ok-placed.ensures.takes, c.mark_placed.ensures.left)
+
+pub returns-clause-sets : goal.returns-clause-sets
+returns-clause-sets g c =
+    sets_from c.args.draft.now.map.parts.items c.place_file.new.draft.map.parts.items c.mark_placed.new.draft.map.parts.items c.place_file.ensures.parts c.in_ok-mark_placed.ensures.marked.others

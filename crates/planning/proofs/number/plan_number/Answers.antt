@@ -4,6 +4,7 @@ use Rattle.inofile.specs.Inodes.{files_of}
 use Rattle.planning.specs.Numbers.{trimmed}
 use Rattle.planning.specs.Steps.{settled_tree}
 use Rattle.planning.proofs.NumberLaws.{grows_twice}
+use Rattle.planning.proofs.ProgressLaws.{sets_from}
 use Rattle.planning.proofs.SettledLaws.{over_settled}
 use Rattle.planning.proofs.StepLaws.{goes_on}
 use Rattle.planning.proofs.number.plan_number.Goals as goal
@@ -37,3 +38,7 @@ returns-in_err-put_inode-clause-grows g c = grows_twice c.args.draft.now c.place
 
 pub returns-clause-grows : goal.returns-clause-grows
 returns-clause-grows g c = grows_twice c.args.draft.now c.place_number.new.draft c.mark_placed.new.draft c.place_number.ensures.grows c.mark_placed.ensures.grows
+
+pub returns-clause-sets : goal.returns-clause-sets
+returns-clause-sets g c =
+    sets_from c.args.draft.now.map.parts.items c.place_number.new.draft.map.parts.items c.mark_placed.new.draft.map.parts.items c.place_number.ensures.parts c.in_ok-mark_placed.ensures.marked.others

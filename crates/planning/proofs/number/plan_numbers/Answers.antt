@@ -1,11 +1,13 @@
 use Rattle.std.proofs.Common.{◌≡◌, ◌<◌, ◌≤◌, ◌/◌, ℕ, length, slice_index, refl, sym, subst, ◌∙◌, arith, rules}
 use Rattle.std.proofs.lemmas.List.{get_or_default}
 use Rattle.blocktree.specs.Trees.{IsSoundAt}
+use Rattle.blockmap.specs.Maps.{entry_at}
 use Rattle.inofile.specs.Inodes.{IsChanged}
 use Rattle.planning.specs.Inodes.{HasChange}
 use Rattle.planning.specs.Steps.{IsOverTree}
 use Rattle.planning.proofs.LoopLaws.{all_planned, none_before, one_more}
 use Rattle.planning.proofs.NumberLaws.{grows_twice}
+use Rattle.planning.proofs.ProgressLaws.{sets_twice}
 use Rattle.planning.proofs.SpaceLaws.{is_behind, is_counted}
 use Rattle.planning.proofs.TopLaws.{changes_none, changes_twice}
 use Rattle.planning.proofs.number.plan_numbers.Given.{Over}
@@ -17,6 +19,7 @@ loop-i-init g c = record {
   read = search rules;
   grows = search rules;
   others = λ p is. is;
+  sets = λ b i other. refl;
   counted = λ m below. omega arith;
   size = refl;
   settled = record { pointers = refl; depth = refl; count = refl };
@@ -45,6 +48,7 @@ loop-i-preserved g c =
       read = search rules;
       grows = grows_twice c.args.draft.now c.loop-i.draft c.plan_number.new.draft so_far.grows c.plan_number.ensures.grows;
       others = λ p is. c.plan_number.ensures.others p (so_far.others p is);
+      sets = sets_twice (entry_at c.args.draft.now.map.parts.items) (entry_at c.loop-i.draft.map.parts.items) (entry_at c.plan_number.new.draft.map.parts.items) so_far.sets c.in_ok-plan_number.ensures.sets;
       counted = λ m below.
           let before = so_far.counted c.index.result.now (λ k lt. is_behind xs c.loop-i.i c.index.result.now k c.in_ok-numbers.ensures.sorted within is lt) in
           let here : c.index.result.now < m = omega (arith, is, below c.loop-i.i (omega arith)) in

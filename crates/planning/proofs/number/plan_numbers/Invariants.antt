@@ -3,10 +3,12 @@ use Rattle.layout.specs.declared.inode.Inode.{Inode}
 use Rattle.model.specs.Volumes.{Volume}
 use Rattle.buffers.specs.Reads.{HasOnlyRead}
 use Rattle.blocktree.specs.Trees.{KeepsSound, SameSettled}
+use Rattle.blockmap.specs.Maps.{entry_at}
 use Rattle.conspoint.specs.Drafts.{Grows, IsReserved}
 use Rattle.conspoint.specs.Marks.{IsAmong}
 use Rattle.conspoint.specs.Space.{TakesAtMost}
 use Rattle.planning.specs.Inodes.{ChangesOnly, HasChange}
+use Rattle.planning.specs.Progress.{KeepsSets}
 use Rattle.planning.specs.Space.{nodes_below}
 use Rattle.planning.specs.Steps.{ArePlanned, IsOverTree}
 use Rattle.planning.proofs.number.plan_numbers.Given as goal
@@ -16,6 +18,7 @@ invariant-loop-i g l = record {
   read : HasOnlyRead g.B.Blocks l.initial.blocks l.blocks;
   grows : Grows l.fn.draft l.draft;
   others : (p : ℕ) → IsReserved l.fn.draft p → IsReserved l.draft p;
+  sets : KeepsSets (entry_at l.fn.draft.map.parts.items) (entry_at l.draft.map.parts.items);
   counted : (m : ℕ) → ((k : ℕ) → k < l.i → slice_index l.numbers.items k < m) → TakesAtMost (nodes_below l.inodes m) l.fn.draft l.draft;
   size : l.file.size ≡ l.fn.file.size;
   settled : SameSettled l.fn.file.tree l.file.tree;

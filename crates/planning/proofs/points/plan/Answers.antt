@@ -6,17 +6,18 @@ use Rattle.blockmap.specs.declared.map.BlockMap.{BlockMap}
 use Rattle.conspoint.specs.Drafts.{HasAll}
 use Rattle.conspoint.specs.Plans.{Planned}
 use Rattle.conspoint.specs.Writes.{writes_of}
-use Rattle.images.specs.Cuts.{IsPoint}
+use Rattle.images.specs.Cuts.{IsPointWith}
 use Rattle.images.specs.Nodes.{file_block, held}
 use Rattle.images.specs.Roots.{HeldTree, whole}
 use Rattle.planning.specs.Plans.{inodes_under}
 use Rattle.planning.specs.Space.{CountsBlocks, point_stores}
+use Rattle.planning.proofs.ChangeLaws.{entries_of}
 use Rattle.planning.proofs.PlanLaws.{HoldsMemory, entries_are, point_is, start_is, tree_is}
 use Rattle.planning.proofs.TellLaws.{moves_told}
 use Rattle.planning.proofs.points.plan.Goals as goal
 
 pub returns-in-Ok-clause-point : goal.returns-in-Ok-clause-point
-returns-in-Ok-clause-point g c = λ d first v snapshots shows plannable.
+returns-in-Ok-clause-point g c = λ d first v snapshots shows plannable step is can.
     let r = c.args.root.now in
     let m = c.args.map in
     let draft = c.plan_root.new.draft in
@@ -25,9 +26,11 @@ returns-in-Ok-clause-point g c = λ d first v snapshots shows plannable.
     let settled : (b : ℕ) → settled_at draft.map.parts.items b ≡ settled_at m.parts.items b =
     λ b. c.plan_root.ensures.grows.settled.settled b ∙ ap (λ (x : BlockMap). settled_at x.parts.items b) c.new-draft.ensures.map in
     let memory : HoldsMemory = record { holds = c.memory_holds_its_volume.ensures.holds; unchanged = c.memory_holds_its_volume.ensures.unchanged } in
-    subst (λ (x : Planned). IsPoint r d (writes_of x.blocks) c.args.slot c.in-Ok.root v) (sym c.into_plan-map.ensures.plan)
+    let stepped = entries_of step r c.in-Ok.root m c.new-draft.result.map (entry_at draft.map.parts.items) c.new-draft.ensures.map c.requires.clean (c.in-Ok.ensures.sets step is) in
+    subst (λ (x : Planned). IsPointWith step r d (writes_of x.blocks) c.args.slot c.in-Ok.root v) (sym c.into_plan-map.ensures.plan)
     (point_is c.inodes_are_what_their_bytes_spell.ensures.spelled c.inodes_are_what_their_bytes_spell.ensures.past c.disks_that_agree_hold_the_same.ensures.file memory d r c.in-Ok.root c.args.slot c.args.generation m
-    c.args.inodes.now first v snapshots draft plannable c.requires.root c.in-Ok.ensures.root c.in-Ok.ensures.geometry c.in-Ok.ensures.snapshots c.in-Ok.ensures.generation c.requires.sizes planned settled)
+    c.args.inodes.now first v snapshots draft plannable c.requires.root c.in-Ok.ensures.root c.in-Ok.ensures.geometry c.in-Ok.ensures.generation c.requires.sizes planned settled
+    step stepped c.snapshots_are_what_their_bytes_spell.ensures can (c.in-Ok.ensures.slots step is) (c.in-Ok.ensures.head step is))
 
 pub returns-in-Ok-clause-entries : goal.returns-in-Ok-clause-entries
 returns-in-Ok-clause-entries g c = λ d first v snapshots shows plannable e has agrees b.
@@ -40,7 +43,7 @@ returns-in-Ok-clause-entries g c = λ d first v snapshots shows plannable e has 
     λ b. c.plan_root.ensures.grows.settled.settled b ∙ ap (λ (x : BlockMap). settled_at x.parts.items b) c.new-draft.ensures.map in
     let memory : HoldsMemory = record { holds = c.memory_holds_its_volume.ensures.holds; unchanged = c.memory_holds_its_volume.ensures.unchanged } in
     entries_are c.inodes_are_what_their_bytes_spell.ensures.spelled c.inodes_are_what_their_bytes_spell.ensures.past c.disks_that_agree_hold_the_same.ensures.file memory d r c.in-Ok.root c.args.slot c.args.generation m
-    c.args.inodes.now first v snapshots draft plannable c.requires.root c.in-Ok.ensures.root c.in-Ok.ensures.geometry c.in-Ok.ensures.snapshots c.in-Ok.ensures.generation c.requires.sizes planned settled
+    c.args.inodes.now first v snapshots draft plannable c.requires.root c.in-Ok.ensures.root c.in-Ok.ensures.geometry c.in-Ok.ensures.generation c.requires.sizes planned settled
     e (subst (λ (x : Planned). HasAll e x.blocks) c.into_plan-map.ensures.plan has) agrees b ∙ ap (λ (x : BlockMap). entry_at x.parts.items b) (sym c.into_plan-map.ensures.map)
 
 pub returns-in-Err-clause-damaged : goal.returns-in-Err-clause-damaged

@@ -1,9 +1,11 @@
 use Rattle.std.proofs.Common.{◌≡◌, sym, subst, ◌∙◌, rules, arith}
 use Rattle.blocktree.specs.Trees.{IsSoundAt}
+use Rattle.blockmap.specs.Maps.{entry_at}
 use Rattle.inofile.specs.Inodes.{files_of}
 use Rattle.planning.specs.Numbers.{trimmed}
 use Rattle.planning.specs.Steps.{IsOverTree}
 use Rattle.planning.proofs.NumberLaws.{grows_twice}
+use Rattle.planning.proofs.ProgressLaws.{sets_twice}
 use Rattle.planning.proofs.StartLaws.{not_own}
 use Rattle.planning.proofs.points.plan_changes.Goals as goal
 
@@ -50,3 +52,8 @@ returns-clause-stores g c = λ disk settled v before shows memory w counts.
     let stores = c.in_ok-plan_inode_map.ensures.stores disk settled v before (c.plan_numbers.ensures.reads.same disk shows)
     (subst (λ n. IsOverTree n disk settled c.args.inodes.now v before) count memory) w counts in
     omega (arith, c.in_ok-plan_numbers.ensures.takes, stores)
+
+pub returns-clause-sets : goal.returns-clause-sets
+returns-clause-sets g c =
+    sets_twice (entry_at c.args.draft.now.map.parts.items) (entry_at c.plan_numbers.new.draft.map.parts.items) (entry_at c.plan_inode_map.new.draft.map.parts.items)
+    c.in_ok-plan_numbers.ensures.sets c.in_ok-plan_inode_map.ensures.sets

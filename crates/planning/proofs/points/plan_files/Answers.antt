@@ -5,6 +5,7 @@ use Rattle.layout.specs.Limits.{AreSizes}
 use Rattle.layout.specs.declared.inode.Inode.{Inode}
 use Rattle.layout.specs.declared.kind.Kind.TheVariants as kinds
 use Rattle.blocktree.specs.Trees.{IsSoundAt}
+use Rattle.blockmap.specs.Maps.{entry_at}
 use Rattle.images.specs.InodeFiles.{put_at}
 use Rattle.images.specs.Nodes.{held}
 use Rattle.images.specs.Nodes as nodes
@@ -21,6 +22,7 @@ use Rattle.planning.specs.Space.{map_file_nodes}
 use Rattle.planning.specs.Steps.{IsOverTree, settled_tree}
 use Rattle.planning.proofs.NumberLaws.{grows_twice}
 use Rattle.planning.proofs.OwnLaws.{own_change}
+use Rattle.planning.proofs.ProgressLaws.{sets_twice}
 use Rattle.planning.proofs.StartLaws.{not_own, spelled_ends, started, top_size}
 use Rattle.planning.proofs.TopLaws.{top_few}
 use Rattle.planning.proofs.WholeLaws.{all_planned}
@@ -34,7 +36,7 @@ returns-in_err-plan_changes-clause-damaged g c = λ disk settled v before shows 
     let first_file = c.in_ok-top.top.file in
     let are = start.memory.volume.inodes in
     let sound : IsSoundFile s (held disk root.inode_file) = subst (λ (x : Inode). IsSoundFile s (held disk x)) start.top (are.sound 0) in
-    let begin = started old disk settled before c.args.inodes.now first_file start.clean start.same start.sound
+    let begin = started old disk settled before c.args.inodes.now first_file start.active start.same start.sound
     (λ i. c.in_ok-top.ensures.held s disk sound i ∙ ap (λ (x : Inode). nodes.file_block (held disk x) i) (sym start.top)) in
     c.in_err-plan_changes.ensures.damaged disk settled v before shows start.memory begin
     (λ i. subst (λ n. IsSoundAt n disk first_file.tree i) are.count (c.based_trees_are_sound.ensures.at s disk root.inode_file first_file.tree i sound c.in_ok-top.ensures.base)) (search rules)
@@ -50,7 +52,7 @@ returns-in_err-placed-clause-damaged g c = λ disk settled v before shows start 
     let first_file = c.in_ok-top.top.file in
     let are = start.memory.volume.inodes in
     let sound : IsSoundFile s (held disk root.inode_file) = subst (λ (x : Inode). IsSoundFile s (held disk x)) start.top (are.sound 0) in
-    let begin = started old disk settled before c.args.inodes.now first_file start.clean start.same start.sound
+    let begin = started old disk settled before c.args.inodes.now first_file start.active start.same start.sound
     (λ i. c.in_ok-top.ensures.held s disk sound i ∙ ap (λ (x : Inode). nodes.file_block (held disk x) i) (sym start.top)) in
     let o = record c.in_ok-top.top { file = c.plan_changes.new.file } in
     let numbers = c.in_ok-plan_changes.ensures.planned disk settled v before shows start.memory start.sound.inode_map begin in
@@ -86,7 +88,7 @@ returns-in_err-plan_last-clause-damaged g c = λ disk settled v before shows sta
     let first_file = c.in_ok-top.top.file in
     let are = start.memory.volume.inodes in
     let sound : IsSoundFile s (held disk root.inode_file) = subst (λ (x : Inode). IsSoundFile s (held disk x)) start.top (are.sound 0) in
-    let begin = started old disk settled before c.args.inodes.now first_file start.clean start.same start.sound
+    let begin = started old disk settled before c.args.inodes.now first_file start.active start.same start.sound
     (λ i. c.in_ok-top.ensures.held s disk sound i ∙ ap (λ (x : Inode). nodes.file_block (held disk x) i) (sym start.top)) in
     let shown = c.plan_changes.ensures.reads.same disk shows in
     let count : g.B.Blocks.count c.args.blocks.now ≡ g.B.Blocks.count c.place_top.new.blocks = sym c.plan_changes.ensures.reads.count ∙ sym c.place_top.ensures.reads.count in
@@ -108,7 +110,7 @@ returns-clause-planned g c = λ disk settled v before shows start.
     let first_file = c.in_ok-top.top.file in
     let are = start.memory.volume.inodes in
     let sound : IsSoundFile s (held disk root.inode_file) = subst (λ (x : Inode). IsSoundFile s (held disk x)) start.top (are.sound 0) in
-    let begin = started old disk settled before c.args.inodes.now first_file start.clean start.same start.sound
+    let begin = started old disk settled before c.args.inodes.now first_file start.active start.same start.sound
     (λ i. c.in_ok-top.ensures.held s disk sound i ∙ ap (λ (x : Inode). nodes.file_block (held disk x) i) (sym start.top)) in
     let o = record c.in_ok-top.top { file = c.plan_changes.new.file } in
     let numbers = c.in_ok-plan_changes.ensures.planned disk settled v before shows start.memory start.sound.inode_map begin in
@@ -200,3 +202,11 @@ returns-clause-stores g c = λ disk settled v before shows memory w counts.
     let stores = c.in_ok-plan_changes.ensures.stores disk settled v before shows memory w counts in
     let count = ap map_file_nodes (c.place_top.ensures.grows.count ∙ c.plan_changes.ensures.grows.count) in
     omega (arith, stores, c.in_ok-placed.ensures.takes, c.in_ok-plan_last.ensures.takes, top, count)
+
+pub returns-clause-sets : goal.returns-clause-sets
+returns-clause-sets g c =
+    let first = entry_at c.args.draft.now.map.parts.items in
+    let second = entry_at c.plan_changes.new.draft.map.parts.items in
+    let third = entry_at c.place_top.new.draft.map.parts.items in
+    let last = entry_at c.plan_last.new.draft.map.parts.items in
+    sets_twice first second last c.in_ok-plan_changes.ensures.sets (sets_twice second third last c.in_ok-placed.ensures.sets c.in_ok-plan_last.ensures.sets)

@@ -6,6 +6,7 @@ use Rattle.planning.specs.Steps.{settled_tree}
 use Rattle.planning.proofs.JoinLaws.{marked_over, progress_more, taken_later}
 use Rattle.planning.proofs.NumberLaws.{grows_twice}
 use Rattle.planning.proofs.PointLaws.{held_inode}
+use Rattle.planning.proofs.ProgressLaws.{sets_from}
 use Rattle.planning.proofs.top.place_top.Goals as goal
 
 pub returns-in_err-mark_placed-clause-grows : goal.returns-in_err-mark_placed-clause-grows
@@ -35,3 +36,8 @@ returns-clause-planned g c = λ s disk settled before p shows change kind once e
       blocks = λ e has agrees i.
           ap (λ (x : Content). x.block i) (c.in_ok-all.ensures.content s disk (settled 0) shows change e (goes.has e has) (λ b names. agrees b (record { file = 0; names = names })));
     }
+
+pub returns-clause-sets : goal.returns-clause-sets
+returns-clause-sets g c =
+    sets_from c.args.draft.now.map.parts.items c.place_file_but_first.new.draft.map.parts.items c.mark_placed.new.draft.map.parts.items c.place_file_but_first.ensures.parts
+    c.in_ok-mark_placed.ensures.marked.others

@@ -24,6 +24,7 @@ use Rattle.oplog.specs.LogEnd.{LogEnd, no_bodies}
 use Rattle.images.specs.BlockMap.{entry}
 use Rattle.images.specs.Cuts.{IsPoint}
 use Rattle.images.specs.Roots as roots
+use Rattle.images.specs.SnapshotSteps.SnapshotStep.{unchanged}
 use Rattle.conspoint.specs.Cuts.{HasNewRoot}
 use Rattle.conspoint.specs.Plans.{FitsDisk}
 use Rattle.conspoint.specs.Writes.{AreWhole, writes_of}
@@ -86,7 +87,8 @@ planned g c table s serves =
       point = subst (λ (n : ℕ). IsPoint f.root m.seen.disk (writes_of q.plan.blocks) n q.root serves.running) (sym slot)
           (of_ok r q (λ (x : Point). IsPoint f.root m.seen.disk (writes_of x.plan.blocks) c.other_slot-slot.result x.root serves.running) c.in-Ok.is
           (c.plan-map.ensures.point m.seen.disk serves.first serves.running serves.snapshots serves.shows
-          (points.plannable m f.blocks.kept f.root f.slot f.inodes f.map f.log f.pledged f.files table s serves here c.other_slot-slot.result c.in-Some.generation c.replace-map.result c.other_slot-slot.ensures epoch c.replace-map.ensures.value)));
+          (points.plannable m f.blocks.kept f.root f.slot f.inodes f.map f.log f.pledged f.files table s serves here c.other_slot-slot.result c.in-Some.generation c.replace-map.result c.other_slot-slot.ensures epoch c.replace-map.ensures.value)
+          unchanged refl tt));
     }
 
 pub plan-map-requires-clause-root : goal.plan-map-requires-clause-root

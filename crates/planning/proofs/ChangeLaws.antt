@@ -1,0 +1,242 @@
+-- What a change of the snapshots makes of the slots and of the block map's sets.
+use Rattle.std.proofs.Common.{◌≡◌, ◌≢◌, ◌⊎◌, inl, inr, ◌↔◌, ℕ, zero, suc, ◌+◌, ◌-◌, ◌<◌, ◌≤◌, Bool, Some, List, length, refl, ap, sym, subst, ◌∙◌, arith}
+use Rattle.std.proofs.Math.Path.{fun_ext}
+use Rattle.std.proofs.lemmas.Bool.{cases_eq, cases_lt}
+use Rattle.std.proofs.lemmas.List.{get_or_past, get_or-set_same, get_or-set_other}
+use Rattle.blockmap.proofs.SpaceLemmas.{left_same}
+use Rattle.conspoint.specs.Drafts.{Grows}
+use Rattle.conspoint.specs.Space.{TakesAtMost}
+use Rattle.conspoint.specs.declared.draft.Draft.{Draft}
+use Rattle.std.specs.Int.{bit_at}
+use Rattle.std.specs.Prelude.{if◌then◌else◌, slice_index_or, slice_set}
+use Rattle.blockmap.specs.Bits.{SetsBit, SetsPlane}
+use Rattle.blockmap.specs.Maps.{entry_at, settled_at}
+use Rattle.blockmap.specs.Parts.{Part}
+use Rattle.blockmap.specs.declared.map.BlockMap.{BlockMap}
+use Rattle.images.specs.BlockMap.{HasBit, IsSystem, entry}
+use Rattle.images.specs.BlockMap.IsSystem.{roots, head}
+use Rattle.images.specs.Points.{Slot}
+use Rattle.images.specs.Points.Slot.{stays, takes, drops}
+use Rattle.images.specs.Roots.{frozen_inode_file, slot, whole}
+use Rattle.images.specs.Snapshots.{AreSnapshots, HasSnapshot}
+use Rattle.images.specs.SnapshotSteps.{SnapshotStep, unchanged, taken, deleted, CanStep, HasHead, IsSlotNumber, SetsSlot, StepsSlots}
+use Rattle.images.specs.States.{IsSound}
+use Rattle.layout.specs.Places.{Blocks, pointed}
+use Rattle.layout.specs.Pointer.{PointsBelow}
+use Rattle.layout.specs.Root.{IsRoot}
+use Rattle.layout.specs.SnapRoot.{Snapshot, IsSnapshot, snapshot_bytes, snapshot_in}
+use Rattle.layout.specs.declared.pointer.Pointer.{Pointer}
+use Rattle.layout.specs.declared.pointer.Pointer.TheVariants.{Hole, Block}
+use Rattle.layout.specs.declared.root.Root.{Root}
+use Rattle.planning.specs.Changes.{ChangesPlane, StepsEntries, StepsSets}
+use Rattle.planning.specs.Plans.{IsClean}
+use Rattle.planning.specs.Progress.{KeepsActive, KeepsSets}
+
+pub same_block : (a b : ℕ) → Block a ≡ Block b → a ≡ b
+same_block a b is = cc
+
+not_hole : (p : Pointer) (b : ℕ) → p ≡ Hole → p ≡ Block b → ⊥
+not_hole p b none is = let both : Hole ≡ Block b = sym none ∙ is in absurd (cc)
+
+-- ---- the sets
+
+-- a plane is set, and then one block's bit of the system's set
+pub plane_changed : (k block bit : ℕ) (is_in : Bool) (plane before between after : ℕ → ℕ) → IsSlotNumber k → ((count : ℕ) → SetsPlane count k plane before between)
+    → SetsBit 31 is_in (between block) (after block) → ((c : ℕ) → c ≢ block → after c ≡ between c) → (if is_in then 1 else 0) ≡ bit → ChangesPlane k (Block block) bit plane before after
+plane_changed k block bit is_in plane before between after number planes marked stay bit_is = record {
+  plane_is = λ b. elim (cases_eq b block) [
+    | inl same ↦ subst (λ n. bit_at (after n) k ≡ plane n) (sym same) (marked.others k (omega (arith, number.last)) ∙ (planes (block + 1)).there block (omega arith))
+    | inr other ↦ ap (λ x. bit_at x k) (stay b other) ∙ (planes (b + 1)).there b (omega arith)
+  ];
+  head = λ b is. subst (λ n. bit_at (after n) 31 ≡ bit) (same_block block b is) (marked.there ∙ bit_is);
+  system = λ b isnt.
+      let other : b ≢ block = λ same. isnt (ap Block (sym same)) in
+      ap (λ x. bit_at x 31) (stay b other) ∙ (planes (b + 1)).others b 31 (omega arith) (omega (arith, number.last));
+  others = λ b i not_k not_system. elim (cases_eq b block) [
+    | inl same ↦ subst (λ n. bit_at (after n) i ≡ bit_at (before n) i) (sym same) (marked.others i not_system ∙ (planes (block + 1)).others block i (omega arith) not_k)
+    | inr other ↦ ap (λ x. bit_at x i) (stay b other) ∙ (planes (b + 1)).others b i (omega arith) not_k
+  ];
+}
+
+-- a plane is set, and no block of the system's set changes
+pub plane_alone : (k bit : ℕ) (plane before after : ℕ → ℕ) → IsSlotNumber k → ((count : ℕ) → SetsPlane count k plane before after) → ChangesPlane k Hole bit plane before after
+plane_alone k bit plane before after number planes = record {
+  plane_is = λ b. (planes (b + 1)).there b (omega arith);
+  head = λ b is. absurd (cc);
+  system = λ b isnt. (planes (b + 1)).others b 31 (omega arith) (omega (arith, number.last));
+  others = λ b i not_k not_system. (planes (b + 1)).others b i (omega arith) not_k;
+}
+
+-- where the parts of the map are the same
+pub plane_from : (k : ℕ) (p : Pointer) (bit : ℕ) (old mid : List Part) (after : ℕ → ℕ) → mid ≡ old → ChangesPlane k p bit (λ b. bit_at (settled_at mid b) 0) (entry_at mid) after
+    → ChangesPlane k p bit (λ b. bit_at (settled_at old b) 0) (entry_at old) after
+plane_from k p bit old mid after same changes = subst (λ (ps : List Part). ChangesPlane k p bit (λ b. bit_at (settled_at ps b) 0) (entry_at ps) after) same changes
+
+pub plane_active : (k bit : ℕ) (p : Pointer) (plane before after : ℕ → ℕ) → IsSlotNumber k → ChangesPlane k p bit plane before after → KeepsActive before after
+plane_active k bit p plane before after number changes = λ b. changes.others b 0 (omega (arith, number.first)) (omega arith)
+
+other_slots : (r new : Root) (k : ℕ) (p : Pointer) → new.snapshots ≡ slice_set r.snapshots k p → (l : ℕ) → l ≢ suc k → slot new l ≡ slot r l
+other_slots r new k p set zero other = refl
+other_slots r new k p set (suc l) other = ap (λ (xs : List Pointer). slice_index_or xs l Hole) set ∙ get_or-set_other r.snapshots k l p Hole (λ same. other (ap suc same))
+
+-- nothing is given out
+pub takes_none : (old new : Draft) → Grows old new → new.map.next ≡ old.map.next → TakesAtMost 0 old new
+takes_none old new grows next = let same = left_same old.map new.map grows.settled.settled grows.count next in omega (arith, same)
+
+pub takes_with : (n : ℕ) (old mid new : Draft) → TakesAtMost n old mid → Grows mid new → new.map.next ≡ mid.map.next → TakesAtMost n old new
+takes_with n old mid new few grows next = let same = left_same mid.map new.map grows.settled.settled grows.count next in omega (arith, few, same)
+
+-- a root with a pointer in one of its slots
+pub slot_set : (r new : Root) (k : ℕ) (p : Pointer) → IsSlotNumber k → length r.snapshots ≡ 20 → new.snapshots ≡ slice_set r.snapshots (k - 1) p → SetsSlot r new k p
+slot_set r new zero p number size is = absurd (omega (arith, number.first))
+slot_set r new (suc k) p number size is =
+    let at : suc k - 1 ≡ k = omega arith in
+    let set : new.snapshots ≡ slice_set r.snapshots k p = is ∙ ap (λ n. slice_set r.snapshots n p) at in
+    record {
+      there = ap (λ (xs : List Pointer). slice_index_or xs k Hole) set ∙ get_or-set_same r.snapshots k p Hole (omega (arith, number.last, size));
+      others = other_slots r new k p set;
+    }
+
+-- ---- the new root's slots and planes
+
+-- what images says of a snapshot's root block
+abbrev pub SnapshotsSpelled : Type 0
+SnapshotsSpelled = (v : Snapshot) → IsSnapshot v → (snapshot_in (snapshot_bytes v) ≡ Some v) × (frozen_inode_file (snapshot_bytes v) ≡ v.inode_file)
+
+slot_same : (r new : Root) (k : ℕ) → new.snapshots ≡ r.snapshots → slot new k ≡ slot r k
+slot_same r new zero same = refl
+slot_same r new (suc k) same = rw same refl
+
+system_same : (r new : Root) (b : ℕ) → new.snapshots ≡ r.snapshots → IsSystem r b → IsSystem new b
+system_same r new b same (roots low) = roots low
+system_same r new b same (head k is) = head k (slot_same r new k same ∙ is)
+
+-- the pointer in a slot stays on the disk
+pub slot_below : (r : Root) (k : ℕ) → IsRoot r → PointsBelow r.geometry.blocks (slot r k)
+slot_below r zero root = tt
+slot_below r (suc k) root = elim (cases_lt k (length r.snapshots)) [
+  | inl lt ↦ root.snapshots k Hole lt
+  | inr ge ↦ subst (PointsBelow r.geometry.blocks) (sym (get_or_past r.snapshots k Hole ge)) tt
+]
+
+head_is : (d : Blocks) (r : Root) (k : ℕ) → (whole d r).head k ≡ pointed d (slot r k)
+unfolding whole
+head_is d r k = refl
+
+-- two slots with one block are one slot
+one_slot : (d : Blocks) (r : Root) (k l b : ℕ) (s : Snapshot) → AreSnapshots r (whole d r) → HasSnapshot r (whole d r) k s → slot r k ≡ Block b → slot r l ≡ Block b → k ≡ l
+one_slot d r k l b s are has at_k at_l =
+    let heads : (whole d r).head l ≡ (whole d r).head k = head_is d r l ∙ ap (pointed d) (at_l ∙ sym at_k) ∙ sym (head_is d r k) in
+    are.orders k l s s has (record { block = b; there = at_l; read = ap snapshot_in heads ∙ has.read }) refl
+
+module _ (heads : SnapshotsSpelled) (r new : Root) (d e : Blocks) (after : ℕ → ℕ) (root : IsRoot r) (sound : IsSound r (whole d r)) where
+  abbrev before : ℕ → ℕ
+  before = entry (whole d r).active
+
+  pub slots_are : (step : SnapshotStep) → CanStep step r (whole d r) → StepsSlots step r new → HasHead step new e → StepsEntries step r new before before after → (k : ℕ) → 1 ≤ k → k ≢ 31
+      → Slot e r new before after k
+  slots_are unchanged can slots has stepped k low other =
+      let bit = λ (b : ℕ). stepped.keeps b k (omega (arith, low)) ∙ ap (λ x. bit_at x k) (stepped.sets b) in
+      stays (slot_same r new k slots) (λ b. (λ is. sym (bit b) ∙ is, λ is. bit b ∙ is))
+  slots_are (taken l s) can slots has stepped k low other = elim (cases_eq k l) [
+    | inl same ↦
+        let there : slot new k ≡ Block slots.0 = ap (slot new) same ∙ slots.1.there in
+        let bit = λ (b : ℕ). stepped.keeps b k (omega (arith, low)) ∙ ap (bit_at (stepped.between b)) same ∙ stepped.sets.0.plane_is b in
+        takes slots.0 there (stepped.sets.1 slots.0 slots.1.there)
+        (ap frozen_inode_file (ap (pointed e) (sym slots.1.there) ∙ has) ∙ (heads s can.is).1 ∙ can.tree)
+        (λ b. (λ is. sym (bit b) ∙ is, λ is. bit b ∙ is))
+    | inr differs ↦
+        let bit = λ (b : ℕ). stepped.keeps b k (omega (arith, low)) ∙ stepped.sets.0.others b k differs other in
+        stays (slots.1.others k differs) (λ b. (λ is. sym (bit b) ∙ is, λ is. bit b ∙ is))
+  ]
+  slots_are (deleted l name) can slots has stepped k low other = elim (cases_eq k l) [
+    | inl same ↦
+        let bit = λ (b : ℕ). stepped.keeps b k (omega (arith, low)) ∙ ap (bit_at (stepped.between b)) same ∙ stepped.sets.plane_is b in
+        drops (ap (slot new) same ∙ slots.there) (λ b is. absurd (omega (arith, bit b, is)))
+    | inr differs ↦
+        let bit = λ (b : ℕ). stepped.keeps b k (omega (arith, low)) ∙ stepped.sets.others b k differs other in
+        stays (slots.others k differs) (λ b. (λ is. sym (bit b) ∙ is, λ is. bit b ∙ is))
+  ]
+
+  system_was : (b : ℕ) → HasBit 31 (before b) ↔ IsSystem r b
+  system_was b = sound.exact.system b
+
+  pub system_is : (step : SnapshotStep) → CanStep step r (whole d r) → StepsSlots step r new → StepsEntries step r new before before after → (b : ℕ) → HasBit 31 (after b) ↔ IsSystem new b
+  system_is unchanged can slots stepped b =
+      let bit : bit_at (after b) 31 ≡ bit_at (before b) 31 = stepped.keeps b 31 (omega arith) ∙ ap (λ x. bit_at x 31) (stepped.sets b) in (
+        λ is. system_same r new b slots ((system_was b).0 (sym bit ∙ is)),
+        λ is. bit ∙ (system_was b).1 (system_same new r b (sym slots) is),
+      )
+  system_is (taken l s) can slots stepped b = elim (cases_eq b slots.0) [
+    | inl same ↦
+        let there : slot new l ≡ Block b = slots.1.there ∙ ap Block (sym same) in
+        (λ is. head l there, λ is. stepped.keeps b 31 (omega arith) ∙ stepped.sets.0.head b there)
+    | inr other ↦
+        let away : slot new l ≢ Block b = λ is. other (same_block b slots.0 (sym is ∙ slots.1.there)) in
+        let bit : bit_at (after b) 31 ≡ bit_at (before b) 31 = stepped.keeps b 31 (omega arith) ∙ stepped.sets.0.system b away in (
+          λ is. elim ((system_was b).0 (sym bit ∙ is)) [
+            | roots low ↦ roots low
+            | head m at ↦ head m (slots.1.others m (λ same. not_hole (slot r m) b (ap (slot r) same ∙ can.free) at) ∙ at)
+          ],
+          λ is. bit ∙ (system_was b).1 (elim is [
+            | roots low ↦ roots low
+            | head m at ↦ head m (sym (slots.1.others m (λ same. away (ap (slot new) (sym same) ∙ at))) ∙ at)
+          ]),
+        )
+  ]
+  system_is (deleted l name) can slots stepped b = elim (cases_eq b can.has.block) [
+    | inl same ↦
+        let there : slot r l ≡ Block b = can.has.there ∙ ap Block (sym same) in
+        let bit : bit_at (after b) 31 ≡ 0 = stepped.keeps b 31 (omega arith) ∙ stepped.sets.head b there in
+        let low_end : 2 ≤ b = (subst (PointsBelow r.geometry.blocks) there (slot_below r l root)).0 in (
+          λ is. absurd (omega (arith, bit, is)),
+          λ is. elim is [
+            | roots low ↦ absurd (omega (arith, low, low_end))
+            | head m at ↦
+                let other : m ≢ l = λ here. not_hole (slot new m) b (ap (slot new) here ∙ slots.there) at in
+                absurd (other (sym (one_slot d r l m b can.snapshot sound.snapshots can.has there (sym (slots.others m other) ∙ at))))
+          ],
+        )
+    | inr other ↦
+        let away : slot r l ≢ Block b = λ is. other (same_block b can.has.block (sym is ∙ can.has.there)) in
+        let bit : bit_at (after b) 31 ≡ bit_at (before b) 31 = stepped.keeps b 31 (omega arith) ∙ stepped.sets.system b away in (
+          λ is. elim ((system_was b).0 (sym bit ∙ is)) [
+            | roots low ↦ roots low
+            | head m at ↦ head m (slots.others m (λ same. away (ap (slot r) (sym same) ∙ at)) ∙ at)
+          ],
+          λ is. bit ∙ (system_was b).1 (elim is [
+            | roots low ↦ roots low
+            | head m at ↦ head m (sym (slots.others m (λ same. not_hole (slot new m) b (ap (slot new) same ∙ slots.there) at)) ∙ at)
+          ]),
+        )
+  ]
+
+-- ---- roots with the same slots
+
+pub slots_of : (step : SnapshotStep) (r a b : Root) → b.snapshots ≡ a.snapshots → StepsSlots step r a → StepsSlots step r b
+slots_of unchanged r a b same slots = same ∙ slots
+slots_of (taken k s) r a b same slots = (
+  slots.0,
+  record { there = slot_same a b k same ∙ slots.1.there; others = λ l other. slot_same a b l same ∙ slots.1.others l other },
+)
+slots_of (deleted k name) r a b same slots = record { there = slot_same a b k same ∙ slots.there; others = λ l other. slot_same a b l same ∙ slots.others l other }
+
+pub head_of : (step : SnapshotStep) (a b : Root) (e : Blocks) → b.snapshots ≡ a.snapshots → HasHead step a e → HasHead step b e
+head_of unchanged a b e same has = tt
+head_of (taken k s) a b e same has = ap (pointed e) (slot_same a b k same) ∙ has
+head_of (deleted k name) a b e same has = tt
+
+pub sets_of : (step : SnapshotStep) (r a b : Root) (settled before after : ℕ → ℕ) → b.snapshots ≡ a.snapshots → StepsSets step r a settled before after → StepsSets step r b settled before after
+sets_of unchanged r a b settled before after same sets = sets
+sets_of (taken k s) r a b settled before after same sets = (
+  subst (λ (p : Pointer). ChangesPlane k p 1 (λ x. bit_at (settled x) 0) before after) (sym (slot_same a b k same)) sets.0,
+  λ x there. sets.1 x (sym (slot_same a b k same) ∙ there),
+)
+sets_of (deleted k name) r a b settled before after same sets = sets
+
+-- over a map with no change
+pub entries_of : (step : SnapshotStep) (r new : Root) (m x : BlockMap) (after : ℕ → ℕ) → x ≡ m → IsClean m → StepsEntries step r new (settled_at x.parts.items) (entry_at x.parts.items) after
+    → StepsEntries step r new (settled_at m.parts.items) (settled_at m.parts.items) after
+entries_of step r new m x after same clean stepped =
+    subst (λ (f : ℕ → ℕ). StepsEntries step r new (settled_at m.parts.items) f after) (fun_ext clean)
+    (subst (λ (y : BlockMap). StepsEntries step r new (settled_at y.parts.items) (entry_at y.parts.items) after) same stepped)

@@ -1,0 +1,186 @@
+//! What a consistency point does with the snapshots.
+
+ghost use Rattle.std.specs.Prelude.{ℕ, ◌≡◌, ◌≤◌, ◌+◌, IfOk, IfErr, OnOk, IsErrOf, length};
+ghost use Rattle.std.specs.Int.{bit_at};
+ghost use Rattle.layout.specs.Pointer.{PointsBelow};
+ghost use Rattle.layout.specs.Root.{IsRoot};
+ghost use Rattle.layout.specs.SnapRoot.{snapshot_bytes};
+ghost use Rattle.layout.specs.declared.pointer.Pointer.{Pointer};
+ghost use Rattle.blockmap.specs.Maps.{entry_at, settled_at};
+ghost use Rattle.conspoint.specs.Drafts.{Grows, IsShortage, OnEach, WasTaken};
+ghost use Rattle.conspoint.specs.Space.{Lacks, TakesAtMost};
+ghost use Rattle.images.specs.Roots.{slot};
+ghost use Rattle.images.specs.SnapshotSteps.{HasHead, IsSlotNumber, SetsSlot, SnapshotStep, StepsSlots};
+ghost use Rattle.planning.specs.Changes.{ChangesPlane, FitsSlots, IsStepOf, StepsSets, head_nodes};
+ghost use Rattle.planning.specs.Progress.{KeepsActive};
+
+use buffers::Block;
+use conspoint::{Draft, PlanError};
+use layout::{BLOCK_BYTES, BlockNumber, Pointer, Root, SnapRoot};
+use std::alloc::Global;
+
+/// What a consistency point does with the snapshots of the root that it is planned over.
+#[derive(Clone, Copy, Debug)]
+pub enum SnapshotChange<'a> {
+    /// They stay.
+    Unchanged,
+    /// The tree of the root is taken as a snapshot into a slot from 1 to 20, with an order number and a name of at most 63 bytes.
+    Take {
+        slot: u32,
+        order: u64,
+        name: &'a [u8],
+    },
+    /// The snapshot in a slot from 1 to 20 is deleted.
+    Delete {
+        slot: u32,
+    },
+}
+
+/// Plans the root block of a snapshot of a root's tree.
+fn place_head(
+    alloc: Global,
+    draft: &mut Draft,
+    root: &Root,
+    order: u64,
+    name: &[u8],
+) -> Result<BlockNumber, PlanError>
+    requires { length name.now ≤ 63 }
+    ensures grows { Grows draft.old draft.new }
+    ensures parts { draft.new.map.parts.items ≡ draft.old.map.parts.items }
+    ensures taken { IfOk result (WasTaken draft.old draft.new) }
+    ensures stored { IfOk result (λ place. OnEach draft.new (λ e. e place
+        ≡ snapshot_bytes (record {
+          order = order;
+          name = name.now;
+          inode_file = root.now.inode_file;
+        }))) }
+    ensures takes { OnOk result (TakesAtMost 1 draft.old draft.new) }
+    ensures lacks { IsErrOf result PlanError.NoSpace → Lacks 1 draft.old }
+    ensures shortage { IfErr result IsShortage }
+{
+    let head = SnapRoot {
+        order,
+        name,
+        inode_file: root.inode_file,
+    };
+    let mut bytes = [0; BLOCK_BYTES];
+    let _ = head.write(&mut bytes);
+    let block = Block::copy_of(alloc, &bytes)?;
+    let place = draft.store(block)?;
+    Ok(place)
+}
+
+/// The root with this pointer in a slot.
+fn with_pointer(root: &Root, slot: u32, pointer: Pointer) -> Root
+    requires root { IsRoot root.now }
+    requires slot { IsSlotNumber slot }
+    requires below { PointsBelow root.now.geometry.blocks pointer }
+    ensures root { IsRoot result }
+    ensures geometry { result.geometry ≡ root.now.geometry }
+    ensures sets { SetsSlot root.now result slot pointer }
+{
+    let mut next = *root;
+    next.snapshots[(slot - 1) as usize] = pointer;
+    next
+}
+
+/// Takes a snapshot: its root block is planned, its plane of the map is the settled active tree, and its root block is the system's.
+/// The answer is the pointer to that.
+fn take(
+    alloc: Global,
+    draft: &mut Draft,
+    root: &Root,
+    slot: u32,
+    order: u64,
+    name: &[u8],
+) -> Result<Pointer, PlanError>
+    requires slot { IsSlotNumber slot }
+    requires short { length name.now ≤ 63 }
+    ensures grows { Grows draft.old draft.new }
+    ensures active { OnOk result (KeepsActive (entry_at draft.old.map.parts.items)
+        (entry_at draft.new.map.parts.items)) }
+    ensures head { IfOk result (λ p. (b : ℕ) → p ≡ Pointer.Block b → OnEach draft.new (λ e. e b
+        ≡ snapshot_bytes (record {
+          order = order;
+          name = name.now;
+          inode_file = root.now.inode_file;
+        }))) }
+    ensures block { IfOk result (λ p. (b : ℕ) × (p ≡ Pointer.Block b)) }
+    ensures points { IfOk result (PointsBelow draft.old.map.count) }
+    ensures free { IfOk result (λ p. (b : ℕ) → p ≡ Pointer.Block b
+        → settled_at draft.old.map.parts.items b ≡ 0) }
+    ensures sets { IfOk result (λ p. ChangesPlane slot p 1
+        (λ b. bit_at (settled_at draft.old.map.parts.items b) 0)
+        (entry_at draft.old.map.parts.items) (entry_at draft.new.map.parts.items)) }
+    ensures takes { OnOk result (TakesAtMost 1 draft.old draft.new) }
+    ensures lacks { IsErrOf result PlanError.NoSpace → Lacks 1 draft.old }
+    ensures shortage { IfErr result IsShortage }
+{
+    let place = place_head(alloc, draft, root, order, name)?;
+    draft.take_plane(slot)?;
+    draft.mark_system(place, true)?;
+    Ok(Pointer::Block(place))
+}
+
+/// Deletes the snapshot at a pointer: its plane of the map is empty, and its root block is the system's no more.
+fn delete(draft: &mut Draft, slot: u32, pointer: Pointer) -> Result<(), PlanError>
+    requires slot { IsSlotNumber slot }
+    requires below { PointsBelow draft.old.map.count pointer }
+    ensures grows { Grows draft.old draft.new }
+    ensures active { OnOk result (KeepsActive (entry_at draft.old.map.parts.items)
+        (entry_at draft.new.map.parts.items)) }
+    ensures sets { OnOk result (ChangesPlane slot pointer 0 (λ b. 0)
+        (entry_at draft.old.map.parts.items) (entry_at draft.new.map.parts.items)) }
+    ensures takes { OnOk result (TakesAtMost 0 draft.old draft.new) }
+    ensures why { IsErrOf result PlanError.NoSpace → ⊥ }
+    ensures shortage { IfErr result IsShortage }
+{
+    draft.clear_plane(slot)?;
+    match pointer {
+        Pointer::Block(place) => {
+            draft.mark_system(place, false)?;
+            Ok(())
+        }
+        Pointer::Hole => Ok(()),
+    }
+}
+
+/// Does with the snapshots what is asked for, before anything else is planned: so the root block of a new one is written first. The
+/// answer is the root with the slots that the new root has.
+pub(crate) fn change_snapshots(
+    alloc: Global,
+    draft: &mut Draft,
+    root: &Root,
+    change: &SnapshotChange<'_>,
+) -> Result<Root, PlanError>
+    requires root { IsRoot root.now }
+    requires fits { FitsSlots change.now }
+    requires size { draft.old.map.count ≡ root.now.geometry.blocks }
+    ensures grows { Grows draft.old draft.new }
+    ensures active { OnOk result (KeepsActive (entry_at draft.old.map.parts.items)
+        (entry_at draft.new.map.parts.items)) }
+    ensures root { IfOk result IsRoot }
+    ensures geometry { IfOk result (λ r. r.geometry ≡ root.now.geometry) }
+    ensures slots { IfOk result (λ r. (step : SnapshotStep) → IsStepOf change.now root.now step
+        → StepsSlots step root.now r) }
+    ensures head { IfOk result (λ r. (step : SnapshotStep) → IsStepOf change.now root.now step
+        → OnEach draft.new (HasHead step r)) }
+    ensures sets { IfOk result (λ r. (step : SnapshotStep) → IsStepOf change.now root.now step
+        → StepsSets step root.now r (settled_at draft.old.map.parts.items)
+        (entry_at draft.old.map.parts.items) (entry_at draft.new.map.parts.items)) }
+    ensures takes { OnOk result (TakesAtMost (head_nodes change.now) draft.old draft.new) }
+    ensures lacks { IsErrOf result PlanError.NoSpace → Lacks (head_nodes change.now) draft.old }
+    ensures shortage { IfErr result IsShortage }
+{
+    match *change {
+        SnapshotChange::Unchanged => Ok(*root),
+        SnapshotChange::Take { slot, order, name } => {
+            let pointer = take(alloc, draft, root, slot, order, name)?;
+            Ok(with_pointer(root, slot, pointer))
+        }
+        SnapshotChange::Delete { slot } => {
+            delete(draft, slot, root.snapshots[(slot - 1) as usize])?;
+            Ok(with_pointer(root, slot, Pointer::Hole))
+        }
+    }
+}
