@@ -19,6 +19,7 @@ use Rattle.images.specs.BlockMap.{entry}
 use Rattle.images.specs.Cuts as points
 use Rattle.images.specs.Cuts.{Write, AreFree}
 use Rattle.images.specs.Roots.{whole}
+use Rattle.images.specs.SnapshotSteps.{SnapshotStep}
 use Rattle.images.specs.States.{Opens, OpensBy}
 use Rattle.oplog.specs.LogEnd.{LogEnd, Bodies, all_of, StandsAt}
 use Rattle.conspoint.specs.Cuts.{StaysOutside, HasNewRoot}
@@ -28,7 +29,7 @@ use Rattle.system.specs.Images.{OpensTo}
 use Rattle.system.specs.Laws.{CutLaws}
 use Rattle.system.specs.Memory.{HasEntries}
 use Rattle.planning.specs.Plans.{IsPlannable}
-use Rattle.system.specs.Points.{IsPlannedOver}
+use Rattle.system.specs.Points.{IsPlannedOver, stepped}
 use Rattle.system.specs.Slots.{IsNewestAt, other_slot}
 use Rattle.system.specs.Systems.{IsServing}
 use Rattle.system.proofs.SystemLaws.{all_open, one_opens, opens_by, reads_open}
@@ -80,7 +81,10 @@ plannable m kept root slot inodes map log pledged files table s serves here othe
 
 module _ (laws : CutLaws) (m : Meaning) (kept : BTreeMap ℕ Block) (root : Root) (slot : ℕ) (inodes : InodeFile) (map : BlockMap) (log : LogEnd) (pledged : ℕ) (files : Descriptors) (table : ℕ → Option Description) (s : State)
     (serves : IsServing m kept root slot inodes map log pledged files table s) (size : m.sectors ≡ 8 * root.geometry.blocks) (half : log.half ≡ root.geometry.half)
-    (p : Planned) (new : Root) (planned : IsPlannedOver m.seen.disk root slot log.epoch p new serves.running) where
+    (p : Planned) (new : Root) (step : SnapshotStep) (planned : IsPlannedOver step m.seen.disk root slot log.epoch p new serves.running) where
+  abbrev after : State
+  after = stepped step serves.first serves.snapshots s
+
   pub unfinished : (c : Images) → After (StaysOutside p.blocks) m c → OpensTo m s c
   unfinished c (d, here, stays) =
       let left = serves.left serves.honest d here in
@@ -100,13 +104,13 @@ module _ (laws : CutLaws) (m : Meaning) (kept : BTreeMap ℕ Block) (root : Root
     abbrev pub reads : Opens m.sectors m.seen.disk m.seen.nvram s
     reads = reads_open laws m kept root slot inodes map log pledged files table s serves size half m.seen.nvram (serves.left serves.honest m.seen here).log_stands.holds
 
-    pub finished : (c : Images) → HasNewRoot p m.seen c → OpensTo m s c
+    pub finished : (c : Images) → HasNewRoot p m.seen c → OpensTo m after c
     finished c has =
         let stands = (serves.left serves.honest m.seen here).log_stands in
         let small : root.generation + 4 < 2 ^ 64 = omega (arith, serves.under.newest.there.root.head.last) in
         let holds = covered laws log root.generation serves.bodies m.seen.nvram small stands in
-        opens_by m s c [] (subst (λ (nvram : List ℕ). OpensBy m.sectors c.disk nvram s []) (sym has.nvram)
-        (laws.opens m.sectors m.seen.disk c.disk m.seen.nvram s (writes_of p.blocks) p.slot new serves.running [] serves.running reads planned.point (with_root c has)
+        opens_by m after c [] (subst (λ (nvram : List ℕ). OpensBy m.sectors c.disk nvram after []) (sym has.nvram)
+        (laws.opens m.sectors m.seen.disk c.disk m.seen.nvram s (writes_of p.blocks) p.slot new serves.running step [] serves.running reads planned.point (with_root c has)
         (record {
           are = λ i d lt. absurd (omega (arith, lt));
           log = subst (λ (h : ℕ). LogHolds h new.generation m.seen.nvram []) (half ∙ ap (λ s. s.half) (sym planned.point.geometry))
@@ -116,13 +120,15 @@ module _ (laws : CutLaws) (m : Meaning) (kept : BTreeMap ℕ Block) (root : Root
         (λ i d lt. absurd (omega (arith, lt)))
 
     -- while it is planned and written
-    pub at_any_moment : (mid now : Meaning) → Goes Unchanged m mid → LeavesOnly mid now (λ c. After (StaysOutside p.blocks) mid c ⊎ HasNewRoot p mid.seen c) → LeavesOnly m now (OpensTo m s)
+    pub at_any_moment : (mid now : Meaning) → Goes Unchanged m mid → LeavesOnly mid now (λ c. After (StaysOutside p.blocks) mid c ⊎ HasNewRoot p mid.seen c)
+        → LeavesOnly m now (λ c. OpensTo m s c ⊎ OpensTo m after c)
     at_any_moment mid now goes writes =
         let went = goes serves.honest in
-        joined m mid now (OpensTo m s) (leaves_unchanged m mid (OpensTo m s) (all_open laws m kept root slot inodes map log pledged files table s serves size half) goes)
-        (weaker mid now (λ c. After (StaysOutside p.blocks) mid c ⊎ HasNewRoot p mid.seen c) (OpensTo m s) writes (λ c. λ one. elim one [
-          | inl after ↦
-              let before = went.now after.0 after.1 in
-              unfinished c (before.0, before.1, subst (λ (x : Images). StaysOutside p.blocks x c) before.2 after.2)
-          | inr has ↦ finished c (subst (λ (x : Images). HasNewRoot p x c) went.seen has)
+        joined m mid now (λ c. OpensTo m s c ⊎ OpensTo m after c)
+        (leaves_unchanged m mid (λ c. OpensTo m s c ⊎ OpensTo m after c) (λ honest c left. inl (all_open laws m kept root slot inodes map log pledged files table s serves size half honest c left)) goes)
+        (weaker mid now (λ c. After (StaysOutside p.blocks) mid c ⊎ HasNewRoot p mid.seen c) (λ c. OpensTo m s c ⊎ OpensTo m after c) writes (λ c. λ one. elim one [
+          | inl later_on ↦
+              let before = went.now later_on.0 later_on.1 in
+              inl (unfinished c (before.0, before.1, subst (λ (x : Images). StaysOutside p.blocks x c) before.2 later_on.2))
+          | inr has ↦ inr (finished c (subst (λ (x : Images). HasNewRoot p x c) went.seen has))
         ]))

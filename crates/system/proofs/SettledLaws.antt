@@ -13,8 +13,9 @@ use Rattle.layout.specs.declared.TheConstants.{SLOT_A, SLOT_B}
 use Rattle.layout.specs.declared.inode.Inode.{Inode}
 use Rattle.layout.specs.declared.root.Root.{Root}
 use Rattle.model.specs.Records.{count_nameless}
-use Rattle.model.specs.States.{State}
-use Rattle.model.specs.Trees.{Description}
+use Rattle.model.specs.Paths.{Name}
+use Rattle.model.specs.States.{State, with_snapshots}
+use Rattle.model.specs.Trees.{Description, Tree}
 use Rattle.model.specs.Volumes.{Volume}
 use Rattle.buffers.specs.Disks.{ShowsDisk, IsBlock, disk_with_sector, sector_put}
 use Rattle.buffers.specs.declared.block.Block.{Block}
@@ -30,6 +31,7 @@ use Rattle.images.specs.Contents.{HoldsVolume}
 use Rattle.images.specs.Cuts as points
 use Rattle.images.specs.Nodes.{Agrees}
 use Rattle.images.specs.Roots.{whole, Needs}
+use Rattle.images.specs.SnapshotSteps.{SnapshotStep, kept_after}
 use Rattle.images.specs.States.{Holds}
 use Rattle.loading.specs.Images.{IsFileOf, inodes_of}
 use Rattle.oplog.specs.LogEnd.{LogEnd, no_bodies, StandsAt}
@@ -40,7 +42,7 @@ use Rattle.conspoint.specs.Writes.{AreWhole, write_of, writes_of}
 use Rattle.system.specs.Images.{IsLeft, IsReplayed}
 use Rattle.system.specs.Laws.{RootLaws}
 use Rattle.system.specs.Memory.{IsInMemory}
-use Rattle.system.specs.Points.{IsPlannedOver}
+use Rattle.system.specs.Points.{IsPlannedOver, stepped}
 use Rattle.system.specs.Systems.{IsServing, state_with}
 use Rattle.system.proofs.RoomLaws.{nameless_pledged}
 
@@ -81,7 +83,7 @@ none_replayed inodes running = record {
 
 module _ (laws : RootLaws) (m : Meaning) (kept : BTreeMap ℕ Block) (root : Root) (slot : ℕ) (inodes : InodeFile) (map : BlockMap) (log : LogEnd) (pledged : ℕ) (files : Descriptors) (table : ℕ → Option Description) (s : State)
     (serves : IsServing m kept root slot inodes map log pledged files table s) (size : m.sectors ≡ 8 * root.geometry.blocks)
-    (p : Planned) (new : Root) (planned : IsPlannedOver m.seen.disk root slot log.epoch p new serves.running)
+    (p : Planned) (new : Root) (step : SnapshotStep) (planned : IsPlannedOver step m.seen.disk root slot log.epoch p new serves.running)
     (now : Meaning) (sizes : AreWhole m.sectors now.seen.disk) (has : HasNewRoot p m.seen now.seen)
     (images : points.HasNewRoot (writes_of p.blocks) p.slot (root_bytes new) m.seen.disk now.seen.disk) where
   -- ---- the blocks of the new disk
@@ -138,7 +140,10 @@ module _ (laws : RootLaws) (m : Meaning) (kept : BTreeMap ℕ Block) (root : Roo
 
   -- ---- what memory has under the new root
 
-  module _ (holds : Holds new (whole (blocks_of now.seen.disk) new) serves.running serves.snapshots) where
+  abbrev kept_then : List (Name × Tree)
+  kept_then = kept_after step serves.first serves.snapshots
+
+  module _ (holds : Holds new (whole (blocks_of now.seen.disk) new) serves.running kept_then) where
     pub memory : (file : File) (now_inodes : InodeFile) (now_map : BlockMap) → inodes.geometry ≡ root.geometry → IsFileOf new.inode_file file
         → ((count : ℕ) (disk : ℕ → List ℕ) (settled : ℕ → Inode) (v : Volume) → AreSettled count disk inodes.geometry file settled → MapsVolume inodes.numbers.bytes.items v
         → HoldsVolume inodes.geometry.inodes (λ n. held_content disk (settled n)) v → IsVolumeOf count disk settled now_inodes v)
@@ -148,7 +153,7 @@ module _ (laws : RootLaws) (m : Meaning) (kept : BTreeMap ℕ Block) (root : Roo
         let d = blocks_of now.seen.disk in
         let settled : ℕ → Inode = inodes_of (whole d new).active in
         let geometry : new.geometry ≡ inodes.geometry = planned.point.geometry ∙ sym same in
-        let ready = laws.readable d new serves.running serves.snapshots holds in
+        let ready = laws.readable d new serves.running kept_then holds in
         record {
           stands = volume new.geometry.blocks d settled serves.running
               (subst (λ (g : Sizes). AreSettled new.geometry.blocks d g file settled) geometry (laws.settled d new file planned.point.root ready is_file))
@@ -166,12 +171,12 @@ module _ (laws : RootLaws) (m : Meaning) (kept : BTreeMap ℕ Block) (root : Roo
         → StandsAt now_log log.epoch no_bodies m.seen.nvram → IsFalse now_log.is_stopped
         → IsInMemory (blocks_of now.seen.disk) new now_inodes now_map serves.running
         → (nameless : ℕ) → nameless ≡ count_nameless new.geometry.inodes serves.running
-        → IsServing now now_kept new p.slot now_inodes now_map now_log (4 * nameless) files table s
+        → IsServing now now_kept new p.slot now_inodes now_map now_log (4 * nameless) files table (stepped step serves.first serves.snapshots s)
     settled now_kept now_inodes now_map now_log honest just shown newest stands goes here nameless counted = record {
       honest = honest;
       shows = shown;
       first = serves.running;
-      snapshots = serves.snapshots;
+      snapshots = kept_then;
       under = record {
         newest = record { is_slot = slot_is root m.seen.disk p.slot planned.point.slot; there = record { root = planned.point.root; spelled = images.root_is }; newest = newest };
         holds = holds;
@@ -189,5 +194,5 @@ module _ (laws : RootLaws) (m : Meaning) (kept : BTreeMap ℕ Block) (root : Roo
       pledges = nameless_pledged new.geometry.inodes nameless serves.running counted;
       opened = serves.opened;
       fits = serves.fits;
-      state = serves.state ∙ ap (λ (g : Sizes). state_with g.inodes serves.running table serves.snapshots) (sym planned.point.geometry);
+      state = ap (with_snapshots kept_then) serves.state ∙ ap (λ (g : Sizes). state_with g.inodes serves.running table kept_then) (sym planned.point.geometry);
     }

@@ -11,7 +11,7 @@ use Rattle.layout.specs.declared.root.Root.{Root}
 use Rattle.model.specs.Laws.{MountsForget, RecordsKeepVolumes, ReplayEndsSame, ReplayFollows, SweepsKeepVolumes}
 use Rattle.model.specs.Paths.{Name}
 use Rattle.model.specs.Records.{Replays, without_nameless}
-use Rattle.model.specs.States.{State}
+use Rattle.model.specs.States.{State, with_snapshots}
 use Rattle.model.specs.Trees.{Tree}
 use Rattle.model.specs.Volumes.{Volume}
 use Rattle.buffers.specs.Disks.{IsBlock}
@@ -20,8 +20,9 @@ use Rattle.inofile.specs.Settled.{AreSettled, held_content}
 use Rattle.images.specs.BlockMap.{IsExact, entry}
 use Rattle.images.specs.Contents.{HoldsVolume, contents}
 use Rattle.images.specs.Cuts as points
-use Rattle.images.specs.Cuts.{IsOfDisk, IsPoint, Write}
+use Rattle.images.specs.Cuts.{IsOfDisk, IsPointWith, Write}
 use Rattle.images.specs.Roots.{whole, Needs}
+use Rattle.images.specs.SnapshotSteps.{SnapshotStep, kept_after}
 use Rattle.images.specs.States.{Holds, IsSound, LogHoldsChanges, Opens, OpensBy, SameButFree}
 use Rattle.conspoint.specs.Cuts.{HasNewRoot, StaysOutside, disk_with_blocks}
 use Rattle.conspoint.specs.Plans.{FitsDisk, Planned}
@@ -41,11 +42,12 @@ pub record CutLaws : Type 0 where
       → AreWhole sectors old.disk → HasNewRoot p old new
       → points.HasNewRoot (writes_of p.blocks) p.slot p.root old.disk new.disk
   pub opens : (sectors : ℕ) (d e : ℕ → List ℕ) (nvram : List ℕ) (s : State) (writes : List Write)
-      (sector : ℕ) (new : Root) (v : Volume) (rest : List Change) (last : Volume)
-      → (o : Opens sectors d nvram s) → IsPoint o.root d writes sector new v
+      (sector : ℕ) (new : Root) (v : Volume) (step : SnapshotStep) (rest : List Change)
+      (last : Volume) → (o : Opens sectors d nvram s)
+      → IsPointWith step o.root d writes sector new v
       → points.HasNewRoot writes sector (root_bytes new) d e → LogHoldsChanges new nvram rest
       → Replays o.root.geometry.inodes v rest last → without_nameless last ≡ without_nameless o.last
-      → OpensBy sectors e nvram s rest
+      → OpensBy sectors e nvram (with_snapshots (kept_after step o.first o.snapshots) s) rest
   pub one : (half g : ℕ) (nvram : List ℕ) (bodies : List (List ℕ)) → g + 3 < 2 ^ 64
       → (log : LogHolds half g nvram bodies) → LogHolds half (g + 1) nvram log.second
   pub both : (half g : ℕ) (nvram : List ℕ) (bodies : List (List ℕ)) → g + 4 < 2 ^ 64
@@ -54,14 +56,14 @@ pub record CutLaws : Type 0 where
 -- on what a system then has
 pub record RootLaws : Type 0 where
   pub newest : (sectors : ℕ) (d e : ℕ → List ℕ) (nvram : List ℕ) (s : State)
-      (writes : List Write) (sector : ℕ) (new : Root) (v : Volume)
-      → (o : Opens sectors d nvram s) → IsPoint o.root d writes sector new v
+      (writes : List Write) (sector : ℕ) (new : Root) (v : Volume) (step : SnapshotStep)
+      → (o : Opens sectors d nvram s) → IsPointWith step o.root d writes sector new v
       → points.HasNewRoot writes sector (root_bytes new) d e → IsNewest new (e SLOT_A) (e SLOT_B)
   pub holds : (sectors : ℕ) (d e : ℕ → List ℕ) (nvram : List ℕ) (s : State)
-      (writes : List Write) (sector : ℕ) (new : Root) (v : Volume)
-      → (o : Opens sectors d nvram s) → IsPoint o.root d writes sector new v
+      (writes : List Write) (sector : ℕ) (new : Root) (v : Volume) (step : SnapshotStep)
+      → (o : Opens sectors d nvram s) → IsPointWith step o.root d writes sector new v
       → points.HasNewRoot writes sector (root_bytes new) d e
-      → Holds new (whole (blocks_of e) new) v o.snapshots
+      → Holds new (whole (blocks_of e) new) v (kept_after step o.first o.snapshots)
   pub of_disk : (d : Blocks) (r : Root) (b : ℕ) → IsRoot r → IsSound r (whole d r)
       → Needs r (whole d r) b → IsOfDisk r.geometry.blocks b
   pub unneeded : (d : Blocks) (r : Root) (b : ℕ) → IsRoot r → IsExact r (whole d r)

@@ -1,15 +1,17 @@
 //! A consistency point of a mounted system.
 
-ghost use Rattle.std.specs.Prelude.{◌≡◌, ◌+◌, ◌≤◌, ◌^◌, ℕ, Option, OnOk, IfErr, IsErrOf, MatchResult};
+ghost use Rattle.std.specs.Prelude.{◌≡◌, ◌⊎◌, ◌+◌, ◌≤◌, ◌^◌, ℕ, Option, OnOk, IfErr, IsErrOf, MatchResult};
 ghost use Rattle.station.specs.Calls.{Uses};
 ghost use Rattle.station.specs.Moments.{HasGrown, LeavesOnly};
 ghost use Rattle.model.specs.States.{State};
 ghost use Rattle.model.specs.Trees.{Description};
+ghost use Rattle.images.specs.SnapshotSteps.{SnapshotStep};
 ghost use Rattle.inofile.specs.Inodes.{IsChanged};
 ghost use Rattle.oplog.specs.declared.log.End.TheVariants.{Unopened};
+ghost use Rattle.planning.specs.Changes.{FitsSlots};
 ghost use Rattle.system.specs.Errors.{IsRefused};
 ghost use Rattle.system.specs.Images.{OpensTo};
-ghost use Rattle.system.specs.Points.{IsFilled};
+ghost use Rattle.system.specs.Points.{IsFilled, IsFilledFor, IsStepFor, stepped};
 ghost use Rattle.system.specs.Slots as slots;
 ghost use Rattle.system.specs.Systems.{Serves, IsCovered, meaning_of};
 
@@ -70,6 +72,52 @@ impl<S: Station> System<S> {
         ensures last { (table : ℕ → Option Description) (s : State) → Serves self.old table s
             → IsErrOf result PointError.NoGeneration → 2 ^ 62 ≤ self.old.log.epoch }
     {
+        self.point_with(&SnapshotChange::Unchanged)
+    }
+
+    /// Makes a consistency point that does with the snapshots what is asked for, too. A cut at any moment leaves what the system
+    /// served, or that with the snapshot taken or deleted; else as `point`. A snapshot that is taken has the tree that the root holds.
+    pub(crate) fn point_with(&mut self, change: &SnapshotChange<'_>) -> Result<(), PointError>
+        requires { FitsSlots change.now }
+        ensures uses { Uses (meaning_of self.old) (meaning_of self.new) }
+        ensures any_moment { (table : ℕ → Option Description) (s : State)
+            → (serves : Serves self.old table s) → (step : SnapshotStep)
+            → IsStepFor change.now self.old step
+            → LeavesOnly (meaning_of self.old) (meaning_of self.new)
+            (λ c. OpensTo (meaning_of self.old) s c
+            ⊎ OpensTo (meaning_of self.old) (stepped step serves.first serves.snapshots s) c) }
+        ensures covered { (table : ℕ → Option Description) (s : State)
+            → (serves : Serves self.old table s) → (step : SnapshotStep)
+            → IsStepFor change.now self.old step → OnOk result (IsCovered self.new table
+            (stepped step serves.first serves.snapshots s)) }
+        ensures refused { (table : ℕ → Option Description) (s : State) → Serves self.old table s
+            → IfErr result (λ e. IsRefused e → Serves self.new table s) }
+        ensures generation { OnOk result (self.new.root.generation ≡ self.old.log.epoch) }
+        ensures log { MatchResult result
+            (λ _. self.new.log
+            ≡ record self.old.log { epoch = self.old.log.epoch + 1; end = Unopened })
+            (λ _. self.new.log ≡ self.old.log) }
+        ensures written { MatchResult result
+            (λ _. (meaning_of self.new).failed_writes ≡ (meaning_of self.old).failed_writes)
+            (λ e. IsRefused e
+            → (meaning_of self.new).failed_writes ≡ (meaning_of self.old).failed_writes) }
+        ensures reads { OnOk result ((meaning_of self.new).failed_reads
+            ≡ (meaning_of self.old).failed_reads) }
+        ensures unchanged { OnOk result ((n : ℕ) → IsChanged self.new.inodes n → ⊥) }
+        ensures device { IsErrOf result PointError.NotWritten
+            → HasGrown (meaning_of self.old).failed_writes (meaning_of self.new).failed_writes }
+        ensures read { IsErrOf result (PointError.NotPlanned PlanError.Device)
+            → HasGrown (meaning_of self.old).failed_reads (meaning_of self.new).failed_reads }
+        ensures damaged { (table : ℕ → Option Description) (s : State) → Serves self.old table s
+            → IsErrOf result (PointError.NotPlanned PlanError.Damaged) → ⊥ }
+        ensures was_full { IsErrOf result (PointError.NotPlanned PlanError.NoSpace)
+            → IsFilledFor change.now self.old }
+        // And so it is still: nothing changed.
+        ensures full { IsErrOf result (PointError.NotPlanned PlanError.NoSpace)
+            → IsFilledFor change.now self.new }
+        ensures last { (table : ℕ → Option Description) (s : State) → Serves self.old table s
+            → IsErrOf result PointError.NoGeneration → 2 ^ 62 ≤ self.old.log.epoch }
+    {
         cuts_open();
         new_roots_hold();
         let Some(generation) = Generation::new(self.log.epoch().get()) else {
@@ -85,7 +133,7 @@ impl<S: Station> System<S> {
             slot,
             &self.inodes,
             map,
-            &SnapshotChange::Unchanged,
+            change,
         );
         self.map = map;
         let point = match planned {

@@ -1,10 +1,9 @@
-use Rattle.images.specs.SnapshotSteps.SnapshotStep.{unchanged}
 use Rattle.system.proofs.laws.new_roots_hold.Goals as goal
 
 pub returns : goal.returns
 returns c = record {
-  newest = λ sectors d e nvram s writes sector new v. c.finished_points_hold.ensures.newest sectors d e nvram s writes sector new v unchanged;
-  holds = λ sectors d e nvram s writes sector new v. c.finished_points_hold.ensures.holds sectors d e nvram s writes sector new v unchanged;
+  newest = c.finished_points_hold.ensures.newest;
+  holds = c.finished_points_hold.ensures.holds;
   of_disk = c.needed_blocks_are_of_the_disk.ensures;
   unneeded = c.free_blocks_are_unneeded.ensures;
   readable = c.volumes_are_readable.ensures;
