@@ -1,2 +1,5 @@
 mod SlotLaws
 mod NamedLaws
+mod ListLaws
+mod CountLaws
+mod TakeLaws

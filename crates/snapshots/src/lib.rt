@@ -1,6 +1,11 @@
-//! The snapshots under a root, as they are read: finding one by its name. Nothing here changes a block.
+//! The snapshots under a root, as they are read: finding one by its name, the names of all, and what `snap take` tests. Nothing here
+//! changes a block.
 #![tactic(auto)]
 
 mod finding;
+mod listing;
+mod taking;
 
 pub use finding::{Found, find};
+pub use listing::names;
+pub use taking::{Taking, prepare_take};

@@ -1,0 +1,24 @@
+use Rattle.std.proofs.Common.{◌≡◌, ap, refl, sym, subst, Some, arith}
+use Rattle.layout.specs.SnapRoot.{Snapshot, snapshot_in, snapshot_of}
+use Rattle.snapshots.specs.Found.{SpellsSnapshot}
+use Rattle.snapshots.proofs.SlotLaws.{one_spelled, is_spelled}
+use Rattle.snapshots.proofs.listing.above_at.Goals as goal
+
+pub returns-then-order-above-clause-is : goal.returns-then-order-above-clause-is
+returns-then-order-above-clause-is g c disk shows =
+    let v = snapshot_of c.in-Some.snapshot in
+    let is : snapshot_in (disk c.in-Block.place) ≡ Some v = is_spelled (disk c.in-Block.place) c.bytes.result.now v (c.bytes.ensures disk (c.in_ok-make_resident.ensures.same disk shows)) c.in-Some.ensures.found.1 (c.snapshots_are_what_their_bytes_spell.ensures v c.in-Some.ensures.found.0).0 in
+    record {
+      there = c.in-Block.is;
+      snapshot = v;
+      spells = subst (λ p. SpellsSnapshot disk p v) (sym c.in-Block.is) is;
+      order = refl;
+      above_it = omega arith;
+    }
+
+pub returns-else-order-above-clause-none : goal.returns-else-order-above-clause-none
+returns-else-order-above-clause-none g c disk shows s spells =
+    let v = snapshot_of c.in-Some.snapshot in
+    let is : snapshot_in (disk c.in-Block.place) ≡ Some v = is_spelled (disk c.in-Block.place) c.bytes.result.now v (c.bytes.ensures disk (c.in_ok-make_resident.ensures.same disk shows)) c.in-Some.ensures.found.1 (c.snapshots_are_what_their_bytes_spell.ensures v c.in-Some.ensures.found.0).0 in
+    let one = ap (λ (x : Snapshot). x.order) (one_spelled (disk c.in-Block.place) v s is (subst (λ p. SpellsSnapshot disk p s) c.in-Block.is spells)) in
+    omega (arith, one)

@@ -1,0 +1,36 @@
+-- What a new snapshot may be, and the refusals of `snap take`.
+use Rattle.std.specs.Prelude.{ℕ, ◌≡◌, ◌≢◌, ◌⊎◌, ◌+◌, ◌<◌, ◌≤◌, length, Some, slice_index_or}
+use Rattle.layout.specs.Places.{Blocks}
+use Rattle.layout.specs.SnapRoot.{Snapshot}
+use Rattle.layout.specs.declared.pointer.Pointer.TheVariants.{Hole}
+use Rattle.layout.specs.declared.root.Root.{Root}
+use Rattle.model.specs.Paths.{Name, first_refusal}
+use Rattle.model.specs.States.{State}
+use Rattle.model.specs.Steps.{take_tests}
+use Rattle.model.specs.declared.errno.Errno.{Errno}
+use Rattle.images.specs.Roots.{slot, whole}
+use Rattle.images.specs.Snapshots.{HasSnapshot}
+use Rattle.images.specs.SnapshotSteps.{IsSlotNumber}
+use Rattle.snapshots.specs.Found.{SpellsSnapshot}
+use Rattle.snapshots.specs.declared.taking.Taking.{Taking}
+
+-- of the tests of `snap take` this is the first refusal
+abbrev pub RefusesTake : State → Name → Errno → Type 0
+RefusesTake s name errno = first_refusal (take_tests s name) ≡ Some errno
+
+-- Of a root's first n slots, this is the greatest order number of a snapshot, or 0 where there is none.
+pub record IsNewest (disk : Blocks) (r : Root) (n last : ℕ) : Type 0 where
+  pub most : (j : ℕ) (s : Snapshot) → j < n → SpellsSnapshot disk (slice_index_or r.snapshots j Hole) s → s.order ≤ last
+  pub found : (last ≡ 0)
+      ⊎ ((j : ℕ) × (s : Snapshot) × (j < n) × SpellsSnapshot disk (slice_index_or r.snapshots j Hole) s × (s.order ≡ last))
+
+-- A snapshot of this name may be taken there: the slot is free, and the order number is the next one.
+pub record MayTake (disk : Blocks) (r : Root) (name : Name) (t : Taking) : Type 0 where
+  pub slot_is : IsSlotNumber t.slot
+  pub free : slot r t.slot ≡ Hole
+  pub some : 1 ≤ length name
+  pub short : length name ≤ 63
+  pub names : (k : ℕ) (s : Snapshot) → HasSnapshot r (whole disk r) k s → s.name ≢ name
+  pub orders : (k : ℕ) (s : Snapshot) → HasSnapshot r (whole disk r) k s → s.order < t.order
+  pub first : 1 ≤ t.order
+  pub order : t.order ≤ r.generation + 1
