@@ -30,7 +30,7 @@ use Rattle.images.specs.Contents.{HoldsVolume, bytes_of, content_of, contents}
 use Rattle.images.specs.Nodes.{held}
 use Rattle.images.specs.Roots.{inode_part, tree, whole}
 use Rattle.images.specs.Soundness.{IsSoundTree}
-use Rattle.loading.specs.Images.{IsLoaded, IsReadable, inodes_of}
+use Rattle.loading.specs.Images.{AreInodesOf, IsLoaded, IsReadable, inodes_of}
 use Rattle.loading.specs.InodeBlocks.{AreInodeBlocks}
 use Rattle.loading.specs.Laws.{TreesReadAsHeld}
 use Rattle.loading.specs.Readings.{AreParts, AreUnchanged, IsBodyPath, IsMapFile, inode_bytes_of}
@@ -129,6 +129,29 @@ module _ (l : TreesReadAsHeld) (disk : Blocks) (r : Root) (are : AreSizes r.geom
     no_block_map count is damaged =
         damaged (reached count 0 is) (tree disk r.geometry.inodes r.inode_file 2).inode (sound.files 2).inode (sound.kinds 2) (memory_own 2 (omega arith) (omega arith))
 
+    -- the inodes
+    pub inodes_loaded : (i : Inode) (bytes : List ℕ) (inodes : InodeFile) → tree disk r.geometry.inodes r.inode_file 1 ≡ held disk i → bytes ≡ inode_bytes_of disk i
+        → inodes.geometry ≡ r.geometry → inodes.file ≡ file → inodes.numbers.bytes.items ≡ bytes → ((n : ℕ) → IsChanged inodes n → ⊥)
+        → ((v : Volume) → AreSettled r.geometry.blocks disk r.geometry file (inodes_of (tree disk r.geometry.inodes r.inode_file)) → MapsVolume bytes v
+        → HoldsVolume r.geometry.inodes (λ n. held_content disk (inodes_of (tree disk r.geometry.inodes r.inode_file) n)) v
+        → IsVolumeOf r.geometry.blocks disk (inodes_of (tree disk r.geometry.inodes r.inode_file)) inodes v)
+        → AreInodesOf disk r.geometry (whole disk r).active inodes
+    unfolding whole
+    inodes_loaded i bytes inodes is_i read geometry file_is numbers unchanged stands =
+        let settled : AreSettled r.geometry.blocks disk r.geometry file (inodes_of (tree disk r.geometry.inodes r.inode_file)) =
+        trees.settled r.geometry are disk r.inode_file sound root l.reads l.paths l.stored l.spells l.ends file same (λ k. reached r.geometry.blocks k refl) in
+        let whole_bytes : bytes ≡ bytes_of (content_of (tree disk r.geometry.inodes r.inode_file 1)) =
+        read ∙ trees.map_bytes r.geometry are disk r.inode_file sound root l.reads l.paths l.stored l.spells l.ends i is_i in
+        record {
+          geometry = geometry;
+          settled = subst (λ f. AreSettled r.geometry.blocks disk r.geometry f (inodes_of (tree disk r.geometry.inodes r.inode_file))) (sym file_is) settled;
+          numbers = numbers ∙ whole_bytes;
+          unchanged = unchanged;
+          volume = λ v holds. stands v settled
+              (subst (λ bs. MapsVolume bs v) (sym whole_bytes) (trees.maps_volume r.geometry are disk r.inode_file sound root l.reads l.paths l.stored l.spells l.ends v holds))
+              (trees.holds_volume r.geometry are disk r.inode_file sound root l.reads l.paths l.stored l.spells l.ends v holds);
+        }
+
     -- all of it
     pub loaded : (i b : Inode) (bytes : List ℕ) (parts : List Part) (map : BlockMap) (inodes : InodeFile)
         → tree disk r.geometry.inodes r.inode_file 1 ≡ held disk i → tree disk r.geometry.inodes r.inode_file 2 ≡ held disk b
@@ -141,19 +164,7 @@ module _ (l : TreesReadAsHeld) (disk : Blocks) (r : Root) (are : AreSizes r.geom
         → IsLoaded disk r map inodes
     unfolding whole
     loaded i b bytes parts map inodes is_i is_b size read have clean items count next geometry file_is numbers unchanged stands =
-        let settled : AreSettled r.geometry.blocks disk r.geometry file (inodes_of (tree disk r.geometry.inodes r.inode_file)) =
-        trees.settled r.geometry are disk r.inode_file sound root l.reads l.paths l.stored l.spells l.ends file same (λ k. reached r.geometry.blocks k refl) in
-        let whole_bytes : bytes ≡ bytes_of (content_of (tree disk r.geometry.inodes r.inode_file 1)) =
-        read ∙ trees.map_bytes r.geometry are disk r.inode_file sound root l.reads l.paths l.stored l.spells l.ends i is_i in
         record {
           map = trees.map_is r.geometry are disk r.inode_file sound root l.reads l.paths l.stored l.spells l.ends b map parts is_b size have clean items count next;
-          inodes = record {
-            geometry = geometry;
-            settled = subst (λ f. AreSettled r.geometry.blocks disk r.geometry f (inodes_of (tree disk r.geometry.inodes r.inode_file))) (sym file_is) settled;
-            numbers = numbers ∙ whole_bytes;
-            unchanged = unchanged;
-            volume = λ v holds. stands v settled
-                (subst (λ bs. MapsVolume bs v) (sym whole_bytes) (trees.maps_volume r.geometry are disk r.inode_file sound root l.reads l.paths l.stored l.spells l.ends v holds))
-                (trees.holds_volume r.geometry are disk r.inode_file sound root l.reads l.paths l.stored l.spells l.ends v holds);
-          };
+          inodes = inodes_loaded i bytes inodes is_i read geometry file_is numbers unchanged stands;
         }

@@ -1,7 +1,8 @@
 -- Images that hold a volume are readable.
-use Rattle.std.proofs.Common.{◌≡◌, ℕ, true, false, refl, subst}
+use Rattle.std.proofs.Common.{◌≡◌, ℕ, true, false, refl, ap, sym, subst, ◌∙◌}
 use Rattle.std.specs.Prelude.{IsTrue, List, Option}
-use Rattle.layout.specs.Places.{Blocks}
+use Rattle.layout.specs.Places.{Blocks, pointed}
+use Rattle.layout.specs.SnapRoot.{Snapshot, snapshot_in}
 use Rattle.layout.specs.declared.kind.Kind.{Kind}
 use Rattle.layout.specs.declared.kind.Kind.TheVariants as kinds
 use Rattle.layout.specs.declared.root.Root.{Root}
@@ -9,7 +10,9 @@ use Rattle.model.specs.Paths.{Name}
 use Rattle.model.specs.Trees.{Tree}
 use Rattle.model.specs.Volumes.{Node, Volume, is_directory_node}
 use Rattle.images.specs.Contents.{Content, StandsAs, content_of}
-use Rattle.images.specs.Roots.{whole}
+use Rattle.images.specs.Roots.{HeldTree, frozen_at, frozen_inode_file, inode_file_or_free, tree, whole}
+use Rattle.images.specs.Snapshots.{HasSnapshot, IsFrozenTree}
+use Rattle.images.specs.Soundness.{IsSoundTree}
 use Rattle.images.specs.States.{Holds}
 use Rattle.loading.specs.Images.{IsReadable}
 
@@ -30,3 +33,22 @@ readable disk r first snapshots holds = record {
   sound = holds.sound.active;
   root = directory_kind ((whole disk r).active 3).inode.kind r.geometry.inodes (content_of ((whole disk r).active 3)) (first 3) (holds.holds 3) holds.volume.graph.root;
 }
+
+-- ---- the trees of snapshots
+
+pub frozen_is : (disk : Blocks) (r : Root) (k : ℕ) (s : Snapshot) → HasSnapshot r (whole disk r) k s → (whole disk (record r { inode_file = s.inode_file })).active ≡ (whole disk r).frozen k
+unfolding whole frozen_inode_file
+frozen_is disk r k s has =
+    sym (ap (frozen_at disk r.geometry.inodes) has.there
+    ∙ ap (tree disk r.geometry.inodes) (ap inode_file_or_free (ap (λ p. snapshot_in (pointed disk p)) (sym has.there) ∙ has.read)))
+
+pub frozen_readable : (disk : Blocks) (r : Root) (first : Volume) (snapshots : List (Name × Tree)) (k : ℕ) (s : Snapshot) (kept : Tree) → Holds r (whole disk r) first snapshots
+    → HasSnapshot r (whole disk r) k s → IsFrozenTree r.geometry.inodes ((whole disk r).frozen k) kept → IsReadable disk (record r { inode_file = s.inode_file })
+frozen_readable disk r first snapshots k s kept holds has frozen =
+    let same = frozen_is disk r k s has in
+    let t = (whole disk r).frozen k in
+    record {
+      sound = subst (IsSoundTree r.geometry) (sym same) (holds.sound.frozen k has.block has.there);
+      root = subst (λ (x : HeldTree). (x 3).inode.kind ≡ kinds.Directory) (sym same)
+          (directory_kind (t 3).inode.kind r.geometry.inodes (content_of (t 3)) (frozen.0 3) (frozen.1 3) frozen.2.graph.root);
+    }

@@ -1,14 +1,16 @@
 //! A settled file as the layers below read it, and as images hold it.
 
-ghost use Rattle.std.specs.Prelude.{List};
+ghost use Rattle.std.specs.Prelude.{ℕ, ◌≡◌, List};
 ghost use Rattle.layout.specs.Places.{Blocks};
 ghost use Rattle.layout.specs.Root.{IsRoot};
+ghost use Rattle.layout.specs.SnapRoot.{Snapshot};
 ghost use Rattle.layout.specs.declared.root.Root.{Root};
 ghost use Rattle.model.specs.Paths.{Name};
 ghost use Rattle.model.specs.Trees.{Tree};
 ghost use Rattle.model.specs.Volumes.{Volume};
 ghost use Rattle.images.specs.Contents.{HoldsVolume, contents};
 ghost use Rattle.images.specs.Roots.{whole};
+ghost use Rattle.images.specs.Snapshots.{HasSnapshot, IsFrozenTree};
 ghost use Rattle.images.specs.States.{Holds};
 ghost use Rattle.inode.specs.declared.file.File.{File};
 ghost use Rattle.inofile.specs.Settled.{AreSettled, held_content};
@@ -44,6 +46,20 @@ pub fn files_without_holes_are_stored()
 pub fn volumes_are_readable()
     ensures { (disk : Blocks) (r : Root) (first : Volume) (snapshots : List (Name × Tree))
         → Holds r (whole disk r) first snapshots → IsReadable disk r }
+{}
+
+/// Under a root that holds snapshots, the tree of each is the one under the inode of its inode file, and it is readable. It does
+/// nothing.
+pub fn snapshots_are_readable()
+    ensures tree { (disk : Blocks) (r : Root) (k : ℕ) (s : Snapshot)
+        → HasSnapshot r (whole disk r) k s
+        → (whole disk (record r { inode_file = s.inode_file })).active
+        ≡ (whole disk r).frozen k }
+    ensures readable { (disk : Blocks) (r : Root) (first : Volume)
+        (snapshots : List (Name × Tree)) (k : ℕ) (s : Snapshot) (tree : Tree)
+        → Holds r (whole disk r) first snapshots → HasSnapshot r (whole disk r) k s
+        → IsFrozenTree r.geometry.inodes ((whole disk r).frozen k) tree
+        → IsReadable disk (record r { inode_file = s.inode_file }) }
 {}
 
 /// Under a root whose tree is readable, the inode file has the inodes of the tree, and they hold what the tree holds. It does

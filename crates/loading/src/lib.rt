@@ -12,9 +12,9 @@ mod under_root;
 
 pub use error::RootError;
 pub use laws::{
-    files_without_holes_are_stored, readable_inodes_are_settled, sound_files_have_sound_paths,
-    sound_files_read_as_held, volumes_are_readable,
+    files_without_holes_are_stored, readable_inodes_are_settled, snapshots_are_readable,
+    sound_files_have_sound_paths, sound_files_read_as_held, volumes_are_readable,
 };
 pub use slots::{Newest, newest_root};
 pub use snapshots::check_snapshots;
-pub use under_root::{Loaded, load};
+pub use under_root::{Loaded, load, load_inodes};

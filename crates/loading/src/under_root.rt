@@ -1,6 +1,6 @@
 //! All that mount reads under a root.
 
-ghost use Rattle.std.specs.Prelude.{◌≡◌, ◌⊎◌, ℕ, List, IfOk, MatchResult, length};
+ghost use Rattle.std.specs.Prelude.{◌≡◌, ◌≤◌, ◌⊎◌, ℕ, List, IfOk, MatchResult, length};
 ghost use Rattle.std.specs.Int.{div_ceil};
 ghost use Rattle.layout.specs.Maps.{IsInodeMap};
 ghost use Rattle.layout.specs.Root.{IsRoot};
@@ -18,7 +18,7 @@ use blocktree::ReadError;
 use buffers::Blocks;
 use inode::File;
 use inofile::InodeFile;
-use layout::{Kind, Root};
+use layout::{Geometry, Inode, Kind, Root};
 use std::alloc::Global;
 
 /// What memory has of an image: the block map, and the inodes.
@@ -28,7 +28,10 @@ pub struct Loaded {
     pub inodes: InodeFile,
 }
 
-ghost use Rattle.loading.specs.Images.{IsLoaded, IsReadable};
+ghost use Rattle.layout.specs.Version.{greatest_size};
+ghost use Rattle.layout.specs.declared.version.TheConstants.{VERSION};
+ghost use Rattle.images.specs.Roots.{whole};
+ghost use Rattle.loading.specs.Images.{AreInodesOf, IsLoaded, IsReadable};
 ghost use Rattle.loading.specs.Readings.{AreUnchanged};
 
 /// Reads the inode file, the inode map and the block map under a root, and tests them. Where the root's tree is in its
@@ -64,4 +67,30 @@ pub fn load<B: Blocks>(alloc: Global, blocks: &mut B, root: &Root) -> Result<Loa
     let map = BlockMap::new(parts, geometry.blocks());
     let inodes = InodeFile::new(alloc, geometry, file, numbers);
     Ok(Loaded { map, inodes })
+}
+
+/// Reads the inodes of a tree under the inode of its inode file: a kept tree, of which only what is asked for is read. Where the tree
+/// is in its grammar, what is loaded is what it has, and Err comes only for want of memory and where a device call failed. `Damaged`
+/// comes where the inode of the inode map or its bytes aren't in their grammar.
+pub fn load_inodes<B: Blocks>(
+    alloc: Global,
+    blocks: &mut B,
+    geometry: Geometry,
+    inode_file: Inode,
+) -> Result<InodeFile, ReadError>
+    requires count { B.count blocks.old ≡ geometry.blocks }
+    requires size { inode_file.size ≤ greatest_size VERSION }
+    ensures reads { ReadsBlocks B.Blocks IsFault blocks.old blocks.new result }
+    ensures geometry { IfOk result (λ s. s.geometry ≡ geometry) }
+    ensures loads { (disk : ℕ → List ℕ) → B.Shows blocks.old disk → (r : Root)
+        → r.geometry ≡ geometry → r.inode_file ≡ inode_file → IsReadable disk r
+        → MatchResult result (AreInodesOf disk geometry (whole disk r).active)
+        (λ e. (e ≡ ReadError.NoMemory) ⊎ (e ≡ ReadError.Device)) }
+{
+    trees_read_as_held();
+    let _ = geometry.blocks();
+    let file = File::load(alloc, inode_file)?;
+    let inode_map = own_inode(blocks, &file, 1, Kind::InodeMap, geometry)?;
+    let numbers = load_numbers(alloc, blocks, inode_map, geometry)?;
+    Ok(InodeFile::new(alloc, geometry, file, numbers))
 }

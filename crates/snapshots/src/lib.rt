@@ -1,11 +1,13 @@
-//! The snapshots under a root, as they are read: finding one by its name, the names of all, and what `snap take` tests. Nothing here
-//! changes a block.
+//! The snapshots under a root, as they are read: finding one by its name, the names of all, and the tree of one. Nothing here changes
+//! a block.
 #![tactic(auto)]
 
 mod finding;
 mod listing;
 mod taking;
+mod viewing;
 
 pub use finding::{Found, find};
 pub use listing::names;
 pub use taking::{Taking, prepare_take};
+pub use viewing::view;
