@@ -1,9 +1,6 @@
 -- What the definitions say of reading a file over a path, by what was found in a volume.
-use Rattle.std.proofs.Common.{◌≡◌, ◌≢◌, ℕ, ℤ, nat_abs, ◌||◌, List, [], ◌∷◌, ◌++◌, ◌+◌, ◌-◌, ◌<◌, length, take, drop, min, slice_index, true, false, Option, Some, None, Result, Ok, Err, unwrap_or, refl, sym, ap, subst, ◌∙◌, arith, inl, inr}
+use Rattle.std.proofs.Common.{◌≡◌, ◌≢◌, ℕ, ℤ, nat_abs, ◌||◌, List, [], ◌∷◌, ◌++◌, true, false, Option, Some, None, Result, Ok, Err, unwrap_or, refl, sym, ap, subst, ◌∙◌, inl, inr}
 use Rattle.std.proofs.lemmas.Bool.{cases_Bool, cond-true, cond-false, false≢true}
-use Rattle.std.proofs.lemmas.List.{length-drop, length-take}
-use Rattle.std.proofs.lemmas.List.FromFn.{get_or-map-range_with_len, length-map-range_with_len}
-use Rattle.layout.specs.FileBytes.{first_bytes}
 use Rattle.model.specs.Edits.{read_at}
 use Rattle.model.specs.Outcomes.{Outcome, answers, refuses}
 use Rattle.model.specs.Paths.{Path, Tests, first_refusal, text_tests, text_tests_then}
@@ -16,8 +13,6 @@ use Rattle.model.specs.Volumes.{Node, directory_node, file_node, link_node, Volu
 use Rattle.model.specs.declared.errno.Errno.{Errno}
 use Rattle.model.specs.declared.errno.Errno.TheVariants.{EISDIR, EINVAL}
 use Rattle.model.specs.declared.reply.Reply.TheVariants.{Data, Refused}
-use Rattle.inode.proofs.BytePositions.{slice_index-between}
-use Rattle.inode.proofs.EdgeLaws.{same_bytes}
 use Rattle.calls.specs.Getting.{GetsNumber, data_reply, range_tests}
 use Rattle.model.proofs.LooseLemmas.{some_same}
 use Rattle.paths.specs.Steps.{found_in}

@@ -4,6 +4,7 @@ pub mod ListLaws
 pub mod RefusalLaws
 pub mod LeadLaws
 pub mod StatLaws
+pub mod SeeLaws
 pub mod ModeLaws
 pub mod GetLaws
 pub mod NameLaws

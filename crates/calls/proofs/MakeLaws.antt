@@ -134,24 +134,26 @@ module _ (table : ℕ → Option Description) (v : Volume) (n d : ℕ) (x : Name
   pub created_unswept : swept table (created n d x node v) ≡ created n d x node v
   created_unswept = fun_ext {f = swept table (created n d x node v)} {g = created n d x node v} each
 
-module _ (inodes : ℕ) (v : Volume) (table : ℕ → Option Description) (volume : IsVolume inodes v) (mounted : IsMounted v table) (tree : IsTree inodes (tree_of v table)) where
-  abbrev t : Tree
-  t = tree_of v table
-
+module _ (inodes : ℕ) (v : Volume) (table : ℕ → Option Description) (volume : IsVolume inodes v) where
   -- a name stands in a directory where it leads to an object
   named_object : (d : ℕ) (x : Name) (o : Option ℕ) → entries v d x ≡ o → IsSome (object_at v o) ↔ IsSome o
   named_object d x None is = (λ some. some, λ some. some)
   named_object d x (Some n) is = (λ some. refl, λ some. some_object n (v n) (volume.graph.used d n x is))
 
   module _ (p : Path) (d : ℕ) (at : number_at (entries v) p ≡ Some d) where
-    child : (x : Name) → t.objects (p ++ x ∷ []) ≡ object_at v (entries v d x)
+    child : (x : Name) → (tree_of v table).objects (p ++ x ∷ []) ≡ object_at v (entries v d x)
     child x = ap (object_at v) (number_at-push (entries v) p x ∙ ap (λ (o : Option ℕ). enter (entries v) o x) at)
 
-    pub child_some : (x : Name) → IsSome (t.objects (p ++ x ∷ [])) ↔ IsSome (entries v d x)
+    pub child_some : (x : Name) → IsSome ((tree_of v table).objects (p ++ x ∷ [])) ↔ IsSome (entries v d x)
     child_some x =
         let both = named_object d x (entries v d x) refl in
         (λ some. both.0 (subst (λ (o : Option Object). IsSome o) (child x) some), λ some. subst (λ (o : Option Object). IsSome o) (sym (child x)) (both.1 some))
 
+module _ (inodes : ℕ) (v : Volume) (table : ℕ → Option Description) (volume : IsVolume inodes v) (mounted : IsMounted v table) (tree : IsTree inodes (tree_of v table)) where
+  abbrev t : Tree
+  t = tree_of v table
+
+  module _ (p : Path) (d : ℕ) (at : number_at (entries v) p ≡ Some d) where
     -- a directory with so many names has a listing of that length
     pub listing : (count : ℕ) → Counts (λ x. IsSome (entries v d x)) count → (names : List Name) × IsListing t p names × (length names ≡ count)
     listing count counts =
@@ -160,8 +162,8 @@ module _ (inodes : ℕ) (v : Volume) (table : ℕ → Option Description) (volum
           record {
             sorted = are.sorted;
             whole = λ x. (
-              λ in_list. (child_some x).1 ((are.whole x).0 (list_any-from_Contains nat_list_eq_equiv x names in_list)),
-              λ there. Contains-from_any (λ a b. (bytes_eq-Decides a b).0) x names ((are.whole x).1 ((child_some x).0 there)),
+              λ in_list. (child_some inodes v table volume p d at x).1 ((are.whole x).0 (list_any-from_Contains nat_list_eq_equiv x names in_list)),
+              λ there. Contains-from_any (λ a b. (bytes_eq-Decides a b).0) x names ((are.whole x).1 ((child_some inodes v table volume p d at x).0 there)),
             );
           },
           are.many,

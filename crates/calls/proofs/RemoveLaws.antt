@@ -257,7 +257,7 @@ module _ (inodes : ℕ) (v : Volume) (table : ℕ → Option Description) (volum
 
         -- the names in it
         child : (y : Name) → IsSome (t.objects (at ++ y ∷ [])) ↔ IsSome (entries v n y)
-        child y = child_some inodes v table volume mounted tree at n (at_name d x n resolved finds) y
+        child y = child_some inodes v table volume at n (at_name d x n resolved finds) y
 
         empty_listing : IsEmpty v n → IsListing t at []
         unfolding IsStrictlySortedBy

@@ -46,7 +46,7 @@ module _ (inodes : ℕ) (v : Volume) (table : ℕ → Option Description) (volum
     not_empty : (names : List Name) → IsListing t q names → tested t ((not (is_empty names), ENOTEMPTY) ∷ []) rest (Refused ENOTEMPTY) t nothing
     not_empty [] lists =
         absurd (filled (λ y. none_if (entries v m y) (λ there.
-        let is = (lists.whole y).1 ((child_some inodes v table volume mounted tree q m at y).1 there) in omega (arith, is.1))))
+        let is = (lists.whole y).1 ((child_some inodes v table volume q m at y).1 there) in omega (arith, is.1))))
     not_empty (y ∷ names) lists =
         subst (λ (b : Bool). tested t ((b, ENOTEMPTY) ∷ []) rest (Refused ENOTEMPTY) t nothing)
         (sym (ap not_of (ne_eqb (length (y ∷ names)) 0 (λ (z : length (y ∷ names) ≡ 0). omega (arith, z))))) (refl, refl, refl)

@@ -279,7 +279,7 @@ module _ (inodes : ℕ) (v : Volume) (table : ℕ → Option Description) (volum
                 sorted = none_sorted;
                 whole = λ z. (
                   λ there. absurd (omega (arith, there.1)),
-                  λ there. absurd (false≢true (subst (λ (a : Option ℕ). IsSome a) (emptied m z at) ((child_some inodes v table volume mounted tree q m (at_q ∙ at) z).0 there))),
+                  λ there. absurd (false≢true (subst (λ (a : Option ℕ). IsSome a) (emptied m z at) ((child_some inodes v table volume q m (at_q ∙ at) z).0 there))),
                 );
               },
               done,

@@ -1,9 +1,8 @@
 -- What the definitions say of changing a file's size over a path, by what was found in a volume.
-use Rattle.std.proofs.Common.{◌≡◌, ◌≢◌, ℕ, ℤ, nat_abs, List, true, false, Option, Some, None, Result, Ok, Err, refl, sym, ap, subst, ◌∙◌}
+use Rattle.std.proofs.Common.{◌≡◌, ◌≢◌, ℕ, ℤ, nat_abs, List, true, false, Option, Some, None, Result, Ok, Err, refl, sym, subst}
 use Rattle.std.proofs.Math.Path.{fun_ext}
 use Rattle.std.proofs.lemmas.Bool.{false≢true}
 use Rattle.model.specs.Changing.{cuts, size_tests, truncates}
-use Rattle.model.specs.Edits.{contents}
 use Rattle.model.specs.Outcomes.{Outcome, refuses}
 use Rattle.model.specs.Paths.{Path, Tests, first_refusal, text_tests_then}
 use Rattle.model.specs.Records.{Applies, Change, applied, work_of}
@@ -19,9 +18,7 @@ use Rattle.model.specs.declared.reply.Reply.{Reply}
 use Rattle.model.specs.declared.reply.Reply.TheVariants.{Done, Refused}
 use Rattle.model.proofs.LooseLemmas.{some_same}
 use Rattle.paths.specs.Steps.{found_in}
-use Rattle.paths.specs.declared.lookup.Found.{Found}
 use Rattle.paths.specs.declared.lookup.Found.TheVariants as found
-use Rattle.calls.specs.Changing.{said_by}
 use Rattle.calls.specs.Leading.{IsLed}
 use Rattle.records.specs.Served.{IsServed}
 use Rattle.calls.specs.Truncating.{ComesToSize, CutsNumber}

@@ -2,6 +2,7 @@ pub use Rattle.paths.specs.Standing
 pub mod Refusals
 pub mod Listing
 pub mod Leading
+pub mod Seeing
 pub mod Stating
 pub mod ReadingLink
 pub mod Changing

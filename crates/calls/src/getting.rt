@@ -1,16 +1,17 @@
 //! Reading a file over a path.
 
-ghost use Rattle.std.specs.Prelude.{◌≡◌, ◌≤◌, ◌||◌, ℕ, List, Option, None, IfErr, IfOk, IsErrOf, IsTrue, nat_abs};
+ghost use Rattle.std.specs.Prelude.{◌≡◌, ◌||◌, ℕ, List, None, IfErr, IfOk, IsTrue, nat_abs};
 ghost use Rattle.layout.specs.declared.inode.Inode.{Inode};
 ghost use Rattle.model.specs.Paths.{first_refusal, parts as parts_of, text_tests_then};
 ghost use Rattle.model.specs.Reading.{gets, is_negative, is_too_many};
 ghost use Rattle.model.specs.Room.{nothing};
-ghost use Rattle.model.specs.Trees.{Description};
-ghost use Rattle.model.specs.Volumes.{Volume, IsMounted, IsVolume, tree_of};
+ghost use Rattle.model.specs.Volumes.{Volume, tree_of};
 ghost use Rattle.blocktree.specs.Errors.{IsFault};
 ghost use Rattle.paths.specs.Numbers.{IsNumber};
 ghost use Rattle.calls.specs.Getting.{GetsNumber, data_reply, range_tests};
 ghost use Rattle.calls.specs.Refusals.{is_path_refusal};
+ghost use Rattle.calls.specs.Seeing.{OnTrees};
+ghost use Rattle.records.specs.Shown.{NeverDamaged};
 ghost use Rattle.paths.specs.Standing.{Looks, Stands};
 
 use crate::leading::find_object;
@@ -34,14 +35,9 @@ pub fn get<B: Blocks>(
 ) -> Result<Result<Text, Errno>, ReadError>
     ensures looks { Looks B.Blocks IsFault blocks.old blocks.new inodes.old inodes.new result }
     ensures own { IfOk result (λ r. IfErr r (λ e. IsTrue (is_path_refusal e))) }
-    ensures answers { (disk : ℕ → List ℕ) (settled : ℕ → Inode) (v : Volume)
-        (table : ℕ → Option Description) → Stands B.Blocks disk settled v blocks.old inodes.old
-        → IsVolume inodes.old.geometry.inodes v → IsMounted v table
-        → IfOk result (λ r.
-        gets (tree_of v table) path.now offset count (data_reply r) (tree_of v table) nothing) }
-    ensures damaged { (disk : ℕ → List ℕ) (settled : ℕ → Inode) (v : Volume)
-        → Stands B.Blocks disk settled v blocks.old inodes.old
-        → IsErrOf result ReadError.Damaged → ⊥ }
+    ensures answers { OnTrees B.Blocks blocks.old inodes.old (λ v table. IfOk result (λ r.
+        gets (tree_of v table) path.now offset count (data_reply r) (tree_of v table) nothing)) }
+    ensures damaged { NeverDamaged B.Blocks blocks.old inodes.old result }
 {
     let parts = Parts::of(alloc, path)?;
     if let Some(errno) = refusal_of_text(path, &parts) {
@@ -74,14 +70,9 @@ fn get_along<B: Blocks>(
     requires passed { first_refusal (text_tests_then (range_tests offset count) path.now) ≡ None }
     ensures looks { Looks B.Blocks IsFault blocks.old blocks.new inodes.old inodes.new result }
     ensures own { IfOk result (λ r. IfErr r (λ e. IsTrue (is_path_refusal e))) }
-    ensures answers { (disk : ℕ → List ℕ) (settled : ℕ → Inode) (v : Volume)
-        (table : ℕ → Option Description) → Stands B.Blocks disk settled v blocks.old inodes.old
-        → IsVolume inodes.old.geometry.inodes v → IsMounted v table
-        → IfOk result (λ r.
-        gets (tree_of v table) path.now offset count (data_reply r) (tree_of v table) nothing) }
-    ensures damaged { (disk : ℕ → List ℕ) (settled : ℕ → Inode) (v : Volume)
-        → Stands B.Blocks disk settled v blocks.old inodes.old
-        → IsErrOf result ReadError.Damaged → ⊥ }
+    ensures answers { OnTrees B.Blocks blocks.old inodes.old (λ v table. IfOk result (λ r.
+        gets (tree_of v table) path.now offset count (data_reply r) (tree_of v table) nothing)) }
+    ensures damaged { NeverDamaged B.Blocks blocks.old inodes.old result }
 {
     let found = find_object(alloc, inodes, blocks, parts, true)?;
     match found {
@@ -105,9 +96,7 @@ fn get_number<B: Blocks>(
     ensures got { (disk : ℕ → List ℕ) (settled : ℕ → Inode) (v : Volume)
         → Stands B.Blocks disk settled v blocks.old inodes.old
         → IfOk result (GetsNumber v number (nat_abs offset) count) }
-    ensures damaged { (disk : ℕ → List ℕ) (settled : ℕ → Inode) (v : Volume)
-        → Stands B.Blocks disk settled v blocks.old inodes.old
-        → IsErrOf result ReadError.Damaged → ⊥ }
+    ensures damaged { NeverDamaged B.Blocks blocks.old inodes.old result }
 {
     let found = read_bytes(alloc, inodes, blocks, number, offset.unsigned_abs(), count)?;
     match found {

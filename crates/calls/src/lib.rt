@@ -15,6 +15,7 @@ mod moving;
 mod opening;
 mod reading_link;
 mod removing;
+mod seeing;
 mod stating;
 mod truncating;
 
@@ -29,5 +30,6 @@ pub use moving::rename;
 pub use opening::{Opened, open_along};
 pub use reading_link::readlink;
 pub use removing::{remove_directory, unlink};
+pub use seeing::reading_forgets_open_files;
 pub use stating::{lstat, stat, stat_number};
 pub use truncating::{cut_file, refusal_of_size, truncate};

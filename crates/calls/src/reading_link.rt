@@ -8,7 +8,8 @@ ghost use Rattle.blocktree.specs.Errors.{IsFault};
 ghost use Rattle.paths.specs.Numbers.{IsNumber};
 ghost use Rattle.calls.specs.ReadingLink.{TellsText, text_reply};
 ghost use Rattle.calls.specs.Refusals.{is_path_refusal};
-ghost use Rattle.records.specs.Shown.{NeverDamaged, OnMounted, OnVolumes};
+ghost use Rattle.calls.specs.Seeing.{OnTrees};
+ghost use Rattle.records.specs.Shown.{NeverDamaged, OnVolumes};
 ghost use Rattle.paths.specs.Standing.{Looks};
 
 use crate::leading::{lead, text_at};
@@ -30,7 +31,7 @@ pub fn readlink<B: Blocks>(
 ) -> Result<Result<Text, Errno>, ReadError>
     ensures looks { Looks B.Blocks IsFault blocks.old blocks.new inodes.old inodes.new result }
     ensures own { IfOk result (λ r. IfErr r (λ e. IsTrue (is_path_refusal e))) }
-    ensures answers { OnMounted B.Blocks blocks.old inodes.old (λ v table. IfOk result (λ r.
+    ensures answers { OnTrees B.Blocks blocks.old inodes.old (λ v table. IfOk result (λ r.
         reads_link (tree_of v table) path.now (text_reply r) (tree_of v table) nothing)) }
     ensures damaged { NeverDamaged B.Blocks blocks.old inodes.old result }
 {

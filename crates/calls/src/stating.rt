@@ -10,8 +10,9 @@ ghost use Rattle.blocktree.specs.Errors.{IsFault};
 ghost use Rattle.inofile.specs.Objects.{IsObject};
 ghost use Rattle.paths.specs.Numbers.{IsNumber};
 ghost use Rattle.calls.specs.Refusals.{is_path_refusal};
-ghost use Rattle.records.specs.Shown.{NeverDamaged, OnMounted, OnVolumes};
+ghost use Rattle.records.specs.Shown.{NeverDamaged, OnVolumes};
 ghost use Rattle.paths.specs.Standing.{Looks};
+ghost use Rattle.calls.specs.Seeing.{OnTrees};
 ghost use Rattle.calls.specs.Stating.{IsStatOf, TellsStat, stat_reply};
 
 use crate::leading::lead;
@@ -34,7 +35,7 @@ pub fn stat<B: Blocks>(
 ) -> Result<Result<Stat, Errno>, ReadError>
     ensures looks { Looks B.Blocks IsFault blocks.old blocks.new inodes.old inodes.new result }
     ensures own { IfOk result (λ r. IfErr r (λ e. IsTrue (is_path_refusal e))) }
-    ensures answers { OnMounted B.Blocks blocks.old inodes.old (λ v table. IfOk result (λ r.
+    ensures answers { OnTrees B.Blocks blocks.old inodes.old (λ v table. IfOk result (λ r.
         stats (tree_of v table) true path.now (stat_reply r) (tree_of v table) nothing)) }
     ensures damaged { NeverDamaged B.Blocks blocks.old inodes.old result }
 {
@@ -50,7 +51,7 @@ pub fn lstat<B: Blocks>(
 ) -> Result<Result<Stat, Errno>, ReadError>
     ensures looks { Looks B.Blocks IsFault blocks.old blocks.new inodes.old inodes.new result }
     ensures own { IfOk result (λ r. IfErr r (λ e. IsTrue (is_path_refusal e))) }
-    ensures answers { OnMounted B.Blocks blocks.old inodes.old (λ v table. IfOk result (λ r.
+    ensures answers { OnTrees B.Blocks blocks.old inodes.old (λ v table. IfOk result (λ r.
         stats (tree_of v table) false path.now (stat_reply r) (tree_of v table) nothing)) }
     ensures damaged { NeverDamaged B.Blocks blocks.old inodes.old result }
 {
@@ -67,7 +68,7 @@ fn stat_at<B: Blocks>(
 ) -> Result<Result<Stat, Errno>, ReadError>
     ensures looks { Looks B.Blocks IsFault blocks.old blocks.new inodes.old inodes.new result }
     ensures own { IfOk result (λ r. IfErr r (λ e. IsTrue (is_path_refusal e))) }
-    ensures answers { OnMounted B.Blocks blocks.old inodes.old (λ v table. IfOk result (λ r.
+    ensures answers { OnTrees B.Blocks blocks.old inodes.old (λ v table. IfOk result (λ r.
         stats (tree_of v table) follow path.now (stat_reply r) (tree_of v table) nothing)) }
     ensures damaged { NeverDamaged B.Blocks blocks.old inodes.old result }
 {

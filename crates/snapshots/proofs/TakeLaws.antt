@@ -49,7 +49,7 @@ either_false true b is = absurd (cc)
 either_false false b is = (refl, is)
 
 -- a good name is neither empty nor too long
-good_length : (name : Name) → is_bad_name name ≡ false → (1 ≤ length name) × (length name ≤ 63)
+pub good_length : (name : Name) → is_bad_name name ≡ false → (1 ≤ length name) × (length name ≤ 63)
 good_length name good =
     let first = either_false (length name == 0 || nat_lt 63 (length name)) (list_any (λ b. not (is_name_byte b)) name) good in
     let second = either_false (length name == 0) (nat_lt 63 (length name)) first.0 in (

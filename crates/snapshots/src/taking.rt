@@ -1,6 +1,6 @@
 //! What `snap take` tests, and where it puts a new snapshot.
 
-ghost use Rattle.std.specs.Prelude.{◌≡◌, ◌<◌, ◌≤◌, ◌^◌, ℕ, List, IfOk, IfSome, IfNone, IsErrOf, MatchResult, None, not};
+ghost use Rattle.std.specs.Prelude.{◌≡◌, ◌≢◌, ◌<◌, ◌≤◌, ◌^◌, ℕ, List, length, IfOk, IfErr, IfSome, IfNone, IsErrOf, MatchResult, None, not};
 ghost use Rattle.std.specs.List.{list_any};
 ghost use Rattle.layout.specs.Root.{IsRoot};
 ghost use Rattle.layout.specs.SnapRoot.{Snapshot};
@@ -105,6 +105,9 @@ pub fn prepare_take<B: Blocks>(
         → s.snapshots ≡ pairs → IfOk result (λ taking. MatchResult taking
         (λ t. first_refusal (take_tests s name.now) ≡ None)
         (RefusesTake s name.now)) }
+    ensures own { IfOk result (λ taking. IfErr taking (λ errno. errno ≢ Errno.EIO)) }
+    ensures fits { IfOk result (λ taking. IfOk taking (λ t. IsSlotNumber t.slot
+        × (length name.now ≤ 63))) }
     ensures may { (disk : ℕ → List ℕ) → B.Shows blocks.old disk → (v : Volume)
         (pairs : List (Name × Tree)) → Holds root.now (whole disk root.now) v pairs
         → IfOk result (λ taking. IfOk taking (MayTake disk root.now name.now)) }

@@ -13,7 +13,7 @@ use Rattle.records.proofs.StandLaws.{no_look}
 use Rattle.calls.proofs.getting.get.Goals as goal
 
 pub returns-in-Some-clause-answers : goal.returns-in-Some-clause-answers
-returns-in-Some-clause-answers g c = λ disk settled v table stands volume mounted.
+returns-in-Some-clause-answers g c = λ disk settled v table stands volume.
     let is : first_refusal (text_tests c.args.path.now) ≡ Some c.in-Some.errno = sym c.refusal_of_text.ensures ∙ c.in-Some.is in
     get_refused v table c.args.path.now c.args.offset c.args.count c.in-Some.errno (text_first c.args.path.now (range_tests c.args.offset c.args.count) c.in-Some.errno is)
 
@@ -21,7 +21,7 @@ pub returns-in-Some-clause-own : goal.returns-in-Some-clause-own
 returns-in-Some-clause-own g c = text_own c.args.path.now c.in-Some.errno (sym c.refusal_of_text.ensures ∙ c.in-Some.is)
 
 pub returns-then-is_no_range-clause-answers : goal.returns-then-is_no_range-clause-answers
-returns-then-is_no_range-clause-answers g c = λ disk settled v table stands volume mounted.
+returns-then-is_no_range-clause-answers g c = λ disk settled v table stands volume.
     let back = to_z-of_z w64 c.args.offset c.ranges.offset in
     let none : first_refusal (text_tests c.args.path.now) ≡ None = sym c.refusal_of_text.ensures ∙ c.in_default.is in
     get_refused v table c.args.path.now c.args.offset c.args.count EINVAL
@@ -34,9 +34,9 @@ get_along-requires-clause-passed g c =
     get_passed c.args.path.now _ c.args.count none (sym c.is_no_range.ensures ∙ c.if-is_no_range.false)
 
 pub returns-clause-answers : goal.returns-clause-answers
-returns-clause-answers g c = λ disk settled v table stands volume mounted.
+returns-clause-answers g c = λ disk settled v table stands volume.
     subst (λ (z : ℤ). IfOk c.get_along.result (λ r. gets (tree_of v table) c.args.path.now z c.args.count (data_reply r) (tree_of v table) nothing)) (to_z-of_z w64 c.args.offset c.ranges.offset)
-    (c.get_along.ensures.answers disk settled v table stands volume mounted)
+    (c.get_along.ensures.answers disk settled v table stands volume)
 
 pub returns-in-Some-clause-looks : goal.returns-in-Some-clause-looks
 returns-in-Some-clause-looks g c = looks_ok no_look

@@ -20,7 +20,7 @@ pub returns-in-Ok-clause-looks : goal.returns-in-Ok-clause-looks
 returns-in-Ok-clause-looks g c = looks_more c.in_ok-found.ensures.looks c.get_number.ensures.looks
 
 pub returns-in-Ok-clause-answers : goal.returns-in-Ok-clause-answers
-returns-in-Ok-clause-answers g c = λ disk settled v table stands volume mounted.
+returns-in-Ok-clause-answers g c = λ disk settled v table stands volume.
     let text = c.args.path.now in
     let back = to_z-of_z w64 c.args.offset c.ranges.offset in
     let leads = subst (λ (x : Result ℕ Errno). LeadsTo v (resolve (tree_of v table) true text) x) c.in-Ok.is
@@ -36,7 +36,7 @@ pub returns-in-Ok-clause-damaged : goal.returns-in-Ok-clause-damaged
 returns-in-Ok-clause-damaged g c = λ disk settled v stands is. c.get_number.ensures.damaged disk settled v (c.find_object.ensures.looks.kept disk settled v stands) is
 
 pub returns-in-Err-clause-answers : goal.returns-in-Err-clause-answers
-returns-in-Err-clause-answers g c = λ disk settled v table stands volume mounted.
+returns-in-Err-clause-answers g c = λ disk settled v table stands volume.
     let text = c.args.path.now in
     let leads = subst (λ (x : Result ℕ Errno). LeadsTo v (resolve (tree_of v table) true text) x) c.in-Err.is
     (c.in_ok-found.ensures.leads disk settled v table text stands volume c.requires.parts) in

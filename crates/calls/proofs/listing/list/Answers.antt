@@ -1,18 +1,45 @@
-use Rattle.std.proofs.Common.{◌≡◌, ◌∙◌, Some, sym}
-use Rattle.model.specs.Paths.{first_refusal, text_tests}
-use Rattle.paths.proofs.Looks.{looks_ok}
-use Rattle.calls.proofs.RefusalLaws.{text_own}
-use Rattle.calls.proofs.ListLaws.{list_refused}
-use Rattle.records.proofs.StandLaws.{no_look}
+use Rattle.std.proofs.Common.{rules, Result, IfErr, IsTrue, ℕ, true, subst}
+use Rattle.model.specs.Paths.{text_tests}
+use Rattle.model.specs.Resolution.{resolve}
+use Rattle.model.specs.Volumes.{tree_of}
+use Rattle.model.specs.declared.errno.Errno.{Errno}
+use Rattle.paths.proofs.Looks.{looks_err, looks_more, looks_ok}
+use Rattle.calls.specs.Leading.{IsLed}
+use Rattle.calls.specs.Refusals.{is_path_refusal}
+use Rattle.calls.proofs.MakeLaws.{told_answers}
+use Rattle.calls.proofs.ListLaws.{list_answers, list_refused}
 use Rattle.calls.proofs.listing.list.Goals as goal
 
-pub returns-in-Some-clause-answers : goal.returns-in-Some-clause-answers
-returns-in-Some-clause-answers g c = λ disk settled v table stands volume mounted.
-    let is : first_refusal (text_tests c.args.path.now) ≡ Some c.in-Some.errno = sym c.refusal_of_text.ensures ∙ c.in-Some.is in
-    list_refused v table c.args.path.now c.in-Some.errno is
+pub returns-in_err-found-clause-damaged : goal.returns-in_err-found-clause-damaged
+returns-in_err-found-clause-damaged g c = λ disk settled v stands is. c.in_err-found.ensures.damaged disk settled v stands (search rules)
 
-pub returns-in-Some-clause-own : goal.returns-in-Some-clause-own
-returns-in-Some-clause-own g c = text_own c.args.path.now c.in-Some.errno (sym c.refusal_of_text.ensures ∙ c.in-Some.is)
+pub returns-in-Ok-clause-looks : goal.returns-in-Ok-clause-looks
+returns-in-Ok-clause-looks g c = looks_more c.in_ok-found.ensures.looks c.list_number.ensures.looks
 
-pub returns-in-Some-clause-looks : goal.returns-in-Some-clause-looks
-returns-in-Some-clause-looks g c = looks_ok no_look
+pub returns-in-Ok-clause-answers : goal.returns-in-Ok-clause-answers
+returns-in-Ok-clause-answers g c = λ disk settled v table stands volume.
+    let text = c.args.path.now in
+    let r = resolve (tree_of v table) true text in
+    let led = subst (λ (x : Result ℕ Errno). IsLed (text_tests text) v r x) c.in-Ok.is (c.in_ok-found.ensures.led disk settled v table stands volume) in
+    told_answers c.list_number.result _ _
+    (λ told lists. list_answers c.args.inodes.now.geometry.inodes v table volume c.in-Ok.number text told led lists)
+    (c.list_number.ensures.listed disk settled v (c.lead.ensures.looks.kept disk settled v stands))
+
+pub returns-in-Ok-clause-damaged : goal.returns-in-Ok-clause-damaged
+returns-in-Ok-clause-damaged g c = λ disk settled v stands is. c.list_number.ensures.damaged disk settled v (c.lead.ensures.looks.kept disk settled v stands) is
+
+pub returns-in-Err-clause-answers : goal.returns-in-Err-clause-answers
+returns-in-Err-clause-answers g c = λ disk settled v table stands volume.
+    let text = c.args.path.now in
+    let r = resolve (tree_of v table) true text in
+    let led = subst (λ (x : Result ℕ Errno). IsLed (text_tests text) v r x) c.in-Err.is (c.in_ok-found.ensures.led disk settled v table stands volume) in
+    list_refused c.args.inodes.now.geometry.inodes v table volume text c.in-Err.errno led
+
+pub returns-in-Err-clause-own : goal.returns-in-Err-clause-own
+returns-in-Err-clause-own g c = subst (λ (x : Result ℕ Errno). IfErr x (λ e. IsTrue (is_path_refusal e))) c.in-Err.is c.in_ok-found.ensures.own
+
+pub returns-in_err-found-clause-looks : goal.returns-in_err-found-clause-looks
+returns-in_err-found-clause-looks g c = looks_err c.from_residual.result c.from_residual.ensures.1 c.in_err-found.ensures.looks
+
+pub returns-in-Err-clause-looks : goal.returns-in-Err-clause-looks
+returns-in-Err-clause-looks g c = looks_ok c.in_ok-found.ensures.looks

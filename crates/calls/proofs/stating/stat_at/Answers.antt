@@ -17,7 +17,7 @@ pub returns-in-Ok-clause-looks : goal.returns-in-Ok-clause-looks
 returns-in-Ok-clause-looks g c = looks_more c.in_ok-found.ensures.looks c.stat_number.ensures.looks
 
 pub returns-in-Ok-clause-answers : goal.returns-in-Ok-clause-answers
-returns-in-Ok-clause-answers g c = λ disk settled v table stands volume mounted.
+returns-in-Ok-clause-answers g c = λ disk settled v table stands volume.
     let text = c.args.path.now in
     let r = resolve (tree_of v table) c.args.follow text in
     let led = subst (λ (x : Result ℕ Errno). IsLed (text_tests text) v r x) c.in-Ok.is (c.in_ok-found.ensures.led disk settled v table stands volume) in
@@ -29,7 +29,7 @@ pub returns-in-Ok-clause-damaged : goal.returns-in-Ok-clause-damaged
 returns-in-Ok-clause-damaged g c = λ disk settled v stands is. c.stat_number.ensures.damaged disk settled v (c.lead.ensures.looks.kept disk settled v stands) is
 
 pub returns-in-Err-clause-answers : goal.returns-in-Err-clause-answers
-returns-in-Err-clause-answers g c = λ disk settled v table stands volume mounted.
+returns-in-Err-clause-answers g c = λ disk settled v table stands volume.
     let text = c.args.path.now in
     let r = resolve (tree_of v table) c.args.follow text in
     let led = subst (λ (x : Result ℕ Errno). IsLed (text_tests text) v r x) c.in-Err.is (c.in_ok-found.ensures.led disk settled v table stands volume) in

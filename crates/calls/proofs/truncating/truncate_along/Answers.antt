@@ -1,4 +1,4 @@
-use Rattle.std.proofs.Common.{rules, ◌≡◌, ◌≢◌, ◌∙◌, ℕ, ℤ, nat_abs, w64, true, inr, Result, IfErr, IfOk, IsTrue, refl, sym, ap, subst}
+use Rattle.std.proofs.Common.{rules, ◌≡◌, ◌≢◌, ◌∙◌, ℕ, nat_abs, w64, true, inr, Result, IfErr, IfOk, IsTrue, refl, sym, ap, subst}
 use Rattle.std.proofs.lemmas.Int.{to_z-of_z}
 use Rattle.layout.specs.Limits.{Sizes}
 use Rattle.model.specs.Resolution.{resolve}

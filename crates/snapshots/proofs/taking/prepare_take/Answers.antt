@@ -1,6 +1,6 @@
 use Rattle.std.proofs.Common.{◌≡◌, refl, None, rules}
 use Rattle.snapshots.specs.Found.{named}
-use Rattle.snapshots.proofs.TakeLaws.{full, has_room, may_take, no_room, not_found, passes}
+use Rattle.snapshots.proofs.TakeLaws.{full, good_length, has_room, may_take, no_room, not_found, passes}
 use Rattle.snapshots.proofs.taking.prepare_take.Goals as goal
 
 pub returns-in_default-clause-tests : goal.returns-in_default-clause-tests
@@ -18,3 +18,6 @@ returns-clause-may g c disk shows v pairs holds =
     let none : named c.args.name.now pairs ≡ None = not_found disk c.args.root.now c.args.name.now pairs c.in_ok-found.found (search rules) (c.in_ok-found.ensures.finds disk shows v pairs holds) in
     may_take disk c.args.root.now c.requires.root c.args.name.now v pairs holds _ c.in_ok-last.last (search rules) (search rules) (search rules) none
     (c.in_ok-last.ensures.is disk (c.find.ensures.reads.same disk shows)) refl
+
+pub returns-clause-fits : goal.returns-clause-fits
+returns-clause-fits g c = (search rules, (good_length c.args.name.now (search rules)).1)
