@@ -23,13 +23,14 @@ use Rattle.model.specs.Records.{pledged_for}
 use Rattle.model.specs.Runs.{IsWithin}
 use Rattle.system.specs.Errors.{IsRefused}
 use Rattle.system.specs.Images.{OpensTo}
-use Rattle.system.specs.Points.{IsFilled}
 use Rattle.layout.specs.Places.{blocks_of}
 use Rattle.layout.specs.Record.{Change, change_bytes}
 use Rattle.images.specs.Roots.{whole}
 use Rattle.oplog.specs.LogEnd.{LogEnd, all_of, next_of}
 use Rattle.oplog.specs.declared.log.End.TheVariants.{Unopened}
-use Rattle.system.specs.Serving.{HasEmptyLog, ServesState, IsCall, WouldChange, IsCalled, IsBrokenOff}
+use Rattle.system.specs.Serving.{HasEmptyLog, ServesState, IsCall, WouldCall, WouldChange, IsCalled, IsBrokenOff}
+use Rattle.system.specs.Points.{IsFilled}
+use Rattle.system.specs.Settling.{IsFilledBy, IsSettled, WouldSettle}
 use Rattle.system.specs.Room.{free_under}
 use Rattle.system.specs.Systems as systems
 use Rattle.system.specs.declared.error.CallError.{CallError}
@@ -39,7 +40,7 @@ use Rattle.system.specs.declared.error.PointError.{PointError}
 use Rattle.system.specs.declared.error.PointError.TheVariants as point
 use Rattle.mount.specs.Applying.{IsAppliedAt, NeedsPlace, Stays, Tells, HasRoom}
 use Rattle.mount.specs.Refusals.{errno_of_call, errno_of_point, fails_call, fails_point}
-use Rattle.mount.specs.Systems.{OpensToSome, mounted, Serves, IsYoung}
+use Rattle.mount.specs.Systems.{OpensToSome, mounted, HasNext, Serves}
 use Rattle.mount.specs.declared.fs.Fs.{Fs}
 use Rattle.mount.proofs.ApplyLemmas.{is_going, not_both, allowed_by, allowed_surely, no_room, done, stayed, broken, applied_after}
 use Rattle.mount.proofs.CallLemmas.{not_settling}
@@ -67,6 +68,17 @@ has_room f s serves covered all = record { serves = serves; blocks = refl; free 
 no_changes : (changes : List Change) → [] ≡ map change_bytes changes → changes ≡ []
 no_changes [] is = refl
 no_changes (change ∷ changes) is = cc
+
+-- all that is done is in the root of a covered system
+all_covered : {S : Type 0} {G : Ghosts S} (f : System S G) (s : State) → (covered : systems.IsCovered f s.tree.descriptors s)
+    → records.IsCovered covered.serves.first covered.serves.running covered.serves.replayed.changes
+all_covered f s covered =
+    let no_record : [] ≡ map change_bytes covered.serves.replayed.changes = sym (ap all_of covered.no_record) ∙ covered.serves.replayed.spelled in
+    (covered.held, no_changes covered.serves.replayed.changes no_record)
+
+-- a refusal isn't what is answered to what is done
+not_done : {X : Type 0} (errno : Errno) → Refused errno ≡ Done → X
+not_done errno is = cc
 
 -- a call that may be refused and would change something needs place
 pub change_needs : (s : State) (c : Command) → ¬ IsSure s c → WouldChange s c → NeedsPlace s c
@@ -97,8 +109,19 @@ answered_as old new s command x y is applied = subst (λ (z : Errno). IsAppliedA
 pub asked_as : {S : Type 0} {G : Ghosts S} (old new : Fs S G) (s : State) (x y : Command) (reply : Reply) → y ≡ x → IsAppliedAt old s new x reply → IsAppliedAt old s new y reply
 asked_as old new s x y reply is applied = subst (λ (z : Command). IsAppliedAt old s new z reply) (sym is) applied
 
-pub young_on : (a b : ℕ) → b ≤ a → a < 2 ^ 62 → b < 2 ^ 62
+pub young_on : (a b : ℕ) → b ≤ a → a + 1 < 2 ^ 62 → b + 1 < 2 ^ 62
 young_on a b le young = omega arith
+
+pub has_next : (a : ℕ) → a + 1 < 2 ^ 62 → a < 2 ^ 62
+has_next a young = omega arith
+
+-- behind one consistency point there is another
+pub next_on : (a b : ℕ) → b ≤ a + 1 → a + 1 < 2 ^ 62 → b < 2 ^ 62
+next_on a b le young = omega arith
+
+-- where a point of the tree alone has no place, none of a command has
+pub filled_by : {S : Type 0} {G : Ghosts S} (command : Command) (f : System S G) → IsFilled f → IsFilledBy command f
+filled_by command f filled = omega (arith, filled)
 
 -- behind a consistency point the log has no record
 pub log_emptied : {S : Type 0} {G : Ghosts S} (f : System S G) (log : LogEnd) (epoch : ℕ) → f.log ≡ record log { epoch = epoch + 1; end = Unopened } → f.root.generation ≡ epoch → HasEmptyLog f
@@ -110,6 +133,14 @@ log_emptied f log epoch is generation = record {
 -- a full log is no fault of a device
 pub full_is_no_fault : (e : CallError) → e ≡ call.LogFull → errno_of_call e ≢ EIO
 full_is_no_fault e is fault = let x : ENOSPC ≡ EIO = sym (ap errno_of_call is) ∙ fault in cc
+
+-- no failed read fails a system
+pub reads_fail_nothing : (e : CallError) (flag : Bool) → e ≢ call.NotWritten → IsFalse flag → flag ≡ fails_call e
+reads_fail_nothing call.NoMemory flag other runs = runs
+reads_fail_nothing call.NotRead flag other runs = runs
+reads_fail_nothing call.Damaged flag other runs = runs
+reads_fail_nothing call.LogFull flag other runs = runs
+reads_fail_nothing call.NotWritten flag other runs = absurd (other refl)
 
 -- a point answers EIO only where a device call failed, and any other refusal comes before the first write
 pub point_fails : (e : PointError) → errno_of_point e ≡ EIO → (e ≡ point.NotPlanned plan.Device) ⊎ (e ≡ point.NotWritten)
@@ -124,6 +155,16 @@ pub point_refuses : (e : PointError) → errno_of_point e ≢ EIO → IsRefused 
 point_refuses (point.NotPlanned e) other = tt
 point_refuses point.NotWritten other = absurd (other refl)
 point_refuses point.NoGeneration other = tt
+
+-- what is left of a command that was cut short
+pub cut_within : {S : Type 0} {G : Ghosts S} (f g : System S G) (s : State) (c : Command) → IsBrokenOff f g s c
+    → LeavesOnly (systems.meaning_of f) (systems.meaning_of g) (OpensToSome (systems.meaning_of f) (IsWithin s c))
+cut_within f g s c is =
+    let m = systems.meaning_of f in
+    weaker m (systems.meaning_of g) (λ i. OpensTo m s i ⊎ OpensTo m is.after i) (OpensToSome m (IsWithin s c)) is.leaves (λ i one. elim one [
+      | inl first ↦ (s, first, inl refl)
+      | inr last ↦ (is.after, last, inr (clear no_room, is.reply, (is.need, is.step no_room)))
+    ])
 
 -- behind calls that left the state as it was
 pub after_stay : {S : Type 0} {G : Ghosts S} (old mid new : Fs S G) (s : State) (command : Command) (reply : Reply) → Serves (mounted old s) → IsFalse old.has_failed → Stays old mid s
@@ -172,7 +213,7 @@ module _ {S : Type 0} {G : Ghosts S} (old new : Fs S G) (s : State) where
 
       -- a command that was refused for a cause
       pub refused : (command : Command) → ¬ IsSure s command → Stays old new s → (read memory place : Bool) (errno : Errno) → Tells read before.failed_reads behind.failed_reads
-          → behind.failed_writes ≡ before.failed_writes → (IsTrue place → IsFilled new.system) → ((room : Room) → IsExcused (came read false memory place room) s command (Refused errno))
+          → behind.failed_writes ≡ before.failed_writes → (IsTrue place → IsFilledBy command new.system) → ((room : Room) → IsExcused (came read false memory place room) s command (Refused errno))
           → IsAppliedAt old s new command (Refused errno)
       refused command not_sure stays read memory place errno reads writes full excused =
           let served = stays.serves.kept is_still in
@@ -199,12 +240,7 @@ module _ {S : Type 0} {G : Ghosts S} (old new : Fs S G) (s : State) where
       -- a call that wasn't answered, and was written in part
       pub broken_off : (c : Command) → ¬ IsSure s c → IsTrue new.has_failed → MayGrow before.failed_reads behind.failed_reads → HasGrown before.failed_writes behind.failed_writes
           → IsBrokenOff old.system new.system s c → IsAppliedAt old s new c (Refused EIO)
-      broken_off c not_sure stopped reads writes is =
-          cut_short c not_sure stopped reads writes
-          (weaker before behind (λ i. OpensTo before s i ⊎ OpensTo before is.after i) (OpensToSome before (IsWithin s c)) is.leaves (λ i one. elim one [
-            | inl first ↦ (s, first, inl refl)
-            | inr last ↦ (is.after, last, inr (clear no_room, is.reply, (is.need, is.step no_room)))
-          ]))
+      broken_off c not_sure stopped reads writes is = cut_short c not_sure stopped reads writes (cut_within old.system new.system s c is)
 
     -- a call that wasn't answered
     pub not_answered : (c : Command) (e : CallError) → ¬ IsSure s c → e ≢ call.LogFull → new.has_failed ≡ fails_call e → Uses before behind → (e ≢ call.NotWritten → behind.failed_writes ≡ before.failed_writes)
@@ -222,35 +258,61 @@ module _ {S : Type 0} {G : Ghosts S} (old new : Fs S G) (s : State) where
     not_answered c call.LogFull not_sure room flag uses writes reads written damaged goes served off opens = absurd (room refl)
     not_answered c call.NotWritten not_sure room flag uses writes reads written damaged goes served off opens = broken_off uses.same c not_sure flag uses.reads (written refl) (off refl)
 
-    -- a consistency point that wasn't made
-    pub no_point : (command : Command) (e : PointError) → NeedsPlace s command → IsYoung old → new.has_failed ≡ fails_point e → Uses before behind → (IsRefused e → behind.failed_writes ≡ before.failed_writes)
+    -- a command whose consistency point wasn't made
+    pub no_point : (command : Command) (e : PointError) → ¬ IsSure s command → HasNext old → Uses before behind → (IsRefused e → behind.failed_writes ≡ before.failed_writes)
         → (e ≡ point.NotPlanned plan.Device → HasGrown before.failed_reads behind.failed_reads) → (e ≡ point.NotWritten → HasGrown before.failed_writes behind.failed_writes)
-        → (e ≡ point.NotPlanned plan.NoSpace → IsFilled new.system) → (e ≡ point.NoGeneration → 2 ^ 62 ≤ old.system.log.epoch) → (e ≡ point.NotPlanned plan.Damaged → ⊥)
-        → (IsRefused e → ServesState new.system s) → LeavesOnly before behind (OpensTo before s) → IsAppliedAt old s new command (Refused (errno_of_point e))
-    no_point command (point.NotPlanned plan.NoMemory) needs young flag uses writes reads written full aged damaged served leaves =
+        → (e ≡ point.NotPlanned plan.NoSpace → IsFilledBy command new.system × WouldSettle s command) → (e ≡ point.NoGeneration → 2 ^ 62 ≤ old.system.log.epoch)
+        → (e ≡ point.NotPlanned plan.Damaged → ⊥) → new.has_failed ≡ fails_point e → (IsRefused e → IsFalse new.has_failed → Stays old new s)
+        → (e ≡ point.NotWritten → LeavesOnly before behind (OpensToSome before (IsWithin s command))) → IsAppliedAt old s new command (Refused (errno_of_point e))
+    no_point command (point.NotPlanned plan.NoMemory) not_sure next uses writes reads written full aged damaged flag stays off =
         let count = told before.failed_reads behind.failed_reads uses.reads in
-        refused uses.same command needs.not_sure (stays_by uses.same flag (served tt) leaves) count.0 true false ENOMEM count.1 (writes tt) (λ e. absurd (false≢true e)) (λ _. refl)
-    no_point command (point.NotPlanned plan.Device) needs young flag uses writes reads written full aged damaged served leaves =
-        refused uses.same command needs.not_sure (stays_by uses.same flag (served tt) leaves) true false false EIO (reads refl) (writes tt) (λ e. absurd (false≢true e)) (λ _. refl)
-    no_point command (point.NotPlanned plan.NoSpace) needs young flag uses writes reads written full aged damaged served leaves =
+        refused uses.same command not_sure (stays tt flag) count.0 true false ENOMEM count.1 (writes tt) (λ e. absurd (false≢true e)) (λ _. refl)
+    no_point command (point.NotPlanned plan.Device) not_sure next uses writes reads written full aged damaged flag stays off =
+        refused uses.same command not_sure (stays tt flag) true false false EIO (reads refl) (writes tt) (λ e. absurd (false≢true e)) (λ _. refl)
+    no_point command (point.NotPlanned plan.NoSpace) not_sure next uses writes reads written full aged damaged flag stays off =
         let count = told before.failed_reads behind.failed_reads uses.reads in
-        refused uses.same command needs.not_sure (stays_by uses.same flag (served tt) leaves) count.0 false true ENOSPC count.1 (writes tt)
-        (λ _. full refl) (λ room. inr (refl, needs.stores room))
-    no_point command (point.NotPlanned plan.Damaged) needs young flag uses writes reads written full aged damaged served leaves = absurd (damaged refl)
-    no_point command point.NotWritten needs young flag uses writes reads written full aged damaged served leaves =
-        cut_short uses.same command needs.not_sure flag uses.reads (written refl)
-        (weaker before behind (OpensTo before s) (OpensToSome before (IsWithin s command)) leaves (λ i opens. (s, opens, inl refl)))
-    no_point command point.NoGeneration needs young flag uses writes reads written full aged damaged served leaves = absurd (omega (arith, aged refl, young))
+        refused uses.same command not_sure (stays tt flag) count.0 false true ENOSPC count.1 (writes tt)
+        (λ _. (full refl).0) (λ room. inr (refl, (full refl).1 room))
+    no_point command (point.NotPlanned plan.Damaged) not_sure next uses writes reads written full aged damaged flag stays off = absurd (damaged refl)
+    no_point command point.NotWritten not_sure next uses writes reads written full aged damaged flag stays off =
+        cut_short uses.same command not_sure flag uses.reads (written refl) (off refl)
+    no_point command point.NoGeneration not_sure next uses writes reads written full aged damaged flag stays off = absurd (omega (arith, aged refl, next))
+
+    -- one that was refused by its own tests
+    pub own_refusal : (command : Command) → ¬ IsSure s command → Stays old new s → (errno : Errno) → behind.failed_reads ≡ before.failed_reads → behind.failed_writes ≡ before.failed_writes
+        → WouldCall s command (Refused errno) s nothing → IsAppliedAt old s new command (Refused errno)
+    own_refusal command not_sure stays errno reads writes step =
+        let served = stays.serves.kept is_still in
+        let room = room_at new.system s served false in
+        let c = clear room in (
+          s,
+          stayed old new s command serves is_still stays (Refused errno) c
+              (record { reads = reads; writes = writes; full = λ e. absurd (false≢true e); room = λ _. has_room new.system s served false (λ e. absurd (false≢true e)) })
+              (allowed_by s command c (Refused errno) s is_still not_sure (inl ((nothing, step room), λ settling done. not_done errno done))),
+        )
+
+    -- one that was done behind its consistency point
+    pub settled : (command : Command) → ¬ IsSure s command → IsSameStation before behind → IsFalse new.has_failed → behind.failed_reads ≡ before.failed_reads → behind.failed_writes ≡ before.failed_writes
+        → IsSettled old.system new.system s command → ((t : State) → ServesState new.system t → EachCut behind (OpensTo behind t)) → IsAppliedAt old s new command Done
+    settled command not_sure same runs_on reads writes is opens =
+        let t = is.after in
+        let covered = is.covered in
+        let still : t.mark ≡ going = ap (λ (u : State). u.mark) covered.serves.state in
+        let c = clear (room_at new.system t covered.serves true) in (
+          t,
+          done old new s t command is_still still same (going_serves t (same.honest.0 serves.honest) still runs_on covered.serves) serves.honest Done c
+              (record { reads = reads; writes = writes; full = λ e. absurd (false≢true e); room = λ _. has_room new.system t covered.serves true (λ _. all_covered new.system t covered) })
+              (allowed_by s command c Done t is_still not_sure (inl ((is.need, is.step c.room), λ _ _. refl)))
+              is.leaves (opens t covered.serves),
+        )
 
     -- `sync` on a system whose root covers all that is
     pub synced : Stays old new s → behind.failed_reads ≡ before.failed_reads → behind.failed_writes ≡ before.failed_writes → systems.IsCovered new.system s.tree.descriptors s → IsAppliedAt old s new Sync Done
     synced stays reads writes covered =
-        let no_record : [] ≡ map change_bytes covered.serves.replayed.changes = sym (ap all_of covered.no_record) ∙ covered.serves.replayed.spelled in
-        let all : records.IsCovered covered.serves.first covered.serves.running covered.serves.replayed.changes = (covered.held, no_changes covered.serves.replayed.changes no_record) in
         let c = clear (room_at new.system s covered.serves true) in (
           s,
           stayed old new s Sync serves is_still stays Done c
-              (record { reads = reads; writes = writes; full = λ e. absurd (false≢true e); room = λ _. has_room new.system s covered.serves true (λ _. all) })
+              (record { reads = reads; writes = writes; full = λ e. absurd (false≢true e); room = λ _. has_room new.system s covered.serves true (λ _. all_covered new.system s covered) })
               (allowed_by s Sync c Done s is_still (λ no. no) (inl ((nothing, (refl, refl, refl)), λ _ _. refl))),
         )
 

@@ -13,9 +13,9 @@ use Rattle.model.specs.Runs.{MayStand, MayRemain, Leads, LeavesOf, Spans}
 use Rattle.layout.specs.Places.{blocks_of}
 use Rattle.images.specs.Roots.{whole}
 use Rattle.system.specs.Images.{OpensTo}
-use Rattle.system.specs.Points.{IsFilled}
 use Rattle.system.specs.Room.{free_under}
 use Rattle.system.specs.Serving.{ServesState}
+use Rattle.system.specs.Settling.{IsFilledBy}
 use Rattle.system.specs.Systems as systems
 use Rattle.system.specs.declared.system.System.{System}
 use Rattle.mount.specs.Systems.{Mounted, mounted, meaning_of, shown, Serves, IsYoung}
@@ -45,7 +45,7 @@ pub record HasRoom {S : Type 0} {G : Ghosts S} (f : System S G) (s : State) (roo
 pub record Between {S : Type 0} {G : Ghosts S} (old : Mounted S G) (command : Command) (new : Mounted S G) (c : Circumstances) : Type 0 where
   pub reads : Tells c.read_failed (meaning_of old).failed_reads (meaning_of new).failed_reads
   pub writes : Tells c.write_failed (meaning_of old).failed_writes (meaning_of new).failed_writes
-  pub full : IsTrue c.lacks_place → IsFilled new.fs.system
+  pub full : IsTrue c.lacks_place → IsFilledBy command new.fs.system
   pub room : new.state.mark ≡ going → HasRoom new.fs.system new.state c.room
 
 -- what a cut from moment a to b might have left, of a system at a state

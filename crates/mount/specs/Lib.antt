@@ -1,4 +1,3 @@
 pub mod Applying
 pub mod Refusals
-pub mod Served
 pub mod Systems

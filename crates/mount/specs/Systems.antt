@@ -1,5 +1,5 @@
 -- What a mounted file system stands for.
-use Rattle.std.specs.Prelude.{◌≡◌, ◌<◌, ◌^◌, Bool, if◌then◌else◌}
+use Rattle.std.specs.Prelude.{◌≡◌, ◌+◌, ◌<◌, ◌^◌, Bool, if◌then◌else◌}
 use Rattle.station.specs.Images.{Images}
 use Rattle.station.specs.Moments.{Meaning, EachCut}
 use Rattle.station.specs.declared.station.Station.{Ghosts}
@@ -53,5 +53,9 @@ pub record Serves {S : Type 0} {G : Ghosts S} (m : Mounted S G) : Type 0 where
   pub cut_short : m.state.mark ≡ failed → IsCutShort (meaning_of m) m.state
 
 -- a further consistency point has a generation
+abbrev pub HasNext : {S : Type 0} {G : Ghosts S} → Fs S G → Type 0
+HasNext fs = fs.system.log.epoch < 2 ^ 62
+
+-- and so has one behind that: no command runs more than two
 abbrev pub IsYoung : {S : Type 0} {G : Ghosts S} → Fs S G → Type 0
-IsYoung fs = fs.system.log.epoch < 2 ^ 62
+IsYoung fs = fs.system.log.epoch + 1 < 2 ^ 62

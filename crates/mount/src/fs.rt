@@ -4,7 +4,7 @@ ghost use Rattle.std.specs.Prelude.{◌≡◌, IsFalse};
 
 use crate::RunError;
 use crate::refusals::{errno_of_call, errno_of_point, fails_call, fails_point};
-use model::{Command, Errno, Reply};
+use model::{Command, Errno, Reply, Text};
 use station::Station;
 use std::alloc::Global;
 use system::{CallError, Space, System, served_states_open};
@@ -21,7 +21,7 @@ pub struct Fs<S: Station> {
 }
 
 impl<S: Station> Fs<S> {
-    ghost use Rattle.std.specs.Prelude.{◌≡◌, ◌≢◌, ◌≤◌, IsTrue, IsFalse, IfOk, IfErr, OnOk, OnErr, IsErrOf, MatchResult, All, length, vec_len};
+    ghost use Rattle.std.specs.Prelude.{◌≡◌, ◌≢◌, ◌≤◌, IsTrue, IsFalse, IfOk, IfErr, OnOk, OnErr, IsErrOf, MatchResult, length, vec_len, ◌+◌};
     ghost use Rattle.std.specs.List.{zip};
     ghost use Rattle.station.specs.Calls.{Uses};
     ghost use Rattle.station.specs.Moments.{MayLeave};
@@ -33,15 +33,13 @@ impl<S: Station> Fs<S> {
     ghost use Rattle.system.specs.Systems.{IsCovered, meaning_of};
     ghost use Rattle.mount.specs.Applying.{NoWriteFailed, NeedsPlace, Stays, IsAppliedAt, IsAppliedAlways, RunsAt};
     ghost use Rattle.mount.specs.Refusals as refusals;
-    ghost use Rattle.mount.specs.Served.{IsServed};
-    ghost use Rattle.mount.specs.Systems.{mounted, Serves, IsYoung, LeavesState};
+    ghost use Rattle.mount.specs.Systems.{mounted, HasNext, Serves, IsYoung, LeavesState};
 
     /// Applies a command and answers it. A command that changes the image is logged before it is answered; a refused one
     /// is not logged. EIO comes where a device call failed; after a failed write every command answers FAILED, with no
     /// device call. ENOMEM comes where there was no memory, ENOSPC where a consistency point found too few free blocks, and
     /// then nothing changed; none of these comes to `lseek`, `fsync`, `df`, or `close` but of a file that has no name.
     pub fn apply(&mut self, command: &Command) -> Reply
-        requires { IsServed command.now }
         ensures uses { Uses (meaning_of self.old.system) (meaning_of self.new.system) }
         ensures failed { IsTrue self.old.has_failed
             → (result ≡ Reply.Refused Errno.FAILED) × (self.new ≡ self.old) }
@@ -59,6 +57,8 @@ impl<S: Station> Fs<S> {
         match command {
             Command::Sync => self.sync(),
             Command::Df => self.space(),
+            Command::SnapTake { name } => self.take(name),
+            Command::SnapDelete { name } => self.delete(name),
             _ => self.call(command),
         }
     }
@@ -82,7 +82,7 @@ impl<S: Station> Fs<S> {
         }
     }
 
-    /// The same of a call on the tree or on a descriptor. Where its record doesn't go into the log, a consistency point
+    /// The same of a call on the tree, on a descriptor or on a snapshot's tree, or of `snap list`. Where its record doesn't go into the log, a consistency point
     /// runs first.
     fn call(&mut self, call: &Command) -> Reply
         requires going { IsFalse self.old.has_failed }
@@ -187,6 +187,99 @@ impl<S: Station> Fs<S> {
         }
     }
 
+    /// `snap take`: where something is uncovered a consistency point, and then one that takes the snapshot.
+    fn take(&mut self, name: &Text) -> Reply
+        requires { IsFalse self.old.has_failed }
+        ensures uses { Uses (meaning_of self.old.system) (meaning_of self.new.system) }
+        ensures eio { result ≡ Reply.Refused Errno.EIO
+            → HasFailed (meaning_of self.old.system) (meaning_of self.new.system) }
+        ensures refused { (errno : Errno) → result ≡ Reply.Refused errno → errno ≢ Errno.EIO
+            → NoWriteFailed (meaning_of self.old.system) (meaning_of self.new.system) }
+        ensures ages { self.old.system.log.epoch ≤ self.new.system.log.epoch }
+        ensures applied { IsAppliedAlways self.old self.new (Command.SnapTake name.now) result }
+    {
+        served_states_open(&self.system);
+        match self.system.refuses_take(name) {
+            Ok(None) => self.take_tested(name),
+            Ok(Some(errno)) => Reply::Refused(errno),
+            Err(error) => Reply::Refused(errno_of_call(error)),
+        }
+    }
+
+    /// The same where its tests are passed.
+    fn take_tested(&mut self, name: &Text) -> Reply
+        requires { IsFalse self.old.has_failed }
+        ensures uses { Uses (meaning_of self.old.system) (meaning_of self.new.system) }
+        ensures eio { result ≡ Reply.Refused Errno.EIO
+            → HasFailed (meaning_of self.old.system) (meaning_of self.new.system) }
+        ensures refused { (errno : Errno) → result ≡ Reply.Refused errno → errno ≢ Errno.EIO
+            → NoWriteFailed (meaning_of self.old.system) (meaning_of self.new.system) }
+        ensures ages { self.old.system.log.epoch ≤ self.new.system.log.epoch }
+        ensures applied { (s : State) → Serves (mounted self.old s) → IsYoung self.old
+            → NeedsPlace s (Command.SnapTake name.now)
+            → IsAppliedAt self.old s self.new (Command.SnapTake name.now) result }
+    {
+        if self.system.is_covered() {
+            return self.take_covered(name);
+        }
+        match self.settle() {
+            Ok(()) => self.take_covered(name),
+            Err(errno) => Reply::Refused(errno),
+        }
+    }
+
+    /// The same where the newest root covers all.
+    fn take_covered(&mut self, name: &Text) -> Reply
+        requires { IsFalse self.old.has_failed }
+        ensures uses { Uses (meaning_of self.old.system) (meaning_of self.new.system) }
+        ensures eio { result ≡ Reply.Refused Errno.EIO
+            → HasFailed (meaning_of self.old.system) (meaning_of self.new.system) }
+        ensures refused { (errno : Errno) → result ≡ Reply.Refused errno → errno ≢ Errno.EIO
+            → NoWriteFailed (meaning_of self.old.system) (meaning_of self.new.system) }
+        ensures ages { self.old.system.log.epoch ≤ self.new.system.log.epoch }
+        ensures applied { (s : State) → Serves (mounted self.old s) → HasNext self.old
+            → IsCovered self.old.system s.tree.descriptors s
+            → IsAppliedAt self.old s self.new (Command.SnapTake name.now) result }
+    {
+        served_states_open(&self.system);
+        match self.system.take(name) {
+            Ok(Ok(())) => {
+                served_states_open(&self.system);
+                Reply::Done
+            }
+            Ok(Err(errno)) => Reply::Refused(errno),
+            Err(error) => {
+                self.has_failed = fails_point(error);
+                Reply::Refused(errno_of_point(error))
+            }
+        }
+    }
+
+    /// `snap delete`: a consistency point that deletes the snapshot.
+    fn delete(&mut self, name: &Text) -> Reply
+        requires { IsFalse self.old.has_failed }
+        ensures uses { Uses (meaning_of self.old.system) (meaning_of self.new.system) }
+        ensures eio { result ≡ Reply.Refused Errno.EIO
+            → HasFailed (meaning_of self.old.system) (meaning_of self.new.system) }
+        ensures refused { (errno : Errno) → result ≡ Reply.Refused errno → errno ≢ Errno.EIO
+            → NoWriteFailed (meaning_of self.old.system) (meaning_of self.new.system) }
+        ensures ages { self.old.system.log.epoch ≤ self.new.system.log.epoch }
+        ensures applied { IsAppliedAlways self.old self.new (Command.SnapDelete name.now) result }
+    {
+        served_states_open(&self.system);
+        match self.system.delete(name) {
+            Ok(Ok(())) => {
+                served_states_open(&self.system);
+                Reply::Done
+            }
+            Ok(Err(errno)) => Reply::Refused(errno),
+            Err(error) => {
+                self.has_failed = fails_point(error);
+                Reply::Refused(errno_of_point(error))
+            }
+        }
+    }
+
     /// Runs a consistency point, and says why there is none.
     fn settle(&mut self) -> Result<(), Errno>
         requires { IsFalse self.old.has_failed }
@@ -200,6 +293,7 @@ impl<S: Station> Fs<S> {
         ensures read { OnOk result ((meaning_of self.new.system).failed_reads
             ≡ (meaning_of self.old.system).failed_reads) }
         ensures ages { self.old.system.log.epoch ≤ self.new.system.log.epoch }
+        ensures once { self.new.system.log.epoch ≤ self.old.system.log.epoch + 1 }
         ensures going { OnOk result (IsFalse self.new.has_failed) }
         ensures empty { OnOk result (HasEmptyLog self.new.system) }
         ensures stays { (s : State) → Serves (mounted self.old s)
@@ -207,7 +301,7 @@ impl<S: Station> Fs<S> {
         ensures covered { (s : State) → Serves (mounted self.old s)
             → OnOk result (IsCovered self.new.system s.tree.descriptors s) }
         ensures applied { (command : Command) (s : State) → Serves (mounted self.old s)
-            → IsYoung self.old → NeedsPlace s command
+            → HasNext self.old → NeedsPlace s command
             → IfErr result (λ errno.
             IsAppliedAt self.old s self.new command (Reply.Refused errno)) }
     {
@@ -223,7 +317,6 @@ impl<S: Station> Fs<S> {
     /// Applies commands in order and answers each. Room for all replies is taken first: `NoMemory` where there is none,
     /// and then no command was run.
     pub fn run(&mut self, commands: &[Command]) -> Result<Vec<Reply>, RunError>
-        requires { All IsServed commands.now }
         ensures uses { Uses (meaning_of self.old.system) (meaning_of self.new.system) }
         ensures refused { OnErr result (self.new ≡ self.old) }
         ensures count { IfOk result (λ replies. vec_len replies ≡ length commands.now) }

@@ -3,14 +3,9 @@ use Rattle.std.specs.Prelude.{◌≡◌, ◌≢◌, ℕ, ◌+◌, ◌<◌, ◌==
 use Rattle.std.specs.Fmt.{decimal}
 use Rattle.std.specs.List.{slice_split}
 use Rattle.model.specs.declared.command.Command.{Command}
-use Rattle.mount.specs.Served.{IsServed}
 use Rattle.script.specs.Lines.{command_line, IsCommand}
 use Rattle.session.specs.declared.running.Fault.{Fault}
 use Rattle.session.specs.declared.running.Fault.TheVariants.{NoMemory, Line}
-
--- a command that a script's line may be: its texts are bytes, its numbers and its mode fit, and this version serves it
-abbrev pub IsScriptCommand : Command → Type 0
-IsScriptCommand c = IsCommand c × IsServed c
 
 -- the parts of a script between its line ends
 abbrev pub lines_of : List ℕ → List (List ℕ)
@@ -25,10 +20,10 @@ is_skipped (b ∷ bs) = b == 35
 abbrev pub lines_kept : List (List ℕ) → List (List ℕ)
 lines_kept lines = filter (λ line. not (is_skipped line)) lines
 
--- a line is to be a command, and is none that this version serves
+-- a line is to be a command, and is none
 pub record IsBadLine (line : List ℕ) : Type 0 where
   pub kept : is_skipped line ≡ false
-  pub none : (c : Command) → IsScriptCommand c → line ≢ command_line c
+  pub none : (c : Command) → IsCommand c → line ≢ command_line c
 
 -- line i of these is bad
 abbrev pub IsBadAt : List (List ℕ) → ℕ → Type 0
@@ -41,11 +36,11 @@ HasBadLine script = (i : ℕ) × IsBadAt (lines_of script) i
 -- a line is this command, or is skipped
 abbrev pub IsLineOf : List ℕ → Option Command → Type 0
 IsLineOf line None = is_skipped line ≡ true
-IsLineOf line (Some c) = (is_skipped line ≡ false) × IsScriptCommand c × (line ≡ command_line c)
+IsLineOf line (Some c) = (is_skipped line ≡ false) × IsCommand c × (line ≡ command_line c)
 
 -- these are the commands of some lines, but for those that are skipped
 pub record AreCommandsOf (lines : List (List ℕ)) (commands : List Command) : Type 0 where
-  pub bounded : All IsScriptCommand commands
+  pub bounded : All IsCommand commands
   pub spelled : map command_line commands ≡ lines_kept lines
 
 -- these are the commands of a script

@@ -2,9 +2,7 @@
 #![tactic(auto)]
 
 mod running;
-mod served;
 mod status;
 
 pub use running::session;
-pub use served::is_served;
 pub use status::Status;

@@ -1,16 +1,15 @@
 //! A session: a script run over a mounted station.
 
 ghost use Rattle.std.specs.Fn.{FnReturnsAt};
-ghost use Rattle.std.specs.Prelude.{All, ◌≡◌, ◌⊎◌, ◌∷◌, ◌++◌, [], true, false, IfOk, IfErr, IsErrOf, MatchResult, OnOk, map, string_bytes};
+ghost use Rattle.std.specs.Prelude.{◌≡◌, ◌⊎◌, ◌∷◌, ◌++◌, [], true, false, IfOk, IfErr, IsErrOf, MatchResult, OnOk, map, string_bytes};
 ghost use Rattle.std.specs.List.{position};
 ghost use Rattle.std.specs.Io.KnownBytes.{Appends};
-ghost use Rattle.mount.specs.Served.{IsServed};
 ghost use Rattle.script.specs.Replies.{reply_line};
 ghost use Rattle.session.specs.Scripts.{is_skipped, line_fault, lines_of, HasBadLine, IsBadLine, IsScriptFault, IsLineOf, IsScriptOf};
 ghost use Rattle.session.specs.Sessions.{answered, is_failed_call, mount_fault, reply_lines, CanNotShow, EndsRun, EndsShowing, EndsTelling, EndsWith, written};
 ghost use Rattle.session.specs.declared.running.Fault.TheVariants.{NoMemory};
 
-use crate::{Status, is_served};
+use crate::Status;
 use model::{Command, Errno, Reply};
 use mount::{Fs, MountError, RunError, mount};
 use script::{ScriptError, read_command, write_reply};
@@ -93,8 +92,7 @@ fn run_mounted<S: Station, C: Fn(&S) -> bool, O: Write>(
     was_cut: C,
     out: &mut O,
 ) -> (Status, S)
-    requires callable { C.IsAlwaysCallable was_cut }
-    requires served { All IsServed commands.now }
+    requires { C.IsAlwaysCallable was_cut }
     ensures cut { (result.0 ≡ Status.Cut) → FnReturnsAt C.Fn was_cut result.1 true }
     ensures done { (result.0 ≡ Status.Done) → FnReturnsAt C.Fn was_cut result.1 false }
     ensures ends { EndsRun fs commands.now result.1
@@ -133,9 +131,6 @@ fn read_script_line(alloc: Global, line: &[u8]) -> Result<Option<Command>, Scrip
         return Ok(None);
     }
     let command = read_command(alloc, line)?;
-    if !is_served(&command) {
-        return Err(ScriptError::NotACommand);
-    }
     Ok(Some(command))
 }
 

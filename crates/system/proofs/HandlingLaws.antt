@@ -38,6 +38,24 @@ opens_same m n s c same opens =
     let these = subst (λ (k : ℕ). (o : Opens k c.disk c.nvram s) × All IsServed o.changes) same (opens.opens, opens.served) in
     record { opens = these.0; served = these.1 }
 
+-- behind reads, a cut leaves the one state or the other
+pub either_after : (m mid new : Meaning) (s t : State) → ReadsOn m mid → EachCut m (OpensTo m s) → LeavesEither mid new s t → LeavesEither m new s t
+either_after m mid new s t reads opens leaves =
+    joined m mid new (λ c. OpensTo m s c ⊎ OpensTo m t c)
+    (weaker m mid (OpensTo m s) (λ c. OpensTo m s c ⊎ OpensTo m t c) (leaves_unchanged m mid (OpensTo m s) opens reads.goes) (λ c here. inl here))
+    (weaker mid new (λ c. OpensTo mid s c ⊎ OpensTo mid t c) (λ c. OpensTo m s c ⊎ OpensTo m t c) leaves (λ c here. elim here [
+      | inl before ↦ inl (opens_same m mid s c reads.same.sectors before)
+      | inr after ↦ inr (opens_same m mid t c reads.same.sectors after)
+    ]))
+
+-- behind reads, another meaning's calls
+pub uses_after : (m mid new : Meaning) → ReadsOn m mid → Uses mid new → Uses m new
+uses_after m mid new reads uses = record {
+  same = same_twice m mid new reads.same uses.same;
+  reads = may_grow_twice m.failed_reads mid.failed_reads new.failed_reads reads.reads uses.reads;
+  writes = may_grow_twice m.failed_writes mid.failed_writes new.failed_writes (inl reads.writes) uses.writes;
+}
+
 -- a system serves a state that has these blocks and these inodes in memory, and all else as another
 abbrev pub ServesOver : {S : Type 0} {G : Ghosts S} → System S G → Buffers S → InodeFile → State → Type 0
 ServesOver {S} {G} f blocks inodes s = IsServing (G.meaning blocks.station) blocks.kept f.root f.slot inodes f.map f.log f.pledged f.files s.tree.descriptors s
@@ -82,14 +100,8 @@ module _ {S : Type 0} {G : Ghosts S} (old new : System S G) (mid : Meaning) (cal
     (not_sure : (s : State) → ServesState old s → ¬ IsSure s call) (leads : (s : State) → ServesState old s → LeadsOn old new mid s call reply) where
   leaves_either : (s : State) (served : ServesState old s) → LeavesEither (meaning_of old) (meaning_of new) s (leads s served).after
   leaves_either s served =
-      let m = meaning_of old in
       let led = leads s served in
-      joined m mid (meaning_of new) (λ c. OpensTo m s c ⊎ OpensTo m led.after c)
-      (weaker m mid (OpensTo m s) (λ c. OpensTo m s c ⊎ OpensTo m led.after c) (leaves_unchanged m mid (OpensTo m s) (opens s served) reads.goes) (λ c here. inl here))
-      (weaker mid (meaning_of new) (λ c. OpensTo mid s c ⊎ OpensTo mid led.after c) (λ c. OpensTo m s c ⊎ OpensTo m led.after c) led.leaves (λ c here. elim here [
-        | inl before ↦ inl (opens_same m mid s c reads.same.sectors before)
-        | inr after ↦ inr (opens_same m mid led.after c reads.same.sectors after)
-      ]))
+      either_after (meaning_of old) mid (meaning_of new) s led.after reads (opens s served) led.leaves
 
   error_is : (x y : CallError) (r q : Result Reply CallError) → r ≡ Err x → q ≡ Err y → r ≡ q → x ≡ y
   error_is x y r q first second is = cc

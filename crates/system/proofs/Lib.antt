@@ -14,3 +14,5 @@ mod MovedLaws
 mod OpenFileLaws
 mod CloseLaws
 mod FileChangeLaws
+mod ViewLaws
+mod SettlingLaws

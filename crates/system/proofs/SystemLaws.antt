@@ -30,7 +30,7 @@ use Rattle.system.specs.Systems.{IsServing, state_with}
 module _ (m : Meaning) (kept : BTreeMap ℕ Block) (root : Root) (slot : ℕ) (inodes : InodeFile) (map : BlockMap) (log : LogEnd) (pledged : ℕ) (files : Descriptors) (table : ℕ → Option Description) (s : State)
     (serves : IsServing m kept root slot inodes map log pledged files table s) where
   -- where nothing was done but reading
-  pub read_on : (new : Meaning) (now_kept : BTreeMap ℕ Block) (now_map : BlockMap) → ReadsOn m new
+  abbrev pub read_on : (new : Meaning) (now_kept : BTreeMap ℕ Block) (now_map : BlockMap) → ReadsOn m new
       → ((disk : ℕ → List ℕ) → ShowsDisk m kept disk → ShowsDisk new now_kept disk)
       → ((b : ℕ) → settled_at now_map.parts.items b ≡ settled_at map.parts.items b) → IsServing new now_kept root slot inodes now_map log pledged files table s
   read_on new now_kept now_map reads shows entries =

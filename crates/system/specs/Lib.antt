@@ -13,3 +13,4 @@ pub mod Serving
 pub mod Room
 pub mod Changing
 pub mod OpenFiles
+pub mod Settling

@@ -25,19 +25,19 @@ use Rattle.system.specs.declared.system.System.{System}
 abbrev pub ServesState : {S : Type 0} {G : Ghosts S} → System S G → State → Type 0
 ServesState f s = Serves f s.tree.descriptors s
 
--- the command is a call on the tree or on a descriptor
+-- the command is a call on the tree, on a descriptor or on the tree of a snapshot, or lists the snapshots
 abbrev pub IsCall : Command → Type 0
 IsCall command.Sync = ⊥
 IsCall command.Df = ⊥
 IsCall (command.SnapTake name) = ⊥
 IsCall (command.SnapDelete name) = ⊥
-IsCall command.SnapList = ⊥
-IsCall (command.Within name call) = ⊥
 IsCall call = Unit {0}
 
 -- the command is a call on descriptors: it opens one, or names one that is open
 abbrev pub IsOpenFileCall : Command → Type 0
 IsOpenFileCall (command.Path call) = ⊥
+IsOpenFileCall command.SnapList = ⊥
+IsOpenFileCall (command.Within name call) = ⊥
 IsOpenFileCall call = IsCall call
 
 -- what a call on a state would be answered and would leave, where nothing comes in its way, whatever room there is

@@ -15,6 +15,8 @@ mod opening;
 mod point;
 mod reading;
 mod serving;
+mod settling;
+mod snapshot_reading;
 mod space;
 mod system;
 mod table_move;

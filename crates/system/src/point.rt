@@ -2,7 +2,8 @@
 
 ghost use Rattle.std.specs.Prelude.{◌≡◌, ◌⊎◌, ◌+◌, ◌≤◌, ◌^◌, ℕ, Option, OnOk, IfErr, IsErrOf, MatchResult};
 ghost use Rattle.station.specs.Calls.{Uses};
-ghost use Rattle.station.specs.Moments.{HasGrown, LeavesOnly};
+ghost use Rattle.station.specs.Images.{Unchanged};
+ghost use Rattle.station.specs.Moments.{Goes, HasGrown, LeavesOnly};
 ghost use Rattle.model.specs.States.{State};
 ghost use Rattle.model.specs.Trees.{Description};
 ghost use Rattle.images.specs.SnapshotSteps.{SnapshotStep};
@@ -92,6 +93,8 @@ impl<S: Station> System<S> {
             (stepped step serves.first serves.snapshots s)) }
         ensures refused { (table : ℕ → Option Description) (s : State) → Serves self.old table s
             → IfErr result (λ e. IsRefused e → Serves self.new table s) }
+        ensures kept { IfErr result (λ e. IsRefused e
+            → Goes Unchanged (meaning_of self.old) (meaning_of self.new)) }
         ensures generation { OnOk result (self.new.root.generation ≡ self.old.log.epoch) }
         ensures log { MatchResult result
             (λ _. self.new.log

@@ -8,7 +8,8 @@ ghost use Rattle.blocktree.specs.Errors.{IsFault};
 ghost use Rattle.calls.specs.Getting.{data_reply};
 ghost use Rattle.calls.specs.Listing.{reply_of};
 ghost use Rattle.calls.specs.ReadingLink.{text_reply};
-ghost use Rattle.records.specs.Shown.{NeverDamaged, OnMounted};
+ghost use Rattle.calls.specs.Seeing.{OnTrees};
+ghost use Rattle.records.specs.Shown.{NeverDamaged};
 ghost use Rattle.calls.specs.Stating.{stat_reply};
 ghost use Rattle.calls.specs.Standing.{Looks};
 ghost use Rattle.system.specs.Serving.{TellsNoFault};
@@ -18,6 +19,20 @@ use buffers::Blocks;
 use inofile::InodeFile;
 use model::{Errno, Names, PathCall, Reply, Stat, Text};
 use std::alloc::Global;
+
+/// Whether a call by a path only reads.
+pub(crate) fn is_reading(call: &PathCall) -> bool
+    ensures { result ≡ is_reading_call call.now }
+{
+    match call {
+        PathCall::List { .. } => true,
+        PathCall::Stat { .. } => true,
+        PathCall::Lstat { .. } => true,
+        PathCall::Readlink { .. } => true,
+        PathCall::Get { .. } => true,
+        _ => false,
+    }
+}
 
 /// What a call that only reads is answered on the image in memory. NoMemory; Device where a read failed; Damaged where a block on
 /// the way is outside its format.
@@ -30,7 +45,7 @@ pub(crate) fn read<B: Blocks>(
     requires { IsTrue (is_reading_call call.now) }
     ensures looks { Looks B.Blocks IsFault blocks.old blocks.new inodes.old inodes.new result }
     ensures no_fault { IfOk result TellsNoFault }
-    ensures answers { OnMounted B.Blocks blocks.old inodes.old (λ v table.
+    ensures answers { OnTrees B.Blocks blocks.old inodes.old (λ v table.
         IfOk result (λ reply. (count : ℕ)
         → calls count (tree_of v table) call.now reply (tree_of v table) nothing)) }
     ensures damaged { NeverDamaged B.Blocks blocks.old inodes.old result }

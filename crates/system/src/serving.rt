@@ -1,4 +1,4 @@
-//! Calls on the tree, served on a mounted system.
+//! Calls that a consistency point isn't part of, served on a mounted system.
 
 ghost use Rattle.std.specs.Prelude.{◌≡◌, ◌≢◌, ◌⊎◌, IsFalse, IsTrue, IfOk, IfErr, IsErrOf, MatchResult};
 ghost use Rattle.station.specs.Calls.{Uses};
@@ -13,7 +13,7 @@ ghost use Rattle.system.specs.Systems.{meaning_of};
 
 use crate::changing::prepare;
 use crate::laws::served_states_open;
-use crate::reading::read;
+use crate::reading::{is_reading, read};
 use crate::{CallError, System};
 use blocktree::ReadError;
 use calls::Changing;
@@ -44,8 +44,8 @@ pub(crate) fn log_error(error: AppendError) -> CallError
 }
 
 impl<S: Station> System<S> {
-    /// Serves a call on the tree or on a descriptor: answers it where the image doesn't change by it, or else logs its record and
-    /// puts it in force. `LogFull` only for a call that would change something, where a consistency point has to come first.
+    /// Serves a call on the tree, on a descriptor or on a snapshot's tree, or lists the snapshots: answers it where the image doesn't
+    /// change by it, or else logs its record and puts it in force. `LogFull` only for a call that would change something, where a consistency point has to come first.
     /// After an error nothing has changed, but for `NotWritten`: then a cut leaves the state before the call or the one after
     /// it. A sure call is always answered.
     pub fn call(&mut self, call: &Command) -> Result<Reply, CallError>
@@ -95,6 +95,8 @@ impl<S: Station> System<S> {
     {
         match call {
             Command::Path(call) => self.serve_path(call),
+            Command::SnapList => self.list_snapshots(),
+            Command::Within { name, call } => self.look_within(name, call),
             _ => self.serve_open_file(call),
         }
     }
@@ -103,13 +105,10 @@ impl<S: Station> System<S> {
     fn serve_path(&mut self, call: &PathCall) -> Result<Reply, CallError>
         ensures { Handles self.old self.new (Command.Path call.now) result }
     {
-        match call {
-            PathCall::List { .. } => self.look(call),
-            PathCall::Stat { .. } => self.look(call),
-            PathCall::Lstat { .. } => self.look(call),
-            PathCall::Readlink { .. } => self.look(call),
-            PathCall::Get { .. } => self.look(call),
-            _ => self.change(call),
+        if is_reading(call) {
+            self.look(call)
+        } else {
+            self.change(call)
         }
     }
 

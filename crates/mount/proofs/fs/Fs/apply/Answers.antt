@@ -1,5 +1,5 @@
 use Rattle.std.proofs.Common.{◌≡◌}
-use Rattle.model.specs.declared.command.Command.TheVariants.{Sync, Df}
+use Rattle.model.specs.declared.command.Command.TheVariants.{Sync, Df, SnapTake, SnapDelete}
 use Rattle.model.specs.declared.errno.Errno.TheVariants.{EIO}
 use Rattle.mount.proofs.ApplyLemmas.{failed_applied}
 use Rattle.mount.proofs.AttemptLemmas.{asked_as}
@@ -20,3 +20,13 @@ returns-in-Df-clause-applied g c s serves young =
 
 pub returns-in-Df-clause-eio : goal.returns-in-Df-clause-eio
 returns-in-Df-clause-eio g c is = absurd (c.space.ensures.answers EIO is)
+
+pub returns-in-SnapTake-clause-applied : goal.returns-in-SnapTake-clause-applied
+returns-in-SnapTake-clause-applied g c s serves young =
+    let is : c.args.command.now ≡ SnapTake c.in-SnapTake.name = cc in
+    asked_as _ _ s (SnapTake c.in-SnapTake.name) c.args.command.now c.take.result is (c.take.ensures.applied s serves young)
+
+pub returns-in-SnapDelete-clause-applied : goal.returns-in-SnapDelete-clause-applied
+returns-in-SnapDelete-clause-applied g c s serves young =
+    let is : c.args.command.now ≡ SnapDelete c.in-SnapDelete.name = cc in
+    asked_as _ _ s (SnapDelete c.in-SnapDelete.name) c.args.command.now c.delete.result is (c.delete.ensures.applied s serves young)

@@ -1,11 +1,11 @@
 use Rattle.std.proofs.Common.{ap}
 use Rattle.std.specs.Prelude.{Err}
-use Rattle.mount.proofs.AttemptLemmas.{after_stay, answered_as}
+use Rattle.mount.proofs.AttemptLemmas.{after_stay, answered_as, has_next}
 use Rattle.mount.proofs.fs.Fs.call_settled.Goals as goal
 
 pub returns-in-Err-clause-applied : goal.returns-in-Err-clause-applied
 returns-in-Err-clause-applied g c s serves young needs =
-    c.in-Err.ensures.applied c.args.call.now s serves young needs
+    c.in-Err.ensures.applied c.args.call.now s serves (has_next _ young) needs
 
 pub returns-in-Ok-clause-eio : goal.returns-in-Ok-clause-eio
 returns-in-Ok-clause-eio g c is = absurd (c.in-Ok.ensures.no_fault is)

@@ -3,7 +3,7 @@ use Rattle.station.proofs.Moments.{same_none, started}
 use Rattle.model.specs.declared.command.Command.TheVariants.{Sync}
 use Rattle.system.specs.Images.{OpensTo}
 use Rattle.system.specs.Systems.{meaning_of}
-use Rattle.mount.proofs.AttemptLemmas.{still_going, stays_by, synced, sync_needs}
+use Rattle.mount.proofs.AttemptLemmas.{has_next, still_going, stays_by, synced, sync_needs}
 use Rattle.mount.proofs.fs.Fs.sync.Goals as goal
 
 pub returns-then-is_covered-clause-applied : goal.returns-then-is_covered-clause-applied
@@ -21,4 +21,4 @@ returns-in-Ok-clause-applied g c s serves young =
     synced _ _ s serves c.requires (told.stays s serves) told.read told.written (told.covered s serves)
 
 pub returns-in-Err-clause-applied : goal.returns-in-Err-clause-applied
-returns-in-Err-clause-applied g c s serves young = c.in-Err.ensures.applied Sync s serves young (sync_needs s)
+returns-in-Err-clause-applied g c s serves young = c.in-Err.ensures.applied Sync s serves (has_next _ young) (sync_needs s)

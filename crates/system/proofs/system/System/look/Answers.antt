@@ -23,7 +23,7 @@ returns-in-Ok g c =
     (λ s served.
     let its = its_volume {G = g.S.Station} fs s served in
     told_of {G = g.S.Station} fs s served c.args.call.now c.in-Ok.reply
-    (told.answers d (inodes_of (whole d fs.root).active) served.running s.tree.descriptors (record { shows = served.shows; volume = its.0 }) its.1 served.mounted s.inodes))
+    (told.answers d (inodes_of (whole d fs.root).active) served.running s.tree.descriptors (record { shows = served.shows; volume = its.0 }) its.1 s.inodes))
 
 pub returns-in-Err : goal.returns-in-Err
 returns-in-Err g c =

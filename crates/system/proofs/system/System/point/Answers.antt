@@ -1,9 +1,7 @@
-use Rattle.std.proofs.Common.{◌≡◌, ◌⊎◌, inl, inr, ℕ, List, Option, ap, refl, subst, sym}
+use Rattle.std.proofs.Common.{◌≡◌, ◌⊎◌, inl, inr, ap, refl, subst, sym}
 use Rattle.std.specs.Prelude.{OnOk}
 use Rattle.images.specs.SnapshotSteps.SnapshotStep.{unchanged}
-use Rattle.model.specs.Paths.{Name}
 use Rattle.model.specs.States.{State, with_snapshots}
-use Rattle.model.specs.Trees.{Tree}
 use Rattle.station.specs.Images.{Images}
 use Rattle.station.proofs.Moments.{weaker}
 use Rattle.system.specs.Images.{OpensTo}

@@ -2,9 +2,9 @@ use Rattle.std.proofs.Common.{◌≡◌, ◌⊎◌, inl, inr, ℕ, ◌+◌, ◌*
 use Rattle.std.specs.Prelude.{IfErr, IfOk, IsFalse, OnOk}
 use Rattle.std.specs.BTreeMap.{BTreeMap}
 use Rattle.std.proofs.lemmas.Bool.{cases_lt, false≢true}
-use Rattle.station.specs.Images.{Images}
-use Rattle.station.specs.Moments.{Meaning, HasGrown, MayGrow}
-use Rattle.station.proofs.Moments.{leaves_unchanged, same_none, same_twice, started}
+use Rattle.station.specs.Images.{Images, Unchanged}
+use Rattle.station.specs.Moments.{Goes, Meaning, HasGrown, MayGrow}
+use Rattle.station.proofs.Moments.{leaves_unchanged, same_none, same_twice, started, unchanged_none}
 use Rattle.layout.specs.Limits.{Sizes}
 use Rattle.layout.specs.Places.{blocks_of}
 use Rattle.layout.specs.Root.{IsRoot, root_bytes}
@@ -126,6 +126,9 @@ returns-in_default-clause-last g c = λ table s serves is.
       | inr ge ↦ ge
     ]
 
+pub returns-in_default-clause-kept : goal.returns-in_default-clause-kept
+returns-in_default-clause-kept g c refused = unchanged_none (g.S.Station.meaning c.args.self.now.blocks.station)
+
 -- ---- nothing was planned
 
 pub returns-in-Err-clause-uses : goal.returns-in-Err-clause-uses
@@ -142,6 +145,9 @@ returns-in-Err-clause-any_moment g c = λ table s serves step made.
     let after = stepped step serves.first serves.snapshots s in
     leaves_unchanged m (g.S.Station.meaning c.plan-map.new.blocks.station) (λ i. OpensTo m s i ⊎ OpensTo m after i)
     (λ honest i left. inl (served.all_open c.cuts_open.ensures m f.blocks.kept f.root f.slot f.inodes f.map f.log f.pledged f.files table s serves f.sectors f.half honest i left)) reads.goes
+
+pub returns-in-Err-clause-kept : goal.returns-in-Err-clause-kept
+returns-in-Err-clause-kept g c refused = (c.plan-map.ensures.reads.reads c.args.self.now.blocks (reads_none (g.S.Station.meaning c.args.self.now.blocks.station))).goes
 
 pub returns-in-Err-clause-refused : goal.returns-in-Err-clause-refused
 returns-in-Err-clause-refused g c = λ table s serves refused.
@@ -245,6 +251,12 @@ returns-in-Err-carry_out-clause-any_moment g c = λ table s serves step made.
     points.at_any_moment c.cuts_open.ensures m f.blocks.kept f.root f.slot f.inodes f.map f.log f.pledged f.files table s serves f.sectors f.half c.in-Ok.point.plan c.in-Ok.point.root step
     (planned g (goal.at.returns-in-Err-carry_out-clause-any_moment g c).In-Ok table s serves step made) here (g.met.S.Station.sized f.blocks.station serves.honest m.seen here).sector
     (g.S.Station.meaning c.plan-map.new.blocks.station) (g.S.Station.meaning c.carry_out.new.buffers.station) reads.goes c.carry_out.ensures.any_moment
+
+pub returns-in-Err-carry_out-clause-kept : goal.returns-in-Err-carry_out-clause-kept
+returns-in-Err-carry_out-clause-kept g c refused =
+    let m = g.S.Station.meaning c.args.self.now.blocks.station in
+    subst (λ (b : Buffers g.row.S.Denot). Goes Unchanged m (g.S.Station.meaning b.station)) (sym (c.in-Err-carry_out.ensures.refused refused))
+    (c.plan-map.ensures.reads.reads c.args.self.now.blocks (reads_none m)).goes
 
 pub returns-in-Err-carry_out-clause-refused : goal.returns-in-Err-carry_out-clause-refused
 returns-in-Err-carry_out-clause-refused g c = λ table s serves refused.

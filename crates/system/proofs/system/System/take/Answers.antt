@@ -1,0 +1,160 @@
+use Rattle.std.proofs.Common.{◌≡◌, ◌≢◌, inl, inr, ◌<◌, ◌^◌, [], ◌∷◌, ◌++◌, None, Result, Err, ap, refl, sym, subst, arith}
+use Rattle.std.specs.Prelude.{IfErr, IfOk, MatchResult}
+use Rattle.std.proofs.lemmas.Bool.{cases_lt, false≢true}
+use Rattle.station.specs.Images.{Images}
+use Rattle.layout.specs.Places.{blocks_of}
+use Rattle.buffers.specs.Readings.{reads_none}
+use Rattle.images.specs.SnapshotSteps.SnapshotStep.{taken}
+use Rattle.model.specs.Paths.{Name, first_refusal}
+use Rattle.model.specs.Room.{a_snapshot, nothing}
+use Rattle.model.specs.Records.{without_nameless}
+use Rattle.model.specs.States.{State, with_snapshots}
+use Rattle.model.specs.Volumes.{tree_of}
+use Rattle.model.specs.Steps.{take_tests, takes}
+use Rattle.model.specs.declared.command.Command.TheVariants as command
+use Rattle.model.specs.declared.errno.Errno.{Errno}
+use Rattle.model.specs.declared.errno.Errno.TheVariants.{EIO}
+use Rattle.model.specs.declared.reply.Reply.TheVariants.{Done, Refused}
+use Rattle.snapshots.specs.Taken.{MayTake, RefusesTake}
+use Rattle.snapshots.specs.declared.taking.Taking.{Taking}
+use Rattle.system.specs.Serving.{ServesState}
+use Rattle.system.specs.Systems.{meaning_of}
+use Rattle.system.proofs.HandlingLaws.{either_after}
+use Rattle.system.proofs.PointLaws.{later}
+use Rattle.system.proofs.SettlingLaws.{can_take, not_settled, refuses, settles, take_done, take_refused, take_step, forgets_running, too_old, unread}
+use Rattle.system.proofs.ViewLaws.{closed, snapshots_of, stays_read}
+use Rattle.system.proofs.system.System.take.Given.{Over}
+use Rattle.system.proofs.system.System.take.Goals as goal
+use Rattle.system.proofs.system.System.take.Goals.{In-Ok-Ok}
+
+-- what the tests say of a state that the system serves
+passed : (g : Over) (c : In-Ok-Ok g) (s : State) → ServesState {G = g.S.Station} c.args.self.now s → first_refusal (take_tests s c.as_bytes-name.result.now) ≡ None
+passed g c s served =
+    let fs = c.args.self.now in
+    let d = blocks_of (meaning_of {G = g.S.Station} fs).seen.disk in
+    let name = c.as_bytes-name.result.now in
+    subst (λ (r : Result Taking Errno). MatchResult r (λ t. first_refusal (take_tests s name) ≡ None) (RefusesTake s name)) c.in-Ok-Ok.field-0-is
+    (c.in-Ok-Ok.ensures.tests d served.shows served.first served.snapshots served.under.holds s (snapshots_of {G = g.S.Station} fs s served))
+
+may : (g : Over) (c : In-Ok-Ok g) (s : State) → ServesState {G = g.S.Station} c.args.self.now s
+    → MayTake (blocks_of (meaning_of {G = g.S.Station} c.args.self.now).seen.disk) c.args.self.now.root c.as_bytes-name.result.now c.in-Ok-Ok.taking
+may g c s served =
+    let fs = c.args.self.now in
+    let d = blocks_of (meaning_of {G = g.S.Station} fs).seen.disk in
+    subst (λ (r : Result Taking Errno). IfOk r (MayTake d fs.root c.as_bytes-name.result.now)) c.in-Ok-Ok.field-0-is
+    (c.in-Ok-Ok.ensures.may d served.shows served.first served.snapshots served.under.holds)
+
+pub returns-in-Ok-Err : goal.returns-in-Ok-Err
+returns-in-Ok-Err g c =
+    let fs = c.args.self.now in
+    let m = meaning_of {G = g.S.Station} fs in
+    let d = blocks_of m.seen.disk in
+    let told = c.in-Ok-Err.ensures in
+    let reads = told.reads.reads fs.blocks (reads_none m) in
+    let name = c.as_bytes-name.result.now in
+    let errno = c.in-Ok-Err.errno in
+    let own : errno ≢ EIO = subst (λ (r : Result Taking Errno). IfErr r (λ e. e ≢ EIO)) c.in-Ok-Err.field-0-is told.own in
+    refuses fs _ _ (command.SnapTake c.args.name.now) reads refl (λ s served. stays_read {G = g.S.Station} fs c.prepare_take.new.blocks s reads told.reads.same served) errno own told.reads.counted
+    (λ s served room. subst (λ (n : Name). takes s n (Refused errno) s nothing) c.as_bytes-name.ensures
+    (take_refused s name errno
+    (subst (λ (r : Result Taking Errno). MatchResult r (λ t. first_refusal (take_tests s name) ≡ None) (RefusesTake s name)) c.in-Ok-Err.field-0-is
+    (told.tests d served.shows served.first served.snapshots served.under.holds s (snapshots_of {G = g.S.Station} fs s served)))))
+
+pub returns-in-Err : goal.returns-in-Err
+returns-in-Err g c =
+    let fs = c.args.self.now in
+    let m = meaning_of {G = g.S.Station} fs in
+    let d = blocks_of m.seen.disk in
+    let told = c.in-Err.ensures in
+    let reads = told.reads.reads fs.blocks (reads_none m) in
+    unread fs _ _ (command.SnapTake c.args.name.now) reads refl (λ s served. stays_read {G = g.S.Station} fs c.prepare_take.new.blocks s reads told.reads.same served) c.in-Err.error _ c.from.ensures told.reads.device
+    (λ s served is. told.damaged d served.shows served.first served.snapshots served.under.holds (ap (λ e. Err e) is))
+
+pub returns-in_default : goal.returns-in_default
+returns-in_default g c =
+    let fs = c.args.self.now in
+    let m = meaning_of {G = g.S.Station} fs in
+    let d = blocks_of m.seen.disk in
+    let told = c.in-Ok-Ok.ensures in
+    let reads = told.reads.reads fs.blocks (reads_none m) in
+    too_old fs _ _ (command.SnapTake c.args.name.now) reads refl (λ s served. stays_read {G = g.S.Station} fs c.prepare_take.new.blocks s reads told.reads.same served)
+    (λ s served.
+    let t = may g (goal.at.returns-in_default g c).In-Ok-Ok s served in
+    let here = g.met.S.Station.seen_may_be_left fs.blocks.station served.honest in
+    let newer = later fs.log fs.root.generation served.bodies m.seen.nvram (served.left served.honest m.seen here).log_stands in
+    elim (cases_lt c.in-Ok-Ok.taking.order 4611686018427387904) [
+      | inl lt ↦ absurd (false≢true (c.in_default.ensures.within.1 (t.first, lt)))
+      | inr ge ↦ omega (arith, ge, t.order, newer)
+    ])
+
+pub returns-in-Ok : goal.returns-in-Ok
+returns-in-Ok g c =
+    let fs = c.args.self.now in
+    let m = meaning_of {G = g.S.Station} fs in
+    let d = blocks_of m.seen.disk in
+    let told = c.in-Ok-Ok.ensures in
+    let reads = told.reads.reads fs.blocks (reads_none m) in
+    let mid = g.S.Station.meaning c.prepare_take.new.blocks.station in
+    let new = c.point_with.new.self in
+    let name = c.as_bytes-name.result.now in
+    let taking = c.in-Ok-Ok.taking in
+    let made = c.in-Ok.ensures in
+    settles fs new mid _ (command.SnapTake c.args.name.now) reads told.reads.counted made.uses made.written made.reads made.log
+    (λ s served covered.
+    let v = covered.serves in
+    let over = stays_read {G = g.S.Station} fs c.prepare_take.new.blocks s reads told.reads.same v in
+    let after : State = with_snapshots (v.snapshots ++ (name, tree_of (without_nameless v.first) closed) ∷ []) s in
+    let step = taken taking.slot (record { order = taking.order; name = name; inode_file = fs.root.inode_file }) in
+    let went = reads.goes v.honest in
+    let same = ap (λ (i : Images). blocks_of i.disk) (sym went.seen) in
+    let low : taking.order < 2 ^ 62 = (c.in-Some.ensures.within.0 refl).1 in
+    let can = can_take fs.root d (blocks_of mid.seen.disk) name taking fs.is_root same (may g (goal.at.returns-in-Ok g c).In-Ok-Ok s v) low in
+    record {
+      after = after;
+      need = a_snapshot;
+      step = λ room. subst (λ (n : Name). takes s n Done after a_snapshot) c.as_bytes-name.ensures
+          (take_step {G = g.S.Station} fs s c.cuts_open.ensures.forgets name v covered.held (passed g (goal.at.returns-in-Ok g c).In-Ok-Ok s v));
+      covered = made.covered s.tree.descriptors s over step (record { is = refl; can = can });
+      leaves = either_after m mid (meaning_of {G = g.S.Station} new) s after reads (c.served_states_open.ensures s.tree.descriptors s served)
+          (made.any_moment s.tree.descriptors s over step (record { is = refl; can = can }));
+    }) _
+
+pub returns-in-Err-point_with : goal.returns-in-Err-point_with
+returns-in-Err-point_with g c =
+    let fs = c.args.self.now in
+    let m = meaning_of {G = g.S.Station} fs in
+    let d = blocks_of m.seen.disk in
+    let told = c.in-Ok-Ok.ensures in
+    let reads = told.reads.reads fs.blocks (reads_none m) in
+    let mid = g.S.Station.meaning c.prepare_take.new.blocks.station in
+    let new = c.point_with.new.self in
+    let name = c.as_bytes-name.result.now in
+    let taking = c.in-Ok-Ok.taking in
+    let made = c.in-Err-point_with.ensures in
+    let over = λ (s : State) (served : ServesState {G = g.S.Station} fs s). stays_read {G = g.S.Station} fs c.prepare_take.new.blocks s reads told.reads.same served in
+    not_settled fs new mid _ (command.SnapTake c.args.name.now) reads told.reads.counted made.uses c.in-Err-point_with.error made.log made.written (λ is. made.device (ap (λ e. Err e) is))
+    (λ is. made.read (ap (λ e. Err e) is)) made.kept (λ s served refused. made.refused s.tree.descriptors s (over s served) refused)
+    (λ s served covered is.
+    let v = covered.serves in
+    let after : State = with_snapshots (v.snapshots ++ (name, tree_of (without_nameless v.first) closed) ∷ []) s in
+    let step = taken taking.slot (record { order = taking.order; name = name; inode_file = fs.root.inode_file }) in
+    let went = reads.goes v.honest in
+    let same = ap (λ (i : Images). blocks_of i.disk) (sym went.seen) in
+    let low : taking.order < 2 ^ 62 = (c.in-Some.ensures.within.0 refl).1 in
+    let can = can_take fs.root d (blocks_of mid.seen.disk) name taking fs.is_root same (may g (goal.at.returns-in-Err-point_with g c).In-Ok-Ok s v) low in
+    record {
+      reply = Done;
+      after = after;
+      need = a_snapshot;
+      step = λ room. subst (λ (n : Name). takes s n Done after a_snapshot) c.as_bytes-name.ensures
+          (take_step {G = g.S.Station} fs s c.cuts_open.ensures.forgets name v covered.held (passed g (goal.at.returns-in-Err-point_with g c).In-Ok-Ok s v));
+      leaves = either_after m mid (meaning_of {G = g.S.Station} new) s after reads (c.served_states_open.ensures s.tree.descriptors s served)
+          (made.any_moment s.tree.descriptors s (over s v) step (record { is = refl; can = can }));
+    })
+    (λ is. made.full (ap (λ e. Err e) is))
+    (λ s served room.
+    let t = tree_of (without_nameless served.running) closed in
+    let after : State = with_snapshots (s.snapshots ++ (name, t) ∷ []) s in
+    let step = take_done s name t (passed g (goal.at.returns-in-Err-point_with g c).In-Ok-Ok s served) (forgets_running {G = g.S.Station} fs s c.cuts_open.ensures.forgets served) in
+    (Done, after, a_snapshot, subst (λ (n : Name). takes s n Done after a_snapshot) c.as_bytes-name.ensures step, inl (λ e. cc)))
+    (λ s served is. made.damaged s.tree.descriptors s (over s served) (ap (λ e. Err e) is)) (λ s served is. made.last s.tree.descriptors s (over s served) (ap (λ e. Err e) is))

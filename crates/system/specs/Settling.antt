@@ -1,0 +1,89 @@
+-- Commands that end behind a consistency point, and the tests that come before one.
+use Rattle.std.specs.Prelude.{ℕ, ◌≡◌, ◌≢◌, ◌+◌, ◌<◌, ◌≤◌, ◌^◌, OnOk, IfErr, IfOk, IsErrOf, MatchResult, Option, Some, None, Result}
+use Rattle.station.specs.Calls.{Uses}
+use Rattle.station.specs.Images.{Unchanged}
+use Rattle.station.specs.Moments.{Goes, HasGrown}
+use Rattle.station.specs.declared.station.Station.{Ghosts}
+use Rattle.model.specs.Circumstances.{IsStoring}
+use Rattle.model.specs.Paths.{Name}
+use Rattle.model.specs.Room.{Need, Room, nothing}
+use Rattle.model.specs.States.{State}
+use Rattle.model.specs.declared.command.Command.{Command}
+use Rattle.model.specs.declared.command.Command.TheVariants as command
+use Rattle.model.specs.declared.errno.Errno.{Errno}
+use Rattle.model.specs.declared.errno.Errno.TheVariants.{EIO}
+use Rattle.model.specs.declared.reply.Reply.TheVariants.{Done, Refused}
+use Rattle.buffers.specs.Disks.{ReadsOn}
+use Rattle.conspoint.specs.declared.error.PlanError.TheVariants as plan
+use Rattle.planning.specs.Space.{point_nodes}
+use Rattle.system.specs.Errors.{IsRefused}
+use Rattle.system.specs.Points.{free_blocks}
+use Rattle.system.specs.Serving.{IsBrokenOff, LeavesEither, ServesState, WouldCall, WouldChange}
+use Rattle.system.specs.Systems.{IsCovered, meaning_of}
+use Rattle.system.specs.declared.error.CallError.{CallError}
+use Rattle.system.specs.declared.error.CallError.TheVariants.{Damaged, LogFull, NotRead, NotWritten}
+use Rattle.system.specs.declared.error.PointError.{PointError}
+use Rattle.system.specs.declared.error.PointError.TheVariants as point
+use Rattle.system.specs.declared.system.System.{System}
+
+-- Nothing was done but reading blocks: a system serves what it served.
+pub record Glances {S : Type 0} {G : Ghosts S} {T : Type 0} (old new : System S G) (result : Result T CallError) : Type 0 where
+  pub reads : ReadsOn (meaning_of old) (meaning_of new)
+  pub counted : OnOk result ((meaning_of new).failed_reads ≡ (meaning_of old).failed_reads)
+  pub not_read : IsErrOf result NotRead → HasGrown (meaning_of old).failed_reads (meaning_of new).failed_reads
+  pub log : new.log ≡ old.log
+  pub refuses : IfErr result (λ e. (e ≢ LogFull) × (e ≢ NotWritten))
+  pub serves : (s : State) → ServesState old s → ServesState new s
+  pub damaged : (s : State) → ServesState old s → IsErrOf result Damaged → ⊥
+
+-- of the tests of `snap take` on a state this is the first refusal, or it would take one
+abbrev pub TestsTake : State → Name → Option Errno → Type 0
+TestsTake s name (Some errno) = WouldCall s (command.SnapTake name) (Refused errno) s nothing
+TestsTake s name None = WouldChange s (command.SnapTake name)
+
+-- how many blocks a command's consistency point stores beside those of the tree
+abbrev pub heads_of : Command → ℕ
+heads_of (command.SnapTake name) = 1
+heads_of c = 0
+
+-- A system is too full for a command: its root leaves fewer blocks free than the command's consistency point may take.
+abbrev pub IsFilledBy : {S : Type 0} {G : Ghosts S} → Command → System S G → Type 0
+IsFilledBy c f = free_blocks f.map < point_nodes f.root f.inodes f.map.count + heads_of c
+
+-- A command was done on a system at a state, and its root holds all of the state that it leaves.
+pub record IsSettled {S : Type 0} {G : Ghosts S} (old new : System S G) (s : State) (c : Command) : Type 0 where
+  pub after : State
+  pub need : Need
+  pub step : WouldCall s c Done after need
+  pub covered : IsCovered new after.tree.descriptors after
+  pub leaves : LeavesEither (meaning_of old) (meaning_of new) s after
+
+-- A command was refused by its own tests, and nothing was done but reading.
+pub record IsRefusedBy {S : Type 0} {G : Ghosts S} (old new : System S G) (s : State) (c : Command) (errno : Errno) : Type 0 where
+  pub step : WouldCall s c (Refused errno) s nothing
+  pub serves : ServesState new s
+  pub goes : Goes Unchanged (meaning_of old) (meaning_of new)
+
+-- a command would be done
+abbrev pub WouldSettle : State → Command → Type 0
+WouldSettle s c = (room : Room) → IsStoring room s c
+
+-- What a command that ends behind a consistency point does to a system at a state with P: all that is promised of it.
+pub record Settles {S : Type 0} {G : Ghosts S} (old new : System S G) (P : State → Type 0) (c : Command) (result : Result (Result (Unit {0}) Errno) PointError) : Type 0 where
+  pub uses : Uses (meaning_of old) (meaning_of new)
+  pub own : IfOk result (λ r. IfErr r (λ errno. errno ≢ EIO))
+  pub counted : OnOk result ((meaning_of new).failed_reads ≡ (meaning_of old).failed_reads)
+  pub not_read : IsErrOf result (point.NotPlanned plan.Device) → HasGrown (meaning_of old).failed_reads (meaning_of new).failed_reads
+  pub written : MatchResult result
+      (λ _. (meaning_of new).failed_writes ≡ (meaning_of old).failed_writes)
+      (λ e. IsRefused e → (meaning_of new).failed_writes ≡ (meaning_of old).failed_writes)
+  pub not_written : IsErrOf result point.NotWritten → HasGrown (meaning_of old).failed_writes (meaning_of new).failed_writes
+  pub ages : old.log.epoch ≤ new.log.epoch
+  pub runs : new.log.is_stopped ≡ old.log.is_stopped
+  pub kept : IfErr result (λ e. IsRefused e → Goes Unchanged (meaning_of old) (meaning_of new))
+  pub serves : (s : State) → ServesState old s → IfErr result (λ e. IsRefused e → ServesState new s)
+  pub done : (s : State) → ServesState old s → P s → IfOk result (λ r. MatchResult r (λ _. IsSettled old new s c) (IsRefusedBy old new s c))
+  pub broken : (s : State) → ServesState old s → P s → IsErrOf result point.NotWritten → IsBrokenOff old new s c
+  pub full : (s : State) → ServesState old s → IsErrOf result (point.NotPlanned plan.NoSpace) → IsFilledBy c new × WouldSettle s c
+  pub damaged : (s : State) → ServesState old s → IsErrOf result (point.NotPlanned plan.Damaged) → ⊥
+  pub last : (s : State) → ServesState old s → IsErrOf result point.NoGeneration → 2 ^ 62 ≤ old.log.epoch
