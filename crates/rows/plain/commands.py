@@ -34,11 +34,13 @@ class Numbers(random.Random):
     """Numbers from a seed, and what is wanted of them.
 
     Of three seeds one is for all commands alike, one for many names and open files, and one for
-    many bytes, so that the log and the disk get full.
+    many bytes, so that the log and the disk get full. Where there are to be snapshots, of six
+    commands one is on them.
     """
 
-    def __init__(self, seed):
+    def __init__(self, seed, has_snapshots=False):
         super().__init__(seed)
+        self.has_snapshots = has_snapshots
         self.names, self.weights, self.longest_run = NAMES, WEIGHTS, 90
         self.standing_part = 0.45
         self.is_full = seed % 3 == 2
@@ -159,8 +161,42 @@ def on_descriptor(numbers, system, name):
     return chosen
 
 
+SNAPSHOTS = ['s%d' % number for number in range(24)]
+ODD_NAMES = ['%', 'a/b', '%20', 'n' * 64, '.']
+
+
+def snapshot_name(numbers, system):
+    """The name of a snapshot: mostly of one that is there."""
+    names = [kept.name.decode() for kept in system.snapshots]
+    chance = numbers.random()
+    if names and chance < 0.8:
+        return numbers.choice(names)
+    return numbers.choice(ODD_NAMES if chance > 0.97 else SNAPSHOTS)
+
+
+def on_snapshots(numbers, system):
+    """A command on snapshots. Calls within one go by the paths of its own tree."""
+    chance = numbers.random()
+    if chance < 0.3:
+        chosen = ODD_NAMES if numbers.random() < 0.1 else SNAPSHOTS
+        return 'snap take ' + numbers.choice(chosen)
+    if chance < 0.38:
+        return 'snap delete ' + snapshot_name(numbers, system)
+    if chance < 0.42:
+        return 'snap list'
+    name = snapshot_name(numbers, system)
+    view = system.copy()
+    for kept in system.snapshots:
+        if kept.name == name.encode():
+            view.volume = kept.volume
+    call = numbers.choice(['list', 'stat', 'lstat', 'readlink', 'get', 'get', 'get', 'mkdir', 'truncate'])
+    return 'in %s %s' % (name, on_path(numbers, view, call))
+
+
 def command(numbers, system):
     """Any command."""
+    if numbers.has_snapshots and numbers.random() < 1 / 6:
+        return on_snapshots(numbers, system)
     name = numbers.choices(list(numbers.weights), list(numbers.weights.values()))[0]
     if name in ('sync', 'df'):
         return name

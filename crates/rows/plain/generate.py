@@ -26,11 +26,13 @@ from session_rows import bytes_of, difference, is_read, rows_of, shown
 DATA = Path(__file__).resolve().parent.parent / 'data'
 HALF = 131072
 LENGTH = 150
-# File, blocks, inodes, and the seed of each list. The seeds are ones with refusals of many kinds.
+# File, blocks, inodes, whether there are snapshots, and the seed of each list. The seeds are ones
+# with refusals of many kinds.
 FILES = [
-    ('random_64.rows', 64, 32, [24, 87, 106, 152, 160, 164]),
-    ('random_128.rows', 128, 32, [53, 87, 106, 160, 207, 236]),
-    ('random_256.rows', 256, 64, [43, 87, 119, 160, 186, 260]),
+    ('random_64.rows', 64, 32, False, [24, 87, 106, 152, 160, 164]),
+    ('random_128.rows', 128, 32, False, [53, 87, 106, 160, 207, 236]),
+    ('random_256.rows', 256, 64, False, [43, 87, 119, 160, 186, 260]),
+    ('random_snapshots.rows', 128, 32, True, [5, 20, 53, 65, 68, 77]),
 ]
 KEEPS = ['none', 'all', '10', '01', '110']
 HEAD = '''\
@@ -74,10 +76,18 @@ def shown_lines(pairs, replies):
 
 def reading(system):
     """Commands that read all that a system has."""
+    lines = reading_tree(system.volume) + ['df']
+    for kept in system.snapshots:
+        lines += ['in %s %s' % (word_of(kept.name).decode(), line) for line in reading_tree(kept.volume)]
+    return lines + (['snap list'] if system.snapshots else [])
+
+
+def reading_tree(volume):
+    """Commands that read all of a tree."""
     lines, left = [], [('/', ROOT)]
     while left:
         path, number = left.pop()
-        thing = system.volume[number]
+        thing = volume[number]
         lines.append('lstat ' + path)
         if thing.kind == 'link':
             lines.append('readlink ' + path)
@@ -90,12 +100,12 @@ def reading(system):
             before = '' if path == '/' else path
             left += [(before + '/' + word_of(name).decode(), inner)
                      for name, inner in thing.names.items()]
-    return lines + ['df']
+    return lines
 
 
-def some_row(blocks, inodes, seed):
+def some_row(blocks, inodes, has_snapshots, seed):
     """A row of as many commands as `LENGTH`, and then what reads all that is left."""
-    numbers = Numbers(seed)
+    numbers = Numbers(seed, has_snapshots)
     system = System(blocks, inodes, HALF)
     lines = ['', 'row random %d' % seed, 'image %d %d %d' % (blocks, inodes, HALF)]
     count = 0
@@ -111,17 +121,17 @@ def some_row(blocks, inodes, seed):
     return lines + ['run'] + shown_lines([(line, None) for line in last], replies) + ['unchanged']
 
 
-def made_file(blocks, inodes, seeds):
+def made_file(blocks, inodes, has_snapshots, seeds):
     """The text of a file with a row for each seed."""
     lines = HEAD.splitlines()
     for seed in seeds:
-        lines += some_row(blocks, inodes, seed)
+        lines += some_row(blocks, inodes, has_snapshots, seed)
     return '\n'.join(lines) + '\n'
 
 
 def fixed_files():
     """The names and texts of the files that belong to the data."""
-    return [(name, made_file(blocks, inodes, seeds)) for name, blocks, inodes, seeds in FILES]
+    return [(name, made_file(*rest)) for name, *rest in FILES]
 
 
 def tell(name, text):
@@ -157,9 +167,9 @@ def main(words):
         return 0 if check() else 1
     if len(words) == 4 and words[0] == '--more':
         for seed in range(int(words[1]), int(words[1]) + int(words[2])):
-            _, blocks, inodes, _ = FILES[seed // 3 % len(FILES)]
+            _, blocks, inodes, has_snapshots, _ = FILES[seed // 3 % len(FILES)]
             path = Path(words[3]) / ('random_%d.rows' % seed)
-            path.write_text(made_file(blocks, inodes, [seed]))
+            path.write_text(made_file(blocks, inodes, has_snapshots, [seed]))
         return 0
     if words:
         print(__doc__)

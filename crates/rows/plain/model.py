@@ -6,6 +6,10 @@ the open files, what the log holds (its length, whether its epoch is open, the c
 records: these are what it pledges), and the blocks that are free under the newest root. A
 consistency point stores what changed since that root, and empties the log.
 
+A block has a place, a number of its own that no other block ever gets: what a tree and snapshots
+share is told by places, and a block is free where neither the tree under the newest root nor a
+snapshot has its place.
+
 Every command tells how many device writes it makes, and what a cut within each of them leaves.
 """
 
@@ -44,6 +48,13 @@ class Step:
         self.after = after
 
 
+class Snapshot:
+    """A tree as it was taken, and the places of its blocks."""
+
+    def __init__(self, name, volume, places):
+        self.name, self.volume, self.places = name, volume, places
+
+
 class System:
     """A mounted file system."""
 
@@ -54,7 +65,8 @@ class System:
         self.log_end, self.is_log_open = LOG_START, False
         self.costs, self.kept_nameless, self.is_changed = 0, 0, False
         self.inode_blocks, self.changed_inodes = {0}, set()
-        self.free = self.count_free()
+        self.snapshots, self.places, self.next_place = [], {}, 0
+        self.give_places(self.blocks())
         self.begin_command()
 
     def copy(self):
@@ -64,6 +76,7 @@ class System:
         other.descriptors = list(self.descriptors)
         other.inode_blocks = set(self.inode_blocks)
         other.changed_inodes = set(self.changed_inodes)
+        other.snapshots, other.places = list(self.snapshots), dict(self.places)
         other.begin_command()
         return other
 
@@ -124,49 +137,78 @@ class System:
     def inode_map_blocks(self):
         """Blocks of the inode map: none where its bits stand in its inode."""
         size = rounded_up(self.inode_count, 8)
-        return 0 if size <= 128 else rounded_up(size, BLOCK)
+        return {('inode map', index) for index in range(rounded_up(size, BLOCK) if size > 128 else 0)}
 
-    def inode_file_indirect(self):
-        """Indirect blocks of the inode file."""
-        return 1 if rounded_up(self.inode_count, INODES_OF_A_BLOCK) > DIRECT else 0
+    def inode_file_blocks(self, indices):
+        """These blocks of the inode file, and the indirect one over them."""
+        indirect = rounded_up(self.inode_count, INODES_OF_A_BLOCK) > DIRECT
+        return {('inodes', index) for index in indices} | ({('over inodes', 0)} if indirect else set())
 
     def block_map_blocks(self):
         """Blocks of the block map, with the indirect one over them."""
         count = rounded_up(4 * self.block_count, BLOCK)
-        return count + (1 if count > DIRECT else 0)
+        own = {('map', index) for index in range(count)}
+        return own | ({('over map', 0)} if count > DIRECT else set())
 
-    def count_free(self):
-        """Blocks that nothing takes, once all is stored."""
-        taken = 2 + len(self.inode_blocks) + self.inode_file_indirect()
-        taken += self.block_map_blocks() + self.inode_map_blocks()
-        return self.block_count - taken - sum(thing.blocks() for thing in self.volume.values())
+    def blocks(self):
+        """All blocks of the tree."""
+        inner = [(number, *block) for number, thing in self.volume.items() for block in thing.blocks()]
+        return set(inner) | self.inode_file_blocks(self.inode_blocks) | self.inode_map_blocks() \
+            | self.block_map_blocks()
 
     def changed_inode_blocks(self):
-        """Blocks of the inode file that a point stores."""
+        """Blocks of the inode file that a point stores, by their indices."""
         return {0} | {number // INODES_OF_A_BLOCK for number in self.changed_inodes}
 
-    def count_stored(self):
+    def changed_blocks(self):
         """Blocks that a point stores; not exact where a disk has more than 1,024 blocks."""
-        count = sum(thing.changed_blocks() for thing in self.volume.values())
-        count += len(self.changed_inode_blocks()) + self.inode_file_indirect()
-        return count + self.inode_map_blocks() + min(2, self.block_map_blocks())
+        inner = [(number, *block) for number, thing in self.volume.items()
+                 for block in thing.changed_blocks()]
+        return set(inner) | self.inode_file_blocks(self.changed_inode_blocks()) \
+            | self.inode_map_blocks() | self.block_map_blocks()
+
+    def give_places(self, changed):
+        """Each block that is stored gets a place of its own, and then what is free is counted."""
+        blocks = self.blocks()
+        self.places = {block: self.places[block] for block in blocks - changed}
+        for block in blocks & changed:
+            self.places[block] = self.next_place
+            self.next_place += 1
+        taken = set(self.places.values()).union(*[kept.places for kept in self.snapshots])
+        self.free = self.block_count - 2 - len(taken) - len(self.snapshots)
 
     # A consistency point and the log
 
     def point(self):
         """Stores what isn't under the newest root, if anything, and empties the log."""
-        if not (self.is_changed or self.costs or self.log_end > LOG_START):
-            return
-        count = self.count_stored()
-        if count > self.free:
+        if self.is_changed or self.costs or self.log_end > LOG_START:
+            self.store(0, self.snapshots)
+
+    def take(self, name):
+        """Keeps the tree under the newest root, which holds all, as a snapshot."""
+        volume = {number: thing for number, thing in self.copy().volume.items()
+                  if thing.kind != 'file' or self.links(number) > 0}
+        kept = Snapshot(name, volume, set(self.places.values()))
+        self.store(1, self.snapshots + [kept])
+
+    def delete(self, snapshot):
+        """Drops a snapshot with what isn't under the newest root."""
+        self.store(0, [kept for kept in self.snapshots if kept is not snapshot])
+
+    def store(self, heads, snapshots):
+        """Stores all that changed, and so many root blocks of snapshots, of which then these stand."""
+        changed = self.changed_blocks()
+        if len(changed) + heads > self.free:
             refuse('ENOSPC')
-        self.writes += count + 1
+        self.writes += len(changed) + heads + 1
         before = self.copy()
+        self.snapshots = snapshots
         self.inode_blocks = self.inode_blocks | self.changed_inode_blocks()
         self.changed_inodes = set()
         for thing in self.volume.values():
             thing.settle()
-        self.free, self.kept_nameless = self.count_free(), len(self.nameless())
+        self.give_places(changed)
+        self.kept_nameless = len(self.nameless())
         self.costs, self.is_changed = 0, False
         self.log_end, self.is_log_open = LOG_START, False
         self.steps.append(Step('root', self.writes, before, self.copy()))

@@ -1,7 +1,8 @@
 """Files, directories and symbolic links of the plain model.
 
-Each object knows how many blocks it takes on the disk, and how many of them a consistency point
-has to store anew: `blocks()` and `changed_blocks()`. `settle()` says that a point has stored them.
+Each object knows which blocks it takes on the disk, and which of them a consistency point has to
+store anew: `blocks()` and `changed_blocks()`, each block by what it has and its index. `settle()`
+says that a point has stored them.
 """
 
 import copy
@@ -18,6 +19,11 @@ def level(size):
     if size <= INLINE:
         return 0
     return 1 if size <= DIRECT * BLOCK else 2
+
+
+def blocks_of(data, indirect):
+    """Blocks of data and indirect ones, by their indices."""
+    return {('data', index) for index in data} | {('indirect', index) for index in indirect}
 
 
 class File:
@@ -109,10 +115,10 @@ class File:
         return {index // POINTERS for index in self.stored}
 
     def blocks(self):
-        return len(self.stored) + len(self.indirect())
+        return blocks_of(self.stored, self.indirect())
 
     def changed_blocks(self):
-        return len(self.changed & self.stored) + len(self.indirect() & self.changed_indirect)
+        return blocks_of(self.changed & self.stored, self.indirect() & self.changed_indirect)
 
     def settle(self):
         self.changed = set()
@@ -160,11 +166,11 @@ class Directory:
             self.records.pop()
 
     def blocks(self):
-        return len(self.records) + (1 if len(self.records) > DIRECT else 0)
+        return blocks_of(range(len(self.records)), {0} if len(self.records) > DIRECT else {})
 
     def changed_blocks(self):
-        count = len([index for index in self.changed if index < len(self.records)])
-        return count + (1 if len(self.records) > DIRECT and self.changed else 0)
+        stored = [index for index in self.changed if index < len(self.records)]
+        return blocks_of(stored, {0} if len(self.records) > DIRECT and self.changed else {})
 
     def settle(self):
         self.changed = set()
@@ -185,10 +191,10 @@ class Link:
         return copy.copy(self)
 
     def blocks(self):
-        return 1 if len(self.text) > INLINE else 0
+        return blocks_of({0} if len(self.text) > INLINE else {}, {})
 
     def changed_blocks(self):
-        return self.blocks() if self.is_new else 0
+        return self.blocks() if self.is_new else set()
 
     def settle(self):
         self.is_new = False

@@ -2,6 +2,7 @@
 
 import calls
 import descriptors
+import snapshots
 from model import Refusal
 
 
@@ -41,6 +42,8 @@ COMMANDS = {
     b'ftruncate': descriptors.ftruncate,
     b'fstat': descriptors.fstat,
     b'fsync': descriptors.fsync,
+    b'snap': snapshots.snap,
+    b'in': snapshots.within,
 }
 
 
