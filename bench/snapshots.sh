@@ -5,8 +5,8 @@
 #
 #   sh bench/snapshots.sh          over ./wafl; WAFL=path takes another program
 #
-# A take costs a root block, a block of inodes, the 1,024 blocks of the map with the one over them, and the root, whatever the tree
-# holds: the line `floor` has the writes that this comes to. A run that only mounts, `wafl df`, stands first: it reads the map.
+# A take costs a root block, a block of inodes and the 1,024 blocks of the map, each with the indirect block over them, and the root,
+# whatever the tree holds: the line `floor` has the writes that this comes to. A run that only mounts, `wafl df`, stands first: it reads the map.
 set -eu
 here=$(cd "$(dirname "$0")/.." && pwd)
 wafl=${WAFL:-$here/wafl}
@@ -50,7 +50,7 @@ keep
 measure 'wafl df' "$wafl" df disk nvram
 measure 'wafl take' "$wafl" run disk nvram take.script
 refused '^ok$'
-printf '%-16s %9s   %9s writes\n' '  floor' '' "$((20 * (1 + 1 + 1024 + 1 + 1)))"
+printf '%-16s %9s   %9s writes\n' '  floor' '' "$((20 * (1 + 2 + 1025 + 1)))"
 keep
 measure 'wafl tree' "$wafl" run disk nvram tree.script
 refused '^data (5761666c)+$'
