@@ -74,13 +74,31 @@ module _ {S : Type 0} {G : Ghosts S} (old new : System S G) (reads : ReadsOn (me
       by_case : (error : ReadError) → (error ≡ read_errors.Device → HasGrown (meaning_of old).failed_reads (meaning_of new).failed_reads)
           → ((s : State) → ServesState old s → error ≡ read_errors.Damaged → ⊥) → Glances {T = T} old new (Err (call_error error))
       by_case read_errors.NoMemory fault damaged = record {
-        reads = reads; counted = tt; not_read = λ is. cc; log = log; refuses = (λ is. cc, λ is. cc); serves = serves; damaged = λ s served is. cc;
+        reads = reads;
+        counted = tt;
+        not_read = λ is. cc;
+        log = log;
+        refuses = (λ is. cc, λ is. cc);
+        serves = serves;
+        damaged = λ s served is. cc;
       }
       by_case read_errors.Device fault damaged = record {
-        reads = reads; counted = tt; not_read = λ is. fault refl; log = log; refuses = (λ is. cc, λ is. cc); serves = serves; damaged = λ s served is. cc;
+        reads = reads;
+        counted = tt;
+        not_read = λ is. fault refl;
+        log = log;
+        refuses = (λ is. cc, λ is. cc);
+        serves = serves;
+        damaged = λ s served is. cc;
       }
       by_case read_errors.Damaged fault damaged = record {
-        reads = reads; counted = tt; not_read = λ is. cc; log = log; refuses = (λ is. cc, λ is. cc); serves = serves; damaged = λ s served is. damaged s served refl;
+        reads = reads;
+        counted = tt;
+        not_read = λ is. cc;
+        log = log;
+        refuses = (λ is. cc, λ is. cc);
+        serves = serves;
+        damaged = λ s served is. damaged s served refl;
       }
 
 -- ---- a command that ends behind a consistency point, where nothing but reading was done

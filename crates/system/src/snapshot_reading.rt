@@ -15,11 +15,10 @@ ghost use Rattle.images.specs.Roots.{whole};
 ghost use Rattle.images.specs.States.{Holds};
 ghost use Rattle.system.specs.Serving.{Handles, TellsNoFault};
 
-use crate::System;
 use crate::laws::served_states_open;
 use crate::reading::{is_reading, read};
 use crate::serving::call_error;
-use crate::CallError;
+use crate::{CallError, System};
 use blocktree::ReadError;
 use buffers::Blocks;
 use calls::reading_forgets_open_files;
@@ -69,7 +68,13 @@ impl<S: Station> System<S> {
         ensures { Handles self.old self.new (Command.Within name.now call.now) result }
     {
         served_states_open(self);
-        match read_within(self.alloc, &mut self.blocks, &self.root, name.as_bytes(), call) {
+        match read_within(
+            self.alloc,
+            &mut self.blocks,
+            &self.root,
+            name.as_bytes(),
+            call,
+        ) {
             Ok(reply) => Ok(reply),
             Err(error) => Err(call_error(error)),
         }
