@@ -1,12 +1,10 @@
 -- The lines of a script: its commands, and the first that is none.
-use Rattle.std.proofs.Common.{◌≡◌, ℕ, zero, suc, ◌<◌, ◌⊎◌, inl, inr, Result, Ok, Err, Bool, true, false, not, cond, List, [], ◌∷◌, ◌++◌, All, length, map, get_or, take, drop, arith, refl, sym, ◌∙◌, ap, subst}
+use Rattle.std.proofs.Common.{◌≡◌, ℕ, zero, suc, ◌<◌, Bool, true, false, not, cond, List, [], ◌∷◌, ◌++◌, All, length, map, get_or, take, drop, arith, refl, sym, ◌∙◌, ap, subst}
 use Rattle.std.proofs.lemmas.List.{append_cancel_right, length-map, take-append-drop}
-use Rattle.std.proofs.lemmas.List.Elements.{All-cons, All-head, All-nil, All-tail, filter-append}
+use Rattle.std.proofs.lemmas.List.Elements.{All-head, All-tail, filter-append}
 use Rattle.std.specs.List.{drop-map}
 use Rattle.model.specs.declared.command.Command.{Command}
 use Rattle.script.specs.Lines.{command_line, IsCommand}
-use Rattle.script.specs.declared.error.ScriptError.{ScriptError}
-use Rattle.script.specs.declared.error.ScriptError.TheVariants.{NoMemory}
 use Rattle.session.specs.Scripts.{is_skipped, lines_kept, AreCommandsOf, IsBadLine, IsFirstBadLine}
 
 got : {X : Type 0} (v : X → List ℕ) (xs : List X) (i : ℕ) (d : X) (e : List ℕ) → i < length xs → get_or (map v xs) i e ≡ v (get_or xs i d)

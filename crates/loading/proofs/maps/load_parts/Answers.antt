@@ -1,4 +1,4 @@
-use Rattle.std.proofs.Common.{rules, ◌∙◌, ◌+◌, ap, List, ℕ, subst, length}
+use Rattle.std.proofs.Common.{◌∙◌, ◌+◌, ap, List, ℕ, subst, length}
 use Rattle.std.proofs.lemmas.List.{length_push}
 use Rattle.inode.specs.Bodies.{inode_block}
 use Rattle.blockmap.specs.Parts.{Spells}

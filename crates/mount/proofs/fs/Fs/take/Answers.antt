@@ -1,4 +1,4 @@
-use Rattle.std.proofs.Common.{◌≡◌, inl, Option, Some, None, ap, subst, arith}
+use Rattle.std.proofs.Common.{◌≡◌, inl, Option, ap, subst, arith}
 use Rattle.std.specs.Prelude.{Err}
 use Rattle.model.specs.declared.command.Command.TheVariants as command
 use Rattle.model.specs.declared.errno.Errno.{Errno}
