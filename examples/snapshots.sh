@@ -23,7 +23,7 @@ show() {
 }
 
 echo
-echo 'in tuesday get /home/notes 0 100' > read.script
+echo 'in tuesday get /desk/notes 0 100' > read.script
 show run disk nvram read.script
 
 # The tree is settled already, by the delete: write 4 is the root that has the new snapshot.

@@ -82,8 +82,8 @@ impl<S: Station> Fs<S> {
         }
     }
 
-    /// The same of a call on the tree, on a descriptor or on a snapshot's tree, or of `snap list`. Where its record doesn't go into the log, a consistency point
-    /// runs first.
+    /// The same of a call on the tree, on a descriptor or on a snapshot's tree, or of `snap list`. Where its record doesn't
+    /// go into the log, a consistency point runs first.
     fn call(&mut self, call: &Command) -> Reply
         requires going { IsFalse self.old.has_failed }
         requires is_call { IsCall call.now }
