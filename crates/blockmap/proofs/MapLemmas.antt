@@ -6,11 +6,11 @@ use Rattle.std.proofs.lemmas.Bool.{cases_eq}
 use Rattle.std.proofs.lemmas.Bool.Decides.{nat_tests}
 use Rattle.std.proofs.lemmas.Nat.Bits.{bit_at_lowest}
 use Rattle.std.proofs.lemmas.Grind.{common_steps}
-use Rattle.std.proofs.lemmas.List.{get_or-set_same, get_or_default, take_all}
+use Rattle.std.proofs.lemmas.List.{get_or-set_same, get_or-set_other, get_or_default, take_all}
 use Rattle.std.proofs.lemmas.List.Sums.{count_by_more_yes, count_by_more_no}
-use Rattle.blockmap.specs.Bits.{SetsBit, SetsPlane}
-use Rattle.blockmap.specs.Parts.{Part, free_entries}
-use Rattle.blockmap.specs.Maps.{no_part, entry_at, settled_at, free_below, IsFree}
+use Rattle.blockmap.specs.Bits.{HasBit, SetsBit, SetsPlane}
+use Rattle.blockmap.specs.Parts.{HasSet, Part, free_entries}
+use Rattle.blockmap.specs.Maps.{no_part, entry_at, settled_at, free_below, HasSetAt, IsFree}
 
 -- the bit of the entry that is changed
 pub bit_set : (parts : List Part) (block b entry value k : ℕ) (is_in : Bool) (p new : Part) → b ≡ block → b / 1024 < length parts → p ≡ slice_index_or parts (b / 1024) p
@@ -74,6 +74,60 @@ entry_in parts j i p small within at =
     sym (ap (λ (n : ℕ). slice_index (slice_index_or parts n no_part).entries ((1024 * j + i) % 1024)) part
     ∙ ap (λ (q : Part). slice_index q.entries ((1024 * j + i) % 1024)) (get_or_default parts j no_part p within ∙ sym at)
     ∙ ap (slice_index p.entries) place)
+
+-- an entry of block j of the map, where that is there or not
+entry_of : (parts : List Part) (j i : ℕ) → i < 1024 → entry_at parts (1024 * j + i) ≡ slice_index (slice_index_or parts j no_part).entries i
+entry_of parts j i small =
+    let part : (1024 * j + i) / 1024 ≡ j = omega arith in
+    let place : (1024 * j + i) % 1024 ≡ i = omega arith in
+    ap (λ (n : ℕ). slice_index (slice_index_or parts n no_part).entries ((1024 * j + i) % 1024)) part ∙ ap (slice_index (slice_index_or parts j no_part).entries) place
+
+-- where the entries of a block of the map are the same, so are its sets
+pub same_sets : (old new : List Part) (j k : ℕ) → ((i : ℕ) → i < 1024 → entry_at new (1024 * j + i) ≡ entry_at old (1024 * j + i)) → HasSetAt k new j → HasSetAt k old j
+same_sets old new j k same (i, small, bit) = (i, small, subst (λ (e : ℕ). HasBit k e) (sym (entry_of new j i small) ∙ same i small ∙ entry_of old j i small) bit)
+
+-- a part is that of its place
+pub set_of_part : (parts : List Part) (j k : ℕ) (p : Part) → j < length parts → p ≡ slice_index_or parts j p → HasSet k p.entries → HasSetAt k parts j
+set_of_part parts j k p within at (i, small, bit) = (i, small, subst (λ (e : ℕ). HasBit k e) (entry_in parts j i p small within at ∙ entry_of parts j i small) bit)
+
+pub part_of_set : (parts : List Part) (j k : ℕ) (p : Part) → j < length parts → p ≡ slice_index_or parts j p → HasSetAt k parts j → HasSet k p.entries
+part_of_set parts j k p within at (i, small, bit) = (i, small, subst (λ (e : ℕ). HasBit k e) (sym (entry_of parts j i small) ∙ sym (entry_in parts j i p small within at)) bit)
+
+-- what a part that is set has as it was before, each part has as before
+pub same_field : {X : Type 0} (f : Part → X) (parts : List Part) (j i : ℕ) (p new : Part) → j < length parts → p ≡ slice_index_or parts j p → f new ≡ f p
+    → f (slice_index_or (slice_set parts j new) i no_part) ≡ f (slice_index_or parts i no_part)
+same_field f parts j i p new within at same = elim (cases_eq i j) [
+  | inl is ↦
+      let here = ap f (get_or-set_same parts j new no_part within) ∙ same ∙ sym (ap f (get_or_default parts j no_part p within ∙ sym at)) in
+      subst (λ (n : ℕ). f (slice_index_or (slice_set parts j new) n no_part) ≡ f (slice_index_or parts n no_part)) (sym is) here
+  | inr other ↦ ap f (get_or-set_other parts j i new no_part other)
+]
+
+-- an entry of another part than the one that is set
+pub entry_elsewhere : (parts : List Part) (j b : ℕ) (new : Part) → b / 1024 ≢ j → entry_at (slice_set parts j new) b ≡ entry_at parts b
+entry_elsewhere parts j b new other = ap (λ (q : Part). slice_index q.entries (b % 1024)) (get_or-set_other parts j (b / 1024) new no_part other)
+
+-- one part more of which a set is empty
+pub plane_part : (first : ℕ → ℕ) (parts : List Part) (j k : ℕ) (p new : Part) → j < length parts → p ≡ slice_index_or parts j p
+    → SetsPlane 1024 k (λ i. 0) (slice_index p.entries) (slice_index new.entries) → ((b : ℕ) → 1024 * j ≤ b → entry_at parts b ≡ first b)
+    → SetsPlane (1024 * j) k (λ b. 0) first (entry_at parts) → SetsPlane (1024 * (j + 1)) k (λ b. 0) first (entry_at (slice_set parts j new))
+plane_part first parts j k p new within at here rest so_far =
+    let now : (b : ℕ) → b / 1024 ≡ j → entry_at (slice_set parts j new) b ≡ slice_index new.entries (b % 1024) = λ b is.
+    ap (λ (n : ℕ). slice_index (slice_index_or (slice_set parts j new) n no_part).entries (b % 1024)) is
+    ∙ ap (λ (q : Part). slice_index q.entries (b % 1024)) (get_or-set_same parts j new no_part within) in
+    let was : (b : ℕ) → b / 1024 ≡ j → slice_index p.entries (b % 1024) ≡ first b = λ b is.
+    sym (ap (λ (n : ℕ). slice_index (slice_index_or parts n no_part).entries (b % 1024)) is
+    ∙ ap (λ (q : Part). slice_index q.entries (b % 1024)) (get_or_default parts j no_part p within ∙ sym at)) ∙ rest b (omega (arith, is)) in
+    record {
+      there = λ b below. elim (cases_eq (b / 1024) j) [
+        | inl is ↦ ap (λ n. bit_at n k) (now b is) ∙ here.there (b % 1024) (omega arith)
+        | inr other ↦ ap (λ n. bit_at n k) (entry_elsewhere parts j b new other) ∙ so_far.there b (omega (arith, below, other))
+      ];
+      others = λ b i below differ. elim (cases_eq (b / 1024) j) [
+        | inl is ↦ ap (λ n. bit_at n i) (now b is) ∙ here.others (b % 1024) i (omega arith) differ ∙ ap (λ n. bit_at n i) (was b is)
+        | inr other ↦ ap (λ n. bit_at n i) (entry_elsewhere parts j b new other) ∙ so_far.others b i (omega (arith, below, other)) differ
+      ];
+    }
 
 -- one block more is counted, where it is free
 pub free_here : (parts : List Part) (b n : ℕ) → n ≡ free_below parts b → IsFree parts b → n + 1 ≡ free_below parts (b + 1)

@@ -2,7 +2,7 @@
 use Rattle.std.specs.Prelude.{ℕ, zero, suc, ◌==◌, if◌then◌else◌, ◌≡◌, ◌≢◌, ◌<◌, ◌+◌, ◌*◌, ◌/◌, ◌%◌, List, [], length, slice_index, slice_index_or, true, false}
 use Rattle.layout.specs.Maps.{map_entry}
 use Rattle.layout.specs.declared.TheConstants.{BLOCK_POINTERS}
-use Rattle.blockmap.specs.Parts.{Part}
+use Rattle.blockmap.specs.Parts.{HasSet, Part}
 
 abbrev pub no_part : Part
 no_part = record { settled = []; entries = []; is_touched = false }
@@ -32,6 +32,10 @@ free_below parts (suc b) = free_below parts b + (if settled_at parts b == 0 then
 -- the next consistency point stores block j of the map
 abbrev pub IsTouched : List Part → ℕ → Type 0
 IsTouched parts j = (slice_index_or parts j no_part).is_touched ≡ true
+
+-- an entry of block j of the map is in set k
+abbrev pub HasSetAt : ℕ → List Part → ℕ → Type 0
+HasSetAt k parts j = HasSet k (slice_index_or parts j no_part).entries
 
 -- what no change of entries changes
 pub record KeepsSettled (old new : List Part) : Type 0 where

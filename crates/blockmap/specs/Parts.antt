@@ -2,6 +2,7 @@
 use Rattle.std.specs.Prelude.{ℕ, ◌≡◌, ◌==◌, ◌<◌, List, length, slice_index, count_by, Bool, Option, Some, None, is_some}
 use Rattle.layout.specs.Maps.{map_entry}
 use Rattle.layout.specs.declared.TheConstants.{BLOCK_POINTERS}
+use Rattle.blockmap.specs.Bits.{HasBit}
 
 -- the entries as they are settled, those that the next consistency point makes of them, and whether it stores them
 pub record Part : Type 0 where
@@ -26,6 +27,10 @@ or_else None settled = settled
 abbrev pub part_of : List ℕ → Option (List ℕ) → Part
 part_of settled changed =
     record { settled = settled; entries = or_else changed settled; is_touched = is_some changed }
+
+-- one of a block's entries is in set k
+abbrev pub HasSet : ℕ → List ℕ → Type 0
+HasSet k entries = (i : ℕ) × (i < BLOCK_POINTERS) × HasBit k (slice_index entries i)
 
 -- a block of the map that spells these entries
 abbrev pub Spells : List ℕ → List ℕ → Type 0

@@ -1,6 +1,6 @@
 //! The whole block map.
 
-ghost use Rattle.std.specs.Prelude.{◌≡◌, ℕ, ◌*◌, ◌/◌, ◌<◌, ◌≤◌, true, false, IsTrue, OnOk, OnErr, IfSome, IfNone, length, ◌+◌, ◌↔◌};
+ghost use Rattle.std.specs.Prelude.{◌≡◌, ◌≢◌, ℕ, ◌*◌, ◌/◌, ◌<◌, ◌≤◌, true, false, IsTrue, OnOk, OnErr, IfSome, IfNone, length, ◌+◌, ◌↔◌, ◌⊎◌};
 ghost use Rattle.layout.specs.declared.geometry.TheConstants.{MOST_BLOCKS};
 ghost use Rattle.blockmap.specs.Bits.{SetsBit, SetsPlane};
 ghost use Rattle.std.specs.Int.{bit_at};
@@ -35,7 +35,7 @@ pub struct BlockMap {
 }
 
 impl BlockMap {
-    ghost use Rattle.blockmap.specs.Maps.{settled_at, entry_at, free_below, HoldsPart, IsFree, IsTouched, KeepsSettled, OnlyChanges};
+    ghost use Rattle.blockmap.specs.Maps.{settled_at, entry_at, free_below, HasSetAt, HoldsPart, IsFree, IsTouched, KeepsSettled, OnlyChanges};
     ghost use Rattle.blockmap.specs.Space.{left};
 
     /// The map of a disk of so many blocks, of which no free one is given out.
@@ -146,6 +146,9 @@ impl BlockMap {
         ensures entries { (b : ℕ)
             → entry_at self.new.parts.items b ≡ entry_at self.old.parts.items b }
         ensures touched { OnOk result (IsTouched self.new.parts.items j) }
+        // No more of the map is stored for it.
+        ensures same { (i : ℕ) → i ≢ j
+            → IsTouched self.new.parts.items i → IsTouched self.old.parts.items i }
     {
         self.parts[j].touch()?;
         Ok(())
@@ -271,7 +274,29 @@ impl BlockMap {
         Ok(())
     }
 
-    /// Makes set `set` empty. Where there is no memory no entry changes.
+    /// Makes room for changes of all blocks of the map with an entry in set `set`. No entry changes by it.
+    fn touch_set(&mut self, set: u32) -> Result<(), AllocError>
+        requires { set < 32 }
+        ensures count { self.new.count ≡ self.old.count }
+        ensures next { self.new.next ≡ self.old.next }
+        ensures settled { KeepsSettled self.old.parts.items self.new.parts.items }
+        ensures entries { (b : ℕ)
+            → entry_at self.new.parts.items b ≡ entry_at self.old.parts.items b }
+        ensures touched { OnOk result ((j : ℕ) → j < length self.old.parts.items
+            → HasSetAt set self.old.parts.items j → IsTouched self.new.parts.items j) }
+        ensures few { (j : ℕ) → IsTouched self.new.parts.items j
+            → IsTouched self.old.parts.items j ⊎ HasSetAt set self.old.parts.items j }
+    {
+        for j in 0..self.parts.len() {
+            if self.parts[j].has_set(set) {
+                self.touch(j)?;
+            }
+        }
+        Ok(())
+    }
+
+    /// Makes set `set` empty. Of the map's blocks only those are stored for it in which an entry changes. Where there is no
+    /// memory no entry changes.
     pub fn clear_plane(&mut self, set: u32) -> Result<(), AllocError>
         requires { set < 32 }
         ensures count { self.new.count ≡ self.old.count }
@@ -280,11 +305,13 @@ impl BlockMap {
         ensures plane { OnOk result ((count : ℕ) → SetsPlane count set (λ b. 0)
             (entry_at self.old.parts.items) (entry_at self.new.parts.items)) }
         ensures touched { OnOk result ((j : ℕ) → j < length self.old.parts.items
-            → IsTouched self.new.parts.items j) }
+            → HasSetAt set self.old.parts.items j → IsTouched self.new.parts.items j) }
+        ensures few { (j : ℕ) → IsTouched self.new.parts.items j
+            → IsTouched self.old.parts.items j ⊎ HasSetAt set self.old.parts.items j }
         ensures refused { OnErr result ((b : ℕ)
             → entry_at self.new.parts.items b ≡ entry_at self.old.parts.items b) }
     {
-        self.touch_all()?;
+        self.touch_set(set)?;
         for j in 0..self.parts.len() {
             self.parts[j].clear_set(set);
         }

@@ -3,10 +3,10 @@
 ghost use Rattle.std.specs.Prelude.{◌≡◌, ℕ, ◌+◌, ◌<◌, ◌≤◌, true, false, IsTrue, IfOk, OnOk, IfSome, IfNone, slice_index, slice_set, ◌↔◌, length};
 ghost use Rattle.std.specs.Int.{bit_at};
 ghost use Rattle.blockmap.specs.Bits.{SetsPlane};
-ghost use Rattle.blockmap.specs.Parts.{Spells, free_entries};
+ghost use Rattle.blockmap.specs.Parts.{HasSet, Spells, free_entries};
 ghost use Rattle.layout.specs.declared.TheConstants.{BLOCK_POINTERS};
 
-use crate::bits::with_bit;
+use crate::bits::{has_bit, with_bit};
 use layout::{BLOCK_BYTES, BLOCK_POINTERS, map_entry, set_map_entry};
 use std::alloc::{AllocError, Global};
 use std::marker::Model;
@@ -126,16 +126,32 @@ impl MapPart {
         }
     }
 
-    /// Makes set `set` empty. There is room for changes.
+    /// Whether one of the entries is in set `set`.
+    pub fn has_set(&self, set: u32) -> bool
+        requires { set < 32 }
+        ensures { IsTrue result ↔ HasSet set self.now.entries }
+    {
+        for i in 0..BLOCK_POINTERS as u32 {
+            if has_bit(self.entry(i), set) {
+                return true;
+            }
+        }
+        false
+    }
+
+    /// Makes set `set` empty. There is room for changes, where an entry is in it.
     pub fn clear_set(&mut self, set: u32)
         requires set { set < 32 }
-        requires room { self.old.is_touched ≡ true }
+        requires room { HasSet set self.old.entries → self.old.is_touched ≡ true }
         ensures part { self.new ≡ record self.old { entries = self.new.entries } }
         ensures entries { SetsPlane BLOCK_POINTERS set (λ i. 0)
             (slice_index self.old.entries) (slice_index self.new.entries) }
     {
         for i in 0..BLOCK_POINTERS as u32 {
-            self.set(i, with_bit(self.entry(i), set, false));
+            let entry = self.entry(i);
+            if has_bit(entry, set) {
+                self.set(i, with_bit(entry, set, false));
+            }
         }
     }
 

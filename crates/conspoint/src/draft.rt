@@ -1,7 +1,7 @@
 //! A plan that is being made.
 
-ghost use Rattle.std.specs.Prelude.{◌≡◌, ◌≢◌, ◌<◌, ◌≤◌, ◌*◌, ℕ, All, IfOk, IfErr, OnOk, IsErrOf, IsTrue, ◌↔◌, length};
-ghost use Rattle.blockmap.specs.Maps.{IsFree, IsTouched, HoldsPart, entry_at, settled_at, OnlyChanges};
+ghost use Rattle.std.specs.Prelude.{◌≡◌, ◌≢◌, ◌<◌, ◌≤◌, ◌*◌, ℕ, All, IfOk, IfErr, OnOk, IsErrOf, IsTrue, ◌↔◌, ◌⊎◌, length};
+ghost use Rattle.blockmap.specs.Maps.{HasSetAt, IsFree, IsTouched, HoldsPart, entry_at, settled_at, OnlyChanges};
 ghost use Rattle.std.specs.Int.{bit_at};
 ghost use Rattle.blockmap.specs.Bits.{SetsBit, SetsPlane};
 ghost use Rattle.blockmap.specs.declared.map.TheConstants.{SYSTEM_SET};
@@ -183,7 +183,7 @@ impl Draft {
         Ok(())
     }
 
-    /// Makes a set of the map empty.
+    /// Makes a set of the map empty. Of the map's blocks only those are stored for it in which an entry changes.
     pub fn clear_plane(&mut self, set: u32) -> Result<(), PlanError>
         requires { set < 32 }
         ensures grows { Grows self.old self.new }
@@ -192,8 +192,8 @@ impl Draft {
         ensures others { (p : ℕ) → IsReserved self.old p → IsReserved self.new p }
         ensures plane { OnOk result ((count : ℕ) → SetsPlane count set (λ b. 0)
             (entry_at self.old.map.parts.items) (entry_at self.new.map.parts.items)) }
-        ensures touched { OnOk result ((j : ℕ) → j < length self.old.map.parts.items
-            → IsTouched self.new.map.parts.items j) }
+        ensures few { (j : ℕ) → IsTouched self.new.map.parts.items j
+            → IsTouched self.old.map.parts.items j ⊎ HasSetAt set self.old.map.parts.items j }
         ensures why { IsErrOf result PlanError.NoSpace → ⊥ }
         ensures shortage { IfErr result IsShortage }
     {

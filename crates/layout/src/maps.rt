@@ -48,10 +48,14 @@ pub fn is_inode_map(bytes: &[u8], first: u32, inodes: u32) -> bool
     requires { first + 8 * length bytes.now < 2 ^ 32 }
     ensures { IsTrue result ↔ IsInodeMap first inodes bytes.now }
 {
-    for bit in 0..8 * bytes.len() as u32 {
-        let number = first + bit;
-        let taken = is_taken(bytes, bit);
-        if (number < FIRST_NUMBER && !taken) || (inodes <= number && taken) {
+    let bits = 8 * bytes.len() as u32;
+    for own in 0..FIRST_NUMBER.saturating_sub(first).min(bits) {
+        if !is_taken(bytes, own) {
+            return false;
+        }
+    }
+    for past in inodes.saturating_sub(first)..bits {
+        if is_taken(bytes, past) {
             return false;
         }
     }

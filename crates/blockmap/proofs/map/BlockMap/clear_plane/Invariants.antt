@@ -1,6 +1,6 @@
-use Rattle.std.proofs.Common.{◌≡◌, ℕ, ◌*◌, ◌<◌, ◌≤◌, length}
+use Rattle.std.proofs.Common.{◌≡◌, ◌⊎◌, ℕ, ◌*◌, ◌<◌, ◌≤◌, length}
 use Rattle.blockmap.specs.Bits.{SetsPlane}
-use Rattle.blockmap.specs.Maps.{entry_at, IsTouched, KeepsSettled}
+use Rattle.blockmap.specs.Maps.{entry_at, HasSetAt, IsTouched, KeepsSettled}
 use Rattle.blockmap.proofs.map.BlockMap.clear_plane.Given as goal
 
 abbrev pub invariant-loop-j : goal.invariant-loop-j
@@ -8,7 +8,8 @@ invariant-loop-j l = record {
   count : l.self.count ≡ l.fn.self.count;
   next : l.self.next ≡ l.fn.self.next;
   settled : KeepsSettled l.fn.self.parts.items l.self.parts.items;
-  touched : (j : ℕ) → j < length l.self.parts.items → IsTouched l.self.parts.items j;
+  touched : (j : ℕ) → j < length l.self.parts.items → HasSetAt l.set l.fn.self.parts.items j → IsTouched l.self.parts.items j;
+  few : (j : ℕ) → IsTouched l.self.parts.items j → IsTouched l.fn.self.parts.items j ⊎ HasSetAt l.set l.fn.self.parts.items j;
   done : SetsPlane (1024 * l.j) l.set (λ b. 0) (entry_at l.fn.self.parts.items) (entry_at l.self.parts.items);
   rest : (b : ℕ) → 1024 * l.j ≤ b → entry_at l.self.parts.items b ≡ entry_at l.fn.self.parts.items b;
 }

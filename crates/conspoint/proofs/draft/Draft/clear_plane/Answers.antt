@@ -1,8 +1,8 @@
 use Rattle.std.proofs.Common.{refl}
-use Rattle.conspoint.proofs.DraftLemmas.{plane_touched}
+use Rattle.conspoint.proofs.DraftLemmas.{cleared_touched, plane_touched}
 use Rattle.conspoint.proofs.draft.Draft.clear_plane.Goals as goal
 
 pub invariant_of-self-clause-changed : goal.invariant_of-self-clause-changed
 invariant_of-self-clause-changed c =
-    plane_touched c.args.self.now.map c.clear_plane.new.self c.args.set (λ b. 0) c.clear_plane.result (λ b none. refl) c.clear_plane.ensures.count c.clear_plane.ensures.settled
+    plane_touched c.args.self.now.map c.clear_plane.new.self c.args.set (λ b. 0) c.clear_plane.result (λ b none. refl) (cleared_touched c.args.self.now.map c.clear_plane.new.self c.args.set) c.clear_plane.ensures.count c.clear_plane.ensures.settled
     c.clear_plane.ensures.plane c.clear_plane.ensures.touched c.clear_plane.ensures.refused c.args.self.now.changed
