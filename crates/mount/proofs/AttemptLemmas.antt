@@ -1,5 +1,5 @@
 -- What calls and consistency points of a system come to for a command.
-use Rattle.std.proofs.Common.{◌≡◌, ◌≢◌, ◌⊎◌, ◌≤◌, ◌<◌, ◌^◌, ◌+◌, inl, inr, ℕ, Bool, true, false, List, [], ◌∷◌, refl, sym, ap, subst, ◌∙◌, arith}
+use Rattle.std.proofs.Common.{◌≡◌, ◌≢◌, ◌⊎◌, ◌≤◌, ◌<◌, ◌^◌, ◌+◌, ◌*◌, inl, inr, ℕ, Bool, true, false, List, [], ◌∷◌, refl, sym, ap, subst, ◌∙◌, arith}
 use Rattle.std.specs.Prelude.{IsTrue, IsFalse, Option, None, map}
 use Rattle.std.proofs.lemmas.Bool.{false≢true}
 use Rattle.conspoint.specs.declared.error.PlanError.TheVariants as plan
@@ -41,6 +41,7 @@ use Rattle.system.specs.declared.error.PointError.TheVariants as point
 use Rattle.mount.specs.Applying.{IsAppliedAt, NeedsPlace, Stays, Tells, HasRoom}
 use Rattle.mount.specs.Refusals.{errno_of_call, errno_of_point, fails_call, fails_point}
 use Rattle.mount.specs.Systems.{OpensToSome, mounted, HasNext, Serves}
+use Rattle.mount.specs.declared.fs.TheConstants.{POINTS}
 use Rattle.mount.specs.declared.fs.Fs.{Fs}
 use Rattle.mount.proofs.ApplyLemmas.{is_going, not_both, allowed_by, allowed_surely, no_room, done, stayed, broken, applied_after}
 use Rattle.mount.proofs.CallLemmas.{not_settling}
@@ -111,6 +112,10 @@ asked_as old new s x y reply is applied = subst (λ (z : Command). IsAppliedAt o
 
 pub young_on : (a b : ℕ) → b ≤ a → a + 1 < 2 ^ 62 → b + 1 < 2 ^ 62
 young_on a b le young = omega arith
+
+-- after so many commands a further one of all of them is young
+pub young_at : (a b i n : ℕ) → b ≤ a + POINTS * i → i < n → a + POINTS * n < 2 ^ 62 → b + 1 < 2 ^ 62
+young_at a b i n le below lasts = omega arith
 
 pub has_next : (a : ℕ) → a + 1 < 2 ^ 62 → a < 2 ^ 62
 has_next a young = omega arith

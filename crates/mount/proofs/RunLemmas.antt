@@ -7,11 +7,13 @@ use Rattle.station.specs.declared.station.Station.{Ghosts}
 use Rattle.station.specs.Moments.{Meaning, MayLeave, LeftBetween, IsSameStation}
 use Rattle.model.specs.declared.command.Command.{Command}
 use Rattle.model.specs.declared.reply.Reply.{Reply}
-use Rattle.model.specs.States.{going, failed}
+use Rattle.model.specs.States.{State, going, failed}
 use Rattle.model.specs.Runs.{IsPrefix}
 use Rattle.system.specs.Images.{OpensTo}
-use Rattle.mount.specs.Systems.{Mounted, OpensToSome, meaning_of, shown}
-use Rattle.mount.specs.Applying.{Between, IsApplied, HasRun, ReadsCut, LeftNow}
+use Rattle.system.specs.Systems as systems
+use Rattle.mount.specs.Systems.{Mounted, OpensToSome, mounted, meaning_of, shown}
+use Rattle.mount.specs.Applying.{Between, IsApplied, IsAppliedAt, HasRun, ReadsCut, LeftNow, RunsAt}
+use Rattle.mount.specs.declared.fs.Fs.{Fs}
 use Rattle.mount.proofs.StationLemmas.{on_none, on_twice, moved}
 use Rattle.mount.proofs.SpanLemmas.{spans_later, spans_push, spans_prefix, spans_failed}
 
@@ -40,15 +42,22 @@ module _ {S : Type 0} {G : Ghosts S} where
             applied.leads applied.any_moment now;
       }
 
+  -- so of a file system at a state that it served first
+  pub run_goes_on : (first fs next : Fs S G) (s : State) (steps : List (Command × Reply)) (command : Command) (reply : Reply) → (so_far : RunsAt first s fs steps) → IsSameStation (systems.meaning_of fs.system) (systems.meaning_of next.system)
+      → (applied : IsAppliedAt fs so_far.last next command reply) → LeftNow (systems.meaning_of next.system) applied.0 (λ t. t ≡ applied.0) → RunsAt first s next (steps ++ (command, reply) ∷ [])
+  run_goes_on first fs next s steps command reply so_far same applied now = record {
+    last = applied.0;
+    serves = applied.1.serves;
+    ran = run_push (mounted first s) (mounted fs so_far.last) (mounted next applied.0) steps command reply so_far.ran same applied.1 now;
+  }
+
   -- the command at place i
-  pub run_more : (f g new : Mounted S G) (commands : List Command) (replies : List Reply) (i : ℕ) (command : Command) (reply : Reply) → i < length commands → length replies ≡ i → command ≡ get_or commands i command
-      → HasRun f g (zip (take i commands) replies) → IsSameStation (meaning_of g) (meaning_of new) → IsApplied g new command reply
-      → LeftNow (meaning_of new) new.state (λ t. t ≡ new.state) → HasRun f new (zip (take (i + 1) commands) (replies ++ reply ∷ []))
-  run_more f g new commands replies i command reply below count is run same applied now =
+  pub run_more : (first next : Fs S G) (s : State) (commands : List Command) (replies : List Reply) (i : ℕ) (command : Command) (reply : Reply) → i < length commands → length replies ≡ i → command ≡ get_or commands i command
+      → RunsAt first s next (zip (take i commands) replies ++ (command, reply) ∷ []) → RunsAt first s next (zip (take (i + 1) commands) (replies ++ reply ∷ []))
+  run_more first next s commands replies i command reply below count is ran =
       let front : take (i + 1) commands ≡ take i commands ++ command ∷ [] = take_more commands i command below ∙ ap (λ (x : Command). take i commands ++ x ∷ []) (sym is) in
       let long : length (take i commands) ≡ length replies = length-take-le i commands (omega arith) ∙ sym count in
-      subst (HasRun f new) (sym (ap (λ (l : List Command). zip l (replies ++ reply ∷ [])) front ∙ zip_push (take i commands) replies command reply long))
-      (run_push f g new (zip (take i commands) replies) command reply run same applied now)
+      subst (RunsAt first s next) (sym (ap (λ (l : List Command). zip l (replies ++ reply ∷ [])) front ∙ zip_push (take i commands) replies command reply long)) ran
 
   -- a second station that reads what a cut within a run might have left opens to a prefix of it
   pub run_opens : (old new : Mounted S G) (steps : List (Command × Reply)) (other : Meaning) → old.state.mark ≡ going → HasRun old new steps → ReadsCut (meaning_of old) (meaning_of new) other

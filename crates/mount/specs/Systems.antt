@@ -1,5 +1,5 @@
 -- What a mounted file system stands for.
-use Rattle.std.specs.Prelude.{◌≡◌, ◌+◌, ◌<◌, ◌^◌, Bool, if◌then◌else◌}
+use Rattle.std.specs.Prelude.{ℕ, ◌≡◌, ◌+◌, ◌*◌, ◌<◌, ◌^◌, Bool, if◌then◌else◌}
 use Rattle.station.specs.Images.{Images}
 use Rattle.station.specs.Moments.{Meaning, EachCut}
 use Rattle.station.specs.declared.station.Station.{Ghosts}
@@ -10,6 +10,7 @@ use Rattle.system.specs.Images.{OpensTo}
 use Rattle.system.specs.Serving.{ServesState}
 use Rattle.system.specs.Systems as systems
 use Rattle.mount.specs.declared.fs.Fs.{Fs}
+use Rattle.mount.specs.declared.fs.TheConstants.{POINTS}
 
 -- what stands on a station opens to a state with P
 abbrev pub OpensToSome : Meaning → (State → Type 0) → Images → Type 0
@@ -59,3 +60,7 @@ HasNext fs = fs.system.log.epoch < 2 ^ 62
 -- and so has one behind that: no command runs more than two
 abbrev pub IsYoung : {S : Type 0} {G : Ghosts S} → Fs S G → Type 0
 IsYoung fs = fs.system.log.epoch + 1 < 2 ^ 62
+
+-- and so has each of so many commands, one after the other
+abbrev pub LastsFor : {S : Type 0} {G : Ghosts S} → ℕ → Fs S G → Type 0
+LastsFor n fs = fs.system.log.epoch + POINTS * n < 2 ^ 62

@@ -9,6 +9,10 @@ use station::Station;
 use std::alloc::Global;
 use system::{CallError, Space, System, served_states_open};
 
+/// The most consistency points that one command makes: a `snap take` settles what isn't under the newest root, and then takes the
+/// snapshot.
+pub const POINTS: u64 = 2;
+
 /// A mounted file system. Over an honest station it *serves* a state, as long as no device write failed: whatever a power
 /// cut may leave opens to just that state.
 #[derive(Drop)]
@@ -21,19 +25,21 @@ pub struct Fs<S: Station> {
 }
 
 impl<S: Station> Fs<S> {
-    ghost use Rattle.std.specs.Prelude.{◌≡◌, ◌≢◌, ◌≤◌, IsTrue, IsFalse, IfOk, IfErr, OnOk, OnErr, IsErrOf, MatchResult, length, vec_len, ◌+◌};
+    ghost use Rattle.std.specs.Prelude.{◌≡◌, ◌≢◌, ◌≤◌, IsTrue, IsFalse, IfOk, IfErr, OnOk, OnErr, IsErrOf, MatchResult, List, [], ◌∷◌, ◌++◌, length, vec_len, ◌+◌, ◌*◌};
     ghost use Rattle.std.specs.List.{zip};
     ghost use Rattle.station.specs.Calls.{Uses};
     ghost use Rattle.station.specs.Moments.{MayLeave};
     ghost use Rattle.model.specs.declared.command.Command.{Command};
     ghost use Rattle.model.specs.declared.errno.Errno.{Errno};
+    ghost use Rattle.model.specs.declared.reply.Reply.{Reply};
     ghost use Rattle.model.specs.States.{State};
     ghost use Rattle.system.specs.Opening.{HasFailed};
     ghost use Rattle.system.specs.Serving.{HasEmptyLog, IsCall, TellsNoFault};
     ghost use Rattle.system.specs.Systems.{IsCovered, meaning_of};
     ghost use Rattle.mount.specs.Applying.{NoWriteFailed, NeedsPlace, Stays, IsAppliedAt, IsAppliedAlways, RunsAt};
     ghost use Rattle.mount.specs.Refusals as refusals;
-    ghost use Rattle.mount.specs.Systems.{mounted, HasNext, Serves, IsYoung, LeavesState};
+    ghost use Rattle.mount.specs.Systems.{mounted, HasNext, Serves, IsYoung, LastsFor, LeavesState};
+    ghost use Rattle.mount.specs.declared.fs.Fs.{Fs};
 
     /// Applies a command and answers it. A command that changes the image is logged before it is answered; a refused one
     /// is not logged. EIO comes where a device call failed; after a failed write every command answers FAILED, with no
@@ -48,6 +54,30 @@ impl<S: Station> Fs<S> {
         ensures refused { (errno : Errno) → result ≡ Reply.Refused errno → errno ≢ Errno.EIO
             → NoWriteFailed (meaning_of self.old.system) (meaning_of self.new.system) }
         ensures ages { self.old.system.log.epoch ≤ self.new.system.log.epoch }
+        ensures lasts { self.new.system.log.epoch ≤ self.old.system.log.epoch + POINTS }
+        ensures quiet { command.now ≡ Command.Df → self.new ≡ self.old }
+        ensures applied { IsAppliedAlways self.old self.new command.now result }
+        // A run that led here goes on by this command.
+        ensures goes_on { (first : Fs S S.Station) (s : State) (steps : List (Command × Reply))
+            → RunsAt first s self.old steps → IsYoung self.old
+            → RunsAt first s self.new (steps ++ (command.now, result) ∷ []) }
+    {
+        let reply = self.answer(command);
+        served_states_open(&self.system);
+        reply
+    }
+
+    /// The same, of one command alone.
+    fn answer(&mut self, command: &Command) -> Reply
+        ensures uses { Uses (meaning_of self.old.system) (meaning_of self.new.system) }
+        ensures failed { IsTrue self.old.has_failed
+            → (result ≡ Reply.Refused Errno.FAILED) × (self.new ≡ self.old) }
+        ensures eio { result ≡ Reply.Refused Errno.EIO
+            → HasFailed (meaning_of self.old.system) (meaning_of self.new.system) }
+        ensures refused { (errno : Errno) → result ≡ Reply.Refused errno → errno ≢ Errno.EIO
+            → NoWriteFailed (meaning_of self.old.system) (meaning_of self.new.system) }
+        ensures ages { self.old.system.log.epoch ≤ self.new.system.log.epoch }
+        ensures lasts { self.new.system.log.epoch ≤ self.old.system.log.epoch + POINTS }
         ensures quiet { command.now ≡ Command.Df → self.new ≡ self.old }
         ensures applied { IsAppliedAlways self.old self.new command.now result }
     {
@@ -93,6 +123,7 @@ impl<S: Station> Fs<S> {
         ensures refused { (errno : Errno) → result ≡ Reply.Refused errno → errno ≢ Errno.EIO
             → NoWriteFailed (meaning_of self.old.system) (meaning_of self.new.system) }
         ensures ages { self.old.system.log.epoch ≤ self.new.system.log.epoch }
+        ensures lasts { self.new.system.log.epoch ≤ self.old.system.log.epoch + POINTS }
         ensures applied { IsAppliedAlways self.old self.new call.now result }
     {
         match self.attempt(call) {
@@ -114,6 +145,7 @@ impl<S: Station> Fs<S> {
         ensures refused { (errno : Errno) → result ≡ Reply.Refused errno → errno ≢ Errno.EIO
             → NoWriteFailed (meaning_of self.old.system) (meaning_of self.new.system) }
         ensures ages { self.old.system.log.epoch ≤ self.new.system.log.epoch }
+        ensures lasts { self.new.system.log.epoch ≤ self.old.system.log.epoch + POINTS }
         ensures applied { (s : State) → Serves (mounted self.old s) → IsYoung self.old
             → NeedsPlace s call.now
             → IsAppliedAt self.old s self.new call.now result }
@@ -175,6 +207,7 @@ impl<S: Station> Fs<S> {
         ensures refused { (errno : Errno) → result ≡ Reply.Refused errno → errno ≢ Errno.EIO
             → NoWriteFailed (meaning_of self.old.system) (meaning_of self.new.system) }
         ensures ages { self.old.system.log.epoch ≤ self.new.system.log.epoch }
+        ensures lasts { self.new.system.log.epoch ≤ self.old.system.log.epoch + POINTS }
         ensures applied { IsAppliedAlways self.old self.new Command.Sync result }
     {
         served_states_open(&self.system);
@@ -196,6 +229,7 @@ impl<S: Station> Fs<S> {
         ensures refused { (errno : Errno) → result ≡ Reply.Refused errno → errno ≢ Errno.EIO
             → NoWriteFailed (meaning_of self.old.system) (meaning_of self.new.system) }
         ensures ages { self.old.system.log.epoch ≤ self.new.system.log.epoch }
+        ensures lasts { self.new.system.log.epoch ≤ self.old.system.log.epoch + POINTS }
         ensures applied { IsAppliedAlways self.old self.new (Command.SnapTake name.now) result }
     {
         served_states_open(&self.system);
@@ -215,6 +249,7 @@ impl<S: Station> Fs<S> {
         ensures refused { (errno : Errno) → result ≡ Reply.Refused errno → errno ≢ Errno.EIO
             → NoWriteFailed (meaning_of self.old.system) (meaning_of self.new.system) }
         ensures ages { self.old.system.log.epoch ≤ self.new.system.log.epoch }
+        ensures lasts { self.new.system.log.epoch ≤ self.old.system.log.epoch + POINTS }
         ensures applied { (s : State) → Serves (mounted self.old s) → IsYoung self.old
             → NeedsPlace s (Command.SnapTake name.now)
             → IsAppliedAt self.old s self.new (Command.SnapTake name.now) result }
@@ -237,6 +272,7 @@ impl<S: Station> Fs<S> {
         ensures refused { (errno : Errno) → result ≡ Reply.Refused errno → errno ≢ Errno.EIO
             → NoWriteFailed (meaning_of self.old.system) (meaning_of self.new.system) }
         ensures ages { self.old.system.log.epoch ≤ self.new.system.log.epoch }
+        ensures once { self.new.system.log.epoch ≤ self.old.system.log.epoch + 1 }
         ensures applied { (s : State) → Serves (mounted self.old s) → HasNext self.old
             → IsCovered self.old.system s.tree.descriptors s
             → IsAppliedAt self.old s self.new (Command.SnapTake name.now) result }
@@ -264,6 +300,7 @@ impl<S: Station> Fs<S> {
         ensures refused { (errno : Errno) → result ≡ Reply.Refused errno → errno ≢ Errno.EIO
             → NoWriteFailed (meaning_of self.old.system) (meaning_of self.new.system) }
         ensures ages { self.old.system.log.epoch ≤ self.new.system.log.epoch }
+        ensures lasts { self.new.system.log.epoch ≤ self.old.system.log.epoch + POINTS }
         ensures applied { IsAppliedAlways self.old self.new (Command.SnapDelete name.now) result }
     {
         served_states_open(&self.system);
@@ -321,19 +358,35 @@ impl<S: Station> Fs<S> {
         ensures refused { OnErr result (self.new ≡ self.old) }
         ensures count { IfOk result (λ replies. vec_len replies ≡ length commands.now) }
         ensures ages { self.old.system.log.epoch ≤ self.new.system.log.epoch }
-        ensures ran { (s : State) → Serves (mounted self.old s) → IsYoung self.new
+        ensures lasts { self.new.system.log.epoch
+            ≤ self.old.system.log.epoch + POINTS * length commands.now }
+        ensures ran { (s : State) → Serves (mounted self.old s)
+            → LastsFor (length commands.now) self.old
             → IfOk result (λ replies. RunsAt self.old s self.new (zip commands.now replies.items)) }
     {
         let mut replies = Vec::with_capacity(self.alloc, commands.len()).map_err(
             |_| RunError::NoMemory,
         )?;
-        served_states_open(&self.system);
+        self.begins();
         for command in commands {
             let reply = self.apply(command);
-            served_states_open(&self.system);
             replies.push(reply).unwrap();
         }
         Ok(replies)
+    }
+
+    /// A state that it serves is where a run begins. It does nothing.
+    pub fn begins(&self)
+        ensures { (s : State) → Serves (mounted self.now s) → RunsAt self.now s self.now [] }
+    {
+        served_states_open(&self.system);
+    }
+
+    /// The station, to look at.
+    pub fn station(&self) -> &S
+        ensures { result.now ≡ self.now.system.blocks.station }
+    {
+        self.system.station()
     }
 
     /// The station as it stands, with no device call.

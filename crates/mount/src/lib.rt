@@ -11,7 +11,7 @@ mod prefix;
 mod refusals;
 
 pub use error::{MountError, RunError};
-pub use fs::Fs;
+pub use fs::{Fs, POINTS};
 pub use image::make;
 pub use making::MakeError;
 pub use mounting::mount;

@@ -15,7 +15,7 @@ use Rattle.system.specs.Images.{OpensTo}
 use Rattle.system.specs.Opening.{HasFailed}
 use Rattle.system.specs.Systems.{meaning_of}
 use Rattle.mount.specs.Applying.{RunsAt}
-use Rattle.mount.specs.Systems.{mounted, Serves, IsYoung}
+use Rattle.mount.specs.Systems.{mounted, Serves, LastsFor}
 use Rattle.mount.specs.declared.error.MountError.{MountError}
 use Rattle.mount.specs.declared.error.MountError.TheVariants as error
 use Rattle.mount.specs.declared.fs.Fs.{Fs}
@@ -28,11 +28,12 @@ use Rattle.session.specs.declared.status.Status.{Status}
 use Rattle.session.specs.declared.status.Status.TheVariants.{Done, FileFault, Cut, NotMounted, NotACommand, NoMemory}
 
 -- Commands with these replies led from a mounted file system to one that has this station. Whatever state the first one serves,
--- the last serves what they come to; and a cut at any moment leaves what the commands up to then come to.
+-- the last serves what they come to; and a cut at any moment leaves what the commands up to then come to. The premise is on the file
+-- system that was mounted: that its log's epoch leaves a generation to each point that so many commands may make.
 pub record RunsOn {S : Type 0} {G : Ghosts S} (fs : Fs S G) (new : S) (steps : List (Command × Reply)) : Type 0 where
   pub last : Fs S G
   pub station : last.system.blocks.station ≡ new
-  pub ran : (s : State) → Serves (mounted fs s) → IsYoung last → RunsAt fs s last steps
+  pub ran : (s : State) → Serves (mounted fs s) → LastsFor (length steps) fs → RunsAt fs s last steps
 
 -- What a session promises of a run, all in the words of `mount` and `Fs::run`: a mount left all that a cut could leave before, and of
 -- a station that opened to a state it found that state without its open files; from there the commands ran with these replies.

@@ -111,6 +111,9 @@ module _ {S : Type 0} {G : Ghosts S} (old new : System S G) (P : State → Type 
   no_older : old.log.epoch ≤ new.log.epoch
   no_older = let same : new.log.epoch ≡ old.log.epoch = ap (λ (l : LogEnd). l.epoch) log in omega (arith, same)
 
+  not_twice : new.log.epoch ≤ old.log.epoch + 1
+  not_twice = let same : new.log.epoch ≡ old.log.epoch = ap (λ (l : LogEnd). l.epoch) log in omega (arith, same)
+
   -- it was refused by its own tests
   pub refuses : (errno : Errno) → errno ≢ EIO → (meaning_of new).failed_reads ≡ (meaning_of old).failed_reads → ((s : State) → ServesState old s → WouldCall s c (Refused errno) s nothing)
       → Settles old new P c (Ok (Err errno))
@@ -122,6 +125,7 @@ module _ {S : Type 0} {G : Ghosts S} (old new : System S G) (P : State → Type 
     written = reads.writes;
     not_written = λ is. cc;
     ages = no_older;
+    once = not_twice;
     runs = ap (λ (l : LogEnd). l.is_stopped) log;
     kept = tt;
     serves = λ s served. tt;
@@ -143,6 +147,7 @@ module _ {S : Type 0} {G : Ghosts S} (old new : System S G) (P : State → Type 
     written = λ _. reads.writes;
     not_written = λ is. absurd (wrote (error_is e _ (Err e) (Err point.NotWritten) refl refl is));
     ages = no_older;
+    once = not_twice;
     runs = ap (λ (l : LogEnd). l.is_stopped) log;
     kept = λ _. reads.goes;
     serves = λ s served _. serves s served;
@@ -183,6 +188,7 @@ module _ {S : Type 0} {G : Ghosts S} (old new : System S G) (mid : Meaning) (P :
     written = written ∙ reads.writes;
     not_written = λ is. cc;
     ages = (let next : new.log.epoch ≡ old.log.epoch + 1 = ap (λ (l : LogEnd). l.epoch) log in omega (arith, next));
+    once = (let next : new.log.epoch ≡ old.log.epoch + 1 = ap (λ (l : LogEnd). l.epoch) log in omega (arith, next));
     runs = ap (λ (l : LogEnd). l.is_stopped) log;
     kept = tt;
     serves = λ s served. tt;
@@ -207,6 +213,7 @@ module _ {S : Type 0} {G : Ghosts S} (old new : System S G) (mid : Meaning) (P :
     written = λ refused. written refused ∙ reads.writes;
     not_written = λ is. subst (λ (n : ℕ). HasGrown n (meaning_of new).failed_writes) reads.writes (device (error_is e _ (Err e) (Err point.NotWritten) refl refl is));
     ages = (let same : new.log.epoch ≡ old.log.epoch = ap (λ (l : LogEnd). l.epoch) log in omega (arith, same));
+    once = (let same : new.log.epoch ≡ old.log.epoch = ap (λ (l : LogEnd). l.epoch) log in omega (arith, same));
     runs = ap (λ (l : LogEnd). l.is_stopped) log;
     kept = λ refused. unchanged_twice (meaning_of old) mid (meaning_of new) reads.goes (kept refused);
     serves = serves;

@@ -79,6 +79,7 @@ pub record Settles {S : Type 0} {G : Ghosts S} (old new : System S G) (P : State
       (λ e. IsRefused e → (meaning_of new).failed_writes ≡ (meaning_of old).failed_writes)
   pub not_written : IsErrOf result point.NotWritten → HasGrown (meaning_of old).failed_writes (meaning_of new).failed_writes
   pub ages : old.log.epoch ≤ new.log.epoch
+  pub once : new.log.epoch ≤ old.log.epoch + 1
   pub runs : new.log.is_stopped ≡ old.log.is_stopped
   pub kept : IfErr result (λ e. IsRefused e → Goes Unchanged (meaning_of old) (meaning_of new))
   pub serves : (s : State) → ServesState old s → IfErr result (λ e. IsRefused e → ServesState new s)

@@ -12,6 +12,6 @@ pub returns-clause-ends : goal.returns-clause-ends
 returns-clause-ends g c =
     let is = c.into_station-station.ensures.station in
     let count = counts c.args.commands.now c.run-ran.result c.run-ran.ensures.count in
-    let runs = runs_on c.args.fs c.run-ran.new.self c.args.commands.now c.into_station-station.result c.run-ran.result is c.run-ran.ensures.ran in
+    let runs = runs_on c.args.fs c.run-ran.new.self c.args.commands.now c.into_station-station.result c.run-ran.result is c.run-ran.ensures.count c.run-ran.ensures.ran in
     let refused = station_of_refused c.args.fs c.run-ran.new.self c.into_station-station.result c.run-ran.result c.run-ran.ensures.refused is in
     ends_run (λ replies. replies.items) c.args.fs c.args.commands.now _ _ _ c.was_cut-cut.result c.show_run.result c.run-ran.result count runs refused c.show_run.ensures

@@ -27,5 +27,6 @@ returns-in_default g c =
       eio = λ is. let fault : refusals.errno_of_call c.in-Err.error ≡ EIO = cc in told.eio fault;
       refused = λ errno is other. told.written (λ fault. let it : errno ≡ EIO = cc in other it);
       ages = omega (arith, told.epoch);
+      lasts = omega (arith, told.epoch);
       applied = λ s serves young. answered_as _ _ s c.args.call.now _ _ c.errno_of_call.ensures (told.applied s serves c.in_default.not-LogFull);
     }

@@ -1,11 +1,12 @@
-use Rattle.std.proofs.Common.{◌≡◌, ◌≤◌, length, take, vec_len}
+use Rattle.std.proofs.Common.{◌≡◌, ◌≤◌, ◌+◌, ◌*◌, length, take, vec_len}
 use Rattle.std.specs.List.{zip}
 use Rattle.std.specs.Vec.{vec_capacity}
 use Rattle.station.specs.Calls.{Uses}
 use Rattle.model.specs.States.{State}
 use Rattle.system.specs.Systems.{meaning_of}
 use Rattle.mount.specs.Applying.{RunsAt}
-use Rattle.mount.specs.Systems.{mounted, Serves, IsYoung}
+use Rattle.mount.specs.Systems.{mounted, Serves, LastsFor}
+use Rattle.mount.specs.declared.fs.TheConstants.{POINTS}
 use Rattle.mount.proofs.fs.Fs.run.Given as goal
 
 abbrev pub invariant-loop-command : goal.invariant-loop-command
@@ -14,6 +15,7 @@ invariant-loop-command g l = record {
   room : length l.commands ≤ vec_capacity l.replies;
   uses : Uses (meaning_of {G = g.S.Station} l.fn.self.system) (meaning_of {G = g.S.Station} l.self.system);
   ages : l.fn.self.system.log.epoch ≤ l.self.system.log.epoch;
-  ran : (s : State) → Serves (mounted {G = g.S.Station} l.fn.self s) → IsYoung {G = g.S.Station} l.self
+  lasts : l.self.system.log.epoch ≤ l.fn.self.system.log.epoch + POINTS * l.command-index;
+  ran : (s : State) → Serves (mounted {G = g.S.Station} l.fn.self s) → LastsFor {G = g.S.Station} (length l.commands) l.fn.self
       → RunsAt {G = g.S.Station} l.fn.self s l.self (zip (take l.command-index l.commands) l.replies.items);
 }
