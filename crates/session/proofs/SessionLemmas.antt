@@ -1,6 +1,7 @@
 -- How a session ends, from how its parts do.
-use Rattle.std.proofs.Common.{◌≡◌, ◌⊎◌, inl, inr, ℕ, suc, Bool, true, false, List, [], ◌∷◌, length, Option, Result, Ok, Err, IfOk, OnErr, MatchResult, vec_len, arith, refl, sym, ◌∙◌, ap, subst}
+use Rattle.std.proofs.Common.{◌≡◌, ◌⊎◌, inl, inr, ℕ, Bool, true, false, List, length, Option, Result, Ok, Err, IfOk, OnErr, MatchResult, vec_len, arith, refl, sym, ◌∙◌, ap, subst}
 use Rattle.std.specs.List.{zip}
+use Rattle.std.proofs.lemmas.Slice.Zip.{length-zip}
 use Rattle.std.specs.Global.{Vec}
 use Rattle.model.specs.declared.command.Command.{Command}
 use Rattle.model.specs.declared.reply.Reply.{Reply}
@@ -48,20 +49,12 @@ pub counts : (commands : List Command) (ran : Result (Vec Reply) RunError) → I
 counts commands (Ok replies) count = sym replies.ok.0 ∙ count
 counts commands (Err e) count = tt
 
--- as many steps as commands
-length_steps : (commands : List Command) (replies : List Reply) → length replies ≡ length commands → length (zip commands replies) ≡ length commands
-length_steps [] [] same = refl
-length_steps [] (r ∷ rs) same = absurd (omega arith)
-length_steps (c ∷ cs) [] same = absurd (omega arith)
-length_steps (c ∷ cs) (r ∷ rs) same = ap (λ n. suc n) (length_steps cs rs (omega arith))
-
 pub runs_on : {S : Type 0} {G : Ghosts S} (fs fs' : Fs S G) (commands : List Command) (station : S) (ran : Result (Vec Reply) RunError) → station ≡ fs'.system.blocks.station → IfOk ran (λ replies. vec_len replies ≡ length commands)
     → ((s : State) → Serves (mounted fs s) → LastsFor (length commands) fs → IfOk ran (λ replies. RunsAt fs s fs' (zip commands replies.items))) → IfOk ran (λ replies. RunsOn fs station (zip commands replies.items))
-runs_on fs fs' commands station (Ok replies) is count run = record {
-  last = fs';
-  station = sym is;
-  ran = λ s serves lasts. run s serves (subst (λ n. LastsFor n fs) (length_steps commands replies.items (sym replies.ok.0 ∙ count)) lasts);
-}
+runs_on fs fs' commands station (Ok replies) is count run =
+    let all : length replies.items ≡ length commands = sym replies.ok.0 ∙ count in
+    let steps : length (zip commands replies.items) ≡ length commands = omega (arith, length-zip commands replies.items, all) in
+    record { last = fs'; station = sym is; ran = λ s serves lasts. run s serves (subst (λ n. LastsFor n fs) steps lasts) }
 runs_on fs fs' commands station (Err e) is count run = tt
 
 -- a run that was refused leaves the station
