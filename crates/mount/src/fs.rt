@@ -382,6 +382,13 @@ impl<S: Station> Fs<S> {
         served_states_open(&self.system);
     }
 
+    /// The station, to look at.
+    pub fn station(&self) -> &S
+        ensures { result.now ≡ self.now.system.blocks.station }
+    {
+        self.system.station()
+    }
+
     /// The station as it stands, with no device call.
     pub fn into_station(self) -> S
         ensures station { result ≡ self.system.blocks.station }

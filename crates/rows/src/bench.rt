@@ -1,15 +1,18 @@
-//! What a row works on: its images, and the run that is being read.
+//! What a row works on: its images, its locks, and the run or the command line that is being read.
 
 use crate::choices::Choices;
 use crate::fault::Fault;
+use crate::guards::Locks;
 use crate::host_files::obey_file;
 use crate::image::obey;
+use crate::obeying::Obeyed;
 use crate::run::{Images, Run};
 use crate::text::{is_one_of, random_bytes};
 use mount::make;
 use station::Sim;
 use std::alloc::{AllocError, Global};
-use tool::{LineError, read_line};
+use std::mem;
+use tool::{Asked, LineError, read_line};
 
 /// A row under way.
 #[derive(Drop)]
@@ -17,7 +20,16 @@ pub struct Bench<'a> {
     alloc: Global,
     choices: Choices,
     images: Images,
-    run: Option<Run<'a>>,
+    locks: Locks<'a>,
+    open: Open<'a>,
+}
+
+/// What is being read.
+#[derive(Drop)]
+enum Open<'a> {
+    Nothing,
+    Run(Run<'a>),
+    Obeyed(Obeyed<'a>),
 }
 
 impl<'a> Bench<'a> {
@@ -29,7 +41,8 @@ impl<'a> Bench<'a> {
                 disk: Vec::new(alloc),
                 nvram: Vec::new(alloc),
             },
-            run: None,
+            locks: Locks::new(alloc),
+            open: Open::Nothing,
         }
     }
 
@@ -39,58 +52,70 @@ impl<'a> Bench<'a> {
             return Ok(());
         }
         if let Some(text) = line.strip_prefix("  ") {
-            return match &mut self.run {
-                Some(run) => run.add_line(self.alloc, text),
-                None => Err(Fault::misread(self.alloc, line)),
+            return match &mut self.open {
+                Open::Run(run) => run.add_line(self.alloc, text),
+                Open::Obeyed(obeyed) => obeyed.add_line(self.alloc, text),
+                Open::Nothing => Err(Fault::misread(self.alloc, line)),
             };
         }
         let (verb, words) = line.split_once(' ').unwrap_or((line, ""));
-        if self.is_about_run(verb, words) {
+        if self.is_about_open(verb, words) {
             return Ok(());
         }
-        self.end_run()?;
-        let is_known = match obey_file(rt, verb, words)? {
-            Some(is_known) => is_known,
-            None => self.begin(verb, words)?,
-        };
-        if !is_known {
+        self.end_open(rt)?;
+        if !self.obey(rt, verb, words)? {
             return Err(Fault::misread(self.alloc, line));
         }
         Ok(())
     }
 
     /// Ends the row: how many choices it has.
-    pub fn finish(mut self) -> Result<u64, Fault> {
-        self.end_run()?;
+    pub fn finish(mut self, rt: &HostRuntime) -> Result<u64, Fault> {
+        self.end_open(rt)?;
         Ok(self.choices.count())
     }
 
-    /// Whether a line says what is expected of the run above it.
-    fn is_about_run(&mut self, verb: &str, words: &'a str) -> bool {
-        let Some(run) = &mut self.run else {
-            return false;
-        };
-        match verb {
-            "status" => run.expect_status(words),
-            "says" => run.expect_fault(words),
-            "unchanged" => run.expect_unchanged(),
-            _ => return false,
-        }
-        true
-    }
-
-    fn end_run(&mut self) -> Result<(), Fault> {
-        match self.run.take() {
-            Some(run) => run.finish(self.alloc, &mut self.images),
-            None => Ok(()),
+    /// Whether a line says what is expected of what is being read.
+    fn is_about_open(&mut self, verb: &str, words: &'a str) -> bool {
+        match &mut self.open {
+            Open::Run(run) => is_about_run(run, verb, words),
+            Open::Obeyed(obeyed) if verb == "status" => {
+                obeyed.expect_status(words);
+                true
+            }
+            _ => false,
         }
     }
 
-    /// Does what a line says that isn't about a run. False where it isn't understood.
+    fn end_open(&mut self, rt: &HostRuntime) -> Result<(), Fault> {
+        match mem::replace(&mut self.open, Open::Nothing) {
+            Open::Nothing => Ok(()),
+            Open::Run(run) => run.finish(self.alloc, &mut self.images),
+            Open::Obeyed(obeyed) => obeyed.finish(rt),
+        }
+    }
+
+    /// Does what a line says that begins something. False where it isn't understood.
+    fn obey(&mut self, rt: &HostRuntime, verb: &str, words: &'a str) -> Result<bool, Fault> {
+        if let Some(is_known) = self.locks.obey(rt, verb, words)? {
+            return Ok(is_known);
+        }
+        match obey_file(rt, verb, words)? {
+            Some(is_known) => Ok(is_known),
+            None => self.begin(verb, words),
+        }
+    }
+
+    /// Does what a line says that isn't about files. False where it isn't understood.
     fn begin(&mut self, verb: &str, words: &'a str) -> Result<bool, Fault> {
         match verb {
-            "run" => {
-                self.run = Some(Run::new(self.alloc, words, &mut self.choices)?);
+            "run" | "shell" => {
+                let run = Run::new(self.alloc, verb == "shell", words, &mut self.choices)?;
+                self.open = Open::Run(run);
+                Ok(true)
+            }
+            "obey" => {
+                self.open = Open::Obeyed(Obeyed::new(self.alloc, words));
                 Ok(true)
             }
             "image" => self.make_image(words),
@@ -130,6 +155,17 @@ impl<'a> Bench<'a> {
     }
 }
 
+/// Whether a line says what is expected of a run.
+fn is_about_run<'a>(run: &mut Run<'a>, verb: &str, words: &'a str) -> bool {
+    match verb {
+        "status" => run.expect_status(words),
+        "says" => run.expect_fault(words),
+        "unchanged" => run.expect_unchanged(),
+        _ => return false,
+    }
+    true
+}
+
 /// A station of these sizes that held other bytes before. None where no station has them.
 fn used_station(alloc: Global, blocks: u32, half: u32) -> Result<Option<Sim>, AllocError> {
     let disk = vec![in alloc; 0xaa; 4096_usize.saturating_mul(blocks as usize)]?;
@@ -165,8 +201,17 @@ fn line_of(alloc: Global, text: &str) -> Result<String, Fault> {
 
 fn shown_line(alloc: Global, words: &[&str]) -> Result<String, Fault> {
     match read_line(alloc, words) {
-        Ok(line) => Ok(format!(in alloc; "{line:?}")?),
+        Ok(asked) => shown_asked(alloc, &asked),
         Err(LineError::NotUnderstood(_)) => Ok(String::from_str(alloc, "nothing")?),
+        Err(LineError::OutOfRange(text)) => Ok(String::from_str(alloc, text.trim_end())?),
         Err(LineError::NoMemory) => Err(Fault::NoMemory),
     }
+}
+
+fn shown_asked(alloc: Global, asked: &Asked<'_>) -> Result<String, Fault> {
+    let line = &asked.line;
+    if asked.explains {
+        return Ok(format!(in alloc; "{line:?}, explained")?);
+    }
+    Ok(format!(in alloc; "{line:?}")?)
 }

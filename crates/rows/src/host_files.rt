@@ -1,7 +1,8 @@
 //! Files of images, in the folder that the program runs in.
 
 use crate::fault::Fault;
-use crate::text::is_one_of;
+use crate::guards::obey_guard;
+use crate::text::{bytes_of, is_one_of};
 use crate::transfers::obey_transfer;
 use std::fs;
 use std::os::unix::fs::symlink;
@@ -11,7 +12,7 @@ use tool::host_files::make_image;
 pub fn obey_file(rt: &HostRuntime, verb: &str, words: &str) -> Result<Option<bool>, Fault> {
     let (name, rest) = words.split_once(' ').unwrap_or((words, ""));
     match verb {
-        "file" => Ok(Some(fs::write(rt, name, rest).is_ok())),
+        "file" => Ok(Some(fs::write(rt, name, bytes_of(rt.alloc(), rest)?.as_slice()).is_ok())),
         "folder" => Ok(Some(fs::create_dir(rt, name).is_ok())),
         "link" => Ok(Some(fs::hard_link(rt, name, rest).is_ok())),
         "symlink" => Ok(Some(symlink(rt, name, rest).is_ok())),
@@ -24,7 +25,10 @@ pub fn obey_file(rt: &HostRuntime, verb: &str, words: &str) -> Result<Option<boo
             compare_size(rt, name, rest)?;
             Ok(Some(true))
         }
-        _ => obey_transfer(rt, verb, words),
+        _ => match obey_guard(rt, verb, words)? {
+            Some(is_known) => Ok(Some(is_known)),
+            None => obey_transfer(rt, verb, words),
+        },
     }
 }
 
@@ -43,7 +47,7 @@ fn make_files(rt: &HostRuntime, text: &str) -> Result<bool, Fault> {
     let (Ok(blocks), Ok(inodes), Ok(half)) = (blocks.parse(), inodes.parse(), half.parse()) else {
         return Ok(false);
     };
-    let came = match make_image(rt, disk, nvram, blocks, inodes, half) {
+    let came = match make_image(rt, disk, nvram, blocks, inodes, half, false) {
         Ok(()) => String::from_str(rt.alloc(), "done")?,
         Err(error) => format!(in rt.alloc(); "{error}")?,
     };
@@ -55,9 +59,10 @@ fn make_files(rt: &HostRuntime, text: &str) -> Result<bool, Fault> {
 
 /// `reads NAME TEXT`: the file holds this text. With no text: no file has this name.
 fn compare_text(rt: &HostRuntime, name: &str, text: &str) -> Result<(), Fault> {
+    let expected = bytes_of(rt.alloc(), text)?;
     match fs::read(rt, name) {
         Ok(bytes) if text == "" => Err(Fault::differs(rt.alloc(), name, &bytes, "no file")),
-        Ok(bytes) if bytes.as_slice() != text.as_bytes() => Err(Fault::differs(
+        Ok(bytes) if bytes.as_slice() != expected.as_slice() => Err(Fault::differs(
             rt.alloc(),
             name,
             &bytes,

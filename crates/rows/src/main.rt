@@ -5,11 +5,14 @@
 
 mod bench;
 mod choices;
+mod expected;
 mod fault;
 mod formats;
+mod guards;
 mod host_files;
 mod image;
 mod levels;
+mod obeying;
 mod run;
 mod text;
 mod transfers;
@@ -87,5 +90,5 @@ fn check_choice(rt: &HostRuntime, row: &str, choice: u64) -> Result<u64, Fault> 
     for line in row.lines().skip(1) {
         bench.take(rt, line)?;
     }
-    bench.finish()
+    bench.finish(rt)
 }

@@ -1,9 +1,9 @@
-//! One run of a row: a script over a station in memory, and what is expected of it.
+//! One run of a row: a script over a station in memory, or lines that are answered one by one, and what is expected of it.
 
 use crate::choices::Choices;
 use crate::fault::Fault;
 use crate::text::{bytes_of, is_one_of, push_text};
-use session::session;
+use session::{session, shell};
 use station::{Keep, Sim};
 use std::alloc::{AllocError, Global};
 
@@ -24,6 +24,10 @@ struct FaultPlan<'a> {
 #[derive(Drop)]
 pub struct Run<'a> {
     plan: FaultPlan<'a>,
+    /// Each line is answered before the next is read.
+    is_shell: bool,
+    /// The first reply that is a refusal ends it.
+    stops: bool,
     script: Vec<u8>,
     /// The reply to each line that brings one, in order.
     replies: Vec<&'a str>,
@@ -62,8 +66,14 @@ impl Images {
 }
 
 impl<'a> Run<'a> {
-    /// A run by the words behind `run`: none, or some of `cut=N`, `keep=none|all|BITS`, `bytes=K`, `fail=N`, `fail-sync=N`.
-    pub fn new(alloc: Global, words: &'a str, choices: &mut Choices) -> Result<Run<'a>, Fault> {
+    /// A run by the words behind `run` or `shell`: none, or some of `cut=N`, `keep=none|all|BITS`, `bytes=K`, `fail=N`,
+    /// `fail-sync=N` and `stop`.
+    pub fn new(
+        alloc: Global,
+        is_shell: bool,
+        words: &'a str,
+        choices: &mut Choices,
+    ) -> Result<Run<'a>, Fault> {
         let mut run = Run {
             plan: FaultPlan {
                 cut: None,
@@ -72,6 +82,8 @@ impl<'a> Run<'a> {
                 call: None,
                 sync: None,
             },
+            is_shell,
+            stops: false,
             script: Vec::new(alloc),
             replies: Vec::new(alloc),
             statuses: None,
@@ -81,7 +93,10 @@ impl<'a> Run<'a> {
         for word in words.split_ascii_whitespace() {
             let is_known = match word.split_once('=') {
                 Some((name, value)) => run.plan.set(name, value, choices),
-                None => false,
+                None => {
+                    run.stops = word == "stop";
+                    run.stops
+                }
             };
             if !is_known {
                 return Err(Fault::misread(alloc, words));
@@ -137,17 +152,30 @@ impl<'a> Run<'a> {
         let mut out = Vec::new(alloc);
         let mut err = Vec::new(alloc);
         let station = self.plan.station(alloc, images)?;
-        let (status, sim) = session(
-            alloc,
-            station,
-            &self.script,
-            |sim: &Sim| sim.is_cut(),
-            &mut out,
-            &mut err,
-        );
+        let (ending, sim) = if self.is_shell {
+            shell(
+                alloc,
+                station,
+                false,
+                &mut self.script.as_slice(),
+                |sim: &Sim| sim.is_cut(),
+                &mut out,
+                &mut err,
+            )
+        } else {
+            session(
+                alloc,
+                station,
+                &self.script,
+                self.stops,
+                |sim: &Sim| sim.is_cut(),
+                &mut out,
+                &mut err,
+            )
+        };
         let images = Images::of(alloc, &sim)?;
         Ok(Outcome {
-            status,
+            status: ending.status().number(),
             out,
             err,
             images,

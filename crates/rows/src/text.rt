@@ -3,8 +3,8 @@
 use crate::fault::Fault;
 use std::alloc::{AllocError, Global};
 
-/// Adds the bytes of a text: `{HH}` is the byte of these two hexadecimal digits, `{HH*N}` so many of it, and every other
-/// character stands for itself.
+/// Adds the bytes of a text: `{HH}` is the byte of these two hexadecimal digits, `{HH*N}` so many of it, `{}` is nothing, and
+/// every other character stands for itself.
 pub fn push_text(alloc: Global, out: &mut Vec<u8>, text: &str) -> Result<(), Fault> {
     for (i, part) in text.split('{').enumerate() {
         if i == 0 {
@@ -27,6 +27,9 @@ pub fn push_text(alloc: Global, out: &mut Vec<u8>, text: &str) -> Result<(), Fau
 
 /// A byte and how often it stands.
 fn read_code(code: &str) -> Option<(u8, u32)> {
+    if code.is_empty() {
+        return Some((0, 0));
+    }
     let (digits, count) = match code.split_once('*') {
         Some((digits, count)) => (digits, count.parse().ok()?),
         None => (code, 1),

@@ -52,7 +52,7 @@ fn put(rt: &HostRuntime, text: &str) -> Result<bool, Fault> {
         return Ok(false);
     };
     let mut progress = Progress::new(sink(), false);
-    let came = put_file(rt, what, &mut progress);
+    let came = put_file(rt, what, &mut rt.reader(), &mut progress);
     compare_end(rt, &came, expected)
 }
 
@@ -66,7 +66,7 @@ fn get(rt: &HostRuntime, text: &str) -> Result<bool, Fault> {
     };
     let mut shown = Vec::new(rt.alloc());
     let mut progress = Progress::new(sink(), false);
-    let came = get_file(rt, what, &mut shown, &mut progress);
+    let came = get_file(rt, what, None, &mut shown, &mut progress);
     if what.file == "-" {
         fs::write(rt, "shown", shown.as_slice())?;
     }

@@ -1,2 +1,6 @@
 mod ScriptLemmas
+mod AnswerLemmas
+mod ReadingLemmas
+mod RunLemmas
+mod ShellLemmas
 mod SessionLemmas

@@ -4,8 +4,8 @@ use Rattle.std.specs.Fmt.{decimal}
 use Rattle.std.specs.List.{slice_split}
 use Rattle.model.specs.declared.command.Command.{Command}
 use Rattle.script.specs.Lines.{command_line, IsCommand}
-use Rattle.session.specs.declared.running.Fault.{Fault}
-use Rattle.session.specs.declared.running.Fault.TheVariants.{NoMemory, Line}
+use Rattle.session.specs.declared.ending.Fault.{Fault}
+use Rattle.session.specs.declared.ending.Fault.TheVariants.{NoMemory, Line}
 
 -- the parts of a script between its line ends
 abbrev pub lines_of : List ℕ → List (List ℕ)

@@ -1,11 +1,8 @@
 -- How a session ends: what its status says of the script, of the station, of what is shown and of what is told.
-use Rattle.std.specs.Prelude.{ℕ, ◌≡◌, ◌≢◌, ◌⊎◌, ◌∷◌, ◌++◌, Bool, true, false, List, [], Option, codes, length, take}
-use Rattle.std.specs.List.{before_first, flat_map, zip}
+use Rattle.std.specs.Prelude.{ℕ, ◌≡◌, ◌≢◌, ◌∷◌, ◌++◌, Bool, true, false, List, [], Option, All, codes, length, map, take}
 use Rattle.std.specs.Io.KnownBytes.{Appends}
 use Rattle.model.specs.declared.command.Command.{Command}
-use Rattle.model.specs.declared.errno.Errno.TheVariants.{EIO}
 use Rattle.model.specs.declared.reply.Reply.{Reply}
-use Rattle.model.specs.declared.reply.Reply.TheVariants.{Refused}
 use Rattle.model.specs.States.{State, Forgets}
 use Rattle.station.specs.Images.{Unchanged}
 use Rattle.station.specs.Moments.{Meaning, Goes}
@@ -14,28 +11,27 @@ use Rattle.loading.specs.Slots.{HasNoRoot}
 use Rattle.system.specs.Images.{OpensTo}
 use Rattle.system.specs.Opening.{HasFailed}
 use Rattle.system.specs.Systems.{meaning_of}
-use Rattle.mount.specs.Applying.{RunsAt}
-use Rattle.mount.specs.Systems.{mounted, Serves, LastsFor}
+use Rattle.mount.specs.Systems.{mounted, Serves}
 use Rattle.mount.specs.declared.error.MountError.{MountError}
 use Rattle.mount.specs.declared.error.MountError.TheVariants as error
 use Rattle.mount.specs.declared.fs.Fs.{Fs}
-use Rattle.script.specs.Replies.{reply_line}
+use Rattle.session.specs.Answers.{is_refusal, lines_of_steps, EndsShort, HasDone}
 use Rattle.session.specs.Scripts.{line_fault, IsScriptFault, IsScriptOf}
-use Rattle.session.specs.Statuses.{status_number}
-use Rattle.session.specs.declared.running.Fault.{Fault}
-use Rattle.session.specs.declared.running.Fault.TheVariants as fault
+use Rattle.session.specs.declared.ending.Ending.{Ending}
+use Rattle.session.specs.declared.ending.Ending.TheVariants as ending
+use Rattle.session.specs.declared.ending.Fault.{Fault}
+use Rattle.session.specs.declared.ending.Fault.TheVariants as fault
 use Rattle.session.specs.declared.status.Status.{Status}
-use Rattle.session.specs.declared.status.Status.TheVariants.{Done, FileFault, Cut, NotMounted, NotACommand, NoMemory}
+use Rattle.session.specs.declared.status.Status.TheVariants.{Done, FileFault, NotMounted, NotACommand, NoMemory, Refused}
 
 -- Commands with these replies led from a mounted file system to one that has this station. Whatever state the first one serves,
--- the last serves what they come to; and a cut at any moment leaves what the commands up to then come to. The premise is on the file
--- system that was mounted: that its log's epoch leaves a generation to each point that so many commands may make.
+-- the last serves what they come to; and a cut at any moment leaves what the commands up to then come to.
 pub record RunsOn {S : Type 0} {G : Ghosts S} (fs : Fs S G) (new : S) (steps : List (Command × Reply)) : Type 0 where
   pub last : Fs S G
   pub station : last.system.blocks.station ≡ new
-  pub ran : (s : State) → Serves (mounted fs s) → LastsFor (length steps) fs → RunsAt fs s last steps
+  pub done : HasDone fs last steps
 
--- What a session promises of a run, all in the words of `mount` and `Fs::run`: a mount left all that a cut could leave before, and of
+-- What a session promises of a run, all in the words of `mount` and `Fs::apply`: a mount left all that a cut could leave before, and of
 -- a station that opened to a state it found that state without its open files; from there the commands ran with these replies.
 pub record Ran {S : Type 0} (G : Ghosts S) (old new : S) (steps : List (Command × Reply)) : Type 0 where
   pub fs : Fs S G
@@ -44,51 +40,45 @@ pub record Ran {S : Type 0} (G : Ghosts S) (old new : S) (steps : List (Command 
       → (t : State) × Forgets s t × Serves (mounted fs t)
   pub runs : RunsOn fs new steps
 
--- the script's commands ran, each with its reply
-pub record RunsScript {S : Type 0} (G : Ghosts S) (script : List ℕ) (old new : S) (replies : List Reply) : Type 0 where
-  pub commands : List Command
-  pub script_is : IsScriptOf script commands
-  pub count : length replies ≡ length commands
-  pub ran : Ran G old new (zip commands replies)
+-- the commands of steps
+abbrev pub commands_of : List (Command × Reply) → List Command
+commands_of steps = map (λ step. step.0) steps
 
--- a device call failed
-abbrev pub is_failed_call : Reply → Bool
-is_failed_call (Refused EIO) = true
-is_failed_call _ = false
+-- they are those of the first of these commands
+abbrev pub AreFirstOf : List (Command × Reply) → List Command → Type 0
+AreFirstOf steps commands = commands_of steps ≡ take (length steps) commands
 
--- a line for each reply
-abbrev pub reply_lines : List Reply → List ℕ
-reply_lines replies = flat_map (λ reply. reply_line reply ++ 10 ∷ []) replies
+-- none of them was refused
+abbrev pub AreDone : List (Command × Reply) → Type 0
+AreDone steps = All (λ step. is_refusal step.1 ≡ false) steps
 
--- the replies that are shown: where the power was cut, those before the first call that failed
-abbrev pub answered : Bool → List Reply → List Reply
-answered false replies = replies
-answered true replies = before_first is_failed_call replies
+-- the last of them was refused, and no other
+pub record EndsRefused (steps : List (Command × Reply)) : Type 0 where
+  pub before : List (Command × Reply)
+  pub command : Command
+  pub reply : Reply
+  pub is : steps ≡ before ++ (command, reply) ∷ []
+  pub done : AreDone before
+  pub refused : is_refusal reply ≡ true
 
--- what is shown of a run: a line for each of them, and then the line `cut` where the power was cut
-abbrev pub shown : Bool → List Reply → List ℕ
-shown false replies = reply_lines (answered false replies)
-shown true replies = reply_lines (answered true replies) ++ codes "cut\n"
+-- How the run of a script's commands ends, of which these steps were done, and what a writer's known bytes gained by it. `stops` has a refusal
+-- end it; `was_cut` says whether the power was cut.
+abbrev pub EndsShowing : Bool → (Bool → Type 0) → List Command → List (Command × Reply) → Option (List ℕ) → Option (List ℕ) → Status → Type 0
+EndsShowing stops was_cut commands steps old new Done =
+    (commands_of steps ≡ commands) × (stops ≡ true → AreDone steps) × was_cut false × Appends old new (lines_of_steps steps)
+EndsShowing stops was_cut commands steps old new Refused =
+    (stops ≡ true) × AreFirstOf steps commands × EndsRefused steps × Appends old new (lines_of_steps steps)
+EndsShowing stops was_cut commands steps old new status = AreFirstOf steps commands × EndsShort was_cut steps old new status
 
--- why replies aren't all shown, and what a writer's known bytes gained until then
-abbrev pub CanNotShow : List Reply → Option (List ℕ) → Option (List ℕ) → Status → Type 0
-CanNotShow replies old new FileFault = Unit {0}
-CanNotShow replies old new NoMemory = (k : ℕ) × Appends old new (reply_lines (take k replies))
-CanNotShow replies old new status = ⊥
+-- how the run of commands on a file system ends
+abbrev pub EndsRunning : {S : Type 0} {G : Ghosts S} → Fs S G → Fs S G → List Command → Bool → (Bool → Type 0) → Option (List ℕ) → Option (List ℕ) → Status → Type 0
+EndsRunning old new commands stops was_cut out out' status =
+    (steps : List (Command × Reply)) × HasDone old new steps × EndsShowing stops was_cut commands steps out out' status
 
--- how the showing of a run's replies ends, and what a writer's known bytes gained by it
-abbrev pub EndsShowing : Bool → List Reply → Option (List ℕ) → Option (List ℕ) → Status → Type 0
-EndsShowing cut replies old new Done = (cut ≡ false) × Appends old new (shown false replies)
-EndsShowing cut replies old new Cut = (cut ≡ true) × Appends old new (shown true replies)
-EndsShowing cut replies old new status = CanNotShow (answered cut replies) old new status
-
--- how the run of commands on a mounted file system ends: there is no memory for their replies, or they are shown as far
--- as they can be
-abbrev pub EndsRun : {S : Type 0} {G : Ghosts S} → Fs S G → List Command → S → Option (List ℕ) → Option (List ℕ) → Status → Type 0
-EndsRun fs commands new out out' status =
-    ((status ≡ NoMemory) × (new ≡ fs.system.blocks.station) × (out' ≡ out))
-    ⊎ ((cut : Bool) × ((replies : List Reply) × (length replies ≡ length commands)
-    × RunsOn fs new (zip commands replies) × EndsShowing cut replies out out' status))
+-- and on one whose station is given back then
+abbrev pub EndsRun : {S : Type 0} {G : Ghosts S} → Fs S G → List Command → Bool → (Bool → Type 0) → S → Option (List ℕ) → Option (List ℕ) → Status → Type 0
+EndsRun fs commands stops was_cut new out out' status =
+    (steps : List (Command × Reply)) × RunsOn fs new steps × EndsShowing stops was_cut commands steps out out' status
 
 -- what tells why a station isn't mounted
 abbrev pub mount_fault : MountError → List ℕ
@@ -136,23 +126,22 @@ pub record Written : Type 0 where
 abbrev pub written : Option (List ℕ) → Option (List ℕ) → Written
 written out err = record { out = out; err = err }
 
--- the script ran, its replies were shown as far as they could be, and nothing was told
-pub record EndsRan {S : Type 0} (G : Ghosts S) (script : List ℕ) (old new : S) (w w' : Written) (status : Status) : Type 0 where
-  pub cut : Bool
-  pub replies : List Reply
-  pub runs : RunsScript G script old new replies
-  pub shows : EndsShowing cut replies w.out w'.out status
+-- The script's commands ran, as far as they did, their replies were shown, and nothing was told.
+pub record EndsRan {S : Type 0} (G : Ghosts S) (script : List ℕ) (stops : Bool) (was_cut : Bool → Type 0) (old new : S) (w w' : Written) (status : Status) : Type 0 where
+  pub commands : List Command
+  pub script_is : IsScriptOf script commands
+  pub steps : List (Command × Reply)
+  pub ran : Ran G old new steps
+  pub shows : EndsShowing stops was_cut commands steps w.out w'.out status
   pub tells : w'.err ≡ w.err
 
 -- nothing was run, nothing was shown, and why was told if it could be
-pub record EndsUnrun {S : Type 0} (G : Ghosts S) (script : List ℕ) (old new : S) (w w' : Written) (status : Status) : Type 0 where
-  pub fault : Fault
+pub record EndsUnrun {S : Type 0} (G : Ghosts S) (script : List ℕ) (old new : S) (w w' : Written) (fault : Fault) (status : Status) : Type 0 where
   pub has : HasFault G script old new fault
   pub shows : w'.out ≡ w.out
   pub tells : EndsTelling fault w.err w'.err status
 
--- this is the number of a status that says how the session ended
-abbrev pub EndsWith : {S : Type 0} (G : Ghosts S) → List ℕ → S → S → Written → Written → ℕ → Type 0
-EndsWith G script old new w w' n =
-    (status : Status) × (n ≡ status_number status)
-    × (EndsRan G script old new w w' status ⊎ EndsUnrun G script old new w w' status)
+-- how a session over a script ended
+abbrev pub EndsWith : {S : Type 0} (G : Ghosts S) → List ℕ → Bool → (Bool → Type 0) → S → S → Written → Written → Ending → Type 0
+EndsWith G script stops was_cut old new w w' (ending.Ran status) = EndsRan G script stops was_cut old new w w' status
+EndsWith G script stops was_cut old new w w' (ending.Unrun fault status) = EndsUnrun G script old new w w' fault status

@@ -1,7 +1,9 @@
 -- The exit statuses and their numbers.
 use Rattle.std.specs.Prelude.{ℕ}
+use Rattle.session.specs.declared.ending.Ending.{Ending}
+use Rattle.session.specs.declared.ending.Ending.TheVariants.{Ran, Unrun}
 use Rattle.session.specs.declared.status.Status.{Status}
-use Rattle.session.specs.declared.status.Status.TheVariants.{Done, NotUnderstood, FileFault, Cut, NotMounted, NotACommand, NoMemory}
+use Rattle.session.specs.declared.status.Status.TheVariants.{Done, NotUnderstood, FileFault, Cut, NotMounted, NotACommand, NoMemory, Refused}
 
 -- the number that the program ends with
 abbrev pub status_number : Status → ℕ
@@ -12,3 +14,9 @@ status_number Cut = 3
 status_number NotMounted = 4
 status_number NotACommand = 5
 status_number NoMemory = 7
+status_number Refused = 8
+
+-- the status of an ending
+abbrev pub status_of : Ending → Status
+status_of (Ran status) = status
+status_of (Unrun fault status) = status

@@ -1,8 +1,18 @@
-//! A session: a script run over a mounted station, its replies shown, and the status that tells how it ended.
+//! A session: commands done on a mounted station, each one answered before the next begins, and the status that tells how it
+//! ended. The commands are those of a script, which is read and tested whole first, or of lines that are read one by one.
 #![tactic(auto)]
 
+mod answering;
+mod ending;
+mod line_by_line;
+mod lines;
+mod reading;
 mod running;
 mod status;
+mod telling;
 
+pub use ending::{Ending, Fault};
+pub use line_by_line::shell;
+pub use reading::LINE_BYTES;
 pub use running::session;
 pub use status::Status;

@@ -15,8 +15,10 @@ pub enum Status {
     NotMounted = 4,
     /// A line of the script isn't a command, and nothing was run.
     NotACommand = 5,
-    /// No memory was left for the line, the script, the loaded images or the replies.
+    /// No memory was left for the line, the script, the loaded images or a reply.
     NoMemory = 7,
+    /// A command was refused, where that ends the run.
+    Refused = 8,
 }
 
 impl Status {

@@ -46,6 +46,13 @@ pub struct System<S: Station> {
 }
 
 impl<S: Station> System<S> {
+    /// The station, to look at.
+    pub fn station(&self) -> &S
+        ensures { result.now ≡ self.now.blocks.station }
+    {
+        &self.blocks.station
+    }
+
     /// The station as it stands, with no device call.
     pub fn into_station(self) -> S
         ensures { result ≡ self.blocks.station }

@@ -1,7 +1,6 @@
 -- What is refused: by the system, and of the words.
-use Rattle.std.specs.Prelude.{ℕ}
 use Rattle.session.specs.declared.status.Status.{Status}
-use Rattle.session.specs.declared.status.Status.TheVariants.{FileFault, NoMemory, NotMounted}
+use Rattle.session.specs.declared.status.Status.TheVariants.{FileFault, NoMemory, NotMounted, NotUnderstood}
 use Rattle.tool.specs.declared.line.LineError.{LineError}
 use Rattle.tool.specs.declared.line.LineError.TheVariants as line_error
 
@@ -16,7 +15,8 @@ abbrev pub IsTransferFault : Status → Type 0
 IsTransferFault NotMounted = Unit {0}
 IsTransferFault s = IsSystemFault s
 
--- the number of a refusal of the words
-abbrev pub line_error_number : LineError → ℕ
-line_error_number line_error.NoMemory = 1
-line_error_number (line_error.NotUnderstood text) = 2
+-- what the program ends with where its words aren't obeyed
+abbrev pub line_status : LineError → Status
+line_status line_error.NoMemory = NoMemory
+line_status (line_error.NotUnderstood text) = NotUnderstood
+line_status (line_error.OutOfRange text) = FileFault

@@ -1,169 +1,119 @@
 //! The files of an image: opening and reading them, and making and storing an image on them.
 
-ghost use Rattle.std.specs.Prelude.{◌≡◌, ◌↔◌, false, IfOk, IsErr, IsTrue};
+ghost use Rattle.std.specs.Prelude.{◌≡◌, false, IfOk, IsErr};
 ghost use Rattle.layout.specs.Limits.{AreSizes};
 ghost use Rattle.station.specs.FaultPlan.{no_plan};
 ghost use Rattle.station.specs.Sim.{plan_of, was_cut};
-ghost use Rattle.tool.specs.Refusals.{IsSystemFault};
 
+mod error;
+mod locking;
+mod places;
 mod replacement;
+mod sparse;
+mod stand_ins;
 
-use file_station::{FileStation, OpenFiles, SizeError};
+pub use error::FileError;
+pub(crate) use error::on;
+use file_station::{FileStation, OpenFiles};
 use layout::Geometry;
+use locking::{Purpose, open_locked};
 use mount::{MakeError, make};
+pub(crate) use places::{Found, Place, find_place, is_one_file};
 use replacement::Replacement;
-pub(crate) use replacement::{NewFile, check_place, is_one_file, make_beside, remove};
-use session::Status;
-use station::{LoadError, Sim, Station};
-use std::alloc::{AllocError, Global};
-use std::fs::{OpenFile, OpenOptions};
-use std::io::{Read, Seek, Write};
+pub(crate) use replacement::{NewFile, make_beside, remove};
+pub(crate) use sparse::Sparse;
+pub use stand_ins::open_descriptors;
+use station::{Sim, Station};
+use std::alloc::Global;
+use std::fs::{File, OpenFile};
+use std::io::{ErrorKind, Read, Seek, Write};
 use std::rt::Files;
 use std::{fs, io};
-use thiserror::Error;
 
-/// Why a file isn't read or written, or an image isn't loaded or made.
-#[derive(Debug, Drop, Error)]
-pub enum FileError<'a> {
-    /// A call of the system failed on this file, or on the new one beside it, or no memory was left for its bytes.
-    #[error("{path}: {error}")]
-    Io {
-        path: &'a str,
-        error: io::Error,
-    },
-    /// No memory was left.
-    #[error("no memory")]
-    NoMemory,
-    /// The disk and the NVRAM are one file.
-    #[error("{path}: the disk and the NVRAM are one file")]
-    OneFile {
-        path: &'a str,
-    },
-    /// Something else than a file is in the place of one that is to be replaced.
-    #[error("{path}: not a file")]
-    NotAFile {
-        path: &'a str,
-    },
-    /// Every name that was tried for a new file beside this one is taken.
-    #[error("{path}: no free name for a new file beside it, from {path}.new on ({tries} tried)")]
-    NoName {
-        path: &'a str,
-        tries: u32,
-    },
-    /// The disk was replaced, and the NVRAM couldn't be. Its new file stays where it was made.
-    #[error("{disk} is replaced and {nvram} is not: {error}; the new NVRAM is {new_nvram}")]
-    HalfReplaced {
-        disk: &'a str,
-        nvram: &'a str,
-        new_nvram: String,
-        error: io::Error,
-    },
-    /// The files are no station.
-    #[error("{disk}, {nvram}: {error}")]
-    Size {
-        disk: &'a str,
-        nvram: &'a str,
-        error: SizeError,
-    },
-    /// The files were not loaded.
-    #[error("{disk}, {nvram}: {error}")]
-    Load {
-        disk: &'a str,
-        nvram: &'a str,
-        error: LoadError,
-    },
-    /// No image was made.
-    #[error("no image made: {0}")]
-    Make(MakeError),
+/// Both files of an image, open and under their locks as long as this lives.
+#[derive(Drop)]
+pub struct Held {
+    disk: Option<File>,
+    nvram: Option<File>,
 }
 
-impl From<AllocError> for FileError<'_> {
-    fn from(_error: AllocError) -> Self {
-        FileError::NoMemory
-    }
-}
-
-impl FileError<'_> {
-    /// What the program ends with where a script or an image isn't read or stored.
-    pub fn status(&self) -> Status
-        ensures system { IsSystemFault result }
-        ensures memory { self.now ≡ FileError.NoMemory → result ≡ Status.NoMemory }
-    {
-        match self {
-            FileError::NoMemory => Status::NoMemory,
-            FileError::Io { error, .. } if error.kind() == io::ErrorKind::OutOfMemory =>
-                Status::NoMemory,
-            FileError::Load {
-                error: LoadError::NoMemory,
-                ..
-            } => Status::NoMemory,
-            _ => Status::FileFault,
-        }
-    }
-}
-
-/// Names the file of a call that failed.
-pub(crate) fn on<'a, T>(path: &'a str, done: io::Result<T>) -> Result<T, FileError<'a>> {
-    match done {
-        Ok(value) => Ok(value),
-        Err(error) => Err(FileError::Io { path, error }),
-    }
-}
-
-/// Opens a file that is there for reading and writing.
-fn open_file<'a, R: Files>(rt: &R, path: &'a str) -> Result<R::File, FileError<'a>> {
-    on(
-        path,
-        OpenOptions::new().read(true).write(true).open(rt, path),
-    )
-}
-
-/// Opens both files of an image, which are there and two.
-fn open_both<'a, R: Files>(
+/// Opens both files of an image, which are there and two, the disk first.
+fn open_both<'a, R: Files<File = File>>(
     rt: &R,
     disk: &'a str,
     nvram: &'a str,
-) -> Result<(R::File, R::File), FileError<'a>>
+    purpose: Purpose,
+) -> Result<(File, File), FileError<'a>>
     ensures { disk.now ≡ nvram.now → IsErr result }
 {
-    let disk_file = open_file(rt, disk)?;
-    let nvram_file = open_file(rt, nvram)?;
+    let disk_file = open_locked(rt, disk, purpose)?;
+    // The disk's lock would be in the way of one of the same file.
     if is_one_file(rt, disk, nvram) {
         return Err(FileError::OneFile { path: disk });
     }
+    let nvram_file = open_locked(rt, nvram, purpose)?;
     Ok((disk_file, nvram_file))
 }
 
-/// A station over two files that are there.
-pub fn open_station<'a, R: Files>(
+/// A station over two files that are there, for one who writes: open for reading and writing, under exclusive locks as long as
+/// the station lives.
+pub fn open_station<'a, R: Files<File = File>>(
     rt: &R,
     disk: &'a str,
     nvram: &'a str,
-) -> Result<FileStation<OpenFiles<R::File>>, FileError<'a>>
+) -> Result<FileStation<OpenFiles<File>>, FileError<'a>>
     ensures { disk.now ≡ nvram.now → IsErr result }
 {
-    let (disk_file, nvram_file) = open_both(rt, disk, nvram)?;
+    station_over(rt, disk, nvram, Purpose::Writing)
+}
+
+/// A station over two files that are there, for one who reads: open for reading alone, so that every write to it fails, under
+/// shared locks as long as the station lives.
+pub fn read_station<'a, R: Files<File = File>>(
+    rt: &R,
+    disk: &'a str,
+    nvram: &'a str,
+) -> Result<FileStation<OpenFiles<File>>, FileError<'a>>
+    ensures { disk.now ≡ nvram.now → IsErr result }
+{
+    station_over(rt, disk, nvram, Purpose::Reading)
+}
+
+fn station_over<'a, R: Files<File = File>>(
+    rt: &R,
+    disk: &'a str,
+    nvram: &'a str,
+    purpose: Purpose,
+) -> Result<FileStation<OpenFiles<File>>, FileError<'a>>
+    ensures { disk.now ≡ nvram.now → IsErr result }
+{
+    let (disk_file, nvram_file) = open_both(rt, disk, nvram, purpose)?;
     match FileStation::new(disk_file, nvram_file) {
         Ok(station) => Ok(station),
         Err(error) => Err(FileError::Size { disk, nvram, error }),
     }
 }
 
-/// A station in memory with the bytes of two files that are there and may be written. Its power is on, and no call of it
-/// is to fail.
-pub fn load_station<'a, R: Files + AllocGlobal>(
+/// A station in memory with the bytes of two files that are there and may be written, and what holds these files until the
+/// image is stored again. Its power is on, and no call of it is to fail.
+pub fn load_station<'a, R: Files<File = File> + AllocGlobal>(
     rt: &R,
     disk: &'a str,
     nvram: &'a str,
-) -> Result<Sim, FileError<'a>>
+) -> Result<(Sim, Held), FileError<'a>>
     ensures one { disk.now ≡ nvram.now → IsErr result }
-    ensures power { IfOk result (λ sim. was_cut sim ≡ false) }
-    ensures plan { IfOk result (λ sim. plan_of sim ≡ no_plan) }
+    ensures power { IfOk result (λ loaded. was_cut loaded.0 ≡ false) }
+    ensures plan { IfOk result (λ loaded. plan_of loaded.0 ≡ no_plan) }
 {
-    let (disk_file, nvram_file) = open_both(rt, disk, nvram)?;
-    let disk_bytes = read_to_end(rt.alloc(), disk, disk_file)?;
-    let nvram_bytes = read_to_end(rt.alloc(), nvram, nvram_file)?;
-    load_bytes(rt.alloc(), disk, nvram, disk_bytes, nvram_bytes)
+    let (mut disk_file, mut nvram_file) = open_both(rt, disk, nvram, Purpose::Writing)?;
+    let disk_bytes = read_to_end(rt.alloc(), disk, &mut disk_file)?;
+    let nvram_bytes = read_to_end(rt.alloc(), nvram, &mut nvram_file)?;
+    let sim = load_bytes(rt.alloc(), disk, nvram, disk_bytes, nvram_bytes)?;
+    let held = Held {
+        disk: Some(disk_file),
+        nvram: Some(nvram_file),
+    };
+    Ok((sim, held))
 }
 
 /// A station in memory with these bytes of two files.
@@ -184,36 +134,38 @@ fn load_bytes<'a>(
 }
 
 /// All that a reader gives, which has this name.
-pub fn read_to_end<'a, F: Read + Drop>(
+pub fn read_to_end<'a, I: Read>(
     alloc: Global,
     path: &'a str,
-    mut reader: F,
+    reader: &mut I,
 ) -> Result<Vec<u8>, FileError<'a>> {
     let mut bytes = Vec::new(alloc);
     on(path, reader.read_to_end(&mut bytes))?;
     Ok(bytes)
 }
 
-/// The bytes of a script: a file's, or those of standard input where the name is `-`.
-pub fn read_script<'a, R: Files + Input + AllocGlobal>(
+/// The bytes of a script: a file's, or those of standard input, which is `input`, where the name is `-`.
+pub fn read_script<'a, R: Files + AllocGlobal, I: Read>(
     rt: &R,
     path: &'a str,
+    input: &mut I,
 ) -> Result<Vec<u8>, FileError<'a>> {
     if path == "-" {
-        return read_to_end(rt.alloc(), path, rt.reader());
+        return read_to_end(rt.alloc(), path, input);
     }
     on(path, fs::read(rt, path))
 }
 
-/// Makes an empty image on two new files, which then replace those at these paths. Numbers out of their range are told
-/// before any file is looked at.
-pub fn make_image<'a, R: Files + AllocGlobal>(
+/// Makes an empty image on two new files, which then replace those at these paths, unless another program holds a lock on one of
+/// them. With `is_new` nothing is replaced that has bytes. Numbers out of their range are told before any file is looked at.
+pub fn make_image<'a, R: Files<File = File> + AllocGlobal>(
     rt: &R,
     disk: &'a str,
     nvram: &'a str,
     blocks: u32,
     inodes: u32,
     half: u32,
+    is_new: bool,
 ) -> Result<(), FileError<'a>>
     ensures bad_size { ¬ AreSizes (record { blocks = blocks; inodes = inodes; half = half })
         → result ≡ Err (FileError.Make MakeError.BadSize) }
@@ -222,9 +174,48 @@ pub fn make_image<'a, R: Files + AllocGlobal>(
     let Some(geometry) = Geometry::new(blocks, inodes, half) else {
         return Err(FileError::Make(MakeError::BadSize));
     };
+    let _held = hold_both(rt, disk, nvram, is_new)?;
     let (new, disk_file, nvram_file) = Replacement::begin(rt, disk, nvram)?;
     let made = make_on(rt.alloc(), disk, nvram, disk_file, nvram_file, geometry);
     new.settle(rt, made)
+}
+
+/// Holds what is to be replaced, the disk first.
+fn hold_both<'a, R: Files<File = File>>(
+    rt: &R,
+    disk: &'a str,
+    nvram: &'a str,
+    is_new: bool,
+) -> Result<Held, FileError<'a>>
+    ensures { disk.now ≡ nvram.now → IsErr result }
+{
+    if is_one_file(rt, disk, nvram) {
+        return Err(FileError::OneFile { path: disk });
+    }
+    Ok(Held {
+        disk: hold(rt, disk, is_new)?,
+        nvram: hold(rt, nvram, is_new)?,
+    })
+}
+
+/// Holds a file that is to be replaced, where one is there. Exists where it is to be a new one, and has bytes.
+fn hold<'a, R: Files<File = File>>(
+    rt: &R,
+    path: &'a str,
+    is_new: bool,
+) -> Result<Option<File>, FileError<'a>> {
+    match fs::metadata(rt, path) {
+        Ok(found) if found.is_file() => {
+            let file = open_locked(rt, path, Purpose::Replacing)?;
+            if is_new && on(path, file.metadata())?.len() > 0 {
+                return Err(FileError::Exists { path });
+            }
+            Ok(Some(file))
+        }
+        Ok(_) => Err(FileError::NotAFile { path }),
+        Err(error) if error.kind() == ErrorKind::NotFound => Ok(None),
+        Err(error) => Err(FileError::Io { path, error }),
+    }
 }
 
 /// Makes an empty image on two empty files, and syncs them.
@@ -266,8 +257,9 @@ fn make_sized<S: Station + Drop>(
     }
 }
 
-/// Stores an image in two new files, which then replace those at these paths.
-pub fn store_image<'a, R: Files + AllocGlobal>(
+/// Stores an image in two new files, which then replace those at these paths. It takes no locks: whoever loaded the image holds
+/// both files until this is done.
+pub fn store_image<'a, R: Files<File = File> + AllocGlobal>(
     rt: &R,
     disk: &'a str,
     nvram: &'a str,
@@ -284,7 +276,9 @@ pub fn store_image<'a, R: Files + AllocGlobal>(
     new.settle(rt, stored)
 }
 
-fn write_whole<F: Write + OpenFile>(file: &mut F, bytes: &[u8]) -> io::Result<()> {
-    file.write_all(bytes)?;
-    file.sync_all()
+/// Writes a new file, with holes where whole blocks of it are zeros, and syncs it.
+fn write_whole<F: Write + Seek + OpenFile + Drop>(file: &mut F, bytes: &[u8]) -> io::Result<()> {
+    let mut sparse = Sparse::new(file);
+    sparse.write_all(bytes)?;
+    sparse.end()
 }

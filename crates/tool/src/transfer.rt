@@ -10,8 +10,9 @@ mod getting;
 mod progress;
 mod putting;
 mod steps;
+mod target;
 
-use crate::host_files::FileError;
+use crate::host_files::{FileError, is_one_file};
 pub use getting::get_file;
 use model::Errno;
 use mount::{Fs, MountError, mount};
@@ -20,6 +21,7 @@ pub use putting::put_file;
 use session::Status;
 use station::Station;
 use std::alloc::Global;
+use std::rt::Files;
 use thiserror::Error;
 
 /// What goes where.
@@ -31,6 +33,13 @@ pub struct Transfer<'a> {
     pub path: &'a str,
     /// A file of the host's; `-` is standard input or standard output.
     pub file: &'a str,
+}
+
+impl Transfer<'_> {
+    /// Whether the host's file is one of the two of the image.
+    fn is_of_image<R: Files>(&self, rt: &R) -> bool {
+        is_one_file(rt, self.file, self.disk) || is_one_file(rt, self.file, self.nvram)
+    }
 }
 
 /// Why a file isn't stored in an image or brought back.

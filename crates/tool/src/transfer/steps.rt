@@ -1,30 +1,221 @@
 //! The calls of a transfer, one by one.
 
-use model::{Command, Errno, Flags, Mode, Reply, TRANSFER_BYTES, Text};
+use model::{Access, Command, Errno, Flags, Mode, PathCall, Reply, Stat, TRANSFER_BYTES, Text};
 use mount::Fs;
 use station::Station;
 use std::alloc::Global;
 
-/// The mode of a file that is made, as in a script: 0644.
-const NEW_FILE: u16 = 0o644;
+/// The mode of a file that is made in an empty place, as in a script: 0644.
+pub(super) const NEW_FILE: u16 = 0o644;
 
-/// Opens the file of a path, and gives its descriptor.
-pub(super) fn open_path<S: Station>(
+/// A file that is there is read.
+const ITS_BYTES: Flags = Flags {
+    access: Access::Reading,
+    creates: false,
+    exclusive: false,
+    truncates: false,
+    appends: false,
+};
+
+/// A file is made where nothing is, and written.
+const NEW_BYTES: Flags = Flags {
+    access: Access::Writing,
+    creates: true,
+    exclusive: true,
+    truncates: false,
+    appends: false,
+};
+
+/// What bytes are read from.
+#[derive(Clone, Copy)]
+pub(super) enum Source<'a> {
+    /// An open file of the running tree, by its descriptor.
+    Open(u32),
+    /// The file of a path in a snapshot.
+    Kept { snapshot: &'a str, path: &'a str },
+}
+
+/// Finds the file of a path: in the running tree, or in a snapshot.
+pub(super) fn find_source<'a, S: Station>(
     alloc: Global,
     fs: &mut Fs<S>,
-    path: &str,
-    flags: Flags,
-) -> Result<u32, Errno> {
-    let Ok(path) = Vec::from_slice(alloc, path.as_bytes()) else {
-        return Err(Errno::ENOMEM);
+    path: &'a str,
+    snapshot: Option<&'a str>,
+) -> Result<Source<'a>, Errno> {
+    let Some(snapshot) = snapshot else {
+        let mode = Mode::new(NEW_FILE).unwrap();
+        let fd = open_path(alloc, fs, path.as_bytes(), ITS_BYTES, mode)?;
+        return Ok(Source::Open(fd));
     };
+    // Nothing is read yet, but this call is refused where a later one would be.
+    read_kept(alloc, fs, snapshot, path, 0, 0)?;
+    Ok(Source::Kept { snapshot, path })
+}
+
+/// The bytes from this one on: as many as one call reads, fewer at the file's end.
+pub(super) fn read_part<S: Station>(
+    alloc: Global,
+    fs: &mut Fs<S>,
+    source: Source<'_>,
+    offset: u64,
+) -> Result<Text, Errno> {
+    let Ok(offset) = i64::try_from(offset) else {
+        return Err(Errno::EINVAL);
+    };
+    let count = TRANSFER_BYTES as u32;
+    match source {
+        Source::Open(fd) => data_of(fs.apply(&Command::Pread { fd, offset, count })),
+        Source::Kept { snapshot, path } => read_kept(alloc, fs, snapshot, path, offset, count),
+    }
+}
+
+/// Bytes of a file in a snapshot.
+fn read_kept<S: Station>(
+    alloc: Global,
+    fs: &mut Fs<S>,
+    snapshot: &str,
+    path: &str,
+    offset: i64,
+    count: u32,
+) -> Result<Text, Errno> {
+    let read = Command::Within {
+        name: text_of(alloc, snapshot.as_bytes())?,
+        call: PathCall::Get {
+            path: text_of(alloc, path.as_bytes())?,
+            offset,
+            count,
+        },
+    };
+    data_of(fs.apply(&read))
+}
+
+fn data_of(reply: Reply) -> Result<Text, Errno> {
+    match reply {
+        Reply::Data(data) => Ok(data),
+        reply => Err(refusal(&reply)),
+    }
+}
+
+/// Opens the file of a path, and gives its descriptor.
+fn open_path<S: Station>(
+    alloc: Global,
+    fs: &mut Fs<S>,
+    path: &[u8],
+    flags: Flags,
+    mode: Mode,
+) -> Result<u32, Errno> {
     let open = Command::Open {
-        path: Text::new(path),
+        path: text_of(alloc, path)?,
         flags,
-        mode: Mode::new(NEW_FILE).unwrap(),
+        mode,
     };
     match fs.apply(&open) {
         Reply::Fd(fd) => Ok(fd),
+        reply => Err(refusal(&reply)),
+    }
+}
+
+/// Makes a file of this mode where nothing is, and opens it for writing.
+pub(super) fn make_file<S: Station>(
+    alloc: Global,
+    fs: &mut Fs<S>,
+    path: &[u8],
+    mode: Mode,
+) -> Result<u32, Errno> {
+    open_path(alloc, fs, path, NEW_BYTES, mode)
+}
+
+/// Gives a descriptor back.
+pub(super) fn close<S: Station>(fs: &mut Fs<S>, fd: u32) -> Result<(), Errno> {
+    done(fs.apply(&Command::Close { fd }))
+}
+
+/// What has a name, a symbolic link too; None where nothing has it.
+pub(super) fn look_at<S: Station>(
+    alloc: Global,
+    fs: &mut Fs<S>,
+    path: &[u8],
+) -> Result<Option<Stat>, Errno> {
+    let path = text_of(alloc, path)?;
+    match fs.apply(&Command::Path(PathCall::Lstat { path })) {
+        Reply::Stat(stat) => Ok(Some(stat)),
+        Reply::Refused(Errno::ENOENT) => Ok(None),
+        reply => Err(refusal(&reply)),
+    }
+}
+
+/// The text of a symbolic link.
+pub(super) fn link_text<S: Station>(
+    alloc: Global,
+    fs: &mut Fs<S>,
+    path: &[u8],
+) -> Result<Text, Errno> {
+    let path = text_of(alloc, path)?;
+    match fs.apply(&Command::Path(PathCall::Readlink { path })) {
+        Reply::Text(text) => Ok(text),
+        reply => Err(refusal(&reply)),
+    }
+}
+
+/// Gives a file the name of another one, which is gone then.
+pub(super) fn rename<S: Station>(
+    alloc: Global,
+    fs: &mut Fs<S>,
+    old: &[u8],
+    new: &[u8],
+) -> Result<(), Errno> {
+    let rename = PathCall::Rename {
+        old: text_of(alloc, old)?,
+        new: text_of(alloc, new)?,
+    };
+    done(fs.apply(&Command::Path(rename)))
+}
+
+/// Takes a name of a file away, where it is there. For want of room it is tried once more behind a consistency point.
+pub(super) fn remove<S: Station>(alloc: Global, fs: &mut Fs<S>, path: &[u8]) -> Result<(), Errno> {
+    match unlink(alloc, fs, path) {
+        Err(Errno::ENOENT) => Ok(()),
+        Err(Errno::ENOSPC) => {
+            settle(fs)?;
+            unlink(alloc, fs, path)
+        }
+        answer => answer,
+    }
+}
+
+fn unlink<S: Station>(alloc: Global, fs: &mut Fs<S>, path: &[u8]) -> Result<(), Errno> {
+    let path = text_of(alloc, path)?;
+    done(fs.apply(&Command::Path(PathCall::Unlink { path })))
+}
+
+/// Makes a consistency point, behind which the blocks are free that were given up before.
+fn settle<S: Station>(fs: &mut Fs<S>) -> Result<(), Errno> {
+    done(fs.apply(&Command::Sync))
+}
+
+/// Refuses where so many blocks aren't free, not even behind a consistency point. Where they are, more may be needed yet: for
+/// what tells a file's blocks, and for the consistency points on the way.
+pub(super) fn check_room<S: Station>(fs: &mut Fs<S>, blocks: u64) -> Result<(), Errno> {
+    if blocks <= free_blocks(fs)? {
+        return Ok(());
+    }
+    settle(fs)?;
+    if blocks <= free_blocks(fs)? {
+        return Ok(());
+    }
+    Err(Errno::ENOSPC)
+}
+
+fn free_blocks<S: Station>(fs: &mut Fs<S>) -> Result<u64, Errno> {
+    match fs.apply(&Command::Df) {
+        Reply::Space { free, .. } => Ok(u64::from(free)),
+        reply => Err(refusal(&reply)),
+    }
+}
+
+fn done(reply: Reply) -> Result<(), Errno> {
+    match reply {
+        Reply::Done => Ok(()),
         reply => Err(refusal(&reply)),
     }
 }
@@ -42,15 +233,11 @@ pub(super) fn write_part<S: Station>(fs: &mut Fs<S>, fd: u32, part: Vec<u8>) -> 
     }
 }
 
-/// The bytes from the descriptor's offset on, which moves behind them: as many as one call reads, fewer at the file's end.
-pub(super) fn read_part<S: Station>(fs: &mut Fs<S>, fd: u32) -> Result<Text, Errno> {
-    let read = Command::Read {
-        fd,
-        count: TRANSFER_BYTES as u32,
-    };
-    match fs.apply(&read) {
-        Reply::Data(data) => Ok(data),
-        reply => Err(refusal(&reply)),
+/// A word of a command.
+fn text_of(alloc: Global, word: &[u8]) -> Result<Text, Errno> {
+    match Vec::from_slice(alloc, word) {
+        Ok(bytes) => Ok(Text::new(bytes)),
+        Err(_) => Err(Errno::ENOMEM),
     }
 }
 

@@ -1,0 +1,147 @@
+-- Lines taken from the beginning of known bytes.
+use Rattle.std.proofs.Common.{◌≡◌, ◌≢◌, inl, inr, ℕ, zero, suc, ◌+◌, ◌<◌, ◌≤◌, ◌==◌, Bool, false, List, [], ◌∷◌, ◌++◌, length, get_or, take, drop, Option, Some, None, arith, refl, sym, ◌∙◌, ap, subst, append_assoc}
+use Rattle.std.specs.Io.KnownBytes.{prepend_known, Consumes, IsAtEnd, Keeps}
+use Rattle.std.proofs.lemmas.List.{append-nil, length-append, take-append-drop}
+use Rattle.std.proofs.lemmas.List.Elements.{All-append, All-cons, All-nil}
+use Rattle.std.specs.Prelude.{Ok, MatchOption}
+use Rattle.session.specs.Reading.{EndsReading, IsHeardAs, IsPlain, Loses, TakesLine}
+use Rattle.session.specs.declared.reading.Heard.{Heard}
+use Rattle.session.specs.Scripts.{is_skipped}
+use Rattle.session.specs.declared.reading.Heard.TheVariants.{TooLong}
+use Rattle.session.specs.declared.reading.TheConstants.{LINE_BYTES}
+
+-- the bytes before a place are plain where each of them is
+pub plain_front : (xs : List ℕ) (i : ℕ) → ((k : ℕ) → k < i → (get_or xs k 0 == 10) ≡ false) → i ≤ length xs → IsPlain (take i xs)
+plain_front [] zero each within = All-nil (λ b. (b == 10) ≡ false)
+plain_front [] (suc i) each within = absurd (omega (arith, within))
+plain_front (x ∷ xs) zero each within = All-nil (λ b. (b == 10) ≡ false)
+plain_front (x ∷ xs) (suc i) each within =
+    All-cons (λ b. (b == 10) ≡ false) x (take i xs) (each 0 (omega arith)) (plain_front xs i (λ k below. each (suc k) (omega (arith, below))) (omega (arith, within)))
+
+pub keeps_twice : (a b c : Option (List ℕ)) → Keeps a b → Keeps b c → Keeps a c
+keeps_twice None b c first second = tt
+keeps_twice (Some x) None c first second = absurd first
+keeps_twice (Some x) (Some y) None first second = absurd second
+keeps_twice (Some x) (Some y) (Some z) first second = second ∙ first
+
+pub keeps_same : (a : Option (List ℕ)) → Keeps a a
+keeps_same None = tt
+keeps_same (Some x) = refl
+
+pub loses_kept : (a b c : Option (List ℕ)) (line : List ℕ) → Keeps a b → Loses b c line → Loses a c line
+loses_kept None b c line kept loses = tt
+loses_kept (Some x) None c line kept loses = absurd kept
+loses_kept (Some x) (Some y) None line kept loses = absurd loses
+loses_kept (Some x) (Some y) (Some z) line kept loses = subst (λ (l : List ℕ). Loses (Some l) (Some z) line) kept loses
+
+-- a line that ends at a place of what is pending
+pub line_taken : (p : List ℕ) (r : Option (List ℕ)) (i : ℕ) → drop i p ≡ 10 ∷ drop (i + 1) p → Loses (prepend_known p r) (prepend_known (drop (i + 1) p) r) (take i p)
+line_taken p None i ends = tt
+line_taken p (Some xs) i ends = inl (ap (λ l. l ++ xs) (sym (take-append-drop i p) ∙ ap (λ l. take i p ++ l) ends) ∙ append_assoc (take i p) (10 ∷ drop (i + 1) p) xs)
+
+-- the last one, which has no end
+pub last_taken : (p : List ℕ) (r : Option (List ℕ)) → IsAtEnd r → p ≢ [] → Loses (prepend_known p r) (prepend_known [] r) p
+last_taken p None end some = tt
+last_taken p (Some xs) end some = inr (ap (λ l. p ++ l) end ∙ append-nil p, end, some)
+
+-- Of a line that is too long some bytes are gone; these and what is pending are a beginning of it.
+pub record IsSkipping (known : Option (List ℕ)) (p : List ℕ) (r : Option (List ℕ)) (is_comment : Bool) : Type 0 where
+  pub gone : List ℕ
+  pub consumes : Consumes known (prepend_known p r) gone
+  pub plain : IsPlain (gone ++ p)
+  pub long : LINE_BYTES < length (gone ++ p)
+  pub comment : is_comment ≡ is_skipped (gone ++ p)
+
+consumes_none : (k : Option (List ℕ)) → Consumes k k []
+consumes_none None = tt
+consumes_none (Some x) = refl
+
+pub skipping_first : (p : List ℕ) (r : Option (List ℕ)) (is_comment : Bool) → IsPlain p → LINE_BYTES < length p → is_comment ≡ is_skipped p → IsSkipping (prepend_known p r) p r is_comment
+skipping_first p r is_comment plain long comment = record { gone = []; consumes = consumes_none (prepend_known p r); plain = plain; long = long; comment = comment }
+
+-- what is pending goes too
+all_gone : (known : Option (List ℕ)) (p : List ℕ) (r k : Option (List ℕ)) (gone : List ℕ) → Consumes known (prepend_known p r) gone → Keeps (prepend_known [] r) k → Consumes known k (gone ++ p)
+all_gone None p r k gone consumes kept = tt
+all_gone (Some x) p None k gone consumes kept = absurd consumes
+all_gone (Some x) p (Some xs) None gone consumes kept = absurd kept
+all_gone (Some x) p (Some xs) (Some ys) gone consumes kept = consumes ∙ sym (append_assoc gone p xs) ∙ ap (λ l. (gone ++ p) ++ l) (sym kept)
+
+skipped_more : (xs ys : List ℕ) → 0 < length xs → is_skipped (xs ++ ys) ≡ is_skipped xs
+skipped_more [] ys some = absurd (omega (arith, some))
+skipped_more (x ∷ xs) ys some = refl
+
+module _ (known : Option (List ℕ)) (p : List ℕ) (r : Option (List ℕ)) (is_comment : Bool) (so_far : IsSkipping known p r is_comment) (q : List ℕ) (s : Option (List ℕ)) (kept : Keeps (prepend_known [] r) (prepend_known q s)) where
+  abbrev all : List ℕ
+  all = so_far.gone ++ p
+
+  some : 0 < length all
+  some = omega (arith, so_far.long)
+
+  longer : (t : List ℕ) → LINE_BYTES < length (all ++ t)
+  longer t = omega (arith, so_far.long, length-append all t)
+
+  same : (t : List ℕ) → is_comment ≡ is_skipped (all ++ t)
+  same t = so_far.comment ∙ sym (skipped_more all t some)
+
+  -- and the line goes on
+  pub skipping_on : IsPlain q → IsSkipping known q s is_comment
+  skipping_on plain = record {
+    gone = all;
+    consumes = all_gone known p r (prepend_known q s) so_far.gone so_far.consumes kept;
+    plain = All-append (λ b. (b == 10) ≡ false) all q so_far.plain plain;
+    long = longer q;
+    comment = same q;
+  }
+
+  -- or ends here
+  pub skipped_to : (i : ℕ) → IsPlain (take i q) → drop i q ≡ 10 ∷ drop (i + 1) q → (line : List ℕ) × TakesLine known (prepend_known (drop (i + 1) q) s) line × IsHeardAs line (TooLong is_comment)
+  skipped_to i plain ends = (
+    all ++ take i q,
+    record { plain = All-append (λ b. (b == 10) ≡ false) all (take i q) so_far.plain plain; loses = loses_behind known s (all_gone known p r (prepend_known q s) so_far.gone so_far.consumes kept) },
+    (longer (take i q), same (take i q)),
+  )
+    where
+      loses_behind : (k t : Option (List ℕ)) → Consumes k (prepend_known q t) all → Loses k (prepend_known (drop (i + 1) q) t) (all ++ take i q)
+      loses_behind None t consumes = tt
+      loses_behind (Some x) None consumes = absurd consumes
+      loses_behind (Some x) (Some xs) consumes =
+          inl (consumes ∙ ap (λ l. all ++ l) (ap (λ l. l ++ xs) (sym (take-append-drop i q) ∙ ap (λ l. take i q ++ l) ends) ∙ append_assoc (take i q) (10 ∷ drop (i + 1) q) xs)
+          ∙ sym (append_assoc all (take i q) (10 ∷ (drop (i + 1) q ++ xs))))
+
+  -- or the input does
+  pub skipped_all : q ≡ [] → IsAtEnd s → (line : List ℕ) × TakesLine known (prepend_known q s) line × IsHeardAs line (TooLong is_comment)
+  skipped_all none end = (
+    all,
+    record { plain = so_far.plain; loses = loses_all known s q none end (all_gone known p r (prepend_known q s) so_far.gone so_far.consumes kept) },
+    (so_far.long, so_far.comment),
+  )
+    where
+      loses_all : (k t : Option (List ℕ)) (q : List ℕ) → q ≡ [] → IsAtEnd t → Consumes k (prepend_known q t) all → Loses k (prepend_known q t) all
+      loses_all None t q none end consumes = tt
+      loses_all (Some x) None q none end consumes = absurd consumes
+      loses_all (Some x) (Some xs) q none end consumes =
+          let nothing : q ++ xs ≡ [] = ap (λ l. q ++ l) end ∙ append-nil q ∙ none in
+          inr (consumes ∙ ap (λ l. all ++ l) nothing ∙ append-nil all, nothing, λ is. absurd (omega (arith, some, ap (λ (l : List ℕ). length l) is)))
+
+at_end : (k : Option (List ℕ)) (p : List ℕ) (r : Option (List ℕ)) → Keeps k (prepend_known p r) → IsAtEnd r → p ≡ [] → IsAtEnd k
+at_end None p r kept end none = tt
+at_end (Some x) p None kept end none = absurd kept
+at_end (Some x) p (Some xs) kept end none = sym kept ∙ ap (λ l. p ++ l) end ∙ append-nil p ∙ none
+
+-- at the end of the input, what is pending is the last line
+pub ends_rest : (k : Option (List ℕ)) (p q : List ℕ) (r : Option (List ℕ)) (result : Option Heard) → Keeps k (prepend_known p r) → IsAtEnd r → IsPlain p → q ≡ [] → MatchOption result (p ≡ []) (λ heard. (p ≢ []) × IsHeardAs p heard)
+    → EndsReading k (prepend_known q r) (Ok result)
+ends_rest k p q r None kept end plain empty rest = at_end k p r kept end rest
+ends_rest k p q r (Some heard) kept end plain empty rest = (
+  p,
+  record {
+    plain = plain;
+    loses = subst (λ (l : List ℕ). Loses k (prepend_known l r) p) (sym empty) (loses_kept k (prepend_known p r) (prepend_known [] r) p kept (last_taken p r end rest.0));
+  },
+  rest.1,
+)
+
+-- nothing is pending
+pub known_none : (r : Option (List ℕ)) → prepend_known [] r ≡ r
+known_none None = refl
+known_none (Some xs) = refl

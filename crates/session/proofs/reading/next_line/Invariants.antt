@@ -1,0 +1,5 @@
+use Rattle.std.specs.Io.KnownBytes.{prepend_known, Keeps}
+use Rattle.session.proofs.reading.next_line.Given as goal
+
+abbrev pub invariant-loop : goal.invariant-loop
+invariant-loop g l = Keeps (prepend_known l.fn.pending.items (g.R.Read.remaining l.fn.input)) (prepend_known l.pending.items (g.R.Read.remaining l.input))

@@ -1,0 +1,63 @@
+//! Telling why nothing is run.
+
+ghost use Rattle.std.specs.Prelude.{◌≡◌, IfOk, string_bytes};
+ghost use Rattle.session.specs.Scripts.{line_fault};
+ghost use Rattle.session.specs.Sessions.{mount_fault, EndsTelling};
+
+use crate::{Fault, Status};
+use mount::MountError;
+use std::alloc::{AllocError, Global};
+use std::io::Write;
+
+/// Tells why nothing is run, and says what the program ends with: where that can't be told, `NoMemory` for want of
+/// memory, else `FileFault`.
+pub(crate) fn tell<E: Write>(alloc: Global, fault: Fault, err: &mut E) -> Status
+    ensures { EndsTelling fault (E.contents err.old) (E.contents err.new) result }
+{
+    match fault {
+        Fault::NoMemory => Status::NoMemory,
+        Fault::Line(number) => tell_bad_line(alloc, number, err),
+        Fault::Mount(error) => tell_mount_error(error, err),
+    }
+}
+
+/// Tells which line is no command.
+fn tell_bad_line<E: Write>(alloc: Global, number: usize, err: &mut E) -> Status
+    ensures { EndsTelling (Fault.Line number) (E.contents err.old) (E.contents err.new) result }
+{
+    let Ok(text) = line_text(alloc, number) else {
+        return Status::NoMemory;
+    };
+    match err.write_all(text.as_bytes()) {
+        Ok(()) => Status::NotACommand,
+        Err(_) => Status::FileFault,
+    }
+}
+
+fn line_text(alloc: Global, number: usize) -> Result<String, AllocError>
+    ensures { IfOk result (λ text. string_bytes text ≡ line_fault number) }
+{
+    format!(in alloc; "wafl: line {number}\n")
+}
+
+/// Tells why the station isn't mounted.
+fn tell_mount_error<E: Write>(error: MountError, err: &mut E) -> Status
+    ensures { EndsTelling (Fault.Mount error) (E.contents err.old) (E.contents err.new) result }
+{
+    match err.write_all(mount_text(error)) {
+        Ok(()) => Status::NotMounted,
+        Err(_) if error == MountError::NoMemory => Status::NoMemory,
+        Err(_) => Status::FileFault,
+    }
+}
+
+fn mount_text(error: MountError) -> &'static [u8]
+    ensures { result.now ≡ mount_fault error }
+{
+    match error {
+        MountError::NoMemory => b"wafl: mount NOMEMORY\n",
+        MountError::Device => b"wafl: mount DEVICE\n",
+        MountError::NoRoot => b"wafl: mount NOROOT\n",
+        MountError::Damaged => b"wafl: mount DAMAGED\n",
+    }
+}

@@ -1,0 +1,119 @@
+//! The whole program but for its real streams: what its words ask for is done.
+
+mod faults;
+mod sessions;
+mod transfers;
+
+use crate::host_files::{FileError, make_image};
+use crate::line::{Line, read_line};
+use session::Status;
+use sessions::{run_one, run_script, run_shell, show_room};
+use std::io::{Read, Write};
+use transfers::{get, put};
+
+/// Which of the standard streams are terminals.
+#[derive(Clone, Copy, Debug)]
+pub struct Terminals {
+    pub input: bool,
+    pub out: bool,
+    pub err: bool,
+}
+
+/// The two files of an image.
+#[derive(Clone, Copy, Debug)]
+pub(crate) struct Image<'a> {
+    pub(crate) disk: &'a str,
+    pub(crate) nvram: &'a str,
+}
+
+/// The standard streams, and what is told on them.
+#[derive(Drop)]
+pub(crate) struct Streams<I, O, E> {
+    pub(crate) input: I,
+    pub(crate) out: O,
+    pub(crate) err: E,
+    pub(crate) terminals: Terminals,
+    /// What is wrong with a script or an image is told in a second line.
+    pub(crate) explains: bool,
+}
+
+/// Does what the program's words ask for, and gives its exit status. The first word is the program's name. What it reads and
+/// shows goes over these streams; `terminals` says what they are.
+pub fn obey<I: Read, O: Write, E: Write>(
+    rt: &HostRuntime,
+    words: &[String],
+    terminals: Terminals,
+    input: &mut I,
+    out: &mut O,
+    err: &mut E,
+) -> u8 {
+    let status = match read_line(rt.alloc(), words) {
+        Ok(asked) => {
+            let mut streams = Streams {
+                input,
+                out,
+                err,
+                terminals,
+                explains: asked.explains || terminals.err,
+            };
+            obey_line(rt, &asked.line, &mut streams)
+        }
+        Err(error) => {
+            let _ = write!(err, "{error}");
+            error.status()
+        }
+    };
+    status.number()
+}
+
+/// Does what a line asks for.
+fn obey_line<I: Read, O: Write, E: Write>(
+    rt: &HostRuntime,
+    line: &Line<'_>,
+    streams: &mut Streams<I, O, E>,
+) -> Status {
+    match line {
+        Line::Help(text) => show_text(text.as_str(), &mut streams.out),
+        Line::Make {
+            disk,
+            nvram,
+            blocks,
+            inodes,
+            half,
+            is_new,
+        } => match make_image(rt, disk, nvram, *blocks, *inodes, *half, *is_new) {
+            Ok(()) => Status::Done,
+            Err(error) => {
+                let _ = tell(&error, &mut streams.err);
+                Status::FileFault
+            }
+        },
+        Line::Run {
+            disk,
+            nvram,
+            script,
+            stops,
+            faults,
+        } => run_script(rt, Image { disk, nvram }, script, *stops, *faults, streams),
+        Line::Shell { disk, nvram } => run_shell(rt, Image { disk, nvram }, streams),
+        Line::Do { disk, nvram, words } => {
+            run_one(rt, Image { disk, nvram }, words.as_slice(), streams)
+        }
+        Line::Df { disk, nvram } => show_room(rt, Image { disk, nvram }, streams),
+        Line::Put(what) => put(rt, *what, streams),
+        Line::Get { what, snapshot } => get(rt, *what, *snapshot, streams),
+    }
+}
+
+fn show_text<O: Write>(text: &str, out: &mut O) -> Status {
+    match out.write_all(text.as_bytes()) {
+        Ok(()) => Status::Done,
+        Err(_) => Status::FileFault,
+    }
+}
+
+/// Says on standard error what is wrong with a file. Where that can't be written, the status alone says what it can.
+fn tell<E: Write>(error: &FileError<'_>, err: &mut E) -> Status {
+    let _ = writeln!(err, "wafl: {error}");
+    error.status()
+}
