@@ -1,6 +1,6 @@
 #!/bin/sh
 # Makes an image, runs files.script on it and shows each command beside its reply; then stores a file in the image and brings
-# it back. With WAFL_UNPROVED=1 the images are lost between the commands of a build without proofs, so it needs the proved one.
+# it back.
 set -u
 
 here=$(dirname "$(readlink -f "$0")")
@@ -10,7 +10,7 @@ cp "$here/files.script" "$folder" || exit 1
 cd "$folder" || exit 1
 wafl=$here/../wafl
 
-"$wafl" make disk nvram --blocks 1024 --inodes 32 --half 131072 || exit 1
+"$wafl" make disk nvram --new --blocks 1024 --inodes 32 --half 131072 || exit 1
 "$wafl" run disk nvram files.script > replies || exit 1
 grep -v '^#' files.script | paste -d'\t' - replies | awk -F'\t' '{printf "%-24s %s\n", $1, $2}'
 

@@ -18,7 +18,8 @@ show() {
 }
 
 make_image() {
-    show make disk nvram --blocks 64 --inodes 32 --half 131072
+    rm -f disk nvram
+    show make disk nvram --new --blocks 64 --inodes 32 --half 131072
 }
 
 echo 'mkdir /a' >mkdir.script
