@@ -9,8 +9,8 @@
 # writes each changed block once: the line `floor` has the writes that calls and data blocks come to, without those of roots, maps,
 # inodes, directories and indirect blocks. debugfs keeps no log and copies whole files, so it writes the 64 MiB by one command and
 # syncs once, at its end. The small files stand in their inodes, and have no data block. SQLite keeps the parts and the small files
-# as rows, and commits each by itself and syncs for it, as wafl logs and syncs each command. `wafl put` works on the image in memory
-# and replaces both its files at the end.
+# as rows, and commits each by itself and syncs for it, as wafl logs and syncs each command. `wafl put` works on the image's files as
+# `wafl run` does, and makes a consistency point only where the log is full.
 set -eu
 here=$(cd "$(dirname "$0")/.." && pwd)
 wafl=${WAFL:-$here/wafl}

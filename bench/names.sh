@@ -1,7 +1,8 @@
 #!/bin/sh
 # Looks up 10,000 directories by their paths, and then moves each of them into another directory under another name, with a sync every
 # 1,000, on an image of 16,384 blocks. Tells seconds, writes and peak memory of both; beside it the same through debugfs and on rows of
-# SQLite, where these are installed.
+# SQLite, where these are installed. Then it moves one directory 200 times into another one and back: an empty one, and one with 820
+# directories below it, which must cost the same.
 #
 #   sh bench/names.sh [1|10]         the 10,000 stand in one directory, or (without a word) 1,000 each in ten
 #
@@ -11,7 +12,7 @@
 set -eu
 here=$(cd "$(dirname "$0")/.." && pwd)
 wafl=${WAFL:-$here/wafl}
-case ${1:-10} in 1 | 10) parents=${1:-10} ;; *) sed -n '2,12s/^# \{0,1\}//p' "$0" >&2; exit 1 ;; esac
+case ${1:-10} in 1 | 10) parents=${1:-10} ;; *) sed -n '2,14s/^# \{0,1\}//p' "$0" >&2; exit 1 ;; esac
 folder=$(mktemp -d)
 trap 'rm -rf "$folder"' EXIT
 cd "$folder"
@@ -30,6 +31,13 @@ commands() {
     }'
 }
 
+# moves NAME : moves the directory of this name from /here to /there, and back, 100 times.
+moves() {
+    awk -v name="$1" 'BEGIN {
+        for (i = 0; i < 100; i++) printf "rename /here/%s /there/%s\nrename /there/%s /here/%s\n", name, name, name, name
+    }'
+}
+
 restore() { for file in $files; do cp "$file.before" "$file"; done; }
 keep() { for file in $files; do cp "$file" "$file.before"; done; }
 
@@ -43,6 +51,26 @@ keep; again=restore
 measure 'wafl look' "$wafl" run disk nvram look.script
 refused '^stat number [0-9]+ kind dir '
 measure 'wafl move' "$wafl" run disk nvram move.script
+refused '^ok$'
+
+# 20 directories with 40 in each stand below /here/full.
+awk 'BEGIN {
+    print "mkdir /here\nmkdir /there\nmkdir /here/empty\nmkdir /here/full"
+    for (i = 0; i < 20; i++) {
+        printf "mkdir /here/full/d%02d\n", i
+        for (n = 0; n < 40; n++) printf "mkdir /here/full/d%02d/n%02d\n", i, n
+    }
+    print "sync"
+}' > below.script
+moves empty > empty.script
+moves full > full.script
+"$wafl" make disk nvram --blocks 16384 --inodes 32768 --half 131072
+"$wafl" run disk nvram below.script > replies; refused '^ok$'
+keep
+measure 'wafl empty' "$wafl" run disk nvram empty.script
+refused '^ok$'
+restore
+measure 'wafl full' "$wafl" run disk nvram full.script
 refused '^ok$'
 
 if command -v debugfs > /dev/null && command -v mke2fs > /dev/null; then

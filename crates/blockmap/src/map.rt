@@ -1,8 +1,7 @@
 //! The whole block map.
 
-ghost use Rattle.std.specs.Prelude.{◌≡◌, ◌≢◌, ℕ, ◌*◌, ◌/◌, ◌<◌, ◌≤◌, true, false, IsTrue, OnOk, OnErr, IfSome, IfNone, length, ◌+◌, ◌↔◌, ◌⊎◌};
+ghost use Rattle.std.specs.Prelude.{◌≡◌, ◌≢◌, ℕ, ◌*◌, ◌/◌, ◌<◌, ◌≤◌, false, IsTrue, OnOk, IfSome, IfNone, length, ◌+◌, ◌↔◌, ◌⊎◌};
 ghost use Rattle.layout.specs.declared.geometry.TheConstants.{MOST_BLOCKS};
-ghost use Rattle.blockmap.specs.Bits.{SetsBit, SetsPlane};
 ghost use Rattle.std.specs.Int.{bit_at};
 ghost use Rattle.blockmap.specs.declared.map.TheConstants.{FIRST_BLOCK, SYSTEM_SET};
 
@@ -35,7 +34,8 @@ pub struct BlockMap {
 }
 
 impl BlockMap {
-    ghost use Rattle.blockmap.specs.Maps.{settled_at, entry_at, free_below, HasSetAt, HoldsPart, IsFree, IsTouched, KeepsSettled, OnlyChanges};
+    ghost use Rattle.blockmap.specs.Changes.{MakesRoom, PutsBlock, PutsPlane, SettlesAs};
+    ghost use Rattle.blockmap.specs.Maps.{settled_at, entry_at, free_below, HasSetAt, HoldsPart, IsFree, IsTouched};
     ghost use Rattle.blockmap.specs.Space.{left};
 
     /// The map of a disk of so many blocks, of which no free one is given out.
@@ -140,11 +140,7 @@ impl BlockMap {
     /// Makes room for changes of entries in block `j` of the map, which is stored then. No entry changes by it.
     pub fn touch(&mut self, j: usize) -> Result<(), AllocError>
         requires { j < length self.old.parts.items }
-        ensures count { self.new.count ≡ self.old.count }
-        ensures next { self.new.next ≡ self.old.next }
-        ensures settled { KeepsSettled self.old.parts.items self.new.parts.items }
-        ensures entries { (b : ℕ)
-            → entry_at self.new.parts.items b ≡ entry_at self.old.parts.items b }
+        ensures room { MakesRoom self.old self.new }
         ensures touched { OnOk result (IsTouched self.new.parts.items j) }
         // No more of the map is stored for it.
         ensures same { (i : ℕ) → i ≢ j
@@ -158,43 +154,16 @@ impl BlockMap {
     pub fn release(&mut self, block: BlockNumber)
         requires within { block < self.old.count }
         requires room { IsTouched self.old.parts.items (block / 1024) }
-        ensures count { self.new.count ≡ self.old.count }
-        ensures next { self.new.next ≡ self.old.next }
-        ensures settled { KeepsSettled self.old.parts.items self.new.parts.items }
-        ensures out { SetsBit 0 false (entry_at self.old.parts.items block)
-            (entry_at self.new.parts.items block) }
-        ensures others { OnlyChanges block self.old.parts.items self.new.parts.items }
+        ensures { PutsBlock 0 block false self.old self.new }
     {
         self.mark(block, false);
-    }
-
-    /// Puts a block into set 0: the active tree names it. There is room in the map.
-    pub fn retain(&mut self, block: BlockNumber)
-        requires within { block < self.old.count }
-        requires room { IsTouched self.old.parts.items (block / 1024) }
-        ensures count { self.new.count ≡ self.old.count }
-        ensures next { self.new.next ≡ self.old.next }
-        ensures settled { KeepsSettled self.old.parts.items self.new.parts.items }
-        ensures inside { SetsBit 0 true (entry_at self.old.parts.items block)
-            (entry_at self.new.parts.items block) }
-        ensures others { OnlyChanges block self.old.parts.items self.new.parts.items }
-    {
-        self.mark(block, true);
     }
 
     /// Puts a block into set 0 or takes it out. There is room in the map.
     pub fn mark(&mut self, block: BlockNumber, is_in: bool)
         requires within { block < self.old.count }
         requires room { IsTouched self.old.parts.items (block / 1024) }
-        ensures count { self.new.count ≡ self.old.count }
-        ensures next { self.new.next ≡ self.old.next }
-        ensures settled { KeepsSettled self.old.parts.items self.new.parts.items }
-        ensures bit { SetsBit 0 is_in (entry_at self.old.parts.items block)
-            (entry_at self.new.parts.items block) }
-        ensures others { OnlyChanges block self.old.parts.items self.new.parts.items }
-        // No more of the map is stored for it.
-        ensures same { (j : ℕ)
-            → IsTouched self.new.parts.items j → IsTouched self.old.parts.items j }
+        ensures { PutsBlock 0 block is_in self.old self.new }
     {
         self.put(0, block, is_in);
     }
@@ -203,15 +172,7 @@ impl BlockMap {
     pub fn mark_system(&mut self, block: BlockNumber, is_in: bool)
         requires within { block < self.old.count }
         requires room { IsTouched self.old.parts.items (block / 1024) }
-        ensures count { self.new.count ≡ self.old.count }
-        ensures next { self.new.next ≡ self.old.next }
-        ensures settled { KeepsSettled self.old.parts.items self.new.parts.items }
-        ensures bit { SetsBit SYSTEM_SET is_in (entry_at self.old.parts.items block)
-            (entry_at self.new.parts.items block) }
-        ensures others { OnlyChanges block self.old.parts.items self.new.parts.items }
-        // No more of the map is stored for it.
-        ensures same { (j : ℕ)
-            → IsTouched self.new.parts.items j → IsTouched self.old.parts.items j }
+        ensures { PutsBlock SYSTEM_SET block is_in self.old self.new }
     {
         self.put(SYSTEM_SET, block, is_in);
     }
@@ -221,15 +182,7 @@ impl BlockMap {
         requires set { set < 32 }
         requires within { block < self.old.count }
         requires room { IsTouched self.old.parts.items (block / 1024) }
-        ensures count { self.new.count ≡ self.old.count }
-        ensures next { self.new.next ≡ self.old.next }
-        ensures settled { KeepsSettled self.old.parts.items self.new.parts.items }
-        ensures bit { SetsBit set is_in (entry_at self.old.parts.items block)
-            (entry_at self.new.parts.items block) }
-        ensures others { OnlyChanges block self.old.parts.items self.new.parts.items }
-        // No more of the map is stored for it.
-        ensures same { (j : ℕ)
-            → IsTouched self.new.parts.items j → IsTouched self.old.parts.items j }
+        ensures { PutsBlock set block is_in self.old self.new }
     {
         let b = block.get();
         let part = &mut self.parts[(b / ENTRIES) as usize];
@@ -239,11 +192,7 @@ impl BlockMap {
 
     /// Makes room for changes of all entries. None changes by it.
     fn touch_all(&mut self) -> Result<(), AllocError>
-        ensures count { self.new.count ≡ self.old.count }
-        ensures next { self.new.next ≡ self.old.next }
-        ensures settled { KeepsSettled self.old.parts.items self.new.parts.items }
-        ensures entries { (b : ℕ)
-            → entry_at self.new.parts.items b ≡ entry_at self.old.parts.items b }
+        ensures room { MakesRoom self.old self.new }
         ensures touched { OnOk result ((j : ℕ) → j < length self.old.parts.items
             → IsTouched self.new.parts.items j) }
     {
@@ -256,16 +205,10 @@ impl BlockMap {
     /// Makes set `set` the settled set 0. Where there is no memory no entry changes.
     pub fn take_plane(&mut self, set: u32) -> Result<(), AllocError>
         requires { set < 32 }
-        ensures count { self.new.count ≡ self.old.count }
-        ensures next { self.new.next ≡ self.old.next }
-        ensures settled { KeepsSettled self.old.parts.items self.new.parts.items }
-        ensures plane { OnOk result ((count : ℕ) → SetsPlane count set
-            (λ b. bit_at (settled_at self.old.parts.items b) 0)
-            (entry_at self.old.parts.items) (entry_at self.new.parts.items)) }
+        ensures put { PutsPlane set (λ b. bit_at (settled_at self.old.parts.items b) 0)
+            self.old self.new result }
         ensures touched { OnOk result ((j : ℕ) → j < length self.old.parts.items
             → IsTouched self.new.parts.items j) }
-        ensures refused { OnErr result ((b : ℕ)
-            → entry_at self.new.parts.items b ≡ entry_at self.old.parts.items b) }
     {
         self.touch_all()?;
         for j in 0..self.parts.len() {
@@ -277,11 +220,7 @@ impl BlockMap {
     /// Makes room for changes of all blocks of the map with an entry in set `set`. No entry changes by it.
     fn touch_set(&mut self, set: u32) -> Result<(), AllocError>
         requires { set < 32 }
-        ensures count { self.new.count ≡ self.old.count }
-        ensures next { self.new.next ≡ self.old.next }
-        ensures settled { KeepsSettled self.old.parts.items self.new.parts.items }
-        ensures entries { (b : ℕ)
-            → entry_at self.new.parts.items b ≡ entry_at self.old.parts.items b }
+        ensures room { MakesRoom self.old self.new }
         ensures touched { OnOk result ((j : ℕ) → j < length self.old.parts.items
             → HasSetAt set self.old.parts.items j → IsTouched self.new.parts.items j) }
         ensures few { (j : ℕ) → IsTouched self.new.parts.items j
@@ -299,17 +238,11 @@ impl BlockMap {
     /// memory no entry changes.
     pub fn clear_plane(&mut self, set: u32) -> Result<(), AllocError>
         requires { set < 32 }
-        ensures count { self.new.count ≡ self.old.count }
-        ensures next { self.new.next ≡ self.old.next }
-        ensures settled { KeepsSettled self.old.parts.items self.new.parts.items }
-        ensures plane { OnOk result ((count : ℕ) → SetsPlane count set (λ b. 0)
-            (entry_at self.old.parts.items) (entry_at self.new.parts.items)) }
+        ensures put { PutsPlane set (λ b. 0) self.old self.new result }
         ensures touched { OnOk result ((j : ℕ) → j < length self.old.parts.items
             → HasSetAt set self.old.parts.items j → IsTouched self.new.parts.items j) }
         ensures few { (j : ℕ) → IsTouched self.new.parts.items j
             → IsTouched self.old.parts.items j ⊎ HasSetAt set self.old.parts.items j }
-        ensures refused { OnErr result ((b : ℕ)
-            → entry_at self.new.parts.items b ≡ entry_at self.old.parts.items b) }
     {
         self.touch_set(set)?;
         for j in 0..self.parts.len() {
@@ -320,14 +253,7 @@ impl BlockMap {
 
     /// The changes are settled by a root: what it doesn't name is free now, and may be given out.
     pub fn settle(&mut self)
-        ensures count { self.new.count ≡ self.old.count }
-        ensures next { self.new.next ≡ FIRST_BLOCK }
-        ensures parts { length self.new.parts.items ≡ length self.old.parts.items }
-        ensures settled { (b : ℕ)
-            → settled_at self.new.parts.items b ≡ entry_at self.old.parts.items b }
-        ensures entries { (b : ℕ)
-            → entry_at self.new.parts.items b ≡ entry_at self.old.parts.items b }
-        ensures untouched { (j : ℕ) → IsTouched self.new.parts.items j → ⊥ }
+        ensures { SettlesAs (entry_at self.old.parts.items) self.old self.new }
     {
         for j in 0..self.parts.len() {
             self.parts[j].settle();
@@ -337,14 +263,7 @@ impl BlockMap {
 
     /// The changes are given up, and what was given out is free again.
     pub fn give_up(&mut self)
-        ensures count { self.new.count ≡ self.old.count }
-        ensures next { self.new.next ≡ FIRST_BLOCK }
-        ensures parts { length self.new.parts.items ≡ length self.old.parts.items }
-        ensures settled { (b : ℕ)
-            → settled_at self.new.parts.items b ≡ settled_at self.old.parts.items b }
-        ensures entries { (b : ℕ)
-            → entry_at self.new.parts.items b ≡ settled_at self.old.parts.items b }
-        ensures untouched { (j : ℕ) → IsTouched self.new.parts.items j → ⊥ }
+        ensures { SettlesAs (settled_at self.old.parts.items) self.old self.new }
     {
         for j in 0..self.parts.len() {
             self.parts[j].give_up();

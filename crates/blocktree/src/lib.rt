@@ -1,6 +1,6 @@
-//! The blocks of a file. What a consistency point settled stays as it is on the disk, indirect blocks too, until the next
-//! one: a change is laid over it in memory. So a file is a function from a block's index to 4,096 bytes, and a write or a
-//! cut an update of that function, whatever the file's level.
+//! The block tree: the blocks of a file. What a consistency point settled stays as it is on the disk, indirect blocks
+//! too, until the next one: a change is laid over it in memory. So a file is a function from a block's index to 4,096
+//! bytes, and a write or a cut an update of that function, whatever the file's level.
 #![tactic(auto)]
 
 mod error;

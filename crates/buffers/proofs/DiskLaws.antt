@@ -13,6 +13,7 @@ use Rattle.station.specs.Images as images
 use Rattle.station.specs.Moments.{Meaning, IsSameStation, Goes}
 use Rattle.buffers.specs.Disks.{IsBlock, IsDisk, ShowsDisk, ReadsOn, disk_with, sector_put, disk_with_sector}
 use Rattle.buffers.specs.declared.block.Block.{Block}
+use Rattle.layout.proofs.PartLaws.{slice_index-between}
 
 same_block : (sectors : ℕ → Sector) (place : ℕ) (a b : List ℕ) → IsBlock sectors place a → IsBlock sectors place b → a ≡ b
 same_block sectors place a b p q =
@@ -42,13 +43,11 @@ read_kept m n old new place block disk reads within is u shows =
     kept_before : (m n : BTreeMap ℕ Block) (place p : ℕ) (b block : Block) → Updates nat_cmp m n place (Some block) → (p ≡ place → ⊥) → get nat_cmp n p ≡ Some b → get nat_cmp m p ≡ Some b
     kept_before m n place p b block u ne got = grind (arith, common_steps, u.0 p)
 
-within_block : (xs : List ℕ) (a n k : ℕ) → k < n → slice_index (take n (drop a xs)) k ≡ slice_index xs (a + k)
-within_block xs a n k lt = get_or-take n (drop a xs) k 0 lt ∙ get_or-drop a xs k 0
-
-hit : (place r n : ℕ) → r < n → leb (8 * place) (8 * place + r / 512) && ltb (512 * (8 * place + r / 512 - 8 * place)) n ≡ true
+-- a byte of the block that was written, and one of another block
+pub hit : (place r n : ℕ) → r < n → leb (8 * place) (8 * place + r / 512) && ltb (512 * (8 * place + r / 512 - 8 * place)) n ≡ true
 hit place r n lt = grind (arith, nat_tests)
 
-miss : (b place r n : ℕ) → (b ≡ place → ⊥) → n ≡ 4096 → r < 4096 → leb (8 * place) (8 * b + r / 512) && ltb (512 * (8 * b + r / 512 - 8 * place)) n ≡ false
+pub miss : (b place r n : ℕ) → (b ≡ place → ⊥) → n ≡ 4096 → r < 4096 → leb (8 * place) (8 * b + r / 512) && ltb (512 * (8 * b + r / 512 - 8 * place)) n ≡ false
 miss b place r n ne e lt = grind (arith, nat_tests)
 
 -- the block that was written
@@ -58,7 +57,7 @@ block_written sectors place bytes len = record {
   bytes_are = λ r lt.
       let at : 512 * (8 * place + r / 512 - 8 * place) + r % 512 ≡ r = omega arith in
       let rest : r % 512 < 512 = omega arith in
-      rw (hit place r (length bytes) (omega arith)) (sym (within_block bytes (512 * (8 * place + r / 512 - 8 * place)) 512 (r % 512) rest ∙ ap (slice_index bytes) at));
+      rw (hit place r (length bytes) (omega arith)) (sym (slice_index-between bytes (512 * (8 * place + r / 512 - 8 * place)) 512 (r % 512) rest ∙ ap (slice_index bytes) at));
 }
 
 -- another block

@@ -14,7 +14,7 @@ use station::Station;
 use std::alloc::Global;
 use std::collections::BTreeMap;
 
-/// A station, and those blocks of its disk that are kept in memory. Every block that was read stays for now.
+/// A station, and those blocks of its disk that are kept in memory. Every block that was read stays.
 #[derive(Drop)]
 pub struct Buffers<S> {
     /// Its disk is to be written by `store` and `store_sector` alone: what is kept would not change with it.

@@ -1,6 +1,6 @@
-//! Blocks of the disk in memory. A block is named by its place on the disk, or it is changed, has no place yet, and is
-//! owned by whoever changed it; so two files can't share a changed block. A place reads as the disk does, whatever of it
-//! is kept. Only `make_resident` reads the device.
+//! The buffers: blocks of the disk in memory. A block is named by its place on the disk, or it is changed, has no place
+//! yet, and is owned by whoever changed it; so two files can't share a changed block. A place reads as the disk does,
+//! whatever of it is kept. Only `make_resident` reads the device.
 #![tactic(auto)]
 
 mod block;

@@ -15,11 +15,7 @@ use Rattle.std.proofs.lemmas.Slice.Eq.{bytes_eq-Decides}
 use Rattle.model.specs.Counting.{Counts}
 use Rattle.model.specs.Paths.{Name}
 use Rattle.model.proofs.ListingLemmas.{names_apart}
-use Rattle.dirs.proofs.ListingLaws.{or_comm, or_assoc}
-
-or_again : (a b : Bool) → (a || b) ≡ ((a || b) || a)
-or_again true b = refl
-or_again false b = sym (or-false b)
+use Rattle.dirs.proofs.ListingLaws.{or_again, or_assoc, or_comm}
 
 -- names by their bytes
 abbrev by_bytes : Name → Name → Ordering

@@ -11,7 +11,7 @@ use Rattle.model.specs.Resolution.{Resolution, named, missing, refused}
 use Rattle.model.specs.Room.{Need, nothing}
 use Rattle.model.specs.Trees.{Tree, Object, Description, IsTree, is_directory}
 use Rattle.model.specs.Trees as trees
-use Rattle.model.specs.Volumes.{Node, directory_node, file_node, link_node, Volume, entries, number_at, object_at, object_of, is_directory_node, tree_of, IsMounted, IsVolume}
+use Rattle.model.specs.Volumes.{Volume, entries, number_at, object_at, is_directory_node, tree_of, IsMounted, IsVolume}
 use Rattle.model.specs.declared.errno.Errno.TheVariants.{DIRFULL}
 use Rattle.model.specs.declared.limits.TheConstants.{DIRECTORY_NAMES}
 use Rattle.model.specs.declared.reply.Reply.{Reply}
@@ -20,12 +20,7 @@ use Rattle.model.proofs.LeadLemmas.{AnswersWell}
 use Rattle.model.proofs.MountedLemmas.{node_directory}
 use Rattle.calls.proofs.LeadLaws.{trail_end}
 use Rattle.calls.proofs.MakeLaws.{listing}
-
-directory_of : (n : ℕ) (o : Option Node) → is_directory (object_of n o) ≡ is_directory_node o
-directory_of n None = refl
-directory_of n (Some (directory_node mode names)) = refl
-directory_of n (Some (file_node mode links bytes)) = refl
-directory_of n (Some (link_node text)) = refl
+use Rattle.model.proofs.ObjectLaws.{directory_of}
 
 module _ (inodes : ℕ) (v : Volume) (table : ℕ → Option Description) (volume : IsVolume inodes v) (mounted : IsMounted v table) (tree : IsTree inodes (tree_of v table)) where
   abbrev t : Tree

@@ -1,6 +1,6 @@
 -- What the definitions say of reading a file over a path, by what was found in a volume.
-use Rattle.std.proofs.Common.{◌≡◌, ◌≢◌, ℕ, ℤ, nat_abs, ◌||◌, List, [], ◌∷◌, ◌++◌, true, false, Option, Some, None, Result, Ok, Err, unwrap_or, refl, sym, ap, subst, ◌∙◌, inl, inr}
-use Rattle.std.proofs.lemmas.Bool.{cases_Bool, cond-true, cond-false, false≢true}
+use Rattle.std.proofs.Common.{◌≡◌, ◌≢◌, ℕ, ℤ, nat_abs, ◌||◌, List, [], true, false, Option, Some, None, Result, Ok, Err, unwrap_or, refl, sym, ap, subst, ◌∙◌}
+use Rattle.std.proofs.lemmas.Bool.{cond-true, cond-false, false≢true}
 use Rattle.model.specs.Edits.{read_at}
 use Rattle.model.specs.Outcomes.{Outcome, answers, refuses}
 use Rattle.model.specs.Paths.{Path, Tests, first_refusal, text_tests, text_tests_then}
@@ -13,45 +13,23 @@ use Rattle.model.specs.Volumes.{Node, directory_node, file_node, link_node, Volu
 use Rattle.model.specs.declared.errno.Errno.{Errno}
 use Rattle.model.specs.declared.errno.Errno.TheVariants.{EISDIR, EINVAL}
 use Rattle.model.specs.declared.reply.Reply.TheVariants.{Data, Refused}
-use Rattle.calls.specs.Getting.{GetsNumber, data_reply, range_tests}
+use Rattle.calls.specs.Get.{GetsNumber, data_reply, range_tests}
 use Rattle.model.proofs.LooseLemmas.{some_same}
 use Rattle.paths.specs.Steps.{found_in}
 use Rattle.paths.specs.declared.lookup.Found.TheVariants as found
 use Rattle.calls.specs.Leading.{IsLed}
 use Rattle.calls.proofs.LeadLaws.{led_refused, led_there}
 use Rattle.calls.proofs.MakeLaws.{tested_some}
-
-none_some : {X Y : Type 0} {x : X} → None ≡ Some x → Y
-none_some e = cc
-
-some_none : {X Y : Type 0} {x : X} → Some x ≡ None → Y
-some_none e = cc
-
--- ---- tests before others
-
-first_of_both : (a b : Tests) (e : Errno) → first_refusal a ≡ Some e → first_refusal (a ++ b) ≡ Some e
-first_of_both [] b e is = none_some is
-first_of_both (test ∷ a) b e is =
-    elim (cases_Bool test.0) [
-      | inl t ↦ cond-true test.0 (Some test.1) (first_refusal (a ++ b)) t ∙ sym (cond-true test.0 (Some test.1) (first_refusal a) t) ∙ is
-      | inr f ↦ cond-false test.0 (Some test.1) (first_refusal (a ++ b)) f ∙ first_of_both a b e (sym (cond-false test.0 (Some test.1) (first_refusal a) f) ∙ is)
-    ]
-
-none_of_first : (a b : Tests) → first_refusal a ≡ None → first_refusal (a ++ b) ≡ first_refusal b
-none_of_first [] b is = refl
-none_of_first (test ∷ a) b is =
-    elim (cases_Bool test.0) [
-      | inl t ↦ some_none (sym (cond-true test.0 (Some test.1) (first_refusal a) t) ∙ is)
-      | inr f ↦ cond-false test.0 (Some test.1) (first_refusal (a ++ b)) f ∙ none_of_first a b (sym (cond-false test.0 (Some test.1) (first_refusal a) f) ∙ is)
-    ]
+use Rattle.model.proofs.OptionLaws.{none_some}
+use Rattle.model.proofs.TestLaws.{first_append, first_in_front}
 
 -- ---- a refusal of what is asked
 
 pub text_first : (text : List ℕ) (more : Tests) (e : Errno) → first_refusal (text_tests text) ≡ Some e → first_refusal (text_tests_then more text) ≡ Some e
-text_first text more e is = first_of_both (text_tests text) more e is
+text_first text more e is = first_in_front (text_tests text) more e is
 
 pub text_before : (text : List ℕ) (more : Tests) → first_refusal (text_tests text) ≡ None → first_refusal (text_tests_then more text) ≡ first_refusal more
-text_before text more is = none_of_first (text_tests text) more is
+text_before text more is = first_append (text_tests text) more is
 
 pub range_refused : (offset : ℤ) (count : ℕ) → (is_negative offset || is_too_many count) ≡ true → first_refusal (range_tests offset count) ≡ Some EINVAL
 range_refused offset count is = cond-true (is_negative offset || is_too_many count) (Some EINVAL) None is

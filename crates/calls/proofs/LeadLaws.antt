@@ -1,6 +1,6 @@
 -- What stands where a path leads, by what was found in a volume.
 use Rattle.std.proofs.Common.{◌≡◌, ◌≢◌, inl, inr, ℕ, List, [], ◌∷◌, ◌++◌, length, Option, Some, None, IsSome, Result, Ok, Err, refl, sym, ap, subst, ◌∙◌, arith}
-use Rattle.std.proofs.lemmas.Bool.{cases_Bool, cond-true, cond-false, false≢true}
+use Rattle.std.proofs.lemmas.Bool.{false≢true}
 use Rattle.std.proofs.lemmas.List.{take_all}
 use Rattle.model.specs.Finding.{at_directory, at_entry, at_gap, at_refusal, here, IsPlaceOf, Trails}
 use Rattle.model.specs.Outcomes.{Outcome, leads_to, tested}
@@ -8,7 +8,7 @@ use Rattle.model.specs.Paths.{Name, Path, Tests, first_refusal}
 use Rattle.model.specs.Resolution.{Resolution, named, missing, refused}
 use Rattle.model.specs.Room.{Need, nothing}
 use Rattle.model.specs.Trees.{Tree, Object, Description}
-use Rattle.model.specs.Volumes.{Node, directory_node, file_node, link_node, Volume, entries, enter, number_at, object_of, object_at, tree_of, IsVolume}
+use Rattle.model.specs.Volumes.{Volume, entries, enter, number_at, object_of, object_at, tree_of, IsVolume}
 use Rattle.model.specs.declared.errno.Errno.{Errno}
 use Rattle.model.specs.declared.errno.Errno.TheVariants.{ENOENT}
 use Rattle.model.specs.declared.reply.Reply.{Reply}
@@ -20,6 +20,7 @@ use Rattle.paths.specs.declared.lookup.Found.{Found}
 use Rattle.paths.specs.declared.lookup.Found.TheVariants as found
 use Rattle.calls.specs.Leading.{LeadsTo, IsLed}
 use Rattle.calls.proofs.MakeLaws.{tested_some, tested_none}
+use Rattle.model.proofs.ObjectLaws.{node_object}
 
 -- ---- numbers at paths
 
@@ -34,12 +35,6 @@ pub entry_at : (v : Volume) (p : Path) (trail : List ℕ) (x : Name) (to : Optio
     → number_at (entries v) (p ++ x ∷ []) ≡ to
 entry_at v p trail x to trails is =
     number_at-push (entries v) p x ∙ ap (λ (o : Option ℕ). enter (entries v) o x) (trail_end v p trail trails) ∙ is
-
-pub node_object : (n : ℕ) (o : Option Node) → IsSome o → IsSome (object_of n o)
-node_object n None some = absurd (false≢true some)
-node_object n (Some (directory_node mode names)) some = refl
-node_object n (Some (file_node mode links bytes)) some = refl
-node_object n (Some (link_node text)) some = refl
 
 module _ (inodes : ℕ) (v : Volume) (volume : IsVolume inodes v) where
   -- what a path leads to is there
@@ -124,25 +119,3 @@ module _ (v : Volume) (table : ℕ → Option Description) (there : Path → Obj
   led_refused tests r errno (inr (passed, leads)) = tested_none t tests (leads_to t r there) (Refused errno) t nothing passed (leads_refused r errno leads)
 
 -- ---- tests, one list behind another
-
-none_some : {X : Type 0} {e : Errno} → None ≡ Some e → X
-none_some e = cc
-
-some_none : {X : Type 0} {e : Errno} → Some e ≡ None → X
-some_none e = cc
-
-pub first_append : (a b : Tests) → first_refusal a ≡ None → first_refusal (a ++ b) ≡ first_refusal b
-first_append [] b e = refl
-first_append (test ∷ a) b e =
-    elim (cases_Bool test.0) [
-      | inl t ↦ some_none (sym (cond-true test.0 (Some test.1) (first_refusal a) t) ∙ e)
-      | inr f ↦ cond-false test.0 (Some test.1) (first_refusal (a ++ b)) f ∙ first_append a b (sym (cond-false test.0 (Some test.1) (first_refusal a) f) ∙ e)
-    ]
-
-pub first_in_front : (a b : Tests) (errno : Errno) → first_refusal a ≡ Some errno → first_refusal (a ++ b) ≡ Some errno
-first_in_front [] b errno e = none_some e
-first_in_front (test ∷ a) b errno e =
-    elim (cases_Bool test.0) [
-      | inl t ↦ cond-true test.0 (Some test.1) (first_refusal (a ++ b)) t ∙ sym (cond-true test.0 (Some test.1) (first_refusal a) t) ∙ e
-      | inr f ↦ cond-false test.0 (Some test.1) (first_refusal (a ++ b)) f ∙ first_in_front a b errno (sym (cond-false test.0 (Some test.1) (first_refusal a) f) ∙ e)
-    ]

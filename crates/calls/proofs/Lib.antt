@@ -19,3 +19,6 @@ pub mod RenameComes
 pub mod TruncateLaws
 pub mod OpenLaws
 pub mod SweptLaws
+pub mod PrepareSteps
+pub mod SeeSteps
+pub mod WhereSteps

@@ -23,15 +23,16 @@ use Rattle.model.specs.declared.reply.Reply.{Reply}
 use Rattle.model.specs.declared.reply.Reply.TheVariants.{Done, Refused}
 use Rattle.model.proofs.LeadLemmas.{AnswersWell, resolves_well}
 use Rattle.model.proofs.LooseLemmas.{some_same}
-use Rattle.calls.specs.Changing.{Comes}
+use Rattle.calls.specs.Changing.{Comes, ComesBy}
 use Rattle.calls.specs.Leading.{LeadsTo}
-use Rattle.calls.specs.Linking.{LinksFile}
-use Rattle.records.specs.Served.{IsServed}
+use Rattle.calls.specs.Link.{LinksFile}
 use Rattle.calls.specs.declared.changed.Changing.{Changing}
-use Rattle.records.proofs.EnterLaws.{node_here, node_other}
 use Rattle.calls.proofs.GapLaws.{FindsGap, gap_parent, place_free, place_full}
-use Rattle.calls.proofs.LeadLaws.{first_append, leads_refused, leads_there, node_object}
+use Rattle.calls.proofs.LeadLaws.{leads_refused, leads_there}
 use Rattle.calls.proofs.MakeLaws.{tested_none, tested_some}
+use Rattle.model.proofs.ObjectLaws.{node_here, node_object, node_other}
+use Rattle.model.proofs.OptionLaws.{none_some, some_none}
+use Rattle.model.proofs.TestLaws.{first_append}
 
 -- texts that don't pass their tests
 pub link_tests_refused : (v : Volume) (table : ℕ → Option Description) (old path : List ℕ) (errno : Errno) → first_refusal (text_tests old ++ new_text_tests path) ≡ Some errno
@@ -39,9 +40,6 @@ pub link_tests_refused : (v : Volume) (table : ℕ → Option Description) (old 
 link_tests_refused v table old path errno is = tested_some (tree_of v table) (text_tests old ++ new_text_tests path) _ errno is
 
 -- tests that pass with more behind them pass
-some_none : {X : Type 0} {e : Errno} → Some e ≡ None → X
-some_none e = cc
-
 first_front : (tests more : Tests) → first_refusal (tests ++ more) ≡ None → first_refusal tests ≡ None
 first_front [] more passed = refl
 first_front (test ∷ tests) more passed =
@@ -100,9 +98,6 @@ module _ (inodes : ℕ) (v : Volume) (table : ℕ → Option Description) (volum
 
     no_file : (n : ℕ) (o : Option Node) (p : Path) (y : Object) → is_file_node o ≡ false → object_of n o ≡ Some y → there p y (Refused EPERM) t nothing
     no_file n None p y other object = none_some object
-      where
-        none_some : {X : Type 0} → None ≡ Some y → X
-        none_some e = cc
     no_file n (Some (directory_node mode names)) p y other object = subst (λ (z : Object). there p z (Refused EPERM) t nothing) (some_same object) (refl, refl, refl)
     no_file n (Some (file_node mode count bytes)) p y other object = absurd (false≢true (sym other))
     no_file n (Some (link_node text)) p y other object = subst (λ (z : Object). there p z (Refused EPERM) t nothing) (some_same object) (refl, refl, refl)
@@ -138,7 +133,7 @@ module _ (inodes : ℕ) (v : Volume) (table : ℕ → Option Description) (volum
           by (missing p x) place = absurd place
           by (refused other) place = absurd place
 
-      module _ (law : RecordsChangeTrees) (tell : VolumesTellLinks) (d : ℕ) (x : Name) (gap : FindsGap inodes v table volume mounted tree target d x) (served : IsServed (link n d x)) where
+      module _ (law : RecordsChangeTrees) (tell : VolumesTellLinks) (d : ℕ) (x : Name) (gap : FindsGap inodes v table volume mounted tree target d x) where
         in_gap : (reply : Reply) (new : Tree) (need : Need) → gone n gap.path x reply new need → links t old path reply new need
         in_gap reply new need done =
             at_target reply new need (subst (λ (r : Resolution). leads t r (λ q r. refuses t EEXIST) (λ q y. gone n q y) reply new need) (sym gap.is) done)
@@ -207,12 +202,11 @@ module _ (inodes : ℕ) (v : Volume) (table : ℕ → Option Description) (volum
         few_names k few rest reply after need done =
             subst (λ (b : Bool). tested t ((b, EMLINK) ∷ []) rest reply after need) (sym (lt-leb FILE_NAMES k few)) done
 
-        pub link_comes : (c : Result Changing Errno) → LinksFile inodes v n d x c → Comes (links t old path) adds_name inodes v table c
+        pub link_comes : (c : Result Changing Errno) → LinksFile inodes v n d x c → Comes (links t old path) inodes v table c
         link_comes (Ok c) (says, applies) =
             let after = tree_of new table in
             let here = gives applies in
-            subst (λ (y : Change). IsServed y × Applies inodes v y × IsMounted (applied y v) table × links t old path Done (tree_of (applied y v) table) (logs adds_name)) (sym says) (
-              served,
+            subst (ComesBy (links t old path) inodes v table) (sym says) (
               applies,
               here.still_mounted,
               in_gap Done after (logs adds_name) (

@@ -15,12 +15,10 @@ use Rattle.model.specs.declared.errno.Errno.TheVariants.{ENOTDIR}
 use Rattle.model.specs.declared.reply.Reply.TheVariants.{Names, Refused}
 use Rattle.model.proofs.LooseLemmas.{some_same}
 use Rattle.calls.specs.Leading.{IsLed}
-use Rattle.calls.specs.Listing.{ListsNumber, reply_of}
+use Rattle.calls.specs.List.{ListsNumber, reply_of}
 use Rattle.calls.proofs.LeadLaws.{led_refused, led_there}
 use Rattle.calls.proofs.MakeLaws.{child_some}
-
-none_some : {X Y : Type 0} {x : X} → None ≡ Some x → Y
-none_some e = cc
+use Rattle.model.proofs.OptionLaws.{none_some}
 
 module _ (inodes : ℕ) (v : Volume) (table : ℕ → Option Description) (volume : IsVolume inodes v) where
   abbrev t : Tree

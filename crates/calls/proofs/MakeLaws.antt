@@ -19,7 +19,7 @@ use Rattle.model.specs.Resolution.{Resolution, named, missing, refused, resolve}
 use Rattle.model.specs.Room.{Need, nothing, logs, adds_name}
 use Rattle.model.specs.Trees.{Tree, Object, Description, IsTree, IsUsed, is_directory}
 use Rattle.model.specs.Trees as trees
-use Rattle.model.specs.Volumes.{Node, directory_node, file_node, link_node, Volume, entries, number_at, object_of, object_at, enter, is_directory_node, set_name, with_node, created, is_open, swept_node, tree_of, swept, IsVolume, IsMounted}
+use Rattle.model.specs.Volumes.{Node, directory_node, file_node, link_node, Volume, entries, number_at, object_at, enter, is_directory_node, set_name, with_node, created, is_open, swept_node, tree_of, swept, IsVolume, IsMounted}
 use Rattle.model.specs.declared.errno.Errno.{Errno}
 use Rattle.model.specs.declared.errno.Errno.TheVariants.{EINVAL, EEXIST, DIRFULL, NONUMBER}
 use Rattle.model.specs.declared.limits.TheConstants.{DIRECTORY_NAMES, FIRST_NUMBER}
@@ -28,12 +28,11 @@ use Rattle.model.specs.declared.reply.Reply.TheVariants.{Done, Refused}
 use Rattle.model.proofs.LeadLemmas.{AnswersWell, resolves_well}
 use Rattle.model.proofs.SweepLemmas.{not_unused}
 use Rattle.model.proofs.WalkLemmas.{number_at-push}
-use Rattle.calls.specs.Changing.{Comes}
+use Rattle.calls.specs.Changing.{Comes, ComesBy}
 use Rattle.calls.specs.Making.{MakesAt, MakesIn, IsLeastFree}
-use Rattle.records.specs.Served.{IsServed}
 use Rattle.calls.specs.declared.changed.Changing.{Changing}
-use Rattle.records.proofs.EnterLaws.{node_here, node_other}
 use Rattle.calls.proofs.CountedLists.{counted_list}
+use Rattle.model.proofs.ObjectLaws.{directory_object, directory_of, node_here, node_object, node_other}
 
 -- ---- tests
 
@@ -70,24 +69,6 @@ makes_numbered inodes v n d x what good least (Err errno) told = inl told
 makes_numbered inodes v n d x what good least (Ok c) (says, takes) = (n, says, good, takes, least)
 
 -- ---- objects
-
-is_directory_of : (n : ℕ) (o : Option Node) → is_directory (object_of n o) ≡ is_directory_node o
-is_directory_of n None = refl
-is_directory_of n (Some (directory_node mode names)) = refl
-is_directory_of n (Some (file_node mode links bytes)) = refl
-is_directory_of n (Some (link_node text)) = refl
-
-object_is : (n : ℕ) (o : Option Node) → is_directory_node o ≡ true → object_of n o ≡ Some (trees.directory n)
-object_is n None is = absurd (false≢true is)
-object_is n (Some (directory_node mode names)) is = refl
-object_is n (Some (file_node mode links bytes)) is = absurd (false≢true is)
-object_is n (Some (link_node text)) is = absurd (false≢true is)
-
-some_object : (n : ℕ) (o : Option Node) → IsSome o → IsSome (object_of n o)
-some_object n None some = absurd (false≢true some)
-some_object n (Some (directory_node mode names)) some = refl
-some_object n (Some (file_node mode links bytes)) some = refl
-some_object n (Some (link_node text)) some = refl
 
 -- what is made isn't swept: it has a name
 new_stays : (what : Made) (open_now : Bool) → swept_node open_now (Some (node_of what)) ≡ Some (node_of what)
@@ -138,7 +119,7 @@ module _ (inodes : ℕ) (v : Volume) (table : ℕ → Option Description) (volum
   -- a name stands in a directory where it leads to an object
   named_object : (d : ℕ) (x : Name) (o : Option ℕ) → entries v d x ≡ o → IsSome (object_at v o) ↔ IsSome o
   named_object d x None is = (λ some. some, λ some. some)
-  named_object d x (Some n) is = (λ some. refl, λ some. some_object n (v n) (volume.graph.used d n x is))
+  named_object d x (Some n) is = (λ some. refl, λ some. node_object n (v n) (volume.graph.used d n x is))
 
   module _ (p : Path) (d : ℕ) (at : number_at (entries v) p ≡ Some d) where
     child : (x : Name) → (tree_of v table).objects (p ++ x ∷ []) ≡ object_at v (entries v d x)
@@ -248,10 +229,10 @@ module _ (inodes : ℕ) (v : Volume) (table : ℕ → Option Description) (volum
         found = finds_gap (resolve t false text) well gap
 
         is_parent : is_directory_node (v d) ≡ true
-        is_parent = sym (is_directory_of d (v d)) ∙ ap (λ o. is_directory (object_at v o)) (sym found.at) ∙ found.stands
+        is_parent = sym (directory_of d (v d)) ∙ ap (λ o. is_directory (object_at v o)) (sym found.at) ∙ found.stands
 
         parent_is : t.objects found.path ≡ Some (trees.directory d)
-        parent_is = ap (object_at v) found.at ∙ object_is d (v d) is_parent
+        parent_is = ap (object_at v) found.at ∙ directory_object d (v d) is_parent
 
         -- where it doesn't take the name, it is full
         takes : (count : ℕ) → Counts (λ x. IsSome (entries v d x)) count → count < DIRECTORY_NAMES → TakesName v d name
@@ -336,9 +317,9 @@ module _ (inodes : ℕ) (v : Volume) (table : ℕ → Option Description) (volum
               no_file e = cc
 
         module _ (fresh_law : VolumesTellFresh) (change_law : RecordsChangeTrees) where
-          pub gap_comes : (told : Result Changing Errno) → MakesIn inodes v d name what told → Comes makes adds_name inodes v table told
+          pub gap_comes : (told : Result Changing Errno) → MakesIn inodes v d name what told → Comes makes inodes v table told
           gap_comes (Err errno) (inl (is, not)) = subst (λ e. makes (Refused e) t nothing) (sym is) (dir_full not)
           gap_comes (Err errno) (inr (is, can, none)) = subst (λ e. makes (Refused e) t nothing) (sym is) (no_number can none)
           gap_comes (Ok c) (n, says, good, can, free) =
-              subst (λ (x : Change). IsServed x × Applies inodes v x × IsMounted (applied x v) table × makes Done (tree_of (applied x v) table) (logs adds_name)) (sym says)
-              (tt, applies fresh_law change_law good n can free, (changed fresh_law change_law good n can free).0, made fresh_law change_law good n can free)
+              subst (ComesBy makes inodes v table) (sym says)
+              (applies fresh_law change_law good n can free, (changed fresh_law change_law good n can free).0, made fresh_law change_law good n can free)

@@ -20,13 +20,12 @@ use Rattle.model.specs.declared.reply.Reply.TheVariants.{Done, Refused}
 use Rattle.model.proofs.LooseLemmas.{some_same}
 use Rattle.paths.specs.Steps.{found_in}
 use Rattle.paths.specs.declared.lookup.Found.TheVariants as found
-use Rattle.calls.specs.Changing.{Comes}
-use Rattle.calls.specs.ChangingMode.{ModesNumber}
+use Rattle.calls.specs.Changing.{Comes, ComesBy}
+use Rattle.calls.specs.Chmod.{ModesNumber}
 use Rattle.calls.specs.Leading.{IsLed}
-use Rattle.records.specs.Served.{IsServed}
 use Rattle.calls.specs.declared.changed.Changing.{Changing}
-use Rattle.records.proofs.EnterLaws.{node_here, node_other}
 use Rattle.calls.proofs.LeadLaws.{led_some, led_there, led_refused}
+use Rattle.model.proofs.ObjectLaws.{node_here, node_other}
 
 -- a mode is not what makes an object stay or go
 mode_swept : (open_now : Bool) (mode : ℕ) (o : Option Node) → swept_node open_now o ≡ o → swept_node open_now (with_node_mode mode o) ≡ with_node_mode mode o
@@ -96,10 +95,9 @@ module _ (inodes : ℕ) (v : Volume) (table : ℕ → Option Description) (text 
     done (Some (link_node text)) p x is object same = absurd (false≢true is)
 
     pub mode_comes : (r : Result Changing Errno) → IsLed (text_tests text) v (resolve t true text) (Ok n) → found_in (v n) ≢ found.Link → ModesNumber inodes v n mode r
-        → Comes (changes_mode t text mode) changes_bits inodes v table r
+        → Comes (changes_mode t text mode) inodes v table r
     mode_comes (Ok c) led other (says, applies) =
-        subst (λ (x : Change). IsServed x × Applies inodes v x × IsMounted (applied x v) table × changes_mode t text mode Done (tree_of (applied x v) table) (logs changes_bits)) (sym says) (
-          tt,
+        subst (ComesBy (changes_mode t text mode) inodes v table) (sym says) (
           applies,
           (changed applies).0,
           led_there v table there n Done (tree_of new table) (logs changes_bits) (λ p x at object. done (v n) p x applies.0 object (changed applies).1) (text_tests text) (resolve t true text) led,

@@ -1,8 +1,7 @@
 -- What the definitions say of opening a file over a path, by what was found in a volume.
-use Rattle.std.proofs.Common.{◌≡◌, ◌≢◌, ◌≤◌, ◌<◌, ◌==◌, inl, inr, ℕ, List, [], ◌∷◌, ◌++◌, length, Bool, true, false, not, ◌&&◌, Option, Some, None, IsSome, is_some, Result, Ok, Err, unwrap_or, refl, sym, ap, subst, ◌∙◌, length-append, arith}
+use Rattle.std.proofs.Common.{◌≡◌, ◌≢◌, ◌≤◌, ◌<◌, ◌==◌, inl, inr, ℕ, List, [], ◌∷◌, ◌++◌, length, Bool, true, false, not, ◌&&◌, Option, Some, None, IsSome, is_some, Result, Ok, Err, unwrap_or, refl, sym, ap, subst, ◌∙◌}
 use Rattle.std.proofs.Math.Path.{fun_ext}
 use Rattle.std.proofs.lemmas.Bool.{cases_eq, cond-true, cond-false, false≢true, ne_eqb, not-true, not-false}
-use Rattle.std.proofs.lemmas.List.{length-replicate, length-take}
 use Rattle.model.specs.Changes.{ChangesTree}
 use Rattle.model.specs.Changing.{cut_to, need_of_cut}
 use Rattle.model.specs.Descriptors.{described_by, opens_new, opens_object}
@@ -29,22 +28,22 @@ use Rattle.model.specs.declared.limits.TheConstants.{FIRST_NUMBER}
 use Rattle.model.proofs.SweepLemmas.{not_unused}
 use Rattle.paths.specs.Steps.{found_in}
 use Rattle.paths.specs.declared.lookup.Found.TheVariants as found
-use Rattle.records.specs.Served.{IsServed}
-use Rattle.records.proofs.EnterLaws.{node_here, node_other}
 use Rattle.calls.specs.Changing.{said_by}
 use Rattle.calls.specs.Leading.{LeadsTo}
 use Rattle.calls.specs.Making.{CreatesNumber, IsLeastFree, MakesIn}
-use Rattle.calls.specs.Opening.{IsOpened, OpensAt, OpensMade, OpensNew, OpensOver, opened_tree, opens_along}
-use Rattle.calls.specs.Stating.{TellsStat, stat_in}
-use Rattle.calls.specs.Truncating.{CutsFile}
+use Rattle.calls.specs.Open.{OpensBy, IsOpened, OpensAt, OpensMade, OpensNew, OpensOver, opens_along}
+use Rattle.calls.specs.Stat.{TellsStat, stat_in}
+use Rattle.calls.specs.Truncate.{CutsFile}
 use Rattle.calls.specs.declared.changed.Changing.{Changing}
 use Rattle.calls.specs.declared.changed.OwnedChange.{OwnedChange}
 use Rattle.calls.specs.declared.changed.OwnedChange.TheVariants as owned
-use Rattle.calls.specs.declared.opening.Opened.{Opened}
+use Rattle.calls.specs.declared.preparing.open.Opened.{Opened}
 use Rattle.calls.proofs.GapLaws.{FindsGap, gap_parent, place_free, place_full}
-use Rattle.calls.proofs.LeadLaws.{node_object}
+use Rattle.model.proofs.EditLaws.{length-resized}
+use Rattle.model.proofs.ObjectLaws.{node_here, node_object, node_other}
 use Rattle.calls.proofs.MakeLaws.{created_unswept, tested_none, tested_some}
 use Rattle.calls.proofs.StatLaws.{object_by}
+use Rattle.model.proofs.OptionLaws.{none_some}
 
 -- ---- outcomes
 
@@ -53,7 +52,7 @@ module _ (inodes : ℕ) (flags : Flags) (v : Volume) (table : ℕ → Option Des
   module _ (these others : ℕ → Outcome) (more : (fd : ℕ) (reply : Reply) (new : Tree) (need : Need) → these fd reply new need → others fd reply new need) where
     over_more : (o : Opened) (changing : Option Changing) → OpensOver these inodes flags v table o changing → OpensOver others inodes flags v table o changing
     over_more o None (is, opens) = (is, λ fd. more fd (Fd fd) _ nothing (opens fd))
-    over_more o (Some c) (served, applies, mounted, is, opens) = (served, applies, mounted, is, λ fd. more fd (Fd fd) _ _ (opens fd))
+    over_more o (Some c) (applies, mounted, is, opens) = (applies, mounted, is, λ fd. more fd (Fd fd) _ _ (opens fd))
 
     pub opens_more : (r : Result Opened Errno) → OpensAt these inodes flags v table r → OpensAt others inodes flags v table r
     opens_more (Ok o) opens = over_more o o.changing opens
@@ -108,15 +107,13 @@ object_there v (refused errno) n is = absurd is
 pub opens_damaged : {X : Type 0} (v : Volume) (n : ℕ) (y : Object) → object_of n (v n) ≡ Some y → ((o : Node) → v n ≡ Some o → ⊥) → X
 opens_damaged v n y object none = by (v n) object none
   where
-    none_some : {Y : Type 0} → None ≡ Some y → Y
-    none_some e = cc
-
     by : {Y : Type 0} (o : Option Node) → object_of n o ≡ Some y → ((x : Node) → o ≡ Some x → ⊥) → Y
     by None object none = none_some object
     by (Some x) object none = absurd (none x refl)
 
-length-resized : (size : ℕ) (bytes : List ℕ) → length (resized size bytes) ≡ size
-length-resized size bytes = simp (length-append, length-take, length-replicate) (omega arith)
+-- a new file is wanted
+pub opens_exclusive : (t : Tree) (o : Object) (flags : Flags) → (flags.creates && flags.exclusive) ≡ true → (fd : ℕ) → opens_object t o flags fd (Refused EEXIST) t nothing
+opens_exclusive t o flags wants fd = tested_some t ((flags.creates && flags.exclusive, EEXIST) ∷ []) _ EEXIST (cond-true (flags.creates && flags.exclusive) (Some EEXIST) None wants)
 
 nothing_logs : {X : Type 0} {work : Work} → nothing ≡ logs work → X
 nothing_logs e = cc
@@ -236,11 +233,7 @@ module _ (inodes : ℕ) (v : Volume) (table : ℕ → Option Description) (n : �
             (λ (w : Volume).
             IsMounted w table × IsOpened w o × ((fd : ℕ) → opens_object tree y flags fd (Fd fd) (put fd (tree_of w table)) (logs (work_of v cut_change)))) (sym whole)
             (over.1, cut_now (Some c), λ fd. cut_at fd (tree_of after table) (logs (work_of v cut_change)) is needs) in
-            subst
-            (λ (x : Change).
-            IsServed x × Applies inodes v x × IsMounted (swept table (applied x v)) table × IsOpened (swept table (applied x v)) o
-            × ((fd : ℕ) → opens_object tree y flags fd (Fd fd) (put fd (tree_of (swept table (applied x v)) table)) (logs (work_of v x)))) (sym says)
-            (tt, over.0, still, is_file, opens)
+            subst (OpensBy (opens_object tree y flags) inodes flags v table o) (sym says) (over.0, still, is_file, opens)
 
 -- ---- a file that is made
 
@@ -353,11 +346,7 @@ module _ (inodes : ℕ) (v : Volume) (table : ℕ → Option Description) (volum
               ap (swept table (made n good can free)) (sym same) ∙ is_made n good can free ∙ ap (λ (k : ℕ). Some (file_node mode k [])) (sym one),
               empty,
             ) in
-            subst
-            (λ (y : Change).
-            IsServed y × Applies inodes v y × IsMounted (swept table (applied y v)) table × IsOpened (swept table (applied y v)) o
-            × ((fd : ℕ) → outcome fd (Fd fd) (opened_tree flags o fd (tree_of (swept table (applied y v)) table)) (logs (work_of v y)))) (sym says) (
-              tt,
+            subst (OpensBy outcome inodes flags v table o) (sym says) (
               applies n good can free,
               (changed n good can free).0,
               is,

@@ -1,12 +1,14 @@
 -- Refusals of calls by a path are their own.
-use Rattle.std.proofs.Common.{◌≡◌, inl, inr, ℕ, List, [], ◌∷◌, Some, None, IsTrue, refl, sym, subst, ◌∙◌}
+use Rattle.std.proofs.Common.{◌≡◌, inl, inr, ℕ, ℤ, List, [], ◌∷◌, Some, Result, Err, IfErr, IsTrue, refl, sym, subst, ◌∙◌}
 use Rattle.std.proofs.lemmas.Bool.{cases_Bool, cond-true, cond-false, false≢true}
-use Rattle.model.specs.Changing.{link_text_tests}
+use Rattle.model.specs.Changing.{link_text_tests, size_tests}
 use Rattle.model.specs.Paths.{Tests, first_refusal, text_tests, new_text_tests}
 use Rattle.model.specs.declared.errno.Errno.{Errno}
 use Rattle.model.specs.declared.errno.Errno.TheVariants.{ENOENT, ENOTDIR, ENAMETOOLONG, ELOOP, DAMAGED}
+use Rattle.model.proofs.LooseLemmas.{some_same}
 use Rattle.paths.specs.Refusals.{is_walk_refusal}
 use Rattle.calls.specs.Refusals.{is_path_refusal}
+use Rattle.model.proofs.OptionLaws.{none_some}
 
 pub walk_refusal : (e : Errno) → IsTrue (is_walk_refusal e) → IsTrue (is_path_refusal e)
 walk_refusal ENOENT is = refl
@@ -20,17 +22,11 @@ abbrev AllOwn : Tests → Type 0
 AllOwn [] = Unit {0}
 AllOwn (test ∷ tests) = IsTrue (is_path_refusal test.1) × AllOwn tests
 
-same_errno : (a b : Errno) → Some a ≡ Some b → a ≡ b
-same_errno a b e = cc
-
-none_some : {X : Type 0} {e : Errno} → None ≡ Some e → X
-none_some e = cc
-
 first_own : (tests : Tests) (e : Errno) → AllOwn tests → first_refusal tests ≡ Some e → IsTrue (is_path_refusal e)
 first_own [] e own is = none_some is
 first_own (test ∷ tests) e own is =
     elim (cases_Bool test.0) [
-      | inl t ↦ subst (λ (x : Errno). IsTrue (is_path_refusal x)) (same_errno test.1 e (sym (cond-true test.0 (Some test.1) (first_refusal tests) t) ∙ is)) own.0
+      | inl t ↦ subst (λ (x : Errno). IsTrue (is_path_refusal x)) (some_same (sym (cond-true test.0 (Some test.1) (first_refusal tests) t) ∙ is)) own.0
       | inr f ↦ first_own tests e own.1 (sym (cond-false test.0 (Some test.1) (first_refusal tests) f) ∙ is)
     ]
 
@@ -42,3 +38,10 @@ new_text_own text e is = first_own (new_text_tests text) e (refl, (refl, (refl, 
 
 pub link_text_own : (text : List ℕ) (e : Errno) → first_refusal (link_text_tests text) ≡ Some e → IsTrue (is_path_refusal e)
 link_text_own text e is = first_own (link_text_tests text) e (refl, (refl, (refl, tt))) is
+
+pub size_own : (size : ℤ) (e : Errno) → first_refusal (size_tests size) ≡ Some e → IsTrue (is_path_refusal e)
+size_own size e is = first_own (size_tests size) e (refl, (refl, tt)) is
+
+-- an errno that is told is one of paths
+pub refused_own : {T : Type 0} {e : Errno} {r : Result T Errno} → r ≡ Err e → IfErr r (λ e. IsTrue (is_path_refusal e)) → IsTrue (is_path_refusal e)
+refused_own {T = T} is own = subst (λ (x : Result T Errno). IfErr x (λ e. IsTrue (is_path_refusal e))) is own

@@ -24,13 +24,16 @@ use Rattle.model.proofs.VolumeLemmas.{enters_directory}
 use Rattle.model.proofs.WalkLemmas.{number_at-push}
 use Rattle.paths.specs.Steps.{found_in}
 use Rattle.paths.specs.declared.lookup.Found.TheVariants as found
-use Rattle.calls.specs.Changing.{ComesSwept}
+use Rattle.calls.specs.Changing.{ComesSwept, ComesSweptBy}
 use Rattle.calls.specs.Leading.{LeadsTo}
-use Rattle.calls.specs.Removing.{RemovesDirectory, RemovesName, UnlinksEntry}
-use Rattle.records.specs.Served.{IsServed}
+use Rattle.calls.specs.Rmdir.{RemovesDirectory}
+use Rattle.calls.specs.Unlink.{RemovesName, UnlinksEntry}
 use Rattle.calls.specs.declared.changed.Changing.{Changing}
-use Rattle.calls.proofs.LeadLaws.{first_append, first_in_front, leads_refused, leads_there, node_object, trail_end}
+use Rattle.calls.proofs.LeadLaws.{leads_refused, leads_there, trail_end}
 use Rattle.calls.proofs.MakeLaws.{child_some, listing, tested_some, tested_none}
+use Rattle.model.proofs.ObjectLaws.{node_object}
+use Rattle.model.proofs.OptionLaws.{none_some}
+use Rattle.model.proofs.TestLaws.{first_append, first_in_front}
 
 -- ---- kinds
 
@@ -58,9 +61,6 @@ object_is n (Some (link_node text)) x is object = not_found is
 
 object_other : (n : ℕ) (o : Option Node) (x : Object) → found_in o ≢ found.Directory → object_of n o ≡ Some x → is_directory (Some x) ≡ false
 object_other n None x other object = none_some object
-  where
-    none_some : {X : Type 0} → None ≡ Some x → X
-    none_some e = cc
 object_other n (Some (directory_node mode names)) x other object = absurd (other refl)
 object_other n (Some (file_node mode links bytes)) x other object = ap (λ (y : Object). is_directory (Some y)) (sym (some_same object))
 object_other n (Some (link_node text)) x other object = ap (λ (y : Object). is_directory (Some y)) (sym (some_same object))
@@ -190,16 +190,15 @@ module _ (inodes : ℕ) (v : Volume) (table : ℕ → Option Description) (volum
     unlink_directory n leads is =
         unlink_led (Refused EPERM) t nothing (leads_there v table unlinked n (Refused EPERM) t nothing (λ p o at object. unlink_no_directory n p o is object) r leads)
 
-    module _ (d : ℕ) (x : Name) (n : ℕ) (finds : FindsEntry v r d x n) (served : IsServed (unname d x)) where
+    module _ (d : ℕ) (x : Name) (n : ℕ) (finds : FindsEntry v r d x n) where
       not_directory : (p : Path) (o : Object) (reply : Reply) (new : Tree) (need : Need) → is_directory (Some o) ≡ false → removes t p reply new need → unlinked p o reply new need
       not_directory p o reply new need not done =
           subst (λ (b : Bool). tested t ((b, EPERM) ∷ []) (removes t p) reply new need) (sym not) done
 
-      pub unlink_comes : (c : Result Changing Errno) → UnlinksEntry inodes v d x n c → ComesSwept (unlinks t text) removes_name inodes v table c
+      pub unlink_comes : (c : Result Changing Errno) → UnlinksEntry inodes v d x n c → ComesSwept (unlinks t text) inodes v table c
       unlink_comes (Ok c) (other, (says, applies)) =
           let new = tree_of (swept table (applied (unname d x) v)) table in
-          subst (λ (y : Change). IsServed y × Applies inodes v y × IsMounted (swept table (applied y v)) table × unlinks t text Done (tree_of (swept table (applied y v)) table) (logs removes_name)) (sym says) (
-            served,
+          subst (ComesSweptBy (unlinks t text) inodes v table) (sym says) (
             applies,
             (unnames d x n r finds applies).still_mounted,
             unlink_led Done new (logs removes_name)
@@ -242,15 +241,12 @@ module _ (inodes : ℕ) (v : Volume) (table : ℕ → Option Description) (volum
       pub remove_led_nowhere : (errno : Errno) → LeadsTo v resolved (Err errno) → removes_directory t text (Refused errno) t nothing
       remove_led_nowhere errno is = remove_led (Refused errno) t nothing (leads_refused v table taken_away resolved errno is)
 
-      module _ (d : ℕ) (x : Name) (n : ℕ) (finds : FindsEntry v resolved d x n) (served : IsServed (unname d x)) where
+      module _ (d : ℕ) (x : Name) (n : ℕ) (finds : FindsEntry v resolved d x n) where
         abbrev at : Path
         at = finds.path ++ x ∷ []
 
         no_directory : (o : Option Node) (y : Object) → found_in o ≢ found.Directory → object_of n o ≡ Some y → taken_away at y (Refused ENOTDIR) t nothing
         no_directory None y other object = none_some object
-          where
-            none_some : {X : Type 0} → None ≡ Some y → X
-            none_some e = cc
         no_directory (Some (directory_node mode names)) y other object = absurd (other refl)
         no_directory (Some (file_node mode links bytes)) y other object = subst (λ (z : Object). taken_away at z (Refused ENOTDIR) t nothing) (some_same object) (refl, refl, refl)
         no_directory (Some (link_node link)) y other object = subst (λ (z : Object). taken_away at z (Refused ENOTDIR) t nothing) (some_same object) (refl, refl, refl)
@@ -286,13 +282,12 @@ module _ (inodes : ℕ) (v : Volume) (table : ℕ → Option Description) (volum
             not_of : Bool → Bool
             not_of b = not b
 
-        pub remove_comes : (c : Result Changing Errno) → RemovesDirectory inodes v d x n c → ComesSwept (removes_directory t text) removes_name inodes v table c
+        pub remove_comes : (c : Result Changing Errno) → RemovesDirectory inodes v d x n c → ComesSwept (removes_directory t text) inodes v table c
         remove_comes (Ok c) (is, (says, applies)) =
             let new = tree_of (swept table (applied (unname d x) v)) table in
             let same : applies.number ≡ n = same_number applies.number n (sym applies.there ∙ finds.edge) in
             let empty = subst (λ (k : ℕ). IsEmpty v k) same applies.empty in
-            subst (λ (y : Change). IsServed y × Applies inodes v y × IsMounted (swept table (applied y v)) table × removes_directory t text Done (tree_of (swept table (applied y v)) table) (logs removes_name)) (sym says) (
-              served,
+            subst (ComesSweptBy (removes_directory t text) inodes v table) (sym says) (
               applies,
               (unnames d x n resolved finds applies).still_mounted,
               remove_led Done new (logs removes_name)

@@ -1,12 +1,12 @@
 -- What the definitions say of moving a name over two paths that lead to names.
-use Rattle.std.proofs.Common.{◌≡◌, inl, inr, ◌⊎◌, ℕ, List, [], ◌∷◌, ◌++◌, Bool, false, true, ◌||◌, Option, Some, None, IsSome, is_some, Result, Ok, Err, refl, sym, ap, subst, ◌∙◌}
+use Rattle.std.proofs.Common.{◌≡◌, inl, inr, ◌⊎◌, ℕ, List, [], ◌∷◌, ◌++◌, Bool, false, true, ◌||◌, Option, Some, None, IsSome, is_some, Result, Ok, Err, refl, sym, ap, subst, ◌∙◌, arith, length-append}
 use Rattle.std.proofs.lemmas.Bool.{false≢true}
 use Rattle.model.specs.Changing.{moves, renames}
-use Rattle.model.specs.Finding.{at_entry, at_gap, at_refusal, here, IsPlaceOf}
-use Rattle.model.specs.Laws.{BelowIsByPaths, RecordsChangeTrees}
+use Rattle.model.specs.Finding.{at_entry, at_gap, at_refusal, here, IsPlaceOf, Trails}
+use Rattle.model.specs.Laws.{BelowIsByPaths, RecordsChangeTrees, TrailsTellBelow}
 use Rattle.model.specs.Outcomes.{Outcome, leads, leads_to}
 use Rattle.model.specs.Paths.{Name, Path, IsName, Tests, first_refusal, is_dot, is_dot_dot, is_root_text, last_part, new_text_tests}
-use Rattle.model.specs.Records.{Change, Applies, applied, rename}
+use Rattle.model.specs.Records.{Change, applied, rename}
 use Rattle.model.specs.Resolution.{Resolution, named, missing, refused, resolve}
 use Rattle.model.specs.Room.{Need, adds_name, logs, nothing}
 use Rattle.model.specs.Trees.{Tree, Object, Description, IsTree}
@@ -16,19 +16,21 @@ use Rattle.model.specs.declared.errno.Errno.TheVariants.{EBUSY, EINVAL}
 use Rattle.model.specs.declared.reply.Reply.{Reply}
 use Rattle.model.specs.declared.reply.Reply.TheVariants.{Done, Refused}
 use Rattle.model.proofs.LeadLemmas.{AnswersWell, resolves_well}
+use Rattle.model.proofs.VolumeLemmas.{directory_no_file}
 use Rattle.model.proofs.WalkLemmas.{number_at-push}
-use Rattle.calls.specs.Changing.{ComesOrStays}
+use Rattle.calls.specs.Changing.{ComesOrStays, ComesSweptBy}
 use Rattle.calls.specs.Leading.{LeadsTo}
-use Rattle.calls.specs.Renaming.{MovesName, PassTests, otherwise}
-use Rattle.records.specs.Served.{IsServed}
+use Rattle.calls.specs.Rename.{MovesAlong, MovesName, PassTests, otherwise}
 use Rattle.calls.specs.declared.changed.Changing.{Changing}
 use Rattle.records.proofs.FileLaws.{named_directory}
 use Rattle.calls.proofs.GapLaws.{finds_gap}
-use Rattle.calls.proofs.LeadLaws.{first_append, first_in_front, leads_refused, node_object}
+use Rattle.calls.proofs.LeadLaws.{leads_refused, trail_end}
 use Rattle.calls.proofs.MakeLaws.{tested_none, tested_some}
 use Rattle.calls.proofs.RemoveLaws.{FindsEntry, finds_entry, there_comes}
 use Rattle.calls.proofs.RenameEnds.{move_otherwise}
 use Rattle.calls.proofs.RenameLaws.{move_done, move_refused, move_stays, target_takes}
+use Rattle.model.proofs.ObjectLaws.{node_object}
+use Rattle.model.proofs.TestLaws.{first_append, first_in_front}
 
 -- ---- texts
 
@@ -123,6 +125,31 @@ module _ (inodes : ℕ) (v : Volume) (table : ℕ → Option Description) (volum
         by None is some = absurd (false≢true some)
         by (Some m) is some = by_object (object_of m (v m)) (node_object m (v m) (volume.graph.used k m y is))
 
+  -- ---- the trail of the new path
+
+  module _ (by_paths : BelowIsByPaths) (by_trails : TrailsTellBelow) (r : Resolution) (d : ℕ) (x : Name) (n : ℕ) (finds : FindsEntry v r d x n) where
+    along : (w : Path) (trail : List ℕ) → Trails (entries v) w trail → is_directory_node (v (here trail)) ≡ true → MovesAlong v d x n trail
+    along w trail trails directory = record {
+      there = finds.edge;
+      directory = directory;
+      tells = λ is.
+          let p = finds.path ++ x ∷ [] in
+          let at = number_at-push (entries v) finds.path x ∙ ap (λ (o : Option ℕ). enter (entries v) o x) finds.at ∙ finds.edge in
+          let on = by_trails inodes v p w trail n volume trails at (directory_no_file (v n) is) (omega (arith, length-append finds.path (x ∷ []))) in
+          let under = by_paths inodes v p w n (here trail) volume at (trail_end v w trail trails) (directory_no_file (v (here trail)) directory) in
+          (λ one. under.1 (on.0 one), λ one. on.1 (under.0 one));
+    }
+
+    pub along_entry : (trail : List ℕ) (y : Name) (m : ℕ) (s : Resolution) → IsPlaceOf v (at_entry trail y m) s → MovesAlong v d x n trail
+    along_entry trail y m (named q) (w, trails, same, to) = along w trail trails (named_directory (v (here trail)) y m to)
+    along_entry trail y m (missing w z) is = absurd is
+    along_entry trail y m (refused errno) is = absurd is
+
+    pub along_gap : (trail : List ℕ) (y : Name) (s : Resolution) → is_directory_node (v (here trail)) ≡ true → IsPlaceOf v (at_gap trail y) s → MovesAlong v d x n trail
+    along_gap trail y (named q) directory is = absurd is
+    along_gap trail y (missing w z) directory (trails, same, none) = along w trail trails directory
+    along_gap trail y (refused errno) directory is = absurd is
+
   -- ---- the call
 
   module _ (old path : List ℕ) (passed : PassTests old path) where
@@ -170,14 +197,13 @@ module _ (inodes : ℕ) (v : Volume) (table : ℕ → Option Description) (volum
         abbrev change : Change
         change = rename d x k y
 
-        pub rename_comes : (c : Result (Option Changing) Errno) → MovesName inodes v d x n k y (entries v k y) c → ComesOrStays (renames t old path) adds_name inodes v table c
+        pub rename_comes : (c : Result (Option Changing) Errno) → MovesName inodes v d x n k y (entries v k y) c → ComesOrStays (renames t old path) inodes v table c
         rename_comes (Ok None) same =
             at_end Done t nothing (λ o object.
             move_stays inodes v table volume mounted tree finds.path d x n finds.at finds.edge ends.path k y ends.at o object same)
         rename_comes (Ok (Some c)) (other, first, says, applies) =
             let after = tree_of (swept table (applied change v)) table in
-            subst (λ (z : Change). IsServed z × Applies inodes v z × IsMounted (swept table (applied z v)) table × renames t old path Done (tree_of (swept table (applied z v)) table) (logs adds_name)) (sym says) (
-              tt,
+            subst (ComesSweptBy (renames t old path) inodes v table) (sym says) (
               applies,
               (law inodes v table change volume mounted applies tt).0,
               at_end Done after (logs adds_name) (λ o object.

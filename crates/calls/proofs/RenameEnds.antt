@@ -11,26 +11,23 @@ use Rattle.model.specs.Resolution.{missing, parent}
 use Rattle.model.specs.Room.{adds_name, logs, nothing}
 use Rattle.model.specs.Trees.{Tree, Object, Description, IsTree}
 use Rattle.model.specs.Volumes.{Node, directory_node, file_node, link_node, Volume, entries, is_directory_node, number_at, names_in, object_at, object_of, tree_of, IsMounted, IsVolume}
-use Rattle.model.specs.declared.errno.Errno.{Errno}
 use Rattle.model.specs.declared.errno.Errno.TheVariants.{ENOTDIR, EISDIR, EINVAL, ENOTEMPTY, DIRFULL}
 use Rattle.model.specs.declared.reply.Reply.TheVariants.{Done, Refused}
 use Rattle.model.proofs.LeadLemmas.{parent-push}
 use Rattle.model.proofs.WalkLemmas.{same_path}
-use Rattle.calls.specs.Renaming.{FirstOfTests, number_tests, otherwise}
+use Rattle.calls.specs.Rename.{FirstOfTests, number_tests, otherwise}
 use Rattle.records.proofs.FileLaws.{same_some}
 use Rattle.calls.proofs.GapLaws.{FindsGap, place_full}
 use Rattle.calls.proofs.MakeLaws.{child_some, listing, tested_none}
 use Rattle.calls.proofs.RenameLaws.{applies, at_q, not_either, other_there, same_tests, stands_q}
-
-none_errno : {X : Type 0} {e : Errno} → None ≡ Some e → X
-none_errno e = cc
+use Rattle.model.proofs.OptionLaws.{none_some}
 
 -- where the tests pass, both are directories or neither is
 same_kinds : (a b c : Bool) → None ≡ first_refusal ((a && b, EINVAL) ∷ (a && true && not c, ENOTDIR) ∷ (not a && c, EISDIR) ∷ []) → c ≡ a
-same_kinds true true c passed = none_errno passed
+same_kinds true true c passed = none_some passed
 same_kinds true false true passed = refl
-same_kinds true false false passed = none_errno passed
-same_kinds false b true passed = none_errno passed
+same_kinds true false false passed = none_some passed
+same_kinds false b true passed = none_some passed
 same_kinds false b false passed = refl
 
 none_if : (o : Option ℕ) → (IsSome o → ⊥) → o ≡ None

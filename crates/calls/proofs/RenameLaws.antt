@@ -24,42 +24,15 @@ use Rattle.model.specs.declared.reply.Reply.TheVariants.{Done, Refused}
 use Rattle.model.proofs.KeptLemmas.{is_apart}
 use Rattle.model.proofs.LeadLemmas.{parent-push}
 use Rattle.model.proofs.RenameLemmas.{rename_done}
+use Rattle.model.proofs.VolumeLemmas.{directory_no_file}
 use Rattle.model.proofs.WalkLemmas.{behind-append, behind-is, number_at-push, path_eq-same, same_path}
-use Rattle.calls.specs.Renaming.{FirstOfTests, is_directory_at}
+use Rattle.calls.specs.Rename.{FirstOfTests, is_directory_at}
 use Rattle.calls.proofs.MakeLaws.{child_some, listing, tested_none, tested_some}
-use Rattle.records.proofs.FileLaws.{named_directory, none_some, same_some}
+use Rattle.records.proofs.FileLaws.{named_directory, same_some}
+use Rattle.model.proofs.ObjectLaws.{directory_object, directory_of, node_object, object_number}
+use Rattle.model.proofs.OptionLaws.{none_some}
 
 -- ---- numbers and objects
-
-object_number : (n : ℕ) (o : Option Node) (x : Object) → object_of n o ≡ Some x → number x ≡ n
-object_number n None x is = none_some is
-  where
-    none_some : {X : Type 0} → None ≡ Some x → X
-    none_some e = cc
-object_number n (Some (directory_node mode names)) x is = ap number (sym (same is))
-  where
-    same : {a b : Object} → Some a ≡ Some b → a ≡ b
-    same e = cc
-object_number n (Some (file_node mode links bytes)) x is = ap number (sym (same is))
-  where
-    same : {a b : Object} → Some a ≡ Some b → a ≡ b
-    same e = cc
-object_number n (Some (link_node text)) x is = ap number (sym (same is))
-  where
-    same : {a b : Object} → Some a ≡ Some b → a ≡ b
-    same e = cc
-
-kind_of : (n : ℕ) (o : Option Node) → is_directory (object_of n o) ≡ is_directory_node o
-kind_of n None = refl
-kind_of n (Some (directory_node mode names)) = refl
-kind_of n (Some (file_node mode links bytes)) = refl
-kind_of n (Some (link_node text)) = refl
-
-some_of : (n : ℕ) (o : Option Node) → IsSome o → is_some (object_of n o) ≡ true
-some_of n None some = absurd (false≢true some)
-some_of n (Some (directory_node mode names)) some = refl
-some_of n (Some (file_node mode links bytes)) some = refl
-some_of n (Some (link_node text)) some = refl
 
 eqb_same : (n : ℕ) → (n == n) ≡ true
 eqb_same n = grind (arith, nat_tests)
@@ -72,12 +45,6 @@ not_same_file (trees.file n) m None other = refl
 not_same_file (trees.file n) m (Some (directory_node mode names)) other = refl
 not_same_file (trees.file n) m (Some (file_node mode links bytes)) other = ne_eqb n m (λ e. other (sym e))
 not_same_file (trees.file n) m (Some (link_node text)) other = refl
-
-directory_object : (n : ℕ) (o : Option Node) → is_directory_node o ≡ true → object_of n o ≡ Some (trees.directory n)
-directory_object n None is = absurd (false≢true is)
-directory_object n (Some (directory_node mode names)) is = refl
-directory_object n (Some (file_node mode links bytes)) is = absurd (false≢true is)
-directory_object n (Some (link_node text)) is = absurd (false≢true is)
 
 none_sorted : IsStrictlySortedBy (slice_cmp nat_cmp) []
 unfolding IsStrictlySortedBy
@@ -179,32 +146,26 @@ module _ (inodes : ℕ) (v : Volume) (table : ℕ → Option Description) (volum
     -- ---- tests
 
     kind_is : is_directory (Some o) ≡ is_directory_node (v n)
-    kind_is = ap is_directory (sym object) ∙ kind_of n (v n)
+    kind_is = ap is_directory (sym object) ∙ directory_of n (v n)
 
     target_kind : is_directory (t.objects q) ≡ is_directory_at v target
     target_kind = ap is_directory stands_q ∙ by target
       where
         by : (a : Option ℕ) → is_directory (object_at v a) ≡ is_directory_at v a
         by None = refl
-        by (Some m) = kind_of m (v m)
+        by (Some m) = directory_of m (v m)
 
     target_some : is_some (t.objects q) ≡ is_some target
     target_some = ap is_some stands_q ∙ by target refl
       where
         by : (a : Option ℕ) → target ≡ a → is_some (object_at v a) ≡ is_some a
         by None is = refl
-        by (Some m) is = some_of m (v m) (volume.graph.used k m y is)
+        by (Some m) is = node_object m (v m) (volume.graph.used k m y is)
 
     -- the directory of the new name lies below the object just where its path does
     module _ (law : BelowIsByPaths) (directory : is_directory_node (v k) ≡ true) (other : target ≢ Some n) where
-      not_file : (a : Option Node) → is_directory_node a ≡ true → is_file_node a ≡ false
-      not_file None is = absurd (false≢true is)
-      not_file (Some (directory_node mode names)) is = refl
-      not_file (Some (file_node mode links bytes)) is = absurd (false≢true is)
-      not_file (Some (link_node text)) is = absurd (false≢true is)
-
       below_paths : IsBelow (entries v) n k ↔ IsTrue (begins_with w p)
-      below_paths = law inodes v p w n k volume at_p at_new (not_file (v k) directory)
+      below_paths = law inodes v p w n k volume at_p at_new (directory_no_file (v k) directory)
 
       abbrev first : Bool → Bool
       first below = is_directory_node (v n) && below
@@ -336,10 +297,7 @@ module _ (inodes : ℕ) (v : Volume) (table : ℕ → Option Description) (volum
         not_below below = by (is_directory_node (v n)) refl
           where
             refused_first : (a b : Bool) (rest : Tests) → a ≡ true → b ≡ true → None ≡ first_refusal ((a && b, EINVAL) ∷ rest) → ⊥
-            refused_first true true rest is so none = none_errno none
-              where
-                none_errno : {X : Type 0} {e : Errno} → None ≡ Some e → X
-                none_errno e = cc
+            refused_first true true rest is so none = none_some none
             refused_first true false rest is so none = false≢true so
             refused_first false b rest is so none = false≢true is
 

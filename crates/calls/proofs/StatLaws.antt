@@ -32,9 +32,10 @@ use Rattle.paths.specs.Steps.{found_in, text_in}
 use Rattle.paths.specs.declared.lookup.Found.{Found}
 use Rattle.paths.specs.declared.lookup.Found.TheVariants as found
 use Rattle.calls.specs.Leading.{IsLed}
-use Rattle.calls.specs.ReadingLink.{TellsText, text_reply}
-use Rattle.calls.specs.Stating.{IsStatOf, TellsStat, stat_in, stat_reply}
+use Rattle.calls.specs.Readlink.{TellsText, text_reply}
+use Rattle.calls.specs.Stat.{IsStatOf, TellsStat, stat_in, stat_reply}
 use Rattle.calls.proofs.LeadLaws.{led_some, led_there, led_refused}
+use Rattle.model.proofs.OptionLaws.{none_some}
 
 -- what is no object isn't there
 pub nothing_there : {X : Type 0} (o : Option Node) → IsSome o → ((x : Node) → o ≡ Some x → ⊥) → X
@@ -94,9 +95,6 @@ module _ (v : Volume) (table : ℕ → Option Description) where
 
   no_link : (n : ℕ) (o : Option Node) (p : Path) (x : Object) → found_in o ≢ found.Link → object_of n o ≡ Some x → there p x (replies.Refused EINVAL) t nothing
   no_link n None p x other is = none_some is
-    where
-      none_some : {X : Type 0} → None ≡ Some x → X
-      none_some e = cc
   no_link n (Some (directory_node mode names)) p x other is = subst (λ (y : Object). there p y (replies.Refused EINVAL) t nothing) (some_same is) (refl, refl, refl)
   no_link n (Some (file_node mode links bytes)) p x other is = subst (λ (y : Object). there p y (replies.Refused EINVAL) t nothing) (some_same is) (refl, refl, refl)
   no_link n (Some (link_node text)) p x other is = absurd (other refl)

@@ -4,7 +4,7 @@ use Rattle.model.specs.Changes.{with_made}
 use Rattle.model.specs.Changing.{creates, link_text_tests, makes_symlink}
 use Rattle.model.specs.Paths.{first_refusal}
 use Rattle.model.specs.Records.{symbolic_link}
-use Rattle.model.specs.Room.{nothing, logs, adds_name}
+use Rattle.model.specs.Room.{nothing}
 use Rattle.model.specs.Trees.{Tree, Description}
 use Rattle.model.specs.Volumes.{Volume, tree_of}
 use Rattle.model.specs.declared.errno.Errno.{Errno}
@@ -22,8 +22,8 @@ module _ (inodes : ℕ) (v : Volume) (table : ℕ → Option Description) (text 
   link_text_refused errno is = tested_some t (link_text_tests text) _ errno is
 
   -- one that passes them: what comes of making the object
-  pub symlink_comes : first_refusal (link_text_tests text) ≡ None → (told : Result Changing Errno) → Comes (creates inodes t path (with_made (symbolic_link text))) adds_name inodes v table told
-      → Comes (makes_symlink inodes t text path) adds_name inodes v table told
+  pub symlink_comes : first_refusal (link_text_tests text) ≡ None → (told : Result Changing Errno) → Comes (creates inodes t path (with_made (symbolic_link text))) inodes v table told
+      → Comes (makes_symlink inodes t text path) inodes v table told
   symlink_comes passed (Err errno) refused = tested_none t (link_text_tests text) (creates inodes t path (with_made (symbolic_link text))) (Refused errno) t nothing passed refused
-  symlink_comes passed (Ok c) (served, applies, mounted, made) =
-      (served, applies, mounted, tested_none t (link_text_tests text) (creates inodes t path (with_made (symbolic_link text))) Done _ (logs adds_name) passed made)
+  symlink_comes passed (Ok c) (applies, mounted, made) =
+      (applies, mounted, tested_none t (link_text_tests text) (creates inodes t path (with_made (symbolic_link text))) Done _ _ passed made)

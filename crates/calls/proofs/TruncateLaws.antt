@@ -20,14 +20,12 @@ use Rattle.model.proofs.LooseLemmas.{some_same}
 use Rattle.paths.specs.Steps.{found_in}
 use Rattle.paths.specs.declared.lookup.Found.TheVariants as found
 use Rattle.calls.specs.Leading.{IsLed}
-use Rattle.records.specs.Served.{IsServed}
-use Rattle.calls.specs.Truncating.{ComesToSize, CutsNumber}
+use Rattle.calls.specs.Changing.{ComesOrStays, ComesSweptBy}
+use Rattle.calls.specs.Truncate.{CutsNumber}
 use Rattle.calls.specs.declared.changed.Changing.{Changing}
 use Rattle.calls.proofs.LeadLaws.{led_refused, led_there}
 use Rattle.calls.proofs.MakeLaws.{tested_some}
-
-none_some : {X Y : Type 0} {x : X} → None ≡ Some x → Y
-none_some e = cc
+use Rattle.model.proofs.OptionLaws.{none_some}
 
 -- ---- what is found
 
@@ -93,14 +91,13 @@ module _ (inodes : ℕ) (v : Volume) (table : ℕ → Option Description) (text 
     whole mounted = fun_ext {f = swept table (applied (cut_change n) v)} {g = applied (cut_change n) v} mounted.is_swept
 
     pub truncate_comes : found_in (v n) ≢ found.Link → (r : Result (Option Changing) Errno) → CutsNumber inodes v table n (nat_abs size) r
-        → ComesToSize (truncates t text size) inodes v table r
+        → ComesOrStays (truncates t text size) inodes v table r
     truncate_comes plain (Err errno) (is, same) =
         led_there v table there n (Refused errno) t nothing
         (λ p x at object. subst (λ (e : Errno). there p x (Refused e) t nothing) (sym same) (at_other n (v n) is plain p x object)) tests (resolve t true text) led
     truncate_comes plain (Ok None) (is, cut) = cut_there Done t nothing is cut
     truncate_comes plain (Ok (Some c)) (is, (says, (over, cut))) =
-        subst (λ (x : Change). IsServed x × Applies inodes v x × IsMounted (swept table (applied x v)) table × truncates t text size Done (tree_of (swept table (applied x v)) table) (logs (work_of v x))) (sym says) (
-          tt,
+        subst (ComesSweptBy (truncates t text size) inodes v table) (sym says) (
           over.0,
           subst (λ (w : Volume). IsMounted w table) (sym (whole over.1)) over.1,
           subst (λ (w : Volume). truncates t text size Done (tree_of w table) (logs (work_of v (cut_change n)))) (sym (whole over.1)) (cut_there Done (tree_of (applied (cut_change n) v) table) (logs (work_of v (cut_change n))) is cut),

@@ -1,18 +1,12 @@
 -- What calls by a path that change something come to.
-use Rattle.std.specs.Prelude.{ℕ, Option, Some, None, Result, Ok, Err, IfOk, IfSome}
+use Rattle.std.specs.Prelude.{ℕ, Option, Some, None, Result, Ok, Err}
 use Rattle.model.specs.Outcomes.{Outcome}
-use Rattle.model.specs.Records.{Change, Made, Applies, applied, create, file, directory, symbolic_link, link, unname, rename, cut, change_mode}
-use Rattle.model.specs.Room.{Work, nothing, logs}
+use Rattle.model.specs.Records.{Change, Made, Applies, applied, create, file, directory, symbolic_link, link, unname, rename, cut, change_mode, work_of}
+use Rattle.model.specs.Room.{nothing, logs}
 use Rattle.model.specs.Trees.{Description}
 use Rattle.model.specs.Volumes.{Volume, IsMounted, swept, tree_of}
 use Rattle.model.specs.declared.errno.Errno.{Errno}
 use Rattle.model.specs.declared.reply.Reply.TheVariants.{Done, Refused}
-use Rattle.blocktree.specs.declared.error.ReadError.{ReadError}
-use Rattle.buffers.specs.declared.blocks.Blocks.{Ghosts}
-use Rattle.inofile.specs.declared.inode_file.InodeFile.{InodeFile}
-use Rattle.records.specs.Prepared.{Does, IsReady}
-use Rattle.records.specs.Served.{IsServed}
-use Rattle.records.specs.Shown.{OnVolumes}
 use Rattle.calls.specs.declared.changed.Changing.{Changing}
 use Rattle.calls.specs.declared.changed.OwnedChange.{OwnedChange}
 use Rattle.calls.specs.declared.changed.OwnedChange.TheVariants as owned
@@ -39,42 +33,30 @@ said_by (owned.Rename parent name new_parent new_name) = rename parent name.byte
 said_by (owned.ChangeMode number mode) = change_mode number mode
 said_by (owned.Cut number size) = cut number size
 
--- What a call comes to on the tree of a volume with these descriptors: a refusal, or what its record does, which applies. Behind it
--- nothing is to be swept.
-abbrev pub Comes : Outcome → Work → ℕ → Volume → (ℕ → Option Description) → Result Changing Errno → Type 0
-Comes outcome work inodes v table (Err errno) = outcome (Refused errno) (tree_of v table) nothing
-Comes outcome work inodes v table (Ok c) =
-    IsServed (said_by c.change) × Applies inodes v (said_by c.change) × IsMounted (applied (said_by c.change) v) table
-    × outcome Done (tree_of (applied (said_by c.change) v) table) (logs work)
+-- A call comes to what this record, which applies, does on the tree of a volume with these descriptors, and needs room for it. Behind
+-- it nothing is to be swept.
+abbrev pub ComesBy : Outcome → ℕ → Volume → (ℕ → Option Description) → Change → Type 0
+ComesBy outcome inodes v table change =
+    Applies inodes v change × IsMounted (applied change v) table × outcome Done (tree_of (applied change v) table) (logs (work_of v change))
 
 -- The same, but that a file may be left with neither name nor descriptor, which is then dropped.
-abbrev pub ComesSwept : Outcome → Work → ℕ → Volume → (ℕ → Option Description) → Result Changing Errno → Type 0
-ComesSwept outcome work inodes v table (Err errno) = outcome (Refused errno) (tree_of v table) nothing
-ComesSwept outcome work inodes v table (Ok c) =
-    IsServed (said_by c.change) × Applies inodes v (said_by c.change) × IsMounted (swept table (applied (said_by c.change) v)) table
-    × outcome Done (tree_of (swept table (applied (said_by c.change) v)) table) (logs work)
+abbrev pub ComesSweptBy : Outcome → ℕ → Volume → (ℕ → Option Description) → Change → Type 0
+ComesSweptBy outcome inodes v table change =
+    Applies inodes v change × IsMounted (swept table (applied change v)) table
+    × outcome Done (tree_of (swept table (applied change v)) table) (logs (work_of v change))
+
+-- what a call comes to: a refusal, or what its record does
+abbrev pub Comes : Outcome → ℕ → Volume → (ℕ → Option Description) → Result Changing Errno → Type 0
+Comes outcome inodes v table (Err errno) = outcome (Refused errno) (tree_of v table) nothing
+Comes outcome inodes v table (Ok c) = ComesBy outcome inodes v table (said_by c.change)
+
+-- the same of a call that may leave a file to be dropped
+abbrev pub ComesSwept : Outcome → ℕ → Volume → (ℕ → Option Description) → Result Changing Errno → Type 0
+ComesSwept outcome inodes v table (Err errno) = outcome (Refused errno) (tree_of v table) nothing
+ComesSwept outcome inodes v table (Ok c) = ComesSweptBy outcome inodes v table (said_by c.change)
 
 -- the same of a call that may find nothing to change
-abbrev pub ComesOrStays : Outcome → Work → ℕ → Volume → (ℕ → Option Description) → Result (Option Changing) Errno → Type 0
-ComesOrStays outcome work inodes v table (Err errno) = outcome (Refused errno) (tree_of v table) nothing
-ComesOrStays outcome work inodes v table (Ok None) = outcome Done (tree_of v table) nothing
-ComesOrStays outcome work inodes v table (Ok (Some c)) = ComesSwept outcome work inodes v table (Ok c)
-
--- memory has room for all that a call is to change
-abbrev pub AllReady : InodeFile → Result (Result Changing Errno) ReadError → Type 0
-AllReady s result = IfOk result (λ r. IfOk r (λ c. IsReady s c.prepared))
-
--- put in force, what a call prepared does what its record says
-abbrev pub AllDo : {B : Type 0} → Ghosts B → B → InodeFile → InodeFile → Result (Result Changing Errno) ReadError → Type 0
-AllDo G blocks s after result =
-    OnVolumes G blocks s (λ disk settled v. IfOk result (λ r. IfOk r (λ c. Does disk settled after v c.prepared (said_by c.change))))
-
--- memory has room for all that a call is to change, if it changes anything
-abbrev pub AnyReady : InodeFile → Result (Result (Option Changing) Errno) ReadError → Type 0
-AnyReady s result = IfOk result (λ r. IfOk r (λ o. IfSome o (λ c. IsReady s c.prepared)))
-
--- put in force, what a call prepared does what its record says, if it changes anything
-abbrev pub AnyDo : {B : Type 0} → Ghosts B → B → InodeFile → InodeFile → Result (Result (Option Changing) Errno) ReadError → Type 0
-AnyDo G blocks s after result =
-    OnVolumes G blocks s
-    (λ disk settled v. IfOk result (λ r. IfOk r (λ o. IfSome o (λ c. Does disk settled after v c.prepared (said_by c.change)))))
+abbrev pub ComesOrStays : Outcome → ℕ → Volume → (ℕ → Option Description) → Result (Option Changing) Errno → Type 0
+ComesOrStays outcome inodes v table (Err errno) = outcome (Refused errno) (tree_of v table) nothing
+ComesOrStays outcome inodes v table (Ok None) = outcome Done (tree_of v table) nothing
+ComesOrStays outcome inodes v table (Ok (Some c)) = ComesSwept outcome inodes v table (Ok c)

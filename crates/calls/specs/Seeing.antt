@@ -1,22 +1,45 @@
--- Reading by a path on what memory stands for, whatever files are open.
-use Rattle.std.specs.Prelude.{ℕ, List, Option, IsTrue}
+-- Calls by a path that only look, on what memory stands for, whatever files are open.
+use Rattle.std.specs.Prelude.{ℕ, List, Option, Result, IfOk, IfErr, IsTrue}
 use Rattle.layout.specs.declared.inode.Inode.{Inode}
+use Rattle.model.specs.Outcomes.{Outcome}
 use Rattle.model.specs.Room.{nothing}
 use Rattle.model.specs.States.{ForgetsOpenFiles}
 use Rattle.model.specs.Steps.{calls, is_reading_call}
 use Rattle.model.specs.Trees.{Description, Tree}
-use Rattle.model.specs.Volumes.{Volume, IsVolume}
+use Rattle.model.specs.Volumes.{Volume, IsVolume, tree_of}
 use Rattle.model.specs.declared.command.PathCall.{PathCall}
+use Rattle.model.specs.declared.errno.Errno.{Errno}
 use Rattle.model.specs.declared.reply.Reply.{Reply}
+use Rattle.blocktree.specs.Errors.{IsFault}
+use Rattle.blocktree.specs.declared.error.ReadError.{ReadError}
 use Rattle.buffers.specs.declared.blocks.Blocks.{Ghosts}
 use Rattle.inofile.specs.declared.inode_file.InodeFile.{InodeFile}
-use Rattle.paths.specs.Standing.{Stands}
+use Rattle.paths.specs.Standing.{Looks, Stands}
+use Rattle.records.specs.Shown.{NeverDamaged, OnVolumes}
+use Rattle.calls.specs.Refusals.{is_path_refusal}
 
 -- this holds of each volume that memory stands for, with any descriptors
 abbrev pub OnTrees : {B : Type 0} → Ghosts B → B → InodeFile → (Volume → (ℕ → Option Description) → Type 0) → Type 0
 OnTrees G blocks s P =
     (disk : ℕ → List ℕ) (settled : ℕ → Inode) (v : Volume) (table : ℕ → Option Description) → Stands G disk settled v blocks s
     → IsVolume s.geometry.inodes v → P v table
+
+-- Nothing is done but looking; an errno is one of paths; and over memory that stands for a volume this is told of it, and no damage is
+-- found.
+pub record Tells {B T : Type 0} (G : Ghosts B) (blocks after : B) (s t : InodeFile) (told : Volume → Result T Errno → Type 0)
+    (result : Result (Result T Errno) ReadError) : Type 0 where
+  pub looks : Looks G IsFault blocks after s t result
+  pub own : IfOk result (λ r. IfErr r (λ e. IsTrue (is_path_refusal e)))
+  pub tells : OnVolumes G blocks s (λ disk settled v. IfOk result (told v))
+  pub damaged : NeverDamaged G blocks s result
+
+-- the same of a call with this outcome on a tree, which its reply tells and which changes nothing
+pub record Answers {B T : Type 0} (G : Ghosts B) (blocks after : B) (s t : InodeFile) (outcome : Tree → Outcome) (reply : Result T Errno → Reply)
+    (result : Result (Result T Errno) ReadError) : Type 0 where
+  pub looks : Looks G IsFault blocks after s t result
+  pub own : IfOk result (λ r. IfErr r (λ e. IsTrue (is_path_refusal e)))
+  pub answers : OnTrees G blocks s (λ v table. IfOk result (λ r. outcome (tree_of v table) (reply r) (tree_of v table) nothing))
+  pub damaged : NeverDamaged G blocks s result
 
 -- what a call that only reads is answered on a tree it is answered on the tree without its open files, too
 abbrev pub ReadingForgets : Type 0

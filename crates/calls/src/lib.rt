@@ -3,33 +3,27 @@
 #![tactic(auto)]
 
 mod changed;
-mod changing_mode;
 mod finding;
-mod getting;
 mod leading;
-mod linking;
-mod listing;
 mod made;
 mod making;
-mod moving;
-mod opening;
-mod reading_link;
-mod removing;
+mod preparing;
+mod reading;
 mod seeing;
-mod stating;
-mod truncating;
 
 pub use changed::{Changing, EntryName, OwnedChange};
-pub use changing_mode::change_mode;
-pub use getting::get;
-pub use linking::link;
-pub use listing::list;
 pub use made::{Creation, LinkText, OwnedObject};
-pub use making::{make_directory, symlink};
-pub use moving::rename;
-pub use opening::{Opened, open_along};
-pub use reading_link::readlink;
-pub use removing::{remove_directory, unlink};
+pub use preparing::chmod::change_mode;
+pub use preparing::link::link;
+pub use preparing::mkdir::make_directory;
+pub use preparing::open::{Opened, open_along};
+pub use preparing::rename::rename;
+pub use preparing::rmdir::remove_directory;
+pub use preparing::symlink::symlink;
+pub use preparing::truncate::{cut_file, refusal_of_size, truncate};
+pub use preparing::unlink::unlink;
+pub use reading::get::get;
+pub use reading::list::list;
+pub use reading::readlink::readlink;
+pub use reading::stat::{lstat, stat, stat_number};
 pub use seeing::reading_forgets_open_files;
-pub use stating::{lstat, stat, stat_number};
-pub use truncating::{cut_file, refusal_of_size, truncate};

@@ -77,14 +77,12 @@ impl Creation {
     ghost use Rattle.std.specs.Prelude.{◌≡◌, ◌≤◌, length};
     ghost use Rattle.layout.specs.Record.{body_of, change_of, IsChange, KeepsLimits};
     ghost use Rattle.calls.specs.Changing.{creation_of};
-    ghost use Rattle.records.specs.Served.{IsServed};
 
     /// The record, as the log takes it.
     pub fn record(&self) -> Record<'_>
         ensures says { change_of result ≡ creation_of self.now }
         ensures limits { KeepsLimits (change_of result) }
         ensures is { IsChange (change_of result) }
-        ensures served { IsServed (change_of result) }
         ensures short { length (body_of result) ≤ 1300 }
     {
         // Each of these types holds its values to what their fields have room for.

@@ -1,154 +1,54 @@
-//! Making a directory or a symbolic link over a path.
+//! Making an object over a path.
 
-ghost use Rattle.std.specs.Prelude.{◌≡◌, ◌≤◌, ◌<◌, ◌==◌, ℕ, List, Option, Some, None, IfErr, IfOk, IsTrue};
-ghost use Rattle.std.specs.List.{list_any};
-ghost use Rattle.model.specs.Changing.{creates, link_text_tests, makes_directory, makes_symlink};
+ghost use Rattle.std.specs.Prelude.{◌≡◌, ◌≤◌, ◌<◌, ℕ, Some, None, IfErr, IfOk, IsTrue};
+ghost use Rattle.model.specs.Changing.{creates};
 ghost use Rattle.model.specs.Changes.{with_made};
-ghost use Rattle.model.specs.Paths.{first_refusal, new_text_tests, parts as parts_of};
 ghost use Rattle.model.specs.Records.{Made, node_of};
-ghost use Rattle.model.specs.Room.{adds_name};
 ghost use Rattle.model.specs.Volumes.{IsVolume, tree_of};
 ghost use Rattle.model.specs.declared.limits.TheConstants.{FIRST_NUMBER};
 ghost use Rattle.blocktree.specs.Errors.{IsFault};
 ghost use Rattle.inofile.specs.Objects.{IsObject};
-ghost use Rattle.calls.specs.Changing.{AllDo, AllReady, Comes, made_by, said_by};
+ghost use Rattle.calls.specs.Changing.{Comes, made_by, said_by};
 ghost use Rattle.calls.specs.Making.{CreatesObject, HasNoNumber, MakesAt, MakesIn};
 ghost use Rattle.records.specs.Prepared.{Does};
 ghost use Rattle.calls.specs.Refusals.{is_path_refusal};
-ghost use Rattle.records.specs.Shown.{NeverDamaged, OnMounted, OnVolumes};
+ghost use Rattle.records.specs.Shown.{NeverDamaged, OnVolumes};
 ghost use Rattle.paths.specs.Standing.{Looks};
+ghost use Rattle.calls.specs.Preparing.{Prepares, Readies};
 
 use crate::finding::find;
-use crate::{Changing, Creation, EntryName, LinkText, OwnedChange, OwnedObject};
+use crate::{Changing, Creation, EntryName, OwnedChange, OwnedObject};
 use blocktree::ReadError;
 use buffers::Blocks;
 use inode::{Object, based_trees_are_sound};
 use inofile::InodeFile;
 use layout::{FIRST_NUMBER, InodeNumber};
-use model::{
-    Errno, Mode, PATH_BYTES, records_change_trees, volumes_are_trees, volumes_tell_fresh_numbers,
-};
+use model::{Errno, records_change_trees, volumes_are_trees, volumes_tell_fresh_numbers};
 use paths::{Parts, Place, refusal_of_new_text};
 use records::{is_vacant, new_object, prepare_new};
 use std::alloc::Global;
 
-/// Makes a directory of this mode where a path leads, as far as nothing of it is seen yet: prepares its record, or tells why the
-/// call is refused. NoMemory; Device where a read failed; Damaged where a block on the way is outside its format, or where a number
-/// that is free has an object.
-pub fn make_directory<B: Blocks>(
-    alloc: Global,
-    inodes: &mut InodeFile,
-    blocks: &mut B,
-    path: &[u8],
-    mode: Mode,
-) -> Result<Result<Changing, Errno>, ReadError>
-    ensures looks { Looks B.Blocks IsFault blocks.old blocks.new inodes.old inodes.new result }
-    ensures own { IfOk result (λ r. IfErr r (λ e. IsTrue (is_path_refusal e))) }
-    ensures ready { AllReady inodes.new result }
-    ensures does { AllDo B.Blocks blocks.old inodes.old inodes.new result }
-    ensures answers { OnMounted B.Blocks blocks.old inodes.old (λ v table. IfOk result
-        (Comes (makes_directory inodes.old.geometry.inodes (tree_of v table) path.now mode)
-        adds_name inodes.old.geometry.inodes v table)) }
-    ensures damaged { NeverDamaged B.Blocks blocks.old inodes.old result }
-{
-    make(alloc, inodes, blocks, path, OwnedObject::Directory { mode })
-}
-
-/// Makes a symbolic link of this text where a path leads, as `make_directory` does a directory.
-pub fn symlink<B: Blocks>(
-    alloc: Global,
-    inodes: &mut InodeFile,
-    blocks: &mut B,
-    text: &[u8],
-    path: &[u8],
-) -> Result<Result<Changing, Errno>, ReadError>
-    ensures looks { Looks B.Blocks IsFault blocks.old blocks.new inodes.old inodes.new result }
-    ensures own { IfOk result (λ r. IfErr r (λ e. IsTrue (is_path_refusal e))) }
-    ensures ready { AllReady inodes.new result }
-    ensures does { AllDo B.Blocks blocks.old inodes.old inodes.new result }
-    ensures answers { OnMounted B.Blocks blocks.old inodes.old (λ v table. IfOk result
-        (Comes (makes_symlink inodes.old.geometry.inodes (tree_of v table) text.now path.now)
-        adds_name inodes.old.geometry.inodes v table)) }
-    ensures damaged { NeverDamaged B.Blocks blocks.old inodes.old result }
-{
-    if let Some(errno) = refusal_of_link_text(text) {
-        return Ok(Err(errno));
-    }
-    let bytes = Vec::from_slice(alloc, text)?;
-    let Some(text) = LinkText::new(bytes) else {
-        unreachable!()
-    };
-    make(alloc, inodes, blocks, path, OwnedObject::Link { text })
-}
-
-// Why the text of a symbolic link is refused.
-fn refusal_of_link_text(text: &[u8]) -> Option<Errno>
-    ensures { result ≡ first_refusal (link_text_tests text.now) }
-{
-    if text.is_empty() {
-        Some(Errno::ENOENT)
-    } else if has_zero(text) {
-        Some(Errno::EINVAL)
-    } else if text.len() > PATH_BYTES {
-        Some(Errno::ENAMETOOLONG)
-    } else {
-        None
-    }
-}
-
-fn has_zero(text: &[u8]) -> bool
-    ensures { result ≡ list_any (λ byte. byte == 0) text.now }
-{
-    text.iter().any(|byte| *byte == 0)
-}
-
-// Makes an object where a path leads.
-fn make<B: Blocks>(
+/// Makes an object where a path leads, as far as nothing of it is seen yet: prepares its record, or tells why the call is refused.
+/// NoMemory; Device where a read failed; Damaged where a block on the way is outside its format, or where a number that is free has
+/// an object.
+pub(crate) fn make<B: Blocks>(
     alloc: Global,
     inodes: &mut InodeFile,
     blocks: &mut B,
     path: &[u8],
     object: OwnedObject,
 ) -> Result<Result<Changing, Errno>, ReadError>
-    ensures looks { Looks B.Blocks IsFault blocks.old blocks.new inodes.old inodes.new result }
-    ensures own { IfOk result (λ r. IfErr r (λ e. IsTrue (is_path_refusal e))) }
-    ensures ready { AllReady inodes.new result }
-    ensures does { AllDo B.Blocks blocks.old inodes.old inodes.new result }
-    ensures answers { OnMounted B.Blocks blocks.old inodes.old (λ v table. IfOk result
-        (Comes (creates inodes.old.geometry.inodes (tree_of v table) path.now
-        (with_made (made_by object))) adds_name inodes.old.geometry.inodes v table)) }
-    ensures damaged { NeverDamaged B.Blocks blocks.old inodes.old result }
-{
-    let parts = Parts::of(alloc, path)?;
-    if let Some(errno) = refusal_of_new_text(path, &parts) {
-        return Ok(Err(errno));
-    }
-    make_along(alloc, inodes, blocks, path, parts, object)
-}
-
-// The same with a text that passed its tests, and its parts.
-fn make_along<B: Blocks>(
-    alloc: Global,
-    inodes: &mut InodeFile,
-    blocks: &mut B,
-    path: &[u8],
-    parts: Parts,
-    object: OwnedObject,
-) -> Result<Result<Changing, Errno>, ReadError>
-    requires parts { parts ≡ parts_of path.now }
-    requires passed { first_refusal (new_text_tests path.now) ≡ None }
-    ensures looks { Looks B.Blocks IsFault blocks.old blocks.new inodes.old inodes.new result }
-    ensures own { IfOk result (λ r. IfErr r (λ e. IsTrue (is_path_refusal e))) }
-    ensures ready { AllReady inodes.new result }
-    ensures does { AllDo B.Blocks blocks.old inodes.old inodes.new result }
-    ensures answers { OnMounted B.Blocks blocks.old inodes.old (λ v table. IfOk result
-        (Comes (creates inodes.old.geometry.inodes (tree_of v table) path.now
-        (with_made (made_by object))) adds_name inodes.old.geometry.inodes v table)) }
-    ensures damaged { NeverDamaged B.Blocks blocks.old inodes.old result }
+    ensures { Prepares B.Blocks blocks.old blocks.new inodes.old inodes.new
+        (λ inodes v table. Comes (creates inodes (tree_of v table) path.now (with_made (made_by
+        object))) inodes v table) result }
 {
     volumes_are_trees();
     volumes_tell_fresh_numbers();
     records_change_trees();
+    let parts = Parts::of(alloc, path)?;
+    if let Some(errno) = refusal_of_new_text(path, &parts) {
+        return Ok(Err(errno));
+    }
     let place = find(alloc, inodes, blocks, parts, false)?;
     let (trail, name) = match place {
         Place::Gap { trail, name } => (trail, name),
@@ -172,16 +72,10 @@ pub(crate) fn make_in<B: Blocks>(
     name: Vec<u8>,
     object: OwnedObject,
 ) -> Result<Result<Changing, Errno>, ReadError>
-    ensures looks { Looks B.Blocks IsFault blocks.old blocks.new inodes.old inodes.new result }
-    ensures own { IfOk result (λ r. IfErr r (λ e. IsTrue (is_path_refusal e))) }
     ensures creates { IfOk result (λ r. IfOk r
         (λ c. CreatesObject inodes.old.geometry.inodes c.change)) }
-    ensures ready { AllReady inodes.new result }
-    ensures does { AllDo B.Blocks blocks.old inodes.old inodes.new result }
-    ensures makes { OnVolumes B.Blocks blocks.old inodes.old (λ disk settled v.
-        IsVolume inodes.old.geometry.inodes v → IfOk result
-        (MakesIn inodes.old.geometry.inodes v parent name.items (made_by object))) }
-    ensures damaged { NeverDamaged B.Blocks blocks.old inodes.old result }
+    ensures prepares { Prepares B.Blocks blocks.old blocks.new inodes.old inodes.new
+        (λ inodes v table. MakesIn inodes v parent name.items (made_by object)) result }
 {
     based_trees_are_sound();
     let new = new_object(alloc, blocks, &object.as_new())?;
@@ -212,7 +106,7 @@ fn make_numbered<B: Blocks>(
     ensures own { IfOk result (λ r. IfErr r (λ e. IsTrue (is_path_refusal e))) }
     ensures creates { IfOk result (λ r. IfOk r
         (λ c. CreatesObject inodes.old.geometry.inodes c.change)) }
-    ensures ready { AllReady inodes.new result }
+    ensures ready { Readies (λ c. Some c) inodes.new result }
     ensures does { OnVolumes B.Blocks blocks.old inodes.old (λ disk settled v. v number ≡ None
         → ((k : ℕ) → IsObject disk k (settled number) new (Some (node_of (made_by object))))
         → IfOk result (λ r. IfOk r
@@ -252,16 +146,11 @@ fn refuse_in<B: Blocks>(
     name: &[u8],
     new: Object,
 ) -> Result<Result<Changing, Errno>, ReadError>
-    ensures looks { Looks B.Blocks IsFault blocks.old blocks.new inodes.old inodes.new result }
-    ensures own { IfOk result (λ r. IfErr r (λ e. IsTrue (is_path_refusal e))) }
     ensures creates { IfOk result (λ r. IfOk r
         (λ c. CreatesObject inodes.old.geometry.inodes c.change)) }
-    ensures ready { AllReady inodes.new result }
-    ensures does { AllDo B.Blocks blocks.old inodes.old inodes.new result }
-    ensures makes { (made : Made) → OnVolumes B.Blocks blocks.old inodes.old (λ disk settled v.
-        IsVolume inodes.old.geometry.inodes v → HasNoNumber inodes.old.geometry.inodes v
-        → IfOk result (MakesIn inodes.old.geometry.inodes v parent name.now made)) }
-    ensures damaged { NeverDamaged B.Blocks blocks.old inodes.old result }
+    ensures prepares { Prepares B.Blocks blocks.old blocks.new inodes.old inodes.new
+        (λ inodes v table r. (made : Made) → HasNoNumber inodes v → MakesIn inodes v parent name.now
+        made r) result }
 {
     // An image has more inode numbers than the first.
     let _ = inodes.geometry().inodes();

@@ -11,7 +11,7 @@ use Rattle.blockmap.specs.declared.map.BlockMap.{BlockMap}
 use Rattle.conspoint.specs.declared.plan.PlannedBlock.{PlannedBlock}
 use Rattle.conspoint.specs.declared.draft.Draft.{Draft}
 use Rattle.conspoint.specs.Plans.{AreDrafted, ChangesTouched}
-use Rattle.conspoint.specs.Drafts.{Grows, IsFull, WasTaken}
+use Rattle.conspoint.specs.Drafts.{Grows, WasTaken}
 
 -- more places are given out
 pub drafted_later : (count next more later : ℕ) (parts same : List Part) (blocks : List PlannedBlock) → same ≡ parts → more ≡ count → next ≤ later
@@ -45,11 +45,6 @@ grows_none d = record {
   next = omega arith;
   has = λ e has. has;
 }
-
--- over the same map, what is full stays full
-pub full_later : (a b : Draft) → Grows a b → b.map.parts.items ≡ a.map.parts.items → IsFull a → IsFull b
-full_later a b grows same full x from lt free =
-    full x (omega (arith, grows.next, from)) (omega (arith, grows.count, lt)) (subst (λ (ps : List Part). IsFree ps x) same free)
 
 -- what was given out before, or later
 pub taken_later : (a b c : Draft) (x : ℕ) → WasTaken a b x → Grows b c → WasTaken a c x

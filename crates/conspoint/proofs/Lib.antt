@@ -2,9 +2,10 @@ mod Writes
 mod Finishing
 mod Cuts
 mod PointCuts
-mod DraftLemmas
-mod SpaceLemmas
+pub mod DraftLemmas
+pub mod SpaceLemmas
 pub mod SumLemmas
+pub mod StepLemmas
 mod GroupLemmas
 mod ClosureLemmas
 mod MarkLemmas

@@ -1,17 +1,9 @@
 -- Entries of the block map as bytes: the entry 0 is four zeros.
-use Rattle.std.proofs.Common.{◌≡◌, inl, inr, ℕ, zero, suc, ◌+◌, ◌*◌, ◌<◌, List, drop, get_or, replicate, refl, sym, ◌∙◌, arith}
+use Rattle.std.proofs.Common.{◌≡◌, ℕ, zero, suc, ◌+◌, ◌*◌, ◌<◌, List, drop, get_or, refl, sym, ◌∙◌, arith}
 use Rattle.std.specs.Prelude.{slice_index}
-use Rattle.std.proofs.lemmas.Bool.{cases_lt}
-use Rattle.std.proofs.lemmas.List.{get_or_past, get_or-drop, get_or-replicate, length-replicate}
-use Rattle.layout.specs.Bytes.{zeros, number}
+use Rattle.std.proofs.lemmas.List.{get_or-drop}
+use Rattle.layout.specs.Bytes.{number}
 use Rattle.layout.specs.Maps.{map_entry}
-
-pub zero_byte : (i count : ℕ) → get_or (zeros count) i 0 ≡ 0
-unfolding zeros
-zero_byte i count = elim (cases_lt i count) [
-  | inl lt ↦ get_or-replicate {A = ℕ} count i 0 0 lt
-  | inr le ↦ get_or_past (replicate count 0) i 0 (omega (arith, length-replicate {A = ℕ} count 0))
-]
 
 -- bytes of zeros spell the entry 0
 pub word_zero : (bytes : List ℕ) (i : ℕ) → ((r : ℕ) → r < 4 → slice_index bytes (4 * i + r) ≡ 0) → map_entry bytes i ≡ 0

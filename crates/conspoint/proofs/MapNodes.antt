@@ -1,9 +1,9 @@
 -- Where the nodes of the block map's file stand: its blocks, and behind them the indirect block over them.
-use Rattle.std.proofs.Common.{◌≡◌, ◌⊎◌, inl, inr, ℕ, zero, suc, ◌+◌, ◌-◌, ◌*◌, ◌/◌, ◌%◌, ◌<◌, ◌≤◌, List, get_or, refl, ap, sym, subst, ◌∙◌, arith}
+use Rattle.std.proofs.Common.{◌≡◌, ◌⊎◌, inl, inr, ℕ, zero, suc, ◌+◌, ◌-◌, ◌*◌, ◌/◌, ◌%◌, ◌<◌, ◌≤◌, List, get_or, refl, ap, sym, ◌∙◌, arith}
 use Rattle.std.specs.Prelude.{nat_lt, if◌then◌else◌}
 use Rattle.std.specs.Int.{div_ceil}
 use Rattle.std.proofs.lemmas.Bool.{cases_lt, cond_above}
-use Rattle.layout.specs.Inode.{FitsBody, FitsKind, pointers_used}
+use Rattle.layout.specs.Inode.{FitsBody, pointers_used}
 use Rattle.layout.specs.Limits.{Sizes}
 use Rattle.layout.specs.Maps.{indirect_pointer}
 use Rattle.layout.specs.Places.{Blocks, place, follow}
@@ -11,7 +11,6 @@ use Rattle.layout.specs.Version.{level_of}
 use Rattle.layout.specs.declared.inode.Body.{Body}
 use Rattle.layout.specs.declared.inode.Body.TheVariants.{Inline, Pointers}
 use Rattle.layout.specs.declared.inode.Inode.{Inode}
-use Rattle.layout.specs.declared.kind.Kind.{Kind}
 use Rattle.layout.specs.declared.kind.Kind.TheVariants as kinds
 use Rattle.layout.specs.declared.pointer.Pointer.{Pointer}
 use Rattle.layout.specs.declared.pointer.Pointer.TheVariants.{Hole, Block}
@@ -19,6 +18,8 @@ use Rattle.images.specs.Nodes.{Held, held, Names, pointers_of}
 use Rattle.images.specs.Soundness.{IsSoundFile}
 use Rattle.images.proofs.OverlayLaws.{held_up}
 use Rattle.images.proofs.ReadingLaws.{highest, hole_past, level_one, level_two, used_two, hole_behind, fits}
+use Rattle.layout.proofs.PointerLaws.{no_block}
+use Rattle.layout.proofs.SizeLaws.{map_size}
 
 -- n blocks of a file stand where g says, and the indirect block over them, where there is one, where it says behind them
 pub record Stands (n : ℕ) (g : ℕ → Pointer) (h : Held) : Type 0 where
@@ -31,9 +32,6 @@ pub record Stands (n : ℕ) (g : ℕ → Pointer) (h : Held) : Type 0 where
 -- the node at this height and index is node k of the list
 abbrev pub IsSpot : ℕ → ℕ → ℕ → ℕ → Type 0
 IsSpot n m i k = ((m ≡ 0) × (i ≡ k) × (k < n)) ⊎ ((m ≡ 1) × (i ≡ 0) × (k ≡ n))
-
-pub no_block : (p : Pointer) (b : ℕ) → p ≡ Hole → p ≡ Block b → ⊥
-no_block p b none is = let e : Hole ≡ Block b = sym none ∙ is in cc
 
 pub spot_once : (n m i k j x : ℕ) → IsSpot n m i x → IsSpot n k j x → (m ≡ k) × (i ≡ j)
 spot_once n m i k j x (inl a) (inl b) = (a.0 ∙ sym b.0, a.1 ∙ sym b.1)
@@ -113,9 +111,6 @@ module _ (d : Blocks) (f : Inode) (pointers : List Pointer) (body : f.body ≡ P
 pub body_of : (b : Body) (blocks size : ℕ) → FitsBody b blocks size → 128 < size → (pointers : List Pointer) × (b ≡ Pointers pointers)
 body_of (Inline bytes) blocks size fits large = absurd (let low = fits.0 in omega arith)
 body_of (Pointers pointers) blocks size fits large = (pointers, refl)
-
-pub map_size : (k : Kind) (s : Sizes) (mode links size : ℕ) → k ≡ kinds.BlockMap → FitsKind k s mode links size → size ≡ 4 * s.blocks
-map_size k s mode links size is fits = (subst (λ x. FitsKind x s mode links size) is fits).2
 
 -- a map in its grammar, whose nodes are these
 pub sound_stands : (s : Sizes) (d : Blocks) (f : Inode) (n : ℕ) (nodes : List Pointer) → IsSoundFile s (held d f) → f.kind ≡ kinds.BlockMap → 64 ≤ s.blocks → s.blocks ≤ 1048576 → n ≡ div_ceil s.blocks 1024

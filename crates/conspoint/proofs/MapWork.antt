@@ -31,8 +31,10 @@ use Rattle.conspoint.specs.Drafts.{Grows, WasTaken}
 use Rattle.conspoint.specs.Groups.{pointer_at}
 use Rattle.conspoint.specs.MapFiles.{map_nodes, or_settled, node_at, IsSettledMap, IsMapOn}
 use Rattle.conspoint.specs.Plans.{ChangesTouched}
-use Rattle.conspoint.proofs.MapNodes.{Stands, IsSpot, no_block, spot_once, spot_of, named_at, spot_named, stands_direct, stands_under, sound_stands, body_of}
-use Rattle.conspoint.proofs.MapBytes.{zero_byte, word_zero, zero_bytes}
+use Rattle.conspoint.proofs.MapNodes.{Stands, IsSpot, spot_once, spot_of, named_at, spot_named, stands_direct, stands_under, sound_stands, body_of}
+use Rattle.conspoint.proofs.MapBytes.{word_zero, zero_bytes}
+use Rattle.layout.proofs.PointerLaws.{no_block}
+use Rattle.layout.proofs.ZeroLaws.{zero_byte}
 
 -- the inode of a map of so many blocks
 abbrev pub own_inode : List Pointer → ℕ → Inode

@@ -1,9 +1,6 @@
 -- Blocks that are left while a plan is made.
-use Rattle.std.proofs.Common.{◌≡◌, ℕ, ◌+◌, ◌<◌, ◌≤◌, List, length, inl, inr, ap, arith}
+use Rattle.std.proofs.Common.{◌≡◌, ℕ, ◌+◌, ◌<◌, ◌≤◌, List, length, ap, arith}
 use Rattle.std.specs.Prelude.{slice_set}
-use Rattle.std.proofs.lemmas.Bool.{cases_eq}
-use Rattle.conspoint.specs.Space.{Lacks, TakesAtMost, sum_below}
-use Rattle.conspoint.proofs.SumLemmas.{is_in_sum, one_more}
 use Rattle.std.specs.List.{sum_by}
 use Rattle.std.proofs.lemmas.List.Sums.{get_or-le-sum_by, sum_by-le, sum_by-set}
 use Rattle.layout.specs.declared.pointer.Pointer.{Pointer}
@@ -45,16 +42,3 @@ pub some_hole : (places : List Pointer) (k : ℕ) → k < length places → poin
 some_hole places k lt is =
     let one : hole (pointer_at places k) ≡ 1 = ap hole is in
     omega (arith, one, get_or-le-sum_by hole places k Hole lt)
-
--- ---- the indirect blocks over nodes
-
--- one group more is counted
-pub group_takes : (old mid new : Draft) (w : ℕ → ℕ) (j : ℕ) → TakesAtMost (sum_below w j) old mid → TakesAtMost 1 mid new → (w j ≡ 0 → TakesAtMost 0 mid new) → TakesAtMost (sum_below w (j + 1)) old new
-group_takes old mid new w j so_far one none = elim (cases_eq (w j) 0) [
-  | inl is ↦ (let zero = none is in omega (arith, so_far, zero, one_more w j))
-  | inr some ↦ omega (arith, so_far, one, some, one_more w j)
-]
-
--- a group is counted for which none is left
-pub group_lacks : (old mid : Draft) (w : ℕ → ℕ) (j n : ℕ) → j < n → TakesAtMost (sum_below w j) old mid → Lacks 1 mid → (w j ≡ 0 → ⊥) → Lacks (sum_below w n) old
-group_lacks old mid w j n lt so_far lacks some = omega (arith, so_far, lacks, some, is_in_sum w j n lt)

@@ -4,7 +4,7 @@ use Rattle.std.specs.Prelude.{slice_index}
 use Rattle.std.proofs.lemmas.Bool.{cases_eq}
 use Rattle.std.proofs.lemmas.Bool.Decides.{nat_tests}
 use Rattle.std.proofs.Math.Path.{fun_ext}
-use Rattle.std.proofs.lemmas.List.{take_all, get_or_default, get_or-take, get_or-drop, length-take}
+use Rattle.std.proofs.lemmas.List.{take_all, get_or_default, get_or-take, length-take}
 use Rattle.std.proofs.lemmas.List.Elements.{All-more}
 use Rattle.station.specs.Images.{Images, Sector, sector_with, part_of, disk_with, SectorsWritten, SomeSectorsWritten}
 use Rattle.station.specs.Moments.{Meaning, Goes}
@@ -13,6 +13,8 @@ use Rattle.buffers.specs.Disks.{IsBlock}
 use Rattle.conspoint.specs.declared.plan.PlannedBlock.{PlannedBlock}
 use Rattle.conspoint.specs.Plans.{Planned, AreApart, IsSlot, IsPlanned}
 use Rattle.conspoint.specs.Cuts.{StaysOutside, HoldsBlocks, HasNewRoot}
+use Rattle.layout.proofs.PartLaws.{slice_index-between}
+use Rattle.buffers.proofs.DiskLaws.{hit, miss}
 
 -- THE BLOCKS
 
@@ -45,15 +47,6 @@ write_stays blocks at b old new lt is size some = record {
   ];
 }
 
-within_block : (xs : List ℕ) (a n k : ℕ) → k < n → slice_index (take n (drop a xs)) k ≡ slice_index xs (a + k)
-within_block xs a n k lt = get_or-take n (drop a xs) k 0 lt ∙ get_or-drop a xs k 0
-
-hit : (place r n : ℕ) → r < n → leb (8 * place) (8 * place + r / 512) && ltb (512 * (8 * place + r / 512 - 8 * place)) n ≡ true
-hit place r n lt = grind (arith, nat_tests)
-
-miss : (b place r n : ℕ) → (b ≡ place → ⊥) → n ≡ 4096 → r < 4096 → leb (8 * place) (8 * b + r / 512) && ltb (512 * (8 * b + r / 512 - 8 * place)) n ≡ false
-miss b place r n ne e lt = grind (arith, nat_tests)
-
 -- the block that was written
 block_written : (sectors : ℕ → Sector) (place : ℕ) (bytes : List ℕ) → length bytes ≡ 4096 → IsBlock (disk_with (8 * place) bytes sectors) place bytes
 block_written sectors place bytes len = record {
@@ -61,7 +54,7 @@ block_written sectors place bytes len = record {
   bytes_are = λ r lt.
       let at : 512 * (8 * place + r / 512 - 8 * place) + r % 512 ≡ r = omega arith in
       let rest : r % 512 < 512 = omega arith in
-      rw (hit place r (length bytes) (omega arith)) (sym (within_block bytes (512 * (8 * place + r / 512 - 8 * place)) 512 (r % 512) rest ∙ ap (slice_index bytes) at));
+      rw (hit place r (length bytes) (omega arith)) (sym (slice_index-between bytes (512 * (8 * place + r / 512 - 8 * place)) 512 (r % 512) rest ∙ ap (slice_index bytes) at));
 }
 
 -- another block

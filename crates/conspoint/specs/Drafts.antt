@@ -30,10 +30,6 @@ pub record Grows (old new : Draft) : Type 0 where
   pub next : old.map.next ≤ new.map.next
   pub has : (e : Blocks) → HasAll e new.blocks.items → HasAll e old.blocks.items
 
--- no block is left that is free under the settled root
-abbrev pub IsFull : Draft → Type 0
-IsFull d = (b : ℕ) → d.map.next ≤ b → b < d.map.count → IsFree d.map.parts.items b → ⊥
-
 -- a block that was given out, and has no bytes yet
 pub record IsReserved (d : Draft) (place : ℕ) : Type 0 where
   pub low : 2 ≤ place

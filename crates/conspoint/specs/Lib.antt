@@ -9,3 +9,4 @@ pub mod MapFiles
 pub mod Writes
 pub mod Errors
 pub mod Space
+pub mod Steps

@@ -7,9 +7,10 @@ ghost use Rattle.layout.specs.declared.geometry.TheConstants.{MOST_BLOCKS};
 ghost use Rattle.layout.specs.declared.pointer.Pointer.TheVariants.{Hole};
 ghost use Rattle.blocktree.specs.Trees.{IsChanged};
 ghost use Rattle.conspoint.specs.Blocks.{changed_or};
-ghost use Rattle.conspoint.specs.Drafts.{OnEach, Grows, IsFull, IsReserved, IsShortage};
+ghost use Rattle.conspoint.specs.Drafts.{OnEach};
 ghost use Rattle.conspoint.specs.Groups.{pointer_at, ComesFrom, ArePlaced};
-ghost use Rattle.conspoint.specs.Space.{Lacks, TakesAtMost, block_stores, changed_blocks};
+ghost use Rattle.conspoint.specs.Space.{block_stores, changed_blocks};
+ghost use Rattle.conspoint.specs.Steps.{Places};
 
 use crate::draft::Draft;
 use crate::error::PlanError;
@@ -29,7 +30,7 @@ fn place_block(
     settled: Pointer,
 ) -> Result<Pointer, PlanError>
     requires { PointsBelow MOST_BLOCKS settled }
-    ensures grows { Grows draft.old draft.new }
+    ensures step { Places (block_stores tree.now first i) draft.old draft.new result }
     ensures before { IfOk result (λ p. i < first → p ≡ settled) }
     ensures holes { IfOk result (λ p. p ≡ Hole → settled ≡ Hole) }
     ensures stored { IfOk result (λ p. first ≤ i → IsChanged tree.now i → p ≢ Hole) }
@@ -37,14 +38,7 @@ fn place_block(
         → pointed e p ≡ changed_or tree.now i (pointed e settled))) }
     ensures from { IfOk result (ComesFrom draft.old draft.new settled) }
     ensures within { IfOk result (PointsBelow MOST_BLOCKS) }
-    ensures parts { draft.new.map.parts.items ≡ draft.old.map.parts.items }
-    ensures others { (p : ℕ) → IsReserved draft.old p → IsReserved draft.new p }
-    ensures full { IsErrOf result PlanError.NoSpace → IsFull draft.old }
     ensures unchanged { IfOk result (λ p. (IsChanged tree.now i → ⊥) → p ≡ settled) }
-    ensures takes { OnOk result (TakesAtMost (block_stores tree.now first i) draft.old draft.new) }
-    ensures lacks { IsErrOf result PlanError.NoSpace
-        → Lacks (block_stores tree.now first i) draft.old }
-    ensures shortage { IfErr result IsShortage }
 {
     if i < first {
         return Ok(settled);
@@ -69,7 +63,7 @@ pub fn place_blocks(
 ) -> Result<Vec<Pointer>, PlanError>
     requires within { All (PointsBelow MOST_BLOCKS) settled.now }
     requires short { length settled.now < 2 ^ 32 }
-    ensures grows { Grows draft.old draft.new }
+    ensures step { Places (changed_blocks tree.now first (length settled.now)) draft.old draft.new result }
     ensures count { IfOk result (λ nodes. length nodes.items ≡ length settled.now) }
     ensures before { IfOk result (λ nodes. (i : ℕ) → i < length settled.now → i < first
         → pointer_at nodes.items i ≡ pointer_at settled.now i) }
@@ -83,14 +77,6 @@ pub fn place_blocks(
         → first ≤ i → pointed e (pointer_at nodes.items i)
         ≡ changed_or tree.now i (pointed e (pointer_at settled.now i)))) }
     ensures placed { IfOk result (λ nodes. ArePlaced draft.old draft.new settled.now nodes.items) }
-    ensures parts { draft.new.map.parts.items ≡ draft.old.map.parts.items }
-    ensures others { (p : ℕ) → IsReserved draft.old p → IsReserved draft.new p }
-    ensures full { IsErrOf result PlanError.NoSpace → IsFull draft.new }
-    ensures takes { OnOk result
-        (TakesAtMost (changed_blocks tree.now first (length settled.now)) draft.old draft.new) }
-    ensures lacks { IsErrOf result PlanError.NoSpace
-        → Lacks (changed_blocks tree.now first (length settled.now)) draft.old }
-    ensures shortage { IfErr result IsShortage }
 {
     let mut nodes = Vec::new(alloc);
     for i in 0..settled.len() {

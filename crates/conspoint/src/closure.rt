@@ -2,11 +2,11 @@
 
 ghost use Rattle.std.specs.Prelude.{◌≡◌, ◌≢◌, ℕ, ◌<◌, OnOk, IfOk, IfErr, IsErrOf, IfSome, IfNone, IsTrue, ◌↔◌, length};
 ghost use Rattle.layout.specs.declared.pointer.Pointer.TheVariants.{Hole, Block};
-ghost use Rattle.blockmap.specs.Maps.{IsTouched, entry_at};
-ghost use Rattle.conspoint.specs.Drafts.{Grows, WasTaken, IsReserved, IsFull, IsShortage};
+ghost use Rattle.blockmap.specs.Maps.{entry_at};
+ghost use Rattle.conspoint.specs.Drafts.{WasTaken, IsReserved};
 ghost use Rattle.conspoint.specs.Groups.{pointer_at};
-ghost use Rattle.conspoint.specs.Space.{Lacks, TakesAtMost};
 ghost use Rattle.conspoint.specs.Closures.{IsClosed, PartsMoved, OverMoved, HasRoomFor};
+ghost use Rattle.conspoint.specs.Steps.{Takes};
 
 use crate::draft::Draft;
 use crate::error::PlanError;
@@ -67,18 +67,13 @@ fn next_node(draft: &Draft, places: &[Pointer]) -> Option<usize>
 /// Reserves a place for a node that stood at a place before, with room in the map for the entries of both.
 fn move_node(draft: &mut Draft, before: Pointer) -> Result<BlockNumber, PlanError>
     requires { (b : ℕ) → before ≡ Block b → b < draft.old.map.count }
-    ensures grows { Grows draft.old draft.new }
+    ensures step { Takes 1 draft.old draft.new result }
     ensures taken { IfOk result (WasTaken draft.old draft.new) }
     ensures reserved { IfOk result (IsReserved draft.new) }
-    ensures others { (p : ℕ) → IsReserved draft.old p → IsReserved draft.new p }
     ensures entries { (b : ℕ)
         → entry_at draft.new.map.parts.items b ≡ entry_at draft.old.map.parts.items b }
     ensures new { IfOk result (HasRoomFor draft.new) }
     ensures old { OnOk result ((b : ℕ) → before ≡ Block b → HasRoomFor draft.new b) }
-    ensures full { IsErrOf result PlanError.NoSpace → IsFull draft.old }
-    ensures takes { OnOk result (TakesAtMost 1 draft.old draft.new) }
-    ensures lacks { IsErrOf result PlanError.NoSpace → Lacks 1 draft.old }
-    ensures shortage { IfErr result IsShortage }
 {
     if let Pointer::Block(place) = before {
         draft.touch(place)?;
@@ -99,7 +94,7 @@ pub fn reserve_map(
     requires same { length settled.now ≡ length places.old }
     requires within { (k b : ℕ) → pointer_at settled.now k ≡ Block b → b < draft.old.map.count }
     requires none { (k : ℕ) → pointer_at places.old k ≡ Hole }
-    ensures grows { Grows draft.old draft.new }
+    ensures step { Takes (length places.old) draft.old draft.new result }
     ensures size { length places.new ≡ length places.old }
     ensures closed { OnOk result (IsClosed draft.new settled.now places.new) }
     ensures taken { OnOk result ((k b : ℕ) → pointer_at places.new k ≡ Block b
@@ -108,11 +103,6 @@ pub fn reserve_map(
     ensures over { OnOk result (OverMoved draft.new places.new) }
     ensures entries { (b : ℕ)
         → entry_at draft.new.map.parts.items b ≡ entry_at draft.old.map.parts.items b }
-    ensures others { (p : ℕ) → IsReserved draft.old p → IsReserved draft.new p }
-    ensures full { IsErrOf result PlanError.NoSpace → IsFull draft.new }
-    ensures takes { OnOk result (TakesAtMost (length places.old) draft.old draft.new) }
-    ensures lacks { IsErrOf result PlanError.NoSpace → Lacks (length places.old) draft.old }
-    ensures shortage { IfErr result IsShortage }
 {
     while let Some(k) = next_node(draft, places) {
         places[k] = Pointer::Block(move_node(draft, settled[k])?);

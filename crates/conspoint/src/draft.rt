@@ -24,9 +24,9 @@ pub struct Draft {
 }
 
 impl Draft {
-    ghost use Rattle.conspoint.specs.Drafts.{OnEach, WasTaken, Grows, IsFull, IsReserved, IsShortage};
+    ghost use Rattle.conspoint.specs.Drafts.{OnEach, WasTaken, IsReserved};
     ghost use Rattle.conspoint.specs.Closures.{HasRoomFor};
-    ghost use Rattle.conspoint.specs.Space.{Lacks, TakesAtMost};
+    ghost use Rattle.conspoint.specs.Steps.{Keeps, Marks, Places, Puts};
 
     /// A plan with no block, over a map with no change.
     pub fn new(alloc: Global, map: BlockMap) -> Draft
@@ -42,15 +42,9 @@ impl Draft {
 
     /// Plans a block at the next free place.
     pub fn store(&mut self, bytes: Block) -> Result<BlockNumber, PlanError>
-        ensures grows { Grows self.old self.new }
-        ensures parts { self.new.map.parts.items ≡ self.old.map.parts.items }
+        ensures step { Places 1 self.old self.new result }
         ensures taken { IfOk result (WasTaken self.old self.new) }
         ensures stored { IfOk result (λ place. OnEach self.new (λ e. e place ≡ bytes)) }
-        ensures others { (p : ℕ) → IsReserved self.old p → IsReserved self.new p }
-        ensures full { IsErrOf result PlanError.NoSpace → IsFull self.old }
-        ensures takes { OnOk result (TakesAtMost 1 self.old self.new) }
-        ensures lacks { IsErrOf result PlanError.NoSpace → Lacks 1 self.old }
-        ensures shortage { IfErr result IsShortage }
     {
         let place = self.reserve()?;
         self.put(place, bytes)?;
@@ -59,16 +53,10 @@ impl Draft {
 
     /// Gives out the next free place, for bytes that come later.
     pub fn reserve(&mut self) -> Result<BlockNumber, PlanError>
-        ensures grows { Grows self.old self.new }
-        ensures parts { self.new.map.parts.items ≡ self.old.map.parts.items }
+        ensures step { Places 1 self.old self.new result }
         ensures blocks { self.new.blocks.items ≡ self.old.blocks.items }
         ensures taken { IfOk result (WasTaken self.old self.new) }
         ensures reserved { IfOk result (IsReserved self.new) }
-        ensures others { (p : ℕ) → IsReserved self.old p → IsReserved self.new p }
-        ensures full { IsErrOf result PlanError.NoSpace → IsFull self.old }
-        ensures takes { OnOk result (TakesAtMost 1 self.old self.new) }
-        ensures lacks { IsErrOf result PlanError.NoSpace → Lacks 1 self.old }
-        ensures shortage { IfErr result IsShortage }
     {
         match self.map.allocate() {
             Some(place) => Ok(place),
@@ -79,12 +67,9 @@ impl Draft {
     /// Plans a block at a place that was reserved.
     pub fn put(&mut self, place: BlockNumber, bytes: Block) -> Result<(), PlanError>
         requires { IsReserved self.old place }
-        ensures grows { Grows self.old self.new }
-        ensures map { self.new.map ≡ self.old.map }
+        ensures step { Puts self.old self.new result }
         ensures stored { OnOk result (OnEach self.new (λ e. e place ≡ bytes)) }
         ensures others { (p : ℕ) → p ≢ place → IsReserved self.old p → IsReserved self.new p }
-        ensures why { IsErrOf result PlanError.NoSpace → ⊥ }
-        ensures shortage { IfErr result IsShortage }
     {
         self.blocks.push(PlannedBlock { place, bytes })?;
         Ok(())
@@ -93,15 +78,10 @@ impl Draft {
     /// Makes room in the map for a change of a block's entry.
     pub fn touch(&mut self, block: BlockNumber) -> Result<(), PlanError>
         requires { block < self.old.map.count }
-        ensures grows { Grows self.old self.new }
-        ensures next { self.new.map.next ≡ self.old.map.next }
-        ensures blocks { self.new.blocks.items ≡ self.old.blocks.items }
+        ensures step { Marks self.old self.new result }
         ensures touched { OnOk result (HasRoomFor self.new block) }
         ensures entries { (b : ℕ)
             → entry_at self.new.map.parts.items b ≡ entry_at self.old.map.parts.items b }
-        ensures others { (p : ℕ) → IsReserved self.old p → IsReserved self.new p }
-        ensures why { IsErrOf result PlanError.NoSpace → ⊥ }
-        ensures shortage { IfErr result IsShortage }
     {
         self.map.touch((block.get() / 1024) as usize)?;
         Ok(())
@@ -110,16 +90,11 @@ impl Draft {
     /// Puts a block into the active tree's set of the map, or takes it out.
     pub fn mark(&mut self, block: BlockNumber, is_in: bool) -> Result<(), PlanError>
         requires { block < self.old.map.count }
-        ensures grows { Grows self.old self.new }
-        ensures next { self.new.map.next ≡ self.old.map.next }
-        ensures blocks { self.new.blocks.items ≡ self.old.blocks.items }
-        ensures others { (p : ℕ) → IsReserved self.old p → IsReserved self.new p }
+        ensures step { Marks self.old self.new result }
         ensures bit { OnOk result (SetsBit 0 is_in (entry_at self.old.map.parts.items block)
             (entry_at self.new.map.parts.items block)) }
         ensures stay { OnOk result (OnlyChanges block self.old.map.parts.items
             self.new.map.parts.items) }
-        ensures why { IsErrOf result PlanError.NoSpace → ⊥ }
-        ensures shortage { IfErr result IsShortage }
     {
         self.touch(block)?;
         self.mark_touched(block, is_in);
@@ -130,10 +105,7 @@ impl Draft {
     pub fn mark_touched(&mut self, block: BlockNumber, is_in: bool)
         requires within { block < self.old.map.count }
         requires room { HasRoomFor self.old block }
-        ensures grows { Grows self.old self.new }
-        ensures next { self.new.map.next ≡ self.old.map.next }
-        ensures blocks { self.new.blocks.items ≡ self.old.blocks.items }
-        ensures others { (p : ℕ) → IsReserved self.old p → IsReserved self.new p }
+        ensures step { Keeps self.old self.new }
         ensures bit { SetsBit 0 is_in (entry_at self.old.map.parts.items block)
             (entry_at self.new.map.parts.items block) }
         ensures stay { OnlyChanges block self.old.map.parts.items self.new.map.parts.items }
@@ -146,18 +118,13 @@ impl Draft {
     /// Puts a block into the set of the system's own in the map, or takes it out.
     pub fn mark_system(&mut self, block: BlockNumber, is_in: bool) -> Result<(), PlanError>
         requires { block < self.old.map.count }
-        ensures grows { Grows self.old self.new }
-        ensures next { self.new.map.next ≡ self.old.map.next }
-        ensures blocks { self.new.blocks.items ≡ self.old.blocks.items }
-        ensures others { (p : ℕ) → IsReserved self.old p → IsReserved self.new p }
+        ensures step { Marks self.old self.new result }
         ensures bit { OnOk result (SetsBit SYSTEM_SET is_in
             (entry_at self.old.map.parts.items block)
             (entry_at self.new.map.parts.items block)) }
         ensures stay { OnOk result (OnlyChanges block self.old.map.parts.items
             self.new.map.parts.items) }
         ensures touched { OnOk result (HasRoomFor self.new block) }
-        ensures why { IsErrOf result PlanError.NoSpace → ⊥ }
-        ensures shortage { IfErr result IsShortage }
     {
         self.touch(block)?;
         self.map.mark_system(block, is_in);
@@ -167,17 +134,12 @@ impl Draft {
     /// Makes a set of the map that of the active tree under the settled root.
     pub fn take_plane(&mut self, set: u32) -> Result<(), PlanError>
         requires { set < 32 }
-        ensures grows { Grows self.old self.new }
-        ensures next { self.new.map.next ≡ self.old.map.next }
-        ensures blocks { self.new.blocks.items ≡ self.old.blocks.items }
-        ensures others { (p : ℕ) → IsReserved self.old p → IsReserved self.new p }
+        ensures step { Marks self.old self.new result }
         ensures plane { OnOk result ((count : ℕ) → SetsPlane count set
             (λ b. bit_at (settled_at self.old.map.parts.items b) 0)
             (entry_at self.old.map.parts.items) (entry_at self.new.map.parts.items)) }
         ensures touched { OnOk result ((j : ℕ) → j < length self.old.map.parts.items
             → IsTouched self.new.map.parts.items j) }
-        ensures why { IsErrOf result PlanError.NoSpace → ⊥ }
-        ensures shortage { IfErr result IsShortage }
     {
         self.map.take_plane(set)?;
         Ok(())
@@ -186,16 +148,11 @@ impl Draft {
     /// Makes a set of the map empty. Of the map's blocks only those are stored for it in which an entry changes.
     pub fn clear_plane(&mut self, set: u32) -> Result<(), PlanError>
         requires { set < 32 }
-        ensures grows { Grows self.old self.new }
-        ensures next { self.new.map.next ≡ self.old.map.next }
-        ensures blocks { self.new.blocks.items ≡ self.old.blocks.items }
-        ensures others { (p : ℕ) → IsReserved self.old p → IsReserved self.new p }
+        ensures step { Marks self.old self.new result }
         ensures plane { OnOk result ((count : ℕ) → SetsPlane count set (λ b. 0)
             (entry_at self.old.map.parts.items) (entry_at self.new.map.parts.items)) }
         ensures few { (j : ℕ) → IsTouched self.new.map.parts.items j
             → IsTouched self.old.map.parts.items j ⊎ HasSetAt set self.old.map.parts.items j }
-        ensures why { IsErrOf result PlanError.NoSpace → ⊥ }
-        ensures shortage { IfErr result IsShortage }
     {
         self.map.clear_plane(set)?;
         Ok(())

@@ -6,9 +6,10 @@ ghost use Rattle.layout.specs.Pointer.{PointsBelow};
 ghost use Rattle.layout.specs.declared.TheConstants.{BLOCK_BYTES, BLOCK_POINTERS};
 ghost use Rattle.layout.specs.declared.geometry.TheConstants.{MOST_BLOCKS};
 ghost use Rattle.layout.specs.declared.pointer.Pointer.TheVariants.{Hole};
-ghost use Rattle.conspoint.specs.Drafts.{OnEach, Grows, IsFull, IsReserved, IsShortage};
+ghost use Rattle.conspoint.specs.Drafts.{OnEach};
 ghost use Rattle.conspoint.specs.Groups.{pointer_at, group, IsGroup, ComesFrom, ArePlaced};
-ghost use Rattle.conspoint.specs.Space.{CountsGroups, Lacks, StoresNone, TakesAtMost, sum_below};
+ghost use Rattle.conspoint.specs.Space.{StoresNone};
+ghost use Rattle.conspoint.specs.Steps.{Places, PlacesOver};
 
 use crate::draft::Draft;
 use crate::error::PlanError;
@@ -87,21 +88,13 @@ pub fn place_group(
     requires new { length new.now ≡ BLOCK_POINTERS }
     requires within { All (PointsBelow MOST_BLOCKS) new.now }
     requires settled { PointsBelow MOST_BLOCKS settled }
-    ensures grows { Grows draft.old draft.new }
+    ensures step { Places 1 draft.old draft.new result }
     ensures group { IfOk result (λ over. OnEach draft.new
         (λ e. IsGroup e settled (pointer_at old.now) (pointer_at new.now) over)) }
     ensures from { IfOk result (ComesFrom draft.old draft.new settled) }
     ensures within { IfOk result (PointsBelow MOST_BLOCKS) }
-    ensures parts { draft.new.map.parts.items ≡ draft.old.map.parts.items }
-    ensures others { (p : ℕ) → IsReserved draft.old p → IsReserved draft.new p }
-    ensures full { IsErrOf result PlanError.NoSpace → IsFull draft.old }
-    ensures takes { OnOk result (TakesAtMost 1 draft.old draft.new) }
-    ensures takes_none { StoresNone (pointer_at old.now) (pointer_at new.now)
-        → OnOk result (TakesAtMost 0 draft.old draft.new) }
-    ensures lacks { IsErrOf result PlanError.NoSpace → Lacks 1 draft.old }
-    ensures lacks_none { IsErrOf result PlanError.NoSpace
-        → StoresNone (pointer_at old.now) (pointer_at new.now) → ⊥ }
-    ensures shortage { IfErr result IsShortage }
+    ensures none { StoresNone (pointer_at old.now) (pointer_at new.now)
+        → Places 0 draft.old draft.new result }
 {
     let Some(_) = first_block(new) else {
         return Ok(Pointer::Hole);
@@ -127,22 +120,12 @@ pub fn place_over(
     requires new { length new.now ≡ BLOCK_POINTERS * length settled.now }
     requires within { All (PointsBelow MOST_BLOCKS) new.now }
     requires settled { All (PointsBelow MOST_BLOCKS) settled.now }
-    ensures grows { Grows draft.old draft.new }
+    ensures step { PlacesOver (length settled.now) (group old.now) (group new.now) draft.old draft.new result }
     ensures count { IfOk result (λ over. length over.items ≡ length settled.now) }
     ensures groups { IfOk result (λ over. OnEach draft.new (λ e. (j : ℕ) → j < length settled.now
         → IsGroup e (pointer_at settled.now j) (group old.now j) (group new.now j)
         (pointer_at over.items j))) }
     ensures placed { IfOk result (λ over. ArePlaced draft.old draft.new settled.now over.items) }
-    ensures parts { draft.new.map.parts.items ≡ draft.old.map.parts.items }
-    ensures others { (p : ℕ) → IsReserved draft.old p → IsReserved draft.new p }
-    ensures full { IsErrOf result PlanError.NoSpace → IsFull draft.new }
-    ensures takes { OnOk result ((w : ℕ → ℕ)
-        → CountsGroups w (length settled.now) (group old.now) (group new.now)
-        → TakesAtMost (sum_below w (length settled.now)) draft.old draft.new) }
-    ensures lacks { IsErrOf result PlanError.NoSpace → (w : ℕ → ℕ)
-        → CountsGroups w (length settled.now) (group old.now) (group new.now)
-        → Lacks (sum_below w (length settled.now)) draft.old }
-    ensures shortage { IfErr result IsShortage }
 {
     let mut over = Vec::new(alloc);
     for j in 0..settled.len() {

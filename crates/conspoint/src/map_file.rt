@@ -2,8 +2,9 @@
 
 ghost use Rattle.std.specs.Prelude.{◌≡◌, ◌≢◌, ℕ, ◌<◌, ◌≤◌, OnOk, IfErr, IsErrOf, length};
 ghost use Rattle.blockmap.specs.Maps.{HoldsPart};
-ghost use Rattle.conspoint.specs.Drafts.{OnEach, Grows, IsReserved, IsShortage};
+ghost use Rattle.conspoint.specs.Drafts.{OnEach, IsReserved};
 ghost use Rattle.conspoint.specs.Groups.{pointer_at};
+ghost use Rattle.conspoint.specs.Steps.{Puts};
 
 use crate::draft::Draft;
 use crate::error::PlanError;
@@ -15,14 +16,11 @@ use std::alloc::Global;
 fn store_part(alloc: Global, draft: &mut Draft, k: usize, pointer: Pointer) -> Result<(), PlanError>
     requires within { k < length draft.old.map.parts.items }
     requires reserved { (b : ℕ) → pointer ≡ Pointer.Block b → IsReserved draft.old b }
-    ensures grows { Grows draft.old draft.new }
-    ensures map { draft.new.map ≡ draft.old.map }
+    ensures step { Puts draft.old draft.new result }
     ensures stored { OnOk result (OnEach draft.new (λ e. (b : ℕ) → pointer ≡ Pointer.Block b
         → HoldsPart draft.old.map.parts.items k (e b))) }
     ensures others { (p : ℕ) → pointer ≢ Pointer.Block p
         → IsReserved draft.old p → IsReserved draft.new p }
-    ensures why { IsErrOf result PlanError.NoSpace → ⊥ }
-    ensures shortage { IfErr result IsShortage }
 {
     if let Pointer::Block(place) = pointer {
         let bytes = Block::copy_of(alloc, &draft.map_bytes(k))?;
@@ -38,16 +36,13 @@ pub fn store_map(alloc: Global, draft: &mut Draft, places: &[Pointer]) -> Result
     requires apart { (i k b : ℕ) → pointer_at places.now i ≡ Pointer.Block b
         → pointer_at places.now k ≡ Pointer.Block b → i ≡ k }
     requires all { length draft.old.map.parts.items ≤ length places.now }
-    ensures grows { Grows draft.old draft.new }
-    ensures map { draft.new.map ≡ draft.old.map }
+    ensures step { Puts draft.old draft.new result }
     ensures stored { OnOk result (OnEach draft.new (λ e. (k b : ℕ)
         → k < length draft.old.map.parts.items → pointer_at places.now k ≡ Pointer.Block b
         → HoldsPart draft.old.map.parts.items k (e b))) }
     ensures others { (p : ℕ) → IsReserved draft.old p → ((k : ℕ)
         → k < length draft.old.map.parts.items → pointer_at places.now k ≢ Pointer.Block p)
         → IsReserved draft.new p }
-    ensures why { IsErrOf result PlanError.NoSpace → ⊥ }
-    ensures shortage { IfErr result IsShortage }
 {
     for k in 0..draft.map_blocks() {
         store_part(alloc, draft, k, places[k])?;

@@ -9,11 +9,11 @@ ghost use Rattle.layout.specs.declared.geometry.TheConstants.{MOST_BLOCKS};
 ghost use Rattle.layout.specs.declared.pointer.Pointer.TheVariants.{Hole};
 ghost use Rattle.blockmap.specs.Maps.{IsTouched};
 ghost use Rattle.conspoint.specs.Closures.{HasRoomFor};
-ghost use Rattle.conspoint.specs.Drafts.{OnEach, Grows, IsFull, IsReserved, IsShortage};
+ghost use Rattle.conspoint.specs.Drafts.{OnEach, IsReserved};
 ghost use Rattle.conspoint.specs.Groups.{pointer_at};
 ghost use Rattle.conspoint.specs.MapFiles.{map_nodes, or_settled, node_at, IsOfMoved, PlansMap};
 ghost use Rattle.conspoint.specs.Marks.{Marking};
-ghost use Rattle.conspoint.specs.Space.{Lacks, TakesAtMost};
+ghost use Rattle.conspoint.specs.Steps.{Keeps, Puts, Takes};
 
 use crate::closure::reserve_map;
 use crate::draft::Draft;
@@ -28,10 +28,7 @@ use std::alloc::{AllocError, Global};
 fn mark_node(draft: &mut Draft, node: Pointer, place: Pointer, is_in: bool)
     requires within { (b : ℕ) → node ≡ Pointer.Block b → b < draft.old.map.count }
     requires room { (b : ℕ) → place ≢ Hole → node ≡ Pointer.Block b → HasRoomFor draft.old b }
-    ensures grows { Grows draft.old draft.new }
-    ensures next { draft.new.map.next ≡ draft.old.map.next }
-    ensures blocks { draft.new.blocks.items ≡ draft.old.blocks.items }
-    ensures others { (p : ℕ) → IsReserved draft.old p → IsReserved draft.new p }
+    ensures step { Keeps draft.old draft.new }
     ensures same { (j : ℕ) → IsTouched draft.new.map.parts.items j
         → IsTouched draft.old.map.parts.items j }
     ensures marked { (b : ℕ) → Marking (λ x. (place ≢ Hole) × (node ≡ Pointer.Block x)) is_in
@@ -52,10 +49,7 @@ fn mark_moved(draft: &mut Draft, nodes: &[Pointer], places: &[Pointer], is_in: b
         → b < draft.old.map.count }
     requires room { (k b : ℕ) → pointer_at places.now k ≢ Hole
         → pointer_at nodes.now k ≡ Pointer.Block b → HasRoomFor draft.old b }
-    ensures grows { Grows draft.old draft.new }
-    ensures next { draft.new.map.next ≡ draft.old.map.next }
-    ensures blocks { draft.new.blocks.items ≡ draft.old.blocks.items }
-    ensures others { (p : ℕ) → IsReserved draft.old p → IsReserved draft.new p }
+    ensures step { Keeps draft.old draft.new }
     ensures same { (j : ℕ) → IsTouched draft.new.map.parts.items j
         → IsTouched draft.old.map.parts.items j }
     ensures marked { (b : ℕ) → Marking (IsOfMoved nodes.now places.now (length places.now)) is_in
@@ -143,8 +137,7 @@ fn store_over(
     requires places { count ≤ length places.now }
     requires within { (k : ℕ) → PointsBelow MOST_BLOCKS (node_at settled.now places.now k) }
     requires reserved { (b : ℕ) → over ≡ Pointer.Block b → IsReserved draft.old b }
-    ensures grows { Grows draft.old draft.new }
-    ensures map { draft.new.map ≡ draft.old.map }
+    ensures step { Puts draft.old draft.new result }
     ensures others { (p : ℕ) → over ≢ Pointer.Block p
         → IsReserved draft.old p → IsReserved draft.new p }
     ensures size { OnOk result (OnEach draft.new (λ e. (b : ℕ)
@@ -152,8 +145,6 @@ fn store_over(
     ensures spelled { OnOk result (OnEach draft.new (λ e. (b i : ℕ)
         → over ≡ Pointer.Block b → i < BLOCK_POINTERS → indirect_pointer (e b) i
         ≡ (if nat_lt i count then node_at settled.now places.now i else Hole))) }
-    ensures why { IsErrOf result PlanError.NoSpace → ⊥ }
-    ensures shortage { IfErr result IsShortage }
 {
     if let Pointer::Block(place) = over {
         let bytes = spell_nodes(settled, places, count);
@@ -217,13 +208,8 @@ fn store_nodes(
     requires within { All (PointsBelow draft.old.map.count) settled.now }
     requires same { length places.old ≡ length settled.now }
     requires none { (k : ℕ) → pointer_at places.old k ≡ Hole }
-    ensures grows { Grows draft.old draft.new }
-    ensures others { (p : ℕ) → IsReserved draft.old p → IsReserved draft.new p }
+    ensures step { Takes (length settled.now) draft.old draft.new result }
     ensures planned { IfOk result (PlansMap draft.old draft.new settled.now) }
-    ensures full { IsErrOf result PlanError.NoSpace → IsFull draft.new }
-    ensures takes { OnOk result (TakesAtMost (length settled.now) draft.old draft.new) }
-    ensures lacks { IsErrOf result PlanError.NoSpace → Lacks (length settled.now) draft.old }
-    ensures shortage { IfErr result IsShortage }
 {
     let count = draft.map_blocks();
     reserve_map(draft, settled, places)?;
@@ -254,13 +240,8 @@ pub fn store_own_map(
         ≡ div_ceil draft.old.map.count BLOCK_POINTERS }
     requires nodes { length settled.now ≡ map_nodes (length draft.old.map.parts.items) }
     requires within { All (PointsBelow draft.old.map.count) settled.now }
-    ensures grows { Grows draft.old draft.new }
-    ensures others { (p : ℕ) → IsReserved draft.old p → IsReserved draft.new p }
+    ensures step { Takes (length settled.now) draft.old draft.new result }
     ensures planned { IfOk result (PlansMap draft.old draft.new settled.now) }
-    ensures full { IsErrOf result PlanError.NoSpace → IsFull draft.new }
-    ensures takes { OnOk result (TakesAtMost (length settled.now) draft.old draft.new) }
-    ensures lacks { IsErrOf result PlanError.NoSpace → Lacks (length settled.now) draft.old }
-    ensures shortage { IfErr result IsShortage }
 {
     let mut places = holes(alloc, settled.len())?;
     store_nodes(alloc, draft, settled, &mut places)

@@ -35,7 +35,7 @@ fits_same t v w fits same = record { files = λ fd f e. same f.number (is_opened
 pub fits_swept : (t : Descriptors) (v : Volume) → FitsVolume t v → FitsVolume t (swept (table_of t) v)
 fits_swept t v fits = fits_same t v (swept (table_of t) v) fits (λ k opened. ap node_figures (ap (λ b. swept_node b (v k)) opened ∙ stays_open (v k)))
 
-figured_file : (o : Option Node) (figures : Figures) → node_figures o ≡ Some figures → is_file_node o ≡ true
+pub figured_file : (o : Option Node) (figures : Figures) → node_figures o ≡ Some figures → is_file_node o ≡ true
 figured_file None figures e = cc
 figured_file (Some (directory_node mode names)) figures e = cc
 figured_file (Some (file_node mode links bytes)) figures e = refl

@@ -4,7 +4,7 @@ use Rattle.std.proofs.lemmas.Bool.{cases_eq, cond-true, cond-false, eq-eqb, ne_e
 use Rattle.std.specs.Option.{option_map}
 use Rattle.model.specs.Trees.{Description}
 use Rattle.model.specs.Volumes.{IsMounted, Volume, is_file_node, is_numbered, is_open, swept_node}
-use Rattle.model.proofs.LooseLemmas.{some_same}
+use Rattle.model.proofs.OptionLaws.{some_same}
 use Rattle.descriptors.specs.Files.{description_of}
 use Rattle.descriptors.specs.Tables.{at_place, moved_to, open_at, put_open, table_of}
 use Rattle.descriptors.specs.declared.open_file.OpenFile.{OpenFile}

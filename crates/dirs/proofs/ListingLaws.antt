@@ -27,7 +27,7 @@ or_comm true false = refl
 or_comm false true = refl
 or_comm false false = refl
 
-or_again : (a b : Bool) → (a || b) ≡ ((a || b) || a)
+pub or_again : (a b : Bool) → (a || b) ≡ ((a || b) || a)
 or_again true b = refl
 or_again false b = sym (or-false b)
 

@@ -7,9 +7,7 @@ use Rattle.model.specs.Paths.{Name}
 use Rattle.layout.specs.DirectoryNames.{number_of, HasEachOnce, NameMap, AreNames}
 use Rattle.dirs.specs.Entries.{without}
 use Rattle.dirs.specs.Directory.{with_name, with_at}
-
-pub none_some : {X : Type 0} {n : ℕ} → None ≡ Some n → X
-none_some e = cc
+use Rattle.model.proofs.OptionLaws.{none_some}
 
 -- ---- one list of entries
 

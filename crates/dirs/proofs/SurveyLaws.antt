@@ -6,8 +6,8 @@ use Rattle.layout.specs.Directory.{Named, HoldsEntries}
 use Rattle.model.specs.Paths.{Name}
 use Rattle.dirs.specs.Entries.{used_by}
 use Rattle.dirs.specs.Directory.{first_entries}
-use Rattle.dirs.specs.Looks.{Tells, IsLikely}
-use Rattle.dirs.specs.Surveys.{Finds, IsBounded, IsFirstRoom, next_room}
+use Rattle.dirs.specs.Looks.{TellsEntries, IsLikely}
+use Rattle.dirs.specs.Surveys.{SurveysBlocks, IsBounded, IsFirstRoom, next_room}
 use Rattle.dirs.specs.declared.look.Look.{Look}
 use Rattle.dirs.specs.declared.survey.Survey.{Survey}
 
@@ -34,8 +34,8 @@ bounded_more i bytes s t l short likely names None bounded =
           subst (IsBounded (i + 1) t) (sym (cond-false (leb (l.used + bytes) 4096) (Some i) None over)) many
     ]
 
-pub finds_more : (inodes : ℕ) (block : ℕ → List ℕ) (i bytes : ℕ) (name : Name) (s t : Survey) (l : Look) → Finds inodes block i bytes s → Tells inodes (block i) name l
-    → t.names ≡ s.names + l.names → t.room ≡ next_room i (l.used + bytes) s.room → Finds inodes block (i + 1) bytes t
+pub finds_more : (inodes : ℕ) (block : ℕ → List ℕ) (i bytes : ℕ) (name : Name) (s t : Survey) (l : Look) → SurveysBlocks inodes block i bytes s → TellsEntries inodes (block i) name l
+    → t.names ≡ s.names + l.names → t.room ≡ next_room i (l.used + bytes) s.room → SurveysBlocks inodes block (i + 1) bytes t
 finds_more inodes block i bytes name s t l finds tells names room = record {
   names = λ entries holds.
       let before = finds.names entries (λ j below. holds j (omega (arith, below))) in

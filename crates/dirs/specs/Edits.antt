@@ -29,17 +29,17 @@ abbrev pub FitsIn : File → Edit → Type 0
 FitsIn f e = (i : ℕ) → tree.ContainsKey nat_cmp e.changed i → HasRoom f.tree i
 
 -- with an edit, each block of a directory holds entries
-abbrev pub IsSound : ℕ → (ℕ → List ℕ) → File → Edit → Type 0
-IsSound inodes disk f e = AreDirectoryBlocks inodes e.count (edited_block disk f e)
+abbrev pub IsSoundEdit : ℕ → (ℕ → List ℕ) → File → Edit → Type 0
+IsSoundEdit inodes disk f e = AreDirectoryBlocks inodes e.count (edited_block disk f e)
 
 -- what leads to the blocks of a directory on a disk of so many blocks is in the grammar
 abbrev pub IsReached : ℕ → (ℕ → List ℕ) → File → ℕ → Type 0
 IsReached blocks disk f count = (i : ℕ) → i < count → IsSoundAt blocks disk f.tree i
 
 -- where a name stands: in this block, for this number
-abbrev pub IsPlaced : (ℕ → List Named) → ℕ → Name → Option Place → Type 0
-IsPlaced entries count name (Some p) = (p.block < count) × (number_of name (entries p.block) ≡ Some p.number)
-IsPlaced entries count name None = (i : ℕ) → i < count → number_of name (entries i) ≡ None
+abbrev pub IsNamePlace : (ℕ → List Named) → ℕ → Name → Option Place → Type 0
+IsNamePlace entries count name (Some p) = (p.block < count) × (number_of name (entries p.block) ≡ Some p.number)
+IsNamePlace entries count name None = (i : ℕ) → i < count → number_of name (entries i) ≡ None
 
 -- a block in its grammar, where a name stands for this number, or for none
 abbrev pub HasNumber : ℕ → List ℕ → Name → Option ℕ → Type 0
@@ -47,7 +47,7 @@ HasNumber inodes bytes name number =
     (entries : List Named) × HoldsEntries inodes bytes entries × (number_of name entries ≡ number)
 
 -- the number that a name has in the first block where it stands: up to there, or else all, the blocks are in their grammar
-abbrev pub IsFirst : ℕ → (ℕ → List ℕ) → ℕ → Name → Option ℕ → Type 0
-IsFirst inodes block count name (Some number) =
+abbrev pub IsFirstFound : ℕ → (ℕ → List ℕ) → ℕ → Name → Option ℕ → Type 0
+IsFirstFound inodes block count name (Some number) =
     (at : ℕ) × (at < count) × ((i : ℕ) → i < at → HasNumber inodes (block i) name None) × HasNumber inodes (block at) name (Some number)
-IsFirst inodes block count name None = (i : ℕ) → i < count → HasNumber inodes (block i) name None
+IsFirstFound inodes block count name None = (i : ℕ) → i < count → HasNumber inodes (block i) name None

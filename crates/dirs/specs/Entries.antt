@@ -1,7 +1,7 @@
 -- Entries in a row: one taken away, and how long they are.
 use Rattle.std.specs.Prelude.{ℕ, ◌+◌, ◌<◌, ◌≤◌, List, [], ◌∷◌, length, bytes_eq, if◌then◌else◌}
 use Rattle.layout.specs.Directory.{Named, entry_bytes}
-use Rattle.layout.specs.declared.numbers.TheConstants.{FIRST_NUMBER}
+use Rattle.model.specs.declared.limits.TheConstants.{FIRST_NUMBER}
 use Rattle.model.specs.Paths.{Name}
 
 -- the number of an object, in an image of so many inodes

@@ -7,7 +7,7 @@ use Rattle.dirs.specs.Entries.{used_by}
 use Rattle.dirs.specs.declared.look.Look.{Look}
 
 -- it tells of the entries that the bytes hold
-pub record Tells (inodes : ℕ) (bytes : List ℕ) (name : Name) (l : Look) : Type 0 where
+pub record TellsEntries (inodes : ℕ) (bytes : List ℕ) (name : Name) (l : Look) : Type 0 where
   pub entries : List Named
   pub holds : HoldsEntries inodes bytes entries
   pub number : (es : List Named) → HoldsEntries inodes bytes es → l.number ≡ number_of name es

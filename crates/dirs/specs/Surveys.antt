@@ -18,7 +18,7 @@ next_room i bytes (Some first) = Some first
 next_room i bytes None = if nat_le bytes 4096 then Some i else None
 
 -- it counts the names of the first so many blocks, and finds the first with room for so many bytes
-pub record Finds (inodes : ℕ) (block : ℕ → List ℕ) (count bytes : ℕ) (s : Survey) : Type 0 where
+pub record SurveysBlocks (inodes : ℕ) (block : ℕ → List ℕ) (count bytes : ℕ) (s : Survey) : Type 0 where
   pub names : (entries : ℕ → List Named) → AllHold inodes count block entries → s.names ≡ length (first_entries entries count)
   pub room : (entries : ℕ → List Named) → AllHold inodes count block entries → IsFirstRoom entries count bytes s.room
   pub sound : AreDirectoryBlocks inodes count block

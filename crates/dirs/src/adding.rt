@@ -5,15 +5,17 @@ ghost use Rattle.layout.specs.Directory.{Named, HoldsEntries, IsEntry, named_of,
 ghost use Rattle.buffers.specs.Reads.{ReadsBlocks};
 ghost use Rattle.blocktree.specs.Errors.{IsFault};
 ghost use Rattle.dirs.specs.Errors.{IsAddFault};
-ghost use Rattle.dirs.specs.declared.TheConstants.{MOST_BLOCKS, MOST_NAMES};
+ghost use Rattle.model.specs.declared.limits.TheConstants.{DIRECTORY_NAMES};
+ghost use Rattle.dirs.specs.declared.TheConstants.{FILE_BLOCKS};
 
 use crate::entries::add;
 use crate::survey::survey_of;
-use crate::{AddError, Edit, MOST_BLOCKS, MOST_NAMES};
+use crate::{AddError, Edit, FILE_BLOCKS};
 use blocktree::ReadError;
 use buffers::Blocks;
 use inode::File;
 use layout::{BLOCK_BYTES, Entry};
+use model::DIRECTORY_NAMES;
 use std::alloc::{AllocError, Global};
 
 impl Edit {
@@ -22,7 +24,7 @@ impl Edit {
     ghost use Rattle.layout.specs.DirectoryNames.{NameMap};
     ghost use Rattle.dirs.specs.Directory.{HasCount, with_name};
     ghost use Rattle.dirs.specs.Entries.{used_by};
-    ghost use Rattle.dirs.specs.Edits.{edited_block, HasNames, IsSound, IsReached, FitsIn};
+    ghost use Rattle.dirs.specs.Edits.{edited_block, HasNames, IsSoundEdit, IsReached, FitsIn};
     ghost use Rattle.dirs.specs.FirstFit.{IsFirstFit};
 
     /// Prepares that a name is added, which stands nowhere in the directory: in the first block with room for it, else in a
@@ -51,23 +53,24 @@ impl Edit {
             (IsFirstFit inodes (named_of entry.now) has.entries self.old.count self.new.count
             (edited_block disk file.old self.old) (edited_block disk file.new self.new)) }
         ensures sound { (disk : ℕ → List ℕ) → B.Shows blocks.old disk →
-            OnOk result (IsSound inodes disk file.old self.old) }
+            OnOk result (IsSoundEdit inodes disk file.old self.old) }
         ensures kept { (disk : ℕ → List ℕ) (names : NameMap) →
             HasNames inodes disk file.old self.old names →
             OnErr result (HasNames inodes disk file.new self.new names) }
         ensures room { (disk : ℕ → List ℕ) (names : NameMap) → B.Shows blocks.old disk →
             HasNames inodes disk file.old self.old names →
-            OnOk result ((n : ℕ) × HasCount names n × (n < MOST_NAMES)) }
+            OnOk result ((n : ℕ) × HasCount names n × (n < DIRECTORY_NAMES)) }
         ensures full { (disk : ℕ → List ℕ) (names : NameMap) → B.Shows blocks.old disk →
             HasNames inodes disk file.old self.old names →
-            IsErrOf result AddError.DirFull → (n : ℕ) × HasCount names n × (MOST_NAMES ≤ n) }
+            IsErrOf result AddError.DirFull →
+            (n : ℕ) × HasCount names n × (DIRECTORY_NAMES ≤ n) }
         ensures damaged { (disk : ℕ → List ℕ) → B.Shows blocks.old disk →
             IsErrOf result AddError.Damaged →
             IsReached (B.count blocks.old) disk file.old self.old.count →
-            IsSound inodes disk file.old self.old → ⊥ }
+            IsSoundEdit inodes disk file.old self.old → ⊥ }
     {
         let survey = survey_of(self, file, blocks, inodes, entry.encoded_len())?;
-        let is_full = survey.names >= MOST_NAMES;
+        let is_full = survey.names as usize >= DIRECTORY_NAMES;
         if is_full {
             return Err(AddError::DirFull);
         }
@@ -125,7 +128,7 @@ impl Edit {
         entry: &Entry<'_>,
     ) -> Result<(), AllocError>
         requires entry { IsEntry inodes (named_of entry.now) }
-        requires room { self.old.count < MOST_BLOCKS }
+        requires room { self.old.count < FILE_BLOCKS }
         ensures file { IsSameFile file.old file.new }
         ensures keeps { KeepsRoom file.old.tree file.new.tree }
         ensures fits { FitsIn file.old self.old → FitsIn file.new self.new }

@@ -13,7 +13,7 @@ ghost use Rattle.model.specs.Paths.{Name};
 ghost use Rattle.layout.specs.DirectoryNames.{number_of, NameMap};
 ghost use Rattle.dirs.specs.Directory.{AreDirectoryBlocks};
 ghost use Rattle.dirs.specs.Entries.{IsObjectNumber};
-ghost use Rattle.dirs.specs.Edits.{IsDirectory, IsReached, IsFirst};
+ghost use Rattle.dirs.specs.Edits.{IsDirectory, IsReached, IsFirstFound};
 ghost use Rattle.dirs.specs.Listings.{IsListing, lists};
 
 use crate::Edit;
@@ -37,7 +37,8 @@ pub fn find<B: Blocks>(
     ensures found { (disk : ℕ → List ℕ) (names : NameMap) → B.Shows blocks.old disk →
         IsDirectory inodes disk file.now names → IfOk result (λ number. number ≡ names name.now) }
     ensures sound { (disk : ℕ → List ℕ) → B.Shows blocks.old disk →
-        IfOk result (IsFirst inodes (file_block disk file.now) (file.now.size / 4096) name.now) }
+        IfOk result
+        (IsFirstFound inodes (file_block disk file.now) (file.now.size / 4096) name.now) }
     ensures ordinary { IfOk result (λ number. IfSome number (IsObjectNumber inodes)) }
     ensures damaged { (disk : ℕ → List ℕ) → B.Shows blocks.old disk →
         IsErrOf result ReadError.Damaged →

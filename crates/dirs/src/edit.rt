@@ -1,6 +1,6 @@
 //! An edit of a directory, prepared before it is made.
 
-use crate::MOST_BLOCKS;
+use crate::FILE_BLOCKS;
 use crate::look::{Look, look_at};
 use blocktree::ReadError;
 use buffers::{Block, Blocks};
@@ -16,7 +16,7 @@ pub struct Edit {
     pub(crate) changed: BTreeMap<u32, Block>,
     /// How many blocks the directory will have.
     pub(crate) count: u32,
-    ghost within: { count ≤ MOST_BLOCKS },
+    ghost within: { count ≤ FILE_BLOCKS },
 }
 
 /// Where a name stands.
@@ -33,7 +33,7 @@ ghost use Rattle.std.specs.BTreeMap as tree;
 ghost use Rattle.layout.specs.Directory.{Named, HoldsEntries};
 ghost use Rattle.buffers.specs.Reads.{ReadsBlocks};
 ghost use Rattle.blocktree.specs.Errors.{IsFault};
-ghost use Rattle.dirs.specs.declared.TheConstants.{MOST_BLOCKS};
+ghost use Rattle.dirs.specs.declared.TheConstants.{FILE_BLOCKS};
 
 impl Edit {
     ghost use Rattle.blocktree.specs.Trees.{IsSoundAt, KeepsRoom, KeepsSound};
@@ -41,8 +41,8 @@ impl Edit {
     ghost use Rattle.inode.specs.Files.{IsFile, IsSameFile};
     ghost use Rattle.layout.specs.DirectoryNames.{NameMap, AllHold};
     ghost use Rattle.dirs.specs.Entries.{IsObjectNumber};
-    ghost use Rattle.dirs.specs.Edits.{edited_block, HasNames, IsSound, IsReached, IsPlaced, IsFirst, FitsIn, IsDirectory};
-    ghost use Rattle.dirs.specs.Looks.{Tells, IsLikely};
+    ghost use Rattle.dirs.specs.Edits.{edited_block, HasNames, IsSoundEdit, IsReached, IsNamePlace, IsFirstFound, FitsIn, IsDirectory};
+    ghost use Rattle.dirs.specs.Looks.{TellsEntries, IsLikely};
 
     /// An edit of this directory that changes nothing yet.
     pub fn of(alloc: Global, file: &File) -> Edit
@@ -69,7 +69,7 @@ impl Edit {
     ) -> Result<Look, ReadError>
         ensures reads { ReadsBlocks B.Blocks IsFault blocks.old blocks.new result }
         ensures tells { (disk : ℕ → List ℕ) → B.Shows blocks.old disk →
-            IfOk result (Tells inodes (edited_block disk file.now self.now i) name.now) }
+            IfOk result (TellsEntries inodes (edited_block disk file.now self.now i) name.now) }
         ensures ordinary { IfOk result (λ l. IfSome l.number (IsObjectNumber inodes)) }
         ensures likely { IfOk result IsLikely }
         ensures damaged { (disk : ℕ → List ℕ) → B.Shows blocks.old disk →
@@ -150,14 +150,14 @@ impl Edit {
             (λ p. IsObjectNumber inodes p.number)) }
         ensures placed { (disk : ℕ → List ℕ) (entries : ℕ → List Named) → B.Shows blocks.old disk →
             AllHold inodes self.now.count (edited_block disk file.now self.now) entries →
-            IfOk result (IsPlaced entries self.now.count name.now) }
+            IfOk result (IsNamePlace entries self.now.count name.now) }
         ensures first { (disk : ℕ → List ℕ) → B.Shows blocks.old disk →
-            IfOk result (λ place. IsFirst inodes (edited_block disk file.now self.now)
+            IfOk result (λ place. IsFirstFound inodes (edited_block disk file.now self.now)
             self.now.count name.now (option_map (λ p. p.number) place)) }
         ensures damaged { (disk : ℕ → List ℕ) → B.Shows blocks.old disk →
             IsErrOf result ReadError.Damaged →
             IsReached (B.count blocks.old) disk file.now self.now.count →
-            IsSound inodes disk file.now self.now → ⊥ }
+            IsSoundEdit inodes disk file.now self.now → ⊥ }
     {
         for i in 0..self.count {
             let look = self.look(file, blocks, i, inodes, name)?;
@@ -181,13 +181,13 @@ impl Edit {
             HasNames inodes disk file.now self.now names →
             IfOk result (λ number. number ≡ names name.now) }
         ensures sound { (disk : ℕ → List ℕ) → B.Shows blocks.old disk →
-            IfOk result (IsFirst inodes (edited_block disk file.now self.now)
+            IfOk result (IsFirstFound inodes (edited_block disk file.now self.now)
             self.now.count name.now) }
         ensures ordinary { IfOk result (λ number. IfSome number (IsObjectNumber inodes)) }
         ensures damaged { (disk : ℕ → List ℕ) → B.Shows blocks.old disk →
             IsErrOf result ReadError.Damaged →
             IsReached (B.count blocks.old) disk file.now self.now.count →
-            IsSound inodes disk file.now self.now → ⊥ }
+            IsSoundEdit inodes disk file.now self.now → ⊥ }
     {
         match self.locate(file, blocks, inodes, name)? {
             Some(place) => Ok(Some(place.number)),

@@ -15,8 +15,5 @@ pub use directory::{find, list};
 pub use edit::Edit;
 pub use error::AddError;
 
-/// Names in one directory at most.
-pub const MOST_NAMES: u32 = 65_536;
-
 /// Blocks that the greatest file has.
-const MOST_BLOCKS: u32 = 16_384;
+const FILE_BLOCKS: u32 = 16_384;

@@ -4,7 +4,7 @@ ghost use Rattle.std.specs.Prelude.{◌≡◌, List, IfOk, IfErr, IfSome, OnErr}
 ghost use Rattle.layout.specs.Directory.{Named, HoldsEntries};
 ghost use Rattle.blocktree.specs.declared.error.ReadError.TheVariants.{Damaged};
 ghost use Rattle.dirs.specs.Entries.{IsObjectNumber};
-ghost use Rattle.dirs.specs.Looks.{Tells, IsLikely};
+ghost use Rattle.dirs.specs.Looks.{TellsEntries, IsLikely};
 
 use crate::entries::{count, find, used};
 use blocktree::ReadError;
@@ -27,7 +27,7 @@ pub(crate) fn look_at(
     inodes: u32,
     name: &[u8],
 ) -> Result<Look, ReadError>
-    ensures tells { IfOk result (Tells inodes bytes.now name.now) }
+    ensures tells { IfOk result (TellsEntries inodes bytes.now name.now) }
     ensures ordinary { IfOk result (λ l. IfSome l.number (IsObjectNumber inodes)) }
     ensures likely { IfOk result IsLikely }
     ensures damaged { OnErr result ((entries : List Named) →

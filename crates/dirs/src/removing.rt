@@ -18,7 +18,7 @@ impl Edit {
     ghost use Rattle.inode.specs.Files.{IsSameFile};
     ghost use Rattle.layout.specs.DirectoryNames.{NameMap, AllHold};
     ghost use Rattle.dirs.specs.Directory.{AreDirectoryBlocks, with_name};
-    ghost use Rattle.dirs.specs.Edits.{edited_block, HasNames, IsSound, IsReached, IsFirst, FitsIn};
+    ghost use Rattle.dirs.specs.Edits.{edited_block, HasNames, IsSoundEdit, IsReached, IsFirstFound, FitsIn};
 
     // How many blocks are left where the empty ones right before block `end` are cut away.
     fn trimmed<B: Blocks>(
@@ -65,7 +65,7 @@ impl Edit {
             HasNames inodes disk file.old self.old names →
             OnOk result (HasNames inodes disk file.new self.new (with_name name.now None names)) }
         ensures sound { (disk : ℕ → List ℕ) → B.Shows blocks.old disk → OnOk result
-            ((number : Option ℕ) × IsFirst inodes (edited_block disk file.old self.old)
+            ((number : Option ℕ) × IsFirstFound inodes (edited_block disk file.old self.old)
             self.old.count name.now number) }
         ensures kept { (disk : ℕ → List ℕ) (names : NameMap) →
             HasNames inodes disk file.old self.old names →
@@ -73,7 +73,7 @@ impl Edit {
         ensures damaged { (disk : ℕ → List ℕ) → B.Shows blocks.old disk →
             IsErrOf result ReadError.Damaged →
             IsReached (B.count blocks.old) disk file.old self.old.count →
-            IsSound inodes disk file.old self.old → ⊥ }
+            IsSoundEdit inodes disk file.old self.old → ⊥ }
     {
         let Some(place) = self.locate(file, blocks, inodes, name)? else {
             return Ok(());

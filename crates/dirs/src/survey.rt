@@ -3,8 +3,8 @@
 ghost use Rattle.std.specs.Prelude.{◌≡◌, ◌+◌, ◌^◌, ◌<◌, ◌≤◌, ℕ, List, IfOk, IsErrOf};
 ghost use Rattle.buffers.specs.Reads.{ReadsBlocks};
 ghost use Rattle.blocktree.specs.Errors.{IsFault};
-ghost use Rattle.dirs.specs.Edits.{edited_block, IsReached, IsSound};
-ghost use Rattle.dirs.specs.Surveys.{Finds, IsBounded, next_room};
+ghost use Rattle.dirs.specs.Edits.{edited_block, IsReached, IsSoundEdit};
+ghost use Rattle.dirs.specs.Surveys.{SurveysBlocks, IsBounded, next_room};
 
 use crate::Edit;
 use crate::look::Look;
@@ -33,12 +33,13 @@ pub(crate) fn survey_of<B: Blocks>(
     requires { bytes ≤ 260 }
     ensures reads { ReadsBlocks B.Blocks IsFault blocks.old blocks.new result }
     ensures finds { (disk : ℕ → List ℕ) → B.Shows blocks.old disk →
-        IfOk result (Finds inodes (edited_block disk file.now edit.now) edit.now.count bytes) }
+        IfOk result
+        (SurveysBlocks inodes (edited_block disk file.now edit.now) edit.now.count bytes) }
     ensures bounded { IfOk result (λ s. IsBounded edit.now.count s s.room) }
     ensures damaged { (disk : ℕ → List ℕ) → B.Shows blocks.old disk →
         IsErrOf result ReadError.Damaged →
         IsReached (B.count blocks.old) disk file.now edit.now.count →
-        IsSound inodes disk file.now edit.now → ⊥ }
+        IsSoundEdit inodes disk file.now edit.now → ⊥ }
 {
     let mut survey = Survey {
         names: 0,

@@ -1,4 +1,4 @@
-//! A station over the two files of an image, a disk's and an NVRAM's.
+//! The devices over files: a station over the two files of an image, a disk's and an NVRAM's.
 #![tactic(auto)]
 
 mod file_station;

@@ -10,25 +10,30 @@ use Rattle.model.specs.Outcomes.{Outcome, changes_swept}
 use Rattle.model.specs.Room.{nothing}
 use Rattle.model.specs.Trees.{Tree, Description}
 use Rattle.model.specs.Volumes.{IsMounted, IsVolume, Node, Volume, directory_node, file_node, link_node, is_file_node, is_nameless, is_open, swept, swept_node, tree_of, with_node}
-use Rattle.model.specs.declared.reply.Reply.TheVariants.{Done}
-use Rattle.model.proofs.LooseLemmas.{some_same}
+use Rattle.model.specs.declared.reply.Reply.TheVariants.{Done, Refused}
+use Rattle.model.specs.declared.errno.Errno.TheVariants.{EBADF}
+use Rattle.blocktree.specs.Errors.{IsFault}
+use Rattle.blocktree.specs.declared.error.ReadError.{ReadError}
+use Rattle.buffers.specs.declared.blocks.Blocks.{Ghosts}
+use Rattle.model.proofs.OptionLaws.{some_same}
 use Rattle.model.proofs.RecordLemmas.{swept_twice}
 use Rattle.model.proofs.SweepLemmas.{IsNameless, found_open, opened_by, stays_named, stays_open, swept_from}
-use Rattle.layout.specs.Limits.{Sizes}
-use Rattle.inofile.specs.Inodes.{HasRoomFor, IsKnown}
 use Rattle.inofile.specs.declared.inode_file.InodeFile.{InodeFile}
-use Rattle.paths.specs.Numbers.{IsNumber}
+use Rattle.paths.specs.Standing.{Looks}
+use Rattle.paths.proofs.Looks.{looks_ok}
+use Rattle.records.specs.Shown.{NeverDamaged}
 use Rattle.records.specs.Steps.{IsAtHand}
-use Rattle.records.proofs.EnterLaws.{node_here, node_other}
+use Rattle.records.proofs.StandLaws.{no_look}
 use Rattle.descriptors.specs.Files.{Figures, description_of, figures_of, node_figures}
 use Rattle.descriptors.specs.Fits.{FitsVolume}
 use Rattle.descriptors.specs.Tables.{open_at, put_open, table_of}
 use Rattle.descriptors.specs.declared.open_file.OpenFile.{OpenFile}
 use Rattle.descriptors.specs.declared.table.Descriptors.{Descriptors}
-use Rattle.files.specs.Closing.{ClosesReady, IsOpenNameless, swept_at}
+use Rattle.files.specs.Closing.{ClosesReady, IsOpenNameless, PreparesClose, swept_at}
 use Rattle.files.specs.Opened.{tree_with}
 use Rattle.records.specs.Opened.{HasNumbers}
 use Rattle.files.proofs.OpenLaws as laws
+use Rattle.model.proofs.ObjectLaws.{node_here, node_other}
 
 -- nothing is open past the table's end
 past_end : (t : Descriptors) (d : ℕ) → 32 ≤ d → table_of t d ≡ None
@@ -121,6 +126,18 @@ module _ (old new : Descriptors) (fd : ℕ) (freed : table_of new ≡ put_open f
             | inr differs ↦ node_other f.number n (swept_node (is_open (table_of new) 32 f.number) (v f.number)) v differs ∙ sym (swept_other mounted n differs)
           ])
 
+-- ---- a descriptor that isn't open
+
+module _ (table : Descriptors) (v : Volume) (mounted : IsMounted v (table_of table)) where
+  -- of a mounted volume nothing goes
+  pub none_swept : v ≡ swept (table_of table) v
+  none_swept = sym (fun_ext {f = swept (table_of table) v} {g = v} mounted.is_swept)
+
+  pub close_refused : (fd : ℕ) → open_at table fd ≡ None → closes (tree_with table v) fd (Refused EBADF) (tree_with table (swept (table_of table) v)) nothing
+  close_refused fd none =
+      subst (λ (w : Volume). closes (tree_with table v) fd (Refused EBADF) (tree_of w (table_of table)) nothing) none_swept
+      (laws.not_open table v fd (λ f. changes_swept Done (with_descriptor fd None (tree_with table v)) nothing) none)
+
 -- ---- the file of a descriptor that is freed
 
 module _ (table : ℕ → Option Description) (n : ℕ) (v : Volume) where
@@ -163,14 +180,35 @@ open_nameless table fd f v fits some none = (f, some, nameless (v f.number) (fig
         let many : suc links ≡ figures.links = ap (λ (k : Figures). k.links) (some_same is) in absurd (omega (arith, many, none))
     nameless (Some (link_node text)) figures is none = cc
 
-pub on_err : {T E : Type 0} {P : Type 0} (r : Result T E) → P → OnErr r P
+on_err : {T E : Type 0} {P : Type 0} (r : Result T E) → P → OnErr r P
 on_err (Ok x) is = tt
 on_err (Err e) is = is
 
--- what is taken into memory is at hand
-pub ready_by : {T E : Type 0} (r : Result T E) (s t : InodeFile) → t.geometry ≡ s.geometry → (table : Descriptors) (fd : ℕ) (f : OpenFile) → open_at table fd ≡ Some f
-    → IsNumber s.geometry.inodes f.number → OnOk r (IsKnown t f.number) → OnOk r (HasRoomFor t f.number) → OnOk r (ClosesReady t table fd)
-ready_by (Err e) s t same table fd f some number known room = tt
-ready_by (Ok x) s t same table fd f some number known room = λ g is none.
-    subst (λ (k : OpenFile). IsAtHand t k.number) (some_same (sym some ∙ is))
-    (record { low = number.0; high = subst (λ (z : Sizes). f.number < z.inodes) (sym same) number.1; room = room; known = known })
+-- ---- before a descriptor is freed
+
+ready_by : {T : Type 0} (table : Descriptors) (fd : ℕ) (r : Result T ReadError) (t : InodeFile) (f : OpenFile) → open_at table fd ≡ Some f → OnOk r (IsAtHand t f.number)
+    → OnOk r (ClosesReady t table fd)
+ready_by table fd (Err e) t f some here = tt
+ready_by table fd (Ok x) t f some here = λ g is none. subst (λ (k : OpenFile). IsAtHand t k.number) (some_same (sym some ∙ is)) here
+
+module _ {B T : Type 0} {G : Ghosts B} {table : Descriptors} {fd : ℕ} where
+  -- nothing is needed where no file without a name is open there
+  pub needs_nothing : {a : B} {s : InodeFile} {x : T} → ((f : OpenFile) → open_at table fd ≡ Some f → f.links ≡ 0 → ⊥) → PreparesClose G a a s s table fd (Ok x)
+  needs_nothing other = record {
+    looks = looks_ok no_look;
+    ready = λ f some none. absurd (other f some none);
+    sure = λ disk settled v stands volume mounted fits. tt;
+    still = λ disk settled v stands volume mounted fits named. refl;
+    damaged = λ disk settled v stands bad. cc;
+  }
+
+  -- and else this file is taken into memory
+  pub prepared : {a b : B} {s t : InodeFile} {r : Result T ReadError} → Looks G IsFault a b s t r → (f : OpenFile) → OnOk r (IsAtHand t f.number) → NeverDamaged G a s r
+      → open_at table fd ≡ Some f → f.links ≡ 0 → PreparesClose G a b s t table fd r
+  prepared {t = t} {r = r} looks f here sound some none = record {
+    looks = looks;
+    ready = ready_by table fd r t f some here;
+    sure = λ disk settled v stands volume mounted fits. on_err r (open_nameless table fd f v fits some none);
+    still = λ disk settled v stands volume mounted fits named. absurd (named (open_nameless table fd f v fits some none));
+    damaged = sound;
+  }

@@ -4,14 +4,14 @@ use Rattle.std.proofs.Math.Path.{fun_ext}
 use Rattle.model.specs.Changing.{cuts}
 use Rattle.model.specs.Descriptors.{truncates_open}
 use Rattle.model.specs.Outcomes.{Outcome}
-use Rattle.model.specs.Records.{Applies, Change, applied, work_of}
+use Rattle.model.specs.Records.{Change, applied, work_of}
 use Rattle.model.specs.Records as records
 use Rattle.model.specs.Room.{logs, nothing}
 use Rattle.model.specs.Trees.{Tree, Description}
 use Rattle.model.specs.Volumes.{IsMounted, Volume, swept, tree_of}
 use Rattle.model.specs.declared.reply.Reply.TheVariants.{Done}
-use Rattle.records.specs.Served.{IsServed}
-use Rattle.calls.specs.Truncating.{ComesToSize, CutsFile}
+use Rattle.calls.specs.Changing.{ComesOrStays, ComesSweptBy}
+use Rattle.calls.specs.Truncate.{CutsFile}
 use Rattle.calls.specs.declared.changed.Changing.{Changing}
 use Rattle.descriptors.specs.Tables.{table_of}
 use Rattle.descriptors.specs.declared.open_file.OpenFile.{OpenFile}
@@ -36,14 +36,10 @@ module _ (inodes : ℕ) (v : Volume) (table : Descriptors) (fd : ℕ) (size : �
   whole mounted = fun_ext {f = swept (table_of table) (applied change v)} {g = applied change v} mounted.is_swept
 
   pub ftruncate_told : (o : Option Changing) → PassesOpen (cut_tests size) table fd (Ok f) → CutsFile inodes v (table_of table) f.number (nat_abs size) o
-      → ComesToSize (truncates_open t fd size) inodes v (table_of table) (Ok o)
+      → ComesOrStays (truncates_open t fd size) inodes v (table_of table) (Ok o)
   ftruncate_told None opened cut = open_passes table v fd (cut_tests size) cutting f Done t nothing opened cut
   ftruncate_told (Some c) opened (says, (over, cut)) =
-      subst
-      (λ (x : Change).
-      IsServed x × Applies inodes v x × IsMounted (swept (table_of table) (applied x v)) (table_of table)
-      × truncates_open t fd size Done (tree_of (swept (table_of table) (applied x v)) (table_of table)) (logs (work_of v x))) (sym says) (
-        tt,
+      subst (ComesSweptBy (truncates_open t fd size) inodes v (table_of table)) (sym says) (
         over.0,
         subst (λ (w : Volume). IsMounted w (table_of table)) (sym (whole over.1)) over.1,
         subst (λ (w : Volume). truncates_open t fd size Done (tree_of w (table_of table)) (logs (work_of v change))) (sym (whole over.1))

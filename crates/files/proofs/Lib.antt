@@ -1,3 +1,4 @@
+pub mod Preparing
 pub mod OpenLaws
 pub mod SeekLaws
 pub mod CloseLaws

@@ -8,11 +8,10 @@ use Rattle.model.specs.Room.{nothing}
 use Rattle.model.specs.Trees.{Description, HasPath, Tree, file}
 use Rattle.model.specs.Volumes.{IsVolume, Node, Volume, directory_node, file_node, link_node, is_file_node, is_nameless, number_at, entries, object_at, object_of, tree_of}
 use Rattle.model.specs.declared.errno.Errno.{Errno}
-use Rattle.model.specs.declared.errno.Errno.TheVariants.{EBADF}
 use Rattle.model.specs.declared.reply.Reply.TheVariants as replies
 use Rattle.model.specs.declared.reply.Stat.{Stat}
 use Rattle.model.proofs.SweepLemmas.{found_number}
-use Rattle.calls.specs.Stating.{TellsStat, stat_reply}
+use Rattle.calls.specs.Stat.{TellsStat, stat_reply}
 use Rattle.calls.proofs.StatLaws.{told}
 use Rattle.descriptors.specs.Files.{figures_of}
 use Rattle.descriptors.specs.Fits.{FitsVolume}
@@ -20,8 +19,8 @@ use Rattle.descriptors.specs.Tables.{open_at, table_of}
 use Rattle.descriptors.specs.declared.open_file.OpenFile.{OpenFile}
 use Rattle.descriptors.specs.declared.table.Descriptors.{Descriptors}
 use Rattle.files.specs.Opened.{tree_with}
-use Rattle.files.proofs.OpenLaws.{is_open, not_open}
-use Rattle.files.proofs.ReadLaws.{figured_file}
+use Rattle.files.proofs.OpenLaws.{is_open}
+use Rattle.descriptors.proofs.FitLemmas.{figured_file}
 
 -- a file of a volume
 file_of : (o : Option Node) → is_file_node o ≡ true → (mode : ℕ) × (links : ℕ) × (bytes : List ℕ) × (o ≡ Some (file_node mode links bytes))
@@ -55,9 +54,6 @@ module _ (inodes n : ℕ) (v : Volume) (table : ℕ → Option Description) (tel
 module _ (table : Descriptors) (v : Volume) (fd : ℕ) where
   abbrev tree : Tree
   tree = tree_with table v
-
-  pub stat_closed : open_at table fd ≡ None → stats_open tree fd (replies.Refused EBADF) tree nothing
-  stat_closed none = not_open table v fd (λ f. tells_stat tree (file f.number)) none
 
   pub stat_told : (inodes : ℕ) (f : OpenFile) (r : Result Stat Errno) → IsVolume inodes v → VolumesTellLinks → FitsVolume table v → open_at table fd ≡ Some f → TellsStat v f.number r
       → stats_open tree fd (stat_reply r) tree nothing

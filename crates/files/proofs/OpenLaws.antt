@@ -12,7 +12,7 @@ use Rattle.model.specs.declared.errno.Errno.{Errno}
 use Rattle.model.specs.declared.errno.Errno.TheVariants.{EBADF}
 use Rattle.model.specs.declared.reply.Reply.{Reply}
 use Rattle.model.specs.declared.reply.Reply.TheVariants.{Refused}
-use Rattle.model.proofs.LooseLemmas.{some_same}
+use Rattle.model.proofs.OptionLaws.{some_same}
 use Rattle.paths.specs.Numbers.{IsNumber}
 use Rattle.records.specs.Opened.{HasNumbers}
 use Rattle.descriptors.specs.Files.{description_of}

@@ -14,9 +14,9 @@ use Rattle.model.specs.declared.limits.TheConstants.{OPEN_FILES}
 use Rattle.model.specs.declared.reply.Reply.{Reply}
 use Rattle.model.specs.declared.reply.Reply.TheVariants.{Fd, Refused}
 use Rattle.calls.specs.Changing.{said_by}
-use Rattle.calls.specs.Opening.{IsOpened, OpensAt, OpensOver as FindsOver, opened_tree, opens_along}
+use Rattle.calls.specs.Open.{IsOpened, OpensAt, OpensOver as FindsOver, opened_tree, opens_along}
 use Rattle.calls.specs.declared.changed.Changing.{Changing}
-use Rattle.calls.specs.declared.opening.Opened.{Opened}
+use Rattle.calls.specs.declared.preparing.open.Opened.{Opened}
 use Rattle.descriptors.specs.Files.{Figures, description_of, figures_of, node_figures}
 use Rattle.descriptors.specs.Fits.{IsFileOf}
 use Rattle.descriptors.specs.Tables.{put_open, table_of}
@@ -76,9 +76,9 @@ module _ (inodes : ℕ) (v : Volume) (table : Descriptors) (text : List ℕ) (fl
 
         over : (changing : Option Changing) → FindsOver along inodes flags v (table_of table) o changing → OpensOver outcome inodes v table opening changing
         over None (is, opened) = (is_file v is, opens_at v nothing (opened fd))
-        over (Some c) (served, applies, mounted, is, opened) =
+        over (Some c) (applies, mounted, is, opened) =
             let w = swept (table_of table) (applied (said_by c.change) v) in
-            (served, applies, mounted, is_file w is, opens_at w (logs (work_of v (said_by c.change))) (opened fd))
+            (applies, mounted, is_file w is, opens_at w (logs (work_of v (said_by c.change))) (opened fd))
 
         pub open_told : OpensAt along inodes flags v (table_of table) (Ok o) → Opens outcome inodes v table (Ok opening)
         open_told told = over o.changing told

@@ -1,5 +1,5 @@
 -- What the definitions say of reading through a descriptor.
-use Rattle.std.proofs.Common.{◌≡◌, ◌+◌, ◌≤◌, ◌||◌, inl, inr, ℕ, ℤ, nat_abs, List, [], length, drop, min, true, Option, Some, None, Result, Ok, Err, unwrap_or, refl, sym, ap, subst, ◌∙◌, arith}
+use Rattle.std.proofs.Common.{◌≡◌, ◌+◌, ◌≤◌, ◌||◌, inl, inr, ℕ, ℤ, nat_abs, List, [], length, drop, min, Option, Some, None, Result, Ok, Err, unwrap_or, refl, sym, ap, subst, ◌∙◌, arith}
 use Rattle.std.proofs.lemmas.List.{length-drop, length-take}
 use Rattle.model.specs.Descriptors.{reads, reads_from, with_offset}
 use Rattle.model.specs.Edits.{contents, read_at}
@@ -8,11 +8,11 @@ use Rattle.model.specs.Paths.{Tests}
 use Rattle.model.specs.Reading.{is_negative, is_too_many}
 use Rattle.model.specs.Room.{Need, nothing}
 use Rattle.model.specs.Trees.{Tree, Description}
-use Rattle.model.specs.Volumes.{Node, Volume, bytes_of, directory_node, file_node, link_node, is_file_node}
+use Rattle.model.specs.Volumes.{Node, Volume, bytes_of, directory_node, file_node, link_node}
 use Rattle.model.specs.declared.errno.Errno.{Errno}
 use Rattle.model.specs.declared.reply.Reply.{Reply}
 use Rattle.model.specs.declared.reply.Reply.TheVariants.{Data, Refused}
-use Rattle.calls.specs.Getting.{data_reply}
+use Rattle.calls.specs.Get.{data_reply}
 use Rattle.descriptors.specs.Files.{Figures, KeepsBounds, description_of, figures_of, node_figures}
 use Rattle.descriptors.specs.Fits.{FitsVolume}
 use Rattle.descriptors.specs.Tables.{put_open, table_of}
@@ -47,12 +47,6 @@ figured_size (Some (directory_node mode names)) figures e = cc
 figured_size (Some (file_node mode links bytes)) figures e = cc
 figured_size (Some (link_node text)) figures e = cc
 
-pub figured_file : (o : Option Node) (figures : Figures) → node_figures o ≡ Some figures → is_file_node o ≡ true
-figured_file None figures e = cc
-figured_file (Some (directory_node mode names)) figures e = cc
-figured_file (Some (file_node mode links bytes)) figures e = refl
-figured_file (Some (link_node text)) figures e = cc
-
 -- no offset behind what is read is past the greatest one
 place_is : (bytes : List ℕ) (offset count : ℕ) → length bytes ≤ 67108864 → offset ≤ 9223372036854775807
     → min (offset + length (read_at offset count bytes)) 9223372036854775807 ≡ offset + length (read_at offset count bytes)
@@ -69,9 +63,6 @@ module _ (table : Descriptors) (v : Volume) (fd count : ℕ) where
 
   abbrev reading : Description → Outcome
   reading f = changes (Data (given f)) (with_offset fd f (f.offset + length (given f)) tree) nothing
-
-  pub read_refused : (errno : Errno) → PassesOpen (read_tests (is_too_many count)) table fd (Err errno) → reads tree fd count (Refused errno) tree nothing
-  read_refused errno is = open_refused table v fd (read_tests (is_too_many count)) reading errno is
 
   pub read_done : (new : Descriptors) (f : OpenFile) (bytes : List ℕ) → PassesOpen (read_tests (is_too_many count)) table fd (Ok f) → KeepsBounds f → FitsVolume table v
       → ReadsFile v f.number f.offset count (Ok bytes)
@@ -94,9 +85,6 @@ module _ (table : Descriptors) (v : Volume) (fd : ℕ) (offset : ℤ) (count : �
 
   abbrev reading_from : Description → Outcome
   reading_from f = answers tree_now (Data (read_at (nat_abs offset) count (contents tree_now f.number)))
-
-  pub pread_refused : (errno : Errno) → PassesOpen (read_tests (is_negative offset || is_too_many count)) table fd (Err errno) → reads_from tree_now fd offset count (Refused errno) tree_now nothing
-  pread_refused errno is = open_refused table v fd (read_tests (is_negative offset || is_too_many count)) reading_from errno is
 
   pub pread_done : (f : OpenFile) (bytes : List ℕ) → PassesOpen (read_tests (is_negative offset || is_too_many count)) table fd (Ok f) → ReadsFile v f.number (nat_abs offset) count (Ok bytes)
       → reads_from tree_now fd offset count (Data bytes) tree_now nothing

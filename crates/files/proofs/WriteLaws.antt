@@ -1,6 +1,8 @@
 -- What the definitions say of writing through a descriptor.
-use Rattle.std.proofs.Common.{◌≡◌, ◌+◌, ◌||◌, ℕ, ℤ, nat_abs, List, length, if◌then◌else◌, Option, Some, None, Result, Ok, Err, sym, ap, subst, ◌∙◌}
+use Rattle.std.proofs.Common.{◌≡◌, ◌+◌, ◌||◌, ℕ, ℤ, nat_abs, List, length, if◌then◌else◌, Option, Some, None, Result, Ok, Err, refl, sym, ap, subst, ◌∙◌}
 use Rattle.std.specs.Option.{option_map}
+use Rattle.std.specs.Prelude.{IfOk, IsSome}
+use Rattle.std.proofs.lemmas.Result.{IfOk-weaker}
 use Rattle.model.specs.Descriptors.{puts, with_offset, writes, writes_to}
 use Rattle.model.specs.Edits.{contents}
 use Rattle.model.specs.Outcomes.{Outcome}
@@ -11,16 +13,21 @@ use Rattle.model.specs.Trees.{Tree, Description}
 use Rattle.model.specs.Volumes.{IsMounted, Volume, tree_of}
 use Rattle.model.specs.declared.errno.Errno.{Errno}
 use Rattle.model.specs.declared.reply.Reply.TheVariants.{Refused, Wrote}
+use Rattle.blocktree.specs.declared.error.ReadError.{ReadError}
+use Rattle.buffers.specs.declared.blocks.Blocks.{Ghosts}
+use Rattle.inofile.specs.declared.inode_file.InodeFile.{InodeFile}
 use Rattle.records.specs.Rewriting.{GoesOver}
+use Rattle.records.specs.Shown.{OnMounted}
 use Rattle.descriptors.specs.Files.{description_of, figures_of}
-use Rattle.descriptors.specs.Fits.{FitsVolume}
+use Rattle.descriptors.specs.Fits.{FitsVolume, IsFileOf}
 use Rattle.descriptors.specs.Tables.{at_place, moved_to, open_at, put_open, table_of}
 use Rattle.descriptors.proofs.MoveLemmas.{mounted_moved}
 use Rattle.descriptors.specs.declared.open_file.OpenFile.{OpenFile}
 use Rattle.descriptors.specs.declared.table.Descriptors.{Descriptors}
-use Rattle.files.specs.Opened.{tree_with}
+use Rattle.files.specs.Opened.{OnOpen, tree_with}
+use Rattle.files.specs.Preparing.{PreparesOpen, PreparesTold}
 use Rattle.files.specs.Reading.{PassesOpen}
-use Rattle.files.specs.Writing.{IsWritten, PutsFile, Writes, write_of, write_place, write_tests}
+use Rattle.files.specs.Writing.{IsTransfer, IsWrite, IsWritten, PutsFile, Writes, of_writing, write_of, write_place, write_tests}
 use Rattle.files.specs.declared.written.Written.{Written}
 use Rattle.files.specs.declared.written.Writing.{Writing}
 use Rattle.files.proofs.ReadLaws.{figured_size, open_passes}
@@ -105,3 +112,29 @@ module _ (inodes : ℕ) (v : Volume) (table : Descriptors) (fd : ℕ) (f : OpenF
       written_all (nat_abs offset) w.written is over (writes_to t fd offset bytes) (table_of table) over.1
       (open_passes table v fd (write_tests (is_negative offset || is_too_many (length bytes))) (λ d. puts t d.number (nat_abs offset) bytes (λ after. after)) f (Wrote (length bytes))
       (tree_of (applied (write f.number (nat_abs offset) bytes) v) (table_of table)) (logs (work_of v (write f.number (nat_abs offset) bytes))) opened (put (λ after. after)))
+
+-- ---- a write through a descriptor
+
+module _ {B : Type 0} {G : Ghosts B} {a b : B} {s t : InodeFile} {r : Result (Result (Option Writing) Errno) ReadError} (table : Descriptors) (fd : ℕ) (f : OpenFile) (offset : ℕ) (bytes : List ℕ) where
+  -- what is put into the file of a descriptor is a write
+  pub written_through : {P : Volume → Result (Option Writing) Errno → Type 0} → open_at table fd ≡ Some f
+      → PreparesTold (of_writing bytes) (IsTransfer bytes) G a b s t (OnMounted G a s (λ v opened. IsFileOf v f → IfOk r (PutsFile s.geometry.inodes v opened f offset bytes))) r
+      → OnOpen G a s table (λ v. (y : Result (Option Writing) Errno) → PutsFile s.geometry.inodes v (table_of table) f offset bytes y → P v y)
+      → PreparesOpen (of_writing bytes) (IsWrite table fd bytes) G a b s t table P r
+  written_through some put told = record {
+    looks = put.looks;
+    own = put.own;
+    within = IfOk-weaker r _ _ (λ x within. IfOk-weaker x _ _ opened_too within) put.within;
+    ready = put.ready;
+    does = put.does;
+    answers = λ disk settled v stands volume mounted fits.
+        IfOk-weaker r _ _ (told disk settled v stands volume mounted fits) (put.answers disk settled v (table_of table) stands volume mounted (fits.files fd f some));
+    damaged = put.damaged;
+  }
+    where
+      here : table_of table fd ≡ Some (description_of f)
+      here = ap (option_map description_of) some
+
+      opened_too : (o : Option Writing) → IsTransfer bytes o → IsWrite table fd bytes o
+      opened_too None within = tt
+      opened_too (Some w) (one, few) = (one, few, subst IsSome (sym here) refl)

@@ -1,13 +1,28 @@
 -- What freeing a descriptor comes to.
-use Rattle.std.specs.Prelude.{ℕ, ◌≡◌, IsTrue, Option, Some}
+use Rattle.std.specs.Prelude.{ℕ, ◌≡◌, List, IfErr, IsTrue, OnErr, OnOk, Option, Some, Result}
+use Rattle.layout.specs.declared.inode.Inode.{Inode}
+use Rattle.model.specs.Descriptors.{closes}
+use Rattle.model.specs.Room.{nothing}
 use Rattle.model.specs.Trees.{Description}
-use Rattle.model.specs.Volumes.{Volume, is_nameless, is_open, swept_node, with_node}
+use Rattle.model.specs.Volumes.{IsMounted, IsVolume, Volume, is_nameless, is_open, swept, swept_node, with_node}
+use Rattle.model.specs.declared.errno.Errno.{Errno}
 use Rattle.model.specs.declared.limits.TheConstants.{OPEN_FILES}
+use Rattle.blocktree.specs.Errors.{IsFault}
+use Rattle.blocktree.specs.declared.error.ReadError.{ReadError}
+use Rattle.buffers.specs.declared.blocks.Blocks.{Ghosts}
+use Rattle.inofile.specs.Volumes.{IsVolumeOf}
 use Rattle.inofile.specs.declared.inode_file.InodeFile.{InodeFile}
+use Rattle.paths.specs.Standing.{Looks}
+use Rattle.records.specs.Opened.{HasNumbers}
+use Rattle.records.specs.Shown.{NeverDamaged}
 use Rattle.records.specs.Steps.{IsAtHand}
-use Rattle.descriptors.specs.Tables.{open_at}
+use Rattle.calls.specs.Refusals.{is_path_refusal}
+use Rattle.descriptors.specs.Fits.{FitsVolume}
+use Rattle.descriptors.specs.Tables.{open_at, table_of}
 use Rattle.descriptors.specs.declared.open_file.OpenFile.{OpenFile}
 use Rattle.descriptors.specs.declared.table.Descriptors.{Descriptors}
+use Rattle.files.specs.Opened.{OnOpen, tree_with}
+use Rattle.files.specs.Replies.{done_reply}
 
 -- where a descriptor is open for a file with no name, this is in memory, with room to drop it
 abbrev pub ClosesReady : InodeFile → Descriptors → ℕ → Type 0
@@ -20,3 +35,25 @@ IsOpenNameless v table fd = (f : OpenFile) × (open_at table fd ≡ Some f) × I
 -- the volume without the file of a number, where it has neither name nor descriptor
 abbrev pub swept_at : (ℕ → Option Description) → ℕ → Volume → Volume
 swept_at table n v = with_node n (swept_node (is_open table OPEN_FILES n) (v n)) v
+
+-- What freeing a descriptor needs is in memory then. Only for a file that has no name anything may fail, and only for one a block is read.
+pub record PreparesClose {B T : Type 0} (G : Ghosts B) (blocks after : B) (s t : InodeFile) (table : Descriptors) (fd : ℕ) (result : Result T ReadError) : Type 0 where
+  pub looks : Looks G IsFault blocks after s t result
+  pub ready : OnOk result (ClosesReady t table fd)
+  pub sure : OnOpen G blocks s table (λ v. OnErr result (IsOpenNameless v table fd))
+  pub still : OnOpen G blocks s table (λ v. (IsOpenNameless v table fd → ⊥) → after ≡ blocks)
+  pub damaged : NeverDamaged G blocks s result
+
+-- A descriptor is freed, and its file is gone where it has neither name nor another descriptor. A refusal changes nothing.
+pub record Closes {T : Type 0} (s t : InodeFile) (table after : Descriptors) (fd : ℕ) (result : Result T Errno) : Type 0 where
+  pub geometry : t.geometry ≡ s.geometry
+  pub answers : (n : ℕ) (v : Volume) → IsVolume n v → IsMounted v (table_of table)
+      → closes (tree_with table v) fd (done_reply result) (tree_with after (swept (table_of after) v)) nothing
+  pub volume : (count : ℕ) (disk : ℕ → List ℕ) (settled : ℕ → Inode) (v : Volume) → IsVolumeOf count disk settled s v
+      → IsMounted v (table_of table) → FitsVolume table v → IsVolumeOf count disk settled t (swept (table_of after) v)
+  pub mounted : (v : Volume) → IsMounted v (table_of table) → IsMounted (swept (table_of after) v) (table_of after)
+  pub fits : (v : Volume) → FitsVolume table v → FitsVolume after (swept (table_of after) v)
+  pub numbers : (n : ℕ) → HasNumbers n table → HasNumbers n after
+  pub own : IfErr result (λ e. IsTrue (is_path_refusal e))
+  pub refused : OnErr result (after ≡ table)
+  pub stays : OnErr result (t ≡ s)

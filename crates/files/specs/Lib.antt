@@ -1,5 +1,6 @@
 pub use Rattle.paths.specs.Standing
 pub mod Opened
+pub mod Preparing
 pub mod Replies
 pub mod Seeking
 pub mod Closing

@@ -1,21 +1,31 @@
 -- What opening a file comes to.
-use Rattle.std.specs.Prelude.{ℕ, Option, Some, None, Result, Ok, Err}
+use Rattle.std.specs.Prelude.{ℕ, ◌≡◌, ◌<◌, Option, Some, None, Result, Ok, Err}
 use Rattle.model.specs.Outcomes.{Outcome}
 use Rattle.model.specs.Records.{Applies, applied, work_of}
 use Rattle.model.specs.Room.{logs, nothing}
 use Rattle.model.specs.Trees.{Description}
 use Rattle.model.specs.Volumes.{IsMounted, Volume, swept, tree_of}
 use Rattle.model.specs.declared.errno.Errno.{Errno}
+use Rattle.model.specs.declared.limits.TheConstants.{OPEN_FILES}
 use Rattle.model.specs.declared.reply.Reply.TheVariants.{Fd, Refused}
-use Rattle.records.specs.Served.{IsServed}
+use Rattle.paths.specs.Numbers.{IsNumber}
 use Rattle.calls.specs.Changing.{said_by}
 use Rattle.calls.specs.declared.changed.Changing.{Changing}
-use Rattle.descriptors.specs.Files.{description_of}
+use Rattle.descriptors.specs.Files.{KeepsBounds, description_of}
 use Rattle.descriptors.specs.Fits.{IsFileOf}
-use Rattle.descriptors.specs.Tables.{put_open, table_of}
+use Rattle.descriptors.specs.Tables.{open_at, put_open, table_of}
 use Rattle.descriptors.specs.declared.table.Descriptors.{Descriptors}
 use Rattle.files.specs.Opened.{tree_with}
+use Rattle.files.specs.Preparing.{Changes, of_changing}
 use Rattle.files.specs.declared.opening.Opening.{Opening}
+
+-- what is changed beside
+abbrev pub of_opening : Changes Opening
+of_opening o P = of_changing o.changing P
+
+-- the descriptor is free, and the file and its number keep to the limits
+abbrev pub CanOpen : Descriptors → ℕ → Opening → Type 0
+CanOpen table inodes o = (o.fd < OPEN_FILES) × (open_at table o.fd ≡ None) × KeepsBounds o.file × IsNumber inodes o.file.number
 
 -- the descriptors with the file open
 abbrev pub with_opened : Opening → Descriptors → ℕ → Option Description
@@ -25,7 +35,7 @@ with_opened o table = put_open o.fd (Some (description_of o.file)) (table_of tab
 abbrev pub OpensOver : Outcome → ℕ → Volume → Descriptors → Opening → Option Changing → Type 0
 OpensOver outcome inodes v table o None = IsFileOf v o.file × outcome (Fd o.fd) (tree_of v (with_opened o table)) nothing
 OpensOver outcome inodes v table o (Some c) =
-    IsServed (said_by c.change) × Applies inodes v (said_by c.change)
+    Applies inodes v (said_by c.change)
     × IsMounted (swept (table_of table) (applied (said_by c.change) v)) (table_of table)
     × IsFileOf (swept (table_of table) (applied (said_by c.change) v)) o.file
     × outcome (Fd o.fd) (tree_of (swept (table_of table) (applied (said_by c.change) v)) (with_opened o table)) (logs (work_of v (said_by c.change)))

@@ -1,15 +1,25 @@
 -- What reading through a descriptor comes to.
-use Rattle.std.specs.Prelude.{ℕ, ◌≡◌, ◌⊎◌, Bool, not, List, [], ◌∷◌, Some, None, Result, Ok, Err, unwrap_or}
+use Rattle.std.specs.Prelude.{ℕ, ◌≡◌, ◌⊎◌, Bool, not, List, [], ◌∷◌, Some, None, Result, Ok, Err, IfErr, IfOk, IsTrue, OnErr, unwrap_or}
 use Rattle.model.specs.Edits.{read_at}
 use Rattle.model.specs.Paths.{Tests, first_refusal}
 use Rattle.model.specs.Trees.{Description}
-use Rattle.model.specs.Volumes.{Volume, bytes_of}
+use Rattle.model.specs.Volumes.{IsMounted, Volume, bytes_of}
 use Rattle.model.specs.declared.errno.Errno.{Errno}
 use Rattle.model.specs.declared.errno.Errno.TheVariants.{EBADF, EINVAL}
+use Rattle.blocktree.specs.Errors.{IsFault}
+use Rattle.blocktree.specs.declared.error.ReadError.{ReadError}
+use Rattle.buffers.specs.declared.blocks.Blocks.{Ghosts}
+use Rattle.inofile.specs.declared.inode_file.InodeFile.{InodeFile}
+use Rattle.paths.specs.Standing.{Looks}
+use Rattle.records.specs.Opened.{HasNumbers}
+use Rattle.records.specs.Shown.{NeverDamaged}
+use Rattle.calls.specs.Refusals.{is_path_refusal}
 use Rattle.descriptors.specs.Files.{description_of}
-use Rattle.descriptors.specs.Tables.{open_at}
+use Rattle.descriptors.specs.Fits.{FitsVolume}
+use Rattle.descriptors.specs.Tables.{open_at, table_of}
 use Rattle.descriptors.specs.declared.open_file.OpenFile.{OpenFile}
 use Rattle.descriptors.specs.declared.table.Descriptors.{Descriptors}
+use Rattle.files.specs.Opened.{OnOpen}
 
 -- the tests of a read, of which it is told whether what is asked can't be
 abbrev pub read_tests : Bool → Description → Tests
@@ -26,3 +36,17 @@ PassesOpen tests table fd (Err errno) =
 abbrev pub ReadsFile : Volume → ℕ → ℕ → ℕ → Result (List ℕ) Errno → Type 0
 ReadsFile v n offset count (Ok bytes) = bytes ≡ read_at offset count (unwrap_or (bytes_of (v n)) [])
 ReadsFile v n offset count (Err errno) = ⊥
+
+-- Nothing is done but looking, and offsets may move in the table; after an error or a refusal none has moved. A call is answered so on
+-- each mounted volume that the table fits; and no damage is found.
+pub record AnswersMoving {B T : Type 0} (G : Ghosts B) (blocks after : B) (s t : InodeFile) (table moved : Descriptors) (answer : Volume → Result T Errno → Type 0)
+    (result : Result (Result T Errno) ReadError) : Type 0 where
+  pub looks : Looks G IsFault blocks after s t result
+  pub own : IfOk result (λ r. IfErr r (λ e. IsTrue (is_path_refusal e)))
+  pub answers : OnOpen G blocks s table (λ v. IfOk result (answer v))
+  pub fits : (v : Volume) → FitsVolume table v → FitsVolume moved v
+  pub mounted : (v : Volume) → IsMounted v (table_of table) → IsMounted v (table_of moved)
+  pub numbers : (n : ℕ) → HasNumbers n table → HasNumbers n moved
+  pub failed : OnErr result (moved ≡ table)
+  pub refused : IfOk result (λ r. OnErr r (moved ≡ table))
+  pub damaged : NeverDamaged G blocks s result

@@ -1,5 +1,5 @@
 -- What writing through a descriptor comes to.
-use Rattle.std.specs.Prelude.{ℕ, ◌≡◌, ◌+◌, Bool, not, List, [], ◌∷◌, length, Option, Some, None, Result, Ok, Err, if◌then◌else◌}
+use Rattle.std.specs.Prelude.{ℕ, ◌≡◌, ◌≤◌, ◌+◌, IfSome, IsSome, Bool, not, List, [], ◌∷◌, length, Option, Some, None, Result, Ok, Err, if◌then◌else◌}
 use Rattle.model.specs.Outcomes.{Outcome}
 use Rattle.model.specs.Paths.{Tests}
 use Rattle.model.specs.Records.{Change, applied, work_of, write}
@@ -8,6 +8,7 @@ use Rattle.model.specs.Trees.{Description}
 use Rattle.model.specs.Volumes.{IsMounted, Volume, tree_of}
 use Rattle.model.specs.declared.errno.Errno.{Errno}
 use Rattle.model.specs.declared.errno.Errno.TheVariants.{EBADF, EINVAL}
+use Rattle.model.specs.declared.limits.TheConstants.{TRANSFER_BYTES}
 use Rattle.model.specs.declared.reply.Reply.TheVariants.{Refused, Wrote}
 use Rattle.records.specs.Rewriting.{GoesOver, PutsBytes}
 pub use Rattle.descriptors.specs.Tables.{moved_to}
@@ -15,6 +16,7 @@ use Rattle.descriptors.specs.Tables.{table_of}
 use Rattle.descriptors.specs.declared.open_file.OpenFile.{OpenFile}
 use Rattle.descriptors.specs.declared.table.Descriptors.{Descriptors}
 use Rattle.files.specs.Opened.{tree_with}
+use Rattle.files.specs.Preparing.{Changes}
 use Rattle.files.specs.declared.written.Written.{Written}
 use Rattle.files.specs.declared.written.Writing.{Writing}
 
@@ -29,6 +31,18 @@ write_place f = if f.appends then f.size else f.offset
 -- the record of bytes that go to a file
 abbrev pub write_of : Written → List ℕ → Change
 write_of w bytes = write w.number w.offset bytes
+
+-- what is prepared of a write of these bytes, if there are any
+abbrev pub of_writing : List ℕ → Changes (Option Writing)
+of_writing bytes o P = IfSome o (λ w. P w.prepared (write_of w.written bytes))
+
+-- where something is written, there are bytes, and no more than one call writes
+abbrev pub IsTransfer : List ℕ → Option Writing → Type 0
+IsTransfer bytes o = IfSome o (λ _. (1 ≤ length bytes) × (length bytes ≤ TRANSFER_BYTES))
+
+-- and the descriptor is open
+abbrev pub IsWrite : Descriptors → ℕ → List ℕ → Option Writing → Type 0
+IsWrite table fd bytes o = IfSome o (λ _. (1 ≤ length bytes) × (length bytes ≤ TRANSFER_BYTES) × IsSome (table_of table fd))
 
 -- bytes go to an open file, at an offset, and this place is behind them
 pub record IsWritten (f : OpenFile) (offset : ℕ) (bytes : List ℕ) (w : Written) : Type 0 where

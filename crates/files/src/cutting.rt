@@ -3,16 +3,14 @@
 ghost use Rattle.std.specs.Prelude.{◌≤◌, IfErr, IfOk, IsTrue, nat_abs};
 ghost use Rattle.model.specs.Descriptors.{truncates_open};
 ghost use Rattle.model.specs.declared.limits.TheConstants.{GREATEST_FILE};
-ghost use Rattle.blocktree.specs.Errors.{IsFault};
-ghost use Rattle.paths.specs.Standing.{Looks};
-ghost use Rattle.calls.specs.Changing.{AnyDo, AnyReady};
+ghost use Rattle.paths.specs.Loads.{IsAny};
 ghost use Rattle.calls.specs.Refusals.{is_path_refusal};
 ghost use Rattle.records.specs.Opened.{HasNumbers};
-ghost use Rattle.records.specs.Shown.{NeverDamaged};
-ghost use Rattle.calls.specs.Truncating.{ComesToSize};
+ghost use Rattle.calls.specs.Changing.{ComesOrStays};
 ghost use Rattle.descriptors.specs.Tables.{table_of};
 ghost use Rattle.files.specs.Cutting.{cut_tests};
-ghost use Rattle.files.specs.Opened.{OnOpen, tree_with};
+ghost use Rattle.files.specs.Opened.{tree_with};
+ghost use Rattle.files.specs.Preparing.{PreparesOpen, of_changing};
 ghost use Rattle.files.specs.Reading.{PassesOpen};
 
 use crate::writing::is_writing;
@@ -37,14 +35,9 @@ pub fn prepare_ftruncate<B: Blocks>(
     size: i64,
 ) -> Result<Result<Option<Changing>, Errno>, ReadError>
     requires { HasNumbers inodes.old.geometry.inodes table.now }
-    ensures looks { Looks B.Blocks IsFault blocks.old blocks.new inodes.old inodes.new result }
-    ensures own { IfOk result (λ r. IfErr r (λ e. IsTrue (is_path_refusal e))) }
-    ensures ready { AnyReady inodes.new result }
-    ensures does { AnyDo B.Blocks blocks.old inodes.old inodes.new result }
-    ensures answers { OnOpen B.Blocks blocks.old inodes.old table.now (λ v. IfOk result
-        (ComesToSize (truncates_open (tree_with table.now v) fd size)
-        inodes.old.geometry.inodes v (table_of table.now))) }
-    ensures damaged { NeverDamaged B.Blocks blocks.old inodes.old result }
+    ensures { PreparesOpen of_changing IsAny B.Blocks blocks.old blocks.new inodes.old inodes.new
+        table.now (λ v. ComesOrStays (truncates_open (tree_with table.now v) fd size)
+        inodes.old.geometry.inodes v (table_of table.now)) result }
 {
     let file = match file_to_cut(table, fd, size) {
         Ok(file) => file,

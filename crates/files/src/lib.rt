@@ -1,7 +1,7 @@
-//! The calls on descriptors, over memory that stands for a volume and the table of open files beside it. In this version `open`,
+//! The calls on descriptors (files), over memory that stands for a volume and the table of open files beside it. They are `open`,
 //! `read`, `pread`, `write`, `pwrite`, `ftruncate`, `fstat`, `lseek`, `fsync` and `close`, of which `lseek` and `fsync` take no
-//! memory and call no device, nor does a `close` of a file with a name. What changes a file is prepared, with all memory taken and
-//! all blocks read; its record is for the caller to log; and then it is put in force, which can't fail.
+//! memory and call no device, nor does a `close` of a file with a name. What changes a file is prepared, with all memory taken
+//! and all blocks read; its record is for the caller to log; and then it is put in force, which can't fail.
 #![tactic(auto)]
 
 mod closing;

@@ -1,20 +1,12 @@
 //! Opening a file.
 
-ghost use Rattle.std.specs.Prelude.{◌≡◌, ◌<◌, IfErr, IfOk, IfSome, IsTrue, None};
+ghost use Rattle.std.specs.Prelude.{◌≡◌, IfSome, IsTrue};
 ghost use Rattle.model.specs.Descriptors.{open_tests, opens};
 ghost use Rattle.model.specs.Paths.{first_refusal};
-ghost use Rattle.model.specs.declared.limits.TheConstants.{OPEN_FILES};
-ghost use Rattle.blocktree.specs.Errors.{IsFault};
-ghost use Rattle.paths.specs.Numbers.{IsNumber};
-ghost use Rattle.paths.specs.Standing.{Looks};
-ghost use Rattle.calls.specs.Changing.{said_by};
 ghost use Rattle.calls.specs.Refusals.{is_path_refusal};
-ghost use Rattle.records.specs.Prepared.{Does, IsReady};
-ghost use Rattle.records.specs.Shown.{NeverDamaged, OnVolumes};
-ghost use Rattle.descriptors.specs.Files.{KeepsBounds};
-ghost use Rattle.descriptors.specs.Tables.{open_at};
-ghost use Rattle.files.specs.Opened.{OnOpen, tree_with};
-ghost use Rattle.files.specs.Opening.{Opens};
+ghost use Rattle.files.specs.Opened.{tree_with};
+ghost use Rattle.files.specs.Opening.{CanOpen, Opens, of_opening};
+ghost use Rattle.files.specs.Preparing.{PreparesOpen};
 
 use crate::writing::is_writing;
 use blocktree::ReadError;
@@ -52,20 +44,10 @@ pub fn prepare_open<B: Blocks>(
     flags: Flags,
     mode: Mode,
 ) -> Result<Result<Opening, Errno>, ReadError>
-    ensures looks { Looks B.Blocks IsFault blocks.old blocks.new inodes.old inodes.new result }
-    ensures own { IfOk result (λ r. IfErr r (λ e. IsTrue (is_path_refusal e))) }
-    ensures ready { IfOk result (λ r. IfOk r (λ o. IfSome o.changing
-        (λ c. IsReady inodes.new c.prepared))) }
-    ensures does { OnVolumes B.Blocks blocks.old inodes.old (λ disk settled v. IfOk result
-        (λ r. IfOk r (λ o. IfSome o.changing
-        (λ c. Does disk settled inodes.new v c.prepared (said_by c.change))))) }
-    ensures free { IfOk result (λ r. IfOk r (λ o. (o.fd < OPEN_FILES)
-        × (open_at table.now o.fd ≡ None) × KeepsBounds o.file
-        × IsNumber inodes.old.geometry.inodes o.file.number)) }
-    ensures answers { OnOpen B.Blocks blocks.old inodes.old table.now (λ v. IfOk result
-        (Opens (opens inodes.old.geometry.inodes (tree_with table.now v) path.now flags mode)
-        inodes.old.geometry.inodes v table.now)) }
-    ensures damaged { NeverDamaged B.Blocks blocks.old inodes.old result }
+    ensures { PreparesOpen of_opening (CanOpen table.now inodes.old.geometry.inodes) B.Blocks
+        blocks.old blocks.new inodes.old inodes.new table.now
+        (λ v. Opens (opens inodes.old.geometry.inodes (tree_with table.now v) path.now flags mode)
+        inodes.old.geometry.inodes v table.now) result }
 {
     let parts = Parts::of(alloc, path)?;
     if let Some(errno) = refusal_of_text(path, &parts) {

@@ -1,22 +1,19 @@
 //! Reading through a descriptor.
 
-ghost use Rattle.std.specs.Prelude.{ℕ, ◌≡◌, ◌+◌, ◌||◌, IfErr, IfOk, IsTrue, OnErr, length, min};
+ghost use Rattle.std.specs.Prelude.{◌≡◌, ◌+◌, ◌||◌, IfErr, IfOk, IsTrue, length, min};
 ghost use Rattle.model.specs.Descriptors.{is_reading, reads, reads_from};
 ghost use Rattle.model.specs.Reading.{is_negative, is_too_many};
 ghost use Rattle.model.specs.Room.{nothing};
-ghost use Rattle.model.specs.Volumes.{IsMounted, Volume, is_file_node};
-ghost use Rattle.blocktree.specs.Errors.{IsFault};
+ghost use Rattle.model.specs.Volumes.{is_file_node};
 ghost use Rattle.paths.specs.Numbers.{IsNumber};
-ghost use Rattle.paths.specs.Standing.{Looks};
-ghost use Rattle.calls.specs.Getting.{data_reply};
+ghost use Rattle.calls.specs.Get.{data_reply};
 ghost use Rattle.calls.specs.Refusals.{is_path_refusal};
+ghost use Rattle.calls.specs.Seeing.{Tells};
 ghost use Rattle.records.specs.Opened.{HasNumbers};
-ghost use Rattle.records.specs.Shown.{NeverDamaged, OnVolumes};
 ghost use Rattle.descriptors.specs.Files.{KeepsBounds};
-ghost use Rattle.descriptors.specs.Fits.{FitsVolume};
-ghost use Rattle.descriptors.specs.Tables.{table_of};
-ghost use Rattle.files.specs.Opened.{OnOpen, tree_with};
-ghost use Rattle.files.specs.Reading.{PassesOpen, ReadsFile, read_tests};
+ghost use Rattle.files.specs.Opened.{tree_with};
+ghost use Rattle.files.specs.Preparing.{AnswersOpen};
+ghost use Rattle.files.specs.Reading.{AnswersMoving, PassesOpen, ReadsFile, read_tests};
 
 use blocktree::ReadError;
 use buffers::Blocks;
@@ -38,17 +35,9 @@ pub fn read<B: Blocks>(
     count: u32,
 ) -> Result<Result<Text, Errno>, ReadError>
     requires { HasNumbers inodes.old.geometry.inodes table.old }
-    ensures looks { Looks B.Blocks IsFault blocks.old blocks.new inodes.old inodes.new result }
-    ensures own { IfOk result (λ r. IfErr r (λ e. IsTrue (is_path_refusal e))) }
-    ensures answers { OnOpen B.Blocks blocks.old inodes.old table.old (λ v. IfOk result (λ r.
-        reads (tree_with table.old v) fd count (data_reply r) (tree_with table.new v) nothing)) }
-    ensures fits { (v : Volume) → FitsVolume table.old v → FitsVolume table.new v }
-    ensures mounted { (v : Volume) → IsMounted v (table_of table.old)
-        → IsMounted v (table_of table.new) }
-    ensures numbers { (n : ℕ) → HasNumbers n table.old → HasNumbers n table.new }
-    ensures failed { OnErr result (table.new ≡ table.old) }
-    ensures refused { IfOk result (λ r. OnErr r (table.new ≡ table.old)) }
-    ensures damaged { NeverDamaged B.Blocks blocks.old inodes.old result }
+    ensures { AnswersMoving B.Blocks blocks.old blocks.new inodes.old inodes.new table.old
+        table.new (λ v r. reads (tree_with table.old v) fd count (data_reply r)
+        (tree_with table.new v) nothing) result }
 {
     let file = match file_to_read(table, fd, count as usize > TRANSFER_BYTES) {
         Ok(file) => file,
@@ -77,12 +66,9 @@ pub fn pread<B: Blocks>(
     count: u32,
 ) -> Result<Result<Text, Errno>, ReadError>
     requires { HasNumbers inodes.old.geometry.inodes table.now }
-    ensures looks { Looks B.Blocks IsFault blocks.old blocks.new inodes.old inodes.new result }
-    ensures own { IfOk result (λ r. IfErr r (λ e. IsTrue (is_path_refusal e))) }
-    ensures answers { OnOpen B.Blocks blocks.old inodes.old table.now (λ v. IfOk result (λ r.
-        reads_from (tree_with table.now v) fd offset count (data_reply r)
-        (tree_with table.now v) nothing)) }
-    ensures damaged { NeverDamaged B.Blocks blocks.old inodes.old result }
+    ensures { AnswersOpen B.Blocks blocks.old blocks.new inodes.old inodes.new table.now
+        (λ v r. reads_from (tree_with table.now v) fd offset count (data_reply r)
+        (tree_with table.now v) nothing) result }
 {
     let file = match file_to_read(table, fd, is_no_range(offset, count)) {
         Ok(file) => file,
@@ -143,11 +129,8 @@ fn read_file<B: Blocks>(
     count: u32,
 ) -> Result<Result<Text, Errno>, ReadError>
     requires { IsNumber inodes.old.geometry.inodes number }
-    ensures looks { Looks B.Blocks IsFault blocks.old blocks.new inodes.old inodes.new result }
-    ensures own { IfOk result (λ r. IfErr r (λ e. IsTrue (is_path_refusal e))) }
-    ensures read { OnVolumes B.Blocks blocks.old inodes.old (λ disk settled v.
-        IsTrue (is_file_node (v number)) → IfOk result (ReadsFile v number offset count)) }
-    ensures damaged { NeverDamaged B.Blocks blocks.old inodes.old result }
+    ensures { Tells B.Blocks blocks.old blocks.new inodes.old inodes.new (λ v found.
+        IsTrue (is_file_node (v number)) → ReadsFile v number offset count found) result }
 {
     let found = read_bytes(alloc, inodes, blocks, number, offset, count)?;
     match found {

@@ -1,20 +1,17 @@
 //! Calls that look at no file: they take no memory, and call no device.
 
-ghost use Rattle.std.specs.Prelude.{◌≡◌, ◌≤◌, ◌+ℤ◌, ℕ, IfErr, IfOk, IsTrue, OnErr, pos};
+ghost use Rattle.std.specs.Prelude.{◌≡◌, ◌≤◌, ◌+ℤ◌, IfErr, IfOk, IsTrue, pos};
 ghost use Rattle.model.specs.Descriptors.{base_of, seeks, syncs_open};
 ghost use Rattle.model.specs.Room.{nothing};
-ghost use Rattle.model.specs.Volumes.{IsMounted, Volume};
+ghost use Rattle.model.specs.Volumes.{Volume};
 ghost use Rattle.model.specs.declared.limits.TheConstants.{GREATEST_OFFSET};
-ghost use Rattle.records.specs.Opened.{HasNumbers};
 ghost use Rattle.calls.specs.Refusals.{is_path_refusal};
 ghost use Rattle.descriptors.specs.Files.{KeepsBounds, description_of};
-ghost use Rattle.descriptors.specs.Fits.{FitsVolume, IsFileOf};
-ghost use Rattle.descriptors.specs.Tables.{table_of};
+ghost use Rattle.descriptors.specs.Fits.{IsFileOf};
 ghost use Rattle.descriptors.specs.declared.table.Descriptors.{Descriptors};
 ghost use Rattle.files.specs.Opened.{tree_with};
-ghost use Rattle.records.specs.Opened.{HasNumbers};
 ghost use Rattle.files.specs.Replies.{done_reply, place_reply};
-ghost use Rattle.files.specs.Seeking.{IsPlace};
+ghost use Rattle.files.specs.Seeking.{AnswersFromTable, IsPlace};
 
 use descriptors::{Descriptors, OpenFile};
 use model::{Errno, GREATEST_OFFSET, Whence};
@@ -23,15 +20,8 @@ use model::{Errno, GREATEST_OFFSET, Whence};
 /// the place in bytes; or tells why the call is refused: EBADF where the descriptor isn't open, EINVAL where the place is before
 /// the start, EOVERFLOW where it is past the greatest offset. After a refusal nothing has changed.
 pub fn lseek(table: &mut Descriptors, fd: u32, whence: Whence, offset: i64) -> Result<u64, Errno>
-    ensures answers { (v : Volume) → FitsVolume table.old v
-        → seeks (tree_with table.old v) fd whence offset (place_reply result)
-        (tree_with table.new v) nothing }
-    ensures fits { (v : Volume) → FitsVolume table.old v → FitsVolume table.new v }
-    ensures mounted { (v : Volume) → IsMounted v (table_of table.old)
-        → IsMounted v (table_of table.new) }
-    ensures numbers { (inodes : ℕ) → HasNumbers inodes table.old → HasNumbers inodes table.new }
-    ensures own { IfErr result (λ e. IsTrue (is_path_refusal e)) }
-    ensures refused { OnErr result (table.new ≡ table.old) }
+    ensures { AnswersFromTable table.old table.new (λ t. seeks t fd whence offset) place_reply
+        result }
 {
     let Some(file) = table.get(fd) else {
         return Err(Errno::EBADF);

@@ -1,15 +1,11 @@
 //! What is told of the file of a descriptor.
 
-ghost use Rattle.std.specs.Prelude.{IfErr, IfOk, IsTrue};
 ghost use Rattle.model.specs.Descriptors.{stats_open};
 ghost use Rattle.model.specs.Room.{nothing};
-ghost use Rattle.blocktree.specs.Errors.{IsFault};
-ghost use Rattle.paths.specs.Standing.{Looks};
-ghost use Rattle.calls.specs.Refusals.{is_path_refusal};
-ghost use Rattle.calls.specs.Stating.{stat_reply};
+ghost use Rattle.calls.specs.Stat.{stat_reply};
 ghost use Rattle.records.specs.Opened.{HasNumbers};
-ghost use Rattle.records.specs.Shown.{NeverDamaged};
-ghost use Rattle.files.specs.Opened.{OnOpen, tree_with};
+ghost use Rattle.files.specs.Opened.{tree_with};
+ghost use Rattle.files.specs.Preparing.{AnswersOpen};
 
 use blocktree::ReadError;
 use buffers::Blocks;
@@ -29,11 +25,9 @@ pub fn fstat<B: Blocks>(
     fd: u32,
 ) -> Result<Result<Stat, Errno>, ReadError>
     requires { HasNumbers inodes.old.geometry.inodes table.now }
-    ensures looks { Looks B.Blocks IsFault blocks.old blocks.new inodes.old inodes.new result }
-    ensures own { IfOk result (λ r. IfErr r (λ e. IsTrue (is_path_refusal e))) }
-    ensures answers { OnOpen B.Blocks blocks.old inodes.old table.now (λ v. IfOk result (λ r.
-        stats_open (tree_with table.now v) fd (stat_reply r) (tree_with table.now v) nothing)) }
-    ensures damaged { NeverDamaged B.Blocks blocks.old inodes.old result }
+    ensures { AnswersOpen B.Blocks blocks.old blocks.new inodes.old inodes.new table.now
+        (λ v r. stats_open (tree_with table.now v) fd (stat_reply r) (tree_with table.now v) nothing)
+        result }
 {
     volumes_tell_links();
     let Some(file) = table.get(fd) else {

@@ -1,24 +1,18 @@
 //! Writing through a descriptor: prepared, with all memory taken and all blocks read.
 
-ghost use Rattle.std.specs.Prelude.{ℕ, ◌≡◌, ◌+◌, ◌||◌, ◌≤◌, ◌^◌, List, Option, IfErr, IfOk, IfSome, IsSome, IsTrue, length, min};
-ghost use Rattle.layout.specs.declared.inode.Inode.{Inode};
+ghost use Rattle.std.specs.Prelude.{◌≡◌, ◌||◌, ◌≤◌, ◌^◌, IfErr, IfOk, IsTrue, length};
 ghost use Rattle.model.specs.Descriptors.{is_writing, writes, writes_to};
 ghost use Rattle.model.specs.Reading.{is_negative, is_too_many};
-ghost use Rattle.model.specs.Trees.{Description};
-ghost use Rattle.model.specs.Volumes.{IsMounted, IsVolume, Volume};
-ghost use Rattle.model.specs.declared.limits.TheConstants.{GREATEST_FILE, TRANSFER_BYTES};
-ghost use Rattle.blocktree.specs.Errors.{IsFault};
-ghost use Rattle.paths.specs.Standing.{Looks, Stands};
-ghost use Rattle.records.specs.Prepared.{Does, IsReady};
+ghost use Rattle.model.specs.declared.limits.TheConstants.{TRANSFER_BYTES};
 ghost use Rattle.calls.specs.Refusals.{is_path_refusal};
-ghost use Rattle.records.specs.Opened.{HasNumbers};
-ghost use Rattle.records.specs.Shown.{NeverDamaged, OnVolumes};
+ghost use Rattle.records.specs.Shown.{OnMounted};
 ghost use Rattle.descriptors.specs.Files.{KeepsBounds};
 ghost use Rattle.descriptors.specs.Fits.{IsFileOf};
 ghost use Rattle.descriptors.specs.Tables.{table_of};
-ghost use Rattle.files.specs.Opened.{OnOpen, tree_with};
+ghost use Rattle.files.specs.Opened.{tree_with};
+ghost use Rattle.files.specs.Preparing.{PreparesOpen, PreparesTold};
 ghost use Rattle.files.specs.Reading.{PassesOpen};
-ghost use Rattle.files.specs.Writing.{PutsFile, Writes, moved_to, write_of, write_place, write_tests};
+ghost use Rattle.files.specs.Writing.{IsTransfer, IsWrite, PutsFile, Writes, moved_to, of_writing, write_place, write_tests};
 
 use crate::{Writing, Written};
 use blocktree::ReadError;
@@ -41,22 +35,10 @@ pub fn prepare_write<B: Blocks>(
     fd: u32,
     bytes: &[u8],
 ) -> Result<Result<Option<Writing>, Errno>, ReadError>
-    ensures looks { Looks B.Blocks IsFault blocks.old blocks.new inodes.old inodes.new result }
-    ensures own { IfOk result (λ r. IfErr r (λ e. IsTrue (is_path_refusal e))) }
-    ensures some { IfOk result (λ r. IfOk r (λ o. IfSome o (λ _. 1 ≤ length bytes.now))) }
-    ensures few { IfOk result (λ r. IfOk r (λ o. IfSome o
-        (λ _. length bytes.now ≤ TRANSFER_BYTES))) }
-    ensures ready { IfOk result (λ r. IfOk r (λ o. IfSome o (λ w.
-        IsReady inodes.new w.prepared))) }
-    ensures does { OnVolumes B.Blocks blocks.old inodes.old (λ disk settled v. IfOk result (λ r.
-        IfOk r (λ o. IfSome o (λ w.
-        Does disk settled inodes.new v w.prepared (write_of w.written bytes.now))))) }
-    ensures answers { OnOpen B.Blocks blocks.old inodes.old table.now (λ v. IfOk result
-        (Writes (writes (tree_with table.now v) fd bytes.now) inodes.old.geometry.inodes v
-        table.now bytes.now (λ w. moved_to fd w.behind (table_of table.now)))) }
-    ensures opened { IfOk result (λ r. IfOk r (λ o. IfSome o
-        (λ _. IsSome (table_of table.now fd)))) }
-    ensures damaged { NeverDamaged B.Blocks blocks.old inodes.old result }
+    ensures { PreparesOpen (of_writing bytes.now) (IsWrite table.now fd bytes.now) B.Blocks blocks.old
+        blocks.new inodes.old inodes.new table.now
+        (λ v. Writes (writes (tree_with table.now v) fd bytes.now) inodes.old.geometry.inodes v
+        table.now bytes.now (λ w. moved_to fd w.behind (table_of table.now))) result }
 {
     let file = match file_to_write(table, fd, bytes.len() > TRANSFER_BYTES) {
         Ok(file) => file,
@@ -78,20 +60,10 @@ pub fn prepare_pwrite<B: Blocks>(
     offset: i64,
     bytes: &[u8],
 ) -> Result<Result<Option<Writing>, Errno>, ReadError>
-    ensures looks { Looks B.Blocks IsFault blocks.old blocks.new inodes.old inodes.new result }
-    ensures own { IfOk result (λ r. IfErr r (λ e. IsTrue (is_path_refusal e))) }
-    ensures some { IfOk result (λ r. IfOk r (λ o. IfSome o (λ _. 1 ≤ length bytes.now))) }
-    ensures few { IfOk result (λ r. IfOk r (λ o. IfSome o
-        (λ _. length bytes.now ≤ TRANSFER_BYTES))) }
-    ensures ready { IfOk result (λ r. IfOk r (λ o. IfSome o (λ w.
-        IsReady inodes.new w.prepared))) }
-    ensures does { OnVolumes B.Blocks blocks.old inodes.old (λ disk settled v. IfOk result (λ r.
-        IfOk r (λ o. IfSome o (λ w.
-        Does disk settled inodes.new v w.prepared (write_of w.written bytes.now))))) }
-    ensures answers { OnOpen B.Blocks blocks.old inodes.old table.now (λ v. IfOk result
-        (Writes (writes_to (tree_with table.now v) fd offset bytes.now)
-        inodes.old.geometry.inodes v table.now bytes.now (λ _. table_of table.now))) }
-    ensures damaged { NeverDamaged B.Blocks blocks.old inodes.old result }
+    ensures { PreparesOpen (of_writing bytes.now) (IsWrite table.now fd bytes.now) B.Blocks blocks.old
+        blocks.new inodes.old inodes.new table.now
+        (λ v. Writes (writes_to (tree_with table.now v) fd offset bytes.now)
+        inodes.old.geometry.inodes v table.now bytes.now (λ _. table_of table.now)) result }
 {
     let is_wrong = is_no_range(offset, bytes);
     let file = match file_to_write(table, fd, is_wrong) {
@@ -155,21 +127,10 @@ fn write_file<B: Blocks>(
     requires few { length bytes.now ≤ TRANSFER_BYTES }
     requires bounds { KeepsBounds file.now }
     requires within { offset ≤ 2 ^ 63 }
-    ensures looks { Looks B.Blocks IsFault blocks.old blocks.new inodes.old inodes.new result }
-    ensures own { IfOk result (λ r. IfErr r (λ e. IsTrue (is_path_refusal e))) }
-    ensures some { IfOk result (λ r. IfOk r (λ o. IfSome o (λ _. 1 ≤ length bytes.now))) }
-    ensures few { IfOk result (λ r. IfOk r (λ o. IfSome o
-        (λ _. length bytes.now ≤ TRANSFER_BYTES))) }
-    ensures ready { IfOk result (λ r. IfOk r (λ o. IfSome o (λ w.
-        IsReady inodes.new w.prepared))) }
-    ensures does { OnVolumes B.Blocks blocks.old inodes.old (λ disk settled v. IfOk result (λ r.
-        IfOk r (λ o. IfSome o (λ w.
-        Does disk settled inodes.new v w.prepared (write_of w.written bytes.now))))) }
-    ensures puts { (disk : ℕ → List ℕ) (settled : ℕ → Inode) (v : Volume)
-        (table : ℕ → Option Description) → Stands B.Blocks disk settled v blocks.old inodes.old
-        → IsVolume inodes.old.geometry.inodes v → IsMounted v table → IsFileOf v file.now
-        → IfOk result (PutsFile inodes.old.geometry.inodes v table file.now offset bytes.now) }
-    ensures damaged { NeverDamaged B.Blocks blocks.old inodes.old result }
+    ensures { PreparesTold (of_writing bytes.now) (IsTransfer bytes.now) B.Blocks blocks.old
+        blocks.new inodes.old inodes.new (OnMounted B.Blocks blocks.old inodes.old (λ v table.
+        IsFileOf v file.now → IfOk result
+        (PutsFile inodes.old.geometry.inodes v table file.now offset bytes.now))) result }
 {
     let planned = write_bytes(alloc, inodes, blocks, file.number, offset, bytes)?;
     match planned {

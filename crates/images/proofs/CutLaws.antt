@@ -34,14 +34,16 @@ use Rattle.images.specs.SnapshotSteps.{SnapshotStep, kept_after}
 use Rattle.images.specs.States.{IsSound, Holds, Opens, OpensBy}
 use Rattle.images.specs.Cuts.{Write, IsOfDisk, IsOutside, StaysOutside, AreFree, HasNewRoot, IsPointWith}
 use Rattle.images.proofs.Frames.{frozen_none}
-use Rattle.images.proofs.PointLaws.{free_is_free, no_bit, active_base, frozen_read}
+use Rattle.images.proofs.PointLaws.{free_is_free, active_base, frozen_read}
 use Rattle.images.proofs.OverlayLaws.{held_up}
 use Rattle.images.proofs.ReadingLaws.{highest}
 use Rattle.images.proofs.StateLaws.{newest_is_root}
-use Rattle.images.proofs.FreeLaws.{open_alike, same_block}
+use Rattle.images.proofs.FreeLaws.{open_alike}
 use Rattle.images.proofs.StepLaws.{step_holds}
 use Rattle.images.proofs.SectorLaws.{sectors_block}
 use Rattle.images.proofs.SettlingLaws.{newest_first, newest_second}
+use Rattle.layout.proofs.PointerLaws.{same_block}
+use Rattle.images.proofs.EmptyLaws.{no_bit}
 
 -- ---- before the root
 

@@ -1,30 +1,22 @@
 -- A root of an image that has nothing but an empty root directory holds just that.
-use Rattle.std.proofs.Common.{◌≡◌, ◌≢◌, inl, inr, ◌↔◌, ℕ, zero, suc, ◌-◌, ◌*◌, ◌/◌, ◌%◌, ◌<◌, ◌≤◌, List, [], get_or, replicate, None, refl, ap, sym, subst, ◌∙◌, arith}
+use Rattle.std.proofs.Common.{◌≡◌, ◌≢◌, inl, inr, ◌↔◌, ℕ, zero, suc, ◌-◌, ◌*◌, ◌<◌, ◌≤◌, List, [], None, refl, ap, sym, subst, ◌∙◌, arith}
 use Rattle.std.proofs.Math.Path.{fun_ext}
-use Rattle.std.specs.Prelude.{nat_lt, if◌then◌else◌, slice_index}
-use Rattle.std.proofs.lemmas.Bool.{cases_lt, cond_above}
-use Rattle.std.proofs.lemmas.List.{get_or_append_left, get_or-append_right, get_or-replicate, get_or_past, length-replicate}
+use Rattle.std.proofs.lemmas.Bool.{cases_lt}
 use Rattle.std.proofs.lemmas.List.Elements.{All-nil}
-use Rattle.layout.specs.Bytes.{zeros}
-use Rattle.layout.specs.FileBytes.{byte_in}
 use Rattle.layout.specs.Inode.{IsInode, inode_bytes}
 use Rattle.layout.specs.Limits.{Sizes, AreSizes}
 use Rattle.layout.specs.Log.{LogHolds}
 use Rattle.layout.specs.Opens.{IsNewest}
-use Rattle.layout.specs.Places.{Blocks, blocks_of, place}
+use Rattle.layout.specs.Places.{Blocks, blocks_of}
 use Rattle.layout.specs.Record.{IsChange}
-use Rattle.layout.specs.Version.{level_of}
 use Rattle.layout.specs.declared.TheConstants.{SLOT_A, SLOT_B}
-use Rattle.layout.specs.declared.inode.Body.TheVariants.{Inline}
 use Rattle.layout.specs.declared.inode.Inode.{Inode}
 use Rattle.layout.specs.declared.kind.Kind.{Kind}
 use Rattle.layout.specs.declared.kind.Kind.TheVariants as kinds
-use Rattle.layout.specs.declared.pointer.Pointer.{Pointer}
-use Rattle.layout.specs.declared.pointer.Pointer.TheVariants.{Hole, Block}
 use Rattle.layout.specs.declared.root.Root.{Root}
 use Rattle.layout.specs.declared.version.TheConstants.{VERSION}
 use Rattle.model.specs.States.{empty}
-use Rattle.images.specs.Nodes.{held, Names, IsOnce, body_block, file_block, place_at_height, pointers_of}
+use Rattle.images.specs.Nodes.{held, Names, IsOnce}
 use Rattle.images.specs.Roots.{HeldTree, Reach, free_inode, frozen_at, inode_of, slot, tree, whole}
 use Rattle.images.specs.BlockMap.{HasBit, IsExact, IsSystem, NamesOnce, entry, roots, head}
 use Rattle.images.specs.Contents.{Content, HoldsVolume, StandsAs, contents}
@@ -32,76 +24,16 @@ use Rattle.images.specs.FirstRoots.{IsFirst, empty_directory, first_inodes, firs
 use Rattle.images.specs.Soundness.{FitsNumber, IsSoundFile, IsSoundTree, MapsNumbers}
 use Rattle.images.specs.States.{Holds, OpensBy}
 use Rattle.images.proofs.Frames.{frozen_none}
-use Rattle.images.proofs.SlotLaws.{no_block, no_snapshots, none_kept}
+use Rattle.images.proofs.SlotLaws.{no_snapshots, none_kept}
 use Rattle.images.proofs.AloneLaws.{alone_forgets, alone_volume, no_names}
 use Rattle.images.proofs.ReadingLaws.{read_past, read_spelled}
+pub use Rattle.images.proofs.EmptyLaws.{directory_fits, free_named, free_sound, held_inode, none_named, zero_sound}
+use Rattle.layout.proofs.PointerLaws.{no_block}
 
--- zeros are zeros
-zero_byte : (i count : ℕ) → get_or (zeros count) i 0 ≡ 0
-unfolding zeros
-zero_byte i count = elim (cases_lt i count) [
-  | inl lt ↦ get_or-replicate {A = ℕ} count i 0 0 lt
-  | inr le ↦ get_or_past (replicate count 0) i 0 (omega (arith, length-replicate {A = ℕ} count 0))
-]
-
--- ---- files without bytes
-
-hole_or_block : (p : Pointer) (b : ℕ) → p ≡ Hole → p ≡ Block b → ⊥
-hole_or_block p b none is = let e : Hole ≡ Block b = sym none ∙ is in cc
-
--- a file without blocks names none
-pub none_named : (d : Blocks) (f : Inode) → level_of f.size ≡ 0 → (b : ℕ) → Names (held d f) b → ⊥
-unfolding held
-none_named d f level b names =
-    hole_or_block (place_at_height d f names.height names.index) b
-    (ap (λ n. if nat_lt names.height n then place d (pointers_of f.body) (n - suc names.height) names.index else Hole) level
-    ∙ sym (cond_above names.height 0 (place d (pointers_of f.body) (0 - suc names.height) names.index) Hole Hole (omega arith) refl)) names.is
-
-none_twice : (d : Blocks) (f : Inode) → level_of f.size ≡ 0 → IsOnce (held d f)
-none_twice d f level m i k j b here there = absurd (none_named d f level b (record { height = m; index = i; is = here }))
-
-inline_zero : (stored : List ℕ) (i k : ℕ) → slice_index (body_block (Inline (zeros 128)) stored i) k ≡ 0
-unfolding zeros
-inline_zero stored zero k = elim (cases_lt k 128) [
-  | inl lt ↦ get_or_append_left (zeros 128) (zeros 3968) 0 k (omega (arith, length-replicate {A = ℕ} 128 0)) ∙ zero_byte k 128
-  | inr ge ↦ get_or-append_right (zeros 128) (zeros 3968) 128 k 0 (length-replicate {A = ℕ} 128 0) ge ∙ zero_byte (k - 128) 3968
-]
-inline_zero stored (suc i) k = zero_byte k 4096
-
-held_inode : (d : Blocks) (f : Inode) → (held d f).inode ≡ f
-unfolding held
-held_inode d f = refl
-
-zero_ends : (d : Blocks) (f : Inode) → f.body ≡ Inline (zeros 128) → (p : ℕ) → byte_in (file_block (held d f)) p ≡ 0
-unfolding held
-zero_ends d f body p =
-    ap (λ b. slice_index (body_block b ((held d f).bytes 0 (p / 4096)) (p / 4096)) (p % 4096)) body ∙ inline_zero ((held d f).bytes 0 (p / 4096)) (p / 4096) (p % 4096)
-
-zero_sound : (s : Sizes) (d : Blocks) (f : Inode) → IsInode VERSION s f → f.body ≡ Inline (zeros 128) → level_of f.size ≡ 0 → IsSoundFile s (held d f)
-zero_sound s d f fits body level = record {
-  inode = subst (IsInode VERSION s) (sym (held_inode d f)) fits;
-  indirect = λ m i b is. absurd (none_named d f level b (record { height = suc m; index = i; is = is }));
-  ends = λ p le. zero_ends d f body p;
-}
-
-pub free_fits : (s : Sizes) → IsInode VERSION s free_inode
-unfolding zeros
-free_fits s = record { mode = omega arith; size = omega arith; kind = (refl, refl, refl); body = (omega arith, length-replicate {A = ℕ} 128 0, refl) }
-
-pub directory_fits : (s : Sizes) → IsInode VERSION s empty_directory
-unfolding zeros
-directory_fits s = record { mode = omega arith; size = omega arith; kind = (refl, refl); body = (omega arith, length-replicate {A = ℕ} 128 0, refl) }
-
-pub free_sound : (s : Sizes) (d : Blocks) → IsSoundFile s (held d free_inode)
-free_sound s d = zero_sound s d free_inode (free_fits s) refl refl
-
-pub free_named : (d : Blocks) (b : ℕ) → Names (held d free_inode) b → ⊥
-free_named d b names = none_named d free_inode refl b names
+-- ---- the tree
 
 directory_sound : (s : Sizes) (d : Blocks) → IsSoundFile s (held d empty_directory)
 directory_sound s d = zero_sound s d empty_directory (directory_fits s) refl refl
-
--- ---- the tree
 
 module _ (r : Root) (e : Blocks) (numbers map : Inode) (is : IsFirst r e numbers map) where
   abbrev t : HeldTree
@@ -198,7 +130,7 @@ module _ (r : Root) (e : Blocks) (numbers map : Inode) (is : IsFirst r e numbers
 
   not_system : (b : ℕ) → IsSystem r b → b < 2
   not_system b (roots low) = low
-  not_system b (head k at) = absurd (hole_or_block (slot r k) b (is.slots k) at)
+  not_system b (head k at) = absurd (no_block (slot r k) b (is.slots k) at)
 
   exact : IsExact r (whole e r)
   exact = record {

@@ -3,7 +3,6 @@ use Rattle.std.proofs.Common.{◌≡◌, inl, inr, ℕ, zero, suc, ◌-◌, ◌/
 use Rattle.std.proofs.Math.Path.{fun_ext}
 use Rattle.std.proofs.lemmas.Bool.{cases_lt, cond_below, cond_above}
 use Rattle.std.specs.Prelude.{nat_lt, if◌then◌else◌}
-use Rattle.layout.specs.Maps.{indirect_pointer}
 use Rattle.layout.specs.Places.{Blocks, pointed, follow, place}
 use Rattle.layout.specs.Version.{level_of}
 use Rattle.layout.specs.declared.inode.Inode.{Inode}
@@ -12,14 +11,7 @@ use Rattle.layout.specs.declared.pointer.Pointer.TheVariants.{Hole, Block}
 use Rattle.layout.specs.declared.root.Root.{Root}
 use Rattle.images.specs.Nodes.{held, Names, Agrees, pointers_of, place_at_height}
 use Rattle.images.specs.Roots.{tree, Reach, inode_of, free_inode, slot, frozen_inode_file, frozen_at, whole, Needs, active, frozen, head}
-
-follow_same : (d e : Blocks) (p : Pointer) (i : ℕ) → ((b : ℕ) → p ≡ Block b → e b ≡ d b) → follow e p i ≡ follow d p i
-follow_same d e Hole i same = refl
-follow_same d e (Block b) i same = ap (λ bytes. indirect_pointer bytes i) (same b refl)
-
-pub pointed_same : (d e : Blocks) (p : Pointer) → ((b : ℕ) → p ≡ Block b → e b ≡ d b) → pointed e p ≡ pointed d p
-pointed_same d e Hole same = refl
-pointed_same d e (Block b) same = same b refl
+use Rattle.layout.proofs.PointerLaws.{follow_same, pointed_same, hole_block}
 
 below : {A : Type 0} (k n : ℕ) (x y z : A) → (k < n → x ≡ y) → (if nat_lt k n then x else z) ≡ (if nat_lt k n then y else z)
 below k n x y z same = elim (cases_lt k n) [
@@ -72,13 +64,10 @@ frozen_same d e inodes (Block p) head_same names =
     ap (λ bytes. tree e inodes (frozen_inode_file bytes)) (head_same p refl)
     ∙ tree_same d e inodes (frozen_inode_file (d p)) names
 
-hole_or_block : (b : ℕ) → Hole ≡ Block b → ⊥
-hole_or_block b e = absurd (cc)
-
 -- a free slot holds nothing
 pub frozen_none : (d : Blocks) (inodes b : ℕ) → Reach (frozen_at d inodes Hole) b → ⊥
 unfolding held
-frozen_none d inodes b reach = hole_or_block b (cond_above reach.names.height 0 _ Hole Hole (omega arith) refl ∙ reach.names.is)
+frozen_none d inodes b reach = hole_block (cond_above reach.names.height 0 _ Hole Hole (omega arith) refl ∙ reach.names.is)
 
 pub whole_same : (d e : Blocks) (r : Root) → Agrees (Needs r (whole d r)) d e → whole e r ≡ whole d r
 unfolding whole

@@ -1,5 +1,5 @@
 -- Blocks that are free are no matter: disks that differ in them alone open to the same states.
-use Rattle.std.proofs.Common.{◌≡◌, ℕ, ◌+◌, ◌*◌, ◌/◌, ◌<◌, List, ◌++◌, refl, sym, subst, arith}
+use Rattle.std.proofs.Common.{◌≡◌, ℕ, ◌+◌, ◌*◌, ◌/◌, ◌<◌, List, refl, sym, subst, arith}
 use Rattle.layout.specs.Opens.{IsNewest}
 use Rattle.layout.specs.Places.{blocks_of}
 use Rattle.layout.specs.Root.{IsRoot}
@@ -11,16 +11,10 @@ use Rattle.images.specs.Roots.{whole, Needs}
 use Rattle.images.specs.BlockMap.{entry, IsExact, roots}
 use Rattle.images.specs.States.{Holds, Opens, OpensBy, SameButFree}
 use Rattle.images.proofs.Frames.{whole_same}
-use Rattle.images.proofs.PointLaws.{free_is_free, no_bit}
+use Rattle.images.proofs.PointLaws.{free_is_free}
 use Rattle.images.proofs.StateLaws.{newest_is_root}
-
--- a block whose eight sectors are the same
-pub same_block : (d e : ℕ → List ℕ) (b : ℕ) → ((i : ℕ) → i < 8 → e (8 * b + i) ≡ d (8 * b + i)) → blocks_of e b ≡ blocks_of d b
-unfolding blocks_of
-same_block d e b same =
-    let first : e (8 * b) ≡ d (8 * b) = subst (λ n. e n ≡ d n) (omega arith) (same 0 (omega arith)) in
-    λ j. first j ++ (same 1 (omega arith) j ++ (same 2 (omega arith) j ++ (same 3 (omega arith) j
-    ++ (same 4 (omega arith) j ++ (same 5 (omega arith) j ++ (same 6 (omega arith) j ++ same 7 (omega arith) j))))))
+use Rattle.layout.proofs.PointerLaws.{same_block}
+use Rattle.images.proofs.EmptyLaws.{no_bit}
 
 -- what a root needs stands in sectors that aren't free
 needs_same : (d e : ℕ → List ℕ) (r : Root) → IsRoot r → IsExact r (whole (blocks_of d) r) → SameButFree r d e → Agrees (Needs r (whole (blocks_of d) r)) (blocks_of d) (blocks_of e)

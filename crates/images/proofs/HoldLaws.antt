@@ -1,6 +1,6 @@
 -- A point whose plan is in its grammar leaves a root that holds the planned volume.
-use Rattle.std.proofs.Common.{◌≡◌, ◌⊎◌, inl, inr, ℕ, zero, suc, false, ◌<◌, ◌≤◌, List, [], ◌∷◌, slice_index_or, Option, Some, None, IsSome, refl, ap, sym, subst, ◌∙◌, arith}
-use Rattle.std.proofs.lemmas.Bool.{cases_lt}
+use Rattle.std.proofs.Common.{◌≡◌, inl, inr, ℕ, zero, suc, false, ◌<◌, ◌≤◌, List, [], ◌∷◌, slice_index_or, Option, None, refl, ap, sym, subst, ◌∙◌, arith}
+use Rattle.std.proofs.lemmas.Bool.{cases_lt, cases_Bool}
 use Rattle.layout.specs.Inode.{IsInode}
 use Rattle.layout.specs.Limits.{Sizes}
 use Rattle.layout.specs.Places.{Blocks}
@@ -21,7 +21,8 @@ use Rattle.images.specs.Soundness.{IsSoundFile, IsSoundTree, FitsNumber}
 use Rattle.images.specs.Snapshots.{HasSnapshot, AreSnapshots, IsFrozenTree, AreKept, AreKeptAbove}
 use Rattle.images.specs.States.{IsSound, Holds}
 use Rattle.images.specs.Points.{IsPlannedOn, IsSoundPlan, HoldObjects}
-use Rattle.images.proofs.PointLaws.{point_stands, active_base, frozen_stays, tree_is, is_bool, stays_held}
+use Rattle.images.proofs.PointLaws.{point_stands, active_base, frozen_stays, tree_is, stays_held}
+use Rattle.model.proofs.OptionLaws.{some_or_none}
 
 -- ---- the tree
 
@@ -40,11 +41,11 @@ sound_tree d e r new files root sound same plan good =
     stays_held d e r (whole d r).active 0 n (plan.inode n) base same (plan.stays n no_it) in
     let settled = point_stands d e r new (whole d r).active 0 files root sound.exact base same plan in
     record {
-      files = λ n. elim (is_bool (plan.changed n)) [
+      files = λ n. elim (cases_Bool (plan.changed n)) [
         | inl yes_it ↦ good.files n yes_it
         | inr no_it ↦ subst (IsSoundFile r.geometry) (sym (stays n no_it)) (sound.active.files n)
       ];
-      kinds = λ n. elim (is_bool (plan.changed n)) [
+      kinds = λ n. elim (cases_Bool (plan.changed n)) [
         | inl yes_it ↦ good.kinds n yes_it
         | inr no_it ↦ subst (λ (h : Held). FitsNumber n h.inode.kind) (sym (stays n no_it)) (sound.active.kinds n)
       ];
@@ -101,13 +102,9 @@ module _ (r new : Root) (w now : Whole) (slots : (k : ℕ) → slot new k ≡ sl
 
 -- ---- the objects
 
-is_node : (o : Option Node) → IsSome o ⊎ (o ≡ None)
-is_node None = inr refl
-is_node (Some node) = inl refl
-
 -- the file system's own files are no objects
 own_none : (inodes n : ℕ) (v : Volume) → IsVolume inodes v → n < 3 → v n ≡ None
-own_none inodes n v volume low = elim (is_node (v n)) [
+own_none inodes n v volume low = elim (some_or_none (v n)) [
   | inr none ↦ none
   | inl some ↦ elim (volume.limits.numbers n some) [ inl is ↦ absurd (omega (arith, is)) | inr high ↦ absurd (omega (arith, high.0)) ]
 ]

@@ -1,3 +1,5 @@
+pub mod KindLaws
+pub mod EmptyLaws
 mod Frames
 pub mod OverlayLaws
 mod PointLaws

@@ -14,6 +14,7 @@ use Rattle.images.specs.Nodes.{held, Names, IsOnce, pointers_of, place_at_height
 use Rattle.images.specs.Contents.{content_of}
 use Rattle.images.specs.Overlays.{Overlay, overlaid_block, overlaid_content, Group, keeps, spells, none, IsLaid}
 use Rattle.images.proofs.Frames.{held_same}
+use Rattle.layout.proofs.PointerLaws.{hole_block}
 
 -- a node is what the indirect block over it says
 pub held_up : (d : Blocks) (f : Inode) (m i : ℕ) → suc m < level_of f.size → (held d f).place m i ≡ follow d ((held d f).place (suc m) (i / 1024)) (i % 1024)
@@ -71,7 +72,7 @@ module _ (e : Blocks) (old : Inode) (c : Overlay) (f : Inode) (taken : ℕ → B
       let level = is.level in
       elim (cases_lt m (level_of f.size)) [
         | inl lt ↦ (omega arith, sym (laid_place m i (omega arith)) ∙ there)
-        | inr ge ↦ absurd (no_node b (cond_above m (level_of f.size) (place e (pointers_of f.body) (level_of f.size - suc m) i) Hole Hole ge refl ∙ there))
+        | inr ge ↦ absurd (hole_block (cond_above m (level_of f.size) (place e (pointers_of f.body) (level_of f.size - suc m) i) Hole Hole ge refl ∙ there))
       ]
     where
       no_node : (b : ℕ) → Hole ≡ Block b → ⊥
@@ -128,11 +129,8 @@ inline_content e h c f is =
     ap (λ body. body_block body (pointed e (place_at_height e f 0 i)) i) is.body ∙ inline_any is.bytes (pointed e (place_at_height e f 0 i)) [] i ∙ is.blocks i in
     λ j. record { kind = is.says.kind j; mode = is.says.mode j; links = is.says.links j; size = is.says.size j; block = λ i. block_is i j }
 
-no_node : (b : ℕ) → Hole ≡ Block b → ⊥
-no_node b e = absurd (cc)
-
 pub inline_names : (e : Blocks) (h : Held) (c : Overlay) (f : Inode) (b : ℕ) → IsInline h c f → Names (held e f) b → ⊥
 unfolding held
 inline_names e h c f b is names =
     let level = is.level in
-    no_node b (cond_above names.height (level_of f.size) (place e (pointers_of f.body) (level_of f.size - suc names.height) names.index) Hole Hole (omega arith) refl ∙ names.is)
+    hole_block (cond_above names.height (level_of f.size) (place e (pointers_of f.body) (level_of f.size - suc names.height) names.index) Hole Hole (omega arith) refl ∙ names.is)

@@ -1,10 +1,8 @@
 -- A point that is planned gives the new contents, and its map is exact.
 use Rattle.std.proofs.Common.{◌≡◌, ◌≢◌, ◌⊎◌, inl, inr, ◌↔◌, ℕ, zero, suc, Bool, true, false, ◌<◌, ◌≤◌, refl, ap, sym, subst, ◌∙◌, arith}
 use Rattle.std.proofs.Math.Path.{fun_ext}
-use Rattle.std.proofs.lemmas.Bool.{cases_eq}
+use Rattle.std.proofs.lemmas.Bool.{cases_eq, cases_Bool}
 use Rattle.std.proofs.lemmas.List.{get_or_past}
-use Rattle.std.proofs.lemmas.Nat.Bits.{bit_at-zero}
-use Rattle.std.specs.Int.{bit_at}
 use Rattle.layout.specs.Limits.{Sizes}
 use Rattle.layout.specs.Places.{Blocks, pointed}
 use Rattle.layout.specs.Root.{IsRoot}
@@ -18,20 +16,15 @@ use Rattle.images.specs.BlockMap.{HasBit, entry, IsExact, IsApart, NamesOnce, Is
 use Rattle.images.specs.Contents.{Content, content_of, contents}
 use Rattle.images.specs.Points.{Marks, IsPlannedOn, IsSettled, IsBase, Slot, Frozen}
 use Rattle.images.specs.Points as point
-use Rattle.images.proofs.Frames.{held_same, tree_same, pointed_same, frozen_same, frozen_none}
+use Rattle.images.proofs.Frames.{held_same, tree_same, frozen_same, frozen_none}
+use Rattle.layout.proofs.PointerLaws.{pointed_same}
+use Rattle.images.proofs.EmptyLaws.{no_bit}
 
 -- the tree of the new root
 pub tree_is : (e : Blocks) (r : Root) (inode : ℕ → Inode) → ((n : ℕ) → inode_of (held e r.inode_file) r.geometry.inodes n ≡ inode n)
     → tree e r.geometry.inodes r.inode_file ≡ (λ n. held e (inode n))
 unfolding tree
 tree_is e r inode is = fun_ext (λ n. ap (held e) (is n))
-
-pub no_bit : (k x : ℕ) → x ≡ 0 → HasBit k x → ⊥
-no_bit k x e has = let none : bit_at x k ≡ 0 = ap (λ x. bit_at x k) e ∙ bit_at-zero k in absurd (omega (arith, has))
-
-pub is_bool : (t : Bool) → (t ≡ true) ⊎ (t ≡ false)
-is_bool true = inl refl
-is_bool false = inr refl
 
 -- the active plane
 active_exact : (changed : ℕ → Bool) (old : HeldTree) (plane : ℕ) (new : HeldTree) (before after : ℕ → ℕ) → IsApart old
@@ -43,7 +36,7 @@ active_exact changed old plane new before after apart stays marks exact b = (
     | inl kept ↦ still ((exact b).0 kept.0) kept.1
     | inr comes ↦ record { file = comes.0; names = comes.2 }
   ],
-  λ reach. (marks b).1 (elim (is_bool (changed reach.file)) [
+  λ reach. (marks b).1 (elim (cases_Bool (changed reach.file)) [
     | inl yes_it ↦ inr (reach.file, yes_it, reach.names)
     | inr no_it ↦
         let was : Names (old reach.file) b = subst (λ h. Names h b) (stays reach.file no_it) reach.names in
@@ -55,7 +48,7 @@ active_exact changed old plane new before after apart stays marks exact b = (
     differ s t p q same = absurd (cc)
 
     still : Reach old b → ((n : ℕ) → changed n ≡ true → Names (old n) b → ⊥) → Reach new b
-    still reach none = elim (is_bool (changed reach.file)) [
+    still reach none = elim (cases_Bool (changed reach.file)) [
       | inl yes_it ↦ absurd (none reach.file yes_it reach.names)
       | inr no_it ↦ record { file = reach.file; names = subst (λ h. Names h b) (sym (stays reach.file no_it)) reach.names }
     ]
@@ -170,7 +163,7 @@ point_stands d e r new t plane files root exact base same plan =
     let apart : IsApart (λ n. held e (plan.inode n)) = stays_apart t _ plan.taken base.once.apart comes
     (λ n b came reach. free_is_free d r b root exact (plan.free n b came) (base.needed b reach)) plan.once in
     record {
-      content = λ n ordinary. ap (λ t. contents t n) active_is ∙ elim (is_bool (plan.changed n)) [
+      content = λ n ordinary. ap (λ t. contents t n) active_is ∙ elim (cases_Bool (plan.changed n)) [
         | inl yes_it ↦ plan.content n ordinary yes_it
         | inr no_it ↦ ap content_of (stays n no_it) ∙ sym (plan.same n ordinary no_it)
       ];
@@ -189,13 +182,13 @@ point_stands d e r new t plane files root exact base same plan =
     stays n no_it = stays_held d e r t plane n (plan.inode n) base same (plan.stays n no_it)
 
     comes : (n b : ℕ) → Names (held e (plan.inode n)) b → Names (t n) b ⊎ (plan.taken n b ≡ true)
-    comes n b names = elim (is_bool (plan.changed n)) [
+    comes n b names = elim (cases_Bool (plan.changed n)) [
       | inl yes_it ↦ plan.comes n b yes_it names
       | inr no_it ↦ inl (subst (λ h. Names h b) (stays n no_it) names)
     ]
 
     each : (n : ℕ) → IsOnce (held e (plan.inode n))
-    each n = elim (is_bool (plan.changed n)) [
+    each n = elim (cases_Bool (plan.changed n)) [
       | inl yes_it ↦ plan.each n yes_it
       | inr no_it ↦ subst IsOnce (sym (stays n no_it)) (base.once.each n)
     ]

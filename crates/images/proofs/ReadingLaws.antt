@@ -1,9 +1,9 @@
 -- What is read block by block is what the tree has.
 use Rattle.std.proofs.lemmas.List.{replicate-append-replicate, take-append-drop}
-use Rattle.std.proofs.Common.{◌++◌, take, replicate, append_assoc, ◌≡◌, inl, inr, ℕ, zero, suc, ◌+◌, ◌-◌, ◌/◌, ◌%◌, ◌<◌, ◌≤◌, true, false, leb, List, length, drop, get_or, refl, ap, sym, subst, ◌∙◌, arith}
+use Rattle.std.proofs.Common.{◌++◌, take, replicate, append_assoc, ◌≡◌, inl, inr, ℕ, zero, suc, ◌+◌, ◌-◌, ◌/◌, ◌%◌, ◌<◌, ◌≤◌, List, length, drop, get_or, refl, ap, sym, subst, ◌∙◌, arith}
 use Rattle.std.specs.Prelude.{nat_lt, if◌then◌else◌, Some, All}
 use Rattle.std.specs.Int.{div_ceil}
-use Rattle.std.proofs.lemmas.Bool.{cases_lt, cond_below, cond_above, lt-leb, le-leb}
+use Rattle.std.proofs.lemmas.Bool.{cases_lt, cond_below, cond_above}
 use Rattle.std.proofs.lemmas.List.{get_or-drop, get_or_past}
 use Rattle.layout.specs.Bytes.{zeros}
 use Rattle.layout.specs.Inode.{IsInode, FitsBody, FitsPointers, pointers_used, inode_bytes}
@@ -24,6 +24,7 @@ use Rattle.images.specs.Nodes.{held, body_block, file_block, place_at_height, po
 use Rattle.images.specs.Roots.{free_inode, or_free, inode_from, inode_bytes_at, inode_of, tree, frozen_inode_file, inode_file_or_free}
 use Rattle.images.specs.Soundness.{nodes_at, IsSoundFile}
 use Rattle.images.proofs.OverlayLaws.{held_up}
+pub use Rattle.layout.proofs.SizeLaws.{level_one, level_two, used_one, used_two}
 
 -- ---- inodes and snapshots
 
@@ -65,18 +66,6 @@ highest d f level i is =
   where
     none : suc level - suc level ≡ 0
     none = omega arith
-
-pub level_one : (size : ℕ) → 128 < size → size ≤ 65536 → level_of size ≡ 1
-level_one size large low = let a : leb size 128 ≡ false = lt-leb _ _ large in let b : leb size 65536 ≡ true = le-leb _ _ low in rw (a, b) refl
-
-pub level_two : (size : ℕ) → 65536 < size → level_of size ≡ 2
-level_two size large = let a : leb size 128 ≡ false = lt-leb _ _ (omega arith) in let b : leb size 65536 ≡ false = lt-leb _ _ large in rw (a, b) refl
-
-pub used_one : (size : ℕ) → size ≤ 65536 → pointers_used size ≡ div_ceil size 4096
-used_one size low = let b : leb size 65536 ≡ true = le-leb _ _ low in rw b refl
-
-pub used_two : (size : ℕ) → 65536 < size → pointers_used size ≡ div_ceil (div_ceil size 4096) 1024
-used_two size large = let b : leb size 65536 ≡ false = lt-leb _ _ large in rw b refl
 
 module _ (s : Sizes) (d : Blocks) (f : Inode) (pointers : List Pointer) (sound : IsSoundFile s (held d f)) (body : f.body ≡ Pointers pointers) where
   pub fits : FitsPointers pointers s.blocks f.size

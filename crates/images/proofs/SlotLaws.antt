@@ -1,13 +1,10 @@
 -- A root without snapshots.
-use Rattle.std.proofs.Common.{◌≡◌, ℕ, [], sym, ◌∙◌}
-use Rattle.layout.specs.declared.pointer.Pointer.{Pointer}
-use Rattle.layout.specs.declared.pointer.Pointer.TheVariants.{Hole, Block}
+use Rattle.std.proofs.Common.{◌≡◌, ℕ, []}
+use Rattle.layout.specs.declared.pointer.Pointer.TheVariants.{Hole}
 use Rattle.layout.specs.declared.root.Root.{Root}
 use Rattle.images.specs.Roots.{Whole, slot}
 use Rattle.images.specs.Snapshots.{AreKept, AreSnapshots}
-
-pub no_block : (p : Pointer) (b : ℕ) → p ≡ Hole → p ≡ Block b → ⊥
-no_block p b hole block = absurd (let e = sym hole ∙ block in cc)
+use Rattle.layout.proofs.PointerLaws.{no_block}
 
 pub no_snapshots : (r : Root) (w : Whole) → ((k : ℕ) → slot r k ≡ Hole) → AreSnapshots r w
 no_snapshots r w slots = record {

@@ -1,7 +1,7 @@
 -- A point that takes or deletes a snapshot leaves the others as they were.
-use Rattle.std.proofs.Common.{◌≡◌, ◌≢◌, ◌⊎◌, inl, inr, ℕ, None, ◌<◌, ◌≤◌, ◌+◌, true, false, not, List, [], ◌∷◌, ◌++◌, filter, Some, refl, ap, sym, subst, ◌∙◌, arith}
+use Rattle.std.proofs.Common.{◌≡◌, ◌≢◌, ◌⊎◌, inl, inr, ℕ, None, ◌<◌, ◌≤◌, ◌+◌, true, not, List, [], ◌∷◌, ◌++◌, filter, Some, refl, ap, sym, subst, ◌∙◌, arith}
 use Rattle.std.specs.Prelude.{bytes_eq}
-use Rattle.std.proofs.lemmas.Bool.{cases_lt, cases_eq, cond-true, cond-false}
+use Rattle.std.proofs.lemmas.Bool.{cases_lt, cases_eq, cond-true, cond-false, cases_Bool}
 use Rattle.std.proofs.lemmas.Slice.Eq.{bytes_eq-Decides}
 use Rattle.layout.specs.Inode.{IsInode}
 use Rattle.layout.specs.Limits.{Sizes}
@@ -24,9 +24,9 @@ use Rattle.images.specs.SnapshotSteps.{SnapshotStep, unchanged, taken, deleted, 
 use Rattle.images.specs.Soundness.{IsSoundTree}
 use Rattle.images.specs.States.{Holds}
 use Rattle.images.proofs.HoldLaws.{point_holds, point_with}
-use Rattle.images.proofs.PointLaws.{frozen_stays, frozen_takes, is_bool}
+use Rattle.images.proofs.PointLaws.{frozen_stays, frozen_takes}
 use Rattle.images.proofs.ReadingLaws.{read_snapshot}
-use Rattle.images.proofs.SlotLaws.{no_block}
+use Rattle.layout.proofs.PointerLaws.{no_block}
 
 -- a slot has one snapshot
 snapshot_once : (r : Root) (w : Whole) (k l : ℕ) (s q : Snapshot) → k ≡ l → HasSnapshot r w k s → HasSnapshot r w l q → s ≡ q
@@ -184,7 +184,7 @@ module _ (r new : Root) (w now : Whole) (k : ℕ) (slots : (l : ℕ) → l ≢ k
         pub deleted_kept : (above : ℕ) (pairs : List (Name × Tree)) → AreKeptAbove r w above pairs → AreKeptAbove new now above (filter (λ pair. not (bytes_eq pair.0 name)) pairs)
         deleted_kept above [] kept = λ l q there. kept l q (was l q there)
         deleted_kept above (pair ∷ pairs) kept =
-            let next = kept.2 in elim (is_bool (bytes_eq pair.0 name)) [
+            let next = kept.2 in elim (cases_Bool (bytes_eq pair.0 name)) [
               | inl same ↦
                   let slot_is : kept.0 ≡ k = are.names kept.0 k kept.1 can.snapshot next.has can.has (sym kept.3 ∙ (bytes_eq-Decides pair.0 name).0 same ∙ sym can.named) in
                   subst (AreKeptAbove new now above) (sym (cond-false (not (bytes_eq pair.0 name)) (pair ∷ rest_of pairs) (rest_of pairs) (ap not same)))

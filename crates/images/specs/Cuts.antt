@@ -11,7 +11,7 @@ use Rattle.images.specs.Roots.{whole, Needs}
 use Rattle.images.specs.BlockMap.{entry}
 use Rattle.images.specs.Contents.{Content}
 use Rattle.images.specs.Points.{IsPlannedOn, IsSoundPlan, HoldObjects}
-use Rattle.images.specs.SnapshotSteps.{SnapshotStep, unchanged, CanStep, StepsSlots, HasHead}
+use Rattle.images.specs.SnapshotSteps.{SnapshotStep, CanStep, StepsSlots, HasHead}
 
 -- a block of a disk of so many, behind the two that hold the roots
 abbrev pub IsOfDisk : ℕ → ℕ → Type 0
@@ -77,7 +77,3 @@ pub record IsPointWith (step : SnapshotStep) (r : Root) (d : ℕ → List ℕ) (
   pub plans : Plans (blocks_of d) r writes new files
   pub objects : HoldObjects r.geometry.inodes files v
   pub volume : IsVolume r.geometry.inodes v
-
--- the same where the snapshots stay
-abbrev pub IsPoint : Root → (ℕ → List ℕ) → List Write → ℕ → Root → Volume → Type 0
-IsPoint = IsPointWith unchanged

@@ -9,7 +9,7 @@ use Rattle.layout.specs.declared.TheConstants.{INLINE_BYTES}
 use Rattle.layout.specs.declared.inode.Body.TheVariants.{Inline}
 use Rattle.layout.specs.declared.inode.Inode.{Inode}
 use Rattle.layout.specs.declared.kind.Kind.TheVariants as kinds
-use Rattle.layout.specs.declared.numbers.TheConstants.{FIRST_NUMBER, ROOT_NUMBER}
+use Rattle.model.specs.declared.limits.TheConstants.{FIRST_NUMBER, ROOT_NUMBER}
 use Rattle.layout.specs.declared.pointer.Pointer.TheVariants.{Hole}
 use Rattle.layout.specs.declared.root.Root.{Root}
 use Rattle.model.specs.Volumes.{Volume, directory_node}

@@ -10,7 +10,7 @@ use Rattle.layout.specs.Version.{level_of}
 use Rattle.layout.specs.declared.TheConstants.{BLOCK_BYTES, BLOCK_POINTERS, INODE_BYTES, INODES_PER_BLOCK}
 use Rattle.layout.specs.declared.kind.Kind.{Kind}
 use Rattle.layout.specs.declared.kind.Kind.TheVariants as kinds
-use Rattle.layout.specs.declared.numbers.TheConstants.{FIRST_NUMBER}
+use Rattle.model.specs.declared.limits.TheConstants.{FIRST_NUMBER}
 use Rattle.layout.specs.declared.pointer.Pointer.TheVariants.{Hole, Block}
 use Rattle.layout.specs.declared.version.TheConstants.{VERSION}
 use Rattle.images.specs.Nodes.{Held, file_block}

@@ -1,5 +1,5 @@
-//! What images mean: which tree a root names, from the inode of its inode file down, and which state it stands for. It has
-//! no code, only definitions and laws of them.
+//! The meaning of the images: which tree a root names, from the inode of its inode file down, and which state it stands
+//! for. It has no code, only definitions and laws of them.
 #![tactic(auto)]
 
 mod cut;

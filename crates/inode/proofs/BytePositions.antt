@@ -1,20 +1,19 @@
 -- Bytes by position, block by block.
-use Rattle.std.proofs.Common.{◌≡◌, ◌≢◌, ℕ, zero, suc, ◌+◌, ◌-◌, ◌*◌, ◌/◌, ◌%◌, ◌<◌, ◌≤◌, ◌++◌, List, [], ◌∷◌, length, get_or, take, drop, slice_index, refl, sym, ◌∙◌, ap, subst, inl, inr, ◌⊎◌, true, false, arith, ltb, leb, ◌&&◌, min, max, if◌then◌else◌}
+use Rattle.std.proofs.Common.{◌≡◌, ◌≢◌, ℕ, ◌+◌, ◌-◌, ◌*◌, ◌/◌, ◌%◌, ◌<◌, ◌≤◌, ◌++◌, List, [], ◌∷◌, length, get_or, take, drop, slice_index, refl, sym, ◌∙◌, ap, subst, inl, inr, ◌⊎◌, true, false, arith, ltb, leb, ◌&&◌, min, max, if◌then◌else◌}
 use Rattle.std.proofs.lemmas.Bool.{cases_lt}
 use Rattle.std.proofs.lemmas.Bool.Decides.{nat_tests}
-use Rattle.std.proofs.lemmas.List.{get_or_append_left, get_or-append_right, get_or-take, get_or-drop, length-take, length-drop, get_or_past, get_or_default, length_push}
+use Rattle.std.proofs.lemmas.List.{get_or_append_left, get_or-append_right, length-take, length-drop, get_or_past, get_or_default, length_push}
 use Rattle.layout.specs.Bytes.{zeros}
 use Rattle.buffers.specs.Positions.{written, laid, cut}
 use Rattle.blocktree.specs.Places.{block_count}
 use Rattle.layout.specs.FileBytes.{byte_in}
 use Rattle.inode.specs.Changes.{changed_block}
 use Rattle.inode.specs.Edges.{IsPartlyWritten}
+pub use Rattle.layout.proofs.PartLaws.{slice_index-between}
+use Rattle.layout.proofs.ZeroLaws.{zero_byte}
 
 pub slice_index-zeros : (n k : ℕ) → slice_index (zeros n) k ≡ 0
-unfolding zeros
-slice_index-zeros zero k = refl
-slice_index-zeros (suc n) zero = refl
-slice_index-zeros (suc n) (suc k) = slice_index-zeros n k
+slice_index-zeros n k = zero_byte k n
 
 -- ---- what is written, by cases
 
@@ -26,11 +25,6 @@ written_above f at bytes p le = grind (arith, nat_tests)
 
 pub written_in : (f : ℕ → ℕ) (at : ℕ) (bytes : List ℕ) (p : ℕ) → at ≤ p → p < at + length bytes → written f at bytes p ≡ slice_index bytes (p - at)
 written_in f at bytes p le lt = grind (arith, nat_tests)
-
--- ---- a part of a list
-
-pub slice_index-between : (xs : List ℕ) (a n k : ℕ) → k < n → slice_index (take n (drop a xs)) k ≡ slice_index xs (a + k)
-slice_index-between xs a n k lt = get_or-take n (drop a xs) k 0 lt ∙ get_or-drop a xs k 0
 
 -- ---- positions in blocks
 

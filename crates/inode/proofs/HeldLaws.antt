@@ -1,17 +1,16 @@
 -- Settled inodes in their grammar.
-use Rattle.std.proofs.Common.{◌≡◌, inl, inr, ℕ, zero, suc, ◌-◌, ◌*◌, ◌/◌, ◌%◌, ◌<◌, ◌≤◌, List, ◌++◌, length, take, get_or, refl, sym, ap, subst, ◌∙◌, arith, true, false, leb, ◌==◌, if◌then◌else◌}
+use Rattle.std.proofs.Common.{◌≡◌, inl, inr, ℕ, zero, suc, ◌-◌, ◌*◌, ◌/◌, ◌%◌, ◌≤◌, List, ◌++◌, length, take, get_or, refl, sym, ap, subst, ◌∙◌, arith, ◌==◌, if◌then◌else◌}
 use Rattle.std.proofs.lemmas.Bool.Decides.{nat_tests}
-use Rattle.std.specs.Prelude.{nat_lt, slice_index, All}
+use Rattle.std.specs.Prelude.{nat_lt, slice_index}
 use Rattle.std.specs.Int.{div_ceil}
-use Rattle.std.proofs.lemmas.Bool.{cases_lt, cond_below, lt-leb, le-leb}
-use Rattle.std.proofs.lemmas.List.{get_or_past, length-take}
+use Rattle.std.proofs.lemmas.Bool.{cases_lt, cond_below}
+use Rattle.std.proofs.lemmas.List.{length-take}
 use Rattle.layout.specs.Bytes.{zeros}
 use Rattle.layout.specs.FileBytes.{byte_in, EndsAt}
 use Rattle.layout.specs.Inode.{IsInode, FitsBody, FitsPointers}
 use Rattle.layout.specs.Limits.{Sizes}
 use Rattle.layout.specs.Maps.{IsIndirectBlock}
 use Rattle.layout.specs.Places.{pointed, place}
-use Rattle.layout.specs.Pointer.{PointsBelow}
 use Rattle.layout.specs.Version.{level_of}
 use Rattle.layout.specs.declared.inode.Body.{Body}
 use Rattle.layout.specs.declared.inode.Body.TheVariants.{Inline, Pointers}
@@ -28,6 +27,8 @@ use Rattle.inode.specs.Bases.{IsBased, anew, over, StartsFrom}
 use Rattle.inode.specs.Bodies.{body_block, inode_block}
 use Rattle.inode.specs.Edges.{filled}
 use Rattle.inode.proofs.EdgeLaws.{filled_short}
+use Rattle.layout.proofs.SizeLaws.{level_one, level_two}
+use Rattle.layout.proofs.PointerLaws.{points_below}
 
 -- ---- blocks
 
@@ -86,18 +87,6 @@ highest disk f level i is =
     none : suc level - suc level ≡ 0
     none = omega arith
 
-level_one : (size : ℕ) → 128 < size → size ≤ 65536 → level_of size ≡ 1
-level_one size large low = let a : leb size 128 ≡ false = lt-leb _ _ large in let b : leb size 65536 ≡ true = le-leb _ _ low in rw (a, b) refl
-
-level_two : (size : ℕ) → 65536 < size → level_of size ≡ 2
-level_two size large = let a : leb size 128 ≡ false = lt-leb _ _ (omega arith) in let b : leb size 65536 ≡ false = lt-leb _ _ large in rw (a, b) refl
-
-below_or_hole : (blocks : ℕ) (ps : List Pointer) (i : ℕ) → All (PointsBelow blocks) ps → PointsBelow blocks (get_or ps i Hole)
-below_or_hole blocks ps i all = elim (cases_lt i (length ps)) [
-  | inl lt ↦ all i Hole lt
-  | inr ge ↦ subst (PointsBelow blocks) (sym (get_or_past ps i Hole ge)) tt
-]
-
 module _ (s : Sizes) (disk : ℕ → List ℕ) (f : Inode) (ps : List Pointer) (sound : IsSoundFile s (held disk f)) (body : f.body ≡ Pointers ps) where
   fits : FitsPointers ps s.blocks f.size
   unfolding held
@@ -116,12 +105,12 @@ module _ (s : Sizes) (disk : ℕ → List ℕ) (f : Inode) (ps : List Pointer) (
   path_is i = elim (cases_lt 65536 f.size) [
     | inr low ↦
         let depth : 0 ≡ depth_of f.size = omega (arith, level_one f.size fits.0 low) in
-        subst (λ (d : ℕ). IsPath s.blocks disk ps d (block_count f.size) i) depth (below_or_hole s.blocks ps i fits.2)
+        subst (λ (d : ℕ). IsPath s.blocks disk ps d (block_count f.size) i) depth (points_below s.blocks ps i fits.2)
     | inl large ↦
         let level = level_two f.size large in
         let depth : 1 ≡ depth_of f.size = omega (arith, level) in
         let top : (held disk f).place 1 (i / 1024) ≡ get_or ps (i / 1024) Hole = highest disk f 1 (i / 1024) level ∙ ap (λ b. get_or (pointers_of b) (i / 1024) Hole) body in
-        subst (λ (d : ℕ). IsPath s.blocks disk ps d (block_count f.size) i) depth (below_or_hole s.blocks ps (i / 1024) fits.2, node_is (i / 1024) _ top)
+        subst (λ (d : ℕ). IsPath s.blocks disk ps d (block_count f.size) i) depth (points_below s.blocks ps (i / 1024) fits.2, node_is (i / 1024) _ top)
   ]
 
 pub based_sound : (s : Sizes) (disk : ℕ → List ℕ) (f : Inode) (t : BlockTree) → IsSoundFile s (held disk f) → IsBased f t → AreSound s.blocks disk t

@@ -1,5 +1,6 @@
 pub mod BytePositions
 pub mod EdgeLaws
 pub mod ComposingLaws
-mod BaseLaws
+pub mod PutLaws
+pub mod BaseLaws
 mod HeldLaws

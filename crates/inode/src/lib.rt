@@ -1,6 +1,7 @@
-//! Files in memory: an inode that a consistency point settled, and the changes since. Inside, a file is a function from a
-//! block's index to 4,096 bytes, and a size past which every byte is 0; above, it is its list of bytes. A change is prepared,
-//! which takes all memory and does all reads and changes nothing, and then put in force, which can't fail.
+//! The inodes: files in memory, each an inode that a consistency point settled, and the changes since. Inside, a file is a
+//! function from a block's index to 4,096 bytes, and a size past which every byte is 0; above, it is its list of bytes. A
+//! change is prepared, which takes all memory and does all reads and changes nothing, and then put in force, which can't
+//! fail.
 #![tactic(auto)]
 
 mod change;

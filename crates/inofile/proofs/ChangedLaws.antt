@@ -26,7 +26,7 @@ module _ (p : ℕ → Bool) (y : ℕ) (yes : p y ≡ true) where
       subst (λ b. Contains (cond b (x ∷ filter p xs) (filter p xs)) y) (sym (ap p is ∙ yes)) (zero, omega arith, is)
   kept (x ∷ xs) (suc k, lt, is) = keep_rest x (p x) (filter p xs) (kept xs (k, omega (arith, lt), is))
 
-changed_is : (slot : Option Slot) → is_changed_slot slot ≡ true → IsChangedSlot slot
+pub changed_is : (slot : Option Slot) → is_changed_slot slot ≡ true → IsChangedSlot slot
 changed_is (Some AsSettled) is = absurd (false≢true is)
 changed_is (Some (Loaded object)) is = absurd (false≢true is)
 changed_is (Some (Changed object)) is = tt

@@ -3,4 +3,4 @@ mod ObjectLaws
 mod VolumeLaws
 mod SlotLaws
 mod FileLaws
-mod ChangedLaws
+pub mod ChangedLaws

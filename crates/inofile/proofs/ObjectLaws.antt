@@ -4,7 +4,6 @@ use Rattle.layout.specs.Bytes.{zeros}
 use Rattle.layout.specs.FileBytes.{byte_in, EndsAt}
 use Rattle.layout.specs.Inode.{IsInode, FitsKind, FitsBody}
 use Rattle.layout.specs.Limits.{Sizes}
-use Rattle.layout.specs.Version.{level_of}
 use Rattle.layout.specs.declared.inode.Body.{Body}
 use Rattle.layout.specs.declared.inode.Body.TheVariants.{Inline, Pointers}
 use Rattle.layout.specs.declared.inode.Inode.{Inode}
@@ -25,8 +24,8 @@ use Rattle.inode.specs.declared.object.Object.{Object}
 use Rattle.inofile.specs.Objects.{StandsFor, IsObjectKind, IsObject, IsObjectOrNone, IsAsSettled, IsSameObject, IsSameOrNone, IsUntouched}
 use Rattle.inofile.specs.Settled.{content_of, held_content, unless_free, settled_content}
 use Rattle.std.proofs.lemmas.Bool.{false≢true}
-use Rattle.std.proofs.lemmas.Bool.Decides.{nat_tests}
 use Rattle.std.proofs.Math.Path.{fun_ext}
+use Rattle.layout.proofs.SizeLaws.{level_none}
 
 -- ---- free inodes
 
@@ -161,12 +160,9 @@ object_some disk inodes settled None found is = ((λ yes. absurd (false≢true y
 
 -- ---- objects as they are loaded
 
-inline_level : (size : ℕ) → size ≤ 128 → level_of size ≡ 0
-inline_level size le = grind (arith, nat_tests)
-
 untouched_body : (b : Body) (blocks size : ℕ) (o : Object) → FitsBody b blocks size → o.file.size ≡ size → StartsFrom b size o.file.tree → StartsUnchanged b o.file.tree → IsUntouched o
 untouched_body (Inline bytes) blocks size o fits same starts unchanged =
-    let flat = inline_level o.file.size (omega (arith, same, fits.0)) in
+    let flat = level_none o.file.size (omega (arith, same, fits.0)) in
     record {
       kept = λ deep. absurd (omega (arith, deep, flat));
       count = λ deep. absurd (omega (arith, deep, flat));

@@ -1,5 +1,5 @@
 -- What memory stands for, number by number.
-use Rattle.std.proofs.Common.{◌≡◌, ◌≢◌, ◌↔◌, ◌⊎◌, ℕ, zero, suc, ◌<◌, ◌≤◌, List, refl, sym, ap, subst, ◌∙◌, arith, inl, inr, Option, Some, None, IsSome, is_some, IsTrue, IsFalse, Bool, false, Result, Ok, Err, OnOk, OnErr}
+use Rattle.std.proofs.Common.{◌≡◌, ◌≢◌, ◌↔◌, ◌⊎◌, ℕ, ◌<◌, ◌≤◌, List, refl, sym, ap, subst, ◌∙◌, arith, inl, inr, Option, Some, None, IsSome, is_some, IsTrue, IsFalse, Bool, false, Result, Ok, Err, OnOk, OnErr}
 use Rattle.std.specs.Option.{option_map}
 use Rattle.std.specs.Ordering.{nat_cmp, is_eq}
 use Rattle.std.specs.BTreeMap.{BTreeMap, get, Updates}
@@ -7,10 +7,8 @@ use Rattle.std.proofs.lemmas.Bool.{cases_eq, cases_lt, false≢true}
 use Rattle.std.proofs.lemmas.Bool.Decides.{nat_tests}
 use Rattle.layout.specs.Maps.{IsTaken}
 use Rattle.layout.specs.declared.inode.Inode.{Inode}
-use Rattle.layout.specs.declared.kind.Kind.{Kind}
 use Rattle.model.specs.Volumes.{Node, Volume, with_node}
 use Rattle.images.specs.Contents.{Content}
-use Rattle.images.specs.Soundness.{FitsNumber, IsOrdinary}
 use Rattle.inode.specs.declared.object.Object.{Object}
 use Rattle.inofile.specs.Inodes.{IsKnownSlot, slot_content}
 use Rattle.inofile.specs.Objects.{StandsFor, IsAsSettled, IsObjectOrNone, IsSameOrNone}
@@ -19,6 +17,7 @@ use Rattle.inofile.specs.Volumes.{SlotStandsFor, MapsVolume, HasNoOwn, slot_with
 use Rattle.inofile.specs.declared.inode_file.Slot.{Slot}
 use Rattle.inofile.specs.declared.inode_file.Slot.TheVariants.{AsSettled, Loaded, Changed}
 use Rattle.inofile.proofs.ObjectLaws.{same_object, same_settled, object_some}
+use Rattle.model.proofs.ObjectLaws.{node_here, node_other}
 
 -- ---- other numbers
 
@@ -27,12 +26,6 @@ other_number k n ne = grind (arith, nat_tests)
 
 pub other_slot : (old new : BTreeMap ℕ Slot) (number n : ℕ) (slot : Option Slot) → Updates nat_cmp old new number slot → n ≢ number → get nat_cmp new n ≡ get nat_cmp old n
 other_slot old new number n slot up ne = up.2 n (other_number number n ne)
-
-with_here : (number k : ℕ) (node : Option Node) (v : Volume) → k ≡ number → with_node number node v k ≡ node
-with_here number k node v e = grind (arith, nat_tests)
-
-with_other : (number k : ℕ) (node : Option Node) (v : Volume) → k ≢ number → with_node number node v k ≡ v k
-with_other number k node v ne = grind (arith, nat_tests)
 
 module _ (disk : ℕ → List ℕ) (inodes : ℕ) (settled : ℕ → Inode) (old new : BTreeMap ℕ Slot) (number : ℕ) (slot : Option Slot) (up : Updates nat_cmp old new number slot) where
   -- all numbers stand for what they did, and one for this
@@ -58,9 +51,9 @@ module _ (disk : ℕ → List ℕ) (inodes : ℕ) (settled : ℕ → Inode) (old
       → IsObjectOrNone disk inodes (settled number) object node
       → (n : ℕ) → SlotStandsFor disk inodes (settled n) (get nat_cmp new n) (with_node number node v n)
   set_stands v object node is others stands =
-      all_stand v (with_node number node v) (λ n ne. with_other number n node v ne) others
+      all_stand v (with_node number node v) (λ n ne. node_other number n node v ne) others
       (subst (λ (x : Option Slot). SlotStandsFor disk inodes (settled number) x (with_node number node v number)) (sym is)
-      (subst (IsObjectOrNone disk inodes (settled number) object) (sym (with_here number number node v refl)) stands))
+      (subst (IsObjectOrNone disk inodes (settled number) object) (sym (node_here number number node v refl)) stands))
 
 -- a value that is put in at a key that is there
 pub inserted : {A E : Type 0} (r : Result A E) (U : Type 0) (slot : Option Slot) → OnOk r U → OnErr r (slot ≡ None) → (slot ≡ None → ⊥) → U
@@ -112,12 +105,6 @@ load_same disk settled old new number object up not same n = elim (cases_eq n nu
   | inr ne ↦ ap (λ (x : Option Slot). slot_content disk x (settled_content disk (settled n))) (other_slot old new number n (Some (Loaded object)) up ne)
 ]
 
-pub ordinary_kind : (n : ℕ) (k : Kind) → 3 ≤ n → FitsNumber n k → IsOrdinary k
-ordinary_kind zero k ge fits = absurd (omega arith)
-ordinary_kind (suc zero) k ge fits = absurd (omega arith)
-ordinary_kind (suc (suc zero)) k ge fits = absurd (omega arith)
-ordinary_kind (suc (suc (suc n))) k ge fits = fits
-
 -- an object that is put back into what memory has of a number
 pub back_stands : (disk : ℕ → List ℕ) (inodes : ℕ) (settled : Inode) (slot : Option Slot) (was now : Option Object) (found : Option Node) → IsKnownSlot slot → IsSameOrNone was now
     → SlotStandsFor disk inodes settled (slot_with was slot) found → SlotStandsFor disk inodes settled (slot_with now slot) found
@@ -129,7 +116,7 @@ back_stands disk inodes settled None was now found known same stands = absurd kn
 
 -- the file system's own numbers stay without objects
 pub own_stay : (number : ℕ) (node : Option Node) (v : Volume) → 3 ≤ number → HasNoOwn v → HasNoOwn (with_node number node v)
-own_stay number node v ge own n lt = with_other number n node v (λ e. omega (arith, lt, ge, e)) ∙ own n lt
+own_stay number node v ge own n lt = node_other number n node v (λ e. omega (arith, lt, ge, e)) ∙ own n lt
 
 -- ---- the numbers that are taken
 
@@ -141,9 +128,9 @@ pub record Notes (number : ℕ) (taken : Bool) (old new : List ℕ) : Type 0 whe
 pub note_maps : (disk : ℕ → List ℕ) (inodes : ℕ) (settled : Inode) (old new : List ℕ) (v : Volume) (number : ℕ) (object : Option Object) (node : Option Node)
     → MapsVolume old v → Notes number (is_some object) old new → IsObjectOrNone disk inodes settled object node → MapsVolume new (with_node number node v)
 note_maps disk inodes settled old new v number object node maps notes is k = elim (cases_eq k number) [
-  | inr ne ↦ subst (λ (x : Option Node). IsTaken new k ↔ ((k < 4) ⊎ IsSome x)) (sym (with_other number k node v ne))
+  | inr ne ↦ subst (λ (x : Option Node). IsTaken new k ↔ ((k < 4) ⊎ IsSome x)) (sym (node_other number k node v ne))
       ((λ taken. (maps k).0 ((notes.others k ne).0 taken)), (λ why. (notes.others k ne).1 ((maps k).1 why)))
-  | inl e ↦ subst (λ (x : Option Node). IsTaken new k ↔ ((k < 4) ⊎ IsSome x)) (sym (with_here number k node v e))
+  | inl e ↦ subst (λ (x : Option Node). IsTaken new k ↔ ((k < 4) ⊎ IsSome x)) (sym (node_here number k node v e))
       (subst (λ (n : ℕ). IsTaken new n ↔ ((n < 4) ⊎ IsSome node)) (sym e) here)
 ]
   where

@@ -3,3 +3,4 @@ pub mod Settled
 pub mod Inodes
 pub mod Objects
 pub mod Volumes
+pub mod Giving

@@ -1,15 +1,15 @@
 //! Changes of the map from numbers to objects.
 
-ghost use Rattle.std.specs.Prelude.{◌≡◌, ◌≢◌, ◌==◌, ◌≤◌, ◌<◌, ◌↔◌, ℕ, List, Option, Some, None, OnOk, IfOk, IfSome, IfNone, IsSome, Contains, if◌then◌else◌};
+ghost use Rattle.std.specs.Prelude.{◌≡◌, ◌≢◌, ◌==◌, ◌≤◌, ◌<◌, ◌↔◌, ℕ, List, Option, Some, None, OnOk, IfSome, IfNone, IsSome, if◌then◌else◌};
 ghost use Rattle.std.specs.Option.{option_map};
 ghost use Rattle.std.specs.Ordering.{nat_cmp};
 ghost use Rattle.std.specs.BTreeMap as tree;
 ghost use Rattle.layout.specs.declared.inode.Inode.{Inode};
-ghost use Rattle.layout.specs.declared.numbers.TheConstants.{FIRST_NUMBER, ROOT_NUMBER};
-ghost use Rattle.model.specs.Volumes.{Node, Volume, with_node};
+ghost use Rattle.model.specs.declared.limits.TheConstants.{FIRST_NUMBER, ROOT_NUMBER};
+ghost use Rattle.model.specs.Volumes.{Volume};
 ghost use Rattle.images.specs.Contents.{HoldsVolume};
 ghost use Rattle.inode.specs.declared.object.Object.{Object};
-ghost use Rattle.inofile.specs.Objects.{IsObject, IsObjectOrNone, IsSameOrNone};
+ghost use Rattle.inofile.specs.Objects.{IsObject, IsSameOrNone};
 ghost use Rattle.inofile.specs.Settled.{AreSettled, content_of, held_content, settled_content};
 
 use crate::{InodeFile, Slot};
@@ -17,6 +17,7 @@ use inode::{File, Object};
 use std::alloc::{AllocError, Global};
 
 impl InodeFile {
+    ghost use Rattle.inofile.specs.Giving.{IsGiven};
     ghost use Rattle.inofile.specs.Inodes.{loaded, object_at, SameObjects, IsKnown, HasRoomFor, IsChanged};
     ghost use Rattle.inofile.specs.Volumes.{IsVolumeOf, IsVolumeWithout, MapsVolume, slot_with};
 
@@ -49,27 +50,7 @@ impl InodeFile {
         requires room { HasRoomFor self.old number }
         requires low { ROOT_NUMBER ≤ number }
         requires high { number < self.old.geometry.inodes }
-        ensures geometry { self.new.geometry ≡ self.old.geometry }
-        ensures file { self.new.file ≡ self.old.file }
-        ensures stays { (n : ℕ) → IsKnown self.old n → IsKnown self.new n }
-        ensures keeps { (n : ℕ) → HasRoomFor self.old n → HasRoomFor self.new n }
-        ensures set { (disk : ℕ → List ℕ) (settled : ℕ → Inode) (n : ℕ)
-            → object_at disk settled self.new n
-            ≡ (if n == number then option_map (content_of disk) object
-            else object_at disk settled self.old n) }
-        ensures volume { (count : ℕ) (disk : ℕ → List ℕ) (settled : ℕ → Inode) (v : Volume)
-            (node : Option Node) → IsVolumeOf count disk settled self.old v
-            → IsObjectOrNone disk self.old.geometry.inodes (settled number) object node
-            → IsVolumeOf count disk settled self.new (with_node number node v) }
-        ensures back { (was : Option Object) (count : ℕ) (disk : ℕ → List ℕ) (settled : ℕ → Inode)
-            (v : Volume) (node : Option Node)
-            → IsVolumeWithout number was count disk settled self.old v
-            → IsObjectOrNone disk self.old.geometry.inodes (settled number) object node
-            → IsVolumeOf count disk settled self.new (with_node number node v) }
-        ensures loaded { loaded self.new number ≡ object }
-        ensures rest { (n : ℕ) → (n ≢ number) → loaded self.new n ≡ loaded self.old n }
-        ensures changed { IsChanged self.new number }
-        ensures others { (n : ℕ) → (n ≢ number) → (IsChanged self.new n ↔ IsChanged self.old n) }
+        ensures { IsGiven number object self.old self.new }
     {
         self.numbers.note(number, object.is_some());
         let _ = self.slots.insert(number, Slot::Changed(object));

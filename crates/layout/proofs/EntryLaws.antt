@@ -1,13 +1,13 @@
 -- An entry of a directory: what is read is spelled so, and what is spelled so is read, whatever stands behind it. And blocks
 -- of entries: their first entry is what their bytes begin with.
-use Rattle.std.proofs.Common.{◌≡◌, ◌≢◌, ℕ, ◌+◌, ◌^◌, ◌≤◌, ◌↔◌, List, [], ◌∷◌, ◌++◌, length, get_or, replicate, Some, inl, inr, refl, sym, ap, subst, ◌∙◌, append_assoc, arith}
-use Rattle.std.proofs.lemmas.Bool.{cases_lt}
-use Rattle.std.proofs.lemmas.List.{length-append, length-replicate, append_cancel_left, get_or-replicate, get_or_past}
+use Rattle.std.proofs.Common.{◌≡◌, ◌≢◌, ℕ, ◌+◌, ◌^◌, ◌≤◌, ◌↔◌, List, [], ◌∷◌, ◌++◌, length, Some, refl, sym, ap, subst, ◌∙◌, append_assoc, arith}
+use Rattle.std.proofs.lemmas.List.{length-append, append_cancel_left}
 use Rattle.layout.specs.Bytes.{little, number, zeros, IsBytes}
 use Rattle.layout.specs.Format.{counted}
 use Rattle.layout.specs.Directory.{Named, entry_fields, entry_bytes, IsEntry, HoldsEntries, entry_in}
 use Rattle.layout.proofs.Formats.{bind_some, some_is, IsExact, num_exact, counted_exact, then_exact}
 use Rattle.layout.proofs.NumberLaws.{length-little, number-little}
+use Rattle.layout.proofs.ZeroLaws.{number-zeros}
 
 entry_exact : IsExact entry_fields
 entry_exact = then_exact (num_exact 4) (counted_exact 1)
@@ -28,18 +28,6 @@ pub length-entry_bytes : (e : Named) → length (entry_bytes e) ≡ 5 + length e
 length-entry_bytes e = simp (length-append, length-little) (omega arith)
 
 -- ---- entries one behind the other
-
-zero_byte : (i count : ℕ) → get_or (zeros count) i 0 ≡ 0
-unfolding zeros
-zero_byte i count =
-    elim (cases_lt i count) [
-      | inl lt ↦ get_or-replicate {A = ℕ} count i 0 0 lt
-      | inr le ↦ get_or_past (replicate count 0) i 0 (omega (arith, length-replicate {A = ℕ} count 0))
-    ]
-
-number-zeros : (count : ℕ) → number 4 (zeros count) ≡ 0
-unfolding number
-number-zeros count = rw (zero_byte 0 count, zero_byte 1 count, zero_byte 2 count, zero_byte 3 count) refl
 
 -- an entry is not zeros
 pub not_zeros : (inodes : ℕ) (bytes rest : List ℕ) (e : Named) (count : ℕ) → inodes ≤ 2 ^ 32 → IsEntry inodes e → bytes ≡ entry_bytes e ++ rest → bytes ≢ zeros count

@@ -1,11 +1,12 @@
 -- Formats are exact: what is read is spelled so, and what is spelled so is read.
 use Rattle.std.proofs.Common.{◌≡◌, ℕ, zero, suc, ◌+◌, ◌-◌, ◌*◌, ◌^◌, ◌<◌, ◌≤◌, Bool, true, false, cond, eqb, ltb, leb, ◌&&◌, List, [], ◌∷◌, ◌++◌, length, get_or, take, drop, Option, Some, None, inl, inr, refl, sym, ap, subst, ◌∙◌, append_assoc, arith}
 use Rattle.std.proofs.lemmas.Bool.{cases_lt, ltb-false, le-ltb, le-leb, leb-true, eqb-true, and_parts}
-use Rattle.std.proofs.lemmas.List.{get_or_append_left, get_or_past, take_at, drop_at, take-append-drop, length-append, length-take, length-replicate, get_or-drop, append-nil, nil_from_length}
+use Rattle.std.proofs.lemmas.List.{get_or_append_left, get_or_past, take_at, drop_at, take-append-drop, length-append, length-take, get_or-drop, append-nil, nil_from_length}
 use Rattle.layout.specs.Bytes.{little, number, zeros, IsBytes}
 use Rattle.layout.specs.Format.{Format, num, ranged, part, blank, counted, padded, ◌▸◌}
 use Rattle.layout.specs.Reading.{◌>>=◌, number_at, ranged_at, part_at, is_zero, zeros_at, counted_at, padded_at, then_at, all_of}
 use Rattle.layout.proofs.NumberLaws.{length-little, number-spelled, number-little, number-lt}
+use Rattle.layout.proofs.ZeroLaws.{length-zeros}
 
 pub IsBytes-drop : (n : ℕ) (bytes : List ℕ) → IsBytes bytes → IsBytes (drop n bytes)
 IsBytes-drop n bytes h i = rw get_or-drop (h (n + i))
@@ -93,10 +94,6 @@ pub is_zero-zeros : (n : ℕ) → is_zero (zeros n) ≡ true
 unfolding zeros
 is_zero-zeros zero = refl
 is_zero-zeros (suc n) = is_zero-zeros n
-
-pub length-zeros : (n : ℕ) → length (zeros n) ≡ n
-unfolding zeros
-length-zeros n = length-replicate {A = ℕ} n 0
 
 pub blank_exact : (n : ℕ) → IsExact (blank n)
 blank_exact n = record {

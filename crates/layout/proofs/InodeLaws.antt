@@ -21,8 +21,9 @@ use Rattle.layout.specs.declared.inode.Inode.{Inode}
 use Rattle.layout.specs.declared.pointer.Pointer.{Pointer}
 use Rattle.layout.specs.declared.pointer.Pointer.TheVariants.{Hole, Block}
 use Rattle.layout.proofs.NumberLaws.{length-little}
-use Rattle.layout.proofs.Formats.{bind_some, some_is, if_then, tried, IsBytes-behind, zeros_are, is_zero-zeros, length-zeros, IsExact, num_exact, ranged_exact, part_exact, blank_exact, then_exact, whole_takes, whole_again}
+use Rattle.layout.proofs.Formats.{bind_some, some_is, if_then, tried, IsBytes-behind, zeros_are, is_zero-zeros, IsExact, num_exact, ranged_exact, part_exact, blank_exact, then_exact, whole_takes, whole_again}
 use Rattle.layout.proofs.WordLaws.{pointers_spelled, pointers_again, length-pointers_bytes}
+use Rattle.layout.proofs.ZeroLaws.{length-zeros}
 
 points_wider : (few many : ℕ) → few ≤ many → (p : Pointer) → PointsBelow few p → PointsBelow many p
 points_wider few many le Hole fits = tt

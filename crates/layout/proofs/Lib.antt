@@ -1,3 +1,7 @@
+pub mod ZeroLaws
+pub mod PartLaws
+pub mod PointerLaws
+pub mod SizeLaws
 pub mod NumberLaws
 pub mod Formats
 pub mod RecordLaws

@@ -21,7 +21,7 @@ newest_once a b q r (inl first) (inr second) = absurd (omega (arith, (first.1 r 
 newest_once a b q r (inr first) (inl second) = absurd (omega (arith, (first.1 r second.0).0, (second.1 q first.0).0))
 
 -- two lists of one length stand in front of one list alike
-front_once : (xs ys rs ss : List ℕ) → length xs ≡ length ys → xs ++ rs ≡ ys ++ ss → (xs ≡ ys) × (rs ≡ ss)
+pub front_once : (xs ys rs ss : List ℕ) → length xs ≡ length ys → xs ++ rs ≡ ys ++ ss → (xs ≡ ys) × (rs ≡ ss)
 front_once xs ys rs ss same e = (
   sym (take_at xs rs (length ys) same) ∙ ap (take (length ys)) e ∙ take_at ys ss (length ys) refl,
   sym (drop_at xs rs (length ys) same) ∙ ap (drop (length ys)) e ∙ drop_at ys ss (length ys) refl,

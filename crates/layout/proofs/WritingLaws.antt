@@ -36,6 +36,10 @@ mid_written at to old bytes len within =
 pub written_to : {from to end : ℕ} {bytes old new : List ℕ} → to ≡ end → Writes from to bytes old new → Writes from end bytes old new
 written_to {from} {to} {end} {bytes} {old} {new} e w = subst (λ (k : ℕ). Writes from k bytes old new) e w
 
+-- all of a buffer was written
+pub wrote_all : (n : ℕ) (text old new : List ℕ) → Writes 0 n text old new → length old ≡ n → new ≡ text
+wrote_all n text old new wrote size = wrote.bytes_are ∙ (ap (λ (rest : List ℕ). text ++ rest) (drop_all n old (omega arith)) ∙ append-nil text)
+
 -- a number that byteorder wrote there
 pub number_written : (n at x : ℕ) (old buf : List ℕ) → at + n ≤ length old → buf ≡ bytes_low_first 0 n x ++ drop n (take (at + n - at) (drop at old))
     → Writes at (at + n) (little n x) old (put_mid at (at + n - at) old buf)

@@ -5,7 +5,7 @@ use Rattle.layout.specs.Format.{Format, num, counted, ◌▸◌}
 use Rattle.layout.specs.Reading.{◌>>=◌}
 use Rattle.model.specs.Paths.{IsName}
 use Rattle.layout.specs.declared.TheConstants.{BLOCK_BYTES}
-use Rattle.layout.specs.declared.numbers.TheConstants.{FIRST_NUMBER}
+use Rattle.model.specs.declared.limits.TheConstants.{FIRST_NUMBER}
 use Rattle.layout.specs.declared.entry.Entry.{Entry}
 use Rattle.layout.specs.declared.directory.NextEntry.{NextEntry}
 use Rattle.layout.specs.declared.directory.NextEntry.TheVariants as next

@@ -1,6 +1,7 @@
 -- A format is a value: how something is read from the front of bytes, its one spelling, and what fits its field. From one
 -- list of fields come the reader, the spelling and the limits.
 use Rattle.std.specs.Prelude.{ℕ, ◌≡◌, ◌-◌, ◌^◌, ◌<◌, ◌≤◌, List, ◌++◌, length, Option}
+use Rattle.model.specs.declared.limits.TheConstants.{MODE_BITS}
 use Rattle.layout.specs.Bytes.{little, zeros}
 use Rattle.layout.specs.Reading.{number_at, ranged_at, part_at, zeros_at, counted_at, padded_at, then_at}
 
@@ -40,4 +41,4 @@ f ▸ g = record { at = then_at f.at g.at; text = λ v. f.text v.0 ++ g.text v.1
 
 -- a mode: its lower twelve bits
 abbrev pub mode_bits : Format ℕ
-mode_bits = ranged 2 0 4095
+mode_bits = ranged 2 0 MODE_BITS

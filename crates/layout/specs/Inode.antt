@@ -1,6 +1,7 @@
 -- The inode: 192 bytes.
 use Rattle.std.specs.Prelude.{ℕ, ◌≡◌, ◌-◌, ◌*◌, ◌%◌, ◌<◌, ◌≤◌, List, ◌++◌, length, drop, All, nat_le, if◌then◌else◌}
 use Rattle.std.specs.Int.{div_ceil}
+use Rattle.model.specs.declared.limits.TheConstants.{FILE_NAMES, LINK_MODE, MODE_BITS, PATH_BYTES}
 use Rattle.layout.specs.Bytes.{zeros}
 use Rattle.layout.specs.Format.{Format, num, part, blank, mode_bits, ◌▸◌}
 use Rattle.layout.specs.Limits.{Sizes, AreSizes}
@@ -9,7 +10,6 @@ use Rattle.layout.specs.Pointer.{PointsBelow, pointers_bytes}
 use Rattle.layout.specs.declared.TheConstants.{BLOCK_BYTES, BLOCK_POINTERS, BODY_POINTERS, DIRECT_BYTES, INLINE_BYTES, INODES_PER_BLOCK}
 use Rattle.layout.specs.declared.kind.Kind.{Kind}
 use Rattle.layout.specs.declared.kind.Kind.TheVariants as kinds
-use Rattle.layout.specs.declared.inode.TheConstants.{MOST_LINKS}
 use Rattle.layout.specs.declared.inode.Body.{Body}
 use Rattle.layout.specs.declared.inode.Body.TheVariants.{Inline, Pointers}
 use Rattle.layout.specs.declared.inode.Inode.{Inode}
@@ -45,9 +45,9 @@ inode_bytes i =
 -- mode, links and size by the kind, in an image of these sizes
 abbrev pub FitsKind : Kind → Sizes → ℕ → ℕ → ℕ → Type 0
 FitsKind kinds.Free s mode links size = (mode ≡ 0) × (links ≡ 0) × (size ≡ 0)
-FitsKind kinds.File s mode links size = links ≤ MOST_LINKS
+FitsKind kinds.File s mode links size = links ≤ FILE_NAMES
 FitsKind kinds.Directory s mode links size = (links ≡ 1) × (size % BLOCK_BYTES ≡ 0)
-FitsKind kinds.Link s mode links size = (mode ≡ 511) × (links ≡ 1) × (1 ≤ size) × (size ≤ 1023)
+FitsKind kinds.Link s mode links size = (mode ≡ LINK_MODE) × (links ≡ 1) × (1 ≤ size) × (size ≤ PATH_BYTES)
 FitsKind kinds.InodeFile s mode links size = (mode ≡ 0) × (links ≡ 1) × (size ≡ BLOCK_BYTES * div_ceil s.inodes INODES_PER_BLOCK)
 FitsKind kinds.InodeMap s mode links size = (mode ≡ 0) × (links ≡ 1) × (size ≡ div_ceil s.inodes 8)
 FitsKind kinds.BlockMap s mode links size = (mode ≡ 0) × (links ≡ 1) × (size ≡ 4 * s.blocks)
@@ -77,7 +77,7 @@ FitsBody (Pointers pointers) blocks size = FitsPointers pointers blocks size
 
 -- an inode of an image of this version and these sizes
 pub record IsInode (version : ℕ) (s : Sizes) (i : Inode) : Type 0 where
-  pub mode : i.mode ≤ 4095
+  pub mode : i.mode ≤ MODE_BITS
   pub size : i.size ≤ greatest_size version
   pub kind : FitsKind i.kind s i.mode i.links i.size
   pub body : FitsBody i.body s.blocks i.size

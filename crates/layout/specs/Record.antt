@@ -4,7 +4,7 @@ use Rattle.layout.specs.Format.{Format, num, counted, mode_bits, ◌▸◌}
 use Rattle.model.specs.Paths.{IsName}
 pub use Rattle.model.specs.Records.{Made, file, directory, symbolic_link, Change, create, link, unname, rename, write, cut, change_mode}
 use Rattle.layout.specs.LinkText.{IsLinkText}
-use Rattle.layout.specs.declared.record.TheConstants.{WRITE_BYTES}
+use Rattle.model.specs.declared.limits.TheConstants.{LINK_MODE, MODE_BITS, TRANSFER_BYTES}
 use Rattle.layout.specs.declared.record.NewObject.{NewObject}
 use Rattle.layout.specs.declared.record.NewObject.TheVariants as objects
 use Rattle.layout.specs.declared.record.Record.{Record}
@@ -19,7 +19,7 @@ kind_of_made (symbolic_link text) = 3
 abbrev pub mode_of_made : Made → ℕ
 mode_of_made (file mode) = mode
 mode_of_made (directory mode) = mode
-mode_of_made (symbolic_link text) = 511
+mode_of_made (symbolic_link text) = LINK_MODE
 
 -- a name behind its length
 abbrev pub name_bytes : List ℕ → List ℕ
@@ -75,13 +75,13 @@ KeepsLimits (create number parent made name) = KeepsMadeLimits made × IsName na
 KeepsLimits (link number parent name) = IsName name
 KeepsLimits (unname parent name) = IsName name
 KeepsLimits (rename parent name new_parent new_name) = IsName name × IsName new_name
-KeepsLimits (write number offset bytes) = (1 ≤ length bytes) × (length bytes ≤ WRITE_BYTES)
+KeepsLimits (write number offset bytes) = (1 ≤ length bytes) × (length bytes ≤ TRANSFER_BYTES)
 KeepsLimits (cut number size) = Unit {0}
 KeepsLimits (change_mode number mode) = Unit {0}
 
 -- each value fits its field
 abbrev pub FitsFields : Change → Type 0
-FitsFields (create number parent made name) = (number < 2 ^ 32) × (parent < 2 ^ 32) × (mode_of_made made ≤ 4095)
+FitsFields (create number parent made name) = (number < 2 ^ 32) × (parent < 2 ^ 32) × (mode_of_made made ≤ MODE_BITS)
 FitsFields (link number parent name) = link_fields.Fits (number, (parent, name))
 FitsFields (unname parent name) = unname_fields.Fits (parent, name)
 FitsFields (rename parent name new_parent new_name) = rename_fields.Fits (parent, (name, (new_parent, new_name)))

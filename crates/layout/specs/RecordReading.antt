@@ -1,5 +1,6 @@
 -- Reading the body of a record, before its limits are looked at.
 use Rattle.std.specs.Prelude.{ℕ, List, length, Option, Some, None, ◌==◌, if◌then◌else◌}
+use Rattle.model.specs.declared.limits.TheConstants.{LINK_MODE}
 use Rattle.layout.specs.Reading.{◌>>=◌, number_at, counted_at, all_of}
 use Rattle.layout.specs.Record.{Made, file, directory, symbolic_link, Change, create, link, unname, rename, write, cut, change_mode, create_head, link_fields, unname_fields, rename_fields, write_fields, cut_fields, change_mode_fields}
 
@@ -26,7 +27,7 @@ unfoldable pub made_in : ℕ → ℕ → List ℕ → Option Made
 made_in kind mode bytes =
     if kind == 1 then (if length bytes == 0 then Some (file mode) else None)
     else (if kind == 2 then (if length bytes == 0 then Some (directory mode) else None)
-    else (if kind == 3 then (if mode == 511 then (all_of (counted_at 2) bytes >>= λ text. Some (symbolic_link text)) else None)
+    else (if kind == 3 then (if mode == LINK_MODE then (all_of (counted_at 2) bytes >>= λ text. Some (symbolic_link text)) else None)
     else None))
 
 unfoldable pub create_in : List ℕ → Option Change

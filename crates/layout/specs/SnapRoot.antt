@@ -1,12 +1,13 @@
 -- The root block of a snapshot: 4,096 bytes.
 use Rattle.std.specs.Prelude.{ℕ, ◌≡◌, ◌-◌, ◌<◌, ◌≤◌, ◌^◌, List, length, Option, Some}
+use Rattle.model.specs.declared.limits.TheConstants.{SNAPSHOT_NAME_BYTES}
 use Rattle.layout.specs.Format.{Format, ranged, part, blank, padded, ◌▸◌}
 use Rattle.layout.specs.Reading.{◌>>=◌, all_of}
 use Rattle.layout.specs.Inode.{IsSomeInode, inode_bytes}
 use Rattle.layout.specs.InodeReading.{inode_in}
 use Rattle.layout.specs.declared.TheConstants.{BLOCK_BYTES, INODE_BYTES}
 use Rattle.layout.specs.declared.numbers.TheConstants.{FIRST_GENERATION, LAST_GENERATION}
-use Rattle.layout.specs.declared.snap_root.TheConstants.{NAME_BYTES, BEHIND_AT}
+use Rattle.layout.specs.declared.snap_root.TheConstants.{BEHIND_AT}
 use Rattle.layout.specs.declared.version.TheConstants.{VERSION}
 use Rattle.layout.specs.declared.inode.Inode.{Inode}
 use Rattle.layout.specs.declared.kind.Kind.TheVariants.{InodeFile}
@@ -24,7 +25,7 @@ snapshot_of r = record { order = r.order; name = r.name.now; inode_file = r.inod
 -- order, name, the inode of the inode file, and zeros
 abbrev pub snapshot_fields : Format (ℕ × (List ℕ × (List ℕ × Unit {0})))
 snapshot_fields =
-    ranged 8 FIRST_GENERATION LAST_GENERATION ▸ padded NAME_BYTES ▸ part INODE_BYTES ▸ blank (BLOCK_BYTES - BEHIND_AT)
+    ranged 8 FIRST_GENERATION LAST_GENERATION ▸ padded SNAPSHOT_NAME_BYTES ▸ part INODE_BYTES ▸ blank (BLOCK_BYTES - BEHIND_AT)
 
 -- the one spelling of each
 abbrev pub snapshot_bytes : Snapshot → List ℕ
@@ -34,7 +35,7 @@ pub record IsSnapshot (v : Snapshot) : Type 0 where
   pub first : 1 ≤ v.order
   pub last : v.order < 2 ^ 62
   pub some : 1 ≤ length v.name
-  pub short : length v.name ≤ NAME_BYTES
+  pub short : length v.name ≤ SNAPSHOT_NAME_BYTES
   pub kind : v.inode_file.kind ≡ InodeFile
   pub inode_file : IsSomeInode VERSION v.inode_file
 

@@ -3,14 +3,15 @@
 ghost use Rattle.std.specs.Prelude.{◌≡◌, ◌≤◌, ◌+◌, ◌++◌, ℕ, List, ◌↔◌, IsTrue, IfSome, IsSomeAnd, length};
 ghost use Rattle.std.specs.Option.{option_map};
 ghost use Rattle.layout.specs.Bytes.{Writes};
+ghost use Rattle.model.specs.declared.limits.TheConstants.{NAME_BYTES};
 ghost use Rattle.layout.specs.Directory.{BeginsWith, IsEntry, Named, entry_bytes, entry_fields, entry_in, named_of};
 
 use crate::InodeNumber;
 use crate::geometry::MOST_INODES;
 use crate::name::is_name;
-use crate::numbers::FIRST_NUMBER;
 use crate::reading::{name_at, u32_at};
 use crate::writing::{put_bytes, put_u8, put_u32};
+use model::FIRST_NUMBER;
 
 /// An entry of a directory.
 #[derive(Clone, Copy, Debug)]
@@ -48,7 +49,7 @@ impl<'a> Entry<'a> {
 
     /// Bytes of the entry: five, and the name.
     pub fn encoded_len(&self) -> usize
-        requires { length self.now.name.now ≤ 255 }
+        requires { length self.now.name.now ≤ NAME_BYTES }
         ensures { result ≡ length (entry_bytes (named_of self.now)) }
     {
         5 + self.name.len()
@@ -56,7 +57,7 @@ impl<'a> Entry<'a> {
 
     /// Writes the entry, and answers how many bytes it has.
     pub fn write(&self, out: &mut [u8]) -> usize
-        requires fits { length self.now.name.now ≤ 255 }
+        requires fits { length self.now.name.now ≤ NAME_BYTES }
         requires room { length (entry_bytes (named_of self.now)) ≤ length out.old }
         ensures { Writes 0 result (entry_bytes (named_of self.now)) out.old out.new }
     {
@@ -77,7 +78,7 @@ pub(crate) fn read_fields(bytes: &[u8]) -> Option<Entry<'_>>
 }
 
 fn write_entry(number: InodeNumber, name: &[u8], out: &mut [u8]) -> usize
-    requires fits { length name.now ≤ 255 }
+    requires fits { length name.now ≤ NAME_BYTES }
     requires room { 5 + length name.now ≤ length out.old }
     ensures { Writes 0 result (entry_fields.text (number, name.now)) out.old out.new }
 {

@@ -17,10 +17,7 @@ use crate::reading::{mode_at, part_at, u8_at, u16_at, u32_at, u64_at, zeros_at};
 use crate::version::{VERSION, greatest_size, level_of};
 use crate::writing::{put_bytes, put_u8, put_u16, put_u32, put_u64, put_zeros};
 use crate::{BODY_POINTERS, DIRECT_BYTES, Geometry, INLINE_BYTES, INODE_BYTES, Kind, Pointer};
-use model::Mode;
-
-/// The most names of a file.
-pub const MOST_LINKS: u32 = 1000;
+use model::{FILE_NAMES, LINK_MODE, Mode, PATH_BYTES};
 
 /// The bytes of a small object, or where a larger one's blocks are.
 #[derive(Clone, Copy, Debug)]
@@ -236,9 +233,9 @@ fn kind_fits(inode: &Inode, geometry: Geometry) -> bool
     let blocks = geometry.blocks();
     match inode.kind {
         Kind::Free => mode == 0 && links == 0 && size == 0,
-        Kind::File => links <= MOST_LINKS,
+        Kind::File => links <= FILE_NAMES,
         Kind::Directory => links == 1 && size % 4096 == 0,
-        Kind::Link => mode == 0o777 && links == 1 && 1 <= size && size <= 1023,
+        Kind::Link => { mode == LINK_MODE && links == 1 && 1 <= size && size <= PATH_BYTES as u64 }
         Kind::InodeFile => mode == 0 && links == 1 && size == 4096 * u64::from(inodes.div_ceil(21)),
         Kind::InodeMap => mode == 0 && links == 1 && size == u64::from(inodes.div_ceil(8)),
         Kind::BlockMap => mode == 0 && links == 1 && size == 4 * u64::from(blocks),

@@ -1,5 +1,5 @@
-//! The formats of the disk and of the log: each is a grammar, read and written exactly, so that no crate above looks at a
-//! byte of one again. Nothing here knows a device. All numbers are little-endian.
+//! The formats (layout), of the disk and of the log: each is a grammar, read and written exactly, so that no crate above
+//! looks at a byte of one again. Nothing here knows a device. All numbers are little-endian.
 #![tactic(auto)]
 
 mod directory;
@@ -27,7 +27,7 @@ pub use entry::Entry;
 pub use geometry::{
     Geometry, LEAST_BLOCKS, LEAST_HALF, LEAST_INODES, MOST_BLOCKS, MOST_HALF, MOST_INODES,
 };
-pub use inode::{Body, Inode, MOST_LINKS};
+pub use inode::{Body, Inode};
 pub use kind::Kind;
 pub use log::{
     CLOSED, EPOCH_AT, FIRST_GATE, Gate, HEADER_BYTES, HEADER_GATE, Header, LENGTH_BYTES, OPEN,
@@ -37,13 +37,11 @@ pub use maps::{
     indirect_pointer, is_indirect_block, is_inode_map, is_taken, map_entry, set_map_entry,
     set_pointer,
 };
+pub use model::{FIRST_NUMBER, ROOT_NUMBER};
 pub use name::{is_link_text, is_name};
-pub use numbers::{
-    BlockNumber, Epoch, FIRST_GENERATION, FIRST_NUMBER, Generation, InodeNumber, LAST_GENERATION,
-    ROOT_NUMBER,
-};
+pub use numbers::{BlockNumber, Epoch, FIRST_GENERATION, Generation, InodeNumber, LAST_GENERATION};
 pub use pointer::Pointer;
-pub use record::{NewObject, Record, WRITE_BYTES};
+pub use record::{NewObject, Record};
 pub use root::Root;
 pub use snap_root::SnapRoot;
 pub use version::{

@@ -6,10 +6,10 @@ ghost use Rattle.std.specs.Int.{bit_at};
 ghost use Rattle.layout.specs.Pointer.{PointsBelow, pointer_number};
 ghost use Rattle.layout.specs.declared.pointer.Pointer.TheVariants.{Hole};
 
-use crate::numbers::FIRST_NUMBER;
 use crate::pointer::word_at;
 use crate::writing::put_u32;
 use crate::{BLOCK_BYTES, BLOCK_POINTERS, Pointer};
+use model::FIRST_NUMBER;
 
 /// Whether an inode number is taken, in these bytes of an inode map from its beginning on.
 pub fn is_taken(bytes: &[u8], number: u32) -> bool

@@ -4,12 +4,14 @@ ghost use Rattle.std.specs.Prelude.{◌↔◌, IsTrue};
 ghost use Rattle.model.specs.Paths.{IsName};
 ghost use Rattle.layout.specs.LinkText.{IsLinkText};
 
+use model::{NAME_BYTES, PATH_BYTES};
+
 /// Whether these bytes are a name in a directory: 1 to 255 bytes, none of them `/` or zero, and not `.` or `..`.
 pub fn is_name(name: &[u8]) -> bool
     ensures { IsTrue result ↔ IsName name.now }
 {
     !name.is_empty()
-        && name.len() <= 255
+        && name.len() <= NAME_BYTES
         && name.iter().all(|byte| *byte != 0 && *byte != b'/')
         && name != b".".as_slice()
         && name != b"..".as_slice()
@@ -19,5 +21,5 @@ pub fn is_name(name: &[u8]) -> bool
 pub fn is_link_text(text: &[u8]) -> bool
     ensures { IsTrue result ↔ IsLinkText text.now }
 {
-    !text.is_empty() && text.len() <= 1023 && text.iter().all(|byte| *byte != 0)
+    !text.is_empty() && text.len() <= PATH_BYTES && text.iter().all(|byte| *byte != 0)
 }

@@ -9,11 +9,6 @@ pub const FIRST_GENERATION: u64 = 1;
 /// The last generation of a root, and the last order of a snapshot.
 pub const LAST_GENERATION: u64 = (1 << 62) - 1;
 
-/// The number of the root directory.
-pub const ROOT_NUMBER: u32 = 3;
-/// The first number that an object may have; those before it are the file system's own.
-pub const FIRST_NUMBER: u32 = 4;
-
 /// The number of an inode.
 #[derive(Clone, Copy, Debug)]
 pub struct InodeNumber {

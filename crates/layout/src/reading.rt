@@ -2,11 +2,13 @@
 
 ghost use Rattle.std.specs.Prelude.{◌≡◌, ◌≤◌, IfSome, length};
 ghost use Rattle.std.specs.Option.{option_map};
+ghost use Rattle.model.specs.declared.limits.TheConstants.{MODE_BITS, SNAPSHOT_NAME_BYTES};
 ghost use Rattle.layout.specs.Reading.{number_at, ranged_at, part_at, zeros_at, counted_at, padded_at};
 ghost use Rattle.layout.specs.Format.{mode_bits};
 
 use crate::fields::is_zero;
 use byteorder::{ByteOrder, LittleEndian};
+use model::{MODE_BITS, SNAPSHOT_NAME_BYTES};
 
 /// A byte.
 pub(crate) fn u8_at(bytes: &[u8]) -> Option<(u8, &[u8])>
@@ -116,10 +118,10 @@ pub(crate) fn u64_within(bytes: &[u8], least: u64, most: u64) -> Option<(u64, &[
 /// The bits of a mode.
 pub(crate) fn mode_at(bytes: &[u8]) -> Option<(u16, &[u8])>
     ensures value { option_map (λ x. (x.0, x.1.now)) result ≡ mode_bits.at bytes.now }
-    ensures within { IfSome result (λ x. x.0 ≤ 4095) }
+    ensures within { IfSome result (λ x. x.0 ≤ MODE_BITS) }
 {
     let (bits, bytes) = u16_at(bytes)?;
-    if bits <= 4095 {
+    if bits <= MODE_BITS {
         Some((bits, bytes))
     } else {
         None
@@ -134,15 +136,15 @@ pub(crate) fn zeros_at(bytes: &[u8], count: usize) -> Option<&[u8]>
     if is_zero(zeros) { Some(bytes) } else { None }
 }
 
-/// A name of up to 63 bytes: its length in one byte, and its bytes, with zeros behind them to 63.
+/// A snapshot's name: its length in one byte, and its bytes, with zeros behind them to the most that it may have.
 pub(crate) fn padded_at(bytes: &[u8]) -> Option<(&[u8], &[u8])>
-    ensures { option_map (λ x. (x.0.now, x.1.now)) result ≡ padded_at 63 bytes.now }
+    ensures { option_map (λ x. (x.0.now, x.1.now)) result ≡ padded_at SNAPSHOT_NAME_BYTES bytes.now }
 {
     let (length, bytes) = u8_at(bytes)?;
-    if length > 63 {
+    if length as usize > SNAPSHOT_NAME_BYTES {
         return None;
     }
     let (name, bytes) = part_at(bytes, length as usize)?;
-    let bytes = zeros_at(bytes, 63 - length as usize)?;
+    let bytes = zeros_at(bytes, SNAPSHOT_NAME_BYTES - length as usize)?;
     Some((name, bytes))
 }

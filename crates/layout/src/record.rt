@@ -5,9 +5,6 @@ ghost use Rattle.std.specs.Prelude.{◌≡◌, ◌≤◌, ◌<◌, ◌+◌, ◌^
 use crate::InodeNumber;
 use model::Mode;
 
-/// The most bytes that a record writes.
-pub const WRITE_BYTES: usize = 65_536;
-
 /// What a record makes.
 #[derive(Clone, Copy)]
 pub enum NewObject<'a> {

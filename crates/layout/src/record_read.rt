@@ -8,8 +8,8 @@ ghost use Rattle.layout.specs.RecordReading.{create_in, link_in, unname_in, rena
 use crate::InodeNumber;
 use crate::name::{is_link_text, is_name};
 use crate::reading::{contents_at, mode_at, name_at, text_at, u8_at, u32_at, u64_at};
-use crate::record::{NewObject, Record, WRITE_BYTES};
-use model::Mode;
+use crate::record::{NewObject, Record};
+use model::{LINK_MODE, Mode, TRANSFER_BYTES};
 
 impl<'a> Record<'a> {
     /// The record whose body these bytes are, all of them; None where no record has this body.
@@ -40,7 +40,7 @@ impl<'a> Record<'a> {
             } => object_keeps_limits(object) && is_name(name),
             Record::Link { name, .. } | Record::Unname { name, .. } => is_name(name),
             Record::Rename { name, new_name, .. } => is_name(name) && is_name(new_name),
-            Record::Write { bytes, .. } => !bytes.is_empty() && bytes.len() <= WRITE_BYTES,
+            Record::Write { bytes, .. } => !bytes.is_empty() && bytes.len() <= TRANSFER_BYTES,
             Record::Cut { .. } | Record::ChangeMode { .. } => true,
         }
     }
@@ -101,7 +101,7 @@ fn read_object(kind: u8, mode: Mode, bytes: &[u8]) -> Option<NewObject<'_>>
     match kind {
         1 if bytes.is_empty() => Some(NewObject::File { mode }),
         2 if bytes.is_empty() => Some(NewObject::Directory { mode }),
-        3 if mode.bits() == 0o777 => {
+        3 if mode.bits() == LINK_MODE => {
             let (text, bytes) = text_at(bytes)?;
             if bytes.is_empty() {
                 Some(NewObject::Link { text })

@@ -2,13 +2,14 @@
 
 ghost use Rattle.std.specs.Prelude.{◌≡◌, ◌≤◌, ◌+◌, length};
 ghost use Rattle.model.specs.Paths.{IsName};
+ghost use Rattle.model.specs.declared.limits.TheConstants.{NAME_BYTES, TRANSFER_BYTES};
 ghost use Rattle.layout.specs.Bytes.{Writes, little};
 ghost use Rattle.layout.specs.Record.{KeepsLimits, KeepsMadeLimits, change_bytes, change_of, create, link, unname, rename, write, cut, change_mode, made_of, kind_of_made, mode_of_made, name_bytes, body_of, text_of};
 
 use crate::InodeNumber;
-use crate::record::{NewObject, Record, WRITE_BYTES};
+use crate::record::{NewObject, Record};
 use crate::writing::{put_byte, put_bytes, put_u8, put_u16, put_u32, put_u64};
-use model::Mode;
+use model::{LINK_MODE, Mode};
 
 impl Record<'_> {
     /// How many bytes its body has.
@@ -77,7 +78,7 @@ fn kind_and_mode(object: &NewObject<'_>) -> (u8, u16)
     match object {
         NewObject::File { mode } => (1, mode.bits()),
         NewObject::Directory { mode } => (2, mode.bits()),
-        NewObject::Link { .. } => (3, 0o777),
+        NewObject::Link { .. } => (3, LINK_MODE),
     }
 }
 
@@ -109,7 +110,7 @@ fn put_mode(out: &mut [u8], at: usize, mode: Mode)
 
 // The name behind its length, from a place on.
 fn put_name(out: &mut [u8], at: usize, name: &[u8])
-    requires fits { length name.now ≤ 255 }
+    requires fits { length name.now ≤ NAME_BYTES }
     requires room { at + 1 + length name.now ≤ length out.old }
     ensures { Writes at (at + 1 + length name.now) (name_bytes name.now) out.old out.new }
 {
@@ -125,7 +126,7 @@ fn write_create(
     out: &mut [u8],
 ) -> usize
     requires object { KeepsMadeLimits (made_of object.now) }
-    requires name { length name.now ≤ 255 }
+    requires name { length name.now ≤ NAME_BYTES }
     requires room { 13 + length name.now + length (text_of object.now) ≤ length out.old }
     ensures { let made = made_of object.now in
         Writes 0 result (change_bytes (create number parent made name.now)) out.old out.new }
@@ -154,7 +155,7 @@ fn put_text(out: &mut [u8], at: usize, object: &NewObject<'_>)
 }
 
 fn write_link(number: InodeNumber, parent: InodeNumber, name: &[u8], out: &mut [u8]) -> usize
-    requires name { length name.now ≤ 255 }
+    requires name { length name.now ≤ NAME_BYTES }
     requires room { 10 + length name.now ≤ length out.old }
     ensures { Writes 0 result (change_bytes (link number parent name.now)) out.old out.new }
 {
@@ -166,7 +167,7 @@ fn write_link(number: InodeNumber, parent: InodeNumber, name: &[u8], out: &mut [
 }
 
 fn write_unname(parent: InodeNumber, name: &[u8], out: &mut [u8]) -> usize
-    requires name { length name.now ≤ 255 }
+    requires name { length name.now ≤ NAME_BYTES }
     requires room { 6 + length name.now ≤ length out.old }
     ensures { Writes 0 result (change_bytes (unname parent name.now)) out.old out.new }
 {
@@ -183,8 +184,8 @@ fn write_rename(
     new_name: &[u8],
     out: &mut [u8],
 ) -> usize
-    requires name { length name.now ≤ 255 }
-    requires new_name { length new_name.now ≤ 255 }
+    requires name { length name.now ≤ NAME_BYTES }
+    requires new_name { length new_name.now ≤ NAME_BYTES }
     requires room { 11 + length name.now + length new_name.now ≤ length out.old }
     ensures { let said = rename parent name.now new_parent new_name.now in
         Writes 0 result (change_bytes said) out.old out.new }
@@ -199,7 +200,7 @@ fn write_rename(
 }
 
 fn write_write(number: InodeNumber, offset: u64, bytes: &[u8], out: &mut [u8]) -> usize
-    requires fits { length bytes.now ≤ WRITE_BYTES }
+    requires fits { length bytes.now ≤ TRANSFER_BYTES }
     requires room { 17 + length bytes.now ≤ length out.old }
     ensures { Writes 0 result (change_bytes (write number offset bytes.now)) out.old out.new }
 {

@@ -2,6 +2,7 @@
 
 ghost use Rattle.std.specs.Prelude.{◌≡◌, ◌↔◌, ◌≤◌, IsTrue, IfSome, IsSomeAnd, length};
 ghost use Rattle.std.specs.Option.{option_map};
+ghost use Rattle.model.specs.declared.limits.TheConstants.{SNAPSHOT_NAME_BYTES};
 ghost use Rattle.layout.specs.Bytes.{Writes};
 ghost use Rattle.layout.specs.Format.{padded};
 ghost use Rattle.layout.specs.SnapRoot.{IsSnapshot, Snapshot, snapshot_bytes, snapshot_in, snapshot_of};
@@ -10,12 +11,10 @@ use crate::numbers::{FIRST_GENERATION, LAST_GENERATION};
 use crate::reading::{padded_at, part_at, u64_within, zeros_at};
 use crate::writing::{put_bytes, put_u8, put_u64, put_zeros};
 use crate::{BLOCK_BYTES, INODE_BYTES, Inode, Kind, inode};
-
-/// The most bytes of a snapshot's name.
-const NAME_BYTES: usize = 63;
+use model::SNAPSHOT_NAME_BYTES;
 
 /// Where the inode stands, behind the order and the name.
-const INODE_AT: usize = 9 + NAME_BYTES;
+const INODE_AT: usize = 9 + SNAPSHOT_NAME_BYTES;
 
 /// Where the zeros behind the inode begin, to the block's end.
 const BEHIND_AT: usize = INODE_AT + INODE_BYTES;
@@ -47,7 +46,7 @@ impl<'a> SnapRoot<'a> {
 
     /// Writes the root's 4,096 bytes, and answers how many they are.
     pub fn write(&self, out: &mut [u8]) -> usize
-        requires fits { length self.now.name.now ≤ NAME_BYTES }
+        requires fits { length self.now.name.now ≤ SNAPSHOT_NAME_BYTES }
         requires room { 4096 ≤ length out.old }
         ensures length { result ≡ 4096 }
         ensures wrote { Writes 0 4096 (snapshot_bytes (snapshot_of self.now)) out.old out.new }
@@ -67,20 +66,20 @@ impl<'a> SnapRoot<'a> {
         FIRST_GENERATION <= self.order
             && self.order <= LAST_GENERATION
             && 1 <= length
-            && length <= NAME_BYTES
+            && length <= SNAPSHOT_NAME_BYTES
             && self.inode_file.kind == Kind::InodeFile
             && self.inode_file.fits_some()
     }
 }
 
 fn put_name(out: &mut [u8], name: &[u8])
-    requires fits { length name.now ≤ NAME_BYTES }
+    requires fits { length name.now ≤ SNAPSHOT_NAME_BYTES }
     requires room { INODE_AT ≤ length out.old }
-    ensures { Writes 8 INODE_AT ((padded NAME_BYTES).text name.now) out.old out.new }
+    ensures { Writes 8 INODE_AT ((padded SNAPSHOT_NAME_BYTES).text name.now) out.old out.new }
 {
     put_u8(out, 8, name.len() as u8);
     put_bytes(out, 9, name);
-    put_zeros(out, 9 + name.len(), NAME_BYTES - name.len());
+    put_zeros(out, 9 + name.len(), SNAPSHOT_NAME_BYTES - name.len());
 }
 
 // The root that these bytes spell, before the limits of its name and its inode are looked at.

@@ -4,12 +4,13 @@ ghost use Rattle.std.specs.Prelude.{◌≡◌};
 ghost use Rattle.layout.specs.Version.{greatest_level, greatest_size, level_of, snapshot_slots};
 
 use crate::{DIRECT_BYTES, INLINE_BYTES};
+use model::{GREATEST_FILE, SNAPSHOTS};
 
 /// The version that is read and written.
 pub const VERSION: u32 = 1;
 
-/// The slots of snapshots in a root of this version.
-pub const SNAPSHOT_SLOTS: usize = 20;
+/// The slots of snapshots in a root of this version: one for each that there may be.
+pub const SNAPSHOT_SLOTS: usize = SNAPSHOTS;
 
 /// The level of a file of so many bytes: 0 has the bytes in the inode, 1 has pointers to them, 2 has one indirect block
 /// between.
@@ -31,7 +32,7 @@ pub fn greatest_size(version: u32) -> u64
     ensures { result ≡ greatest_size version }
 {
     let _ = version;
-    67_108_864
+    GREATEST_FILE
 }
 
 /// The greatest level of a file: that of the greatest size.

@@ -30,7 +30,8 @@ use Rattle.inode.specs.Bodies.{body_block, inode_block}
 use Rattle.inode.specs.Files.{file_block, byte_at, bytes_of}
 use Rattle.inode.specs.declared.file.File.{File}
 use Rattle.loading.specs.Readings.{HasAllPlaces, IsBodyPath, IsMapFile, IsStored, inode_byte, inode_bytes_of}
-use Rattle.loading.proofs.MapLaws.{past_end, zero_byte}
+use Rattle.loading.proofs.MapLaws.{past_end}
+use Rattle.layout.proofs.ZeroLaws.{zero_byte}
 
 pub not_both : (b : Bool) → b ≡ true → b ≡ false → ⊥
 not_both b is other = cc
@@ -155,9 +156,6 @@ file_ends disk inode file size same ends p past = ap (λ b. slice_index b (p % 4
 
 pub inode_map_size : (kind : Kind) (s : Sizes) (mode links size : ℕ) → kind ≡ kinds.InodeMap → FitsKind kind s mode links size → size ≡ div_ceil s.inodes 8
 inode_map_size kind s mode links size is fits = (subst (λ k. FitsKind k s mode links size) is fits).2
-
-pub block_map_size : (kind : Kind) (s : Sizes) (mode links size : ℕ) → kind ≡ kinds.BlockMap → FitsKind kind s mode links size → size ≡ 4 * s.blocks
-block_map_size kind s mode links size is fits = (subst (λ k. FitsKind k s mode links size) is fits).2
 
 pub same_bytes : (disk : Blocks) (inode : Inode) (file : File) → file.size ≡ inode.size → ((i : ℕ) → file_block disk file i ≡ inode_block disk inode i)
     → bytes_of disk file ≡ inode_bytes_of disk inode

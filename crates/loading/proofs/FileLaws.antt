@@ -1,23 +1,24 @@
 -- A settled file as the layers below read it, and as images hold it.
-use Rattle.std.proofs.Common.{◌≡◌, ℕ, zero, suc, ◌-◌, ◌*◌, ◌/◌, ◌<◌, ◌≤◌, List, length, take, ◌++◌, true, false, leb, get_or, refl, ap, sym, subst, ◌∙◌, arith, inl, inr}
-use Rattle.std.specs.Prelude.{nat_lt, if◌then◌else◌, All}
+use Rattle.std.proofs.Common.{◌≡◌, ℕ, zero, suc, ◌-◌, ◌*◌, ◌/◌, ◌<◌, ◌≤◌, List, length, take, ◌++◌, get_or, refl, ap, sym, subst, ◌∙◌, arith, inl, inr}
+use Rattle.std.specs.Prelude.{nat_lt, if◌then◌else◌}
 use Rattle.std.specs.Int.{div_ceil}
 use Rattle.std.proofs.Math.Dec.{eqb-suc-zero}
-use Rattle.std.proofs.lemmas.Bool.{cases_lt, cond_below, lt-leb, le-leb}
-use Rattle.std.proofs.lemmas.List.{get_or_past, length-take-le, take_all}
+use Rattle.std.proofs.lemmas.Bool.{cases_lt, cond_below}
+use Rattle.std.proofs.lemmas.List.{length-take-le, take_all}
 use Rattle.layout.specs.Bytes.{zeros}
 use Rattle.layout.specs.FileBytes.{byte_in, EndsAt}
 use Rattle.layout.specs.Inode.{FitsBody, FitsPointers}
 use Rattle.layout.specs.Limits.{Sizes}
 use Rattle.layout.specs.Maps.{IsIndirectBlock}
 use Rattle.layout.specs.Places.{Blocks, place, pointed}
-use Rattle.layout.specs.Pointer.{PointsBelow}
 use Rattle.layout.specs.Version.{level_of}
 use Rattle.layout.specs.declared.inode.Body.{Body}
 use Rattle.layout.specs.declared.inode.Body.TheVariants.{Inline, Pointers}
 use Rattle.layout.specs.declared.inode.Inode.{Inode}
 use Rattle.layout.specs.declared.pointer.Pointer.{Pointer}
 use Rattle.layout.specs.declared.pointer.Pointer.TheVariants.{Hole, Block}
+use Rattle.layout.proofs.SizeLaws.{level_one, level_two}
+use Rattle.layout.proofs.PointerLaws.{points_below}
 use Rattle.blocktree.specs.Places.{block_count, depth_of, IsPath, IsNode}
 use Rattle.blocktree.specs.Trees.{settled_block}
 use Rattle.inode.specs.Bodies as bodies
@@ -26,12 +27,6 @@ use Rattle.images.specs.Nodes.{held, file_block, place_at_height, pointers_of}
 use Rattle.images.specs.Soundness.{nodes_at, IsSoundFile, HasNoHole}
 use Rattle.loading.specs.Readings.{IsBodyPath, IsMapFile, IsStored}
 use Rattle.loading.specs.Laws.{ReadAsHeld}
-
-level_one : (size : ℕ) → 128 < size → size ≤ 65536 → level_of size ≡ 1
-level_one size large low = let a : leb size 128 ≡ false = lt-leb _ _ large in let b : leb size 65536 ≡ true = le-leb _ _ low in rw (a, b) refl
-
-level_two : (size : ℕ) → 65536 < size → level_of size ≡ 2
-level_two size large = let a : leb size 128 ≡ false = lt-leb _ _ (omega arith) in let b : leb size 65536 ≡ false = lt-leb _ _ large in rw (a, b) refl
 
 -- ---- what blocks read as
 
@@ -58,12 +53,6 @@ body_reads s disk f (suc i) (Inline bytes) is sound first others led =
 body_reads s disk f i (Pointers pointers) is sound first others led = sym (led pointers is)
 
 -- ---- what stands over blocks
-
-points_below : (blocks : ℕ) (pointers : List Pointer) (i : ℕ) → All (PointsBelow blocks) pointers → PointsBelow blocks (get_or pointers i Hole)
-points_below blocks pointers i all = elim (cases_lt i (length pointers)) [
-  | inl lt ↦ all i Hole lt
-  | inr ge ↦ subst (PointsBelow blocks) (sym (get_or_past pointers i Hole ge)) tt
-]
 
 module _ (s : Sizes) (disk : Blocks) (f : Inode) (pointers : List Pointer) (body : f.body ≡ Pointers pointers) (sound : IsSoundFile s (held disk f)) where
   fits : FitsPointers pointers s.blocks f.size

@@ -1,7 +1,8 @@
 mod FileLaws
 mod MapLaws
-mod EndLaws
+pub mod EndLaws
 mod TreeLaws
 mod LoadLaws
+mod Loading
 mod ReadyLaws
-mod SnapshotLaws
+pub mod SnapshotLaws

@@ -1,15 +1,16 @@
 -- The block map as it is read, part by part.
-use Rattle.std.proofs.Common.{◌≡◌, ℕ, zero, suc, ◌+◌, ◌-◌, ◌*◌, ◌/◌, ◌%◌, ◌<◌, ◌≤◌, List, [], ◌∷◌, ◌++◌, true, false, length, drop, get_or, slice_index, replicate, refl, ap, sym, subst, ◌∙◌, arith, inl, inr}
+use Rattle.std.proofs.Common.{◌≡◌, ℕ, zero, suc, ◌+◌, ◌-◌, ◌*◌, ◌/◌, ◌%◌, ◌<◌, ◌≤◌, List, [], ◌∷◌, ◌++◌, true, false, length, drop, get_or, slice_index, refl, ap, sym, subst, ◌∙◌, arith, inl, inr}
 use Rattle.std.specs.Prelude.{if◌then◌else◌, take}
 use Rattle.std.specs.Int.{div_ceil}
 use Rattle.std.proofs.Math.Dec.{eqb-suc-zero}
 use Rattle.std.proofs.lemmas.Bool.{cases_lt, cond_above}
-use Rattle.std.proofs.lemmas.List.{get_or_past, get_or-replicate, length-replicate, drop-replicate, get_or_append_left, get_or_push, length_push}
+use Rattle.std.proofs.lemmas.List.{get_or_past, drop-replicate, get_or_append_left, get_or_push, length_push}
 use Rattle.layout.specs.Bytes.{number, zeros}
 use Rattle.layout.specs.Maps.{map_entry, word}
 use Rattle.layout.specs.Places.{Blocks, place, pointed}
 use Rattle.layout.specs.declared.inode.Body.{Body}
 use Rattle.layout.specs.declared.inode.Body.TheVariants.{Inline, Pointers}
+use Rattle.layout.proofs.ZeroLaws.{number-zeros}
 use Rattle.blocktree.specs.Places.{block_count, depth_of}
 use Rattle.blocktree.specs.Trees.{settled_block}
 use Rattle.blockmap.specs.Maps.{no_part, settled_at, entry_at}
@@ -19,17 +20,6 @@ use Rattle.inode.specs.Bodies.{body_block}
 use Rattle.loading.specs.Readings.{AreParts, AreUnchanged}
 
 -- ---- zeros
-
-pub zero_byte : (i count : ℕ) → get_or (zeros count) i 0 ≡ 0
-unfolding zeros
-zero_byte i count = elim (cases_lt i count) [
-  | inl lt ↦ get_or-replicate {A = ℕ} count i 0 0 lt
-  | inr le ↦ get_or_past (replicate count 0) i 0 (omega (arith, length-replicate {A = ℕ} count 0))
-]
-
-number-zeros : (count : ℕ) → number 4 (zeros count) ≡ 0
-unfolding number
-number-zeros count = rw (zero_byte 0 count, zero_byte 1 count, zero_byte 2 count, zero_byte 3 count) refl
 
 drop-zeros : (n count : ℕ) → drop n (zeros count) ≡ zeros (count - n)
 unfolding zeros

@@ -1,32 +1,20 @@
 -- Images that hold a volume are readable.
-use Rattle.std.proofs.Common.{◌≡◌, ℕ, true, false, refl, ap, sym, subst, ◌∙◌}
-use Rattle.std.specs.Prelude.{IsTrue, List, Option}
+use Rattle.std.proofs.Common.{◌≡◌, ℕ, ap, sym, subst, ◌∙◌}
+use Rattle.std.specs.Prelude.{List}
 use Rattle.layout.specs.Places.{Blocks, pointed}
 use Rattle.layout.specs.SnapRoot.{Snapshot, snapshot_in}
-use Rattle.layout.specs.declared.kind.Kind.{Kind}
 use Rattle.layout.specs.declared.kind.Kind.TheVariants as kinds
 use Rattle.layout.specs.declared.root.Root.{Root}
 use Rattle.model.specs.Paths.{Name}
 use Rattle.model.specs.Trees.{Tree}
-use Rattle.model.specs.Volumes.{Node, Volume, is_directory_node}
-use Rattle.images.specs.Contents.{Content, StandsAs, content_of}
+use Rattle.model.specs.Volumes.{Volume}
+use Rattle.images.specs.Contents.{content_of}
 use Rattle.images.specs.Roots.{HeldTree, frozen_at, frozen_inode_file, inode_file_or_free, tree, whole}
 use Rattle.images.specs.Snapshots.{HasSnapshot, IsFrozenTree}
 use Rattle.images.specs.Soundness.{IsSoundTree}
 use Rattle.images.specs.States.{Holds}
+use Rattle.images.proofs.KindLaws.{directory_kind}
 use Rattle.loading.specs.Images.{IsReadable}
-
-is_none : {o p : Option Node} → o ≡ p → is_directory_node p ≡ false → IsTrue (is_directory_node o) → ⊥
-is_none {o} {p} same other is = let told : is_directory_node p ≡ true = subst (λ q. IsTrue (is_directory_node q)) same is in cc
-
-directory_kind : (kind : Kind) (inodes : ℕ) (c : Content) (o : Option Node) → StandsAs kind inodes c o → IsTrue (is_directory_node o) → kind ≡ kinds.Directory
-directory_kind kinds.Free inodes c o stands is = absurd (is_none stands refl is)
-directory_kind kinds.File inodes c o stands is = absurd (is_none stands refl is)
-directory_kind kinds.Directory inodes c o stands is = refl
-directory_kind kinds.Link inodes c o stands is = absurd (is_none stands refl is)
-directory_kind kinds.InodeFile inodes c o stands is = absurd (is_none stands refl is)
-directory_kind kinds.InodeMap inodes c o stands is = absurd (is_none stands refl is)
-directory_kind kinds.BlockMap inodes c o stands is = absurd (is_none stands refl is)
 
 pub readable : (disk : Blocks) (r : Root) (first : Volume) (snapshots : List (Name × Tree)) → Holds r (whole disk r) first snapshots → IsReadable disk r
 readable disk r first snapshots holds = record {

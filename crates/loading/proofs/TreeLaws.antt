@@ -1,9 +1,9 @@
 -- A readable tree as it is read: its inode file, and the files of the maps.
-use Rattle.std.proofs.Common.{◌≡◌, ℕ, zero, suc, ◌+◌, ◌*◌, ◌/◌, ◌%◌, ◌<◌, ◌≤◌, List, length, refl, ap, sym, subst, ◌∙◌, arith, inl, inr}
+use Rattle.std.proofs.Common.{◌≡◌, ℕ, ◌+◌, ◌*◌, ◌/◌, ◌%◌, ◌<◌, ◌≤◌, List, length, refl, ap, sym, subst, ◌∙◌, arith, inl, inr}
 use Rattle.std.specs.Prelude.{◌≢◌, IsSome, Option, None}
 use Rattle.std.specs.Int.{div_ceil}
 use Rattle.std.proofs.lemmas.Bool.{cases_lt}
-use Rattle.layout.specs.Bytes.{zeros, little}
+use Rattle.layout.specs.Bytes.{zeros}
 use Rattle.layout.specs.FileBytes.{byte_in, first_bytes}
 use Rattle.layout.specs.Inode.{IsInode, inode_bytes}
 use Rattle.layout.specs.Limits.{Sizes, AreSizes}
@@ -23,11 +23,13 @@ use Rattle.inofile.specs.Volumes.{MapsVolume}
 use Rattle.images.specs.Contents.{Content, HoldsVolume, StandsAs, bytes_of, content_of, contents}
 use Rattle.images.specs.Nodes.{file_block, held}
 use Rattle.images.specs.Roots.{free_inode, inode_bytes_at, inode_part, inode_of, tree}
-use Rattle.images.specs.Soundness.{FitsNumber, IsOrdinary, HasNoHole, IsSoundFile, IsSoundTree}
+use Rattle.images.specs.Soundness.{IsOrdinary, HasNoHole, IsSoundFile, IsSoundTree}
 use Rattle.blockmap.specs.Maps.{settled_at, entry_at, IsTouched}
 use Rattle.blockmap.specs.Parts.{Part}
 use Rattle.blockmap.specs.declared.map.BlockMap.{BlockMap}
 use Rattle.images.specs.BlockMap.{entry}
+use Rattle.images.proofs.EmptyLaws.{free_bytes, free_fits}
+use Rattle.images.proofs.KindLaws.{ordinary_kind}
 use Rattle.loading.specs.Images.{IsMapOf, inodes_of}
 use Rattle.loading.specs.InodeBlocks.{AreInodeBlocks, FitsPlace, IsInodeAt, IsInodeBlock}
 use Rattle.loading.specs.Laws.{AreMapFiles, EndTrees, HaveSoundPaths, ReadAsHeld, SpellTrees}
@@ -35,14 +37,6 @@ use Rattle.loading.proofs.MapLaws.{entries_are, past_end, same_entries}
 use Rattle.loading.specs.Readings.{AreParts, AreUnchanged, IsBodyPath, IsMapFile, inode_bytes_of}
 
 -- ---- free inodes
-
-pub free_bytes : inode_bytes free_inode ≡ zeros 192
-unfolding little zeros
-free_bytes = refl
-
-pub free_fits : (s : Sizes) → IsInode VERSION s free_inode
-unfolding zeros
-free_fits s = record { mode = omega arith; size = omega arith; kind = (refl, refl, refl); body = (omega arith, refl, refl) }
 
 free_past : (inodes n : ℕ) → 3 < inodes → inodes ≤ n → FitsPlace inodes n kinds.Free
 free_past inodes n many past = record {
@@ -61,12 +55,6 @@ free_first inodes many = record {
 }
 
 -- ---- objects
-
-ordinary : (n : ℕ) (kind : Kind) → 3 ≤ n → FitsNumber n kind → IsOrdinary kind
-ordinary zero kind high fits = absurd (omega arith)
-ordinary (suc zero) kind high fits = absurd (omega arith)
-ordinary (suc (suc zero)) kind high fits = absurd (omega arith)
-ordinary (suc (suc (suc n))) kind high fits = fits
 
 used_some : (kind : Kind) (inodes : ℕ) (c : Content) (o : Option Node) → IsOrdinary kind → StandsAs kind inodes c o → kind ≢ kinds.Free → IsSome o
 used_some kinds.Free inodes c o usual stands used = absurd (used refl)
@@ -190,7 +178,7 @@ module _ (s : Sizes) (are : AreSizes s) (disk : Blocks) (top : Inode) (sound : I
   maps_volume v holds n = elim (cases_lt n 4) [
     | inl low ↦ (λ _. inl low, λ _. (sound.numbers n).1 (inl low))
     | inr high ↦
-        let usual : IsOrdinary (tree disk s.inodes top n).inode.kind = ordinary n (tree disk s.inodes top n).inode.kind (omega arith) (sound.kinds n) in (
+        let usual : IsOrdinary (tree disk s.inodes top n).inode.kind = ordinary_kind n (tree disk s.inodes top n).inode.kind (omega arith) (sound.kinds n) in (
           (λ taken. elim ((sound.numbers n).0 taken) [
             | inl low ↦ inl low
             | inr used ↦ inr (used_some (tree disk s.inodes top n).inode.kind s.inodes (content_of (tree disk s.inodes top n)) (v n) usual (holds n) used)

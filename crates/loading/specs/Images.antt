@@ -6,7 +6,7 @@ use Rattle.layout.specs.Places.{Blocks}
 use Rattle.layout.specs.declared.TheConstants.{BLOCK_POINTERS}
 use Rattle.layout.specs.declared.inode.Inode.{Inode}
 use Rattle.layout.specs.declared.kind.Kind.TheVariants.{Directory}
-use Rattle.layout.specs.declared.numbers.TheConstants.{ROOT_NUMBER}
+use Rattle.model.specs.declared.limits.TheConstants.{ROOT_NUMBER}
 use Rattle.layout.specs.declared.root.Root.{Root}
 use Rattle.model.specs.Volumes.{Volume}
 use Rattle.inode.specs.Bases.{StartsFrom}

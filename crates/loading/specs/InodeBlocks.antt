@@ -8,7 +8,7 @@ use Rattle.layout.specs.declared.TheConstants.{BLOCK_BYTES, INODE_BYTES, INODES_
 use Rattle.layout.specs.declared.inode.Inode.{Inode}
 use Rattle.layout.specs.declared.kind.Kind.{Kind}
 use Rattle.layout.specs.declared.kind.Kind.TheVariants.{Free, Directory}
-use Rattle.layout.specs.declared.numbers.TheConstants.{ROOT_NUMBER}
+use Rattle.model.specs.declared.limits.TheConstants.{ROOT_NUMBER}
 use Rattle.layout.specs.declared.version.TheConstants.{VERSION}
 use Rattle.images.specs.Roots.{inode_part}
 use Rattle.images.specs.Soundness.{FitsNumber}

@@ -1,14 +1,14 @@
 //! All that mount reads under a root.
 
-ghost use Rattle.std.specs.Prelude.{◌≡◌, ◌≤◌, ◌⊎◌, ℕ, List, IfOk, MatchResult, length};
-ghost use Rattle.std.specs.Int.{div_ceil};
-ghost use Rattle.layout.specs.Maps.{IsInodeMap};
+ghost use Rattle.std.specs.Prelude.{◌≡◌, ◌≤◌, ◌⊎◌, ℕ, List, IfOk, MatchResult};
 ghost use Rattle.layout.specs.Root.{IsRoot};
-ghost use Rattle.layout.specs.declared.TheConstants.{BLOCK_POINTERS};
+ghost use Rattle.layout.specs.Version.{greatest_size};
+ghost use Rattle.layout.specs.declared.version.TheConstants.{VERSION};
 ghost use Rattle.buffers.specs.Reads.{ReadsBlocks};
 ghost use Rattle.blocktree.specs.Errors.{IsFault};
-ghost use Rattle.inode.specs.Files.{file_block};
-ghost use Rattle.loading.specs.InodeBlocks.{AreInodeBlocks};
+ghost use Rattle.images.specs.Roots.{whole};
+ghost use Rattle.loading.specs.Images.{AreInodesOf, IsReadable};
+ghost use Rattle.loading.specs.Loading.{LoadsUnder};
 
 use crate::inodes::{check_inodes, own_inode};
 use crate::laws::trees_read_as_held;
@@ -28,12 +28,6 @@ pub struct Loaded {
     pub inodes: InodeFile,
 }
 
-ghost use Rattle.layout.specs.Version.{greatest_size};
-ghost use Rattle.layout.specs.declared.version.TheConstants.{VERSION};
-ghost use Rattle.images.specs.Roots.{whole};
-ghost use Rattle.loading.specs.Images.{AreInodesOf, IsLoaded, IsReadable};
-ghost use Rattle.loading.specs.Readings.{AreUnchanged};
-
 /// Reads the inode file, the inode map and the block map under a root, and tests them. Where the root's tree is in its
 /// grammar, what is loaded is what the tree has, and Err comes only for want of memory and where a device call failed.
 /// `Damaged` comes where an inode, a map's bytes or an indirect block over these isn't in its grammar, where the inodes
@@ -41,20 +35,7 @@ ghost use Rattle.loading.specs.Readings.{AreUnchanged};
 pub fn load<B: Blocks>(alloc: Global, blocks: &mut B, root: &Root) -> Result<Loaded, ReadError>
     requires root { IsRoot root.now }
     requires size { B.count blocks.old ≡ root.now.geometry.blocks }
-    ensures reads { ReadsBlocks B.Blocks IsFault blocks.old blocks.new result }
-    ensures blocks { IfOk result (λ l. l.map.count ≡ root.now.geometry.blocks) }
-    ensures parts { IfOk result (λ l. length l.map.parts.items
-        ≡ div_ceil root.now.geometry.blocks BLOCK_POINTERS) }
-    ensures unchanged { IfOk result (λ l. AreUnchanged l.map.parts.items) }
-    ensures next { IfOk result (λ l. l.map.next ≡ 2) }
-    ensures geometry { IfOk result (λ l. l.inodes.geometry ≡ root.now.geometry) }
-    ensures numbers { IfOk result (λ l. IsInodeMap 0 root.now.geometry.inodes
-        l.inodes.numbers.bytes.items) }
-    ensures inodes { (disk : ℕ → List ℕ) → B.Shows blocks.old disk
-        → IfOk result (λ l. AreInodeBlocks root.now.geometry (file_block disk l.inodes.file)) }
-    ensures loads { (disk : ℕ → List ℕ) → B.Shows blocks.old disk → IsReadable disk root.now
-        → MatchResult result (λ l. IsLoaded disk root.now l.map l.inodes)
-        (λ e. (e ≡ ReadError.NoMemory) ⊎ (e ≡ ReadError.Device)) }
+    ensures { LoadsUnder B.Blocks blocks.old blocks.new root.now result }
 {
     trees_read_as_held();
     let geometry = root.geometry;

@@ -1,9 +1,9 @@
 -- Drafts that grow, and files that are planned over nothing.
-use Rattle.std.proofs.Common.{◌≡◌, ◌⊎◌, inl, inr, ◌↔◌, ℕ, suc, Bool, true, false, List, [], ◌∷◌, length, refl, ap, sym, subst, ◌∙◌, arith}
-use Rattle.std.proofs.lemmas.Bool.{cases_eq, eq-eqb, ne_eqb}
+use Rattle.std.proofs.Common.{◌≡◌, ◌⊎◌, inl, inr, ◌↔◌, ◌≤◌, ℕ, suc, Bool, true, false, List, [], ◌∷◌, length, refl, ap, sym, subst, ◌∙◌, arith}
+use Rattle.std.proofs.lemmas.Bool.{cases_eq, eq-eqb, ne_eqb, cases_Bool}
 use Rattle.std.proofs.lemmas.List.Folds.{list_any_at}
 use Rattle.std.specs.Prelude.{◌==◌, ◌||◌, slice_index}
-use Rattle.std.specs.Prelude.{Err, IfErr, IsErrOf, Result}
+use Rattle.std.specs.Prelude.{Err, IsErrOf, Ok, Result}
 use Rattle.std.specs.Int.{bit_at}
 use Rattle.layout.specs.Inode.{FitsKind}
 use Rattle.layout.specs.Limits.{Sizes}
@@ -29,18 +29,12 @@ use Rattle.layout.specs.declared.kind.Kind.{Kind}
 use Rattle.placement.specs.Files.{IsBasedOn, IsChangeOf, IsPlaced, is_one, none}
 use Rattle.making.specs.Plans.{HasFile}
 use Rattle.making.specs.Starts.{nothing}
-
-pub grows_twice : (a b c : Draft) → Grows a b → Grows b c → Grows a c
-grows_twice a b c one two = record {
-  settled = record {
-    count = two.settled.count ∙ one.settled.count;
-    settled = λ x. two.settled.settled x ∙ one.settled.settled x;
-    touched = λ j is. two.settled.touched j (one.settled.touched j is);
-  };
-  count = two.count ∙ one.count;
-  next = omega (arith, one.next, two.next);
-  has = λ e has. one.has e (two.has e has);
-}
+use Rattle.std.specs.Result.{IsErrAnd}
+use Rattle.buffers.specs.declared.blocks.Blocks.{Ghosts}
+use Rattle.conspoint.specs.Steps.{Takes}
+use Rattle.conspoint.proofs.StepLemmas.{no_error, same_error}
+use Rattle.placement.specs.Steps.{PlacesFile}
+use Rattle.placement.specs.declared.file.PlacedFile.{PlacedFile}
 
 -- a file of the system's own, over nothing
 based_on : (t : BlockTree) → IsBased free_inode t → IsBasedOn free_inode t
@@ -75,18 +69,14 @@ among (x ∷ xs) b is = elim (cases_eq b x) [
 one_of : (xs : List ℕ) (b : ℕ) → IsAmong xs (length xs) b → is_one xs b ≡ true
 one_of xs b at = list_any_at (λ x. b == x) xs at.0 0 at.1 (eq-eqb b (slice_index xs at.0) (sym at.2))
 
-is_bool : (t : Bool) → (t ≡ true) ⊎ (t ≡ false)
-is_bool true = inl refl
-is_bool false = inr refl
-
 true_false : {t : Bool} {A : Type 0} → t ≡ true → t ≡ false → A
 true_false p q = absurd (let e = sym p ∙ q in cc)
 
 marked_in : (taken : List ℕ) (old new : List Part) → AreMarked taken (length taken) true old new → (b : ℕ)
     → HasBit 0 (entry_at new b) ↔ (HasBit 0 (entry_at old b) ⊎ (is_one taken b ≡ true))
 marked_in taken old new came b = (
-  λ has. elim (is_bool (is_one taken b)) [ inl is ↦ inr is | inr isnt ↦ inl (sym (same isnt) ∙ has) ],
-  λ either. elim (is_bool (is_one taken b)) [
+  λ has. elim (cases_Bool (is_one taken b)) [ inl is ↦ inr is | inr isnt ↦ inl (sym (same isnt) ∙ has) ],
+  λ either. elim (cases_Bool (is_one taken b)) [
     | inl is ↦ came.marked b (among taken b is)
     | inr isnt ↦ same isnt ∙ elim either [ inl was ↦ was | inr is ↦ true_false is isnt ]
   ],
@@ -126,5 +116,18 @@ shortage NoSpace device damaged = tt
 shortage Device device damaged = (let grown = device refl in absurd (omega (arith, grown)))
 shortage Damaged device damaged = damaged refl
 
-pub refused : {T : Type 0} (e : PlanError) (r : Result T PlanError) → r ≡ Err e → IsShortage e → IfErr r IsShortage
-refused e r is short = subst (λ x. IfErr x IsShortage) (sym is) short
+-- a file that is placed over nothing takes so many blocks
+pub placed_takes : {B T : Type 0} {G : Ghosts B} {f : T → PlacedFile} {v : T} {n k : ℕ} {x y : B} {a b : Draft} → PlacesFile G n f x y a b (Ok v) → n ≤ k → Takes k a b (Ok v)
+placed_takes step le = record { grows = step.grows; others = step.others; takes = omega (arith, le, step.takes); lacks = λ bad. no_error NoSpace bad; shortage = tt }
+
+-- and where it isn't placed, so many aren't left
+pub placed_fails : {B T U : Type 0} {G : Ghosts B} {f : T → PlacedFile} {e : PlanError} {n k : ℕ} {x y : B} {a b : Draft} (q : Result U PlanError) → IsErrAnd q (λ g. g ≡ e) → IsShortage e
+    → PlacesFile G n f x y a b (Err e) → n ≤ k → Takes k a b q
+placed_fails (Ok w) is short step le = absurd is
+placed_fails {e = e} (Err g) is short step le = record {
+  grows = step.grows;
+  others = step.others;
+  takes = tt;
+  lacks = λ bad. (let few = step.lacks (same_error g e NoSpace is bad) in omega (arith, le, few));
+  shortage = subst IsShortage (sym is) short;
+}

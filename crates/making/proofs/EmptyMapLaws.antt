@@ -1,7 +1,7 @@
 -- The block map over nothing: a file of holes, all of whose blocks are to be stored.
-use Rattle.std.proofs.Common.{◌≡◌, ◌⊎◌, inl, inr, ℕ, zero, suc, ◌+◌, ◌-◌, ◌*◌, ◌/◌, ◌%◌, ◌<◌, ◌≤◌, Bool, true, false, List, length, drop, get_or, replicate, refl, ap, sym, subst, ◌∙◌, arith}
+use Rattle.std.proofs.Common.{◌≡◌, inl, inr, ℕ, zero, suc, ◌+◌, ◌-◌, ◌*◌, ◌/◌, ◌%◌, ◌<◌, ◌≤◌, Bool, true, false, List, length, drop, get_or, replicate, refl, ap, sym, subst, ◌∙◌, arith}
 use Rattle.std.specs.Prelude.{slice_index, nat_lt, if◌then◌else◌}
-use Rattle.std.proofs.lemmas.Bool.{cases_lt, cond_above, cond_below}
+use Rattle.std.proofs.lemmas.Bool.{cases_lt, cond_above, cond_below, cases_Bool}
 use Rattle.std.proofs.lemmas.List.{get_or_default, get_or-drop, get_or-replicate, get_or_past, length-replicate}
 use Rattle.layout.specs.Bytes.{zeros}
 use Rattle.layout.specs.Inode.{IsInode, pointers_used}
@@ -14,7 +14,7 @@ use Rattle.layout.specs.declared.inode.Body.TheVariants.{Pointers}
 use Rattle.layout.specs.declared.inode.Inode.{Inode}
 use Rattle.layout.specs.declared.kind.Kind.TheVariants as kinds
 use Rattle.layout.specs.declared.pointer.Pointer.{Pointer}
-use Rattle.layout.specs.declared.pointer.Pointer.TheVariants.{Hole, Block}
+use Rattle.layout.specs.declared.pointer.Pointer.TheVariants.{Hole}
 use Rattle.layout.specs.declared.version.TheConstants.{VERSION}
 use Rattle.blockmap.specs.Maps.{entry_at}
 use Rattle.conspoint.specs.Drafts.{HasAll}
@@ -26,7 +26,8 @@ use Rattle.images.specs.Nodes.{held, Names, file_block}
 use Rattle.images.specs.Soundness.{IsSoundFile}
 use Rattle.making.specs.Plans.{HasFile, IsBlockMapOn, IsPlacedOver}
 use Rattle.making.specs.Starts.{nothing, system_entry}
-use Rattle.making.proofs.TopLaws.{zero_byte}
+use Rattle.layout.proofs.PointerLaws.{no_block}
+use Rattle.layout.proofs.ZeroLaws.{zero_byte}
 
 abbrev holes : List Pointer
 holes = replicate 16 Hole
@@ -54,15 +55,12 @@ pub no_node : (s : Sizes) (m i : ℕ) → (held nothing (no_map s)).place m i �
 unfolding held
 no_node s m i = hole_or (nat_lt m (level_of (4 * s.blocks))) (place nothing holes (level_of (4 * s.blocks) - suc m) i) (no_place (level_of (4 * s.blocks) - suc m) i)
 
-hole_block : (p : Pointer) (b : ℕ) → p ≡ Hole → p ≡ Block b → ⊥
-hole_block p b hole is = let e : Hole ≡ Block b = sym hole ∙ is in cc
-
 pub no_name : (s : Sizes) (b : ℕ) → Names (held nothing (no_map s)) b → ⊥
-no_name s b names = hole_block ((held nothing (no_map s)).place names.height names.index) b (no_node s names.height names.index) names.is
+no_name s b names = no_block ((held nothing (no_map s)).place names.height names.index) b (no_node s names.height names.index) names.is
 
-no_block : (s : Sizes) (i : ℕ) → file_block (held nothing (no_map s)) i ≡ zeros 4096
+empty_block : (s : Sizes) (i : ℕ) → file_block (held nothing (no_map s)) i ≡ zeros 4096
 unfolding held
-no_block s i = ap (pointed nothing) (no_node s 0 i)
+empty_block s i = ap (pointed nothing) (no_node s 0 i)
 
 no_map_fits : (s : Sizes) → AreSizes s → IsInode VERSION s (no_map s)
 no_map_fits s are = record {
@@ -82,7 +80,7 @@ unfolding held
 no_map_sound s are = record {
   inode = no_map_fits s are;
   indirect = λ m i b is. absurd (no_name s b (record { height = suc m; index = i; is = is }));
-  ends = λ p past. ap (λ (x : List ℕ). slice_index x (p % 4096)) (no_block s (p / 4096)) ∙ zero_byte (p % 4096) 4096;
+  ends = λ p past. ap (λ (x : List ℕ). slice_index x (p % 4096)) (empty_block s (p / 4096)) ∙ zero_byte (p % 4096) 4096;
 }
 
 pub system_past : (b : ℕ) → 2 ≤ b → system_entry b ≡ 0
@@ -102,16 +100,12 @@ no_settled_map s d nodes are over none = record {
   entries = λ b not. elim (cases_lt b d.map.count) [
     | inl lt ↦ absurd (not lt (over.touched (b / 1024) (omega (arith, lt, over.parts, over.count))))
     | inr ge ↦ over.settled b ∙ system_past b (omega (arith, ge, over.count, are.least_blocks))
-        ∙ sym (ap (λ (x : List ℕ). map_entry x (b % 1024)) (no_block s (b / 1024)) ∙ word_zero (zeros 4096) (b % 1024) (λ r lt. zero_byte (4 * (b % 1024) + r) 4096))
+        ∙ sym (ap (λ (x : List ℕ). map_entry x (b % 1024)) (empty_block s (b / 1024)) ∙ word_zero (zeros 4096) (b % 1024) (λ r lt. zero_byte (4 * (b % 1024) + r) 4096))
   ];
   used = λ b names. absurd (no_name s b names);
   lowest = λ k lt. none k ∙ sym (no_node s 0 k);
   over = λ level. none (length d.map.parts.items) ∙ sym (no_node s 1 0);
 }
-
-is_bool : (t : Bool) → (t ≡ true) ⊎ (t ≡ false)
-is_bool true = inl refl
-is_bool false = inr refl
 
 module _ (s : Sizes) (old new : Draft) (nodes : List Pointer) (f : Inode) (are : AreSizes s) (over : IsPlacedOver s.blocks old) (none : (k : ℕ) → pointer_at nodes k ≡ Hole) (plan : PlansMap old new nodes f)
     (some : Blocks) (has_some : HasAll some new.blocks.items) where
@@ -120,7 +114,7 @@ module _ (s : Sizes) (old new : Draft) (nodes : List Pointer) (f : Inode) (are :
 
   -- nothing is freed
   kept : (b : ℕ) → plan.freed b ≡ false
-  kept b = elim (is_bool (plan.freed b)) [
+  kept b = elim (cases_Bool (plan.freed b)) [
     | inl is ↦ absurd (no_name s b ((on some has_some).freed_are b is).0)
     | inr isnt ↦ isnt
   ]

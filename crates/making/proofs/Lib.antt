@@ -1,4 +1,3 @@
-mod PutLaws
 mod StartLaws
 mod DraftLaws
 mod TopLaws

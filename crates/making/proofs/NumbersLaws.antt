@@ -24,7 +24,8 @@ use Rattle.inode.specs.declared.object.Object.{Object}
 use Rattle.placement.specs.Files.{content_with, object_block}
 use Rattle.making.specs.Plans.{IsNumbersOn}
 use Rattle.making.specs.Starts.{nothing, numbers_block}
-use Rattle.making.proofs.TopLaws.{held_inode, zero_byte}
+use Rattle.layout.proofs.ZeroLaws.{zero_byte}
+use Rattle.images.proofs.EmptyLaws.{held_inode}
 
 -- the first byte has the lowest four bits
 abbrev byte_is : ℕ → ℕ

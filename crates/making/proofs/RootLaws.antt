@@ -17,7 +17,7 @@ use Rattle.conspoint.specs.declared.draft.Draft.{Draft}
 use Rattle.images.specs.FirstRoots.{IsFirst}
 use Rattle.images.specs.Roots.{slot}
 use Rattle.making.specs.Plans.{HasTree}
-use Rattle.making.proofs.TopLaws.{held_inode}
+use Rattle.images.proofs.EmptyLaws.{held_inode}
 
 hole_at : (k : ℕ) → slice_index_or (replicate 20 Hole) k Hole ≡ Hole
 hole_at k = elim (cases_lt k 20) [

@@ -1,10 +1,9 @@
 -- The first block of the inode file spells the inodes of a new image.
-use Rattle.std.proofs.Common.{◌≡◌, ◌≢◌, false, ℕ, zero, suc, ◌+◌, ◌-◌, ◌*◌, ◌%◌, ◌<◌, ◌≤◌, List, length, take, drop, refl, ap, sym, subst, ◌∙◌, arith, length-take, length-drop, length-append}
+use Rattle.std.proofs.Common.{◌≡◌, ◌≢◌, false, ℕ, zero, suc, ◌+◌, ◌-◌, ◌*◌, ◌%◌, ◌≤◌, List, length, drop, refl, sym, subst, ◌∙◌, arith, length-take, length-drop, length-append}
 use Rattle.std.proofs.Math.Path.{fun_ext}
 use Rattle.std.proofs.lemmas.Bool.{ne_eqb}
-use Rattle.std.proofs.lemmas.List.{take-replicate, drop-replicate, length-replicate}
 use Rattle.std.specs.Prelude.{Some, ◌==◌, if◌then◌else◌}
-use Rattle.layout.specs.Bytes.{little, zeros}
+use Rattle.layout.specs.Bytes.{zeros}
 use Rattle.layout.specs.Inode.{inode_bytes}
 use Rattle.layout.specs.Places.{Blocks}
 use Rattle.layout.specs.declared.inode.Inode.{Inode}
@@ -13,9 +12,11 @@ use Rattle.images.specs.FirstRoots.{empty_directory, first_inodes, first_tree}
 use Rattle.images.specs.InodeFiles.{FitsPlace, put_at, with_inode}
 use Rattle.images.specs.Nodes.{Held, held, file_block}
 use Rattle.images.specs.Overlays.{Overlay, overlaid_block}
-use Rattle.images.specs.Roots.{free_inode, inode_bytes_at, inode_part}
+use Rattle.images.specs.Roots.{free_inode, inode_bytes_at}
 use Rattle.images.specs.Soundness.{SpellsInodes}
 use Rattle.making.specs.Starts.{inodes_block, nothing}
+use Rattle.layout.proofs.ZeroLaws.{length-zeros}
+use Rattle.images.proofs.EmptyLaws.{free_bytes, part_zeros, behind_zeros}
 
 -- what images says of putting inodes
 pub record PutsOneByOne : Type 0 where
@@ -24,22 +25,6 @@ pub record PutsOneByOne : Type 0 where
       → inode_bytes_at (overlaid_block h (with_inode h c n bytes)) m ≡ inode_bytes_at (overlaid_block h c) m
   pub behind : (h : Held) (c : Overlay) (n i : ℕ) (bytes : List ℕ) → FitsPlace h c n bytes
       → drop (192 * 21) (overlaid_block h (with_inode h c n bytes) i) ≡ drop (192 * 21) (overlaid_block h c i)
-
-part_zeros : (k : ℕ) → k < 21 → inode_part (zeros 4096) k ≡ zeros 192
-unfolding zeros
-part_zeros k lt = ap (take 192) (drop-replicate (192 * k) 4096 0) ∙ take-replicate 192 (4096 - 192 * k) 0 (omega arith)
-
-behind_zeros : drop (192 * 21) (zeros 4096) ≡ zeros (4096 - 192 * 21)
-unfolding zeros
-behind_zeros = drop-replicate (192 * 21) 4096 0
-
-free_bytes : inode_bytes free_inode ≡ zeros 192
-unfolding little zeros
-free_bytes = refl
-
-length-zeros : (n : ℕ) → length (zeros n) ≡ n
-unfolding zeros
-length-zeros n = length-replicate {A = ℕ} n 0
 
 length-put : (at : ℕ) (bytes block : List ℕ) → length block ≡ 4096 → length bytes ≡ 192 → at + 192 ≤ 4096 → length (put_at at bytes block) ≡ 4096
 length-put at bytes block whole long fits = simp (length-take, length-drop, length-append) (omega (arith, whole, long))

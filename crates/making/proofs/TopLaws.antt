@@ -1,8 +1,6 @@
 -- The inode file over nothing.
-use Rattle.std.proofs.Common.{◌≡◌, inl, inr, ℕ, ◌/◌, ◌%◌, List, refl, ap, sym, ◌∙◌, arith}
-use Rattle.std.proofs.lemmas.Bool.{cases_lt}
-use Rattle.std.proofs.lemmas.List.{get_or-replicate, get_or_past, length-replicate}
-use Rattle.std.specs.Prelude.{slice_index, replicate, ◌==◌, if◌then◌else◌}
+use Rattle.std.proofs.Common.{◌≡◌, ℕ, ◌/◌, ◌%◌, List, ap, sym, ◌∙◌}
+use Rattle.std.specs.Prelude.{slice_index, ◌==◌, if◌then◌else◌}
 use Rattle.layout.specs.Bytes.{zeros}
 use Rattle.layout.specs.Places.{Blocks}
 use Rattle.layout.specs.declared.inode.Inode.{Inode}
@@ -18,21 +16,12 @@ use Rattle.placement.specs.Files.{content_with, object_block, with_first}
 use Rattle.making.specs.Plans.{IsTopOn}
 use Rattle.making.specs.Starts.{nothing}
 use Rattle.making.proofs.StartLaws.{zeros_or}
-
-pub zero_byte : (i count : ℕ) → slice_index (zeros count) i ≡ 0
-unfolding zeros
-zero_byte i count = elim (cases_lt i count) [
-  | inl lt ↦ get_or-replicate {A = ℕ} count i 0 0 lt
-  | inr le ↦ get_or_past (replicate count 0) i 0 (omega (arith, length-replicate {A = ℕ} count 0))
-]
+use Rattle.layout.proofs.ZeroLaws.{zero_byte}
+use Rattle.images.proofs.EmptyLaws.{held_inode}
 
 -- a file of zeros ends anywhere
 pub zeros_end : (f : File) → ((i : ℕ) → file_block nothing f i ≡ zeros 4096) → IsFile nothing f
 zeros_end f blocks p past = ap (λ (b : List ℕ). slice_index b (p % 4096)) (blocks (p / 4096)) ∙ zero_byte (p % 4096) 4096
-
-pub held_inode : (d : Blocks) (f : Inode) → (held d f).inode ≡ f
-unfolding held
-held_inode d f = refl
 
 pub top_on : (e : Blocks) (first : ℕ) (f : Inode) (o : Object) → o.attributes ≡ record { kind = kinds.InodeFile; mode = 0; links = 1 } → ((i : ℕ) → file_block nothing o.file i ≡ zeros 4096)
     → content_of (held e f) ≡ content_with o (with_first (e first) (object_block nothing o)) → IsTopOn e first f

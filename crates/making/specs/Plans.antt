@@ -8,7 +8,7 @@ use Rattle.layout.specs.Places.{Blocks}
 use Rattle.layout.specs.declared.TheConstants.{BLOCK_POINTERS}
 use Rattle.layout.specs.declared.inode.Inode.{Inode}
 use Rattle.layout.specs.declared.kind.Kind.TheVariants as kinds
-use Rattle.layout.specs.declared.numbers.TheConstants.{FIRST_NUMBER}
+use Rattle.model.specs.declared.limits.TheConstants.{FIRST_NUMBER}
 use Rattle.blockmap.specs.Maps.{IsTouched, entry_at, settled_at}
 use Rattle.conspoint.specs.Drafts.{OnEach, WasTaken}
 use Rattle.conspoint.specs.declared.draft.Draft.{Draft}

@@ -1,8 +1,7 @@
 //! The first consistency point, planned.
 
-ghost use Rattle.std.specs.Prelude.{◌≡◌, ℕ, ◌*◌, ◌<◌, ◌≤◌, All, IfErr, IfOk, IsErrOf, OnOk, [], length};
+ghost use Rattle.std.specs.Prelude.{◌≡◌, ℕ, ◌*◌, ◌<◌, ◌≤◌, All, IfErr, IfOk, IsErrOf, [], length};
 ghost use Rattle.std.specs.Int.{div_ceil};
-ghost use Rattle.layout.specs.Inode.{inode_bytes};
 ghost use Rattle.layout.specs.Places.{Blocks};
 ghost use Rattle.layout.specs.Root.{IsRoot, root_bytes};
 ghost use Rattle.layout.specs.declared.TheConstants.{BLOCK_POINTERS, SLOT_A};
@@ -12,13 +11,14 @@ ghost use Rattle.conspoint.specs.Drafts.{Grows, HasAll, IsReserved, IsShortage, 
 ghost use Rattle.conspoint.specs.Groups.{pointer_at};
 ghost use Rattle.conspoint.specs.MapFiles.{map_nodes};
 ghost use Rattle.conspoint.specs.Plans.{FitsDisk};
-ghost use Rattle.conspoint.specs.Space.{Lacks, TakesAtMost};
+ghost use Rattle.conspoint.specs.Space.{Lacks};
 ghost use Rattle.images.specs.FirstRoots.{root_alone};
 ghost use Rattle.images.specs.Roots.{whole};
 ghost use Rattle.images.specs.States.{Holds};
 ghost use Rattle.making.specs.Space.{NUMBERS_STORES, TOP_STORES};
 ghost use Rattle.making.specs.Plans.{HasFile, HasTree, IsBlockMapOn, IsNumbersOn, IsPlacedOver, IsTopOn};
 ghost use Rattle.making.specs.Starts.{IsEmptyMap};
+ghost use Rattle.conspoint.specs.Steps.{Takes};
 
 use crate::empty_disk::EmptyDisk;
 use crate::inode_file::{first_block, inode_file};
@@ -50,12 +50,9 @@ fn place_numbers(
     requires disk { disk.old.count ≡ geometry.blocks }
     requires map { draft.old.map.count ≡ geometry.blocks }
     ensures disk { disk.new.count ≡ disk.old.count }
-    ensures grows { Grows draft.old draft.new }
+    ensures step { Takes NUMBERS_STORES draft.old draft.new result }
     ensures file { IfOk result (HasFile geometry draft.old draft.new) }
     ensures numbers { IfOk result (λ f. OnEach draft.new (λ e. IsNumbersOn e f)) }
-    ensures takes { OnOk result (TakesAtMost NUMBERS_STORES draft.old draft.new) }
-    ensures lacks { IsErrOf result PlanError.NoSpace → Lacks NUMBERS_STORES draft.old }
-    ensures shortage { IfErr result IsShortage }
 {
     free_files_hold_nothing();
     let _ = geometry.inodes();
@@ -75,13 +72,10 @@ fn place_top(
     requires disk { disk.old.count ≡ geometry.blocks }
     requires map { draft.old.map.count ≡ geometry.blocks }
     ensures disk { disk.new.count ≡ disk.old.count }
-    ensures grows { Grows draft.old draft.new }
+    ensures step { Takes TOP_STORES draft.old draft.new result }
     ensures reserved { IfOk result (λ r. IsReserved draft.new r.1) }
     ensures file { IfOk result (λ r. HasFile geometry draft.old draft.new r.0) }
     ensures top { IfOk result (λ r. OnEach draft.new (λ e. IsTopOn e r.1 r.0)) }
-    ensures takes { OnOk result (TakesAtMost TOP_STORES draft.old draft.new) }
-    ensures lacks { IsErrOf result PlanError.NoSpace → Lacks TOP_STORES draft.old }
-    ensures shortage { IfErr result IsShortage }
 {
     free_files_hold_nothing();
     let object = inode_file(alloc, geometry);

@@ -9,9 +9,10 @@ use Rattle.model.specs.Records.{is_vacant}
 use Rattle.model.proofs.WalkLemmas.{number_at-push, number_at-put, edge_from, edge_here, edge_other, same_path, path_eq-same}
 use Rattle.model.proofs.CountLemmas.{same_count, one_more}
 use Rattle.model.proofs.VolumeLemmas.{alone, directory_no_file}
-use Rattle.model.proofs.KeptLemmas.{Kept, kept, kept_through, entry_keeps, entries-entry, node-here, node-other, entry_was, pair_same, some_value}
+use Rattle.model.proofs.KeptLemmas.{Kept, kept, kept_through, entry_keeps, entries-entry, node-here, entry_was, pair_same, some_value}
 use Rattle.model.proofs.PutLemmas.{entries-node, more_keeps, more_names, file_no_names}
 use Rattle.model.proofs.SweepLemmas.{swept_names, stays_named}
+use Rattle.model.proofs.ObjectLaws.{node_other}
 
 -- The name b of the directory k at w, which led to nothing, comes to lead to n, which has no names itself and has one link
 -- more; all else is kept.
@@ -121,7 +122,7 @@ pub more_kept : (v : Volume) (n j : ℕ) → Kept (v j) (with_node n (with_name_
 more_kept v n j =
     elim (cases_eq j n) [
       | inl is ↦ subst (λ i. Kept (v i) (with_node n (with_name_more (v n)) v i)) (sym is) (subst (Kept (v n)) (sym (node-here n (with_name_more (v n)) v)) (more_keeps (v n)))
-      | inr other ↦ subst (Kept (v j)) (sym (node-other n j (with_name_more (v n)) v other)) (kept (v j))
+      | inr other ↦ subst (Kept (v j)) (sym (node_other n j (with_name_more (v n)) v other)) (kept (v j))
     ]
 
 pub edges-linked : (v : Volume) (k : ℕ) (b : Name) (n : ℕ) → is_directory_node (v k) ≡ true → entries (linked n k b v) ≡ with_edge k b (Some n) (entries v)
@@ -146,7 +147,7 @@ graph-linked v graph w b k n mode links bytes at_k k_is free good a_file =
     all j = kept_through (v j) (with_node n (with_name_more (v n)) v j) (linked n k b v j) (more_kept v n j) (entry_keeps k b (Some n) (with_node n (with_name_more (v n)) v) j)
 
     files : (m mode links : ℕ) (bytes : List ℕ) → m ≢ n → linked n k b v m ≡ Some (file_node mode links bytes) → v m ≡ Some (file_node mode links bytes)
-    files m mode links bytes other is = sym (node-other n m (with_name_more (v n)) v other) ∙ entry_was mode links bytes k b (Some n) (with_node n (with_name_more (v n)) v) m is
+    files m mode links bytes other is = sym (node_other n m (with_name_more (v n)) v other) ∙ entry_was mode links bytes k b (Some n) (with_node n (with_name_more (v n)) v) m is
 
     same_links : (mode_now now : ℕ) (bytes_now : List ℕ) → linked n k b v n ≡ Some (file_node mode_now now bytes_now) → now ≡ suc links
     same_links mode_now now bytes_now is =
@@ -181,7 +182,7 @@ vacant_apart v n k vacant k_is e = false≢true (sym (vacant_other (v n) vacant)
 
 pub edges-created : (v : Volume) → IsGraph v → (k : ℕ) (b : Name) (n : ℕ) (node : Node) → is_directory_node (v k) ≡ true → is_vacant (v n) ≡ true → ((x : Name) → names_in (Some node) x ≡ None) → entries (created n k b node v) ≡ with_edge k b (Some n) (entries v)
 edges-created v graph k b n node k_is vacant leaf =
-    entries-entry k b (Some n) (with_node n (Some node) v) (ap is_directory_node (node-other n k (Some node) v (λ e. vacant_apart v n k vacant k_is (sym e))) ∙ k_is)
+    entries-entry k b (Some n) (with_node n (Some node) v) (ap is_directory_node (node_other n k (Some node) v (λ e. vacant_apart v n k vacant k_is (sym e))) ∙ k_is)
     ∙ ap (with_edge k b (Some n)) (entries-node n (Some node) v (λ x. leaf x ∙ sym (vacant_bare (v n) vacant x)))
 
 -- a new object, whose node has no names and, of a file, one link
@@ -190,8 +191,8 @@ graph-created v graph w b k n node at_k k_is free good vacant leaf one_link =
     graph-added v (created n k b node v) graph w b k n at_k k_is free good (vacant_apart v n k vacant k_is)
     (λ e. false≢true (sym (vacant_other (v n) vacant) ∙ ap (λ m. is_directory_node (v m)) e ∙ graph.root))
     (vacant_bare (v n) vacant) (edges-created v graph k b n node k_is vacant leaf)
-    (λ m other. kept_through (v m) (with_node n (Some node) v m) (created n k b node v m) (subst (Kept (v m)) (sym (node-other n m (Some node) v other)) (kept (v m))) (entry_keeps k b (Some n) (with_node n (Some node) v) m))
-    (λ m mode links bytes other is. sym (node-other n m (Some node) v other) ∙ entry_was mode links bytes k b (Some n) (with_node n (Some node) v) m is)
+    (λ m other. kept_through (v m) (with_node n (Some node) v m) (created n k b node v m) (subst (Kept (v m)) (sym (node_other n m (Some node) v other)) (kept (v m))) (entry_keeps k b (Some n) (with_node n (Some node) v) m))
+    (λ m mode links bytes other is. sym (node_other n m (Some node) v other) ∙ entry_was mode links bytes k b (Some n) (with_node n (Some node) v) m is)
     ((entry_keeps k b (Some n) (with_node n (Some node) v) n).some ∙ ap is_some (node-here n (Some node) v))
     (λ no_file j y. vacant_unnamed v graph n vacant j y)
     (λ mode links bytes is. (0, one_link mode links bytes (sym (node-here n (Some node) v) ∙ entry_was mode links bytes k b (Some n) (with_node n (Some node) v) n is), λ (j, y) there. vacant_unnamed v graph n vacant j y there))
@@ -212,14 +213,14 @@ module _ (v : Volume) (graph : IsGraph v) (n : ℕ) (o : Option Node) (names : (
   same_by f same m =
       elim (cases_eq m n) [
         | inl is ↦ ap (λ k. f (altered k)) is ∙ ap f (node-here n o v) ∙ same ∙ ap (λ k. f (v k)) (sym is)
-        | inr other ↦ ap f (node-other n m o v other)
+        | inr other ↦ ap f (node_other n m o v other)
       ]
 
   was_file : (m : ℕ) → SameLinks (v m) (altered m)
   was_file m =
       elim (cases_eq m n) [
         | inl is ↦ subst (λ k. SameLinks (v k) (altered k)) (sym is) (subst (SameLinks (v n)) (sym (node-here n o v)) same_links)
-        | inr other ↦ subst (SameLinks (v m)) (sym (node-other n m o v other)) (λ mode links bytes is. (mode, bytes, is))
+        | inr other ↦ subst (SameLinks (v m)) (sym (node_other n m o v other)) (λ mode links bytes is. (mode, bytes, is))
       ]
 
   pub graph-altered : IsGraph altered

@@ -17,10 +17,11 @@ use Rattle.model.specs.Outcomes.{Outcome, refuses, leads, IsListing, IsFresh, lo
 use Rattle.model.specs.Changing as changing
 use Rattle.model.specs.Descriptors as descriptors
 use Rattle.model.proofs.LeadLemmas.{AllPass, all_passed, passed_both, Misses, resolves_well, AnswersBelowRoot, resolves_below_root, stands_in}
-use Rattle.model.proofs.LooseLemmas.{none_some, some_same, held_is_tree}
+use Rattle.model.proofs.LooseLemmas.{held_is_tree}
 use Rattle.model.proofs.PlaceLemmas.{directory_joins, file_joins, symlink_joins, link_joins, placed_is_tree, put-here}
 use Rattle.model.proofs.TakeLemmas.{taken_is_loose}
 use Rattle.model.proofs.StayLemmas.{LeavesTree, stays_refused, stays_changed, stays_swept, stays_tested, stays_passed, stays_either, stays_leads, stays_leads_to, stays_names, stays_place, stays_fresh, stays_links, stays_never, stays_by_kind, IsCut, cut_is}
+use Rattle.model.proofs.OptionLaws.{none_some, some_same}
 
 none_from : {X : Type 0} (o : Option X) → ¬ IsSome o → o ≡ None
 none_from None e = refl

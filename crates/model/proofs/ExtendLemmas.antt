@@ -11,6 +11,7 @@ use Rattle.model.specs.Volumes.{Node, directory_node, file_node, link_node, Volu
 use Rattle.model.specs.Laws.{ReplayFollows, ReplayEndsSame, ReplaysCostTheSame}
 use Rattle.model.specs.Room.{puts_bytes, changes_size}
 use Rattle.model.specs.Records.{Change, create, link, unname, rename, write, cut, change_mode, node_of, with_file_bytes, with_node_mode, applied, IsBelow, TakesName, IsEmpty, is_vacant, CanReplace, Applies, without_nameless, Extends}
+use Rattle.model.proofs.OptionLaws.{some_or_none}
 
 -- what has no object has no names, whatever stands for it
 vacant_names : (o : Option Node) (x : Name) → IsTrue (is_vacant o) → names_in o x ≡ None
@@ -18,11 +19,6 @@ vacant_names None x vacant = refl
 vacant_names (Some (directory_node mode names)) x vacant = absurd (false≢true vacant)
 vacant_names (Some (file_node mode links bytes)) x vacant = refl
 vacant_names (Some (link_node text)) x vacant = refl
-
--- whether there is an object
-some_or_none : (o : Option Node) → IsSome o ⊎ (o ≡ None)
-some_or_none None = inr refl
-some_or_none (Some o) = inl refl
 
 nameless_vacant : (o : Option Node) → IsTrue (is_nameless o) → IsTrue (is_vacant o)
 nameless_vacant None nameless = refl

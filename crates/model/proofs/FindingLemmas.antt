@@ -15,9 +15,7 @@ use Rattle.model.specs.Laws.{ResolvesByNumbers, TrailsTellBelow, BelowIsByPaths}
 use Rattle.model.proofs.VolumeLemmas.{alone}
 use Rattle.model.proofs.WalkLemmas.{number_at-push, behind-append, behind-is}
 use Rattle.std.proofs.Math.Seq.{take-append_seam}
-
-some_same : {X : Type 0} {x y : X} → Some x ≡ Some y → x ≡ y
-some_same e = cc
+use Rattle.model.proofs.OptionLaws.{some_same}
 
 get_or_defaults : (xs : List ℕ) (i d c : ℕ) → i < length xs → get_or xs i d ≡ get_or xs i c
 get_or_defaults [] i d c below = absurd (omega (arith, below))

@@ -2,7 +2,7 @@
 use Rattle.std.proofs.Common.{◌≡◌, ◌≢◌, ◌⊎◌, inl, inr, ℕ, ◌==◌, ◌-◌, ◌&&◌, arith, List, [], ◌∷◌, ◌++◌, fold, true, false, Option, Some, None, is_some, IsSome, bytes_eq, refl, sym, ap, subst, ◌∙◌, append-nil, append_assoc}
 use Rattle.std.specs.Prelude.{if◌then◌else◌}
 use Rattle.std.proofs.Math.Path.{fun_ext}
-use Rattle.std.proofs.lemmas.Bool.{cases_Bool, cases_eq, cond_both, cond-true, cond-false, eqb-true, eq-eqb, ne_eqb, false≢true}
+use Rattle.std.proofs.lemmas.Bool.{cases_Bool, cases_eq, cond_both, cond-true, cond-false, eqb-true, eq-eqb, false≢true}
 use Rattle.std.proofs.lemmas.List.{same_from_push}
 use Rattle.std.proofs.lemmas.List.Sums.{fold-append}
 use Rattle.model.specs.Paths.{Name, Path, IsName, behind}
@@ -12,6 +12,7 @@ use Rattle.model.specs.Volumes.{Node, directory_node, file_node, link_node, Volu
 use Rattle.model.proofs.WalkLemmas.{number_at-push, number_at-moved, behind-append, behind-is, edge_from, edge_other, edge_here, relocated-is, same_bytes, bytes_eq-same}
 use Rattle.model.proofs.CountLemmas.{same_count, one_less, one_more}
 use Rattle.model.proofs.VolumeLemmas.{ends, alone, directory_no_file}
+use Rattle.model.proofs.ObjectLaws.{node_other}
 
 -- an object is the same but for its names and their count
 pub record Kept (old new : Option Node) : Type 0 where
@@ -49,9 +50,6 @@ less_names (Some (link_node text)) x = refl
 pub node-here : (n : ℕ) (o : Option Node) (v : Volume) → with_node n o v n ≡ o
 node-here n o v = cond-true (n == n) o (v n) (eq-eqb n n refl)
 
-pub node-other : (n k : ℕ) (o : Option Node) (v : Volume) → k ≢ n → with_node n o v k ≡ v k
-node-other n k o v other = cond-false (k == n) o (v k) (ne_eqb k n other)
-
 pub entry_keeps : (d : ℕ) (x : Name) (to : Option ℕ) (v : Volume) (j : ℕ) → Kept (v j) (with_entry d x to v j)
 entry_keeps d x to v j =
     cond_both (j == d) (set_name x to (v d)) (v j) (Kept (v j)) (λ e. subst (λ k. Kept (v k) (set_name x to (v d))) (sym (eqb-true j d e)) (set_keeps x to (v d))) (λ e. kept (v j))
@@ -61,7 +59,7 @@ released_keeps None v j file = kept (v j)
 released_keeps (Some m) v j file =
     elim (cases_eq j m) [
       | inl same ↦ subst (λ k. Kept (v j) (with_node k (with_name_less (v k)) v j)) same (subst (Kept (v j)) (sym (node-here j (with_name_less (v j)) v)) (less_keeps (v j) (file (ap (λ k. Some k) (sym same)))))
-      | inr other ↦ subst (Kept (v j)) (sym (node-other m j (with_name_less (v m)) v other)) (kept (v j))
+      | inr other ↦ subst (Kept (v j)) (sym (node_other m j (with_name_less (v m)) v other)) (kept (v j))
     ]
 
 -- the entries after a change of a name
@@ -89,7 +87,7 @@ entries-released (Some m) v bare =
     elim (cases_eq n m) [
       | inl same ↦ ap (λ k. names_in (with_node m (with_name_less (v m)) v k) x) same ∙ ap (λ o. names_in o x) (node-here m (with_name_less (v m)) v) ∙ less_names (v m) x
           ∙ sym (bare m x refl) ∙ ap (λ k. names_in (v k) x) (sym same)
-      | inr other ↦ ap (λ o. names_in o x) (node-other m n (with_name_less (v m)) v other)
+      | inr other ↦ ap (λ o. names_in o x) (node_other m n (with_name_less (v m)) v other)
     ]))
 
 -- a relocated map through a function that keeps None, and where its values come from
@@ -167,7 +165,7 @@ module _ (mode links : ℕ) (bytes : List ℕ) where
 
 pub released_other : (o : Option ℕ) (v : Volume) (j : ℕ) → o ≢ Some j → released o v j ≡ v j
 released_other None v j other = refl
-released_other (Some m) v j other = node-other m j (with_name_less (v m)) v (λ e. other (ap (λ i. Some i) (sym e)))
+released_other (Some m) v j other = node_other m j (with_name_less (v m)) v (λ e. other (ap (λ i. Some i) (sym e)))
 
 pub released_here : (o : Option ℕ) (v : Volume) (j : ℕ) → o ≡ Some j → released o v j ≡ with_name_less (v j)
 released_here o v j is = ap (λ p. released p v j) is ∙ node-here j (with_name_less (v j)) v

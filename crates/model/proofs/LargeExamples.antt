@@ -14,8 +14,8 @@ use Rattle.model.specs.Reading.{stats, gets}
 use Rattle.model.specs.Descriptors.{writes, writes_to, reads_from, stats_open}
 use Rattle.model.specs.States.{State, empty, with_tree}
 use Rattle.model.specs.Circumstances.{IsShortFor}
-use Rattle.model.proofs.StayLemmas.{length-written}
 use Rattle.model.proofs.ToldLemmas.{Told, told_root, told_bytes, told_descriptor, told_file, listing_told, fresh_told, links_told}
+use Rattle.model.proofs.EditLaws.{length-written}
 
 abbrev at_f : Path
 at_f = codes "f" ∷ []

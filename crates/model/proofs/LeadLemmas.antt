@@ -12,11 +12,9 @@ use Rattle.model.specs.Trees.{Tree, Object, directory, symlink, file, is_directo
 use Rattle.model.specs.Resolution.{Resolution, named, missing, refused, Next, into, over, link, absent, too_long, next, found, parent, Stop, at, at_link, walk, go_on, resolve_within, resolve}
 use Rattle.model.proofs.VolumeLemmas.{ends}
 use Rattle.model.proofs.NameLemmas.{IsPart, passed_parts, part_is_name, linked_parts}
+use Rattle.model.proofs.OptionLaws.{some_none}
 
 -- the tests
-
-none_some : {X Y : Type 0} {x : X} → Some x ≡ None → Y
-none_some e = cc
 
 -- tests none of which holds
 abbrev pub AllPass : Tests → Type 0
@@ -27,7 +25,7 @@ pub all_passed : (tests : Tests) → first_refusal tests ≡ None → AllPass te
 all_passed [] e = tt
 all_passed (test ∷ tests) e =
     elim (cases_Bool test.0) [
-      | inl t ↦ none_some (sym (cond-true test.0 (Some test.1) (first_refusal tests) t) ∙ e)
+      | inl t ↦ some_none (sym (cond-true test.0 (Some test.1) (first_refusal tests) t) ∙ e)
       | inr f ↦ (f, all_passed tests (sym (cond-false test.0 (Some test.1) (first_refusal tests) f) ∙ e))
     ]
 
@@ -35,7 +33,7 @@ pub passed_both : (a b : Tests) → first_refusal (a ++ b) ≡ None → (first_r
 passed_both [] b e = (refl, e)
 passed_both (test ∷ a) b e =
     elim (cases_Bool test.0) [
-      | inl t ↦ none_some (sym (cond-true test.0 (Some test.1) (first_refusal (a ++ b)) t) ∙ e)
+      | inl t ↦ some_none (sym (cond-true test.0 (Some test.1) (first_refusal (a ++ b)) t) ∙ e)
       | inr f ↦
           let more = passed_both a b (sym (cond-false test.0 (Some test.1) (first_refusal (a ++ b)) f) ∙ e) in
           (cond-false test.0 (Some test.1) (first_refusal a) f ∙ more.0, more.1)

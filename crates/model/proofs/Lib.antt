@@ -3,6 +3,10 @@ mod RowExamples
 mod DirectoryExamples
 mod LargeExamples
 mod SnapshotExamples
+pub mod OptionLaws
+pub mod ObjectLaws
+pub mod TestLaws
+pub mod EditLaws
 pub mod CountLemmas
 pub mod WalkLemmas
 pub mod NameLemmas
@@ -25,7 +29,6 @@ pub mod AddLemmas
 pub mod LimitLemmas
 pub mod MoveLemmas
 pub mod RecordLemmas
-pub mod RunLemmas
 pub mod MountLemmas
 pub mod LeadLemmas
 pub mod LooseLemmas

@@ -9,7 +9,8 @@ use Rattle.model.specs.Volumes.{Node, directory_node, file_node, link_node, Volu
 use Rattle.model.proofs.WalkLemmas.{edge_here, edge_other}
 use Rattle.model.proofs.CountLemmas.{same_count, one_more, one_less}
 use Rattle.model.proofs.ListingLemmas.{names_apart}
-use Rattle.model.proofs.KeptLemmas.{node-here, node-other}
+use Rattle.model.proofs.KeptLemmas.{node-here}
+use Rattle.model.proofs.ObjectLaws.{node_other}
 
 abbrev pub HasGoodNodes : Volume → Type 0
 HasGoodNodes v = (n : ℕ) → IfSome (v n) IsNode
@@ -47,7 +48,7 @@ pub numbers_node : (inodes : ℕ) (v : Volume) (n : ℕ) (o : Option Node) → H
 numbers_node inodes v n o numbers here k some =
     elim (cases_eq k n) [
       | inl is ↦ subst (λ j. (j ≡ ROOT_NUMBER) ⊎ ((FIRST_NUMBER ≤ j) × (j < inodes))) (sym is) (here (sym (ap is_some (ap (with_node n o v) is ∙ node-here n o v)) ∙ some))
-      | inr other ↦ numbers k (sym (ap is_some (node-other n k o v other)) ∙ some)
+      | inr other ↦ numbers k (sym (ap is_some (node_other n k o v other)) ∙ some)
     ]
 
 set_some : (x : Name) (to : Option ℕ) (o : Option Node) → is_some (set_name x to o) ≡ is_some o

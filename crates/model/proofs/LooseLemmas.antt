@@ -9,6 +9,7 @@ use Rattle.model.specs.Edits.{with_mode, with_bytes, with_descriptor, IsSwept}
 use Rattle.model.specs.Volumes.{is_open}
 use Rattle.model.proofs.SweepLemmas.{found_open, opened_by}
 use Rattle.model.proofs.OnceLemmas.{trees_same}
+pub use Rattle.model.proofs.OptionLaws.{absent, some_or_none, some_same, none_some}
 
 -- a tree but that bytes and modes may stand for numbers that aren't used
 pub record IsLooseTree (inodes : ℕ) (t : Tree) : Type 0 where
@@ -53,21 +54,6 @@ tree_is_loose inodes t tree = record {
 
 same_some : {X : Type 0} (o r : Option X) → o ≡ r → IsSome r → IsSome o
 same_some o r is some = ap is_some is ∙ some
-
--- it isn't there, and is
-pub absent : {X Y : Type 0} (o : Option X) → o ≡ None → IsSome o → Y
-absent o is some = absurd (false≢true (sym (ap is_some is) ∙ some))
-
-pub some_same : {X : Type 0} {x y : X} → Some x ≡ Some y → x ≡ y
-some_same e = cc
-
-pub none_some : {X Y : Type 0} {x : X} → None ≡ Some x → Y
-none_some e = cc
-
--- it is there, or isn't
-some_or_none : {X : Type 0} (o : Option X) → IsSome o ⊎ (o ≡ None)
-some_or_none None = inr refl
-some_or_none (Some x) = inl refl
 
 if_some : {X : Type 0} (P : X → Type 0) (o r : Option X) → o ≡ r → IfSome r P → IfSome o P
 if_some P o r is holds = subst (λ q. IfSome q P) (sym is) holds

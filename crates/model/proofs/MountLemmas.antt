@@ -1,5 +1,5 @@
 -- What a mount finds: the replayed volume without files that have no name.
-use Rattle.std.proofs.Common.{◌≡◌, inl, inr, ℕ, [], ◌∷◌, false, Option, Some, None, refl, sym, ap, subst}
+use Rattle.std.proofs.Common.{◌≡◌, inl, inr, ℕ, [], ◌∷◌, false, Option, None, refl, sym, ap, subst}
 use Rattle.model.specs.Trees.{Description, HasPath, IsUsed}
 use Rattle.model.specs.States.{ForgetsOpenFiles}
 use Rattle.model.specs.Volumes.{Volume, bytes_of, mode_of, tree_of, IsVolume}
@@ -9,6 +9,7 @@ use Rattle.model.proofs.SweepLemmas.{objects-swept, used_stays, not_unused, none
 use Rattle.model.proofs.ExtendLemmas.{same_in_the_end}
 use Rattle.model.proofs.RecordLemmas.{swept_twice}
 use Rattle.model.proofs.MoveLemmas.{records_keep_volumes, volume-swept}
+use Rattle.model.proofs.OptionLaws.{none_some}
 
 pub replays_keep_volumes : ReplaysKeepVolumes
 replays_keep_volumes inodes v [] w volume replays = subst (IsVolume inodes) (sym replays) volume
@@ -17,9 +18,6 @@ replays_keep_volumes inodes v (change ∷ changes) w volume replays =
 
 abbrev closed : ℕ → Option Description
 closed d = None
-
-none_some : {X Y : Type 0} {x : X} → None ≡ Some x → Y
-none_some e = cc
 
 pub mounts_find : MountsFind
 mounts_find inodes w volume = (

@@ -13,12 +13,7 @@ use Rattle.model.proofs.WalkLemmas.{number_at-push}
 use Rattle.model.proofs.VolumeLemmas.{ends, alone, enters_directory, directory_no_file, directory_some, last_step}
 use Rattle.model.proofs.LinkLemmas.{links_are}
 use Rattle.model.proofs.SweepLemmas.{found_number, not_unused}
-
-none_some : {X Y : Type 0} {x : X} → None ≡ Some x → Y
-none_some e = cc
-
-some_same : {X : Type 0} {x y : X} → Some x ≡ Some y → x ≡ y
-some_same e = cc
+use Rattle.model.proofs.OptionLaws.{some_same}
 
 -- what an object shows of its node
 object_directory : (n : ℕ) (o : Option Node) → is_directory (object_of n o) ≡ true → is_directory_node o ≡ true

@@ -1,7 +1,7 @@
 -- A record that applies, by the paths of its directories; and that it keeps a volume.
-use Rattle.std.proofs.Common.{◌≡◌, ◌≢◌, inl, inr, ℕ, ◌+◌, ◌-◌, ◌≤◌, ◌<◌, List, [], ◌∷◌, ◌++◌, fold, length, take, drop, replicate, true, Option, Some, None, is_some, IsSome, IfSome, refl, sym, ap, subst, ◌∙◌, length-append, length-take, length-drop, arith, lit≤}
+use Rattle.std.proofs.Common.{◌≡◌, ◌≢◌, inl, inr, ℕ, ◌+◌, ◌-◌, ◌≤◌, ◌<◌, List, [], ◌∷◌, ◌++◌, fold, length, true, Option, Some, None, is_some, IsSome, IfSome, refl, sym, ap, subst, ◌∙◌, arith, lit≤}
 use Rattle.std.proofs.lemmas.Bool.{cases_eq}
-use Rattle.std.proofs.lemmas.List.{same_from_push, length-replicate}
+use Rattle.std.proofs.lemmas.List.{same_from_push}
 use Rattle.std.proofs.lemmas.List.Sums.{fold-append}
 use Rattle.model.specs.declared.limits.TheConstants.{ROOT_NUMBER, FILE_NAMES, GREATEST_FILE, MODE_BITS}
 use Rattle.model.specs.Counting.{Counts}
@@ -18,6 +18,7 @@ use Rattle.model.proofs.PutLemmas.{entries-node}
 use Rattle.model.proofs.UnnameLemmas.{edges-unnamed, volume-unnamed}
 use Rattle.model.proofs.AddLemmas.{edges-linked, edges-created, graph-linked, graph-created, graph-altered, graph-swept, same_swept, SameLinks}
 use Rattle.model.proofs.LimitLemmas.{HasFew, good_node, good_entry, good_released, numbers_node, numbers_entry, numbers_released, few_more, few_same, few_less, one_removed, same_in_other, limits_swept}
+use Rattle.model.proofs.EditLaws.{written_short, length-resized}
 
 -- the path of a directory
 pub path_to : (v : Volume) → IsGraph v → (d : ℕ) → is_directory_node (v d) ≡ true → (p : Path) × (number_at (entries v) p ≡ Some d)
@@ -231,13 +232,8 @@ mode_good bits (Some (directory_node mode names)) few good = few
 mode_good bits (Some (file_node mode links bytes)) few good = (few, good.1, good.2)
 mode_good bits (Some (link_node text)) few good = good
 
-written_short : (offset : ℕ) (given bytes : List ℕ) → offset + length given ≤ GREATEST_FILE → length bytes ≤ GREATEST_FILE → length (written offset given bytes) ≤ GREATEST_FILE
-written_short offset given bytes fits short =
-    omega (arith, length-append (resized offset bytes ++ given) (drop (offset + length given) bytes), length-append (resized offset bytes) given, length-append (take offset bytes) (replicate (offset - length bytes) 0), length-take offset bytes, length-replicate {A = ℕ} (offset - length bytes) 0, length-drop (offset + length given) bytes)
-
 resized_short : (size : ℕ) (bytes : List ℕ) → size ≤ GREATEST_FILE → length bytes ≤ GREATEST_FILE → length (resized size bytes) ≤ GREATEST_FILE
-resized_short size bytes fits short =
-    omega (arith, length-append (take size bytes) (replicate (size - length bytes) 0), length-take size bytes, length-replicate {A = ℕ} (size - length bytes) 0)
+resized_short size bytes fits short = subst (λ k. k ≤ GREATEST_FILE) (sym (length-resized size bytes)) fits
 
 -- a record that applies keeps a volume
 pub records_keep_volumes : RecordsKeepVolumes

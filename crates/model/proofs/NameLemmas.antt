@@ -6,6 +6,7 @@ use Rattle.std.proofs.lemmas.List.Elements.{All-from_recursion, recursion_from_A
 use Rattle.model.specs.declared.errno.Errno.{Errno}
 use Rattle.model.specs.declared.errno.Errno.TheVariants.{ENOENT, EINVAL}
 use Rattle.model.specs.Paths.{Name, IsName, IsLinkText, Tests, first_refusal, text_tests_then, parts, is_slash, is_empty, is_dot, is_dot_dot, is_too_long}
+use Rattle.model.proofs.OptionLaws.{some_none}
 
 abbrev IsPlain : ℕ → Type 0
 IsPlain byte = (byte ≢ 0) × (byte ≢ 47)
@@ -13,9 +14,6 @@ IsPlain byte = (byte ≢ 0) × (byte ≢ 47)
 -- a part of a text without a zero byte
 abbrev pub IsPart : Name → Type 0
 IsPart part = (1 ≤ length part) × AllByRecursion IsPlain part
-
-none_some : {X Y : Type 0} {x : X} → Some x ≡ None → Y
-none_some e = cc
 
 onto : (x : ℕ) (names : List Name) → IsPlain x → AllByRecursion (AllByRecursion IsPlain) names → AllByRecursion (AllByRecursion IsPlain) (onto_first x names)
 onto x [] here all = ((here, tt), tt)
@@ -39,8 +37,8 @@ kept (part ∷ names) all =
 no_zero : (more : Tests) (text : List ℕ) → first_refusal (text_tests_then more text) ≡ None → list_any (λ byte. byte == 0) text ≡ false
 no_zero more text =
     let zero : Bool = list_any (λ byte. byte == 0) text in
-    cond_both (is_empty text) (Some ENOENT) _ (λ (o : Option Errno). o ≡ None → zero ≡ false) (λ e passed. none_some passed) (λ e.
-    cond_both zero (Some EINVAL) _ (λ (o : Option Errno). o ≡ None → zero ≡ false) (λ f passed. none_some passed) (λ f passed. f))
+    cond_both (is_empty text) (Some ENOENT) _ (λ (o : Option Errno). o ≡ None → zero ≡ false) (λ e passed. some_none passed) (λ e.
+    cond_both zero (Some EINVAL) _ (λ (o : Option Errno). o ≡ None → zero ≡ false) (λ f passed. some_none passed) (λ f passed. f))
 
 pub passed_parts : (more : Tests) (text : List ℕ) → first_refusal (text_tests_then more text) ≡ None → AllByRecursion IsPart (parts text)
 passed_parts more text passed = kept (slice_split is_slash text) (split_plain text (no_zero more text passed))

@@ -7,15 +7,8 @@ use Rattle.model.specs.Paths.{Name, Path, IsName, path_eq}
 use Rattle.model.specs.Trees.{Tree, Object, directory, symlink, file, number, IsTree, root_alone}
 use Rattle.model.specs.States.{Mark, IsState, IsFrozen, IsShortName}
 use Rattle.model.proofs.WalkLemmas.{same_path}
-
-none_some : {X Y : Type 0} {x : X} → None ≡ Some x → Y
-none_some e = cc
-
-some_same : {X : Type 0} {x y : X} → Some x ≡ Some y → x ≡ y
-some_same e = cc
-
-directory_file : {Y : Type 0} {m n : ℕ} → directory m ≡ file n → Y
-directory_file e = cc
+use Rattle.model.proofs.OptionLaws.{none_some, some_same}
+use Rattle.model.proofs.ObjectLaws.{directory_file}
 
 directory_symlink : {Y : Type 0} {m n : ℕ} {text : List ℕ} → directory m ≡ symlink n text → Y
 directory_symlink e = cc

@@ -16,9 +16,11 @@ use Rattle.model.proofs.WalkLemmas.{path_eq-same, same_path, not_push}
 use Rattle.model.proofs.VolumeLemmas.{ends}
 use Rattle.model.proofs.OnceLemmas.{path_apart}
 use Rattle.model.proofs.LeadLemmas.{directory_some}
-use Rattle.model.proofs.LooseLemmas.{none_some, some_same, absent, used_file, used_either}
+use Rattle.model.proofs.LooseLemmas.{used_file, used_either}
+use Rattle.model.proofs.ObjectLaws.{directory_file}
+use Rattle.model.proofs.OptionLaws.{none_some, some_same, absent}
 
-no_more : (x : Name) (rest : Path) → x ∷ rest ≢ []
+pub no_more : (x : Name) (rest : Path) → x ∷ rest ≢ []
 no_more x rest e = cc
 
 symlink_file : {Y : Type 0} {m n : ℕ} {text : List ℕ} → symlink m text ≡ file n → Y
@@ -26,9 +28,6 @@ symlink_file e = cc
 
 text_same : {m n : ℕ} {a b : List ℕ} → symlink m a ≡ symlink n b → a ≡ b
 text_same e = cc
-
-directory_file : {Y : Type 0} {m n : ℕ} → directory m ≡ file n → Y
-directory_file e = cc
 
 -- what is put at a path
 pub put-here : {X : Type 0} (p : Path) (o : Option X) (f : Path → Option X) → put_at p o f p ≡ o

@@ -8,7 +8,8 @@ use Rattle.model.specs.Edits.{put_at}
 use Rattle.model.specs.Volumes.{Node, directory_node, file_node, link_node, Volume, names_in, entries, enter, number_at, object_of, object_at, tree_of, with_node, with_edge, is_file_node, is_directory_node, IsGraph, with_name_more, released, created, linked, unnamed}
 use Rattle.model.proofs.WalkLemmas.{number_at-push, number_at-put, edge_other, path_eq-same}
 use Rattle.model.proofs.VolumeLemmas.{ends, alone, directory_no_file, last_step}
-use Rattle.model.proofs.KeptLemmas.{Kept, kept, kept_through, entry_keeps, released_keeps, entries-entry, entries-released, node-here, node-other}
+use Rattle.model.proofs.KeptLemmas.{Kept, kept, kept_through, entry_keeps, released_keeps, entries-entry, entries-released, node-here}
+use Rattle.model.proofs.ObjectLaws.{node_other}
 
 -- The name b of the directory k at w leads to `to` now, which has no names; it led to nothing, or to what has none. But
 -- for what stands at that name alone, the objects are as they were.
@@ -73,7 +74,7 @@ entries-node n o v same =
     fun_ext (λ k. fun_ext (λ x.
     elim (cases_eq k n) [
       | inl is ↦ ap (λ j. names_in (with_node n o v j) x) is ∙ ap (λ m. names_in m x) (node-here n o v) ∙ same x ∙ ap (λ j. names_in (v j) x) (sym is)
-      | inr other ↦ ap (λ m. names_in m x) (node-other n k o v other)
+      | inr other ↦ ap (λ m. names_in m x) (node_other n k o v other)
     ]))
 
 module _ (v : Volume) (volume : IsGraph v) (w : Path) (b : Name) (k : ℕ) (table : ℕ → Option Description) (at_k : number_at (entries v) w ≡ Some k) (k_is : is_directory_node (v k) ≡ true) where
@@ -98,7 +99,7 @@ module _ (v : Volume) (volume : IsGraph v) (w : Path) (b : Name) (k : ℕ) (tabl
       let more : Volume = with_node n (with_name_more (v n)) v in
       let keeps : (j : ℕ) → Kept (v j) (more j) = λ j. elim (cases_eq j n) [
         | inl is ↦ subst (λ i. Kept (v i) (more i)) (sym is) (subst (Kept (v n)) (sym (node-here n (with_name_more (v n)) v)) (more_keeps (v n)))
-        | inr other ↦ subst (Kept (v j)) (sym (node-other n j (with_name_more (v n)) v other)) (kept (v j))
+        | inr other ↦ subst (Kept (v j)) (sym (node_other n j (with_name_more (v n)) v other)) (kept (v j))
       ] in
       let all : (j : ℕ) → Kept (v j) (linked n k b v j) = λ j. kept_through (v j) (more j) (linked n k b v j) (keeps j) (entry_keeps k b (Some n) more j) in
       let edges : entries (linked n k b v) ≡ with_edge k b (Some n) (entries v) = entries-entry k b (Some n) more ((keeps k).directory ∙ k_is) ∙ ap (with_edge k b (Some n)) (entries-node n (with_name_more (v n)) v (more_names (v n))) in
@@ -116,9 +117,9 @@ module _ (v : Volume) (volume : IsGraph v) (w : Path) (b : Name) (k : ℕ) (tabl
   pub objects-created : (n : ℕ) (node : Node) → entries v k b ≡ None → n ≢ k → ((x : Name) → entries v n x ≡ None) → ((x : Name) → names_in (Some node) x ≡ None) → ((d : ℕ) (x : Name) → entries v d x ≢ Some n) → n ≢ 3 → (tree_of (created n k b node v) table).objects ≡ put_at (w ++ b ∷ []) (object_of n (Some node)) (tree_of v table).objects
   objects-created n node free apart bare leaf fresh no_root =
       let more : Volume = with_node n (Some node) v in
-      let stays : is_directory_node (more k) ≡ true = ap is_directory_node (node-other n k (Some node) v (λ e. apart (sym e))) ∙ k_is in
+      let stays : is_directory_node (more k) ≡ true = ap is_directory_node (node_other n k (Some node) v (λ e. apart (sym e))) ∙ k_is in
       let edges : entries (created n k b node v) ≡ with_edge k b (Some n) (entries v) = entries-entry k b (Some n) more stays ∙ ap (with_edge k b (Some n)) (entries-node n (Some node) v (λ x. leaf x ∙ sym (bare x))) in
       objects-put v (created n k b node v) volume w b k (Some n) at_k k_is edges (λ m x is. let none : None ≡ Some m = sym free ∙ is in cc)
       (λ m x is. let same : n ≡ m = cc in subst (λ j. entries (created n k b node v) j x ≡ None) same (ap (λ e. e n x) edges ∙ edge_other k n b x (Some n) (entries v) (λ e. absurd (apart e)) ∙ bare x))
-      (λ r j other at_r. (entry_keeps k b (Some n) more j).object j ∙ ap (object_of j) (node-other n j (Some node) v (λ e. not_there n fresh no_root r (at_r ∙ ap (λ i. Some i) e)))) table
+      (λ r j other at_r. (entry_keeps k b (Some n) more j).object j ∙ ap (object_of j) (node_other n j (Some node) v (λ e. not_there n fresh no_root r (at_r ∙ ap (λ i. Some i) e)))) table
       ∙ ap (λ o. put_at (w ++ b ∷ []) o (tree_of v table).objects) ((entry_keeps k b (Some n) more n).object n ∙ ap (object_of n) (node-here n (Some node) v))

@@ -5,14 +5,14 @@ use Rattle.std.proofs.Math.Path.{fun_ext}
 use Rattle.std.proofs.lemmas.Bool.{cases_eq, cases_lt, cond_both, eqb-true, false≢true}
 use Rattle.model.specs.Paths.{Name, Path}
 use Rattle.model.specs.Trees as trees
-use Rattle.model.specs.Trees.{Tree, Object, number, Description, IsUsed}
+use Rattle.model.specs.Trees.{Tree, number, Description}
 use Rattle.model.specs.Edits.{contents, resized, written, put_at, without_object}
 use Rattle.model.specs.Volumes.{Node, directory_node, file_node, link_node, Volume, names_in, entries, number_at, object_of, object_at, bytes_of, mode_of, tree_of, with_node, set_name, with_entry, is_file_node, is_directory_node, is_nameless, IsGraph, IsVolume, with_name_more, released, created, linked, unnamed, is_open, swept_node, swept, IsMounted}
 use Rattle.model.specs.Records.{Made, file, directory, symbolic_link, Change, create, link, unname, rename, write, cut, change_mode, node_of, with_file_bytes, with_node_mode, applied, CanCreate, CanLink, Applies}
 use Rattle.model.specs.Changes.{IsAt, with_made, ChangesTree, TakesFreeNumber}
 use Rattle.model.specs.Laws.{RecordsChangeTrees, VolumesAreTrees}
 use Rattle.model.proofs.VolumeLemmas.{enters_directory}
-use Rattle.model.proofs.KeptLemmas.{Kept, kept_through, entry_keeps, released_keeps, keeps, node-here, node-other}
+use Rattle.model.proofs.KeptLemmas.{Kept, kept_through, entry_keeps, released_keeps, keeps, node-here}
 use Rattle.model.proofs.PutLemmas.{objects-created, objects-linked, objects-unnamed, entries-node}
 use Rattle.model.proofs.UnnameLemmas.{volume-unnamed, unnamed_used}
 use Rattle.model.proofs.SweepLemmas.{swept_from, stays_open, found_open}
@@ -21,6 +21,7 @@ use Rattle.model.proofs.OnceLemmas.{trees_same}
 use Rattle.model.proofs.AddLemmas.{more_kept, vacant_unnamed}
 use Rattle.model.proofs.MoveLemmas.{path_to, from_path, to_path, is_move, made_bare, bytes_names, bytes_by, mode_names, mode_file}
 use Rattle.model.proofs.MountedLemmas.{tree_of_is_tree, node_directory, node_file}
+use Rattle.model.proofs.ObjectLaws.{node_other}
 
 -- what stays swept
 
@@ -65,7 +66,7 @@ entry_nameless : (v : Volume) (d : ℕ) (x : Name) (to : Option ℕ) (m : ℕ) �
 entry_nameless v d x to m =
     elim (cases_eq m d) [
       | inl is ↦ ap (λ k. is_nameless (with_entry d x to v k)) is ∙ ap is_nameless (node-here d (set_name x to (v d)) v) ∙ set_nameless x to (v d) ∙ ap (λ k. is_nameless (v k)) (sym is)
-      | inr other ↦ ap is_nameless (node-other d m (set_name x to (v d)) v other)
+      | inr other ↦ ap is_nameless (node_other d m (set_name x to (v d)) v other)
     ]
 
 more_named : (o : Option Node) → is_nameless (with_name_more o) ≡ false
@@ -180,7 +181,7 @@ module _ (inodes : ℕ) (v : Volume) (volume : IsVolume inodes v) (table : ℕ �
     created_named m =
         elim (cases_eq m number) [
           | inl is ↦ inl (entry_nameless more parent name (Some number) m ∙ ap (λ k. is_nameless (more k)) is ∙ ap is_nameless (node-here number (Some (node_of made)) v) ∙ made_named made)
-          | inr other ↦ inr (entry_nameless more parent name (Some number) m ∙ ap is_nameless (node-other number m (Some (node_of made)) v other))
+          | inr other ↦ inr (entry_nameless more parent name (Some number) m ∙ ap is_nameless (node_other number m (Some (node_of made)) v other))
         ]
 
     pub created_swept : swept table new ≡ new
@@ -189,7 +190,7 @@ module _ (inodes : ℕ) (v : Volume) (volume : IsVolume inodes v) (table : ℕ �
     pub created_files : (n : ℕ) → is_file_node (v n) ≡ true → is_file_node (new n) ≡ true
     created_files n is =
         (entry_keeps parent name (Some number) more n).file
-        ∙ ap is_file_node (node-other number n (Some (node_of made)) v (λ e. false≢true (sym (ap is_file_node free) ∙ ap (λ k. is_file_node (v k)) (sym e) ∙ is))) ∙ is
+        ∙ ap is_file_node (node_other number n (Some (node_of made)) v (λ e. false≢true (sym (ap is_file_node free) ∙ ap (λ k. is_file_node (v k)) (sym e) ∙ is))) ∙ is
 
   makes_tree : (number parent : ℕ) (made : Made) (name : Name) (can : CanCreate inodes v number parent made name) (free : v number ≡ None) → tree_of (created number parent name (node_of made) v) table ≡ with_made made (q number parent made name can free) number t
   makes_tree number parent (file mode) name can free =
@@ -228,7 +229,7 @@ module _ (inodes : ℕ) (v : Volume) (volume : IsVolume inodes v) (table : ℕ �
     linked_named m =
         elim (cases_eq m number) [
           | inl is ↦ inl (entry_nameless (with_node number (with_name_more (v number)) v) parent name (Some number) m ∙ ap (λ k. is_nameless (with_node number (with_name_more (v number)) v k)) is ∙ ap is_nameless (node-here number (with_name_more (v number)) v) ∙ more_named (v number))
-          | inr other ↦ inr (entry_nameless (with_node number (with_name_more (v number)) v) parent name (Some number) m ∙ ap is_nameless (node-other number m (with_name_more (v number)) v other))
+          | inr other ↦ inr (entry_nameless (with_node number (with_name_more (v number)) v) parent name (Some number) m ∙ ap is_nameless (node_other number m (with_name_more (v number)) v other))
         ]
 
     linked_swept : swept table linked_now ≡ linked_now
@@ -243,7 +244,7 @@ module _ (inodes : ℕ) (v : Volume) (volume : IsVolume inodes v) (table : ℕ �
     by_node f same m =
         elim (cases_eq m n) [
           | inl is ↦ ap (λ k. f (altered k)) is ∙ ap f (node-here n o v) ∙ same ∙ ap (λ k. f (v k)) (sym is)
-          | inr other ↦ ap f (node-other n m o v other)
+          | inr other ↦ ap f (node_other n m o v other)
         ]
 
     altered_at : (r : Option ℕ) → object_at altered r ≡ object_at v r

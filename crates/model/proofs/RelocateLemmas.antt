@@ -14,10 +14,11 @@ use Rattle.model.proofs.CountLemmas.{same_count, count_along, one_more, one_less
 use Rattle.model.proofs.ListingLemmas.{names_apart}
 use Rattle.model.proofs.WalkLemmas.{behind-is, behind-append, behind-empty, Pushed, inside, here, outside, pushed}
 use Rattle.model.proofs.OnceLemmas.{path_apart}
-use Rattle.model.proofs.LooseLemmas.{none_some, absent, IsLooseTree}
+use Rattle.model.proofs.LooseLemmas.{IsLooseTree}
 use Rattle.model.proofs.LeadLemmas.{directory_some}
 use Rattle.model.proofs.TakeLemmas.{no_directory}
 use Rattle.model.proofs.PlaceLemmas.{put-other}
+use Rattle.model.proofs.OptionLaws.{none_some, absent}
 
 abbrev from_some : Option Path → Path
 from_some (Some r) = r

@@ -20,20 +20,17 @@ use Rattle.model.proofs.WalkLemmas.{behind-is, path_eq-same, same_path, not_push
 use Rattle.model.proofs.VolumeLemmas.{ends}
 use Rattle.model.proofs.LeadLemmas.{directory_some, all_passed, passed_both, push_filled, resolves_well, resolves_below_root, parent-push, stands_in}
 use Rattle.model.proofs.LooseLemmas.{IsLooseTree, tree_is_loose}
-use Rattle.model.proofs.PlaceLemmas.{put-here, put-other}
+use Rattle.model.proofs.PlaceLemmas.{put-here, put-other, no_more}
 use Rattle.model.proofs.TakeLemmas.{taken_is_loose}
 use Rattle.model.proofs.RelocateLemmas.{moved_is_loose, moved_over, all_behind}
 use Rattle.model.proofs.StayLemmas.{LeavesTree, stays_same, stays_swept, stays_tested, stays_passed, stays_either, stays_leads, stays_leads_to, stays_names, stays_place}
 use Rattle.model.proofs.CallLemmas.{last_tests, no_names, no_directory, low_by}
 
-pushed_some : (x : Name) (rest : Path) → x ∷ rest ≢ []
-pushed_some x rest e = cc
-
 module _ (inodes : ℕ) (t : Tree) (tree : IsTree inodes t) where
   -- above a directory there are directories
   within : (p s w : Path) → p ++ s ≡ w → is_directory (t.objects w) ≡ true → is_directory (t.objects p) ≡ true
   within p [] w e stands = ap is_directory (ap t.objects (sym (append-nil p) ∙ e)) ∙ stands
-  within p (x ∷ s) w e stands = tree.above p (x ∷ s) (pushed_some x s) (subst (λ r. IsSome (t.objects r)) (sym e) (directory_some (t.objects w) stands))
+  within p (x ∷ s) w e stands = tree.above p (x ∷ s) (no_more x s) (subst (λ r. IsSome (t.objects r)) (sym e) (directory_some (t.objects w) stands))
 
   -- what moves to a path is outside of it
   outside_itself : (p : Path) (o : Object) (q w : Path) (b : Name) → t.objects p ≡ Some o → q ≡ w ++ b ∷ [] → is_directory (t.objects w) ≡ true → path_eq p q ≡ false → (is_directory (Some o) && begins_with q p) ≡ false → behind p q ≡ None

@@ -25,10 +25,11 @@ use Rattle.model.specs.Circumstances.{Circumstances, IsDone, IsSure, IsExcused, 
 use Rattle.model.specs.Laws.{IsCommand, IsPathCall, CommandsLeaveStates, AllowedAreStates, MountsFindStates}
 use Rattle.model.proofs.LeadLemmas.{AllPass, all_passed}
 use Rattle.model.proofs.NewTreeLemmas.{root_is_tree, tree_is_state}
-use Rattle.model.proofs.LooseLemmas.{none_some, swept_is_tree, closed_is_loose}
+use Rattle.model.proofs.LooseLemmas.{swept_is_tree, closed_is_loose}
 use Rattle.model.proofs.StayLemmas.{LeavesTree, stays_stat, stays_list, stays_readlink, stays_get, stays_truncate, stays_chmod, stays_close, stays_read, stays_pread, stays_write, stays_pwrite, stays_seek, stays_ftruncate, stays_fstat, stays_fsync}
 use Rattle.model.proofs.CallLemmas.{stays_mkdir, stays_symlink, stays_link, stays_rmdir, stays_unlink, stays_open}
 use Rattle.model.proofs.ReplaceLemmas.{stays_rename}
+use Rattle.model.proofs.OptionLaws.{none_some}
 
 -- the calls by path
 stays_path : (inodes : ℕ) (t : Tree) → IsTree inodes t → (c : PathCall) → IsPathCall c → LeavesTree inodes (calls inodes t c)

@@ -1,8 +1,7 @@
 -- Each step of a call leaves a tree: the steps, the calls that change nothing, and those on descriptors, bytes and modes.
-use Rattle.std.proofs.Common.{◌≡◌, ◌⊎◌, inl, inr, ℕ, ℤ, pos, ◌+◌, ◌-◌, ◌≤◌, ◌<◌, List, [], ◌∷◌, ◌++◌, length, take, drop, replicate, Bool, true, false, not, ◌||◌, Option, Some, None, IfSome, refl, sym, ap, subst, ◌∙◌, length-append, length-take, length-drop, arith}
+use Rattle.std.proofs.Common.{◌≡◌, ◌⊎◌, inl, inr, ℕ, ℤ, pos, ◌+◌, ◌-◌, ◌≤◌, ◌<◌, List, [], ◌∷◌, length, drop, Bool, true, false, not, ◌||◌, Option, Some, None, IfSome, refl, sym, ap, subst, ◌∙◌, length-take, length-drop, arith}
 use Rattle.std.specs.Prelude.{◌+ℤ◌, ◌==◌, if◌then◌else◌, nat_abs, nat_le, nat_lt, unwrap_or}
 use Rattle.std.proofs.lemmas.Bool.{cases_lt, cond_both, leb-false, ltb-false}
-use Rattle.std.proofs.lemmas.List.{length-replicate}
 use Rattle.model.specs.declared.limits.TheConstants.{MODE_BITS, GREATEST_FILE, GREATEST_OFFSET, OPEN_FILES, DIRECTORY_NAMES}
 use Rattle.model.specs.declared.errno.Errno.{Errno}
 use Rattle.model.specs.declared.errno.Errno.TheVariants.{ENOENT, ENOTDIR, EISDIR, EINVAL, EBADF, DIRFULL, NONUMBER, EFBIG, EOVERFLOW}
@@ -19,22 +18,11 @@ use Rattle.model.specs.Reading as reading
 use Rattle.model.specs.Changing as changing
 use Rattle.model.specs.Descriptors as descriptors
 use Rattle.model.proofs.LeadLemmas.{AllPass, all_passed, Misses, AnswersWell, resolves_well}
-use Rattle.model.proofs.LooseLemmas.{none_some, some_same, IsLooseTree, swept_is_tree, closed_is_loose, bytes_keep, mode_keeps, held_is_tree}
+use Rattle.model.proofs.LooseLemmas.{IsLooseTree, swept_is_tree, closed_is_loose, bytes_keep, mode_keeps, held_is_tree}
+use Rattle.model.proofs.OptionLaws.{none_some, some_same}
+use Rattle.model.proofs.EditLaws.{length-resized, written_short}
 
 -- sizes
-
-length-resized : (size : ℕ) (bytes : List ℕ) → length (resized size bytes) ≡ size
-length-resized size bytes = omega (arith, length-append (take size bytes) (replicate (size - length bytes) 0), length-take size bytes, length-replicate {A = ℕ} (size - length bytes) 0)
-
-pub length-written : (offset : ℕ) (given bytes : List ℕ) → length (written offset given bytes) ≡ (offset + length given) + (length bytes - (offset + length given))
-length-written offset given bytes =
-    let rest : List ℕ = drop (offset + length given) bytes in
-    length-append (resized offset bytes ++ given) rest
-    ∙ ap (λ k. k + length rest) (length-append (resized offset bytes) given ∙ ap (λ k. k + length given) (length-resized offset bytes))
-    ∙ ap (λ k. (offset + length given) + k) (length-drop (offset + length given) bytes)
-
-writes_within : (offset : ℕ) (given bytes : List ℕ) → offset + length given ≤ GREATEST_FILE → length bytes ≤ GREATEST_FILE → length (written offset given bytes) ≤ GREATEST_FILE
-writes_within offset given bytes few short = subst (λ k. k ≤ GREATEST_FILE) (sym (length-written offset given bytes)) (omega (arith, few, short))
 
 reads_within : (offset count : ℕ) (bytes : List ℕ) → offset ≤ GREATEST_OFFSET → length bytes ≤ GREATEST_FILE → offset + length (read_at offset count bytes) ≤ GREATEST_OFFSET
 reads_within offset count bytes few short = omega (arith, length-take count (drop offset bytes), length-drop offset bytes, few, short)
@@ -212,7 +200,7 @@ module _ (inodes : ℕ) (t : Tree) (tree : IsTree inodes t) where
       stays_either (is_empty given) _ _ (λ e. stays_same _) (λ e. stays_passed ((nat_lt GREATEST_FILE (offset + length given), EFBIG) ∷ []) _ (λ pass.
       let few : offset + length given ≤ GREATEST_FILE = ltb-false GREATEST_FILE (offset + length given) pass.0 in
       let put : Tree = with_bytes f.number (written offset given (contents t f.number)) t in
-      stays_changed _ (also put) _ (keeps put (bytes_keep inodes t f.number (written offset given (contents t f.number)) tree (inr (fd, f, at_fd, refl)) (writes_within offset given (contents t f.number) few (few_contents f.number))) refl few)))
+      stays_changed _ (also put) _ (keeps put (bytes_keep inodes t f.number (written offset given (contents t f.number)) tree (inr (fd, f, at_fd, refl)) (written_short offset given (contents t f.number) few (few_contents f.number))) refl few)))
 
   pub stays_write : (fd : ℕ) (given : List ℕ) → LeavesTree inodes (descriptors.writes t fd given)
   stays_write fd given =

@@ -8,6 +8,8 @@ use Rattle.model.specs.Edits.{IsSwept}
 use Rattle.model.specs.Volumes.{Node, directory_node, file_node, link_node, Volume, Entries, names_in, entries, enter, number_at, object_of, object_at, bytes_of, mode_of, tree_of, is_file_node, is_directory_node, IsGraph, HasNames, is_numbered, is_open, swept_node, swept}
 use Rattle.model.proofs.WalkLemmas.{number_at-push}
 use Rattle.model.proofs.VolumeLemmas.{ends, directory_some, enters_directory, directory_no_file, last_step}
+use Rattle.model.proofs.ObjectLaws.{object_number}
+use Rattle.model.proofs.OptionLaws.{some_same}
 
 -- a file without names
 abbrev pub IsNameless : Option Node → Type 0
@@ -54,18 +56,9 @@ named_object n (Some (directory_node mode names)) some = (_, refl, refl)
 named_object n (Some (file_node mode links bytes)) some = (_, refl, refl)
 named_object n (Some (link_node text)) some = (_, refl, refl)
 
-some_same : {X : Type 0} {x y : X} → Some x ≡ Some y → x ≡ y
-some_same e = cc
-
-object_numbered : (k : ℕ) (o : Option Node) (r : Object) → object_of k o ≡ Some r → number r ≡ k
-object_numbered k None r e = cc
-object_numbered k (Some (directory_node mode names)) r e = ap number (sym (some_same e))
-object_numbered k (Some (file_node mode links bytes)) r e = ap number (sym (some_same e))
-object_numbered k (Some (link_node text)) r e = ap number (sym (some_same e))
-
 pub found_number : (v : Volume) (o : Option ℕ) (r : Object) (n : ℕ) → object_at v o ≡ Some r → number r ≡ n → o ≡ Some n
 found_number v None r n e same = cc
-found_number v (Some k) r n e same = ap (λ i. Some i) (sym (object_numbered k (v k) r e) ∙ same)
+found_number v (Some k) r n e same = ap (λ i. Some i) (sym (object_number k (v k) r e) ∙ same)
 
 pub count_some : (e : Entries) (n links : ℕ) → HasNames e n (suc links) → (d : ℕ) × (x : Name) × (e d x ≡ Some n)
 count_some e n links ((d, x), is, rest) = (d, x, is)

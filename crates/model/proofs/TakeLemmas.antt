@@ -10,15 +10,14 @@ use Rattle.model.proofs.CountLemmas.{same_count, one_less}
 use Rattle.model.proofs.ListingLemmas.{names_apart}
 use Rattle.model.proofs.VolumeLemmas.{ends}
 use Rattle.model.proofs.OnceLemmas.{path_apart}
-use Rattle.model.proofs.LooseLemmas.{none_some, some_same, absent, IsLooseTree, tree_is_loose, all_files, decided}
+use Rattle.model.proofs.LooseLemmas.{IsLooseTree, tree_is_loose, all_files, decided}
 use Rattle.model.proofs.PlaceLemmas.{put-here, put-other, below_leaf, file_or_not}
+use Rattle.model.proofs.ObjectLaws.{directory_file}
+use Rattle.model.proofs.OptionLaws.{none_some, some_same, absent}
 
 pub no_directory : {Y : Type 0} (r : Option Object) → r ≡ None → is_directory r ≡ true → Y
 no_directory None none e = cc
 no_directory (Some r) none e = cc
-
-directory_file : {Y : Type 0} {m n : ℕ} → directory m ≡ file n → Y
-directory_file e = cc
 
 module _ (inodes : ℕ) (old : Tree) (tree : IsTree inodes old) (p : Path) (o : Object) (at_p : old.objects p ≡ Some o) (low : p ≢ []) (leaf : (x : Name) → old.objects (p ++ x ∷ []) ≡ None) where
   abbrev new : Tree

@@ -1,6 +1,6 @@
 -- Which reply and which new state a command may give, under what may come in its way.
 use Rattle.std.specs.Prelude.{◌≡◌, ◌⊎◌, ◌≢◌, Bool, false, MatchBool, IsTrue, IsFalse, Some, None}
-use Rattle.model.specs.declared.errno.Errno.TheVariants.{ENOSPC, ENOMEM, EIO, DAMAGED, FAILED}
+use Rattle.model.specs.declared.errno.Errno.TheVariants.{ENOSPC, ENOMEM, EIO, FAILED}
 use Rattle.model.specs.declared.reply.Reply.{Reply}
 use Rattle.model.specs.declared.reply.Reply.TheVariants.{Done, Refused}
 use Rattle.model.specs.declared.command.Command.{Command}
@@ -83,9 +83,3 @@ Allowed c s command reply new =
       | failed ↦ (reply ≡ Refused FAILED) × (new ≡ s)
       | going ↦ (IsSure s command × IsFalse c.write_failed × IsDone c s command reply new) ⊎ ((¬ IsSure s command) × IsAnswered c s command reply new)
     ]
-
--- what a command may come to on images that may open to no state: what is allowed, or a going system says DAMAGED and
--- nothing changes
-abbrev pub AllowedOrDamaged : Circumstances → State → Command → Reply → State → Type 0
-AllowedOrDamaged c s command reply new =
-    Allowed c s command reply new ⊎ ((s.mark ≡ going) × (reply ≡ Refused DAMAGED) × (new ≡ s))

@@ -14,7 +14,6 @@ use Rattle.model.specs.Trees.{Description, IsTree, file}
 use Rattle.model.specs.Resolution.{resolve}
 use Rattle.model.specs.Outcomes.{IsFresh, HasLinks}
 use Rattle.model.specs.Circumstances.{Circumstances, Allowed}
-use Rattle.model.specs.Runs.{Runs, Spans}
 use Rattle.model.specs.Finding.{Trails, find_within, IsPlaceOf}
 use Rattle.model.specs.Room.{Room, Need, nothing}
 use Rattle.model.specs.States.{State, IsState, empty, ForgetsOpenFiles, Forgets}
@@ -152,13 +151,6 @@ abbrev pub ReplaysCostTheSame : Type 0
 ReplaysCostTheSame =
     (inodes : ℕ) (running replayed : Volume) (change : Change)
     → Extends running replayed → Applies inodes running change → work_of replayed change ≡ work_of running change
-
-module _ {System : Type 0} (state_of : System → State) (Between : System → Command → System → Circumstances → Type 0) {Images : Type 0} (left_at : ℕ → Images → Type 0) (Opens : Images → State → Type 0) where
-  -- commands that span a time are a run
-  abbrev pub SpansAreRuns : Type 0
-  SpansAreRuns =
-      (steps : List (Command × Reply)) (f last : System) (a b : ℕ)
-      → Spans left_at Opens state_of Between f steps last a b → Runs state_of Between f steps last
 
 -- records that apply one after the other leave a volume
 abbrev pub ReplaysKeepVolumes : Type 0

@@ -1,6 +1,6 @@
 -- The calls that read by a path (POSIX.1-2017, stat(), readlink(), read()): the reply is a function of the tree.
 use Rattle.std.specs.Prelude.{ℕ, ℤ, pos, negsuc, nat_abs, true, false, Bool, nat_lt, ◌||◌, List, [], ◌∷◌, length, unwrap_or}
-use Rattle.model.specs.declared.limits.TheConstants.{TRANSFER_BYTES}
+use Rattle.model.specs.declared.limits.TheConstants.{LINK_MODE, TRANSFER_BYTES}
 use Rattle.model.specs.declared.errno.Errno.TheVariants.{ENOTDIR, EISDIR, EINVAL}
 use Rattle.model.specs.declared.reply.Reply.TheVariants as reply
 use Rattle.model.specs.declared.reply.Stat.{Stat}
@@ -22,7 +22,7 @@ is_too_many count = nat_lt TRANSFER_BYTES count
 
 -- the mode that an object shows: a link shows 0777, another object its own
 abbrev pub shown_mode : Tree → Object → ℕ
-shown_mode t (symlink n text) = 0o777
+shown_mode t (symlink n text) = LINK_MODE
 shown_mode t o = unwrap_or (t.mode (number o)) 0
 
 -- what `stat` tells of an object: number, kind, mode, links and size, which is 0 for a directory and the length of its

@@ -65,12 +65,15 @@ module _ {Images : Type 0} (left_at : ℕ → Images → Type 0) (Opens : Images
   abbrev pub LeavesOf : State → ℕ → ℕ → (State → Type 0) → Type 0
   LeavesOf s a b P = elim s.mark [ failed ↦ LeavesNoMore a b | going ↦ OpensWithin a b P ]
 
-  module _ {System : Type 0} (state_of : System → State) (Between : System → Command → System → Circumstances → Type 0) where
-    -- from moment a to b the commands lead from one system to the last, each durable at its answer: up to a moment in
-    -- between, a cut might have left the state before the first command or the one after it, and from then on the rest
-    -- holds
+  -- moment_of says how far time is at a system
+  module _ {System : Type 0} (state_of : System → State) (moment_of : System → ℕ) (Between : System → Command → System → Circumstances → Type 0) where
+    -- From moment a to b the commands lead from one system to the last, each durable at its answer: up to the moment of the
+    -- system behind it, a cut might have left the state before the first command or the one after it, and from then on the
+    -- rest holds. So what came in a command's way came between two moments of the run.
     abbrev pub Spans : System → List (Command × Reply) → System → ℕ → ℕ → Type 0
     Spans f [] last a b = (last ≡ f) × LeavesOf (state_of f) a b (λ t. t ≡ state_of f)
     Spans f (step ∷ steps) last a b =
         (next : System) × Leads state_of Between f step next
-        × ((m : ℕ) × (a ≤ m) × (m ≤ b) × LeavesOf (state_of f) a m (MayStand (state_of f) step.0 (state_of next)) × Spans next steps last m b)
+        × (a ≤ moment_of next) × (moment_of next ≤ b)
+        × LeavesOf (state_of f) a (moment_of next) (MayStand (state_of f) step.0 (state_of next))
+        × Spans next steps last (moment_of next) b

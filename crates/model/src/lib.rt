@@ -1,4 +1,5 @@
-//! The calls of the file system: their words, their replies and their refusals. What a call means stands in `specs/`.
+//! The meaning of the calls (model): their words, their replies and their refusals. What a call means stands in
+//! `specs/`.
 #![tactic(auto)]
 
 mod command;
@@ -20,9 +21,9 @@ pub use laws::{
     trails_tell_what_lies_below, volumes_are_trees, volumes_tell_fresh_numbers, volumes_tell_links,
 };
 pub use limits::{
-    DIRECTORY_NAMES, FILE_NAMES, FIRST_NUMBER, GREATEST_FILE, GREATEST_OFFSET, LINKS_FOLLOWED,
-    MODE_BITS, NAME_BYTES, OPEN_FILES, PATH_BYTES, ROOT_NUMBER, SNAPSHOT_NAME_BYTES, SNAPSHOTS,
-    TRANSFER_BYTES,
+    DIRECTORY_NAMES, FILE_NAMES, FIRST_NUMBER, GREATEST_FILE, GREATEST_OFFSET, LINK_MODE,
+    LINKS_FOLLOWED, MODE_BITS, NAME_BYTES, OPEN_FILES, PATH_BYTES, ROOT_NUMBER,
+    SNAPSHOT_NAME_BYTES, SNAPSHOTS, TRANSFER_BYTES,
 };
 pub use mode::Mode;
 pub use reply::{Kind, Reply, Stat};

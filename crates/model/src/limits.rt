@@ -24,7 +24,7 @@ pub const DIRECTORY_NAMES: usize = 65_536;
 /// Descriptors are below this number.
 pub const OPEN_FILES: u32 = 32;
 
-/// Greatest number of bytes that one call reads or writes.
+/// Greatest number of bytes that one call reads or writes, and so of those that a record of the log writes.
 pub const TRANSFER_BYTES: usize = 65_536;
 
 /// Greatest length of a file in bytes.
@@ -41,3 +41,6 @@ pub const SNAPSHOT_NAME_BYTES: usize = 63;
 
 /// The twelve mode bits, as in `st_mode` of POSIX.1-2017.
 pub const MODE_BITS: u16 = 0o7777;
+
+/// The mode of each symbolic link.
+pub const LINK_MODE: u16 = 0o777;

@@ -17,8 +17,9 @@ use Rattle.model.specs.Room.{Room}
 use Rattle.model.specs.Circumstances.{Circumstances, IsSure, IsDone, IsAnswered, Allowed}
 use Rattle.model.specs.Runs.{IsWithin, MayStand, MayRemain}
 use Rattle.system.specs.Images.{OpensTo}
-use Rattle.mount.specs.Applying.{Between, IsApplied, Stays, LeftNow, Tells}
-use Rattle.mount.specs.Systems.{OpensToSome, mounted, meaning_of, mark_of, Serves, LeavesState, IsCutShort}
+use Rattle.system.specs.Settling.{IsFilledBy}
+use Rattle.mount.specs.Applying.{Between, GoesOn, HasRoom, IsApplied, Stays, LeftNow, Tells}
+use Rattle.mount.specs.Systems.{Mounted, OpensToSome, mounted, meaning_of, mark_of, Serves, LeavesState, IsCutShort}
 use Rattle.mount.specs.declared.fs.Fs.{Fs}
 use Rattle.mount.proofs.SpanLemmas.{cases_mark, stands_before, stands_going, stands_failed, leaves_failed}
 use Rattle.mount.proofs.StationLemmas.{same_moment, on_none, on_twice, moved, left_within, left_now, time_on, at_last, left_after}
@@ -79,6 +80,17 @@ module _ (s : State) (command : Command) (new t : State) where
 abbrev pub no_room : Room
 no_room = record { blocks = 0; free = 0; pledged = 0; is_covered = false }
 
+-- what came in the way of a command, but for the history of the station
+pub record Came {S : Type 0} {G : Ghosts S} (old : Mounted S G) (command : Command) (new : Mounted S G) (c : Circumstances) : Type 0 where
+  pub reads : Tells c.read_failed (meaning_of old).failed_reads (meaning_of new).failed_reads
+  pub writes : Tells c.write_failed (meaning_of old).failed_writes (meaning_of new).failed_writes
+  pub full : IsTrue c.lacks_place → IsFilledBy command new.fs.system
+  pub room : new.state.mark ≡ going → HasRoom new.fs.system new.state c.room
+
+abbrev pub between : {S : Type 0} {G : Ghosts S} (old : Mounted S G) (command : Command) (new : Mounted S G) (c : Circumstances) → GoesOn (meaning_of old) (meaning_of new) → Came old command new c
+    → Between old command new c
+between old command new c goes_on came = record { goes_on = goes_on; reads = came.reads; writes = came.writes; full = came.full; room = came.room }
+
 module _ {S : Type 0} {G : Ghosts S} where
   -- a command that led to a going state
   module _ (old new : Fs S G) (s t : State) (command : Command) (is : s.mark ≡ going) (still : t.mark ≡ going) (same : IsSameStation (meaning_of (mounted old s)) (meaning_of (mounted new t)))
@@ -93,14 +105,13 @@ module _ {S : Type 0} {G : Ghosts S} where
     may_stand c (inl first) = (s, first, (stands_going s command t s is still).1 (inl refl))
     may_stand c (inr last) = (t, last, (stands_going s command t t is still).1 (inr refl))
 
-    pub done : (reply : Reply) (c : Circumstances) → Between (mounted old s) command (mounted new t) c → Allowed c s command reply t
+    pub done : (reply : Reply) (c : Circumstances) → Came (mounted old s) command (mounted new t) c → Allowed c s command reply t
         → LeavesOnly before behind (λ i. OpensTo before s i ⊎ OpensTo before t i) → EachCut behind (OpensTo behind t) → IsApplied (mounted old s) (mounted new t) command reply
-    done reply c between allowed leaves now =
+    done reply c came allowed leaves now =
         let stands = weaker before behind _ (OpensToSome before (MayStand s command t)) leaves may_stand honest in
         record {
           serves = serves;
-          leads = record { circumstances = c; between = between; allowed = allowed };
-          goes_on = time_on before behind _ stands;
+          leads = record { circumstances = c; between = between (mounted old s) command (mounted new t) c (time_on before behind _ stands) came; allowed = allowed };
           any_moment = left_within before behind s (MayStand s command t) is same.sectors stands;
           at_answer = left_now behind s (MayRemain s command t) is (same.honest.0 honest)
               (λ is_honest i left. (t, now is_honest i left, (remains_going s command t t is still).1 refl));
@@ -108,11 +119,11 @@ module _ {S : Type 0} {G : Ghosts S} where
 
   -- one that changed nothing
   pub stayed : (old new : Fs S G) (s : State) (command : Command) → Serves (mounted old s) → s.mark ≡ going → Stays old new s → (reply : Reply) (c : Circumstances)
-      → Between (mounted old s) command (mounted new s) c → Allowed c s command reply s → IsApplied (mounted old s) (mounted new s) command reply
-  stayed old new s command serves is stays reply c between allowed =
+      → Came (mounted old s) command (mounted new s) c → Allowed c s command reply s → IsApplied (mounted old s) (mounted new s) command reply
+  stayed old new s command serves is stays reply c came allowed =
       let m = meaning_of (mounted old s) in
       let n = meaning_of (mounted new s) in
-      done old new s s command is is stays.same stays.serves serves.honest reply c between allowed
+      done old new s s command is is stays.same stays.serves serves.honest reply c came allowed
       (weaker m n (OpensTo m s) (λ i. OpensTo m s i ⊎ OpensTo m s i) stays.leaves (λ i opens. inl opens))
       (λ honest i left. moved m n s i stays.same.sectors ((stays.leaves serves.honest).each i (n.moment, (stays.leaves serves.honest).later, omega arith, left)))
 
@@ -128,9 +139,9 @@ module _ {S : Type 0} {G : Ghosts S} where
     again : s ≡ record (as_failed s) { mark = going }
     again = λ i. record s { mark = is i }
 
-    pub broken : (c : Circumstances) → Between (mounted old s) command (mounted new (as_failed s)) c → Allowed c s command (Refused EIO) (as_failed s)
+    pub broken : (c : Circumstances) → Came (mounted old s) command (mounted new (as_failed s)) c → Allowed c s command (Refused EIO) (as_failed s)
         → LeavesOnly first last (OpensToSome first (IsWithin s command)) → IsApplied (mounted old s) (mounted new (as_failed s)) command (Refused EIO)
-    broken c between allowed leaves =
+    broken c came allowed leaves =
         let left = leaves serves.honest in
         let u = as_failed s in
         let within = at_last first last (IsWithin s command) same left in
@@ -146,8 +157,7 @@ module _ {S : Type 0} {G : Ghosts S} where
               each = subst (λ (v : State). EachCut last (OpensToSome last (IsWithin v command))) again within;
             };
           };
-          leads = record { circumstances = c; between = between; allowed = allowed };
-          goes_on = time_on first last _ left;
+          leads = record { circumstances = c; between = between (mounted old s) command (mounted new u) c (time_on first last _ left) came; allowed = allowed };
           any_moment = left_within first last s (MayStand s command u) is same.sectors stand;
           at_answer = left_now last s (MayRemain s command u) is (same.honest.0 serves.honest)
               (λ honest i here. let some = within honest i here in (some.0, some.1, (remains_failed s command u some.0 is refl).1 some.2));
@@ -165,10 +175,9 @@ module _ {S : Type 0} {G : Ghosts S} where
         serves = serves;
         leads = record {
           circumstances = quiet;
-          between = record { reads = refl; writes = refl; full = λ e. absurd (false≢true e); room = λ still. not_both s.mark still is };
+          between = record { goes_on = on_none m; reads = refl; writes = refl; full = λ e. absurd (false≢true e); room = λ still. not_both s.mark still is };
           allowed = refused_failed command s.inodes s.tree s.snapshots quiet s.mark is;
         };
-        goes_on = on_none m;
         any_moment = (leaves_failed m.left_at opens s m.moment m.moment (MayStand s command s) is).1 still;
         at_answer = (leaves_failed m.left_at opens s m.moment m.moment (MayRemain s command s) is).1 still;
       }
@@ -183,22 +192,22 @@ module _ {S : Type 0} {G : Ghosts S} where
       let n = meaning_of (mounted mid s) in
       let l = meaning_of (mounted new t) in
       let c = applied.leads.circumstances in
-      let between = applied.leads.between in
+      let led = applied.leads.between in
       let stand = weaker m n (OpensTo m s) (OpensToSome m (MayStand s command t)) stays.leaves (λ i opens. (s, opens, stands_before s command t is)) serves.honest in
       record {
         serves = applied.serves;
         leads = record {
           circumstances = c;
           between = record {
-            reads = subst (λ (k : ℕ). Tells c.read_failed k l.failed_reads) reads between.reads;
-            writes = subst (λ (k : ℕ). Tells c.write_failed k l.failed_writes) writes between.writes;
-            full = between.full;
-            room = between.room;
+            goes_on = on_twice m n l (time_on m n _ stand) led.goes_on;
+            reads = subst (λ (k : ℕ). Tells c.read_failed k l.failed_reads) reads led.reads;
+            writes = subst (λ (k : ℕ). Tells c.write_failed k l.failed_writes) writes led.writes;
+            full = led.full;
+            room = led.room;
           };
           allowed = applied.leads.allowed;
         };
-        goes_on = on_twice m n l (time_on m n _ stand) applied.goes_on;
-        any_moment = left_after m n l s (MayStand s command t) is stays.same same stand applied.goes_on applied.any_moment;
+        any_moment = left_after m n l s (MayStand s command t) is stays.same same stand led.goes_on applied.any_moment;
         at_answer = applied.at_answer;
       }
 

@@ -1,5 +1,5 @@
 -- What calls and consistency points of a system come to for a command.
-use Rattle.std.proofs.Common.{◌≡◌, ◌≢◌, ◌⊎◌, ◌≤◌, ◌<◌, ◌^◌, ◌+◌, ◌*◌, inl, inr, ℕ, Bool, true, false, List, [], ◌∷◌, refl, sym, ap, subst, ◌∙◌, arith}
+use Rattle.std.proofs.Common.{◌≡◌, ◌≢◌, ◌⊎◌, ◌≤◌, ◌<◌, ◌^◌, ◌+◌, ◌*◌, inl, inr, ℕ, Bool, true, false, [], refl, sym, ap, subst, ◌∙◌, arith}
 use Rattle.std.specs.Prelude.{IsTrue, IsFalse, Option, None, map}
 use Rattle.std.proofs.lemmas.Bool.{false≢true}
 use Rattle.conspoint.specs.declared.error.PlanError.TheVariants as plan
@@ -22,9 +22,10 @@ use Rattle.model.specs.Records as records
 use Rattle.model.specs.Records.{pledged_for}
 use Rattle.model.specs.Runs.{IsWithin}
 use Rattle.system.specs.Errors.{IsRefused}
+use Rattle.system.specs.Counting.{Counted, call_error_failed, point_error_failed}
 use Rattle.system.specs.Images.{OpensTo}
 use Rattle.layout.specs.Places.{blocks_of}
-use Rattle.layout.specs.Record.{Change, change_bytes}
+use Rattle.layout.specs.Record.{change_bytes}
 use Rattle.images.specs.Roots.{whole}
 use Rattle.oplog.specs.LogEnd.{LogEnd, all_of, next_of}
 use Rattle.oplog.specs.declared.log.End.TheVariants.{Unopened}
@@ -38,9 +39,10 @@ use Rattle.system.specs.declared.error.CallError.TheVariants as call
 use Rattle.system.specs.declared.system.System.{System}
 use Rattle.system.specs.declared.error.PointError.{PointError}
 use Rattle.system.specs.declared.error.PointError.TheVariants as point
+use Rattle.system.proofs.CoveredLaws.{none_spelled}
 use Rattle.mount.specs.Applying.{IsAppliedAt, NeedsPlace, Stays, Tells, HasRoom}
 use Rattle.mount.specs.Refusals.{errno_of_call, errno_of_point, fails_call, fails_point}
-use Rattle.mount.specs.Systems.{OpensToSome, mounted, HasNext, Serves}
+use Rattle.mount.specs.Systems.{OpensToSome, mounted, HasPoints, Serves}
 use Rattle.mount.specs.declared.fs.TheConstants.{POINTS}
 use Rattle.mount.specs.declared.fs.Fs.{Fs}
 use Rattle.mount.proofs.ApplyLemmas.{is_going, not_both, allowed_by, allowed_surely, no_room, done, stayed, broken, applied_after}
@@ -65,17 +67,12 @@ has_room : {S : Type 0} {G : Ghosts S} (f : System S G) (s : State) (serves : Se
     → (IsTrue covered → records.IsCovered serves.first serves.running serves.replayed.changes) → HasRoom f s (room_at f s serves covered)
 has_room f s serves covered all = record { serves = serves; blocks = refl; free = refl; told = record { pledged = refl; covered = all } }
 
--- no body spells no record
-no_changes : (changes : List Change) → [] ≡ map change_bytes changes → changes ≡ []
-no_changes [] is = refl
-no_changes (change ∷ changes) is = cc
-
 -- all that is done is in the root of a covered system
 all_covered : {S : Type 0} {G : Ghosts S} (f : System S G) (s : State) → (covered : systems.IsCovered f s.tree.descriptors s)
     → records.IsCovered covered.serves.first covered.serves.running covered.serves.replayed.changes
 all_covered f s covered =
     let no_record : [] ≡ map change_bytes covered.serves.replayed.changes = sym (ap all_of covered.no_record) ∙ covered.serves.replayed.spelled in
-    (covered.held, no_changes covered.serves.replayed.changes no_record)
+    (covered.held, none_spelled covered.serves.replayed.changes no_record)
 
 -- a refusal isn't what is answered to what is done
 not_done : {X : Type 0} (errno : Errno) → Refused errno ≡ Done → X
@@ -110,19 +107,9 @@ answered_as old new s command x y is applied = subst (λ (z : Errno). IsAppliedA
 pub asked_as : {S : Type 0} {G : Ghosts S} (old new : Fs S G) (s : State) (x y : Command) (reply : Reply) → y ≡ x → IsAppliedAt old s new x reply → IsAppliedAt old s new y reply
 asked_as old new s x y reply is applied = subst (λ (z : Command). IsAppliedAt old s new z reply) (sym is) applied
 
-pub young_on : (a b : ℕ) → b ≤ a → a + 1 < 2 ^ 62 → b + 1 < 2 ^ 62
-young_on a b le young = omega arith
-
 -- after so many commands a further one of all of them is young
-pub young_at : (a b i n : ℕ) → b ≤ a + POINTS * i → i < n → a + POINTS * n < 2 ^ 62 → b + 1 < 2 ^ 62
+pub young_at : (a b i n : ℕ) → b ≤ a + POINTS * i → i < n → a + POINTS * n < 2 ^ 62 → b + POINTS ≤ 2 ^ 62
 young_at a b i n le below lasts = omega arith
-
-pub has_next : (a : ℕ) → a + 1 < 2 ^ 62 → a < 2 ^ 62
-has_next a young = omega arith
-
--- behind one consistency point there is another
-pub next_on : (a b : ℕ) → b ≤ a + 1 → a + 1 < 2 ^ 62 → b < 2 ^ 62
-next_on a b le young = omega arith
 
 -- where a point of the tree alone has no place, none of a command has
 pub filled_by : {S : Type 0} {G : Ghosts S} (command : Command) (f : System S G) → IsFilled f → IsFilledBy command f
@@ -135,10 +122,6 @@ log_emptied f log epoch is generation = record {
   end = ap (λ (l : LogEnd). next_of l.end) is;
 }
 
--- a full log is no fault of a device
-pub full_is_no_fault : (e : CallError) → e ≡ call.LogFull → errno_of_call e ≢ EIO
-full_is_no_fault e is fault = let x : ENOSPC ≡ EIO = sym (ap errno_of_call is) ∙ fault in cc
-
 -- no failed read fails a system
 pub reads_fail_nothing : (e : CallError) (flag : Bool) → e ≢ call.NotWritten → IsFalse flag → flag ≡ fails_call e
 reads_fail_nothing call.NoMemory flag other runs = runs
@@ -146,20 +129,6 @@ reads_fail_nothing call.NotRead flag other runs = runs
 reads_fail_nothing call.Damaged flag other runs = runs
 reads_fail_nothing call.LogFull flag other runs = runs
 reads_fail_nothing call.NotWritten flag other runs = absurd (other refl)
-
--- a point answers EIO only where a device call failed, and any other refusal comes before the first write
-pub point_fails : (e : PointError) → errno_of_point e ≡ EIO → (e ≡ point.NotPlanned plan.Device) ⊎ (e ≡ point.NotWritten)
-point_fails (point.NotPlanned plan.NoMemory) is = cc
-point_fails (point.NotPlanned plan.Device) is = inl refl
-point_fails (point.NotPlanned plan.NoSpace) is = cc
-point_fails (point.NotPlanned plan.Damaged) is = cc
-point_fails point.NotWritten is = inr refl
-point_fails point.NoGeneration is = cc
-
-pub point_refuses : (e : PointError) → errno_of_point e ≢ EIO → IsRefused e
-point_refuses (point.NotPlanned e) other = tt
-point_refuses point.NotWritten other = absurd (other refl)
-point_refuses point.NoGeneration other = tt
 
 -- what is left of a command that was cut short
 pub cut_within : {S : Type 0} {G : Ghosts S} (f g : System S G) (s : State) (c : Command) → IsBrokenOff f g s c
@@ -191,7 +160,7 @@ module _ {S : Type 0} {G : Ghosts S} (old new : Fs S G) (s : State) where
       record { honest = honest; mark = still ∙ sym (is_going new.has_failed runs); kept = λ _. serves; cut_short = λ stopped. not_both t.mark still stopped }
 
   module _ (serves : Serves (mounted old s)) (runs : IsFalse old.has_failed) where
-    is_still : s.mark ≡ going
+    abbrev is_still : s.mark ≡ going
     is_still = still_going old s serves runs
 
     module _ (same : IsSameStation before behind) where
@@ -204,7 +173,7 @@ module _ {S : Type 0} {G : Ghosts S} (old new : Fs S G) (s : State) where
 
       -- a call that was answered
       pub called : (c : Command) (reply : Reply) → IsCall c → IsSure s c ⊎ ¬ IsSure s c → IsFalse new.has_failed → behind.failed_reads ≡ before.failed_reads → behind.failed_writes ≡ before.failed_writes
-          → IsCalled old.system new.system s c reply → ((t : State) → ServesState new.system t → EachCut behind (OpensTo behind t)) → IsAppliedAt old s new c reply
+          → IsCalled old.system new.system s (serves.kept is_still) c reply → ((t : State) → ServesState new.system t → EachCut behind (OpensTo behind t)) → IsAppliedAt old s new c reply
       called c reply is_call sure runs_on reads writes is opens =
           let t = is.after in
           let still : t.mark ≡ going = ap (λ (u : State). u.mark) is.serves.state in
@@ -248,40 +217,38 @@ module _ {S : Type 0} {G : Ghosts S} (old new : Fs S G) (s : State) where
       broken_off c not_sure stopped reads writes is = cut_short c not_sure stopped reads writes (cut_within old.system new.system s c is)
 
     -- a call that wasn't answered
-    pub not_answered : (c : Command) (e : CallError) → ¬ IsSure s c → e ≢ call.LogFull → new.has_failed ≡ fails_call e → Uses before behind → (e ≢ call.NotWritten → behind.failed_writes ≡ before.failed_writes)
-        → (e ≡ call.NotRead → HasGrown before.failed_reads behind.failed_reads) → (e ≡ call.NotWritten → HasGrown before.failed_writes behind.failed_writes)
+    pub not_answered : (c : Command) (e : CallError) → ¬ IsSure s c → e ≢ call.LogFull → new.has_failed ≡ fails_call e → Counted before behind (call_error_failed false e)
         → (e ≡ call.Damaged → ⊥) → (e ≢ call.NotWritten → Goes Unchanged before behind) → (e ≢ call.NotWritten → ServesState new.system s)
         → (e ≡ call.NotWritten → IsBrokenOff old.system new.system s c) → EachCut before (OpensTo before s) → IsAppliedAt old s new c (Refused (errno_of_call e))
-    not_answered c call.NoMemory not_sure room flag uses writes reads written damaged goes served off opens =
+    not_answered c call.NoMemory not_sure room flag counted damaged goes served off opens =
         let other : call.NoMemory ≢ call.NotWritten = λ e. cc in
-        let count = told before.failed_reads behind.failed_reads uses.reads in
-        refused uses.same c not_sure (stays_read uses.same flag (served other) (goes other) opens) count.0 true false ENOMEM count.1 (writes other) (λ e. absurd (false≢true e)) (λ _. refl)
-    not_answered c call.NotRead not_sure room flag uses writes reads written damaged goes served off opens =
+        let count = told before.failed_reads behind.failed_reads counted.uses.reads in
+        refused counted.uses.same c not_sure (stays_read counted.uses.same flag (served other) (goes other) opens) count.0 true false ENOMEM count.1 counted.writes (λ e. absurd (false≢true e)) (λ _. refl)
+    not_answered c call.NotRead not_sure room flag counted damaged goes served off opens =
         let other : call.NotRead ≢ call.NotWritten = λ e. cc in
-        refused uses.same c not_sure (stays_read uses.same flag (served other) (goes other) opens) true false false EIO (reads refl) (writes other) (λ e. absurd (false≢true e)) (λ _. refl)
-    not_answered c call.Damaged not_sure room flag uses writes reads written damaged goes served off opens = absurd (damaged refl)
-    not_answered c call.LogFull not_sure room flag uses writes reads written damaged goes served off opens = absurd (room refl)
-    not_answered c call.NotWritten not_sure room flag uses writes reads written damaged goes served off opens = broken_off uses.same c not_sure flag uses.reads (written refl) (off refl)
+        refused counted.uses.same c not_sure (stays_read counted.uses.same flag (served other) (goes other) opens) true false false EIO counted.reads counted.writes (λ e. absurd (false≢true e)) (λ _. refl)
+    not_answered c call.Damaged not_sure room flag counted damaged goes served off opens = absurd (damaged refl)
+    not_answered c call.LogFull not_sure room flag counted damaged goes served off opens = absurd (room refl)
+    not_answered c call.NotWritten not_sure room flag counted damaged goes served off opens = broken_off counted.uses.same c not_sure flag counted.uses.reads counted.writes (off refl)
 
     -- a command whose consistency point wasn't made
-    pub no_point : (command : Command) (e : PointError) → ¬ IsSure s command → HasNext old → Uses before behind → (IsRefused e → behind.failed_writes ≡ before.failed_writes)
-        → (e ≡ point.NotPlanned plan.Device → HasGrown before.failed_reads behind.failed_reads) → (e ≡ point.NotWritten → HasGrown before.failed_writes behind.failed_writes)
+    pub no_point : (command : Command) (e : PointError) → ¬ IsSure s command → HasPoints 1 old → Counted before behind (point_error_failed e)
         → (e ≡ point.NotPlanned plan.NoSpace → IsFilledBy command new.system × WouldSettle s command) → (e ≡ point.NoGeneration → 2 ^ 62 ≤ old.system.log.epoch)
         → (e ≡ point.NotPlanned plan.Damaged → ⊥) → new.has_failed ≡ fails_point e → (IsRefused e → IsFalse new.has_failed → Stays old new s)
         → (e ≡ point.NotWritten → LeavesOnly before behind (OpensToSome before (IsWithin s command))) → IsAppliedAt old s new command (Refused (errno_of_point e))
-    no_point command (point.NotPlanned plan.NoMemory) not_sure next uses writes reads written full aged damaged flag stays off =
-        let count = told before.failed_reads behind.failed_reads uses.reads in
-        refused uses.same command not_sure (stays tt flag) count.0 true false ENOMEM count.1 (writes tt) (λ e. absurd (false≢true e)) (λ _. refl)
-    no_point command (point.NotPlanned plan.Device) not_sure next uses writes reads written full aged damaged flag stays off =
-        refused uses.same command not_sure (stays tt flag) true false false EIO (reads refl) (writes tt) (λ e. absurd (false≢true e)) (λ _. refl)
-    no_point command (point.NotPlanned plan.NoSpace) not_sure next uses writes reads written full aged damaged flag stays off =
-        let count = told before.failed_reads behind.failed_reads uses.reads in
-        refused uses.same command not_sure (stays tt flag) count.0 false true ENOSPC count.1 (writes tt)
+    no_point command (point.NotPlanned plan.NoMemory) not_sure next counted full aged damaged flag stays off =
+        let count = told before.failed_reads behind.failed_reads counted.uses.reads in
+        refused counted.uses.same command not_sure (stays tt flag) count.0 true false ENOMEM count.1 counted.writes (λ e. absurd (false≢true e)) (λ _. refl)
+    no_point command (point.NotPlanned plan.Device) not_sure next counted full aged damaged flag stays off =
+        refused counted.uses.same command not_sure (stays tt flag) true false false EIO counted.reads counted.writes (λ e. absurd (false≢true e)) (λ _. refl)
+    no_point command (point.NotPlanned plan.NoSpace) not_sure next counted full aged damaged flag stays off =
+        let count = told before.failed_reads behind.failed_reads counted.uses.reads in
+        refused counted.uses.same command not_sure (stays tt flag) count.0 false true ENOSPC count.1 counted.writes
         (λ _. (full refl).0) (λ room. inr (refl, (full refl).1 room))
-    no_point command (point.NotPlanned plan.Damaged) not_sure next uses writes reads written full aged damaged flag stays off = absurd (damaged refl)
-    no_point command point.NotWritten not_sure next uses writes reads written full aged damaged flag stays off =
-        cut_short uses.same command not_sure flag uses.reads (written refl) (off refl)
-    no_point command point.NoGeneration not_sure next uses writes reads written full aged damaged flag stays off = absurd (omega (arith, aged refl, next))
+    no_point command (point.NotPlanned plan.Damaged) not_sure next counted full aged damaged flag stays off = absurd (damaged refl)
+    no_point command point.NotWritten not_sure next counted full aged damaged flag stays off =
+        cut_short counted.uses.same command not_sure flag counted.uses.reads counted.writes (off refl)
+    no_point command point.NoGeneration not_sure next counted full aged damaged flag stays off = absurd (omega (arith, aged refl, next))
 
     -- one that was refused by its own tests
     pub own_refusal : (command : Command) → ¬ IsSure s command → Stays old new s → (errno : Errno) → behind.failed_reads ≡ before.failed_reads → behind.failed_writes ≡ before.failed_writes

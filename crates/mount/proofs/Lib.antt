@@ -3,4 +3,6 @@ mod SpanLemmas
 mod ApplyLemmas
 mod CallLemmas
 mod AttemptLemmas
+mod CountLemmas
+mod AnswerLemmas
 mod RunLemmas

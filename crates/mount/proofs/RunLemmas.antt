@@ -11,7 +11,7 @@ use Rattle.model.specs.States.{State, going, failed}
 use Rattle.model.specs.Runs.{IsPrefix}
 use Rattle.system.specs.Images.{OpensTo}
 use Rattle.system.specs.Systems as systems
-use Rattle.mount.specs.Systems.{Mounted, OpensToSome, mounted, meaning_of, shown}
+use Rattle.mount.specs.Systems.{Mounted, OpensToSome, mounted, meaning_of, moment_of, shown}
 use Rattle.mount.specs.Applying.{Between, IsApplied, IsAppliedAt, HasRun, ReadsCut, LeftNow, RunsAt}
 use Rattle.mount.specs.declared.fs.Fs.{Fs}
 use Rattle.mount.proofs.StationLemmas.{on_none, on_twice, moved}
@@ -34,11 +34,12 @@ module _ {S : Type 0} {G : Ghosts S} where
   run_push f g new steps command reply run same applied now =
       let old = meaning_of g in
       let m = meaning_of new in
-      let so_far = spans_later shown Between old.left_at m.left_at (λ c t. OpensTo old t c) (λ c t. OpensTo m t c) old.moment applied.goes_on.kept (λ c t opens. moved old m t c same.sectors opens)
+      let on = applied.leads.between.goes_on in
+      let so_far = spans_later shown Between moment_of old.left_at m.left_at (λ c t. OpensTo old t c) (λ c t. OpensTo m t c) old.moment on.kept (λ c t opens. moved old m t c same.sectors opens)
       f steps g (meaning_of f).moment old.moment run.goes_on.later (omega arith) run.spans in
       record {
-        goes_on = on_twice (meaning_of f) old m run.goes_on applied.goes_on;
-        spans = spans_push shown Between m.left_at (λ c t. OpensTo m t c) f steps g new (command, reply) (meaning_of f).moment old.moment m.moment run.goes_on.later applied.goes_on.later so_far
+        goes_on = on_twice (meaning_of f) old m run.goes_on on;
+        spans = spans_push shown Between moment_of m.left_at (λ c t. OpensTo m t c) f steps g new (command, reply) (meaning_of f).moment old.moment run.goes_on.later on.later so_far
             applied.leads applied.any_moment now;
       }
 
@@ -64,7 +65,7 @@ module _ {S : Type 0} {G : Ghosts S} where
       → OpensToSome other (IsPrefix shown Between old steps) other.seen
   run_opens old new steps other is run reads =
       let m = meaning_of new in
-      let there = spans_prefix shown Between m.left_at (λ c t. OpensTo m t c) old steps new (meaning_of old).moment m.moment run.spans is reads.left.0 other.seen reads.left.1 reads.left.2 reads.left.3 in
+      let there = spans_prefix shown Between moment_of m.left_at (λ c t. OpensTo m t c) old steps new (meaning_of old).moment m.moment run.spans is reads.left.0 other.seen reads.left.1 reads.left.2 reads.left.3 in
       (there.0, moved m other there.0 other.seen reads.sectors there.1, there.2)
 
   -- a failed system leaves no more than before
@@ -73,4 +74,4 @@ module _ {S : Type 0} {G : Ghosts S} where
   run_failed old new steps is run c left =
       let m = meaning_of new in
       let start = (meaning_of old).moment in
-      (run.goes_on.kept start c (omega arith)).0 (spans_failed shown Between m.left_at (λ d t. OpensTo m t d) old steps new start m.moment run.spans is left.0 c left.1 left.2 left.3)
+      (run.goes_on.kept start c (omega arith)).0 (spans_failed shown Between moment_of m.left_at (λ d t. OpensTo m t d) old steps new start m.moment run.spans is left.0 c left.1 left.2 left.3)

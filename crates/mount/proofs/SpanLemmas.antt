@@ -102,27 +102,28 @@ module _ {System : Type 0} (state_of : System → State) (Between : System → C
         ]
       ]
 
-  module _ {Images : Type 0} (left_at : ℕ → Images → Type 0) (Opens : Images → State → Type 0) where
+  module _ {Images : Type 0} (moment_of : System → ℕ) (left_at : ℕ → Images → Type 0) (Opens : Images → State → Type 0) where
     -- a failed system leaves no more
-    pub spans_failed : (f : System) (steps : List (Command × Reply)) (last : System) (a b : ℕ) → Spans left_at Opens state_of Between f steps last a b → (state_of f).mark ≡ failed → LeavesNoMore left_at Opens a b
+    pub spans_failed : (f : System) (steps : List (Command × Reply)) (last : System) (a b : ℕ) → Spans left_at Opens state_of moment_of Between f steps last a b → (state_of f).mark ≡ failed
+        → LeavesNoMore left_at Opens a b
     spans_failed f [] last a b spans is = (leaves_failed left_at Opens (state_of f) a b (λ t. t ≡ state_of f) is).0 spans.1
     spans_failed f (step ∷ steps) last a b spans is =
         let next = spans.0 in
-        let m = spans.2.0 in
-        no_more_twice left_at Opens a m b spans.2.1
-        ((leaves_failed left_at Opens (state_of f) a m (MayStand (state_of f) step.0 (state_of next)) is).0 spans.2.3)
-        (spans_failed next steps last m b spans.2.4 (stays_failed f next step spans.1 is))
+        let m = moment_of next in
+        no_more_twice left_at Opens a m b spans.2
+        ((leaves_failed left_at Opens (state_of f) a m (MayStand (state_of f) step.0 (state_of next)) is).0 spans.4)
+        (spans_failed next steps last m b spans.5 (stays_failed f next step spans.1 is))
 
     -- a cut within a run leaves a prefix of it
-    pub spans_prefix : (f : System) (steps : List (Command × Reply)) (last : System) (a b : ℕ) → Spans left_at Opens state_of Between f steps last a b → (state_of f).mark ≡ going
+    pub spans_prefix : (f : System) (steps : List (Command × Reply)) (last : System) (a b : ℕ) → Spans left_at Opens state_of moment_of Between f steps last a b → (state_of f).mark ≡ going
         → OpensWithin left_at Opens a b (IsPrefix state_of Between f steps)
     spans_prefix f [] last a b spans is t c from to left =
         let there = (leaves_going left_at Opens (state_of f) a b (λ u. u ≡ state_of f) is).0 spans.1 t c from to left in
         (there.0, there.1, prefix_first f [] there.0 is there.2)
     spans_prefix f (step ∷ steps) last a b spans is t c from to left =
         let next = spans.0 in
-        let m = spans.2.0 in
-        let within = (leaves_going left_at Opens (state_of f) a m (MayStand (state_of f) step.0 (state_of next)) is).0 spans.2.3 in
+        let m = moment_of next in
+        let within = (leaves_going left_at Opens (state_of f) a m (MayStand (state_of f) step.0 (state_of next)) is).0 spans.4 in
         let first : (u : ℕ) → a ≤ u → u ≤ m → left_at u c → (s : State) × Opens c s × IsPrefix state_of Between f (step ∷ steps) s =
         λ u low high here.
         let there = within u c low high here in
@@ -131,9 +132,9 @@ module _ {System : Type 0} (state_of : System → State) (Between : System → C
           | inr early ↦ first t from early left
           | inl late ↦ elim (cases_mark (state_of next).mark) [
             | inl then ↦
-                let there = spans_prefix next steps last m b spans.2.4 then t c (omega arith) to left in
+                let there = spans_prefix next steps last m b spans.5 then t c (omega arith) to left in
                 (there.0, there.1, prefix_behind f next step steps there.0 spans.1 there.2)
-            | inr then ↦ first m spans.2.1 (omega arith) (spans_failed next steps last m b spans.2.4 then t c (omega arith) to left)
+            | inr then ↦ first m spans.2 (omega arith) (spans_failed next steps last m b spans.5 then t c (omega arith) to left)
           ]
         ]
 
@@ -152,20 +153,22 @@ module _ {System : Type 0} (state_of : System → State) (Between : System → C
     ]
 
     -- one command more
-    pub spans_push : (f : System) (steps : List (Command × Reply)) (last new : System) (step : Command × Reply) (a b end : ℕ) → a ≤ b → b ≤ end → Spans left_at Opens state_of Between f steps last a b
-        → Leads state_of Between last step new → LeavesOf left_at Opens (state_of last) b end (MayStand (state_of last) step.0 (state_of new))
-        → LeavesOf left_at Opens (state_of new) end end (λ t. t ≡ state_of new) → Spans left_at Opens state_of Between f (steps ++ step ∷ []) new a end
-    spans_push f [] last new step a b end low high spans leads leaves ends =
+    pub spans_push : (f : System) (steps : List (Command × Reply)) (last new : System) (step : Command × Reply) (a b : ℕ) → a ≤ b → b ≤ moment_of new
+        → Spans left_at Opens state_of moment_of Between f steps last a b → Leads state_of Between last step new
+        → LeavesOf left_at Opens (state_of last) b (moment_of new) (MayStand (state_of last) step.0 (state_of new))
+        → LeavesOf left_at Opens (state_of new) (moment_of new) (moment_of new) (λ t. t ≡ state_of new) → Spans left_at Opens state_of moment_of Between f (steps ++ step ∷ []) new a (moment_of new)
+    spans_push f [] last new step a b low high spans leads leaves ends =
         let s = state_of new in
+        let end = moment_of new in
         let rest = subst (λ (g : System). LeavesOf left_at Opens (state_of g) b end (MayStand (state_of g) step.0 s)) spans.0 leaves in
         let whole = leaves_longer (state_of f) step.0 s a b end low spans.1 rest in
-        (new, subst (λ (g : System). Leads state_of Between g step new) spans.0 leads, (end, omega arith, omega arith, whole, (refl, ends)))
-    spans_push f (first ∷ steps) last new step a b end low high spans leads leaves ends =
-        let rest = spans_push spans.0 steps last new step spans.2.0 b end spans.2.2 high spans.2.4 leads leaves ends in
-        (spans.0, spans.1, (spans.2.0, spans.2.1, omega (arith, spans.2.2), spans.2.3, rest))
+        (new, subst (λ (g : System). Leads state_of Between g step new) spans.0 leads, omega arith, omega arith, whole, (refl, ends))
+    spans_push f (first ∷ steps) last new step a b low high spans leads leaves ends =
+        let rest = spans_push spans.0 steps last new step (moment_of spans.0) b spans.3 high spans.5 leads leaves ends in
+        (spans.0, spans.1, spans.2, omega (arith, spans.3), spans.4, rest)
 
   -- the same moments as they are told later
-  module _ {Images : Type 0} (old_left new_left : ℕ → Images → Type 0) (OldOpens NewOpens : Images → State → Type 0) (now : ℕ)
+  module _ {Images : Type 0} (moment_of : System → ℕ) (old_left new_left : ℕ → Images → Type 0) (OldOpens NewOpens : Images → State → Type 0) (now : ℕ)
       (kept : (t : ℕ) (c : Images) → t ≤ now → new_left t c ↔ old_left t c) (opens : (c : Images) (s : State) → OldOpens c s → NewOpens c s) where
     leaves_later : (s : State) (a b : ℕ) (P : State → Type 0) → a ≤ b → b ≤ now → LeavesOf old_left OldOpens s a b P → LeavesOf new_left NewOpens s a b P
     leaves_later s a b P order past leaves = elim (cases_mark s.mark) [
@@ -176,10 +179,10 @@ module _ {System : Type 0} (state_of : System → State) (Between : System → C
           (kept a c (omega arith)).1 ((leaves_failed old_left OldOpens s a b P is).0 leaves t c from to ((kept t c (omega arith)).0 left)))
     ]
 
-    pub spans_later : (f : System) (steps : List (Command × Reply)) (last : System) (a b : ℕ) → a ≤ b → b ≤ now → Spans old_left OldOpens state_of Between f steps last a b
-        → Spans new_left NewOpens state_of Between f steps last a b
+    pub spans_later : (f : System) (steps : List (Command × Reply)) (last : System) (a b : ℕ) → a ≤ b → b ≤ now → Spans old_left OldOpens state_of moment_of Between f steps last a b
+        → Spans new_left NewOpens state_of moment_of Between f steps last a b
     spans_later f [] last a b order past spans = (spans.0, leaves_later (state_of f) a b (λ t. t ≡ state_of f) order past spans.1)
     spans_later f (step ∷ steps) last a b order past spans =
-        let m = spans.2.0 in
-        let first = leaves_later (state_of f) a m (MayStand (state_of f) step.0 (state_of spans.0)) spans.2.1 (omega (arith, spans.2.2)) spans.2.3 in
-        (spans.0, spans.1, (m, spans.2.1, spans.2.2, first, spans_later spans.0 steps last m b spans.2.2 past spans.2.4))
+        let m = moment_of spans.0 in
+        let first = leaves_later (state_of f) a m (MayStand (state_of f) step.0 (state_of spans.0)) spans.2 (omega (arith, spans.3)) spans.4 in
+        (spans.0, spans.1, spans.2, spans.3, first, spans_later spans.0 steps last m b spans.3 past spans.5)

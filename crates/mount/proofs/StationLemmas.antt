@@ -1,10 +1,8 @@
 -- Calls to a station, one after the other, and what a cut leaves of them.
 use Rattle.std.proofs.Common.{◌≡◌, ◌⊎◌, inl, inr, ℕ, ◌≤◌, Bool, true, false, sym, subst, arith}
-use Rattle.std.specs.Prelude.{All}
 use Rattle.station.specs.Images.{Images}
 use Rattle.station.specs.Moments.{Meaning, MayLeave, EachCut, IsSameStation, LeftOnly, MayGrow}
 use Rattle.model.specs.States.{State, going}
-use Rattle.records.specs.Served.{IsServed}
 use Rattle.system.specs.Images.{OpensTo}
 use Rattle.images.specs.States.{Opens}
 use Rattle.mount.specs.Applying.{GoesOn, LeftWithin, LeftNow, Tells}
@@ -33,15 +31,10 @@ pub told : (old new : ℕ) → MayGrow old new → (flag : Bool) × Tells flag o
 told old new (inl same) = (false, same)
 told old new (inr grown) = (true, grown)
 
--- images that open on a station of so many sectors, by records that this version does
-abbrev OpensServed : ℕ → State → Images → Type 0
-OpensServed n u c = (o : Opens n c.disk c.nvram u) × All IsServed o.changes
-
 -- the same images on the same station
 pub moved : (m new : Meaning) (u : State) (c : Images) → new.sectors ≡ m.sectors → OpensTo m u c → OpensTo new u c
 moved m new u c sectors opens =
-    let both = subst (λ (n : ℕ). OpensServed n u c) (sym sectors) (opens.opens, opens.served) in
-    record { opens = both.0; served = both.1 }
+    record { opens = subst (λ (n : ℕ). Opens n c.disk c.nvram u) (sym sectors) opens.opens }
 
 pub moved_some : (m new : Meaning) (P : State → Type 0) (c : Images) → new.sectors ≡ m.sectors → OpensToSome m P c → OpensToSome new P c
 moved_some m new P c sectors opens = (opens.0, moved m new opens.0 c sectors opens.1, opens.2)

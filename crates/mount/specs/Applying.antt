@@ -1,10 +1,14 @@
 -- What applying commands comes to.
-use Rattle.std.specs.Prelude.{ℕ, ◌≡◌, ◌↔◌, ◌≤◌, List, Bool, true, false, IsTrue}
-use Rattle.station.specs.Images.{Images}
-use Rattle.station.specs.Moments.{Meaning, LeftBetween, HasGrown, IsSameStation, LeavesOnly}
+use Rattle.std.specs.Prelude.{ℕ, ◌≡◌, ◌≢◌, ◌↔◌, ◌≤◌, List, Bool, true, false, IsFalse, IsTrue, Result, Ok, IfErr, IfOk, IsErrOf, MatchResult, OnOk}
+use Rattle.station.specs.Calls.{Uses}
+use Rattle.station.specs.Images.{Images, Unchanged}
+use Rattle.station.specs.Moments.{Goes, Meaning, LeftBetween, HasGrown, IsSameStation, LeavesOnly}
 use Rattle.station.specs.declared.station.Station.{Ghosts}
 use Rattle.model.specs.declared.command.Command.{Command}
+use Rattle.model.specs.declared.errno.Errno.{Errno}
+use Rattle.model.specs.declared.errno.Errno.TheVariants.{EIO}
 use Rattle.model.specs.declared.reply.Reply.{Reply}
+use Rattle.model.specs.declared.reply.Reply.TheVariants.{Refused}
 use Rattle.model.specs.States.{State, going}
 use Rattle.model.specs.Room.{Room}
 use Rattle.model.specs.Records.{TellsRoom}
@@ -12,14 +16,21 @@ use Rattle.model.specs.Circumstances.{Circumstances, IsSure, IsStoring}
 use Rattle.model.specs.Runs.{MayStand, MayRemain, Leads, LeavesOf, Spans}
 use Rattle.layout.specs.Places.{blocks_of}
 use Rattle.images.specs.Roots.{whole}
+use Rattle.system.specs.Counting.{AgesBy, Counted, LogsNothing, call_failed, no_call}
 use Rattle.system.specs.Images.{OpensTo}
+use Rattle.system.specs.Opening.{HasFailed}
 use Rattle.system.specs.Room.{free_under}
-use Rattle.system.specs.Serving.{ServesState}
+use Rattle.system.specs.Serving.{HasEmptyLog, ServesState, TellsNoFault}
 use Rattle.system.specs.Settling.{IsFilledBy}
 use Rattle.system.specs.Systems as systems
+use Rattle.system.specs.Systems.{IsCovered}
+use Rattle.system.specs.declared.error.CallError.{CallError}
+use Rattle.system.specs.declared.error.CallError.TheVariants.{LogFull, NotWritten}
 use Rattle.system.specs.declared.system.System.{System}
-use Rattle.mount.specs.Systems.{Mounted, mounted, meaning_of, shown, Serves, IsYoung}
+use Rattle.mount.specs.Refusals.{errno_of_call}
+use Rattle.mount.specs.Systems.{HasPoints, Mounted, mounted, meaning_of, moment_of, shown, Serves}
 use Rattle.mount.specs.declared.fs.Fs.{Fs}
+use Rattle.mount.specs.declared.fs.TheConstants.{POINTS}
 
 -- no write and no sync failed
 abbrev pub NoWriteFailed : Meaning → Meaning → Type 0
@@ -40,9 +51,15 @@ pub record HasRoom {S : Type 0} {G : Ghosts S} (f : System S G) (s : State) (roo
       room.free ≡ free_under (whole disk f.root).active f.root.geometry.blocks
   pub told : TellsRoom f.root.geometry.inodes serves.first serves.running serves.replayed.changes room
 
--- What came in the way of a command, from one system to the next. Nothing is tied to memory_refused: of ENOMEM no theorem tells
--- the cause.
+-- time went on, and earlier moments stay as they were
+pub record GoesOn (old new : Meaning) : Type 0 where
+  pub later : old.moment ≤ new.moment
+  pub kept : (t : ℕ) (c : Images) → t ≤ old.moment → new.left_at t c ↔ old.left_at t c
+
+-- What came in the way of a command, from one system to the next, whose station has the same history up to there. Nothing is tied to
+-- memory_refused: of ENOMEM no theorem tells the cause.
 pub record Between {S : Type 0} {G : Ghosts S} (old : Mounted S G) (command : Command) (new : Mounted S G) (c : Circumstances) : Type 0 where
+  pub goes_on : GoesOn (meaning_of old) (meaning_of new)
   pub reads : Tells c.read_failed (meaning_of old).failed_reads (meaning_of new).failed_reads
   pub writes : Tells c.write_failed (meaning_of old).failed_writes (meaning_of new).failed_writes
   pub full : IsTrue c.lacks_place → IsFilledBy command new.fs.system
@@ -59,18 +76,12 @@ LeftWithin old new s P = LeftOf new s old.moment new.moment P
 abbrev pub LeftNow : Meaning → State → (State → Type 0) → Type 0
 LeftNow m s P = LeftOf m s m.moment m.moment P
 
--- time went on, and earlier moments stay as they were
-pub record GoesOn (old new : Meaning) : Type 0 where
-  pub later : old.moment ≤ new.moment
-  pub kept : (t : ℕ) (c : Images) → t ≤ old.moment → new.left_at t c ↔ old.left_at t c
-
 -- A command with this reply led from one system to the next, which serves what it shows. A cut at any moment of the call
 -- leaves the state before it or the one after it, and at the answer the one after it; where the command failed the system,
 -- a state within it.
 pub record IsApplied {S : Type 0} {G : Ghosts S} (old new : Mounted S G) (command : Command) (reply : Reply) : Type 0 where
   pub serves : Serves new
   pub leads : Leads shown Between old (command, reply) new
-  pub goes_on : GoesOn (meaning_of old) (meaning_of new)
   pub any_moment :
       LeftWithin (meaning_of old) (meaning_of new) old.state (MayStand old.state command new.state)
   pub at_answer : LeftNow (meaning_of new) old.state (MayRemain old.state command new.state)
@@ -79,9 +90,23 @@ pub record IsApplied {S : Type 0} {G : Ghosts S} (old new : Mounted S G) (comman
 abbrev pub IsAppliedAt : {S : Type 0} {G : Ghosts S} → Fs S G → State → Fs S G → Command → Reply → Type 0
 IsAppliedAt old s new command reply = (t : State) × IsApplied (mounted old s) (mounted new t) command reply
 
--- whatever the state that a system serves
-abbrev pub IsAppliedAlways : {S : Type 0} {G : Ghosts S} → Fs S G → Fs S G → Command → Reply → Type 0
-IsAppliedAlways old new command reply = (s : State) → Serves (mounted old s) → IsYoung old → IsAppliedAt old s new command reply
+-- What a command does to a file system at a state with P, and over any bytes: all that is promised of it. It makes so many
+-- consistency points at most. EIO comes only where a device call failed, and nothing else where a write failed; a refusal for
+-- another cause logged nothing; and a sure command calls no device.
+pub record Answers {S : Type 0} {G : Ghosts S} (points : ℕ) (P : State → Type 0) (old new : Fs S G) (command : Command) (reply : Reply) : Type 0 where
+  pub uses : Uses (systems.meaning_of old.system) (systems.meaning_of new.system)
+  pub eio : reply ≡ Refused EIO → HasFailed (systems.meaning_of old.system) (systems.meaning_of new.system)
+  pub written : reply ≢ Refused EIO → NoWriteFailed (systems.meaning_of old.system) (systems.meaning_of new.system)
+  pub unlogged : (errno : Errno) → reply ≡ Refused errno → errno ≢ EIO
+      → LogsNothing (systems.meaning_of old.system) (systems.meaning_of new.system)
+  pub epoch : AgesBy points old.system.log.epoch new.system.log.epoch
+  pub still : (s : State) → Serves (mounted old s) → P s → IsSure s command
+      → new.system.blocks.station ≡ old.system.blocks.station
+  pub applied : (s : State) → Serves (mounted old s) → HasPoints points old → P s → IsAppliedAt old s new command reply
+
+-- the same, whatever the state
+abbrev pub AnswersAlways : {S : Type 0} {G : Ghosts S} → Fs S G → Fs S G → Command → Reply → Type 0
+AnswersAlways old new command reply = Answers POINTS (λ s. Unit {0}) old new command reply
 
 -- a command that a consistency point may refuse for want of place
 pub record NeedsPlace (s : State) (command : Command) : Type 0 where
@@ -98,7 +123,7 @@ pub record Stays {S : Type 0} {G : Ghosts S} (old new : Fs S G) (s : State) : Ty
 pub record HasRun {S : Type 0} {G : Ghosts S} (old new : Mounted S G) (steps : List (Command × Reply)) : Type 0 where
   pub goes_on : GoesOn (meaning_of old) (meaning_of new)
   pub spans :
-      Spans (meaning_of new).left_at (λ c t. OpensTo (meaning_of new) t c) shown Between
+      Spans (meaning_of new).left_at (λ c t. OpensTo (meaning_of new) t c) shown moment_of Between
       old steps new (meaning_of old).moment (meaning_of new).moment
 
 -- a run from a system at a state leads to some state that the system serves then
@@ -111,3 +136,43 @@ pub record RunsAt {S : Type 0} {G : Ghosts S} (old : Fs S G) (s : State) (new : 
 pub record ReadsCut (old new other : Meaning) : Type 0 where
   pub left : LeftBetween new old.moment new.moment other.seen
   pub sectors : other.sectors ≡ new.sectors
+
+-- From one file system to another nothing failed and nothing was logged, by so many consistency points at most, and each state that the
+-- first one serves stays.
+pub record KeepsStates {S : Type 0} {G : Ghosts S} (points : ℕ) (old new : Fs S G) : Type 0 where
+  pub counted : Counted (systems.meaning_of old.system) (systems.meaning_of new.system) no_call
+  pub unlogged : LogsNothing (systems.meaning_of old.system) (systems.meaning_of new.system)
+  pub epoch : AgesBy points old.system.log.epoch new.system.log.epoch
+  pub stays : (s : State) → Serves (mounted old s) → Stays old new s
+
+-- What a call without a consistency point does to a file system that goes on.
+pub record Attempts {S : Type 0} {G : Ghosts S} (old new : Fs S G) (call : Command) (result : Result Reply CallError) : Type 0 where
+  pub counted : Counted (systems.meaning_of old.system) (systems.meaning_of new.system) (call_failed false result)
+  pub no_fault : IfOk result TellsNoFault
+  pub refused : (errno : Errno) → result ≡ Ok (Refused errno) → Goes Unchanged (systems.meaning_of old.system) (systems.meaning_of new.system)
+  pub kept : IfErr result (λ e. e ≢ NotWritten → Goes Unchanged (systems.meaning_of old.system) (systems.meaning_of new.system))
+  pub epoch : new.system.log.epoch ≡ old.system.log.epoch
+  pub sure : (s : State) → Serves (mounted old s) → IsSure s call
+      → MatchResult result (λ _. new.system.blocks.station ≡ old.system.blocks.station) (λ _. ⊥)
+  pub applied : (s : State) → Serves (mounted old s) → MatchResult result (IsAppliedAt old s new call)
+      (λ e. e ≢ LogFull → IsAppliedAt old s new call (Refused (errno_of_call e)))
+  pub going : IsErrOf result LogFull → IsFalse new.has_failed
+  pub full : (s : State) → Serves (mounted old s) → IsErrOf result LogFull → Stays old new s × NeedsPlace s call × (HasEmptyLog old.system → ⊥)
+
+-- A consistency point was made: all is in the root.
+pub record HasSettled {S : Type 0} {G : Ghosts S} (old new : Fs S G) : Type 0 where
+  pub keeps : KeepsStates 1 old new
+  pub going : IsFalse new.has_failed
+  pub empty : HasEmptyLog new.system
+  pub covered : (s : State) → Serves (mounted old s) → IsCovered new.system s.tree.descriptors s
+
+-- What a consistency point does to a file system that goes on, or why there is none: of a command that waits for it, too.
+pub record MakesRoom {S : Type 0} {G : Ghosts S} (old new : Fs S G) (result : Result (Unit {0}) Errno) : Type 0 where
+  pub uses : Uses (systems.meaning_of old.system) (systems.meaning_of new.system)
+  pub eio : IsErrOf result EIO → HasFailed (systems.meaning_of old.system) (systems.meaning_of new.system)
+  pub written : IfErr result (λ errno. errno ≢ EIO → NoWriteFailed (systems.meaning_of old.system) (systems.meaning_of new.system))
+  pub unlogged : LogsNothing (systems.meaning_of old.system) (systems.meaning_of new.system)
+  pub epoch : AgesBy 1 old.system.log.epoch new.system.log.epoch
+  pub made : OnOk result (HasSettled old new)
+  pub applied : (command : Command) (s : State) → Serves (mounted old s) → HasPoints 1 old → NeedsPlace s command
+      → IfErr result (λ errno. IsAppliedAt old s new command (Refused errno))

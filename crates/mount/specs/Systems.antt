@@ -1,5 +1,5 @@
 -- What a mounted file system stands for.
-use Rattle.std.specs.Prelude.{ℕ, ◌≡◌, ◌+◌, ◌*◌, ◌<◌, ◌^◌, Bool, if◌then◌else◌}
+use Rattle.std.specs.Prelude.{ℕ, ◌≡◌, ◌+◌, ◌*◌, ◌<◌, ◌≤◌, ◌^◌, Bool, if◌then◌else◌}
 use Rattle.station.specs.Images.{Images}
 use Rattle.station.specs.Moments.{Meaning, EachCut}
 use Rattle.station.specs.declared.station.Station.{Ghosts}
@@ -38,6 +38,10 @@ mounted fs s = record { fs = fs; state = s }
 abbrev pub meaning_of : {S : Type 0} {G : Ghosts S} → Mounted S G → Meaning
 meaning_of m = systems.meaning_of m.fs.system
 
+-- its present moment
+abbrev pub moment_of : {S : Type 0} {G : Ghosts S} → Mounted S G → ℕ
+moment_of m = (meaning_of m).moment
+
 abbrev pub shown : {S : Type 0} {G : Ghosts S} → Mounted S G → State
 shown m = m.state
 
@@ -53,13 +57,13 @@ pub record Serves {S : Type 0} {G : Ghosts S} (m : Mounted S G) : Type 0 where
   pub kept : m.state.mark ≡ going → ServesState m.fs.system m.state
   pub cut_short : m.state.mark ≡ failed → IsCutShort (meaning_of m) m.state
 
--- a further consistency point has a generation
-abbrev pub HasNext : {S : Type 0} {G : Ghosts S} → Fs S G → Type 0
-HasNext fs = fs.system.log.epoch < 2 ^ 62
+-- so many further consistency points have a generation
+abbrev pub HasPoints : {S : Type 0} {G : Ghosts S} → ℕ → Fs S G → Type 0
+HasPoints n fs = fs.system.log.epoch + n ≤ 2 ^ 62
 
--- and so has one behind that: no command runs more than two
+-- those of a command have
 abbrev pub IsYoung : {S : Type 0} {G : Ghosts S} → Fs S G → Type 0
-IsYoung fs = fs.system.log.epoch + 1 < 2 ^ 62
+IsYoung fs = HasPoints POINTS fs
 
 -- and so has each of so many commands, one after the other
 abbrev pub LastsFor : {S : Type 0} {G : Ghosts S} → ℕ → Fs S G → Type 0

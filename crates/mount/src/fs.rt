@@ -25,38 +25,32 @@ pub struct Fs<S: Station> {
 }
 
 impl<S: Station> Fs<S> {
-    ghost use Rattle.std.specs.Prelude.{◌≡◌, ◌≢◌, ◌≤◌, IsTrue, IsFalse, IfOk, IfErr, OnOk, OnErr, IsErrOf, MatchResult, List, [], ◌∷◌, ◌++◌, length, vec_len, ◌+◌, ◌*◌};
-    ghost use Rattle.std.specs.List.{zip};
+    ghost use Rattle.std.specs.Prelude.{◌≡◌, IsTrue, IsFalse, IfOk, OnErr, List, [], ◌∷◌, ◌++◌, length, vec_len, ◌*◌};
+    ghost use Rattle.std.specs.List.{Contains, zip};
     ghost use Rattle.station.specs.Calls.{Uses};
     ghost use Rattle.station.specs.Moments.{MayLeave};
     ghost use Rattle.model.specs.declared.command.Command.{Command};
     ghost use Rattle.model.specs.declared.errno.Errno.{Errno};
     ghost use Rattle.model.specs.declared.reply.Reply.{Reply};
     ghost use Rattle.model.specs.States.{State};
+    ghost use Rattle.system.specs.Counting.{AgesBy};
     ghost use Rattle.system.specs.Opening.{HasFailed};
-    ghost use Rattle.system.specs.Serving.{HasEmptyLog, IsCall, TellsNoFault};
+    ghost use Rattle.system.specs.Serving.{IsCall};
     ghost use Rattle.system.specs.Systems.{IsCovered, meaning_of};
-    ghost use Rattle.mount.specs.Applying.{NoWriteFailed, NeedsPlace, Stays, IsAppliedAt, IsAppliedAlways, RunsAt};
-    ghost use Rattle.mount.specs.Refusals as refusals;
-    ghost use Rattle.mount.specs.Systems.{mounted, HasNext, Serves, IsYoung, LastsFor, LeavesState};
+    ghost use Rattle.mount.specs.Applying.{Answers, AnswersAlways, Attempts, IsAppliedAt, MakesRoom, NeedsPlace, RunsAt};
+    ghost use Rattle.mount.specs.Systems.{mounted, Serves, IsYoung, LastsFor, LeavesState};
     ghost use Rattle.mount.specs.declared.fs.Fs.{Fs};
 
     /// Applies a command and answers it. A command that changes the image is logged before it is answered; a refused one
-    /// is not logged. EIO comes where a device call failed; after a failed write every command answers FAILED, with no
-    /// device call. ENOMEM comes where there was no memory, ENOSPC where a consistency point found too few free blocks, and
-    /// then nothing changed; none of these comes to `lseek`, `fsync`, `df`, or `close` but of a file that has no name.
+    /// is not logged. EIO comes only where a device call failed, and where a write or a sync failed nothing else comes; after
+    /// that every command answers FAILED, with no device call. ENOMEM comes where there was no memory, ENOSPC where a
+    /// consistency point found too few free blocks, and then nothing changed; none of these comes to `lseek`, `fsync`, `df`,
+    /// or `close` but of a file that has no name: they call no device.
     pub fn apply(&mut self, command: &Command) -> Reply
-        ensures uses { Uses (meaning_of self.old.system) (meaning_of self.new.system) }
+        ensures answers { AnswersAlways self.old self.new command.now result }
+        ensures quiet { command.now ≡ Command.Df → self.new ≡ self.old }
         ensures failed { IsTrue self.old.has_failed
             → (result ≡ Reply.Refused Errno.FAILED) × (self.new ≡ self.old) }
-        ensures eio { result ≡ Reply.Refused Errno.EIO
-            → HasFailed (meaning_of self.old.system) (meaning_of self.new.system) }
-        ensures refused { (errno : Errno) → result ≡ Reply.Refused errno → errno ≢ Errno.EIO
-            → NoWriteFailed (meaning_of self.old.system) (meaning_of self.new.system) }
-        ensures ages { self.old.system.log.epoch ≤ self.new.system.log.epoch }
-        ensures lasts { self.new.system.log.epoch ≤ self.old.system.log.epoch + POINTS }
-        ensures quiet { command.now ≡ Command.Df → self.new ≡ self.old }
-        ensures applied { IsAppliedAlways self.old self.new command.now result }
         // A run that led here goes on by this command.
         ensures goes_on { (first : Fs S S.Station) (s : State) (steps : List (Command × Reply))
             → RunsAt first s self.old steps → IsYoung self.old
@@ -69,17 +63,10 @@ impl<S: Station> Fs<S> {
 
     /// The same, of one command alone.
     fn answer(&mut self, command: &Command) -> Reply
-        ensures uses { Uses (meaning_of self.old.system) (meaning_of self.new.system) }
+        ensures answers { AnswersAlways self.old self.new command.now result }
+        ensures quiet { command.now ≡ Command.Df → self.new ≡ self.old }
         ensures failed { IsTrue self.old.has_failed
             → (result ≡ Reply.Refused Errno.FAILED) × (self.new ≡ self.old) }
-        ensures eio { result ≡ Reply.Refused Errno.EIO
-            → HasFailed (meaning_of self.old.system) (meaning_of self.new.system) }
-        ensures refused { (errno : Errno) → result ≡ Reply.Refused errno → errno ≢ Errno.EIO
-            → NoWriteFailed (meaning_of self.old.system) (meaning_of self.new.system) }
-        ensures ages { self.old.system.log.epoch ≤ self.new.system.log.epoch }
-        ensures lasts { self.new.system.log.epoch ≤ self.old.system.log.epoch + POINTS }
-        ensures quiet { command.now ≡ Command.Df → self.new ≡ self.old }
-        ensures applied { IsAppliedAlways self.old self.new command.now result }
     {
         if self.has_failed {
             return Reply::Refused(Errno::FAILED);
@@ -117,14 +104,7 @@ impl<S: Station> Fs<S> {
     fn call(&mut self, call: &Command) -> Reply
         requires going { IsFalse self.old.has_failed }
         requires is_call { IsCall call.now }
-        ensures uses { Uses (meaning_of self.old.system) (meaning_of self.new.system) }
-        ensures eio { result ≡ Reply.Refused Errno.EIO
-            → HasFailed (meaning_of self.old.system) (meaning_of self.new.system) }
-        ensures refused { (errno : Errno) → result ≡ Reply.Refused errno → errno ≢ Errno.EIO
-            → NoWriteFailed (meaning_of self.old.system) (meaning_of self.new.system) }
-        ensures ages { self.old.system.log.epoch ≤ self.new.system.log.epoch }
-        ensures lasts { self.new.system.log.epoch ≤ self.old.system.log.epoch + POINTS }
-        ensures applied { IsAppliedAlways self.old self.new call.now result }
+        ensures { AnswersAlways self.old self.new call.now result }
     {
         match self.attempt(call) {
             Ok(reply) => reply,
@@ -139,16 +119,7 @@ impl<S: Station> Fs<S> {
     fn call_settled(&mut self, call: &Command) -> Reply
         requires going { IsFalse self.old.has_failed }
         requires is_call { IsCall call.now }
-        ensures uses { Uses (meaning_of self.old.system) (meaning_of self.new.system) }
-        ensures eio { result ≡ Reply.Refused Errno.EIO
-            → HasFailed (meaning_of self.old.system) (meaning_of self.new.system) }
-        ensures refused { (errno : Errno) → result ≡ Reply.Refused errno → errno ≢ Errno.EIO
-            → NoWriteFailed (meaning_of self.old.system) (meaning_of self.new.system) }
-        ensures ages { self.old.system.log.epoch ≤ self.new.system.log.epoch }
-        ensures lasts { self.new.system.log.epoch ≤ self.old.system.log.epoch + POINTS }
-        ensures applied { (s : State) → Serves (mounted self.old s) → IsYoung self.old
-            → NeedsPlace s call.now
-            → IsAppliedAt self.old s self.new call.now result }
+        ensures { Answers 1 (λ s. NeedsPlace s call.now) self.old self.new call.now result }
     {
         if let Err(errno) = self.settle() {
             return Reply::Refused(errno);
@@ -163,27 +134,7 @@ impl<S: Station> Fs<S> {
     fn attempt(&mut self, call: &Command) -> Result<Reply, CallError>
         requires going { IsFalse self.old.has_failed }
         requires is_call { IsCall call.now }
-        ensures uses { Uses (meaning_of self.old.system) (meaning_of self.new.system) }
-        ensures no_fault { IfOk result TellsNoFault }
-        ensures eio { IfErr result (λ e. refusals.errno_of_call e ≡ Errno.EIO
-            → HasFailed (meaning_of self.old.system) (meaning_of self.new.system)) }
-        ensures written { MatchResult result
-            (λ _. NoWriteFailed (meaning_of self.old.system) (meaning_of self.new.system))
-            (λ e. refusals.errno_of_call e ≢ Errno.EIO
-            → NoWriteFailed (meaning_of self.old.system) (meaning_of self.new.system)) }
-        ensures read { IsErrOf result CallError.LogFull
-            → (meaning_of self.new.system).failed_reads
-            ≡ (meaning_of self.old.system).failed_reads }
-        ensures epoch { self.new.system.log.epoch ≡ self.old.system.log.epoch }
-        ensures going { IsErrOf result CallError.LogFull → IsFalse self.new.has_failed }
-        ensures applied { (s : State) → Serves (mounted self.old s) → MatchResult result
-            (IsAppliedAt self.old s self.new call.now)
-            (λ e. e ≢ CallError.LogFull → IsAppliedAt self.old s self.new call.now
-            (Reply.Refused (refusals.errno_of_call e))) }
-        ensures full { (s : State) → Serves (mounted self.old s)
-            → IsErrOf result CallError.LogFull → Stays self.old self.new s × NeedsPlace s call.now }
-        ensures fits { (s : State) → Serves (mounted self.old s) → HasEmptyLog self.old.system
-            → IsErrOf result CallError.LogFull → ⊥ }
+        ensures { Attempts self.old self.new call.now result }
     {
         served_states_open(&self.system);
         match self.system.call(call) {
@@ -201,14 +152,7 @@ impl<S: Station> Fs<S> {
     /// `sync`: a consistency point, where something is uncovered.
     fn sync(&mut self) -> Reply
         requires { IsFalse self.old.has_failed }
-        ensures uses { Uses (meaning_of self.old.system) (meaning_of self.new.system) }
-        ensures eio { result ≡ Reply.Refused Errno.EIO
-            → HasFailed (meaning_of self.old.system) (meaning_of self.new.system) }
-        ensures refused { (errno : Errno) → result ≡ Reply.Refused errno → errno ≢ Errno.EIO
-            → NoWriteFailed (meaning_of self.old.system) (meaning_of self.new.system) }
-        ensures ages { self.old.system.log.epoch ≤ self.new.system.log.epoch }
-        ensures lasts { self.new.system.log.epoch ≤ self.old.system.log.epoch + POINTS }
-        ensures applied { IsAppliedAlways self.old self.new Command.Sync result }
+        ensures { AnswersAlways self.old self.new Command.Sync result }
     {
         served_states_open(&self.system);
         if self.system.is_covered() {
@@ -223,14 +167,7 @@ impl<S: Station> Fs<S> {
     /// `snap take`: where something is uncovered a consistency point, and then one that takes the snapshot.
     fn take(&mut self, name: &Text) -> Reply
         requires { IsFalse self.old.has_failed }
-        ensures uses { Uses (meaning_of self.old.system) (meaning_of self.new.system) }
-        ensures eio { result ≡ Reply.Refused Errno.EIO
-            → HasFailed (meaning_of self.old.system) (meaning_of self.new.system) }
-        ensures refused { (errno : Errno) → result ≡ Reply.Refused errno → errno ≢ Errno.EIO
-            → NoWriteFailed (meaning_of self.old.system) (meaning_of self.new.system) }
-        ensures ages { self.old.system.log.epoch ≤ self.new.system.log.epoch }
-        ensures lasts { self.new.system.log.epoch ≤ self.old.system.log.epoch + POINTS }
-        ensures applied { IsAppliedAlways self.old self.new (Command.SnapTake name.now) result }
+        ensures { AnswersAlways self.old self.new (Command.SnapTake name.now) result }
     {
         served_states_open(&self.system);
         match self.system.refuses_take(name) {
@@ -243,16 +180,8 @@ impl<S: Station> Fs<S> {
     /// The same where its tests are passed.
     fn take_tested(&mut self, name: &Text) -> Reply
         requires { IsFalse self.old.has_failed }
-        ensures uses { Uses (meaning_of self.old.system) (meaning_of self.new.system) }
-        ensures eio { result ≡ Reply.Refused Errno.EIO
-            → HasFailed (meaning_of self.old.system) (meaning_of self.new.system) }
-        ensures refused { (errno : Errno) → result ≡ Reply.Refused errno → errno ≢ Errno.EIO
-            → NoWriteFailed (meaning_of self.old.system) (meaning_of self.new.system) }
-        ensures ages { self.old.system.log.epoch ≤ self.new.system.log.epoch }
-        ensures lasts { self.new.system.log.epoch ≤ self.old.system.log.epoch + POINTS }
-        ensures applied { (s : State) → Serves (mounted self.old s) → IsYoung self.old
-            → NeedsPlace s (Command.SnapTake name.now)
-            → IsAppliedAt self.old s self.new (Command.SnapTake name.now) result }
+        ensures { Answers POINTS (λ s. NeedsPlace s (Command.SnapTake name.now)) self.old self.new
+            (Command.SnapTake name.now) result }
     {
         if self.system.is_covered() {
             return self.take_covered(name);
@@ -266,16 +195,8 @@ impl<S: Station> Fs<S> {
     /// The same where the newest root covers all.
     fn take_covered(&mut self, name: &Text) -> Reply
         requires { IsFalse self.old.has_failed }
-        ensures uses { Uses (meaning_of self.old.system) (meaning_of self.new.system) }
-        ensures eio { result ≡ Reply.Refused Errno.EIO
-            → HasFailed (meaning_of self.old.system) (meaning_of self.new.system) }
-        ensures refused { (errno : Errno) → result ≡ Reply.Refused errno → errno ≢ Errno.EIO
-            → NoWriteFailed (meaning_of self.old.system) (meaning_of self.new.system) }
-        ensures ages { self.old.system.log.epoch ≤ self.new.system.log.epoch }
-        ensures once { self.new.system.log.epoch ≤ self.old.system.log.epoch + 1 }
-        ensures applied { (s : State) → Serves (mounted self.old s) → HasNext self.old
-            → IsCovered self.old.system s.tree.descriptors s
-            → IsAppliedAt self.old s self.new (Command.SnapTake name.now) result }
+        ensures { Answers 1 (λ s. IsCovered self.old.system s.tree.descriptors s) self.old self.new
+            (Command.SnapTake name.now) result }
     {
         served_states_open(&self.system);
         match self.system.take(name) {
@@ -294,14 +215,7 @@ impl<S: Station> Fs<S> {
     /// `snap delete`: a consistency point that deletes the snapshot.
     fn delete(&mut self, name: &Text) -> Reply
         requires { IsFalse self.old.has_failed }
-        ensures uses { Uses (meaning_of self.old.system) (meaning_of self.new.system) }
-        ensures eio { result ≡ Reply.Refused Errno.EIO
-            → HasFailed (meaning_of self.old.system) (meaning_of self.new.system) }
-        ensures refused { (errno : Errno) → result ≡ Reply.Refused errno → errno ≢ Errno.EIO
-            → NoWriteFailed (meaning_of self.old.system) (meaning_of self.new.system) }
-        ensures ages { self.old.system.log.epoch ≤ self.new.system.log.epoch }
-        ensures lasts { self.new.system.log.epoch ≤ self.old.system.log.epoch + POINTS }
-        ensures applied { IsAppliedAlways self.old self.new (Command.SnapDelete name.now) result }
+        ensures { AnswersAlways self.old self.new (Command.SnapDelete name.now) result }
     {
         served_states_open(&self.system);
         match self.system.delete(name) {
@@ -320,27 +234,7 @@ impl<S: Station> Fs<S> {
     /// Runs a consistency point, and says why there is none.
     fn settle(&mut self) -> Result<(), Errno>
         requires { IsFalse self.old.has_failed }
-        ensures uses { Uses (meaning_of self.old.system) (meaning_of self.new.system) }
-        ensures eio { IsErrOf result Errno.EIO
-            → HasFailed (meaning_of self.old.system) (meaning_of self.new.system) }
-        ensures written { MatchResult result
-            (λ _. NoWriteFailed (meaning_of self.old.system) (meaning_of self.new.system))
-            (λ errno. errno ≢ Errno.EIO
-            → NoWriteFailed (meaning_of self.old.system) (meaning_of self.new.system)) }
-        ensures read { OnOk result ((meaning_of self.new.system).failed_reads
-            ≡ (meaning_of self.old.system).failed_reads) }
-        ensures ages { self.old.system.log.epoch ≤ self.new.system.log.epoch }
-        ensures once { self.new.system.log.epoch ≤ self.old.system.log.epoch + 1 }
-        ensures going { OnOk result (IsFalse self.new.has_failed) }
-        ensures empty { OnOk result (HasEmptyLog self.new.system) }
-        ensures stays { (s : State) → Serves (mounted self.old s)
-            → OnOk result (Stays self.old self.new s) }
-        ensures covered { (s : State) → Serves (mounted self.old s)
-            → OnOk result (IsCovered self.new.system s.tree.descriptors s) }
-        ensures applied { (command : Command) (s : State) → Serves (mounted self.old s)
-            → HasNext self.old → NeedsPlace s command
-            → IfErr result (λ errno.
-            IsAppliedAt self.old s self.new command (Reply.Refused errno)) }
+        ensures { MakesRoom self.old self.new result }
     {
         match self.system.point() {
             Ok(()) => Ok(()),
@@ -357,9 +251,10 @@ impl<S: Station> Fs<S> {
         ensures uses { Uses (meaning_of self.old.system) (meaning_of self.new.system) }
         ensures refused { OnErr result (self.new ≡ self.old) }
         ensures count { IfOk result (λ replies. vec_len replies ≡ length commands.now) }
-        ensures ages { self.old.system.log.epoch ≤ self.new.system.log.epoch }
-        ensures lasts { self.new.system.log.epoch
-            ≤ self.old.system.log.epoch + POINTS * length commands.now }
+        ensures epoch { AgesBy (POINTS * length commands.now)
+            self.old.system.log.epoch self.new.system.log.epoch }
+        ensures eio { IfOk result (λ replies. Contains replies.items (Reply.Refused Errno.EIO)
+            → HasFailed (meaning_of self.old.system) (meaning_of self.new.system)) }
         ensures ran { (s : State) → Serves (mounted self.old s)
             → LastsFor (length commands.now) self.old
             → IfOk result (λ replies. RunsAt self.old s self.new (zip commands.now replies.items)) }

@@ -6,7 +6,7 @@ ghost use Rattle.station.specs.Moments.{IsSameStation, Goes};
 ghost use Rattle.model.specs.States.{State, Forgets};
 ghost use Rattle.system.specs.Images.{OpensTo};
 ghost use Rattle.loading.specs.Slots.{HasNoRoot};
-ghost use Rattle.system.specs.Opening.{HasFailed};
+ghost use Rattle.system.specs.Opening.{HasFailed, HasNewest};
 ghost use Rattle.system.specs.Systems.{meaning_of};
 ghost use Rattle.mount.specs.Systems.{mounted, Serves};
 
@@ -17,7 +17,8 @@ use system::System;
 
 /// Mounts an image: reads its newest root and what hangs from it, and replays its log. It writes nothing. Where what the
 /// station reads opens to a state, Ok serves that state, without open files; `NoRoot` comes where neither slot holds a root,
-/// `Damaged` where one does but what the station reads opens to no state, `Device` only where a device call failed.
+/// `Damaged` where one does but what the station reads opens to no state, `Device` only where a device call failed. Whatever
+/// else the station holds, Ok has taken the newest root, the station has its sizes, and the NVRAM holds a log over it.
 pub fn mount<S: Station>(alloc: Global, station: S) -> Result<Fs<S>, (MountError, S)>
     ensures same { MatchResult result
         (λ fs. IsSameStation (S.meaning station) (meaning_of fs.system))
@@ -32,6 +33,9 @@ pub fn mount<S: Station>(alloc: Global, station: S) -> Result<Fs<S>, (MountError
         → OpensTo (S.meaning station) s (S.meaning station).seen
         → MatchResult result (λ fs. (t : State) × Forgets s t × Serves (mounted fs t))
         (λ e. (e.0 ≡ MountError.NoMemory) ⊎ (e.0 ≡ MountError.Device)) }
+    ensures found { (S.meaning station).is_honest
+        → IfOk result (λ fs. HasNewest (S.meaning station) fs.system.slot fs.system.root
+        fs.system.log) }
     ensures no_root { (S.meaning station).is_honest
         → IfErr result (λ e. e.0 ≡ MountError.NoRoot
         → HasNoRoot (S.meaning station).sectors (S.meaning station).seen.disk) }

@@ -7,3 +7,4 @@ pub mod Steps
 pub mod Halts
 pub mod Following
 pub mod Ends
+pub mod Resolves

@@ -1,7 +1,9 @@
 -- Memory over the blocks of a disk, and what looking into an image does.
-use Rattle.std.specs.Prelude.{ℕ, ◌≡◌, List, Result}
+use Rattle.std.specs.Prelude.{ℕ, ◌≡◌, List, Result, IsErrOf}
 use Rattle.layout.specs.declared.inode.Inode.{Inode}
 use Rattle.model.specs.Volumes.{Volume}
+use Rattle.blocktree.specs.declared.error.ReadError.{ReadError}
+use Rattle.blocktree.specs.declared.error.ReadError.TheVariants.{Damaged}
 use Rattle.buffers.specs.Reads.{ReadsBlocks}
 use Rattle.buffers.specs.declared.blocks.Blocks.{Ghosts}
 use Rattle.inofile.specs.Volumes.{IsVolumeOf}
@@ -18,3 +20,13 @@ pub record Looks {B T E : Type 0} (G : Ghosts B) (IsFault : E → Type 0) (block
   pub reads : ReadsBlocks G IsFault blocks after result
   pub geometry : t.geometry ≡ s.geometry
   pub kept : (disk : ℕ → List ℕ) (settled : ℕ → Inode) (v : Volume) → Stands G disk settled v blocks s → Stands G disk settled v after t
+
+-- this holds of whatever memory stands for
+abbrev pub OnVolumes : {B : Type 0} → Ghosts B → B → InodeFile → ((ℕ → List ℕ) → (ℕ → Inode) → Volume → Type 0) → Type 0
+OnVolumes G blocks s P =
+    (disk : ℕ → List ℕ) (settled : ℕ → Inode) (v : Volume) → Stands G disk settled v blocks s → P disk settled v
+
+-- where memory stands for a volume, no block is found outside its format
+abbrev pub NeverDamaged : {B T : Type 0} → Ghosts B → B → InodeFile → Result T ReadError → Type 0
+NeverDamaged G blocks s result =
+    (disk : ℕ → List ℕ) (settled : ℕ → Inode) (v : Volume) → Stands G disk settled v blocks s → IsErrOf result Damaged → ⊥

@@ -1,5 +1,5 @@
 -- A step of a walk, in the words of the model.
-use Rattle.std.specs.Prelude.{ℕ, ◌-◌, ◌&&◌, not, Bool, IsTrue, if◌then◌else◌, List, [], ◌∷◌, ◌++◌, length, take, Option, Some, None}
+use Rattle.std.specs.Prelude.{ℕ, ◌≡◌, ◌-◌, ◌&&◌, not, Bool, IsTrue, if◌then◌else◌, List, [], ◌∷◌, ◌++◌, length, take, Option, Some, None}
 use Rattle.layout.specs.declared.kind.Kind.{Kind}
 use Rattle.layout.specs.declared.kind.Kind.TheVariants as kinds
 use Rattle.model.specs.declared.errno.Errno.TheVariants.{ENOENT, ENOTDIR, ENAMETOOLONG, DAMAGED}
@@ -54,6 +54,12 @@ after_turn v follow trail part rest (model.follows n text) =
 after_turn v follow trail part rest model.finds_nothing = halts (if is_empty rest then at_gap trail part else at_refusal ENOENT)
 after_turn v follow trail part rest model.finds_damage = halts (at_refusal DAMAGED)
 after_turn v follow trail part rest model.finds_long = halts (at_refusal ENAMETOOLONG)
+
+-- a walk takes this step by a part from a directory
+abbrev pub IsStepBy : ℕ → Name → Bool → Bool → Volume → Step → Type 0
+IsStepBy directory part is_last follow v s =
+    (trail : List ℕ) (rest : List Name) → model.here trail ≡ directory → is_empty rest ≡ is_last
+    → after v follow trail part rest s ≡ find_along v follow trail (part ∷ rest)
 
 -- each number that a step tells is one of an object, and a refusal one of a walk
 abbrev pub IsStepWithin : ℕ → Step → Type 0

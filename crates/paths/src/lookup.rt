@@ -6,11 +6,9 @@ ghost use Rattle.blocktree.specs.Errors.{IsFault};
 ghost use Rattle.blocktree.specs.Trees.{IsSoundAt};
 ghost use Rattle.dirs.specs.Listings.{IsListing};
 ghost use Rattle.inode.specs.Files.{bytes_of};
-ghost use Rattle.layout.specs.declared.inode.Inode.{Inode};
-ghost use Rattle.model.specs.Volumes.{Volume, entries};
-ghost use Rattle.paths.specs.Loads.{OnlyLoads};
+ghost use Rattle.model.specs.Volumes.{entries};
+ghost use Rattle.paths.specs.Loads.{IsAny, LooksUp};
 ghost use Rattle.paths.specs.Numbers.{IsNumber};
-ghost use Rattle.paths.specs.Standing.{Looks, Stands};
 ghost use Rattle.paths.specs.Steps.{found_as, found_in, text_in};
 
 use crate::loading::load;
@@ -39,14 +37,8 @@ pub fn object_at<B: Blocks>(
     number: u32,
 ) -> Result<Found, ReadError>
     requires { IsNumber inodes.old.geometry.inodes number }
-    ensures looks { Looks B.Blocks IsFault blocks.old blocks.new inodes.old inodes.new result }
-    ensures loads { OnlyLoads inodes.old inodes.new }
-    ensures damaged { (disk : ℕ → List ℕ) (settled : ℕ → Inode) (v : Volume)
-        → Stands B.Blocks disk settled v blocks.old inodes.old
-        → IsErrOf result ReadError.Damaged → ⊥ }
-    ensures found { (disk : ℕ → List ℕ) (settled : ℕ → Inode) (v : Volume)
-        → Stands B.Blocks disk settled v blocks.old inodes.old
-        → IfOk result (λ f. f ≡ found_in (v number)) }
+    ensures { LooksUp B.Blocks blocks.old blocks.new inodes.old inodes.new IsAny
+        (λ v found. found ≡ found_in (v number)) result }
 {
     load(alloc, inodes, blocks, number)?;
     let Some(object) = inodes.get(number) else {
@@ -76,15 +68,9 @@ pub fn number_at<B: Blocks>(
     name: &[u8],
 ) -> Result<Option<u32>, ReadError>
     requires { IsNumber inodes.old.geometry.inodes directory }
-    ensures looks { Looks B.Blocks IsFault blocks.old blocks.new inodes.old inodes.new result }
-    ensures loads { OnlyLoads inodes.old inodes.new }
-    ensures damaged { (disk : ℕ → List ℕ) (settled : ℕ → Inode) (v : Volume)
-        → Stands B.Blocks disk settled v blocks.old inodes.old
-        → IsErrOf result ReadError.Damaged → ⊥ }
-    ensures within { IfOk result (λ n. IfSome n (IsNumber inodes.old.geometry.inodes)) }
-    ensures number { (disk : ℕ → List ℕ) (settled : ℕ → Inode) (v : Volume)
-        → Stands B.Blocks disk settled v blocks.old inodes.old
-        → IfOk result (λ n. n ≡ entries v directory name.now) }
+    ensures { LooksUp B.Blocks blocks.old blocks.new inodes.old inodes.new
+        (λ number. IfSome number (IsNumber inodes.old.geometry.inodes))
+        (λ v number. number ≡ entries v directory name.now) result }
 {
     load(alloc, inodes, blocks, directory)?;
     let count = inodes.geometry().inodes();
@@ -106,14 +92,8 @@ pub fn list<B: Blocks>(
     directory: u32,
 ) -> Result<Names, ReadError>
     requires { IsNumber inodes.old.geometry.inodes directory }
-    ensures looks { Looks B.Blocks IsFault blocks.old blocks.new inodes.old inodes.new result }
-    ensures loads { OnlyLoads inodes.old inodes.new }
-    ensures damaged { (disk : ℕ → List ℕ) (settled : ℕ → Inode) (v : Volume)
-        → Stands B.Blocks disk settled v blocks.old inodes.old
-        → IsErrOf result ReadError.Damaged → ⊥ }
-    ensures listed { (disk : ℕ → List ℕ) (settled : ℕ → Inode) (v : Volume)
-        → Stands B.Blocks disk settled v blocks.old inodes.old
-        → IfOk result (IsListing (entries v directory)) }
+    ensures { LooksUp B.Blocks blocks.old blocks.new inodes.old inodes.new IsAny
+        (λ v names. IsListing (entries v directory) names) result }
 {
     load(alloc, inodes, blocks, directory)?;
     let count = inodes.geometry().inodes();
@@ -135,14 +115,8 @@ pub fn text_at<B: Blocks>(
     number: u32,
 ) -> Result<Vec<u8>, ReadError>
     requires { IsNumber inodes.old.geometry.inodes number }
-    ensures looks { Looks B.Blocks IsFault blocks.old blocks.new inodes.old inodes.new result }
-    ensures loads { OnlyLoads inodes.old inodes.new }
-    ensures damaged { (disk : ℕ → List ℕ) (settled : ℕ → Inode) (v : Volume)
-        → Stands B.Blocks disk settled v blocks.old inodes.old
-        → IsErrOf result ReadError.Damaged → ⊥ }
-    ensures text { (disk : ℕ → List ℕ) (settled : ℕ → Inode) (v : Volume)
-        → Stands B.Blocks disk settled v blocks.old inodes.old
-        → IfOk result (λ t. t.items ≡ text_in (v number)) }
+    ensures { LooksUp B.Blocks blocks.old blocks.new inodes.old inodes.new IsAny
+        (λ v text. text.items ≡ text_in (v number)) result }
 {
     load(alloc, inodes, blocks, number)?;
     let Some(object) = inodes.get(number) else {

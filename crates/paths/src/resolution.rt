@@ -1,17 +1,6 @@
 //! Where the parts of a path lead.
 
-ghost use Rattle.std.specs.Prelude.{◌≡◌, ℕ, List, [], Option, IfOk, IsErrOf, IsFalse};
-ghost use Rattle.blocktree.specs.Errors.{IsFault};
-ghost use Rattle.layout.specs.declared.inode.Inode.{Inode};
-ghost use Rattle.model.specs.Finding.{IsPlaceOf, find_within};
-ghost use Rattle.model.specs.Paths.{parts};
-ghost use Rattle.model.specs.Resolution.{resolve};
-ghost use Rattle.model.specs.Trees.{Description};
-ghost use Rattle.model.specs.Volumes.{IsVolume, Volume, tree_of};
-ghost use Rattle.paths.specs.Ends.{EndsInName, EndsWell, IsAtName};
-ghost use Rattle.paths.specs.Loads.{OnlyLoads};
-ghost use Rattle.paths.specs.Places.{place_of, IsPlaceWithin};
-ghost use Rattle.paths.specs.Standing.{Looks, Stands};
+ghost use Rattle.paths.specs.Resolves.{Resolves};
 
 use crate::text::starts_with_slash;
 use crate::walk::{Halt, walk};
@@ -32,27 +21,7 @@ pub fn resolve<B: Blocks>(
     path: Parts,
     follow: bool,
 ) -> Result<Place, ReadError>
-    ensures looks { Looks B.Blocks IsFault blocks.old blocks.new inodes.old inodes.new result }
-    ensures loads { OnlyLoads inodes.old inodes.new }
-    ensures damaged { (disk : ℕ → List ℕ) (settled : ℕ → Inode) (v : Volume)
-        → Stands B.Blocks disk settled v blocks.old inodes.old
-        → IsErrOf result ReadError.Damaged → ⊥ }
-    ensures within { IfOk result (IsPlaceWithin inodes.old.geometry.inodes) }
-    ensures place { (disk : ℕ → List ℕ) (settled : ℕ → Inode) (v : Volume)
-        → Stands B.Blocks disk settled v blocks.old inodes.old
-        → IfOk result (λ p. place_of p ≡ find_within LINKS_FOLLOWED v follow [] path) }
-    ensures resolved { (disk : ℕ → List ℕ) (settled : ℕ → Inode) (v : Volume)
-        (table : ℕ → Option Description) (text : List ℕ)
-        → Stands B.Blocks disk settled v blocks.old inodes.old
-        → IsVolume inodes.old.geometry.inodes v → path ≡ parts text
-        → IfOk result (λ p. IsPlaceOf v (place_of p) (resolve (tree_of v table) follow text)) }
-    ensures ends { (disk : ℕ → List ℕ) (settled : ℕ → Inode) (v : Volume)
-        → Stands B.Blocks disk settled v blocks.old inodes.old
-        → IsVolume inodes.old.geometry.inodes v
-        → IfOk result (λ p. EndsWell v follow (place_of p)) }
-    ensures named { (disk : ℕ → List ℕ) (settled : ℕ → Inode) (v : Volume)
-        → Stands B.Blocks disk settled v blocks.old inodes.old
-        → IsFalse follow → EndsInName path → IfOk result (λ p. IsAtName (place_of p)) }
+    ensures { Resolves B.Blocks blocks.old blocks.new inodes.old inodes.new path follow result }
 {
     // An image has more inode numbers than the root's, where each walk begins.
     let _ = inodes.geometry().inodes();

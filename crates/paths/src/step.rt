@@ -1,15 +1,12 @@
 //! A step of a walk: what one part of a path leads to.
 
-ghost use Rattle.std.specs.Prelude.{◌≡◌, ◌∷◌, ℕ, List, Bool, IfOk, IsErrOf};
-ghost use Rattle.blocktree.specs.Errors.{IsFault};
-ghost use Rattle.layout.specs.declared.inode.Inode.{Inode};
-ghost use Rattle.model.specs.Finding.{find_along, finds_nothing, here, turn_at};
+ghost use Rattle.std.specs.Prelude.{◌≡◌, ℕ, List, Bool};
+ghost use Rattle.model.specs.Finding.{finds_nothing, turn_at};
 ghost use Rattle.model.specs.Paths.{Name, is_empty};
 ghost use Rattle.model.specs.Volumes.{Volume};
-ghost use Rattle.paths.specs.Loads.{OnlyLoads};
+ghost use Rattle.paths.specs.Loads.{LooksUp};
 ghost use Rattle.paths.specs.Numbers.{IsNumber};
-ghost use Rattle.paths.specs.Standing.{Looks, Stands};
-ghost use Rattle.paths.specs.Steps.{IsStepWithin, after, after_turn, found_in};
+ghost use Rattle.paths.specs.Steps.{IsStepBy, IsStepWithin, after, after_turn, found_in};
 
 use crate::lookup::{Found, number_at, object_at};
 use crate::text::{ITSELF, PARENT};
@@ -49,17 +46,9 @@ pub(crate) fn step_by<B: Blocks>(
     follow: bool,
 ) -> Result<Step, ReadError>
     requires { IsNumber inodes.old.geometry.inodes directory }
-    ensures looks { Looks B.Blocks IsFault blocks.old blocks.new inodes.old inodes.new result }
-    ensures loads { OnlyLoads inodes.old inodes.new }
-    ensures within { IfOk result (IsStepWithin inodes.old.geometry.inodes) }
-    ensures step { (disk : ℕ → List ℕ) (settled : ℕ → Inode) (v : Volume) (trail : List ℕ)
-        (rest : List Name) → Stands B.Blocks disk settled v blocks.old inodes.old
-        → here trail ≡ directory → is_empty rest ≡ is_last
-        → IfOk result (λ s. after v follow trail part.now rest s
-        ≡ find_along v follow trail (part.now ∷ rest)) }
-    ensures damaged { (disk : ℕ → List ℕ) (settled : ℕ → Inode) (v : Volume)
-        → Stands B.Blocks disk settled v blocks.old inodes.old
-        → IsErrOf result ReadError.Damaged → ⊥ }
+    ensures { LooksUp B.Blocks blocks.old blocks.new inodes.old inodes.new
+        (IsStepWithin inodes.old.geometry.inodes)
+        (IsStepBy directory part.now is_last follow) result }
 {
     if part == ITSELF {
         return Ok(Step::Stays);

@@ -1,15 +1,11 @@
 //! A walk along the parts of a path, up to a link that is followed.
 
-ghost use Rattle.std.specs.Prelude.{◌≡◌, ◌<◌, ℕ, List, IfOk, IsErrOf};
-ghost use Rattle.blocktree.specs.Errors.{IsFault};
-ghost use Rattle.layout.specs.declared.inode.Inode.{Inode};
+ghost use Rattle.std.specs.Prelude.{◌≡◌, ◌<◌};
 ghost use Rattle.model.specs.declared.limits.TheConstants.{ROOT_NUMBER};
 ghost use Rattle.model.specs.Finding.{find_along};
-ghost use Rattle.model.specs.Volumes.{Volume};
-ghost use Rattle.paths.specs.Loads.{OnlyLoads};
+ghost use Rattle.paths.specs.Loads.{LooksUp};
 ghost use Rattle.paths.specs.Numbers.{AreNumbers};
 ghost use Rattle.paths.specs.Halts.{halt_of, IsHaltWithin};
-ghost use Rattle.paths.specs.Standing.{Looks, Stands};
 
 use crate::lookup::text_at;
 use crate::step::{Step, step_by};
@@ -43,15 +39,9 @@ pub(crate) fn walk<B: Blocks>(
 ) -> Result<Halt, ReadError>
     requires root { ROOT_NUMBER < inodes.old.geometry.inodes }
     requires numbers { AreNumbers inodes.old.geometry.inodes trail }
-    ensures looks { Looks B.Blocks IsFault blocks.old blocks.new inodes.old inodes.new result }
-    ensures loads { OnlyLoads inodes.old inodes.new }
-    ensures within { IfOk result (IsHaltWithin inodes.old.geometry.inodes) }
-    ensures halts { (disk : ℕ → List ℕ) (settled : ℕ → Inode) (v : Volume)
-        → Stands B.Blocks disk settled v blocks.old inodes.old
-        → IfOk result (λ h. halt_of h ≡ find_along v follow trail parts) }
-    ensures damaged { (disk : ℕ → List ℕ) (settled : ℕ → Inode) (v : Volume)
-        → Stands B.Blocks disk settled v blocks.old inodes.old
-        → IsErrOf result ReadError.Damaged → ⊥ }
+    ensures { LooksUp B.Blocks blocks.old blocks.new inodes.old inodes.new
+        (IsHaltWithin inodes.old.geometry.inodes)
+        (λ v halt. halt_of halt ≡ find_along v follow trail parts) result }
 {
     while let Some(name) = parts.next() {
         let is_last = parts.is_empty();

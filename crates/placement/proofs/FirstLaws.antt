@@ -10,14 +10,12 @@ use Rattle.conspoint.specs.Drafts.{Grows, WasTaken}
 use Rattle.conspoint.specs.Groups.{pointer_at}
 use Rattle.placement.specs.Nodes.{ArePlacedAt}
 use Rattle.placement.proofs.PlacedLaws.{pointer_below, later, earlier}
-
-same_block : (a b : ℕ) → Block a ≡ Block b → a ≡ b
-same_block a b is = cc
+use Rattle.layout.proofs.PointerLaws.{block_same}
 
 module _ (a b c : Draft) (settled nodes all : List Pointer) (first : ℕ) (before : Grows a b) (now : Grows b c) (blocks : ArePlacedAt a b settled nodes) (taken : WasTaken b c first) (low : 2 ≤ first)
     (here : pointer_at all 0 ≡ Block first) (others : (i : ℕ) → 1 ≤ i → pointer_at all i ≡ pointer_at nodes i) where
   is_first : (i x : ℕ) → i ≡ 0 → pointer_at all i ≡ Block x → first ≡ x
-  is_first i x none is = same_block first x (sym here ∙ ap (pointer_at all) (sym none) ∙ is)
+  is_first i x none is = block_same first x (sym here ∙ ap (pointer_at all) (sym none) ∙ is)
 
   came_first : (i x : ℕ) → pointer_at all i ≡ Block x → (pointer_at settled i ≡ Block x) ⊎ WasTaken a c x
   came_first i x is = elim (cases_eq i 0) [

@@ -19,6 +19,7 @@ use Rattle.images.specs.Soundness.{nodes_at, IsSoundFile}
 use Rattle.blocktree.specs.Places.{block_count, IsNode, IsPath}
 use Rattle.conspoint.specs.Groups.{pointer_at}
 use Rattle.placement.proofs.PlacedLaws.{pointer_below}
+use Rattle.images.proofs.OverlayLaws.{held_up}
 
 pub level_most : (size : ℕ) → level_of size ≤ 2
 level_most size = grind (arith, nat_tests)
@@ -47,16 +48,6 @@ top_place e f top i level =
 pub above_place : (e : Blocks) (f : Inode) (m i : ℕ) → level_of f.size ≤ m → (held e f).place m i ≡ Hole
 unfolding held
 above_place e f m i le = sym (cond_above m (level_of f.size) (place e (pointers_of f.body) (level_of f.size - suc m) i) Hole Hole le refl)
-
--- a node is what the indirect block over it says
-pub held_up : (d : Blocks) (f : Inode) (m i : ℕ) → suc m < level_of f.size → (held d f).place m i ≡ follow d ((held d f).place (suc m) (i / 1024)) (i % 1024)
-unfolding held place
-held_up d f m i lt =
-    let low : m < level_of f.size = omega arith in
-    let depth : level_of f.size - suc m ≡ suc (level_of f.size - suc (suc m)) = omega arith in
-    sym (cond_below m (level_of f.size) (place d (pointers_of f.body) (level_of f.size - suc m) i) Hole low)
-    ∙ ap (λ k. place d (pointers_of f.body) k i) depth
-    ∙ ap (λ p. follow d p (i % 1024)) (cond_below (suc m) (level_of f.size) (place d (pointers_of f.body) (level_of f.size - suc (suc m)) (i / 1024)) Hole lt)
 
 -- the bytes of a node that stands in a block
 pub node_bytes : (d : Blocks) (f : Inode) (m i b : ℕ) → (held d f).place m i ≡ Block b → (held d f).bytes m i ≡ d b

@@ -21,17 +21,13 @@ use Rattle.placement.specs.Layouts.{inode_with, IsLaidOut}
 use Rattle.placement.specs.Nodes.{node}
 use Rattle.placement.proofs.HeldLaws.{above_place, is_inline}
 use Rattle.placement.proofs.PlacedLaws.{no_block}
+use Rattle.layout.proofs.ZeroLaws.{length-zeros}
 
 pub zero_byte : (n k : ℕ) → get_or (zeros n) k 0 ≡ 0
 unfolding zeros
 zero_byte zero k = refl
 zero_byte (suc n) zero = refl
 zero_byte (suc n) (suc k) = zero_byte n k
-
-length-zeros : (n : ℕ) → length (zeros n) ≡ n
-unfolding zeros
-length-zeros zero = refl
-length-zeros (suc n) = ap suc (length-zeros n)
 
 -- bytes that are all 0
 zeros_of : (xs : List ℕ) → ((k : ℕ) → get_or xs k 0 ≡ 0) → xs ≡ zeros (length xs)

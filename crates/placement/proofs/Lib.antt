@@ -1,3 +1,4 @@
+pub mod StepLaws
 mod PlacedLaws
 mod MovedLaws
 mod HeldLaws

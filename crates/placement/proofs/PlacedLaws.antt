@@ -150,23 +150,3 @@ none_placed a c settled nodes none = record {
   from = λ i b is. no_block b (ap (λ (xs : List Pointer). pointer_at xs i) (sym none) ∙ is);
   apart = λ i j b is_i is_j. no_block b (ap (λ (xs : List Pointer). pointer_at xs i) (sym none) ∙ is_i);
 }
-
-pub grows_twice : (a b c : Draft) → Grows a b → Grows b c → Grows a c
-grows_twice a b c first second = record {
-  settled = record {
-    count = second.settled.count ∙ first.settled.count;
-    settled = λ n. second.settled.settled n ∙ first.settled.settled n;
-    touched = λ j was. second.settled.touched j (first.settled.touched j was);
-  };
-  count = second.count ∙ first.count;
-  next = omega (arith, first.next, second.next);
-  has = λ e has. first.has e (second.has e has);
-}
-
-pub grows_none : (a : Draft) → Grows a a
-grows_none a = record {
-  settled = record { count = refl; settled = λ n. refl; touched = λ j was. was };
-  count = refl;
-  next = omega arith;
-  has = λ e has. has;
-}

@@ -28,16 +28,10 @@ use Rattle.placement.specs.declared.nodes.Nodes.{Nodes}
 use Rattle.placement.specs.Files.{object_block, with_first}
 use Rattle.placement.specs.Layouts.{inode_with, under, StandOver, AreSettled, IsLaidOut, LeadTo}
 use Rattle.placement.specs.Nodes.{node}
-use Rattle.placement.proofs.HeldLaws.{top_place, above_place, held_up, node_bytes, used_holes, used_direct, used_indirect, not_inline}
+use Rattle.placement.proofs.HeldLaws.{top_place, above_place, node_bytes, used_holes, used_direct, used_indirect, not_inline}
 use Rattle.placement.proofs.PlacedLaws.{no_block, pointer_below, within_length}
-
-pointed_same : (d e : Blocks) (p : Pointer) → ((b : ℕ) → p ≡ Block b → e b ≡ d b) → pointed e p ≡ pointed d p
-pointed_same d e Hole same = refl
-pointed_same d e (Block b) same = same b refl
-
-follow_same : (d e : Blocks) (p : Pointer) (i : ℕ) → ((b : ℕ) → p ≡ Block b → e b ≡ d b) → follow e p i ≡ follow d p i
-follow_same d e Hole i same = refl
-follow_same d e (Block b) i same = ap (λ bytes. indirect_pointer bytes i) (same b refl)
+use Rattle.layout.proofs.PointerLaws.{block_same, follow_same, pointed_same}
+use Rattle.images.proofs.OverlayLaws.{held_up}
 
 -- what the indirect blocks of some nodes spell
 pub under_none : (n : Nodes) (j r : ℕ) → length n.over.items ≡ 0 → Hole ≡ under n j r
@@ -48,9 +42,6 @@ some_over k p some = grind (arith, nat_tests)
 
 pub under_some : (n : Nodes) (j r : ℕ) → (length n.over.items ≡ 0 → ⊥) → group n.blocks.items j r ≡ under n j r
 under_some n j r some = some_over (length n.over.items) (group n.blocks.items j r) some
-
-same_block : (a b : ℕ) → Block a ≡ Block b → a ≡ b
-same_block a b is = cc
 
 -- an inode's pointers fit, where so many are used and the others are holes
 pub pointers_fit : (blocks size top : ℕ) (body xs : List Pointer) → level_of size ≡ suc top → length body ≡ 16 → ((i : ℕ) → pointer_at body i ≡ pointer_at xs i) → All (PointsBelow blocks) xs
@@ -166,7 +157,7 @@ module _ (s : Sizes) (d e : Blocks) (base : Inode) (o : Object) (settled : Nodes
       → (length (e b) ≡ 4096) × ((i : ℕ) × (i < 1024) × (indirect_pointer (e b) i ≡ Hole → ⊥))
   stored over nodes j b at (IsGroup.keeps is kept) = settled_node j b (sym is ∙ at)
   stored over nodes j b at (IsGroup.spells block is size spelled some) =
-      let same : block ≡ b = same_block block b (sym is ∙ at) in
+      let same : block ≡ b = block_same block b (sym is ∙ at) in
       (ap (λ k. length (e k)) (sym same) ∙ size, (some.0, some.1, λ none. some.2 (sym (spelled some.0 some.1) ∙ ap (λ k. indirect_pointer (e k) some.0) same ∙ none)))
   stored over nodes j b at (IsGroup.none is holes) = no_block b (sym is ∙ at)
 

@@ -1,15 +1,16 @@
 //! A changed file's blocks, at their new places.
 
-ghost use Rattle.std.specs.Prelude.{◌≡◌, ◌≢◌, ℕ, ◌<◌, ◌≤◌, ◌^◌, All, IfOk, IfErr, IsErrOf, length, nat_lt, if◌then◌else◌, OnOk};
+ghost use Rattle.std.specs.Prelude.{◌≡◌, ◌≢◌, ℕ, ◌<◌, ◌≤◌, ◌^◌, All, IfOk, length, nat_lt, if◌then◌else◌};
 ghost use Rattle.layout.specs.Places.{pointed};
 ghost use Rattle.layout.specs.Pointer.{PointsBelow};
 ghost use Rattle.layout.specs.declared.pointer.Pointer.TheVariants.{Hole};
 ghost use Rattle.blocktree.specs.Trees.{IsChanged};
 ghost use Rattle.conspoint.specs.Blocks.{changed_or};
-ghost use Rattle.conspoint.specs.Drafts.{OnEach, Grows, IsFull, IsReserved, IsShortage};
+ghost use Rattle.conspoint.specs.Drafts.{OnEach};
 ghost use Rattle.conspoint.specs.Groups.{pointer_at};
-ghost use Rattle.conspoint.specs.Space.{Lacks, TakesAtMost, changed_blocks};
+ghost use Rattle.conspoint.specs.Space.{changed_blocks};
 ghost use Rattle.placement.specs.Nodes.{ArePlacedAt};
+ghost use Rattle.conspoint.specs.Steps.{Places};
 
 use crate::nodes::stretched;
 use blocktree::BlockTree;
@@ -29,15 +30,7 @@ pub(crate) fn place_lowest(
 ) -> Result<Vec<Pointer>, PlanError>
     requires few { count < 2 ^ 32 }
     requires within { All (PointsBelow draft.old.map.count) settled.now }
-    ensures grows { Grows draft.old draft.new }
-    ensures parts { draft.new.map.parts.items ≡ draft.old.map.parts.items }
-    ensures others { (p : ℕ) → IsReserved draft.old p → IsReserved draft.new p }
-    ensures full { IsErrOf result PlanError.NoSpace → IsFull draft.new }
-    ensures takes { OnOk result
-        (TakesAtMost (changed_blocks tree.now first count) draft.old draft.new) }
-    ensures lacks { IsErrOf result PlanError.NoSpace
-        → Lacks (changed_blocks tree.now first count) draft.old }
-    ensures shortage { IfErr result IsShortage }
+    ensures step { Places (changed_blocks tree.now first count) draft.old draft.new result }
     ensures count { IfOk result (λ nodes. length nodes.items ≡ count) }
     ensures blocks { IfOk result (λ nodes. OnEach draft.new (λ e. (i : ℕ) → i < count
         → first ≤ i → pointed e (pointer_at nodes.items i) ≡ changed_or tree.now i (pointed e

@@ -1,6 +1,6 @@
 //! A changed file whose first block comes later: the inode file's, which has the inode of the block map.
 
-ghost use Rattle.std.specs.Prelude.{◌≡◌, ℕ, ◌<◌, ◌≤◌, ◌^◌, ◌+◌, true, List, length, All, IfOk, IfErr, OnOk, IsErrOf, nat_lt, if◌then◌else◌};
+ghost use Rattle.std.specs.Prelude.{◌≡◌, ℕ, ◌<◌, ◌≤◌, ◌^◌, ◌+◌, List, length, All, IfOk, IsErrOf, nat_lt, if◌then◌else◌};
 ghost use Rattle.layout.specs.Limits.{Sizes};
 ghost use Rattle.layout.specs.Places.{pointed};
 ghost use Rattle.layout.specs.Pointer.{PointsBelow};
@@ -9,16 +9,17 @@ ghost use Rattle.layout.specs.declared.inode.Inode.{Inode};
 ghost use Rattle.layout.specs.declared.pointer.Pointer.TheVariants.{Hole, Block};
 ghost use Rattle.images.specs.Contents.{content_of};
 ghost use Rattle.images.specs.Nodes.{held, Agrees, Names};
-ghost use Rattle.buffers.specs.Failures.{HasGrown};
 ghost use Rattle.blocktree.specs.Trees.{IsChanged};
 ghost use Rattle.conspoint.specs.Blocks.{changed_or};
-ghost use Rattle.conspoint.specs.Drafts.{OnEach, Grows, IsFull, IsReserved, IsShortage, WasTaken};
+ghost use Rattle.conspoint.specs.Drafts.{OnEach, IsReserved};
 ghost use Rattle.conspoint.specs.Groups.{pointer_at};
-ghost use Rattle.conspoint.specs.Space.{Lacks, TakesAtMost, changed_blocks};
+ghost use Rattle.conspoint.specs.Space.{changed_blocks};
 ghost use Rattle.placement.specs.Files.{IsChangeOf, IsPlaced, content_with, is_one, object_block, with_first};
 ghost use Rattle.placement.specs.Layouts.{AreSettled, IsLaidOut, inode_with};
 ghost use Rattle.placement.specs.Nodes.{AreCounted, ArePlacedAt, ArePlacedOver};
 ghost use Rattle.placement.specs.Space.{first_stores};
+ghost use Rattle.conspoint.specs.Steps.{Places};
+ghost use Rattle.placement.specs.Steps.{PlacesFile, file_in};
 
 use crate::blocks::place_lowest;
 use crate::file::{Laid, PlacedFile, block_count, lay_over, placed_file};
@@ -54,18 +55,10 @@ fn place_but_first(
     requires few { count < 2 ^ 32 }
     requires some { 0 < count }
     requires within { All (PointsBelow draft.old.map.count) settled.now }
-    ensures grows { Grows draft.old draft.new }
-    ensures parts { draft.new.map.parts.items ≡ draft.old.map.parts.items }
-    ensures others { (p : ℕ) → IsReserved draft.old p → IsReserved draft.new p }
-    ensures full { IsErrOf result PlanError.NoSpace → IsFull draft.new }
-    ensures takes { OnOk result
-        (TakesAtMost (changed_blocks tree.now 1 count + 1) draft.old draft.new) }
-    ensures lacks { IsErrOf result PlanError.NoSpace
-        → Lacks (changed_blocks tree.now 1 count + 1) draft.old }
+    ensures step { Places (changed_blocks tree.now 1 count + 1) draft.old draft.new result }
     ensures unchanged { IfOk result (λ r. (i : ℕ) → i < count → 1 ≤ i
         → (IsChanged tree.now i → ⊥) → pointer_at r.0.items i
         ≡ (if nat_lt i tree.now.kept then pointer_at settled.now i else Hole)) }
-    ensures shortage { IfErr result IsShortage }
     ensures reserved { IfOk result (λ r. IsReserved draft.new r.1) }
     ensures count { IfOk result (λ r. length r.0.items ≡ count) }
     ensures first { IfOk result (λ r. pointer_at r.0.items 0 ≡ Block r.1) }
@@ -90,15 +83,7 @@ fn lay_but_first(
     requires blocks { All (PointsBelow draft.old.map.count) settled.now.blocks.items }
     requires over { All (PointsBelow draft.old.map.count) settled.now.over.items }
     requires counted { AreCounted object.now.file.tree settled.now }
-    ensures grows { Grows draft.old draft.new }
-    ensures parts { draft.new.map.parts.items ≡ draft.old.map.parts.items }
-    ensures others { (p : ℕ) → IsReserved draft.old p → IsReserved draft.new p }
-    ensures full { IsErrOf result PlanError.NoSpace → IsFull draft.new }
-    ensures takes { OnOk result
-        (TakesAtMost (first_stores object.now.file) draft.old draft.new) }
-    ensures lacks { IsErrOf result PlanError.NoSpace
-        → Lacks (first_stores object.now.file) draft.old }
-    ensures shortage { IfErr result IsShortage }
+    ensures step { Places (first_stores object.now.file) draft.old draft.new result }
     ensures reserved { IfOk result (λ r. IsReserved draft.new r.1) }
     ensures placed { IfOk result (λ r. ArePlacedOver draft.old draft.new settled.now r.0.nodes) }
     ensures stands { (s : Sizes) (disk : ℕ → List ℕ) (base : Inode)
@@ -125,20 +110,8 @@ pub fn place_file_but_first<B: Blocks>(
 ) -> Result<(PlacedFile, BlockNumber), PlanError>
     requires disk { B.count blocks.old ≡ draft.old.map.count }
     requires some { BLOCK_BYTES ≤ object.now.file.size }
-    ensures count { B.count blocks.new ≡ B.count blocks.old }
-    ensures counted { OnOk result (B.failed blocks.new ≡ B.failed blocks.old) }
-    ensures device { IsErrOf result PlanError.Device
-        → HasGrown (B.failed blocks.old) (B.failed blocks.new) }
-    ensures reads { (start : B) → B.ReadsOn start blocks.old → B.ReadsOn start blocks.new }
-    ensures same { (disk : ℕ → List ℕ) → B.Shows blocks.old disk → B.Shows blocks.new disk }
-    ensures grows { Grows draft.old draft.new }
-    ensures parts { draft.new.map.parts.items ≡ draft.old.map.parts.items }
-    ensures others { (p : ℕ) → IsReserved draft.old p → IsReserved draft.new p }
+    ensures step { PlacesFile B.Blocks (first_stores object.now.file) file_in blocks.old blocks.new draft.old draft.new result }
     ensures reserved { IfOk result (λ r. IsReserved draft.new r.1) }
-    ensures taken { IfOk result (λ r. All (λ b. b < draft.old.map.count) r.0.taken.items) }
-    ensures freed { IfOk result (λ r. All (λ b. b < draft.old.map.count) r.0.freed.items) }
-    ensures given { IfOk result (λ r. (b : ℕ) → is_one r.0.taken.items b ≡ true
-        → WasTaken draft.old draft.new b) }
     // On each disk that has the planned blocks, and those that the settled inode names as they are.
     ensures placed { (s : Sizes) (disk : ℕ → List ℕ) (base : Inode) → B.Shows blocks.old disk
         → IsChangeOf s draft.old disk base object.now
@@ -150,11 +123,6 @@ pub fn place_file_but_first<B: Blocks>(
         → IfOk result (λ r. OnEach draft.new (λ e. Agrees (Names (held disk base)) disk e
         → content_of (held e r.0.inode)
         ≡ content_with object.now (with_first (e r.1) (object_block disk object.now)))) }
-    ensures full { IsErrOf result PlanError.NoSpace → IsFull draft.new }
-    ensures takes { OnOk result
-        (TakesAtMost (first_stores object.now.file) draft.old draft.new) }
-    ensures lacks { IsErrOf result PlanError.NoSpace
-        → Lacks (first_stores object.now.file) draft.old }
     ensures damaged { (s : Sizes) (disk : ℕ → List ℕ) (base : Inode) → B.Shows blocks.old disk
         → IsChangeOf s draft.old disk base object.now → IsErrOf result PlanError.Damaged → ⊥ }
 {

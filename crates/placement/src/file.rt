@@ -1,6 +1,6 @@
 //! A changed file, placed.
 
-ghost use Rattle.std.specs.Prelude.{◌≡◌, ◌≢◌, ℕ, ◌<◌, ◌≤◌, true, List, [], length, All, Contains, ◌↔◌, IfOk, IfErr, OnOk, IsErrOf, nat_lt, if◌then◌else◌};
+ghost use Rattle.std.specs.Prelude.{◌≡◌, ◌≢◌, ℕ, ◌<◌, ◌≤◌, List, [], length, All, Contains, ◌↔◌, IfOk, IsErrOf, nat_lt, if◌then◌else◌};
 ghost use Rattle.std.specs.Int.{div_ceil};
 ghost use Rattle.layout.specs.Limits.{Sizes};
 ghost use Rattle.layout.specs.Pointer.{PointsBelow};
@@ -11,17 +11,19 @@ ghost use Rattle.layout.specs.declared.pointer.Pointer.TheVariants.{Hole};
 ghost use Rattle.images.specs.Contents.{content_of};
 ghost use Rattle.images.specs.Nodes.{held, Agrees, Names};
 ghost use Rattle.images.specs.Soundness.{HasNoHole, IsSoundFile};
-ghost use Rattle.buffers.specs.Failures.{HasGrown};
 ghost use Rattle.blocktree.specs.Places.{block_count};
 ghost use Rattle.blocktree.specs.Trees.{IsChanged, IsSoundAt};
 ghost use Rattle.inode.specs.Files.{IsFile};
-ghost use Rattle.conspoint.specs.Drafts.{OnEach, Grows, IsFull, IsReserved, IsShortage, WasTaken};
+ghost use Rattle.conspoint.specs.Drafts.{OnEach};
 ghost use Rattle.conspoint.specs.Groups.{group, pointer_at};
 ghost use Rattle.placement.specs.Files.{AreAllChanged, IsChangeOf, IsPlaced, IsWholeOver, is_one, object_block, object_content};
-ghost use Rattle.conspoint.specs.Space.{CountsGroups, Lacks, TakesAtMost, sum_below};
 ghost use Rattle.placement.specs.Layouts.{AreSettled, Carries, IsLaidOut, LeadTo, StandsIn, inode_with, under};
 ghost use Rattle.placement.specs.Nodes.{AreCounted, ArePlacedAt, ArePlacedOver, HasMoved};
 ghost use Rattle.placement.specs.Space.{file_stores, over_nodes};
+ghost use Rattle.conspoint.specs.Steps.{Places, PlacesOver};
+ghost use Rattle.placement.specs.Steps.{PlacesFile, ReadsAndPlaces};
+ghost use Rattle.buffers.specs.Reads.{ReadsBlocks};
+ghost use Rattle.conspoint.specs.Errors.{IsReadFault};
 
 use crate::blocks::place_lowest;
 use crate::indirect::place_indirect;
@@ -89,19 +91,7 @@ fn lay_indirect(
     requires count { length blocks.items ≡ block_count object.now.file.size }
     requires blocks { All (PointsBelow draft.old.map.count) blocks.items }
     requires over { All (PointsBelow draft.old.map.count) settled.now.over.items }
-    ensures grows { Grows draft.old draft.new }
-    ensures parts { draft.new.map.parts.items ≡ draft.old.map.parts.items }
-    ensures others { (p : ℕ) → IsReserved draft.old p → IsReserved draft.new p }
-    ensures full { IsErrOf result PlanError.NoSpace → IsFull draft.new }
-    ensures takes { OnOk result ((w : ℕ → ℕ) → CountsGroups w
-        (div_ceil (block_count object.now.file.size) BLOCK_POINTERS) (under settled.now)
-        (group blocks.items) → TakesAtMost (sum_below w
-        (div_ceil (block_count object.now.file.size) BLOCK_POINTERS)) draft.old draft.new) }
-    ensures lacks { IsErrOf result PlanError.NoSpace → (w : ℕ → ℕ) → CountsGroups w
-        (div_ceil (block_count object.now.file.size) BLOCK_POINTERS) (under settled.now)
-        (group blocks.items) → Lacks (sum_below w
-        (div_ceil (block_count object.now.file.size) BLOCK_POINTERS)) draft.old }
-    ensures shortage { IfErr result IsShortage }
+    ensures step { PlacesOver (div_ceil (block_count object.now.file.size) BLOCK_POINTERS) (under settled.now) (group blocks.items) draft.old draft.new result }
     ensures blocks { IfOk result (λ l. l.nodes.blocks.items ≡ blocks.items) }
     ensures over { IfOk result (λ l.
         ArePlacedAt draft.old draft.new settled.now.over.items l.nodes.over.items) }
@@ -128,21 +118,7 @@ pub(crate) fn lay_over(
     requires count { length blocks.items ≡ block_count object.now.file.size }
     requires blocks { All (PointsBelow draft.old.map.count) blocks.items }
     requires over { All (PointsBelow draft.old.map.count) settled.now.over.items }
-    ensures grows { Grows draft.old draft.new }
-    ensures parts { draft.new.map.parts.items ≡ draft.old.map.parts.items }
-    ensures others { (p : ℕ) → IsReserved draft.old p → IsReserved draft.new p }
-    ensures full { IsErrOf result PlanError.NoSpace → IsFull draft.new }
-    ensures takes { OnOk result ((w : ℕ → ℕ) → CountsGroups w
-        (over_nodes (level_of object.now.file.size) (block_count object.now.file.size))
-        (under settled.now) (group blocks.items) → TakesAtMost (sum_below w
-        (over_nodes (level_of object.now.file.size) (block_count object.now.file.size)))
-        draft.old draft.new) }
-    ensures lacks { IsErrOf result PlanError.NoSpace → (w : ℕ → ℕ) → CountsGroups w
-        (over_nodes (level_of object.now.file.size) (block_count object.now.file.size))
-        (under settled.now) (group blocks.items) → Lacks (sum_below w
-        (over_nodes (level_of object.now.file.size) (block_count object.now.file.size)))
-        draft.old }
-    ensures shortage { IfErr result IsShortage }
+    ensures step { PlacesOver (over_nodes (level_of object.now.file.size) (block_count object.now.file.size)) (under settled.now) (group blocks.items) draft.old draft.new result }
     ensures blocks { IfOk result (λ l. l.nodes.blocks.items ≡ blocks.items) }
     ensures over { IfOk result (λ l.
         ArePlacedAt draft.old draft.new settled.now.over.items l.nodes.over.items) }
@@ -169,15 +145,7 @@ fn lay_blocks(
     requires blocks { All (PointsBelow draft.old.map.count) settled.now.blocks.items }
     requires over { All (PointsBelow draft.old.map.count) settled.now.over.items }
     requires counted { AreCounted object.now.file.tree settled.now }
-    ensures grows { Grows draft.old draft.new }
-    ensures parts { draft.new.map.parts.items ≡ draft.old.map.parts.items }
-    ensures others { (p : ℕ) → IsReserved draft.old p → IsReserved draft.new p }
-    ensures full { IsErrOf result PlanError.NoSpace → IsFull draft.new }
-    ensures takes { OnOk result
-        (TakesAtMost (file_stores object.now.file) draft.old draft.new) }
-    ensures lacks { IsErrOf result PlanError.NoSpace
-        → Lacks (file_stores object.now.file) draft.old }
-    ensures shortage { IfErr result IsShortage }
+    ensures step { Places (file_stores object.now.file) draft.old draft.new result }
     ensures holes { IfOk result (λ l. (i : ℕ) → i < block_count object.now.file.size
         → pointer_at l.nodes.blocks.items i ≡ Hole
         → (if nat_lt i object.now.file.tree.kept then pointer_at settled.now.blocks.items i
@@ -200,12 +168,7 @@ fn lay_blocks(
 /// An object of level 0: its inode has its bytes.
 fn lay_inline<B: Blocks>(alloc: Global, blocks: &mut B, object: &Object) -> Result<Laid, PlanError>
     requires level { level_of object.now.file.size ≡ 0 }
-    ensures count { B.count blocks.new ≡ B.count blocks.old }
-    ensures counted { OnOk result (B.failed blocks.new ≡ B.failed blocks.old) }
-    ensures device { IsErrOf result PlanError.Device
-        → HasGrown (B.failed blocks.old) (B.failed blocks.new) }
-    ensures reads { (start : B) → B.ReadsOn start blocks.old → B.ReadsOn start blocks.new }
-    ensures same { (disk : ℕ → List ℕ) → B.Shows blocks.old disk → B.Shows blocks.new disk }
+    ensures reads { ReadsBlocks B.Blocks IsReadFault blocks.old blocks.new result }
     ensures none { IfOk result (λ l. (l.nodes.blocks.items ≡ []) × (l.nodes.over.items ≡ [])) }
     ensures stands { (s : Sizes) (disk : ℕ → List ℕ) (e : ℕ → List ℕ) → B.Shows blocks.old disk
         → IsFile disk object.now.file → IfOk result (λ l.
@@ -234,20 +197,7 @@ fn lay<B: Blocks>(
     requires blocks { All (PointsBelow draft.old.map.count) settled.now.blocks.items }
     requires over { All (PointsBelow draft.old.map.count) settled.now.over.items }
     requires counted { AreCounted object.now.file.tree settled.now }
-    ensures count { B.count blocks.new ≡ B.count blocks.old }
-    ensures counted { OnOk result (B.failed blocks.new ≡ B.failed blocks.old) }
-    ensures device { IsErrOf result PlanError.Device
-        → HasGrown (B.failed blocks.old) (B.failed blocks.new) }
-    ensures reads { (start : B) → B.ReadsOn start blocks.old → B.ReadsOn start blocks.new }
-    ensures same { (disk : ℕ → List ℕ) → B.Shows blocks.old disk → B.Shows blocks.new disk }
-    ensures grows { Grows draft.old draft.new }
-    ensures parts { draft.new.map.parts.items ≡ draft.old.map.parts.items }
-    ensures others { (p : ℕ) → IsReserved draft.old p → IsReserved draft.new p }
-    ensures full { IsErrOf result PlanError.NoSpace → IsFull draft.new }
-    ensures takes { OnOk result
-        (TakesAtMost (file_stores object.now.file) draft.old draft.new) }
-    ensures lacks { IsErrOf result PlanError.NoSpace
-        → Lacks (file_stores object.now.file) draft.old }
+    ensures step { ReadsAndPlaces B.Blocks (file_stores object.now.file) blocks.old blocks.new draft.old draft.new result }
     ensures holes { IfOk result (λ l. (i : ℕ)
         → 1 ≤ level_of object.now.file.size → i < block_count object.now.file.size
         → pointer_at l.nodes.blocks.items i ≡ Hole
@@ -319,19 +269,7 @@ pub fn place_file<B: Blocks>(
     object: &Object,
 ) -> Result<PlacedFile, PlanError>
     requires { B.count blocks.old ≡ draft.old.map.count }
-    ensures count { B.count blocks.new ≡ B.count blocks.old }
-    ensures counted { OnOk result (B.failed blocks.new ≡ B.failed blocks.old) }
-    ensures device { IsErrOf result PlanError.Device
-        → HasGrown (B.failed blocks.old) (B.failed blocks.new) }
-    ensures reads { (start : B) → B.ReadsOn start blocks.old → B.ReadsOn start blocks.new }
-    ensures same { (disk : ℕ → List ℕ) → B.Shows blocks.old disk → B.Shows blocks.new disk }
-    ensures grows { Grows draft.old draft.new }
-    ensures parts { draft.new.map.parts.items ≡ draft.old.map.parts.items }
-    ensures others { (p : ℕ) → IsReserved draft.old p → IsReserved draft.new p }
-    ensures taken { IfOk result (λ p. All (λ b. b < draft.old.map.count) p.taken.items) }
-    ensures freed { IfOk result (λ p. All (λ b. b < draft.old.map.count) p.freed.items) }
-    ensures given { IfOk result (λ p. (b : ℕ) → is_one p.taken.items b ≡ true
-        → WasTaken draft.old draft.new b) }
+    ensures step { PlacesFile B.Blocks (file_stores object.now.file) (λ p. p) blocks.old blocks.new draft.old draft.new result }
     // On each disk that has the planned blocks, and those that the settled inode names as they are.
     ensures placed { (s : Sizes) (disk : ℕ → List ℕ) (base : Inode) → B.Shows blocks.old disk
         → IsChangeOf s draft.old disk base object.now
@@ -349,11 +287,6 @@ pub fn place_file<B: Blocks>(
         → IsChangeOf s draft.old disk base object.now
         → IfOk result (λ p. OnEach draft.new (λ e. Agrees (Names (held disk base)) disk e
         → content_of (held e p.inode) ≡ object_content disk object.now)) }
-    ensures full { IsErrOf result PlanError.NoSpace → IsFull draft.new }
-    ensures takes { OnOk result
-        (TakesAtMost (file_stores object.now.file) draft.old draft.new) }
-    ensures lacks { IsErrOf result PlanError.NoSpace
-        → Lacks (file_stores object.now.file) draft.old }
     ensures damaged { (s : Sizes) (disk : ℕ → List ℕ) (base : Inode) → B.Shows blocks.old disk
         → IsChangeOf s draft.old disk base object.now → IsErrOf result PlanError.Damaged → ⊥ }
 {

@@ -1,13 +1,13 @@
 //! The indirect blocks over a file's blocks.
 
-ghost use Rattle.std.specs.Prelude.{◌≡◌, ℕ, ◌*◌, ◌<◌, ◌≤◌, All, IfOk, OnOk, IfErr, IsErrOf, length};
+ghost use Rattle.std.specs.Prelude.{◌≡◌, ℕ, ◌*◌, ◌<◌, ◌≤◌, All, IfOk, length};
 ghost use Rattle.std.specs.Int.{div_ceil};
 ghost use Rattle.layout.specs.Pointer.{PointsBelow};
-ghost use Rattle.conspoint.specs.Drafts.{OnEach, Grows, IsFull, IsReserved, IsShortage};
+ghost use Rattle.conspoint.specs.Drafts.{OnEach};
 ghost use Rattle.conspoint.specs.Groups.{group};
-ghost use Rattle.conspoint.specs.Space.{CountsGroups, Lacks, TakesAtMost, sum_below};
 ghost use Rattle.placement.specs.Layouts.{StandOver, under};
 ghost use Rattle.placement.specs.Nodes.{ArePlacedAt};
+ghost use Rattle.conspoint.specs.Steps.{PlacesOver};
 
 use crate::nodes::{Nodes, stretched};
 use conspoint::{Draft, PlanError, place_over};
@@ -42,17 +42,7 @@ pub(crate) fn place_indirect(
     requires few { length blocks.now ≤ 16384 }
     requires within { All (PointsBelow draft.old.map.count) blocks.now }
     requires over { All (PointsBelow draft.old.map.count) settled.now.over.items }
-    ensures grows { Grows draft.old draft.new }
-    ensures parts { draft.new.map.parts.items ≡ draft.old.map.parts.items }
-    ensures others { (p : ℕ) → IsReserved draft.old p → IsReserved draft.new p }
-    ensures full { IsErrOf result PlanError.NoSpace → IsFull draft.new }
-    ensures takes { OnOk result ((w : ℕ → ℕ)
-        → CountsGroups w (div_ceil (length blocks.now) 1024) (under settled.now) (group blocks.now)
-        → TakesAtMost (sum_below w (div_ceil (length blocks.now) 1024)) draft.old draft.new) }
-    ensures lacks { IsErrOf result PlanError.NoSpace → (w : ℕ → ℕ)
-        → CountsGroups w (div_ceil (length blocks.now) 1024) (under settled.now) (group blocks.now)
-        → Lacks (sum_below w (div_ceil (length blocks.now) 1024)) draft.old }
-    ensures shortage { IfErr result IsShortage }
+    ensures step { PlacesOver (div_ceil (length blocks.now) 1024) (under settled.now) (group blocks.now) draft.old draft.new result }
     ensures count { IfOk result (λ over. length over.items ≡ div_ceil (length blocks.now) 1024) }
     ensures groups { IfOk result (λ over.
         OnEach draft.new (λ e. StandOver e settled.now blocks.now over.items)) }

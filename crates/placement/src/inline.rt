@@ -3,9 +3,10 @@
 ghost use Rattle.std.specs.Prelude.{◌≡◌, ℕ, ◌-◌, ◌≤◌, List, ◌++◌, take, length, slice_index, nat_lt, if◌then◌else◌, IfOk, OnOk, IsErrOf};
 ghost use Rattle.layout.specs.Bytes.{zeros};
 ghost use Rattle.layout.specs.declared.TheConstants.{BLOCK_BYTES, INLINE_BYTES};
-ghost use Rattle.buffers.specs.Failures.{HasGrown};
 ghost use Rattle.blocktree.specs.Trees.{IsSoundAt};
 ghost use Rattle.inode.specs.Files.{file_block};
+ghost use Rattle.buffers.specs.Reads.{ReadsBlocks};
+ghost use Rattle.conspoint.specs.Errors.{IsReadFault};
 
 use buffers::Blocks;
 use conspoint::PlanError;
@@ -34,12 +35,7 @@ pub(crate) fn inline_bytes<B: Blocks>(
     file: &File,
 ) -> Result<[u8; INLINE_BYTES], PlanError>
     requires { file.now.size ≤ INLINE_BYTES }
-    ensures count { B.count blocks.new ≡ B.count blocks.old }
-    ensures counted { OnOk result (B.failed blocks.new ≡ B.failed blocks.old) }
-    ensures device { IsErrOf result PlanError.Device
-        → HasGrown (B.failed blocks.old) (B.failed blocks.new) }
-    ensures reads { (start : B) → B.ReadsOn start blocks.old → B.ReadsOn start blocks.new }
-    ensures same { (disk : ℕ → List ℕ) → B.Shows blocks.old disk → B.Shows blocks.new disk }
+    ensures reads { ReadsBlocks B.Blocks IsReadFault blocks.old blocks.new result }
     ensures bytes { (disk : ℕ → List ℕ) → B.Shows blocks.old disk → IfOk result (λ bytes.
         bytes ≡ take file.now.size (file_block disk file.now 0)
         ++ zeros (INLINE_BYTES - file.now.size)) }

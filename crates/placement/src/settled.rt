@@ -1,6 +1,6 @@
 //! The nodes of a file's settled inode.
 
-ghost use Rattle.std.specs.Prelude.{◌≡◌, ℕ, ◌-◌, ◌<◌, List, All, IfOk, OnOk, IsErrOf, length};
+ghost use Rattle.std.specs.Prelude.{◌≡◌, ℕ, ◌-◌, ◌<◌, List, All, IfOk, IsErrOf, length};
 ghost use Rattle.std.specs.Int.{div_ceil};
 ghost use Rattle.layout.specs.Limits.{Sizes};
 ghost use Rattle.layout.specs.Places.{place};
@@ -8,12 +8,13 @@ ghost use Rattle.layout.specs.Pointer.{PointsBelow};
 ghost use Rattle.layout.specs.declared.inode.Inode.{Inode};
 ghost use Rattle.images.specs.Nodes.{held};
 ghost use Rattle.images.specs.Soundness.{IsSoundFile};
-ghost use Rattle.buffers.specs.Failures.{HasGrown};
 ghost use Rattle.blocktree.specs.Trees.{AreSound};
 ghost use Rattle.conspoint.specs.Groups.{pointer_at};
 ghost use Rattle.placement.specs.Files.{IsBasedOn};
 ghost use Rattle.placement.specs.Layouts.{AreSettled};
 ghost use Rattle.placement.specs.Nodes.{AreCounted};
+ghost use Rattle.buffers.specs.Reads.{ReadsBlocks};
+ghost use Rattle.conspoint.specs.Errors.{IsReadFault};
 
 use crate::nodes::Nodes;
 use blocktree::BlockTree;
@@ -28,12 +29,7 @@ fn settled_over<B: Blocks>(
     blocks: &mut B,
     tree: &BlockTree,
 ) -> Result<Vec<Pointer>, PlanError>
-    ensures count { B.count blocks.new ≡ B.count blocks.old }
-    ensures counted { OnOk result (B.failed blocks.new ≡ B.failed blocks.old) }
-    ensures device { IsErrOf result PlanError.Device
-        → HasGrown (B.failed blocks.old) (B.failed blocks.new) }
-    ensures reads { (start : B) → B.ReadsOn start blocks.old → B.ReadsOn start blocks.new }
-    ensures same { (disk : ℕ → List ℕ) → B.Shows blocks.old disk → B.Shows blocks.new disk }
+    ensures reads { ReadsBlocks B.Blocks IsReadFault blocks.old blocks.new result }
     ensures within { IfOk result (λ over. All (PointsBelow (B.count blocks.old)) over.items) }
     ensures none { IfOk result (λ over. tree.now.depth ≡ 0 → length over.items ≡ 0) }
     ensures some { IfOk result (λ over. 0 < tree.now.depth
@@ -58,12 +54,7 @@ pub fn settled_nodes<B: Blocks>(
     blocks: &mut B,
     tree: &BlockTree,
 ) -> Result<Nodes, PlanError>
-    ensures count { B.count blocks.new ≡ B.count blocks.old }
-    ensures counted { OnOk result (B.failed blocks.new ≡ B.failed blocks.old) }
-    ensures device { IsErrOf result PlanError.Device
-        → HasGrown (B.failed blocks.old) (B.failed blocks.new) }
-    ensures reads { (start : B) → B.ReadsOn start blocks.old → B.ReadsOn start blocks.new }
-    ensures same { (disk : ℕ → List ℕ) → B.Shows blocks.old disk → B.Shows blocks.new disk }
+    ensures reads { ReadsBlocks B.Blocks IsReadFault blocks.old blocks.new result }
     ensures blocks { IfOk result (λ n. All (PointsBelow (B.count blocks.old)) n.blocks.items) }
     ensures over { IfOk result (λ n. All (PointsBelow (B.count blocks.old)) n.over.items) }
     ensures sizes { IfOk result (AreCounted tree.now) }

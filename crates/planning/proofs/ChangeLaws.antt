@@ -1,12 +1,8 @@
 -- What a change of the snapshots makes of the slots and of the block map's sets.
-use Rattle.std.proofs.Common.{◌≡◌, ◌≢◌, ◌⊎◌, inl, inr, ◌↔◌, ℕ, zero, suc, ◌+◌, ◌-◌, ◌<◌, ◌≤◌, Bool, Some, List, length, refl, ap, sym, subst, ◌∙◌, arith}
+use Rattle.std.proofs.Common.{◌≡◌, ◌≢◌, inl, inr, ◌↔◌, ℕ, zero, suc, ◌+◌, ◌-◌, ◌≤◌, Bool, Some, List, length, refl, ap, sym, subst, ◌∙◌, arith}
 use Rattle.std.proofs.Math.Path.{fun_ext}
 use Rattle.std.proofs.lemmas.Bool.{cases_eq, cases_lt}
 use Rattle.std.proofs.lemmas.List.{get_or_past, get_or-set_same, get_or-set_other}
-use Rattle.blockmap.proofs.SpaceLemmas.{left_same}
-use Rattle.conspoint.specs.Drafts.{Grows}
-use Rattle.conspoint.specs.Space.{TakesAtMost}
-use Rattle.conspoint.specs.declared.draft.Draft.{Draft}
 use Rattle.std.specs.Int.{bit_at}
 use Rattle.std.specs.Prelude.{if◌then◌else◌, slice_index_or, slice_set}
 use Rattle.blockmap.specs.Bits.{SetsBit, SetsPlane}
@@ -30,13 +26,8 @@ use Rattle.layout.specs.declared.pointer.Pointer.TheVariants.{Hole, Block}
 use Rattle.layout.specs.declared.root.Root.{Root}
 use Rattle.planning.specs.Changes.{ChangesPlane, StepsEntries, StepsSets}
 use Rattle.planning.specs.Plans.{IsClean}
-use Rattle.planning.specs.Progress.{KeepsActive, KeepsSets}
-
-pub same_block : (a b : ℕ) → Block a ≡ Block b → a ≡ b
-same_block a b is = cc
-
-not_hole : (p : Pointer) (b : ℕ) → p ≡ Hole → p ≡ Block b → ⊥
-not_hole p b none is = let both : Hole ≡ Block b = sym none ∙ is in absurd (cc)
+use Rattle.planning.specs.Progress.{KeepsActive}
+use Rattle.layout.proofs.PointerLaws.{no_block, block_same}
 
 -- ---- the sets
 
@@ -48,7 +39,7 @@ plane_changed k block bit is_in plane before between after number planes marked 
     | inl same ↦ subst (λ n. bit_at (after n) k ≡ plane n) (sym same) (marked.others k (omega (arith, number.last)) ∙ (planes (block + 1)).there block (omega arith))
     | inr other ↦ ap (λ x. bit_at x k) (stay b other) ∙ (planes (b + 1)).there b (omega arith)
   ];
-  head = λ b is. subst (λ n. bit_at (after n) 31 ≡ bit) (same_block block b is) (marked.there ∙ bit_is);
+  head = λ b is. subst (λ n. bit_at (after n) 31 ≡ bit) (block_same block b is) (marked.there ∙ bit_is);
   system = λ b isnt.
       let other : b ≢ block = λ same. isnt (ap Block (sym same)) in
       ap (λ x. bit_at x 31) (stay b other) ∙ (planes (b + 1)).others b 31 (omega arith) (omega (arith, number.last));
@@ -78,13 +69,6 @@ plane_active k bit p plane before after number changes = λ b. changes.others b 
 other_slots : (r new : Root) (k : ℕ) (p : Pointer) → new.snapshots ≡ slice_set r.snapshots k p → (l : ℕ) → l ≢ suc k → slot new l ≡ slot r l
 other_slots r new k p set zero other = refl
 other_slots r new k p set (suc l) other = ap (λ (xs : List Pointer). slice_index_or xs l Hole) set ∙ get_or-set_other r.snapshots k l p Hole (λ same. other (ap suc same))
-
--- nothing is given out
-pub takes_none : (old new : Draft) → Grows old new → new.map.next ≡ old.map.next → TakesAtMost 0 old new
-takes_none old new grows next = let same = left_same old.map new.map grows.settled.settled grows.count next in omega (arith, same)
-
-pub takes_with : (n : ℕ) (old mid new : Draft) → TakesAtMost n old mid → Grows mid new → new.map.next ≡ mid.map.next → TakesAtMost n old new
-takes_with n old mid new few grows next = let same = left_same mid.map new.map grows.settled.settled grows.count next in omega (arith, few, same)
 
 -- a root with a pointer in one of its slots
 pub slot_set : (r new : Root) (k : ℕ) (p : Pointer) → IsSlotNumber k → length r.snapshots ≡ 20 → new.snapshots ≡ slice_set r.snapshots (k - 1) p → SetsSlot r new k p
@@ -172,11 +156,11 @@ module _ (heads : SnapshotsSpelled) (r new : Root) (d e : Blocks) (after : ℕ �
         let there : slot new l ≡ Block b = slots.1.there ∙ ap Block (sym same) in
         (λ is. head l there, λ is. stepped.keeps b 31 (omega arith) ∙ stepped.sets.0.head b there)
     | inr other ↦
-        let away : slot new l ≢ Block b = λ is. other (same_block b slots.0 (sym is ∙ slots.1.there)) in
+        let away : slot new l ≢ Block b = λ is. other (block_same b slots.0 (sym is ∙ slots.1.there)) in
         let bit : bit_at (after b) 31 ≡ bit_at (before b) 31 = stepped.keeps b 31 (omega arith) ∙ stepped.sets.0.system b away in (
           λ is. elim ((system_was b).0 (sym bit ∙ is)) [
             | roots low ↦ roots low
-            | head m at ↦ head m (slots.1.others m (λ same. not_hole (slot r m) b (ap (slot r) same ∙ can.free) at) ∙ at)
+            | head m at ↦ head m (slots.1.others m (λ same. no_block (slot r m) b (ap (slot r) same ∙ can.free) at) ∙ at)
           ],
           λ is. bit ∙ (system_was b).1 (elim is [
             | roots low ↦ roots low
@@ -193,12 +177,12 @@ module _ (heads : SnapshotsSpelled) (r new : Root) (d e : Blocks) (after : ℕ �
           λ is. elim is [
             | roots low ↦ absurd (omega (arith, low, low_end))
             | head m at ↦
-                let other : m ≢ l = λ here. not_hole (slot new m) b (ap (slot new) here ∙ slots.there) at in
+                let other : m ≢ l = λ here. no_block (slot new m) b (ap (slot new) here ∙ slots.there) at in
                 absurd (other (sym (one_slot d r l m b can.snapshot sound.snapshots can.has there (sym (slots.others m other) ∙ at))))
           ],
         )
     | inr other ↦
-        let away : slot r l ≢ Block b = λ is. other (same_block b can.has.block (sym is ∙ can.has.there)) in
+        let away : slot r l ≢ Block b = λ is. other (block_same b can.has.block (sym is ∙ can.has.there)) in
         let bit : bit_at (after b) 31 ≡ bit_at (before b) 31 = stepped.keeps b 31 (omega arith) ∙ stepped.sets.system b away in (
           λ is. elim ((system_was b).0 (sym bit ∙ is)) [
             | roots low ↦ roots low
@@ -206,7 +190,7 @@ module _ (heads : SnapshotsSpelled) (r new : Root) (d e : Blocks) (after : ℕ �
           ],
           λ is. bit ∙ (system_was b).1 (elim is [
             | roots low ↦ roots low
-            | head m at ↦ head m (sym (slots.others m (λ same. not_hole (slot new m) b (ap (slot new) same ∙ slots.there) at)) ∙ at)
+            | head m at ↦ head m (sym (slots.others m (λ same. no_block (slot new m) b (ap (slot new) same ∙ slots.there) at)) ∙ at)
           ]),
         )
   ]

@@ -2,7 +2,6 @@ mod ProgressLaws
 mod PointLaws
 mod SpellingLaws
 mod MarkLaws
-mod PutLaws
 mod NumberLaws
 mod MapLaws
 mod TrimLaws
@@ -19,4 +18,6 @@ mod LoopLaws
 mod SpaceLaws
 mod CountLaws
 mod TopLaws
+mod PromiseLaws
+mod PlacingLaws
 mod TellLaws

@@ -1,30 +1,20 @@
 -- Numbers that are planned one after the other.
 use Rattle.std.proofs.Common.{◌≡◌, ◌≢◌, inl, inr, ℕ, ◌+◌, ◌<◌, ◌↔◌, Bool, true, false, List, length, slice_index, ap, sym, subst, ◌∙◌, arith}
-use Rattle.std.proofs.lemmas.Bool.{cases_eq, cond-true, cond-false, eq-eqb, ne_eqb}
+use Rattle.std.proofs.lemmas.Bool.{cases_eq, cond-true, cond-false, eq-eqb, ne_eqb, cases_Bool}
 use Rattle.std.proofs.lemmas.List.{get_or_default}
 use Rattle.std.proofs.lemmas.List.Kept.{AllPairs-from_increasing}
 use Rattle.std.specs.List.{Contains}
 use Rattle.std.specs.List.Sorted.{IsStrictlyIncreasing}
-use Rattle.std.specs.Prelude.{◌==◌, if◌then◌else◌, Option, Some, None}
+use Rattle.std.specs.Prelude.{◌==◌, if◌then◌else◌}
 use Rattle.layout.specs.Places.{Blocks}
 use Rattle.layout.specs.declared.inode.Inode.{Inode}
 use Rattle.conspoint.specs.Marks.{IsAmong}
 use Rattle.conspoint.specs.declared.draft.Draft.{Draft}
 use Rattle.inode.specs.declared.file.File.{File}
-use Rattle.inofile.specs.Inodes.{IsChangedSlot, IsKnownSlot, files_of}
+use Rattle.inofile.specs.Inodes.{files_of}
 use Rattle.inofile.specs.declared.inode_file.InodeFile.{InodeFile}
-use Rattle.inofile.specs.declared.inode_file.Slot.{Slot}
-use Rattle.inofile.specs.declared.inode_file.Slot.TheVariants.{AsSettled, Loaded, Changed}
 use Rattle.planning.specs.Numbers.{trimmed}
 use Rattle.planning.specs.Steps.{ArePlanned, GoesOn, IsUnderWay, settled_tree}
-use Rattle.planning.proofs.ProgressLaws.{is_bool}
-
--- what is changed is in memory
-pub changed_known : (slot : Option Slot) → IsChangedSlot slot → IsKnownSlot slot
-changed_known (Some AsSettled) is = is
-changed_known (Some (Loaded object)) is = tt
-changed_known (Some (Changed object)) is = tt
-changed_known None is = is
 
 -- no number comes twice
 pub not_before : (xs : List ℕ) (i n : ℕ) → IsStrictlyIncreasing xs → i < length xs → n ≡ slice_index xs i → IsAmong xs i n → ⊥
@@ -56,7 +46,7 @@ module _ (draft : Draft) (disk : Blocks) (settled : ℕ → Inode) (before : ℕ
   }
 
   fresh : (IsOne : ℕ → Type 0) (n : ℕ) → (now : ArePlanned IsOne draft disk settled before inodes file) → (IsOne n → ⊥) → now.way.plan.changed n ≡ false
-  fresh IsOne n now none = elim (is_bool (now.way.plan.changed n)) [ inl is ↦ absurd (none ((now.just n).0 is)) | inr isnt ↦ isnt ]
+  fresh IsOne n now none = elim (cases_Bool (now.way.plan.changed n)) [ inl is ↦ absurd (none ((now.just n).0 is)) | inr isnt ↦ isnt ]
 
 -- one more
 more_changed : (xs : List ℕ) (i n k : ℕ) (was now : Bool) → n ≡ slice_index xs i → (now ≡ (if k == n then true else was))

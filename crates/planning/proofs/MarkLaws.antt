@@ -1,6 +1,6 @@
 -- The map's marks of a file's blocks, which are first taken out and then put in.
 use Rattle.std.proofs.Common.{◌≡◌, ◌⊎◌, inl, inr, ℕ, suc, true, false, List, [], ◌∷◌, length, ap, sym, ◌∙◌, arith}
-use Rattle.std.proofs.lemmas.Bool.{cases_eq, eq-eqb, ne_eqb}
+use Rattle.std.proofs.lemmas.Bool.{cases_eq, eq-eqb, ne_eqb, cases_Bool}
 use Rattle.std.proofs.lemmas.List.Folds.{list_any_at}
 use Rattle.std.specs.Prelude.{◌==◌, ◌||◌, slice_index}
 use Rattle.std.specs.Int.{bit_at}
@@ -10,7 +10,7 @@ use Rattle.conspoint.specs.Marks.{IsAmong, AreMarked}
 use Rattle.images.specs.BlockMap.{HasBit}
 use Rattle.placement.specs.Files.{is_one}
 use Rattle.planning.specs.Progress.{IsMarked}
-use Rattle.planning.proofs.ProgressLaws.{is_bool, true_false}
+use Rattle.planning.proofs.ProgressLaws.{true_false}
 
 among : (xs : List ℕ) (b : ℕ) → is_one xs b ≡ true → IsAmong xs (length xs) b
 among [] b is = absurd (cc)
@@ -32,9 +32,9 @@ module _ (taken freed : List ℕ) (old mid new : List Part) (out : AreMarked fre
   same_in b none = ap (λ x. bit_at x 0) (came.stay b (λ at. true_false (one_of taken b at) none))
 
   now_in : (b : ℕ) → HasBit 0 (entry_at new b) → (HasBit 0 (entry_at old b) × (is_one freed b ≡ false)) ⊎ (is_one taken b ≡ true)
-  now_in b has = elim (is_bool (is_one taken b)) [
+  now_in b has = elim (cases_Bool (is_one taken b)) [
     | inl is ↦ inr is
-    | inr isnt ↦ elim (is_bool (is_one freed b)) [
+    | inr isnt ↦ elim (cases_Bool (is_one freed b)) [
       | inl gone ↦
           let none : bit_at (entry_at mid b) 0 ≡ 0 = out.marked b (among freed b gone) in
           let still : bit_at (entry_at mid b) 0 ≡ 1 = sym (same_in b isnt) ∙ has in absurd (omega arith)
@@ -44,7 +44,7 @@ module _ (taken freed : List ℕ) (old mid new : List Part) (out : AreMarked fre
 
   was_in : (b : ℕ) → (HasBit 0 (entry_at old b) × (is_one freed b ≡ false)) ⊎ (is_one taken b ≡ true) → HasBit 0 (entry_at new b)
   was_in b (inr is) = came.marked b (among taken b is)
-  was_in b (inl kept) = elim (is_bool (is_one taken b)) [
+  was_in b (inl kept) = elim (cases_Bool (is_one taken b)) [
     | inl is ↦ came.marked b (among taken b is)
     | inr isnt ↦ same_in b isnt ∙ (same_out b kept.1 ∙ kept.0)
   ]

@@ -1,7 +1,7 @@
 -- One number's file, over its settled inode.
-use Rattle.std.proofs.Common.{◌≡◌, inl, inr, ℕ, zero, suc, ◌-◌, ◌/◌, ◌%◌, ◌<◌, ◌≤◌, ◌++◌, Bool, true, false, List, replicate, refl, ap, sym, subst, ◌∙◌, arith}
+use Rattle.std.proofs.Common.{◌≡◌, inl, inr, ℕ, suc, ◌-◌, ◌/◌, ◌%◌, ◌<◌, ◌≤◌, ◌++◌, Bool, true, false, List, refl, ap, sym, subst, ◌∙◌, arith}
 use Rattle.std.proofs.lemmas.Bool.{cases_lt, cond-false}
-use Rattle.std.proofs.lemmas.List.{get_or-replicate, get_or_past, length-replicate, get_or_append_left, get_or-append_right}
+use Rattle.std.proofs.lemmas.List.{length-replicate, get_or_append_left, get_or-append_right}
 use Rattle.std.proofs.lemmas.Bool.Decides.{nat_tests}
 use Rattle.std.specs.Prelude.{nat_lt, slice_index, if◌then◌else◌, Option, Some, None}
 use Rattle.layout.specs.Bytes.{zeros}
@@ -16,17 +16,15 @@ use Rattle.layout.specs.declared.inode.Inode.{Inode}
 use Rattle.layout.specs.declared.kind.Kind.{Kind}
 use Rattle.layout.specs.declared.kind.Kind.TheVariants as kinds
 use Rattle.layout.specs.declared.pointer.Pointer.{Pointer}
-use Rattle.layout.specs.declared.pointer.Pointer.TheVariants.{Hole, Block}
 use Rattle.layout.specs.declared.version.TheConstants.{VERSION}
 use Rattle.blocktree.specs.Places.{block_count}
 use Rattle.blocktree.specs.Trees.{SameSettled}
 use Rattle.blocktree.specs.declared.tree.BlockTree.{BlockTree}
 use Rattle.blockmap.specs.Maps.{IsFree}
 use Rattle.blockmap.specs.Parts.{Part}
-use Rattle.conspoint.specs.Drafts.{Grows}
 use Rattle.conspoint.specs.declared.draft.Draft.{Draft}
 use Rattle.images.specs.Contents.{Content, content_of}
-use Rattle.images.specs.Nodes.{Agrees, held, Names, place_at_height, body_block, file_block}
+use Rattle.images.specs.Nodes.{Agrees, held, Names, file_block}
 use Rattle.images.specs.Roots.{free_inode}
 use Rattle.images.specs.Soundness.{IsSoundFile, IsOrdinary}
 use Rattle.inode.specs.Bases.{IsBased, HasPointers, StartsFrom}
@@ -40,22 +38,13 @@ use Rattle.inofile.specs.declared.inode_file.InodeFile.{InodeFile}
 use Rattle.model.specs.Volumes.{Node, Volume}
 use Rattle.placement.specs.Files.{IsBasedOn, IsPlaced, IsChangeOf, object_content}
 use Rattle.planning.specs.Numbers.{IsCleared, IsNumberPlaced, IsObjectOver, IsOverSettled, IsSettledFile, trimmed}
-use Rattle.planning.proofs.PointLaws.{held_inode}
 use Rattle.placement.specs.Files.IsBasedOn.{settled, none}
-
--- a file of level 0 has no block
-pub none_named : (d : Blocks) (f : Inode) → level_of f.size ≡ 0 → (b : ℕ) → Names (held d f) b → ⊥
-unfolding held
-none_named d f level b names =
-    let no : nat_lt names.height (level_of f.size) ≡ false = grind (arith, nat_tests) in
-    let hole : place_at_height d f names.height names.index ≡ Hole = rw no refl in
-    let both : Hole ≡ Block b = sym hole ∙ names.is in absurd (cc)
+use Rattle.images.proofs.EmptyLaws.{none_named, inline_zero, free_sound, held_inode}
+use Rattle.layout.proofs.SizeLaws.{level_none}
+use Rattle.layout.proofs.ZeroLaws.{zero_byte}
 
 level_up : (size : ℕ) → 128 < size → level_of size ≡ suc (level_of size - 1)
 level_up size lt = grind (arith, nat_tests)
-
-pub level_none : (size : ℕ) → size ≤ 128 → level_of size ≡ 0
-level_none size le = grind (arith, nat_tests)
 
 pub body_fits : (s : Sizes) (d : Blocks) (f : Inode) → IsSoundFile s (held d f) → FitsBody f.body s.blocks f.size
 body_fits s d f sound = (subst (IsInode VERSION s) (held_inode d f) sound.inode).body
@@ -106,13 +95,6 @@ placed_anew s d e f new left taken came freed gone apart placed cleared nothing 
 
 -- ---- zeros
 
-pub zero_byte : (i count : ℕ) → slice_index (zeros count) i ≡ 0
-unfolding zeros
-zero_byte i count = elim (cases_lt i count) [
-  | inl lt ↦ get_or-replicate {A = ℕ} count i 0 0 lt
-  | inr le ↦ get_or_past (replicate count 0) i 0 (omega (arith, length-replicate {A = ℕ} count 0))
-]
-
 zero_block : (n m k : ℕ) → slice_index (zeros n ++ zeros m) k ≡ 0
 unfolding zeros
 zero_block n m k = elim (cases_lt k n) [
@@ -120,25 +102,9 @@ zero_block n m k = elim (cases_lt k n) [
   | inr le ↦ get_or-append_right (zeros n) (zeros m) n k 0 (length-replicate {A = ℕ} n 0) le ∙ zero_byte (k - n) m
 ]
 
-inline_zero : (stored : List ℕ) (i k : ℕ) → slice_index (body_block (Inline (zeros 128)) stored i) k ≡ 0
-inline_zero stored zero k = zero_block 128 3968 k
-inline_zero stored (suc i) k = zero_byte k 4096
-
-free_fits : (s : Sizes) → IsInode VERSION s free_inode
-unfolding zeros
-free_fits s = record { mode = omega arith; size = omega arith; kind = (refl, refl, refl); body = (omega arith, length-replicate {A = ℕ} 128 0, refl) }
-
 free_ends : (d : Blocks) (p : ℕ) → byte_in (file_block (held d free_inode)) p ≡ 0
 unfolding held
 free_ends d p = inline_zero ((held d free_inode).bytes 0 (p / 4096)) (p / 4096) (p % 4096)
-
--- a free inode is in its grammar
-pub free_sound : (s : Sizes) (d : Blocks) → IsSoundFile s (held d free_inode)
-free_sound s d = record {
-  inode = subst (IsInode VERSION s) (sym (held_inode d free_inode)) (free_fits s);
-  indirect = λ m i b is. absurd (none_named d free_inode refl b (record { height = suc m; index = i; is = is }));
-  ends = λ p le. free_ends d p;
-}
 
 -- past the end of a file of no bytes
 past_end : (size i : ℕ) (bytes : List ℕ) → size ≡ 0 → (if nat_lt i (block_count size) then bytes else zeros 4096) ≡ zeros 4096
@@ -213,18 +179,6 @@ settled_later s old new d f file parts count = record {
   sound = file.sound;
   once = file.once;
   used = λ b names free. file.used b names (subst (λ (ps : List Part). IsFree ps b) parts free);
-}
-
-pub grows_twice : (a b c : Draft) → Grows a b → Grows b c → Grows a c
-grows_twice a b c one two = record {
-  settled = record {
-    count = two.settled.count ∙ one.settled.count;
-    settled = λ x. two.settled.settled x ∙ one.settled.settled x;
-    touched = λ j is. two.settled.touched j (one.settled.touched j is);
-  };
-  count = two.count ∙ one.count;
-  next = omega (arith, one.next, two.next);
-  has = λ e all. one.has e (two.has e all);
 }
 
 pub ordinary_kind : (k : Kind) → IsObjectKind k → IsOrdinary k

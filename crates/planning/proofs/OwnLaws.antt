@@ -40,9 +40,10 @@ use Rattle.placement.specs.Files.{IsBasedOn, IsChangeOf, IsWholeOver, object_blo
 use Rattle.planning.specs.Plans.{IsInodeMapOn}
 use Rattle.planning.specs.Progress.{IsExactPlane}
 use Rattle.planning.specs.Steps.{settled_tree}
-use Rattle.planning.proofs.NumberLaws.{based_start, body_fits, level_none, zero_byte}
-use Rattle.planning.proofs.PointLaws.{held_inode}
-use Rattle.planning.proofs.ProgressLaws.{no_bit}
+use Rattle.planning.proofs.NumberLaws.{based_start, body_fits}
+use Rattle.images.proofs.EmptyLaws.{no_bit, held_inode}
+use Rattle.layout.proofs.SizeLaws.{level_none}
+use Rattle.layout.proofs.ZeroLaws.{zero_byte}
 
 -- no block of the settled tree is free
 pub used_block : (d : Draft) (disk : Blocks) (settled_of : ℕ → Inode) (before : ℕ → ℕ) → IsExactPlane (settled_tree disk settled_of) before → ((b : ℕ) → settled_at d.map.parts.items b ≡ before b)

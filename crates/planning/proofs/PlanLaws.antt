@@ -1,6 +1,6 @@
 -- What was planned is a point.
-use Rattle.std.proofs.Common.{◌≡◌, inl, inr, ℕ, zero, suc, ◌/◌, ◌%◌, ◌<◌, ◌≤◌, false, All, List, length, refl, ap, sym, subst, ◌∙◌, arith}
-use Rattle.std.proofs.lemmas.Bool.{cond-true, cond-false}
+use Rattle.std.proofs.Common.{◌≡◌, inl, inr, ℕ, ◌/◌, ◌%◌, ◌<◌, ◌≤◌, false, All, List, length, refl, ap, sym, subst, ◌∙◌, arith}
+use Rattle.std.proofs.lemmas.Bool.{cond-true, cond-false, cases_Bool}
 use Rattle.std.proofs.lemmas.List.Elements.{All-map}
 use Rattle.std.proofs.lemmas.List.{get_or-map, length-map}
 use Rattle.std.specs.Int.{bit_at}
@@ -11,7 +11,6 @@ use Rattle.layout.specs.Limits.{Sizes}
 use Rattle.layout.specs.Places.{Blocks, blocks_of}
 use Rattle.layout.specs.Root.{IsRoot}
 use Rattle.layout.specs.declared.inode.Inode.{Inode}
-use Rattle.layout.specs.declared.kind.Kind.{Kind}
 use Rattle.layout.specs.declared.root.Root.{Root}
 use Rattle.model.specs.Paths.{Name}
 use Rattle.model.specs.Trees.{Tree}
@@ -30,7 +29,7 @@ use Rattle.images.specs.Points.{HoldObjects}
 use Rattle.images.specs.Roots.{HeldTree, Needs, Reach, inode_of, tree, whole}
 use Rattle.images.specs.Roots.Needs.{active}
 use Rattle.images.specs.SnapshotSteps.{SnapshotStep, CanStep, HasHead, StepsSlots}
-use Rattle.images.specs.Soundness.{FitsNumber, IsOrdinary, IsSoundTree, SpellsInodes}
+use Rattle.images.specs.Soundness.{IsOrdinary, IsSoundTree, SpellsInodes}
 use Rattle.images.specs.States.{IsSound}
 use Rattle.inofile.specs.Inodes.{IsChanged, files_of}
 use Rattle.inofile.specs.Settled.{held_content}
@@ -44,9 +43,11 @@ use Rattle.planning.specs.Progress.{IsExactPlane, IsProgress, KeepsActive, Plann
 use Rattle.planning.specs.Steps.{settled_tree}
 use Rattle.planning.proofs.ChangeLaws.{SnapshotsSpelled}
 use Rattle.planning.proofs.MapLaws.{numbers_mapped}
-use Rattle.planning.proofs.PointLaws.{ReadsPast, ReadsSpelled, held_inode, point_entries, point_planned}
-use Rattle.planning.proofs.ProgressLaws.{is_bool, true_false}
+use Rattle.planning.proofs.PointLaws.{ReadsPast, ReadsSpelled, point_entries, point_planned}
+use Rattle.planning.proofs.ProgressLaws.{true_false}
 use Rattle.planning.proofs.TrimLaws.{trimmed_stands}
+use Rattle.images.proofs.EmptyLaws.{held_inode}
+use Rattle.images.proofs.KindLaws.{ordinary_kind}
 
 -- the tree of the inodes that a disk has under a root
 pub tree_is : (d : Blocks) (r : Root) → settled_tree d (inodes_under d r) ≡ (whole d r).active
@@ -64,12 +65,6 @@ HoldsAgreed = (d e : Blocks) (f : Inode) → Agrees (Names (held d f)) d e → h
 -- the files after the point: those that are planned, and the others as they are settled
 abbrev pub files_after : Planned → (ℕ → Content) → HeldTree → ℕ → Content
 files_after p found t n = if p.changed n then found n else contents t n
-
-pub ordinary_from : (n : ℕ) (k : Kind) → 3 ≤ n → FitsNumber n k → IsOrdinary k
-ordinary_from zero k low is = absurd (omega arith)
-ordinary_from (suc zero) k low is = absurd (omega arith)
-ordinary_from (suc (suc zero)) k low is = absurd (omega arith)
-ordinary_from (suc (suc (suc n))) k low is = is
 
 -- entries of a map in a tree
 entries_of : (t : HeldTree) (b x : ℕ) → map_entry (file_block (t 2) (b / 1024)) (b % 1024) ≡ x → entry t b ≡ x
@@ -101,7 +96,7 @@ module _ (spelled : ReadsSpelled) (reads_past : ReadsPast) (same_held : HoldsAgr
       ap (held e) (progress.stays n isnt ∙ held_inode d (inodes_under d r n)) ∙ same_held d e (inodes_under d r n) (λ b names. reach b (record { file = n; names = names }))
 
   content_all : (n : ℕ) → 3 ≤ n → content_of (held e (p.inode n)) ≡ files n
-  content_all n least = elim (is_bool (p.changed n)) [
+  content_all n least = elim (cases_Bool (p.changed n)) [
     | inl is ↦ all.contents e has reach n least is ∙ sym (cond-true (p.changed n) (found n) (contents t n) is)
     | inr isnt ↦ ap content_of (unchanged_same n isnt) ∙ sym (cond-false (p.changed n) (found n) (contents t n) isnt)
   ]
@@ -110,9 +105,9 @@ module _ (spelled : ReadsSpelled) (reads_past : ReadsPast) (same_held : HoldsAgr
   tree_sound = subst (IsSoundTree r.geometry) (sym (tree_is d r)) sound.active
 
   ordinary : (n : ℕ) → 3 ≤ n → IsOrdinary (held e (p.inode n)).inode.kind
-  ordinary n least = elim (is_bool (p.changed n)) [
-    | inl is ↦ subst (λ (i : Inode). IsOrdinary i.kind) (sym (held_inode e (p.inode n))) (ordinary_from n (p.inode n).kind least (progress.kinds n is))
-    | inr isnt ↦ subst (λ h. IsOrdinary h.inode.kind) (sym (unchanged_same n isnt)) (ordinary_from n (t n).inode.kind least (tree_sound.kinds n))
+  ordinary n least = elim (cases_Bool (p.changed n)) [
+    | inl is ↦ subst (λ (i : Inode). IsOrdinary i.kind) (sym (held_inode e (p.inode n))) (ordinary_kind n (p.inode n).kind least (progress.kinds n is))
+    | inr isnt ↦ subst (λ h. IsOrdinary h.inode.kind) (sym (unchanged_same n isnt)) (ordinary_kind n (t n).inode.kind least (tree_sound.kinds n))
   ]
 
   complete : IsComplete r new t e (entry_at draft.map.parts.items) p files
@@ -182,7 +177,7 @@ module _ (spelled : ReadsSpelled) (reads_past : ReadsPast) (same_held : HoldsAgr
   held_volume = subst (λ (s : Sizes). HoldsVolume s.inodes (files_of disk (inodes_under disk r) inodes) v) sizes (memory.holds r.geometry.blocks disk (inodes_under disk r) inodes v plannable.memory)
 
   objects_after : HoldObjects r.geometry.inodes after v
-  objects_after n least = elim (is_bool (now_planned.plan.changed n)) [
+  objects_after n least = elim (cases_Bool (now_planned.plan.changed n)) [
     | inl is ↦ subst (λ (c : Content). StandsAs c.kind r.geometry.inodes c (v n)) (sym (cond-true (now_planned.plan.changed n) (found_of n) (contents tree_of n) is))
         (trimmed_stands (files_of disk (inodes_under disk r) inodes n).kind r.geometry.inodes (files_of disk (inodes_under disk r) inodes n) (v n) (held_volume n))
     | inr isnt ↦ subst (λ (c : Content). StandsAs c.kind r.geometry.inodes c (v n)) (sym (cond-false (now_planned.plan.changed n) (found_of n) (contents tree_of n) isnt))

@@ -1,7 +1,7 @@
 -- When all that changed is planned, a point is planned.
-use Rattle.std.proofs.Common.{◌≡◌, ◌≢◌, ◌⊎◌, inl, inr, ◌↔◌, ℕ, zero, suc, true, ◌/◌, ◌%◌, ◌<◌, ◌≤◌, refl, ap, sym, subst, ◌∙◌, arith}
+use Rattle.std.proofs.Common.{◌≡◌, ◌⊎◌, inl, inr, ◌↔◌, ℕ, zero, suc, true, ◌/◌, ◌%◌, ◌<◌, ◌≤◌, refl, ap, sym, subst, ◌∙◌, arith}
 use Rattle.std.proofs.Math.Path.{fun_ext}
-use Rattle.std.proofs.lemmas.Bool.{cases_lt}
+use Rattle.std.proofs.lemmas.Bool.{cases_lt, cases_Bool}
 use Rattle.std.specs.Int.{bit_at}
 use Rattle.layout.specs.Inode.{IsInode, inode_bytes}
 use Rattle.layout.specs.Limits.{Sizes, AreSizes}
@@ -23,7 +23,7 @@ use Rattle.planning.specs.Changes.{StepsEntries, StepsSets}
 use Rattle.planning.specs.Progress.{IsProgress, Planned}
 use Rattle.planning.specs.Points.{IsComplete, planned_tree}
 use Rattle.planning.proofs.ChangeLaws.{SnapshotsSpelled, slots_are, system_is}
-use Rattle.planning.proofs.ProgressLaws.{is_bool}
+use Rattle.images.proofs.EmptyLaws.{held_inode}
 
 -- what images says of reading inodes
 abbrev pub ReadsSpelled : Type 0
@@ -32,10 +32,6 @@ ReadsSpelled = (s : Sizes) (d : Blocks) (top i : Inode) (n : ℕ) → AreSizes s
 
 abbrev pub ReadsPast : Type 0
 ReadsPast = (d : Blocks) (inodes : ℕ) (top : Inode) (n : ℕ) → 1 ≤ n → inodes ≤ n → tree d inodes top n ≡ held d free_inode
-
-pub held_inode : (d : Blocks) (i : Inode) → (held d i).inode ≡ i
-unfolding held
-held_inode d i = refl
 
 tree_inode : (d : Blocks) (inodes : ℕ) (top : Inode) (n : ℕ) → (tree d inodes top n).inode ≡ inode_of (held d top) inodes n
 unfolding tree held
@@ -61,7 +57,7 @@ module _ (spelled : ReadsSpelled) (reads_past : ReadsPast) (d e : Blocks) (r new
     (root : IsRoot r) (sound : IsSound r (whole d r)) (before_is : (b : ℕ) → before b ≡ entry (whole d r).active b)
     (progress : IsProgress r.geometry (whole d r).active e next before after p) (whole_plan : IsComplete r new (whole d r).active e after p files) where
   each_fits : (n : ℕ) → IsInode VERSION r.geometry (p.inode n)
-  each_fits n = elim (is_bool (p.changed n)) [
+  each_fits n = elim (cases_Bool (p.changed n)) [
     | inl is ↦ subst (IsInode VERSION r.geometry) (held_inode e (p.inode n)) (progress.sound n is).inode
     | inr isnt ↦ subst (IsInode VERSION r.geometry) (sym (progress.stays n isnt)) (sound.active.files n).inode
   ]

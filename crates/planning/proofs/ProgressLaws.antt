@@ -1,8 +1,6 @@
 -- What is planned file by file comes to.
 use Rattle.std.proofs.Common.{◌≡◌, ◌≢◌, ◌⊎◌, inl, inr, ◌==◌, if◌then◌else◌, ℕ, Bool, true, false, ◌<◌, ◌≤◌, List, refl, ap, sym, subst, ◌∙◌, arith}
-use Rattle.std.proofs.lemmas.Bool.{cases_eq, cond-true, cond-false, eq-eqb, ne_eqb}
-use Rattle.std.proofs.lemmas.Nat.Bits.{bit_at-zero}
-use Rattle.std.specs.Int.{bit_at}
+use Rattle.std.proofs.lemmas.Bool.{cases_eq, cond-true, cond-false, eq-eqb, ne_eqb, cases_Bool}
 use Rattle.layout.specs.Limits.{Sizes}
 use Rattle.layout.specs.Places.{Blocks}
 use Rattle.layout.specs.declared.inode.Inode.{Inode}
@@ -14,6 +12,7 @@ use Rattle.blockmap.specs.Maps.{entry_at}
 use Rattle.blockmap.specs.Parts.{Part}
 use Rattle.placement.specs.Files.{IsPlaced}
 use Rattle.planning.specs.Progress.{AreTaken, IsExactPlane, IsMarked, IsProgress, KeepsActive, KeepsSets, Planned, unplanned, with_file}
+use Rattle.images.proofs.EmptyLaws.{no_bit}
 
 pub none_planned : (s : Sizes) (t : HeldTree) (e : Blocks) (next : ℕ) (before after : ℕ → ℕ) → KeepsActive before after → IsProgress s t e next before after (unplanned t)
 none_planned s t e next before after same = record {
@@ -40,13 +39,6 @@ sets_twice a b c one two x i other = two x i other ∙ one x i other
 -- where the parts of the map are the same
 pub sets_from : (old mid new : List Part) → mid ≡ old → KeepsSets (entry_at mid) (entry_at new) → KeepsSets (entry_at old) (entry_at new)
 sets_from old mid new same keeps = subst (λ (ps : List Part). KeepsSets (entry_at ps) (entry_at new)) same keeps
-
-pub no_bit : (k x : ℕ) → x ≡ 0 → HasBit k x → ⊥
-no_bit k x e has = let none : bit_at x k ≡ 0 = ap (λ x. bit_at x k) e ∙ bit_at-zero k in absurd (omega (arith, has))
-
-pub is_bool : (t : Bool) → (t ≡ true) ⊎ (t ≡ false)
-is_bool true = inl refl
-is_bool false = inr refl
 
 pub true_false : {t : Bool} → t ≡ true → t ≡ false → ⊥
 true_false is isnt = absurd (cc)
@@ -167,7 +159,7 @@ module _ (s : Sizes) (t : HeldTree) (e : Blocks) (from to : ℕ) (before after l
   stays_marked : (b : ℕ) → HasBit 0 (after b) → (Names (t n) b → Names (held e f) b) → HasBit 0 (last b)
   stays_marked b has kept = (marked.active b).1 (inl (
     has,
-    elim (is_bool (freed b)) [
+    elim (cases_Bool (freed b)) [
       | inl gone ↦ absurd ((placed.freed_are b gone).1 (kept (placed.freed_are b gone).0))
       | inr stays ↦ stays
     ],

@@ -8,7 +8,7 @@ use Rattle.conspoint.specs.declared.draft.Draft.{Draft}
 use Rattle.inofile.specs.declared.inode_file.InodeFile.{InodeFile}
 use Rattle.planning.specs.Numbers.{IsOverSettled, IsSettledFile}
 use Rattle.planning.specs.Steps.{IsOverTree}
-use Rattle.planning.proofs.ProgressLaws.{no_bit}
+use Rattle.images.proofs.EmptyLaws.{no_bit}
 
 module _ (count : ℕ) (draft : Draft) (disk : Blocks) (settled : ℕ → Inode) (inodes : InodeFile) (v : Volume) (before : ℕ → ℕ) (over : IsOverTree count disk settled inodes v before)
     (entries : (b : ℕ) → settled_at draft.map.parts.items b ≡ before b) (size : count ≡ draft.map.count) where

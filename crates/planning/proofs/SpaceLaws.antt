@@ -1,12 +1,12 @@
 -- How many blocks are counted for what changed.
-use Rattle.std.proofs.Common.{◌≡◌, ℕ, zero, suc, ◌+◌, ◌<◌, ◌≤◌, Option, Some, None, true, length, inl, inr, refl, ap, sym, subst, arith}
+use Rattle.std.proofs.Common.{◌≡◌, ℕ, zero, suc, ◌+◌, ◌<◌, ◌≤◌, Option, Some, None, length, inl, inr, refl, ap, sym, subst, arith}
 use Rattle.std.proofs.lemmas.Bool.{cases_lt}
 use Rattle.std.proofs.lemmas.List.Kept.{AllPairs-from_increasing}
 use Rattle.std.specs.List.Sorted.{IsStrictlyIncreasing}
 use Rattle.std.specs.Prelude.{List, slice_index}
 use Rattle.images.specs.Contents.{Content}
 use Rattle.inode.specs.declared.object.Object.{Object}
-use Rattle.inofile.specs.Inodes.{IsChangedSlot, is_changed_slot, slot_content, slot_object}
+use Rattle.inofile.specs.Inodes.{IsChangedSlot, slot_content, slot_object}
 use Rattle.inofile.specs.declared.inode_file.Slot.{Slot}
 use Rattle.inofile.specs.declared.inode_file.Slot.TheVariants.{AsSettled, Loaded, Changed}
 use Rattle.inofile.specs.declared.inode_file.InodeFile.{InodeFile}
@@ -68,12 +68,6 @@ counts_none s = refl
 pub counts_more : (s : InodeFile) (n : ℕ) → nodes_below s (n + 1) ≡ nodes_below s n + number_nodes s n
 unfolding nodes_below
 counts_more s n = let next : n + 1 ≡ suc n = omega arith in rw next refl
-
-pub changed_is : (slot : Option Slot) → is_changed_slot slot ≡ true → IsChangedSlot slot
-changed_is None is = absurd cc
-changed_is (Some AsSettled) is = absurd cc
-changed_is (Some (Loaded object)) is = absurd cc
-changed_is (Some (Changed object)) is = tt
 
 -- where a changed number has no object, none of its blocks is counted
 pub counts_no_object : (disk : ℕ → List ℕ) (slot : Option Slot) (below : Option Content) → IsChangedSlot slot → slot_content disk slot below ≡ None → slot_nodes slot ≡ 0

@@ -1,7 +1,7 @@
 -- Where a whole plan starts, and that its root is one.
 use Rattle.std.proofs.Common.{◌≡◌, ◌≢◌, ◌↔◌, inl, inr, ℕ, ◌+◌, ◌-◌, ◌*◌, ◌/◌, ◌%◌, ◌<◌, ◌≤◌, All, Bool, true, false, List, take, drop, ap, sym, subst, ◌∙◌, arith}
 use Rattle.std.proofs.Math.Path.{fun_ext}
-use Rattle.std.proofs.lemmas.Bool.{cases_lt}
+use Rattle.std.proofs.lemmas.Bool.{cases_lt, cases_Bool}
 use Rattle.std.proofs.lemmas.List.{get_or-take, get_or-drop}
 use Rattle.std.specs.Int.{div_ceil}
 use Rattle.std.specs.Prelude.{slice_index}
@@ -36,8 +36,9 @@ use Rattle.planning.specs.Plans.{IsAllPlanned}
 use Rattle.planning.specs.Progress.{IsExactPlane, IsProgress, KeepsActive, unplanned}
 use Rattle.planning.specs.Steps.{ArePlanned, settled_tree}
 use Rattle.planning.proofs.OwnLaws.{inode_is}
-use Rattle.planning.proofs.NumberLaws.{zero_byte}
-use Rattle.planning.proofs.ProgressLaws.{is_bool, no_bit, none_planned}
+use Rattle.planning.proofs.ProgressLaws.{none_planned}
+use Rattle.images.proofs.EmptyLaws.{no_bit}
+use Rattle.layout.proofs.ZeroLaws.{zero_byte}
 
 -- nothing is planned, and the inode file is as it is settled
 pub started : (d : Draft) (disk : Blocks) (settled : ℕ → Inode) (before : ℕ → ℕ) (inodes : InodeFile) (file : File) → KeepsActive before (entry_at d.map.parts.items) → ((b : ℕ) → settled_at d.map.parts.items b ≡ before b)
@@ -62,7 +63,7 @@ started d disk settled before inodes file active same sound as_held = record {
 -- the file system's own numbers aren't among the changed ones
 pub not_own : (inodes : InodeFile) (changed : ℕ → Bool) → ((n : ℕ) → (changed n ≡ true) ↔ IsChanged inodes n) → ((n : ℕ) → IsChanged inodes n → (3 ≤ n) × (n < inodes.geometry.inodes))
     → (n : ℕ) → n < 3 → changed n ≡ false
-not_own inodes changed just numbers n low = elim (is_bool (changed n)) [
+not_own inodes changed just numbers n low = elim (cases_Bool (changed n)) [
   | inl is ↦ (let least = (numbers n ((just n).0 is)).0 in absurd (omega arith))
   | inr isnt ↦ isnt
 ]

@@ -29,8 +29,9 @@ use Rattle.inofile.specs.Volumes.{MapsVolume}
 use Rattle.placement.specs.Space.{file_stores, level_stores, more_over}
 use Rattle.planning.specs.Space.{CountsBlocks, CountsMoves, TellsSame}
 use Rattle.planning.proofs.MapLaws.{stands_none, stands_some}
-use Rattle.planning.proofs.PlanLaws.{ordinary_from}
 use Rattle.planning.proofs.TopLaws.{stored_most}
+use Rattle.layout.proofs.SizeLaws.{level_none}
+use Rattle.images.proofs.KindLaws.{ordinary_kind}
 
 -- ---- bits and bytes
 
@@ -108,9 +109,6 @@ flat_stores (suc (suc level)) blocks changed more le = absurd (omega (arith, le)
 small_level : (size : ℕ) → size ≤ 8192 → level_of size ≤ 1
 small_level size le = grind (arith, nat_tests)
 
-inline_level : (size : ℕ) → size ≤ 128 → level_of size ≡ 0
-inline_level size le = grind (arith, nat_tests)
-
 none_stored : (level blocks changed more : ℕ) → level ≡ 0 → level_stores level blocks changed more ≡ 0
 none_stored zero blocks changed more is = refl
 none_stored (suc level) blocks changed more is = absurd (omega (arith, is))
@@ -120,7 +118,7 @@ pub few_stored : (w : ℕ → ℕ) (b : Body) (blocks size : ℕ) (first last : 
     → ((i : ℕ) → IsChanged last.tree i → (1 ≤ w i) ⊎ IsChanged first.tree i) → file_stores last ≤ sum_below w (block_count size)
 few_stored w (Inline bytes) blocks size first last fits small is unchanged counts =
     let none = none_stored (level_of last.size) (block_count last.size) (changed_blocks last.tree 0 (block_count last.size)) (more_over last)
-    (inline_level last.size (omega (arith, is, fits.0))) in
+    (level_none last.size (omega (arith, is, fits.0))) in
     omega (arith, none)
 few_stored w (Pointers pointers) blocks size first last fits small is unchanged counts =
     let flat = flat_stores (level_of last.size) (block_count last.size) (changed_blocks last.tree 0 (block_count last.size)) (more_over last) (small_level last.size (omega (arith, is, small))) in
@@ -169,7 +167,7 @@ moves_told w s t bytes first v sound holds maps moves i none k small =
         | inl own ↦ inl own
         | inr kind ↦ elim (cases_lt n 4) [
           | inl own ↦ inl own
-          | inr high ↦ inr (unmoved.0 (stands_some (t n).inode.kind s.inodes (contents t n) (first n) (ordinary_from n (t n).inode.kind (omega (arith, high)) (sound.kinds n)) kind (holds n)))
+          | inr high ↦ inr (unmoved.0 (stands_some (t n).inode.kind s.inodes (contents t n) (first n) (ordinary_kind n (t n).inode.kind (omega (arith, high)) (sound.kinds n)) kind (holds n)))
         ]
       ]),
       λ is. sym told ∙ (sound.numbers n).1 (elim ((maps n).0 is) [

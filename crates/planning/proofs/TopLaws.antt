@@ -46,10 +46,6 @@ changes_twice IsOne IsOther a b c are first second = record {
   ];
 }
 
--- as changes of more blocks
-pub changes_some : (IsOne IsOther : ℕ → Type 0) (a b : BlockTree) → ((i : ℕ) → IsOther i → IsOne i) → ChangesOnly IsOther a b → ChangesOnly IsOne a b
-changes_some IsOne IsOther a b are first = changes_twice IsOne IsOther a a b are (changes_none IsOne a) first
-
 -- ---- how many they are
 
 changed_counts : (slot : Option inode_slot.Slot) → numbers.IsChangedSlot slot → ◌≡◌ {A = ℕ} (if is_changed_slot slot then 1 else 0) 1

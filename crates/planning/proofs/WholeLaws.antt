@@ -1,8 +1,7 @@
 -- The parts of a whole plan, put together.
-use Rattle.std.proofs.Common.{◌≡◌, ◌↔◌, inl, inr, ℕ, ◌-◌, ◌*◌, ◌/◌, ◌%◌, ◌<◌, ◌≤◌, Bool, true, false, List, length, take, drop, refl, ap, sym, subst, ◌∙◌, arith}
+use Rattle.std.proofs.Common.{◌≡◌, ◌↔◌, inl, inr, ℕ, ◌-◌, ◌*◌, ◌/◌, ◌%◌, ◌<◌, ◌≤◌, Bool, true, false, List, length, drop, refl, ap, sym, subst, ◌∙◌, arith}
 use Rattle.std.proofs.Math.Path.{fun_ext}
-use Rattle.std.proofs.lemmas.Bool.{cases_eq, cases_lt, cond-true, cond-false, cond_below, cond_above, eq-eqb, ne_eqb}
-use Rattle.std.proofs.lemmas.List.{take-replicate, drop-replicate}
+use Rattle.std.proofs.lemmas.Bool.{cases_eq, cases_lt, cond-true, cond-false, cond_below, cond_above, eq-eqb, ne_eqb, cases_Bool}
 use Rattle.std.specs.Int.{div_ceil}
 use Rattle.std.specs.Prelude.{nat_lt, if◌then◌else◌, ◌==◌}
 use Rattle.layout.specs.Bytes.{zeros}
@@ -26,18 +25,10 @@ use Rattle.placement.specs.Files.{object_block}
 use Rattle.planning.specs.Inodes.{AreSpelled, with_inode_at, with_number}
 use Rattle.planning.specs.Plans.{HasBlockMap, HasInodeMap, HasTop, IsAllPlanned, OnEachOver}
 use Rattle.planning.specs.Progress.{Planned, with_file}
-use Rattle.planning.proofs.ProgressLaws.{is_bool}
 use Rattle.planning.proofs.SpellingLaws.{PutsOneByOne, one_spelled}
+use Rattle.images.proofs.EmptyLaws.{part_zeros, behind_zeros}
 
 -- ---- blocks of zeros behind the last one spell no inode
-
-part_zeros : (k : ℕ) → k < 21 → inode_part (zeros 4096) k ≡ zeros 192
-unfolding zeros
-part_zeros k lt = ap (take 192) (drop-replicate (192 * k) 4096 0) ∙ take-replicate 192 (4096 - 192 * k) 0 (omega arith)
-
-behind_zeros : drop (192 * 21) (zeros 4096) ≡ zeros (4096 - 192 * 21)
-unfolding zeros
-behind_zeros = drop-replicate (192 * 21) 4096 0
 
 module _ (inodes count : ℕ) (block : ℕ → List ℕ) (inode : ℕ → Inode) (spelled : AreSpelled inodes block inode) (some : 1 ≤ count) (enough : div_ceil inodes 21 ≤ count) where
   abbrev cut_off : ℕ → List ℕ
@@ -94,7 +85,7 @@ module _ (puts : PutsOneByOne) (low mid last : Draft) (disk : Blocks) (before : 
       ∙ numbers.others n (λ is. absurd (omega arith))
 
   past_all : (n : ℕ) → s.inodes ≤ n → q.changed n ≡ false
-  past_all n past = elim (is_bool (changed n)) [
+  past_all n past = elim (cases_Bool (changed n)) [
     | inl is ↦ (let lt = within n ((just n).0 is) in absurd (omega arith))
     | inr isnt ↦ as_before n (omega arith) ∙ isnt
   ]

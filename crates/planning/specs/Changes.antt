@@ -2,8 +2,10 @@
 use Rattle.std.specs.Prelude.{ℕ, ◌≡◌, ◌≢◌, ◌≤◌, length}
 use Rattle.std.specs.Int.{bit_at}
 use Rattle.blockmap.specs.declared.map.TheConstants.{SYSTEM_SET}
+use Rattle.conspoint.specs.Drafts.{OnEach}
+use Rattle.conspoint.specs.declared.draft.Draft.{Draft}
 use Rattle.images.specs.Roots.{slot}
-use Rattle.images.specs.SnapshotSteps.{SnapshotStep, unchanged, taken, deleted, IsSlotNumber}
+use Rattle.images.specs.SnapshotSteps.{SnapshotStep, unchanged, taken, deleted, HasHead, IsSlotNumber, StepsSlots}
 use Rattle.layout.specs.declared.pointer.Pointer.{Pointer}
 use Rattle.layout.specs.declared.pointer.Pointer.TheVariants.{Block}
 use Rattle.layout.specs.declared.root.Root.{Root}
@@ -47,6 +49,11 @@ pub record StepsEntries (step : SnapshotStep) (r new : Root) (settled before aft
   pub between : ℕ → ℕ
   pub sets : StepsSets step r new settled before between
   pub keeps : KeepsSets between after
+
+-- A root over another has the slots of this step, and the root block of a snapshot that is taken is planned.
+pub record MakesStep (step : SnapshotStep) (r new : Root) (d : Draft) : Type 0 where
+  pub slots : StepsSlots step r new
+  pub head : OnEach d (HasHead step new)
 
 -- how many blocks a change stores by itself
 abbrev pub head_nodes : SnapshotChange → ℕ

@@ -4,10 +4,11 @@ use Rattle.layout.specs.Bytes.{zeros}
 use Rattle.layout.specs.Inode.{inode_bytes}
 use Rattle.layout.specs.declared.TheConstants.{BLOCK_BYTES, INODE_BYTES, INODES_PER_BLOCK}
 use Rattle.layout.specs.declared.inode.Inode.{Inode}
-use Rattle.blocktree.specs.Trees.{IsChanged}
+use Rattle.blocktree.specs.Trees.{IsChanged, KeepsSound, SameSettled}
 use Rattle.blocktree.specs.declared.tree.BlockTree.{BlockTree}
 use Rattle.images.specs.InodeFiles.{put_at}
 use Rattle.images.specs.Roots.{inode_bytes_at}
+use Rattle.inode.specs.declared.file.File.{File}
 use Rattle.inofile.specs.Inodes as numbers
 use Rattle.inofile.specs.declared.inode_file.InodeFile.{InodeFile}
 
@@ -38,3 +39,17 @@ HasChange s i = (n : ℕ) × (n / INODES_PER_BLOCK ≡ i) × numbers.IsChanged s
 pub record ChangesOnly (IsOne : ℕ → Type 0) (old new : BlockTree) : Type 0 where
   pub kept : new.kept ≡ old.kept
   pub only : (i : ℕ) → IsChanged new i → IsOne i ⊎ IsChanged old i
+
+-- a file in memory of which only these blocks become changed: its size stays, and what is settled of it
+pub record ChangesFile (IsOne : ℕ → Type 0) (old new : File) : Type 0 where
+  pub size : new.size ≡ old.size
+  pub settled : SameSettled old.tree new.tree
+  pub sound : KeepsSound old.tree new.tree
+  pub changes : ChangesOnly IsOne old.tree new.tree
+
+-- the same, of whichever blocks
+pub record KeepsFile (old new : File) : Type 0 where
+  pub size : new.size ≡ old.size
+  pub settled : SameSettled old.tree new.tree
+  pub sound : KeepsSound old.tree new.tree
+  pub kept : new.tree.kept ≡ old.tree.kept

@@ -4,5 +4,6 @@ pub mod Changes
 pub mod Inodes
 pub mod Numbers
 pub mod Steps
+pub mod Promises
 pub mod Plans
 pub mod Space

@@ -10,19 +10,19 @@ ghost use Rattle.layout.specs.declared.inode.Inode.{Inode};
 ghost use Rattle.model.specs.Volumes.{Volume};
 ghost use Rattle.buffers.specs.Reads.{ReadsBlocks};
 ghost use Rattle.blocktree.specs.Trees.{IsSoundAt};
-ghost use Rattle.blockmap.specs.Maps.{entry_at, settled_at};
-ghost use Rattle.conspoint.specs.Drafts.{Grows, IsReserved};
+ghost use Rattle.blockmap.specs.Maps.{settled_at};
+ghost use Rattle.conspoint.specs.Drafts.{IsReserved};
 ghost use Rattle.conspoint.specs.Errors.{IsReadFault};
 ghost use Rattle.conspoint.specs.Groups.{pointer_at};
-ghost use Rattle.conspoint.specs.Space.{Lacks, TakesAtMost};
 ghost use Rattle.conspoint.specs.MapFiles.{map_nodes};
 ghost use Rattle.images.specs.Nodes.{held};
 ghost use Rattle.images.specs.BlockMap.{entry};
 ghost use Rattle.images.specs.Soundness.{IsSoundFile, IsSoundTree};
 ghost use Rattle.planning.specs.Plans.{HasBlockMap, HasLast, Progresses};
-ghost use Rattle.planning.specs.Progress.{KeepsSets, Planned};
+ghost use Rattle.planning.specs.Progress.{Planned};
 ghost use Rattle.planning.specs.Space.{map_file_nodes};
 ghost use Rattle.planning.specs.Steps.{IsOverTree, settled_tree};
+ghost use Rattle.planning.specs.Promises.{PlansFiles};
 
 use crate::inode_blocks::block_with;
 use buffers::Blocks;
@@ -70,10 +70,8 @@ pub(crate) fn plan_block_map<B: Blocks>(
 ) -> Result<Inode, PlanError>
     requires disk { B.count blocks.old ≡ draft.old.map.count }
     requires sizes { AreSizes inodes.now.geometry }
-    ensures reads { ReadsBlocks B.Blocks IsReadFault blocks.old blocks.new result }
-    ensures grows { Grows draft.old draft.new }
-    ensures sets { OnOk result (KeepsSets (entry_at draft.old.map.parts.items)
-        (entry_at draft.new.map.parts.items)) }
+    ensures step { PlansFiles B.Blocks (map_file_nodes draft.old.map.count)
+        blocks.old blocks.new draft.old draft.new result }
     ensures others { (p : ℕ) → IsReserved draft.old p → IsReserved draft.new p }
     ensures planned { (disk : ℕ → List ℕ) (settled : ℕ → Inode) (v : Volume) (before : ℕ → ℕ)
         (p : Planned) → B.Shows blocks.old disk
@@ -89,10 +87,6 @@ pub(crate) fn plan_block_map<B: Blocks>(
         → B.Shows blocks.old disk
         → IsOverTree (B.count blocks.old) disk settled inodes.now v before
         → IsErrOf result PlanError.Damaged → ⊥ }
-    ensures takes { OnOk result (TakesAtMost (map_file_nodes draft.old.map.count)
-        draft.old draft.new) }
-    ensures lacks { IsErrOf result PlanError.NoSpace
-        → Lacks (map_file_nodes draft.old.map.count) draft.old }
 {
     let settled = inodes.settled_inode(blocks, 2)?;
     let nodes = map_nodes(alloc, blocks, settled, draft.map_blocks())?;
@@ -112,10 +106,8 @@ pub(crate) fn plan_last<B: Blocks>(
     requires disk { B.count blocks.old ≡ draft.old.map.count }
     requires sizes { AreSizes inodes.now.geometry }
     requires reserved { IsReserved draft.old first }
-    ensures reads { ReadsBlocks B.Blocks IsReadFault blocks.old blocks.new result }
-    ensures grows { Grows draft.old draft.new }
-    ensures sets { OnOk result (KeepsSets (entry_at draft.old.map.parts.items)
-        (entry_at draft.new.map.parts.items)) }
+    ensures step { PlansFiles B.Blocks (map_file_nodes draft.old.map.count)
+        blocks.old blocks.new draft.old draft.new result }
     ensures planned { (disk : ℕ → List ℕ) (settled : ℕ → Inode) (v : Volume) (before : ℕ → ℕ)
         (p : Planned) → B.Shows blocks.old disk
         → IsOverTree (B.count blocks.old) disk settled inodes.now v before
@@ -131,10 +123,6 @@ pub(crate) fn plan_last<B: Blocks>(
         → IsOverTree (B.count blocks.old) disk settled inodes.now v before
         → IsSoundAt (B.count blocks.old) disk file.now.tree 0
         → IsErrOf result PlanError.Damaged → ⊥ }
-    ensures takes { OnOk result (TakesAtMost (map_file_nodes draft.old.map.count)
-        draft.old draft.new) }
-    ensures lacks { IsErrOf result PlanError.NoSpace
-        → Lacks (map_file_nodes draft.old.map.count) draft.old }
 {
     let map = plan_block_map(alloc, draft, blocks, inodes)?;
     let block = block_with(alloc, blocks, file, 2, &map)?;

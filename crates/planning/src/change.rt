@@ -1,18 +1,18 @@
 //! What a consistency point does with the snapshots.
 
-ghost use Rattle.std.specs.Prelude.{ℕ, ◌≡◌, ◌≤◌, ◌+◌, IfOk, IfErr, OnOk, IsErrOf, length};
+ghost use Rattle.std.specs.Prelude.{ℕ, ◌≡◌, ◌≤◌, IfOk, OnOk, length};
 ghost use Rattle.std.specs.Int.{bit_at};
 ghost use Rattle.layout.specs.Pointer.{PointsBelow};
 ghost use Rattle.layout.specs.Root.{IsRoot};
 ghost use Rattle.layout.specs.SnapRoot.{snapshot_bytes};
 ghost use Rattle.layout.specs.declared.pointer.Pointer.{Pointer};
 ghost use Rattle.blockmap.specs.Maps.{entry_at, settled_at};
-ghost use Rattle.conspoint.specs.Drafts.{Grows, IsShortage, OnEach, WasTaken};
-ghost use Rattle.conspoint.specs.Space.{Lacks, TakesAtMost};
+ghost use Rattle.conspoint.specs.Drafts.{OnEach, WasTaken};
 ghost use Rattle.images.specs.Roots.{slot};
-ghost use Rattle.images.specs.SnapshotSteps.{HasHead, IsSlotNumber, SetsSlot, SnapshotStep, StepsSlots};
-ghost use Rattle.planning.specs.Changes.{ChangesPlane, FitsSlots, IsStepOf, StepsSets, head_nodes};
+ghost use Rattle.images.specs.SnapshotSteps.{IsSlotNumber, SetsSlot, SnapshotStep};
+ghost use Rattle.planning.specs.Changes.{ChangesPlane, FitsSlots, IsStepOf, head_nodes, MakesStep, StepsSets};
 ghost use Rattle.planning.specs.Progress.{KeepsActive};
+ghost use Rattle.conspoint.specs.Steps.{Places, Takes};
 
 use buffers::Block;
 use conspoint::{Draft, PlanError};
@@ -45,8 +45,7 @@ fn place_head(
     name: &[u8],
 ) -> Result<BlockNumber, PlanError>
     requires { length name.now ≤ 63 }
-    ensures grows { Grows draft.old draft.new }
-    ensures parts { draft.new.map.parts.items ≡ draft.old.map.parts.items }
+    ensures step { Places 1 draft.old draft.new result }
     ensures taken { IfOk result (WasTaken draft.old draft.new) }
     ensures stored { IfOk result (λ place. OnEach draft.new (λ e. e place
         ≡ snapshot_bytes (record {
@@ -54,9 +53,6 @@ fn place_head(
           name = name.now;
           inode_file = root.now.inode_file;
         }))) }
-    ensures takes { OnOk result (TakesAtMost 1 draft.old draft.new) }
-    ensures lacks { IsErrOf result PlanError.NoSpace → Lacks 1 draft.old }
-    ensures shortage { IfErr result IsShortage }
 {
     let head = SnapRoot {
         order,
@@ -96,7 +92,7 @@ fn take(
 ) -> Result<Pointer, PlanError>
     requires slot { IsSlotNumber slot }
     requires short { length name.now ≤ 63 }
-    ensures grows { Grows draft.old draft.new }
+    ensures step { Takes 1 draft.old draft.new result }
     ensures active { OnOk result (KeepsActive (entry_at draft.old.map.parts.items)
         (entry_at draft.new.map.parts.items)) }
     ensures head { IfOk result (λ p. (b : ℕ) → p ≡ Pointer.Block b → OnEach draft.new (λ e. e b
@@ -112,9 +108,6 @@ fn take(
     ensures sets { IfOk result (λ p. ChangesPlane slot p 1
         (λ b. bit_at (settled_at draft.old.map.parts.items b) 0)
         (entry_at draft.old.map.parts.items) (entry_at draft.new.map.parts.items)) }
-    ensures takes { OnOk result (TakesAtMost 1 draft.old draft.new) }
-    ensures lacks { IsErrOf result PlanError.NoSpace → Lacks 1 draft.old }
-    ensures shortage { IfErr result IsShortage }
 {
     let place = place_head(alloc, draft, root, order, name)?;
     draft.take_plane(slot)?;
@@ -126,14 +119,11 @@ fn take(
 fn delete(draft: &mut Draft, slot: u32, pointer: Pointer) -> Result<(), PlanError>
     requires slot { IsSlotNumber slot }
     requires below { PointsBelow draft.old.map.count pointer }
-    ensures grows { Grows draft.old draft.new }
+    ensures step { Takes 0 draft.old draft.new result }
     ensures active { OnOk result (KeepsActive (entry_at draft.old.map.parts.items)
         (entry_at draft.new.map.parts.items)) }
     ensures sets { OnOk result (ChangesPlane slot pointer 0 (λ b. 0)
         (entry_at draft.old.map.parts.items) (entry_at draft.new.map.parts.items)) }
-    ensures takes { OnOk result (TakesAtMost 0 draft.old draft.new) }
-    ensures why { IsErrOf result PlanError.NoSpace → ⊥ }
-    ensures shortage { IfErr result IsShortage }
 {
     draft.clear_plane(slot)?;
     match pointer {
@@ -156,21 +146,16 @@ pub(crate) fn change_snapshots(
     requires root { IsRoot root.now }
     requires fits { FitsSlots change.now }
     requires size { draft.old.map.count ≡ root.now.geometry.blocks }
-    ensures grows { Grows draft.old draft.new }
+    ensures step { Takes (head_nodes change.now) draft.old draft.new result }
     ensures active { OnOk result (KeepsActive (entry_at draft.old.map.parts.items)
         (entry_at draft.new.map.parts.items)) }
     ensures root { IfOk result IsRoot }
     ensures geometry { IfOk result (λ r. r.geometry ≡ root.now.geometry) }
-    ensures slots { IfOk result (λ r. (step : SnapshotStep) → IsStepOf change.now root.now step
-        → StepsSlots step root.now r) }
-    ensures head { IfOk result (λ r. (step : SnapshotStep) → IsStepOf change.now root.now step
-        → OnEach draft.new (HasHead step r)) }
+    ensures steps { IfOk result (λ r. (step : SnapshotStep) → IsStepOf change.now root.now step
+        → MakesStep step root.now r draft.new) }
     ensures sets { IfOk result (λ r. (step : SnapshotStep) → IsStepOf change.now root.now step
         → StepsSets step root.now r (settled_at draft.old.map.parts.items)
         (entry_at draft.old.map.parts.items) (entry_at draft.new.map.parts.items)) }
-    ensures takes { OnOk result (TakesAtMost (head_nodes change.now) draft.old draft.new) }
-    ensures lacks { IsErrOf result PlanError.NoSpace → Lacks (head_nodes change.now) draft.old }
-    ensures shortage { IfErr result IsShortage }
 {
     match *change {
         SnapshotChange::Unchanged => Ok(*root),

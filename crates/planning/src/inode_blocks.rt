@@ -1,15 +1,15 @@
 //! Inodes in the blocks of the inode file.
 
-ghost use Rattle.std.specs.Prelude.{ℕ, ◌≡◌, ◌/◌, ◌%◌, ◌*◌, ◌<◌, ◌==◌, List, length, OnOk, IfOk, IsErrOf, if◌then◌else◌};
+ghost use Rattle.std.specs.Prelude.{ℕ, ◌≡◌, ◌/◌, ◌%◌, ◌*◌, ◌<◌, List, length, OnOk, IfOk, IsErrOf};
 ghost use Rattle.layout.specs.Inode.{inode_bytes};
 ghost use Rattle.layout.specs.declared.TheConstants.{BLOCK_BYTES, INODES_PER_BLOCK, INODE_BYTES};
 ghost use Rattle.buffers.specs.Reads.{ReadsBlocks};
 ghost use Rattle.blocktree.specs.Errors.{IsFault};
 ghost use Rattle.blocktree.specs.declared.error.ReadError.TheVariants as read;
-ghost use Rattle.blocktree.specs.Trees.{IsSoundAt, KeepsSound, SameSettled};
+ghost use Rattle.blocktree.specs.Trees.{IsSoundAt};
 ghost use Rattle.inode.specs.Files.{file_block};
 ghost use Rattle.images.specs.InodeFiles.{put_at};
-ghost use Rattle.planning.specs.Inodes.{ChangesOnly, with_inode_at};
+ghost use Rattle.planning.specs.Inodes.{with_inode_at, ChangesFile};
 
 use blocktree::ReadError;
 use buffers::{Block, Blocks};
@@ -51,11 +51,7 @@ pub(crate) fn put_inode<B: Blocks>(
     inode: &Inode,
 ) -> Result<(), ReadError>
     ensures reads { ReadsBlocks B.Blocks IsFault blocks.old blocks.new result }
-    ensures size { file.new.size ≡ file.old.size }
-    ensures settled { SameSettled file.old.tree file.new.tree }
-    ensures sound { KeepsSound file.old.tree file.new.tree }
-    ensures changes { ChangesOnly (λ i. i ≡ number / INODES_PER_BLOCK)
-        file.old.tree file.new.tree }
+    ensures file { ChangesFile (λ i. i ≡ number / INODES_PER_BLOCK) file.old file.new }
     ensures put { (disk : ℕ → List ℕ) → B.Shows blocks.old disk → OnOk result ((i : ℕ)
         → file_block disk file.new i ≡ with_inode_at (file_block disk file.old) number inode.now i) }
     ensures whole { (disk : ℕ → List ℕ) → B.Shows blocks.old disk → OnOk result

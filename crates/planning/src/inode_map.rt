@@ -11,10 +11,10 @@ ghost use Rattle.model.specs.Volumes.{Volume};
 ghost use Rattle.buffers.specs.Positions.{IsPart};
 ghost use Rattle.buffers.specs.Reads.{ReadsBlocks};
 ghost use Rattle.blocktree.specs.Errors.{IsFault};
-ghost use Rattle.blocktree.specs.Trees.{IsChanged, IsSoundAt, KeepsSound, SameSettled};
+ghost use Rattle.blocktree.specs.Trees.{IsChanged, IsSoundAt};
 ghost use Rattle.blocktree.specs.declared.error.ReadError.TheVariants as read;
-ghost use Rattle.blockmap.specs.Maps.{entry_at, settled_at};
-ghost use Rattle.conspoint.specs.Drafts.{Grows, IsReserved};
+ghost use Rattle.blockmap.specs.Maps.{settled_at};
+ghost use Rattle.conspoint.specs.Drafts.{IsReserved};
 ghost use Rattle.conspoint.specs.Errors.{IsReadFault};
 ghost use Rattle.conspoint.specs.Space.{Lacks, TakesAtMost};
 ghost use Rattle.images.specs.Contents.{Content};
@@ -24,11 +24,11 @@ ghost use Rattle.images.specs.Soundness.{HasNoHole};
 ghost use Rattle.inode.specs.Files.{byte_at, file_block};
 ghost use Rattle.inofile.specs.Settled.{AreSettled};
 ghost use Rattle.placement.specs.Space.{file_nodes};
-ghost use Rattle.planning.specs.Inodes.{ChangesOnly};
+ghost use Rattle.planning.specs.Inodes.{ChangesFile, KeepsFile};
 ghost use Rattle.planning.specs.Plans.{HasInodeMap};
-ghost use Rattle.planning.specs.Progress.{KeepsSets};
 ghost use Rattle.planning.specs.Space.{CountsBlocks, TellsSame, map_stores};
 ghost use Rattle.planning.specs.Steps.{IsOverTree, IsUnderWay, settled_tree};
+ghost use Rattle.planning.specs.Promises.{PlansFiles};
 
 use crate::inode_blocks::put_inode;
 use crate::number::mark_placed;
@@ -93,10 +93,7 @@ fn put_part<B: Blocks>(
     i: u32,
 ) -> Result<(), ReadError>
     ensures reads { ReadsBlocks B.Blocks IsFault blocks.old blocks.new result }
-    ensures size { file.new.size ≡ file.old.size }
-    ensures sound { KeepsSound file.old.tree file.new.tree }
-    ensures settled { SameSettled file.old.tree file.new.tree }
-    ensures kept { file.new.tree.kept ≡ file.old.tree.kept }
+    ensures file { KeepsFile file.old file.new }
     ensures only { (disk : ℕ → List ℕ) → B.Shows blocks.old disk → (j : ℕ)
         → IsChanged file.new.tree j
         → ((j ≡ i) × (TellsSame bytes.now (file_block disk file.old i) i → ⊥))
@@ -127,10 +124,7 @@ fn put_parts<B: Blocks>(
 ) -> Result<(), ReadError>
     requires { length bytes.now ≤ greatest_size VERSION }
     ensures reads { ReadsBlocks B.Blocks IsFault blocks.old blocks.new result }
-    ensures size { file.new.size ≡ file.old.size }
-    ensures sound { KeepsSound file.old.tree file.new.tree }
-    ensures settled { SameSettled file.old.tree file.new.tree }
-    ensures kept { file.new.tree.kept ≡ file.old.tree.kept }
+    ensures file { KeepsFile file.old file.new }
     ensures only { (disk : ℕ → List ℕ) → B.Shows blocks.old disk → (j : ℕ)
         → IsChanged file.new.tree j → (TellsSame bytes.now (file_block disk file.old j) j → ⊥)
         ⊎ IsChanged file.old.tree j }
@@ -180,15 +174,10 @@ pub(crate) fn plan_inode_map<B: Blocks>(
 ) -> Result<(), PlanError>
     requires disk { B.count blocks.old ≡ draft.old.map.count }
     requires sizes { AreSizes inodes.now.geometry }
-    ensures reads { ReadsBlocks B.Blocks IsReadFault blocks.old blocks.new result }
-    ensures grows { Grows draft.old draft.new }
-    ensures sets { OnOk result (KeepsSets (entry_at draft.old.map.parts.items)
-        (entry_at draft.new.map.parts.items)) }
+    ensures step { PlansFiles B.Blocks (file_nodes (div_ceil inodes.now.geometry.inodes 8))
+        blocks.old blocks.new draft.old draft.new result }
     ensures others { (p : ℕ) → IsReserved draft.old p → IsReserved draft.new p }
-    ensures size { file.new.size ≡ file.old.size }
-    ensures sound { KeepsSound file.old.tree file.new.tree }
-    ensures changes { ChangesOnly (λ i. i ≡ 0) file.old.tree file.new.tree }
-    ensures settled { SameSettled file.old.tree file.new.tree }
+    ensures file { ChangesFile (λ i. i ≡ 0) file.old file.new }
     ensures planned { (disk : ℕ → List ℕ) (settled : ℕ → Inode) (v : Volume) (before : ℕ → ℕ)
         (found : ℕ → Content) → B.Shows blocks.old disk
         → IsOverTree (B.count blocks.old) disk settled inodes.now v before
@@ -204,10 +193,6 @@ pub(crate) fn plan_inode_map<B: Blocks>(
         → ((b : ℕ) → settled_at draft.old.map.parts.items b ≡ before b)
         → ((i : ℕ) → IsSoundAt (B.count blocks.old) disk file.old.tree i)
         → IsErrOf result PlanError.Damaged → ⊥ }
-    ensures takes { OnOk result (TakesAtMost (file_nodes (div_ceil inodes.now.geometry.inodes 8))
-        draft.old draft.new) }
-    ensures lacks { IsErrOf result PlanError.NoSpace
-        → Lacks (file_nodes (div_ceil inodes.now.geometry.inodes 8)) draft.old }
     ensures stores { (disk : ℕ → List ℕ) (settled : ℕ → Inode) (v : Volume) (before : ℕ → ℕ)
         → B.Shows blocks.old disk
         → IsOverTree (B.count blocks.old) disk settled inodes.now v before → (w : ℕ → ℕ)

@@ -1,4 +1,4 @@
-//! The planning of a consistency point: every place and every byte of it, before anything is written.
+//! The checkpoint's plan (planning): every place and every byte of it, before anything is written.
 #![tactic(auto)]
 
 mod block_map;

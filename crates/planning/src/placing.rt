@@ -1,26 +1,21 @@
 //! The new inode of a number that is changed.
 
-ghost use Rattle.std.specs.Prelude.{ℕ, ◌≡◌, ◌≤◌, ◌<◌, List, All, true, OnOk, IfOk, IsErrOf};
+ghost use Rattle.std.specs.Prelude.{ℕ, ◌≡◌, ◌≤◌, ◌<◌, List, IfOk, IsErrOf};
 ghost use Rattle.layout.specs.Limits.{Sizes};
 ghost use Rattle.layout.specs.Version.{greatest_size};
 ghost use Rattle.layout.specs.declared.inode.Inode.{Inode};
-ghost use Rattle.layout.specs.declared.numbers.TheConstants.{ROOT_NUMBER};
+ghost use Rattle.model.specs.declared.limits.TheConstants.{ROOT_NUMBER};
 ghost use Rattle.layout.specs.declared.version.TheConstants.{VERSION};
 ghost use Rattle.model.specs.Volumes.{Volume};
-ghost use Rattle.buffers.specs.Reads.{ReadsBlocks};
 ghost use Rattle.images.specs.Contents.{content_of};
 ghost use Rattle.images.specs.Nodes.{Agrees, Names, held};
-ghost use Rattle.images.specs.Roots.{free_inode};
-ghost use Rattle.inode.specs.Bases.{IsBased};
-ghost use Rattle.inode.specs.Files.{IsFile};
 ghost use Rattle.inofile.specs.Inodes.{IsChanged, files_of};
-ghost use Rattle.conspoint.specs.Drafts.{Grows, IsFull, IsReserved, OnEach, WasTaken};
-ghost use Rattle.conspoint.specs.Errors.{IsReadFault};
-ghost use Rattle.conspoint.specs.Space.{Lacks, TakesAtMost};
+ghost use Rattle.conspoint.specs.Drafts.{OnEach};
 ghost use Rattle.placement.specs.Space.{file_stores};
 ghost use Rattle.placement.specs.Files.{IsPlaced, is_one, object_content};
 ghost use Rattle.planning.specs.Space.{number_nodes};
 ghost use Rattle.planning.specs.Numbers.{IsCleared, IsNumberPlaced, IsOverSettled, IsSettledFile, IsObjectOver, trimmed};
+ghost use Rattle.placement.specs.Steps.{PlacesFile};
 
 use buffers::Blocks;
 use conspoint::{Draft, PlanError};
@@ -40,22 +35,12 @@ fn clear<B: Blocks>(
 ) -> Result<PlacedFile, PlanError>
     requires disk { B.count blocks.old ≡ draft.old.map.count }
     requires size { settled.size ≤ greatest_size VERSION }
-    ensures reads { ReadsBlocks B.Blocks IsReadFault blocks.old blocks.new result }
-    ensures grows { Grows draft.old draft.new }
-    ensures parts { draft.new.map.parts.items ≡ draft.old.map.parts.items }
-    ensures others { (p : ℕ) → IsReserved draft.old p → IsReserved draft.new p }
-    ensures taken { IfOk result (λ p. All (λ b. b < draft.old.map.count) p.taken.items) }
-    ensures freed { IfOk result (λ p. All (λ b. b < draft.old.map.count) p.freed.items) }
-    ensures given { IfOk result (λ p. (b : ℕ) → is_one p.taken.items b ≡ true
-        → WasTaken draft.old draft.new b) }
+    ensures step { PlacesFile B.Blocks 0 (λ p. p) blocks.old blocks.new draft.old draft.new result }
     ensures cleared { (s : Sizes) (disk : ℕ → List ℕ) → B.Shows blocks.old disk
         → IsSettledFile s draft.old disk settled
         → IfOk result (λ p. OnEach draft.new (λ e. Agrees (Names (held disk settled)) disk e
         → IsCleared s e (held disk settled) p.inode (is_one p.taken.items)
         (is_one p.freed.items))) }
-    ensures full { IsErrOf result PlanError.NoSpace → IsFull draft.new }
-    ensures takes { OnOk result (TakesAtMost 0 draft.old draft.new) }
-    ensures some { IsErrOf result PlanError.NoSpace → ⊥ }
     ensures damaged { (s : Sizes) (disk : ℕ → List ℕ) → B.Shows blocks.old disk
         → IsSettledFile s draft.old disk settled → IsErrOf result PlanError.Damaged → ⊥ }
 {
@@ -81,14 +66,8 @@ fn place_object<B: Blocks>(
 ) -> Result<PlacedFile, PlanError>
     requires disk { B.count blocks.old ≡ draft.old.map.count }
     requires size { settled.size ≤ greatest_size VERSION }
-    ensures reads { ReadsBlocks B.Blocks IsReadFault blocks.old blocks.new result }
-    ensures grows { Grows draft.old draft.new }
-    ensures parts { draft.new.map.parts.items ≡ draft.old.map.parts.items }
-    ensures others { (p : ℕ) → IsReserved draft.old p → IsReserved draft.new p }
-    ensures taken { IfOk result (λ p. All (λ b. b < draft.old.map.count) p.taken.items) }
-    ensures freed { IfOk result (λ p. All (λ b. b < draft.old.map.count) p.freed.items) }
-    ensures given { IfOk result (λ p. (b : ℕ) → is_one p.taken.items b ≡ true
-        → WasTaken draft.old draft.new b) }
+    ensures step { PlacesFile B.Blocks (file_stores object.now.file) (λ p. p)
+        blocks.old blocks.new draft.old draft.new result }
     ensures placed { (s : Sizes) (disk : ℕ → List ℕ) → B.Shows blocks.old disk
         → IsSettledFile s draft.old disk settled → IsObjectOver s disk settled object.now
         → IfOk result (λ p. OnEach draft.new (λ e. Agrees (Names (held disk settled)) disk e
@@ -98,9 +77,6 @@ fn place_object<B: Blocks>(
         → IsSettledFile s draft.old disk settled → IsObjectOver s disk settled object.now
         → IfOk result (λ p. OnEach draft.new (λ e. Agrees (Names (held disk settled)) disk e
         → content_of (held e p.inode) ≡ object_content disk object.now)) }
-    ensures full { IsErrOf result PlanError.NoSpace → IsFull draft.new }
-    ensures takes { OnOk result (TakesAtMost (file_stores object.now.file) draft.old draft.new) }
-    ensures lacks { IsErrOf result PlanError.NoSpace → Lacks (file_stores object.now.file) draft.old }
     ensures damaged { (s : Sizes) (disk : ℕ → List ℕ) → B.Shows blocks.old disk
         → IsSettledFile s draft.old disk settled → IsObjectOver s disk settled object.now
         → IsErrOf result PlanError.Damaged → ⊥ }
@@ -129,14 +105,8 @@ pub(crate) fn place_number<B: Blocks>(
     requires low { ROOT_NUMBER ≤ number }
     requires high { number < inodes.now.geometry.inodes }
     requires changed { IsChanged inodes.now number }
-    ensures reads { ReadsBlocks B.Blocks IsReadFault blocks.old blocks.new result }
-    ensures grows { Grows draft.old draft.new }
-    ensures parts { draft.new.map.parts.items ≡ draft.old.map.parts.items }
-    ensures others { (p : ℕ) → IsReserved draft.old p → IsReserved draft.new p }
-    ensures taken { IfOk result (λ p. All (λ b. b < draft.old.map.count) p.taken.items) }
-    ensures freed { IfOk result (λ p. All (λ b. b < draft.old.map.count) p.freed.items) }
-    ensures given { IfOk result (λ p. (b : ℕ) → is_one p.taken.items b ≡ true
-        → WasTaken draft.old draft.new b) }
+    ensures step { PlacesFile B.Blocks (number_nodes inodes.now number) (λ p. p)
+        blocks.old blocks.new draft.old draft.new result }
     ensures placed { (disk : ℕ → List ℕ) (settled : ℕ → Inode) (v : Volume)
         → B.Shows blocks.old disk
         → IsOverSettled (B.count blocks.old) draft.old disk settled inodes.now v
@@ -145,9 +115,6 @@ pub(crate) fn place_number<B: Blocks>(
         → IsNumberPlaced inodes.now.geometry e (held disk (settled number))
         (trimmed (files_of disk settled inodes.now number)) p.inode
         (is_one p.taken.items) (is_one p.freed.items))) }
-    ensures full { IsErrOf result PlanError.NoSpace → IsFull draft.new }
-    ensures takes { OnOk result (TakesAtMost (number_nodes inodes.now number) draft.old draft.new) }
-    ensures lacks { IsErrOf result PlanError.NoSpace → Lacks (number_nodes inodes.now number) draft.old }
     ensures damaged { (disk : ℕ → List ℕ) (settled : ℕ → Inode) (v : Volume)
         → B.Shows blocks.old disk
         → IsOverSettled (B.count blocks.old) draft.old disk settled inodes.now v

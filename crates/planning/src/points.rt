@@ -12,10 +12,9 @@ ghost use Rattle.model.specs.Paths.{Name};
 ghost use Rattle.model.specs.Trees.{Tree};
 ghost use Rattle.model.specs.Volumes.{Volume};
 ghost use Rattle.buffers.specs.Reads.{ReadsBlocks};
-ghost use Rattle.blocktree.specs.Trees.{IsSoundAt, KeepsSound, SameSettled};
-ghost use Rattle.blockmap.specs.Maps.{entry_at, settled_at};
+ghost use Rattle.blocktree.specs.Trees.{IsSoundAt};
+ghost use Rattle.blockmap.specs.Maps.{settled_at, entry_at};
 ghost use Rattle.blockmap.specs.Space.{left};
-ghost use Rattle.conspoint.specs.Drafts.{Grows, OnEach};
 ghost use Rattle.conspoint.specs.Errors.{IsReadFault};
 ghost use Rattle.conspoint.specs.Plans.{FitsDisk, IsSlot};
 ghost use Rattle.conspoint.specs.Space.{Lacks, TakesAtMost};
@@ -23,16 +22,16 @@ ghost use Rattle.conspoint.specs.Writes.{writes_of};
 ghost use Rattle.images.specs.Cuts.{IsPointWith};
 ghost use Rattle.images.specs.Nodes.{file_block, held};
 ghost use Rattle.images.specs.Roots.{whole};
-ghost use Rattle.images.specs.SnapshotSteps.{CanStep, HasHead, SnapshotStep, StepsSlots};
+ghost use Rattle.images.specs.SnapshotSteps.{CanStep, SnapshotStep};
 ghost use Rattle.images.specs.Soundness.{HasNoHole};
 ghost use Rattle.inofile.specs.Inodes.{files_of};
-ghost use Rattle.planning.specs.Changes.{FitsSlots, IsStepOf, StepsEntries, head_nodes};
-ghost use Rattle.planning.specs.Inodes.{ChangesOnly, HasChange};
+ghost use Rattle.planning.specs.Changes.{FitsSlots, IsStepOf, head_nodes, MakesStep, StepsEntries};
+ghost use Rattle.planning.specs.Inodes.{HasChange, ChangesFile};
 ghost use Rattle.planning.specs.Numbers.{trimmed};
 ghost use Rattle.planning.specs.Plans.{HasNumbers, IsAllPlanned, IsClean, IsPlanStart, IsPlannable, PlansEntries};
-ghost use Rattle.planning.specs.Progress.{KeepsSets};
 ghost use Rattle.planning.specs.Space.{CountsBlocks, CountsMoves, change_nodes, map_stores, nodes_below, point_nodes, point_stores};
 ghost use Rattle.planning.specs.Steps.{ArePlanned, IsOverTree, settled_tree};
+ghost use Rattle.planning.specs.Promises.{AreOfSizes, PlansFiles, PlansRoot};
 
 use crate::block_map::plan_last;
 use crate::change::{SnapshotChange, change_snapshots};
@@ -68,15 +67,9 @@ fn plan_changes<B: Blocks>(
 ) -> Result<(), PlanError>
     requires disk { B.count blocks.old ≡ draft.old.map.count }
     requires sizes { AreSizes inodes.now.geometry }
-    ensures reads { ReadsBlocks B.Blocks IsReadFault blocks.old blocks.new result }
-    ensures grows { Grows draft.old draft.new }
-    ensures sets { OnOk result (KeepsSets (entry_at draft.old.map.parts.items)
-        (entry_at draft.new.map.parts.items)) }
-    ensures size { file.new.size ≡ file.old.size }
-    ensures sound { KeepsSound file.old.tree file.new.tree }
-    ensures settled { SameSettled file.old.tree file.new.tree }
-    ensures changes { ChangesOnly (λ i. (i ≡ 0) ⊎ HasChange inodes.now i)
-        file.old.tree file.new.tree }
+    ensures step { PlansFiles B.Blocks (change_nodes inodes.now)
+        blocks.old blocks.new draft.old draft.new result }
+    ensures file { ChangesFile (λ i. (i ≡ 0) ⊎ HasChange inodes.now i) file.old file.new }
     ensures planned { (disk : ℕ → List ℕ) (settled : ℕ → Inode) (v : Volume) (before : ℕ → ℕ)
         → B.Shows blocks.old disk
         → IsOverTree (B.count blocks.old) disk settled inodes.now v before
@@ -89,8 +82,6 @@ fn plan_changes<B: Blocks>(
         → ArePlanned (λ n. ⊥) draft.old disk settled before inodes.now file.old
         → ((i : ℕ) → IsSoundAt (B.count blocks.old) disk file.old.tree i)
         → IsErrOf result PlanError.Damaged → ⊥ }
-    ensures takes { OnOk result (TakesAtMost (change_nodes inodes.now) draft.old draft.new) }
-    ensures lacks { IsErrOf result PlanError.NoSpace → Lacks (change_nodes inodes.now) draft.old }
     ensures stores { (disk : ℕ → List ℕ) (settled : ℕ → Inode) (v : Volume) (before : ℕ → ℕ)
         → B.Shows blocks.old disk
         → IsOverTree (B.count blocks.old) disk settled inodes.now v before → (w : ℕ → ℕ)
@@ -117,13 +108,9 @@ fn plan_files<B: Blocks>(
     root: &Root,
     inodes: &InodeFile,
 ) -> Result<Inode, PlanError>
-    requires root { IsRoot root.now }
-    requires disk { B.count blocks.old ≡ draft.old.map.count }
-    requires sizes { inodes.now.geometry ≡ root.now.geometry }
-    ensures reads { ReadsBlocks B.Blocks IsReadFault blocks.old blocks.new result }
-    ensures grows { Grows draft.old draft.new }
-    ensures sets { OnOk result (KeepsSets (entry_at draft.old.map.parts.items)
-        (entry_at draft.new.map.parts.items)) }
+    requires { AreOfSizes root.now inodes.now (B.count blocks.old) draft.old }
+    ensures step { PlansFiles B.Blocks (point_nodes root.now inodes.now draft.old.map.count)
+        blocks.old blocks.new draft.old draft.new result }
     ensures planned { (disk : ℕ → List ℕ) (settled : ℕ → Inode) (v : Volume) (before : ℕ → ℕ)
         → B.Shows blocks.old disk
         → IsPlanStart (B.count blocks.old) draft.old disk root.now settled inodes.now v before
@@ -134,10 +121,6 @@ fn plan_files<B: Blocks>(
         → B.Shows blocks.old disk
         → IsPlanStart (B.count blocks.old) draft.old disk root.now settled inodes.now v before
         → IsErrOf result PlanError.Damaged → ⊥ }
-    ensures takes { OnOk result (TakesAtMost
-        (point_nodes root.now inodes.now draft.old.map.count) draft.old draft.new) }
-    ensures lacks { IsErrOf result PlanError.NoSpace
-        → Lacks (point_nodes root.now inodes.now draft.old.map.count) draft.old }
     ensures stores { (disk : ℕ → List ℕ) (settled : ℕ → Inode) (v : Volume) (before : ℕ → ℕ)
         → B.Shows blocks.old disk
         → IsOverTree (B.count blocks.old) disk settled inodes.now v before → (w : ℕ → ℕ)
@@ -194,20 +177,13 @@ fn plan_root<B: Blocks>(
     inodes: &InodeFile,
     change: &SnapshotChange<'_>,
 ) -> Result<Root, PlanError>
-    requires root { IsRoot root.now }
+    requires start { AreOfSizes root.now inodes.now (B.count blocks.old) draft.old }
     requires fits { FitsSlots change.now }
-    requires size { draft.old.map.count ≡ root.now.geometry.blocks }
-    requires disk { B.count blocks.old ≡ draft.old.map.count }
-    requires sizes { inodes.now.geometry ≡ root.now.geometry }
-    ensures reads { ReadsBlocks B.Blocks IsReadFault blocks.old blocks.new result }
-    ensures grows { Grows draft.old draft.new }
-    ensures root { IfOk result IsRoot }
-    ensures generation { IfOk result (λ r. r.generation ≡ generation) }
-    ensures geometry { IfOk result (λ r. r.geometry ≡ root.now.geometry) }
-    ensures slots { IfOk result (λ r. (step : SnapshotStep) → IsStepOf change.now root.now step
-        → StepsSlots step root.now r) }
-    ensures head { IfOk result (λ r. (step : SnapshotStep) → IsStepOf change.now root.now step
-        → OnEach draft.new (HasHead step r)) }
+    ensures step { PlansRoot B.Blocks
+        (point_nodes root.now inodes.now draft.old.map.count + head_nodes change.now)
+        generation root.now blocks.old blocks.new draft.old draft.new result }
+    ensures steps { IfOk result (λ r. (step : SnapshotStep) → IsStepOf change.now root.now step
+        → MakesStep step root.now r draft.new) }
     // The map's entries once the snapshots' sets are changed, and those in the end.
     ensures sets { IfOk result (λ r. (step : SnapshotStep) → IsStepOf change.now root.now step
         → StepsEntries step root.now r (settled_at draft.old.map.parts.items)
@@ -222,12 +198,6 @@ fn plan_root<B: Blocks>(
         → B.Shows blocks.old disk
         → IsPlanStart (B.count blocks.old) draft.old disk root.now settled inodes.now v before
         → IsErrOf result PlanError.Damaged → ⊥ }
-    ensures takes { OnOk result (TakesAtMost
-        (point_nodes root.now inodes.now draft.old.map.count + head_nodes change.now)
-        draft.old draft.new) }
-    ensures lacks { IsErrOf result PlanError.NoSpace
-        → Lacks (point_nodes root.now inodes.now draft.old.map.count + head_nodes change.now)
-        draft.old }
     ensures stores { (disk : ℕ → List ℕ) (settled : ℕ → Inode) (v : Volume) (before : ℕ → ℕ)
         → B.Shows blocks.old disk
         → IsOverTree (B.count blocks.old) disk settled inodes.now v before → (w : ℕ → ℕ)

@@ -1,21 +1,19 @@
 //! The inode file's own file.
 
-ghost use Rattle.std.specs.Prelude.{ℕ, ◌≡◌, ◌≤◌, List, IfOk, OnOk, IsErrOf, false};
+ghost use Rattle.std.specs.Prelude.{ℕ, ◌≡◌, ◌≤◌, List, IfOk, IsErrOf, false};
 ghost use Rattle.layout.specs.Limits.{Sizes};
 ghost use Rattle.layout.specs.declared.TheConstants.{BLOCK_BYTES};
 ghost use Rattle.layout.specs.declared.inode.Inode.{Inode};
 ghost use Rattle.layout.specs.declared.kind.Kind.TheVariants as kinds;
-ghost use Rattle.buffers.specs.Reads.{ReadsBlocks};
-ghost use Rattle.blockmap.specs.Maps.{entry_at, settled_at};
-ghost use Rattle.conspoint.specs.Drafts.{Grows, IsReserved};
-ghost use Rattle.conspoint.specs.Errors.{IsReadFault};
+ghost use Rattle.blockmap.specs.Maps.{settled_at};
+ghost use Rattle.conspoint.specs.Drafts.{IsReserved};
 ghost use Rattle.images.specs.BlockMap.{NamesOnce};
-ghost use Rattle.conspoint.specs.Space.{Lacks, TakesAtMost};
 ghost use Rattle.placement.specs.Files.{IsChangeOf};
 ghost use Rattle.placement.specs.Space.{first_stores};
 ghost use Rattle.planning.specs.Plans.{HasTop, Progresses};
-ghost use Rattle.planning.specs.Progress.{IsExactPlane, KeepsSets, Planned};
+ghost use Rattle.planning.specs.Progress.{IsExactPlane, Planned};
 ghost use Rattle.planning.specs.Steps.{settled_tree};
+ghost use Rattle.planning.specs.Promises.{PlansFiles};
 
 use crate::number::mark_placed;
 use buffers::Blocks;
@@ -35,10 +33,8 @@ pub(crate) fn place_top<B: Blocks>(
 ) -> Result<(Inode, BlockNumber), PlanError>
     requires disk { B.count blocks.old ≡ draft.old.map.count }
     requires some { BLOCK_BYTES ≤ top.now.file.size }
-    ensures reads { ReadsBlocks B.Blocks IsReadFault blocks.old blocks.new result }
-    ensures grows { Grows draft.old draft.new }
-    ensures sets { OnOk result (KeepsSets (entry_at draft.old.map.parts.items)
-        (entry_at draft.new.map.parts.items)) }
+    ensures step { PlansFiles B.Blocks (first_stores top.now.file)
+        blocks.old blocks.new draft.old draft.new result }
     ensures others { (p : ℕ) → IsReserved draft.old p → IsReserved draft.new p }
     ensures reserved { IfOk result (λ r. IsReserved draft.new r.1) }
     ensures planned { (s : Sizes) (disk : ℕ → List ℕ) (settled : ℕ → Inode) (before : ℕ → ℕ)
@@ -54,8 +50,6 @@ pub(crate) fn place_top<B: Blocks>(
         top.now r.0 r.1) }
     ensures damaged { (s : Sizes) (disk : ℕ → List ℕ) (base : Inode) → B.Shows blocks.old disk
         → IsChangeOf s draft.old disk base top.now → IsErrOf result PlanError.Damaged → ⊥ }
-    ensures takes { OnOk result (TakesAtMost (first_stores top.now.file) draft.old draft.new) }
-    ensures lacks { IsErrOf result PlanError.NoSpace → Lacks (first_stores top.now.file) draft.old }
 {
     let all = place_file_but_first(alloc, draft, blocks, top)?;
     let (placed, first) = all;

@@ -10,7 +10,8 @@ use Rattle.model.specs.Paths.{Name, Path}
 use Rattle.model.specs.Records.{IsBelow}
 use Rattle.model.specs.Volumes.{Entries, enter}
 use Rattle.records.specs.Below.{IsChild, IsMarked, Marks, Searches, count_unmarked}
-use Rattle.records.proofs.FileLaws.{none_some, same_some}
+use Rattle.records.proofs.FileLaws.{same_some}
+use Rattle.model.proofs.OptionLaws.{none_some}
 
 -- an object is below itself
 pub below_self : (e : Entries) (n : ℕ) → IsBelow e n n

@@ -1,5 +1,5 @@
 -- Bytes that a file in memory gets.
-use Rattle.std.proofs.Common.{◌≡◌, ◌+◌, ◌-◌, ◌++◌, ℕ, List, length, take, drop, Option, Some, IsTrue, false, refl, sym, ap, subst, ◌∙◌, append_assoc}
+use Rattle.std.proofs.Common.{◌≡◌, ◌+◌, ◌-◌, ◌++◌, ℕ, List, length, take, drop, Option, Some, Result, Ok, Err, IfOk, IsTrue, false, refl, sym, ap, subst, ◌∙◌, append_assoc}
 use Rattle.std.proofs.Math.Path.{fun_ext}
 use Rattle.std.proofs.lemmas.Bool.{both_ways}
 use Rattle.layout.specs.Bytes.{zeros}
@@ -130,3 +130,12 @@ rewriting_applies inodes v n (Cut size) is keeps = (is, keeps)
 pub rewriting_applied : (n : ℕ) (rewrite : Rewrite) (v : Volume) → applied (rewriting n rewrite) v ≡ with_node n (with_file_bytes (bytes_after rewrite) (v n)) v
 rewriting_applied n (Write offset bytes) v = refl
 rewriting_applied n (Cut size) v = refl
+
+pub bounds_kept : (inodes : ℕ) (v : Volume) (n : ℕ) (rewrite : Rewrite) → Applies inodes v (rewriting n rewrite) → KeepsBounds rewrite
+bounds_kept inodes v n (Write offset bytes) can = (can.1, can.2, can.3)
+bounds_kept inodes v n (Cut size) can = can.1
+
+-- what is told of an answer twice is told of it at once
+pub told_both : {T E : Type 0} (r : Result T E) (P Q : T → Type 0) → IfOk r P → IfOk r Q → IfOk r (λ x. P x × Q x)
+told_both (Ok x) P Q one two = (one, two)
+told_both (Err e) P Q one two = tt

@@ -1,9 +1,8 @@
 -- Names that directories of a volume get and lose.
-use Rattle.std.proofs.Common.{◌≡◌, ◌≢◌, ◌⊎◌, inl, inr, ℕ, zero, suc, ◌==◌, ◌<◌, ◌≤◌, List, Option, Some, None, IsTrue, IsSome, is_some, IfSome, IfNone, IfOk, Result, Ok, Err, false, bytes_eq, refl, sym, ap, subst, ◌∙◌, arith}
+use Rattle.std.proofs.Common.{◌≡◌, ◌≢◌, inl, inr, ℕ, zero, suc, ◌==◌, ◌≤◌, List, Option, Some, None, IsTrue, IsSome, is_some, IfSome, IfNone, IfOk, Result, Ok, Err, false, refl, sym, ap, subst, ◌∙◌, arith}
 use Rattle.std.proofs.Math.Path.{fun_ext}
 use Rattle.std.proofs.lemmas.Bool.{cases_Bool, cases_eq, false≢true, both_ways}
 use Rattle.std.proofs.lemmas.Bool.Decides.{nat_tests}
-use Rattle.std.proofs.lemmas.Slice.Eq.{bytes_eq-Decides}
 use Rattle.layout.specs.DirectoryNames.{NameMap}
 use Rattle.layout.specs.declared.inode.Inode.{Inode}
 use Rattle.layout.specs.declared.kind.Kind.{Kind}
@@ -11,16 +10,24 @@ use Rattle.layout.specs.declared.kind.Kind.TheVariants as kinds
 use Rattle.model.specs.Counting.{Counts}
 use Rattle.model.specs.Paths.{Name, IsName}
 use Rattle.model.specs.Records.{TakesName, is_vacant}
-use Rattle.model.specs.Volumes.{Node, directory_node, file_node, link_node, Volume, names_in, is_directory_node, with_node, set_name, with_entry, IsVolume}
+use Rattle.model.specs.Volumes.{Node, directory_node, file_node, link_node, Volume, names_in, is_directory_node, with_node, set_name, with_entry}
 use Rattle.model.proofs.CountLemmas.{counts_once}
 use Rattle.images.specs.Contents.{Content, StandsAs, IsDirectoryOf}
 use Rattle.inode.specs.declared.object.Object.{Object}
 use Rattle.inofile.specs.Objects.{IsObject, IsObjectKind, IsObjectOrNone, IsSameOrNone}
 use Rattle.inofile.specs.Settled.{content_of}
 use Rattle.layout.specs.declared.entry.Entry.{Entry}
+use Rattle.blocktree.specs.declared.error.ReadError.{ReadError}
 use Rattle.dirs.specs.Directory.{HasCount, with_name}
+use Rattle.dirs.specs.declared.edit.Edit.{Edit}
+use Rattle.records.specs.declared.naming.NameEdit.{NameEdit}
 use Rattle.records.specs.declared.naming.NameEdit.TheVariants as edits
-use Rattle.records.specs.Entering.{Accepts, HasPlace, IsDirectoryObject, TakesEntry, with_names}
+use Rattle.records.specs.Entering.{Accepts, HasPlace, IsDirectoryObject, PreparesEdit, Takes, TakesEntry, with_names}
+use Rattle.records.specs.Naming.{EditsNames}
+use Rattle.records.proofs.NamingLaws.{file_itself}
+use Rattle.model.proofs.ObjectLaws.{node_here, node_other}
+use Rattle.model.proofs.ListingLemmas.{names_apart}
+use Rattle.images.proofs.KindLaws.{directory_kind}
 
 -- ---- a directory of a volume and one in memory
 
@@ -59,6 +66,18 @@ found_directory o mode names is = ap is_directory_node is
 pub same_names : (mode old : ℕ) (names others : NameMap) → Some (directory_node mode names) ≡ Some (directory_node old others) → names ≡ others
 same_names mode old names others e = cc
 
+-- what an edit of a directory's file makes of the directory
+pub edits_directory : (disk : ℕ → List ℕ) (inodes : ℕ) (found : Option Node) (o : Object) (wanted : NameEdit) (names : NameMap) → o.attributes.kind ≡ kinds.Directory
+    → found ≡ Some (directory_node o.attributes.mode names) → (r : Result (Option Edit) ReadError) → IfOk r (EditsNames inodes disk o.file wanted names)
+    → IfOk r (PreparesEdit disk inodes wanted found (Some o))
+edits_directory disk inodes found o wanted names kind is (Ok (Some edit)) edited = (
+  record { names = names; stands = is; kind = kind; edited = edited.1 },
+  record { mode = o.attributes.mode; names = names; is = is; takes = edited.0 },
+)
+edits_directory disk inodes found o wanted names kind is (Ok None) never = λ accepts.
+    never (subst (Takes wanted) (same_names accepts.mode o.attributes.mode accepts.names names (sym accepts.is ∙ is)) accepts.takes)
+edits_directory disk inodes found o wanted names kind is (Err e) edited = tt
+
 -- a directory that takes a name has place for its entry
 pub accepts_entry : (v : Volume) (d : ℕ) (entry : Entry) → TakesName v d entry.name.now → Accepts (edits.Add entry) (v d)
 accepts_entry v d entry takes =
@@ -68,13 +87,6 @@ accepts_entry v d entry takes =
 -- and the other way round
 pub takes_accepted : (v : Volume) (d : ℕ) (entry : Entry) → IsName entry.name.now → Accepts (edits.Add entry) (v d) → TakesName v d entry.name.now
 takes_accepted v d entry name accepts = takes_name v d entry.name.now accepts.mode accepts.names accepts.is name accepts.takes
-
--- names are told apart
-pub names_apart : (a b : Name) → (a ≡ b) ⊎ (a ≢ b)
-names_apart a b = elim (cases_Bool (bytes_eq a b)) [
-  | inl same ↦ inl ((bytes_eq-Decides a b).0 same)
-  | inr other ↦ inr (λ e. both_ways (bytes_eq a b) other ((bytes_eq-Decides a b).1 e))
-]
 
 -- a full directory has no place for a name
 pub full_has_no_place : (names : NameMap) (n : ℕ) → HasCount names n → 65536 ≤ n → HasPlace names → ⊥
@@ -90,16 +102,6 @@ none_directory o none is = false≢true (subst (λ (x : Option Node). IsTrue (is
 
 some_directory : (o : Option Node) (node : Node) → o ≡ Some node → is_directory_node (Some node) ≡ false → IsTrue (is_directory_node o) → ⊥
 some_directory o node some not is = both_ways (is_directory_node (Some node)) not (subst (λ (x : Option Node). IsTrue (is_directory_node x)) some is)
-
--- what stands for a directory is one
-pub directory_kind : (k : Kind) (inodes : ℕ) (c : Content) (o : Option Node) → StandsAs k inodes c o → IsTrue (is_directory_node o) → k ≡ kinds.Directory
-directory_kind kinds.Free inodes c o stands is = absurd (none_directory o stands is)
-directory_kind kinds.File inodes c o stands is = absurd (some_directory o _ stands refl is)
-directory_kind kinds.Directory inodes c o stands is = refl
-directory_kind kinds.Link inodes c o stands is = absurd (some_directory o _ stands refl is)
-directory_kind kinds.InodeFile inodes c o stands is = absurd (none_directory o stands is)
-directory_kind kinds.InodeMap inodes c o stands is = absurd (none_directory o stands is)
-directory_kind kinds.BlockMap inodes c o stands is = absurd (none_directory o stands is)
 
 -- a directory in memory, with its names
 pub directory_stands : (k : Kind) (inodes : ℕ) (c : Content) (o : Option Node) → k ≡ kinds.Directory → StandsAs k inodes c o
@@ -145,13 +147,6 @@ vacant_apart v n d vacant directory same = apart (v d) (subst (λ k. IsTrue (is_
 
 -- ---- answers
 
--- what is true of what is told, from two other facts of it
-pub both_told : {A E : Type 0} (r : Result (Option A) E) (P Q R : A → Type 0) → ((a : A) → P a → Q a → R a)
-    → IfOk r (λ o. IfSome o P) → IfOk r (λ o. IfSome o Q) → IfOk r (λ o. IfSome o R)
-both_told (Ok (Some a)) P Q R then p q = then a p q
-both_told (Ok None) P Q R then p q = tt
-both_told (Err e) P Q R then p q = tt
-
 pub told_so : {A E : Type 0} (r : Result (Option A) E) (P Q : A → Type 0) → ((a : A) → P a → Q a) → IfOk r (λ o. IfSome o P) → IfOk r (λ o. IfSome o Q)
 told_so (Ok (Some a)) P Q then p = then a p
 told_so (Ok None) P Q then p = tt
@@ -162,33 +157,13 @@ refused_so (Ok (Some a)) P Q then p = tt
 refused_so (Ok None) P Q then p = then p
 refused_so (Err e) P Q then p = tt
 
-pub some_told : {A E : Type 0} (r : Result (Option A) E) (P : Type 0) → P → IfOk r (λ o. IfSome o (λ _. P))
-some_told (Ok (Some a)) P is = is
-some_told (Ok None) P is = tt
-some_told (Err e) P is = tt
-
-pub always_some : {A E : Type 0} (r : Result (Option A) E) (P : Type 0) → IfOk r (λ o. IfNone o ⊥) → IfOk r (λ o. IfNone o P)
-always_some (Ok (Some a)) P is = tt
-always_some (Ok None) P is = absurd is
-always_some (Err e) P is = tt
-
 pub not_some : {A : Type 0} (o : Option A) → is_some o ≡ false → o ≡ None
 not_some None is = refl
 not_some (Some a) is = absurd (false≢true (sym is))
 
 -- what isn't touched is the same
 pub same_object : (x : Option Object) → IsSameOrNone x x
-same_object (Some o) = record {
-  attributes = refl;
-  file = record {
-    size = refl;
-    blocks = λ disk i. refl;
-    base = λ settled is. is;
-    sound = λ blocks disk i is. is;
-    was_sound = λ blocks disk i is. is;
-    changes = record { settled = record { pointers = refl; depth = refl; count = refl }; kept = refl; only = λ i is. is };
-  };
-}
+same_object (Some o) = record { attributes = refl; file = file_itself o.file }
 same_object None = tt
 
 -- an object that was taken out, or none
@@ -198,12 +173,6 @@ object_or_none disk inodes settled (Some x) found stands none = stands
 object_or_none disk inodes settled None found stands none = none
 
 -- ---- the volume
-
-pub node_here : (n k : ℕ) (node : Option Node) (v : Volume) → k ≡ n → with_node n node v k ≡ node
-node_here n k o v e = grind (arith, nat_tests)
-
-pub node_other : (n k : ℕ) (node : Option Node) (v : Volume) → k ≢ n → with_node n node v k ≡ v k
-node_other n k o v ne = grind (arith, nat_tests)
 
 -- a name and its object, the name first, make what both make at once
 module _ (n d : ℕ) (x : Name) (to : Option ℕ) (node : Option Node) (v : Volume) (apart : n ≢ d) where
@@ -245,17 +214,3 @@ names_set x to None = refl
 names_set x to (Some (directory_node mode names)) = refl
 names_set x to (Some (file_node mode links bytes)) = refl
 names_set x to (Some (link_node text)) = refl
-
--- ---- numbers
-
--- a directory of a volume has a number of the image
-pub directory_number : (inodes : ℕ) (v : Volume) (d : ℕ) → 32 ≤ inodes → IsVolume inodes v → IsTrue (is_directory_node (v d)) → d < inodes
-directory_number inodes v d least volume directory =
-    elim (volume.limits.numbers d (some (v d) directory)) [
-      | inl root ↦ omega (arith, root, least)
-      | inr within ↦ within.1
-    ]
-  where
-    some : (o : Option Node) → IsTrue (is_directory_node o) → IsSome o
-    some None is = absurd (false≢true is)
-    some (Some node) is = refl

@@ -14,13 +14,18 @@ use Rattle.dirs.specs.Directory.{with_name}
 use Rattle.dirs.specs.Listings.{IsListing}
 use Rattle.inode.specs.Edges.{written_list}
 use Rattle.layout.specs.Bytes.{zeros}
-use Rattle.inofile.specs.Inodes.{IsKnown}
+use Rattle.inode.specs.declared.object.Object.{Object}
+use Rattle.inofile.specs.Inodes.{loaded}
 use Rattle.inofile.specs.declared.inode_file.InodeFile.{InodeFile}
 use Rattle.records.specs.Entering.{with_names}
-use Rattle.records.specs.Steps.{IsAlone, IsApart, IsFileOf, TakesUpdate, with_links}
+use Rattle.records.specs.Moving.{IsSomeAlone}
+use Rattle.records.specs.Prepared.{IsApartFrom}
+use Rattle.records.specs.Steps.{FitsUpdate, IsAlone, IsApart, IsAtHand, IsFileOf, IsSomeApart, IsSomeAtHand, TakesSome, TakesUpdate, with_links}
+use Rattle.records.specs.declared.steps.Step.{Step}
 use Rattle.records.specs.declared.steps.Update.{Update}
 use Rattle.records.specs.declared.steps.Update.TheVariants as updates
 use Rattle.records.proofs.EnterLaws.{names_set, put_volume}
+use Rattle.model.proofs.OptionLaws.{none_some}
 
 pub not_file : (k : Kind) (inodes : ℕ) (c : Content) (o : Option Node) → StandsAs k inodes c o → (k ≡ kinds.File → ⊥) → is_file_node o ≡ false
 not_file kinds.Free inodes c o stands other = ap is_file_node stands
@@ -79,9 +84,6 @@ file_entry inodes v n x volume file name =
 
 -- ---- names
 
-pub none_some : {X : Type 0} {n : ℕ} → None ≡ Some n → X
-none_some e = cc
-
 pub same_some : {m n : ℕ} → Some m ≡ Some n → m ≡ n
 same_some e = cc
 
@@ -108,13 +110,19 @@ both_steps n d x to node after v apart same =
 
 -- ---- updates that depend on nothing else
 
-pub alone_takes : (s : InodeFile) (number : ℕ) (u : Update) → IsAlone u → IsKnown s number → TakesUpdate s number u
-alone_takes s number (updates.Set (Some object)) alone known = tt
-alone_takes s number (updates.Set None) alone known = known
-alone_takes s number (updates.Names edit) alone known = absurd alone
-alone_takes s number (updates.SetMode mode) alone known = known
-alone_takes s number (updates.Bytes change) alone known = absurd alone
-alone_takes s number (updates.Links links) alone known = known
+alone_fits : (o : Option Object) (u : Update) → IsAlone u → FitsUpdate o u
+alone_fits o (updates.Set object) alone = tt
+alone_fits o (updates.Names edit) alone = absurd alone
+alone_fits o (updates.SetMode mode) alone = tt
+alone_fits o (updates.Bytes change) alone = absurd alone
+alone_fits o (updates.Links links) alone = tt
+
+pub alone_takes : (s : InodeFile) (number : ℕ) (u : Update) → IsAlone u → IsAtHand s number → TakesUpdate s number u
+alone_takes s number u alone is = record { at_hand = is; fits = alone_fits (loaded s number) u alone }
+
+pub alone_some : (s : InodeFile) (step : Option Step) → IsSomeAlone step → IsSomeAtHand s step → TakesSome s step
+alone_some s None alone is = tt
+alone_some s (Some step) alone is = alone_takes s step.number step.update alone is
 
 pub alone_apart : (n number : ℕ) (u : Update) → IsAlone u → IsApart n number u
 alone_apart n number (updates.Set object) alone = tt
@@ -122,6 +130,15 @@ alone_apart n number (updates.Names edit) alone = absurd alone
 alone_apart n number (updates.SetMode mode) alone = tt
 alone_apart n number (updates.Bytes change) alone = absurd alone
 alone_apart n number (updates.Links links) alone = tt
+
+pub alone_some_apart : (n : ℕ) (step : Option Step) → IsSomeAlone step → IsSomeApart n step
+alone_some_apart n None alone = tt
+alone_some_apart n (Some step) alone = alone_apart n step.number step.update alone
+
+-- no step depends on anything
+pub apart_none : (step : Option Step) → IsApartFrom step None
+apart_none None = tt
+apart_none (Some step) = tt
 
 -- ---- listings
 

@@ -16,22 +16,20 @@ use Rattle.inode.specs.declared.object.Object.{Object}
 use Rattle.inofile.specs.Objects.{IsObject}
 use Rattle.inofile.specs.Settled.{content_of}
 use Rattle.inofile.specs.declared.inode_file.InodeFile.{InodeFile}
-use Rattle.paths.specs.Numbers.{IsNumber}
 use Rattle.descriptors.specs.Files.{Figures, description_of, figures_of, node_figures, relinked_file, resized_file}
 use Rattle.descriptors.specs.Fits.{FitsVolume}
 use Rattle.descriptors.specs.Tables.{open_at, table_of}
 use Rattle.descriptors.specs.declared.open_file.OpenFile.{OpenFile}
 use Rattle.descriptors.specs.declared.table.Descriptors.{Descriptors}
 use Rattle.descriptors.proofs.FitLemmas.{fits_same, is_opened, mapped, relinked_figures, relinked_number, resized_figures, resized_number}
-use Rattle.records.specs.Opened.{HasNumbers}
 use Rattle.records.specs.Prepared.{Does}
 use Rattle.records.specs.Steps.{IsBeside}
 use Rattle.records.specs.Sweeping.{OpensFiles, with_object_of, without_file}
 use Rattle.records.specs.declared.prepared.Prepared.{Prepared}
 use Rattle.records.specs.declared.steps.Step.{Step}
-use Rattle.records.proofs.EnterLaws.{node_here, node_other}
 use Rattle.records.proofs.StepLaws.{other_file}
 use Rattle.records.proofs.SweepLaws.{number_of, rest_stays}
+use Rattle.model.proofs.ObjectLaws.{node_here, node_other}
 
 -- ---- a file in memory
 
@@ -82,13 +80,6 @@ module _ (n size links : ℕ) where
         let (m, was_mid, is_f) = mapped (relinked_file n links) (open_at mid fd) f (sym (linked fd) ∙ e) in
         let (g, was, is_m) = mapped (resized_file n size) (open_at old fd) m (sym (sized fd) ∙ was_mid) in
         (g, was, ap (relinked_file n links) is_m ∙ is_f)
-
-    pub noted_numbers : (inodes : ℕ) → HasNumbers inodes old → HasNumbers inodes new
-    noted_numbers inodes has = record {
-      numbers = λ fd f e.
-          let (g, was, is) = came_from fd f e in
-          subst (λ (k : ℕ). IsNumber inodes k) (sym (noted_number g) ∙ ap (λ (h : OpenFile). h.number) is) (has.numbers fd g was);
-    }
 
     -- the table that fits a volume fits it with the file too whose figures these are
     pub noted_fits : (v : Volume) (file : Option Node) → node_figures file ≡ Some (record { links = links; size = size }) → FitsVolume old v → FitsVolume new (with_node n file v)

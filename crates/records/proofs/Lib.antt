@@ -1,5 +1,7 @@
 pub mod EnterLaws
 pub mod StandLaws
+pub mod Looking
+pub mod Preparing
 pub mod StepLaws
 pub mod ContentLaws
 pub mod RewriteLaws

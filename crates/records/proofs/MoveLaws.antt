@@ -10,7 +10,7 @@ use Rattle.layout.specs.declared.entry.Entry.{Entry}
 use Rattle.layout.specs.declared.inode.Inode.{Inode}
 use Rattle.model.specs.Counting.{Counts}
 use Rattle.model.specs.Paths.{IsName, Name}
-use Rattle.model.specs.Records.{CanRename, CanReplace, IsEmpty, TakesName as TakesNewName}
+use Rattle.model.specs.Records.{CanRename, CanReplace, IsBelow, IsEmpty, TakesName as TakesNewName}
 use Rattle.model.specs.Volumes.{IsVolume, Node, Volume, directory_node, entries, file_node, is_directory_node, link_node, names_in, released, set_name, with_entry, with_name_less, with_node}
 use Rattle.model.proofs.CountLemmas.{one_less, same_count}
 use Rattle.dirs.specs.Directory.{HasCount, with_name}
@@ -24,8 +24,11 @@ use Rattle.records.specs.Prepared.{AreBeside}
 use Rattle.records.specs.Steps.{IsBeside, StepsSome, Updates}
 use Rattle.records.specs.declared.naming.NameEdit.TheVariants as edits
 use Rattle.records.specs.declared.steps.Step.{Step}
-use Rattle.records.proofs.EnterLaws.{accepts_entry, directory_is, names_apart, names_set, node_here, node_other}
-use Rattle.records.proofs.FileLaws.{none_some, same_some}
+use Rattle.records.proofs.EnterLaws.{accepts_entry, directory_is, names_set}
+use Rattle.records.proofs.FileLaws.{same_some}
+use Rattle.model.proofs.OptionLaws.{none_some}
+use Rattle.model.proofs.ObjectLaws.{node_here, node_other}
+use Rattle.model.proofs.ListingLemmas.{names_apart}
 
 -- objects of two numbers are changed in either order
 pub nodes_apart : (a b : ℕ) (o p : Option Node) (v : Volume) → a ≢ b → with_node a o (with_node b p v) ≡ with_node b p (with_node a o v)
@@ -236,13 +239,13 @@ module _ (disk : ℕ → List ℕ) (settled : ℕ → Inode) (v : Volume) (d : �
 
   -- ---- when it applies
 
-  pub can_rename : IsTrue (is_directory_node (v k)) → IsName y → (step ≡ None → (d ≡ k) ⊎ TakesNewName v k y) → CanRename v d x k y
-  can_rename directory name takes = record {
+  pub can_rename : IsTrue (is_directory_node (v k)) → IsName y → (IsBelow (entries v) n k → ⊥) → (step ≡ None → (d ≡ k) ⊎ TakesNewName v k y) → CanRename v d x k y
+  can_rename directory name outside takes = record {
     number = n;
     there = moves.there;
     directory = directory;
     name = name;
-    outside = moves.outside;
+    outside = outside;
     replaces = by target step refl moves.replaces;
   }
     where

@@ -1,22 +1,34 @@
 -- Names of a directory, changed one after the other.
-use Rattle.std.proofs.Common.{◌≡◌, ℕ, List, Option, None, Bool, true, false, bytes_eq, if◌then◌else◌, refl, sym, subst, ◌∙◌}
+use Rattle.std.proofs.Common.{◌≡◌, ℕ, List, Option, Some, None, Result, Ok, Err, Bool, true, false, inl, inr, bytes_eq, if◌then◌else◌, refl, sym, ap, subst, ◌∙◌}
+use Rattle.std.specs.Result.{IsErrAnd, IsErrOf}
 use Rattle.std.proofs.Math.Path.{fun_ext}
-use Rattle.std.proofs.lemmas.Bool.{cond-true}
+use Rattle.std.proofs.lemmas.Bool.{cases_Bool, cond-false, cond-true}
 use Rattle.std.proofs.lemmas.Slice.Eq.{bytes_eq-Decides}
 use Rattle.layout.specs.DirectoryNames.{NameMap}
 use Rattle.model.specs.Paths.{Name}
 use Rattle.dirs.specs.Directory.{with_name}
+use Rattle.dirs.specs.declared.edit.Edit.{Edit}
+use Rattle.buffers.specs.Reads.{ReadsBlocks}
+use Rattle.buffers.specs.declared.blocks.Blocks.{Ghosts}
+use Rattle.blocktree.specs.Errors.{IsFault}
 use Rattle.blocktree.specs.Trees.{IsSoundAt}
+use Rattle.blocktree.specs.declared.error.ReadError.{ReadError}
+use Rattle.blocktree.specs.declared.error.ReadError.TheVariants.{Damaged}
 use Rattle.inode.specs.Files.{IsSameFile}
 use Rattle.inode.specs.declared.file.File.{File}
+use Rattle.paths.proofs.Looks.{reads_more}
+use Rattle.records.specs.Naming.{EditsFile, EditsNames}
+use Rattle.records.specs.declared.naming.NameEdit.{NameEdit}
+use Rattle.records.specs.declared.naming.NameEdit.TheVariants as edits
+use Rattle.records.specs.Entering.{HasPlace}
+use Rattle.layout.specs.declared.entry.Entry.{Entry}
+use Rattle.records.proofs.Looking.{same_error, told}
+use Rattle.records.proofs.StandLaws.{reads_err}
+use Rattle.inode.proofs.BaseLaws.{still_same}
 
 -- a name that was taken away isn't there
 pub name_gone : (x : Name) (names : NameMap) → with_name x None names x ≡ None
 name_gone x names = cond-true (bytes_eq x x) None (names x) ((bytes_eq-Decides x x).1 refl)
-
--- nor is it when another one is taken away
-pub stays_gone : (x y : Name) (names : NameMap) → names y ≡ None → with_name x None names y ≡ None
-stays_gone x y names gone = elim (bytes_eq y x) as (λ (b : Bool). (if b then None else names y) ≡ None) [ true ↦ refl | false ↦ gone ]
 
 -- a name that is taken away and then stands for something does so at once
 pub name_replaced : (y : Name) (to : Option ℕ) (names : NameMap) → with_name y to (with_name y None names) ≡ with_name y to names
@@ -25,37 +37,95 @@ name_replaced y to names = fun_ext {f = with_name y to (with_name y None names)}
     each : (z : Name) → with_name y to (with_name y None names) z ≡ with_name y to names z
     each z = elim (bytes_eq z y) as (λ (b : Bool). (if b then to else (if b then None else names z)) ≡ (if b then to else names z)) [ true ↦ refl | false ↦ refl ]
 
--- the same, with another name taken away between
-pub name_moved : (x y : Name) (to : Option ℕ) (names : NameMap) → with_name y to (with_name x None (with_name y None names)) ≡ with_name y to (with_name x None names)
-name_moved x y to names = fun_ext {f = with_name y to (with_name x None (with_name y None names))} {g = with_name y to (with_name x None names)} each
-  where
-    each : (z : Name) → with_name y to (with_name x None (with_name y None names)) z ≡ with_name y to (with_name x None names) z
-    each z =
-        elim (bytes_eq z y) as (λ (b : Bool). (if b then to else (if bytes_eq z x then None else (if b then None else names z))) ≡ (if b then to else (if bytes_eq z x then None else names z))) [
-          | true ↦ refl
-          | false ↦ refl
-        ]
-
 -- ---- the same file
 
-pub same_file : (a b c : File) → IsSameFile a b → IsSameFile b c → IsSameFile a c
-same_file a b c one two = record {
-  size = two.size ∙ one.size;
-  blocks = λ disk i. two.blocks disk i ∙ one.blocks disk i;
-  base = λ settled is. two.base settled (one.base settled is);
-  sound = λ blocks disk i is. two.sound blocks disk i (one.sound blocks disk i is);
-  was_sound = λ blocks disk i is. one.was_sound blocks disk i (two.was_sound blocks disk i is);
-  changes = record {
-    settled = record {
-      pointers = two.changes.settled.pointers ∙ one.changes.settled.pointers;
-      depth = two.changes.settled.depth ∙ one.changes.settled.depth;
-      count = two.changes.settled.count ∙ one.changes.settled.count;
-    };
-    kept = two.changes.kept ∙ one.changes.kept;
-    only = λ i is. one.changes.only i (two.changes.only i is);
-  };
+pub file_itself : (f : File) → IsSameFile f f
+file_itself f = record {
+  size = refl;
+  blocks = λ disk i. refl;
+  base = λ settled is. is;
+  sound = λ blocks disk i is. is;
+  was_sound = λ blocks disk i is. is;
+  changes = record { settled = record { pointers = refl; depth = refl; count = refl }; kept = refl; only = λ i is. is };
 }
 
 -- what leads to a file's blocks is in the grammar still
 pub sound_still : (a b : File) (count other : ℕ) (disk : ℕ → List ℕ) → IsSameFile a b → other ≡ count → ((i : ℕ) → IsSoundAt count disk a.tree i) → (i : ℕ) → IsSoundAt other disk b.tree i
 sound_still a b count other disk same e sound i = subst (λ (n : ℕ). IsSoundAt n disk b.tree i) (sym e) (same.sound count disk i (sound i))
+
+-- a name that isn't there needn't be taken away
+pub none_gone : (y : Name) (names : NameMap) → names y ≡ None → with_name y None names ≡ names
+none_gone y names gone = fun_ext {f = with_name y None names} {g = names} each
+  where
+    each : (z : Name) → with_name y None names z ≡ names z
+    each z = elim (cases_Bool (bytes_eq z y)) [
+      | inl same ↦ cond-true (bytes_eq z y) None (names z) same ∙ sym (ap names ((bytes_eq-Decides z y).0 same) ∙ gone)
+      | inr other ↦ cond-false (bytes_eq z y) None (names z) other
+    ]
+
+-- two names go in either order
+pub names_gone : (x y : Name) (names : NameMap) → with_name y None (with_name x None names) ≡ with_name x None (with_name y None names)
+names_gone x y names = fun_ext {f = with_name y None (with_name x None names)} {g = with_name x None (with_name y None names)} (λ z. either_order (bytes_eq z y) (bytes_eq z x) (names z))
+  where
+    either_order : (a b : Bool) (o : Option ℕ) → (if a then None else (if b then None else o)) ≡ (if b then None else (if a then None else o))
+    either_order true true o = refl
+    either_order true false o = refl
+    either_order false true o = refl
+    either_order false false o = refl
+
+-- ---- edits, step by step
+
+module _ {B : Type 0} {Had : (ℕ → List ℕ) → NameMap → Type 0} {G : Ghosts B} {a b : B} {inodes : ℕ} {file new : File} {wanted : NameEdit} where
+  -- a step before has failed
+  pub edit_stops : {T : Type 0} {e : ReadError} (q : Result (Option Edit) ReadError) → IsErrAnd q (λ f. f ≡ e) → ReadsBlocks {T = T} G IsFault a b (Err e) → IsSameFile file new
+      → ((disk : ℕ → List ℕ) (names : NameMap) → G.Shows a disk → IsErrOf {T = T} {E = ReadError} (Err e) Damaged → Had disk names → ((i : ℕ) → IsSoundAt (G.count a) disk file.tree i) → ⊥)
+      → EditsFile Had G a b inodes file new wanted q
+  edit_stops (Ok edit) is reads same sound = absurd is
+  edit_stops {e = e} (Err f) is reads same sound = record {
+    reads = reads_err (Err f) is reads;
+    same = same;
+    fits = tt;
+    edited = λ disk names shows had. tt;
+    damaged = λ disk names shows bad had grammar. sound disk names shows (same_error f e Damaged is bad) had grammar;
+  }
+
+module _ {B T : Type 0} {Had Then : (ℕ → List ℕ) → NameMap → Type 0} {G : Ghosts B} {a b c : B} {inodes : ℕ} {file mid new : File} {wanted more : NameEdit} {x : T} {r : Result (Option Edit) ReadError} where
+  -- another function goes on, with other names, behind blocks that were read
+  pub edit_follows : ReadsBlocks {E = ReadError} G IsFault a b (Ok x) → IsSameFile file mid → EditsFile Then G b c inodes mid new more r → (f : NameMap → NameMap)
+      → ((disk : ℕ → List ℕ) (names : NameMap) → G.Shows a disk → Had disk names → Then disk (f names))
+      → ((disk : ℕ → List ℕ) (names : NameMap) → G.Shows a disk → Had disk names → (o : Option Edit) → EditsNames inodes disk new more (f names) o → EditsNames inodes disk new wanted names o)
+      → EditsFile Had G a c inodes file new wanted r
+  edit_follows reads same last f so turns = record {
+    reads = reads_more r reads last.reads;
+    same = still_same file mid new same last.same;
+    fits = last.fits;
+    edited = λ disk names shows had.
+        told r (EditsNames inodes disk new more (f names)) (EditsNames inodes disk new wanted names) (turns disk names shows had)
+        (last.edited disk (f names) (reads.same disk shows) (so disk names shows had));
+    damaged = λ disk names shows is had grammar.
+        last.damaged disk (f names) (reads.same disk shows) is (so disk names shows had)
+        (sound_still file mid (G.count a) (G.count b) disk same reads.count grammar);
+  }
+
+-- the same edit of names that are had in another way
+pub edit_had : {B : Type 0} {Had Then : (ℕ → List ℕ) → NameMap → Type 0} {G : Ghosts B} {a b : B} {inodes : ℕ} {file new : File} {wanted more : NameEdit} {r : Result (Option Edit) ReadError}
+    → wanted ≡ more → EditsFile Then G a b inodes file new more r → ((disk : ℕ → List ℕ) (names : NameMap) → Had disk names → Then disk names) → EditsFile Had G a b inodes file new wanted r
+edit_had {inodes = inodes} {new = new} {r = r} same edits so = record {
+  reads = edits.reads;
+  same = edits.same;
+  fits = edits.fits;
+  edited = λ disk names shows had. rw same (edits.edited disk names shows (so disk names had));
+  damaged = λ disk names shows is had grammar. edits.damaged disk names shows is (so disk names had) grammar;
+}
+
+-- a name that goes, and one that stands for something else, are a move
+pub moved_names : (inodes : ℕ) (disk : ℕ → List ℕ) (file : File) (old entry : Entry) (names : NameMap) (o : Option Edit)
+    → EditsNames inodes disk file (edits.Replace entry) (with_name old.name.now None names) o → EditsNames inodes disk file (edits.Move old.name entry) names o
+moved_names inodes disk file old entry names (Some edit) is = (subst HasPlace (names_gone old.name.now entry.name.now names) is.0, is.1)
+moved_names inodes disk file old entry names None never = λ place. never (subst HasPlace (sym (names_gone old.name.now entry.name.now names)) place)
+
+-- a name that isn't there yet, and so stands for something, is one more
+pub added_names : (inodes : ℕ) (disk : ℕ → List ℕ) (file : File) (entry : Entry) (names : NameMap) → names entry.name.now ≡ None → (o : Option Edit)
+    → EditsNames inodes disk file (edits.Replace entry) names o → EditsNames inodes disk file (edits.Add entry) names o
+added_names inodes disk file entry names missing (Some edit) is = (record { missing = missing; place = subst HasPlace (none_gone entry.name.now names missing) is.0 }, is.1)
+added_names inodes disk file entry names missing None never = λ takes. never (subst HasPlace (sym (none_gone entry.name.now names missing)) takes.place)

@@ -27,7 +27,7 @@ use Rattle.records.specs.declared.contents.Rewrite.{Rewrite}
 use Rattle.records.specs.declared.contents.Rewrite.TheVariants.{Write, Cut}
 use Rattle.images.specs.Contents.{Content, StandsAs}
 use Rattle.records.proofs.ContentLaws.{not_file, rewriting_applied}
-use Rattle.records.proofs.EnterLaws.{node_here, node_other}
+use Rattle.model.proofs.ObjectLaws.{node_here, node_other}
 
 -- ---- nothing is to be swept
 
@@ -125,9 +125,6 @@ past_limit m n lt = grind (arith, nat_tests)
 
 pub within_limit : (m n : ℕ) → n ≤ m → nat_lt m n ≡ false
 within_limit m n le = grind (arith, nat_tests)
-
-pub same_size : (m n : ℕ) → m ≡ n → (m == n) ≡ true
-same_size m n e = grind (arith, nat_tests)
 
 pub other_size : (m n : ℕ) → (m ≡ n → ⊥) → (m == n) ≡ false
 other_size m n ne = grind (arith, nat_tests)

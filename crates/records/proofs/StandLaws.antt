@@ -1,12 +1,17 @@
 -- Memory that stands for a volume, from one moment to the next.
-use Rattle.std.proofs.Common.{◌≡◌, ◌∙◌, ℕ, List, Result, Ok, refl, sym, subst}
+use Rattle.std.proofs.Common.{◌≡◌, ◌∙◌, ◌<◌, ℕ, List, Option, Some, None, Result, Ok, Err, refl, sym, subst}
+use Rattle.std.specs.Result.{IsErrAnd}
+use Rattle.layout.specs.Limits.{Sizes}
 use Rattle.layout.specs.declared.inode.Inode.{Inode}
 use Rattle.model.specs.Volumes.{Volume}
 use Rattle.buffers.specs.Reads.{ReadsBlocks}
 use Rattle.buffers.specs.declared.blocks.Blocks.{Ghosts}
+use Rattle.inofile.specs.Inodes.{HasRoomFor, IsKnown}
 use Rattle.inofile.specs.Volumes.{IsVolumeOf}
 use Rattle.inofile.specs.declared.inode_file.InodeFile.{InodeFile}
 use Rattle.paths.specs.Standing.{Looks, Stands}
+use Rattle.records.specs.Steps.{IsAtHand, IsSomeAtHand}
+use Rattle.records.specs.declared.steps.Step.{Step}
 
 -- memory stands for all volumes that it stood for before
 abbrev pub StaysVolume : InodeFile → InodeFile → Type 0
@@ -24,6 +29,16 @@ module _ {B : Type 0} {G : Ghosts B} {disk : ℕ → List ℕ} {settled : ℕ �
     shows = shows;
     volume = subst (λ (n : ℕ). IsVolumeOf n disk settled t v) (sym same) volume;
   }
+
+-- blocks that were read before something failed
+pub reads_err : {B T U E : Type 0} {G : Ghosts B} {F : E → Type 0} {a b : B} {e : E} (q : Result U E) → IsErrAnd q (λ f. f ≡ e) → ReadsBlocks {T = T} G F a b (Err e) → ReadsBlocks G F a b q
+reads_err (Ok y) is reads = absurd is
+reads_err {F = F} (Err f) is reads =
+    record { count = reads.count; counted = tt; device = λ fault. reads.device (subst F is fault); reads = reads.reads; same = reads.same }
+
+-- blocks that were read, and another value that comes of it
+pub reads_ok : {B T U E : Type 0} {G : Ghosts B} {F : E → Type 0} {a b : B} {x : T} {y : U} → ReadsBlocks {E = E} G F a b (Ok x) → ReadsBlocks {E = E} G F a b (Ok y)
+reads_ok reads = record { count = reads.count; counted = reads.counted; device = tt; reads = reads.reads; same = reads.same }
 
 -- a look at nothing
 pub no_look : {B E : Type 0} {G : Ghosts B} {F : E → Type 0} {a : B} {s : InodeFile} → Looks {T = ℕ} G F a a s s (Ok 0)
@@ -49,3 +64,17 @@ module _ {B T E : Type 0} {G : Ghosts B} {F : E → Type 0} where
     geometry = same ∙ look.geometry;
     kept = λ disk settled v stands. stands_with b t u stays (look.kept disk settled v stands);
   }
+
+-- what is at hand stays so
+module _ (s t : InodeFile) (same : t.geometry ≡ s.geometry) (keeps : (k : ℕ) → HasRoomFor s k → HasRoomFor t k) (stays : (k : ℕ) → IsKnown s k → IsKnown t k) where
+  pub stays_at_hand : (n : ℕ) → IsAtHand s n → IsAtHand t n
+  stays_at_hand n is = record {
+    low = is.low;
+    high = subst (λ (g : Sizes). n < g.inodes) (sym same) is.high;
+    room = keeps n is.room;
+    known = stays n is.known;
+  }
+
+  pub some_stays_at_hand : (step : Option Step) → IsSomeAtHand s step → IsSomeAtHand t step
+  some_stays_at_hand None is = tt
+  some_stays_at_hand (Some step) is = stays_at_hand step.number is

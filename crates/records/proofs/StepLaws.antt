@@ -1,5 +1,5 @@
 -- Steps of prepared changes.
-use Rattle.std.proofs.Common.{◌≡◌, ◌≢◌, ◌≤◌, ◌<◌, ℕ, List, Option, Some, None, IsTrue, ◌||◌, false, refl, sym, ap, subst}
+use Rattle.std.proofs.Common.{◌≡◌, ◌≢◌, ◌≤◌, ℕ, List, Option, Some, None, IsTrue, ◌||◌, false, refl, sym, ap, subst}
 use Rattle.std.proofs.lemmas.Bool.{both_ways}
 use Rattle.layout.specs.Inode.{FitsKind}
 use Rattle.layout.specs.Limits.{Sizes}
@@ -10,17 +10,19 @@ use Rattle.model.specs.Records.{with_node_mode}
 use Rattle.model.specs.Volumes.{Node, Volume, is_directory_node, is_file_node}
 use Rattle.images.specs.Contents.{Content, StandsAs}
 use Rattle.inode.specs.declared.object.Object.{Object}
-use Rattle.inofile.specs.Inodes.{HasRoomFor, IsKnown, loaded}
+use Rattle.inofile.specs.Inodes.{loaded}
 use Rattle.inofile.specs.Objects.{IsObject}
 use Rattle.inofile.specs.Settled.{content_of}
+use Rattle.inofile.specs.Volumes.{IsVolumeOf}
 use Rattle.inofile.specs.declared.inode_file.InodeFile.{InodeFile}
 use Rattle.records.specs.Contents.{FitsFile}
 use Rattle.records.specs.Entering.{FitsObject}
 use Rattle.records.specs.Prepared.{AreBeside, IsApartFrom}
-use Rattle.records.specs.Steps.{IsApart, IsBeside, IsSomeApart, Steps, StepsSome, TakesSome, TakesUpdate, Updates, with_links}
+use Rattle.records.specs.Steps.{Commits, FitsUpdate, IsApart, Steps, StepsSome, TakesSome, Updates, with_links}
 use Rattle.records.specs.declared.steps.Update.{Update}
 use Rattle.records.specs.declared.steps.Update.TheVariants as updates
 use Rattle.records.specs.declared.steps.Step.{Step}
+use Rattle.records.proofs.StandLaws.{stays_at_hand}
 
 -- an object that has a mode
 abbrev pub HasMode : Option Node → Type 0
@@ -117,61 +119,41 @@ links_set disk inodes settled o found links few was is = record {
 
 -- ---- steps behind another one
 
--- what an update has need of stays
-pub takes_update_after : (s t : InodeFile) (n number : ℕ) (u : Update) → ((k : ℕ) → IsKnown s k → IsKnown t k) → ((k : ℕ) → k ≢ n → loaded t k ≡ loaded s k)
-    → IsApart n number u → TakesUpdate s number u → TakesUpdate t number u
-takes_update_after s t n number (updates.Set (Some object)) stays rest apart takes = tt
-takes_update_after s t n number (updates.Set None) stays rest apart takes = stays number takes
-takes_update_after s t n number (updates.Names edit) stays rest apart takes =
-    (stays number takes.0, subst (λ (o : Option Object). FitsObject o edit) (sym (rest number apart)) takes.1)
-takes_update_after s t n number (updates.SetMode mode) stays rest apart takes = stays number takes
-takes_update_after s t n number (updates.Bytes change) stays rest apart takes =
-    (stays number takes.0, subst (λ (o : Option Object). FitsFile o change) (sym (rest number apart)) takes.1)
-takes_update_after s t n number (updates.Links links) stays rest apart takes = stays number takes
+-- an object has room for what an update sets where it is the same
+fits_same : (o p : Option Object) (n number : ℕ) (u : Update) → IsApart n number u → (number ≢ n → p ≡ o) → FitsUpdate o u → FitsUpdate p u
+fits_same o p n number (updates.Set object) apart same fits = tt
+fits_same o p n number (updates.Names edit) apart same fits = subst (λ (x : Option Object). FitsObject x edit) (sym (same apart)) fits
+fits_same o p n number (updates.SetMode mode) apart same fits = tt
+fits_same o p n number (updates.Bytes change) apart same fits = subst (λ (x : Option Object). FitsFile x change) (sym (same apart)) fits
+fits_same o p n number (updates.Links links) apart same fits = tt
 
-pub takes_step_after : (s t : InodeFile) (n : ℕ) (step : Option Step) → t.geometry ≡ s.geometry → ((k : ℕ) → HasRoomFor s k → HasRoomFor t k)
-    → ((k : ℕ) → IsKnown s k → IsKnown t k) → ((k : ℕ) → k ≢ n → loaded t k ≡ loaded s k)
-    → IsSomeApart n step → TakesSome s step → TakesSome t step
-takes_step_after s t n None same keeps stays rest apart takes = tt
-takes_step_after s t n (Some step) same keeps stays rest apart takes = record {
-  low = takes.low;
-  high = subst (λ (g : Sizes). step.number < g.inodes) (sym same) takes.high;
-  room = keeps step.number takes.room;
-  takes = takes_update_after s t n step.number step.update stays rest apart takes.takes;
+-- where there is no step, nothing is put in force
+pub commits_none : (s : InodeFile) → Commits s s None
+commits_none s = record {
+  geometry = refl;
+  keeps = λ n is. is;
+  stays = λ n is. is;
+  at_hand = tt;
+  rest = λ n beside. refl;
+  volume = λ count disk settled v w volume same. subst (λ (x : Volume). IsVolumeOf count disk settled s x) (sym same) volume;
 }
 
--- what an update has need of stays where its object is the same in memory
-takes_same : (s t : InodeFile) (number : ℕ) (u : Update) → ((k : ℕ) → IsKnown s k → IsKnown t k) → loaded t number ≡ loaded s number → TakesUpdate s number u → TakesUpdate t number u
-takes_same s t number (updates.Set (Some object)) stays same takes = tt
-takes_same s t number (updates.Set None) stays same takes = stays number takes
-takes_same s t number (updates.Names edit) stays same takes = (stays number takes.0, subst (λ (o : Option Object). FitsObject o edit) (sym same) takes.1)
-takes_same s t number (updates.SetMode mode) stays same takes = stays number takes
-takes_same s t number (updates.Bytes change) stays same takes = (stays number takes.0, subst (λ (o : Option Object). FitsFile o change) (sym same) takes.1)
-takes_same s t number (updates.Links links) stays same takes = stays number takes
+module _ {s t : InodeFile} where
+  -- memory takes a step, if there is one, behind one that there may be
+  pub takes_behind : (other step : Option Step) → Commits s t other → IsApartFrom other step → TakesSome s step → TakesSome t step
+  takes_behind other None commits apart takes = tt
+  takes_behind None (Some step) commits apart takes = record {
+    at_hand = stays_at_hand s t commits.geometry commits.keeps commits.stays step.number takes.at_hand;
+    fits = subst (λ (o : Option Object). FitsUpdate o step.update) (sym (commits.rest step.number tt)) takes.fits;
+  }
+  takes_behind (Some other) (Some step) commits apart takes = record {
+    at_hand = stays_at_hand s t commits.geometry commits.keeps commits.stays step.number takes.at_hand;
+    fits = fits_same (loaded s step.number) (loaded t step.number) other.number step.number step.update apart (λ ne. commits.rest step.number (λ e. ne (sym e))) takes.fits;
+  }
 
--- the same behind a step that there may be
-pub takes_some_after : (s t : InodeFile) (other step : Option Step) → t.geometry ≡ s.geometry → ((k : ℕ) → HasRoomFor s k → HasRoomFor t k)
-    → ((k : ℕ) → IsKnown s k → IsKnown t k) → ((k : ℕ) → IsBeside k other → loaded t k ≡ loaded s k)
-    → IsApartFrom other step → TakesSome s step → TakesSome t step
-takes_some_after s t None None same keeps stays rest apart takes = tt
-takes_some_after s t None (Some step) same keeps stays rest apart takes = record {
-  low = takes.low;
-  high = subst (λ (g : Sizes). step.number < g.inodes) (sym same) takes.high;
-  room = keeps step.number takes.room;
-  takes = takes_same s t step.number step.update stays (rest step.number tt) takes.takes;
-}
-takes_some_after s t (Some other) step same keeps stays rest apart takes =
-    takes_step_after s t other.number step same keeps stays (λ k ne. rest k (λ e. ne (sym e))) apart takes
-
--- a step, if there is one, does the same behind one on another object
-pub steps_some_behind : (disk : ℕ → List ℕ) (settled : ℕ → Inode) (s t : InodeFile) (n : ℕ) (v w : Volume) (step : Option Step) → t.geometry ≡ s.geometry
-    → ((k : ℕ) → k ≢ n → loaded t k ≡ loaded s k) → IsBeside n step → StepsSome disk settled s v step w → StepsSome disk settled t v step w
-steps_some_behind disk settled s t n v w None same_sizes rest beside steps = steps
-steps_some_behind disk settled s t n v w (Some step) same_sizes rest beside steps = steps_after disk settled s t v w step same_sizes (rest step.number beside) steps
-
--- and behind one that there may be
-pub steps_last_behind : (disk : ℕ → List ℕ) (settled : ℕ → Inode) (s t : InodeFile) (other : Option Step) (v w : Volume) (step : Option Step) → t.geometry ≡ s.geometry
-    → ((k : ℕ) → IsBeside k other → loaded t k ≡ loaded s k) → AreBeside other step → StepsSome disk settled s v step w → StepsSome disk settled t v step w
-steps_last_behind disk settled s t other v w None same_sizes rest beside steps = steps
-steps_last_behind disk settled s t None v w (Some step) same_sizes rest beside steps = steps_after disk settled s t v w step same_sizes (rest step.number tt) steps
-steps_last_behind disk settled s t (Some other) v w (Some step) same_sizes rest beside steps = steps_after disk settled s t v w step same_sizes (rest step.number (λ e. beside (sym e))) steps
+-- and a step, if there is one, does the same
+module _ {s t : InodeFile} (disk : ℕ → List ℕ) (settled : ℕ → Inode) (v w : Volume) where
+  pub steps_behind : (other step : Option Step) → Commits s t other → AreBeside other step → StepsSome disk settled s v step w → StepsSome disk settled t v step w
+  steps_behind other None commits beside steps = steps
+  steps_behind None (Some step) commits beside steps = steps_after disk settled s t v w step commits.geometry (commits.rest step.number tt) steps
+  steps_behind (Some other) (Some step) commits beside steps = steps_after disk settled s t v w step commits.geometry (commits.rest step.number (λ e. beside (sym e))) steps

@@ -1,63 +1,23 @@
 -- Objects at hand behind a change, and files that it leaves with neither name nor descriptor.
-use Rattle.std.proofs.Common.{◌≡◌, ◌⊎◌, inl, inr, ℕ, zero, suc, ◌<◌, List, Bool, true, false, Option, Some, None, IfSome, refl, sym, ap, subst, ◌∙◌}
+use Rattle.std.proofs.Common.{◌≡◌, ◌⊎◌, inl, inr, ℕ, zero, suc, List, Bool, true, false, Option, Some, None, IfSome, refl, sym, ap, ◌∙◌}
 use Rattle.std.specs.Option.{option_map}
 use Rattle.std.proofs.Math.Path.{fun_ext}
 use Rattle.std.proofs.lemmas.Bool.{cases_eq}
-use Rattle.layout.specs.Limits.{Sizes}
 use Rattle.layout.specs.declared.inode.Inode.{Inode}
 use Rattle.model.specs.Records.{Change, applied}
 use Rattle.model.specs.Trees.{Description}
 use Rattle.model.specs.Volumes.{Node, directory_node, file_node, link_node, Volume, IsMounted, is_nameless, is_open, swept, swept_node, with_node}
 use Rattle.model.proofs.RecordLemmas.{swept_twice}
 use Rattle.model.proofs.SweepLemmas.{stays_open}
-use Rattle.inode.specs.declared.object.Object.{Object}
-use Rattle.inofile.specs.Inodes.{HasRoomFor, IsKnown, IsKnownSlot, loaded, slot_object}
 use Rattle.inofile.specs.declared.inode_file.InodeFile.{InodeFile}
-use Rattle.inofile.specs.declared.inode_file.Slot.{Slot}
-use Rattle.inofile.specs.declared.inode_file.Slot.TheVariants.{AsSettled, Loaded, Changed}
 use Rattle.records.specs.Prepared.{Does}
-use Rattle.records.specs.Steps.{IsAtHand, IsBeside, IsSomeAtHand, StepsSome, TakesStep, TakesUpdate}
+use Rattle.records.specs.Steps.{IsAtHand, IsBeside, IsSomeAtHand, StepsSome}
 use Rattle.records.specs.Sweeping.{without_file}
 use Rattle.records.specs.declared.prepared.Prepared.{Prepared}
 use Rattle.records.specs.declared.steps.Step.{Step}
-use Rattle.records.specs.declared.steps.Update.TheVariants as updates
-use Rattle.records.proofs.EnterLaws.{node_here, node_other}
+use Rattle.model.proofs.ObjectLaws.{node_here, node_other}
 
 -- ---- objects at hand
-
-held_known : (slot : Option Slot) (o : Object) → slot_object slot ≡ Some o → IsKnownSlot slot
-held_known (Some AsSettled) o is = cc
-held_known (Some (Loaded object)) o is = tt
-held_known (Some (Changed object)) o is = tt
-held_known None o is = cc
-
--- what is set is known then
-pub set_known : (s t : InodeFile) (n : ℕ) (o : Option Object) → TakesUpdate s n (updates.Set o) → (IsKnown s n → IsKnown t n) → loaded t n ≡ o → IsKnown t n
-set_known s t n None takes stays is = stays takes
-set_known s t n (Some o) takes stays is = held_known _ o is
-
-module _ (s t : InodeFile) (same : t.geometry ≡ s.geometry) (keeps : (k : ℕ) → HasRoomFor s k → HasRoomFor t k) where
-  -- the object that a step sets
-  pub step_at_hand : (step : Step) → TakesStep s step → IsKnown t step.number → IsAtHand t step.number
-  step_at_hand step takes known = record {
-    low = takes.low;
-    high = subst (λ (g : Sizes). step.number < g.inodes) (sym same) takes.high;
-    room = keeps step.number takes.room;
-    known = known;
-  }
-
-  -- what is at hand stays so
-  pub stays_at_hand : (n : ℕ) → ((k : ℕ) → IsKnown s k → IsKnown t k) → IsAtHand s n → IsAtHand t n
-  stays_at_hand n stays is = record {
-    low = is.low;
-    high = subst (λ (g : Sizes). n < g.inodes) (sym same) is.high;
-    room = keeps n is.room;
-    known = stays n is.known;
-  }
-
-  pub some_stays_at_hand : (step : Option Step) → ((k : ℕ) → IsKnown s k → IsKnown t k) → IsSomeAtHand s step → IsSomeAtHand t step
-  some_stays_at_hand None stays is = tt
-  some_stays_at_hand (Some step) stays is = stays_at_hand step.number stays is
 
 -- the object of a step, by its number
 pub number_at_hand : (s : InodeFile) (step : Option Step) → IsSomeAtHand s step → IfSome (option_map (λ (step : Step). step.number) step) (IsAtHand s)

@@ -1,10 +1,16 @@
 -- What becomes of a file's bytes.
-use Rattle.std.specs.Prelude.{ℕ, ◌≡◌, ◌+◌, ◌≤◌, List, length, Option, Some, None}
+use Rattle.std.specs.Prelude.{ℕ, ◌≡◌, ◌+◌, ◌≤◌, List, length, Option, Some, None, Result, IfOk, IsErrOf}
 use Rattle.layout.specs.FileBytes.{EndsAt}
 use Rattle.model.specs.Edits.{resized, written}
 use Rattle.model.specs.Records as records
 use Rattle.model.specs.declared.limits.TheConstants.{GREATEST_FILE, TRANSFER_BYTES}
-use Rattle.inode.specs.Files.{Fits, bytes_of, bytes_with, byte_with}
+use Rattle.buffers.specs.Reads.{ReadsBlocks}
+use Rattle.buffers.specs.declared.blocks.Blocks.{Ghosts}
+use Rattle.blocktree.specs.Errors.{IsFault}
+use Rattle.blocktree.specs.Trees.{IsSoundAt}
+use Rattle.blocktree.specs.declared.error.ReadError.{ReadError}
+use Rattle.blocktree.specs.declared.error.ReadError.TheVariants.{Damaged}
+use Rattle.inode.specs.Files.{Fits, IsFile, IsSameFile, bytes_of, bytes_with, byte_with}
 use Rattle.inode.specs.declared.change.Change.{Change}
 use Rattle.inode.specs.declared.file.File.{File}
 use Rattle.inode.specs.declared.object.Object.{Object}
@@ -31,6 +37,15 @@ KeepsBounds (Cut size) = size ≤ GREATEST_FILE
 pub record Rewrites (disk : ℕ → List ℕ) (f : List ℕ → List ℕ) (file : File) (change : Change) : Type 0 where
   pub ends : EndsAt change.size (byte_with disk file change)
   pub bytes : bytes_with disk file change ≡ f (bytes_of disk file)
+
+-- A change of a file's bytes is prepared that makes these of them. The file stays the same until it is put in force.
+pub record PlansFile {B : Type 0} (G : Ghosts B) (blocks after : B) (file new : File) (f : List ℕ → List ℕ) (result : Result Change ReadError) : Type 0 where
+  pub reads : ReadsBlocks G IsFault blocks after result
+  pub same : IsSameFile file new
+  pub fits : IfOk result (Fits new.tree)
+  pub rewrites : (disk : ℕ → List ℕ) → G.Shows blocks disk → IsFile disk file → IfOk result (Rewrites disk f new)
+  pub damaged : (disk : ℕ → List ℕ) → G.Shows blocks disk → IsErrOf result Damaged
+      → ((i : ℕ) → IsSoundAt (G.count blocks) disk file.tree i) → ⊥
 
 -- there is an object, and a change does so with its bytes
 abbrev pub RewritesIn : (ℕ → List ℕ) → (List ℕ → List ℕ) → Option Object → Change → Type 0

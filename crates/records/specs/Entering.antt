@@ -1,18 +1,15 @@
 -- Names that directories get and lose.
-use Rattle.std.specs.Prelude.{ℕ, ◌≡◌, ◌≤◌, ◌<◌, List, Option, Some, None}
+use Rattle.std.specs.Prelude.{ℕ, ◌≡◌, ◌<◌, List, Option, Some, None}
 use Rattle.layout.specs.Directory.{IsEntry, named_of}
 use Rattle.layout.specs.DirectoryNames.{NameMap}
 use Rattle.layout.specs.declared.kind.Kind.TheVariants as kinds
-use Rattle.model.specs.declared.limits.TheConstants.{ROOT_NUMBER}
 use Rattle.model.specs.Paths.{Name}
 use Rattle.model.specs.Volumes.{Node, directory_node}
 use Rattle.dirs.specs.Directory.{HasCount, with_name}
 use Rattle.dirs.specs.Edits.{HasNames, FitsIn}
-use Rattle.dirs.specs.declared.TheConstants.{MOST_NAMES}
+use Rattle.model.specs.declared.limits.TheConstants.{DIRECTORY_NAMES}
 use Rattle.dirs.specs.declared.edit.Edit.{Edit}
 use Rattle.inode.specs.declared.object.Object.{Object}
-use Rattle.inofile.specs.Inodes.{HasRoomFor, IsKnown, loaded}
-use Rattle.inofile.specs.declared.inode_file.InodeFile.{InodeFile}
 use Rattle.records.specs.declared.naming.NameEdit.{NameEdit}
 use Rattle.records.specs.declared.naming.NameEdit.TheVariants as edits
 
@@ -20,7 +17,7 @@ use Rattle.records.specs.declared.naming.NameEdit.TheVariants as edits
 pub record HasPlace (names : NameMap) : Type 0 where
   pub count : ℕ
   pub counts : HasCount names count
-  pub room : count < MOST_NAMES
+  pub room : count < DIRECTORY_NAMES
 
 -- a directory with these names has no such one yet, and has place for one more
 pub record TakesEntry (names : NameMap) (name : Name) : Type 0 where
@@ -77,15 +74,12 @@ abbrev pub IsDirectoryObject : Option Object → Type 0
 IsDirectoryObject (Some o) = o.attributes.kind ≡ kinds.Directory
 IsDirectoryObject None = ⊥
 
+-- an edit is prepared of what can be edited so, where this object of memory stands for it, and else none
+abbrev pub PreparesEdit : (ℕ → List ℕ) → ℕ → NameEdit → Option Node → Option Object → Option Edit → Type 0
+PreparesEdit disk inodes wanted found o (Some edit) = EditsIn disk inodes (names_after wanted) found o edit × Accepts wanted found
+PreparesEdit disk inodes wanted found o None = Accepts wanted found → ⊥
+
 -- there is an object, and it has room for an edit
 abbrev pub FitsObject : Option Object → Edit → Type 0
 FitsObject (Some o) edit = FitsIn o.file edit
 FitsObject None edit = ⊥
-
--- the object with this number is in memory, with room for an edit of it
-pub record CanEdit (s : InodeFile) (number : ℕ) (edit : Edit) : Type 0 where
-  pub low : ROOT_NUMBER ≤ number
-  pub high : number < s.geometry.inodes
-  pub room : HasRoomFor s number
-  pub known : IsKnown s number
-  pub fits : FitsObject (loaded s number) edit

@@ -1,10 +1,12 @@
 pub use Rattle.paths.specs.Standing
-pub mod Served
 pub mod Entering
 pub mod Contents
 pub mod Steps
 pub mod Prepared
 pub mod Shown
+pub mod Looking
+pub mod Preparing
+pub mod Naming
 pub mod Reading
 pub mod Rewriting
 pub mod Below

@@ -20,6 +20,16 @@ MayReplace v n m = (m ≢ n) × (is_directory_node (v m) ≡ is_directory_node (
 abbrev pub TakesName : (ℕ → List ℕ) → (ℕ → Inode) → Volume → ℕ → Update → Type 0
 TakesName disk settled v m update = (count : ℕ) (o : Option Object) → Updates disk count (settled m) (v m) o update (with_name_less (v m))
 
+-- what becomes of the object m when it loses a name: an update where it has no names in it, and else none
+abbrev pub Releases : (ℕ → List ℕ) → (ℕ → Inode) → Volume → ℕ → Option Update → Type 0
+Releases disk settled v m (Some update) = TakesName disk settled v m update × IsEmpty v m
+Releases disk settled v m None = IsEmpty v m → ⊥
+
+-- a step takes away the name of the object m where n may take it, and else there is none
+abbrev pub ReplacesBy : (ℕ → List ℕ) → (ℕ → Inode) → Volume → ℕ → ℕ → Option Step → Type 0
+ReplacesBy disk settled v n m (Some step) = (step.number ≡ m) × MayReplace v n m × TakesName disk settled v m step.update
+ReplacesBy disk settled v n m None = MayReplace v n m → ⊥
+
 -- a step, if there is one, depends on no object in memory
 abbrev pub IsSomeAlone : Option Step → Type 0
 IsSomeAlone None = Unit {0}
@@ -31,10 +41,13 @@ Replaces disk settled v n None None = Unit {0}
 Replaces disk settled v n (Some m) (Some step) = (step.number ≡ m) × MayReplace v n m × TakesName disk settled v m step.update
 Replaces disk settled v n target step = ⊥
 
--- the object n has the name x in d, may get the name y in k, which doesn't lie below it, and a step takes away the name of what has it
+-- the directory k doesn't lie below what has the name x in d
+abbrev pub IsOutside : Volume → ℕ → Name → ℕ → Type 0
+IsOutside v d x k = (n : ℕ) → entries v d x ≡ Some n → IsBelow (entries v) n k → ⊥
+
+-- the object n has the name x in d, may get the name y in k, and a step takes away the name of what has it
 pub record Moves (disk : ℕ → List ℕ) (settled : ℕ → Inode) (v : Volume) (d : ℕ) (x : Name) (n k : ℕ) (y : Name) (step : Option Step) : Type 0 where
   pub there : entries v d x ≡ Some n
-  pub outside : IsBelow (entries v) n k → ⊥
   pub replaces : Replaces disk settled v n (entries v k y) step
 
 -- how a directory gets a name from another one, by what is done to what had it there

@@ -4,7 +4,7 @@ use Rattle.layout.specs.declared.inode.Inode.{Inode}
 use Rattle.model.specs.Records.{Change, applied}
 use Rattle.model.specs.Volumes.{Volume}
 use Rattle.inofile.specs.declared.inode_file.InodeFile.{InodeFile}
-use Rattle.records.specs.Steps.{IsAtHand, IsBeside, IsSomeApart, IsSomeAtHand, Steps, StepsSome, TakesSome, TakesStep}
+use Rattle.records.specs.Steps.{IsAtHand, IsBeside, IsSomeApart, IsSomeAtHand, Steps, StepsSome, TakesSome, TakesUpdate}
 use Rattle.records.specs.declared.prepared.Prepared.{Prepared}
 use Rattle.records.specs.declared.steps.Step.{Step}
 
@@ -20,7 +20,7 @@ AreBeside (Some other) step = IsBeside other.number step
 
 -- memory has room for all that a prepared change sets
 pub record IsReady (s : InodeFile) (p : Prepared) : Type 0 where
-  pub first : TakesStep s p.first
+  pub first : TakesUpdate s p.first.number p.first.update
   pub next : TakesSome s p.next
   pub last : TakesSome s p.last
   pub next_apart : IsSomeApart p.first.number p.next

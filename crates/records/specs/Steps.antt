@@ -8,28 +8,13 @@ use Rattle.model.specs.Volumes.{Node, Volume, file_node, is_directory_node, is_f
 use Rattle.inode.specs.declared.object.Object.{Object}
 use Rattle.inofile.specs.Inodes.{HasRoomFor, IsKnown, loaded}
 use Rattle.inofile.specs.Objects.{IsObjectOrNone}
+use Rattle.inofile.specs.Volumes.{IsVolumeOf}
 use Rattle.inofile.specs.declared.inode_file.InodeFile.{InodeFile}
 use Rattle.records.specs.Contents.{FitsFile, RewritesIn}
 use Rattle.records.specs.Entering.{EditsIn, FitsObject, with_names}
 use Rattle.records.specs.declared.steps.Step.{Step}
 use Rattle.records.specs.declared.steps.Update.{Update}
 use Rattle.records.specs.declared.steps.Update.TheVariants as updates
-
--- memory has what an update needs beside room for its object
-abbrev pub TakesUpdate : InodeFile → ℕ → Update → Type 0
-TakesUpdate s number (updates.Set (Some object)) = Unit {0}
-TakesUpdate s number (updates.Set None) = IsKnown s number
-TakesUpdate s number (updates.Names edit) = IsKnown s number × FitsObject (loaded s number) edit
-TakesUpdate s number (updates.SetMode mode) = IsKnown s number
-TakesUpdate s number (updates.Bytes change) = IsKnown s number × FitsFile (loaded s number) change
-TakesUpdate s number (updates.Links links) = IsKnown s number
-
--- memory has room for what a step sets
-pub record TakesStep (s : InodeFile) (step : Step) : Type 0 where
-  pub low : ROOT_NUMBER ≤ step.number
-  pub high : step.number < s.geometry.inodes
-  pub room : HasRoomFor s step.number
-  pub takes : TakesUpdate s step.number step.update
 
 -- an object, or that there is none, is in memory, with room for a change of it
 pub record IsAtHand (s : InodeFile) (number : ℕ) : Type 0 where
@@ -42,6 +27,17 @@ pub record IsAtHand (s : InodeFile) (number : ℕ) : Type 0 where
 abbrev pub IsSomeAtHand : InodeFile → Option Step → Type 0
 IsSomeAtHand s None = Unit {0}
 IsSomeAtHand s (Some step) = IsAtHand s step.number
+
+-- an object has room for what an update sets
+abbrev pub FitsUpdate : Option Object → Update → Type 0
+FitsUpdate o (updates.Names edit) = FitsObject o edit
+FitsUpdate o (updates.Bytes change) = FitsFile o change
+FitsUpdate o update = Unit {0}
+
+-- the object of this number is at hand, with room for what an update sets
+pub record TakesUpdate (s : InodeFile) (number : ℕ) (update : Update) : Type 0 where
+  pub at_hand : IsAtHand s number
+  pub fits : FitsUpdate (loaded s number) update
 
 -- an update doesn't depend on what the object of this number is in memory
 abbrev pub IsApart : ℕ → ℕ → Update → Type 0
@@ -58,7 +54,7 @@ IsAlone update = Unit {0}
 -- memory has room for a step, if there is one
 abbrev pub TakesSome : InodeFile → Option Step → Type 0
 TakesSome s None = Unit {0}
-TakesSome s (Some step) = TakesStep s step
+TakesSome s (Some step) = TakesUpdate s step.number step.update
 
 -- a step, if there is one, doesn't depend on what the object of this number is in memory
 abbrev pub IsSomeApart : ℕ → Option Step → Type 0
@@ -101,3 +97,14 @@ Steps disk settled s v step w =
 abbrev pub StepsSome : (ℕ → List ℕ) → (ℕ → Inode) → InodeFile → Volume → Option Step → Volume → Type 0
 StepsSome disk settled s v None w = w ≡ v
 StepsSome disk settled s v (Some step) w = Steps disk settled s v step w
+
+-- A step, if there is one, is put in force: its object is at hand then, all others stay as they are, and memory stands for the
+-- volume that the step makes.
+pub record Commits (s t : InodeFile) (step : Option Step) : Type 0 where
+  pub geometry : t.geometry ≡ s.geometry
+  pub keeps : (n : ℕ) → HasRoomFor s n → HasRoomFor t n
+  pub stays : (n : ℕ) → IsKnown s n → IsKnown t n
+  pub at_hand : IsSomeAtHand t step
+  pub rest : (n : ℕ) → IsBeside n step → loaded t n ≡ loaded s n
+  pub volume : (count : ℕ) (disk : ℕ → List ℕ) (settled : ℕ → Inode) (v w : Volume) → IsVolumeOf count disk settled s v
+      → StepsSome disk settled s v step w → IsVolumeOf count disk settled t w

@@ -1,15 +1,15 @@
 //! What lies below an object.
 
-ghost use Rattle.std.specs.Prelude.{◌≡◌, ◌<◌, ◌↔◌, ◌⊎◌, ℕ, List, IfOk, IsErrOf, IsTrue, OnOk, length};
+ghost use Rattle.std.specs.Prelude.{◌≡◌, ◌<◌, ◌↔◌, ◌⊎◌, ℕ, IfOk, IsTrue, OnOk, length};
 ghost use Rattle.std.specs.List.{Contains};
-ghost use Rattle.layout.specs.declared.inode.Inode.{Inode};
 ghost use Rattle.model.specs.Records.{IsBelow};
-ghost use Rattle.model.specs.Volumes.{Volume, entries};
+ghost use Rattle.model.specs.Volumes.{entries};
 ghost use Rattle.blocktree.specs.Errors.{IsFault};
 ghost use Rattle.paths.specs.Loads.{OnlyLoads};
 ghost use Rattle.paths.specs.Numbers.{AreNumbers, IsNumber};
-ghost use Rattle.paths.specs.Standing.{Looks, Stands};
+ghost use Rattle.paths.specs.Standing.{Looks};
 ghost use Rattle.records.specs.Below.{IsChild, IsMarked, Marks};
+ghost use Rattle.records.specs.Shown.{NeverDamaged, OnVolumes};
 
 use blocktree::ReadError;
 use buffers::Blocks;
@@ -17,7 +17,7 @@ use inofile::InodeFile;
 use std::alloc::{AllocError, Global};
 
 /// Whether a number is that of an object, or of one below it.
-pub fn is_below<B: Blocks>(
+pub(crate) fn is_below<B: Blocks>(
     alloc: Global,
     inodes: &mut InodeFile,
     blocks: &mut B,
@@ -28,12 +28,9 @@ pub fn is_below<B: Blocks>(
     requires number { number < inodes.old.geometry.inodes }
     ensures looks { Looks B.Blocks IsFault blocks.old blocks.new inodes.old inodes.new result }
     ensures loads { OnlyLoads inodes.old inodes.new }
-    ensures below { (disk : ℕ → List ℕ) (settled : ℕ → Inode) (v : Volume)
-        → Stands B.Blocks disk settled v blocks.old inodes.old
-        → IfOk result (λ below. IsTrue below ↔ IsBelow (entries v) top number) }
-    ensures damaged { (disk : ℕ → List ℕ) (settled : ℕ → Inode) (v : Volume)
-        → Stands B.Blocks disk settled v blocks.old inodes.old
-        → IsErrOf result ReadError.Damaged → ⊥ }
+    ensures below { OnVolumes B.Blocks blocks.old inodes.old (λ disk settled v.
+        IfOk result (λ below. IsTrue below ↔ IsBelow (entries v) top number)) }
+    ensures damaged { NeverDamaged B.Blocks blocks.old inodes.old result }
 {
     let count = inodes.geometry().inodes();
     let mut marks = vec![in alloc; false; count as usize]?;
@@ -57,12 +54,9 @@ fn children_of<B: Blocks>(
     ensures looks { Looks B.Blocks IsFault blocks.old blocks.new inodes.old inodes.new result }
     ensures loads { OnlyLoads inodes.old inodes.new }
     ensures within { IfOk result (λ c. AreNumbers inodes.old.geometry.inodes c.items) }
-    ensures children { (disk : ℕ → List ℕ) (settled : ℕ → Inode) (v : Volume)
-        → Stands B.Blocks disk settled v blocks.old inodes.old
-        → IfOk result (λ c. (n : ℕ) → Contains c.items n ↔ IsChild (entries v) number n) }
-    ensures damaged { (disk : ℕ → List ℕ) (settled : ℕ → Inode) (v : Volume)
-        → Stands B.Blocks disk settled v blocks.old inodes.old
-        → IsErrOf result ReadError.Damaged → ⊥ }
+    ensures children { OnVolumes B.Blocks blocks.old inodes.old (λ disk settled v.
+        IfOk result (λ c. (n : ℕ) → Contains c.items n ↔ IsChild (entries v) number n)) }
+    ensures damaged { NeverDamaged B.Blocks blocks.old inodes.old result }
 {
     let names = paths::list(alloc, inodes, blocks, number)?;
     let mut children = Vec::new(alloc);

@@ -1,31 +1,32 @@
 //! Records that change a file's bytes.
 
-ghost use Rattle.std.specs.Prelude.{◌≡◌, ◌≢◌, ◌≤◌, ◌<◌, ◌+◌, ◌↔◌, ℕ, List, Option, IsTrue, IfOk, IfSome, IfNone, IsErrOf, is_some, length};
+ghost use Rattle.std.specs.Prelude.{◌≡◌, ◌≤◌, ◌+◌, ◌↔◌, ℕ, List, Option, Some, IsTrue, IfOk, IfSome, IsErrOf, is_some, length};
 ghost use Rattle.layout.specs.declared.inode.Inode.{Inode};
 ghost use Rattle.model.specs.Edits.{resized, written};
-ghost use Rattle.model.specs.Records.{Applies, with_file_bytes};
-ghost use Rattle.model.specs.Volumes.{Node, Volume, IsVolume, is_file_node, with_node};
+ghost use Rattle.model.specs.Records.{with_file_bytes};
+ghost use Rattle.model.specs.Volumes.{Node, is_file_node};
 ghost use Rattle.model.specs.declared.limits.TheConstants.{GREATEST_FILE};
 ghost use Rattle.buffers.specs.Reads.{ReadsBlocks};
 ghost use Rattle.blocktree.specs.Errors.{IsFault};
 ghost use Rattle.blocktree.specs.Trees.{IsSoundAt};
-ghost use Rattle.inode.specs.Files.{Fits, IsFile, IsSameFile};
+ghost use Rattle.inode.specs.Files.{Fits, IsFile};
 ghost use Rattle.inode.specs.declared.object.Object.{Object};
-ghost use Rattle.inofile.specs.Inodes.{HasRoomFor, IsKnown, loaded};
+ghost use Rattle.inofile.specs.Inodes.{loaded};
 ghost use Rattle.inofile.specs.Objects.{IsObject, IsObjectOrNone, IsSameObject, IsSameOrNone};
-ghost use Rattle.inofile.specs.Volumes.{IsVolumeOf};
-ghost use Rattle.records.specs.Contents.{FitsFile, KeepsBounds, Rewrites, RewritesIn, bytes_after, rewriting};
-ghost use Rattle.records.specs.Prepared.{Does, IsReady};
-ghost use Rattle.paths.specs.Standing.{Looks, Stands};
+ghost use Rattle.paths.specs.Numbers.{IsNumber};
+ghost use Rattle.records.specs.Contents.{FitsFile, KeepsBounds, PlansFile, Rewrites, RewritesIn, bytes_after, rewriting};
+ghost use Rattle.records.specs.Looking.{Finds};
+ghost use Rattle.records.specs.Preparing.{PreparesRecord};
+ghost use Rattle.records.specs.Steps.{TakesUpdate};
 
 use crate::Prepared;
-use crate::loading::load_to_change;
+use crate::loading::{is_number, load_to_change};
 use crate::steps::{Step, Update};
 use blocktree::ReadError;
 use buffers::Blocks;
 use inode::{Change, ChangeError, File, Object};
 use inofile::{InodeFile, objects_stand_in_their_grammar};
-use layout::{Kind, ROOT_NUMBER};
+use layout::Kind;
 use model::{GREATEST_FILE, TRANSFER_BYTES};
 use std::alloc::Global;
 
@@ -46,30 +47,14 @@ pub(crate) fn prepare_bytes<B: Blocks>(
     number: u32,
     rewrite: &Rewrite<'_>,
 ) -> Result<Option<Prepared>, ReadError>
-    ensures looks { Looks B.Blocks IsFault blocks.old blocks.new inodes.old inodes.new result }
+    ensures prepares { PreparesRecord B.Blocks blocks.old blocks.new inodes.old inodes.new
+        (rewriting number rewrite.now) result }
     ensures bounds { IfOk result (λ p. IfSome p (λ _. KeepsBounds rewrite.now)) }
-    ensures ready { IfOk result (λ p. IfSome p (IsReady inodes.new)) }
-    ensures does { (disk : ℕ → List ℕ) (settled : ℕ → Inode) (v : Volume)
-        → Stands B.Blocks disk settled v blocks.old inodes.old
-        → IfOk result (λ p. IfSome p
-        (λ x. Does disk settled inodes.new v x (rewriting number rewrite.now))) }
-    ensures applies { (disk : ℕ → List ℕ) (settled : ℕ → Inode) (v : Volume)
-        → Stands B.Blocks disk settled v blocks.old inodes.old
-        → IfOk result (λ p. IfSome p
-        (λ _. Applies inodes.old.geometry.inodes v (rewriting number rewrite.now))) }
-    ensures refused { (disk : ℕ → List ℕ) (settled : ℕ → Inode) (v : Volume)
-        → Stands B.Blocks disk settled v blocks.old inodes.old
-        → IsVolume inodes.old.geometry.inodes v
-        → IfOk result (λ p. IfNone p
-        (Applies inodes.old.geometry.inodes v (rewriting number rewrite.now) → ⊥)) }
-    ensures damaged { (disk : ℕ → List ℕ) (settled : ℕ → Inode) (v : Volume)
-        → Stands B.Blocks disk settled v blocks.old inodes.old
-        → IsErrOf result ReadError.Damaged → ⊥ }
 {
     if !keeps_bounds(rewrite) {
         return Ok(None);
     }
-    if number < ROOT_NUMBER || number >= inodes.geometry().inodes() {
+    if !is_number(inodes, number) {
         return Ok(None);
     }
     let planned = plan_number(alloc, inodes, blocks, number, rewrite)?;
@@ -109,22 +94,12 @@ fn plan_number<B: Blocks>(
     rewrite: &Rewrite<'_>,
 ) -> Result<Option<Change>, ReadError>
     requires bounds { KeepsBounds rewrite.now }
-    requires low { ROOT_NUMBER ≤ number }
-    requires high { number < inodes.old.geometry.inodes }
-    ensures looks { Looks B.Blocks IsFault blocks.old blocks.new inodes.old inodes.new result }
-    ensures known { IfOk result (λ w. IfSome w (λ _. IsKnown inodes.new number)) }
-    ensures room { IfOk result (λ w. IfSome w (λ _. HasRoomFor inodes.new number)) }
-    ensures fits { IfOk result (λ w. IfSome w (FitsFile (loaded inodes.new number))) }
-    ensures told { (disk : ℕ → List ℕ) (settled : ℕ → Inode) (v : Volume)
-        → Stands B.Blocks disk settled v blocks.old inodes.old
-        → IfOk result (λ w. is_some w ≡ is_file_node (v number)) }
-    ensures rewrites { (disk : ℕ → List ℕ) (settled : ℕ → Inode) (v : Volume)
-        → Stands B.Blocks disk settled v blocks.old inodes.old
-        → IfOk result (λ w. IfSome w
-        (RewritesIn disk (bytes_after rewrite.now) (loaded inodes.new number))) }
-    ensures damaged { (disk : ℕ → List ℕ) (settled : ℕ → Inode) (v : Volume)
-        → Stands B.Blocks disk settled v blocks.old inodes.old
-        → IsErrOf result ReadError.Damaged → ⊥ }
+    requires number { IsNumber inodes.old.geometry.inodes number }
+    ensures planned { Finds B.Blocks blocks.old blocks.new inodes.old inodes.new (λ disk settled v w.
+        (is_some w ≡ is_file_node (v number))
+        × IfSome w (RewritesIn disk (bytes_after rewrite.now) (loaded inodes.new number))) result }
+    ensures ready { IfOk result
+        (λ w. IfSome w (λ x. TakesUpdate inodes.new number (Update.Bytes x))) }
 {
     objects_stand_in_their_grammar();
     load_to_change(alloc, inodes, blocks, number)?;
@@ -200,14 +175,8 @@ fn plan<B: Blocks>(
     rewrite: &Rewrite<'_>,
 ) -> Result<Change, ReadError>
     requires { KeepsBounds rewrite.now }
-    ensures reads { ReadsBlocks B.Blocks IsFault blocks.old blocks.new result }
-    ensures same { IsSameFile file.old file.new }
-    ensures fits { IfOk result (Fits file.new.tree) }
-    ensures rewrites { (disk : ℕ → List ℕ) → B.Shows blocks.old disk → IsFile disk file.old
-        → IfOk result (Rewrites disk (bytes_after rewrite.now) file.new) }
-    ensures damaged { (disk : ℕ → List ℕ) → B.Shows blocks.old disk
-        → IsErrOf result ReadError.Damaged
-        → ((i : ℕ) → IsSoundAt (B.count blocks.old) disk file.old.tree i) → ⊥ }
+    ensures { PlansFile B.Blocks blocks.old blocks.new file.old file.new
+        (bytes_after rewrite.now) result }
 {
     match rewrite {
         Rewrite::Write { offset, bytes } => plan_write(alloc, file, blocks, *offset, bytes),
@@ -225,14 +194,8 @@ fn plan_write<B: Blocks>(
 ) -> Result<Change, ReadError>
     requires some { 1 ≤ length bytes.now }
     requires within { offset + length bytes.now ≤ GREATEST_FILE }
-    ensures reads { ReadsBlocks B.Blocks IsFault blocks.old blocks.new result }
-    ensures same { IsSameFile file.old file.new }
-    ensures fits { IfOk result (Fits file.new.tree) }
-    ensures rewrites { (disk : ℕ → List ℕ) → B.Shows blocks.old disk → IsFile disk file.old
-        → IfOk result (Rewrites disk (written offset bytes.now) file.new) }
-    ensures damaged { (disk : ℕ → List ℕ) → B.Shows blocks.old disk
-        → IsErrOf result ReadError.Damaged
-        → ((i : ℕ) → IsSoundAt (B.count blocks.old) disk file.old.tree i) → ⊥ }
+    ensures { PlansFile B.Blocks blocks.old blocks.new file.old file.new
+        (written offset bytes.now) result }
 {
     match file.prepare_write(alloc, blocks, offset, bytes) {
         Ok(change) => Ok(change),
@@ -251,14 +214,8 @@ fn plan_cut<B: Blocks>(
     size: u64,
 ) -> Result<Change, ReadError>
     requires { size ≤ GREATEST_FILE }
-    ensures reads { ReadsBlocks B.Blocks IsFault blocks.old blocks.new result }
-    ensures same { IsSameFile file.old file.new }
-    ensures fits { IfOk result (Fits file.new.tree) }
-    ensures rewrites { (disk : ℕ → List ℕ) → B.Shows blocks.old disk → IsFile disk file.old
-        → IfOk result (Rewrites disk (resized size) file.new) }
-    ensures damaged { (disk : ℕ → List ℕ) → B.Shows blocks.old disk
-        → IsErrOf result ReadError.Damaged
-        → ((i : ℕ) → IsSoundAt (B.count blocks.old) disk file.old.tree i) → ⊥ }
+    ensures { PlansFile B.Blocks blocks.old blocks.new file.old file.new
+        (resized size) result }
 {
     match file.prepare_cut(alloc, blocks, size) {
         Ok(change) => Ok(change),
@@ -270,30 +227,7 @@ fn plan_cut<B: Blocks>(
 }
 
 /// Puts a change of a file's bytes in force.
-pub(crate) fn commit_bytes(inodes: &mut InodeFile, number: u32, change: Change)
-    requires low { ROOT_NUMBER ≤ number }
-    requires high { number < inodes.old.geometry.inodes }
-    requires room { HasRoomFor inodes.old number }
-    requires known { IsKnown inodes.old number }
-    requires fits { FitsFile (loaded inodes.old number) change }
-    ensures geometry { inodes.new.geometry ≡ inodes.old.geometry }
-    ensures keeps { (n : ℕ) → HasRoomFor inodes.old n → HasRoomFor inodes.new n }
-    ensures stays { (n : ℕ) → IsKnown inodes.old n → IsKnown inodes.new n }
-    ensures rest { (n : ℕ) → (n ≢ number) → loaded inodes.new n ≡ loaded inodes.old n }
-    ensures volume { (count : ℕ) (disk : ℕ → List ℕ) (settled : ℕ → Inode) (v : Volume)
-        (f : List ℕ → List ℕ) → IsVolumeOf count disk settled inodes.old v
-        → IsTrue (is_file_node (v number))
-        → RewritesIn disk f (loaded inodes.old number) change
-        → IsVolumeOf count disk settled inodes.new
-        (with_node number (with_file_bytes f (v number)) v) }
-{
-    let mut object = inodes.take(number);
-    commit_object(&mut object, change);
-    inodes.commit_set(number, object);
-}
-
-// The same of an object in memory.
-fn commit_object(object: &mut Option<Object>, change: Change)
+pub(crate) fn commit_bytes(object: &mut Option<Object>, change: Change)
     requires { FitsFile object.old change }
     ensures { (disk : ℕ → List ℕ) (inodes : ℕ) (settled : Inode) (found : Option Node)
         (f : List ℕ → List ℕ) → IsObjectOrNone disk inodes settled object.old found

@@ -1,18 +1,20 @@
 //! Names that directories get and lose.
 
-ghost use Rattle.std.specs.Prelude.{◌≡◌, ◌≢◌, ◌<◌, ◌≤◌, ◌↔◌, ℕ, List, Option, Some, IsTrue, IfOk, IfSome, IfNone, IsErrOf};
+ghost use Rattle.std.specs.Prelude.{◌≡◌, ◌≢◌, ◌↔◌, ℕ, List, Option, Some, IsTrue, IfOk, IfSome, IsErrOf};
 ghost use Rattle.layout.specs.DirectoryNames.{NameMap};
 ghost use Rattle.layout.specs.declared.inode.Inode.{Inode};
-ghost use Rattle.model.specs.Volumes.{Node, Volume, IsVolume, with_node};
+ghost use Rattle.model.specs.Volumes.{Node};
 ghost use Rattle.buffers.specs.Reads.{ReadsBlocks};
 ghost use Rattle.blocktree.specs.Errors.{IsFault};
 ghost use Rattle.blocktree.specs.Trees.{IsSoundAt};
 ghost use Rattle.inode.specs.declared.object.Object.{Object};
-ghost use Rattle.inofile.specs.Inodes.{HasRoomFor, IsKnown, loaded};
+ghost use Rattle.inofile.specs.Inodes.{loaded};
 ghost use Rattle.inofile.specs.Objects.{IsObjectOrNone, IsSameOrNone};
-ghost use Rattle.inofile.specs.Volumes.{IsVolumeOf};
-ghost use Rattle.records.specs.Entering.{Accepts, CanEdit, EditsIn, FitsObject, IsDirectoryObject, IsNameEdit, names_after, with_names};
-ghost use Rattle.paths.specs.Standing.{Looks, Stands};
+ghost use Rattle.paths.specs.Numbers.{IsNumber};
+ghost use Rattle.records.specs.Entering.{EditsIn, FitsObject, IsDirectoryObject, IsNameEdit, PreparesEdit, with_names};
+ghost use Rattle.records.specs.Looking.{Finds};
+ghost use Rattle.records.specs.Steps.{IsAtHand, TakesUpdate};
+ghost use Rattle.records.specs.declared.steps.Update.TheVariants as updates;
 
 use crate::loading::load_to_change;
 use crate::naming::{NameEdit, edit_file};
@@ -21,7 +23,7 @@ use buffers::Blocks;
 use dirs::Edit;
 use inode::Object;
 use inofile::{InodeFile, objects_stand_in_their_grammar};
-use layout::{Kind, ROOT_NUMBER};
+use layout::Kind;
 use std::alloc::Global;
 
 /// An edit of a directory's names, as it is known in memory from then on; None where the number is of no directory, or of one
@@ -33,29 +35,14 @@ pub(crate) fn edit_parent<B: Blocks>(
     parent: u32,
     wanted: &NameEdit<'_>,
 ) -> Result<Option<Edit>, ReadError>
-    requires { IsNameEdit inodes.old.geometry.inodes wanted.now }
-    ensures looks { Looks B.Blocks IsFault blocks.old blocks.new inodes.old inodes.new result }
-    ensures ready { IfOk result (λ e. IfSome e (CanEdit inodes.new parent)) }
-    ensures stays { (n : ℕ) → IsKnown inodes.old n → IsKnown inodes.new n }
-    ensures keeps { (n : ℕ) → HasRoomFor inodes.old n → HasRoomFor inodes.new n }
-    ensures edits { (disk : ℕ → List ℕ) (settled : ℕ → Inode) (v : Volume)
-        → Stands B.Blocks disk settled v blocks.old inodes.old
-        → IfOk result (λ e. IfSome e (EditsIn disk inodes.new.geometry.inodes
-        (names_after wanted.now) (v parent) (loaded inodes.new parent))) }
-    ensures accepts { (disk : ℕ → List ℕ) (settled : ℕ → Inode) (v : Volume)
-        → Stands B.Blocks disk settled v blocks.old inodes.old
-        → IfOk result (λ e. IfSome e (λ _. Accepts wanted.now (v parent))) }
-    ensures refused { (disk : ℕ → List ℕ) (settled : ℕ → Inode) (v : Volume)
-        → Stands B.Blocks disk settled v blocks.old inodes.old
-        → IsVolume inodes.old.geometry.inodes v
-        → IfOk result (λ e. IfNone e (Accepts wanted.now (v parent) → ⊥)) }
-    ensures damaged { (disk : ℕ → List ℕ) (settled : ℕ → Inode) (v : Volume)
-        → Stands B.Blocks disk settled v blocks.old inodes.old
-        → IsErrOf result ReadError.Damaged → ⊥ }
+    requires parent { IsNumber inodes.old.geometry.inodes parent }
+    requires wanted { IsNameEdit inodes.old.geometry.inodes wanted.now }
+    ensures edit { Finds B.Blocks blocks.old blocks.new inodes.old inodes.new (λ disk settled v.
+        PreparesEdit disk inodes.new.geometry.inodes wanted.now (v parent)
+        (loaded inodes.new parent)) result }
+    ensures ready { IfOk result
+        (λ e. IfSome e (λ x. TakesUpdate inodes.new parent (updates.Names x))) }
 {
-    if parent < ROOT_NUMBER || parent >= inodes.geometry().inodes() {
-        return Ok(None);
-    }
     load_to_change(alloc, inodes, blocks, parent)?;
     edit_known(alloc, inodes, blocks, parent, wanted)
 }
@@ -68,29 +55,14 @@ pub(crate) fn edit_known<B: Blocks>(
     parent: u32,
     wanted: &NameEdit<'_>,
 ) -> Result<Option<Edit>, ReadError>
+    requires parent { IsAtHand inodes.old parent }
     requires wanted { IsNameEdit inodes.old.geometry.inodes wanted.now }
-    requires low { ROOT_NUMBER ≤ parent }
-    requires high { parent < inodes.old.geometry.inodes }
-    requires known { IsKnown inodes.old parent }
-    requires room { HasRoomFor inodes.old parent }
-    ensures looks { Looks B.Blocks IsFault blocks.old blocks.new inodes.old inodes.new result }
-    ensures ready { IfOk result (λ e. IfSome e (CanEdit inodes.new parent)) }
-    ensures stays { (n : ℕ) → IsKnown inodes.old n → IsKnown inodes.new n }
-    ensures keeps { (n : ℕ) → HasRoomFor inodes.old n → HasRoomFor inodes.new n }
+    ensures edit { Finds B.Blocks blocks.old blocks.new inodes.old inodes.new (λ disk settled v.
+        PreparesEdit disk inodes.new.geometry.inodes wanted.now (v parent)
+        (loaded inodes.new parent)) result }
+    ensures ready { IfOk result
+        (λ e. IfSome e (λ x. TakesUpdate inodes.new parent (updates.Names x))) }
     ensures rest { (n : ℕ) → (n ≢ parent) → loaded inodes.new n ≡ loaded inodes.old n }
-    ensures edits { (disk : ℕ → List ℕ) (settled : ℕ → Inode) (v : Volume)
-        → Stands B.Blocks disk settled v blocks.old inodes.old
-        → IfOk result (λ e. IfSome e (EditsIn disk inodes.new.geometry.inodes
-        (names_after wanted.now) (v parent) (loaded inodes.new parent))) }
-    ensures accepts { (disk : ℕ → List ℕ) (settled : ℕ → Inode) (v : Volume)
-        → Stands B.Blocks disk settled v blocks.old inodes.old
-        → IfOk result (λ e. IfSome e (λ _. Accepts wanted.now (v parent))) }
-    ensures refused { (disk : ℕ → List ℕ) (settled : ℕ → Inode) (v : Volume)
-        → Stands B.Blocks disk settled v blocks.old inodes.old
-        → IfOk result (λ e. IfNone e (Accepts wanted.now (v parent) → ⊥)) }
-    ensures damaged { (disk : ℕ → List ℕ) (settled : ℕ → Inode) (v : Volume)
-        → Stands B.Blocks disk settled v blocks.old inodes.old
-        → IsErrOf result ReadError.Damaged → ⊥ }
 {
     objects_stand_in_their_grammar();
     let count = inodes.geometry().inodes();
@@ -114,14 +86,7 @@ fn edit_object<B: Blocks>(
     ensures fits { IfOk result (λ e. IfSome e (FitsObject object.new)) }
     ensures edits { (disk : ℕ → List ℕ) (settled : Inode) (found : Option Node)
         → B.Shows blocks.old disk → IsObjectOrNone disk inodes settled object.old found
-        → IfOk result (λ e. IfSome e
-        (EditsIn disk inodes (names_after wanted.now) found object.new)) }
-    ensures accepts { (disk : ℕ → List ℕ) (settled : Inode) (found : Option Node)
-        → B.Shows blocks.old disk → IsObjectOrNone disk inodes settled object.old found
-        → IfOk result (λ e. IfSome e (λ _. Accepts wanted.now found)) }
-    ensures refused { (disk : ℕ → List ℕ) (settled : Inode) (found : Option Node)
-        → B.Shows blocks.old disk → IsObjectOrNone disk inodes settled object.old found
-        → IfOk result (λ e. IfNone e (Accepts wanted.now found → ⊥)) }
+        → IfOk result (PreparesEdit disk inodes wanted.now found object.new) }
     ensures damaged { (disk : ℕ → List ℕ) (settled : Inode) (found : Option Node)
         → B.Shows blocks.old disk → IsErrOf result ReadError.Damaged
         → IsObjectOrNone disk inodes settled object.old found
@@ -149,25 +114,7 @@ fn is_directory(object: &Option<Object>) -> bool
 }
 
 /// Puts an edit of a directory in force.
-pub(crate) fn commit_edit(inodes: &mut InodeFile, parent: u32, edit: Edit)
-    requires { CanEdit inodes.old parent edit }
-    ensures geometry { inodes.new.geometry ≡ inodes.old.geometry }
-    ensures keeps { (n : ℕ) → HasRoomFor inodes.old n → HasRoomFor inodes.new n }
-    ensures stays { (n : ℕ) → IsKnown inodes.old n → IsKnown inodes.new n }
-    ensures rest { (n : ℕ) → (n ≢ parent) → loaded inodes.new n ≡ loaded inodes.old n }
-    ensures volume { (count : ℕ) (disk : ℕ → List ℕ) (settled : ℕ → Inode) (v : Volume)
-        (f : NameMap → NameMap) → IsVolumeOf count disk settled inodes.old v
-        → EditsIn disk inodes.old.geometry.inodes f (v parent) (loaded inodes.old parent) edit
-        → IsVolumeOf count disk settled inodes.new
-        (with_node parent (with_names f (v parent)) v) }
-{
-    let mut object = inodes.take(parent);
-    commit_in(&mut object, edit);
-    inodes.commit_set(parent, object);
-}
-
-// The same of an object in memory.
-fn commit_in(object: &mut Option<Object>, edit: Edit)
+pub(crate) fn commit_edit(object: &mut Option<Object>, edit: Edit)
     requires { FitsObject object.old edit }
     ensures { (disk : ℕ → List ℕ) (inodes : ℕ) (settled : Inode) (found : Option Node)
         (f : NameMap → NameMap) → IsObjectOrNone disk inodes settled object.old found

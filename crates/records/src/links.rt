@@ -1,19 +1,17 @@
 //! Records that give a file a name more.
 
-ghost use Rattle.std.specs.Prelude.{◌≡◌, ◌≤◌, ◌<◌, ℕ, List, IfOk, IfSome, IfNone, IsErrOf, false};
+ghost use Rattle.std.specs.Prelude.{◌≡◌, ℕ, List, IfSome, IfNone, false};
 ghost use Rattle.layout.specs.declared.inode.Inode.{Inode};
-ghost use Rattle.model.specs.Records.{Applies, link};
-ghost use Rattle.model.specs.Volumes.{Volume, IsVolume, is_file_node};
-ghost use Rattle.blocktree.specs.Errors.{IsFault};
+ghost use Rattle.model.specs.Records.{link};
+ghost use Rattle.model.specs.Volumes.{Volume, is_file_node};
 ghost use Rattle.inofile.specs.Inodes.{IsKnown};
 ghost use Rattle.inofile.specs.Volumes.{IsVolumeOf};
-ghost use Rattle.records.specs.Prepared.{IsReady, Does};
-ghost use Rattle.paths.specs.Standing.{Looks, Stands};
+ghost use Rattle.records.specs.Preparing.{PreparesRecord};
 ghost use Rattle.records.specs.Steps.{IsFileOf};
 
 use crate::Prepared;
 use crate::entering::edit_parent;
-use crate::loading::load_to_change;
+use crate::loading::{is_number, load_to_change};
 use crate::naming::NameEdit;
 use crate::steps::{Step, Update};
 use blocktree::ReadError;
@@ -33,27 +31,14 @@ pub fn prepare_link<B: Blocks>(
     parent: u32,
     name: &[u8],
 ) -> Result<Option<Prepared>, ReadError>
-    ensures looks { Looks B.Blocks IsFault blocks.old blocks.new inodes.old inodes.new result }
-    ensures ready { IfOk result (λ p. IfSome p (IsReady inodes.new)) }
-    ensures does { (disk : ℕ → List ℕ) (settled : ℕ → Inode) (v : Volume)
-        → Stands B.Blocks disk settled v blocks.old inodes.old
-        → IfOk result (λ p. IfSome p
-        (λ x. Does disk settled inodes.new v x (link number parent name.now))) }
-    ensures applies { (disk : ℕ → List ℕ) (settled : ℕ → Inode) (v : Volume)
-        → Stands B.Blocks disk settled v blocks.old inodes.old
-        → IfOk result (λ p. IfSome p
-        (λ _. Applies inodes.old.geometry.inodes v (link number parent name.now))) }
-    ensures refused { (disk : ℕ → List ℕ) (settled : ℕ → Inode) (v : Volume)
-        → Stands B.Blocks disk settled v blocks.old inodes.old
-        → IsVolume inodes.old.geometry.inodes v
-        → IfOk result (λ p. IfNone p
-        (Applies inodes.old.geometry.inodes v (link number parent name.now) → ⊥)) }
-    ensures damaged { (disk : ℕ → List ℕ) (settled : ℕ → Inode) (v : Volume)
-        → Stands B.Blocks disk settled v blocks.old inodes.old
-        → IsErrOf result ReadError.Damaged → ⊥ }
+    ensures { PreparesRecord B.Blocks blocks.old blocks.new inodes.old inodes.new
+        (link number parent name.now) result }
 {
     let entry = Entry { number, name };
     if !entry.fits(inodes.geometry().inodes()) {
+        return Ok(None);
+    }
+    if !is_number(inodes, parent) {
         return Ok(None);
     }
     let n = number.get();

@@ -1,17 +1,26 @@
 //! Objects on their way into memory.
 
-ghost use Rattle.std.specs.Prelude.{◌≤◌, ◌<◌, ℕ, List, OnOk, IsErrOf};
-ghost use Rattle.layout.specs.declared.inode.Inode.{Inode};
-ghost use Rattle.model.specs.Volumes.{Volume};
-ghost use Rattle.blocktree.specs.Errors.{IsFault};
-ghost use Rattle.inofile.specs.Inodes.{HasRoomFor, IsKnown};
-ghost use Rattle.paths.specs.Standing.{Looks, Stands};
+ghost use Rattle.std.specs.Prelude.{◌≡◌, None, IsFalse, IsTrue};
+ghost use Rattle.model.specs.Volumes.{Volume, IsVolume};
+ghost use Rattle.inofile.specs.Inodes.{IsKnown};
+ghost use Rattle.paths.specs.Numbers.{IsNumber};
+ghost use Rattle.records.specs.Looking.{Brings};
+ghost use Rattle.records.specs.Steps.{IsAtHand};
 
 use blocktree::ReadError;
 use buffers::Blocks;
 use inofile::InodeFile;
 use layout::ROOT_NUMBER;
 use std::alloc::Global;
+
+/// Whether a number is that of the root or of another object; a volume has nothing of any other.
+pub(crate) fn is_number(inodes: &InodeFile, number: u32) -> bool
+    ensures yes { IsTrue result → IsNumber inodes.now.geometry.inodes number }
+    ensures no { IsFalse result
+        → (v : Volume) → IsVolume inodes.now.geometry.inodes v → v number ≡ None }
+{
+    number >= ROOT_NUMBER && number < inodes.geometry().inodes()
+}
 
 /// Takes an object into memory.
 pub fn load<B: Blocks>(
@@ -20,36 +29,24 @@ pub fn load<B: Blocks>(
     blocks: &mut B,
     number: u32,
 ) -> Result<(), ReadError>
-    requires low { ROOT_NUMBER ≤ number }
-    requires high { number < inodes.old.geometry.inodes }
-    ensures looks { Looks B.Blocks IsFault blocks.old blocks.new inodes.old inodes.new result }
-    ensures known { OnOk result (IsKnown inodes.new number) }
-    ensures stays { (n : ℕ) → IsKnown inodes.old n → IsKnown inodes.new n }
-    ensures keeps { (n : ℕ) → HasRoomFor inodes.old n → HasRoomFor inodes.new n }
-    ensures damaged { (disk : ℕ → List ℕ) (settled : ℕ → Inode) (v : Volume)
-        → Stands B.Blocks disk settled v blocks.old inodes.old
-        → IsErrOf result ReadError.Damaged → ⊥ }
+    requires { IsNumber inodes.old.geometry.inodes number }
+    ensures { Brings B.Blocks blocks.old blocks.new inodes.old inodes.new
+        (λ s. IsKnown s number) result }
 {
     inodes.load(alloc, blocks, number)
 }
 
-/// The same, with room for a change of it.
-pub(crate) fn load_to_change<B: Blocks>(
+/// Takes an object into memory, with room for a change of it. NoMemory; Device where a read failed; Damaged where a block on the
+/// way is outside its format.
+pub fn load_to_change<B: Blocks>(
     alloc: Global,
     inodes: &mut InodeFile,
     blocks: &mut B,
     number: u32,
 ) -> Result<(), ReadError>
-    requires low { ROOT_NUMBER ≤ number }
-    requires high { number < inodes.old.geometry.inodes }
-    ensures looks { Looks B.Blocks IsFault blocks.old blocks.new inodes.old inodes.new result }
-    ensures known { OnOk result (IsKnown inodes.new number) }
-    ensures room { OnOk result (HasRoomFor inodes.new number) }
-    ensures stays { (n : ℕ) → IsKnown inodes.old n → IsKnown inodes.new n }
-    ensures keeps { (n : ℕ) → HasRoomFor inodes.old n → HasRoomFor inodes.new n }
-    ensures damaged { (disk : ℕ → List ℕ) (settled : ℕ → Inode) (v : Volume)
-        → Stands B.Blocks disk settled v blocks.old inodes.old
-        → IsErrOf result ReadError.Damaged → ⊥ }
+    requires { IsNumber inodes.old.geometry.inodes number }
+    ensures { Brings B.Blocks blocks.old blocks.new inodes.old inodes.new
+        (λ s. IsAtHand s number) result }
 {
     load(alloc, inodes, blocks, number)?;
     inodes.prepare_set(number)?;

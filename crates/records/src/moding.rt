@@ -1,22 +1,20 @@
 //! Records that change a mode.
 
-ghost use Rattle.std.specs.Prelude.{◌≡◌, ◌≤◌, ◌<◌, ◌||◌, ℕ, List, IfOk, IfSome, IfNone, IsErrOf};
+ghost use Rattle.std.specs.Prelude.{◌≡◌, ◌||◌, ℕ, List};
 ghost use Rattle.layout.specs.declared.inode.Inode.{Inode};
-ghost use Rattle.model.specs.Records.{Applies, change_mode};
-ghost use Rattle.model.specs.Volumes.{Volume, IsVolume, is_directory_node, is_file_node};
-ghost use Rattle.blocktree.specs.Errors.{IsFault};
+ghost use Rattle.model.specs.Records.{change_mode};
+ghost use Rattle.model.specs.Volumes.{Volume, is_directory_node, is_file_node};
 ghost use Rattle.inofile.specs.Inodes.{IsKnown};
 ghost use Rattle.inofile.specs.Volumes.{IsVolumeOf};
-ghost use Rattle.records.specs.Prepared.{IsReady, Does};
-ghost use Rattle.paths.specs.Standing.{Looks, Stands};
+ghost use Rattle.records.specs.Preparing.{PreparesRecord};
 
 use crate::Prepared;
-use crate::loading::load_to_change;
+use crate::loading::{is_number, load_to_change};
 use crate::steps::{Step, Update};
 use blocktree::ReadError;
 use buffers::Blocks;
 use inofile::InodeFile;
-use layout::{Kind, ROOT_NUMBER};
+use layout::Kind;
 use model::Mode;
 use std::alloc::Global;
 
@@ -28,28 +26,12 @@ pub fn prepare_mode<B: Blocks>(
     number: u32,
     mode: Mode,
 ) -> Result<Option<Prepared>, ReadError>
-    ensures looks { Looks B.Blocks IsFault blocks.old blocks.new inodes.old inodes.new result }
-    ensures ready { IfOk result (λ p. IfSome p (IsReady inodes.new)) }
-    ensures does { (disk : ℕ → List ℕ) (settled : ℕ → Inode) (v : Volume)
-        → Stands B.Blocks disk settled v blocks.old inodes.old
-        → IfOk result (λ p. IfSome p
-        (λ x. Does disk settled inodes.new v x (change_mode number mode))) }
-    ensures applies { (disk : ℕ → List ℕ) (settled : ℕ → Inode) (v : Volume)
-        → Stands B.Blocks disk settled v blocks.old inodes.old
-        → IfOk result (λ p. IfSome p
-        (λ _. Applies inodes.old.geometry.inodes v (change_mode number mode))) }
-    ensures refused { (disk : ℕ → List ℕ) (settled : ℕ → Inode) (v : Volume)
-        → Stands B.Blocks disk settled v blocks.old inodes.old
-        → IsVolume inodes.old.geometry.inodes v
-        → IfOk result (λ p. IfNone p
-        (Applies inodes.old.geometry.inodes v (change_mode number mode) → ⊥)) }
-    ensures damaged { (disk : ℕ → List ℕ) (settled : ℕ → Inode) (v : Volume)
-        → Stands B.Blocks disk settled v blocks.old inodes.old
-        → IsErrOf result ReadError.Damaged → ⊥ }
+    ensures { PreparesRecord B.Blocks blocks.old blocks.new inodes.old inodes.new
+        (change_mode number mode) result }
 {
     // The type of a mode holds it to its bits.
     let _ = mode.bits();
-    if number < ROOT_NUMBER || number >= inodes.geometry().inodes() {
+    if !is_number(inodes, number) {
         return Ok(None);
     }
     load_to_change(alloc, inodes, blocks, number)?;

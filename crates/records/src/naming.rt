@@ -1,6 +1,6 @@
 //! Edits of the names in a directory's file.
 
-ghost use Rattle.std.specs.Prelude.{◌≡◌, ℕ, List, None, Some, IfOk, IfSome, IfNone, IsErrOf};
+ghost use Rattle.std.specs.Prelude.{ℕ, List, None, IfOk, IsErrOf};
 ghost use Rattle.layout.specs.Directory.{IsEntry, named_of};
 ghost use Rattle.layout.specs.DirectoryNames.{NameMap};
 ghost use Rattle.buffers.specs.Reads.{ReadsBlocks};
@@ -9,7 +9,9 @@ ghost use Rattle.blocktree.specs.Trees.{IsSoundAt};
 ghost use Rattle.inode.specs.Files.{IsSameFile};
 ghost use Rattle.dirs.specs.Directory.{with_name};
 ghost use Rattle.dirs.specs.Edits.{FitsIn, HasNames, IsDirectory};
-ghost use Rattle.records.specs.Entering.{HasPlace, IsNameEdit, Takes, TakesEntry, names_after};
+ghost use Rattle.records.specs.Entering.{IsNameEdit};
+ghost use Rattle.records.specs.Naming.{EditsFile};
+ghost use Rattle.records.specs.declared.naming.NameEdit.TheVariants as edits;
 
 use blocktree::ReadError;
 use buffers::Blocks;
@@ -41,21 +43,8 @@ pub(crate) fn edit_file<B: Blocks>(
     wanted: &NameEdit<'_>,
 ) -> Result<Option<Edit>, ReadError>
     requires { IsNameEdit inodes wanted.now }
-    ensures reads { ReadsBlocks B.Blocks IsFault blocks.old blocks.new result }
-    ensures same { IsSameFile file.old file.new }
-    ensures fits { IfOk result (λ e. IfSome e (FitsIn file.new)) }
-    ensures takes { (disk : ℕ → List ℕ) (names : NameMap) → B.Shows blocks.old disk
-        → IsDirectory inodes disk file.old names
-        → IfOk result (λ e. IfSome e (λ _. Takes wanted.now names)) }
-    ensures edited { (disk : ℕ → List ℕ) (names : NameMap) → B.Shows blocks.old disk
-        → IsDirectory inodes disk file.old names → IfOk result (λ e. IfSome e
-        (λ x. HasNames inodes disk file.new x (names_after wanted.now names))) }
-    ensures refused { (disk : ℕ → List ℕ) (names : NameMap) → B.Shows blocks.old disk
-        → IsDirectory inodes disk file.old names
-        → IfOk result (λ e. IfNone e (Takes wanted.now names → ⊥)) }
-    ensures damaged { (disk : ℕ → List ℕ) (names : NameMap) → B.Shows blocks.old disk
-        → IsErrOf result ReadError.Damaged → IsDirectory inodes disk file.old names
-        → ((i : ℕ) → IsSoundAt (B.count blocks.old) disk file.old.tree i) → ⊥ }
+    ensures { EditsFile (λ disk. IsDirectory inodes disk file.old) B.Blocks blocks.old blocks.new
+        inodes file.old file.new wanted.now result }
 {
     let edit = Edit::of(alloc, file);
     match wanted {
@@ -75,23 +64,10 @@ fn add_new<B: Blocks>(
     edit: Edit,
     entry: &Entry<'_>,
 ) -> Result<Option<Edit>, ReadError>
-    requires { IsEntry inodes (named_of entry.now) }
-    ensures reads { ReadsBlocks B.Blocks IsFault blocks.old blocks.new result }
-    ensures same { IsSameFile file.old file.new }
-    ensures fits { FitsIn file.old edit → IfOk result (λ e. IfSome e (FitsIn file.new)) }
-    ensures takes { (disk : ℕ → List ℕ) (names : NameMap) → B.Shows blocks.old disk
-        → HasNames inodes disk file.old edit names
-        → IfOk result (λ e. IfSome e (λ _. TakesEntry names entry.now.name.now)) }
-    ensures edited { (disk : ℕ → List ℕ) (names : NameMap) → B.Shows blocks.old disk
-        → HasNames inodes disk file.old edit names
-        → IfOk result (λ e. IfSome e (λ x. HasNames inodes disk file.new x
-        (with_name entry.now.name.now (Some entry.now.number) names))) }
-    ensures refused { (disk : ℕ → List ℕ) (names : NameMap) → B.Shows blocks.old disk
-        → HasNames inodes disk file.old edit names
-        → IfOk result (λ e. IfNone e (TakesEntry names entry.now.name.now → ⊥)) }
-    ensures damaged { (disk : ℕ → List ℕ) (names : NameMap) → B.Shows blocks.old disk
-        → IsErrOf result ReadError.Damaged → HasNames inodes disk file.old edit names
-        → ((i : ℕ) → IsSoundAt (B.count blocks.old) disk file.old.tree i) → ⊥ }
+    requires entry { IsEntry inodes (named_of entry.now) }
+    requires fits { FitsIn file.old edit }
+    ensures { EditsFile (λ disk. HasNames inodes disk file.old edit) B.Blocks blocks.old blocks.new
+        inodes file.old file.new (NameEdit.Add entry.now) result }
 {
     let found = edit.find(file, blocks, inodes, entry.name)?;
     if found.is_some() {
@@ -109,16 +85,9 @@ fn remove_one<B: Blocks>(
     edit: Edit,
     name: &[u8],
 ) -> Result<Option<Edit>, ReadError>
-    ensures reads { ReadsBlocks B.Blocks IsFault blocks.old blocks.new result }
-    ensures same { IsSameFile file.old file.new }
-    ensures some { IfOk result (λ e. IfNone e ⊥) }
-    ensures fits { FitsIn file.old edit → IfOk result (λ e. IfSome e (FitsIn file.new)) }
-    ensures edited { (disk : ℕ → List ℕ) (names : NameMap) → B.Shows blocks.old disk
-        → HasNames inodes disk file.old edit names → IfOk result (λ e. IfSome e
-        (λ x. HasNames inodes disk file.new x (with_name name.now None names))) }
-    ensures damaged { (disk : ℕ → List ℕ) (names : NameMap) → B.Shows blocks.old disk
-        → IsErrOf result ReadError.Damaged → HasNames inodes disk file.old edit names
-        → ((i : ℕ) → IsSoundAt (B.count blocks.old) disk file.old.tree i) → ⊥ }
+    requires fits { FitsIn file.old edit }
+    ensures { EditsFile (λ disk. HasNames inodes disk file.old edit) B.Blocks blocks.old blocks.new
+        inodes file.old file.new (edits.Remove name.entry) result }
 {
     let edit = remove_in(alloc, file, blocks, inodes, edit, name)?;
     Ok(Some(edit))
@@ -133,23 +102,10 @@ fn replace_in<B: Blocks>(
     edit: Edit,
     entry: &Entry<'_>,
 ) -> Result<Option<Edit>, ReadError>
-    requires { IsEntry inodes (named_of entry.now) }
-    ensures reads { ReadsBlocks B.Blocks IsFault blocks.old blocks.new result }
-    ensures same { IsSameFile file.old file.new }
-    ensures fits { FitsIn file.old edit → IfOk result (λ e. IfSome e (FitsIn file.new)) }
-    ensures takes { (disk : ℕ → List ℕ) (names : NameMap) → B.Shows blocks.old disk
-        → HasNames inodes disk file.old edit names → IfOk result (λ e. IfSome e
-        (λ _. HasPlace (with_name entry.now.name.now None names))) }
-    ensures edited { (disk : ℕ → List ℕ) (names : NameMap) → B.Shows blocks.old disk
-        → HasNames inodes disk file.old edit names
-        → IfOk result (λ e. IfSome e (λ x. HasNames inodes disk file.new x
-        (with_name entry.now.name.now (Some entry.now.number) names))) }
-    ensures refused { (disk : ℕ → List ℕ) (names : NameMap) → B.Shows blocks.old disk
-        → HasNames inodes disk file.old edit names → IfOk result (λ e. IfNone e
-        (HasPlace (with_name entry.now.name.now None names) → ⊥)) }
-    ensures damaged { (disk : ℕ → List ℕ) (names : NameMap) → B.Shows blocks.old disk
-        → IsErrOf result ReadError.Damaged → HasNames inodes disk file.old edit names
-        → ((i : ℕ) → IsSoundAt (B.count blocks.old) disk file.old.tree i) → ⊥ }
+    requires entry { IsEntry inodes (named_of entry.now) }
+    requires fits { FitsIn file.old edit }
+    ensures { EditsFile (λ disk. HasNames inodes disk file.old edit) B.Blocks blocks.old blocks.new
+        inodes file.old file.new (NameEdit.Replace entry.now) result }
 {
     let edit = remove_in(alloc, file, blocks, inodes, edit, entry.name)?;
     add_in(alloc, file, blocks, inodes, edit, entry)
@@ -165,30 +121,17 @@ fn move_in<B: Blocks>(
     old: &[u8],
     entry: &Entry<'_>,
 ) -> Result<Option<Edit>, ReadError>
-    requires { IsEntry inodes (named_of entry.now) }
-    ensures reads { ReadsBlocks B.Blocks IsFault blocks.old blocks.new result }
-    ensures same { IsSameFile file.old file.new }
-    ensures fits { FitsIn file.old edit → IfOk result (λ e. IfSome e (FitsIn file.new)) }
-    ensures takes { (disk : ℕ → List ℕ) (names : NameMap) → B.Shows blocks.old disk
-        → HasNames inodes disk file.old edit names → IfOk result (λ e. IfSome e
-        (λ _. HasPlace (with_name old.now None (with_name entry.now.name.now None names)))) }
-    ensures edited { (disk : ℕ → List ℕ) (names : NameMap) → B.Shows blocks.old disk
-        → HasNames inodes disk file.old edit names
-        → IfOk result (λ e. IfSome e (λ x. HasNames inodes disk file.new x
-        (with_name entry.now.name.now (Some entry.now.number) (with_name old.now None names)))) }
-    ensures refused { (disk : ℕ → List ℕ) (names : NameMap) → B.Shows blocks.old disk
-        → HasNames inodes disk file.old edit names → IfOk result (λ e. IfNone e
-        (HasPlace (with_name old.now None (with_name entry.now.name.now None names)) → ⊥)) }
-    ensures damaged { (disk : ℕ → List ℕ) (names : NameMap) → B.Shows blocks.old disk
-        → IsErrOf result ReadError.Damaged → HasNames inodes disk file.old edit names
-        → ((i : ℕ) → IsSoundAt (B.count blocks.old) disk file.old.tree i) → ⊥ }
+    requires entry { IsEntry inodes (named_of entry.now) }
+    requires fits { FitsIn file.old edit }
+    ensures { EditsFile (λ disk. HasNames inodes disk file.old edit) B.Blocks blocks.old blocks.new
+        inodes file.old file.new (edits.Move old.entry entry.now) result }
 {
-    let edit = remove_in(alloc, file, blocks, inodes, edit, entry.name)?;
     let edit = remove_in(alloc, file, blocks, inodes, edit, old)?;
+    let edit = remove_in(alloc, file, blocks, inodes, edit, entry.name)?;
     add_in(alloc, file, blocks, inodes, edit, entry)
 }
 
-// One more name in an edit that doesn't have it; None where there is no place for it.
+// One more name in an edit of names without it; None where there is no place for it.
 fn add_in<B: Blocks>(
     alloc: Global,
     file: &mut File,
@@ -197,23 +140,11 @@ fn add_in<B: Blocks>(
     edit: Edit,
     entry: &Entry<'_>,
 ) -> Result<Option<Edit>, ReadError>
-    requires { IsEntry inodes (named_of entry.now) }
-    ensures reads { ReadsBlocks B.Blocks IsFault blocks.old blocks.new result }
-    ensures same { IsSameFile file.old file.new }
-    ensures fits { FitsIn file.old edit → IfOk result (λ e. IfSome e (FitsIn file.new)) }
-    ensures takes { (disk : ℕ → List ℕ) (names : NameMap) → B.Shows blocks.old disk
-        → HasNames inodes disk file.old edit names
-        → IfOk result (λ e. IfSome e (λ _. HasPlace names)) }
-    ensures edited { (disk : ℕ → List ℕ) (names : NameMap) → B.Shows blocks.old disk
-        → HasNames inodes disk file.old edit names → names entry.now.name.now ≡ None
-        → IfOk result (λ e. IfSome e (λ x. HasNames inodes disk file.new x
-        (with_name entry.now.name.now (Some entry.now.number) names))) }
-    ensures refused { (disk : ℕ → List ℕ) (names : NameMap) → B.Shows blocks.old disk
-        → HasNames inodes disk file.old edit names
-        → IfOk result (λ e. IfNone e (HasPlace names → ⊥)) }
-    ensures damaged { (disk : ℕ → List ℕ) (names : NameMap) → B.Shows blocks.old disk
-        → IsErrOf result ReadError.Damaged → HasNames inodes disk file.old edit names
-        → ((i : ℕ) → IsSoundAt (B.count blocks.old) disk file.old.tree i) → ⊥ }
+    requires entry { IsEntry inodes (named_of entry.now) }
+    requires fits { FitsIn file.old edit }
+    ensures { EditsFile (λ disk names. HasNames inodes disk file.old edit
+        (with_name entry.now.name.now None names)) B.Blocks blocks.old blocks.new
+        inodes file.old file.new (NameEdit.Replace entry.now) result }
 {
     let mut edit = edit;
     match edit.prepare_add(alloc, file, blocks, inodes, entry) {
@@ -234,9 +165,10 @@ fn remove_in<B: Blocks>(
     edit: Edit,
     name: &[u8],
 ) -> Result<Edit, ReadError>
+    requires { FitsIn file.old edit }
     ensures reads { ReadsBlocks B.Blocks IsFault blocks.old blocks.new result }
     ensures same { IsSameFile file.old file.new }
-    ensures fits { FitsIn file.old edit → IfOk result (FitsIn file.new) }
+    ensures fits { IfOk result (FitsIn file.new) }
     ensures edited { (disk : ℕ → List ℕ) (names : NameMap) → B.Shows blocks.old disk
         → HasNames inodes disk file.old edit names → IfOk result
         (λ x. HasNames inodes disk file.new x (with_name name.now None names)) }

@@ -1,21 +1,23 @@
 //! Records, prepared and committed.
 
-ghost use Rattle.std.specs.Prelude.{◌≡◌, ◌≤◌, ◌<◌, ℕ, List, Some, IfOk, IfSome, IfNone, IsErrOf, IsTrue};
+ghost use Rattle.std.specs.Prelude.{◌≡◌, ◌≤◌, ◌<◌, ℕ, List, Some, IfOk, IfSome, IfNone, IsTrue};
 ghost use Rattle.layout.specs.Record.{change_of, made_of};
 ghost use Rattle.layout.specs.declared.inode.Inode.{Inode};
 ghost use Rattle.model.specs.Paths.{IsName};
-ghost use Rattle.model.specs.Records.{Applies, Change, Made, TakesName, applied, create, is_vacant, node_of};
+ghost use Rattle.model.specs.Records.{Change, Made, TakesName, applied, create, is_vacant, node_of};
 ghost use Rattle.model.specs.Volumes.{Volume, IsVolume};
 ghost use Rattle.blocktree.specs.Errors.{IsFault};
 ghost use Rattle.inofile.specs.Objects.{IsObject};
 ghost use Rattle.inofile.specs.Volumes.{IsVolumeOf};
-ghost use Rattle.records.specs.Prepared.{AreAtHand, IsReady, Does};
-ghost use Rattle.records.specs.Served.{IsServed};
 ghost use Rattle.paths.specs.Standing.{Looks, Stands};
+ghost use Rattle.records.specs.Prepared.{AreAtHand, IsReady, Does};
+ghost use Rattle.records.specs.Preparing.{PreparesRecord};
+ghost use Rattle.records.specs.Shown.{NeverDamaged, OnVolumes};
 
 use crate::contents::{Rewrite, prepare_bytes};
 use crate::entering::edit_parent;
 use crate::links::prepare_link;
+use crate::loading::{is_number, load_to_change};
 use crate::moding::prepare_mode;
 use crate::naming::NameEdit;
 use crate::renaming::prepare_rename;
@@ -46,25 +48,8 @@ pub fn prepare<B: Blocks>(
     blocks: &mut B,
     logged: &Record<'_>,
 ) -> Result<Option<Prepared>, ReadError>
-    requires { IsServed (change_of logged.now) }
-    ensures looks { Looks B.Blocks IsFault blocks.old blocks.new inodes.old inodes.new result }
-    ensures ready { IfOk result (λ p. IfSome p (IsReady inodes.new)) }
-    ensures does { (disk : ℕ → List ℕ) (settled : ℕ → Inode) (v : Volume)
-        → Stands B.Blocks disk settled v blocks.old inodes.old
-        → IfOk result (λ p. IfSome p
-        (λ x. Does disk settled inodes.new v x (change_of logged.now))) }
-    ensures applies { (disk : ℕ → List ℕ) (settled : ℕ → Inode) (v : Volume)
-        → Stands B.Blocks disk settled v blocks.old inodes.old
-        → IfOk result (λ p. IfSome p
-        (λ _. Applies inodes.old.geometry.inodes v (change_of logged.now))) }
-    ensures refused { (disk : ℕ → List ℕ) (settled : ℕ → Inode) (v : Volume)
-        → Stands B.Blocks disk settled v blocks.old inodes.old
-        → IsVolume inodes.old.geometry.inodes v
-        → IfOk result (λ p. IfNone p
-        (Applies inodes.old.geometry.inodes v (change_of logged.now) → ⊥)) }
-    ensures damaged { (disk : ℕ → List ℕ) (settled : ℕ → Inode) (v : Volume)
-        → Stands B.Blocks disk settled v blocks.old inodes.old
-        → IsErrOf result ReadError.Damaged → ⊥ }
+    ensures { PreparesRecord B.Blocks blocks.old blocks.new inodes.old inodes.new
+        (change_of logged.now) result }
 {
     match logged {
         Record::Create {
@@ -121,24 +106,8 @@ fn prepare_create<B: Blocks>(
     name: &[u8],
     object: &NewObject<'_>,
 ) -> Result<Option<Prepared>, ReadError>
-    ensures looks { Looks B.Blocks IsFault blocks.old blocks.new inodes.old inodes.new result }
-    ensures ready { IfOk result (λ p. IfSome p (IsReady inodes.new)) }
-    ensures does { (disk : ℕ → List ℕ) (settled : ℕ → Inode) (v : Volume)
-        → Stands B.Blocks disk settled v blocks.old inodes.old
-        → IfOk result (λ p. IfSome p
-        (λ x. Does disk settled inodes.new v x (create number parent (made_of object.now) name.now))) }
-    ensures applies { (disk : ℕ → List ℕ) (settled : ℕ → Inode) (v : Volume)
-        → Stands B.Blocks disk settled v blocks.old inodes.old
-        → IfOk result (λ p. IfSome p (λ _. Applies inodes.old.geometry.inodes v
-        (create number parent (made_of object.now) name.now))) }
-    ensures refused { (disk : ℕ → List ℕ) (settled : ℕ → Inode) (v : Volume)
-        → Stands B.Blocks disk settled v blocks.old inodes.old
-        → IsVolume inodes.old.geometry.inodes v
-        → IfOk result (λ p. IfNone p (Applies inodes.old.geometry.inodes v
-        (create number parent (made_of object.now) name.now) → ⊥)) }
-    ensures damaged { (disk : ℕ → List ℕ) (settled : ℕ → Inode) (v : Volume)
-        → Stands B.Blocks disk settled v blocks.old inodes.old
-        → IsErrOf result ReadError.Damaged → ⊥ }
+    ensures { PreparesRecord B.Blocks blocks.old blocks.new inodes.old inodes.new
+        (create number parent (made_of object.now) name.now) result }
 {
     let n = number.get();
     if n < FIRST_NUMBER || n >= inodes.geometry().inodes() {
@@ -176,22 +145,21 @@ pub fn prepare_new<B: Blocks>(
         → IfOk result (λ p. IfSome p
         (λ x. Does disk settled inodes.new v x (create number parent made name.now))) }
     ensures named { IfOk result (λ p. IfSome p (λ _. IsName name.now)) }
-    ensures takes { (disk : ℕ → List ℕ) (settled : ℕ → Inode) (v : Volume)
-        → Stands B.Blocks disk settled v blocks.old inodes.old
-        → IfOk result (λ p. IfSome p (λ _. TakesName v parent name.now)) }
-    ensures refused { (disk : ℕ → List ℕ) (settled : ℕ → Inode) (v : Volume)
-        → Stands B.Blocks disk settled v blocks.old inodes.old
-        → IsVolume inodes.old.geometry.inodes v
-        → IfOk result (λ p. IfNone p (TakesName v parent name.now → ⊥)) }
-    ensures damaged { (disk : ℕ → List ℕ) (settled : ℕ → Inode) (v : Volume)
-        → Stands B.Blocks disk settled v blocks.old inodes.old
-        → IsErrOf result ReadError.Damaged → ⊥ }
+    ensures takes { OnVolumes B.Blocks blocks.old inodes.old (λ disk settled v.
+        IfOk result (λ p. IfSome p (λ _. TakesName v parent name.now))) }
+    ensures refused { OnVolumes B.Blocks blocks.old inodes.old (λ disk settled v.
+        IsVolume inodes.old.geometry.inodes v
+        → IfOk result (λ p. IfNone p (TakesName v parent name.now → ⊥))) }
+    ensures damaged { NeverDamaged B.Blocks blocks.old inodes.old result }
 {
     let entry = Entry { number, name };
     if !entry.fits(inodes.geometry().inodes()) {
         return Ok(None);
     }
-    inodes.prepare_set(number.get())?;
+    if !is_number(inodes, parent) {
+        return Ok(None);
+    }
+    load_to_change(alloc, inodes, blocks, number.get())?;
     let planned = edit_parent(alloc, inodes, blocks, parent, &NameEdit::Add(entry))?;
     let Some(edit) = planned else {
         return Ok(None);

@@ -1,16 +1,14 @@
 //! Reading the file with a number, which a descriptor or a path leads to.
 
 ghost use Rattle.std.specs.Prelude.{◌≡◌, ℕ, List, IfOk, IsErrOf};
-ghost use Rattle.layout.specs.declared.inode.Inode.{Inode};
 ghost use Rattle.model.specs.Edits.{read_at};
-ghost use Rattle.model.specs.Volumes.{Volume};
 ghost use Rattle.buffers.specs.Reads.{ReadsBlocks};
 ghost use Rattle.blocktree.specs.Errors.{IsFault};
 ghost use Rattle.blocktree.specs.Trees.{IsSoundAt};
 ghost use Rattle.inode.specs.Files.{bytes_of};
 ghost use Rattle.paths.specs.Numbers.{IsNumber};
+ghost use Rattle.records.specs.Looking.{Finds};
 ghost use Rattle.records.specs.Reading.{ReadsNumber};
-ghost use Rattle.paths.specs.Standing.{Looks, Stands};
 
 use crate::loading::load;
 use blocktree::ReadError;
@@ -32,13 +30,8 @@ pub fn read_bytes<B: Blocks>(
     count: u32,
 ) -> Result<Option<Text>, ReadError>
     requires { IsNumber inodes.old.geometry.inodes number }
-    ensures looks { Looks B.Blocks IsFault blocks.old blocks.new inodes.old inodes.new result }
-    ensures read { (disk : ℕ → List ℕ) (settled : ℕ → Inode) (v : Volume)
-        → Stands B.Blocks disk settled v blocks.old inodes.old
-        → IfOk result (ReadsNumber v number offset count) }
-    ensures damaged { (disk : ℕ → List ℕ) (settled : ℕ → Inode) (v : Volume)
-        → Stands B.Blocks disk settled v blocks.old inodes.old
-        → IsErrOf result ReadError.Damaged → ⊥ }
+    ensures { Finds B.Blocks blocks.old blocks.new inodes.old inodes.new
+        (λ disk settled v. ReadsNumber v number offset count) result }
 {
     objects_stand_in_their_grammar();
     load(alloc, inodes, blocks, number)?;

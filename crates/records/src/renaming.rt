@@ -1,26 +1,25 @@
 //! Records that move a name.
 
-ghost use Rattle.std.specs.Prelude.{◌≡◌, ◌≢◌, ◌≤◌, ◌<◌, ℕ, List, Option, None, Some, IsTrue, IfOk, IfSome, IfNone, IsErrOf};
+ghost use Rattle.std.specs.Prelude.{◌≡◌, ◌≢◌, ℕ, List, Option, None, Some, IsTrue, IfOk, IfSome, IfNone};
 ghost use Rattle.layout.specs.Directory.{IsEntry, named_of};
-ghost use Rattle.layout.specs.declared.inode.Inode.{Inode};
-ghost use Rattle.model.specs.Records.{Applies, IsBelow, rename};
-ghost use Rattle.model.specs.Volumes.{Volume, IsVolume, entries, is_directory_node};
-ghost use Rattle.model.specs.declared.limits.TheConstants.{ROOT_NUMBER};
-ghost use Rattle.blocktree.specs.Errors.{IsFault};
+ghost use Rattle.model.specs.Records.{IsBelow, rename};
+ghost use Rattle.model.specs.Volumes.{entries, is_directory_node};
 ghost use Rattle.dirs.specs.Directory.{with_name};
-ghost use Rattle.inofile.specs.Inodes.{HasRoomFor, IsKnown, loaded};
+ghost use Rattle.inofile.specs.Inodes.{loaded};
 ghost use Rattle.paths.specs.Numbers.{IsNumber};
-ghost use Rattle.paths.specs.Standing.{Looks, Stands};
-ghost use Rattle.records.specs.Entering.{Accepts, CanEdit, EditsIn, IsNameEdit, names_after};
-ghost use Rattle.records.specs.Moving.{IsSomeAlone, MayReplace, Moves, TakesName};
-ghost use Rattle.records.specs.Prepared.{IsReady, Does};
-ghost use Rattle.records.specs.Steps.{IsAlone, TakesSome, TakesStep};
+ghost use Rattle.paths.specs.Standing.{Stands};
+ghost use Rattle.records.specs.Entering.{Accepts, EditsIn, IsNameEdit, PreparesEdit};
+ghost use Rattle.records.specs.Looking.{Finds};
+ghost use Rattle.records.specs.Moving.{IsOutside, IsSomeAlone, Moves, ReplacesBy};
+ghost use Rattle.records.specs.Preparing.{PreparesOn, PreparesRecord};
+ghost use Rattle.records.specs.Steps.{IsAlone, IsAtHand, IsSomeAtHand, TakesUpdate};
+ghost use Rattle.records.specs.declared.steps.Update.TheVariants as updates;
 
 use crate::Prepared;
 use crate::below::is_below;
 use crate::entering::{edit_known, edit_parent};
 use crate::kinds::kind_at;
-use crate::loading::load_to_change;
+use crate::loading::{is_number, load_to_change};
 use crate::naming::NameEdit;
 use crate::steps::{Step, Update};
 use crate::unnaming::{number_in, release};
@@ -28,13 +27,13 @@ use blocktree::ReadError;
 use buffers::Blocks;
 use dirs::Edit;
 use inofile::InodeFile;
-use layout::{Entry, InodeNumber, ROOT_NUMBER};
+use layout::{Entry, InodeNumber};
 use paths::Found;
 use std::alloc::Global;
 
 /// Prepares that what has a name gets the new one in its place, and that what had the new name has it no more; None where the
 /// name isn't there, where the object would come below itself, or where it can't have the new name.
-pub fn prepare_rename<'n, B: Blocks>(
+pub(crate) fn prepare_rename<'n, B: Blocks>(
     alloc: Global,
     inodes: &mut InodeFile,
     blocks: &mut B,
@@ -43,90 +42,92 @@ pub fn prepare_rename<'n, B: Blocks>(
     new_parent: u32,
     new_name: &'n [u8],
 ) -> Result<Option<Prepared>, ReadError>
-    ensures looks { Looks B.Blocks IsFault blocks.old blocks.new inodes.old inodes.new result }
-    ensures ready { IfOk result (λ p. IfSome p (IsReady inodes.new)) }
-    ensures does { (disk : ℕ → List ℕ) (settled : ℕ → Inode) (v : Volume)
-        → Stands B.Blocks disk settled v blocks.old inodes.old
-        → IfOk result (λ p. IfSome p (λ x. Does disk settled inodes.new v x
-        (rename parent name.now new_parent new_name.now))) }
-    ensures applies { (disk : ℕ → List ℕ) (settled : ℕ → Inode) (v : Volume)
-        → Stands B.Blocks disk settled v blocks.old inodes.old
-        → IfOk result (λ p. IfSome p (λ _. Applies inodes.old.geometry.inodes v
-        (rename parent name.now new_parent new_name.now))) }
-    ensures refused { (disk : ℕ → List ℕ) (settled : ℕ → Inode) (v : Volume)
-        → Stands B.Blocks disk settled v blocks.old inodes.old
-        → IsVolume inodes.old.geometry.inodes v
-        → IfOk result (λ p. IfNone p (Applies inodes.old.geometry.inodes v
-        (rename parent name.now new_parent new_name.now) → ⊥)) }
-    ensures damaged { (disk : ℕ → List ℕ) (settled : ℕ → Inode) (v : Volume)
-        → Stands B.Blocks disk settled v blocks.old inodes.old
-        → IsErrOf result ReadError.Damaged → ⊥ }
+    ensures { PreparesRecord B.Blocks blocks.old blocks.new inodes.old inodes.new
+        (rename parent name.now new_parent new_name.now) result }
 {
-    let count = inodes.geometry().inodes();
-    if parent < ROOT_NUMBER || parent >= count || new_parent < ROOT_NUMBER || new_parent >= count {
+    if !is_number(inodes, parent) {
+        return Ok(None);
+    }
+    if !is_number(inodes, new_parent) {
         return Ok(None);
     }
     let found = number_in(alloc, inodes, blocks, parent, name)?;
     let Some(number) = found else {
         return Ok(None);
     };
-    let entry = Entry {
-        number: InodeNumber::new(number),
-        name: new_name,
-    };
-    if !entry.fits(count) {
-        return Ok(None);
-    }
     let below = is_below(alloc, inodes, blocks, number, new_parent)?;
     if below {
         return Ok(None);
     }
-    prepare_move(alloc, inodes, blocks, parent, name, new_parent, &entry)
+    move_found(
+        alloc, inodes, blocks, parent, name, number, new_parent, new_name,
+    )
 }
 
-// The same of an object that has the name, where the new parent doesn't lie below it.
-fn prepare_move<'n, B: Blocks>(
+/// The same where it is known that the new parent doesn't lie below the object, as the walk to it tells: nothing further is looked
+/// at for it.
+pub fn prepare_move<'n, B: Blocks>(
     alloc: Global,
     inodes: &mut InodeFile,
     blocks: &mut B,
     parent: u32,
     name: &'n [u8],
     new_parent: u32,
-    entry: &Entry<'n>,
+    new_name: &'n [u8],
 ) -> Result<Option<Prepared>, ReadError>
     requires parent { IsNumber inodes.old.geometry.inodes parent }
     requires new_parent { IsNumber inodes.old.geometry.inodes new_parent }
-    requires entry { IsEntry inodes.old.geometry.inodes (named_of entry.now) }
-    ensures looks { Looks B.Blocks IsFault blocks.old blocks.new inodes.old inodes.new result }
-    ensures ready { IfOk result (λ p. IfSome p (IsReady inodes.new)) }
-    ensures does { (disk : ℕ → List ℕ) (settled : ℕ → Inode) (v : Volume)
-        → Stands B.Blocks disk settled v blocks.old inodes.old
-        → entries v parent name.now ≡ Some entry.now.number
-        → (IsBelow (entries v) entry.now.number new_parent → ⊥)
-        → IfOk result (λ p. IfSome p (λ x. Does disk settled inodes.new v x
-        (rename parent name.now new_parent entry.now.name.now))) }
-    ensures applies { (disk : ℕ → List ℕ) (settled : ℕ → Inode) (v : Volume)
-        → Stands B.Blocks disk settled v blocks.old inodes.old
-        → entries v parent name.now ≡ Some entry.now.number
-        → (IsBelow (entries v) entry.now.number new_parent → ⊥)
-        → IfOk result (λ p. IfSome p (λ _. Applies inodes.old.geometry.inodes v
-        (rename parent name.now new_parent entry.now.name.now))) }
-    ensures refused { (disk : ℕ → List ℕ) (settled : ℕ → Inode) (v : Volume)
-        → Stands B.Blocks disk settled v blocks.old inodes.old
-        → IsVolume inodes.old.geometry.inodes v
-        → entries v parent name.now ≡ Some entry.now.number
-        → (IsBelow (entries v) entry.now.number new_parent → ⊥)
-        → IfOk result (λ p. IfNone p (Applies inodes.old.geometry.inodes v
-        (rename parent name.now new_parent entry.now.name.now) → ⊥)) }
-    ensures damaged { (disk : ℕ → List ℕ) (settled : ℕ → Inode) (v : Volume)
-        → Stands B.Blocks disk settled v blocks.old inodes.old
-        → IsErrOf result ReadError.Damaged → ⊥ }
+    ensures { PreparesOn (λ disk settled v. Stands B.Blocks disk settled v blocks.old inodes.old)
+        (λ disk settled v. Stands B.Blocks disk settled v blocks.old inodes.old
+        × IsOutside v parent name.now new_parent) B.Blocks blocks.old blocks.new inodes.old inodes.new
+        (rename parent name.now new_parent new_name.now) result }
 {
-    let target = number_in(alloc, inodes, blocks, new_parent, entry.name)?;
-    let Some(other) = target else {
-        return place(alloc, inodes, blocks, parent, name, new_parent, entry, None);
+    let found = number_in(alloc, inodes, blocks, parent, name)?;
+    let Some(number) = found else {
+        return Ok(None);
     };
-    let replaced = replace(alloc, inodes, blocks, entry.number.get(), other)?;
+    move_found(
+        alloc, inodes, blocks, parent, name, number, new_parent, new_name,
+    )
+}
+
+// The same of the object that has the name.
+#[allow(clippy::too_many_arguments)]
+fn move_found<'n, B: Blocks>(
+    alloc: Global,
+    inodes: &mut InodeFile,
+    blocks: &mut B,
+    parent: u32,
+    name: &'n [u8],
+    number: u32,
+    new_parent: u32,
+    new_name: &'n [u8],
+) -> Result<Option<Prepared>, ReadError>
+    requires parent { IsNumber inodes.old.geometry.inodes parent }
+    requires number { IsNumber inodes.old.geometry.inodes number }
+    requires new_parent { IsNumber inodes.old.geometry.inodes new_parent }
+    ensures { PreparesOn (λ disk settled v. Stands B.Blocks disk settled v blocks.old inodes.old
+        × (entries v parent name.now ≡ Some number))
+        (λ disk settled v. Stands B.Blocks disk settled v blocks.old inodes.old
+        × (entries v parent name.now ≡ Some number)
+        × (IsBelow (entries v) number new_parent → ⊥))
+        B.Blocks blocks.old blocks.new inodes.old inodes.new
+        (rename parent name.now new_parent new_name.now) result }
+{
+    let entry = Entry {
+        number: InodeNumber::new(number),
+        name: new_name,
+    };
+    if !entry.fits(inodes.geometry().inodes()) {
+        return Ok(None);
+    }
+    let target = number_in(alloc, inodes, blocks, new_parent, new_name)?;
+    let Some(other) = target else {
+        return place(
+            alloc, inodes, blocks, parent, name, new_parent, &entry, None,
+        );
+    };
+    let replaced = replace(alloc, inodes, blocks, number, other)?;
     let Some(step) = replaced else {
         return Ok(None);
     };
@@ -137,7 +138,7 @@ fn prepare_move<'n, B: Blocks>(
         parent,
         name,
         new_parent,
-        entry,
+        &entry,
         Some(step),
     )
 }
@@ -153,22 +154,10 @@ fn replace<B: Blocks>(
 ) -> Result<Option<Step>, ReadError>
     requires number { IsNumber inodes.old.geometry.inodes number }
     requires other { IsNumber inodes.old.geometry.inodes other }
-    ensures looks { Looks B.Blocks IsFault blocks.old blocks.new inodes.old inodes.new result }
-    ensures takes { IfOk result (λ s. IfSome s (TakesStep inodes.new)) }
-    ensures alone { IfOk result (λ s. IfSome s (λ x. IsAlone x.update)) }
-    ensures number { IfOk result (λ s. IfSome s (λ x. x.number ≡ other)) }
-    ensures updates { (disk : ℕ → List ℕ) (settled : ℕ → Inode) (v : Volume)
-        → Stands B.Blocks disk settled v blocks.old inodes.old
-        → IfOk result (λ s. IfSome s (λ x. TakesName disk settled v other x.update)) }
-    ensures allowed { (disk : ℕ → List ℕ) (settled : ℕ → Inode) (v : Volume)
-        → Stands B.Blocks disk settled v blocks.old inodes.old
-        → IfOk result (λ s. IfSome s (λ _. MayReplace v number other)) }
-    ensures refused { (disk : ℕ → List ℕ) (settled : ℕ → Inode) (v : Volume)
-        → Stands B.Blocks disk settled v blocks.old inodes.old
-        → IfOk result (λ s. IfNone s (MayReplace v number other → ⊥)) }
-    ensures damaged { (disk : ℕ → List ℕ) (settled : ℕ → Inode) (v : Volume)
-        → Stands B.Blocks disk settled v blocks.old inodes.old
-        → IsErrOf result ReadError.Damaged → ⊥ }
+    ensures replaced { Finds B.Blocks blocks.old blocks.new inodes.old inodes.new
+        (λ disk settled v. ReplacesBy disk settled v number other) result }
+    ensures ready { IfOk result
+        (λ s. IfSome s (λ x. IsAlone x.update × IsAtHand inodes.new x.number)) }
 {
     if other == number {
         return Ok(None);
@@ -196,13 +185,8 @@ pub fn is_directory_at<B: Blocks>(
     number: u32,
 ) -> Result<bool, ReadError>
     requires { IsNumber inodes.old.geometry.inodes number }
-    ensures looks { Looks B.Blocks IsFault blocks.old blocks.new inodes.old inodes.new result }
-    ensures directory { (disk : ℕ → List ℕ) (settled : ℕ → Inode) (v : Volume)
-        → Stands B.Blocks disk settled v blocks.old inodes.old
-        → IfOk result (λ is. is ≡ is_directory_node (v number)) }
-    ensures damaged { (disk : ℕ → List ℕ) (settled : ℕ → Inode) (v : Volume)
-        → Stands B.Blocks disk settled v blocks.old inodes.old
-        → IsErrOf result ReadError.Damaged → ⊥ }
+    ensures { Finds B.Blocks blocks.old blocks.new inodes.old inodes.new
+        (λ disk settled v is. is ≡ is_directory_node (v number)) result }
 {
     let found = kind_at(alloc, inodes, blocks, number)?;
     match found {
@@ -227,29 +211,15 @@ fn place<'n, B: Blocks>(
     requires parent { IsNumber inodes.old.geometry.inodes parent }
     requires new_parent { IsNumber inodes.old.geometry.inodes new_parent }
     requires entry { IsEntry inodes.old.geometry.inodes (named_of entry.now) }
-    requires replaced { TakesSome inodes.old replaced }
+    requires at_hand { IsSomeAtHand inodes.old replaced }
     requires alone { IsSomeAlone replaced }
-    ensures looks { Looks B.Blocks IsFault blocks.old blocks.new inodes.old inodes.new result }
-    ensures ready { IfOk result (λ p. IfSome p (IsReady inodes.new)) }
-    ensures does { (disk : ℕ → List ℕ) (settled : ℕ → Inode) (v : Volume)
-        → Stands B.Blocks disk settled v blocks.old inodes.old
-        → Moves disk settled v parent name.now entry.now.number new_parent entry.now.name.now replaced
-        → IfOk result (λ p. IfSome p (λ x. Does disk settled inodes.new v x
-        (rename parent name.now new_parent entry.now.name.now))) }
-    ensures applies { (disk : ℕ → List ℕ) (settled : ℕ → Inode) (v : Volume)
-        → Stands B.Blocks disk settled v blocks.old inodes.old
-        → Moves disk settled v parent name.now entry.now.number new_parent entry.now.name.now replaced
-        → IfOk result (λ p. IfSome p (λ _. Applies inodes.old.geometry.inodes v
-        (rename parent name.now new_parent entry.now.name.now))) }
-    ensures refused { (disk : ℕ → List ℕ) (settled : ℕ → Inode) (v : Volume)
-        → Stands B.Blocks disk settled v blocks.old inodes.old
-        → IsVolume inodes.old.geometry.inodes v
-        → Moves disk settled v parent name.now entry.now.number new_parent entry.now.name.now replaced
-        → IfOk result (λ p. IfNone p (Applies inodes.old.geometry.inodes v
-        (rename parent name.now new_parent entry.now.name.now) → ⊥)) }
-    ensures damaged { (disk : ℕ → List ℕ) (settled : ℕ → Inode) (v : Volume)
-        → Stands B.Blocks disk settled v blocks.old inodes.old
-        → IsErrOf result ReadError.Damaged → ⊥ }
+    ensures { PreparesOn (λ disk settled v. Stands B.Blocks disk settled v blocks.old inodes.old
+        × Moves disk settled v parent name.now entry.now.number new_parent entry.now.name.now replaced)
+        (λ disk settled v. Stands B.Blocks disk settled v blocks.old inodes.old
+        × Moves disk settled v parent name.now entry.now.number new_parent entry.now.name.now replaced
+        × (IsBelow (entries v) entry.now.number new_parent → ⊥))
+        B.Blocks blocks.old blocks.new inodes.old inodes.new
+        (rename parent name.now new_parent entry.now.name.now) result }
 {
     if parent == new_parent {
         let wanted = NameEdit::Move(
@@ -314,29 +284,17 @@ fn edit_both<B: Blocks>(
     requires new_parent { IsNumber inodes.old.geometry.inodes new_parent }
     requires apart { parent ≢ new_parent }
     requires wanted { IsNameEdit inodes.old.geometry.inodes wanted.now }
-    ensures looks { Looks B.Blocks IsFault blocks.old blocks.new inodes.old inodes.new result }
-    ensures stays { (n : ℕ) → IsKnown inodes.old n → IsKnown inodes.new n }
-    ensures keeps { (n : ℕ) → HasRoomFor inodes.old n → HasRoomFor inodes.new n }
-    ensures first { IfOk result (λ e. IfSome e (λ x. CanEdit inodes.new new_parent x.0)) }
-    ensures second { IfOk result (λ e. IfSome e (λ x. CanEdit inodes.new parent x.1)) }
-    ensures adds { (disk : ℕ → List ℕ) (settled : ℕ → Inode) (v : Volume)
-        → Stands B.Blocks disk settled v blocks.old inodes.old
-        → IfOk result (λ e. IfSome e (λ x. EditsIn disk inodes.new.geometry.inodes
-        (names_after wanted.now) (v new_parent) (loaded inodes.new new_parent) x.0)) }
-    ensures removes { (disk : ℕ → List ℕ) (settled : ℕ → Inode) (v : Volume)
-        → Stands B.Blocks disk settled v blocks.old inodes.old
-        → IfOk result (λ e. IfSome e (λ x. EditsIn disk inodes.new.geometry.inodes
-        (with_name name.now None) (v parent) (loaded inodes.new parent) x.1)) }
-    ensures accepts { (disk : ℕ → List ℕ) (settled : ℕ → Inode) (v : Volume)
-        → Stands B.Blocks disk settled v blocks.old inodes.old
-        → IfOk result (λ e. IfSome e (λ _. Accepts wanted.now (v new_parent))) }
-    ensures refused { (disk : ℕ → List ℕ) (settled : ℕ → Inode) (v : Volume)
-        → Stands B.Blocks disk settled v blocks.old inodes.old
-        → IfOk result (λ e. IfNone e (Accepts wanted.now (v new_parent)
-        → IsTrue (is_directory_node (v parent)) → ⊥)) }
-    ensures damaged { (disk : ℕ → List ℕ) (settled : ℕ → Inode) (v : Volume)
-        → Stands B.Blocks disk settled v blocks.old inodes.old
-        → IsErrOf result ReadError.Damaged → ⊥ }
+    ensures both { Finds B.Blocks blocks.old blocks.new inodes.old inodes.new (λ disk settled v e.
+        IfSome e (λ x.
+        PreparesEdit disk inodes.new.geometry.inodes wanted.now (v new_parent)
+        (loaded inodes.new new_parent) (Some x.0)
+        × EditsIn disk inodes.new.geometry.inodes (with_name name.now None) (v parent)
+        (loaded inodes.new parent) x.1)
+        × IfNone e (Accepts wanted.now (v new_parent)
+        → IsTrue (is_directory_node (v parent)) → ⊥)) result }
+    ensures ready { IfOk result (λ e. IfSome e (λ x.
+        TakesUpdate inodes.new new_parent (updates.Names x.0)
+        × TakesUpdate inodes.new parent (updates.Names x.1))) }
 {
     load_to_change(alloc, inodes, blocks, parent)?;
     load_to_change(alloc, inodes, blocks, new_parent)?;

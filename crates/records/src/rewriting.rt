@@ -1,16 +1,16 @@
 //! Changes of the bytes of a file with a number, which a descriptor or a path leads to.
 
-ghost use Rattle.std.specs.Prelude.{◌≡◌, ◌+◌, ◌≤◌, ℕ, List, Option, IfErr, IfOk, IfSome, IsErrOf, IsTrue, length, unwrap_or, []};
-ghost use Rattle.layout.specs.declared.inode.Inode.{Inode};
+ghost use Rattle.std.specs.Prelude.{◌≡◌, ◌+◌, ◌≤◌, IfErr, IfOk, IfSome, IsTrue, length, unwrap_or, []};
 ghost use Rattle.model.specs.Records.{cut, write};
-ghost use Rattle.model.specs.Trees.{Description};
-ghost use Rattle.model.specs.Volumes.{Volume, IsMounted, IsVolume, bytes_of, is_file_node};
+ghost use Rattle.model.specs.Volumes.{bytes_of, is_file_node};
 ghost use Rattle.model.specs.declared.limits.TheConstants.{GREATEST_FILE, TRANSFER_BYTES};
 ghost use Rattle.blocktree.specs.Errors.{IsFault};
 ghost use Rattle.paths.specs.Numbers.{IsNumber};
+ghost use Rattle.paths.specs.Standing.{Looks};
+ghost use Rattle.records.specs.Looking.{Finds};
 ghost use Rattle.records.specs.Prepared.{Does, IsReady};
 ghost use Rattle.records.specs.Rewriting.{CutsBytes, PutsBytes};
-ghost use Rattle.paths.specs.Standing.{Looks, Stands};
+ghost use Rattle.records.specs.Shown.{NeverDamaged, OnMounted, OnVolumes};
 
 use crate::Prepared;
 use crate::contents::{Rewrite, prepare_bytes};
@@ -38,18 +38,13 @@ pub fn write_bytes<B: Blocks>(
     ensures within { IfOk result (λ r. IfOk r (λ p. IfSome p
         (λ _. offset + length bytes.now ≤ GREATEST_FILE))) }
     ensures ready { IfOk result (λ r. IfOk r (λ p. IfSome p (IsReady inodes.new))) }
-    ensures does { (disk : ℕ → List ℕ) (settled : ℕ → Inode) (v : Volume)
-        → Stands B.Blocks disk settled v blocks.old inodes.old
-        → IfOk result (λ r. IfOk r (λ p. IfSome p
-        (λ x. Does disk settled inodes.new v x (write number offset bytes.now)))) }
-    ensures answers { (disk : ℕ → List ℕ) (settled : ℕ → Inode) (v : Volume)
-        (table : ℕ → Option Description) → Stands B.Blocks disk settled v blocks.old inodes.old
-        → IsVolume inodes.old.geometry.inodes v → IsMounted v table
-        → IsTrue (is_file_node (v number)) → IfOk result
-        (PutsBytes inodes.old.geometry.inodes v table number offset bytes.now) }
-    ensures damaged { (disk : ℕ → List ℕ) (settled : ℕ → Inode) (v : Volume)
-        → Stands B.Blocks disk settled v blocks.old inodes.old
-        → IsErrOf result ReadError.Damaged → ⊥ }
+    ensures does { OnVolumes B.Blocks blocks.old inodes.old (λ disk settled v.
+        IfOk result (λ r. IfOk r (λ p. IfSome p
+        (λ x. Does disk settled inodes.new v x (write number offset bytes.now))))) }
+    ensures answers { OnMounted B.Blocks blocks.old inodes.old (λ v table.
+        IsTrue (is_file_node (v number)) → IfOk result
+        (PutsBytes inodes.old.geometry.inodes v table number offset bytes.now)) }
+    ensures damaged { NeverDamaged B.Blocks blocks.old inodes.old result }
 {
     records_change_trees();
     if bytes.is_empty() {
@@ -76,18 +71,12 @@ pub fn cut_bytes<B: Blocks>(
     requires within { size ≤ GREATEST_FILE }
     ensures looks { Looks B.Blocks IsFault blocks.old blocks.new inodes.old inodes.new result }
     ensures ready { IfOk result (λ p. IfSome p (IsReady inodes.new)) }
-    ensures does { (disk : ℕ → List ℕ) (settled : ℕ → Inode) (v : Volume)
-        → Stands B.Blocks disk settled v blocks.old inodes.old
-        → IfOk result (λ p. IfSome p
-        (λ x. Does disk settled inodes.new v x (cut number size))) }
-    ensures answers { (disk : ℕ → List ℕ) (settled : ℕ → Inode) (v : Volume)
-        (table : ℕ → Option Description) → Stands B.Blocks disk settled v blocks.old inodes.old
-        → IsVolume inodes.old.geometry.inodes v → IsMounted v table
-        → IsTrue (is_file_node (v number)) → IfOk result
-        (CutsBytes inodes.old.geometry.inodes v table number size) }
-    ensures damaged { (disk : ℕ → List ℕ) (settled : ℕ → Inode) (v : Volume)
-        → Stands B.Blocks disk settled v blocks.old inodes.old
-        → IsErrOf result ReadError.Damaged → ⊥ }
+    ensures does { OnVolumes B.Blocks blocks.old inodes.old (λ disk settled v.
+        IfOk result (λ p. IfSome p (λ x. Does disk settled inodes.new v x (cut number size)))) }
+    ensures answers { OnMounted B.Blocks blocks.old inodes.old (λ v table.
+        IsTrue (is_file_node (v number)) → IfOk result
+        (CutsBytes inodes.old.geometry.inodes v table number size)) }
+    ensures damaged { NeverDamaged B.Blocks blocks.old inodes.old result }
 {
     records_change_trees();
     let now = size_at(alloc, inodes, blocks, number)?;
@@ -106,13 +95,8 @@ fn size_at<B: Blocks>(
     number: u32,
 ) -> Result<u64, ReadError>
     requires { IsNumber inodes.old.geometry.inodes number }
-    ensures looks { Looks B.Blocks IsFault blocks.old blocks.new inodes.old inodes.new result }
-    ensures size { (disk : ℕ → List ℕ) (settled : ℕ → Inode) (v : Volume)
-        → Stands B.Blocks disk settled v blocks.old inodes.old → IsTrue (is_file_node (v number))
-        → IfOk result (λ n. n ≡ length (unwrap_or (bytes_of (v number)) [])) }
-    ensures damaged { (disk : ℕ → List ℕ) (settled : ℕ → Inode) (v : Volume)
-        → Stands B.Blocks disk settled v blocks.old inodes.old
-        → IsErrOf result ReadError.Damaged → ⊥ }
+    ensures { Finds B.Blocks blocks.old blocks.new inodes.old inodes.new (λ disk settled v n.
+        IsTrue (is_file_node (v number)) → n ≡ length (unwrap_or (bytes_of (v number)) [])) result }
 {
     load(alloc, inodes, blocks, number)?;
     match inodes.get(number) {

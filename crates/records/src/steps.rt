@@ -1,21 +1,18 @@
 //! Steps of a prepared change: each changes one object in memory.
 
-ghost use Rattle.std.specs.Prelude.{◌≡◌, ◌≤◌, ◌<◌, ◌≢◌, ◌||◌, ℕ, List, Option, IsTrue};
+ghost use Rattle.std.specs.Prelude.{◌≤◌, ◌||◌, ℕ, List, Option, Some, IsTrue};
 ghost use Rattle.layout.specs.declared.inode.Inode.{Inode};
 ghost use Rattle.model.specs.Records.{with_node_mode};
-ghost use Rattle.model.specs.Volumes.{Node, Volume, is_directory_node, is_file_node, with_node};
-ghost use Rattle.inofile.specs.Inodes.{HasRoomFor, IsKnown, loaded};
-ghost use Rattle.inofile.specs.Objects.{IsObjectOrNone};
-ghost use Rattle.inofile.specs.Volumes.{IsVolumeOf};
+ghost use Rattle.model.specs.Volumes.{Node, is_directory_node, is_file_node};
 ghost use Rattle.model.specs.declared.limits.TheConstants.{FILE_NAMES};
-ghost use Rattle.records.specs.Steps.{IsAtHand, IsBeside, IsSomeAtHand, Steps, StepsSome, TakesSome, TakesStep, with_links};
+ghost use Rattle.inofile.specs.Objects.{IsObjectOrNone};
+ghost use Rattle.records.specs.Steps.{Commits, FitsUpdate, TakesSome, TakesUpdate, Updates, with_links};
 
 use crate::contents::commit_bytes;
 use crate::entering::commit_edit;
 use dirs::Edit;
 use inode::{Change, Object};
 use inofile::InodeFile;
-use layout::ROOT_NUMBER;
 use model::Mode;
 
 /// What becomes of an object.
@@ -42,66 +39,43 @@ pub(crate) struct Step {
 
 /// Puts a step in force. It takes no memory and can't fail.
 pub(crate) fn commit_step(inodes: &mut InodeFile, step: Step)
-    requires { TakesStep inodes.old step }
-    ensures geometry { inodes.new.geometry ≡ inodes.old.geometry }
-    ensures keeps { (n : ℕ) → HasRoomFor inodes.old n → HasRoomFor inodes.new n }
-    ensures stays { (n : ℕ) → IsKnown inodes.old n → IsKnown inodes.new n }
-    ensures at_hand { IsAtHand inodes.new step.number }
-    ensures rest { (n : ℕ) → (n ≢ step.number) → loaded inodes.new n ≡ loaded inodes.old n }
-    ensures volume { (count : ℕ) (disk : ℕ → List ℕ) (settled : ℕ → Inode) (v w : Volume)
-        → IsVolumeOf count disk settled inodes.old v → Steps disk settled inodes.old v step w
-        → IsVolumeOf count disk settled inodes.new w }
+    requires { TakesUpdate inodes.old step.number step.update }
+    ensures { Commits inodes.old inodes.new (Some step) }
 {
     let Step { number, update } = step;
-    match update {
-        Update::Set(object) => inodes.commit_set(number, object),
-        Update::Names(edit) => commit_edit(inodes, number, edit),
-        Update::SetMode(mode) => commit_mode(inodes, number, mode),
-        Update::Bytes(change) => commit_bytes(inodes, number, change),
-        Update::Links(links) => commit_links(inodes, number, links),
-    }
+    let mut object = inodes.take(number);
+    update_object(&mut object, update);
+    inodes.commit_set(number, object);
 }
 
 /// Puts a step in force, if there is one.
 pub(crate) fn commit_some(inodes: &mut InodeFile, step: Option<Step>)
     requires { TakesSome inodes.old step }
-    ensures geometry { inodes.new.geometry ≡ inodes.old.geometry }
-    ensures keeps { (n : ℕ) → HasRoomFor inodes.old n → HasRoomFor inodes.new n }
-    ensures stays { (n : ℕ) → IsKnown inodes.old n → IsKnown inodes.new n }
-    ensures at_hand { IsSomeAtHand inodes.new step }
-    ensures rest { (n : ℕ) → IsBeside n step → loaded inodes.new n ≡ loaded inodes.old n }
-    ensures volume { (count : ℕ) (disk : ℕ → List ℕ) (settled : ℕ → Inode) (v w : Volume)
-        → IsVolumeOf count disk settled inodes.old v
-        → StepsSome disk settled inodes.old v step w
-        → IsVolumeOf count disk settled inodes.new w }
+    ensures { Commits inodes.old inodes.new step }
 {
     if let Some(step) = step {
         commit_step(inodes, step);
     }
 }
 
-// Gives the file or directory with a number another mode.
-fn commit_mode(inodes: &mut InodeFile, number: u32, mode: Mode)
-    requires low { ROOT_NUMBER ≤ number }
-    requires high { number < inodes.old.geometry.inodes }
-    requires room { HasRoomFor inodes.old number }
-    requires known { IsKnown inodes.old number }
-    ensures geometry { inodes.new.geometry ≡ inodes.old.geometry }
-    ensures keeps { (n : ℕ) → HasRoomFor inodes.old n → HasRoomFor inodes.new n }
-    ensures stays { (n : ℕ) → IsKnown inodes.old n → IsKnown inodes.new n }
-    ensures rest { (n : ℕ) → (n ≢ number) → loaded inodes.new n ≡ loaded inodes.old n }
-    ensures volume { (count : ℕ) (disk : ℕ → List ℕ) (settled : ℕ → Inode) (v : Volume)
-        → IsVolumeOf count disk settled inodes.old v
-        → IsTrue (is_file_node (v number) || is_directory_node (v number))
-        → IsVolumeOf count disk settled inodes.new
-        (with_node number (with_node_mode mode (v number)) v) }
+// Makes of an object in memory what an update says.
+fn update_object(object: &mut Option<Object>, update: Update)
+    requires { FitsUpdate object.old update }
+    ensures { (disk : ℕ → List ℕ) (inodes : ℕ) (settled : Inode) (found to : Option Node)
+        → IsObjectOrNone disk inodes settled object.old found
+        → Updates disk inodes settled found object.old update to
+        → IsObjectOrNone disk inodes settled object.new to }
 {
-    let mut object = inodes.take(number);
-    set_mode(&mut object, mode);
-    inodes.commit_set(number, object);
+    match update {
+        Update::Set(new) => *object = new,
+        Update::Names(edit) => commit_edit(object, edit),
+        Update::SetMode(mode) => set_mode(object, mode),
+        Update::Bytes(change) => commit_bytes(object, change),
+        Update::Links(links) => set_links(object, links),
+    }
 }
 
-// The same of an object in memory.
+// Gives a file or directory another mode.
 fn set_mode(object: &mut Option<Object>, mode: Mode)
     ensures { (disk : ℕ → List ℕ) (inodes : ℕ) (settled : Inode) (found : Option Node)
         → IsObjectOrNone disk inodes settled object.old found
@@ -115,28 +89,7 @@ fn set_mode(object: &mut Option<Object>, mode: Mode)
     }
 }
 
-// Gives the file with a number so many names.
-fn commit_links(inodes: &mut InodeFile, number: u32, links: u32)
-    requires low { ROOT_NUMBER ≤ number }
-    requires high { number < inodes.old.geometry.inodes }
-    requires room { HasRoomFor inodes.old number }
-    requires known { IsKnown inodes.old number }
-    ensures geometry { inodes.new.geometry ≡ inodes.old.geometry }
-    ensures keeps { (n : ℕ) → HasRoomFor inodes.old n → HasRoomFor inodes.new n }
-    ensures stays { (n : ℕ) → IsKnown inodes.old n → IsKnown inodes.new n }
-    ensures rest { (n : ℕ) → (n ≢ number) → loaded inodes.new n ≡ loaded inodes.old n }
-    ensures volume { (count : ℕ) (disk : ℕ → List ℕ) (settled : ℕ → Inode) (v : Volume)
-        → IsVolumeOf count disk settled inodes.old v
-        → IsTrue (is_file_node (v number)) → links ≤ FILE_NAMES
-        → IsVolumeOf count disk settled inodes.new
-        (with_node number (with_links links (v number)) v) }
-{
-    let mut object = inodes.take(number);
-    set_links(&mut object, links);
-    inodes.commit_set(number, object);
-}
-
-// The same of an object in memory.
+// Gives a file so many names.
 fn set_links(object: &mut Option<Object>, links: u32)
     ensures { (disk : ℕ → List ℕ) (inodes : ℕ) (settled : Inode) (found : Option Node)
         → IsObjectOrNone disk inodes settled object.old found

@@ -1,28 +1,27 @@
 //! Records that take a name away.
 
-ghost use Rattle.std.specs.Prelude.{◌≡◌, ◌≤◌, ◌<◌, ◌↔◌, ℕ, List, Option, IfOk, IfSome, IfNone, IsErrOf, IsTrue, OnOk};
+ghost use Rattle.std.specs.Prelude.{◌≡◌, ◌↔◌, ℕ, List, Option, IfOk, IfSome, IsTrue};
 ghost use Rattle.layout.specs.declared.inode.Inode.{Inode};
-ghost use Rattle.model.specs.Records.{Applies, IsEmpty, unname};
-ghost use Rattle.model.specs.Volumes.{Volume, IsVolume, entries, with_name_less};
-ghost use Rattle.model.specs.declared.limits.TheConstants.{ROOT_NUMBER};
-ghost use Rattle.blocktree.specs.Errors.{IsFault};
+ghost use Rattle.model.specs.Records.{IsEmpty, unname};
+ghost use Rattle.model.specs.Volumes.{Volume, entries, with_name_less};
 ghost use Rattle.inode.specs.declared.object.Object.{Object};
-ghost use Rattle.inofile.specs.Inodes.{HasRoomFor, IsKnown};
+ghost use Rattle.inofile.specs.Inodes.{IsKnown};
 ghost use Rattle.inofile.specs.Volumes.{IsVolumeOf};
 ghost use Rattle.paths.specs.Numbers.{IsNumber};
-ghost use Rattle.records.specs.Prepared.{IsReady, Does};
-ghost use Rattle.paths.specs.Standing.{Looks, Stands};
-ghost use Rattle.records.specs.Steps.{IsAlone, Updates};
+ghost use Rattle.records.specs.Looking.{Finds};
+ghost use Rattle.records.specs.Moving.{Releases};
+ghost use Rattle.records.specs.Preparing.{PreparesRecord};
+ghost use Rattle.records.specs.Steps.{IsAlone, IsAtHand, Updates};
 
 use crate::Prepared;
 use crate::entering::edit_parent;
-use crate::loading::load_to_change;
+use crate::loading::{is_number, load_to_change};
 use crate::naming::NameEdit;
 use crate::steps::{Step, Update};
 use blocktree::ReadError;
 use buffers::Blocks;
 use inofile::InodeFile;
-use layout::{Kind, ROOT_NUMBER};
+use layout::Kind;
 use std::alloc::Global;
 
 /// Prepares that a name is taken away, and with it what it named, but a file stays, with a name less; None where the name isn't
@@ -34,26 +33,10 @@ pub fn prepare_unname<B: Blocks>(
     parent: u32,
     name: &[u8],
 ) -> Result<Option<Prepared>, ReadError>
-    ensures looks { Looks B.Blocks IsFault blocks.old blocks.new inodes.old inodes.new result }
-    ensures ready { IfOk result (λ p. IfSome p (IsReady inodes.new)) }
-    ensures does { (disk : ℕ → List ℕ) (settled : ℕ → Inode) (v : Volume)
-        → Stands B.Blocks disk settled v blocks.old inodes.old
-        → IfOk result (λ p. IfSome p
-        (λ x. Does disk settled inodes.new v x (unname parent name.now))) }
-    ensures applies { (disk : ℕ → List ℕ) (settled : ℕ → Inode) (v : Volume)
-        → Stands B.Blocks disk settled v blocks.old inodes.old
-        → IfOk result (λ p. IfSome p
-        (λ _. Applies inodes.old.geometry.inodes v (unname parent name.now))) }
-    ensures refused { (disk : ℕ → List ℕ) (settled : ℕ → Inode) (v : Volume)
-        → Stands B.Blocks disk settled v blocks.old inodes.old
-        → IsVolume inodes.old.geometry.inodes v
-        → IfOk result (λ p. IfNone p
-        (Applies inodes.old.geometry.inodes v (unname parent name.now) → ⊥)) }
-    ensures damaged { (disk : ℕ → List ℕ) (settled : ℕ → Inode) (v : Volume)
-        → Stands B.Blocks disk settled v blocks.old inodes.old
-        → IsErrOf result ReadError.Damaged → ⊥ }
+    ensures { PreparesRecord B.Blocks blocks.old blocks.new inodes.old inodes.new
+        (unname parent name.now) result }
 {
-    if parent < ROOT_NUMBER || parent >= inodes.geometry().inodes() {
+    if !is_number(inodes, parent) {
         return Ok(None);
     }
     let found = number_in(alloc, inodes, blocks, parent, name)?;
@@ -86,18 +69,10 @@ pub(crate) fn number_in<B: Blocks>(
     directory: u32,
     name: &[u8],
 ) -> Result<Option<u32>, ReadError>
-    requires low { ROOT_NUMBER ≤ directory }
-    requires high { directory < inodes.old.geometry.inodes }
-    ensures looks { Looks B.Blocks IsFault blocks.old blocks.new inodes.old inodes.new result }
-    ensures stays { (n : ℕ) → IsKnown inodes.old n → IsKnown inodes.new n }
-    ensures keeps { (n : ℕ) → HasRoomFor inodes.old n → HasRoomFor inodes.new n }
+    requires { IsNumber inodes.old.geometry.inodes directory }
+    ensures number { Finds B.Blocks blocks.old blocks.new inodes.old inodes.new
+        (λ disk settled v n. n ≡ entries v directory name.now) result }
     ensures within { IfOk result (λ n. IfSome n (IsNumber inodes.old.geometry.inodes)) }
-    ensures number { (disk : ℕ → List ℕ) (settled : ℕ → Inode) (v : Volume)
-        → Stands B.Blocks disk settled v blocks.old inodes.old
-        → IfOk result (λ n. n ≡ entries v directory name.now) }
-    ensures damaged { (disk : ℕ → List ℕ) (settled : ℕ → Inode) (v : Volume)
-        → Stands B.Blocks disk settled v blocks.old inodes.old
-        → IsErrOf result ReadError.Damaged → ⊥ }
 {
     paths::number_at(alloc, inodes, blocks, directory, name)
 }
@@ -110,27 +85,10 @@ pub(crate) fn release<B: Blocks>(
     blocks: &mut B,
     number: u32,
 ) -> Result<Option<Update>, ReadError>
-    requires low { ROOT_NUMBER ≤ number }
-    requires high { number < inodes.old.geometry.inodes }
-    ensures looks { Looks B.Blocks IsFault blocks.old blocks.new inodes.old inodes.new result }
-    ensures stays { (n : ℕ) → IsKnown inodes.old n → IsKnown inodes.new n }
-    ensures keeps { (n : ℕ) → HasRoomFor inodes.old n → HasRoomFor inodes.new n }
-    ensures known { IfOk result (λ u. IfSome u (λ _. IsKnown inodes.new number)) }
-    ensures room { IfOk result (λ u. IfSome u (λ _. HasRoomFor inodes.new number)) }
-    ensures alone { IfOk result (λ u. IfSome u IsAlone) }
-    ensures updates { (disk : ℕ → List ℕ) (settled : ℕ → Inode) (v : Volume)
-        → Stands B.Blocks disk settled v blocks.old inodes.old
-        → IfOk result (λ u. IfSome u (λ x. (count : ℕ) (o : Option Object)
-        → Updates disk count (settled number) (v number) o x (with_name_less (v number)))) }
-    ensures empty { (disk : ℕ → List ℕ) (settled : ℕ → Inode) (v : Volume)
-        → Stands B.Blocks disk settled v blocks.old inodes.old
-        → IfOk result (λ u. IfSome u (λ _. IsEmpty v number)) }
-    ensures full { (disk : ℕ → List ℕ) (settled : ℕ → Inode) (v : Volume)
-        → Stands B.Blocks disk settled v blocks.old inodes.old
-        → IfOk result (λ u. IfNone u (IsEmpty v number → ⊥)) }
-    ensures damaged { (disk : ℕ → List ℕ) (settled : ℕ → Inode) (v : Volume)
-        → Stands B.Blocks disk settled v blocks.old inodes.old
-        → IsErrOf result ReadError.Damaged → ⊥ }
+    requires { IsNumber inodes.old.geometry.inodes number }
+    ensures released { Finds B.Blocks blocks.old blocks.new inodes.old inodes.new
+        (λ disk settled v. Releases disk settled v number) result }
+    ensures ready { IfOk result (λ u. IfSome u (λ x. IsAlone x × IsAtHand inodes.new number)) }
 {
     let empty = is_empty(alloc, inodes, blocks, number)?;
     if !empty {
@@ -147,17 +105,9 @@ fn is_empty<B: Blocks>(
     blocks: &mut B,
     number: u32,
 ) -> Result<bool, ReadError>
-    requires low { ROOT_NUMBER ≤ number }
-    requires high { number < inodes.old.geometry.inodes }
-    ensures looks { Looks B.Blocks IsFault blocks.old blocks.new inodes.old inodes.new result }
-    ensures stays { (n : ℕ) → IsKnown inodes.old n → IsKnown inodes.new n }
-    ensures keeps { (n : ℕ) → HasRoomFor inodes.old n → HasRoomFor inodes.new n }
-    ensures empty { (disk : ℕ → List ℕ) (settled : ℕ → Inode) (v : Volume)
-        → Stands B.Blocks disk settled v blocks.old inodes.old
-        → IfOk result (λ empty. IsTrue empty ↔ IsEmpty v number) }
-    ensures damaged { (disk : ℕ → List ℕ) (settled : ℕ → Inode) (v : Volume)
-        → Stands B.Blocks disk settled v blocks.old inodes.old
-        → IsErrOf result ReadError.Damaged → ⊥ }
+    requires { IsNumber inodes.old.geometry.inodes number }
+    ensures { Finds B.Blocks blocks.old blocks.new inodes.old inodes.new
+        (λ disk settled v empty. IsTrue empty ↔ IsEmpty v number) result }
 {
     let names = paths::list(alloc, inodes, blocks, number)?;
     Ok(names.as_slice().is_empty())

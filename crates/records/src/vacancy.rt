@@ -5,7 +5,7 @@ ghost use Rattle.layout.specs.Record.{made_of};
 ghost use Rattle.layout.specs.declared.inode.Inode.{Inode};
 ghost use Rattle.model.specs.Records.{IsMade, is_vacant, node_of};
 ghost use Rattle.layout.specs.LinkText.{IsLinkText};
-ghost use Rattle.model.specs.Volumes.{Volume, directory_node, file_node, link_node};
+ghost use Rattle.model.specs.Volumes.{directory_node, file_node, link_node};
 ghost use Rattle.model.specs.declared.limits.TheConstants.{MODE_BITS};
 ghost use Rattle.buffers.specs.Reads.{ReadsBlocks};
 ghost use Rattle.blocktree.specs.Errors.{IsFault};
@@ -13,7 +13,7 @@ ghost use Rattle.blocktree.specs.Trees.{IsSoundAt};
 ghost use Rattle.blocktree.specs.declared.tree.BlockTree.{BlockTree};
 ghost use Rattle.inode.specs.Bases.{IsBased};
 ghost use Rattle.inofile.specs.Objects.{IsObject};
-ghost use Rattle.paths.specs.Standing.{Looks, Stands};
+ghost use Rattle.records.specs.Looking.{Finds};
 
 use crate::loading::load;
 use blocktree::ReadError;
@@ -21,11 +21,8 @@ use buffers::Blocks;
 use inode::{Attributes, ChangeError, File, Object};
 use inofile::InodeFile;
 use layout::{FIRST_NUMBER, Kind, NewObject, is_link_text};
-use model::{MODE_BITS, Mode};
+use model::{LINK_MODE, MODE_BITS, Mode};
 use std::alloc::Global;
-
-/// The mode of each symbolic link.
-const LINK_MODE: u16 = 0o777;
 
 /// Whether nothing has a number, or a file without names.
 pub fn is_vacant<B: Blocks>(
@@ -36,13 +33,8 @@ pub fn is_vacant<B: Blocks>(
 ) -> Result<bool, ReadError>
     requires low { FIRST_NUMBER ≤ number }
     requires high { number < inodes.old.geometry.inodes }
-    ensures looks { Looks B.Blocks IsFault blocks.old blocks.new inodes.old inodes.new result }
-    ensures vacant { (disk : ℕ → List ℕ) (settled : ℕ → Inode) (v : Volume)
-        → Stands B.Blocks disk settled v blocks.old inodes.old
-        → IfOk result (λ vacant. vacant ≡ is_vacant (v number)) }
-    ensures damaged { (disk : ℕ → List ℕ) (settled : ℕ → Inode) (v : Volume)
-        → Stands B.Blocks disk settled v blocks.old inodes.old
-        → IsErrOf result ReadError.Damaged → ⊥ }
+    ensures { Finds B.Blocks blocks.old blocks.new inodes.old inodes.new
+        (λ disk settled v vacant. vacant ≡ is_vacant (v number)) result }
 {
     load(alloc, inodes, blocks, number)?;
     let Some(object) = inodes.get(number) else {

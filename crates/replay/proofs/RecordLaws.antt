@@ -1,36 +1,18 @@
 -- Records read one after the other, and where they lead.
-use Rattle.std.proofs.Common.{◌≡◌, ℕ, ◌+◌, ◌<◌, ◌^◌, List, [], ◌∷◌, ◌++◌, length, take, drop, refl, sym, ap, subst, ◌∙◌, arith, append_assoc, length-append}
-use Rattle.std.proofs.lemmas.List.{take_at, drop_at}
+use Rattle.std.proofs.Common.{◌≡◌, ℕ, ◌+◌, ◌<◌, ◌^◌, List, [], ◌∷◌, ◌++◌, length, refl, sym, ap, subst, ◌∙◌, arith, length-append}
 use Rattle.std.proofs.lemmas.List.Elements.{All-head, All-tail}
-use Rattle.byteorder.specs.Numbers.{length-bytes_low_first, little_number-reads_back}
-use Rattle.byteorder.specs.Endian.{little_bytes, little_number}
+use Rattle.byteorder.specs.Numbers.{length-bytes_low_first}
+use Rattle.byteorder.specs.Endian.{little_bytes}
 use Rattle.layout.specs.Log.{record_of, records_of, HoldsBodies, IsClosed}
 use Rattle.layout.specs.Record.{Change, IsChange, change_bytes}
 use Rattle.model.specs.Records.{Applies, applied}
 use Rattle.model.specs.Volumes.{Volume}
-use Rattle.records.specs.Served.{IsServed}
 use Rattle.oplog.specs.SavedLog.{HoldsLeaving}
 use Rattle.replay.specs.Volumes.{LeadTo, Spells, bodies_of}
-
--- two lists of one length stand in front of one list alike
-front_once : (xs ys rs ss : List ℕ) → length xs ≡ length ys → xs ++ rs ≡ ys ++ ss → (xs ≡ ys) × (rs ≡ ss)
-front_once xs ys rs ss same e = (
-  sym (take_at xs rs (length ys) same) ∙ ap (take (length ys)) e ∙ take_at ys ss (length ys) refl,
-  sym (drop_at xs rs (length ys) same) ∙ ap (drop (length ys)) e ∙ drop_at ys ss (length ys) refl,
-)
+use Rattle.layout.proofs.OpenLaws.{record_once}
 
 head_length : (n : ℕ) → length (1 ∷ little_bytes 4 n) ≡ 5
 head_length n = omega (arith, length-bytes_low_first 0 4 n)
-
--- a record's bytes tell its body
-record_once : (x y rs ss : List ℕ) → length x < 2 ^ 32 → length y < 2 ^ 32 → record_of x ++ rs ≡ record_of y ++ ss → (x ≡ y) × (rs ≡ ss)
-record_once x y rs ss short short_too e =
-    let heads = front_once (1 ∷ little_bytes 4 (length x)) (1 ∷ little_bytes 4 (length y)) (x ++ rs) (y ++ ss)
-    (head_length (length x) ∙ sym (head_length (length y)))
-    (sym (append_assoc (1 ∷ little_bytes 4 (length x)) x rs) ∙ e ∙ append_assoc (1 ∷ little_bytes 4 (length y)) y ss) in
-    let lengths : little_bytes 4 (length x) ≡ little_bytes 4 (length y) = ap (drop 1) heads.0 in
-    let same : length x ≡ length y = sym (little_number-reads_back 4 (length x) [] short) ∙ ap (little_number 4) lengths ∙ little_number-reads_back 4 (length y) [] short_too in
-    front_once x y rs ss same heads.1
 
 -- the records behind an open gate: the first, and those that lead on
 pub record Step (inodes : ℕ) (body after : List ℕ) (changes : List Change) (now w : Volume) : Type 0 where
@@ -50,11 +32,10 @@ step inodes rest body after (c ∷ more) now w short is leads =
       change = c;
       more = more;
       are = refl;
-      spells = record { is = All-head IsChange c more leads.are; served = All-head IsServed c more leads.served; spelled = same.0 };
+      spells = record { is = All-head IsChange c more leads.are; spelled = same.0 };
       applies = leads.replays.0;
       leads = record {
         are = All-tail IsChange c more leads.are;
-        served = All-tail IsServed c more leads.served;
         held = subst (λ (l : List ℕ). HoldsBodies l (bodies_of more)) (sym same.1) leads.held.3;
         replays = leads.replays.1;
       };
@@ -102,3 +83,17 @@ module _ (inodes : ℕ) (records rest : List ℕ) (changes : List Change) (now w
   all_done held shut =
       let e = ends inodes rest left.more now w shut left.leads in
       (record { held = held; left_is = omega (arith, left.length_is, ap (λ cs. length (records_of (bodies_of cs))) e.0) }, e.1)
+
+-- ---- any records
+
+-- a record in front of others
+pub one_in_front : (body rest after : List ℕ) (bodies : List (List ℕ)) (left : ℕ) → length body < 2 ^ 32 → rest ≡ record_of body ++ after → HoldsLeaving after bodies left
+    → HoldsLeaving rest (body ∷ bodies) left
+one_in_front body rest after bodies left short is holds = record {
+  held = (after, short, is, holds.held);
+  left_is = omega (arith, holds.left_is, ap length is, length-append (record_of body) after, length-append (record_of body) (records_of bodies));
+}
+
+-- a closed gate
+pub none_behind : (rest : List ℕ) → IsClosed rest → HoldsLeaving rest [] (length rest)
+none_behind rest shut = record { held = shut; left_is = omega arith }

@@ -8,7 +8,6 @@ use Rattle.layout.specs.Record.{Change, IsChange, change_bytes}
 use Rattle.model.specs.Records.{Replays, applied}
 use Rattle.model.specs.Volumes.{Volume}
 use Rattle.oplog.specs.SavedLog.{Saved, TellsLog}
-use Rattle.records.specs.Served.{IsServed}
 use Rattle.replay.specs.Volumes.{LeadTo, SavesRecords, bodies_of}
 
 all_first : (P : Change → Type 0) (one two : List Change) → All P (one ++ two) → All P one
@@ -62,7 +61,6 @@ lead_on inodes nvram saved changes old new tells saves =
     let there = tells.held (bodies_of changes) saves.held in
     let parts = in_two changes there.0 there.1 there.2 in
     let are = subst (All IsChange) parts.joined saves.are in
-    let served = subst (All IsServed) parts.joined saves.served in
     let steps = replays_parts inodes parts.one parts.two old new (subst (λ (l : List Change). Replays inodes old l new) parts.joined saves.replays) in
     record {
       one = parts.one;
@@ -71,13 +69,11 @@ lead_on inodes nvram saved changes old new tells saves =
       mid = steps.0;
       leads = record {
         are = all_first IsChange parts.one parts.two are;
-        served = all_first IsServed parts.one parts.two served;
         held = subst (HoldsBodies saved.first.records) (sym parts.first_is) there.3;
         replays = steps.1;
       };
       leads_on = record {
         are = all_second IsChange parts.one parts.two are;
-        served = all_second IsServed parts.one parts.two served;
         held = subst (HoldsBodies saved.second.records) (sym parts.second_is) there.4;
         replays = steps.2;
       };

@@ -1,40 +1,42 @@
 -- The volume that memory stands for, and records that lead from one to another.
-use Rattle.std.specs.Prelude.{ℕ, ◌≡◌, List, All, map}
+use Rattle.std.specs.Prelude.{ℕ, ◌≡◌, ◌⊎◌, List, All, Result, MatchResult, map}
 use Rattle.layout.specs.Log.{HoldsBodies, LogHolds}
 use Rattle.layout.specs.Record.{Change, IsChange, change_bytes}
 use Rattle.layout.specs.declared.inode.Inode.{Inode}
 use Rattle.model.specs.Records.{Replays}
 use Rattle.model.specs.Volumes.{Volume, IsVolume}
+use Rattle.blocktree.specs.declared.error.ReadError.{ReadError}
+use Rattle.blocktree.specs.declared.error.ReadError.TheVariants.{NoMemory, Device}
 use Rattle.inofile.specs.Volumes.{IsVolumeOf}
 use Rattle.inofile.specs.declared.inode_file.InodeFile.{InodeFile}
 use Rattle.oplog.specs.SavedLog.{Saved}
-use Rattle.records.specs.Served.{IsServed}
+
+-- an answer of which this is true, but where memory ran out or a device call failed
+abbrev pub ComesTo : {T : Type 0} → Result T ReadError → (T → Type 0) → Type 0
+ComesTo result P = MatchResult result P (λ e. (e ≡ NoMemory) ⊎ (e ≡ Device))
 
 -- memory stands for this volume, over a disk of so many blocks with these inodes settled
 pub record HasVolume (count : ℕ) (disk : ℕ → List ℕ) (settled : ℕ → Inode) (s : InodeFile) (v : Volume) : Type 0 where
   pub memory : IsVolumeOf count disk settled s v
   pub volume : IsVolume s.geometry.inodes v
 
--- the body of a record of the log, one that this version does
+-- the body of a record of the log
 pub record Spells (body : List ℕ) (change : Change) : Type 0 where
   pub is : IsChange change
-  pub served : IsServed change
   pub spelled : body ≡ change_bytes change
 
 -- the bodies of records
 abbrev pub bodies_of : List Change → List (List ℕ)
 bodies_of changes = map change_bytes changes
 
--- the bytes from a gate on hold these records, which lead from one volume to another; this version does each of them
+-- the bytes from a gate on hold these records, which lead from one volume to another
 pub record LeadTo (inodes : ℕ) (records : List ℕ) (changes : List Change) (old new : Volume) : Type 0 where
   pub are : All IsChange changes
-  pub served : All IsServed changes
   pub held : HoldsBodies records (bodies_of changes)
   pub replays : Replays inodes old changes new
 
--- the log that was saved over a root holds these records, which lead from one volume to another; this version does each of them
+-- the log that was saved over a root holds these records, which lead from one volume to another
 pub record SavesRecords (inodes : ℕ) (nvram : List ℕ) (saved : Saved) (changes : List Change) (old new : Volume) : Type 0 where
   pub are : All IsChange changes
-  pub served : All IsServed changes
   pub held : LogHolds saved.half saved.generation nvram (bodies_of changes)
   pub replays : Replays inodes old changes new

@@ -3,7 +3,7 @@
 ghost use Rattle.std.specs.Prelude.{◌≡◌, ◌*◌, ◌≤◌, ℕ, List, length};
 ghost use Rattle.layout.specs.Record.{KeepsLimits, change_of};
 ghost use Rattle.layout.specs.declared.geometry.TheConstants.{MOST_HALF};
-ghost use Rattle.layout.specs.declared.record.TheConstants.{WRITE_BYTES};
+ghost use Rattle.model.specs.declared.limits.TheConstants.{TRANSFER_BYTES};
 ghost use Rattle.model.specs.Records.{Change, costs, work_of};
 ghost use Rattle.model.specs.Room as room;
 ghost use Rattle.model.specs.Volumes.{Volume};
@@ -40,7 +40,7 @@ pub fn cost_of(logged: &Record<'_>) -> u64
 
 /// How many blocks of a file so many bytes at an offset touch.
 fn touched(offset: u64, count: usize) -> u64
-    requires { count ≤ WRITE_BYTES }
+    requires { count ≤ TRANSFER_BYTES }
     ensures value { result ≡ room.touched offset count }
     ensures few { result ≤ 17 }
 {

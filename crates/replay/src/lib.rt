@@ -1,5 +1,5 @@
-//! What the saved log does to the inodes in memory at a mount: its records, one after the other, and behind the last one the
-//! files without names are dropped. What its records cost a consistency point.
+//! The journal's replay, which is what the saved log does to the inodes in memory at a mount: its records, one after the
+//! other, and behind the last one the files without names are dropped. What its records cost a consistency point.
 #![tactic(auto)]
 
 mod costs;

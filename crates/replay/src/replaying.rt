@@ -1,15 +1,13 @@
 //! The records of the log, one after the other.
 
-ghost use Rattle.std.specs.Prelude.{◌≡◌, ◌⊎◌, ◌↔◌, ◌≤◌, List, ℕ, IfOk, IsTrue, MatchResult, length};
+ghost use Rattle.std.specs.Prelude.{◌≡◌, ◌≤◌, List, ℕ, IfOk, length};
 ghost use Rattle.layout.specs.declared.inode.Inode.{Inode};
 ghost use Rattle.model.specs.Records.{Applies, Change, applied};
 ghost use Rattle.model.specs.Volumes.{Volume};
 ghost use Rattle.buffers.specs.Reads.{ReadsBlocks};
-ghost use Rattle.layout.specs.Record.{change_of};
 ghost use Rattle.blocktree.specs.Errors.{IsFault};
-ghost use Rattle.records.specs.Served.{IsServed};
 ghost use Rattle.oplog.specs.SavedLog.{HoldsLeaving};
-ghost use Rattle.replay.specs.Volumes.{HasVolume, LeadTo, Spells, bodies_of};
+ghost use Rattle.replay.specs.Volumes.{ComesTo, HasVolume, LeadTo, Spells, bodies_of};
 
 use blocktree::ReadError;
 use buffers::Blocks;
@@ -34,9 +32,10 @@ pub(crate) fn replay_all<B: Blocks>(
         (changes : List Change) → B.Shows blocks.old disk
         → HasVolume (B.count blocks.old) disk settled inodes.old v
         → LeadTo inodes.old.geometry.inodes records.now changes v w
-        → MatchResult result (λ left. HoldsLeaving records.now (bodies_of changes) left
-        × HasVolume (B.count blocks.old) disk settled inodes.new w)
-        (λ e. (e ≡ ReadError.NoMemory) ⊎ (e ≡ ReadError.Device)) }
+        → ComesTo result (λ left. HoldsLeaving records.now (bodies_of changes) left
+        × HasVolume (B.count blocks.old) disk settled inodes.new w) }
+    ensures holds { IfOk result
+        (λ left. (bodies : List (List ℕ)) × HoldsLeaving records.now bodies left) }
 {
     let mut rest = records;
     loop {
@@ -65,36 +64,17 @@ fn replay_one<B: Blocks>(
         → HasVolume (B.count blocks.old) disk settled inodes.old v
         → Spells body.now change
         → Applies inodes.old.geometry.inodes v change
-        → MatchResult result (λ _. HasVolume (B.count blocks.old) disk settled inodes.new
-        (applied change v)) (λ e. (e ≡ ReadError.NoMemory) ⊎ (e ≡ ReadError.Device)) }
+        → ComesTo result (λ _. HasVolume (B.count blocks.old) disk settled inodes.new
+        (applied change v)) }
 {
     records_keep_volumes();
     let Some(logged) = Record::read(body) else {
         return Err(ReadError::Damaged);
     };
-    if !is_served(&logged) {
-        return Err(ReadError::Damaged);
-    }
     let planned = prepare(alloc, inodes, blocks, &logged)?;
     let Some(prepared) = planned else {
         return Err(ReadError::Damaged);
     };
     commit(inodes, prepared);
     Ok(())
-}
-
-/// Whether this version does what a record says.
-fn is_served(logged: &Record<'_>) -> bool
-    ensures { IsTrue result ↔ IsServed (change_of logged.now) }
-{
-    matches!(
-        logged,
-        Record::Create { .. }
-            | Record::Link { .. }
-            | Record::Unname { .. }
-            | Record::Rename { .. }
-            | Record::Write { .. }
-            | Record::Cut { .. }
-            | Record::ChangeMode { .. }
-    )
 }

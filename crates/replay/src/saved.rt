@@ -1,13 +1,13 @@
 //! All that was saved in the log.
 
-ghost use Rattle.std.specs.Prelude.{◌≡◌, ◌⊎◌, ◌<◌, ◌^◌, List, ℕ, IfOk, IsFalse, MatchResult};
+ghost use Rattle.std.specs.Prelude.{◌≡◌, ◌<◌, ◌^◌, List, ℕ, IfOk, IsFalse};
 ghost use Rattle.layout.specs.declared.inode.Inode.{Inode};
 ghost use Rattle.model.specs.Records.{Change, pledged_for, without_nameless};
 ghost use Rattle.model.specs.Volumes.{Volume};
 ghost use Rattle.buffers.specs.Reads.{ReadsBlocks};
 ghost use Rattle.blocktree.specs.Errors.{IsFault};
 ghost use Rattle.oplog.specs.SavedLog.{StandsBehind, TellsLog};
-ghost use Rattle.replay.specs.Volumes.{HasVolume, SavesRecords, bodies_of};
+ghost use Rattle.replay.specs.Volumes.{ComesTo, HasVolume, SavesRecords, bodies_of};
 
 use crate::costs::costs_of;
 use crate::replaying::replay_all;
@@ -33,7 +33,7 @@ pub struct Replayed {
 
 /// Replays the records of a saved log over the inodes in memory, epoch after epoch, and drops the files without names behind
 /// the last one. `Damaged` where what is saved is no record that applies. After an error it isn't known what memory stands
-/// for.
+/// for. Whatever volume that was, the log holds just the records that were replayed.
 pub fn replay<B: Blocks>(
     alloc: Global,
     inodes: &mut InodeFile,
@@ -49,10 +49,11 @@ pub fn replay<B: Blocks>(
         (changes : List Change) (nvram : List ℕ) → B.Shows blocks.old disk
         → HasVolume (B.count blocks.old) disk settled inodes.old v → TellsLog nvram saved
         → SavesRecords inodes.old.geometry.inodes nvram saved changes v w
-        → MatchResult result (λ r. StandsBehind r.log saved.generation nvram (bodies_of changes)
+        → ComesTo result (λ r. StandsBehind r.log saved.generation nvram (bodies_of changes)
         × HasVolume (B.count blocks.old) disk settled inodes.new (without_nameless w)
-        × (r.pledged ≡ pledged_for inodes.old.geometry.inodes v changes))
-        (λ e. (e ≡ ReadError.NoMemory) ⊎ (e ≡ ReadError.Device)) }
+        × (r.pledged ≡ pledged_for inodes.old.geometry.inodes v changes)) }
+    ensures holds { (nvram : List ℕ) → TellsLog nvram saved → IfOk result
+        (λ r. (bodies : List (List ℕ)) × StandsBehind r.log saved.generation nvram bodies) }
 {
     let pledged = pledged_by(alloc, inodes, blocks, &saved)?;
     let log = replay_records(alloc, inodes, blocks, saved)?;
@@ -74,10 +75,9 @@ fn pledged_by<B: Blocks>(
         (changes : List Change) (nvram : List ℕ) → B.Shows blocks.old disk
         → HasVolume (B.count blocks.old) disk settled inodes.old v → TellsLog nvram saved.now
         → SavesRecords inodes.old.geometry.inodes nvram saved.now changes v w
-        → MatchResult result
+        → ComesTo result
         (λ pledged. (pledged ≡ pledged_for inodes.old.geometry.inodes v changes)
-        × HasVolume (B.count blocks.old) disk settled inodes.new v)
-        (λ e. (e ≡ ReadError.NoMemory) ⊎ (e ≡ ReadError.Device)) }
+        × HasVolume (B.count blocks.old) disk settled inodes.new v) }
 {
     let nameless = count_nameless(alloc, inodes, blocks)?;
     let first = costs_of(saved.first_records());
@@ -100,9 +100,10 @@ fn replay_records<B: Blocks>(
         (changes : List Change) (nvram : List ℕ) → B.Shows blocks.old disk
         → HasVolume (B.count blocks.old) disk settled inodes.old v → TellsLog nvram saved
         → SavesRecords inodes.old.geometry.inodes nvram saved changes v w
-        → MatchResult result (λ log. StandsBehind log saved.generation nvram (bodies_of changes)
-        × HasVolume (B.count blocks.old) disk settled inodes.new (without_nameless w))
-        (λ e. (e ≡ ReadError.NoMemory) ⊎ (e ≡ ReadError.Device)) }
+        → ComesTo result (λ log. StandsBehind log saved.generation nvram (bodies_of changes)
+        × HasVolume (B.count blocks.old) disk settled inodes.new (without_nameless w)) }
+    ensures holds { (nvram : List ℕ) → TellsLog nvram saved → IfOk result
+        (λ log. (bodies : List (List ℕ)) × StandsBehind log saved.generation nvram bodies) }
 {
     let first_left = replay_all(alloc, inodes, blocks, saved.first_records())?;
     let second_left = replay_all(alloc, inodes, blocks, saved.second_records())?;

@@ -1,15 +1,15 @@
 //! Files without names.
 
-ghost use Rattle.std.specs.Prelude.{◌≡◌, ◌⊎◌, ◌<◌, ◌≤◌, List, ℕ, IfOk, MatchResult, false};
+ghost use Rattle.std.specs.Prelude.{◌≡◌, ◌<◌, ◌≤◌, List, ℕ, IfOk, false};
 ghost use Rattle.layout.specs.declared.inode.Inode.{Inode};
 ghost use Rattle.layout.specs.declared.geometry.TheConstants.{MOST_INODES};
-ghost use Rattle.layout.specs.declared.numbers.TheConstants.{FIRST_NUMBER};
+ghost use Rattle.model.specs.declared.limits.TheConstants.{FIRST_NUMBER};
 ghost use Rattle.model.specs.Records.{count_nameless, without_nameless};
 ghost use Rattle.model.specs.Volumes.{Volume, is_nameless, swept_node, with_node};
 ghost use Rattle.buffers.specs.Reads.{ReadsBlocks};
 ghost use Rattle.blocktree.specs.Errors.{IsFault};
 ghost use Rattle.inofile.specs.Volumes.{IsVolumeOf};
-ghost use Rattle.replay.specs.Volumes.{HasVolume};
+ghost use Rattle.replay.specs.Volumes.{ComesTo, HasVolume};
 
 use blocktree::ReadError;
 use buffers::Blocks;
@@ -31,9 +31,8 @@ pub(crate) fn count_nameless<B: Blocks>(
     ensures counts { (disk : ℕ → List ℕ) (settled : ℕ → Inode) (v : Volume)
         → B.Shows blocks.old disk
         → HasVolume (B.count blocks.old) disk settled inodes.old v
-        → MatchResult result (λ count. (count ≡ count_nameless inodes.old.geometry.inodes v)
-        × HasVolume (B.count blocks.old) disk settled inodes.new v)
-        (λ e. (e ≡ ReadError.NoMemory) ⊎ (e ≡ ReadError.Device)) }
+        → ComesTo result (λ count. (count ≡ count_nameless inodes.old.geometry.inodes v)
+        × HasVolume (B.count blocks.old) disk settled inodes.new v) }
 {
     let mut count = 0;
     for number in FIRST_NUMBER..inodes.geometry().inodes() {
@@ -55,8 +54,8 @@ pub(crate) fn drop_nameless<B: Blocks>(
     ensures drops { (disk : ℕ → List ℕ) (settled : ℕ → Inode) (v : Volume)
         → B.Shows blocks.old disk
         → HasVolume (B.count blocks.old) disk settled inodes.old v
-        → MatchResult result (λ _. HasVolume (B.count blocks.old) disk settled inodes.new
-        (without_nameless v)) (λ e. (e ≡ ReadError.NoMemory) ⊎ (e ≡ ReadError.Device)) }
+        → ComesTo result (λ _. HasVolume (B.count blocks.old) disk settled inodes.new
+        (without_nameless v)) }
 {
     mounts_find_volumes();
     for number in FIRST_NUMBER..inodes.geometry().inodes() {
@@ -79,9 +78,8 @@ fn drop_if_nameless<B: Blocks>(
     ensures drops { (disk : ℕ → List ℕ) (settled : ℕ → Inode) (v : Volume)
         → B.Shows blocks.old disk
         → IsVolumeOf (B.count blocks.old) disk settled inodes.old v
-        → MatchResult result (λ _. IsVolumeOf (B.count blocks.old) disk settled inodes.new
-        (with_node number (swept_node false (v number)) v))
-        (λ e. (e ≡ ReadError.NoMemory) ⊎ (e ≡ ReadError.Device)) }
+        → ComesTo result (λ _. IsVolumeOf (B.count blocks.old) disk settled inodes.new
+        (with_node number (swept_node false (v number)) v)) }
 {
     if !inodes.is_taken(number) {
         return Ok(());
@@ -106,9 +104,8 @@ fn has_nameless<B: Blocks>(
     ensures tells { (disk : ℕ → List ℕ) (settled : ℕ → Inode) (v : Volume)
         → B.Shows blocks.old disk
         → IsVolumeOf (B.count blocks.old) disk settled inodes.old v
-        → MatchResult result (λ is_one. (is_one ≡ is_nameless (v number))
-        × IsVolumeOf (B.count blocks.old) disk settled inodes.new v)
-        (λ e. (e ≡ ReadError.NoMemory) ⊎ (e ≡ ReadError.Device)) }
+        → ComesTo result (λ is_one. (is_one ≡ is_nameless (v number))
+        × IsVolumeOf (B.count blocks.old) disk settled inodes.new v) }
 {
     if !inodes.is_taken(number) {
         return Ok(false);

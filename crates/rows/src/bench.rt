@@ -2,17 +2,17 @@
 
 use crate::choices::Choices;
 use crate::fault::Fault;
+use crate::file_lines::obey_file;
 use crate::guards::Locks;
-use crate::host_files::obey_file;
 use crate::image::obey;
 use crate::obeying::Obeyed;
 use crate::run::{Images, Run};
 use crate::text::{is_one_of, random_bytes};
+use command_line::{Asked, LineError, read_line};
 use mount::make;
 use station::Sim;
 use std::alloc::{AllocError, Global};
 use std::mem;
-use tool::{Asked, LineError, read_line};
 
 /// A row under way.
 #[derive(Drop)]

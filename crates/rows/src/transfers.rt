@@ -4,7 +4,7 @@ use crate::fault::Fault;
 use crate::text::{is_one_of, random_bytes};
 use std::fs;
 use std::io::sink;
-use tool::transfer::{Progress, Transfer, TransferError, get_file, put_file};
+use transfer::{Progress, Transfer, TransferError, get_file, put_file};
 
 /// Does what a line about transfers says. None where it is about none, false where its words aren't understood.
 pub fn obey_transfer(rt: &HostRuntime, verb: &str, words: &str) -> Result<Option<bool>, Fault> {

@@ -51,7 +51,7 @@ lines_more steps command reply = ap (λ l. lines_of_steps steps ++ l) (sym (appe
 fits_first : (a n m : ℕ) → n ≤ m → a + POINTS * m < 2 ^ 62 → a + POINTS * n < 2 ^ 62
 fits_first a n m le lasts = omega arith
 
-is_young : (a b n : ℕ) → b ≤ a + POINTS * n → a + POINTS * (n + 1) < 2 ^ 62 → b + 1 < 2 ^ 62
+is_young : (a b n : ℕ) → b ≤ a + POINTS * n → a + POINTS * (n + 1) < 2 ^ 62 → b + POINTS ≤ 2 ^ 62
 is_young a b n le lasts = omega arith
 
 -- how an answer ends where its showing does

@@ -107,15 +107,15 @@ HasFault G script old new fault.NoMemory = Goes Unchanged (G.meaning old) (G.mea
 HasFault G script old new (fault.Line n) = IsScriptFault script (fault.Line n) × (new ≡ old)
 HasFault G script old new (fault.Mount e) = IsNotMounted script (G.meaning old) (G.meaning new) e
 
--- how the telling of a fault ends, and what a writer's known bytes gained by it
+-- how the telling of a fault ends, and what a writer's known bytes gained by it: of its line a beginning, where not all of it can be told
 abbrev pub EndsTelling : Fault → Option (List ℕ) → Option (List ℕ) → Status → Type 0
 EndsTelling fault.NoMemory old new NoMemory = new ≡ old
 EndsTelling (fault.Line n) old new NotACommand = Appends old new (line_fault n)
-EndsTelling (fault.Line n) old new FileFault = Unit {0}
+EndsTelling (fault.Line n) old new FileFault = (k : ℕ) × Appends old new (take k (line_fault n))
 EndsTelling (fault.Line n) old new NoMemory = new ≡ old
 EndsTelling (fault.Mount e) old new NotMounted = Appends old new (mount_fault e)
-EndsTelling (fault.Mount e) old new FileFault = e ≢ error.NoMemory
-EndsTelling (fault.Mount e) old new NoMemory = e ≡ error.NoMemory
+EndsTelling (fault.Mount e) old new FileFault = (k : ℕ) × (e ≢ error.NoMemory) × Appends old new (take k (mount_fault e))
+EndsTelling (fault.Mount e) old new NoMemory = (k : ℕ) × (e ≡ error.NoMemory) × Appends old new (take k (mount_fault e))
 EndsTelling fault old new status = ⊥
 
 -- the known bytes of two writers: of what is shown and of what is told

@@ -4,6 +4,7 @@ ghost use Rattle.std.specs.Prelude.{◌≡◌, IfOk, string_bytes};
 ghost use Rattle.session.specs.Scripts.{line_fault};
 ghost use Rattle.session.specs.Sessions.{mount_fault, EndsTelling};
 
+use crate::answering::{Closed, write_whole};
 use crate::{Fault, Status};
 use mount::MountError;
 use std::alloc::{AllocError, Global};
@@ -28,9 +29,9 @@ fn tell_bad_line<E: Write>(alloc: Global, number: usize, err: &mut E) -> Status
     let Ok(text) = line_text(alloc, number) else {
         return Status::NoMemory;
     };
-    match err.write_all(text.as_bytes()) {
+    match write_whole(err, text.as_bytes()) {
         Ok(()) => Status::NotACommand,
-        Err(_) => Status::FileFault,
+        Err(Closed) => Status::FileFault,
     }
 }
 
@@ -44,10 +45,10 @@ fn line_text(alloc: Global, number: usize) -> Result<String, AllocError>
 fn tell_mount_error<E: Write>(error: MountError, err: &mut E) -> Status
     ensures { EndsTelling (Fault.Mount error) (E.contents err.old) (E.contents err.new) result }
 {
-    match err.write_all(mount_text(error)) {
+    match write_whole(err, mount_text(error)) {
         Ok(()) => Status::NotMounted,
-        Err(_) if error == MountError::NoMemory => Status::NoMemory,
-        Err(_) => Status::FileFault,
+        Err(Closed) if error == MountError::NoMemory => Status::NoMemory,
+        Err(Closed) => Status::FileFault,
     }
 }
 

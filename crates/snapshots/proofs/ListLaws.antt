@@ -15,7 +15,8 @@ use Rattle.loading.specs.Snapshots.{IsSnapshotAt}
 use Rattle.snapshots.specs.Found.{SpellsSnapshot}
 use Rattle.snapshots.specs.Listed.{IsLeastAbove, IsOver, LeastOf}
 use Rattle.snapshots.specs.declared.listing.Next.{Next}
-use Rattle.snapshots.proofs.SlotLaws.{at_slot, has, in_slot, one_snapshot, spells}
+use Rattle.loading.proofs.SnapshotLaws.{at_slot}
+use Rattle.snapshots.proofs.SlotLaws.{has, in_slot, one_snapshot, spells}
 
 -- the last slot's snapshot is the least
 least_one : (disk : Blocks) (r : Root) (above n : ℕ) (b : Next) → IsOver disk (slice_index_or r.snapshots n Hole) above b

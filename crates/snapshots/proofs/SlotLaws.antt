@@ -9,14 +9,11 @@ use Rattle.layout.specs.SnapRoot.{Snapshot, snapshot_bytes, snapshot_in}
 use Rattle.layout.specs.declared.pointer.Pointer.{Pointer}
 use Rattle.layout.specs.declared.pointer.Pointer.TheVariants.{Hole, Block}
 use Rattle.layout.specs.declared.root.Root.{Root}
-use Rattle.model.proofs.LooseLemmas.{some_same}
+use Rattle.layout.proofs.PointerLaws.{hole_block}
+use Rattle.model.proofs.OptionLaws.{some_same}
 use Rattle.images.specs.Roots.{slot, whole}
-use Rattle.images.specs.Snapshots.{AreSnapshots, HasSnapshot}
-use Rattle.loading.specs.Snapshots.{IsSnapshotAt}
+use Rattle.images.specs.Snapshots.{HasSnapshot}
 use Rattle.snapshots.specs.Found.{SpellsSnapshot}
-
-no_block : (b : ℕ) → Hole ≡ Block b → ⊥
-no_block b is = cc
 
 pub has : (disk : Blocks) (r : Root) (k : ℕ) (p : Pointer) (s : Snapshot) → slot r k ≡ p → SpellsSnapshot disk p s → HasSnapshot r (whole disk r) k s
 unfolding whole
@@ -29,19 +26,11 @@ spells disk r k s has = subst (λ p. SpellsSnapshot disk p s) (sym has.there) (a
 
 -- a slot that isn't free is one of the root's
 pub in_slot : (r : Root) (k block : ℕ) → slot r k ≡ Block block → (j : ℕ) × (k ≡ suc j) × (j < length r.snapshots)
-in_slot r zero block is = absurd (no_block block is)
+in_slot r zero block is = absurd (hole_block is)
 in_slot r (suc j) block is = elim (cases_lt j (length r.snapshots)) [
   | inl lt ↦ (j, refl, lt)
-  | inr past ↦ absurd (no_block block (sym (get_or_past r.snapshots j Hole past) ∙ is))
+  | inr past ↦ absurd (hole_block (sym (get_or_past r.snapshots j Hole past) ∙ is))
 ]
-
--- where the snapshots are in their grammar, so is the block at each pointer
-pub at_slot : (disk : Blocks) (r : Root) (k : ℕ) (p : Pointer) → AreSnapshots r (whole disk r) → slot r (suc k) ≡ p → IsSnapshotAt r.geometry r.generation disk p
-unfolding whole
-at_slot disk r k Hole are is = tt
-at_slot disk r k (Block b) are is =
-    let one = are.each (suc k) b is in
-    record { snapshot = one.0; is = one.2.is; spelled = sym (ap (pointed disk) is) ∙ one.2.spelled; order = one.2.order; inode_file = one.2.inode_file }
 
 -- no slot has the name, where none of the pointers' blocks does
 pub none_has : (disk : Blocks) (r : Root) (name : List ℕ) (n k : ℕ) (s : Snapshot) → length r.snapshots ≤ n

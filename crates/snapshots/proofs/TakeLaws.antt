@@ -1,6 +1,6 @@
 -- The tests of `snap take`, and where a new snapshot goes.
 use Rattle.std.proofs.Common.{◌≡◌, inl, inr, ℕ, suc, ◌+◌, ◌<◌, ◌≤◌, true, false, Bool, List, length, Option, Some, None, refl, ap, sym, subst, ◌∙◌, arith}
-use Rattle.std.specs.Prelude.{◌==◌, ◌||◌, is_some, nat_le, nat_lt, not, slice_index_or}
+use Rattle.std.specs.Prelude.{◌≢◌, ◌==◌, ◌||◌, is_some, nat_le, nat_lt, not, slice_index_or}
 use Rattle.std.specs.List.{list_any}
 use Rattle.std.proofs.lemmas.Bool.{cases_eq, cases_lt, eq-eqb, le-leb, lt-leb}
 use Rattle.layout.specs.Places.{Blocks}
@@ -78,14 +78,16 @@ module _ (disk : Blocks) (r : Root) (root : IsRoot r) (name : Name) (v : Volume)
         omega (arith, low, is)
   ]
 
-  pub may_take : (t : Taking) (last : ℕ) → IsSlotNumber t.slot → slot r t.slot ≡ Hole → is_bad_name name ≡ false → named name pairs ≡ None → IsNewest disk r 20 last → t.order ≡ last + 1
+  pub may_take : (t : Taking) (last : ℕ) → IsSlotNumber t.slot → slot r t.slot ≡ Hole → ((k : ℕ) → 1 ≤ k → k < t.slot → slot r k ≢ Hole) → is_bad_name name ≡ false → named name pairs ≡ None → IsNewest disk r 20 last → t.order ≡ last + 1
       → MayTake disk r name t
-  may_take t last number free good none newest order =
+  may_take t last number free least good none newest order =
       let size = good_length name good in
       let low = low_order last newest in
       record {
         slot_is = number;
         free = free;
+        least = least;
+        next = (last, newest, order);
         some = size.0;
         short = size.1;
         names = λ k s has same. (let both : None ≡ Some (name, (one_named disk r name v pairs holds k s has same).tree) = sym none ∙ (one_named disk r name v pairs holds k s has same).listed in absurd (cc));

@@ -6,6 +6,7 @@ ghost use Rattle.layout.specs.Pointer.{PointsBelow};
 ghost use Rattle.layout.specs.Root.{IsRoot};
 ghost use Rattle.layout.specs.SnapRoot.{Snapshot};
 ghost use Rattle.layout.specs.declared.pointer.Pointer.{Pointer};
+ghost use Rattle.layout.specs.declared.version.TheConstants.{SNAPSHOT_SLOTS};
 ghost use Rattle.model.specs.Paths.{Name};
 ghost use Rattle.model.specs.Trees.{Tree};
 ghost use Rattle.model.specs.Volumes.{Volume};
@@ -80,7 +81,7 @@ fn next_above<B: Blocks>(blocks: &mut B, root: &Root, above: u64) -> Result<Opti
     requires size { B.count blocks.old ≡ root.now.geometry.blocks }
     ensures reads { ReadsBlocks B.Blocks IsFault blocks.old blocks.new result }
     ensures least { (disk : ℕ → List ℕ) → B.Shows blocks.old disk
-        → IfOk result (IsLeastAbove disk root.now above 20) }
+        → IfOk result (IsLeastAbove disk root.now above SNAPSHOT_SLOTS) }
     ensures higher { IfOk result (λ next.
         IfSome next (IsHigher root.now.geometry.blocks above)) }
     ensures damaged { (disk : ℕ → List ℕ) → B.Shows blocks.old disk → (v : Volume)

@@ -5,11 +5,13 @@ ghost use Rattle.std.specs.List.{list_any};
 ghost use Rattle.layout.specs.Root.{IsRoot};
 ghost use Rattle.layout.specs.SnapRoot.{Snapshot};
 ghost use Rattle.layout.specs.declared.pointer.Pointer.{Pointer};
+ghost use Rattle.layout.specs.declared.version.TheConstants.{SNAPSHOT_SLOTS};
 ghost use Rattle.model.specs.Paths.{Name, first_refusal};
 ghost use Rattle.model.specs.States.{State};
 ghost use Rattle.model.specs.Steps.{is_bad_name, is_name_byte, take_tests};
 ghost use Rattle.model.specs.Trees.{Tree};
 ghost use Rattle.model.specs.Volumes.{Volume};
+ghost use Rattle.model.specs.declared.limits.TheConstants.{SNAPSHOT_NAME_BYTES};
 ghost use Rattle.buffers.specs.Reads.{ReadsBlocks};
 ghost use Rattle.blocktree.specs.Errors.{IsFault};
 ghost use Rattle.images.specs.Roots.{slot, whole};
@@ -60,7 +62,10 @@ fn free_slot(root: &Root) -> Option<u32>
     requires { IsRoot root.now }
     ensures some { IfSome result IsSlotNumber }
     ensures free { IfSome result (λ k. slot root.now k ≡ Pointer.Hole) }
-    ensures none { IfNone result ((k : ℕ) → 1 ≤ k → k ≤ 20 → slot root.now k ≡ Pointer.Hole → ⊥) }
+    ensures least { IfSome result (λ s.
+        (k : ℕ) → 1 ≤ k → k < s → slot root.now k ≢ Pointer.Hole) }
+    ensures none { IfNone result ((k : ℕ) → 1 ≤ k → k ≤ SNAPSHOT_SLOTS
+        → slot root.now k ≢ Pointer.Hole) }
 {
     for k in 0..SNAPSHOT_SLOTS {
         if let Pointer::Hole = root.snapshots[k] {
@@ -75,7 +80,8 @@ fn newest<B: Blocks>(blocks: &mut B, root: &Root) -> Result<u64, ReadError>
     requires root { IsRoot root.now }
     requires size { B.count blocks.old ≡ root.now.geometry.blocks }
     ensures reads { ReadsBlocks B.Blocks IsFault blocks.old blocks.new result }
-    ensures is { (disk : ℕ → List ℕ) → B.Shows blocks.old disk → IfOk result (IsNewest disk root.now 20) }
+    ensures is { (disk : ℕ → List ℕ) → B.Shows blocks.old disk
+        → IfOk result (IsNewest disk root.now SNAPSHOT_SLOTS) }
     ensures last { IfOk result (λ n. n < 2 ^ 62) }
     ensures damaged { (disk : ℕ → List ℕ) → B.Shows blocks.old disk → (v : Volume)
         (pairs : List (Name × Tree)) → Holds root.now (whole disk root.now) v pairs
@@ -107,7 +113,7 @@ pub fn prepare_take<B: Blocks>(
         (RefusesTake s name.now)) }
     ensures own { IfOk result (λ taking. IfErr taking (λ errno. errno ≢ Errno.EIO)) }
     ensures fits { IfOk result (λ taking. IfOk taking (λ t. IsSlotNumber t.slot
-        × (length name.now ≤ 63))) }
+        × (length name.now ≤ SNAPSHOT_NAME_BYTES))) }
     ensures may { (disk : ℕ → List ℕ) → B.Shows blocks.old disk → (v : Volume)
         (pairs : List (Name × Tree)) → Holds root.now (whole disk root.now) v pairs
         → IfOk result (λ taking. IfOk taking (MayTake disk root.now name.now)) }

@@ -21,10 +21,8 @@ use Rattle.model.specs.declared.reply.Reply.{Reply}
 use Rattle.model.specs.declared.reply.Reply.TheVariants.{Done, Refused}
 use Rattle.blocktree.specs.declared.error.ReadError.{ReadError}
 use Rattle.inofile.specs.declared.inode_file.InodeFile.{InodeFile}
-use Rattle.calls.specs.Changing.{Comes, ComesOrStays, ComesSwept, said_by}
+use Rattle.calls.specs.Changing.{Comes, ComesOrStays, ComesSwept, said_by, ComesSweptBy}
 use Rattle.records.specs.Prepared.{Does}
-use Rattle.records.specs.Served.{IsServed}
-use Rattle.calls.specs.Truncating.{ComesToSize}
 use Rattle.calls.specs.declared.changed.Changing.{Changing}
 use Rattle.calls.proofs.SweptLaws.{comes_swept}
 use Rattle.images.specs.Roots.{whole}
@@ -39,28 +37,17 @@ use Rattle.system.proofs.ServingLaws.{told_of}
 -- ---- what a call asks for
 
 -- a call that was asked in these words
-pub asked_swept : (n : ℕ) (call asked : PathCall) (work : Work) (v : Volume) (table : ℕ → Option Description) (r : Result (Result Changing Errno) ReadError) → call ≡ asked
-    → IfOk r (ComesSwept (calls n (tree_of v table) asked) work n v table) → IfOk r (RecordComes n call v table)
-asked_swept n call asked work v table (Ok r) is here = (work, subst (λ (k : PathCall). ComesSwept (calls n (tree_of v table) k) work n v table r) (sym is) here)
-asked_swept n call asked work v table (Err e) is here = tt
+pub asked_swept : (n : ℕ) (call asked : PathCall) (v : Volume) (table : ℕ → Option Description) (r : Result Changing Errno) → call ≡ asked
+    → ComesSwept (calls n (tree_of v table) asked) n v table r → RecordComes call n v table r
+asked_swept n call asked v table r is here = subst (λ (k : PathCall). RecordComes k n v table r) (sym is) here
 
-pub asked : (n : ℕ) (call asked : PathCall) (work : Work) (v : Volume) (table : ℕ → Option Description) (r : Result (Result Changing Errno) ReadError) → call ≡ asked
-    → IfOk r (Comes (calls n (tree_of v table) asked) work n v table) → IfOk r (RecordComes n call v table)
-asked n call words work v table (Ok r) is here = asked_swept n call words work v table (Ok r) is (comes_swept (calls n (tree_of v table) words) work n v table r here)
-asked n call words work v table (Err e) is here = tt
+pub asked : (n : ℕ) (call asked : PathCall) (v : Volume) (table : ℕ → Option Description) (r : Result Changing Errno) → call ≡ asked
+    → Comes (calls n (tree_of v table) asked) n v table r → RecordComes call n v table r
+asked n call words v table r is here = asked_swept n call words v table r is (comes_swept (calls n (tree_of v table) words) n v table r here)
 
-pub asked_or_stays : (n : ℕ) (call asked : PathCall) (work : Work) (v : Volume) (table : ℕ → Option Description) (r : Result (Result (Option Changing) Errno) ReadError) → call ≡ asked
-    → IfOk r (ComesOrStays (calls n (tree_of v table) asked) work n v table) → IfOk r (CallComes n call v table)
-asked_or_stays n call asked work v table (Ok r) is here = (work, subst (λ (k : PathCall). ComesOrStays (calls n (tree_of v table) k) work n v table r) (sym is) here)
-asked_or_stays n call asked work v table (Err e) is here = tt
-
--- the same, where the record tells of the work
-pub asked_to_size : (n : ℕ) (call asked : PathCall) (v : Volume) (table : ℕ → Option Description) (r : Result (Result (Option Changing) Errno) ReadError) → call ≡ asked
-    → IfOk r (ComesToSize (calls n (tree_of v table) asked) n v table) → IfOk r (CallComes n call v table)
-asked_to_size n call asked v table (Ok (Ok (Some c))) is here = asked_or_stays n call asked (work_of v (said_by c.change)) v table (Ok (Ok (Some c))) is here
-asked_to_size n call asked v table (Ok (Ok None)) is here = asked_or_stays n call asked adds_name v table (Ok (Ok None)) is here
-asked_to_size n call asked v table (Ok (Err errno)) is here = asked_or_stays n call asked adds_name v table (Ok (Err errno)) is here
-asked_to_size n call asked v table (Err e) is here = tt
+pub asked_or_stays : (n : ℕ) (call asked : PathCall) (v : Volume) (table : ℕ → Option Description) (r : Result (Option Changing) Errno) → call ≡ asked
+    → ComesOrStays (calls n (tree_of v table) asked) n v table r → CallComes call n v table r
+asked_or_stays n call asked v table r is here = subst (λ (k : PathCall). CallComes k n v table r) (sym is) here
 
 -- a call with one text, that was taken as bytes
 pub one_text : (call : PathCall) (of : List ℕ → PathCall) (path bytes : List ℕ) → call ≡ of path → bytes ≡ path → call ≡ of bytes
@@ -74,7 +61,7 @@ two_texts call of one other first second is same_first same_second = is ∙ (λ 
 
 -- what a call comes to on the tree of a system's volume
 abbrev pub ComesOver : {S : Type 0} {G : Ghosts S} (f : System S G) (s : State) → ServesState f s → PathCall → Result (Option Changing) Errno → Type 0
-ComesOver f s serves call = CallComes f.inodes.geometry.inodes call serves.running s.tree.descriptors
+ComesOver f s serves call = CallComes call f.inodes.geometry.inodes serves.running s.tree.descriptors
 
 same_inodes : {S : Type 0} {G : Ghosts S} (f : System S G) (s : State) (serves : ServesState f s) → f.inodes.geometry.inodes ≡ s.inodes
 same_inodes f s serves = ap (λ (g : Sizes). g.inodes) f.sizes ∙ sym (ap (λ (u : State). u.inodes) serves.state)
@@ -89,19 +76,18 @@ stays f s serves call reply told =
 pub changing_refused : {S : Type 0} {G : Ghosts S} (f : System S G) (s : State) (serves : ServesState f s) (call : PathCall) (r : Result (Option Changing) Errno) (errno : Errno) → r ≡ Err errno
     → ComesOver f s serves call r → WouldCall s (command.Path call) (Refused errno) s nothing
 changing_refused f s serves call r errno is told =
-    stays f s serves call (Refused errno) (subst (λ (x : Result (Option Changing) Errno). ComesOver f s serves call x) is told).1
+    stays f s serves call (Refused errno) (subst (λ (x : Result (Option Changing) Errno). ComesOver f s serves call x) is told)
 
 pub changing_nothing : {S : Type 0} {G : Ghosts S} (f : System S G) (s : State) (serves : ServesState f s) (call : PathCall) (r : Result (Option Changing) Errno) → r ≡ Ok None
     → ComesOver f s serves call r → WouldCall s (command.Path call) Done s nothing
 changing_nothing f s serves call r is told =
-    stays f s serves call Done (subst (λ (x : Result (Option Changing) Errno). ComesOver f s serves call x) is told).1
+    stays f s serves call Done (subst (λ (x : Result (Option Changing) Errno). ComesOver f s serves call x) is told)
 
 -- What is told of a call whose record is to be logged, by a system that serves a state.
 pub record IsChanged {S : Type 0} {G : Ghosts S} (f : System S G) (s : State) (serves : ServesState f s) (call : PathCall) (change : Change) : Type 0 where
   pub advances : Advances f.root.geometry.inodes serves.running s.tree.descriptors change
-  pub work : Work
   pub step : WouldCall s (command.Path call) Done
-      (state_with f.root.geometry.inodes (swept s.tree.descriptors (applied change serves.running)) s.tree.descriptors serves.snapshots) (logs work)
+      (state_with f.root.geometry.inodes (swept s.tree.descriptors (applied change serves.running)) s.tree.descriptors serves.snapshots) (logs (work_of serves.running change))
 
 pub changing_told : {S : Type 0} {G : Ghosts S} (f : System S G) (s : State) (serves : ServesState f s) (call : PathCall) (r : Result (Option Changing) Errno) (c : Changing) (change : Change) → r ≡ Ok (Some c)
     → change ≡ said_by c.change → IsChange change → ComesOver f s serves call r → IsChanged f s serves call change
@@ -112,24 +98,16 @@ changing_told f s serves call r c change is says is_change told =
     let sizes : f.inodes.geometry.inodes ≡ inodes = ap (λ (g : Sizes). g.inodes) f.sizes in
     let tree : s.tree ≡ tree_of v table = ap (λ (u : State). u.tree) serves.state in
     let count : s.inodes ≡ inodes = ap (λ (u : State). u.inodes) serves.state in
-    let told_here : CallComes inodes call v table (Ok (Some c)) = subst (λ (n : ℕ). CallComes n call v table (Ok (Some c))) sizes
+    let told_here : CallComes call inodes v table (Ok (Some c)) = subst (λ (n : ℕ). CallComes call n v table (Ok (Some c))) sizes
     (subst (λ (x : Result (Option Changing) Errno). ComesOver f s serves call x) is told) in
-    let work = told_here.0 in
-    let here = told_here.1 in
-    let of_change = λ (P : Change → Type 0) (p : P (said_by c.change)). subst P (sym says) p in
+    let here = subst (ComesSweptBy (calls inodes (tree_of v table) call) inodes v table) (sym says) told_here in
+    let after : Tree = tree_of (swept table (applied change v)) table in
     record {
-      advances = record {
-        is = is_change;
-        served = of_change IsServed here.0;
-        applies = of_change (Applies inodes v) here.1;
-        mounted = of_change (λ (k : Change). IsMounted (swept table (applied k v)) table) here.2;
-      };
-      work = work;
+      advances = record { is = is_change; applies = here.0; mounted = here.1 };
       step = λ room. (
-        subst (λ (n : ℕ). calls n s.tree call Done (tree_of (swept table (applied change v)) table) (logs work)) (sym count)
-            (subst (λ (t : Tree). calls inodes t call Done (tree_of (swept table (applied change v)) table) (logs work)) (sym tree)
-            (of_change (λ (k : Change). calls inodes (tree_of v table) call Done (tree_of (swept table (applied k v)) table) (logs work)) here.3)),
-        ap (λ (u : State). record u { tree = tree_of (swept table (applied change v)) table }) (sym serves.state),
+        subst (λ (n : ℕ). calls n s.tree call Done after (logs (work_of v change))) (sym count)
+            (subst (λ (t : Tree). calls inodes t call Done after (logs (work_of v change))) (sym tree) here.2),
+        ap (λ (u : State). record u { tree = after }) (sym serves.state),
       );
     }
 

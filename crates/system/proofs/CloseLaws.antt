@@ -17,6 +17,7 @@ use Rattle.inofile.specs.Volumes.{IsVolumeOf}
 use Rattle.inofile.specs.declared.inode_file.InodeFile.{InodeFile}
 use Rattle.images.specs.Roots.{whole}
 use Rattle.loading.specs.Images.{inodes_of}
+use Rattle.buffers.specs.declared.cache.Buffers.{Buffers}
 use Rattle.descriptors.specs.Files.{description_of}
 use Rattle.descriptors.specs.Fits.{FitsVolume}
 use Rattle.descriptors.specs.Tables.{table_of}
@@ -24,8 +25,8 @@ use Rattle.descriptors.specs.declared.table.Descriptors.{Descriptors}
 use Rattle.files.specs.Closing.{IsOpenNameless}
 use Rattle.files.specs.Opened.{tree_with}
 use Rattle.system.specs.Laws.{RecordLaws}
-use Rattle.system.specs.Serving.{ServesState}
-use Rattle.system.specs.Systems.{IsServing, meaning_of, state_with}
+use Rattle.system.specs.Serving.{IsSureOn, ServesState}
+use Rattle.system.specs.Systems.{IsServing, meaning_of, parts_of, state_with}
 use Rattle.system.specs.declared.system.System.{System}
 use Rattle.system.proofs.MovedLaws.{dropped}
 use Rattle.system.proofs.ServingLaws.{LeadsTo}
@@ -53,10 +54,6 @@ module _ {S : Type 0} {G : Ghosts S} (law : NamedHavePaths) (f : System S G) (s 
   tree : s.tree ≡ tree_of serves.running s.tree.descriptors
   tree = ap (λ (u : State). u.tree) serves.state
 
-  -- whether it has to be answered
-  pub close_sure : IsSure s (command.Close fd) ⊎ ¬ IsSure s (command.Close fd)
-  close_sure = sure_or_not law f.root.geometry.inodes serves.running s.tree.descriptors serves.memory.volume serves.mounted s.tree tree fd (s.tree.descriptors fd) refl
-
   -- not for a file with no name
   pub nameless_not_sure : IsOpenNameless serves.running f.files fd → ¬ IsSure s (command.Close fd)
   nameless_not_sure opened sure =
@@ -66,12 +63,19 @@ module _ {S : Type 0} {G : Ghosts S} (law : NamedHavePaths) (f : System S G) (s 
       let has = law f.root.geometry.inodes file.number serves.running s.tree.descriptors serves.memory.volume (serves.mounted.files fd (description_of file) here) in
       false≢true (sym (has.0 (subst (λ (t : Tree). HasPath t file.number) tree path)) ∙ opened.2)
 
+  -- whether it has to be answered; no block is read then
+  pub close_sure : (new : System S G) → ((IsOpenNameless serves.running f.files fd → ⊥) → new.blocks ≡ f.blocks) → IsSureOn f new s (command.Close fd) ⊎ ¬ IsSure s (command.Close fd)
+  close_sure new still = elim (sure_or_not law f.root.geometry.inodes serves.running s.tree.descriptors serves.memory.volume serves.mounted s.tree tree fd (s.tree.descriptors fd) refl) [
+    | inl sure ↦ inl (record { sure = sure; still = ap (λ (b : Buffers S). b.station) (still (λ opened. nameless_not_sure opened sure)) })
+    | inr not ↦ inr not
+  ]
+
 -- what the system serves once it is freed
 pub close_leads : {S : Type 0} {G : Ghosts S} (records : RecordLaws) (new : System S G) (s : State) (fd : ℕ) (reply : Reply) (inodes : InodeFile) (files : Descriptors)
-    (now : IsServing (meaning_of new) new.blocks.kept new.root new.slot inodes new.map new.log new.pledged files s.tree.descriptors s)
+    (now : IsServing (meaning_of new) (record (parts_of new) { inodes = inodes; files = files }) s.tree.descriptors s)
     → IsVolumeOf new.root.geometry.blocks (blocks_of (meaning_of new).seen.disk) (inodes_of (whole (blocks_of (meaning_of new).seen.disk) new.root).active) new.inodes (swept (table_of new.files) now.running)
     → FitsVolume new.files (swept (table_of new.files) now.running) → IsMounted (swept (table_of new.files) now.running) (table_of new.files)
-    → closes (tree_with files now.running) fd reply (tree_with new.files (swept (table_of new.files) now.running)) nothing → LeadsTo new s (command.Close fd) reply
+    → closes (tree_with files now.running) fd reply (tree_with new.files (swept (table_of new.files) now.running)) nothing → LeadsTo new s (command.Close fd) reply now.replayed.changes
 close_leads {S} {G} records new s fd reply inodes files now stands fits mounted told =
     let n = new.root.geometry.inodes in
     let v = now.running in
@@ -81,5 +85,6 @@ close_leads {S} {G} records new s fd reply inodes files now stands fits mounted 
     record {
       after = state_with n (swept after v) after now.snapshots;
       step = λ room. (subst (λ (t : Tree). closes t fd reply left nothing) (sym tree) told, ap (λ (u : State). record u { tree = left }) (sym now.state));
-      serves = dropped (meaning_of new) new.blocks.kept new.root new.slot inodes new.map new.log new.pledged files s.tree.descriptors s now new.files after refl records new.inodes stands fits mounted;
+      serves = dropped now new.files after refl records new.inodes stands fits mounted;
+      records = refl;
     }

@@ -2,6 +2,7 @@
 use Rattle.std.proofs.Common.{◌≡◌, ℕ, ◌+◌, ◌≤◌, ◌^◌, List, [], ◌∷◌, Option, refl, ap, sym, subst, ◌∙◌, arith, inl, inr}
 use Rattle.std.specs.Prelude.{map}
 use Rattle.std.specs.BTreeMap.{BTreeMap}
+use Rattle.station.specs.declared.station.Station.{Ghosts}
 use Rattle.station.specs.Moments.{Meaning, MayLeave}
 use Rattle.layout.specs.Limits.{Sizes}
 use Rattle.layout.specs.Log.{half_of}
@@ -27,9 +28,11 @@ use Rattle.oplog.specs.LogEnd.{LogEnd, EndsAt, all_of, next_of, no_bodies}
 use Rattle.oplog.specs.declared.log.End.{End}
 use Rattle.oplog.specs.declared.log.End.TheVariants.{Unopened, At}
 use Rattle.system.specs.Laws.{RootLaws}
-use Rattle.system.specs.Systems.{IsServing}
+use Rattle.system.specs.Systems.{Parts, IsCovered, IsServing}
+use Rattle.system.specs.declared.system.System.{System}
 
-none_spelled : (changes : List Change) → [] ≡ map change_bytes changes → changes ≡ []
+-- no body spells no record
+pub none_spelled : (changes : List Change) → [] ≡ map change_bytes changes → changes ≡ []
 none_spelled [] is = refl
 none_spelled (c ∷ changes) is = absurd (cc)
 
@@ -39,13 +42,13 @@ none_newest Unopened epoch bytes bodies first ends = ends.1
 none_newest (At next) epoch bytes [] first ends = refl
 none_newest (At next) epoch bytes (body ∷ bodies) first ends = absurd (omega (arith, first, ends.3))
 
-module _ (m : Meaning) (kept : BTreeMap ℕ Block) (root : Root) (slot : ℕ) (inodes : InodeFile) (map_now : BlockMap) (log : LogEnd) (pledged : ℕ) (files : Descriptors) (table : ℕ → Option Description) (s : State)
-    (serves : IsServing m kept root slot inodes map_now log pledged files table s) where
+module _ {m : Meaning} {k : Parts} {table : ℕ → Option Description} {s : State}
+    (serves : IsServing m k table s) where
   -- no record stands in an empty log
-  pub no_record : MayLeave m m.seen → log.epoch ≡ root.generation + 1 → next_of log.end ≡ FIRST_GATE → serves.bodies ≡ no_bodies
+  pub no_record : MayLeave m m.seen → k.log.epoch ≡ k.root.generation + 1 → next_of k.log.end ≡ FIRST_GATE → serves.bodies ≡ no_bodies
   no_record seen next first =
       let stands = (serves.left serves.honest m.seen seen).log_stands in
-      let newest = none_newest log.end log.epoch (half_of log.half log.epoch m.seen.nvram) serves.bodies.newest first stands.ends in
+      let newest = none_newest k.log.end k.log.epoch (half_of k.log.half k.log.epoch m.seen.nvram) serves.bodies.newest first stands.ends in
       let older : serves.bodies.older ≡ [] = elim stands.other [
         | inl other ↦ other.2
         | inr second ↦ let after = second.0 in absurd (omega (arith, after, next))
@@ -56,17 +59,21 @@ module _ (m : Meaning) (kept : BTreeMap ℕ Block) (root : Root) (slot : ℕ) (i
   no_change none = none_spelled serves.replayed.changes (sym (ap all_of none) ∙ serves.replayed.spelled)
 
   -- what memory stands for is settled
-  pub settled : RootLaws → inodes.geometry ≡ root.geometry
+  pub settled : RootLaws → k.inodes.geometry ≡ k.root.geometry
       → ((count : ℕ) (disk : ℕ → List ℕ) (settled : ℕ → Inode) (s : InodeFile) (v w : Volume) → s.geometry.inodes ≤ 2 ^ 32 → IsVolumeOf count disk settled s v → HasNoChange s
       → HoldsVolume s.geometry.inodes (λ n. held_content disk (settled n)) w → w ≡ v)
-      → HasNoChange inodes → serves.first ≡ serves.running
+      → HasNoChange k.inodes → serves.first ≡ serves.running
   settled laws sizes only none =
       let d = blocks_of m.seen.disk in
       let is = serves.under.newest.there.root in
-      let ready = laws.readable d root serves.first serves.snapshots serves.under.holds in
+      let ready = laws.readable d k.root serves.first serves.snapshots serves.under.holds in
       let most = is.head.sizes.most_inodes in
-      let few : root.geometry.inodes ≤ 2 ^ 32 = omega (arith, most) in
-      only root.geometry.blocks d (inodes_of (whole d root).active) inodes serves.running serves.first
+      let few : k.root.geometry.inodes ≤ 2 ^ 32 = omega (arith, most) in
+      only k.root.geometry.blocks d (inodes_of (whole d k.root).active) k.inodes serves.running serves.first
       (subst (λ (g : Sizes). g.inodes ≤ 2 ^ 32) (sym sizes) few) serves.memory.stands none
-      (subst (λ (g : Sizes). HoldsVolume g.inodes (λ n. held_content d (inodes_of (whole d root).active n)) serves.first) (sym sizes)
-      (laws.held d root serves.first is ready serves.under.holds.holds))
+      (subst (λ (g : Sizes). HoldsVolume g.inodes (λ n. held_content d (inodes_of (whole d k.root).active n)) serves.first) (sym sizes)
+      (laws.held d k.root serves.first is ready serves.under.holds.holds))
+
+-- a covered system is so at the same state
+pub covered_at : {S : Type 0} {G : Ghosts S} (f : System S G) (table : ℕ → Option Description) (s t : State) → t ≡ s → IsCovered f table s → IsCovered f table t
+covered_at f table s t is covered = subst (λ (u : State). IsCovered f table u) (sym is) covered

@@ -1,3 +1,4 @@
+pub mod CountingLaws
 mod SystemLaws
 mod PointLaws
 mod SettledLaws
@@ -7,7 +8,7 @@ mod ServingLaws
 mod HandlingLaws
 mod ChangingLaws
 mod RoomLaws
-mod CoveredLaws
+pub mod CoveredLaws
 mod SpaceLaws
 mod TableLaws
 mod MovedLaws

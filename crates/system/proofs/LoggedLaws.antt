@@ -27,13 +27,12 @@ use Rattle.inofile.specs.declared.inode_file.InodeFile.{InodeFile}
 use Rattle.images.specs.Roots.{whole}
 use Rattle.images.specs.States.{SameButFree}
 use Rattle.loading.specs.Images.{inodes_of}
-use Rattle.records.specs.Served.{IsServed}
 use Rattle.oplog.specs.LogEnd.{LogEnd, LogStands, ReadsDisk, StandsAt, WithOrWithout, all_of, with_body}
 use Rattle.system.specs.Images.{IsLeft, IsReplayed, IsUnder, OpensTo}
 use Rattle.system.specs.Laws.{CutLaws, RecordLaws}
 use Rattle.system.specs.Memory.{IsInMemory}
 use Rattle.system.specs.Logging.{Advances}
-use Rattle.system.specs.Systems.{IsServing, state_with}
+use Rattle.system.specs.Systems.{Parts, IsServing, IsServingWith, state_with}
 use Rattle.system.proofs.RoomLaws.{one_pledged}
 use Rattle.system.proofs.SystemLaws.{same_open}
 
@@ -42,9 +41,8 @@ replays_more : (inodes : ℕ) (v : Volume) (changes : List Change) (w : Volume) 
 replays_more inodes v [] w c is applies = (subst (λ (u : Volume). Applies inodes u c) is applies, ap (applied c) is)
 replays_more inodes v (d ∷ ds) w c rest applies = (rest.0, replays_more inodes (applied d v) ds w c rest.1 applies)
 
-module _ (laws : CutLaws) (records : RecordLaws) (m : Meaning) (kept : BTreeMap ℕ Block) (root : Root) (slot : ℕ) (inodes : InodeFile) (map_now : BlockMap) (log : LogEnd) (pledged : ℕ) (files : Descriptors)
-    (table : ℕ → Option Description) (s : State) (serves : IsServing m kept root slot inodes map_now log pledged files table s) (change : Change)
-    (advances : Advances root.geometry.inodes serves.running table change) where
+module _ (laws : CutLaws) (records : RecordLaws) {m : Meaning} {k : Parts} {table : ℕ → Option Description} {s : State} (serves : IsServing m k table s) (change : Change)
+    (advances : Advances k.root.geometry.inodes serves.running table change) where
   spelled : all_of (with_body serves.bodies (change_bytes change)) ≡ map change_bytes (serves.replayed.changes ++ change ∷ [])
   spelled =
       sym (append_assoc serves.bodies.older serves.bodies.newest (change_bytes change ∷ []))
@@ -56,80 +54,81 @@ module _ (laws : CutLaws) (records : RecordLaws) (m : Meaning) (kept : BTreeMap 
   volume_after = swept table (applied change serves.running)
 
   extends : Extends volume_after (applied change serves.replayed.last)
-  extends = (records.follow root.geometry.inodes serves.running serves.replayed.last table change serves.replayed.extends advances.applies).1
+  extends = (records.follow k.root.geometry.inodes serves.running serves.replayed.last table change serves.replayed.extends advances.applies).1
 
-  abbrev replayed : IsReplayed root.geometry.inodes (with_body serves.bodies (change_bytes change)) serves.first volume_after
+  abbrev replayed : IsReplayed k.root.geometry.inodes (with_body serves.bodies (change_bytes change)) serves.first volume_after
   replayed = record {
     changes = serves.replayed.changes ++ change ∷ [];
     are = All-push IsChange serves.replayed.changes change serves.replayed.are advances.is;
-    served = All-push IsServed serves.replayed.changes change serves.replayed.served advances.served;
     spelled = spelled;
     last = applied change serves.replayed.last;
-    replays = replays_more root.geometry.inodes serves.first serves.replayed.changes serves.replayed.last change serves.replayed.replays
-        (records.follow root.geometry.inodes serves.running serves.replayed.last table change serves.replayed.extends advances.applies).0;
+    replays = replays_more k.root.geometry.inodes serves.first serves.replayed.changes serves.replayed.last change serves.replayed.replays
+        (records.follow k.root.geometry.inodes serves.running serves.replayed.last table change serves.replayed.extends advances.applies).0;
     extends = extends;
   }
 
-  volume : IsVolume root.geometry.inodes volume_after
-  volume = records.sweeps root.geometry.inodes (applied change serves.running) table
-      (records.volumes root.geometry.inodes serves.running change serves.memory.volume advances.applies)
+  volume : IsVolume k.root.geometry.inodes volume_after
+  volume = records.sweeps k.root.geometry.inodes (applied change serves.running) table
+      (records.volumes k.root.geometry.inodes serves.running change serves.memory.volume advances.applies)
 
   -- the state that the record leads to
   abbrev pub state_after : State
-  state_after = state_with root.geometry.inodes volume_after table serves.snapshots
+  state_after = state_with k.root.geometry.inodes volume_after table serves.snapshots
 
   -- the log before it
-  pub log_stands : LogStands m log root.generation serves.bodies
+  pub log_stands : LogStands m k.log k.root.generation serves.bodies
   log_stands honest c left = (serves.left honest c left).log_stands
 
-  same_disk : (c : Images) → (d : Images) → MayLeave m d → c.disk ≡ d.disk → SameButFree root m.seen.disk c.disk
+  same_disk : (c : Images) → (d : Images) → MayLeave m d → c.disk ≡ d.disk → SameButFree k.root m.seen.disk c.disk
   same_disk c d left is n some = ap (λ (e : ℕ → Sector). e n) is ∙ (serves.left serves.honest d left).same n some
 
-  module _ (size : m.sectors ≡ 8 * root.geometry.blocks) (half : log.half ≡ root.geometry.half) where
+  module _ (size : m.sectors ≡ 8 * k.root.geometry.blocks) (half : k.log.half ≡ k.root.geometry.half) where
     -- while it is put into the log
-    pub at_any_moment : (now : Meaning) → LeavesOnly m now (KeepsDisk m (WithOrWithout log.half root.generation serves.bodies (change_bytes change)))
+    pub at_any_moment : (now : Meaning) → LeavesOnly m now (KeepsDisk m (WithOrWithout k.log.half k.root.generation serves.bodies (change_bytes change)))
         → LeavesOnly m now (λ c. OpensTo m s c ⊎ OpensTo m state_after c)
     at_any_moment now leaves =
-        weaker m now (KeepsDisk m (WithOrWithout log.half root.generation serves.bodies (change_bytes change))) (λ c. OpensTo m s c ⊎ OpensTo m state_after c) leaves (λ c keeps. elim keeps.3 [
-          | inl without ↦ inl (same_open laws m m.seen.disk root slot serves.first serves.snapshots serves.under size serves.bodies serves.running serves.memory.volume serves.replayed table s serves.state
-              c (same_disk c keeps.0 keeps.1 keeps.2) (subst (λ (h : ℕ). LogHolds h root.generation c.nvram (all_of serves.bodies)) half without))
-          | inr with_it ↦ inr (same_open laws m m.seen.disk root slot serves.first serves.snapshots serves.under size (with_body serves.bodies (change_bytes change)) volume_after volume replayed
-              table state_after refl c (same_disk c keeps.0 keeps.1 keeps.2) (subst (λ (h : ℕ). LogHolds h root.generation c.nvram (all_of (with_body serves.bodies (change_bytes change)))) half with_it))
+        weaker m now (KeepsDisk m (WithOrWithout k.log.half k.root.generation serves.bodies (change_bytes change))) (λ c. OpensTo m s c ⊎ OpensTo m state_after c) leaves (λ c keeps. elim keeps.3 [
+          | inl without ↦ inl (same_open laws m m.seen.disk k.root k.slot serves.first serves.snapshots serves.under size serves.bodies serves.running serves.memory.volume serves.replayed table s serves.state
+              c (same_disk c keeps.0 keeps.1 keeps.2) (subst (λ (h : ℕ). LogHolds h k.root.generation c.nvram (all_of serves.bodies)) half without))
+          | inr with_it ↦ inr (same_open laws m m.seen.disk k.root k.slot serves.first serves.snapshots serves.under size (with_body serves.bodies (change_bytes change)) volume_after volume replayed
+              table state_after refl c (same_disk c keeps.0 keeps.1 keeps.2) (subst (λ (h : ℕ). LogHolds h k.root.generation c.nvram (all_of (with_body serves.bodies (change_bytes change)))) half with_it))
         ])
 
   -- once it is there, and memory follows
   pub logged : (now : Meaning) (now_log : LogEnd) → ((disk : ℕ → Sector) → ReadsDisk m disk → ReadsDisk now disk) → IsSameStation m now
-      → EachCut now (KeepsDisk m (StandsAt now_log root.generation (with_body serves.bodies (change_bytes change)))) → IsFalse now_log.is_stopped
-      → (k : ℕ) → ((v : Volume) → k ≡ cost (work_of v change)) → (now_inodes : InodeFile) (now_files : Descriptors)
-      → IsVolumeOf root.geometry.blocks (blocks_of m.seen.disk) (inodes_of (whole (blocks_of m.seen.disk) root).active) now_inodes volume_after
+      → EachCut now (KeepsDisk m (StandsAt now_log k.root.generation (with_body serves.bodies (change_bytes change)))) → IsFalse now_log.is_stopped
+      → (n : ℕ) → ((v : Volume) → n ≡ cost (work_of v change)) → (now_inodes : InodeFile) (now_files : Descriptors)
+      → IsVolumeOf k.root.geometry.blocks (blocks_of m.seen.disk) (inodes_of (whole (blocks_of m.seen.disk) k.root).active) now_inodes volume_after
       → table ≡ table_of now_files → FitsVolume now_files volume_after
-      → (serving : IsServing now kept root slot now_inodes map_now now_log (pledged + k) now_files table state_after) × (serving.running ≡ volume_after)
-  logged now now_log disks same appended goes k costs_it now_inodes now_files stands opened fits =
+      → IsServingWith now (record k { inodes = now_inodes; log = now_log; pledged = k.pledged + n; files = now_files }) table state_after volume_after
+      (serves.replayed.changes ++ change ∷ [])
+  logged now now_log disks same appended goes n costs_it now_inodes now_files stands opened fits =
       let there = disks m.seen.disk (serves.honest, refl) in
       let disk : m.seen.disk ≡ now.seen.disk = sym there.1 in
-      let serving : IsServing now kept root slot now_inodes map_now now_log (pledged + k) now_files table state_after = record {
+      let serving : IsServing now (record k { inodes = now_inodes; log = now_log; pledged = k.pledged + n; files = now_files }) table state_after = record {
         honest = there.0;
-        shows = subst (λ (d : ℕ → Sector). ShowsDisk now kept (blocks_of d)) disk (record {
+        shows = subst (λ (d : ℕ → Sector). ShowsDisk now k.kept (blocks_of d)) disk (record {
           honest = there.0;
           reads = λ b le. subst (λ (d : ℕ → Sector). IsBlock d b (blocks_of m.seen.disk b)) disk (serves.shows.reads b (subst (λ (n : ℕ). 8 * b + 8 ≤ n) same.sectors le));
           kept_is = serves.shows.kept_is;
         });
         first = serves.first;
         snapshots = serves.snapshots;
-        under = subst (IsUnder slot root serves.first serves.snapshots) disk serves.under;
+        under = subst (IsUnder k.slot k.root serves.first serves.snapshots) disk serves.under;
         bodies = with_body serves.bodies (change_bytes change);
         left = λ honest c left.
             let keeps = appended honest c left in
-            subst (λ (d : ℕ → Sector). IsLeft root now_log (with_body serves.bodies (change_bytes change)) d c) disk
+            subst (λ (d : ℕ → Sector). IsLeft k.root now_log (with_body serves.bodies (change_bytes change)) d c) disk
             (record { same = same_disk c keeps.0 keeps.1 keeps.2; log_stands = keeps.3 });
         running = volume_after;
         mounted = advances.mounted;
         replayed = replayed;
-        pledges = one_pledged root.geometry.inodes serves.first serves.replayed.changes change pledged k costs_it serves.pledges;
+        pledges = one_pledged k.root.geometry.inodes serves.first serves.replayed.changes change k.pledged n costs_it serves.pledges;
         opened = opened;
         fits = fits;
-        memory = subst (λ (d : ℕ → Sector). IsInMemory (blocks_of d) root now_inodes map_now volume_after) disk
+        memory = subst (λ (d : ℕ → Sector). IsInMemory (blocks_of d) k.root now_inodes k.map volume_after) disk
             (record { stands = stands; volume = volume; entries = serves.memory.entries });
         goes = goes;
         state = refl;
-      } in (serving, refl)
+      } in
+      record { serves = serving; volume = refl; records = refl }

@@ -25,7 +25,7 @@ use Rattle.descriptors.specs.declared.table.Descriptors.{Descriptors}
 use Rattle.system.specs.Images.{OpensTo}
 use Rattle.system.specs.Laws.{RecordLaws}
 use Rattle.system.specs.Serving.{LeavesEither}
-use Rattle.system.specs.Systems.{IsServing, state_with}
+use Rattle.system.specs.Systems.{Parts, IsServing, state_with}
 
 -- what opens to a state opens to it with other open files
 pub opens_moved : (m : Meaning) (n : ℕ) (v : Volume) (table after : ℕ → Option Description) (snapshots : List (Name × Tree)) (c : Images)
@@ -54,7 +54,6 @@ opens_moved m n v table after snapshots c to =
           rest = o.state.rest;
         };
       };
-      served = to.served;
     }
 
 pub leaves_moved : (old new : Meaning) (s : State) (n : ℕ) (v : Volume) (table after : ℕ → Option Description) (snapshots : List (Name × Tree))
@@ -96,11 +95,11 @@ sweep_extends running replayed table extends = record {
 
 -- ---- the system
 
-module _ (m : Meaning) (kept : BTreeMap ℕ Block) (root : Root) (slot : ℕ) (inodes : InodeFile) (map : BlockMap) (log : LogEnd) (pledged : ℕ) (files : Descriptors) (table : ℕ → Option Description) (s : State)
-    (serves : IsServing m kept root slot inodes map log pledged files table s) (now_files : Descriptors) (after : ℕ → Option Description) (opened : after ≡ table_of now_files) where
+module _ {m : Meaning} {k : Parts} {table : ℕ → Option Description} {s : State}
+    (serves : IsServing m k table s) (now_files : Descriptors) (after : ℕ → Option Description) (opened : after ≡ table_of now_files) where
   -- with other open files of the same volume
   abbrev pub moved : FitsVolume now_files serves.running → IsMounted serves.running after
-      → IsServing m kept root slot inodes map log pledged now_files after (state_with root.geometry.inodes serves.running after serves.snapshots)
+      → IsServing m (record k { files = now_files }) after (state_with k.root.geometry.inodes serves.running after serves.snapshots)
   moved fits mounted = record {
     honest = serves.honest;
     shows = serves.shows;
@@ -122,9 +121,9 @@ module _ (m : Meaning) (kept : BTreeMap ℕ Block) (root : Root) (slot : ℕ) (i
 
   -- with other open files, and without the files that then have neither name nor descriptor
   abbrev pub dropped : (records : RecordLaws) (now_inodes : InodeFile)
-      → IsVolumeOf root.geometry.blocks (blocks_of m.seen.disk) (inodes_of (whole (blocks_of m.seen.disk) root).active) now_inodes (swept after serves.running)
+      → IsVolumeOf k.root.geometry.blocks (blocks_of m.seen.disk) (inodes_of (whole (blocks_of m.seen.disk) k.root).active) now_inodes (swept after serves.running)
       → FitsVolume now_files (swept after serves.running) → IsMounted (swept after serves.running) after
-      → IsServing m kept root slot now_inodes map log pledged now_files after (state_with root.geometry.inodes (swept after serves.running) after serves.snapshots)
+      → IsServing m (record k { inodes = now_inodes; files = now_files }) after (state_with k.root.geometry.inodes (swept after serves.running) after serves.snapshots)
   dropped records now_inodes stands fits mounted = record {
     honest = serves.honest;
     shows = serves.shows;
@@ -138,7 +137,6 @@ module _ (m : Meaning) (kept : BTreeMap ℕ Block) (root : Root) (slot : ℕ) (i
     replayed = record {
       changes = serves.replayed.changes;
       are = serves.replayed.are;
-      served = serves.replayed.served;
       spelled = serves.replayed.spelled;
       last = serves.replayed.last;
       replays = serves.replayed.replays;
@@ -146,7 +144,7 @@ module _ (m : Meaning) (kept : BTreeMap ℕ Block) (root : Root) (slot : ℕ) (i
     };
     memory = record {
       stands = stands;
-      volume = records.sweeps root.geometry.inodes serves.running after serves.memory.volume;
+      volume = records.sweeps k.root.geometry.inodes serves.running after serves.memory.volume;
       entries = serves.memory.entries;
     };
     goes = serves.goes;

@@ -1,5 +1,5 @@
 -- What a call on descriptors comes to on a system that serves a state.
-use Rattle.std.proofs.Common.{◌≡◌, ◌≢◌, ◌+◌, ◌≤◌, ◌⊎◌, inl, inr, ℕ, List, Option, Some, None, Result, Ok, Err, length, ap, sym, subst, ◌∙◌, arith}
+use Rattle.std.proofs.Common.{◌≡◌, ◌≢◌, ◌+◌, ◌≤◌, ◌⊎◌, inl, inr, ℕ, List, Option, Some, None, Result, Ok, Err, length, ap, sym, subst, ◌∙◌, arith, refl}
 use Rattle.std.specs.Prelude.{IsTrue, IfOk, IfSome}
 use Rattle.std.proofs.Math.Path.{fun_ext}
 use Rattle.std.specs.BTreeMap.{BTreeMap}
@@ -12,8 +12,8 @@ use Rattle.layout.specs.Record.{Change, IsChange}
 use Rattle.layout.specs.declared.root.Root.{Root}
 use Rattle.model.specs.Circumstances.{IsSure}
 use Rattle.model.specs.Paths.{Name}
-use Rattle.model.specs.Records.{Applies, applied}
-use Rattle.model.specs.Room.{Work, nothing, logs}
+use Rattle.model.specs.Records.{applied, work_of}
+use Rattle.model.specs.Room.{nothing, logs}
 use Rattle.model.specs.States.{State}
 use Rattle.model.specs.Trees.{Description, Tree}
 use Rattle.model.specs.Volumes.{Volume, IsMounted, swept}
@@ -22,7 +22,7 @@ use Rattle.model.specs.declared.command.Command.TheVariants as command
 use Rattle.model.specs.declared.errno.Errno.{Errno}
 use Rattle.model.specs.declared.reply.Reply.{Reply}
 use Rattle.model.specs.declared.reply.Reply.TheVariants.{Refused}
-use Rattle.buffers.specs.declared.block.Block.{Block}
+use Rattle.buffers.specs.declared.blocks.Blocks as blocks
 use Rattle.blockmap.specs.declared.map.BlockMap.{BlockMap}
 use Rattle.images.specs.Roots.{whole}
 use Rattle.inofile.specs.declared.inode_file.InodeFile.{InodeFile}
@@ -30,15 +30,14 @@ use Rattle.loading.specs.Images.{inodes_of}
 use Rattle.blocktree.specs.declared.error.ReadError.{ReadError}
 use Rattle.records.specs.Prepared.{Does}
 use Rattle.records.specs.Rewriting.{GoesOver}
-use Rattle.records.specs.Served.{IsServed}
 use Rattle.descriptors.specs.Fits.{FitsVolume}
 use Rattle.descriptors.specs.Tables.{table_of}
 use Rattle.descriptors.specs.declared.table.Descriptors.{Descriptors}
 use Rattle.oplog.specs.LogEnd.{LogEnd, HasRoom, body_of}
 use Rattle.system.specs.Logging.{Advances}
-use Rattle.system.specs.OpenFiles.{DoesBeside, DoesCall, FitsMove, WouldLead, is_logging_call, is_looking_call, is_table_call, moved_table, recorded}
+use Rattle.system.specs.OpenFiles.{DoesBeside, DoesCall, DoesRecord, FitsMove, PreparesDoing, WouldLead, is_logging_call, is_looking_call, is_table_call, moved_table, recorded}
 use Rattle.system.specs.Serving.{HasEmptyLog, ServesState, WouldCall}
-use Rattle.system.specs.Systems.{IsServing, meaning_of, state_with}
+use Rattle.system.specs.Systems.{Parts, IsServing, IsServingWith, meaning_of, parts_of, state_with}
 use Rattle.system.specs.declared.file_change.Doing.{Doing}
 use Rattle.system.specs.declared.file_change.FileChange.{FileChange}
 use Rattle.system.specs.declared.system.System.{System}
@@ -108,33 +107,30 @@ logging_not_sure s (command.Within name c) is sure = cc
 -- ---- calls that log nothing
 
 -- what is told of a system's volume and its open files is told of the state that it serves
-pub led_to : (m : Meaning) (kept : BTreeMap ℕ Block) (root : Root) (slot : ℕ) (inodes : InodeFile) (map : BlockMap) (log : LogEnd) (pledged : ℕ) (files : Descriptors) (table : ℕ → Option Description) (s : State)
-    (now : IsServing m kept root slot inodes map log pledged files table s) (call : Command) (reply : Reply) (after : ℕ → Option Description)
-    → WouldLead root.geometry.inodes now.running (table_of files) call reply now.running after nothing
-    → WouldCall s call reply (state_with root.geometry.inodes now.running after now.snapshots) nothing
-led_to m kept root slot inodes map log pledged files table s now call reply after told =
-    let n = root.geometry.inodes in
-    let is : s ≡ state_with n now.running (table_of files) now.snapshots = now.state ∙ ap (λ (t : ℕ → Option Description). state_with n now.running t now.snapshots) now.opened in
+pub led_to : {m : Meaning} {k : Parts} {table : ℕ → Option Description} {s : State} (now : IsServing m k table s) (call : Command) (reply : Reply) (after : ℕ → Option Description)
+    → WouldLead k.root.geometry.inodes now.running (table_of k.files) call reply now.running after nothing
+    → WouldCall s call reply (state_with k.root.geometry.inodes now.running after now.snapshots) nothing
+led_to {k = k} now call reply after told =
+    let n = k.root.geometry.inodes in
+    let is = now.state ∙ ap (λ (t : ℕ → Option Description). state_with n now.running t now.snapshots) now.opened in
     subst (λ (u : State). WouldCall u call reply (state_with n now.running after now.snapshots) nothing) (sym is) (told now.snapshots)
 
 -- a call that leaves the image as it is, and perhaps another table of open files
 pub table_leads : {S : Type 0} {G : Ghosts S} (new : System S G) (s : State) (call : Command) (reply : Reply) (files : Descriptors)
-    (now : IsServing (meaning_of new) new.blocks.kept new.root new.slot new.inodes new.map new.log new.pledged files s.tree.descriptors s) (after : ℕ → Option Description)
+    (now : IsServing (meaning_of new) (record (parts_of new) { files = files }) s.tree.descriptors s) (after : ℕ → Option Description)
     → after ≡ table_of new.files → FitsVolume new.files now.running → IsMounted now.running after
-    → WouldLead new.root.geometry.inodes now.running (table_of files) call reply now.running after nothing → LeadsTo new s call reply
-table_leads {S} {G} new s call reply files now after opened fits mounted told =
-    let m = meaning_of new in
-    record {
-      after = state_with new.root.geometry.inodes now.running after now.snapshots;
-      step = led_to m new.blocks.kept new.root new.slot new.inodes new.map new.log new.pledged files s.tree.descriptors s now call reply after told;
-      serves = moved m new.blocks.kept new.root new.slot new.inodes new.map new.log new.pledged files s.tree.descriptors s now new.files after opened fits mounted;
-    }
+    → WouldLead new.root.geometry.inodes now.running (table_of files) call reply now.running after nothing → LeadsTo new s call reply now.replayed.changes
+table_leads new s call reply files now after opened fits mounted told = record {
+  after = state_with new.root.geometry.inodes now.running after now.snapshots;
+  step = led_to now call reply after told;
+  serves = moved now new.files after opened fits mounted;
+  records = refl;
+}
 
 -- a refusal, on a system
 pub refused_by : {S : Type 0} {G : Ghosts S} (f : System S G) (s : State) (serves : ServesState f s) (call : Command) (r : Result Doing Errno) (errno : Errno) → r ≡ Err errno
     → DoesCall f.inodes.geometry.inodes serves.running (table_of f.files) call r → WouldCall s call (Refused errno) s nothing
 refused_by {S} {G} f s serves call r errno is told =
-    let m = meaning_of f in
     let n = f.root.geometry.inodes in
     let here : DoesCall n serves.running (table_of f.files) call (Err errno) =
     subst (λ (g : Sizes). DoesCall g.inodes serves.running (table_of f.files) call (Err errno)) f.sizes
@@ -142,7 +138,7 @@ refused_by {S} {G} f s serves call r errno is told =
     let same : state_with n serves.running (table_of f.files) serves.snapshots ≡ s =
     sym (serves.state ∙ ap (λ (t : ℕ → Option Description). state_with n serves.running t serves.snapshots) serves.opened) in
     subst (λ (u : State). WouldCall s call (Refused errno) u nothing) same
-    (led_to m f.blocks.kept f.root f.slot f.inodes f.map f.log f.pledged f.files s.tree.descriptors s serves call (Refused errno) (table_of f.files) here)
+    (led_to serves call (Refused errno) (table_of f.files) here)
 
 -- ---- calls that may log a record
 
@@ -160,9 +156,8 @@ told_beside f s serves call r d is none told =
 pub record IsLogged {S : Type 0} {G : Ghosts S} (f : System S G) (s : State) (serves : ServesState f s) (call : Command) (reply : Reply) (move : TableMove) (change : Change) : Type 0 where
   pub advances : Advances f.root.geometry.inodes serves.running s.tree.descriptors change
   pub fits : FitsMove (swept s.tree.descriptors (applied change serves.running)) move
-  pub work : Work
   pub step : WouldCall s call reply
-      (state_with f.root.geometry.inodes (swept s.tree.descriptors (applied change serves.running)) (moved_table move s.tree.descriptors) serves.snapshots) (logs work)
+      (state_with f.root.geometry.inodes (swept s.tree.descriptors (applied change serves.running)) (moved_table move s.tree.descriptors) serves.snapshots) (logs (work_of serves.running change))
 
 pub told_logged : {S : Type 0} {G : Ghosts S} (f : System S G) (s : State) (serves : ServesState f s) (call : Command) (r : Result Doing Errno) (d : Doing) (c : FileChange) (change : Change) → r ≡ Ok d
     → d.change ≡ Some c → change ≡ recorded c.record → IsChange change → DoesCall f.inodes.geometry.inodes serves.running (table_of f.files) call r → IsLogged f s serves call d.reply d.table change
@@ -172,20 +167,12 @@ told_logged f s serves call r d c change is some says is_change told =
     let n = f.root.geometry.inodes in
     let with_files : DoesBeside n v (table_of f.files) call d.reply d.table (Some c) = subst (λ (o : Option FileChange). DoesBeside n v (table_of f.files) call d.reply d.table o) some
     (subst (λ (g : Sizes). DoesCall g.inodes v (table_of f.files) call (Ok d)) f.sizes (subst (λ (x : Result Doing Errno). DoesCall f.inodes.geometry.inodes v (table_of f.files) call x) is told)) in
-    let here : DoesBeside n v table call d.reply d.table (Some c) = subst (λ (t : ℕ → Option Description). DoesBeside n v t call d.reply d.table (Some c)) (sym serves.opened) with_files in
-    let work = here.4.0 in
-    let of_change = λ (P : Change → Type 0) (p : P (recorded c.record)). subst P (sym says) p in
+    let of_record = subst (λ (t : ℕ → Option Description). DoesRecord n v t call d.reply d.table (recorded c.record)) (sym serves.opened) with_files in
+    let here = subst (DoesRecord n v table call d.reply d.table) (sym says) of_record in
     record {
-      advances = record {
-        is = is_change;
-        served = of_change IsServed here.0;
-        applies = of_change (Applies n v) here.1;
-        mounted = of_change (λ (k : Change). IsMounted (swept table (applied k v)) table) here.2;
-      };
-      fits = of_change (λ (k : Change). FitsMove (swept table (applied k v)) d.table) here.3;
-      work = work;
-      step = subst (λ (u : State). WouldCall u call d.reply (state_with n (swept table (applied change v)) (moved_table d.table table) serves.snapshots) (logs work)) (sym serves.state)
-          (of_change (λ (k : Change). WouldCall (state_with n v table serves.snapshots) call d.reply (state_with n (swept table (applied k v)) (moved_table d.table table) serves.snapshots) (logs work)) (here.4.1 serves.snapshots));
+      advances = record { is = is_change; applies = here.0; mounted = here.1 };
+      fits = here.2;
+      step = subst (λ (u : State). WouldCall u call d.reply (state_with n (swept table (applied change v)) (moved_table d.table table) serves.snapshots) (logs (work_of v change))) (sym serves.state) (here.3 serves.snapshots);
     }
 
 -- a prepared change does the same on a disk that reads the same
@@ -202,17 +189,19 @@ logs_over m n root inodes v r d c change is some says same does =
     (subst (λ (k : Change). Does disk settled inodes v c.prepared k) (sym says) here)
 
 -- behind a record, with another table of open files
-pub moved_on : (m : Meaning) (kept : BTreeMap ℕ Block) (root : Root) (slot : ℕ) (inodes : InodeFile) (map : BlockMap) (log : LogEnd) (pledged : ℕ) (files : Descriptors) (table : ℕ → Option Description)
-    (n : ℕ) (v : Volume) (snapshots : List (Name × Tree)) (serves : IsServing m kept root slot inodes map log pledged files table (state_with n v table snapshots)) → serves.running ≡ v
-    → (now_files : Descriptors) (after : ℕ → Option Description) → after ≡ table_of now_files → FitsVolume now_files v → IsMounted v after
-    → IsServing m kept root slot inodes map log pledged now_files after (state_with n v after snapshots)
-moved_on m kept root slot inodes map log pledged files table n v snapshots serves is now_files after opened fits mounted =
-    let before = state_with n v table snapshots in
-    let same : state_with root.geometry.inodes serves.running after serves.snapshots ≡ state_with n v after snapshots =
+pub moved_on : {m : Meaning} {k : Parts} {table : ℕ → Option Description} (n : ℕ) {v : Volume} (snapshots : List (Name × Tree)) {changes : List Change}
+    (behind : IsServingWith m k table (state_with n v table snapshots) v changes) (now_files : Descriptors) (after : ℕ → Option Description)
+    → after ≡ table_of now_files → FitsVolume now_files v → IsMounted v after → IsServingWith m (record k { files = now_files }) after (state_with n v after snapshots) v changes
+moved_on {m} {k} {table} n {v} snapshots {changes} behind now_files after opened fits mounted =
+    let serves = behind.serves in
+    let same : state_with k.root.geometry.inodes serves.running after serves.snapshots ≡ state_with n v after snapshots =
     sym (ap (λ (u : State). record u { tree = record u.tree { descriptors = after } }) serves.state) in
-    subst (λ (u : State). IsServing m kept root slot inodes map log pledged now_files after u) same
-    (moved m kept root slot inodes map log pledged files table before serves now_files after opened
-    (subst (λ (w : Volume). FitsVolume now_files w) (sym is) fits) (subst (λ (w : Volume). IsMounted w after) (sym is) mounted))
+    subst (λ (u : State). IsServingWith m (record k { files = now_files }) after u v changes) same (record {
+      serves = moved serves now_files after opened
+          (subst (λ (w : Volume). FitsVolume now_files w) (sym behind.volume) fits) (subst (λ (w : Volume). IsMounted w after) (sym behind.volume) mounted);
+      volume = behind.volume;
+      records = behind.records;
+    })
 
 -- the record of a call on descriptors fits an empty log
 pub record_fits : {S : Type 0} {G : Ghosts S} (f : System S G) (change : Change) → HasEmptyLog f → length (body_of change) ≤ 65553
@@ -226,20 +215,19 @@ record_fits f change empty short (inr full) =
 -- ---- what the calls over memory and the table promise
 
 -- a record that applies and needs no sweep
-pub goes_beside : (n : ℕ) (v : Volume) (table : ℕ → Option Description) (call : Command) (reply : Reply) (move : TableMove) (c : FileChange) (work : Work) → IsServed (recorded c.record)
-    → GoesOver n v table (recorded c.record) → ((w : Volume) → FitsMove w move) → WouldLead n v table call reply (applied (recorded c.record) v) (moved_table move table) (logs work)
-    → DoesBeside n v table call reply move (Some c)
-goes_beside n v table call reply move c work served goes fits told =
+pub goes_beside : (n : ℕ) (v : Volume) (table : ℕ → Option Description) (call : Command) (reply : Reply) (move : TableMove) (c : FileChange)
+    → GoesOver n v table (recorded c.record) → ((w : Volume) → FitsMove w move)
+    → WouldLead n v table call reply (applied (recorded c.record) v) (moved_table move table) (logs (work_of v (recorded c.record))) → DoesBeside n v table call reply move (Some c)
+goes_beside n v table call reply move c goes fits told =
     let w = applied (recorded c.record) v in
     let same : w ≡ swept table w = sym (fun_ext {f = swept table w} {g = w} goes.1.is_swept) in (
-      served,
       goes.0,
       subst (λ (x : Volume). IsMounted x table) same goes.1,
       fits (swept table w),
-      (work, subst (λ (x : Volume). WouldLead n v table call reply x (moved_table move table) (logs work)) same told),
+      subst (λ (x : Volume). WouldLead n v table call reply x (moved_table move table) (logs (work_of v (recorded c.record)))) same told,
     )
 
 -- the same, where the call was asked in these words
-pub asked_so : (n : ℕ) (v : Volume) (table : ℕ → Option Description) (call asked : Command) (r : Result (Result Doing Errno) ReadError) → call ≡ asked
-    → IfOk r (DoesCall n v table asked) → IfOk r (DoesCall n v table call)
-asked_so n v table call asked r is told = subst (λ (k : Command). IfOk r (DoesCall n v table k)) (sym is) told
+pub asked_so : {B : Type 0} {G : blocks.Ghosts B} {a b : B} {s t : InodeFile} {files : Descriptors} (call asked : Command) (r : Result (Result Doing Errno) ReadError) → call ≡ asked
+    → PreparesDoing G a b s t files asked r → PreparesDoing G a b s t files call r
+asked_so {G = G} {a = a} {b = b} {s = s} {t = t} {files = files} call asked r is told = subst (λ (k : Command). PreparesDoing G a b s t files k r) (sym is) told

@@ -39,7 +39,7 @@ use Rattle.loading.specs.declared.error.RootError.{RootError}
 use Rattle.loading.specs.declared.error.RootError.TheVariants as root
 use Rattle.system.specs.Opening.{HasImage, HoldsRecords, IsOf}
 use Rattle.system.specs.Refusals.{IsOutside, refusal_of_log, refusal_of_read, refusal_of_root}
-use Rattle.system.specs.Systems.{IsServing, state_with}
+use Rattle.system.specs.Systems.{Parts, IsServing, state_with}
 use Rattle.system.specs.declared.open_error.OpenError.{OpenError}
 use Rattle.system.specs.declared.opening.Found.{Found}
 use Rattle.system.specs.declared.opening.Mounted.{Mounted}
@@ -144,7 +144,6 @@ module _ (disk : Blocks) (r : Root) (nvram : List ℕ) (first last : Volume) (sn
   pub saves : (inodes : InodeFile) → inodes.geometry ≡ r.geometry → SavesRecords inodes.geometry.inodes nvram saved changes first last
   saves inodes geometry = record {
     are = holds.log.are;
-    served = holds.served;
     held = subst (λ (n : ℕ). LogHolds n saved.generation nvram (bodies_of changes)) (sym half)
         (subst (λ (n : ℕ). LogHolds r.geometry.half n nvram (bodies_of changes)) (sym generation) holds.log.log);
     replays = subst (λ (s : Sizes). Replays s.inodes first changes last) (sym geometry) holds.replays;
@@ -202,10 +201,22 @@ module _ (m : Meaning) (kept : BTreeMap ℕ Block) (found : Found) (p : Mounted)
     pub holds : HoldsRecords (blocks_of i.disk) found.newest.root i.nvram first last snapshots changes
     pub has : HasImage (blocks_of i.disk) found.newest.root i.nvram first last changes p
 
+  abbrev parts : Parts
+  parts = record {
+    kept = kept;
+    root = found.newest.root;
+    slot = found.newest.slot;
+    inodes = p.inodes;
+    map = p.map;
+    log = p.log;
+    pledged = p.pledged;
+    files = files;
+  }
+
   abbrev shown : State
   shown = state_with found.newest.root.geometry.inodes (without_nameless last) (λ d. None) snapshots
 
-  serving : IsMounted (without_nameless last) (λ d. None) → IsFalse p.log.is_stopped → IsOver m.seen → IsServing m kept found.newest.root found.newest.slot p.inodes p.map p.log p.pledged files (λ d. None) shown
+  serving : IsMounted (without_nameless last) (λ d. None) → IsFalse p.log.is_stopped → IsOver m.seen → IsServing m parts (λ d. None) shown
   serving mounted runs over = record {
     honest = over.shows.honest;
     shows = over.shows;
@@ -224,7 +235,6 @@ module _ (m : Meaning) (kept : BTreeMap ℕ Block) (found : Found) (p : Mounted)
     replayed = record {
       changes = changes;
       are = over.holds.log.are;
-      served = over.holds.served;
       spelled = over.has.log.all;
       last = last;
       replays = over.holds.replays;
@@ -238,5 +248,5 @@ module _ (m : Meaning) (kept : BTreeMap ℕ Block) (found : Found) (p : Mounted)
     state = refl;
   }
 
-  pub serves : (i : Images) → m.seen ≡ i → IsMounted (without_nameless last) (λ d. None) → IsFalse p.log.is_stopped → IsOver i → IsServing m kept found.newest.root found.newest.slot p.inodes p.map p.log p.pledged files (λ d. None) shown
+  pub serves : (i : Images) → m.seen ≡ i → IsMounted (without_nameless last) (λ d. None) → IsFalse p.log.is_stopped → IsOver i → IsServing m parts (λ d. None) shown
   serves i is mounted runs over = serving mounted runs (subst IsOver (sym is) over)

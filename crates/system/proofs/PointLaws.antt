@@ -25,14 +25,16 @@ use Rattle.oplog.specs.LogEnd.{LogEnd, Bodies, all_of, StandsAt}
 use Rattle.conspoint.specs.Cuts.{StaysOutside, HasNewRoot}
 use Rattle.conspoint.specs.Plans.{Planned, FitsDisk}
 use Rattle.conspoint.specs.Writes.{AreWhole, writes_of}
+use Rattle.system.specs.Counting.{LogsNothing, SameNvram}
 use Rattle.system.specs.Images.{OpensTo}
 use Rattle.system.specs.Laws.{CutLaws}
 use Rattle.system.specs.Memory.{HasEntries}
 use Rattle.planning.specs.Plans.{IsPlannable}
 use Rattle.system.specs.Points.{IsPlannedOver, stepped}
 use Rattle.system.specs.Slots.{IsNewestAt, other_slot}
-use Rattle.system.specs.Systems.{IsServing}
-use Rattle.system.proofs.SystemLaws.{all_open, one_opens, opens_by, reads_open}
+use Rattle.system.specs.Systems.{Parts, IsServing}
+use Rattle.system.proofs.CountingLaws.{logged_twice, nothing_logged}
+use Rattle.system.proofs.SystemLaws.{all_open, one_opens, reads_open}
 
 -- ---- the log under the new root
 
@@ -67,30 +69,30 @@ pub outside : (r : Root) (d : ℕ → List ℕ) (writes : List Write) (n : ℕ) 
 outside r d writes n free some = λ k w lt same. some (ap (entry (whole (blocks_of d) r).active) (sym same) ∙ free k w lt)
 
 -- what a system serves may be planned
-pub plannable : (m : Meaning) (kept : BTreeMap ℕ Block) (root : Root) (slot : ℕ) (inodes : InodeFile) (map : BlockMap) (log : LogEnd) (pledged : ℕ) (files : Descriptors) (table : ℕ → Option Description) (s : State)
-    → (serves : IsServing m kept root slot inodes map log pledged files table s) → MayLeave m m.seen → (other generation : ℕ) (given : BlockMap) → other ≡ other_slot slot → generation ≡ log.epoch → given ≡ map
-    → IsPlannable root m.seen.disk other generation given inodes serves.first serves.running serves.snapshots
-plannable m kept root slot inodes map log pledged files table s serves here other generation given other_one epoch same = record {
-  other = other_is root m.seen.disk slot other serves.under.newest other_one;
-  later = subst (λ (n : ℕ). root.generation < n) (sym epoch) (later log root.generation serves.bodies m.seen.nvram (serves.left serves.honest m.seen here).log_stands);
+pub plannable : {m : Meaning} {k : Parts} {table : ℕ → Option Description} {s : State} (serves : IsServing m k table s)
+    → MayLeave m m.seen → (other generation : ℕ) (given : BlockMap) → other ≡ other_slot k.slot → generation ≡ k.log.epoch → given ≡ k.map
+    → IsPlannable k.root m.seen.disk other generation given k.inodes serves.first serves.running serves.snapshots
+plannable {m} {k} serves here other generation given other_one epoch same = record {
+  other = other_is k.root m.seen.disk k.slot other serves.under.newest other_one;
+  later = subst (λ (n : ℕ). k.root.generation < n) (sym epoch) (later k.log k.root.generation serves.bodies m.seen.nvram (serves.left serves.honest m.seen here).log_stands);
   holds = serves.under.holds;
-  entries = subst (λ (x : BlockMap). HasEntries (whole (blocks_of m.seen.disk) root).active x) (sym same) serves.memory.entries;
+  entries = subst (λ (x : BlockMap). HasEntries (whole (blocks_of m.seen.disk) k.root).active x) (sym same) serves.memory.entries;
   memory = serves.memory.stands;
   volume = serves.memory.volume;
 }
 
-module _ (laws : CutLaws) (m : Meaning) (kept : BTreeMap ℕ Block) (root : Root) (slot : ℕ) (inodes : InodeFile) (map : BlockMap) (log : LogEnd) (pledged : ℕ) (files : Descriptors) (table : ℕ → Option Description) (s : State)
-    (serves : IsServing m kept root slot inodes map log pledged files table s) (size : m.sectors ≡ 8 * root.geometry.blocks) (half : log.half ≡ root.geometry.half)
-    (p : Planned) (new : Root) (step : SnapshotStep) (planned : IsPlannedOver step m.seen.disk root slot log.epoch p new serves.running) where
+module _ (laws : CutLaws) {m : Meaning} {k : Parts} {table : ℕ → Option Description} {s : State}
+    (serves : IsServing m k table s) (size : m.sectors ≡ 8 * k.root.geometry.blocks) (half : k.log.half ≡ k.root.geometry.half)
+    (p : Planned) (new : Root) (step : SnapshotStep) (planned : IsPlannedOver step m.seen.disk k.root k.slot k.log.epoch p new serves.running) where
   abbrev after : State
   after = stepped step serves.first serves.snapshots s
 
   pub unfinished : (c : Images) → After (StaysOutside p.blocks) m c → OpensTo m s c
   unfinished c (d, here, stays) =
       let left = serves.left serves.honest d here in
-      one_opens laws m kept root slot inodes map log pledged files table s serves size half c (record {
-        same = λ n some. laws.unfinished p.blocks d c stays n (outside root m.seen.disk (writes_of p.blocks) n planned.point.free some) ∙ left.same n some;
-        log_stands = subst (StandsAt log root.generation serves.bodies) (sym stays.nvram) left.log_stands;
+      one_opens laws serves size half c (record {
+        same = λ n some. laws.unfinished p.blocks d c stays n (outside k.root m.seen.disk (writes_of p.blocks) n planned.point.free some) ∙ left.same n some;
+        log_stands = subst (StandsAt k.log k.root.generation serves.bodies) (sym stays.nvram) left.log_stands;
       })
 
   module _ (here : MayLeave m m.seen) (sizes : AreWhole m.sectors m.seen.disk) where
@@ -102,22 +104,23 @@ module _ (laws : CutLaws) (m : Meaning) (kept : BTreeMap ℕ Block) (root : Root
 
     -- what the system reads
     abbrev pub reads : Opens m.sectors m.seen.disk m.seen.nvram s
-    reads = reads_open laws m kept root slot inodes map log pledged files table s serves size half m.seen.nvram (serves.left serves.honest m.seen here).log_stands.holds
+    reads = reads_open laws serves size half m.seen.nvram (serves.left serves.honest m.seen here).log_stands.holds
 
     pub finished : (c : Images) → HasNewRoot p m.seen c → OpensTo m after c
     finished c has =
         let stands = (serves.left serves.honest m.seen here).log_stands in
-        let small : root.generation + 4 < 2 ^ 64 = omega (arith, serves.under.newest.there.root.head.last) in
-        let holds = covered laws log root.generation serves.bodies m.seen.nvram small stands in
-        opens_by m after c [] (subst (λ (nvram : List ℕ). OpensBy m.sectors c.disk nvram after []) (sym has.nvram)
-        (laws.opens m.sectors m.seen.disk c.disk m.seen.nvram s (writes_of p.blocks) p.slot new serves.running step [] serves.running reads planned.point (with_root c has)
-        (record {
-          are = λ i d lt. absurd (omega (arith, lt));
-          log = subst (λ (h : ℕ). LogHolds h new.generation m.seen.nvram []) (half ∙ ap (λ s. s.half) (sym planned.point.geometry))
-              (subst (λ (g : ℕ). LogHolds log.half g m.seen.nvram []) (sym planned.covers) holds);
-        })
-        refl (sym (laws.ends serves.running serves.replayed.last serves.replayed.extends))))
-        (λ i d lt. absurd (omega (arith, lt)))
+        let small : k.root.generation + 4 < 2 ^ 64 = omega (arith, serves.under.newest.there.root.head.last) in
+        let holds = covered laws k.log k.root.generation serves.bodies m.seen.nvram small stands in
+        record {
+          opens = (subst (λ (nvram : List ℕ). OpensBy m.sectors c.disk nvram after []) (sym has.nvram)
+              (laws.opens m.sectors m.seen.disk c.disk m.seen.nvram s (writes_of p.blocks) p.slot new serves.running step [] serves.running reads planned.point (with_root c has)
+              (record {
+                are = λ i d lt. absurd (omega (arith, lt));
+                log = subst (λ (h : ℕ). LogHolds h new.generation m.seen.nvram []) (half ∙ ap (λ s. s.half) (sym planned.point.geometry))
+                    (subst (λ (g : ℕ). LogHolds k.log.half g m.seen.nvram []) (sym planned.covers) holds);
+              })
+              refl (sym (laws.ends serves.running serves.replayed.last serves.replayed.extends)))).opens;
+        }
 
     -- while it is planned and written
     pub at_any_moment : (mid now : Meaning) → Goes Unchanged m mid → LeavesOnly mid now (λ c. After (StaysOutside p.blocks) mid c ⊎ HasNewRoot p mid.seen c)
@@ -125,10 +128,19 @@ module _ (laws : CutLaws) (m : Meaning) (kept : BTreeMap ℕ Block) (root : Root
     at_any_moment mid now goes writes =
         let went = goes serves.honest in
         joined m mid now (λ c. OpensTo m s c ⊎ OpensTo m after c)
-        (leaves_unchanged m mid (λ c. OpensTo m s c ⊎ OpensTo m after c) (λ honest c left. inl (all_open laws m kept root slot inodes map log pledged files table s serves size half honest c left)) goes)
+        (leaves_unchanged m mid (λ c. OpensTo m s c ⊎ OpensTo m after c) (λ honest c left. inl (all_open laws serves size half honest c left)) goes)
         (weaker mid now (λ c. After (StaysOutside p.blocks) mid c ⊎ HasNewRoot p mid.seen c) (λ c. OpensTo m s c ⊎ OpensTo m after c) writes (λ c. λ one. elim one [
           | inl later_on ↦
               let before = went.now later_on.0 later_on.1 in
               inl (unfinished c (before.0, before.1, subst (λ (x : Images). StaysOutside p.blocks x c) before.2 later_on.2))
           | inr has ↦ inr (finished c (subst (λ (x : Images). HasNewRoot p x c) went.seen has))
         ]))
+
+-- a point that is planned and written writes no NVRAM
+pub written_unlogged : (m mid now : Meaning) (p : Planned) → Goes Unchanged m mid → (mid.is_honest → MayLeave mid mid.seen)
+    → LeavesOnly mid now (λ c. After (StaysOutside p.blocks) mid c ⊎ HasNewRoot p mid.seen c) → LogsNothing m now
+written_unlogged m mid now p goes here writes = logged_twice m mid now (nothing_logged m mid goes) (λ honest.
+    weaker mid now (λ c. After (StaysOutside p.blocks) mid c ⊎ HasNewRoot p mid.seen c) (After SameNvram mid) writes (λ c one. elim one [
+      | inl stays ↦ (stays.0, stays.1, stays.2.nvram)
+      | inr has ↦ (mid.seen, here honest, has.nvram)
+    ]) honest)

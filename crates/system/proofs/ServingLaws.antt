@@ -3,7 +3,6 @@ use Rattle.std.proofs.Common.{◌≡◌, ◌≢◌, ◌⊎◌, ◌*◌, ◌/◌,
 use Rattle.std.specs.Prelude.{IsFalse, IsTrue, IfErr, false}
 use Rattle.std.specs.BTreeMap.{BTreeMap}
 use Rattle.station.specs.Images.{Images}
-use Rattle.station.specs.Calls.{Uses}
 use Rattle.station.specs.Moments.{Meaning, EachCut, HasGrown}
 use Rattle.station.specs.declared.station.Station.{Ghosts}
 use Rattle.station.proofs.Moments.{each_unchanged, leaves_unchanged, weaker}
@@ -12,6 +11,7 @@ use Rattle.layout.specs.declared.root.Root.{Root}
 use Rattle.layout.specs.Limits.{Sizes}
 use Rattle.layout.specs.declared.inode.Inode.{Inode}
 use Rattle.model.specs.Circumstances.{IsSure}
+use Rattle.model.specs.Records.{Change}
 use Rattle.model.specs.Room.{nothing}
 use Rattle.model.specs.States.{State}
 use Rattle.model.specs.Steps.{calls}
@@ -27,6 +27,7 @@ use Rattle.model.specs.declared.reply.Reply.TheVariants.{Done, Refused}
 use Rattle.calls.specs.Refusals.{is_path_refusal}
 use Rattle.buffers.specs.Disks.{ShowsDisk, ReadsOn}
 use Rattle.buffers.specs.declared.block.Block.{Block}
+use Rattle.buffers.specs.declared.cache.Buffers.{Buffers}
 use Rattle.blockmap.specs.declared.map.BlockMap.{BlockMap}
 use Rattle.images.specs.Roots.{whole}
 use Rattle.inofile.specs.Volumes.{IsVolumeOf}
@@ -39,22 +40,26 @@ use Rattle.blocktree.specs.declared.error.ReadError.TheVariants as read_errors
 use Rattle.system.specs.Errors.{call_error}
 use Rattle.system.specs.Images.{OpensTo, IsUnder, IsLeft}
 use Rattle.system.specs.Memory.{IsInMemory}
-use Rattle.system.specs.Serving.{Handles, TellsNoFault, ServesState, WouldCall}
-use Rattle.system.specs.Systems.{IsServing, meaning_of}
+use Rattle.system.specs.Serving.{Handles, IsSureOn, TellsNoFault, ServesState, WouldCall}
+use Rattle.system.specs.Systems.{Parts, IsServing, meaning_of, parts_of}
 use Rattle.system.specs.declared.error.CallError.{CallError}
-use Rattle.system.specs.declared.error.CallError.TheVariants as call_errors
-use Rattle.system.specs.declared.error.CallError.TheVariants.{Damaged, LogFull, NotRead, NotWritten}
 use Rattle.system.specs.declared.system.System.{System}
+use Rattle.system.proofs.CountingLaws.{all_read, not_read, perhaps_read}
 
 -- memory over the tree of a root
 abbrev pub OverRoot : Blocks → Root → InodeFile → Volume → Type 0
 OverRoot disk root inodes v = IsVolumeOf root.geometry.blocks disk (inodes_of (whole disk root).active) inodes v
 
+-- a system serves a state that has these blocks and these inodes in memory, and all else as another
+abbrev pub ServesOver : {S : Type 0} {G : Ghosts S} → System S G → Buffers S → InodeFile → State → Type 0
+ServesOver {S} {G} f blocks inodes s = IsServing (G.meaning blocks.station) (record (parts_of f) { kept = blocks.kept; inodes = inodes }) s.tree.descriptors s
+
 -- objects came into memory, and nothing was done but reading
-abbrev pub looked : (m new : Meaning) (kept now_kept : BTreeMap ℕ Block) (root : Root) (slot : ℕ) (inodes now_inodes : InodeFile) (map : BlockMap) (log : LogEnd) (pledged : ℕ) (files : Descriptors) (table : ℕ → Option Description) (s : State)
-    → IsServing m kept root slot inodes map log pledged files table s → ReadsOn m new → ((disk : ℕ → List ℕ) → ShowsDisk m kept disk → ShowsDisk new now_kept disk)
-    → ((v : Volume) → OverRoot (blocks_of m.seen.disk) root inodes v → OverRoot (blocks_of m.seen.disk) root now_inodes v) → IsServing new now_kept root slot now_inodes map log pledged files table s
-looked m new kept now_kept root slot inodes now_inodes map log pledged files table s serves reads shows stays =
+abbrev pub looked : {m : Meaning} {k : Parts} {table : ℕ → Option Description} {s : State} (serves : IsServing m k table s) (new : Meaning) (now_kept : BTreeMap ℕ Block) (now_inodes : InodeFile)
+    → ReadsOn m new → ((disk : ℕ → List ℕ) → ShowsDisk m k.kept disk → ShowsDisk new now_kept disk)
+    → ((v : Volume) → OverRoot (blocks_of m.seen.disk) k.root k.inodes v → OverRoot (blocks_of m.seen.disk) k.root now_inodes v)
+    → IsServing new (record k { kept = now_kept; inodes = now_inodes }) table s
+looked {m} {k} serves new now_kept now_inodes reads shows stays =
     let went = reads.goes serves.honest in
     let disk : m.seen.disk ≡ new.seen.disk = sym (ap (λ (i : Images). i.disk) went.seen) in
     record {
@@ -62,14 +67,14 @@ looked m new kept now_kept root slot inodes now_inodes map log pledged files tab
       shows = subst (λ (d : ℕ → List ℕ). ShowsDisk new now_kept (blocks_of d)) disk (shows (blocks_of m.seen.disk) serves.shows);
       first = serves.first;
       snapshots = serves.snapshots;
-      under = subst (IsUnder slot root serves.first serves.snapshots) disk serves.under;
+      under = subst (IsUnder k.slot k.root serves.first serves.snapshots) disk serves.under;
       bodies = serves.bodies;
-      left = subst (λ (d : ℕ → List ℕ). EachCut new (IsLeft root log serves.bodies d)) disk
-          (each_unchanged m new (IsLeft root log serves.bodies m.seen.disk) reads.same serves.left reads.goes);
+      left = subst (λ (d : ℕ → List ℕ). EachCut new (IsLeft k.root k.log serves.bodies d)) disk
+          (each_unchanged m new (IsLeft k.root k.log serves.bodies m.seen.disk) reads.same serves.left reads.goes);
       running = serves.running;
       mounted = serves.mounted;
       replayed = serves.replayed;
-      memory = subst (λ (d : ℕ → List ℕ). IsInMemory (blocks_of d) root now_inodes map serves.running) disk (record {
+      memory = subst (λ (d : ℕ → List ℕ). IsInMemory (blocks_of d) k.root now_inodes k.map serves.running) disk (record {
         stands = stays serves.running serves.memory.stands;
         volume = serves.memory.volume;
         entries = serves.memory.entries;
@@ -85,18 +90,21 @@ pub eighth : (n b : ℕ) → n ≡ 8 * b → n / 8 ≡ b
 eighth n b is = omega arith
 
 -- the same, where memory is spoken of as a layer below does
-abbrev pub looked_on : (m new : Meaning) (kept now_kept : BTreeMap ℕ Block) (root : Root) (slot : ℕ) (inodes now_inodes : InodeFile) (map : BlockMap) (log : LogEnd) (pledged : ℕ) (files : Descriptors) (table : ℕ → Option Description) (s : State)
-    → m.sectors ≡ 8 * root.geometry.blocks → ReadsOn m new → ((disk : ℕ → List ℕ) → ShowsDisk m kept disk → ShowsDisk new now_kept disk)
-    → ((disk : ℕ → List ℕ) (settled : ℕ → Inode) (v : Volume) → ShowsDisk m kept disk → IsVolumeOf (m.sectors / 8) disk settled inodes v → IsVolumeOf (new.sectors / 8) disk settled now_inodes v)
-    → IsServing m kept root slot inodes map log pledged files table s → IsServing new now_kept root slot now_inodes map log pledged files table s
-looked_on m new kept now_kept root slot inodes now_inodes map log pledged files table s sectors reads shows stays serves =
+abbrev pub looked_on : {S : Type 0} {G : Ghosts S} (f : System S G) (blocks : Buffers S) (inodes : InodeFile) → ReadsOn (meaning_of f) (G.meaning blocks.station)
+    → ((disk : ℕ → List ℕ) → ShowsDisk (meaning_of f) f.blocks.kept disk → ShowsDisk (G.meaning blocks.station) blocks.kept disk)
+    → ((disk : ℕ → List ℕ) (settled : ℕ → Inode) (v : Volume) → ShowsDisk (meaning_of f) f.blocks.kept disk → IsVolumeOf ((meaning_of f).sectors / 8) disk settled f.inodes v
+    → IsVolumeOf ((G.meaning blocks.station).sectors / 8) disk settled inodes v)
+    → (s : State) → ServesState f s → ServesOver f blocks inodes s
+looked_on {S} {G} f blocks inodes reads shows stays s serves =
+    let m = meaning_of f in
+    let new = G.meaning blocks.station in
     let d = blocks_of m.seen.disk in
-    let settled = inodes_of (whole d root).active in
-    let before : m.sectors / 8 ≡ root.geometry.blocks = eighth m.sectors root.geometry.blocks sectors in
-    let after : new.sectors / 8 ≡ root.geometry.blocks = eighth new.sectors root.geometry.blocks (reads.same.sectors ∙ sectors) in
-    looked m new kept now_kept root slot inodes now_inodes map log pledged files table s serves reads shows (λ v over.
-    subst (λ (n : ℕ). IsVolumeOf n d settled now_inodes v) after
-    (stays d settled v serves.shows (subst (λ (n : ℕ). IsVolumeOf n d settled inodes v) (sym before) over)))
+    let settled = inodes_of (whole d f.root).active in
+    let before : m.sectors / 8 ≡ f.root.geometry.blocks = eighth m.sectors f.root.geometry.blocks f.sectors in
+    let after : new.sectors / 8 ≡ f.root.geometry.blocks = eighth new.sectors f.root.geometry.blocks (reads.same.sectors ∙ f.sectors) in
+    looked serves new blocks.kept inodes reads shows (λ v over.
+    subst (λ (n : ℕ). IsVolumeOf n d settled inodes v) after
+    (stays d settled v serves.shows (subst (λ (n : ℕ). IsVolumeOf n d settled f.inodes v) (sym before) over)))
 
 -- what a system that serves a state tells a layer below of its volume
 pub its_volume : {S : Type 0} {G : Ghosts S} (f : System S G) (s : State) → (serves : ServesState f s)
@@ -134,35 +142,42 @@ own_refusal {T} r errno is own same =
 pub done_is_no_fault : TellsNoFault Done
 done_is_no_fault is = cc
 
--- A call that logs nothing was answered so at a state, and the system serves the state that it leaves.
-pub record LeadsTo {S : Type 0} {G : Ghosts S} (new : System S G) (s : State) (call : Command) (reply : Reply) : Type 0 where
+-- A call that logs nothing was answered so at a state, and the system serves the state that it leaves, by these records.
+pub record LeadsTo {S : Type 0} {G : Ghosts S} (new : System S G) (s : State) (call : Command) (reply : Reply) (changes : List Change) : Type 0 where
   pub after : State
   pub step : WouldCall s call reply after nothing
   pub serves : ServesState new after
+  pub records : serves.replayed.changes ≡ changes
+
+-- a system serves what another does, by the same records
+abbrev pub ServesOn : {S : Type 0} {G : Ghosts S} → System S G → System S G → Type 0
+ServesOn old new = (s : State) → (served : ServesState old s) → (serves : ServesState new s) × (serves.replayed.changes ≡ served.replayed.changes)
+
+-- a call is sure, and then no device is called, or it isn't
+abbrev pub SureOrNot : {S : Type 0} {G : Ghosts S} → System S G → System S G → Command → Type 0
+SureOrNot old new call = (s : State) → ServesState old s → IsSureOn old new s call ⊎ ¬ IsSure s call
+
+-- whatever a cut leaves of a system opens to the state that it serves
+abbrev pub AllOpen : {S : Type 0} {G : Ghosts S} → System S G → Type 0
+AllOpen f = (s : State) → ServesState f s → EachCut (meaning_of f) (OpensTo (meaning_of f) s)
 
 module _ {S : Type 0} {G : Ghosts S} (old new : System S G) (call : Command) (reads : ReadsOn (meaning_of old) (meaning_of new))
     (log : new.log ≡ old.log) where
-  read_uses : Uses (meaning_of old) (meaning_of new)
-  read_uses = record { same = reads.same; reads = reads.reads; writes = inl reads.writes }
-
   runs_on : IsFalse old.log.is_stopped → IsFalse new.log.is_stopped
   runs_on runs = subst (λ (l : LogEnd). IsFalse l.is_stopped) (sym log) runs
 
   -- a call that logs nothing was answered
-  pub answered_leading : ((s : State) → ServesState old s → IsSure s call ⊎ ¬ IsSure s call) → (reply : Reply) → (meaning_of new).failed_reads ≡ (meaning_of old).failed_reads → TellsNoFault reply
-      → ((s : State) → ServesState old s → EachCut (meaning_of old) (OpensTo (meaning_of old) s)) → ((s : State) → ServesState old s → LeadsTo new s call reply) → Handles old new call (Ok reply)
+  pub answered_leading : SureOrNot old new call → (reply : Reply) → (meaning_of new).failed_reads ≡ (meaning_of old).failed_reads → TellsNoFault reply
+      → AllOpen old → ((s : State) → (served : ServesState old s) → LeadsTo new s call reply served.replayed.changes) → Handles old new call (Ok reply)
   answered_leading sure reply same own opens leads =
       let m = meaning_of old in
       let n = meaning_of new in
       record {
-        uses = read_uses;
+        counted = all_read m n reads same;
         no_fault = own;
-        read = same;
-        not_read = λ is. cc;
-        written = reads.writes;
-        not_written = λ is. cc;
         epoch = ap (λ (l : LogEnd). l.epoch) log;
         runs = runs_on;
+        refused = λ errno is. reads.goes;
         kept = tt;
         serves = λ s served. tt;
         done = λ s served. record {
@@ -170,53 +185,74 @@ module _ {S : Type 0} {G : Ghosts S} (old new : System S G) (call : Command) (re
           need = nothing;
           step = (leads s served).step;
           serves = (leads s served).serves;
+          logs = (leads s served).records;
           leaves = weaker m n (OpensTo m s) (λ c. OpensTo m s c ⊎ OpensTo m (leads s served).after c) (leaves_unchanged m n (OpensTo m s) (opens s served) reads.goes) (λ c here. inl here);
         };
         broken = λ s served is. cc;
         sure = sure;
         full = λ s served is. cc;
-        fits = λ s served empty is. cc;
         damaged = λ s served is. cc;
       }
 
   -- a call that only reads was answered
-  pub answered : ((s : State) → ServesState old s → ServesState new s) → ((s : State) → ServesState old s → IsSure s call ⊎ ¬ IsSure s call) → (reply : Reply)
-      → (meaning_of new).failed_reads ≡ (meaning_of old).failed_reads → TellsNoFault reply → ((s : State) → ServesState old s → EachCut (meaning_of old) (OpensTo (meaning_of old) s))
-      → ((s : State) → ServesState old s → WouldCall s call reply s nothing) → Handles old new call (Ok reply)
-  answered stays sure reply same own opens told = answered_leading sure reply same own opens (λ s served. record { after = s; step = told s served; serves = stays s served })
+  pub answered : ServesOn old new → SureOrNot old new call → (reply : Reply) → (meaning_of new).failed_reads ≡ (meaning_of old).failed_reads → TellsNoFault reply
+      → AllOpen old → ((s : State) → ServesState old s → WouldCall s call reply s nothing) → Handles old new call (Ok reply)
+  answered stays sure reply same own opens told =
+      answered_leading sure reply same own opens (λ s served. record { after = s; step = told s served; serves = (stays s served).0; records = (stays s served).1 })
 
-  -- a call wasn't answered, and nothing was written
-  pub unanswered : ((s : State) → ServesState old s → ServesState new s) → ((s : State) → ServesState old s → ¬ IsSure s call) → (e : CallError) → e ≢ NotWritten → e ≢ LogFull → (e ≡ NotRead → HasGrown (meaning_of old).failed_reads (meaning_of new).failed_reads)
-      → ((s : State) → ServesState old s → e ≡ Damaged → ⊥) → Handles old new call (Err e)
-  unanswered stays not_sure e wrote room fault damaged = record {
-    uses = read_uses;
-    no_fault = tt;
-    read = λ is. absurd (room is);
-    not_read = λ is. fault (error_is e NotRead (Err e) (Err NotRead) refl refl is);
-    written = λ _. reads.writes;
-    not_written = λ is. absurd (wrote (error_is e NotWritten (Err e) (Err NotWritten) refl refl is));
-    epoch = ap (λ (l : LogEnd). l.epoch) log;
-    runs = λ runs _. runs_on runs;
-    kept = λ _. reads.goes;
-    serves = λ s served _. stays s served;
-    done = λ s served. tt;
-    broken = λ s served is. absurd (wrote (error_is e NotWritten (Err e) (Err NotWritten) refl refl is));
-    sure = not_sure;
-    full = λ s served is. absurd (room (error_is e LogFull (Err e) (Err LogFull) refl refl is));
-    fits = λ s served empty is. room (error_is e LogFull (Err e) (Err LogFull) refl refl is);
-    damaged = λ s served is. damaged s served (error_is e Damaged (Err e) (Err Damaged) refl refl is);
-  }
-    where
-      error_is : (x y : CallError) (r q : Result Reply CallError) → r ≡ Err x → q ≡ Err y → r ≡ q → x ≡ y
-      error_is x y r q first second is = cc
-
-  -- because a read was refused
-  pub unanswered_read : ((s : State) → ServesState old s → ServesState new s) → ((s : State) → ServesState old s → ¬ IsSure s call) → (error : ReadError) (e : CallError) → e ≡ call_error error → (error ≡ read_errors.Device → HasGrown (meaning_of old).failed_reads (meaning_of new).failed_reads)
+  -- a call wasn't answered, because a read was refused
+  pub unanswered_read : ServesOn old new → ((s : State) → ServesState old s → ¬ IsSure s call) → (error : ReadError) (e : CallError) → e ≡ call_error error
+      → (error ≡ read_errors.Device → HasGrown (meaning_of old).failed_reads (meaning_of new).failed_reads)
       → ((s : State) → ServesState old s → error ≡ read_errors.Damaged → ⊥) → Handles old new call (Err e)
   unanswered_read stays not_sure error e is fault damaged = subst (λ (x : CallError). Handles old new call (Err x)) (sym is) (by_case error fault damaged)
     where
-      by_case : (error : ReadError) → (error ≡ read_errors.Device → HasGrown (meaning_of old).failed_reads (meaning_of new).failed_reads)
+      m : Meaning
+      m = meaning_of old
+
+      n : Meaning
+      n = meaning_of new
+
+      by_case : (error : ReadError) → (error ≡ read_errors.Device → HasGrown m.failed_reads n.failed_reads)
           → ((s : State) → ServesState old s → error ≡ read_errors.Damaged → ⊥) → Handles old new call (Err (call_error error))
-      by_case read_errors.NoMemory fault damaged = unanswered stays not_sure call_errors.NoMemory (λ is. cc) (λ is. cc) (λ is. cc) (λ s served is. cc)
-      by_case read_errors.Device fault damaged = unanswered stays not_sure call_errors.NotRead (λ is. cc) (λ is. cc) (λ is. fault refl) (λ s served is. cc)
-      by_case read_errors.Damaged fault damaged = unanswered stays not_sure call_errors.Damaged (λ is. cc) (λ is. cc) (λ is. cc) (λ s served is. damaged s served refl)
+      by_case read_errors.NoMemory fault damaged = record {
+        counted = perhaps_read m n reads;
+        no_fault = tt;
+        epoch = ap (λ (l : LogEnd). l.epoch) log;
+        runs = λ runs _. runs_on runs;
+        refused = λ errno is. cc;
+        kept = λ _. reads.goes;
+        serves = λ s served _. (stays s served).0;
+        done = λ s served. tt;
+        broken = λ s served is. cc;
+        sure = not_sure;
+        full = λ s served is. cc;
+        damaged = λ s served is. cc;
+      }
+      by_case read_errors.Device fault damaged = record {
+        counted = not_read m n reads (fault refl);
+        no_fault = tt;
+        epoch = ap (λ (l : LogEnd). l.epoch) log;
+        runs = λ runs _. runs_on runs;
+        refused = λ errno is. cc;
+        kept = λ _. reads.goes;
+        serves = λ s served _. (stays s served).0;
+        done = λ s served. tt;
+        broken = λ s served is. cc;
+        sure = not_sure;
+        full = λ s served is. cc;
+        damaged = λ s served is. cc;
+      }
+      by_case read_errors.Damaged fault damaged = record {
+        counted = perhaps_read m n reads;
+        no_fault = tt;
+        epoch = ap (λ (l : LogEnd). l.epoch) log;
+        runs = λ runs _. runs_on runs;
+        refused = λ errno is. cc;
+        kept = λ _. reads.goes;
+        serves = λ s served _. (stays s served).0;
+        done = λ s served. tt;
+        broken = λ s served is. cc;
+        sure = not_sure;
+        full = λ s served is. cc;
+        damaged = λ s served is. damaged s served refl;
+      }

@@ -23,7 +23,6 @@ use Rattle.blockmap.specs.Maps.{settled_at}
 use Rattle.blockmap.specs.declared.map.BlockMap.{BlockMap}
 use Rattle.inofile.specs.Settled.{AreSettled, held_content}
 use Rattle.inofile.specs.Volumes.{IsVolumeOf, MapsVolume}
-use Rattle.descriptors.specs.declared.table.Descriptors.{Descriptors}
 use Rattle.inofile.specs.declared.inode_file.InodeFile.{InodeFile}
 use Rattle.inode.specs.declared.file.File.{File}
 use Rattle.images.specs.BlockMap.{entry}
@@ -43,22 +42,9 @@ use Rattle.system.specs.Images.{IsLeft, IsReplayed}
 use Rattle.system.specs.Laws.{RootLaws}
 use Rattle.system.specs.Memory.{IsInMemory}
 use Rattle.system.specs.Points.{IsPlannedOver, stepped}
-use Rattle.system.specs.Systems.{IsServing, state_with}
+use Rattle.system.specs.Systems.{Parts, IsServing, state_with}
 use Rattle.system.proofs.RoomLaws.{nameless_pledged}
-
--- a block whose eight sectors are the same
-same_block : (d e : ℕ → List ℕ) (b : ℕ) → ((i : ℕ) → i < 8 → e (8 * b + i) ≡ d (8 * b + i)) → blocks_of e b ≡ blocks_of d b
-unfolding blocks_of
-same_block d e b same =
-    let first : e (8 * b) ≡ d (8 * b) = subst (λ n. e n ≡ d n) (omega arith) (same 0 (omega arith)) in
-    let s1 = same 1 (omega arith) in
-    let s2 = same 2 (omega arith) in
-    let s3 = same 3 (omega arith) in
-    let s4 = same 4 (omega arith) in
-    let s5 = same 5 (omega arith) in
-    let s6 = same 6 (omega arith) in
-    let s7 = same 7 (omega arith) in
-    cc
+use Rattle.layout.proofs.PointerLaws.{same_block}
 
 -- a point's slot is one of the two
 slot_low : (r : Root) (d : ℕ → List ℕ) (sector : ℕ) → points.IsOtherSlot r d sector → sector < 16
@@ -74,16 +60,15 @@ abbrev pub none_replayed : (inodes : ℕ) (running : Volume) → IsReplayed inod
 none_replayed inodes running = record {
   changes = [];
   are = λ i d lt. absurd (omega (arith, lt));
-  served = λ i d lt. absurd (omega (arith, lt));
   spelled = refl;
   last = running;
   replays = refl;
   extends = record { kept = λ n some. refl; rest = λ n none. rw none refl };
 }
 
-module _ (laws : RootLaws) (m : Meaning) (kept : BTreeMap ℕ Block) (root : Root) (slot : ℕ) (inodes : InodeFile) (map : BlockMap) (log : LogEnd) (pledged : ℕ) (files : Descriptors) (table : ℕ → Option Description) (s : State)
-    (serves : IsServing m kept root slot inodes map log pledged files table s) (size : m.sectors ≡ 8 * root.geometry.blocks)
-    (p : Planned) (new : Root) (step : SnapshotStep) (planned : IsPlannedOver step m.seen.disk root slot log.epoch p new serves.running)
+module _ (laws : RootLaws) {m : Meaning} {k : Parts} {table : ℕ → Option Description} {s : State}
+    (serves : IsServing m k table s) (size : m.sectors ≡ 8 * k.root.geometry.blocks)
+    (p : Planned) (new : Root) (step : SnapshotStep) (planned : IsPlannedOver step m.seen.disk k.root k.slot k.log.epoch p new serves.running)
     (now : Meaning) (sizes : AreWhole m.sectors now.seen.disk) (has : HasNewRoot p m.seen now.seen)
     (images : points.HasNewRoot (writes_of p.blocks) p.slot (root_bytes new) m.seen.disk now.seen.disk) where
   -- ---- the blocks of the new disk
@@ -94,22 +79,22 @@ module _ (laws : RootLaws) (m : Meaning) (kept : BTreeMap ℕ Block) (root : Roo
   -- what isn't written is as it was
   stays : (b : ℕ) → 2 ≤ b → All (λ w. w.place ≢ b) (writes_of p.blocks) → blocks_of now.seen.disk b ≡ blocks_of m.seen.disk b
   stays b behind free = same_block m.seen.disk now.seen.disk b (λ i lt.
-      let low = slot_low root m.seen.disk p.slot planned.point.slot in
+      let low = slot_low k.root m.seen.disk p.slot planned.point.slot in
       let block : (8 * b + i) / 8 ≡ b = omega arith in
-      images.others (8 * b + i) (λ k w within same. free k w within (same ∙ block)) (λ same. absurd (omega (arith, same))))
+      images.others (8 * b + i) (λ i w within same. free i w within (same ∙ block)) (λ same. absurd (omega (arith, same))))
 
   -- what the old root needs
-  pub agrees : Agrees (Needs root (whole (blocks_of m.seen.disk) root)) (blocks_of m.seen.disk) (blocks_of now.seen.disk)
+  pub agrees : Agrees (Needs k.root (whole (blocks_of m.seen.disk) k.root)) (blocks_of m.seen.disk) (blocks_of now.seen.disk)
   agrees b needs =
       let d = blocks_of m.seen.disk in
       let is = serves.under.newest.there.root in
       let sound = serves.under.holds.sound in
-      stays b (laws.of_disk d root b is sound needs).0
-      (λ k w lt same. laws.unneeded d root b is sound.exact (subst (λ (x : ℕ). entry (whole d root).active x ≡ 0) same (planned.point.free k w lt)) needs)
+      stays b (laws.of_disk d k.root b is sound needs).0
+      (λ j w lt same. laws.unneeded d k.root b is sound.exact (subst (λ (x : ℕ). entry (whole d k.root).active x ≡ 0) same (planned.point.free j w lt)) needs)
 
   -- what is planned
   pub has_all : HasAll (blocks_of now.seen.disk) p.blocks
-  has_all = λ k x lt. laws.block_is m.sectors now.seen.disk (get_or p.blocks k x).place (get_or p.blocks k x).bytes sizes (fits k x lt) (has.blocks k x lt)
+  has_all = λ i x lt. laws.block_is m.sectors now.seen.disk (get_or p.blocks i x).place (get_or p.blocks i x).bytes sizes (fits i x lt) (has.blocks i x lt)
 
   -- what is kept of the disk is of the new one
   pub shows : (now_kept : BTreeMap ℕ Block) → now.sectors ≡ m.sectors
@@ -125,9 +110,9 @@ module _ (laws : RootLaws) (m : Meaning) (kept : BTreeMap ℕ Block) (root : Roo
 
       past : (b : ℕ) → m.sectors < 8 * b + 8 → 16 ≤ m.sectors → blocks_of now.seen.disk b ≡ shown b
       past b far enough =
-          let low = slot_low root m.seen.disk p.slot planned.point.slot in
+          let low = slot_low k.root m.seen.disk p.slot planned.point.slot in
           let not_slot : (b ≡ p.slot / 8) → ⊥ = λ same. absurd (omega (arith, same, low, far, enough)) in
-          let free : All (λ x. x.place ≢ b) p.blocks = λ k x lt same. let le = fits k x lt in absurd (omega (arith, same, le, far)) in
+          let free : All (λ x. x.place ≢ b) p.blocks = λ i x lt same. let le = fits i x lt in absurd (omega (arith, same, le, far)) in
           stays b (omega (arith, far, enough)) (All-map (λ w. w.place ≢ b) write_of p.blocks free)
           ∙ sym (laws.others p.blocks (blocks_of m.seen.disk) b free)
           ∙ sym (cond-false (eqb b (p.slot / 8)) (sector_put (p.slot % 8) p.root (disk_with_blocks p.blocks (blocks_of m.seen.disk) (p.slot / 8))) (disk_with_blocks p.blocks (blocks_of m.seen.disk) b) (ne_eqb b (p.slot / 8) not_slot))
@@ -144,15 +129,15 @@ module _ (laws : RootLaws) (m : Meaning) (kept : BTreeMap ℕ Block) (root : Roo
   kept_then = kept_after step serves.first serves.snapshots
 
   module _ (holds : Holds new (whole (blocks_of now.seen.disk) new) serves.running kept_then) where
-    pub memory : (file : File) (now_inodes : InodeFile) (now_map : BlockMap) → inodes.geometry ≡ root.geometry → IsFileOf new.inode_file file
-        → ((count : ℕ) (disk : ℕ → List ℕ) (settled : ℕ → Inode) (v : Volume) → AreSettled count disk inodes.geometry file settled → MapsVolume inodes.numbers.bytes.items v
-        → HoldsVolume inodes.geometry.inodes (λ n. held_content disk (settled n)) v → IsVolumeOf count disk settled now_inodes v)
+    pub memory : (file : File) (now_inodes : InodeFile) (now_map : BlockMap) → k.inodes.geometry ≡ k.root.geometry → IsFileOf new.inode_file file
+        → ((count : ℕ) (disk : ℕ → List ℕ) (settled : ℕ → Inode) (v : Volume) → AreSettled count disk k.inodes.geometry file settled → MapsVolume k.inodes.numbers.bytes.items v
+        → HoldsVolume k.inodes.geometry.inodes (λ n. held_content disk (settled n)) v → IsVolumeOf count disk settled now_inodes v)
         → ((b : ℕ) → settled_at now_map.parts.items b ≡ entry (whole (blocks_of now.seen.disk) new).active b)
         → IsInMemory (blocks_of now.seen.disk) new now_inodes now_map serves.running
     memory file now_inodes now_map same is_file volume entries =
         let d = blocks_of now.seen.disk in
         let settled : ℕ → Inode = inodes_of (whole d new).active in
-        let geometry : new.geometry ≡ inodes.geometry = planned.point.geometry ∙ sym same in
+        let geometry : new.geometry ≡ k.inodes.geometry = planned.point.geometry ∙ sym same in
         let ready = laws.readable d new serves.running kept_then holds in
         record {
           stands = volume new.geometry.blocks d settled serves.running
@@ -168,23 +153,24 @@ module _ (laws : RootLaws) (m : Meaning) (kept : BTreeMap ℕ Block) (root : Roo
 
     abbrev pub settled : (now_kept : BTreeMap ℕ Block) (now_inodes : InodeFile) (now_map : BlockMap) (now_log : LogEnd)
         → now.is_honest → LeavesJust now now.seen → ShowsDisk now now_kept (blocks_of now.seen.disk) → IsNewest new (now.seen.disk SLOT_A) (now.seen.disk SLOT_B)
-        → StandsAt now_log log.epoch no_bodies m.seen.nvram → IsFalse now_log.is_stopped
+        → StandsAt now_log k.log.epoch no_bodies m.seen.nvram → IsFalse now_log.is_stopped
         → IsInMemory (blocks_of now.seen.disk) new now_inodes now_map serves.running
         → (nameless : ℕ) → nameless ≡ count_nameless new.geometry.inodes serves.running
-        → IsServing now now_kept new p.slot now_inodes now_map now_log (4 * nameless) files table (stepped step serves.first serves.snapshots s)
+        → IsServing now (record k { kept = now_kept; root = new; slot = p.slot; inodes = now_inodes; map = now_map; log = now_log; pledged = 4 * nameless }) table
+        (stepped step serves.first serves.snapshots s)
     settled now_kept now_inodes now_map now_log honest just shown newest stands goes here nameless counted = record {
       honest = honest;
       shows = shown;
       first = serves.running;
       snapshots = kept_then;
       under = record {
-        newest = record { is_slot = slot_is root m.seen.disk p.slot planned.point.slot; there = record { root = planned.point.root; spelled = images.root_is }; newest = newest };
+        newest = record { is_slot = slot_is k.root m.seen.disk p.slot planned.point.slot; there = record { root = planned.point.root; spelled = images.root_is }; newest = newest };
         holds = holds;
       };
       bodies = no_bodies;
       left = λ honest c left. subst (IsLeft new now_log no_bodies now.seen.disk) (sym (just honest c left)) (record {
         same = λ n some. refl;
-        log_stands = subst (λ (g : ℕ). StandsAt now_log g no_bodies now.seen.nvram) (sym planned.covers) (subst (StandsAt now_log log.epoch no_bodies) (sym has.nvram) stands);
+        log_stands = subst (λ (g : ℕ). StandsAt now_log g no_bodies now.seen.nvram) (sym planned.covers) (subst (StandsAt now_log k.log.epoch no_bodies) (sym has.nvram) stands);
       });
       running = serves.running;
       mounted = serves.mounted;

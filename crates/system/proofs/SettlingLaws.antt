@@ -38,6 +38,7 @@ use Rattle.snapshots.specs.Found.{Finds, named, snapshot_found}
 use Rattle.snapshots.specs.Taken.{MayTake}
 use Rattle.snapshots.specs.declared.finding.Found.{Found}
 use Rattle.snapshots.specs.declared.taking.Taking.{Taking}
+use Rattle.system.specs.Counting.{Counted, Failed, LogsNothing, no_call, point_error_failed}
 use Rattle.system.specs.Errors.{IsRefused, call_error}
 use Rattle.system.specs.Serving.{IsBrokenOff, ServesState, WouldCall, WouldChange}
 use Rattle.system.specs.Settling.{Glances, IsFilledBy, IsSettled, Settles, WouldSettle}
@@ -46,7 +47,7 @@ use Rattle.system.specs.declared.error.CallError.{CallError}
 use Rattle.system.specs.declared.error.PointError.{PointError}
 use Rattle.system.specs.declared.error.PointError.TheVariants as point
 use Rattle.system.specs.declared.system.System.{System}
-use Rattle.system.proofs.HandlingLaws.{uses_after}
+use Rattle.system.proofs.CountingLaws.{all_read, counted_after, logged_twice, next_age, not_read, nothing_logged, perhaps_read, same_age}
 use Rattle.system.proofs.ViewLaws.{closed, extends_itself, snapshots_of}
 
 error_is : (x y : PointError) (r q : Result (Result (Unit {0}) Errno) PointError) → r ≡ Err x → q ≡ Err y → r ≡ q → x ≡ y
@@ -56,10 +57,9 @@ module _ {S : Type 0} {G : Ghosts S} (old new : System S G) (reads : ReadsOn (me
     (serves : (s : State) → ServesState old s → ServesState new s) where
   -- blocks were read
   pub glanced : {T : Type 0} (x : T) → (meaning_of new).failed_reads ≡ (meaning_of old).failed_reads → Glances {T = T} old new (Ok x)
-  glanced x counted = record {
+  glanced x same = record {
     reads = reads;
-    counted = counted;
-    not_read = λ is. cc;
+    counted = all_read (meaning_of old) (meaning_of new) reads same;
     log = log;
     refuses = tt;
     serves = serves;
@@ -75,8 +75,7 @@ module _ {S : Type 0} {G : Ghosts S} (old new : System S G) (reads : ReadsOn (me
           → ((s : State) → ServesState old s → error ≡ read_errors.Damaged → ⊥) → Glances {T = T} old new (Err (call_error error))
       by_case read_errors.NoMemory fault damaged = record {
         reads = reads;
-        counted = tt;
-        not_read = λ is. cc;
+        counted = perhaps_read (meaning_of old) (meaning_of new) reads;
         log = log;
         refuses = (λ is. cc, λ is. cc);
         serves = serves;
@@ -84,8 +83,7 @@ module _ {S : Type 0} {G : Ghosts S} (old new : System S G) (reads : ReadsOn (me
       }
       by_case read_errors.Device fault damaged = record {
         reads = reads;
-        counted = tt;
-        not_read = λ is. fault refl;
+        counted = not_read (meaning_of old) (meaning_of new) reads (fault refl);
         log = log;
         refuses = (λ is. cc, λ is. cc);
         serves = serves;
@@ -93,8 +91,7 @@ module _ {S : Type 0} {G : Ghosts S} (old new : System S G) (reads : ReadsOn (me
       }
       by_case read_errors.Damaged fault damaged = record {
         reads = reads;
-        counted = tt;
-        not_read = λ is. cc;
+        counted = perhaps_read (meaning_of old) (meaning_of new) reads;
         log = log;
         refuses = (λ is. cc, λ is. cc);
         serves = serves;
@@ -105,27 +102,14 @@ module _ {S : Type 0} {G : Ghosts S} (old new : System S G) (reads : ReadsOn (me
 
 module _ {S : Type 0} {G : Ghosts S} (old new : System S G) (P : State → Type 0) (c : Command) (reads : ReadsOn (meaning_of old) (meaning_of new)) (log : new.log ≡ old.log)
     (serves : (s : State) → ServesState old s → ServesState new s) where
-  read_uses : Uses (meaning_of old) (meaning_of new)
-  read_uses = record { same = reads.same; reads = reads.reads; writes = inl reads.writes }
-
-  no_older : old.log.epoch ≤ new.log.epoch
-  no_older = let same : new.log.epoch ≡ old.log.epoch = ap (λ (l : LogEnd). l.epoch) log in omega (arith, same)
-
-  not_twice : new.log.epoch ≤ old.log.epoch + 1
-  not_twice = let same : new.log.epoch ≡ old.log.epoch = ap (λ (l : LogEnd). l.epoch) log in omega (arith, same)
-
   -- it was refused by its own tests
   pub refuses : (errno : Errno) → errno ≢ EIO → (meaning_of new).failed_reads ≡ (meaning_of old).failed_reads → ((s : State) → ServesState old s → WouldCall s c (Refused errno) s nothing)
       → Settles old new P c (Ok (Err errno))
   refuses errno own counted step = record {
-    uses = read_uses;
+    counted = all_read (meaning_of old) (meaning_of new) reads counted;
     own = own;
-    counted = counted;
-    not_read = λ is. cc;
-    written = reads.writes;
-    not_written = λ is. cc;
-    ages = no_older;
-    once = not_twice;
+    unlogged = nothing_logged (meaning_of old) (meaning_of new) reads.goes;
+    epoch = same_age old.log.epoch new.log.epoch (ap (λ (l : LogEnd). l.epoch) log);
     runs = ap (λ (l : LogEnd). l.is_stopped) log;
     kept = tt;
     serves = λ s served. tt;
@@ -137,17 +121,13 @@ module _ {S : Type 0} {G : Ghosts S} (old new : System S G) (P : State → Type 
   }
 
   -- it wasn't begun
-  not_begun : (e : PointError) → e ≢ point.NotWritten → e ≢ point.NotPlanned plan.NoSpace → (e ≡ point.NotPlanned plan.Device → HasGrown (meaning_of old).failed_reads (meaning_of new).failed_reads)
+  not_begun : (e : PointError) → e ≢ point.NotWritten → e ≢ point.NotPlanned plan.NoSpace → Counted (meaning_of old) (meaning_of new) (point_error_failed e)
       → ((s : State) → ServesState old s → e ≡ point.NotPlanned plan.Damaged → ⊥) → ((s : State) → ServesState old s → e ≡ point.NoGeneration → 2 ^ 62 ≤ old.log.epoch) → Settles old new P c (Err e)
-  not_begun e wrote full fault damaged last = record {
-    uses = read_uses;
+  not_begun e wrote full counted damaged last = record {
+    counted = counted;
     own = tt;
-    counted = tt;
-    not_read = λ is. fault (error_is e _ (Err e) (Err (point.NotPlanned plan.Device)) refl refl is);
-    written = λ _. reads.writes;
-    not_written = λ is. absurd (wrote (error_is e _ (Err e) (Err point.NotWritten) refl refl is));
-    ages = no_older;
-    once = not_twice;
+    unlogged = nothing_logged (meaning_of old) (meaning_of new) reads.goes;
+    epoch = same_age old.log.epoch new.log.epoch (ap (λ (l : LogEnd). l.epoch) log);
     runs = ap (λ (l : LogEnd). l.is_stopped) log;
     kept = λ _. reads.goes;
     serves = λ s served _. serves s served;
@@ -165,30 +145,35 @@ module _ {S : Type 0} {G : Ghosts S} (old new : System S G) (P : State → Type 
     where
       by_case : (error : ReadError) → (error ≡ read_errors.Device → HasGrown (meaning_of old).failed_reads (meaning_of new).failed_reads)
           → ((s : State) → ServesState old s → error ≡ read_errors.Damaged → ⊥) → Settles old new P c (Err (point.NotPlanned (plan_error error)))
-      by_case read_errors.NoMemory fault damaged = not_begun (point.NotPlanned plan.NoMemory) (λ is. cc) (λ is. cc) (λ is. cc) (λ s served is. cc) (λ s served is. cc)
-      by_case read_errors.Device fault damaged = not_begun (point.NotPlanned plan.Device) (λ is. cc) (λ is. cc) (λ is. fault refl) (λ s served is. cc) (λ s served is. cc)
-      by_case read_errors.Damaged fault damaged = not_begun (point.NotPlanned plan.Damaged) (λ is. cc) (λ is. cc) (λ is. cc) (λ s served is. damaged s served refl) (λ s served is. cc)
+      by_case read_errors.NoMemory fault damaged =
+          not_begun (point.NotPlanned plan.NoMemory) (λ is. cc) (λ is. cc) (perhaps_read (meaning_of old) (meaning_of new) reads) (λ s served is. cc) (λ s served is. cc)
+      by_case read_errors.Device fault damaged =
+          not_begun (point.NotPlanned plan.Device) (λ is. cc) (λ is. cc) (not_read (meaning_of old) (meaning_of new) reads (fault refl)) (λ s served is. cc) (λ s served is. cc)
+      by_case read_errors.Damaged fault damaged =
+          not_begun (point.NotPlanned plan.Damaged) (λ is. cc) (λ is. cc) (perhaps_read (meaning_of old) (meaning_of new) reads) (λ s served is. damaged s served refl) (λ s served is. cc)
 
   -- because no generation is left
   pub too_old : ((s : State) → ServesState old s → 2 ^ 62 ≤ old.log.epoch) → Settles old new P c (Err point.NoGeneration)
-  too_old last = not_begun point.NoGeneration (λ is. cc) (λ is. cc) (λ is. cc) (λ s served is. cc) (λ s served is. last s served)
+  too_old last = not_begun point.NoGeneration (λ is. cc) (λ is. cc) (perhaps_read (meaning_of old) (meaning_of new) reads) (λ s served is. cc) (λ s served is. last s served)
 
 -- ---- and its consistency point, behind reads
 
 module _ {S : Type 0} {G : Ghosts S} (old new : System S G) (mid : Meaning) (P : State → Type 0) (c : Command) (reads : ReadsOn (meaning_of old) mid)
-    (counted : mid.failed_reads ≡ (meaning_of old).failed_reads) (uses : Uses mid (meaning_of new)) where
+    (counted : mid.failed_reads ≡ (meaning_of old).failed_reads) (unlogged : LogsNothing mid (meaning_of new)) where
+  nothing_written : LogsNothing (meaning_of old) (meaning_of new)
+  nothing_written = logged_twice (meaning_of old) mid (meaning_of new) (nothing_logged (meaning_of old) mid reads.goes) unlogged
+
+  both_counted : (why : Failed) → Counted mid (meaning_of new) why → Counted (meaning_of old) (meaning_of new) why
+  both_counted why made = counted_after (meaning_of old) mid (meaning_of new) why (all_read (meaning_of old) mid reads counted) made
+
   -- it was made
-  pub settles : (meaning_of new).failed_writes ≡ mid.failed_writes → (meaning_of new).failed_reads ≡ mid.failed_reads → new.log ≡ record old.log { epoch = old.log.epoch + 1; end = Unopened }
+  pub settles : Counted mid (meaning_of new) no_call → new.log ≡ record old.log { epoch = old.log.epoch + 1; end = Unopened }
       → ((s : State) → ServesState old s → P s → IsSettled old new s c) → (u : Unit {0}) → Settles old new P c (Ok (Ok u))
-  settles written same log done u = record {
-    uses = uses_after (meaning_of old) mid (meaning_of new) reads uses;
+  settles made log done u = record {
+    counted = both_counted no_call made;
     own = tt;
-    counted = same ∙ counted;
-    not_read = λ is. cc;
-    written = written ∙ reads.writes;
-    not_written = λ is. cc;
-    ages = (let next : new.log.epoch ≡ old.log.epoch + 1 = ap (λ (l : LogEnd). l.epoch) log in omega (arith, next));
-    once = (let next : new.log.epoch ≡ old.log.epoch + 1 = ap (λ (l : LogEnd). l.epoch) log in omega (arith, next));
+    unlogged = nothing_written;
+    epoch = next_age old.log.epoch new.log.epoch (ap (λ (l : LogEnd). l.epoch) log);
     runs = ap (λ (l : LogEnd). l.is_stopped) log;
     kept = tt;
     serves = λ s served. tt;
@@ -200,20 +185,15 @@ module _ {S : Type 0} {G : Ghosts S} (old new : System S G) (mid : Meaning) (P :
   }
 
   -- it wasn't
-  pub not_settled : (e : PointError) → new.log ≡ old.log → (IsRefused e → (meaning_of new).failed_writes ≡ mid.failed_writes) → (e ≡ point.NotWritten → HasGrown mid.failed_writes (meaning_of new).failed_writes)
-      → (e ≡ point.NotPlanned plan.Device → HasGrown mid.failed_reads (meaning_of new).failed_reads) → (IsRefused e → Goes Unchanged mid (meaning_of new))
+  pub not_settled : (e : PointError) → Counted mid (meaning_of new) (point_error_failed e) → new.log ≡ old.log → (IsRefused e → Goes Unchanged mid (meaning_of new))
       → ((s : State) → ServesState old s → IsRefused e → ServesState new s) → ((s : State) → ServesState old s → P s → e ≡ point.NotWritten → IsBrokenOff old new s c)
       → (e ≡ point.NotPlanned plan.NoSpace → IsFilledBy c new) → ((s : State) → ServesState old s → WouldSettle s c)
       → ((s : State) → ServesState old s → e ≡ point.NotPlanned plan.Damaged → ⊥) → ((s : State) → ServesState old s → e ≡ point.NoGeneration → 2 ^ 62 ≤ old.log.epoch) → Settles old new P c (Err e)
-  not_settled e log written device read kept serves broken full would damaged last = record {
-    uses = uses_after (meaning_of old) mid (meaning_of new) reads uses;
+  not_settled e made log kept serves broken full would damaged last = record {
+    counted = both_counted (point_error_failed e) made;
     own = tt;
-    counted = tt;
-    not_read = λ is. subst (λ (n : ℕ). HasGrown n (meaning_of new).failed_reads) counted (read (error_is e _ (Err e) (Err (point.NotPlanned plan.Device)) refl refl is));
-    written = λ refused. written refused ∙ reads.writes;
-    not_written = λ is. subst (λ (n : ℕ). HasGrown n (meaning_of new).failed_writes) reads.writes (device (error_is e _ (Err e) (Err point.NotWritten) refl refl is));
-    ages = (let same : new.log.epoch ≡ old.log.epoch = ap (λ (l : LogEnd). l.epoch) log in omega (arith, same));
-    once = (let same : new.log.epoch ≡ old.log.epoch = ap (λ (l : LogEnd). l.epoch) log in omega (arith, same));
+    unlogged = nothing_written;
+    epoch = same_age old.log.epoch new.log.epoch (ap (λ (l : LogEnd). l.epoch) log);
     runs = ap (λ (l : LogEnd). l.is_stopped) log;
     kept = λ refused. unchanged_twice (meaning_of old) mid (meaning_of new) reads.goes (kept refused);
     serves = serves;

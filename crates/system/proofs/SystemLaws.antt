@@ -21,18 +21,16 @@ use Rattle.descriptors.specs.declared.table.Descriptors.{Descriptors}
 use Rattle.inofile.specs.declared.inode_file.InodeFile.{InodeFile}
 use Rattle.images.specs.States.{Opens, OpensBy, SameButFree}
 use Rattle.oplog.specs.LogEnd.{LogEnd, Bodies, all_of}
-use Rattle.records.specs.Served.{IsServed}
 use Rattle.system.specs.Images.{OpensTo, IsLeft, IsReplayed, IsUnder}
 use Rattle.system.specs.Laws.{CutLaws}
 use Rattle.system.specs.Memory.{IsInMemory}
-use Rattle.system.specs.Systems.{IsServing, state_with}
+use Rattle.system.specs.Systems.{Parts, IsServing, state_with}
 
-module _ (m : Meaning) (kept : BTreeMap ℕ Block) (root : Root) (slot : ℕ) (inodes : InodeFile) (map : BlockMap) (log : LogEnd) (pledged : ℕ) (files : Descriptors) (table : ℕ → Option Description) (s : State)
-    (serves : IsServing m kept root slot inodes map log pledged files table s) where
+module _ {m : Meaning} {k : Parts} {table : ℕ → Option Description} {s : State} (serves : IsServing m k table s) where
   -- where nothing was done but reading
   abbrev pub read_on : (new : Meaning) (now_kept : BTreeMap ℕ Block) (now_map : BlockMap) → ReadsOn m new
-      → ((disk : ℕ → List ℕ) → ShowsDisk m kept disk → ShowsDisk new now_kept disk)
-      → ((b : ℕ) → settled_at now_map.parts.items b ≡ settled_at map.parts.items b) → IsServing new now_kept root slot inodes now_map log pledged files table s
+      → ((disk : ℕ → List ℕ) → ShowsDisk m k.kept disk → ShowsDisk new now_kept disk)
+      → ((b : ℕ) → settled_at now_map.parts.items b ≡ settled_at k.map.parts.items b) → IsServing new (record k { kept = now_kept; map = now_map }) table s
   read_on new now_kept now_map reads shows entries =
       let went = reads.goes serves.honest in
       let disk : m.seen.disk ≡ new.seen.disk = sym (ap (λ (i : Images). i.disk) went.seen) in
@@ -41,14 +39,14 @@ module _ (m : Meaning) (kept : BTreeMap ℕ Block) (root : Root) (slot : ℕ) (i
         shows = subst (λ (d : ℕ → List ℕ). ShowsDisk new now_kept (blocks_of d)) disk (shows (blocks_of m.seen.disk) serves.shows);
         first = serves.first;
         snapshots = serves.snapshots;
-        under = subst (IsUnder slot root serves.first serves.snapshots) disk serves.under;
+        under = subst (IsUnder k.slot k.root serves.first serves.snapshots) disk serves.under;
         bodies = serves.bodies;
-        left = subst (λ (d : ℕ → List ℕ). EachCut new (IsLeft root log serves.bodies d)) disk
-            (each_unchanged m new (IsLeft root log serves.bodies m.seen.disk) reads.same serves.left reads.goes);
+        left = subst (λ (d : ℕ → List ℕ). EachCut new (IsLeft k.root k.log serves.bodies d)) disk
+            (each_unchanged m new (IsLeft k.root k.log serves.bodies m.seen.disk) reads.same serves.left reads.goes);
         running = serves.running;
         mounted = serves.mounted;
         replayed = serves.replayed;
-        memory = subst (λ (d : ℕ → List ℕ). IsInMemory (blocks_of d) root inodes now_map serves.running) disk (record {
+        memory = subst (λ (d : ℕ → List ℕ). IsInMemory (blocks_of d) k.root k.inodes now_map serves.running) disk (record {
           stands = serves.memory.stands;
           volume = serves.memory.volume;
           entries = λ b. entries b ∙ serves.memory.entries b;
@@ -59,10 +57,6 @@ module _ (m : Meaning) (kept : BTreeMap ℕ Block) (root : Root) (slot : ℕ) (i
         fits = serves.fits;
         state = serves.state;
       }
-
--- what opens by records that this version does
-pub opens_by : (m : Meaning) (s : State) (c : Images) (changes : List Change) → OpensBy m.sectors c.disk c.nvram s changes → All IsServed changes → OpensTo m s c
-opens_by m s c changes by served = record { opens = by.opens; served = subst (All IsServed) (sym by.these) served }
 
 -- A disk that holds a volume under its newest root, with records that lead to the running one, opens to its state.
 module _ (laws : CutLaws) (m : Meaning) (disk : ℕ → List ℕ) (root : Root) (slot : ℕ) (first : Volume) (snapshots : List (Name × Tree)) (under : IsUnder slot root first snapshots disk)
@@ -99,20 +93,20 @@ module _ (laws : CutLaws) (m : Meaning) (disk : ℕ → List ℕ) (root : Root) 
 
   -- and so does one that is the same but for free blocks
   pub same_open : (c : Images) → SameButFree root disk c.disk → LogHolds root.geometry.half root.generation c.nvram (all_of bodies) → OpensTo m s c
-  same_open c same holds = opens_by m s c replayed.changes (laws.free m.sectors disk c.disk c.nvram s (held_open c.nvram holds) same) replayed.served
+  same_open c same holds = record { opens = (laws.free m.sectors disk c.disk c.nvram s (held_open c.nvram holds) same).opens }
 
-module _ (laws : CutLaws) (m : Meaning) (kept : BTreeMap ℕ Block) (root : Root) (slot : ℕ) (inodes : InodeFile) (map : BlockMap) (log : LogEnd) (pledged : ℕ) (files : Descriptors) (table : ℕ → Option Description) (s : State)
-    (serves : IsServing m kept root slot inodes map log pledged files table s) (size : m.sectors ≡ 8 * root.geometry.blocks) (half : log.half ≡ root.geometry.half) where
+module _ (laws : CutLaws) {m : Meaning} {k : Parts} {table : ℕ → Option Description} {s : State}
+    (serves : IsServing m k table s) (size : m.sectors ≡ 8 * k.root.geometry.blocks) (half : k.log.half ≡ k.root.geometry.half) where
   -- what the system reads, with any NVRAM that has its records
-  abbrev pub reads_open : (nvram : List ℕ) → LogHolds log.half root.generation nvram (all_of serves.bodies) → Opens m.sectors m.seen.disk nvram s
+  abbrev pub reads_open : (nvram : List ℕ) → LogHolds k.log.half k.root.generation nvram (all_of serves.bodies) → Opens m.sectors m.seen.disk nvram s
   reads_open nvram holds =
-      held_open laws m m.seen.disk root slot serves.first serves.snapshots serves.under size serves.bodies serves.running serves.memory.volume serves.replayed table s serves.state nvram
-      (subst (λ (h : ℕ). LogHolds h root.generation nvram (all_of serves.bodies)) half holds)
+      held_open laws m m.seen.disk k.root k.slot serves.first serves.snapshots serves.under size serves.bodies serves.running serves.memory.volume serves.replayed table s serves.state nvram
+      (subst (λ (h : ℕ). LogHolds h k.root.generation nvram (all_of serves.bodies)) half holds)
 
-  pub one_opens : (c : Images) → IsLeft root log serves.bodies m.seen.disk c → OpensTo m s c
+  pub one_opens : (c : Images) → IsLeft k.root k.log serves.bodies m.seen.disk c → OpensTo m s c
   one_opens c left =
-      same_open laws m m.seen.disk root slot serves.first serves.snapshots serves.under size serves.bodies serves.running serves.memory.volume serves.replayed table s serves.state c left.same
-      (subst (λ (h : ℕ). LogHolds h root.generation c.nvram (all_of serves.bodies)) half left.log_stands.holds)
+      same_open laws m m.seen.disk k.root k.slot serves.first serves.snapshots serves.under size serves.bodies serves.running serves.memory.volume serves.replayed table s serves.state c left.same
+      (subst (λ (h : ℕ). LogHolds h k.root.generation c.nvram (all_of serves.bodies)) half left.log_stands.holds)
 
   pub all_open : EachCut m (OpensTo m s)
   all_open honest c left = one_opens c (serves.left honest c left)

@@ -20,7 +20,7 @@ use Rattle.buffers.specs.declared.cache.Buffers.{Buffers}
 use Rattle.system.specs.Serving.{ServesState, TellsNoFault}
 use Rattle.system.specs.Systems.{meaning_of}
 use Rattle.system.specs.declared.system.System.{System}
-use Rattle.system.proofs.HandlingLaws.{ServesOver}
+use Rattle.system.proofs.ServingLaws.{ServesOver}
 use Rattle.system.proofs.SystemLaws.{read_on}
 
 -- what follows for each answer that is Ok
@@ -65,7 +65,7 @@ module _ (s : State) (name : Name) (c : PathCall) where
 abbrev pub stays_read : {S : Type 0} {G : Ghosts S} (f : System S G) (blocks : Buffers S) (s : State) → ReadsOn (meaning_of f) (G.meaning blocks.station)
     → ((disk : ℕ → List ℕ) → ShowsDisk (meaning_of f) f.blocks.kept disk → ShowsDisk (G.meaning blocks.station) blocks.kept disk) → ServesState f s → ServesOver f blocks f.inodes s
 stays_read {S} {G} f blocks s reads shows served =
-    read_on (meaning_of f) f.blocks.kept f.root f.slot f.inodes f.map f.log f.pledged f.files s.tree.descriptors s served (G.meaning blocks.station) blocks.kept f.map reads shows (λ b. refl)
+    read_on served (G.meaning blocks.station) blocks.kept f.map reads shows (λ b. refl)
 
 -- the snapshots of the state that a system serves
 pub snapshots_of : {S : Type 0} {G : Ghosts S} (f : System S G) (s : State) → (served : ServesState f s) → s.snapshots ≡ served.snapshots

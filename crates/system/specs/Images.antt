@@ -14,13 +14,11 @@ use Rattle.images.specs.Roots.{whole}
 use Rattle.images.specs.States as images
 use Rattle.images.specs.States.{Holds, SameButFree}
 use Rattle.oplog.specs.LogEnd.{LogEnd, Bodies, all_of, StandsAt}
-use Rattle.records.specs.Served.{IsServed}
 use Rattle.system.specs.Slots.{IsNewestAt}
 
--- Images of a station of this meaning open to a state, by records that this version does.
+-- Images of a station of this meaning open to a state.
 pub record OpensTo (m : Meaning) (s : State) (c : Images) : Type 0 where
   pub opens : images.Opens m.sectors c.disk c.nvram s
-  pub served : All IsServed opens.changes
 
 -- A disk has a root in a slot, and no newer one; it holds this volume and these snapshots, all of it in its grammar.
 pub record IsUnder (slot : ℕ) (root : Root) (first : Volume) (snapshots : List (Name × Tree))
@@ -35,12 +33,11 @@ pub record IsLeft (root : Root) (log : LogEnd) (bodies : Bodies) (disk : ℕ →
   pub same : SameButFree root disk c.disk
   pub log_stands : StandsAt log root.generation bodies c.nvram
 
--- The records with these bodies, which this version does, lead from the volume that a root holds to the running one; but files
--- without names, which the running one may have dropped, are there still.
+-- The records with these bodies lead from the volume that a root holds to the running one; but files without names, which the running
+-- one may have dropped, are there still.
 pub record IsReplayed (inodes : ℕ) (bodies : Bodies) (first running : Volume) : Type 0 where
   pub changes : List Change
   pub are : All IsChange changes
-  pub served : All IsServed changes
   pub spelled : all_of bodies ≡ map change_bytes changes
   pub last : Volume
   pub replays : Replays inodes first changes last

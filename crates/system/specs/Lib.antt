@@ -1,4 +1,5 @@
 pub mod Errors
+pub mod Counting
 pub mod Slots
 pub mod Images
 pub mod Memory

@@ -1,5 +1,5 @@
 -- What a record does that a system logs.
-use Rattle.std.specs.Prelude.{ℕ, ◌≡◌, Option}
+use Rattle.std.specs.Prelude.{ℕ, ◌≡◌, List, Option}
 use Rattle.station.specs.declared.station.Station.{Ghosts}
 use Rattle.layout.specs.Places.{blocks_of}
 use Rattle.layout.specs.Record.{IsChange}
@@ -16,30 +16,29 @@ use Rattle.inofile.specs.Volumes.{IsVolumeOf}
 use Rattle.inofile.specs.declared.inode_file.InodeFile.{InodeFile}
 use Rattle.images.specs.Roots.{whole}
 use Rattle.loading.specs.Images.{inodes_of}
-use Rattle.records.specs.Served.{IsServed}
-use Rattle.system.specs.Systems.{IsServing, meaning_of}
+use Rattle.system.specs.Systems.{IsServingWith, meaning_of, parts_of}
 use Rattle.system.specs.declared.system.System.{System}
 
--- a record that this version does applies to a volume of so many inodes, and leads to one that these descriptors fit once the
+-- a record applies to a volume of so many inodes, and leads to one that these descriptors fit once the
 -- files are dropped that it leaves with neither name nor descriptor
 pub record Advances (inodes : ℕ) (running : Volume) (table : ℕ → Option Description)
     (change : Change) : Type 0 where
   pub is : IsChange change
-  pub served : IsServed change
   pub applies : Applies inodes running change
   pub mounted : IsMounted (swept table (applied change running)) table
 
--- once memory stands for a volume, over the disk that a system read, and the open files fit it, the system serves a state by it
+-- once memory stands for a volume, over the disk that a system read, and the open files fit it, the system serves a state by it,
+-- with these records beside the root
 abbrev pub WouldServe : {S : Type 0} {G : Ghosts S} → System S G → System S G → Volume
-    → (ℕ → Option Description) → State → Type 0
-WouldServe old new running table s =
+    → List Change → (ℕ → Option Description) → State → Type 0
+WouldServe old new running changes table s =
     let disk = blocks_of (meaning_of old).seen.disk in
     let settled = inodes_of (whole disk old.root).active in
     (inodes : InodeFile) (files : Descriptors)
     → IsVolumeOf old.root.geometry.blocks disk settled inodes running
     → table ≡ table_of files → FitsVolume files running
-    → (serves : IsServing (meaning_of new) new.blocks.kept new.root new.slot inodes new.map new.log new.pledged
-    files table s) × (serves.running ≡ running)
+    → IsServingWith (meaning_of new) (record (parts_of new) { inodes = inodes; files = files }) table s
+    running changes
 
 -- put in force on a system with this running volume, a prepared change does what the record says
 abbrev pub DoesOver : {S : Type 0} {G : Ghosts S} → System S G → Volume → Prepared → Change → Type 0

@@ -1,26 +1,29 @@
 -- What calls on descriptors come to on a mounted system.
-use Rattle.std.specs.Prelude.{ℕ, ◌≡◌, ◌≤◌, ◌<◌, Bool, true, false, List, length, IsSome, Option, Some, None, Result, Ok, Err}
+use Rattle.std.specs.Prelude.{ℕ, ◌≡◌, ◌≤◌, ◌<◌, Bool, true, false, List, length, IfSome, IsSome, Option, Some, None, Result, Ok, Err}
 use Rattle.layout.specs.Record.{Change, write}
-use Rattle.layout.specs.declared.record.TheConstants.{WRITE_BYTES}
 use Rattle.model.specs.Paths.{Name}
-use Rattle.model.specs.Records.{Applies, applied}
-use Rattle.model.specs.Room.{Need, Work, logs, nothing}
+use Rattle.model.specs.Records.{Applies, applied, work_of}
+use Rattle.model.specs.Room.{Need, logs, nothing}
 use Rattle.model.specs.Trees.{Description, Tree}
 use Rattle.model.specs.Volumes.{IsMounted, Volume, is_numbered, swept}
 use Rattle.model.specs.declared.command.Command.{Command}
 use Rattle.model.specs.declared.command.Command.TheVariants as command
 use Rattle.model.specs.declared.errno.Errno.{Errno}
-use Rattle.model.specs.declared.limits.TheConstants.{GREATEST_OFFSET, OPEN_FILES}
+use Rattle.model.specs.declared.limits.TheConstants.{GREATEST_OFFSET, OPEN_FILES, TRANSFER_BYTES}
 use Rattle.model.specs.declared.reply.Reply.{Reply}
 use Rattle.model.specs.declared.reply.Reply.TheVariants.{Refused}
 use Rattle.paths.specs.Numbers.{IsNumber}
-use Rattle.records.specs.Served.{IsServed}
 use Rattle.descriptors.specs.Files.{KeepsBounds, description_of}
 use Rattle.descriptors.specs.Fits.{IsFileOf}
-use Rattle.descriptors.specs.Tables.{put_open}
+use Rattle.descriptors.specs.Tables.{put_open, table_of}
+use Rattle.descriptors.specs.declared.table.Descriptors.{Descriptors}
+use Rattle.blocktree.specs.declared.error.ReadError.{ReadError}
+use Rattle.buffers.specs.declared.blocks.Blocks.{Ghosts}
+use Rattle.inofile.specs.declared.inode_file.InodeFile.{InodeFile}
 use Rattle.calls.specs.Changing.{said_by}
+use Rattle.files.specs.Preparing.{Changes, PreparesOpen}
 use Rattle.files.specs.Writing.{moved_to}
-use Rattle.system.specs.Serving.{WouldCall}
+use Rattle.system.specs.Serving.{IsAccepted, WouldCall}
 use Rattle.system.specs.Systems.{state_with}
 use Rattle.system.specs.declared.file_change.CallRecord.{CallRecord}
 use Rattle.system.specs.declared.file_change.CallRecord.TheVariants.{Says, Writes}
@@ -87,17 +90,22 @@ recorded (Writes number offset bytes) = write number offset bytes.now
 -- the log takes it: bytes that are written are some, and not too many
 abbrev pub KeepsRecord : CallRecord → Type 0
 KeepsRecord (Says change) = Unit {0}
-KeepsRecord (Writes number offset bytes) = (1 ≤ length bytes.now) × (length bytes.now ≤ WRITE_BYTES)
+KeepsRecord (Writes number offset bytes) = (1 ≤ length bytes.now) × (length bytes.now ≤ TRANSFER_BYTES)
 
--- What a call with this reply comes to that does this to the table: nothing else, or what its record says, behind which a file may
--- have to be swept.
+-- What a call with this reply comes to that does what this record says, behind which a file may have to be swept, and this to the table:
+-- it applies, and needs room for its work.
+abbrev pub DoesRecord : ℕ → Volume → (ℕ → Option Description) → Command → Reply → TableMove → Change → Type 0
+DoesRecord inodes v table call reply move change =
+    let after = swept table (applied change v) in
+    Applies inodes v change × IsMounted after table × FitsMove after move
+    × WouldLead inodes v table call reply after (moved_table move table) (logs (work_of v change))
+
+-- the same of a call that may do nothing else
 abbrev pub DoesBeside : ℕ → Volume → (ℕ → Option Description) → Command → Reply → TableMove → Option FileChange → Type 0
 DoesBeside inodes v table call reply move None =
     FitsMove v move × WouldLead inodes v table call reply v (moved_table move table) nothing
 DoesBeside inodes v table call reply move (Some c) =
-    IsServed (recorded c.record) × Applies inodes v (recorded c.record) × IsMounted (swept table (applied (recorded c.record) v)) table
-    × FitsMove (swept table (applied (recorded c.record) v)) move
-    × ((work : Work) × WouldLead inodes v table call reply (swept table (applied (recorded c.record) v)) (moved_table move table) (logs work))
+    DoesRecord inodes v table call reply move (recorded c.record)
 
 -- what a call comes to: a refusal, or what is to be done
 abbrev pub DoesCall : ℕ → Volume → (ℕ → Option Description) → Command → Result Doing Errno → Type 0
@@ -107,3 +115,19 @@ DoesCall inodes v table call (Ok d) = DoesBeside inodes v table call d.reply d.t
 -- the files that are open with these descriptors are so with others
 abbrev pub KeepsOpen : (ℕ → Option Description) → (ℕ → Option Description) → Type 0
 KeepsOpen table after = (d n : ℕ) → is_numbered (table d) n ≡ true → is_numbered (after d) n ≡ true
+
+-- what is prepared beside the table, if anything is
+abbrev pub of_doing : Changes Doing
+of_doing d P = IfSome d.change (λ c. P c.prepared (recorded c.record))
+
+-- What a call is to do can be done to these descriptors, and goes into the log.
+pub record MayDo (inodes : ℕ) (files : Descriptors) (d : Doing) : Type 0 where
+  pub accepted : IsAccepted d.reply
+  pub moves : CanMove (table_of files) d.table
+  pub numbered : IsNumbered inodes d.table
+  pub limits : IfSome d.change (λ c. KeepsRecord c.record)
+
+-- What a call is to do is prepared on the image in memory, as far as nothing of it is seen yet; or why it is refused.
+abbrev pub PreparesDoing : {B : Type 0} → Ghosts B → B → B → InodeFile → InodeFile → Descriptors → Command → Result (Result Doing Errno) ReadError → Type 0
+PreparesDoing G blocks after s t files call result =
+    PreparesOpen of_doing (MayDo s.geometry.inodes files) G blocks after s t files (λ v. DoesCall s.geometry.inodes v (table_of files) call) result

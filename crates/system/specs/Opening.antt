@@ -12,9 +12,9 @@ use Rattle.model.specs.Trees.{Tree}
 use Rattle.model.specs.Volumes.{Volume}
 use Rattle.images.specs.Roots.{whole}
 use Rattle.images.specs.States.{Holds, LogHoldsChanges}
+use Rattle.oplog.specs.LogEnd.{LogEnd}
 use Rattle.oplog.specs.SavedLog.{StandsBehind, TellsLog}
 use Rattle.loading.specs.Slots.{FitsStation, IsNewestAt}
-use Rattle.records.specs.Served.{IsServed}
 use Rattle.replay.specs.Volumes.{bodies_of}
 use Rattle.system.specs.Memory.{IsClean, IsInMemory}
 use Rattle.system.specs.declared.opening.Found.{Found}
@@ -37,6 +37,17 @@ pub record IsOf (c : Images) (f : Found) : Type 0 where
   pub newest : IsNewestAt f.newest.slot f.newest.root c.disk
   pub saved : TellsLog c.nvram f.saved
 
+-- an NVRAM holds some bodies over a root of this generation, and the log ends behind them
+abbrev pub HoldsSome : LogEnd → ℕ → List ℕ → Type 0
+HoldsSome log g nvram = (bodies : List (List ℕ)) × StandsBehind log g nvram bodies
+
+-- What a mount found on a station of this meaning, whatever else its images hold: the newest root of the disk, which fits the station,
+-- in its slot, and the end of the log that the NVRAM holds over it.
+pub record HasNewest (m : Meaning) (slot : ℕ) (root : Root) (log : LogEnd) : Type 0 where
+  pub newest : IsNewestAt slot root m.seen.disk
+  pub fits : FitsStation root m
+  pub held : HoldsSome log root.generation m.seen.nvram
+
 -- what memory has fits a root
 pub record FitsRoot (r : Root) (p : Mounted) : Type 0 where
   pub half : p.log.half ≡ r.geometry.half
@@ -47,13 +58,11 @@ pub record FitsRoot (r : Root) (p : Mounted) : Type 0 where
   pub runs : IsFalse p.log.is_stopped
   pub few : p.pledged < 2 ^ 32
 
--- A disk holds a volume and snapshots under a root, and an NVRAM the records that lead from there to another volume. This version
--- does each of them.
+-- A disk holds a volume and snapshots under a root, and an NVRAM the records that lead from there to another volume.
 pub record HoldsRecords (disk : Blocks) (r : Root) (nvram : List ℕ) (first last : Volume)
     (snapshots : List (Name × Tree)) (changes : List Change) : Type 0 where
   pub holds : Holds r (whole disk r) first snapshots
   pub log : LogHoldsChanges r nvram changes
-  pub served : All IsServed changes
   pub replays : Replays r.geometry.inodes first changes last
 
 -- Memory has the log's end behind these records, and the volume that they lead to, without the files that have no name;

@@ -1,24 +1,27 @@
 -- What calls do to a system.
-use Rattle.std.specs.Prelude.{◌≡◌, ◌⊎◌, ◌+◌, ◌≢◌, IsFalse, Result, IfOk, IfErr, IsErrOf, MatchResult}
+use Rattle.std.specs.Prelude.{◌≡◌, ◌⊎◌, ◌+◌, ◌≢◌, ◌∷◌, ◌++◌, List, [], IsFalse, Result, Ok, IfOk, IfErr, IsErrOf, MatchResult}
 use Rattle.station.specs.Images.{Unchanged}
-use Rattle.station.specs.Calls.{Uses}
-use Rattle.station.specs.Moments.{Meaning, Goes, HasGrown, LeavesOnly}
+use Rattle.station.specs.Moments.{Meaning, Goes, LeavesOnly}
 use Rattle.station.specs.declared.station.Station.{Ghosts}
 use Rattle.layout.specs.declared.log.TheConstants.{FIRST_GATE}
 use Rattle.model.specs.declared.command.Command.{Command}
 use Rattle.model.specs.declared.command.Command.TheVariants as command
+use Rattle.model.specs.declared.errno.Errno.{Errno}
 use Rattle.model.specs.declared.errno.Errno.TheVariants.{EIO}
 use Rattle.model.specs.declared.reply.Reply.{Reply}
 use Rattle.model.specs.declared.reply.Reply.TheVariants.{Refused}
 use Rattle.model.specs.Circumstances.{IsSure}
-use Rattle.model.specs.Room.{Need, Room, nothing}
+use Rattle.model.specs.Records.{Change, work_of}
+use Rattle.model.specs.Room.{Need, Room, nothing, logs, a_snapshot}
 use Rattle.model.specs.States.{State}
 use Rattle.model.specs.Steps.{WouldStep}
+use Rattle.model.specs.Volumes.{Volume}
 use Rattle.oplog.specs.LogEnd.{next_of}
+use Rattle.system.specs.Counting.{Counted, call_failed}
 use Rattle.system.specs.Images.{OpensTo}
 use Rattle.system.specs.Systems.{Serves, meaning_of}
 use Rattle.system.specs.declared.error.CallError.{CallError}
-use Rattle.system.specs.declared.error.CallError.TheVariants.{Damaged, LogFull, NotRead, NotWritten}
+use Rattle.system.specs.declared.error.CallError.TheVariants.{Damaged, LogFull, NotWritten}
 use Rattle.system.specs.declared.system.System.{System}
 
 -- a system serves a state, with the descriptors that this has
@@ -52,6 +55,10 @@ pub record WouldChange (s : State) (call : Command) : Type 0 where
   pub step : WouldCall s call reply after need
   pub needs : need ≢ nothing
 
+-- the reply is no refusal
+abbrev pub IsAccepted : Reply → Type 0
+IsAccepted reply = (errno : Errno) → reply ≢ Refused errno
+
 -- the reply doesn't tell of a device call that failed
 abbrev pub TellsNoFault : Reply → Type 0
 TellsNoFault reply = reply ≢ Refused EIO
@@ -60,13 +67,21 @@ TellsNoFault reply = reply ≢ Refused EIO
 abbrev pub LeavesEither : Meaning → Meaning → State → State → Type 0
 LeavesEither old new s t = LeavesOnly old new (λ c. OpensTo old s c ⊎ OpensTo old t c)
 
--- A call was done on a system at a state: it is answered so, and the system serves the state that it leaves.
-pub record IsCalled {S : Type 0} {G : Ghosts S} (old new : System S G) (s : State) (call : Command)
-    (reply : Reply) : Type 0 where
+-- the records beside a root, by what a call on this volume needed: those before it, and behind them one of its work where it logs
+abbrev pub HasLogged : Need → Volume → List Change → List Change → Type 0
+HasLogged nothing v before after = after ≡ before
+HasLogged (logs work) v before after = (change : Change) × (work ≡ work_of v change) × (after ≡ before ++ change ∷ [])
+HasLogged a_snapshot v before after = ⊥
+
+-- A call was done on a system that serves a state: it is answered so, the system serves the state that it leaves, and the log has
+-- what the call needed, and nothing else.
+pub record IsCalled {S : Type 0} {G : Ghosts S} (old new : System S G) (s : State) (served : ServesState old s)
+    (call : Command) (reply : Reply) : Type 0 where
   pub after : State
   pub need : Need
   pub step : WouldCall s call reply after need
   pub serves : ServesState new after
+  pub logs : HasLogged need served.running served.replayed.changes serves.replayed.changes
   pub leaves : LeavesEither (meaning_of old) (meaning_of new) s after
 
 -- A call on a system at a state was cut short: a cut leaves that state, or one that the call would leave.
@@ -83,32 +98,30 @@ pub record HasEmptyLog {S : Type 0} {G : Ghosts S} (f : System S G) : Type 0 whe
   pub epoch : f.log.epoch ≡ f.root.generation + 1
   pub end : next_of f.log.end ≡ FIRST_GATE
 
--- What a call does to a system: all that is promised of it. A sure one is answered.
+-- a sure call may be done, and calls no device
+pub record IsSureOn {S : Type 0} {G : Ghosts S} (old new : System S G) (s : State) (call : Command) : Type 0 where
+  pub sure : IsSure s call
+  pub still : new.blocks.station ≡ old.blocks.station
+
+-- What a call does to a system: all that is promised of it. A sure one is answered, and a refused one logs nothing.
 pub record Handles {S : Type 0} {G : Ghosts S} (old new : System S G) (call : Command)
     (result : Result Reply CallError) : Type 0 where
-  pub uses : Uses (meaning_of old) (meaning_of new)
+  pub counted : Counted (meaning_of old) (meaning_of new) (call_failed old.log.is_stopped result)
   pub no_fault : IfOk result TellsNoFault
-  pub read : MatchResult result
-      (λ _. (meaning_of new).failed_reads ≡ (meaning_of old).failed_reads)
-      (λ e. e ≡ LogFull → (meaning_of new).failed_reads ≡ (meaning_of old).failed_reads)
-  pub not_read : IsErrOf result NotRead
-      → HasGrown (meaning_of old).failed_reads (meaning_of new).failed_reads
-  pub written : MatchResult result
-      (λ _. (meaning_of new).failed_writes ≡ (meaning_of old).failed_writes)
-      (λ e. e ≢ NotWritten → (meaning_of new).failed_writes ≡ (meaning_of old).failed_writes)
-  pub not_written : IsErrOf result NotWritten → IsFalse old.log.is_stopped
-      → HasGrown (meaning_of old).failed_writes (meaning_of new).failed_writes
   pub epoch : new.log.epoch ≡ old.log.epoch
   pub runs : IsFalse old.log.is_stopped → MatchResult result
       (λ _. IsFalse new.log.is_stopped) (λ e. e ≢ NotWritten → IsFalse new.log.is_stopped)
+  pub refused : (errno : Errno) → result ≡ Ok (Refused errno)
+      → Goes Unchanged (meaning_of old) (meaning_of new)
   pub kept : IfErr result (λ e. e ≢ NotWritten → Goes Unchanged (meaning_of old) (meaning_of new))
   pub serves : (s : State) → ServesState old s
       → IfErr result (λ e. e ≢ NotWritten → ServesState new s)
-  pub done : (s : State) → ServesState old s → IfOk result (IsCalled old new s call)
+  pub done : (s : State) → (served : ServesState old s)
+      → IfOk result (IsCalled old new s served call)
   pub broken : (s : State) → ServesState old s → IsErrOf result NotWritten
       → IsBrokenOff old new s call
-  pub sure : (s : State) → ServesState old s
-      → MatchResult result (λ _. IsSure s call ⊎ ¬ IsSure s call) (λ _. ¬ IsSure s call)
-  pub full : (s : State) → ServesState old s → IsErrOf result LogFull → WouldChange s call
-  pub fits : (s : State) → ServesState old s → HasEmptyLog old → IsErrOf result LogFull → ⊥
+  pub sure : (s : State) → ServesState old s → MatchResult result
+      (λ _. IsSureOn old new s call ⊎ ¬ IsSure s call) (λ _. ¬ IsSure s call)
+  pub full : (s : State) → ServesState old s → IsErrOf result LogFull
+      → WouldChange s call × (HasEmptyLog old → ⊥)
   pub damaged : (s : State) → ServesState old s → IsErrOf result Damaged → ⊥

@@ -1,8 +1,7 @@
 -- Commands that end behind a consistency point, and the tests that come before one.
-use Rattle.std.specs.Prelude.{ℕ, ◌≡◌, ◌≢◌, ◌+◌, ◌<◌, ◌≤◌, ◌^◌, OnOk, IfErr, IfOk, IsErrOf, MatchResult, Option, Some, None, Result}
-use Rattle.station.specs.Calls.{Uses}
+use Rattle.std.specs.Prelude.{ℕ, ◌≡◌, ◌≢◌, ◌+◌, ◌<◌, ◌≤◌, ◌^◌, IfErr, IfOk, IsErrOf, MatchResult, Option, Some, None, Result}
 use Rattle.station.specs.Images.{Unchanged}
-use Rattle.station.specs.Moments.{Goes, HasGrown}
+use Rattle.station.specs.Moments.{Goes}
 use Rattle.station.specs.declared.station.Station.{Ghosts}
 use Rattle.model.specs.Circumstances.{IsStoring}
 use Rattle.model.specs.Paths.{Name}
@@ -16,12 +15,13 @@ use Rattle.model.specs.declared.reply.Reply.TheVariants.{Done, Refused}
 use Rattle.buffers.specs.Disks.{ReadsOn}
 use Rattle.conspoint.specs.declared.error.PlanError.TheVariants as plan
 use Rattle.planning.specs.Space.{point_nodes}
+use Rattle.system.specs.Counting.{AgesBy, Counted, LogsNothing, call_failed, point_failed}
 use Rattle.system.specs.Errors.{IsRefused}
 use Rattle.system.specs.Points.{free_blocks}
 use Rattle.system.specs.Serving.{IsBrokenOff, LeavesEither, ServesState, WouldCall, WouldChange}
 use Rattle.system.specs.Systems.{IsCovered, meaning_of}
 use Rattle.system.specs.declared.error.CallError.{CallError}
-use Rattle.system.specs.declared.error.CallError.TheVariants.{Damaged, LogFull, NotRead, NotWritten}
+use Rattle.system.specs.declared.error.CallError.TheVariants.{Damaged, LogFull, NotWritten}
 use Rattle.system.specs.declared.error.PointError.{PointError}
 use Rattle.system.specs.declared.error.PointError.TheVariants as point
 use Rattle.system.specs.declared.system.System.{System}
@@ -29,8 +29,7 @@ use Rattle.system.specs.declared.system.System.{System}
 -- Nothing was done but reading blocks: a system serves what it served.
 pub record Glances {S : Type 0} {G : Ghosts S} {T : Type 0} (old new : System S G) (result : Result T CallError) : Type 0 where
   pub reads : ReadsOn (meaning_of old) (meaning_of new)
-  pub counted : OnOk result ((meaning_of new).failed_reads ≡ (meaning_of old).failed_reads)
-  pub not_read : IsErrOf result NotRead → HasGrown (meaning_of old).failed_reads (meaning_of new).failed_reads
+  pub counted : Counted (meaning_of old) (meaning_of new) (call_failed old.log.is_stopped result)
   pub log : new.log ≡ old.log
   pub refuses : IfErr result (λ e. (e ≢ LogFull) × (e ≢ NotWritten))
   pub serves : (s : State) → ServesState old s → ServesState new s
@@ -68,18 +67,12 @@ pub record IsRefusedBy {S : Type 0} {G : Ghosts S} (old new : System S G) (s : S
 abbrev pub WouldSettle : State → Command → Type 0
 WouldSettle s c = (room : Room) → IsStoring room s c
 
--- What a command that ends behind a consistency point does to a system at a state with P: all that is promised of it.
+-- What a command that ends behind a consistency point does to a system at a state with P: all that is promised of it. It logs nothing.
 pub record Settles {S : Type 0} {G : Ghosts S} (old new : System S G) (P : State → Type 0) (c : Command) (result : Result (Result (Unit {0}) Errno) PointError) : Type 0 where
-  pub uses : Uses (meaning_of old) (meaning_of new)
+  pub counted : Counted (meaning_of old) (meaning_of new) (point_failed result)
   pub own : IfOk result (λ r. IfErr r (λ errno. errno ≢ EIO))
-  pub counted : OnOk result ((meaning_of new).failed_reads ≡ (meaning_of old).failed_reads)
-  pub not_read : IsErrOf result (point.NotPlanned plan.Device) → HasGrown (meaning_of old).failed_reads (meaning_of new).failed_reads
-  pub written : MatchResult result
-      (λ _. (meaning_of new).failed_writes ≡ (meaning_of old).failed_writes)
-      (λ e. IsRefused e → (meaning_of new).failed_writes ≡ (meaning_of old).failed_writes)
-  pub not_written : IsErrOf result point.NotWritten → HasGrown (meaning_of old).failed_writes (meaning_of new).failed_writes
-  pub ages : old.log.epoch ≤ new.log.epoch
-  pub once : new.log.epoch ≤ old.log.epoch + 1
+  pub unlogged : LogsNothing (meaning_of old) (meaning_of new)
+  pub epoch : AgesBy 1 old.log.epoch new.log.epoch
   pub runs : new.log.is_stopped ≡ old.log.is_stopped
   pub kept : IfErr result (λ e. IsRefused e → Goes Unchanged (meaning_of old) (meaning_of new))
   pub serves : (s : State) → ServesState old s → IfErr result (λ e. IsRefused e → ServesState new s)

@@ -1,12 +1,8 @@
 //! What calls by paths are to change.
 
-ghost use Rattle.std.specs.Prelude.{◌≡◌, IfErr, IfOk, IsFalse, IsTrue};
+ghost use Rattle.std.specs.Prelude.{IsFalse};
 ghost use Rattle.model.specs.Steps.{is_reading_call};
-ghost use Rattle.blocktree.specs.Errors.{IsFault};
-ghost use Rattle.calls.specs.Changing.{AllDo, AllReady, AnyDo, AnyReady};
-ghost use Rattle.calls.specs.Refusals.{is_path_refusal};
-ghost use Rattle.records.specs.Shown.{NeverDamaged, OnMounted};
-ghost use Rattle.calls.specs.Standing.{Looks};
+ghost use Rattle.calls.specs.Preparing.{Prepares, PreparesAny};
 ghost use Rattle.system.specs.Changing.{CallComes, RecordComes, may_stay};
 
 use blocktree::ReadError;
@@ -26,13 +22,8 @@ pub(crate) fn prepare<B: Blocks>(
     call: &PathCall,
 ) -> Result<Result<Option<Changing>, Errno>, ReadError>
     requires { IsFalse (is_reading_call call.now) }
-    ensures looks { Looks B.Blocks IsFault blocks.old blocks.new inodes.old inodes.new result }
-    ensures own { IfOk result (λ r. IfErr r (λ e. IsTrue (is_path_refusal e))) }
-    ensures ready { AnyReady inodes.new result }
-    ensures does { AnyDo B.Blocks blocks.old inodes.old inodes.new result }
-    ensures answers { OnMounted B.Blocks blocks.old inodes.old (λ v table. IfOk result
-        (CallComes inodes.old.geometry.inodes call.now v table)) }
-    ensures damaged { NeverDamaged B.Blocks blocks.old inodes.old result }
+    ensures { PreparesAny B.Blocks blocks.old blocks.new inodes.old inodes.new
+        (CallComes call.now) result }
 {
     match call {
         PathCall::Rename { old, new } => {
@@ -57,13 +48,8 @@ fn prepare_record<B: Blocks>(
 ) -> Result<Result<Changing, Errno>, ReadError>
     requires changes { IsFalse (is_reading_call call.now) }
     requires changes_always { IsFalse (may_stay call.now) }
-    ensures looks { Looks B.Blocks IsFault blocks.old blocks.new inodes.old inodes.new result }
-    ensures own { IfOk result (λ r. IfErr r (λ e. IsTrue (is_path_refusal e))) }
-    ensures ready { AllReady inodes.new result }
-    ensures does { AllDo B.Blocks blocks.old inodes.old inodes.new result }
-    ensures answers { OnMounted B.Blocks blocks.old inodes.old (λ v table. IfOk result
-        (RecordComes inodes.old.geometry.inodes call.now v table)) }
-    ensures damaged { NeverDamaged B.Blocks blocks.old inodes.old result }
+    ensures { Prepares B.Blocks blocks.old blocks.new inodes.old inodes.new
+        (RecordComes call.now) result }
 {
     match call {
         PathCall::Mkdir { path, mode } => {

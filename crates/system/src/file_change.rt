@@ -2,7 +2,7 @@
 
 ghost use Rattle.std.specs.Prelude.{◌≡◌, ◌≤◌, ◌+◌, length};
 ghost use Rattle.layout.specs.Record.{body_of, change_of, IsChange, KeepsLimits};
-ghost use Rattle.layout.specs.declared.record.TheConstants.{WRITE_BYTES};
+ghost use Rattle.model.specs.declared.limits.TheConstants.{TRANSFER_BYTES};
 
 use crate::table_move::TableMove;
 use calls::OwnedChange;
@@ -47,7 +47,7 @@ impl CallRecord<'_> {
         ensures says { change_of result ≡ recorded self.now }
         ensures limits { KeepsLimits (change_of result) }
         ensures is { IsChange (change_of result) }
-        ensures short { length (body_of result) ≤ 17 + WRITE_BYTES }
+        ensures short { length (body_of result) ≤ 17 + TRANSFER_BYTES }
     {
         match self {
             CallRecord::Says(change) => change.record(),

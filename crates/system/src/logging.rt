@@ -1,6 +1,6 @@
 //! Records put into the log of a mounted system.
 
-ghost use Rattle.std.specs.Prelude.{◌≡◌, ◌≢◌, ◌⊎◌, ◌+◌, ℕ, Option, OnOk, OnErr, IsErrOf, IsFalse, length, true};
+ghost use Rattle.std.specs.Prelude.{◌≡◌, ◌≢◌, ◌⊎◌, ◌+◌, ◌∷◌, ◌++◌, [], ℕ, Option, OnOk, OnErr, IfErr, IsErrOf, IsFalse, length, true};
 ghost use Rattle.station.specs.Calls.{OnlyWrites};
 ghost use Rattle.station.specs.Moments.{LeavesOnly};
 ghost use Rattle.layout.specs.Record.{KeepsLimits, change_of};
@@ -14,7 +14,7 @@ ghost use Rattle.system.specs.Images.{OpensTo};
 ghost use Rattle.records.specs.Prepared.{IsReady};
 ghost use Rattle.system.specs.Logging.{Advances, DoesOver, WouldServe};
 ghost use Rattle.system.specs.Serving.{LeavesEither};
-ghost use Rattle.system.specs.Systems.{Serves, ServesVolume, meaning_of, state_with};
+ghost use Rattle.system.specs.Systems.{Serves, ServesWith, meaning_of, parts_of, state_with};
 
 use crate::System;
 use crate::laws::{cuts_open, records_lead_on, served_states_open};
@@ -33,20 +33,17 @@ impl<S: Station> System<S> {
         ensures writes { OnlyWrites
             (λ e. (e ≡ AppendError.Device) × IsFalse self.old.log.is_stopped)
             (meaning_of self.old) (meaning_of self.new) result }
-        ensures refused { IsErrOf result AppendError.LogFull ⊎ IsErrOf result AppendError.NoMemory
-            → (self.new.blocks ≡ self.old.blocks) × (self.new.log ≡ self.old.log) }
+        ensures refused { IfErr result (λ e. e ≢ AppendError.Device
+            → (self.new.blocks ≡ self.old.blocks) × (self.new.log ≡ self.old.log)) }
         ensures full { IsErrOf result AppendError.LogFull
             → HasRoom self.old.log (length (body_of (change_of change.now))) → ⊥ }
         ensures stopped { IsErrOf result AppendError.Device
             → self.new.log ≡ record self.old.log { is_stopped = true } }
         ensures end { OnOk result
             (self.new.log ≡ behind self.old.log (body_of (change_of change.now))) }
-        ensures root { self.new.root ≡ self.old.root }
-        ensures slot { self.new.slot ≡ self.old.slot }
-        ensures inodes { self.new.inodes ≡ self.old.inodes }
-        ensures map { self.new.map ≡ self.old.map }
-        ensures pledged { OnErr result (self.new.pledged ≡ self.old.pledged) }
-        ensures files { self.new.files ≡ self.old.files }
+        ensures stays { (parts_of self.new
+            ≡ record (parts_of self.old) { log = self.new.log; pledged = self.new.pledged })
+            × OnErr result (self.new.pledged ≡ self.old.pledged) }
         ensures any_moment { (table : ℕ → Option Description) (s : State)
             → (serves : Serves self.old table s)
             → Advances self.old.root.geometry.inodes serves.running table (change_of change.now)
@@ -58,7 +55,8 @@ impl<S: Station> System<S> {
             → (serves : Serves self.old table s)
             → Advances self.old.root.geometry.inodes serves.running table (change_of change.now)
             → OnOk result (WouldServe self.old self.new
-            (swept table (applied (change_of change.now) serves.running)) table
+            (swept table (applied (change_of change.now) serves.running))
+            (serves.replayed.changes ++ change_of change.now ∷ []) table
             (state_with self.old.root.geometry.inodes
             (swept table (applied (change_of change.now) serves.running)) table serves.snapshots)) }
     {
@@ -86,20 +84,17 @@ impl<S: Station> System<S> {
         ensures writes { OnlyWrites
             (λ e. (e ≡ AppendError.Device) × IsFalse self.old.log.is_stopped)
             (meaning_of self.old) (meaning_of self.new) result }
-        ensures refused { IsErrOf result AppendError.LogFull ⊎ IsErrOf result AppendError.NoMemory
-            → (self.new.blocks ≡ self.old.blocks) × (self.new.log ≡ self.old.log) }
-        ensures inodes { OnErr result (self.new.inodes ≡ self.old.inodes) }
-        ensures root { self.new.root ≡ self.old.root }
-        ensures slot { self.new.slot ≡ self.old.slot }
-        ensures map { self.new.map ≡ self.old.map }
-        ensures pledged { OnErr result (self.new.pledged ≡ self.old.pledged) }
-        ensures files { OnErr result (self.new.files ≡ self.old.files) }
-        ensures opened { table_of self.new.files ≡ table_of self.old.files }
+        ensures refused { IfErr result (λ e.
+            (parts_of self.new ≡ record (parts_of self.old) { log = self.new.log })
+            × (e ≢ AppendError.Device
+            → (self.new.blocks ≡ self.old.blocks) × (self.new.log ≡ self.old.log))) }
+        ensures opened { (self.new.root ≡ self.old.root)
+            × (table_of self.new.files ≡ table_of self.old.files) }
         ensures full { IsErrOf result AppendError.LogFull
             → (self.old.log.epoch ≢ self.old.root.generation + 1)
             ⊎ (HasRoom self.old.log (length (body_of (change_of change.now))) → ⊥) }
-        ensures epoch { self.new.log.epoch ≡ self.old.log.epoch }
-        ensures runs { OnOk result (self.new.log.is_stopped ≡ self.old.log.is_stopped) }
+        ensures log { (self.new.log.epoch ≡ self.old.log.epoch)
+            × OnOk result (self.new.log.is_stopped ≡ self.old.log.is_stopped) }
         ensures any_moment { (table : ℕ → Option Description) (s : State)
             → (serves : Serves self.old table s)
             → Advances self.old.root.geometry.inodes serves.running table (change_of change.now)
@@ -111,8 +106,9 @@ impl<S: Station> System<S> {
             → Advances self.old.root.geometry.inodes serves.running table (change_of change.now)
             → DoesOver self.old serves.running prepared (change_of change.now)
             → let after = swept table (applied (change_of change.now) serves.running) in
-            OnOk result (ServesVolume self.new table
-            (state_with self.old.root.geometry.inodes after table serves.snapshots) after) }
+            OnOk result (ServesWith self.new table
+            (state_with self.old.root.geometry.inodes after table serves.snapshots) after
+            (serves.replayed.changes ++ change_of change.now ∷ [])) }
     {
         served_states_open(self);
         if self.log.epoch() != self.root.generation.epoch_after(1) {

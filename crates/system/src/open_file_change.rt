@@ -1,17 +1,9 @@
 //! What calls on descriptors are to change.
 
-ghost use Rattle.std.specs.Prelude.{◌≡◌, ◌≤◌, IfErr, IfOk, IfSome, IsTrue, length};
+ghost use Rattle.std.specs.Prelude.{IsTrue};
 ghost use Rattle.model.specs.declared.command.Command.TheVariants as command;
-ghost use Rattle.blocktree.specs.Errors.{IsFault};
-ghost use Rattle.calls.specs.Standing.{Looks};
-ghost use Rattle.calls.specs.Refusals.{is_path_refusal};
 ghost use Rattle.records.specs.Opened.{HasNumbers};
-ghost use Rattle.records.specs.Prepared.{Does, IsReady};
-ghost use Rattle.records.specs.Shown.{NeverDamaged, OnVolumes};
-ghost use Rattle.descriptors.specs.Tables.{table_of};
-ghost use Rattle.files.specs.Opened.{OnOpen};
-ghost use Rattle.system.specs.OpenFiles.{CanMove, DoesCall, IsNumbered, KeepsRecord, is_logging_call, recorded};
-ghost use Rattle.system.specs.Serving.{TellsNoFault};
+ghost use Rattle.system.specs.OpenFiles.{PreparesDoing, is_logging_call};
 
 use crate::file_change::{CallRecord, Doing, FileChange};
 use crate::table_move::TableMove;
@@ -36,22 +28,8 @@ pub(crate) fn prepare_open_file<'a, B: Blocks>(
 ) -> Result<Result<Doing<'a>, Errno>, ReadError>
     requires logs { IsTrue (is_logging_call call.now) }
     requires numbers { HasNumbers inodes.old.geometry.inodes files.now }
-    ensures looks { Looks B.Blocks IsFault blocks.old blocks.new inodes.old inodes.new result }
-    ensures own { IfOk result (λ r. IfErr r (λ e. IsTrue (is_path_refusal e))) }
-    ensures told { IfOk result (λ r. IfOk r (λ d. TellsNoFault d.reply)) }
-    ensures moves { IfOk result (λ r. IfOk r (λ d. CanMove (table_of files.now) d.table)) }
-    ensures numbered { IfOk result (λ r. IfOk r (λ d.
-        IsNumbered inodes.old.geometry.inodes d.table)) }
-    ensures limits { IfOk result (λ r. IfOk r (λ d. IfSome d.change (λ c.
-        KeepsRecord c.record))) }
-    ensures ready { IfOk result (λ r. IfOk r (λ d. IfSome d.change (λ c.
-        IsReady inodes.new c.prepared))) }
-    ensures does { OnVolumes B.Blocks blocks.old inodes.old (λ disk settled v. IfOk result (λ r.
-        IfOk r (λ d. IfSome d.change (λ c.
-        Does disk settled inodes.new v c.prepared (recorded c.record))))) }
-    ensures answers { OnOpen B.Blocks blocks.old inodes.old files.now (λ v. IfOk result
-        (DoesCall inodes.old.geometry.inodes v (table_of files.now) (call.now))) }
-    ensures damaged { NeverDamaged B.Blocks blocks.old inodes.old result }
+    ensures { PreparesDoing B.Blocks blocks.old blocks.new inodes.old inodes.new files.now
+        call.now result }
 {
     match call {
         Command::Open { path, flags, mode } => {
@@ -79,22 +57,8 @@ fn prepare_writing<'a, B: Blocks>(
     fd: u32,
     bytes: &'a [u8],
 ) -> Result<Result<Doing<'a>, Errno>, ReadError>
-    ensures looks { Looks B.Blocks IsFault blocks.old blocks.new inodes.old inodes.new result }
-    ensures own { IfOk result (λ r. IfErr r (λ e. IsTrue (is_path_refusal e))) }
-    ensures told { IfOk result (λ r. IfOk r (λ d. TellsNoFault d.reply)) }
-    ensures moves { IfOk result (λ r. IfOk r (λ d. CanMove (table_of files.now) d.table)) }
-    ensures numbered { IfOk result (λ r. IfOk r (λ d.
-        IsNumbered inodes.old.geometry.inodes d.table)) }
-    ensures limits { IfOk result (λ r. IfOk r (λ d. IfSome d.change (λ c.
-        KeepsRecord c.record))) }
-    ensures ready { IfOk result (λ r. IfOk r (λ d. IfSome d.change (λ c.
-        IsReady inodes.new c.prepared))) }
-    ensures does { OnVolumes B.Blocks blocks.old inodes.old (λ disk settled v. IfOk result (λ r.
-        IfOk r (λ d. IfSome d.change (λ c.
-        Does disk settled inodes.new v c.prepared (recorded c.record))))) }
-    ensures answers { OnOpen B.Blocks blocks.old inodes.old files.now (λ v. IfOk result
-        (DoesCall inodes.old.geometry.inodes v (table_of files.now) (command.Write fd bytes.now))) }
-    ensures damaged { NeverDamaged B.Blocks blocks.old inodes.old result }
+    ensures { PreparesDoing B.Blocks blocks.old blocks.new inodes.old inodes.new files.now
+        (command.Write fd bytes.now) result }
 {
     let found = prepare_write(alloc, inodes, blocks, files, fd, bytes)?;
     match found {
@@ -133,22 +97,8 @@ fn prepare_writing_at<'a, B: Blocks>(
     offset: i64,
     bytes: &'a [u8],
 ) -> Result<Result<Doing<'a>, Errno>, ReadError>
-    ensures looks { Looks B.Blocks IsFault blocks.old blocks.new inodes.old inodes.new result }
-    ensures own { IfOk result (λ r. IfErr r (λ e. IsTrue (is_path_refusal e))) }
-    ensures told { IfOk result (λ r. IfOk r (λ d. TellsNoFault d.reply)) }
-    ensures moves { IfOk result (λ r. IfOk r (λ d. CanMove (table_of files.now) d.table)) }
-    ensures numbered { IfOk result (λ r. IfOk r (λ d.
-        IsNumbered inodes.old.geometry.inodes d.table)) }
-    ensures limits { IfOk result (λ r. IfOk r (λ d. IfSome d.change (λ c.
-        KeepsRecord c.record))) }
-    ensures ready { IfOk result (λ r. IfOk r (λ d. IfSome d.change (λ c.
-        IsReady inodes.new c.prepared))) }
-    ensures does { OnVolumes B.Blocks blocks.old inodes.old (λ disk settled v. IfOk result (λ r.
-        IfOk r (λ d. IfSome d.change (λ c.
-        Does disk settled inodes.new v c.prepared (recorded c.record))))) }
-    ensures answers { OnOpen B.Blocks blocks.old inodes.old files.now (λ v. IfOk result
-        (DoesCall inodes.old.geometry.inodes v (table_of files.now) (command.Pwrite fd offset bytes.now))) }
-    ensures damaged { NeverDamaged B.Blocks blocks.old inodes.old result }
+    ensures { PreparesDoing B.Blocks blocks.old blocks.new inodes.old inodes.new files.now
+        (command.Pwrite fd offset bytes.now) result }
 {
     let found = prepare_pwrite(alloc, inodes, blocks, files, fd, offset, bytes)?;
     match found {
@@ -184,22 +134,8 @@ fn prepare_cutting<'a, B: Blocks>(
     size: i64,
 ) -> Result<Result<Doing<'a>, Errno>, ReadError>
     requires { HasNumbers inodes.old.geometry.inodes files.now }
-    ensures looks { Looks B.Blocks IsFault blocks.old blocks.new inodes.old inodes.new result }
-    ensures own { IfOk result (λ r. IfErr r (λ e. IsTrue (is_path_refusal e))) }
-    ensures told { IfOk result (λ r. IfOk r (λ d. TellsNoFault d.reply)) }
-    ensures moves { IfOk result (λ r. IfOk r (λ d. CanMove (table_of files.now) d.table)) }
-    ensures numbered { IfOk result (λ r. IfOk r (λ d.
-        IsNumbered inodes.old.geometry.inodes d.table)) }
-    ensures limits { IfOk result (λ r. IfOk r (λ d. IfSome d.change (λ c.
-        KeepsRecord c.record))) }
-    ensures ready { IfOk result (λ r. IfOk r (λ d. IfSome d.change (λ c.
-        IsReady inodes.new c.prepared))) }
-    ensures does { OnVolumes B.Blocks blocks.old inodes.old (λ disk settled v. IfOk result (λ r.
-        IfOk r (λ d. IfSome d.change (λ c.
-        Does disk settled inodes.new v c.prepared (recorded c.record))))) }
-    ensures answers { OnOpen B.Blocks blocks.old inodes.old files.now (λ v. IfOk result
-        (DoesCall inodes.old.geometry.inodes v (table_of files.now) (command.Ftruncate fd size))) }
-    ensures damaged { NeverDamaged B.Blocks blocks.old inodes.old result }
+    ensures { PreparesDoing B.Blocks blocks.old blocks.new inodes.old inodes.new files.now
+        (command.Ftruncate fd size) result }
 {
     let found = prepare_ftruncate(alloc, inodes, blocks, files, fd, size)?;
     match found {
@@ -231,22 +167,8 @@ fn prepare_opening<'a, B: Blocks>(
     flags: Flags,
     mode: Mode,
 ) -> Result<Result<Doing<'a>, Errno>, ReadError>
-    ensures looks { Looks B.Blocks IsFault blocks.old blocks.new inodes.old inodes.new result }
-    ensures own { IfOk result (λ r. IfErr r (λ e. IsTrue (is_path_refusal e))) }
-    ensures told { IfOk result (λ r. IfOk r (λ d. TellsNoFault d.reply)) }
-    ensures moves { IfOk result (λ r. IfOk r (λ d. CanMove (table_of files.now) d.table)) }
-    ensures numbered { IfOk result (λ r. IfOk r (λ d.
-        IsNumbered inodes.old.geometry.inodes d.table)) }
-    ensures limits { IfOk result (λ r. IfOk r (λ d. IfSome d.change (λ c.
-        KeepsRecord c.record))) }
-    ensures ready { IfOk result (λ r. IfOk r (λ d. IfSome d.change (λ c.
-        IsReady inodes.new c.prepared))) }
-    ensures does { OnVolumes B.Blocks blocks.old inodes.old (λ disk settled v. IfOk result (λ r.
-        IfOk r (λ d. IfSome d.change (λ c.
-        Does disk settled inodes.new v c.prepared (recorded c.record))))) }
-    ensures answers { OnOpen B.Blocks blocks.old inodes.old files.now (λ v. IfOk result
-        (DoesCall inodes.old.geometry.inodes v (table_of files.now) (command.Open path.now flags mode))) }
-    ensures damaged { NeverDamaged B.Blocks blocks.old inodes.old result }
+    ensures { PreparesDoing B.Blocks blocks.old blocks.new inodes.old inodes.new files.now
+        (command.Open path.now flags mode) result }
 {
     let found = prepare_open(alloc, inodes, blocks, files, path, flags, mode)?;
     match found {

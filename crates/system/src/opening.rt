@@ -19,7 +19,7 @@ ghost use Rattle.buffers.specs.Reads.{ReadsBlocks};
 ghost use Rattle.loading.specs.Slots.{FitsStation, HasNoRoot};
 ghost use Rattle.oplog.specs.SavedLog.{TellsLog};
 ghost use Rattle.system.specs.Images.{OpensTo};
-ghost use Rattle.system.specs.Opening.{FitsRoot, HasFailed, HasImage, HoldsRecords, IsFound, IsOf};
+ghost use Rattle.system.specs.Opening.{FitsRoot, HasFailed, HasImage, HasNewest, HoldsRecords, HoldsSome, IsFound, IsOf};
 ghost use Rattle.system.specs.Refusals.{IsDevice, IsOutside};
 ghost use Rattle.system.specs.Systems.{Serves, meaning_of, state_with};
 
@@ -57,11 +57,10 @@ fn find<S: Station>(alloc: Global, station: &mut S) -> Result<Found, OpenError>
     ensures goes { Goes Unchanged (S.meaning station.old) (S.meaning station.new) }
     ensures device { IsErrOf result OpenError.Device
         → HasFailed (S.meaning station.old) (S.meaning station.new) }
-    ensures reads { OnOk result ((S.meaning station.new).failed_reads
-        ≡ (S.meaning station.old).failed_reads) }
     ensures found { IfOk result (λ f. IsFound f (S.meaning station.new)) }
-    ensures settled { OnOk result (LeavesJust (S.meaning station.new)
-        (S.meaning station.old).seen) }
+    ensures settled { OnOk result (
+        LeavesJust (S.meaning station.new) (S.meaning station.old).seen
+        × ((S.meaning station.new).failed_reads ≡ (S.meaning station.old).failed_reads)) }
     ensures no_root { (S.meaning station.old).is_honest → IsErrOf result OpenError.NoRoot
         → HasNoRoot (S.meaning station.old).sectors (S.meaning station.old).seen.disk }
     ensures rootless { (S.meaning station.old).is_honest
@@ -97,6 +96,8 @@ fn read_image<B: Blocks>(
     ensures reads { ReadsBlocks B.Blocks IsDevice blocks.old blocks.new result }
     ensures fits { IfOk result (FitsRoot root.now) }
     ensures rooted { IsErrOf result OpenError.NoRoot → ⊥ }
+    ensures log { (nvram : List ℕ) → TellsLog nvram saved
+        → IfOk result (λ p. HoldsSome p.log root.now.generation nvram) }
     ensures has { (disk : Blocks) (nvram : List ℕ) (first last : Volume)
         (snapshots : List (Name × Tree)) (changes : List Change) → B.Shows blocks.old disk
         → TellsLog nvram saved → HoldsRecords disk root.now nvram first last snapshots changes
@@ -133,6 +134,9 @@ fn open_found<S: Station>(
         → HasGrown (S.meaning station).failed_reads (S.meaning e.1).failed_reads) }
     ensures rooted { IfErr result (λ e. e.0 ≡ OpenError.NoRoot → ⊥) }
     ensures runs { IfOk result (λ f. IsFalse f.log.is_stopped) }
+    ensures found { IfOk result (λ f. (f.root ≡ found.newest.root) × (f.slot ≡ found.newest.slot)
+        × ((nvram : List ℕ) → TellsLog nvram found.saved
+        → HoldsSome f.log found.newest.root.generation nvram)) }
     ensures serves { (S.meaning station).is_honest
         → LeavesJust (S.meaning station) (S.meaning station).seen
         → IsOf (S.meaning station).seen found
@@ -175,7 +179,8 @@ impl<S: Station> System<S> {
     /// Mounts an image: reads its newest root, what memory is to have of the tree under it, and replays the log over that. It
     /// writes nothing. `NoRoot` comes where neither slot holds a root, `Device` only where a device call failed. Where what the
     /// station reads opens to a state by records that this version does, Ok gives a system that serves what a mount finds of it,
-    /// and `Damaged` doesn't come. No directory and no file is read, so Ok may come over an image that opens to none.
+    /// and `Damaged` doesn't come. No directory and no file is read, so Ok may come over an image that opens to none; but it has
+    /// taken the newest root, the station has its sizes, and the NVRAM holds a log over it.
     pub fn open(alloc: Global, mut station: S) -> Result<System<S>, (OpenError, S)>
         ensures same { MatchResult result
             (λ f. IsSameStation (S.meaning station) (meaning_of f))
@@ -185,6 +190,8 @@ impl<S: Station> System<S> {
         ensures device { IfErr result (λ e. e.0 ≡ OpenError.Device
             → HasFailed (S.meaning station) (S.meaning e.1)) }
         ensures runs { IfOk result (λ f. IsFalse f.log.is_stopped) }
+        ensures found { (S.meaning station).is_honest
+            → IfOk result (λ f. HasNewest (S.meaning station) f.slot f.root f.log) }
         ensures no_root { (S.meaning station).is_honest
             → IfErr result (λ e. e.0 ≡ OpenError.NoRoot
             → HasNoRoot (S.meaning station).sectors (S.meaning station).seen.disk) }

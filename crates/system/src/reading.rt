@@ -5,12 +5,12 @@ ghost use Rattle.model.specs.Room.{nothing};
 ghost use Rattle.model.specs.Steps.{calls, is_reading_call};
 ghost use Rattle.model.specs.Volumes.{tree_of};
 ghost use Rattle.blocktree.specs.Errors.{IsFault};
-ghost use Rattle.calls.specs.Getting.{data_reply};
-ghost use Rattle.calls.specs.Listing.{reply_of};
-ghost use Rattle.calls.specs.ReadingLink.{text_reply};
+ghost use Rattle.calls.specs.Get.{data_reply};
+ghost use Rattle.calls.specs.List.{reply_of};
+ghost use Rattle.calls.specs.Readlink.{text_reply};
 ghost use Rattle.calls.specs.Seeing.{OnTrees};
 ghost use Rattle.records.specs.Shown.{NeverDamaged};
-ghost use Rattle.calls.specs.Stating.{stat_reply};
+ghost use Rattle.calls.specs.Stat.{stat_reply};
 ghost use Rattle.calls.specs.Standing.{Looks};
 ghost use Rattle.system.specs.Serving.{TellsNoFault};
 

@@ -1,15 +1,9 @@
 //! Calls that a consistency point isn't part of, served on a mounted system.
 
-ghost use Rattle.std.specs.Prelude.{◌≡◌, ◌≢◌, ◌⊎◌, IsFalse, IsTrue, IfOk, IfErr, IsErrOf, MatchResult};
-ghost use Rattle.station.specs.Calls.{Uses};
-ghost use Rattle.station.specs.Images.{Unchanged};
-ghost use Rattle.station.specs.Moments.{Goes, HasGrown};
-ghost use Rattle.model.specs.Circumstances.{IsSure};
-ghost use Rattle.model.specs.States.{State};
+ghost use Rattle.std.specs.Prelude.{◌≡◌, IsFalse, IsTrue};
 ghost use Rattle.model.specs.Steps.{is_reading_call};
 ghost use Rattle.system.specs.Errors.{call_error, log_error};
-ghost use Rattle.system.specs.Serving.{Handles, HasEmptyLog, IsBrokenOff, IsCall, IsCalled, ServesState, TellsNoFault, WouldChange};
-ghost use Rattle.system.specs.Systems.{meaning_of};
+ghost use Rattle.system.specs.Serving.{Handles, IsCall};
 
 use crate::changing::prepare;
 use crate::laws::served_states_open;
@@ -49,47 +43,6 @@ impl<S: Station> System<S> {
     /// something, where a consistency point has to come first. After an error nothing has changed, but for `NotWritten`: then
     /// a cut leaves the state before the call or the one after it. A sure call is always answered.
     pub fn call(&mut self, call: &Command) -> Result<Reply, CallError>
-        requires { IsCall call.now }
-        ensures uses { Uses (meaning_of self.old) (meaning_of self.new) }
-        ensures no_fault { IfOk result TellsNoFault }
-        ensures read { MatchResult result
-            (λ _. (meaning_of self.new).failed_reads ≡ (meaning_of self.old).failed_reads)
-            (λ e. e ≡ CallError.LogFull
-            → (meaning_of self.new).failed_reads ≡ (meaning_of self.old).failed_reads) }
-        ensures not_read { IsErrOf result CallError.NotRead
-            → HasGrown (meaning_of self.old).failed_reads (meaning_of self.new).failed_reads }
-        ensures written { MatchResult result
-            (λ _. (meaning_of self.new).failed_writes ≡ (meaning_of self.old).failed_writes)
-            (λ e. e ≢ CallError.NotWritten
-            → (meaning_of self.new).failed_writes ≡ (meaning_of self.old).failed_writes) }
-        ensures not_written { IsErrOf result CallError.NotWritten → IsFalse self.old.log.is_stopped
-            → HasGrown (meaning_of self.old).failed_writes (meaning_of self.new).failed_writes }
-        ensures epoch { self.new.log.epoch ≡ self.old.log.epoch }
-        ensures runs { IsFalse self.old.log.is_stopped → MatchResult result
-            (λ _. IsFalse self.new.log.is_stopped)
-            (λ e. e ≢ CallError.NotWritten → IsFalse self.new.log.is_stopped) }
-        ensures kept { IfErr result (λ e. e ≢ CallError.NotWritten
-            → Goes Unchanged (meaning_of self.old) (meaning_of self.new)) }
-        ensures serves { (s : State) → ServesState self.old s
-            → IfErr result (λ e. e ≢ CallError.NotWritten → ServesState self.new s) }
-        ensures done { (s : State) → ServesState self.old s
-            → IfOk result (IsCalled self.old self.new s call.now) }
-        ensures broken { (s : State) → ServesState self.old s
-            → IsErrOf result CallError.NotWritten → IsBrokenOff self.old self.new s call.now }
-        ensures sure { (s : State) → ServesState self.old s → MatchResult result
-            (λ _. IsSure s call.now ⊎ ¬ IsSure s call.now) (λ _. ¬ IsSure s call.now) }
-        ensures full { (s : State) → ServesState self.old s
-            → IsErrOf result CallError.LogFull → WouldChange s call.now }
-        ensures fits { (s : State) → ServesState self.old s → HasEmptyLog self.old
-            → IsErrOf result CallError.LogFull → ⊥ }
-        ensures damaged { (s : State) → ServesState self.old s
-            → IsErrOf result CallError.Damaged → ⊥ }
-    {
-        self.serve(call)
-    }
-
-    // The same, promised at once.
-    fn serve(&mut self, call: &Command) -> Result<Reply, CallError>
         requires { IsCall call.now }
         ensures { Handles self.old self.new call.now result }
     {

@@ -30,24 +30,21 @@ pub(crate) fn carry_out<S: Station>(
     requires root { IsRoot point.root }
     ensures writes { OnlyWrites IsNotWritten
         (S.meaning buffers.old.station) (S.meaning buffers.new.station) result }
-    ensures refused { IfErr result (λ e. IsRefused e → buffers.new ≡ buffers.old) }
-    ensures why { IfErr result (λ e. (e ≡ PointError.NotWritten)
-        ⊎ (e ≡ PointError.NotPlanned PlanError.NoMemory)) }
+    ensures refused { IfErr result (λ e. (IsRefused e → buffers.new ≡ buffers.old)
+        × ((e ≡ PointError.NotWritten) ⊎ (e ≡ PointError.NotPlanned PlanError.NoMemory))) }
     ensures any_moment { LeavesOnly (S.meaning buffers.old.station) (S.meaning buffers.new.station)
         (λ c. After (StaysOutside point.plan.blocks) (S.meaning buffers.old.station) c
         ⊎ HasNewRoot point.plan (S.meaning buffers.old.station).seen c) }
-    ensures settled { (S.meaning buffers.old.station).is_honest
-        → OnOk result (EachCut (S.meaning buffers.new.station)
-        (HasNewRoot point.plan (S.meaning buffers.old.station).seen)) }
-    ensures just { OnOk result
-        (LeavesJust (S.meaning buffers.new.station) (S.meaning buffers.new.station).seen) }
+    ensures settled { OnOk result (
+        ((S.meaning buffers.old.station).is_honest → EachCut (S.meaning buffers.new.station)
+        (HasNewRoot point.plan (S.meaning buffers.old.station).seen))
+        × LeavesJust (S.meaning buffers.new.station) (S.meaning buffers.new.station).seen) }
     ensures shows { (disk : ℕ → List ℕ)
         → ShowsDisk (S.meaning buffers.old.station) buffers.old.kept disk
         → OnOk result (ShowsDisk (S.meaning buffers.new.station) buffers.new.kept
         (disk_with_sector point.plan.slot point.plan.root
         (disk_with_blocks point.plan.blocks disk))) }
-    ensures root { IfOk result (λ r. r.0 ≡ point.root) }
-    ensures file { IfOk result (λ r. IsFileOf point.root.inode_file r.1) }
+    ensures root { IfOk result (λ r. (r.0 ≡ point.root) × IsFileOf point.root.inode_file r.1) }
 {
     let Point { plan, root } = point;
     let Ok(file) = File::load(alloc, root.inode_file) else {

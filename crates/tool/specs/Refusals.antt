@@ -1,8 +1,8 @@
 -- What is refused: by the system, and of the words.
-use Rattle.session.specs.declared.status.Status.{Status}
+use Rattle.command_line.specs.declared.line.LineError.TheVariants as line_error
+use Rattle.command_line.specs.declared.line.LineError.{LineError}
 use Rattle.session.specs.declared.status.Status.TheVariants.{FileFault, NoMemory, NotMounted, NotUnderstood}
-use Rattle.tool.specs.declared.line.LineError.{LineError}
-use Rattle.tool.specs.declared.line.LineError.TheVariants as line_error
+use Rattle.session.specs.declared.status.Status.{Status}
 
 -- what the system refuses: there is no memory, or a file can't be read or written
 abbrev pub IsSystemFault : Status → Type 0

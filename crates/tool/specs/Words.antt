@@ -4,9 +4,9 @@ use Rattle.station.specs.declared.keep.Keep.{Keep}
 use Rattle.station.specs.declared.keep.Keep.TheVariants as keep
 use Rattle.station.specs.declared.sim.Sim.{Sim}
 use Rattle.station.specs.Sim.{plan_of}
-use Rattle.tool.specs.declared.line.Kept.{Kept}
-use Rattle.tool.specs.declared.line.Kept.TheVariants as kept
-use Rattle.tool.specs.declared.line.RunFaults.{RunFaults}
+use Rattle.command_line.specs.declared.line.Kept.{Kept}
+use Rattle.command_line.specs.declared.line.Kept.TheVariants as kept
+use Rattle.command_line.specs.declared.line.RunFaults.{RunFaults}
 
 -- what a cut keeps is what its word says: of a text of 0 and 1, a write where its character is 1 (49)
 abbrev pub Keeps : Kept → Keep → Type 0

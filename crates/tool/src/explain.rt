@@ -1,11 +1,9 @@
 //! Why nothing was run, in a line for people behind the one that programs read.
 
-mod lines;
 mod mounting;
-mod words;
 
 use crate::obeying::Image;
-use lines::explain_line;
+use command_line::explain_line;
 pub(crate) use mounting::explain_mount;
 use session::{Ending, Fault};
 use std::io::Write;

@@ -1,11 +1,13 @@
-//! The program `wafl`: what its words ask for, over an image's files.
+//! The program `wafl` as a library: what its words ask for, over an image's files.
 #![tactic(auto)]
 
 mod explain;
-pub mod host_files;
-mod line;
+mod image_error;
+mod image_making;
 mod obeying;
-pub mod transfer;
+mod statuses;
 
-pub use line::{Asked, Kept, Line, LineError, RunFaults, read_line};
+pub use image_error::ImageError;
+pub use image_making::make_image;
 pub use obeying::{Terminals, obey};
+pub use statuses::{status_of_file, status_of_line, status_of_transfer};

@@ -4,11 +4,14 @@ mod faults;
 mod sessions;
 mod transfers;
 
-use crate::host_files::{FileError, make_image};
-use crate::line::{Line, read_line};
+use crate::image_making::make_image;
+use crate::statuses::{status_of_file, status_of_line};
+use command_line::{Line, read_line};
+use host_files::FileError;
 use session::Status;
 use sessions::{run_one, run_script, run_shell, show_room};
 use std::io::{Read, Write};
+use transfer::Transfer;
 use transfers::{get, put};
 
 /// Which of the standard streams are terminals.
@@ -60,7 +63,7 @@ pub fn obey<I: Read, O: Write, E: Write>(
         }
         Err(error) => {
             let _ = write!(err, "{error}");
-            error.status()
+            status_of_line(&error)
         }
     };
     status.number()
@@ -84,7 +87,7 @@ fn obey_line<I: Read, O: Write, E: Write>(
         } => match make_image(rt, disk, nvram, *blocks, *inodes, *half, *is_new) {
             Ok(()) => Status::Done,
             Err(error) => {
-                let _ = tell(&error, &mut streams.err);
+                let _ = writeln!(streams.err, "wafl: {error}");
                 Status::FileFault
             }
         },
@@ -100,8 +103,38 @@ fn obey_line<I: Read, O: Write, E: Write>(
             run_one(rt, Image { disk, nvram }, words.as_slice(), streams)
         }
         Line::Df { disk, nvram } => show_room(rt, Image { disk, nvram }, streams),
-        Line::Put(what) => put(rt, *what, streams),
-        Line::Get { what, snapshot } => get(rt, *what, *snapshot, streams),
+        Line::Put {
+            disk,
+            nvram,
+            file,
+            path,
+        } => put(
+            rt,
+            Transfer {
+                disk,
+                nvram,
+                path,
+                file,
+            },
+            streams,
+        ),
+        Line::Get {
+            disk,
+            nvram,
+            path,
+            file,
+            snapshot,
+        } => get(
+            rt,
+            Transfer {
+                disk,
+                nvram,
+                path,
+                file,
+            },
+            *snapshot,
+            streams,
+        ),
     }
 }
 
@@ -115,5 +148,5 @@ fn show_text<O: Write>(text: &str, out: &mut O) -> Status {
 /// Says on standard error what is wrong with a file. Where that can't be written, the status alone says what it can.
 fn tell<E: Write>(error: &FileError<'_>, err: &mut E) -> Status {
     let _ = writeln!(err, "wafl: {error}");
-    error.status()
+    status_of_file(error)
 }

@@ -1,11 +1,11 @@
 //! A copy-on-write file system with snapshots, over a disk image and an NVRAM image: the program.
 #![tactic(auto)]
 
+use host_files::open_descriptors;
 use session::Status;
 use std::io::{ErrorKind, IsTerminal};
 use std::process::ExitCode;
 use std::{env, io};
-use tool::host_files::open_descriptors;
 use tool::{Terminals, obey};
 
 fn main(rt: HostRuntime) -> ExitCode {

@@ -4,8 +4,8 @@ ghost use Rattle.std.specs.Prelude.{◌≡◌, IfOk};
 ghost use Rattle.tool.specs.Words.{IsToFail, Keeps};
 
 use super::Image;
-use crate::host_files::{FileError, Held, load_station};
-use crate::line::{Kept, RunFaults};
+use command_line::{Kept, RunFaults};
+use host_files::{FileError, Held, load_station};
 use station::{Keep, Sim};
 use std::alloc::{AllocError, Global};
 

@@ -3,11 +3,10 @@
 use super::faults::failing_station;
 use super::{Image, Streams, tell};
 use crate::explain::{explain_ending, explain_words};
-use crate::host_files::{FileError, open_station, read_script, read_station, store_image};
-use crate::line::RunFaults;
+use command_line::{RunFaults, are_words, line_of};
+use host_files::{FileError, open_station, read_script, read_station, store_image};
 use session::{Ending, Status, session, shell};
 use station::{Sim, Station};
-use std::alloc::{AllocError, Global};
 use std::io::{Read, Write};
 
 /// Runs a script: on the image's files, or in memory where something is to go wrong.
@@ -44,7 +43,7 @@ pub(super) fn run_one<I: Read, O: Write, E: Write>(
     words: &[&str],
     streams: &mut Streams<I, O, E>,
 ) -> Status {
-    let Ok(script) = script_of(rt.alloc(), words) else {
+    let Ok(script) = line_of(rt.alloc(), words) else {
         return tell(&FileError::NoMemory, &mut streams.err);
     };
     match run_on_files(rt, image, script.as_slice(), true, streams) {
@@ -67,6 +66,16 @@ pub(super) fn run_shell<I: Read, O: Write, E: Write>(
         Ok(station) => station,
         Err(error) => return tell(&error, &mut streams.err),
     };
+    let ending = answer_lines(rt, station, streams);
+    explain(rt, image, b"", ending, streams)
+}
+
+/// Answers each line of standard input on a station whose power isn't cut, and lets it go.
+fn answer_lines<S: Station + Drop, I: Read, O: Write, E: Write>(
+    rt: &HostRuntime,
+    station: S,
+    streams: &mut Streams<I, O, E>,
+) -> Ending {
     let prompts = streams.terminals.input && streams.terminals.out;
     let (ending, _station) = shell(
         rt.alloc(),
@@ -77,7 +86,7 @@ pub(super) fn run_shell<I: Read, O: Write, E: Write>(
         &mut streams.out,
         &mut streams.err,
     );
-    explain(rt, image, b"", ending, streams)
+    ending
 }
 
 /// Tells the room of the image's disk.
@@ -137,15 +146,7 @@ fn run_in_memory<'a, I, O: Write, E: Write>(
 ) -> Result<Ending, FileError<'a>> {
     // Both files stay locked until the image is stored.
     let (sim, _held) = failing_station(rt, image, faults)?;
-    let (ending, sim) = session(
-        rt.alloc(),
-        sim,
-        script,
-        stops,
-        |sim: &Sim| sim.is_cut(),
-        &mut streams.out,
-        &mut streams.err,
-    );
+    let (ending, sim) = run_until_cut(rt, sim, script, stops, streams);
     if let Ending::Ran(Status::Done | Status::Cut | Status::Refused) = ending {
         let (disk_bytes, nvram_bytes) = sim.images();
         store_image(rt, image.disk, image.nvram, disk_bytes, nvram_bytes)?;
@@ -153,37 +154,23 @@ fn run_in_memory<'a, I, O: Write, E: Write>(
     Ok(ending)
 }
 
-/// The script of one command that words spell. Where they spell none it is a line that is no command.
-fn script_of(alloc: Global, words: &[&str]) -> Result<Vec<u8>, AllocError> {
-    let mut script = Vec::new(alloc);
-    if are_words(words) {
-        for (i, word) in words.iter().enumerate() {
-            if i > 0 {
-                script.push(b' ')?;
-            }
-            script.extend_from_slice(word.as_bytes())?;
-        }
-    } else {
-        script.push(b' ')?;
-    }
-    script.push(b'\n')?;
-    Ok(script)
-}
-
-/// Whether words with a space between are one line of these words: none is empty or has a blank or a line's end in it, and
-/// they don't begin as a comment does.
-fn are_words(words: &[&str]) -> bool {
-    let Some(first) = words.first() else {
-        return false;
-    };
-    !first.starts_with('#') && words.iter().all(|word| is_word(word))
-}
-
-fn is_word(word: &str) -> bool {
-    !word.is_empty()
-        && word
-            .bytes()
-            .all(|byte| byte != b' ' && byte != b'\t' && byte != b'\n')
+/// Runs a script's bytes on a station in memory until its power is cut, and gives that back.
+fn run_until_cut<I, O: Write, E: Write>(
+    rt: &HostRuntime,
+    sim: Sim,
+    script: &[u8],
+    stops: bool,
+    streams: &mut Streams<I, O, E>,
+) -> (Ending, Sim) {
+    session(
+        rt.alloc(),
+        sim,
+        script,
+        stops,
+        |sim: &Sim| sim.is_cut(),
+        &mut streams.out,
+        &mut streams.err,
+    )
 }
 
 /// Tells in a second line, where that is wanted, why nothing was run.

@@ -2,9 +2,10 @@
 
 use super::{Image, Streams};
 use crate::explain::explain_mount;
-use crate::transfer::{Progress, Transfer, TransferError, get_file, put_file};
+use crate::statuses::status_of_transfer;
 use session::Status;
 use std::io::{Read, Write};
+use transfer::{Progress, Transfer, TransferError, get_file, put_file};
 
 /// Stores a file of the host's.
 pub(super) fn put<I: Read, O: Write, E: Write>(
@@ -51,5 +52,5 @@ fn tell<I, O, E: Write>(
             explain_mount(rt, image, *error, &mut streams.err);
         }
     }
-    error.status()
+    status_of_transfer(error)
 }

@@ -1,26 +1,41 @@
-use Rattle.std.proofs.Common.{rules, ◌≡◌, ◌∙◌, inl, None, sym}
+use Rattle.std.proofs.Common.{rules, ◌≡◌, ◌∙◌, inl, ℕ, List, None, Err, IfOk, sym, subst}
 use Rattle.model.specs.Paths.{first_refusal, text_tests}
 use Rattle.model.specs.Resolution.{resolve}
 use Rattle.model.specs.Volumes.{tree_of}
 use Rattle.paths.proofs.Looks.{looks_ok}
+use Rattle.calls.specs.Leading.{IsLed}
 use Rattle.calls.proofs.LeadLaws.{led_by}
 use Rattle.calls.proofs.MakeLaws.{told_answers}
 use Rattle.calls.proofs.RefusalLaws.{text_own}
 use Rattle.records.proofs.StandLaws.{no_look}
 use Rattle.calls.proofs.leading.lead.Goals as goal
 
-pub returns-in-Some-clause-led : goal.returns-in-Some-clause-led
-returns-in-Some-clause-led g c = λ disk settled v table stands volume. inl (sym c.refusal_of_text.ensures ∙ c.in-Some.is)
+pub returns-in-Some : goal.returns-in-Some
+returns-in-Some g c =
+    let is = sym c.refusal_of_text.ensures ∙ c.in-Some.is in
+    record {
+      looks = looks_ok no_look;
+      within = tt;
+      own = text_own c.args.path.now c.in-Some.errno is;
+      leads = λ disk settled v table text stands volume same.
+          subst (λ (t : List ℕ). IsLed (text_tests t) v (resolve (tree_of v table) c.args.follow t) (Err c.in-Some.errno)) (sym same) (inl is);
+      followed = λ disk settled v stands volume follow. tt;
+      damaged = λ disk settled v stands bad. cc;
+    }
 
-pub returns-in-Some-clause-own : goal.returns-in-Some-clause-own
-returns-in-Some-clause-own g c = text_own c.args.path.now c.in-Some.errno (sym c.refusal_of_text.ensures ∙ c.in-Some.is)
-
-pub returns-clause-led : goal.returns-clause-led
-returns-clause-led g c = λ disk settled v table stands volume.
-    let text = c.args.path.now in
-    let passed : first_refusal (text_tests text) ≡ None = search rules in
-    told_answers c.find_object.result _ _ (λ found leads. led_by (text_tests text) v (resolve (tree_of v table) c.args.follow text) found passed leads)
-    (c.find_object.ensures.leads disk settled v table text stands volume (search rules))
-
-pub returns-in-Some-clause-looks : goal.returns-in-Some-clause-looks
-returns-in-Some-clause-looks g c = looks_ok no_look
+pub returns : goal.returns
+returns g c =
+    let passed : first_refusal (text_tests c.args.path.now) ≡ None = search rules in
+    let all = c.find_object.ensures in
+    record {
+      looks = all.looks;
+      within = all.within;
+      own = all.own;
+      leads = λ disk settled v table text stands volume same.
+          subst (λ (t : List ℕ). IfOk c.find_object.result (IsLed (text_tests t) v (resolve (tree_of v table) c.args.follow t))) (sym same)
+          (told_answers c.find_object.result _ _
+          (λ found leads. led_by (text_tests c.args.path.now) v (resolve (tree_of v table) c.args.follow c.args.path.now) found passed leads)
+          (all.leads disk settled v table c.args.path.now stands volume (search rules)));
+      followed = all.followed;
+      damaged = all.damaged;
+    }

@@ -1,20 +1,56 @@
-use Rattle.std.proofs.Common.{◌≡◌, ◌∙◌, Some, sym}
+use Rattle.std.proofs.Common.{◌≡◌, ◌∙◌, Some, sym, ℕ, false, refl, subst, rules, None}
 use Rattle.model.specs.Changes.{with_made}
 use Rattle.model.specs.Paths.{first_refusal, new_text_tests}
-use Rattle.paths.proofs.Looks.{looks_ok}
-use Rattle.calls.specs.Changing.{made_by}
-use Rattle.calls.proofs.RefusalLaws.{new_text_own}
-use Rattle.calls.proofs.MakeLaws.{text_refused}
 use Rattle.records.proofs.StandLaws.{no_look}
+use Rattle.calls.specs.Changing.{made_by}
+use Rattle.calls.proofs.MakeLaws.{text_refused, path_refused, directory_there, entry_there, gap_comes}
+use Rattle.calls.proofs.PrepareSteps.{refuses, follows, stops}
+use Rattle.calls.proofs.RefusalLaws.{new_text_own, walk_refusal}
+use Rattle.model.specs.Finding.{IsPlaceOf}
+use Rattle.model.specs.Resolution.{resolve}
+use Rattle.model.specs.Volumes.{tree_of}
+use Rattle.paths.specs.Places.{place_of, IsPlaceWithin}
+use Rattle.calls.specs.Making.{MakesIn}
 use Rattle.calls.proofs.making.make.Goals as goal
 
-pub returns-in-Some-clause-answers : goal.returns-in-Some-clause-answers
-returns-in-Some-clause-answers g c = λ disk settled v table stands volume mounted.
+pub returns-in-Some : goal.returns-in-Some
+returns-in-Some g c =
     let is : first_refusal (new_text_tests c.args.path.now) ≡ Some c.in-Some.errno = sym c.refusal_of_new_text.ensures ∙ c.in-Some.is in
-    text_refused c.args.inodes.now.geometry.inodes v table c.args.path.now (with_made (made_by c.args.object)) c.in-Some.errno is
+    refuses no_look (new_text_own c.args.path.now c.in-Some.errno is)
+    (λ disk settled v table stands volume mounted. text_refused c.args.inodes.now.geometry.inodes v table c.args.path.now (with_made (made_by c.args.object)) c.in-Some.errno is)
 
-pub returns-in-Some-clause-own : goal.returns-in-Some-clause-own
-returns-in-Some-clause-own g c = new_text_own c.args.path.now c.in-Some.errno (sym c.refusal_of_new_text.ensures ∙ c.in-Some.is)
+pub returns-in_err-place : goal.returns-in_err-place
+returns-in_err-place g c = stops c.from_residual-in_err-place.result c.from_residual-in_err-place.ensures.1 c.in_err-place.ensures.looks c.in_err-place.ensures.damaged
 
-pub returns-in-Some-clause-looks : goal.returns-in-Some-clause-looks
-returns-in-Some-clause-looks g c = looks_ok no_look
+pub returns-in-Refusal : goal.returns-in-Refusal
+returns-in-Refusal g c = refuses c.in_ok-place.ensures.looks
+    (walk_refusal c.in-Refusal.errno (subst (IsPlaceWithin c.args.inodes.now.geometry.inodes) c.in-Refusal.is c.in_ok-place.ensures.within)) (λ disk settled v table stands volume mounted.
+    let passed : first_refusal (new_text_tests c.args.path.now) ≡ None = search rules in
+    let inodes = c.args.inodes.now.geometry.inodes in
+    let at = subst (λ p. IsPlaceOf v (place_of p) (resolve (tree_of v table) false c.args.path.now)) c.in-Refusal.is (c.in_ok-place.ensures.found disk settled v table c.args.path.now stands volume (search rules)) in
+    path_refused inodes v table volume mounted (c.volumes_are_trees.ensures inodes v table volume mounted) c.args.path.now (made_by c.args.object) passed c.in-Refusal.errno at)
+
+pub returns-in-Directory : goal.returns-in-Directory
+returns-in-Directory g c = refuses c.in_ok-place.ensures.looks refl (λ disk settled v table stands volume mounted.
+    let passed : first_refusal (new_text_tests c.args.path.now) ≡ None = search rules in
+    let inodes = c.args.inodes.now.geometry.inodes in
+    let at = subst (λ p. IsPlaceOf v (place_of p) (resolve (tree_of v table) false c.args.path.now)) c.in-Directory.is (c.in_ok-place.ensures.found disk settled v table c.args.path.now stands volume (search rules)) in
+    directory_there inodes v table volume mounted (c.volumes_are_trees.ensures inodes v table volume mounted) c.args.path.now (made_by c.args.object) passed c.in-Directory._trail at)
+
+pub returns-in-Entry : goal.returns-in-Entry
+returns-in-Entry g c = refuses c.in_ok-place.ensures.looks refl (λ disk settled v table stands volume mounted.
+    let passed : first_refusal (new_text_tests c.args.path.now) ≡ None = search rules in
+    let inodes = c.args.inodes.now.geometry.inodes in
+    let at = subst (λ p. IsPlaceOf v (place_of p) (resolve (tree_of v table) false c.args.path.now)) c.in-Entry.is (c.in_ok-place.ensures.found disk settled v table c.args.path.now stands volume (search rules)) in
+    entry_there inodes v table volume mounted (c.volumes_are_trees.ensures inodes v table volume mounted) c.args.path.now (made_by c.args.object) passed
+    c.in-Entry._trail c.in-Entry._name.items c.in-Entry._number at)
+
+pub returns : goal.returns
+returns g c = follows c.in_ok-place.ensures.looks c.make_in.ensures.prepares (λ disk settled v table stands volume mounted r makes.
+    let passed : first_refusal (new_text_tests c.args.path.now) ≡ None = search rules in
+    let inodes = c.args.inodes.now.geometry.inodes in
+    let made = made_by c.args.object in
+    let name = c.in-Gap.name.items in
+    let at = subst (λ p. IsPlaceOf v (place_of p) (resolve (tree_of v table) false c.args.path.now)) c.in-Gap.is (c.in_ok-place.ensures.found disk settled v table c.args.path.now stands volume (search rules)) in
+    gap_comes inodes v table volume mounted (c.volumes_are_trees.ensures inodes v table volume mounted) c.args.path.now made passed c.in-Gap.trail name at
+    c.volumes_tell_fresh_numbers.ensures c.records_change_trees.ensures r (subst (λ (d : ℕ). MakesIn inodes v d name made r) c.here.ensures makes))

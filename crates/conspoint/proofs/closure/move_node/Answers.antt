@@ -1,62 +1,36 @@
-use Rattle.std.proofs.Common.{◌≡◌, List, ap, subst, sym, ◌∙◌, arith, rules}
+use Rattle.std.proofs.Common.{◌≡◌, Ok, List, ap, subst, sym, ◌∙◌, arith}
 use Rattle.blockmap.specs.Maps.{entry_at}
 use Rattle.blockmap.specs.Parts.{Part}
-use Rattle.blockmap.specs.Space.{left}
 use Rattle.conspoint.specs.declared.draft.Draft.{Draft}
-use Rattle.conspoint.specs.Drafts.{Grows, IsReserved}
-use Rattle.conspoint.proofs.DraftLemmas.{grows_none, grows_twice}
-use Rattle.conspoint.proofs.SpaceLemmas.{same_left}
+use Rattle.conspoint.specs.Steps.{Takes}
+use Rattle.conspoint.proofs.StepLemmas.{marks_take, places_none, takes_err, takes_of, takes_ok, takes_then}
 use Rattle.conspoint.proofs.closure.move_node.Goals.{in-Block+in_ok-touch, in_default}
 use Rattle.conspoint.proofs.closure.move_node.Goals as goal
 
-pub returns-in_err-place-clause-lacks : goal.returns-in_err-place-clause-lacks
-returns-in_err-place-clause-lacks c bad =
-    let first : left c.match-before.draft.map ≡ left c.args.draft.now.map = elim c.match-before.branch [
-      | in-Block+in_ok-touch w ↦ ap (λ (d : Draft). left d.map) w.draft-is ∙ same_left c.args.draft.now w.touch.new.self w.touch.ensures.grows w.touch.ensures.next
-      | in_default w ↦ ap (λ (d : Draft). left d.map) w.draft-is
+pub returns-in_err-place-clause-step : goal.returns-in_err-place-clause-step
+returns-in_err-place-clause-step c =
+    let first : Takes {T = Unit {0}} 0 c.args.draft.now c.match-before.draft (Ok tt) = elim c.match-before.branch [
+      | in-Block+in_ok-touch w ↦ subst (λ (d : Draft). Takes {T = Unit {0}} 0 c.args.draft.now d (Ok tt)) (sym w.draft-is) (takes_ok (marks_take w.in_ok-touch.ensures.step))
+      | in_default w ↦ subst (λ (d : Draft). Takes {T = Unit {0}} 0 c.args.draft.now d (Ok tt)) (sym w.draft-is) (takes_of (places_none c.args.draft.now))
     ] in
-    omega (arith, first, c.in_err-place.ensures.lacks (search rules))
+    takes_err c.from_residual-in_err-place.result c.from_residual-in_err-place.ensures.1 (takes_then first (takes_of c.in_err-place.ensures.step) (omega arith))
 
-pub returns-clause-takes : goal.returns-clause-takes
-returns-clause-takes c =
-    let first : left c.match-before.draft.map ≡ left c.args.draft.now.map = elim c.match-before.branch [
-      | in-Block+in_ok-touch w ↦ ap (λ (d : Draft). left d.map) w.draft-is ∙ same_left c.args.draft.now w.touch.new.self w.touch.ensures.grows w.touch.ensures.next
-      | in_default w ↦ ap (λ (d : Draft). left d.map) w.draft-is
+pub returns-in_err-touch-2-clause-step : goal.returns-in_err-touch-2-clause-step
+returns-in_err-touch-2-clause-step c =
+    let first : Takes {T = Unit {0}} 0 c.args.draft.now c.match-before.draft (Ok tt) = elim c.match-before.branch [
+      | in-Block+in_ok-touch w ↦ subst (λ (d : Draft). Takes {T = Unit {0}} 0 c.args.draft.now d (Ok tt)) (sym w.draft-is) (takes_ok (marks_take w.in_ok-touch.ensures.step))
+      | in_default w ↦ subst (λ (d : Draft). Takes {T = Unit {0}} 0 c.args.draft.now d (Ok tt)) (sym w.draft-is) (takes_of (places_none c.args.draft.now))
     ] in
-    let last = same_left c.reserve.new.self c.touch-2.new.self c.touch-2.ensures.grows c.touch-2.ensures.next in
-    omega (arith, first, last, c.in_ok-place.ensures.takes)
+    takes_err c.from_residual-in_err-touch-2.result c.from_residual-in_err-touch-2.ensures.1
+    (takes_then (takes_then {k = 1} first (takes_of c.in_ok-place.ensures.step) (omega arith)) (marks_take c.in_err-touch-2.ensures.step) (omega arith))
 
-pub returns-in_err-place-clause-grows : goal.returns-in_err-place-clause-grows
-returns-in_err-place-clause-grows c =
-    let first : Grows c.args.draft.now c.match-before.draft = elim c.match-before.branch [
-      | in-Block+in_ok-touch w ↦ subst (Grows c.args.draft.now) (sym w.draft-is) w.touch.ensures.grows
-      | in_default w ↦ subst (Grows c.args.draft.now) (sym w.draft-is) (grows_none c.args.draft.now)
+pub returns-clause-step : goal.returns-clause-step
+returns-clause-step c =
+    let first : Takes {T = Unit {0}} 0 c.args.draft.now c.match-before.draft (Ok tt) = elim c.match-before.branch [
+      | in-Block+in_ok-touch w ↦ subst (λ (d : Draft). Takes {T = Unit {0}} 0 c.args.draft.now d (Ok tt)) (sym w.draft-is) (takes_ok (marks_take w.in_ok-touch.ensures.step))
+      | in_default w ↦ subst (λ (d : Draft). Takes {T = Unit {0}} 0 c.args.draft.now d (Ok tt)) (sym w.draft-is) (takes_of (places_none c.args.draft.now))
     ] in
-    grows_twice c.args.draft.now c.match-before.draft c.reserve.new.self first c.reserve.ensures.grows
-
-pub returns-in_err-place-clause-others : goal.returns-in_err-place-clause-others
-returns-in_err-place-clause-others c p is =
-    let first : IsReserved c.match-before.draft p = elim c.match-before.branch [
-      | in-Block+in_ok-touch w ↦ subst (λ (d : Draft). IsReserved d p) (sym w.draft-is) (w.touch.ensures.others p is)
-      | in_default w ↦ subst (λ (d : Draft). IsReserved d p) (sym w.draft-is) is
-    ] in
-    c.reserve.ensures.others p first
-
-pub returns-clause-grows : goal.returns-clause-grows
-returns-clause-grows c =
-    let first : Grows c.args.draft.now c.match-before.draft = elim c.match-before.branch [
-      | in-Block+in_ok-touch w ↦ subst (Grows c.args.draft.now) (sym w.draft-is) w.touch.ensures.grows
-      | in_default w ↦ subst (Grows c.args.draft.now) (sym w.draft-is) (grows_none c.args.draft.now)
-    ] in
-    grows_twice c.args.draft.now c.match-before.draft c.touch-2.new.self first (grows_twice c.match-before.draft c.reserve.new.self c.touch-2.new.self c.reserve.ensures.grows c.touch-2.ensures.grows)
-
-pub returns-clause-others : goal.returns-clause-others
-returns-clause-others c p is =
-    let first : IsReserved c.match-before.draft p = elim c.match-before.branch [
-      | in-Block+in_ok-touch w ↦ subst (λ (d : Draft). IsReserved d p) (sym w.draft-is) (w.touch.ensures.others p is)
-      | in_default w ↦ subst (λ (d : Draft). IsReserved d p) (sym w.draft-is) is
-    ] in
-    c.touch-2.ensures.others p (c.reserve.ensures.others p first)
+    takes_ok (takes_then (takes_then {k = 1} first (takes_of c.in_ok-place.ensures.step) (omega arith)) (marks_take c.in_ok-touch-2.ensures.step) (omega arith))
 
 pub returns-in_err-place-clause-entries : goal.returns-in_err-place-clause-entries
 returns-in_err-place-clause-entries c b =
@@ -64,7 +38,7 @@ returns-in_err-place-clause-entries c b =
       | in-Block+in_ok-touch w ↦ ap (λ (d : Draft). entry_at d.map.parts.items b) w.draft-is ∙ w.touch.ensures.entries b
       | in_default w ↦ ap (λ (d : Draft). entry_at d.map.parts.items b) w.draft-is
     ] in
-    ap (λ (ps : List Part). entry_at ps b) c.reserve.ensures.parts ∙ first
+    ap (λ (ps : List Part). entry_at ps b) c.reserve.ensures.step.parts ∙ first
 
 pub returns-clause-entries : goal.returns-clause-entries
 returns-clause-entries c b =
@@ -72,4 +46,4 @@ returns-clause-entries c b =
       | in-Block+in_ok-touch w ↦ ap (λ (d : Draft). entry_at d.map.parts.items b) w.draft-is ∙ w.touch.ensures.entries b
       | in_default w ↦ ap (λ (d : Draft). entry_at d.map.parts.items b) w.draft-is
     ] in
-    c.touch-2.ensures.entries b ∙ ap (λ (ps : List Part). entry_at ps b) c.reserve.ensures.parts ∙ first
+    c.touch-2.ensures.entries b ∙ ap (λ (ps : List Part). entry_at ps b) c.reserve.ensures.step.parts ∙ first

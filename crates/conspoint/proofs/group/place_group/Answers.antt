@@ -25,14 +25,14 @@ stores old new k low some moved count none = elim none [
   | inr holes ↦ some (holes k low)
 ]
 
-pub returns-clause-takes_none : goal.returns-clause-takes_none
-returns-clause-takes_none c = λ none.
+pub returns-clause-none : goal.returns-clause-none
+returns-clause-none c = λ none.
     let found = c.in-Some.ensures.found in
     absurd (stores c.args.old.now c.args.new.now c.in-Some.field-0 (omega (arith, found.0, c.requires.new)) found.1
     (λ same. let is = c.same_pointers.ensures.1 same in let not = c.if-same_pointers.false in search (rules, is, not)) c.requires.new none)
 
-pub returns-in_err-place-clause-lacks_none : goal.returns-in_err-place-clause-lacks_none
-returns-in_err-place-clause-lacks_none c = λ bad none.
+pub returns-in_err-place-clause-none : goal.returns-in_err-place-clause-none
+returns-in_err-place-clause-none c = λ none.
     let found = c.in-Some.ensures.found in
-    stores c.args.old.now c.args.new.now c.in-Some.field-0 (omega (arith, found.0, c.requires.new)) found.1
-    (λ same. let is = c.same_pointers.ensures.1 same in let not = c.if-same_pointers.false in search (rules, is, not)) c.requires.new none
+    absurd (stores c.args.old.now c.args.new.now c.in-Some.field-0 (omega (arith, found.0, c.requires.new)) found.1
+    (λ same. let is = c.same_pointers.ensures.1 same in let not = c.if-same_pointers.false in search (rules, is, not)) c.requires.new none)

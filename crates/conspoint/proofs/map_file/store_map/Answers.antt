@@ -5,7 +5,7 @@ use Rattle.layout.specs.declared.pointer.Pointer.TheVariants.{Hole, Block}
 use Rattle.blockmap.specs.declared.map.BlockMap.{BlockMap}
 use Rattle.blockmap.specs.Maps.{HoldsPart}
 use Rattle.conspoint.specs.Groups.{pointer_at}
-use Rattle.conspoint.proofs.DraftLemmas.{grows_twice}
+use Rattle.conspoint.proofs.StepLemmas.{puts_err, puts_then}
 use Rattle.conspoint.proofs.map_file.store_map.Goals as goal
 
 pub store_part-requires-clause-reserved : goal.store_part-requires-clause-reserved
@@ -16,8 +16,8 @@ store_part-requires-clause-reserved c b is =
     let here = sym (c.index-places-k.is ∙ get_or_default places k c.index-places-k.result Hole lt) ∙ is in
     c.loop-k.invariant.others b (c.requires.reserved k b here) (λ j below at. let same : j ≡ k = c.requires.apart j k b at here in absurd (omega arith))
 
-pub returns-in_err-store_part-clause-grows : goal.returns-in_err-store_part-clause-grows
-returns-in_err-store_part-clause-grows c = grows_twice c.args.draft.now c.loop-k.draft c.store_part.new.draft c.loop-k.invariant.grows c.store_part.ensures.grows
+pub returns-in_err-store_part-clause-step : goal.returns-in_err-store_part-clause-step
+returns-in_err-store_part-clause-step c = puts_err c.from_residual.result c.from_residual.ensures.1 (puts_then c.loop-k.invariant.step c.in_err-store_part.ensures.step)
 
 pub loop-k-preserved : goal.loop-k-preserved
 loop-k-preserved c =
@@ -26,14 +26,13 @@ loop-k-preserved c =
     let places = c.args.places.now in
     let lt : k < length places = omega (arith, c.loop-k-test.true, c.map_blocks-k-end.ensures, c.requires.all) in
     let here : c.index-places-k.result ≡ pointer_at places k = c.index-places-k.is ∙ get_or_default places k c.index-places-k.result Hole lt in
-    let now = c.store_part.ensures.grows in
+    let now = c.store_part.ensures.step.grows in
     record {
-      grows = grows_twice c.args.draft.now c.loop-k.draft c.store_part.new.draft so_far.grows now;
-      map = c.store_part.ensures.map ∙ so_far.map;
+      step = puts_then so_far.step c.in_ok-store_part.ensures.step;
       stored = λ e has j b below at. elim (cases_eq j k) [
         | inl same ↦
             let pointer : c.index-places-k.result ≡ Block b = here ∙ ap (pointer_at places) (sym same) ∙ at in
-            let holds = subst (λ (m : BlockMap). HoldsPart m.parts.items k (e b)) so_far.map (c.in_ok-store_part.ensures.stored e has b pointer) in
+            let holds = subst (λ (m : BlockMap). HoldsPart m.parts.items k (e b)) so_far.step.map (c.in_ok-store_part.ensures.stored e has b pointer) in
             subst (λ (n : ℕ). HoldsPart c.args.draft.now.map.parts.items n (e b)) (sym same) holds
         | inr other ↦ so_far.stored e (now.has e has) j b (omega (arith, below)) at
       ];

@@ -1,7 +1,7 @@
 use Rattle.std.proofs.Common.{◌≡◌, ℕ, ◌/◌, ◌<◌, IfOk, unwrap_or, ap, sym, subst}
 use Rattle.layout.specs.Directory.{HoldsEntries}
 use Rattle.inode.specs.Files.{file_block}
-use Rattle.dirs.specs.Edits.{IsReached, IsFirst, edited_block}
+use Rattle.dirs.specs.Edits.{IsReached, IsFirstFound, edited_block}
 use Rattle.dirs.proofs.LookLaws.{first_same_ok}
 use Rattle.dirs.proofs.directory.find.Goals as goal
 
@@ -20,4 +20,4 @@ pub returns-clause-sound : goal.returns-clause-sound
 returns-clause-sound g c = λ disk shows.
     let same : (i : ℕ) → file_block disk c.args.file.now i ≡ edited_block disk c.args.file.now c.of-edit.result i = λ i. sym (ap (λ o. unwrap_or o (file_block disk c.args.file.now i)) (c.of-edit.ensures.none i)) in
     first_same_ok c.args.inodes (c.args.file.now.size / 4096) (edited_block disk c.args.file.now c.of-edit.result) (file_block disk c.args.file.now) c.args.name.now same c.find.result
-    (subst (λ n. IfOk c.find.result (IsFirst c.args.inodes (edited_block disk c.args.file.now c.of-edit.result) n c.args.name.now)) c.of-edit.ensures.count (c.find.ensures.sound disk shows))
+    (subst (λ n. IfOk c.find.result (IsFirstFound c.args.inodes (edited_block disk c.args.file.now c.of-edit.result) n c.args.name.now)) c.of-edit.ensures.count (c.find.ensures.sound disk shows))

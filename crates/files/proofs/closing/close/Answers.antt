@@ -1,29 +1,42 @@
-use Rattle.std.proofs.Common.{◌≡◌, Some, sym, subst, ◌∙◌}
-use Rattle.model.specs.Volumes.{Volume}
+use Rattle.std.proofs.Common.{◌≡◌, Some, refl, sym, subst, ◌∙◌}
+use Rattle.model.specs.Volumes.{IsMounted, Volume}
 use Rattle.inofile.specs.Volumes.{IsVolumeOf}
-use Rattle.descriptors.specs.Tables.{open_at}
-use Rattle.files.proofs.CloseLaws.{close_done, close_mounted, freed_numbers, one_swept}
+use Rattle.descriptors.specs.Tables.{open_at, table_of}
+use Rattle.files.proofs.CloseLaws.{close_done, close_mounted, close_refused, freed_numbers, none_swept, one_swept}
 use Rattle.files.proofs.closing.close.Goals as goal
 
 pub drop_unused-requires : goal.drop_unused-requires
 drop_unused-requires c = λ none. c.requires c.in-Some.file (sym c.get.ensures.file ∙ c.in-Some.is) none
 
-pub returns-clause-answers : goal.returns-clause-answers
-returns-clause-answers c = λ n v volume mounted.
+pub returns-in_default : goal.returns-in_default
+returns-in_default c =
+    let table = c.args.table.now in
+    let none = sym c.get.ensures.file ∙ c.in_default.is in
+    record {
+      geometry = refl;
+      answers = λ n v volume mounted. close_refused table v mounted c.args.fd none;
+      volume = λ count disk settled v stands mounted fits. subst (λ (w : Volume). IsVolumeOf count disk settled c.args.inodes.now w) (none_swept table v mounted) stands;
+      mounted = λ v mounted. subst (λ (w : Volume). IsMounted w (table_of table)) (none_swept table v mounted) mounted;
+      fits = λ v fits. c.tables_follow_volumes.ensures.swept v fits;
+      numbers = λ n has. has;
+      own = refl;
+      refused = refl;
+      stays = refl;
+    }
+
+pub returns : goal.returns
+returns c =
     let some : open_at c.args.table.now c.args.fd ≡ Some c.in-Some.file = sym c.get.ensures.file ∙ c.in-Some.is in
-    close_done c.args.table.now c.close.new.self c.args.fd c.close.ensures.table v n c.in-Some.file volume some
-
-pub returns-clause-volume : goal.returns-clause-volume
-returns-clause-volume c = λ count disk settled v stands mounted fits.
-    let some : open_at c.args.table.now c.args.fd ≡ Some c.in-Some.file = sym c.get.ensures.file ∙ c.in-Some.is in
-    subst (λ (w : Volume). IsVolumeOf count disk settled c.drop_unused.new.inodes w) (one_swept c.args.table.now c.close.new.self c.args.fd c.close.ensures.table v c.in-Some.file some mounted)
-    (c.drop_unused.ensures.volume count disk settled v stands (fits.files c.args.fd c.in-Some.file some))
-
-pub returns-clause-mounted : goal.returns-clause-mounted
-returns-clause-mounted c = λ v mounted. close_mounted c.args.table.now c.close.new.self c.args.fd c.close.ensures.table v mounted
-
-pub returns-clause-fits : goal.returns-clause-fits
-returns-clause-fits c = λ v fits. c.tables_follow_volumes-2.ensures.swept v (c.close.ensures.fits v fits)
-
-pub returns-clause-numbers : goal.returns-clause-numbers
-returns-clause-numbers c = λ n has. freed_numbers n c.args.table.now c.close.new.self c.args.fd c.close.ensures.files has
+    record {
+      geometry = c.drop_unused.ensures.geometry;
+      answers = λ n v volume mounted. close_done c.args.table.now c.close.new.self c.args.fd c.close.ensures.table v n c.in-Some.file volume some;
+      volume = λ count disk settled v stands mounted fits.
+          subst (λ (w : Volume). IsVolumeOf count disk settled c.drop_unused.new.inodes w) (one_swept c.args.table.now c.close.new.self c.args.fd c.close.ensures.table v c.in-Some.file some mounted)
+          (c.drop_unused.ensures.volume count disk settled v stands (fits.files c.args.fd c.in-Some.file some));
+      mounted = λ v mounted. close_mounted c.args.table.now c.close.new.self c.args.fd c.close.ensures.table v mounted;
+      fits = λ v fits. c.tables_follow_volumes-2.ensures.swept v (c.close.ensures.fits v fits);
+      numbers = λ n has. freed_numbers n c.args.table.now c.close.new.self c.args.fd c.close.ensures.files has;
+      own = tt;
+      refused = tt;
+      stays = tt;
+    }

@@ -1,15 +1,21 @@
-use Rattle.std.proofs.Common.{◌≡◌, Some, sym, ◌∙◌, arith}
+use Rattle.std.proofs.Common.{◌≡◌, ◌<◌, Some, ap, sym, ◌∙◌, arith}
+use Rattle.model.proofs.OptionLaws.{none_some, some_same}
 use Rattle.descriptors.specs.Tables.{open_at}
-use Rattle.files.proofs.CloseLaws.{on_err, open_nameless, ready_by}
+use Rattle.descriptors.specs.declared.open_file.OpenFile.{OpenFile}
+use Rattle.files.proofs.CloseLaws.{needs_nothing, prepared}
 use Rattle.files.proofs.closing.prepare_close.Goals as goal
 
-pub returns-else-file-gt0-clause-ready : goal.returns-else-file-gt0-clause-ready
-returns-else-file-gt0-clause-ready g c =
-    let some : open_at c.args.table.now c.args.fd ≡ Some c.in-Some.file = sym c.get.ensures.file ∙ c.in-Some.is in
-    ready_by c.load_to_drop.result c.args.inodes.now c.load_to_drop.new.inodes c.load_to_drop.ensures.looks.geometry c.args.table.now c.args.fd c.in-Some.file some (c.requires.numbers c.args.fd c.in-Some.file some) c.load_to_drop.ensures.known c.load_to_drop.ensures.room
+pub returns-in-None : goal.returns-in-None
+returns-in-None g c = needs_nothing (λ f is none. none_some (sym (sym c.get.ensures.file ∙ c.in-None.is) ∙ is))
 
-pub returns-else-file-gt0-clause-sure : goal.returns-else-file-gt0-clause-sure
-returns-else-file-gt0-clause-sure g c = λ disk settled v stands volume mounted fits.
+pub returns-then-file-gt0 : goal.returns-then-file-gt0
+returns-then-file-gt0 g c =
+    let some : open_at c.args.table.now c.args.fd ≡ Some c.in-Some.file = sym c.get.ensures.file ∙ c.in-Some.is in
+    let many : 0 < c.in-Some.file.links = omega arith in
+    needs_nothing (λ f is none. let same = ap (λ (k : OpenFile). k.links) (some_same (sym some ∙ is)) in absurd (omega (arith, many, same, none)))
+
+pub returns-else-file-gt0 : goal.returns-else-file-gt0
+returns-else-file-gt0 g c =
     let some : open_at c.args.table.now c.args.fd ≡ Some c.in-Some.file = sym c.get.ensures.file ∙ c.in-Some.is in
     let none : c.in-Some.file.links ≡ 0 = omega arith in
-    on_err c.load_to_drop.result (open_nameless c.args.table.now c.args.fd c.in-Some.file v fits some none)
+    prepared c.load_to_change.ensures.looks c.in-Some.file c.load_to_change.ensures.known c.load_to_change.ensures.damaged some none

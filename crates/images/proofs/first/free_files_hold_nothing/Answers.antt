@@ -1,4 +1,4 @@
-use Rattle.images.proofs.FirstLaws as laws
+use Rattle.images.proofs.EmptyLaws as laws
 use Rattle.images.proofs.first.free_files_hold_nothing.Goals as goal
 
 pub returns-clause-sound : goal.returns-clause-sound

@@ -27,4 +27,4 @@ returns-clause-map c = λ e has.
 pub returns-in_err-map-clause-lacks : goal.returns-in_err-map-clause-lacks
 returns-in_err-map-clause-lacks c = λ bad.
     subst (λ (n : ℕ). left c.args.draft.now.map < n) (ap (λ (ns : List Pointer). length ns) c.deref.ensures.value ∙ c.in_ok-none.ensures.count ∙ ap map_nodes (c.map_blocks.ensures ∙ c.requires.start.parts))
-    (c.in_err-map.ensures.lacks (search rules))
+    (c.in_err-map.ensures.step.lacks (search rules))

@@ -1,7 +1,8 @@
 use Rattle.std.proofs.Common.{◌≡◌, length, refl, ap, arith}
 use Rattle.layout.specs.Inode.{inode_bytes}
-use Rattle.making.proofs.PutLaws.{wrote_all, put_is}
 use Rattle.making.proofs.inode_file.put_inode.Goals as goal
+use Rattle.layout.proofs.WritingLaws.{wrote_all}
+use Rattle.inode.proofs.PutLaws.{put_is}
 
 pub returns-clause-put : goal.returns-clause-put
 returns-clause-put c =

@@ -1,18 +1,14 @@
-use Rattle.std.proofs.Common.{sym, subst}
-use Rattle.std.specs.Prelude.{All}
-use Rattle.std.proofs.lemmas.List.Elements.{All-nil}
 use Rattle.std.proofs.lemmas.Result.{IfOk-weaker}
 use Rattle.station.specs.Images.{Images}
 use Rattle.station.specs.Moments.{Meaning}
 use Rattle.model.specs.States.{State}
-use Rattle.records.specs.Served.{IsServed}
 use Rattle.making.specs.Images.{OpensAlone}
 use Rattle.system.specs.Images.{OpensTo}
 use Rattle.mount.proofs.image.make.Goals as goal
 
--- what opens by no record opens by records that this version does
+-- what opens by no record opens
 by_none : (m : Meaning) (s : State) (c : Images) → OpensAlone m s c → OpensTo m s c
-by_none m s c by = record { opens = by.opens; served = subst (All IsServed) (sym by.these) (All-nil IsServed) }
+by_none m s c by = record { opens = by.opens }
 
 pub returns-clause-opens : goal.returns-clause-opens
 returns-clause-opens g c =

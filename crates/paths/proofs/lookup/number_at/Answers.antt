@@ -4,46 +4,46 @@ use Rattle.inode.specs.Files.{file_block}
 use Rattle.inofile.specs.Objects.{IsObject}
 use Rattle.layout.specs.declared.kind.Kind.TheVariants as kinds
 use Rattle.model.specs.Volumes.{names_in}
+use Rattle.paths.proofs.LookingUp.{fails, finds}
 use Rattle.paths.proofs.Objects.{of_names, blocks_of, without_names}
 use Rattle.paths.proofs.Looks.{looks_reads}
 use Rattle.paths.proofs.lookup.number_at.Goals as goal
 
-pub returns-clause-looks : goal.returns-clause-looks
-returns-clause-looks g c = looks_reads c.in_ok-load.ensures.looks c.find.ensures.reads
+pub returns-in_err-load : goal.returns-in_err-load
+returns-in_err-load g c = fails c.from_residual.result c.from_residual.ensures.1 c.in_err-load.ensures.looks c.load.ensures.loads c.in_err-load.ensures.damaged
 
-pub returns-in_err-load-clause-damaged : goal.returns-in_err-load-clause-damaged
-returns-in_err-load-clause-damaged g c = λ disk settled v stands is. c.in_err-load.ensures.damaged disk settled v stands (search rules)
+pub returns-in_default : goal.returns-in_default
+returns-in_default g c = finds c.in_ok-load.ensures.looks c.load.ensures.loads tt (λ disk settled v stands.
+    sym (ap (λ node. names_in node c.args.name.now) (c.in_default.ensures.stands_for_none _ disk settled v (c.load.ensures.looks.kept disk settled v stands).volume)))
 
-pub returns-in_default-clause-number : goal.returns-in_default-clause-number
-returns-in_default-clause-number g c = λ disk settled v stands.
-    sym (ap (λ node. names_in node c.args.name.now) (c.in_default.ensures.stands_for_none _ disk settled v (c.load.ensures.looks.kept disk settled v stands).volume))
-
-pub returns-clause-damaged : goal.returns-clause-damaged
-returns-clause-damaged g c = λ disk settled v stands is.
-    let o = c.in-Some.object.now in
-    let now = c.load.ensures.looks.kept disk settled v stands in
-    let is_object = c.in-Some.ensures.stands _ disk settled v now.volume in
-    let same : c.load.new.inodes.geometry.inodes ≡ c.inodes-count.result = sym (c.inodes-count.ensures.value ∙ ap (λ s. s.inodes) c.geometry.ensures) in
-    let kind : o.attributes.kind ≡ kinds.Directory = search rules in
-    let blocks = blocks_of disk c.load.new.inodes.geometry.inodes (settled c.args.directory) o (v c.args.directory) is_object kind in
-    c.find.ensures.damaged disk now.shows is
-    (λ i below. c.objects_stand_in_their_grammar.ensures _ disk settled c.load.new.inodes v c.args.directory i o (v c.args.directory) now.volume is_object)
-    (subst (λ n. AreDirectoryBlocks n (o.file.size / 4096) (file_block disk o.file)) same blocks)
-
-pub returns-clause-number : goal.returns-clause-number
-returns-clause-number g c = λ disk settled v stands.
-    let o = c.in-Some.object.now in
-    let now = c.load.ensures.looks.kept disk settled v stands in
-    let is_object = c.in-Some.ensures.stands _ disk settled v now.volume in
-    let same : c.load.new.inodes.geometry.inodes ≡ c.inodes-count.result = sym (c.inodes-count.ensures.value ∙ ap (λ s. s.inodes) c.geometry.ensures) in
-    let kind : o.attributes.kind ≡ kinds.Directory = search rules in
-    let counted = subst (λ n. IsObject disk n (settled c.args.directory) o (v c.args.directory)) same is_object in
-    of_names disk c.inodes-count.result (settled c.args.directory) o (v c.args.directory) counted (λ names. IfOk c.find.result (λ n. n ≡ names c.args.name.now)) kind (λ names are. c.find.ensures.found disk names now.shows are)
-
-pub returns-then-ne-clause-number : goal.returns-then-ne-clause-number
-returns-then-ne-clause-number g c = λ disk settled v stands.
+pub returns-then-ne : goal.returns-then-ne
+returns-then-ne g c = finds c.in_ok-load.ensures.looks c.load.ensures.loads tt (λ disk settled v stands.
     let o = c.in-Some.object.now in
     let now = c.load.ensures.looks.kept disk settled v stands in
     let is_object = c.in-Some.ensures.stands _ disk settled v now.volume in
     let other : o.attributes.kind ≢ kinds.Directory = search rules in
-    sym (without_names disk c.load.new.inodes.geometry.inodes (settled c.args.directory) o (v c.args.directory) is_object other c.args.name.now)
+    sym (without_names disk c.load.new.inodes.geometry.inodes (settled c.args.directory) o (v c.args.directory) is_object other c.args.name.now))
+
+pub returns : goal.returns
+returns g c =
+    let same : c.load.new.inodes.geometry.inodes ≡ c.inodes-count.result = sym (c.inodes-count.ensures.value ∙ ap (λ s. s.inodes) c.geometry.ensures) in
+    let kind : c.in-Some.object.now.attributes.kind ≡ kinds.Directory = search rules in
+    record {
+      looks = looks_reads c.in_ok-load.ensures.looks c.find.ensures.reads;
+      loads = c.load.ensures.loads;
+      within = search rules;
+      found = λ disk settled v stands.
+          let o = c.in-Some.object.now in
+          let now = c.load.ensures.looks.kept disk settled v stands in
+          let is_object = c.in-Some.ensures.stands _ disk settled v now.volume in
+          let counted = subst (λ n. IsObject disk n (settled c.args.directory) o (v c.args.directory)) same is_object in
+          of_names disk c.inodes-count.result (settled c.args.directory) o (v c.args.directory) counted (λ names. IfOk c.find.result (λ n. n ≡ names c.args.name.now)) kind (λ names are. c.find.ensures.found disk names now.shows are);
+      damaged = λ disk settled v stands is.
+          let o = c.in-Some.object.now in
+          let now = c.load.ensures.looks.kept disk settled v stands in
+          let is_object = c.in-Some.ensures.stands _ disk settled v now.volume in
+          let blocks = blocks_of disk c.load.new.inodes.geometry.inodes (settled c.args.directory) o (v c.args.directory) is_object kind in
+          c.find.ensures.damaged disk now.shows is
+          (λ i below. c.objects_stand_in_their_grammar.ensures _ disk settled c.load.new.inodes v c.args.directory i o (v c.args.directory) now.volume is_object)
+          (subst (λ n. AreDirectoryBlocks n (o.file.size / 4096) (file_block disk o.file)) same blocks);
+    }

@@ -1,15 +1,43 @@
-use Rattle.std.proofs.Common.{sym, subst, ◌≡◌}
+use Rattle.std.proofs.Common.{rules, sym, subst, ◌≡◌}
 use Rattle.images.specs.Contents.{content_of}
 use Rattle.images.specs.Nodes.{held}
 use Rattle.placement.specs.Files.{IsBasedOn, IsPlaced, content_with, is_one, object_block, with_first}
 use Rattle.placement.specs.Layouts.{AreSettled}
 use Rattle.placement.proofs.FileLaws.{content_is, file_placed, object_ends, of_one, first_ends}
 use Rattle.placement.proofs.MovedLaws.{moved_taken}
+use Rattle.buffers.proofs.ReadLaws.{reads_ok}
+use Rattle.conspoint.specs.declared.error.PlanError.TheVariants.{NoSpace}
+use Rattle.conspoint.proofs.StepLemmas.{no_error}
+use Rattle.placement.proofs.StepLaws.{file_err, file_out, place_ended, read_ended}
 use Rattle.placement.proofs.but_first.place_file_but_first.Goals as goal
 
-pub returns-clause-given : goal.returns-clause-given
-returns-clause-given g c = λ b is.
-    moved_taken c.args.draft.now c.lay_but_first.new.draft c.in_ok-settled.settled c.in_ok-all.all.0.nodes b c.in_ok-all.ensures.placed ((c.in_ok-placed.ensures.taken b).0 (of_one c.in_ok-placed.placed.taken.items b is))
+pub returns-in_err-settled-clause-step : goal.returns-in_err-settled-clause-step
+returns-in_err-settled-clause-step g c =
+    file_err c.from_residual.result c.from_residual.ensures.1 (read_ended c.in_err-settled.ensures.reads c.in_err-settled.ensures.why)
+
+pub returns-in_err-all-clause-step : goal.returns-in_err-all-clause-step
+returns-in_err-all-clause-step g c =
+    file_err c.from_residual-in_err-all.result c.from_residual-in_err-all.ensures.1 (place_ended c.in_ok-settled.ensures.reads c.in_err-all.ensures.step)
+
+pub returns-in_err-placed-clause-step : goal.returns-in_err-placed-clause-step
+returns-in_err-placed-clause-step g c =
+    file_out c.from_residual-in_err-placed.result c.from_residual-in_err-placed.ensures.1 (place_ended c.in_ok-settled.ensures.reads c.in_ok-all.ensures.step)
+
+pub returns-clause-step : goal.returns-clause-step
+returns-clause-step g c =
+    let both = place_ended c.in_ok-settled.ensures.reads c.in_ok-all.ensures.step in
+    let laid = c.in_ok-all.ensures.placed in
+    record {
+      reads = reads_ok both.reads;
+      grows = both.grows;
+      parts = both.parts;
+      others = both.others;
+      takes = both.takes;
+      lacks = λ bad. no_error NoSpace bad;
+      taken = search rules;
+      freed = search rules;
+      given = λ b is. moved_taken c.args.draft.now c.lay_but_first.new.draft c.in_ok-settled.settled c.in_ok-all.all.0.nodes b laid ((c.in_ok-placed.ensures.taken b).0 (of_one c.in_ok-placed.placed.taken.items b is));
+    }
 
 pub returns-clause-placed : goal.returns-clause-placed
 returns-clause-placed g c = λ s disk base shows change e has same.

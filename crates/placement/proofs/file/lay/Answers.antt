@@ -1,6 +1,7 @@
 use Rattle.std.proofs.Common.{rules, ℕ, ◌<◌, subst, arith}
 use Rattle.blocktree.specs.Places.{IsPath}
 use Rattle.placement.proofs.SettledLaws.{paths_sound}
+use Rattle.placement.proofs.StepLaws.{both_err, both_ok, place_ended, read_ended, reads_nothing}
 use Rattle.placement.proofs.file.lay.Goals as goal
 
 pub returns-then-level_of-eq0-clause-stands : goal.returns-then-level_of-eq0-clause-stands
@@ -15,3 +16,15 @@ returns-in_err-small-clause-damaged g c = λ s disk base shows change blocks bad
 
 pub returns-clause-stands : goal.returns-clause-stands
 returns-clause-stands g c = λ s disk base shows change known. c.in_ok-laid.ensures.stands s disk base change known
+
+pub returns-in_err-small-clause-step : goal.returns-in_err-small-clause-step
+returns-in_err-small-clause-step g c = both_err c.from_residual.result c.from_residual.ensures.1 (read_ended c.in_err-small.ensures.reads c.in_err-small.ensures.why)
+
+pub returns-then-level_of-eq0-clause-step : goal.returns-then-level_of-eq0-clause-step
+returns-then-level_of-eq0-clause-step g c = both_ok (read_ended c.in_ok-small.ensures.reads c.in_ok-small.ensures.why)
+
+pub returns-in_err-laid-clause-step : goal.returns-in_err-laid-clause-step
+returns-in_err-laid-clause-step g c = both_err c.from_residual-in_err-laid.result c.from_residual-in_err-laid.ensures.1 (place_ended reads_nothing c.in_err-laid.ensures.step)
+
+pub returns-clause-step : goal.returns-clause-step
+returns-clause-step g c = both_ok (place_ended reads_nothing c.in_ok-laid.ensures.step)

@@ -1,4 +1,4 @@
-use Rattle.std.proofs.Common.{◌≡◌, ℕ, ◌*◌, ◌<◌, All, List, length, ap, sym, subst, ◌∙◌, arith, rules}
+use Rattle.std.proofs.Common.{◌≡◌, ℕ, ◌*◌, ◌<◌, Ok, All, List, length, ap, sym, subst, ◌∙◌, arith}
 use Rattle.std.specs.Int.{div_ceil}
 use Rattle.std.proofs.lemmas.Bool.{cond_below}
 use Rattle.layout.specs.Pointer.{PointsBelow}
@@ -6,7 +6,9 @@ use Rattle.layout.specs.declared.geometry.TheConstants.{MOST_BLOCKS}
 use Rattle.layout.specs.declared.pointer.Pointer.{Pointer}
 use Rattle.layout.specs.declared.pointer.Pointer.TheVariants.{Hole}
 use Rattle.conspoint.specs.Groups.{pointer_at, group}
-use Rattle.conspoint.specs.Space.{CountsGroups, Lacks, TakesAtMost, sum_below}
+use Rattle.conspoint.specs.Space.{CountsGroups, sum_below}
+use Rattle.conspoint.specs.Steps.{Places}
+use Rattle.conspoint.proofs.StepLemmas.{over_each, over_of, places_err}
 use Rattle.placement.specs.Layouts.{under}
 use Rattle.placement.proofs.CostLaws.{counted_elsewhere}
 use Rattle.placement.proofs.ListLaws.{group_at, regroup}
@@ -50,8 +52,8 @@ returns-clause-placed c =
     (c.in_ok-over.ensures.within count (subst (λ (xs : List Pointer). All (PointsBelow count) xs) (sym c.deref.ensures.value) c.requires.over))
     (kept_same settled over n n c.in_ok-over.ensures.count (rw c.deref.ensures.value at c.in_ok-over.ensures.each)) (rw c.deref-2.ensures.value at c.in_ok-all.ensures.placed)
 
-pub returns-clause-takes : goal.returns-clause-takes
-returns-clause-takes c = λ w counts.
+pub returns-clause-step : goal.returns-clause-step
+returns-clause-step c = over_of (λ w counts.
     let n = c.div_ceil-count.result in
     let settled = c.args.settled.now in
     let same : length c.deref-2.result.now ≡ n = ap (λ (xs : List Pointer). length xs) c.deref-2.ensures.value ∙ c.in_ok-over.ensures.count in
@@ -61,11 +63,11 @@ returns-clause-takes c = λ w counts.
     (λ j i few il. c.in_ok-old.ensures.under j i few il)
     (λ j i few il. group_at c.in_ok-new.new.items c.args.blocks.now (1024 * n) (1024 * n) j i (omega (arith, few, il)) c.in_ok-new.ensures.each (omega arith))
     (subst (λ (k : ℕ). CountsGroups w k (under settled) (group c.args.blocks.now)) (sym is) counts) in
-    subst (λ (k : ℕ). TakesAtMost (sum_below w k) c.args.draft.now c.place_over.new.draft) (same ∙ is)
-    (c.in_ok-all.ensures.takes w (subst (λ (k : ℕ). CountsGroups w k (group c.deref-3.result.now) (group c.deref-4.result.now)) (sym same) (rw (c.deref-3.ensures.value, c.deref-4.ensures.value) there)))
+    subst (λ (k : ℕ). Places (sum_below w k) c.args.draft.now c.place_over.new.draft (Ok c.in_ok-all.all)) (same ∙ is)
+    (over_each c.in_ok-all.ensures.step w (subst (λ (k : ℕ). CountsGroups w k (group c.deref-3.result.now) (group c.deref-4.result.now)) (sym same) (rw (c.deref-3.ensures.value, c.deref-4.ensures.value) there))))
 
-pub returns-in_err-all-clause-lacks : goal.returns-in_err-all-clause-lacks
-returns-in_err-all-clause-lacks c = λ bad w counts.
+pub returns-in_err-all-clause-step : goal.returns-in_err-all-clause-step
+returns-in_err-all-clause-step c = over_of (λ w counts.
     let n = c.div_ceil-count.result in
     let settled = c.args.settled.now in
     let same : length c.deref-2.result.now ≡ n = ap (λ (xs : List Pointer). length xs) c.deref-2.ensures.value ∙ c.in_ok-over.ensures.count in
@@ -75,5 +77,5 @@ returns-in_err-all-clause-lacks c = λ bad w counts.
     (λ j i few il. c.in_ok-old.ensures.under j i few il)
     (λ j i few il. group_at c.in_ok-new.new.items c.args.blocks.now (1024 * n) (1024 * n) j i (omega (arith, few, il)) c.in_ok-new.ensures.each (omega arith))
     (subst (λ (k : ℕ). CountsGroups w k (under settled) (group c.args.blocks.now)) (sym is) counts) in
-    subst (λ (k : ℕ). Lacks (sum_below w k) c.args.draft.now) (same ∙ is)
-    (c.in_err-all.ensures.lacks (search rules) w (subst (λ (k : ℕ). CountsGroups w k (group c.deref-3.result.now) (group c.deref-4.result.now)) (sym same) (rw (c.deref-3.ensures.value, c.deref-4.ensures.value) there)))
+    subst (λ (k : ℕ). Places (sum_below w k) c.args.draft.now c.place_over.new.draft c.from_residual-in_err-all.result) (same ∙ is)
+    (places_err c.from_residual-in_err-all.result c.from_residual-in_err-all.ensures.1 (over_each c.in_err-all.ensures.step w (subst (λ (k : ℕ). CountsGroups w k (group c.deref-3.result.now) (group c.deref-4.result.now)) (sym same) (rw (c.deref-3.ensures.value, c.deref-4.ensures.value) there)))))

@@ -1,4 +1,4 @@
-use Rattle.std.proofs.Common.{◌≡◌, ℕ, ◌<◌, List, sym, subst, ◌∙◌, rules}
+use Rattle.std.proofs.Common.{◌≡◌, ℕ, ◌<◌, ◌≤◌, List, length, sym, subst, ◌∙◌, rules}
 use Rattle.layout.specs.declared.inode.Inode.{Inode}
 use Rattle.layout.specs.declared.pointer.Pointer.{Pointer}
 use Rattle.conspoint.specs.Groups.{pointer_at}
@@ -7,6 +7,8 @@ use Rattle.images.specs.Nodes.{held}
 use Rattle.images.specs.Soundness.{IsSoundFile}
 use Rattle.planning.proofs.MapFileLaws.{map_file_planned, settled_map}
 use Rattle.planning.proofs.block_map.plan_block_map.Goals as goal
+use Rattle.planning.proofs.PromiseLaws.{plans_after, plans_err, plans_ok, plans_read, plans_rise, plans_takes, plans_unread, read_of}
+use Rattle.planning.specs.Space.{map_file_nodes}
 
 pub returns-in_err-settled-clause-damaged : goal.returns-in_err-settled-clause-damaged
 returns-in_err-settled-clause-damaged g c = λ disk settled v before shows memory bad. c.in_err-settled.ensures.damaged disk settled shows (search rules) memory.volume.inodes
@@ -28,12 +30,26 @@ returns-clause-planned g c = λ disk settled v before p shows memory sound same 
     let now : found ≡ settled 2 = c.in_ok-settled.ensures.read disk settled shows memory.volume.inodes in
     let shown = c.settled_inode.ensures.reads.same disk shows in
     let file = subst (λ (x : Inode). IsSoundFile s (held disk x)) (sym now) (memory.volume.inodes.sound 2) in
-    map_file_planned old new disk before s settled p nodes f memory.once memory.exact same progress fresh c.store_own_map.ensures.grows
+    map_file_planned old new disk before s settled p nodes f memory.once memory.exact same progress fresh c.store_own_map.ensures.step.grows
     (subst (λ (ns : List Pointer). PlansMap old new ns f) c.deref.ensures.value c.in_ok-map.ensures.planned)
     (settled_map (g.B.Blocks.count c.args.blocks.now) old disk s c.args.inodes.now.file settled before found nodes memory.volume.inodes c.requires.sizes c.requires.disk memory.once memory.exact same entries
     sound.block_map now
     (subst (λ n. (k : ℕ) → k < n → pointer_at nodes k ≡ (held disk found).place 0 k) c.map_blocks.ensures (c.in_ok-nodes.ensures.lowest s disk shown file))
     (subst (λ n. 16 < n → pointer_at nodes n ≡ (held disk found).place 1 0) c.map_blocks.ensures (c.in_ok-nodes.ensures.over s disk shown file)))
 
-pub returns-clause-sets : goal.returns-clause-sets
-returns-clause-sets g c = c.in_ok-map.ensures.planned.others
+pub returns-in_err-settled-clause-step : goal.returns-in_err-settled-clause-step
+returns-in_err-settled-clause-step g c = plans_unread c.from_residual.result c.from_residual.ensures.1 c.in_err-settled.ensures.reads
+
+pub returns-in_err-nodes-clause-step : goal.returns-in_err-nodes-clause-step
+returns-in_err-nodes-clause-step g c =
+    plans_after (read_of c.in_ok-settled.ensures.reads) (plans_err c.from_residual-in_err-nodes.result c.from_residual-in_err-nodes.ensures.1 (plans_read c.in_err-nodes.ensures.reads c.in_err-nodes.ensures.why))
+
+pub returns-in_err-map-clause-step : goal.returns-in_err-map-clause-step
+returns-in_err-map-clause-step g c =
+    let few : length c.deref.result.now ≤ map_file_nodes c.args.draft.now.map.count = search rules in
+    plans_after (read_of c.in_ok-settled.ensures.reads) (plans_after c.in_ok-nodes.ensures.reads (plans_err c.from_residual-in_err-map.result c.from_residual-in_err-map.ensures.1 (plans_rise (plans_takes c.in_err-map.ensures.step tt) few)))
+
+pub returns-clause-step : goal.returns-clause-step
+returns-clause-step g c =
+    let few : length c.deref.result.now ≤ map_file_nodes c.args.draft.now.map.count = search rules in
+    plans_after (read_of c.in_ok-settled.ensures.reads) (plans_after c.in_ok-nodes.ensures.reads (plans_ok (plans_rise (plans_takes c.in_ok-map.ensures.step c.in_ok-map.ensures.planned.others) few)))

@@ -1,33 +1,36 @@
-use Rattle.std.proofs.Common.{sym, subst, ◌∙◌, rules}
-use Rattle.blockmap.specs.Maps.{entry_at}
-use Rattle.blockmap.specs.declared.map.BlockMap.{BlockMap}
-use Rattle.planning.specs.Progress.{KeepsSets}
+use Rattle.std.proofs.Common.{arith, ◌∙◌, rules}
 use Rattle.planning.specs.Steps.{settled_tree}
 use Rattle.planning.proofs.MapFileLaws.{map_file_later}
-use Rattle.planning.proofs.NumberLaws.{grows_twice}
 use Rattle.planning.proofs.block_map.plan_last.Goals as goal
+use Rattle.planning.proofs.PromiseLaws.{plans_err, plans_puts, plans_seen, plans_then, plans_unread}
+use Rattle.planning.specs.Space.{map_file_nodes}
 
 pub returns-in_err-map-clause-damaged : goal.returns-in_err-map-clause-damaged
 returns-in_err-map-clause-damaged g c = λ disk settled v before shows memory sound bad. c.in_err-map.ensures.damaged disk settled v before shows memory (search rules)
 
-pub returns-in_err-put-clause-grows : goal.returns-in_err-put-clause-grows
-returns-in_err-put-clause-grows g c = grows_twice c.args.draft.now c.plan_block_map.new.draft c.put.new.self c.plan_block_map.ensures.grows c.put.ensures.grows
-
-pub returns-clause-grows : goal.returns-clause-grows
-returns-clause-grows g c = grows_twice c.args.draft.now c.plan_block_map.new.draft c.put.new.self c.plan_block_map.ensures.grows c.put.ensures.grows
-
 pub returns-clause-planned : goal.returns-clause-planned
 returns-clause-planned g c = λ disk settled v before p shows memory sound same entries progress fresh.
-    let shown = c.plan_block_map.ensures.reads.same disk shows in
+    let shown = c.plan_block_map.ensures.step.reads.same disk shows in
     record {
       map = c.in_ok-map.map;
-      planned = map_file_later c.plan_block_map.new.draft c.put.new.self disk before c.args.inodes.now.geometry (settled_tree disk settled) p c.in_ok-map.map c.put.ensures.grows c.put.ensures.map
+      planned = map_file_later c.plan_block_map.new.draft c.put.new.self disk before c.args.inodes.now.geometry (settled_tree disk settled) p c.in_ok-map.map c.put.ensures.step.grows c.put.ensures.step.map
           (c.in_ok-map.ensures.planned disk settled v before p shows memory sound same entries progress fresh);
       put = λ e has. c.in_ok-put.ensures.stored e has ∙ c.in_ok-block.ensures.put disk shown;
       whole = c.in_ok-block.ensures.whole disk shown;
       long = c.in_ok-block.ensures.long;
     }
 
-pub returns-clause-sets : goal.returns-clause-sets
-returns-clause-sets g c =
-    subst (λ (m : BlockMap). KeepsSets (entry_at c.args.draft.now.map.parts.items) (entry_at m.parts.items)) (sym c.put.ensures.map) c.in_ok-map.ensures.sets
+pub returns-in_err-map-clause-step : goal.returns-in_err-map-clause-step
+returns-in_err-map-clause-step g c = plans_err c.from_residual.result c.from_residual.ensures.1 c.in_err-map.ensures.step
+
+pub returns-in_err-block-clause-step : goal.returns-in_err-block-clause-step
+returns-in_err-block-clause-step g c =
+    plans_then c.in_ok-map.ensures.step (plans_unread {n = 0} c.from_residual-in_err-block.result c.from_residual-in_err-block.ensures.1 c.in_err-block.ensures.reads) (omega arith)
+
+pub returns-in_err-put-clause-step : goal.returns-in_err-put-clause-step
+returns-in_err-put-clause-step g c =
+    plans_err c.from_residual-in_err-put.result c.from_residual-in_err-put.ensures.1 (plans_then (plans_then {k = map_file_nodes c.args.draft.now.map.count} c.in_ok-map.ensures.step (plans_seen {n = 0} c.in_ok-block.ensures.reads) (omega arith)) (plans_puts c.in_err-put.ensures.step) (omega arith))
+
+pub returns-clause-step : goal.returns-clause-step
+returns-clause-step g c =
+    plans_then (plans_then {k = map_file_nodes c.args.draft.now.map.count} c.in_ok-map.ensures.step (plans_seen {n = 0} c.in_ok-block.ensures.reads) (omega arith)) (plans_puts c.in_ok-put.ensures.step) (omega arith)

@@ -1,13 +1,51 @@
-use Rattle.std.proofs.Common.{ap, sym, subst, ◌∙◌}
+use Rattle.std.proofs.Common.{Ok, rules, ap, sym, subst, ◌∙◌}
 use Rattle.images.specs.SnapshotSteps.{HasHead, SnapshotStep}
 use Rattle.layout.specs.Places.{pointed}
-use Rattle.planning.specs.Changes.{IsStepOf}
+use Rattle.planning.specs.Changes.{IsStepOf, head_nodes}
 use Rattle.planning.specs.declared.change.SnapshotChange.{SnapshotChange}
 use Rattle.planning.proofs.change.change_snapshots.Goals as goal
+use Rattle.conspoint.proofs.StepLemmas.{places_none, takes_err, takes_of, takes_ok}
+use Rattle.conspoint.specs.Steps.{Takes}
+use Rattle.layout.specs.declared.root.Root.{Root}
 
-pub returns-in_ok-pointer-in-Take-clause-head : goal.returns-in_ok-pointer-in-Take-clause-head
-returns-in_ok-pointer-in-Take-clause-head c = λ step is e has.
+pub returns-in-Unchanged-clause-step : goal.returns-in-Unchanged-clause-step
+returns-in-Unchanged-clause-step c = takes_of (places_none c.args.draft.now)
+
+pub returns-in_err-pointer-in-Take-clause-step : goal.returns-in_err-pointer-in-Take-clause-step
+returns-in_err-pointer-in-Take-clause-step c =
+    subst (λ n. Takes n c.args.draft.now c.take.new.draft c.from_residual.result) (sym (ap head_nodes c.in-Take.is)) (takes_err c.from_residual.result c.from_residual.ensures.1 c.in_err-pointer-in-Take.ensures.step)
+
+pub returns-in_ok-pointer-in-Take-clause-step : goal.returns-in_ok-pointer-in-Take-clause-step
+returns-in_ok-pointer-in-Take-clause-step c =
+    subst (λ n. Takes {T = Root} n c.args.draft.now c.take.new.draft (Ok c.with_pointer.result)) (sym (ap head_nodes c.in-Take.is)) (takes_ok c.in_ok-pointer-in-Take.ensures.step)
+
+pub returns-in_err-delete-in-Delete-clause-step : goal.returns-in_err-delete-in-Delete-clause-step
+returns-in_err-delete-in-Delete-clause-step c =
+    subst (λ n. Takes n c.args.draft.now c.delete.new.draft c.from_residual-in_err-delete-in-Delete.result) (sym (ap head_nodes c.in-Delete.is))
+    (takes_err c.from_residual-in_err-delete-in-Delete.result c.from_residual-in_err-delete-in-Delete.ensures.1 c.in_err-delete-in-Delete.ensures.step)
+
+pub returns-in_ok-delete-in-Delete-clause-step : goal.returns-in_ok-delete-in-Delete-clause-step
+returns-in_ok-delete-in-Delete-clause-step c =
+    subst (λ n. Takes {T = Root} n c.args.draft.now c.delete.new.draft (Ok c.with_pointer-in-Delete.result)) (sym (ap head_nodes c.in-Delete.is)) (takes_ok c.in_ok-delete-in-Delete.ensures.step)
+
+pub returns-in-Unchanged-clause-steps : goal.returns-in-Unchanged-clause-steps
+returns-in-Unchanged-clause-steps c = λ step is. record {
+  slots = search rules;
+  head = search rules;
+}
+
+pub returns-in_ok-pointer-in-Take-clause-steps : goal.returns-in_ok-pointer-in-Take-clause-steps
+returns-in_ok-pointer-in-Take-clause-steps c = λ step is.
     let block = c.in_ok-pointer-in-Take.ensures.block in
     let step_is = subst (λ (x : SnapshotChange). IsStepOf x c.args.root.now step) c.in-Take.is is in
-    subst (λ (x : SnapshotStep). HasHead x c.with_pointer.result e) (sym step_is)
-    (ap (pointed e) (c.with_pointer.ensures.sets.there ∙ block.1) ∙ c.in_ok-pointer-in-Take.ensures.head block.0 block.1 e has)
+    record {
+      slots = search rules;
+      head = λ e has. subst (λ (x : SnapshotStep). HasHead x c.with_pointer.result e) (sym step_is)
+          (ap (pointed e) (c.with_pointer.ensures.sets.there ∙ block.1) ∙ c.in_ok-pointer-in-Take.ensures.head block.0 block.1 e has);
+    }
+
+pub returns-in_ok-delete-in-Delete-clause-steps : goal.returns-in_ok-delete-in-Delete-clause-steps
+returns-in_ok-delete-in-Delete-clause-steps c = λ step is. record {
+  slots = search rules;
+  head = search rules;
+}

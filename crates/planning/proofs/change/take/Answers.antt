@@ -1,31 +1,18 @@
-use Rattle.std.proofs.Common.{ℕ, true, refl, ap, sym, subst, ◌∙◌}
+use Rattle.std.proofs.Common.{arith, true, refl, ap, sym, ◌∙◌}
 use Rattle.std.specs.Int.{bit_at}
 use Rattle.blockmap.specs.Maps.{entry_at, settled_at}
-use Rattle.blockmap.specs.Parts.{Part}
 use Rattle.layout.specs.declared.pointer.Pointer.TheVariants.{Block}
 use Rattle.planning.specs.Changes.{ChangesPlane}
-use Rattle.planning.proofs.ChangeLaws.{plane_active, plane_from, plane_changed, same_block, takes_with}
-use Rattle.planning.proofs.NumberLaws.{grows_twice}
+use Rattle.planning.proofs.ChangeLaws.{plane_active, plane_from, plane_changed}
 use Rattle.planning.proofs.change.take.Goals as goal
 use Rattle.planning.proofs.change.take.Goals.{In_ok-mark_system}
-
-pub returns-in_err-take_plane-clause-grows : goal.returns-in_err-take_plane-clause-grows
-returns-in_err-take_plane-clause-grows c = grows_twice c.args.draft.now c.place_head.new.draft c.take_plane.new.self c.place_head.ensures.grows c.take_plane.ensures.grows
-
-pub returns-in_err-mark_system-clause-grows : goal.returns-in_err-mark_system-clause-grows
-returns-in_err-mark_system-clause-grows c =
-    grows_twice c.args.draft.now c.place_head.new.draft c.mark_system.new.self c.place_head.ensures.grows
-    (grows_twice c.place_head.new.draft c.take_plane.new.self c.mark_system.new.self c.take_plane.ensures.grows c.mark_system.ensures.grows)
-
-pub returns-clause-grows : goal.returns-clause-grows
-returns-clause-grows c =
-    grows_twice c.args.draft.now c.place_head.new.draft c.mark_system.new.self c.place_head.ensures.grows
-    (grows_twice c.place_head.new.draft c.take_plane.new.self c.mark_system.new.self c.take_plane.ensures.grows c.mark_system.ensures.grows)
+use Rattle.layout.proofs.PointerLaws.{block_same}
+use Rattle.conspoint.proofs.StepLemmas.{marks_take, takes_err, takes_of, takes_ok, takes_then}
 
 changed : (c : In_ok-mark_system) → ChangesPlane c.args.slot (Block c.in_ok-place.place) 1 (λ b. bit_at (settled_at c.args.draft.now.map.parts.items b) 0)
     (entry_at c.args.draft.now.map.parts.items) (entry_at c.mark_system.new.self.map.parts.items)
 changed c =
-    plane_from c.args.slot (Block c.in_ok-place.place) 1 c.args.draft.now.map.parts.items c.place_head.new.draft.map.parts.items (entry_at c.mark_system.new.self.map.parts.items) c.place_head.ensures.parts
+    plane_from c.args.slot (Block c.in_ok-place.place) 1 c.args.draft.now.map.parts.items c.place_head.new.draft.map.parts.items (entry_at c.mark_system.new.self.map.parts.items) c.place_head.ensures.step.parts
     (plane_changed c.args.slot c.in_ok-place.place 1 true (λ b. bit_at (settled_at c.place_head.new.draft.map.parts.items b) 0) (entry_at c.place_head.new.draft.map.parts.items)
     (entry_at c.take_plane.new.self.map.parts.items) (entry_at c.mark_system.new.self.map.parts.items) c.requires.slot c.in_ok-take_plane.ensures.plane c.in_ok-mark_system.ensures.bit
     c.in_ok-mark_system.ensures.stay refl)
@@ -40,10 +27,19 @@ returns-clause-sets c = changed c
 
 pub returns-clause-head : goal.returns-clause-head
 returns-clause-head c = λ b is e has.
-    ap e (sym (same_block c.in_ok-place.place b is)) ∙ c.in_ok-place.ensures.stored e (c.take_plane.ensures.grows.has e (c.mark_system.ensures.grows.has e has))
+    ap e (sym (block_same c.in_ok-place.place b is)) ∙ c.in_ok-place.ensures.stored e (c.take_plane.ensures.step.grows.has e (c.mark_system.ensures.step.grows.has e has))
 
-pub returns-clause-takes : goal.returns-clause-takes
-returns-clause-takes c =
-    takes_with 1 c.args.draft.now c.take_plane.new.self c.mark_system.new.self
-    (takes_with 1 c.args.draft.now c.place_head.new.draft c.take_plane.new.self c.in_ok-place.ensures.takes c.take_plane.ensures.grows c.take_plane.ensures.next)
-    c.mark_system.ensures.grows c.mark_system.ensures.next
+pub returns-in_err-place-clause-step : goal.returns-in_err-place-clause-step
+returns-in_err-place-clause-step c = takes_err c.from_residual.result c.from_residual.ensures.1 (takes_of c.in_err-place.ensures.step)
+
+pub returns-in_err-take_plane-clause-step : goal.returns-in_err-take_plane-clause-step
+returns-in_err-take_plane-clause-step c =
+    takes_err c.from_residual-in_err-take_plane.result c.from_residual-in_err-take_plane.ensures.1 (takes_then (takes_of c.in_ok-place.ensures.step) (marks_take c.in_err-take_plane.ensures.step) (omega arith))
+
+pub returns-in_err-mark_system-clause-step : goal.returns-in_err-mark_system-clause-step
+returns-in_err-mark_system-clause-step c =
+    takes_err c.from_residual-in_err-mark_system.result c.from_residual-in_err-mark_system.ensures.1 (takes_then (takes_then {k = 1} (takes_of c.in_ok-place.ensures.step) (marks_take c.in_ok-take_plane.ensures.step) (omega arith)) (marks_take c.in_err-mark_system.ensures.step) (omega arith))
+
+pub returns-clause-step : goal.returns-clause-step
+returns-clause-step c =
+    takes_ok (takes_then (takes_then {k = 1} (takes_of c.in_ok-place.ensures.step) (marks_take c.in_ok-take_plane.ensures.step) (omega arith)) (marks_take c.in_ok-mark_system.ensures.step) (omega arith))

@@ -2,8 +2,9 @@ use Rattle.std.proofs.Common.{[], sym, ◌∙◌}
 use Rattle.std.specs.Ordering.{nat_cmp}
 use Rattle.std.specs.BTreeMap as tree
 use Rattle.images.specs.Roots.{free_inode}
-use Rattle.planning.proofs.SpaceLaws.{changed_is, counts_no_object, counts_object}
+use Rattle.planning.proofs.SpaceLaws.{counts_no_object, counts_object}
 use Rattle.planning.proofs.counts.number_blocks.Goals as goal
+use Rattle.inofile.proofs.ChangedLaws.{changed_is}
 
 pub returns-in-Some-clause-count : goal.returns-in-Some-clause-count
 returns-in-Some-clause-count c =

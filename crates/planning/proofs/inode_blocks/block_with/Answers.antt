@@ -1,7 +1,8 @@
 use Rattle.std.proofs.Common.{◌≡◌, length, refl, ap, sym, ◌∙◌, rules, arith}
 use Rattle.layout.specs.Inode.{inode_bytes}
-use Rattle.planning.proofs.PutLaws.{wrote_all, put_is}
 use Rattle.planning.proofs.inode_blocks.block_with.Goals as goal
+use Rattle.layout.proofs.WritingLaws.{wrote_all}
+use Rattle.inode.proofs.PutLaws.{put_is}
 
 pub returns-clause-put : goal.returns-clause-put
 returns-clause-put g c = λ disk shows.

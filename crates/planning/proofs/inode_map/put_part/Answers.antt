@@ -1,4 +1,4 @@
-use Rattle.std.proofs.Common.{◌≡◌, List, ℕ, inl, inr, slice_index, ap, sym, subst, ◌∙◌}
+use Rattle.std.proofs.Common.{◌≡◌, List, ℕ, inl, inr, slice_index, ap, sym, subst, ◌∙◌, rules}
 use Rattle.inode.specs.Files.{file_block}
 use Rattle.planning.specs.Space.{TellsSame}
 use Rattle.planning.proofs.inode_map.put_part.Goals as goal
@@ -19,3 +19,43 @@ returns-clause-only g c = λ disk shows j changed. elim (c.set_block.ensures.onl
   )
   | inr before ↦ inr (c.make_room.ensures.only j before)
 ]
+
+pub returns-in_err-part-clause-file : goal.returns-in_err-part-clause-file
+returns-in_err-part-clause-file g c = record {
+  size = search rules;
+  settled = search rules;
+  sound = search rules;
+  kept = search rules;
+}
+
+pub returns-in_err-before-clause-file : goal.returns-in_err-before-clause-file
+returns-in_err-before-clause-file g c = record {
+  size = search rules;
+  settled = search rules;
+  sound = search rules;
+  kept = search rules;
+}
+
+pub returns-then-are_same-clause-file : goal.returns-then-are_same-clause-file
+returns-then-are_same-clause-file g c = record {
+  size = search rules;
+  settled = search rules;
+  sound = search rules;
+  kept = search rules;
+}
+
+pub returns-in_err-make_room-clause-file : goal.returns-in_err-make_room-clause-file
+returns-in_err-make_room-clause-file g c = record {
+  size = search rules;
+  settled = search rules;
+  sound = search rules;
+  kept = search rules;
+}
+
+pub returns-clause-file : goal.returns-clause-file
+returns-clause-file g c = record {
+  size = search rules;
+  settled = search rules;
+  sound = search rules;
+  kept = search rules;
+}

@@ -1,23 +1,23 @@
-use Rattle.std.proofs.Common.{ℕ, ◌/◌, sym, subst, rules}
+use Rattle.std.proofs.Common.{ℕ, ◌/◌, sym, subst, rules, arith}
 use Rattle.blocktree.specs.Trees.{IsSoundAt}
 use Rattle.inofile.specs.Inodes.{files_of}
 use Rattle.planning.specs.Numbers.{trimmed}
 use Rattle.planning.specs.Steps.{settled_tree}
-use Rattle.planning.proofs.NumberLaws.{grows_twice}
-use Rattle.planning.proofs.ProgressLaws.{sets_from}
 use Rattle.planning.proofs.SettledLaws.{over_settled}
 use Rattle.planning.proofs.StepLaws.{goes_on}
 use Rattle.planning.proofs.number.plan_number.Goals as goal
+use Rattle.planning.proofs.PromiseLaws.{file_none, plans_err, plans_file, plans_marks, plans_reads, plans_then, plans_unread}
+use Rattle.planning.specs.Space.{number_nodes}
 
 pub returns-clause-planned : goal.returns-clause-planned
 returns-clause-planned g c = λ disk settled v before shows over way fresh.
     let said = c.inodes_are_put_one_by_one.ensures in
-    let shown = c.place_number.ensures.reads.same disk shows in
+    let shown = c.place_number.ensures.step.reads.same disk shows in
     let memory = over_settled (g.B.Blocks.count c.args.blocks.now) c.args.draft.now disk settled c.args.inodes.now v before over way.settled c.requires.disk in
     goes_on (record { there = said.there; others = said.others; behind = said.behind }) c.args.draft.now c.place_number.new.draft c.mark_placed.new.draft disk before c.args.inodes.now.geometry
     (settled_tree disk settled) (λ n. trimmed (files_of disk settled c.args.inodes.now n)) c.args.file.now c.put_inode.new.file c.args.number c.in_ok-placed.placed.inode _ _
-    way over.once over.exact fresh (search rules) (search rules) c.place_number.ensures.grows c.place_number.ensures.parts c.in_ok-placed.ensures.given
-    (c.in_ok-placed.ensures.placed disk settled v shows memory) c.mark_placed.ensures.grows c.mark_placed.ensures.next c.in_ok-mark_placed.ensures.marked
+    way over.once over.exact fresh (search rules) (search rules) c.place_number.ensures.step.grows c.place_number.ensures.step.parts c.in_ok-placed.ensures.step.given
+    (c.in_ok-placed.ensures.placed disk settled v shows memory) c.mark_placed.ensures.step.grows c.mark_placed.ensures.step.next c.in_ok-mark_placed.ensures.marked
     (c.in_ok-put_inode.ensures.put disk shown) (c.in_ok-put_inode.ensures.whole disk shown) c.in_ok-put_inode.ensures.long
 
 pub returns-in_err-placed-clause-damaged : goal.returns-in_err-placed-clause-damaged
@@ -27,18 +27,32 @@ returns-in_err-placed-clause-damaged g c = λ disk settled v before shows over w
 
 pub returns-in_err-put_inode-clause-damaged : goal.returns-in_err-put_inode-clause-damaged
 returns-in_err-put_inode-clause-damaged g c = λ disk settled v before shows over way sound bad.
-    c.in_err-put_inode.ensures.damaged disk (c.place_number.ensures.reads.same disk shows) (search rules)
-    (subst (λ (n : ℕ). IsSoundAt n disk c.args.file.now.tree (c.args.number / 21)) (sym c.place_number.ensures.reads.count) sound)
+    c.in_err-put_inode.ensures.damaged disk (c.place_number.ensures.step.reads.same disk shows) (search rules)
+    (subst (λ (n : ℕ). IsSoundAt n disk c.args.file.now.tree (c.args.number / 21)) (sym c.place_number.ensures.step.reads.count) sound)
 
-pub returns-in_err-mark_placed-clause-grows : goal.returns-in_err-mark_placed-clause-grows
-returns-in_err-mark_placed-clause-grows g c = grows_twice c.args.draft.now c.place_number.new.draft c.mark_placed.new.draft c.place_number.ensures.grows c.mark_placed.ensures.grows
+pub returns-in_err-placed-clause-step : goal.returns-in_err-placed-clause-step
+returns-in_err-placed-clause-step g c = plans_err c.from_residual.result c.from_residual.ensures.1 (plans_file c.in_err-placed.ensures.step)
 
-pub returns-in_err-put_inode-clause-grows : goal.returns-in_err-put_inode-clause-grows
-returns-in_err-put_inode-clause-grows g c = grows_twice c.args.draft.now c.place_number.new.draft c.mark_placed.new.draft c.place_number.ensures.grows c.mark_placed.ensures.grows
+pub returns-in_err-mark_placed-clause-step : goal.returns-in_err-mark_placed-clause-step
+returns-in_err-mark_placed-clause-step g c =
+    plans_err c.from_residual-in_err-mark_placed.result c.from_residual-in_err-mark_placed.ensures.1 (plans_then (plans_file c.in_ok-placed.ensures.step) (plans_marks c.in_err-mark_placed.ensures.step tt) (omega arith))
 
-pub returns-clause-grows : goal.returns-clause-grows
-returns-clause-grows g c = grows_twice c.args.draft.now c.place_number.new.draft c.mark_placed.new.draft c.place_number.ensures.grows c.mark_placed.ensures.grows
+pub returns-in_err-put_inode-clause-step : goal.returns-in_err-put_inode-clause-step
+returns-in_err-put_inode-clause-step g c =
+    plans_then {n = number_nodes c.args.inodes.now c.args.number} (plans_then (plans_file c.in_ok-placed.ensures.step) (plans_marks c.in_ok-mark_placed.ensures.step c.in_ok-mark_placed.ensures.marked.others) (omega arith)) (plans_unread {n = 0} c.from_residual-in_err-put_inode.result c.from_residual-in_err-put_inode.ensures.1 c.in_err-put_inode.ensures.reads) (omega arith)
 
-pub returns-clause-sets : goal.returns-clause-sets
-returns-clause-sets g c =
-    sets_from c.args.draft.now.map.parts.items c.place_number.new.draft.map.parts.items c.mark_placed.new.draft.map.parts.items c.place_number.ensures.parts c.in_ok-mark_placed.ensures.marked.others
+pub returns-clause-step : goal.returns-clause-step
+returns-clause-step g c =
+    plans_then {n = number_nodes c.args.inodes.now c.args.number} (plans_then (plans_file c.in_ok-placed.ensures.step) (plans_marks c.in_ok-mark_placed.ensures.step c.in_ok-mark_placed.ensures.marked.others) (omega arith)) (plans_reads {n = 0} c.in_ok-put_inode.ensures.reads) (omega arith)
+
+pub returns-in_err-placed-clause-file : goal.returns-in_err-placed-clause-file
+returns-in_err-placed-clause-file g c = file_none c.args.file.now
+
+pub returns-in_err-mark_placed-clause-file : goal.returns-in_err-mark_placed-clause-file
+returns-in_err-mark_placed-clause-file g c = file_none c.args.file.now
+
+pub returns-in_err-put_inode-clause-file : goal.returns-in_err-put_inode-clause-file
+returns-in_err-put_inode-clause-file g c = c.put_inode.ensures.file
+
+pub returns-clause-file : goal.returns-clause-file
+returns-clause-file g c = c.put_inode.ensures.file

@@ -3,16 +3,15 @@ use Rattle.std.proofs.lemmas.List.{get_or_default}
 use Rattle.blocktree.specs.Trees.{IsSoundAt}
 use Rattle.blockmap.specs.Maps.{entry_at}
 use Rattle.inofile.specs.Inodes.{IsChanged}
-use Rattle.planning.specs.Inodes.{HasChange}
 use Rattle.planning.specs.Steps.{IsOverTree}
 use Rattle.planning.proofs.LoopLaws.{all_planned, none_before, one_more}
-use Rattle.planning.proofs.NumberLaws.{grows_twice}
+use Rattle.conspoint.proofs.DraftLemmas.{grows_twice}
 use Rattle.planning.proofs.ProgressLaws.{sets_twice}
 use Rattle.planning.proofs.SpaceLaws.{is_behind, is_counted}
-use Rattle.planning.proofs.TopLaws.{changes_none, changes_twice}
 use Rattle.planning.proofs.number.plan_numbers.Given.{Over}
 use Rattle.planning.proofs.number.plan_numbers.Goals as goal
 use Rattle.planning.proofs.number.plan_numbers.Goals.{After-index}
+use Rattle.planning.proofs.PromiseLaws.{file_none, file_then, plans_err, plans_out, plans_so_far, plans_then}
 
 pub loop-i-init : goal.loop-i-init
 loop-i-init g c = record {
@@ -21,10 +20,7 @@ loop-i-init g c = record {
   others = λ p is. is;
   sets = λ b i other. refl;
   counted = λ m below. omega arith;
-  size = refl;
-  settled = record { pointers = refl; depth = refl; count = refl };
-  sound = λ blocks disk i is. is;
-  changes = changes_none (HasChange c.args.inodes.now) c.args.file.now.tree;
+  file = file_none c.args.file.now;
   planned = λ disk settled v before shows over start. none_before c.args.draft.now disk settled before c.args.inodes.now c.args.file.now c.in_ok-numbers.numbers.items start;
 }
 
@@ -46,19 +42,14 @@ loop-i-preserved g c =
     let one_changed = (c.in_ok-numbers.ensures.members c.index.result.now).0 (c.loop-i.i, within, sym c.index.ensures) in
     record {
       read = search rules;
-      grows = grows_twice c.args.draft.now c.loop-i.draft c.plan_number.new.draft so_far.grows c.plan_number.ensures.grows;
+      grows = grows_twice c.args.draft.now c.loop-i.draft c.plan_number.new.draft so_far.grows c.plan_number.ensures.step.grows;
       others = λ p is. c.plan_number.ensures.others p (so_far.others p is);
-      sets = sets_twice (entry_at c.args.draft.now.map.parts.items) (entry_at c.loop-i.draft.map.parts.items) (entry_at c.plan_number.new.draft.map.parts.items) so_far.sets c.in_ok-plan_number.ensures.sets;
+      sets = sets_twice (entry_at c.args.draft.now.map.parts.items) (entry_at c.loop-i.draft.map.parts.items) (entry_at c.plan_number.new.draft.map.parts.items) so_far.sets c.in_ok-plan_number.ensures.step.sets;
       counted = λ m below.
           let before = so_far.counted c.index.result.now (λ k lt. is_behind xs c.loop-i.i c.index.result.now k c.in_ok-numbers.ensures.sorted within is lt) in
           let here : c.index.result.now < m = omega (arith, is, below c.loop-i.i (omega arith)) in
-          omega (arith, before, c.in_ok-plan_number.ensures.takes, is_counted c.args.inodes.now c.index.result.now m here);
-      size = c.plan_number.ensures.size ∙ so_far.size;
-      settled = search rules;
-      sound = λ blocks disk i is. c.plan_number.ensures.sound blocks disk i (so_far.sound blocks disk i is);
-      changes = changes_twice (HasChange c.args.inodes.now) (λ i. i ≡ c.index.result.now / 21) c.args.file.now.tree c.loop-i.file.tree c.plan_number.new.file.tree
-          (λ i at. (c.index.result.now, sym at, one_changed))
-          so_far.changes c.plan_number.ensures.changes;
+          omega (arith, before, c.in_ok-plan_number.ensures.step.takes, is_counted c.args.inodes.now c.index.result.now m here);
+      file = file_then (λ i at. (c.index.result.now, sym at, one_changed)) so_far.file c.plan_number.ensures.file;
       planned = λ disk settled v before shows over start.
           let now = so_far.planned disk settled v before shows over start in
           let over_now = subst (λ (n : ℕ). IsOverTree n disk settled c.args.inodes.now v before) (sym so_far.read.count) over in
@@ -67,16 +58,13 @@ loop-i-preserved g c =
           (c.in_ok-plan_number.ensures.planned disk settled v before (so_far.read.same disk shows) over_now);
     }
 
-pub returns-in_err-plan_number-clause-grows : goal.returns-in_err-plan_number-clause-grows
-returns-in_err-plan_number-clause-grows g c = grows_twice c.args.draft.now c.loop-i.draft c.plan_number.new.draft c.loop-i.invariant.grows c.plan_number.ensures.grows
-
 pub returns-in_err-plan_number-clause-damaged : goal.returns-in_err-plan_number-clause-damaged
 returns-in_err-plan_number-clause-damaged g c = λ disk settled v before shows over start sound bad.
     let so_far = c.loop-i.invariant in
     let now = so_far.planned disk settled v before shows over start in
     let at = c.index.result.now / 21 in
     let over_now = subst (λ (n : ℕ). IsOverTree n disk settled c.args.inodes.now v before) (sym so_far.read.count) over in
-    let sound_now = so_far.sound (g.B.Blocks.count c.args.blocks.now) disk at (sound at) in
+    let sound_now = so_far.file.sound (g.B.Blocks.count c.args.blocks.now) disk at (sound at) in
     c.in_err-plan_number.ensures.damaged disk settled v before (so_far.read.same disk shows) over_now now.way
     (subst (λ (n : ℕ). IsSoundAt n disk c.loop-i.file.tree at) (sym so_far.read.count) sound_now)
     (search rules)
@@ -89,25 +77,34 @@ returns-clause-planned g c = λ disk settled v before shows over start.
 pub plan_number-requires-clause-changed : goal.plan_number-requires-clause-changed
 plan_number-requires-clause-changed g c = (c.in_ok-numbers.ensures.members c.index.result.now).0 (c.loop-i.i, omega arith, sym c.index.ensures)
 
-pub returns-in_err-plan_number-clause-lacks : goal.returns-in_err-plan_number-clause-lacks
-returns-in_err-plan_number-clause-lacks g c = λ bad.
+pub returns-in_err-numbers-clause-step : goal.returns-in_err-numbers-clause-step
+returns-in_err-numbers-clause-step g c = plans_out c.from_residual.result c.from_residual.ensures.1
+
+pub returns-in_err-plan_number-clause-step : goal.returns-in_err-plan_number-clause-step
+returns-in_err-plan_number-clause-step g c =
     let xs = c.in_ok-numbers.numbers.items in
     let n = c.index.result.now in
     let within : c.loop-i.i < length xs = omega arith in
     let is : n ≡ slice_index xs c.loop-i.i = c.index.ensures ∙ get_or_default xs c.loop-i.i n 0 within in
     let before = c.loop-i.invariant.counted n (λ k lt. is_behind xs c.loop-i.i n k c.in_ok-numbers.ensures.sorted within is lt) in
     let last = (c.in_ok-numbers.ensures.within n (c.loop-i.i, within, sym c.index.ensures)).1 in
-    omega (arith, before, c.in_err-plan_number.ensures.lacks (search rules), is_counted c.args.inodes.now n c.args.inodes.now.geometry.inodes last)
+    let so_far = plans_so_far {T = Unit {0}} {w = tt {0}} c.loop-i.invariant.read c.loop-i.invariant.grows c.loop-i.invariant.sets before in
+    plans_err c.from_residual-in_err-plan_number.result c.from_residual-in_err-plan_number.ensures.1 (plans_then so_far c.in_err-plan_number.ensures.step (is_counted c.args.inodes.now n c.args.inodes.now.geometry.inodes last))
 
-pub returns-clause-takes : goal.returns-clause-takes
-returns-clause-takes g c =
+pub returns-clause-step : goal.returns-clause-step
+returns-clause-step g c =
     let xs = c.in_ok-numbers.numbers.items in
-    c.loop-i.invariant.counted c.args.inodes.now.geometry.inodes (λ k lt.
+    plans_so_far c.loop-i.invariant.read c.loop-i.invariant.grows c.loop-i.invariant.sets (c.loop-i.invariant.counted c.args.inodes.now.geometry.inodes (λ k lt.
     let within : k < length xs = omega (arith, lt) in
-    (c.in_ok-numbers.ensures.within (slice_index xs k) (k, within, get_or_default xs k (slice_index xs k) 0 within)).1)
+    (c.in_ok-numbers.ensures.within (slice_index xs k) (k, within, get_or_default xs k (slice_index xs k) 0 within)).1))
 
-pub returns-in_err-plan_number-clause-changes : goal.returns-in_err-plan_number-clause-changes
-returns-in_err-plan_number-clause-changes g c =
-    changes_twice (HasChange c.args.inodes.now) (λ i. i ≡ c.index.result.now / 21) c.args.file.now.tree c.loop-i.file.tree c.plan_number.new.file.tree
-    (λ i at. (c.index.result.now, sym at, (c.in_ok-numbers.ensures.members c.index.result.now).0 (c.loop-i.i, omega arith, sym c.index.ensures)))
-    c.loop-i.invariant.changes c.plan_number.ensures.changes
+pub returns-in_err-numbers-clause-file : goal.returns-in_err-numbers-clause-file
+returns-in_err-numbers-clause-file g c = file_none c.args.file.now
+
+pub returns-in_err-plan_number-clause-file : goal.returns-in_err-plan_number-clause-file
+returns-in_err-plan_number-clause-file g c =
+    file_then (λ i at. (c.index.result.now, sym at, (c.in_ok-numbers.ensures.members c.index.result.now).0 (c.loop-i.i, omega arith, sym c.index.ensures)))
+    c.loop-i.invariant.file c.plan_number.ensures.file
+
+pub returns-clause-file : goal.returns-clause-file
+returns-clause-file g c = c.loop-i.invariant.file

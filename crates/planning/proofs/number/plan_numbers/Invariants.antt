@@ -1,13 +1,12 @@
-use Rattle.std.proofs.Common.{◌≡◌, ℕ, ◌<◌, List, slice_index}
+use Rattle.std.proofs.Common.{ℕ, ◌<◌, List, slice_index}
 use Rattle.layout.specs.declared.inode.Inode.{Inode}
 use Rattle.model.specs.Volumes.{Volume}
 use Rattle.buffers.specs.Reads.{HasOnlyRead}
-use Rattle.blocktree.specs.Trees.{KeepsSound, SameSettled}
 use Rattle.blockmap.specs.Maps.{entry_at}
 use Rattle.conspoint.specs.Drafts.{Grows, IsReserved}
 use Rattle.conspoint.specs.Marks.{IsAmong}
 use Rattle.conspoint.specs.Space.{TakesAtMost}
-use Rattle.planning.specs.Inodes.{ChangesOnly, HasChange}
+use Rattle.planning.specs.Inodes.{ChangesFile, HasChange}
 use Rattle.planning.specs.Progress.{KeepsSets}
 use Rattle.planning.specs.Space.{nodes_below}
 use Rattle.planning.specs.Steps.{ArePlanned, IsOverTree}
@@ -20,10 +19,7 @@ invariant-loop-i g l = record {
   others : (p : ℕ) → IsReserved l.fn.draft p → IsReserved l.draft p;
   sets : KeepsSets (entry_at l.fn.draft.map.parts.items) (entry_at l.draft.map.parts.items);
   counted : (m : ℕ) → ((k : ℕ) → k < l.i → slice_index l.numbers.items k < m) → TakesAtMost (nodes_below l.inodes m) l.fn.draft l.draft;
-  size : l.file.size ≡ l.fn.file.size;
-  settled : SameSettled l.fn.file.tree l.file.tree;
-  sound : KeepsSound l.fn.file.tree l.file.tree;
-  changes : ChangesOnly (HasChange l.inodes) l.fn.file.tree l.file.tree;
+  file : ChangesFile (HasChange l.inodes) l.fn.file l.file;
   planned : (disk : ℕ → List ℕ) (settled : ℕ → Inode) (v : Volume) (before : ℕ → ℕ) → g.B.Blocks.Shows l.initial.blocks disk
       → IsOverTree (g.B.Blocks.count l.initial.blocks) disk settled l.inodes v before
       → ArePlanned (λ n. ⊥) l.fn.draft disk settled before l.inodes l.fn.file

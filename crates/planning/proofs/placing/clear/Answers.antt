@@ -8,6 +8,7 @@ use Rattle.placement.specs.Space.{file_nodes}
 use Rattle.planning.proofs.SpaceLaws.{stores_within}
 use Rattle.planning.proofs.NumberLaws.{cleared_change, is_cleared, cut_off}
 use Rattle.planning.proofs.placing.clear.Goals as goal
+use Rattle.planning.proofs.PlacingLaws.{placed_err, placed_out, placed_rise}
 
 pub returns-clause-cleared : goal.returns-clause-cleared
 returns-clause-cleared g c = λ s disk shows file e has same.
@@ -27,13 +28,15 @@ returns-in_err-placed-clause-damaged g c = λ s disk shows file bad.
     c.in_err-placed.ensures.damaged s disk c.args.settled shows
     (cleared_change s c.args.draft.now disk c.args.settled o file c.in_ok-file.file.tree c.in_ok-file.ensures.settled c.set_size.ensures.settled refl mode refl c.set_size.ensures.size none) (search rules)
 
-pub returns-in_err-placed-clause-some : goal.returns-in_err-placed-clause-some
-returns-in_err-placed-clause-some g c = λ bad.
-    let none : file_nodes c.set_size.new.self.size ≡ 0 = ap file_nodes c.set_size.ensures.size in
-    let lacks = c.in_err-placed.ensures.lacks (search rules) in
-    omega (arith, none, lacks, stores_within c.set_size.new.self)
+pub returns-in_err-file-clause-step : goal.returns-in_err-file-clause-step
+returns-in_err-file-clause-step g c = placed_out c.from_residual.result c.from_residual.ensures.1
 
-pub returns-clause-takes : goal.returns-clause-takes
-returns-clause-takes g c =
+pub returns-in_err-placed-clause-step : goal.returns-in_err-placed-clause-step
+returns-in_err-placed-clause-step g c =
     let none : file_nodes c.set_size.new.self.size ≡ 0 = ap file_nodes c.set_size.ensures.size in
-    omega (arith, none, c.in_ok-placed.ensures.takes, stores_within c.set_size.new.self)
+    placed_err c.from_residual-in_err-placed.result c.from_residual-in_err-placed.ensures.1 (placed_rise c.in_err-placed.ensures.step (omega (arith, none, stores_within c.set_size.new.self)))
+
+pub returns-clause-step : goal.returns-clause-step
+returns-clause-step g c =
+    let none : file_nodes c.set_size.new.self.size ≡ 0 = ap file_nodes c.set_size.ensures.size in
+    placed_rise c.in_ok-placed.ensures.step (omega (arith, none, stores_within c.set_size.new.self))

@@ -1,10 +1,12 @@
 use Rattle.std.proofs.Common.{◌≡◌, rules, arith}
 use Rattle.std.specs.Ordering.{nat_cmp}
 use Rattle.std.specs.BTreeMap as tree
-use Rattle.planning.proofs.LoopLaws.{changed_known}
 use Rattle.planning.proofs.SpaceLaws.{counts_object}
 use Rattle.planning.proofs.NumberLaws.{agrees_now, file_over, none_placed, object_over, object_placed}
 use Rattle.planning.proofs.placing.place_number.Goals as goal
+use Rattle.inofile.proofs.ChangedLaws.{changed_known}
+use Rattle.planning.proofs.PlacingLaws.{placed_after, placed_err, placed_rise, placed_unread}
+use Rattle.planning.proofs.PromiseLaws.{read_of}
 
 pub returns-in_err-settled-clause-damaged : goal.returns-in_err-settled-clause-damaged
 returns-in_err-settled-clause-damaged g c = λ disk settled v shows memory bad. c.in_err-settled.ensures.damaged disk settled shows (search rules) memory.volume.inodes
@@ -48,13 +50,23 @@ returns-clause-placed g c = λ disk settled v shows memory e has same.
 pub get-requires : goal.get-requires
 get-requires g c = changed_known (tree.get nat_cmp c.args.inodes.now.slots c.args.number) c.requires.changed
 
-pub returns-in_err-placed-clause-lacks : goal.returns-in_err-placed-clause-lacks
-returns-in_err-placed-clause-lacks g c = λ bad.
-    let count = counts_object (tree.get nat_cmp c.args.inodes.now.slots c.args.number) c.in-Some.object.now c.requires.changed c.in-Some.ensures.loaded in
-    let lacks = c.in_err-placed.ensures.lacks (search rules) in
-    omega (arith, count, lacks)
+pub returns-in_err-settled-clause-step : goal.returns-in_err-settled-clause-step
+returns-in_err-settled-clause-step g c = placed_unread c.from_residual.result c.from_residual.ensures.1 c.in_err-settled.ensures.reads
 
-pub returns-clause-takes : goal.returns-clause-takes
-returns-clause-takes g c =
+pub returns-in_err-cleared-clause-step : goal.returns-in_err-cleared-clause-step
+returns-in_err-cleared-clause-step g c =
+    placed_err c.from_residual-in_err-cleared.result c.from_residual-in_err-cleared.ensures.1 (placed_after (read_of c.in_ok-settled.ensures.reads) (placed_rise c.in_err-cleared.ensures.step (omega arith)))
+
+pub returns-in_default-clause-step : goal.returns-in_default-clause-step
+returns-in_default-clause-step g c =
+    placed_after (read_of c.in_ok-settled.ensures.reads) (placed_rise c.in_ok-cleared.ensures.step (omega arith))
+
+pub returns-in_err-placed-clause-step : goal.returns-in_err-placed-clause-step
+returns-in_err-placed-clause-step g c =
     let count = counts_object (tree.get nat_cmp c.args.inodes.now.slots c.args.number) c.in-Some.object.now c.requires.changed c.in-Some.ensures.loaded in
-    omega (arith, count, c.in_ok-placed.ensures.takes)
+    placed_err c.from_residual-in_err-placed.result c.from_residual-in_err-placed.ensures.1 (placed_after (read_of c.in_ok-settled.ensures.reads) (placed_rise c.in_err-placed.ensures.step (omega (arith, count))))
+
+pub returns-clause-step : goal.returns-clause-step
+returns-clause-step g c =
+    let count = counts_object (tree.get nat_cmp c.args.inodes.now.slots c.args.number) c.in-Some.object.now c.requires.changed c.in-Some.ensures.loaded in
+    placed_after (read_of c.in_ok-settled.ensures.reads) (placed_rise c.in_ok-placed.ensures.step (omega (arith, count)))

@@ -1,9 +1,17 @@
-use Rattle.std.proofs.Common.{◌≡◌, inl, inr, ◌<◌, refl, ap, rules, arith}
+use Rattle.std.proofs.Common.{◌≡◌, inl, inr, ◌<◌, refl, ap, subst, rules, arith}
 use Rattle.std.proofs.lemmas.Bool.{cases_lt}
 use Rattle.blocktree.specs.declared.tree.BlockTree.{BlockTree}
 use Rattle.images.specs.Roots.{free_inode}
-use Rattle.planning.proofs.NumberLaws.{change_over, change_anew, grows_twice, none_named, placed_anew, settled_later}
+use Rattle.conspoint.proofs.DraftLemmas.{taken_later}
+use Rattle.planning.proofs.NumberLaws.{change_over, change_anew, placed_anew, settled_later}
 use Rattle.planning.proofs.placing.place_object.Goals as goal
+use Rattle.images.proofs.EmptyLaws.{none_named}
+use Rattle.planning.proofs.PlacingLaws.{placed_err, placed_then}
+use Rattle.placement.proofs.StepLaws.{file_err}
+use Rattle.buffers.proofs.ReadLaws.{reads_ok}
+use Rattle.conspoint.proofs.StepLemmas.{no_error}
+use Rattle.conspoint.specs.declared.error.PlanError.TheVariants.{NoSpace}
+use Rattle.std.specs.Prelude.{All}
 
 pub returns-in_err-placed-clause-damaged : goal.returns-in_err-placed-clause-damaged
 returns-in_err-placed-clause-damaged g c = λ s disk shows file object bad. elim (cases_lt 0 c.args.object.now.file.tree.count) [
@@ -21,22 +29,43 @@ returns-then-count-gt0-clause-content g c = λ s disk shows file object.
     let some : 0 < c.args.object.now.file.tree.count = omega (arith, ap (λ (t : BlockTree). t.count) c.tree.ensures) in
     c.in_ok-placed.ensures.content s disk c.args.settled shows (change_over s c.args.draft.now disk c.args.settled c.args.object.now file object some)
 
-pub returns-in_err-cleared-clause-grows : goal.returns-in_err-cleared-clause-grows
-returns-in_err-cleared-clause-grows g c = grows_twice c.args.draft.now c.place_file.new.draft c.clear.new.draft c.place_file.ensures.grows c.clear.ensures.grows
-
-pub returns-clause-grows : goal.returns-clause-grows
-returns-clause-grows g c = grows_twice c.args.draft.now c.place_file.new.draft c.clear.new.draft c.place_file.ensures.grows c.clear.ensures.grows
-
 pub returns-clause-placed : goal.returns-clause-placed
 returns-clause-placed g c = λ s disk shows file object e has same.
     let none : c.args.object.now.file.tree.count ≡ 0 = omega (arith, ap (λ (t : BlockTree). t.count) c.tree.ensures) in
-    let later = settled_later s c.args.draft.now c.place_file.new.draft disk c.args.settled file c.place_file.ensures.parts c.place_file.ensures.grows.count in
-    let cleared = c.in_ok-cleared.ensures.cleared s disk (c.place_file.ensures.same disk shows) later e has same in
-    placed_anew s disk e c.args.settled c.in_ok-placed.placed.inode c.in_ok-cleared.cleared.inode _ _ _ _ (λ b is names. file.used b names (c.in_ok-placed.ensures.given b is).free)
-    (c.in_ok-placed.ensures.placed s disk free_inode shows (change_anew s c.args.draft.now disk c.args.settled c.args.object.now file object none) e (c.clear.ensures.grows.has e has) (λ b names. absurd (none_named disk free_inode refl b names)))
+    let later = settled_later s c.args.draft.now c.place_file.new.draft disk c.args.settled file c.place_file.ensures.step.parts c.place_file.ensures.step.grows.count in
+    let cleared = c.in_ok-cleared.ensures.cleared s disk (c.place_file.ensures.step.reads.same disk shows) later e has same in
+    placed_anew s disk e c.args.settled c.in_ok-placed.placed.inode c.in_ok-cleared.cleared.inode _ _ _ _ (λ b is names. file.used b names (c.in_ok-placed.ensures.step.given b is).free)
+    (c.in_ok-placed.ensures.placed s disk free_inode shows (change_anew s c.args.draft.now disk c.args.settled c.args.object.now file object none) e (c.clear.ensures.step.grows.has e has) (λ b names. absurd (none_named disk free_inode refl b names)))
     cleared.placed cleared.none
 
 pub returns-clause-content : goal.returns-clause-content
 returns-clause-content g c = λ s disk shows file object e has same.
     let none : c.args.object.now.file.tree.count ≡ 0 = omega (arith, ap (λ (t : BlockTree). t.count) c.tree.ensures) in
-    c.in_ok-placed.ensures.content s disk free_inode shows (change_anew s c.args.draft.now disk c.args.settled c.args.object.now file object none) e (c.clear.ensures.grows.has e has) (λ b names. absurd (none_named disk free_inode refl b names))
+    c.in_ok-placed.ensures.content s disk free_inode shows (change_anew s c.args.draft.now disk c.args.settled c.args.object.now file object none) e (c.clear.ensures.step.grows.has e has) (λ b names. absurd (none_named disk free_inode refl b names))
+
+pub returns-in_err-placed-clause-step : goal.returns-in_err-placed-clause-step
+returns-in_err-placed-clause-step g c = placed_err c.from_residual.result c.from_residual.ensures.1 c.in_err-placed.ensures.step
+
+pub returns-then-count-gt0-clause-step : goal.returns-then-count-gt0-clause-step
+returns-then-count-gt0-clause-step g c = c.in_ok-placed.ensures.step
+
+pub returns-in_err-cleared-clause-step : goal.returns-in_err-cleared-clause-step
+returns-in_err-cleared-clause-step g c =
+    file_err c.from_residual-in_err-cleared.result c.from_residual-in_err-cleared.ensures.1 (placed_then c.in_ok-placed.ensures.step c.in_err-cleared.ensures.step (omega arith))
+
+pub returns-clause-step : goal.returns-clause-step
+returns-clause-step g c =
+    let first = c.in_ok-placed.ensures.step in
+    let last = c.in_ok-cleared.ensures.step in
+    let both = placed_then first last (omega arith) in
+    record {
+      reads = reads_ok both.reads;
+      grows = both.grows;
+      parts = both.parts;
+      others = both.others;
+      takes = both.takes;
+      lacks = λ bad. no_error NoSpace bad;
+      taken = first.taken;
+      freed = subst (λ n. All (λ b. b < n) c.in_ok-cleared.cleared.freed.items) first.grows.count last.freed;
+      given = λ b is. taken_later c.args.draft.now c.place_file.new.draft c.clear.new.draft b (first.given b is) last.grows;
+    }

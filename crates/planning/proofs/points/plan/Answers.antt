@@ -24,13 +24,13 @@ returns-in-Ok-clause-point g c = λ d first v snapshots shows plannable step is 
     let start = start_is d r c.args.slot c.args.generation (g.B.Blocks.count c.args.blocks.now) m c.new-draft.result c.args.inodes.now first v snapshots plannable c.requires.sizes c.requires.disk c.new-draft.ensures.map c.requires.clean in
     let planned = c.in-Ok.ensures.planned (blocks_of d) (inodes_under (blocks_of d) r) v (settled_at m.parts.items) shows start in
     let settled : (b : ℕ) → settled_at draft.map.parts.items b ≡ settled_at m.parts.items b =
-    λ b. c.plan_root.ensures.grows.settled.settled b ∙ ap (λ (x : BlockMap). settled_at x.parts.items b) c.new-draft.ensures.map in
+    λ b. c.plan_root.ensures.step.grows.settled.settled b ∙ ap (λ (x : BlockMap). settled_at x.parts.items b) c.new-draft.ensures.map in
     let memory : HoldsMemory = record { holds = c.memory_holds_its_volume.ensures.holds; unchanged = c.memory_holds_its_volume.ensures.unchanged } in
     let stepped = entries_of step r c.in-Ok.root m c.new-draft.result.map (entry_at draft.map.parts.items) c.new-draft.ensures.map c.requires.clean (c.in-Ok.ensures.sets step is) in
     subst (λ (x : Planned). IsPointWith step r d (writes_of x.blocks) c.args.slot c.in-Ok.root v) (sym c.into_plan-map.ensures.plan)
     (point_is c.inodes_are_what_their_bytes_spell.ensures.spelled c.inodes_are_what_their_bytes_spell.ensures.past c.disks_that_agree_hold_the_same.ensures.file memory d r c.in-Ok.root c.args.slot c.args.generation m
-    c.args.inodes.now first v snapshots draft plannable c.requires.root c.in-Ok.ensures.root c.in-Ok.ensures.geometry c.in-Ok.ensures.generation c.requires.sizes planned settled
-    step stepped c.snapshots_are_what_their_bytes_spell.ensures can (c.in-Ok.ensures.slots step is) (c.in-Ok.ensures.head step is))
+    c.args.inodes.now first v snapshots draft plannable c.requires.root c.in-Ok.ensures.step.root c.in-Ok.ensures.step.geometry c.in-Ok.ensures.step.generation c.requires.sizes planned settled
+    step stepped c.snapshots_are_what_their_bytes_spell.ensures can (c.in-Ok.ensures.steps step is).slots (c.in-Ok.ensures.steps step is).head)
 
 pub returns-in-Ok-clause-entries : goal.returns-in-Ok-clause-entries
 returns-in-Ok-clause-entries g c = λ d first v snapshots shows plannable e has agrees b.
@@ -40,10 +40,10 @@ returns-in-Ok-clause-entries g c = λ d first v snapshots shows plannable e has 
     let start = start_is d r c.args.slot c.args.generation (g.B.Blocks.count c.args.blocks.now) m c.new-draft.result c.args.inodes.now first v snapshots plannable c.requires.sizes c.requires.disk c.new-draft.ensures.map c.requires.clean in
     let planned = c.in-Ok.ensures.planned (blocks_of d) (inodes_under (blocks_of d) r) v (settled_at m.parts.items) shows start in
     let settled : (b : ℕ) → settled_at draft.map.parts.items b ≡ settled_at m.parts.items b =
-    λ b. c.plan_root.ensures.grows.settled.settled b ∙ ap (λ (x : BlockMap). settled_at x.parts.items b) c.new-draft.ensures.map in
+    λ b. c.plan_root.ensures.step.grows.settled.settled b ∙ ap (λ (x : BlockMap). settled_at x.parts.items b) c.new-draft.ensures.map in
     let memory : HoldsMemory = record { holds = c.memory_holds_its_volume.ensures.holds; unchanged = c.memory_holds_its_volume.ensures.unchanged } in
     entries_are c.inodes_are_what_their_bytes_spell.ensures.spelled c.inodes_are_what_their_bytes_spell.ensures.past c.disks_that_agree_hold_the_same.ensures.file memory d r c.in-Ok.root c.args.slot c.args.generation m
-    c.args.inodes.now first v snapshots draft plannable c.requires.root c.in-Ok.ensures.root c.in-Ok.ensures.geometry c.in-Ok.ensures.generation c.requires.sizes planned settled
+    c.args.inodes.now first v snapshots draft plannable c.requires.root c.in-Ok.ensures.step.root c.in-Ok.ensures.step.geometry c.in-Ok.ensures.step.generation c.requires.sizes planned settled
     e (subst (λ (x : Planned). HasAll e x.blocks) c.into_plan-map.ensures.plan has) agrees b ∙ ap (λ (x : BlockMap). entry_at x.parts.items b) (sym c.into_plan-map.ensures.map)
 
 pub returns-in-Err-clause-damaged : goal.returns-in-Err-clause-damaged
@@ -80,3 +80,11 @@ returns-in-Err-clause-short g c = λ d first v snapshots shows plannable w moves
     let number = ap (λ (x : BlockMap). point_stores w r c.args.inodes.now x.count) c.new-draft.ensures.map in
     let short = c.in-Err.ensures.short (blocks_of d) (inodes_under (blocks_of d) r) v (settled_at m.parts.items) shows start.memory w counts (search rules) in
     omega (arith, short, before, number)
+
+pub plan_root-requires-clause-start : goal.plan_root-requires-clause-start
+plan_root-requires-clause-start g c = record {
+  root_is = c.requires.root;
+  size = ap (λ (x : BlockMap). x.count) c.new-draft.ensures.map ∙ c.requires.size;
+  disk = c.requires.disk ∙ sym c.requires.size ∙ sym (ap (λ (x : BlockMap). x.count) c.new-draft.ensures.map);
+  sizes = c.requires.sizes;
+}

@@ -1,11 +1,10 @@
-use Rattle.std.proofs.Common.{◌≡◌, ℕ, ◌*◌, ◌/◌, ◌%◌, refl, ap, sym, subst, ◌∙◌, rules, arith}
+use Rattle.std.proofs.Common.{◌≡◌, ℕ, ◌+◌, ◌*◌, ◌/◌, ◌%◌, refl, ap, sym, subst, ◌∙◌, rules, arith}
 use Rattle.std.specs.Int.{div_ceil}
 use Rattle.layout.specs.Inode.{inode_bytes}
 use Rattle.layout.specs.Limits.{AreSizes}
 use Rattle.layout.specs.declared.inode.Inode.{Inode}
 use Rattle.layout.specs.declared.kind.Kind.TheVariants as kinds
 use Rattle.blocktree.specs.Trees.{IsSoundAt}
-use Rattle.blockmap.specs.Maps.{entry_at}
 use Rattle.images.specs.InodeFiles.{put_at}
 use Rattle.images.specs.Nodes.{held}
 use Rattle.images.specs.Nodes as nodes
@@ -15,18 +14,14 @@ use Rattle.inode.specs.declared.object.Attributes.{Attributes}
 use Rattle.inofile.specs.Inodes.{files_of}
 use Rattle.planning.specs.Numbers.{trimmed}
 use Rattle.planning.specs.Progress.{with_file}
-use Rattle.std.specs.Result.{IfErr}
-use Rattle.buffers.specs.Failures.{HasGrown}
-use Rattle.conspoint.specs.Errors.{IsReadFault}
-use Rattle.planning.specs.Space.{map_file_nodes}
+use Rattle.planning.specs.Space.{map_file_nodes, change_nodes, top_nodes}
 use Rattle.planning.specs.Steps.{IsOverTree, settled_tree}
-use Rattle.planning.proofs.NumberLaws.{grows_twice}
 use Rattle.planning.proofs.OwnLaws.{own_change}
-use Rattle.planning.proofs.ProgressLaws.{sets_twice}
 use Rattle.planning.proofs.StartLaws.{not_own, spelled_ends, started, top_size}
 use Rattle.planning.proofs.TopLaws.{top_few}
 use Rattle.planning.proofs.WholeLaws.{all_planned}
 use Rattle.planning.proofs.points.plan_files.Goals as goal
+use Rattle.planning.proofs.PromiseLaws.{plans_err, plans_ok, plans_out, plans_rise, plans_then}
 
 pub returns-in_err-plan_changes-clause-damaged : goal.returns-in_err-plan_changes-clause-damaged
 returns-in_err-plan_changes-clause-damaged g c = λ disk settled v before shows start bad.
@@ -41,9 +36,6 @@ returns-in_err-plan_changes-clause-damaged g c = λ disk settled v before shows 
     c.in_err-plan_changes.ensures.damaged disk settled v before shows start.memory begin
     (λ i. subst (λ n. IsSoundAt n disk first_file.tree i) are.count (c.based_trees_are_sound.ensures.at s disk root.inode_file first_file.tree i sound c.in_ok-top.ensures.base)) (search rules)
 
-pub returns-in_err-placed-clause-grows : goal.returns-in_err-placed-clause-grows
-returns-in_err-placed-clause-grows g c = grows_twice c.args.draft.now c.plan_changes.new.draft c.place_top.new.draft c.plan_changes.ensures.grows c.place_top.ensures.grows
-
 pub returns-in_err-placed-clause-damaged : goal.returns-in_err-placed-clause-damaged
 returns-in_err-placed-clause-damaged g c = λ disk settled v before shows start bad.
     let s = c.args.inodes.now.geometry in
@@ -57,28 +49,14 @@ returns-in_err-placed-clause-damaged g c = λ disk settled v before shows start 
     let o = record c.in_ok-top.top { file = c.plan_changes.new.file } in
     let numbers = c.in_ok-plan_changes.ensures.planned disk settled v before shows start.memory start.sound.inode_map begin in
     let p = numbers.map.way.plan in
-    let same_now = λ (b : ℕ). c.plan_changes.ensures.grows.settled.settled b ∙ start.same b in
-    let size : o.file.size ≡ root.inode_file.size = c.plan_changes.ensures.size ∙ c.in_ok-top.ensures.size in
-    let large : o.file.size ≡ 4096 * div_ceil s.inodes 21 = size ∙ top_size s root c.requires.root c.requires.sizes in
+    let same_now = λ (b : ℕ). c.plan_changes.ensures.step.grows.settled.settled b ∙ start.same b in
+    let size : o.file.size ≡ root.inode_file.size = c.plan_changes.ensures.file.size ∙ c.in_ok-top.ensures.size in
+    let large : o.file.size ≡ 4096 * div_ceil s.inodes 21 = size ∙ top_size s root c.requires.root_is c.requires.sizes in
     let change = own_change (g.B.Blocks.count c.args.blocks.now) c.plan_changes.new.draft disk s c.args.inodes.now.file settled before 0 root.inode_file first_file.tree o are start.memory.once start.memory.exact same_now
-    (c.requires.disk ∙ sym c.plan_changes.ensures.grows.count) (sym start.top) c.in_ok-top.ensures.settled c.plan_changes.ensures.settled c.in_ok-top.ensures.attributes size
+    (c.requires.disk ∙ sym c.plan_changes.ensures.step.grows.count) (sym start.top) c.in_ok-top.ensures.settled c.plan_changes.ensures.file.settled c.in_ok-top.ensures.attributes size
     (spelled_ends s.inodes o.file.size (file_block disk o.file) p.inode numbers.map.way.spelled large) in
-    let shown = c.plan_changes.ensures.reads.same disk shows in
+    let shown = c.plan_changes.ensures.step.reads.same disk shows in
     c.in_err-placed.ensures.damaged s disk (settled 0) shown change (search rules)
-
-pub returns-in_err-plan_last-clause-grows : goal.returns-in_err-plan_last-clause-grows
-returns-in_err-plan_last-clause-grows g c =
-    grows_twice c.args.draft.now c.plan_changes.new.draft c.plan_last.new.draft c.plan_changes.ensures.grows
-    (grows_twice c.plan_changes.new.draft c.place_top.new.draft c.plan_last.new.draft c.place_top.ensures.grows c.plan_last.ensures.grows)
-
-pub returns-in_err-plan_last-clause-reads : goal.returns-in_err-plan_last-clause-reads
-returns-in_err-plan_last-clause-reads g c = record {
-  count = c.plan_last.ensures.reads.count ∙ c.place_top.ensures.reads.count ∙ c.plan_changes.ensures.reads.count;
-  counted = search rules;
-  device = subst (λ n. IfErr c.from_residual-in_err-plan_last.result (λ e. IsReadFault e → HasGrown n (g.B.Blocks.failed c.plan_last.new.blocks))) (c.in_ok-placed.ensures.reads.counted ∙ c.in_ok-plan_changes.ensures.reads.counted) (search rules);
-  reads = λ start is. c.plan_last.ensures.reads.reads start (c.place_top.ensures.reads.reads start (c.plan_changes.ensures.reads.reads start is));
-  same = λ disk shows. c.plan_last.ensures.reads.same disk (c.place_top.ensures.reads.same disk (c.plan_changes.ensures.reads.same disk shows));
-}
 
 pub returns-in_err-plan_last-clause-damaged : goal.returns-in_err-plan_last-clause-damaged
 returns-in_err-plan_last-clause-damaged g c = λ disk settled v before shows start bad.
@@ -90,17 +68,12 @@ returns-in_err-plan_last-clause-damaged g c = λ disk settled v before shows sta
     let sound : IsSoundFile s (held disk root.inode_file) = subst (λ (x : Inode). IsSoundFile s (held disk x)) start.top (are.sound 0) in
     let begin = started old disk settled before c.args.inodes.now first_file start.active start.same start.sound
     (λ i. c.in_ok-top.ensures.held s disk sound i ∙ ap (λ (x : Inode). nodes.file_block (held disk x) i) (sym start.top)) in
-    let shown = c.plan_changes.ensures.reads.same disk shows in
-    let count : g.B.Blocks.count c.args.blocks.now ≡ g.B.Blocks.count c.place_top.new.blocks = sym c.plan_changes.ensures.reads.count ∙ sym c.place_top.ensures.reads.count in
-    c.in_err-plan_last.ensures.damaged disk settled v before (c.place_top.ensures.reads.same disk shown) (subst (λ n. IsOverTree n disk settled c.args.inodes.now v before) count start.memory)
-    (subst (λ n. IsSoundAt n disk c.plan_changes.new.file.tree 0) count (c.plan_changes.ensures.sound (g.B.Blocks.count c.args.blocks.now) disk 0
+    let shown = c.plan_changes.ensures.step.reads.same disk shows in
+    let count : g.B.Blocks.count c.args.blocks.now ≡ g.B.Blocks.count c.place_top.new.blocks = sym c.plan_changes.ensures.step.reads.count ∙ sym c.place_top.ensures.step.reads.count in
+    c.in_err-plan_last.ensures.damaged disk settled v before (c.place_top.ensures.step.reads.same disk shown) (subst (λ n. IsOverTree n disk settled c.args.inodes.now v before) count start.memory)
+    (subst (λ n. IsSoundAt n disk c.plan_changes.new.file.tree 0) count (c.plan_changes.ensures.file.sound (g.B.Blocks.count c.args.blocks.now) disk 0
     (subst (λ n. IsSoundAt n disk first_file.tree 0) are.count (c.based_trees_are_sound.ensures.at s disk root.inode_file first_file.tree 0 sound c.in_ok-top.ensures.base))))
     (search rules)
-
-pub returns-clause-grows : goal.returns-clause-grows
-returns-clause-grows g c =
-    grows_twice c.args.draft.now c.plan_changes.new.draft c.plan_last.new.draft c.plan_changes.ensures.grows
-    (grows_twice c.plan_changes.new.draft c.place_top.new.draft c.plan_last.new.draft c.place_top.ensures.grows c.plan_last.ensures.grows)
 
 pub returns-clause-planned : goal.returns-clause-planned
 returns-clause-planned g c = λ disk settled v before shows start.
@@ -115,65 +88,27 @@ returns-clause-planned g c = λ disk settled v before shows start.
     let o = record c.in_ok-top.top { file = c.plan_changes.new.file } in
     let numbers = c.in_ok-plan_changes.ensures.planned disk settled v before shows start.memory start.sound.inode_map begin in
     let p = numbers.map.way.plan in
-    let same_now = λ (b : ℕ). c.plan_changes.ensures.grows.settled.settled b ∙ start.same b in
-    let size : o.file.size ≡ root.inode_file.size = c.plan_changes.ensures.size ∙ c.in_ok-top.ensures.size in
-    let large : o.file.size ≡ 4096 * div_ceil s.inodes 21 = size ∙ top_size s root c.requires.root c.requires.sizes in
+    let same_now = λ (b : ℕ). c.plan_changes.ensures.step.grows.settled.settled b ∙ start.same b in
+    let size : o.file.size ≡ root.inode_file.size = c.plan_changes.ensures.file.size ∙ c.in_ok-top.ensures.size in
+    let large : o.file.size ≡ 4096 * div_ceil s.inodes 21 = size ∙ top_size s root c.requires.root_is c.requires.sizes in
     let change = own_change (g.B.Blocks.count c.args.blocks.now) c.plan_changes.new.draft disk s c.args.inodes.now.file settled before 0 root.inode_file first_file.tree o are start.memory.once start.memory.exact same_now
-    (c.requires.disk ∙ sym c.plan_changes.ensures.grows.count) (sym start.top) c.in_ok-top.ensures.settled c.plan_changes.ensures.settled c.in_ok-top.ensures.attributes size
+    (c.requires.disk ∙ sym c.plan_changes.ensures.step.grows.count) (sym start.top) c.in_ok-top.ensures.settled c.plan_changes.ensures.file.settled c.in_ok-top.ensures.attributes size
     (spelled_ends s.inodes o.file.size (file_block disk o.file) p.inode numbers.map.way.spelled large) in
-    let shown = c.plan_changes.ensures.reads.same disk shows in
-    let count : g.B.Blocks.count c.args.blocks.now ≡ g.B.Blocks.count c.place_top.new.blocks = sym c.plan_changes.ensures.reads.count ∙ sym c.place_top.ensures.reads.count in
-    let kind : o.attributes.kind ≡ kinds.InodeFile = ap (λ (a : Attributes). a.kind) c.in_ok-top.ensures.attributes ∙ c.requires.root.kind in
+    let shown = c.plan_changes.ensures.step.reads.same disk shows in
+    let count : g.B.Blocks.count c.args.blocks.now ≡ g.B.Blocks.count c.place_top.new.blocks = sym c.plan_changes.ensures.step.reads.count ∙ sym c.place_top.ensures.step.reads.count in
+    let kind : o.attributes.kind ≡ kinds.InodeFile = ap (λ (a : Attributes). a.kind) c.in_ok-top.ensures.attributes ∙ c.requires.root_is.kind in
     let fresh = numbers.map.others 0 (λ is. absurd (omega arith)) ∙ not_own c.args.inodes.now numbers.changed numbers.just c.args.inodes.now.changes 0 (omega arith) in
     let fresh_map = numbers.map.others 2 (λ is. absurd (omega arith)) ∙ not_own c.args.inodes.now numbers.changed numbers.just c.args.inodes.now.changes 2 (omega arith) in
     let f = c.in_ok-placed.placed.0 in
     let first = c.in_ok-placed.placed.1 in
     let top = c.in_ok-placed.ensures.planned s disk settled before p shown change kind start.memory.once start.memory.exact same_now numbers.map.way.progress fresh in
-    let last = c.in_ok-plan_last.ensures.planned disk settled v before (with_file 0 f top.taken p) (c.place_top.ensures.reads.same disk shown)
-    (subst (λ n. IsOverTree n disk settled c.args.inodes.now v before) count start.memory) start.sound (λ b. c.place_top.ensures.grows.settled.settled b ∙ same_now b) start.entries top.progress fresh_map in
+    let last = c.in_ok-plan_last.ensures.planned disk settled v before (with_file 0 f top.taken p) (c.place_top.ensures.step.reads.same disk shown)
+    (subst (λ n. IsOverTree n disk settled c.args.inodes.now v before) count start.memory) start.sound (λ b. c.place_top.ensures.step.grows.settled.settled b ∙ same_now b) start.entries top.progress fresh_map in
     let said = c.inodes_are_put_one_by_one.ensures in
-    let least : AreSizes s = subst AreSizes (sym c.requires.sizes) c.requires.root.head.sizes in
+    let least : AreSizes s = subst AreSizes (sym c.requires.sizes) c.requires.root_is.head.sizes in
     all_planned (record { there = said.there; others = said.others; behind = said.behind }) c.plan_changes.new.draft c.place_top.new.draft c.plan_last.new.draft disk before s (settled_tree disk settled)
     (λ n. trimmed (files_of disk settled c.args.inodes.now n)) c.args.inodes.now o f last.map first (put_at (192 * (2 % 21)) (inode_bytes last.map) (file_block disk o.file (2 / 21))) numbers.changed numbers.just
-    (λ n is. (c.args.inodes.now.changes n is).1) (omega (arith, least.least_inodes)) numbers.map top last.planned large c.place_top.ensures.grows c.plan_last.ensures.grows last.put refl last.whole last.long
-
-pub returns-in_err-placed-clause-reads : goal.returns-in_err-placed-clause-reads
-returns-in_err-placed-clause-reads g c = record {
-  count = c.place_top.ensures.reads.count ∙ c.plan_changes.ensures.reads.count;
-  counted = search rules;
-  device = subst (λ n. IfErr c.from_residual-in_err-placed.result (λ e. IsReadFault e → HasGrown n (g.B.Blocks.failed c.place_top.new.blocks))) c.in_ok-plan_changes.ensures.reads.counted (search rules);
-  reads = λ start is. c.place_top.ensures.reads.reads start (c.plan_changes.ensures.reads.reads start is);
-  same = λ disk shows. c.place_top.ensures.reads.same disk (c.plan_changes.ensures.reads.same disk shows);
-}
-
-pub returns-clause-reads : goal.returns-clause-reads
-returns-clause-reads g c = record {
-  count = c.plan_last.ensures.reads.count ∙ c.place_top.ensures.reads.count ∙ c.plan_changes.ensures.reads.count;
-  counted = c.in_ok-plan_last.ensures.reads.counted ∙ c.in_ok-placed.ensures.reads.counted ∙ c.in_ok-plan_changes.ensures.reads.counted;
-  device = search rules;
-  reads = λ start is. c.plan_last.ensures.reads.reads start (c.place_top.ensures.reads.reads start (c.plan_changes.ensures.reads.reads start is));
-  same = λ disk shows. c.plan_last.ensures.reads.same disk (c.place_top.ensures.reads.same disk (c.plan_changes.ensures.reads.same disk shows));
-}
-
-pub returns-in_err-placed-clause-lacks : goal.returns-in_err-placed-clause-lacks
-returns-in_err-placed-clause-lacks g c = λ bad.
-    let top = top_few c.args.inodes.now c.args.root.now c.in_ok-top.top.file c.plan_changes.new.file c.requires.root c.in_ok-top.ensures.settled c.in_ok-top.ensures.unchanged
-    c.in_ok-top.ensures.size c.plan_changes.ensures.size c.plan_changes.ensures.settled c.plan_changes.ensures.changes in
-    omega (arith, c.in_ok-plan_changes.ensures.takes, c.in_err-placed.ensures.lacks (search rules), top)
-
-pub returns-in_err-plan_last-clause-lacks : goal.returns-in_err-plan_last-clause-lacks
-returns-in_err-plan_last-clause-lacks g c = λ bad.
-    let top = top_few c.args.inodes.now c.args.root.now c.in_ok-top.top.file c.plan_changes.new.file c.requires.root c.in_ok-top.ensures.settled c.in_ok-top.ensures.unchanged
-    c.in_ok-top.ensures.size c.plan_changes.ensures.size c.plan_changes.ensures.settled c.plan_changes.ensures.changes in
-    let count = ap map_file_nodes (c.place_top.ensures.grows.count ∙ c.plan_changes.ensures.grows.count) in
-    omega (arith, c.in_ok-plan_changes.ensures.takes, c.in_ok-placed.ensures.takes, c.in_err-plan_last.ensures.lacks (search rules), top, count)
-
-pub returns-clause-takes : goal.returns-clause-takes
-returns-clause-takes g c =
-    let top = top_few c.args.inodes.now c.args.root.now c.in_ok-top.top.file c.plan_changes.new.file c.requires.root c.in_ok-top.ensures.settled c.in_ok-top.ensures.unchanged
-    c.in_ok-top.ensures.size c.plan_changes.ensures.size c.plan_changes.ensures.settled c.plan_changes.ensures.changes in
-    let count = ap map_file_nodes (c.place_top.ensures.grows.count ∙ c.plan_changes.ensures.grows.count) in
-    omega (arith, c.in_ok-plan_changes.ensures.takes, c.in_ok-placed.ensures.takes, c.in_ok-plan_last.ensures.takes, top, count)
+    (λ n is. (c.args.inodes.now.changes n is).1) (omega (arith, least.least_inodes)) numbers.map top last.planned large c.place_top.ensures.step.grows c.plan_last.ensures.step.grows last.put refl last.whole last.long
 
 pub returns-in_err-plan_changes-clause-short : goal.returns-in_err-plan_changes-clause-short
 returns-in_err-plan_changes-clause-short g c = λ disk settled v before shows memory w counts bad.
@@ -182,31 +117,50 @@ returns-in_err-plan_changes-clause-short g c = λ disk settled v before shows me
 
 pub returns-in_err-placed-clause-short : goal.returns-in_err-placed-clause-short
 returns-in_err-placed-clause-short g c = λ disk settled v before shows memory w counts bad.
-    let top = top_few c.args.inodes.now c.args.root.now c.in_ok-top.top.file c.plan_changes.new.file c.requires.root c.in_ok-top.ensures.settled c.in_ok-top.ensures.unchanged
-    c.in_ok-top.ensures.size c.plan_changes.ensures.size c.plan_changes.ensures.settled c.plan_changes.ensures.changes in
+    let top = top_few c.args.inodes.now c.args.root.now c.in_ok-top.top.file c.plan_changes.new.file c.requires.root_is c.in_ok-top.ensures.settled c.in_ok-top.ensures.unchanged
+    c.in_ok-top.ensures.size c.plan_changes.ensures.file.size c.plan_changes.ensures.file.settled c.plan_changes.ensures.file.changes in
     let stores = c.in_ok-plan_changes.ensures.stores disk settled v before shows memory w counts in
-    omega (arith, stores, c.in_err-placed.ensures.lacks (search rules), top)
+    omega (arith, stores, c.in_err-placed.ensures.step.lacks (search rules), top)
 
 pub returns-in_err-plan_last-clause-short : goal.returns-in_err-plan_last-clause-short
 returns-in_err-plan_last-clause-short g c = λ disk settled v before shows memory w counts bad.
-    let top = top_few c.args.inodes.now c.args.root.now c.in_ok-top.top.file c.plan_changes.new.file c.requires.root c.in_ok-top.ensures.settled c.in_ok-top.ensures.unchanged
-    c.in_ok-top.ensures.size c.plan_changes.ensures.size c.plan_changes.ensures.settled c.plan_changes.ensures.changes in
+    let top = top_few c.args.inodes.now c.args.root.now c.in_ok-top.top.file c.plan_changes.new.file c.requires.root_is c.in_ok-top.ensures.settled c.in_ok-top.ensures.unchanged
+    c.in_ok-top.ensures.size c.plan_changes.ensures.file.size c.plan_changes.ensures.file.settled c.plan_changes.ensures.file.changes in
     let stores = c.in_ok-plan_changes.ensures.stores disk settled v before shows memory w counts in
-    let count = ap map_file_nodes (c.place_top.ensures.grows.count ∙ c.plan_changes.ensures.grows.count) in
-    omega (arith, stores, c.in_ok-placed.ensures.takes, c.in_err-plan_last.ensures.lacks (search rules), top, count)
+    let count = ap map_file_nodes (c.place_top.ensures.step.grows.count ∙ c.plan_changes.ensures.step.grows.count) in
+    omega (arith, stores, c.in_ok-placed.ensures.step.takes, c.in_err-plan_last.ensures.step.lacks (search rules), top, count)
 
 pub returns-clause-stores : goal.returns-clause-stores
 returns-clause-stores g c = λ disk settled v before shows memory w counts.
-    let top = top_few c.args.inodes.now c.args.root.now c.in_ok-top.top.file c.plan_changes.new.file c.requires.root c.in_ok-top.ensures.settled c.in_ok-top.ensures.unchanged
-    c.in_ok-top.ensures.size c.plan_changes.ensures.size c.plan_changes.ensures.settled c.plan_changes.ensures.changes in
+    let top = top_few c.args.inodes.now c.args.root.now c.in_ok-top.top.file c.plan_changes.new.file c.requires.root_is c.in_ok-top.ensures.settled c.in_ok-top.ensures.unchanged
+    c.in_ok-top.ensures.size c.plan_changes.ensures.file.size c.plan_changes.ensures.file.settled c.plan_changes.ensures.file.changes in
     let stores = c.in_ok-plan_changes.ensures.stores disk settled v before shows memory w counts in
-    let count = ap map_file_nodes (c.place_top.ensures.grows.count ∙ c.plan_changes.ensures.grows.count) in
-    omega (arith, stores, c.in_ok-placed.ensures.takes, c.in_ok-plan_last.ensures.takes, top, count)
+    let count = ap map_file_nodes (c.place_top.ensures.step.grows.count ∙ c.plan_changes.ensures.step.grows.count) in
+    omega (arith, stores, c.in_ok-placed.ensures.step.takes, c.in_ok-plan_last.ensures.step.takes, top, count)
 
-pub returns-clause-sets : goal.returns-clause-sets
-returns-clause-sets g c =
-    let first = entry_at c.args.draft.now.map.parts.items in
-    let second = entry_at c.plan_changes.new.draft.map.parts.items in
-    let third = entry_at c.place_top.new.draft.map.parts.items in
-    let last = entry_at c.plan_last.new.draft.map.parts.items in
-    sets_twice first second last c.in_ok-plan_changes.ensures.sets (sets_twice second third last c.in_ok-placed.ensures.sets c.in_ok-plan_last.ensures.sets)
+pub returns-in_err-top-clause-step : goal.returns-in_err-top-clause-step
+returns-in_err-top-clause-step g c = plans_out c.from_residual.result c.from_residual.ensures.1
+
+pub returns-in_err-plan_changes-clause-step : goal.returns-in_err-plan_changes-clause-step
+returns-in_err-plan_changes-clause-step g c =
+    plans_err c.from_residual-in_err-plan_changes.result c.from_residual-in_err-plan_changes.ensures.1 (plans_rise c.in_err-plan_changes.ensures.step (omega arith))
+
+pub returns-in_err-placed-clause-step : goal.returns-in_err-placed-clause-step
+returns-in_err-placed-clause-step g c =
+    let top = top_few c.args.inodes.now c.args.root.now c.in_ok-top.top.file c.plan_changes.new.file c.requires.root_is c.in_ok-top.ensures.settled c.in_ok-top.ensures.unchanged
+    c.in_ok-top.ensures.size c.plan_changes.ensures.file.size c.plan_changes.ensures.file.settled c.plan_changes.ensures.file.changes in
+    plans_err c.from_residual-in_err-placed.result c.from_residual-in_err-placed.ensures.1 (plans_then c.in_ok-plan_changes.ensures.step c.in_err-placed.ensures.step (omega (arith, top)))
+
+pub returns-in_err-plan_last-clause-step : goal.returns-in_err-plan_last-clause-step
+returns-in_err-plan_last-clause-step g c =
+    let top = top_few c.args.inodes.now c.args.root.now c.in_ok-top.top.file c.plan_changes.new.file c.requires.root_is c.in_ok-top.ensures.settled c.in_ok-top.ensures.unchanged
+    c.in_ok-top.ensures.size c.plan_changes.ensures.file.size c.plan_changes.ensures.file.settled c.plan_changes.ensures.file.changes in
+    let count = ap map_file_nodes (c.place_top.ensures.step.grows.count ∙ c.plan_changes.ensures.step.grows.count) in
+    plans_err c.from_residual-in_err-plan_last.result c.from_residual-in_err-plan_last.ensures.1 (plans_then (plans_then {k = change_nodes c.args.inodes.now + top_nodes c.args.inodes.now c.args.root.now.inode_file.size} c.in_ok-plan_changes.ensures.step c.in_ok-placed.ensures.step (omega (arith, top))) c.in_err-plan_last.ensures.step (omega (arith, count)))
+
+pub returns-clause-step : goal.returns-clause-step
+returns-clause-step g c =
+    let top = top_few c.args.inodes.now c.args.root.now c.in_ok-top.top.file c.plan_changes.new.file c.requires.root_is c.in_ok-top.ensures.settled c.in_ok-top.ensures.unchanged
+    c.in_ok-top.ensures.size c.plan_changes.ensures.file.size c.plan_changes.ensures.file.settled c.plan_changes.ensures.file.changes in
+    let count = ap map_file_nodes (c.place_top.ensures.step.grows.count ∙ c.plan_changes.ensures.step.grows.count) in
+    plans_ok (plans_then (plans_then {k = change_nodes c.args.inodes.now + top_nodes c.args.inodes.now c.args.root.now.inode_file.size} c.in_ok-plan_changes.ensures.step c.in_ok-placed.ensures.step (omega (arith, top))) c.in_ok-plan_last.ensures.step (omega (arith, count)))

@@ -1,21 +1,13 @@
-use Rattle.std.proofs.Common.{sym, ap, ◌∙◌}
+use Rattle.std.proofs.Common.{arith, sym, ap, ◌∙◌}
 use Rattle.layout.specs.declared.inode.Inode.{Inode}
 use Rattle.images.specs.Contents.{Content}
 use Rattle.placement.specs.Files.{is_one}
 use Rattle.planning.specs.Steps.{settled_tree}
 use Rattle.planning.proofs.JoinLaws.{marked_over, progress_more, taken_later}
-use Rattle.planning.proofs.NumberLaws.{grows_twice}
-use Rattle.planning.proofs.PointLaws.{held_inode}
-use Rattle.planning.proofs.ProgressLaws.{sets_from}
+use Rattle.conspoint.proofs.DraftLemmas.{grows_twice}
 use Rattle.planning.proofs.top.place_top.Goals as goal
-
-pub returns-in_err-mark_placed-clause-grows : goal.returns-in_err-mark_placed-clause-grows
-returns-in_err-mark_placed-clause-grows g c =
-    grows_twice c.args.draft.now c.place_file_but_first.new.draft c.mark_placed.new.draft c.place_file_but_first.ensures.grows c.mark_placed.ensures.grows
-
-pub returns-clause-grows : goal.returns-clause-grows
-returns-clause-grows g c =
-    grows_twice c.args.draft.now c.place_file_but_first.new.draft c.mark_placed.new.draft c.place_file_but_first.ensures.grows c.mark_placed.ensures.grows
+use Rattle.images.proofs.EmptyLaws.{held_inode}
+use Rattle.planning.proofs.PromiseLaws.{plans_err, plans_file, plans_marks, plans_ok, plans_then}
 
 pub returns-clause-planned : goal.returns-clause-planned
 returns-clause-planned g c = λ s disk settled before p shows change kind once exact same progress fresh.
@@ -23,21 +15,27 @@ returns-clause-planned g c = λ s disk settled before p shows change kind once e
     let mid = c.place_file_but_first.new.draft in
     let new = c.mark_placed.new.draft in
     let placed = c.in_ok-all.all.0 in
-    let goes = c.mark_placed.ensures.grows in
-    let grows = grows_twice old mid new c.place_file_but_first.ensures.grows goes in
+    let goes = c.mark_placed.ensures.step.grows in
+    let grows = grows_twice old mid new c.place_file_but_first.ensures.step.grows goes in
     record {
       taken = is_one placed.taken.items;
       progress = progress_more old new disk before s (settled_tree disk settled) p 0 placed.inode (is_one placed.taken.items) (is_one placed.freed.items) once exact same progress fresh grows
-          (λ b is. taken_later old mid new b goes (c.in_ok-all.ensures.given b is))
+          (λ b is. taken_later old mid new b goes (c.in_ok-all.ensures.step.given b is))
           (λ e has agrees. c.in_ok-all.ensures.placed s disk (settled 0) shows change e (goes.has e has) agrees)
           (λ e has agrees. sym (ap (λ (i : Inode). i.kind) (held_inode e placed.inode))
           ∙ ap (λ (x : Content). x.kind) (c.in_ok-all.ensures.content s disk (settled 0) shows change e (goes.has e has) agrees) ∙ kind)
-          (marked_over (is_one placed.taken.items) (is_one placed.freed.items) old.map.parts.items mid.map.parts.items new.map.parts.items c.place_file_but_first.ensures.parts c.in_ok-mark_placed.ensures.marked);
+          (marked_over (is_one placed.taken.items) (is_one placed.freed.items) old.map.parts.items mid.map.parts.items new.map.parts.items c.place_file_but_first.ensures.step.parts c.in_ok-mark_placed.ensures.marked);
       blocks = λ e has agrees i.
           ap (λ (x : Content). x.block i) (c.in_ok-all.ensures.content s disk (settled 0) shows change e (goes.has e has) (λ b names. agrees b (record { file = 0; names = names })));
     }
 
-pub returns-clause-sets : goal.returns-clause-sets
-returns-clause-sets g c =
-    sets_from c.args.draft.now.map.parts.items c.place_file_but_first.new.draft.map.parts.items c.mark_placed.new.draft.map.parts.items c.place_file_but_first.ensures.parts
-    c.in_ok-mark_placed.ensures.marked.others
+pub returns-in_err-all-clause-step : goal.returns-in_err-all-clause-step
+returns-in_err-all-clause-step g c = plans_err c.from_residual.result c.from_residual.ensures.1 (plans_file c.in_err-all.ensures.step)
+
+pub returns-in_err-mark_placed-clause-step : goal.returns-in_err-mark_placed-clause-step
+returns-in_err-mark_placed-clause-step g c =
+    plans_err c.from_residual-in_err-mark_placed.result c.from_residual-in_err-mark_placed.ensures.1 (plans_then (plans_file c.in_ok-all.ensures.step) (plans_marks c.in_err-mark_placed.ensures.step tt) (omega arith))
+
+pub returns-clause-step : goal.returns-clause-step
+returns-clause-step g c =
+    plans_ok (plans_then (plans_file c.in_ok-all.ensures.step) (plans_marks c.in_ok-mark_placed.ensures.step c.in_ok-mark_placed.ensures.marked.others) (omega arith))

@@ -45,7 +45,7 @@ loop-name-preserved g c =
       ];
       only = λ disk settled v stands n is.
           let before = so_far.only disk settled v stands in
-          let number = c.in_ok-found.ensures.number disk settled v (so_far.looked.kept disk settled v stands) ∙ ap (entries v d) c.as_slice.ensures.value in
+          let number = c.in_ok-found.ensures.found disk settled v (so_far.looked.kept disk settled v stands) ∙ ap (entries v d) c.as_slice.ensures.value in
           elim c.match-found.branch [
             | in-Some+in_ok-push w ↦
                 elim (Contains-push_cases children w.in-Some.child n (subst (λ (xs : List ℕ). Contains xs n) (ap (λ x. x.items) w.children-is ∙ w.in_ok-push.ensures.items) is)) [
@@ -56,7 +56,7 @@ loop-name-preserved g c =
           ];
       all = λ disk settled v stands.
           let here : c.loop-name.name-index < length c.as_slice-name-items.result.now = omega arith in
-          let number = c.in_ok-found.ensures.number disk settled v (so_far.looked.kept disk settled v stands) ∙ ap (entries v d) c.as_slice.ensures.value in
+          let number = c.in_ok-found.ensures.found disk settled v (so_far.looked.kept disk settled v stands) ∙ ap (entries v d) c.as_slice.ensures.value in
           elim c.match-found.branch [
             | in-Some+in_ok-push w ↦
                 let longer = ap (λ x. x.items) w.children-is ∙ w.in_ok-push.ensures.items in
@@ -83,7 +83,7 @@ returns-clause-children g c = λ disk settled v stands n.
     let items = c.as_slice-name-items.result.now in (
       so_far.only disk settled v stands n,
       λ child.
-          let names = subst (λ (xs : List Name). IsListing (entries v d) xs) (sym c.as_slice-name-items.ensures) (c.in_ok-names.ensures.listed disk settled v stands) in
+          let names = subst (λ (xs : List Name). IsListing (entries v d) xs) (sym c.as_slice-name-items.ensures) (c.in_ok-names.ensures.found disk settled v stands) in
           let listed = (names.whole child.0).1 (subst (λ o. IsSome o) (sym child.1) refl) in
           let whole = All-same (λ y. IfSome (entries v d y.items) (Contains children)) items _ (sym (take_all c.loop-name.name-index items (omega arith))) (so_far.all disk settled v stands) in
           let has = All-contains (λ (x : Name). IfSome (entries v d x) (Contains children)) (map (λ y. y.items) items) child.0 (All-map (λ (x : Name). IfSome (entries v d x) (Contains children)) (λ y. y.items) items whole) listed in

@@ -1,4 +1,4 @@
-use Rattle.std.proofs.Common.{ℕ, ◌∙◌, sym, subst}
+use Rattle.std.proofs.Common.{rules, ℕ, ◌∙◌, sym, subst}
 use Rattle.layout.specs.FileBytes.{EndsAt}
 use Rattle.model.specs.Edits.{resized}
 use Rattle.inode.specs.Files.{byte_at, byte_with, bytes_of}
@@ -6,11 +6,18 @@ use Rattle.inode.proofs.ComposingLaws.{cut_ends}
 use Rattle.records.proofs.ContentLaws.{resized_is, rewrites_same}
 use Rattle.records.proofs.contents.plan_cut.Goals as goal
 
-pub returns-in-Ok-clause-rewrites : goal.returns-in-Ok-clause-rewrites
-returns-in-Ok-clause-rewrites g c = λ disk shows whole.
+pub returns-in-Ok : goal.returns-in-Ok
+returns-in-Ok g c =
     let told = c.in-Ok.ensures in
     let old = c.args.file.now in
     let change = c.in-Ok.change in
-    rewrites_same disk (resized c.args.size) old c.prepare_cut.new.self change told.same
-    (subst (λ (n : ℕ). EndsAt n (byte_with disk old change)) (sym told.size) (cut_ends (byte_at disk old) (byte_with disk old change) c.args.size (told.bytes disk shows whole)))
-    (told.list disk shows whole ∙ resized_is c.args.size (bytes_of disk old))
+    record {
+      reads = search rules;
+      same = search rules;
+      fits = search rules;
+      rewrites = λ disk shows whole.
+          rewrites_same disk (resized c.args.size) old c.prepare_cut.new.self change told.same
+          (subst (λ (n : ℕ). EndsAt n (byte_with disk old change)) (sym told.size) (cut_ends (byte_at disk old) (byte_with disk old change) c.args.size (told.bytes disk shows whole)))
+          (told.list disk shows whole ∙ resized_is c.args.size (bytes_of disk old));
+      damaged = search rules;
+    }

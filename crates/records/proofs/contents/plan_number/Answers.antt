@@ -1,54 +1,42 @@
-use Rattle.std.proofs.Common.{rules, Option, IfOk, IfSome, sym, subst}
+use Rattle.std.proofs.Common.{Option, IfOk, IfSome, sym, subst, ◌∙◌}
 use Rattle.inode.specs.declared.object.Object.{Object}
 use Rattle.inofile.specs.Objects.{IsObjectOrNone}
 use Rattle.records.specs.Contents.{RewritesIn, bytes_after}
+use Rattle.records.proofs.ContentLaws.{told_both}
 use Rattle.records.proofs.EnterLaws.{object_or_none}
+use Rattle.records.proofs.Looking.{behind, brought, fails}
 use Rattle.records.proofs.StandLaws.{stands_over}
 use Rattle.records.proofs.contents.plan_number.Goals as goal
 
-pub returns-in_err-load_to_change-clause-damaged : goal.returns-in_err-load_to_change-clause-damaged
-returns-in_err-load_to_change-clause-damaged g c = λ disk settled v stands is. c.in_err-load_to_change.ensures.damaged disk settled v stands (search rules)
+pub returns-in_err-load_to_change-clause-planned : goal.returns-in_err-load_to_change-clause-planned
+returns-in_err-load_to_change-clause-planned g c = fails c.from_residual.result c.from_residual.ensures.1 (brought c.in_err-load_to_change.ensures)
 
-pub returns-clause-looks : goal.returns-clause-looks
-returns-clause-looks g c = record {
-  reads = search rules;
-  geometry = search rules;
-  kept = λ disk settled v stands.
-      let now = c.load_to_change.ensures.looks.kept disk settled v stands in
-      let count = g.B.Blocks.count c.load_to_change.new.blocks in
-      stands_over c.load_to_change.new.blocks c.plan_object-planned.new.blocks c.put_back.new.self c.plan_object-planned.ensures.reads.count (c.plan_object-planned.ensures.reads.same disk now.shows)
-      (c.put_back.ensures.volume c.take-object.result count disk settled v (c.take-object.ensures.without count disk settled v now.volume) c.plan_object-planned.ensures.same);
-}
-
-pub returns-clause-told : goal.returns-clause-told
-returns-clause-told g c = λ disk settled v stands.
-    let now = c.load_to_change.ensures.looks.kept disk settled v stands in
+pub returns-clause-planned : goal.returns-clause-planned
+returns-clause-planned g c =
     let count = g.B.Blocks.count c.load_to_change.new.blocks in
     let take = c.take-object.ensures in
+    let plan = c.plan_object-planned.ensures in
     let n = c.args.number in
-    let inodes = c.load_to_change.new.inodes.geometry.inodes in
-    let o = object_or_none disk inodes (settled n) c.take-object.result (v n) (take.stands count disk settled v now.volume) (take.stands_for_none count disk settled v now.volume) in
-    c.plan_object-planned.ensures.told disk inodes (settled n) (v n) o
-
-pub returns-clause-rewrites : goal.returns-clause-rewrites
-returns-clause-rewrites g c = λ disk settled v stands.
-    let now = c.load_to_change.ensures.looks.kept disk settled v stands in
-    let count = g.B.Blocks.count c.load_to_change.new.blocks in
-    let take = c.take-object.ensures in
-    let n = c.args.number in
-    let inodes = c.load_to_change.new.inodes.geometry.inodes in
-    let o = object_or_none disk inodes (settled n) c.take-object.result (v n) (take.stands count disk settled v now.volume) (take.stands_for_none count disk settled v now.volume) in
-    subst (λ (x : Option Object). IfOk c.plan_object-planned.result (λ w. IfSome w (RewritesIn disk (bytes_after c.args.rewrite.now) x))) (sym c.put_back.ensures.loaded)
-    (c.plan_object-planned.ensures.rewrites disk inodes (settled n) (v n) now.shows o)
-
-pub returns-clause-damaged : goal.returns-clause-damaged
-returns-clause-damaged g c = λ disk settled v stands is.
-    let now = c.load_to_change.ensures.looks.kept disk settled v stands in
-    let count = g.B.Blocks.count c.load_to_change.new.blocks in
-    let take = c.take-object.ensures in
-    let n = c.args.number in
-    let inodes = c.load_to_change.new.inodes.geometry.inodes in
-    let o = object_or_none disk inodes (settled n) c.take-object.result (v n) (take.stands count disk settled v now.volume) (take.stands_for_none count disk settled v now.volume) in
-    c.plan_object-planned.ensures.damaged disk now.shows is
-    (λ object some i. c.objects_stand_in_their_grammar.ensures count disk settled c.load_to_change.new.inodes v n i object (v n) now.volume
-    (subst (λ (x : Option Object). IsObjectOrNone disk inodes (settled n) x (v n)) some o))
+    let s = c.load_to_change.new.inodes in
+    let f = bytes_after c.args.rewrite.now in
+    behind (brought c.in_ok-load_to_change.ensures) (record {
+      looks = record {
+        reads = plan.reads;
+        geometry = c.put_back.ensures.geometry ∙ take.geometry;
+        kept = λ disk settled v now.
+            stands_over c.load_to_change.new.blocks c.plan_object-planned.new.blocks c.put_back.new.self plan.reads.count (plan.reads.same disk now.shows)
+            (c.put_back.ensures.volume c.take-object.result count disk settled v (take.without count disk settled v now.volume) plan.same);
+      };
+      stays = λ k is. c.put_back.ensures.stays k (take.stays k is);
+      keeps = λ k is. c.put_back.ensures.keeps k (take.keeps k is);
+      found = λ disk settled v now.
+          let o = object_or_none disk s.geometry.inodes (settled n) c.take-object.result (v n) (take.stands count disk settled v now.volume) (take.stands_for_none count disk settled v now.volume) in
+          told_both c.plan_object-planned.result _ _ (plan.told disk s.geometry.inodes (settled n) (v n) o)
+          (subst (λ (x : Option Object). IfOk c.plan_object-planned.result (λ w. IfSome w (RewritesIn disk f x))) (sym c.put_back.ensures.loaded)
+          (plan.rewrites disk s.geometry.inodes (settled n) (v n) now.shows o));
+      damaged = λ disk settled v now is.
+          let o = object_or_none disk s.geometry.inodes (settled n) c.take-object.result (v n) (take.stands count disk settled v now.volume) (take.stands_for_none count disk settled v now.volume) in
+          plan.damaged disk now.shows is
+          (λ object some i. c.objects_stand_in_their_grammar.ensures count disk settled s v n i object (v n) now.volume
+          (subst (λ (x : Option Object). IsObjectOrNone disk s.geometry.inodes (settled n) x (v n)) some o));
+    })

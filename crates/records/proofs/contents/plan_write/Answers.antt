@@ -1,15 +1,22 @@
-use Rattle.std.proofs.Common.{◌∙◌}
+use Rattle.std.proofs.Common.{rules, ◌∙◌}
 use Rattle.model.specs.Edits.{written}
 use Rattle.inode.specs.Files.{byte_at, byte_with, bytes_of}
 use Rattle.inode.proofs.ComposingLaws.{written_ends}
 use Rattle.records.proofs.ContentLaws.{rewrites_same, written_is}
 use Rattle.records.proofs.contents.plan_write.Goals as goal
 
-pub returns-in-Ok-clause-rewrites : goal.returns-in-Ok-clause-rewrites
-returns-in-Ok-clause-rewrites g c = λ disk shows whole.
+pub returns-in-Ok : goal.returns-in-Ok
+returns-in-Ok g c =
     let told = c.in-Ok.ensures in
     let old = c.args.file.now in
     let change = c.in-Ok.change in
-    rewrites_same disk (written c.args.offset c.args.bytes.now) old c.prepare_write.new.self change told.same
-    (written_ends (byte_at disk old) (byte_with disk old change) old.size change.size c.args.offset c.args.bytes.now told.size whole (told.bytes disk shows whole))
-    (told.list disk shows whole ∙ written_is c.args.offset c.args.bytes.now (bytes_of disk old))
+    record {
+      reads = search rules;
+      same = search rules;
+      fits = search rules;
+      rewrites = λ disk shows whole.
+          rewrites_same disk (written c.args.offset c.args.bytes.now) old c.prepare_write.new.self change told.same
+          (written_ends (byte_at disk old) (byte_with disk old change) old.size change.size c.args.offset c.args.bytes.now told.size whole (told.bytes disk shows whole))
+          (told.list disk shows whole ∙ written_is c.args.offset c.args.bytes.now (bytes_of disk old));
+      damaged = search rules;
+    }

@@ -1,30 +1,54 @@
-use Rattle.std.proofs.Common.{rules, IfSome, is_some, IsTrue, refl, ap, sym, subst, ◌∙◌}
-use Rattle.std.proofs.lemmas.Bool.{both_ways}
+use Rattle.std.proofs.Common.{Option, IfSome, is_some, IsTrue, refl, ap, sym, subst, ◌∙◌}
+use Rattle.std.proofs.lemmas.Bool.{both_ways, false≢true}
 use Rattle.model.specs.Records.{with_file_bytes}
-use Rattle.model.specs.Volumes.{is_file_node, with_node}
+use Rattle.model.specs.Volumes.{Node, is_file_node, with_node}
 use Rattle.inofile.specs.Inodes.{loaded}
 use Rattle.records.specs.Contents.{RewritesIn, bytes_after}
-use Rattle.records.proofs.ContentLaws.{file_changed, rewriting_applied, rewriting_applies}
+use Rattle.records.specs.Steps.{TakesUpdate}
+use Rattle.records.specs.declared.steps.Update.TheVariants as updates
+use Rattle.records.proofs.ContentLaws.{bounds_kept, file_changed, rewriting_applied, rewriting_applies}
+use Rattle.records.proofs.Preparing.{prepares, refuses, stops}
+use Rattle.records.proofs.StandLaws.{no_look}
 use Rattle.records.proofs.contents.prepare_bytes.Goals as goal
 
-pub returns-in_err-planned-clause-damaged : goal.returns-in_err-planned-clause-damaged
-returns-in_err-planned-clause-damaged g c = λ disk settled v stands is. c.in_err-planned.ensures.damaged disk settled v stands (search rules)
+pub returns-then-not-keeps_bounds-clause-prepares : goal.returns-then-not-keeps_bounds-clause-prepares
+returns-then-not-keeps_bounds-clause-prepares g c = refuses no_look (λ disk settled v stands volume can.
+    both_ways c.keeps_bounds.result c.if-not-keeps_bounds.true (c.keeps_bounds.ensures.1 (bounds_kept c.args.inodes.now.geometry.inodes v c.args.number c.args.rewrite.now can)))
 
-pub returns-in_default-clause-refused : goal.returns-in_default-clause-refused
-returns-in_default-clause-refused g c = λ disk settled v stands graph can.
-    both_ways (is_file_node (v c.args.number)) (sym (c.in_ok-planned.ensures.told disk settled v stands) ∙ ap is_some c.in_default.is)
-    (file_changed c.args.inodes.now.geometry.inodes v c.args.number c.args.rewrite.now can)
+pub returns-then-not-is_number-clause-prepares : goal.returns-then-not-is_number-clause-prepares
+returns-then-not-is_number-clause-prepares g c = refuses no_look (λ disk settled v stands volume can.
+    false≢true (subst (λ (o : Option Node). IsTrue (is_file_node o)) (c.is_number.ensures.no c.if-not-is_number.true v volume)
+    (file_changed c.args.inodes.now.geometry.inodes v c.args.number c.args.rewrite.now can)))
 
-pub returns-clause-does : goal.returns-clause-does
-returns-clause-does g c = λ disk settled v stands.
+pub returns-in_err-planned-clause-prepares : goal.returns-in_err-planned-clause-prepares
+returns-in_err-planned-clause-prepares g c = stops c.from_residual.result c.from_residual.ensures.1 c.in_err-planned.ensures.planned.looks c.in_err-planned.ensures.planned.damaged
+
+pub returns-in_default-clause-prepares : goal.returns-in_default-clause-prepares
+returns-in_default-clause-prepares g c = refuses c.in_ok-planned.ensures.planned.looks (λ disk settled v stands volume can.
+    both_ways (is_file_node (v c.args.number)) (sym (c.in_ok-planned.ensures.planned.found disk settled v stands).0 ∙ ap is_some c.in_default.is)
+    (file_changed c.args.inodes.now.geometry.inodes v c.args.number c.args.rewrite.now can))
+
+pub returns-clause-prepares : goal.returns-clause-prepares
+returns-clause-prepares g c =
     let n = c.args.number in
+    let planned = c.in_ok-planned.ensures in
+    let s = c.plan_number.new.inodes in
     let f = bytes_after c.args.rewrite.now in
-    let is : IsTrue (is_file_node (v n)) = sym (c.in_ok-planned.ensures.told disk settled v stands) ∙ ap is_some c.in-Some.is in
-    let gives = subst (λ o. IfSome o (RewritesIn disk f (loaded c.plan_number.new.inodes n))) c.in-Some.is (c.in_ok-planned.ensures.rewrites disk settled v stands) in
+    prepares planned.planned.looks
+    (record {
+      first = subst (λ o. IfSome o (λ x. TakesUpdate s n (updates.Bytes x))) c.in-Some.is planned.ready;
+      next = tt;
+      last = tt;
+      next_apart = tt;
+      last_apart = tt;
+      apart = tt;
+    })
+    (λ disk settled v stands.
+    let told = planned.planned.found disk settled v stands in
+    let is : IsTrue (is_file_node (v n)) = sym told.0 ∙ ap is_some c.in-Some.is in
+    let gives = subst (λ o. IfSome o (RewritesIn disk f (loaded s n))) c.in-Some.is told.1 in
     let w = with_node n (with_file_bytes f (v n)) v in
-    record { between = w; second = w; first = (with_file_bytes f (v n), (f, is, gives, refl), refl); next = refl; last = rewriting_applied n c.args.rewrite.now v; next_beside = tt; last_beside = tt; beside = tt }
-
-pub returns-clause-applies : goal.returns-clause-applies
-returns-clause-applies g c = λ disk settled v stands.
-    let is : IsTrue (is_file_node (v c.args.number)) = sym (c.in_ok-planned.ensures.told disk settled v stands) ∙ ap is_some c.in-Some.is in
-    rewriting_applies c.args.inodes.now.geometry.inodes v c.args.number c.args.rewrite.now is (c.keeps_bounds.ensures.0 c.if-not-keeps_bounds.false)
+    record { between = w; second = w; first = (with_file_bytes f (v n), (f, is, gives, refl), refl); next = refl; last = rewriting_applied n c.args.rewrite.now v; next_beside = tt; last_beside = tt; beside = tt })
+    (λ disk settled v stands.
+    rewriting_applies c.args.inodes.now.geometry.inodes v n c.args.rewrite.now (sym (planned.planned.found disk settled v stands).0 ∙ ap is_some c.in-Some.is)
+    (c.keeps_bounds.ensures.0 c.if-not-keeps_bounds.false))

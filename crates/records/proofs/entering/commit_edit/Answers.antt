@@ -1,18 +1,31 @@
-use Rattle.std.proofs.Common.{Option, sym, subst}
-use Rattle.layout.specs.Limits.{Sizes}
+use Rattle.std.proofs.Common.{◌≡◌, ℕ, ◌*◌, ◌%◌, Option, ap, sym, subst, ◌∙◌, arith}
+use Rattle.layout.specs.Inode.{FitsKind}
+use Rattle.layout.specs.declared.kind.Kind.{Kind}
+use Rattle.images.specs.Contents.{StandsAs}
 use Rattle.inode.specs.declared.object.Object.{Object}
 use Rattle.inofile.specs.Objects.{IsObjectOrNone}
+use Rattle.inofile.specs.Settled.{content_of}
 use Rattle.records.specs.Entering.{EditsIn, with_names}
-use Rattle.records.proofs.EnterLaws.{object_or_none}
 use Rattle.records.proofs.entering.commit_edit.Goals as goal
 
-pub returns-clause-volume : goal.returns-clause-volume
-returns-clause-volume c = λ count disk settled v f volume edits.
-    let take = c.take-object.ensures in
-    let inodes = c.args.inodes.now.geometry.inodes in
-    let node = with_names f (v c.args.parent) in
-    let o = object_or_none disk inodes (settled c.args.parent) c.take-object.result (v c.args.parent) (take.stands count disk settled v volume) (take.stands_for_none count disk settled v volume) in
-    let e = subst (λ (x : Option Object). EditsIn disk inodes f (v c.args.parent) x c.args.edit) (sym take.loaded) edits in
-    let after = c.commit_in.ensures disk inodes (settled c.args.parent) (v c.args.parent) f o e in
-    c.commit_set.ensures.back c.take-object.result count disk settled v node (take.without count disk settled v volume)
-    (subst (λ (s : Sizes). IsObjectOrNone disk s.inodes (settled c.args.parent) c.commit_in.new.object node) (sym take.geometry) after)
+whole : (n : ℕ) → (4096 * n) % 4096 ≡ 0
+whole n = omega arith
+
+pub returns-in-Some : goal.returns-in-Some
+returns-in-Some c = λ disk inodes settled found f stands edits.
+    let o = subst (λ (x : Option Object). IsObjectOrNone disk inodes settled x found) c.in-Some.is stands in
+    let e = subst (λ (x : Option Object). EditsIn disk inodes f found x c.args.edit) c.in-Some.is edits in
+    let names = f e.names in
+    let after : Object = record { attributes = c.in-Some.directory.attributes; file = c.commit.new.file } in
+    record {
+      kind = o.kind;
+      mode = o.mode;
+      fits = λ s.
+          let was = subst (λ (k : Kind). FitsKind k s c.in-Some.directory.attributes.mode c.in-Some.directory.attributes.links c.in-Some.directory.file.size) e.kind (o.fits s) in
+          subst (λ (k : Kind). FitsKind k s c.in-Some.directory.attributes.mode c.in-Some.directory.attributes.links c.commit.new.file.size) (sym e.kind)
+          (was.0, ap (λ (n : ℕ). n % 4096) c.commit.ensures.size ∙ whole c.args.edit.count);
+      stands = subst (λ (k : Kind). StandsAs k inodes (content_of disk after) (with_names f found)) (sym e.kind)
+          (names, c.commit.ensures.names inodes disk names e.edited, ap (with_names f) e.stands);
+      ends = c.commit.ensures.ends disk;
+      base = c.commit.ensures.base settled o.base;
+    }

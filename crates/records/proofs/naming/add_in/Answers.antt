@@ -1,17 +1,44 @@
-use Rattle.std.proofs.Common.{rules}
+use Rattle.std.proofs.Common.{rules, None, Some, subst}
+use Rattle.dirs.specs.Directory.{with_name}
+use Rattle.dirs.specs.Edits.{HasNames}
 use Rattle.records.proofs.EnterLaws.{full_has_no_place}
+use Rattle.records.proofs.NamingLaws.{name_gone, name_replaced}
 use Rattle.records.proofs.naming.add_in.Goals as goal
 
-pub returns-in-Ok-clause-takes : goal.returns-in-Ok-clause-takes
-returns-in-Ok-clause-takes g c = λ disk names shows has.
-    let room = c.in-Ok.ensures.room disk names shows has in
-    record { count = room.0; counts = room.1; room = room.2 }
+pub returns-in-Ok : goal.returns-in-Ok
+returns-in-Ok g c =
+    let y = c.args.entry.now.name.now in
+    let to = Some c.args.entry.now.number in
+    record {
+      reads = search rules;
+      same = search rules;
+      fits = search rules;
+      edited = λ disk names shows had.
+          let less = with_name y None names in
+          let room = c.in-Ok.ensures.room disk less shows had in (
+            record { count = room.0; counts = room.1; room = room.2 },
+            subst (HasNames c.args.inodes disk c.prepare_add.new.file c.prepare_add.new.self) (name_replaced y to names) (c.in-Ok.ensures.added disk less shows had (name_gone y names)),
+          );
+      damaged = search rules;
+    }
 
-pub returns-in-Err-DirFull-clause-refused : goal.returns-in-Err-DirFull-clause-refused
-returns-in-Err-DirFull-clause-refused g c = λ disk names shows has place.
-    let full = c.in-Err-DirFull.ensures.full disk names shows has (search rules) in
-    full_has_no_place names full.0 full.1 full.2 place
+pub returns-in-Err-DirFull : goal.returns-in-Err-DirFull
+returns-in-Err-DirFull g c = record {
+  reads = search rules;
+  same = search rules;
+  fits = search rules;
+  edited = λ disk names shows had place.
+      let less = with_name c.args.entry.now.name.now None names in
+      let full = c.in-Err-DirFull.ensures.full disk less shows had (search rules) in
+      full_has_no_place less full.0 full.1 full.2 place;
+  damaged = search rules;
+}
 
-pub returns-clause-damaged : goal.returns-clause-damaged
-returns-clause-damaged g c = λ disk names shows is has sound.
-    c.in-Err-Damaged.ensures.damaged disk shows (search rules) (λ i below. sound i) (λ i below. (has.entries i, has.holds i below))
+pub returns : goal.returns
+returns g c = record {
+  reads = search rules;
+  same = search rules;
+  fits = search rules;
+  edited = search rules;
+  damaged = λ disk names shows is had sound. c.in-Err-Damaged.ensures.damaged disk shows (search rules) (λ i below. sound i) (λ i below. (had.entries i, had.holds i below));
+}

@@ -1,32 +1,38 @@
-use Rattle.std.proofs.Common.{rules, ◌≡◌, ◌∙◌, inr, ℕ, Option, None, Some, IfSome, IfNone, IsTrue, refl, ap, sym, subst}
+use Rattle.std.proofs.Common.{◌≡◌, ◌∙◌, inl, inr, ℕ, Option, None, Some, IfSome, IfNone, IsTrue, refl, ap, sym, subst}
 use Rattle.layout.specs.declared.entry.Entry.{Entry}
 use Rattle.model.specs.Volumes.{Node, Volume, entries, is_directory_node, released, with_entry, with_node}
 use Rattle.dirs.specs.Directory.{with_name}
 use Rattle.inofile.specs.Inodes.{loaded}
-use Rattle.records.specs.Entering.{Accepts, EditsIn, names_after, with_names}
+use Rattle.records.specs.Entering.{Accepts, EditsIn, PreparesEdit, names_after, with_names}
 use Rattle.records.specs.Moving.{edit_for}
-use Rattle.records.specs.Steps.{StepsSome}
+use Rattle.records.specs.Steps.{StepsSome, TakesUpdate}
 use Rattle.records.specs.declared.naming.NameEdit.{NameEdit}
 use Rattle.records.specs.declared.naming.NameEdit.TheVariants as edits
-use Rattle.records.proofs.EnterLaws.{found_directory, node_other, takes_accepted}
-use Rattle.records.proofs.FileLaws.{named_directory}
+use Rattle.records.specs.declared.steps.Update.TheVariants as updates
+use Rattle.records.proofs.EnterLaws.{found_directory, takes_accepted}
+use Rattle.records.proofs.FileLaws.{alone_some, alone_some_apart, apart_none, named_directory}
+use Rattle.records.proofs.Looking.{some_at_hand_behind}
 use Rattle.records.proofs.MoveLaws.{accepts_move, accepts_other, aside_new, aside_old, beside_new, beside_none, beside_old, can_rename, moved_across, moved_inside, names_for, steps_on, wanted_none, wanted_some}
+use Rattle.records.proofs.Preparing.{prepares, refuses, stops}
 use Rattle.records.proofs.renaming.place.Goals.{then-is_some, else-is_some}
 use Rattle.records.proofs.renaming.place.Goals as goal
+use Rattle.model.proofs.ObjectLaws.{node_other}
 
-pub returns-in_err-planned-clause-damaged : goal.returns-in_err-planned-clause-damaged
-returns-in_err-planned-clause-damaged g c = λ disk settled v stands is. c.in_err-planned.ensures.damaged disk settled v stands (search rules)
+pub returns-in_err-planned : goal.returns-in_err-planned
+returns-in_err-planned g c = stops c.from_residual.result c.from_residual.ensures.1 c.in_err-planned.ensures.edit.looks c.in_err-planned.ensures.edit.damaged
 
-pub returns-in_default-clause-refused : goal.returns-in_default-clause-refused
-returns-in_default-clause-refused g c = λ disk settled v stands graph moves can.
+pub returns-in_default : goal.returns-in_default
+returns-in_default g c = refuses c.in_ok-planned.ensures.edit.looks (λ disk settled v known volume can.
     let entry : Entry = record { number = c.args.entry.now.number; name = c.args.entry.now.name } in
     let old : Entry = record { number = 0; name = c.args.name } in
     let k = c.args.new_parent in
-    subst (λ o. IfNone o (Accepts (edits.Move c.args.name entry) (v k) → ⊥)) c.in_default.is (c.in_ok-planned.ensures.refused disk settled v stands graph)
-    (accepts_move disk settled v c.args.parent c.args.name.now entry.number k entry.name.now c.args.replaced moves c.args.inodes.now.geometry.inodes old entry refl refl graph c.if-parent-new_parent.true)
+    let s = c.edit_parent.new.inodes in
+    subst (PreparesEdit disk s.geometry.inodes (edits.Move c.args.name entry) (v k) (loaded s k)) c.in_default.is (c.in_ok-planned.ensures.edit.found disk settled v known.0)
+    (accepts_move disk settled v c.args.parent c.args.name.now entry.number k entry.name.now c.args.replaced known.1 c.args.inodes.now.geometry.inodes old entry refl refl volume c.if-parent-new_parent.true))
 
-pub returns-then-parent-new_parent-clause-does : goal.returns-then-parent-new_parent-clause-does
-returns-then-parent-new_parent-clause-does g c = λ disk settled v stands moves.
+pub returns-then-parent-new_parent : goal.returns-then-parent-new_parent
+returns-then-parent-new_parent g c =
+    let planned = c.in_ok-planned.ensures in
     let entry : Entry = record { number = c.args.entry.now.number; name = c.args.entry.now.name } in
     let d = c.args.parent in
     let x = c.args.name.now in
@@ -36,13 +42,24 @@ returns-then-parent-new_parent-clause-does g c = λ disk settled v stands moves.
     let step = c.args.replaced in
     let s = c.edit_parent.new.inodes in
     let f = names_after (edits.Move c.args.name entry) in
-    let edit = subst (λ o. IfSome o (EditsIn disk s.geometry.inodes f (v k) (loaded s k))) c.in-Some.is (c.in_ok-planned.ensures.edits disk settled v stands) in
+    prepares planned.edit.looks
+    (record {
+      first = subst (λ o. IfSome o (λ e. TakesUpdate s k (updates.Names e))) c.in-Some.is planned.ready;
+      next = alone_some s step c.requires.alone (some_at_hand_behind step planned.edit c.requires.at_hand);
+      last = tt;
+      next_apart = alone_some_apart k step c.requires.alone;
+      last_apart = tt;
+      apart = apart_none step;
+    })
+    (λ disk settled v known.
+    let moves = known.1 in
+    let edit = subst (PreparesEdit disk s.geometry.inodes (edits.Move c.args.name entry) (v k) (loaded s k)) c.in-Some.is (planned.edit.found disk settled v known.0) in
     let between = with_node k (with_names f (v k)) v in
     let target = entries v k y in
     record {
       between = between;
       second = released target between;
-      first = (with_names f (v k), (f, edit, refl), refl);
+      first = (with_names f (v k), (f, edit.0, refl), refl);
       next = steps_on disk settled v d x n k y step moves s between (λ m other apart. node_other k m (with_names f (v k)) v apart);
       last =
           ap (λ (to : Option ℕ). with_entry k y to (with_entry d x None (released target v))) moves.there
@@ -50,13 +67,16 @@ returns-then-parent-new_parent-clause-does g c = λ disk settled v stands moves.
       next_beside = beside_new disk settled v d x n k y step moves;
       last_beside = tt;
       beside = beside_none step;
-    }
+    })
+    (λ disk settled v known.
+    let edit = subst (PreparesEdit disk s.geometry.inodes (edits.Move c.args.name entry) (v k) (loaded s k)) c.in-Some.is (planned.edit.found disk settled v known.0) in
+    can_rename disk settled v d x n k y step known.1 (found_directory (v k) edit.1.mode edit.1.names edit.1.is) c.requires.entry.name known.2 (λ none. inl c.if-parent-new_parent.true))
 
-pub returns-in_err-both-clause-damaged : goal.returns-in_err-both-clause-damaged
-returns-in_err-both-clause-damaged g c = λ disk settled v stands is. c.in_err-both.ensures.damaged disk settled v stands (search rules)
+pub returns-in_err-both : goal.returns-in_err-both
+returns-in_err-both g c = stops c.from_residual-in_err-both.result c.from_residual-in_err-both.ensures.1 c.in_err-both.ensures.both.looks c.in_err-both.ensures.both.damaged
 
-pub returns-in_default-both-clause-refused : goal.returns-in_default-both-clause-refused
-returns-in_default-both-clause-refused g c = λ disk settled v stands graph moves can.
+pub returns-in_default-both : goal.returns-in_default-both
+returns-in_default-both g c = refuses c.in_ok-both.ensures.both.looks (λ disk settled v known volume can.
     let entry : Entry = record { number = c.args.entry.now.number; name = c.args.entry.now.name } in
     let d = c.args.parent in
     let x = c.args.name.now in
@@ -66,26 +86,13 @@ returns-in_default-both-clause-refused g c = λ disk settled v stands graph move
       | then-is_some w ↦ w.wanted-is ∙ wanted_some entry step (sym c.is_some.ensures ∙ w.if-is_some.true)
       | else-is_some w ↦ w.wanted-is ∙ wanted_none entry step (sym c.is_some.ensures ∙ w.if-is_some.false)
     ] in
-    let accepts = accepts_other disk settled v d x entry.number k entry.name.now step moves c.args.inodes.now.geometry.inodes entry refl graph c.if-parent-new_parent.false can in
-    subst (λ o. IfNone o (Accepts c.if-is_some.wanted (v k) → IsTrue (is_directory_node (v d)) → ⊥)) c.in_default-both.is (c.in_ok-both.ensures.refused disk settled v stands)
-    (subst (λ (e : NameEdit). Accepts e (v k)) (sym wanted) accepts) (named_directory (v d) x entry.number moves.there)
+    let accepts = accepts_other disk settled v d x entry.number k entry.name.now step known.1 c.args.inodes.now.geometry.inodes entry refl volume c.if-parent-new_parent.false can in
+    subst (λ o. IfNone o (Accepts c.if-is_some.wanted (v k) → IsTrue (is_directory_node (v d)) → ⊥)) c.in_default-both.is (c.in_ok-both.ensures.both.found disk settled v known.0).1
+    (subst (λ (e : NameEdit). Accepts e (v k)) (sym wanted) accepts) (named_directory (v d) x entry.number known.1.there))
 
-pub returns-clause-applies : goal.returns-clause-applies
-returns-clause-applies g c = λ disk settled v stands moves.
-    let entry : Entry = record { number = c.args.entry.now.number; name = c.args.entry.now.name } in
-    let k = c.args.new_parent in
-    let step = c.args.replaced in
-    let wanted : c.if-is_some.wanted ≡ edit_for entry step = elim c.if-is_some.branch [
-      | then-is_some w ↦ w.wanted-is ∙ wanted_some entry step (sym c.is_some.ensures ∙ w.if-is_some.true)
-      | else-is_some w ↦ w.wanted-is ∙ wanted_none entry step (sym c.is_some.ensures ∙ w.if-is_some.false)
-    ] in
-    let accepts = subst (λ o. IfSome o (λ _. Accepts c.if-is_some.wanted (v k))) c.in-Some-both.is (c.in_ok-both.ensures.accepts disk settled v stands) in
-    can_rename disk settled v c.args.parent c.args.name.now entry.number k entry.name.now step moves
-    (found_directory (v k) accepts.mode accepts.names accepts.is) c.requires.entry.name
-    (λ none. inr (takes_accepted v k entry c.requires.entry.name (subst (λ (e : NameEdit). Accepts e (v k)) (wanted ∙ ap (edit_for entry) none) accepts)))
-
-pub returns-clause-does : goal.returns-clause-does
-returns-clause-does g c = λ disk settled v stands moves.
+pub returns : goal.returns
+returns g c =
+    let both = c.in_ok-both.ensures in
     let entry : Entry = record { number = c.args.entry.now.number; name = c.args.entry.now.name } in
     let d = c.args.parent in
     let x = c.args.name.now in
@@ -101,9 +108,21 @@ returns-clause-does g c = λ disk settled v stands moves.
     ] in
     let f = with_name y (Some n) in
     let h = with_name x None in
-    let adds = subst (λ o. IfSome o (λ e. EditsIn disk s.geometry.inodes (names_after c.if-is_some.wanted) (v k) (loaded s k) e.0)) c.in-Some-both.is (c.in_ok-both.ensures.adds disk settled v stands) in
-    let removes = subst (λ o. IfSome o (λ e. EditsIn disk s.geometry.inodes h (v d) (loaded s d) e.1)) c.in-Some-both.is (c.in_ok-both.ensures.removes disk settled v stands) in
-    let added = subst (λ j. EditsIn disk s.geometry.inodes j (v k) (loaded s k) c.in-Some-both.added) (ap names_after wanted ∙ names_for entry step) adds in
+    let ready = subst (λ o. IfSome o (λ e. TakesUpdate s k (updates.Names e.0) × TakesUpdate s d (updates.Names e.1))) c.in-Some-both.is both.ready in
+    prepares both.both.looks
+    (record {
+      first = ready.0;
+      next = ready.1;
+      last = alone_some s step c.requires.alone (some_at_hand_behind step both.both c.requires.at_hand);
+      next_apart = other;
+      last_apart = alone_some_apart k step c.requires.alone;
+      apart = alone_some_apart d step c.requires.alone;
+    })
+    (λ disk settled v known.
+    let moves = known.1 in
+    let edits_are = subst (λ o. IfSome o (λ e. PreparesEdit disk s.geometry.inodes c.if-is_some.wanted (v k) (loaded s k) (Some e.0) × EditsIn disk s.geometry.inodes h (v d) (loaded s d) e.1)) c.in-Some-both.is
+    (both.both.found disk settled v known.0).0 in
+    let added = subst (λ j. EditsIn disk s.geometry.inodes j (v k) (loaded s k) c.in-Some-both.added) (ap names_after wanted ∙ names_for entry step) edits_are.0.0 in
     let between = with_node k (with_names f (v k)) v in
     let stays : between d ≡ v d = node_other k d (with_names f (v k)) v other in
     let second = with_node d (with_names h (between d)) between in
@@ -112,7 +131,7 @@ returns-clause-does g c = λ disk settled v stands moves.
       between = between;
       second = second;
       first = (with_names f (v k), (f, added, refl), refl);
-      next = (with_names h (between d), (h, subst (λ (o : Option Node). EditsIn disk s.geometry.inodes h o (loaded s d) c.in-Some-both.removed) (sym stays) removes, refl), refl);
+      next = (with_names h (between d), (h, subst (λ (o : Option Node). EditsIn disk s.geometry.inodes h o (loaded s d) c.in-Some-both.removed) (sym stays) edits_are.1, refl), refl);
       last =
           subst (λ (u : Volume). StepsSome disk settled s second step u)
           (sym (
@@ -123,4 +142,10 @@ returns-clause-does g c = λ disk settled v stands moves.
       next_beside = other;
       last_beside = beside_new disk settled v d x n k y step moves;
       beside = beside_old disk settled v d x n k y step moves;
-    }
+    })
+    (λ disk settled v known.
+    let edits_are = subst (λ o. IfSome o (λ e. PreparesEdit disk s.geometry.inodes c.if-is_some.wanted (v k) (loaded s k) (Some e.0) × EditsIn disk s.geometry.inodes h (v d) (loaded s d) e.1)) c.in-Some-both.is
+    (both.both.found disk settled v known.0).0 in
+    let accepts = edits_are.0.1 in
+    can_rename disk settled v d x n k y step known.1 (found_directory (v k) accepts.mode accepts.names accepts.is) c.requires.entry.name known.2
+    (λ none. inr (takes_accepted v k entry c.requires.entry.name (subst (λ (e : NameEdit). Accepts e (v k)) (wanted ∙ ap (edit_for entry) none) accepts))))

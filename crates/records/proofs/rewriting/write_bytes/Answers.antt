@@ -16,13 +16,13 @@ returns-then-is_empty-clause-answers g c = λ disk settled v table stands volume
     puts_nothing (tree_of v table) c.args.number c.args.offset c.args.bytes.now also none
 
 pub returns-in_err-planned-clause-damaged : goal.returns-in_err-planned-clause-damaged
-returns-in_err-planned-clause-damaged g c = λ disk settled v stands is. c.in_err-planned.ensures.damaged disk settled v stands (search rules)
+returns-in_err-planned-clause-damaged g c = λ disk settled v stands is. c.in_err-planned.ensures.prepares.damaged disk settled v stands (search rules)
 
 pub returns-in_default-clause-answers : goal.returns-in_default-clause-answers
 returns-in_default-clause-answers g c = λ disk settled v table stands volume mounted is also.
     let inodes = c.args.inodes.now.geometry.inodes in
     let bytes = c.args.bytes.now in
-    let not = subst (λ o. IfNone o (Applies inodes v (write c.args.number c.args.offset bytes) → ⊥)) c.in_default.is (c.in_ok-planned.ensures.refused disk settled v stands volume) in
+    let not = subst (λ o. IfNone o (Applies inodes v (write c.args.number c.args.offset bytes) → ⊥)) c.in_default.is (c.in_ok-planned.ensures.prepares.refused disk settled v stands volume) in
     let none : is_empty bytes ≡ false = first_of (search rules, grind (arith, nat_tests)) in
     let some = filled bytes none in
     let past : nat_lt GREATEST_FILE (c.args.offset + length bytes) ≡ true = elim (cases_lt GREATEST_FILE (c.args.offset + length bytes)) [
@@ -33,7 +33,7 @@ returns-in_default-clause-answers g c = λ disk settled v table stands volume mo
 
 pub returns-clause-does : goal.returns-clause-does
 returns-clause-does g c = λ disk settled v stands.
-    subst (λ o. IfSome o (λ x. Does disk settled c.prepare_bytes.new.inodes v x (write c.args.number c.args.offset c.args.bytes.now))) c.in-Some.is (c.in_ok-planned.ensures.does disk settled v stands)
+    subst (λ o. IfSome o (λ x. Does disk settled c.prepare_bytes.new.inodes v x (write c.args.number c.args.offset c.args.bytes.now))) c.in-Some.is (c.in_ok-planned.ensures.prepares.does disk settled v stands)
 
 pub returns-clause-answers : goal.returns-clause-answers
 returns-clause-answers g c = λ disk settled v table stands volume mounted is.
@@ -41,7 +41,7 @@ returns-clause-answers g c = λ disk settled v table stands volume mounted is.
     let n = c.args.number in
     let bytes = c.args.bytes.now in
     let change = write n c.args.offset bytes in
-    let can = subst (λ o. IfSome o (λ _. Applies inodes v change)) c.in-Some.is (c.in_ok-planned.ensures.applies disk settled v stands) in
+    let can = subst (λ o. IfSome o (λ _. Applies inodes v change)) c.in-Some.is (c.in_ok-planned.ensures.prepares.applies disk settled v stands) in
     let told = rewritten inodes v table volume mounted c.records_change_trees.ensures n (Write c.args.offset c.args.bytes) can in (
       told.0,
       λ also. puts_all (tree_of v table) n c.args.offset bytes also (tree_of (applied change v) table) (some_bytes bytes can.1) (within_limit GREATEST_FILE (c.args.offset + length bytes) can.3) told.1,

@@ -7,7 +7,8 @@ use Rattle.descriptors.specs.Tables.{table_of}
 use Rattle.records.specs.Steps.{IsAtHand}
 use Rattle.records.specs.Sweeping.{OpensFiles, without_file}
 use Rattle.records.proofs.FollowLaws.{fits_all, still_files, swept_opens}
-use Rattle.records.proofs.SweepLaws.{all_swept, number_at_hand, some_stays_at_hand}
+use Rattle.records.proofs.StandLaws.{some_stays_at_hand}
+use Rattle.records.proofs.SweepLaws.{all_swept, number_at_hand}
 use Rattle.records.proofs.sweeping.commit_swept.Goals as goal
 
 pub settle-requires : goal.settle-requires
@@ -20,7 +21,7 @@ settle-requires-2 c =
     let one = c.settle.ensures in
     let p = c.args.prepared in
     subst (λ (n : Option ℕ). IfSome n (IsAtHand t)) (sym c.number_of-next.ensures)
-    (number_at_hand t p.next (some_stays_at_hand s t one.geometry one.keeps p.next one.stays c.commit.ensures.at_hand.next))
+    (number_at_hand t p.next (some_stays_at_hand s t one.geometry one.keeps one.stays p.next c.commit.ensures.at_hand.next))
 
 pub settle-requires-3 : goal.settle-requires-3
 settle-requires-3 c =
@@ -31,7 +32,7 @@ settle-requires-3 c =
     let two = c.settle-2.ensures in
     let p = c.args.prepared in
     subst (λ (n : Option ℕ). IfSome n (IsAtHand u)) (sym c.number_of-last.ensures)
-    (number_at_hand u p.last (some_stays_at_hand t u two.geometry two.keeps p.last two.stays (some_stays_at_hand s t one.geometry one.keeps p.last one.stays c.commit.ensures.at_hand.last)))
+    (number_at_hand u p.last (some_stays_at_hand t u two.geometry two.keeps two.stays p.last (some_stays_at_hand s t one.geometry one.keeps one.stays p.last c.commit.ensures.at_hand.last)))
 
 pub returns-clause-volume : goal.returns-clause-volume
 returns-clause-volume c = λ count disk settled v change stands does mounted.

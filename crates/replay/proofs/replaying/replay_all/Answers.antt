@@ -1,11 +1,11 @@
-use Rattle.std.proofs.Common.{◌∙◌, ℕ, length, refl, rules, arith, length-append, sym, subst, ap}
+use Rattle.std.proofs.Common.{◌∙◌, ◌∷◌, [], ℕ, length, refl, rules, arith, length-append, sym, subst, ap}
 use Rattle.layout.specs.Log.{record_of}
 use Rattle.layout.specs.Limits.{Sizes}
 use Rattle.model.specs.Records.{Applies, applied}
 use Rattle.model.specs.Volumes.{Volume}
 use Rattle.replay.specs.Volumes.{HasVolume, bodies_of}
 use Rattle.replay.proofs.Errors.{passed}
-use Rattle.replay.proofs.RecordLaws.{none_done, one_more, all_done}
+use Rattle.replay.proofs.RecordLaws.{all_done, none_behind, none_done, one_in_front, one_more}
 use Rattle.replay.proofs.replaying.replay_all.Goals as goal
 
 pub loop-body-init : goal.loop-body-init
@@ -14,6 +14,7 @@ loop-body-init g c = record {
   geometry = refl;
   shorter = search rules;
   leads = λ disk settled v w changes shows has leads. (v, has, none_done c.args.inodes.now.geometry.inodes c.args.records.now changes v w leads);
+  held = λ bodies left holds. (bodies, holds);
 }
 
 pub loop-body-preserved : goal.loop-body-preserved
@@ -32,6 +33,9 @@ loop-body-preserved g c = record {
       (subst (λ (n : ℕ). HasVolume n disk settled c.loop-body.inodes back.0) (sym read.count) back.1) next.0.spells
       (subst (λ (s : Sizes). Applies s.inodes back.0 next.0.change) (sym sizes) next.0.applies) in
       (applied next.0.change back.0, subst (λ (n : ℕ). HasVolume n disk settled c.replay_one.new.inodes (applied next.0.change back.0)) read.count did, next.1);
+  held = λ bodies left holds.
+      c.loop-body.invariant.held (c.in-Open.body.now ∷ bodies) left
+      (one_in_front c.in-Open.body.now c.loop-body.rest.now c.in-Open.after.now bodies left c.in-Open.ensures.0 c.in-Open.ensures.1 holds);
 }
 
 pub returns-in-Closed-clause-replays : goal.returns-in-Closed-clause-replays
@@ -39,6 +43,9 @@ returns-in-Closed-clause-replays g c disk settled v w changes shows has leads =
     let back = c.loop-body.invariant.leads disk settled v w changes shows has leads in
     let done = all_done c.args.inodes.now.geometry.inodes c.args.records.now c.loop-body.rest.now changes back.0 w back.2 leads.held c.in-Closed.ensures in
     (done.0, subst (λ (u : Volume). HasVolume (g.B.Blocks.count c.args.blocks.now) disk settled c.loop-body.inodes u) (sym done.1) back.1)
+
+pub returns-in-Closed-clause-holds : goal.returns-in-Closed-clause-holds
+returns-in-Closed-clause-holds g c = c.loop-body.invariant.held [] (length c.loop-body.rest.now) (none_behind c.loop-body.rest.now c.in-Closed.ensures)
 
 pub returns-in-Malformed-clause-replays : goal.returns-in-Malformed-clause-replays
 returns-in-Malformed-clause-replays g c disk settled v w changes shows has leads =

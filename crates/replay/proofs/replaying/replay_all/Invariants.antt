@@ -3,6 +3,7 @@ use Rattle.layout.specs.Record.{Change}
 use Rattle.layout.specs.declared.inode.Inode.{Inode}
 use Rattle.model.specs.Volumes.{Volume}
 use Rattle.buffers.specs.Reads.{HasOnlyRead}
+use Rattle.oplog.specs.SavedLog.{HoldsLeaving}
 use Rattle.replay.specs.Volumes.{HasVolume, LeadTo}
 use Rattle.replay.proofs.RecordLaws.{IsLeft}
 use Rattle.replay.proofs.replaying.replay_all.Given as goal
@@ -16,6 +17,7 @@ invariant-loop-body g l = record {
       → HasVolume (g.B.Blocks.count l.fn.blocks) disk settled l.fn.inodes v → LeadTo l.fn.inodes.geometry.inodes l.records changes v w
       → (now : Volume) × HasVolume (g.B.Blocks.count l.fn.blocks) disk settled l.inodes now
       × IsLeft l.fn.inodes.geometry.inodes l.records l.rest changes now w;
+  held : (bodies : List (List ℕ)) (left : ℕ) → HoldsLeaving l.rest bodies left → (all : List (List ℕ)) × HoldsLeaving l.records all left;
 }
 
 abbrev pub decreases-loop-body : goal.decreases-loop-body

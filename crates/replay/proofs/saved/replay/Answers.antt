@@ -24,3 +24,6 @@ returns-clause-replays g c disk settled v w changes nvram shows has tells saves 
     let end = c.in_ok-log.ensures.replays disk settled v w changes nvram (told.reads.same disk shows) (subst (λ (k : ℕ). HasVolume k disk settled c.pledged_by.new.inodes v) (sym told.reads.count) before.1) tells
     (subst (λ (s : Sizes). SavesRecords s.inodes nvram c.args.saved changes v w) (sym told.geometry) saves) in
     (end.0, subst (λ (k : ℕ). HasVolume k disk settled c.replay_records.new.inodes (without_nameless w)) told.reads.count end.1, before.0)
+
+pub returns-clause-holds : goal.returns-clause-holds
+returns-clause-holds g c nvram tells = c.in_ok-log.ensures.holds nvram tells

@@ -1,4 +1,4 @@
-use Rattle.std.proofs.Common.{◌∙◌, ℕ, List, rules, sym, subst}
+use Rattle.std.proofs.Common.{◌∙◌, ◌++◌, ℕ, List, rules, sym, subst}
 use Rattle.layout.specs.Limits.{Sizes}
 use Rattle.model.specs.Records.{without_nameless}
 use Rattle.oplog.specs.LogEnd.{LogEnd}
@@ -65,3 +65,12 @@ returns-clause-replays g c disk settled v w changes nvram shows has tells saves 
           (subst (StandsBehind (end_of c.args.saved c.in_ok-first_left.first_left c.in_ok-second_left.second_left) c.args.saved.generation nvram) (sym (joined_bodies changes both.one both.two both.joined)) stands),
       subst (λ (k : ℕ). HasVolume k disk settled c.drop_nameless.new.inodes (without_nameless w)) (again.count ∙ read.count) swept,
     )
+
+pub returns-clause-holds : goal.returns-clause-holds
+returns-clause-holds g c nvram tells =
+    let one = c.in_ok-first_left.ensures.holds in
+    let two = c.in_ok-second_left.ensures.holds in
+    let first = subst (λ (l : List ℕ). HoldsLeaving l one.0 c.in_ok-first_left.first_left) c.first_records.ensures.records one.1 in
+    let second = subst (λ (l : List ℕ). HoldsLeaving l two.0 c.in_ok-second_left.second_left) c.second_records.ensures.records two.1 in
+    let stands = tells.ends one.0 two.0 c.in_ok-first_left.first_left c.in_ok-second_left.second_left first second in
+    (one.0 ++ two.0, subst (λ (e : LogEnd). StandsBehind e c.args.saved.generation nvram (one.0 ++ two.0)) (sym c.into_log.ensures.end) stands)

@@ -8,7 +8,7 @@ pub returns-then-was_cut : goal.returns-then-was_cut
 returns-then-was_cut g c =
     let cut = λ (b : Bool). FnReturnsAt g.C.Fn c.args.was_cut.now c.apply-reply.new.self.system.blocks.station b in (
       c.apply-reply.result,
-      record { lasts = c.apply-reply.ensures.lasts; goes_on = c.apply-reply.ensures.goes_on },
+      record { lasts = c.apply-reply.ensures.answers.epoch.lasts; goes_on = c.apply-reply.ensures.goes_on },
       cut_ends c.apply-reply.result cut _ _ c.show_cut.result
           (subst (λ s. FnReturnsAt g.C.Fn c.args.was_cut.now s true) c.station.ensures (says_at g.C.Fn c.was_cut.ensures c.if-was_cut.true)) c.show_cut.ensures,
     )
@@ -17,13 +17,13 @@ pub returns-in-Err : goal.returns-in-Err
 returns-in-Err g c =
     let cut = λ (b : Bool). FnReturnsAt g.C.Fn c.args.was_cut.now c.apply-reply.new.self.system.blocks.station b in (
       c.apply-reply.result,
-      record { lasts = c.apply-reply.ensures.lasts; goes_on = c.apply-reply.ensures.goes_on },
+      record { lasts = c.apply-reply.ensures.answers.epoch.lasts; goes_on = c.apply-reply.ensures.goes_on },
       reply_ends c.apply-reply.result cut _ _ c.in-Err.status c.in-Err.ensures,
     )
 
 pub returns-in-Ok : goal.returns-in-Ok
 returns-in-Ok g c = (
   c.apply-reply.result,
-  record { lasts = c.apply-reply.ensures.lasts; goes_on = c.apply-reply.ensures.goes_on },
+  record { lasts = c.apply-reply.ensures.answers.epoch.lasts; goes_on = c.apply-reply.ensures.goes_on },
   (refl, subst (λ s. FnReturnsAt g.C.Fn c.args.was_cut.now s false) c.station.ensures (says_at g.C.Fn c.was_cut.ensures c.if-was_cut.false), c.in-Ok.ensures),
 )

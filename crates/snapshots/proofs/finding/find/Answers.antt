@@ -4,7 +4,8 @@ use Rattle.std.proofs.lemmas.List.{get_or_read}
 use Rattle.layout.specs.declared.pointer.Pointer.TheVariants.{Hole}
 use Rattle.images.specs.Roots.{slot}
 use Rattle.snapshots.proofs.NamedLaws.{finds, none_named}
-use Rattle.snapshots.proofs.SlotLaws.{at_slot, none_has}
+use Rattle.loading.proofs.SnapshotLaws.{at_slot}
+use Rattle.snapshots.proofs.SlotLaws.{none_has}
 use Rattle.snapshots.proofs.finding.find.Goals as goal
 
 pub returns-in_err-found-clause-damaged : goal.returns-in_err-found-clause-damaged

@@ -3,7 +3,7 @@ use Rattle.std.specs.Prelude.{slice_index_or}
 use Rattle.std.proofs.lemmas.List.{get_or_read}
 use Rattle.layout.specs.declared.pointer.Pointer.TheVariants.{Hole}
 use Rattle.images.specs.Roots.{slot}
-use Rattle.snapshots.proofs.SlotLaws.{at_slot}
+use Rattle.loading.proofs.SnapshotLaws.{at_slot}
 use Rattle.snapshots.proofs.taking.newest.Goals as goal
 
 pub returns-in_err-next-clause-damaged : goal.returns-in_err-next-clause-damaged

@@ -16,7 +16,7 @@ returns-clause-tests g c disk shows v pairs holds s same =
 pub returns-clause-may : goal.returns-clause-may
 returns-clause-may g c disk shows v pairs holds =
     let none : named c.args.name.now pairs ≡ None = not_found disk c.args.root.now c.args.name.now pairs c.in_ok-found.found (search rules) (c.in_ok-found.ensures.finds disk shows v pairs holds) in
-    may_take disk c.args.root.now c.requires.root c.args.name.now v pairs holds _ c.in_ok-last.last (search rules) (search rules) (search rules) none
+    may_take disk c.args.root.now c.requires.root c.args.name.now v pairs holds _ c.in_ok-last.last (search rules) (search rules) (search rules) (search rules) none
     (c.in_ok-last.ensures.is disk (c.find.ensures.reads.same disk shows)) refl
 
 pub returns-clause-fits : goal.returns-clause-fits

@@ -4,4 +4,4 @@ use Rattle.system.proofs.laws.served_states_open.Goals as goal
 pub returns : goal.returns
 returns g c = λ table s serves.
     let f = c.args.system.now in
-    laws.all_open c.cuts_open.ensures (g.S.Station.meaning f.blocks.station) f.blocks.kept f.root f.slot f.inodes f.map f.log f.pledged f.files table s serves f.sectors f.half
+    laws.all_open c.cuts_open.ensures serves f.sectors f.half

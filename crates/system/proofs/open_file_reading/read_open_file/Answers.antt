@@ -7,8 +7,8 @@ use Rattle.model.specs.declared.command.Command.TheVariants as command
 use Rattle.model.specs.declared.reply.Reply.{Reply}
 use Rattle.model.specs.Trees.{Description}
 use Rattle.model.specs.Volumes.{Volume}
-use Rattle.calls.specs.Getting.{data_reply}
-use Rattle.calls.specs.Stating.{stat_reply}
+use Rattle.calls.specs.Get.{data_reply}
+use Rattle.calls.specs.Stat.{stat_reply}
 use Rattle.files.specs.Opened.{tree_with}
 use Rattle.std.proofs.Common.{◌≡◌}
 use Rattle.system.specs.OpenFiles.{WouldLead}

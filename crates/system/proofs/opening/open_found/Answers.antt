@@ -1,4 +1,4 @@
-use Rattle.std.proofs.Common.{◌+◌, ◌*◌, arith, sym, subst}
+use Rattle.std.proofs.Common.{◌+◌, ◌*◌, arith, refl, sym, subst}
 use Rattle.station.specs.Images.{Unchanged}
 use Rattle.station.specs.Moments.{Goes, IsSameStation}
 use Rattle.layout.specs.Places.{blocks_of}
@@ -50,3 +50,6 @@ returns-in-Err-clause-serves g c honest just of first last snapshots changes hol
     let is_disk : IsDisk m (blocks_of i.disk) = λ place within. is_block i.disk place (λ k below. sized.sector (8 * place + k) (omega arith)) in
     let shows = c.new-blocks.ensures.shows (blocks_of i.disk) honest is_disk in
     c.in-Err.ensures.has (blocks_of i.disk) i.nvram first last snapshots changes shows of.saved holds
+
+pub returns-in-Ok-clause-found : goal.returns-in-Ok-clause-found
+returns-in-Ok-clause-found g c = (refl, refl, c.in-Ok.ensures.log)

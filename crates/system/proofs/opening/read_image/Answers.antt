@@ -1,6 +1,7 @@
-use Rattle.std.proofs.Common.{◌∙◌}
+use Rattle.std.proofs.Common.{◌∙◌, ℕ, subst}
 use Rattle.images.specs.Roots.{whole}
 use Rattle.loading.specs.Images.{inodes_of}
+use Rattle.system.specs.Opening.{HoldsSome}
 use Rattle.system.proofs.OpenLaws.{has_image, has_volume, not_damaged, read_refused, saves}
 use Rattle.system.proofs.opening.read_image.Goals as goal
 
@@ -42,3 +43,7 @@ returns-clause-has g c disk nvram first last snapshots changes shows tells holds
     has_image disk r nvram first last snapshots changes c.args.saved c.requires.half c.requires.generation holds inodes
     (record { inodes = c.replay.new.inodes; map = c.in_ok-map.field-0.map; log = c.in_ok-log.field-0.log; pledged = c.in_ok-log.field-0.pledged })
     (g.B.Blocks.count c.load.new.blocks) (c.in_ok-log.ensures.geometry ∙ geometry) count loaded did.0 did.1 did.2 geometry
+
+pub returns-clause-log : goal.returns-clause-log
+returns-clause-log g c nvram tells =
+    subst (λ (n : ℕ). HoldsSome c.in_ok-log.field-0.log n nvram) c.requires.generation (c.in_ok-log.ensures.holds nvram tells)

@@ -4,7 +4,7 @@ use Rattle.model.specs.Reading.{gets}
 use Rattle.model.specs.Room.{nothing}
 use Rattle.model.specs.Volumes.{tree_of}
 use Rattle.model.specs.declared.command.PathCall.TheVariants as path_calls
-use Rattle.calls.specs.Getting.{data_reply}
+use Rattle.calls.specs.Get.{data_reply}
 use Rattle.system.proofs.ServingLaws.{as_asked}
 use Rattle.system.proofs.reading.read.Goals as goal
 

@@ -10,7 +10,7 @@ clear_set-requires-clause-room c = λ has.
     let first = c.args.self.now.parts.items in
     let old = c.loop-j.self.parts.items in
     let j = c.loop-j.j in
-    let within : j < length old = omega (arith, c.loop-j-test.true, c.len-j-end.ensures, c.loop-j.invariant.settled.count, c.touch_set.ensures.settled.count) in
+    let within : j < length old = omega (arith, c.loop-j-test.true, c.len-j-end.ensures, c.loop-j.invariant.settled.count, c.touch_set.ensures.room.settled.count) in
     let here = same_sets first old j c.args.set (λ i small. c.loop-j.invariant.rest (1024 * j + i) (omega arith)) (set_of_part old j c.args.set c.index_mut.result.now within c.index_mut.ensures.value has) in
     sym (ap (λ (q : Part). q.is_touched) (get_or_default old j no_part c.index_mut.result.now within ∙ sym c.index_mut.ensures.value)) ∙ c.loop-j.invariant.touched j within here
 
@@ -19,7 +19,7 @@ loop-j-preserved c =
     let so_far = c.loop-j.invariant in
     let old = c.loop-j.self.parts.items in
     let j = c.loop-j.j in
-    let within : j < length old = omega (arith, c.loop-j-test.true, c.len-j-end.ensures, so_far.settled.count, c.touch_set.ensures.settled.count) in
+    let within : j < length old = omega (arith, c.loop-j-test.true, c.len-j-end.ensures, so_far.settled.count, c.touch_set.ensures.room.settled.count) in
     let p = c.index_mut.result.now in
     let new = c.clear_set.new.self in
     let same : (i : ℕ) → (slice_index_or (slice_set old j new) i no_part).is_touched ≡ (slice_index_or old i no_part).is_touched = λ i.

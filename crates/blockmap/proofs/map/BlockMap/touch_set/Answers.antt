@@ -30,17 +30,17 @@ loop-j-preserved c =
       | then-has_set+in_ok-touch w ↦
           let here = same_sets first old c.loop-j.j c.args.set (λ i small. so_far.entries (1024 * c.loop-j.j + i)) (set_of_part old c.loop-j.j c.args.set c.index.result.now within c.index.ensures (w.if-has_set.ensures.0 refl)) in
           rw w.self-is record {
-            count = w.touch.ensures.count ∙ so_far.count;
-            next = w.touch.ensures.next ∙ so_far.next;
+            count = w.touch.ensures.room.count ∙ so_far.count;
+            next = w.touch.ensures.room.next ∙ so_far.next;
             settled = record {
-              count = w.touch.ensures.settled.count ∙ so_far.settled.count;
-              settled = λ b. w.touch.ensures.settled.settled b ∙ so_far.settled.settled b;
-              touched = λ j was. w.touch.ensures.settled.touched j (so_far.settled.touched j was);
+              count = w.touch.ensures.room.settled.count ∙ so_far.settled.count;
+              settled = λ b. w.touch.ensures.room.settled.settled b ∙ so_far.settled.settled b;
+              touched = λ j was. w.touch.ensures.room.settled.touched j (so_far.settled.touched j was);
             };
-            entries = λ b. w.touch.ensures.entries b ∙ so_far.entries b;
+            entries = λ b. w.touch.ensures.room.entries b ∙ so_far.entries b;
             touched = λ j below has. elim (cases_eq j c.loop-j.j) [
               | inl is ↦ subst (IsTouched w.touch.new.self.parts.items) (sym is) w.in_ok-touch.ensures.touched
-              | inr other ↦ w.touch.ensures.settled.touched j (so_far.touched j (omega arith) has)
+              | inr other ↦ w.touch.ensures.room.settled.touched j (so_far.touched j (omega arith) has)
             ];
             few = λ j touched. elim (cases_eq j c.loop-j.j) [
               | inl is ↦ inr (subst (HasSetAt c.args.set first) (sym is) here)

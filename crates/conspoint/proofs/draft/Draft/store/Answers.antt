@@ -1,8 +1,11 @@
-use Rattle.conspoint.proofs.DraftLemmas.{grows_twice}
+use Rattle.conspoint.proofs.StepLemmas.{places_err, places_ok, stores_then}
 use Rattle.conspoint.proofs.draft.Draft.store.Goals as goal
 
-pub returns-in_err-put-clause-grows : goal.returns-in_err-put-clause-grows
-returns-in_err-put-clause-grows c = grows_twice c.args.self.now c.reserve.new.self c.put.new.self c.reserve.ensures.grows c.put.ensures.grows
+pub returns-in_err-put-clause-step : goal.returns-in_err-put-clause-step
+returns-in_err-put-clause-step c =
+    places_err c.from_residual-in_err-put.result c.from_residual-in_err-put.ensures.1
+    (stores_then c.in_ok-place.ensures.step c.in_ok-place.ensures.taken c.in_err-put.ensures.step c.put.ensures.others)
 
-pub returns-clause-grows : goal.returns-clause-grows
-returns-clause-grows c = grows_twice c.args.self.now c.reserve.new.self c.put.new.self c.reserve.ensures.grows c.put.ensures.grows
+pub returns-clause-step : goal.returns-clause-step
+returns-clause-step c =
+    places_ok (stores_then c.in_ok-place.ensures.step c.in_ok-place.ensures.taken c.in_ok-put.ensures.step c.put.ensures.others)

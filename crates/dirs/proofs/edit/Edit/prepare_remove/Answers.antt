@@ -5,14 +5,14 @@ use Rattle.layout.specs.Directory.{HoldsEntries}
 use Rattle.dirs.specs.Entries.{without}
 use Rattle.layout.specs.DirectoryNames.{HoldNames}
 use Rattle.dirs.specs.Directory.{with_name}
-use Rattle.dirs.specs.Edits.{IsPlaced, IsReached, edited_block}
+use Rattle.dirs.specs.Edits.{IsNamePlace, IsReached, edited_block}
 use Rattle.dirs.proofs.HoldLaws.{removed_nothing, hold_removed}
 use Rattle.buffers.proofs.ReadLaws.{reads_err, reads_more, reads_ok}
 use Rattle.dirs.proofs.edit.Edit.prepare_remove.Goals as goal
 
 pub returns-in_default-clause-removed : goal.returns-in_default-clause-removed
 returns-in_default-clause-removed g c = λ disk names shows has.
-    let placed = subst (IsPlaced has.entries c.args.self.now.count c.args.name.now) c.in_default.is (c.in_ok-place.ensures.placed disk has.entries shows has.holds) in
+    let placed = subst (IsNamePlace has.entries c.args.self.now.count c.args.name.now) c.in_default.is (c.in_ok-place.ensures.placed disk has.entries shows has.holds) in
     removed_nothing c.args.inodes c.args.self.now.count (edited_block disk c.args.file.now c.args.self.now) names c.args.name.now has placed
 
 pub returns-in_err-self-clause-damaged : goal.returns-in_err-self-clause-damaged
@@ -28,7 +28,7 @@ returns-then-count-eq0-clause-removed g c = λ disk names shows has.
     let old = edited_block disk c.args.file.now c.args.self.now in
     let i = c.in-Some.place.block in
     let last : i + 1 ≡ c.args.self.now.count = omega arith in
-    let placed = subst (IsPlaced has.entries c.args.self.now.count c.args.name.now) c.in-Some.is (c.in_ok-place.ensures.placed disk has.entries shows has.holds) in
+    let placed = subst (IsNamePlace has.entries c.args.self.now.count c.args.name.now) c.in-Some.is (c.in_ok-place.ensures.placed disk has.entries shows has.holds) in
     let located = c.in_ok-place.ensures.reads.same disk shows in
     let copied = c.in_ok-copy.ensures.bytes disk located in
     let left = c.remove.ensures.holds (has.entries i) (subst (λ b. HoldsEntries c.args.inodes b (has.entries i)) (sym copied) (has.holds i placed.0)) in
@@ -52,7 +52,7 @@ returns-clause-removed g c = λ disk names shows has.
     let old = edited_block disk c.args.file.now c.args.self.now in
     let new = edited_block disk c.put.new.file c.put.new.self in
     let i = c.in-Some.place.block in
-    let placed = subst (IsPlaced has.entries c.args.self.now.count c.args.name.now) c.in-Some.is (c.in_ok-place.ensures.placed disk has.entries shows has.holds) in
+    let placed = subst (IsNamePlace has.entries c.args.self.now.count c.args.name.now) c.in-Some.is (c.in_ok-place.ensures.placed disk has.entries shows has.holds) in
     let copied = c.in_ok-copy.ensures.bytes disk (c.in_ok-place.ensures.reads.same disk shows) in
     let left = c.remove.ensures.holds (has.entries i) (subst (λ b. HoldsEntries c.args.inodes b (has.entries i)) (sym copied) (has.holds i placed.0)) in
     subst (λ n. HoldNames c.args.inodes n new (with_name c.args.name.now None names)) (sym c.in_ok-put.ensures.count)

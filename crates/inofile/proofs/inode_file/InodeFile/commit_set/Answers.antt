@@ -8,52 +8,36 @@ use Rattle.inofile.proofs.SlotLaws.{contents_with, each_slot, other_changes, oth
 use Rattle.inofile.proofs.VolumeLaws.{Notes, note_maps, set_stands, own_stay}
 use Rattle.inofile.proofs.inode_file.InodeFile.commit_set.Goals as goal
 
-pub returns-clause-stays : goal.returns-clause-stays
-returns-clause-stays c = let up = puts c.args.self.now.slots c.insert.new.self c.args.number (Changed c.args.object) c.insert.result c.insert.ensures.updates c.insert.ensures.absent c.requires.room in
-    λ n known. each_slot c.args.self.now.slots c.insert.new.self c.args.number (Some (Changed c.args.object)) up IsKnownSlot tt n known
-
-pub returns-clause-keeps : goal.returns-clause-keeps
-returns-clause-keeps c = let up = puts c.args.self.now.slots c.insert.new.self c.args.number (Changed c.args.object) c.insert.result c.insert.ensures.updates c.insert.ensures.absent c.requires.room in
-    λ n room. each_slot c.args.self.now.slots c.insert.new.self c.args.number (Some (Changed c.args.object)) up IsSome refl n room
-
-pub returns-clause-set : goal.returns-clause-set
-returns-clause-set c = let up = puts c.args.self.now.slots c.insert.new.self c.args.number (Changed c.args.object) c.insert.result c.insert.ensures.updates c.insert.ensures.absent c.requires.room in
-    λ disk settled n. contents_with c.args.self.now.slots c.insert.new.self c.args.number (Some (Changed c.args.object)) up disk settled (option_map (content_of disk) c.args.object) refl n
-
-pub returns-clause-loaded : goal.returns-clause-loaded
-returns-clause-loaded c = let up = puts c.args.self.now.slots c.insert.new.self c.args.number (Changed c.args.object) c.insert.result c.insert.ensures.updates c.insert.ensures.absent c.requires.room in
-    ap slot_object up.1
-
-pub returns-clause-rest : goal.returns-clause-rest
-returns-clause-rest c = let up = puts c.args.self.now.slots c.insert.new.self c.args.number (Changed c.args.object) c.insert.result c.insert.ensures.updates c.insert.ensures.absent c.requires.room in
-    other_objects c.args.self.now.slots c.insert.new.self c.args.number (Some (Changed c.args.object)) up
-
-pub returns-clause-changed : goal.returns-clause-changed
-returns-clause-changed c = let up = puts c.args.self.now.slots c.insert.new.self c.args.number (Changed c.args.object) c.insert.result c.insert.ensures.updates c.insert.ensures.absent c.requires.room in
-    subst IsChangedSlot (sym up.1) tt
-
-pub returns-clause-others : goal.returns-clause-others
-returns-clause-others c = let up = puts c.args.self.now.slots c.insert.new.self c.args.number (Changed c.args.object) c.insert.result c.insert.ensures.updates c.insert.ensures.absent c.requires.room in
-    other_changes c.args.self.now.slots c.insert.new.self c.args.number (Some (Changed c.args.object)) up
-
-pub returns-clause-volume : goal.returns-clause-volume
-returns-clause-volume c = λ count disk settled v node is object. record {
-  inodes = is.inodes;
-  mapped = note_maps disk c.args.self.now.geometry.inodes (settled c.args.number) c.args.self.now.numbers.bytes.items c.note.new.self.bytes.items v c.args.number c.args.object node is.mapped
-      (subst (λ (b : Bool). Notes c.args.number b c.args.self.now.numbers.bytes.items c.note.new.self.bytes.items) c.is_some.ensures
-      (record { here = c.note.ensures.here; own = c.note.ensures.own; others = c.note.ensures.others })) object;
-  own = own_stay c.args.number node v c.requires.low is.own;
-  objects = set_stands disk c.args.self.now.geometry.inodes settled c.args.self.now.slots c.insert.new.self c.args.number (Some (Changed c.args.object))
-      (puts c.args.self.now.slots c.insert.new.self c.args.number (Changed c.args.object) c.insert.result c.insert.ensures.updates c.insert.ensures.absent c.requires.room) v c.args.object node refl (λ n ne. is.objects n) object;
-}
-
-pub returns-clause-back : goal.returns-clause-back
-returns-clause-back c = λ was count disk settled v node is object. record {
-  inodes = is.inodes;
-  mapped = note_maps disk c.args.self.now.geometry.inodes (settled c.args.number) c.args.self.now.numbers.bytes.items c.note.new.self.bytes.items v c.args.number c.args.object node is.mapped
-      (subst (λ (b : Bool). Notes c.args.number b c.args.self.now.numbers.bytes.items c.note.new.self.bytes.items) c.is_some.ensures
-      (record { here = c.note.ensures.here; own = c.note.ensures.own; others = c.note.ensures.others })) object;
-  own = own_stay c.args.number node v c.requires.low is.own;
-  objects = set_stands disk c.args.self.now.geometry.inodes settled c.args.self.now.slots c.insert.new.self c.args.number (Some (Changed c.args.object))
-      (puts c.args.self.now.slots c.insert.new.self c.args.number (Changed c.args.object) c.insert.result c.insert.ensures.updates c.insert.ensures.absent c.requires.room) v c.args.object node refl is.others object;
-}
+pub returns : goal.returns
+returns c =
+    let old = c.args.self.now.slots in
+    let new = c.insert.new.self in
+    let number = c.args.number in
+    let object = c.args.object in
+    let before = c.args.self.now.numbers.bytes.items in
+    let after = c.note.new.self.bytes.items in
+    let up = puts old new number (Changed object) c.insert.result c.insert.ensures.updates c.insert.ensures.absent c.requires.room in
+    let noted = subst (λ (b : Bool). Notes number b before after) c.is_some.ensures (record { here = c.note.ensures.here; own = c.note.ensures.own; others = c.note.ensures.others }) in
+    record {
+      geometry = refl;
+      file = refl;
+      stays = λ n known. each_slot old new number (Some (Changed object)) up IsKnownSlot tt n known;
+      keeps = λ n room. each_slot old new number (Some (Changed object)) up IsSome refl n room;
+      set = λ disk settled n. contents_with old new number (Some (Changed object)) up disk settled (option_map (content_of disk) object) refl n;
+      volume = λ count disk settled v node is stands. record {
+        inodes = is.inodes;
+        mapped = note_maps disk c.args.self.now.geometry.inodes (settled number) before after v number object node is.mapped noted stands;
+        own = own_stay number node v c.requires.low is.own;
+        objects = set_stands disk c.args.self.now.geometry.inodes settled old new number (Some (Changed object)) up v object node refl (λ n ne. is.objects n) stands;
+      };
+      back = λ was count disk settled v node is stands. record {
+        inodes = is.inodes;
+        mapped = note_maps disk c.args.self.now.geometry.inodes (settled number) before after v number object node is.mapped noted stands;
+        own = own_stay number node v c.requires.low is.own;
+        objects = set_stands disk c.args.self.now.geometry.inodes settled old new number (Some (Changed object)) up v object node refl is.others stands;
+      };
+      loaded = ap slot_object up.1;
+      rest = other_objects old new number (Some (Changed object)) up;
+      changed = subst IsChangedSlot (sym up.1) tt;
+      others = other_changes old new number (Some (Changed object)) up;
+    }

@@ -6,8 +6,9 @@ use Rattle.images.specs.Soundness.{IsSoundFile, IsOrdinary}
 use Rattle.inofile.specs.Objects.{StandsFor}
 use Rattle.inofile.specs.Settled.{held_content, settled_content}
 use Rattle.inofile.specs.declared.inode_file.Slot.TheVariants.{Loaded}
-use Rattle.inofile.proofs.VolumeLaws.{all_stand, load_stands, load_same, ordinary_kind, unknown_stands}
+use Rattle.inofile.proofs.VolumeLaws.{all_stand, load_stands, load_same, unknown_stands}
 use Rattle.inofile.proofs.inode_file.InodeFile.load.Goals as goal
+use Rattle.images.proofs.KindLaws.{ordinary_kind}
 
 pub returns-in-Ok-clause-volume : goal.returns-in-Ok-clause-volume
 returns-in-Ok-clause-volume g c = λ disk settled v shows is.

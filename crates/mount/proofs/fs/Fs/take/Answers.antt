@@ -1,40 +1,30 @@
-use Rattle.std.proofs.Common.{◌≡◌, inl, Option, ap, subst, arith}
-use Rattle.std.specs.Prelude.{Err}
+use Rattle.std.proofs.Common.{arith, subst, ◌≢◌, Option}
+use Rattle.std.specs.Prelude.{IfSome}
 use Rattle.model.specs.declared.command.Command.TheVariants as command
 use Rattle.model.specs.declared.errno.Errno.{Errno}
-use Rattle.oplog.specs.LogEnd.{LogEnd}
+use Rattle.model.specs.declared.errno.Errno.TheVariants.{EIO}
 use Rattle.system.specs.Settling.{TestsTake}
-use Rattle.mount.proofs.AttemptLemmas.{after_stay, answered_as, change_needs, not_answered, own_refusal, reads_fail_nothing, stays_read, still_going, young_on}
+use Rattle.mount.proofs.AnswerLemmas.{behind_that, glance_fails, glance_keeps, glance_refuses}
+use Rattle.mount.proofs.AttemptLemmas.{change_needs, still_going}
 use Rattle.mount.proofs.fs.Fs.take.Goals as goal
 
-pub returns-in-Ok-None-clause-applied : goal.returns-in-Ok-None-clause-applied
-returns-in-Ok-None-clause-applied g c s serves young =
+pub returns-in-Ok-None : goal.returns-in-Ok-None
+returns-in-Ok-None g c =
     let told = c.in-Ok-None.ensures in
-    let looked = told.glances in
     let asked = command.SnapTake c.args.name.now in
-    let served = serves.kept (still_going _ s serves c.requires) in
-    let stays = stays_read _ _ s serves c.requires looked.reads.same c.requires (looked.serves s served) looked.reads.goes (c.served_states_open.ensures s.tree.descriptors s served) in
-    let would = subst (λ (o : Option Errno). TestsTake s c.args.name.now o) c.in-Ok-None.field-0-is (told.tests s served) in
-    let same : c.refuses_take.new.self.log.epoch ≡ c.args.self.now.system.log.epoch = ap (λ (l : LogEnd). l.epoch) looked.log in
-    after_stay c.args.self.now _ _ s asked c.take_tested.result serves c.requires stays c.take_tested.ensures.uses looked.counted looked.reads.writes
-    (c.take_tested.ensures.applied s stays.serves (young_on c.args.self.now.system.log.epoch _ (omega (arith, same)) young) (change_needs s asked (λ no. no) would))
+    behind_that 2 0 2 _ _ c.args.self.now _ _ asked c.take_tested.result (omega arith) c.requires
+    (glance_keeps {G = g.S.Station} c.args.self.now _ c.requires c.requires (λ t here. c.served_states_open.ensures t.tree.descriptors t here) _ told.glances) c.take_tested.ensures
+    (λ s serves _. change_needs s asked (λ no. no)
+    (subst (λ (o : Option Errno). TestsTake s c.args.name.now o) c.in-Ok-None.field-0-is (told.tests s (serves.kept (still_going _ s serves c.requires))))) (λ s serves _ no. no)
 
-pub returns-in-Ok-Some-clause-applied : goal.returns-in-Ok-Some-clause-applied
-returns-in-Ok-Some-clause-applied g c s serves young =
+pub returns-in-Ok-Some : goal.returns-in-Ok-Some
+returns-in-Ok-Some g c =
     let told = c.in-Ok-Some.ensures in
-    let looked = told.glances in
-    let served = serves.kept (still_going _ s serves c.requires) in
-    own_refusal _ _ s serves c.requires (command.SnapTake c.args.name.now) (λ no. no)
-    (stays_read _ _ s serves c.requires looked.reads.same c.requires (looked.serves s served) looked.reads.goes (c.served_states_open.ensures s.tree.descriptors s served)) c.in-Ok-Some.errno looked.counted looked.reads.writes
-    (subst (λ (o : Option Errno). TestsTake s c.args.name.now o) c.in-Ok-Some.field-0-is (told.tests s served))
+    glance_refuses {G = g.S.Station} c.args.self.now _ c.requires c.requires (λ t here. c.served_states_open.ensures t.tree.descriptors t here) 2 (command.SnapTake c.args.name.now) (λ s no. no) _
+    c.in-Ok-Some.errno told.glances (subst (λ (o : Option Errno). IfSome o (λ errno. errno ≢ EIO)) c.in-Ok-Some.field-0-is told.own)
+    (λ s served. subst (λ (o : Option Errno). TestsTake s c.args.name.now o) c.in-Ok-Some.field-0-is (told.tests s served))
 
-pub returns-in-Err-clause-applied : goal.returns-in-Err-clause-applied
-returns-in-Err-clause-applied g c s serves young =
-    let looked = c.in-Err.ensures.glances in
-    let reads = looked.reads in
-    let asked = command.SnapTake c.args.name.now in
-    let served = serves.kept (still_going _ s serves c.requires) in
-    answered_as _ _ s asked _ _ c.errno_of_call.ensures
-    (not_answered _ _ s serves c.requires asked c.in-Err.error (λ no. no) looked.refuses.0 (reads_fail_nothing c.in-Err.error _ looked.refuses.1 c.requires)
-    (record { same = reads.same; reads = reads.reads; writes = inl reads.writes }) (λ _. reads.writes) (λ is. looked.not_read (ap (λ e. Err e) is)) (λ is. absurd (looked.refuses.1 is))
-    (λ is. looked.damaged s served (ap (λ e. Err e) is)) (λ _. reads.goes) (λ _. looked.serves s served) (λ is. absurd (looked.refuses.1 is)) (c.served_states_open.ensures s.tree.descriptors s served))
+pub returns-in-Err : goal.returns-in-Err
+returns-in-Err g c =
+    glance_fails {G = g.S.Station} c.args.self.now _ c.requires c.requires (λ t here. c.served_states_open.ensures t.tree.descriptors t here) 2 (command.SnapTake c.args.name.now) (λ s no. no)
+    c.in-Err.error _ c.errno_of_call.ensures c.in-Err.ensures.glances (c.args.self.now.runs c.requires)

@@ -1,3 +1,4 @@
+use Rattle.model.specs.Records.{work_of}
 use Rattle.std.proofs.Common.{◌∙◌, inr, Ok, ap, sym, refl}
 use Rattle.std.specs.Prelude.{Err}
 use Rattle.layout.specs.Places.{blocks_of}
@@ -25,8 +26,11 @@ returns-in-Ok-Err g c =
     let told = c.in-Ok-Err.ensures in
     let looks = told.looks in
     answered fs _ (command.Path c.args.call.now) (looks.reads.reads fs.blocks (reads_none m)) refl
-    (λ s served. looked_on _ _ _ _ _ _ _ _ _ _ _ _ _ s fs.sectors (looks.reads.reads fs.blocks (reads_none m)) looks.reads.same
-    (λ disk settled v shows over. (looks.kept disk settled v (record { shows = shows; volume = over })).volume) served)
+    (λ s served. (
+      looked_on {G = g.S.Station} fs c.prepare.new.blocks c.prepare.new.inodes (looks.reads.reads fs.blocks (reads_none m)) looks.reads.same
+          (λ disk settled v shows over. (looks.kept disk settled v (record { shows = shows; volume = over })).volume) s served,
+      refl,
+    ))
     (λ s served. inr (λ x. x)) _ looks.reads.counted (own_refusal _ c.in-Ok-Err.errno c.in-Ok-Err.field-0-is told.own) (λ s served. c.served_states_open.ensures s.tree.descriptors s served)
     (λ s served.
     let its = its_volume {G = g.S.Station} fs s served in
@@ -41,8 +45,11 @@ returns-in-Ok-Ok-None g c =
     let told = c.in-Ok-Ok-None.ensures in
     let looks = told.looks in
     answered fs _ (command.Path c.args.call.now) (looks.reads.reads fs.blocks (reads_none m)) refl
-    (λ s served. looked_on _ _ _ _ _ _ _ _ _ _ _ _ _ s fs.sectors (looks.reads.reads fs.blocks (reads_none m)) looks.reads.same
-    (λ disk settled v shows over. (looks.kept disk settled v (record { shows = shows; volume = over })).volume) served)
+    (λ s served. (
+      looked_on {G = g.S.Station} fs c.prepare.new.blocks c.prepare.new.inodes (looks.reads.reads fs.blocks (reads_none m)) looks.reads.same
+          (λ disk settled v shows over. (looks.kept disk settled v (record { shows = shows; volume = over })).volume) s served,
+      refl,
+    ))
     (λ s served. inr (λ x. x)) _ looks.reads.counted done_is_no_fault (λ s served. c.served_states_open.ensures s.tree.descriptors s served)
     (λ s served.
     let its = its_volume {G = g.S.Station} fs s served in
@@ -57,8 +64,11 @@ returns g c =
     let told = c.in-Err.ensures in
     let looks = told.looks in
     unanswered_read fs _ (command.Path c.args.call.now) (looks.reads.reads fs.blocks (reads_none m)) refl
-    (λ s served. looked_on _ _ _ _ _ _ _ _ _ _ _ _ _ s fs.sectors (looks.reads.reads fs.blocks (reads_none m)) looks.reads.same
-    (λ disk settled v shows over. (looks.kept disk settled v (record { shows = shows; volume = over })).volume) served)
+    (λ s served. (
+      looked_on {G = g.S.Station} fs c.prepare.new.blocks c.prepare.new.inodes (looks.reads.reads fs.blocks (reads_none m)) looks.reads.same
+          (λ disk settled v shows over. (looks.kept disk settled v (record { shows = shows; volume = over })).volume) s served,
+      refl,
+    ))
     (λ s served x. x) c.in-Err.error _ c.call_error.ensures looks.reads.device
     (λ s served is.
     let its = its_volume {G = g.S.Station} fs s served in
@@ -78,26 +88,26 @@ returns-in-Ok g c =
     let reads : ReadsOn m mid = looks.reads.reads fs.blocks (reads_none m) in
     let change = change_of c.record.result in
     let before = λ (s : State) (served : ServesState {G = g.S.Station} fs s).
-    looked_on m mid fs.blocks.kept blocks.kept fs.root fs.slot fs.inodes inodes fs.map fs.log fs.pledged fs.files s.tree.descriptors s fs.sectors reads looks.reads.same
-    (λ disk sets v shows over. (looks.kept disk sets v (record { shows = shows; volume = over })).volume) served in
+    looked_on {G = g.S.Station} fs blocks inodes reads looks.reads.same (λ disk sets v shows over. (looks.kept disk sets v (record { shows = shows; volume = over })).volume) s served in
     let made = λ (s : State) (served : ServesState {G = g.S.Station} fs s).
     let its = its_volume {G = g.S.Station} fs s served in
     changing_told {G = g.S.Station} fs s served c.args.call.now _ c.in-Ok-Ok-Some.changing change (c.in-Ok-Ok-Some.field-0-is ∙ ap Ok c.in-Ok-Ok-Some.field-0-0-is) c.record.ensures.says c.record.ensures.is
     (told.answers d settled served.running s.tree.descriptors (record { shows = served.shows; volume = its.0 }) its.1 served.mounted) in
-    logged {G = g.S.Station} fs c.log.new.self mid (command.Path c.args.call.now) Done reads looks.reads.counted c.log.ensures.epoch
+    logged {G = g.S.Station} fs c.log.new.self mid (command.Path c.args.call.now) Done reads looks.reads.counted c.log.ensures.log.0
     (λ s served. c.served_states_open.ensures s.tree.descriptors s served) (λ s served x. x)
     (λ s served. record {
       after = _;
-      work = (made s served).work;
+      work = work_of served.running change;
       step = (made s served).step;
       leaves = c.log.ensures.any_moment s.tree.descriptors s (before s served) (made s served).advances;
     })
-    c.in-Ok.field-0 done_is_no_fault c.in-Ok.ensures.writes c.in-Ok.ensures.runs
+    c.in-Ok.field-0 change (λ s served. refl) done_is_no_fault (λ errno is. cc) c.in-Ok.ensures.writes c.in-Ok.ensures.log.1
     (λ s served.
     let its = its_volume {G = g.S.Station} fs s served in
-    (c.in-Ok.ensures.done s.tree.descriptors s (before s served) (made s served).advances
+    let behind = c.in-Ok.ensures.done s.tree.descriptors s (before s served) (made s served).advances
     (changing_over m mid fs.root inodes served.running _ c.in-Ok-Ok-Some.changing change (c.in-Ok-Ok-Some.field-0-is ∙ ap Ok c.in-Ok-Ok-Some.field-0-0-is) c.record.ensures.says (sym (reads.goes served.honest).seen)
-    (told.does d settled served.running (record { shows = served.shows; volume = its.0 })))).0)
+    (told.does d settled served.running (record { shows = served.shows; volume = its.0 }))) in
+    (behind.serves, behind.records))
 
 pub returns-in-Ok-Ok-Some : goal.returns-in-Ok-Ok-Some
 returns-in-Ok-Ok-Some g c =
@@ -113,26 +123,25 @@ returns-in-Ok-Ok-Some g c =
     let reads : ReadsOn m mid = looks.reads.reads fs.blocks (reads_none m) in
     let change = change_of c.record.result in
     let before = λ (s : State) (served : ServesState {G = g.S.Station} fs s).
-    looked_on m mid fs.blocks.kept blocks.kept fs.root fs.slot fs.inodes inodes fs.map fs.log fs.pledged fs.files s.tree.descriptors s fs.sectors reads looks.reads.same
-    (λ disk sets v shows over. (looks.kept disk sets v (record { shows = shows; volume = over })).volume) served in
+    looked_on {G = g.S.Station} fs blocks inodes reads looks.reads.same (λ disk sets v shows over. (looks.kept disk sets v (record { shows = shows; volume = over })).volume) s served in
     let made = λ (s : State) (served : ServesState {G = g.S.Station} fs s).
     let its = its_volume {G = g.S.Station} fs s served in
     changing_told {G = g.S.Station} fs s served c.args.call.now _ c.in-Ok-Ok-Some.changing change (c.in-Ok-Ok-Some.field-0-is ∙ ap Ok c.in-Ok-Ok-Some.field-0-0-is) c.record.ensures.says c.record.ensures.is
     (told.answers d settled served.running s.tree.descriptors (record { shows = served.shows; volume = its.0 }) its.1 served.mounted) in
     let failed = c.in-Err-log.ensures in
-    not_logged {G = g.S.Station} fs c.log.new.self mid (command.Path c.args.call.now) Done reads looks.reads.counted c.log.ensures.epoch
+    not_logged {G = g.S.Station} fs c.log.new.self mid (command.Path c.args.call.now) Done reads looks.reads.counted c.log.ensures.log.0
     (λ s served. c.served_states_open.ensures s.tree.descriptors s served) (λ s served x. x)
     (λ s served. record {
       after = _;
-      work = (made s served).work;
+      work = work_of served.running change;
       step = (made s served).step;
       leaves = c.log.ensures.any_moment s.tree.descriptors s (before s served) (made s served).advances;
     })
     c.in-Err-log.error c.log_error.result c.log_error.ensures failed.writes
     (λ is.
-    let same = failed.refused is in (
+    let same = failed.refused.1 is in (
       ap (λ (b : Buffers g.row.S.Denot). g.S.Station.meaning b.station) (sym same.0),
       same.1,
-      λ s served. serves_same {G = g.S.Station} fs c.log.new.self blocks inodes s same.0 c.log.ensures.root c.log.ensures.slot failed.inodes c.log.ensures.map same.1 failed.pledged failed.files (before s served),
+      λ s served. serves_same {G = g.S.Station} fs c.log.new.self blocks inodes s same.0 failed.refused.0 same.1 (before s served),
     ))
     (λ is empty. short_fits {G = g.S.Station} fs change empty c.record.ensures.short (failed.full is))

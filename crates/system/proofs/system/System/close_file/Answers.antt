@@ -24,10 +24,14 @@ returns-in-Ok-close g c =
     let d = blocks_of mid.seen.disk in
     let reads = looks.reads.reads fs.blocks (reads_none m) in
     let before = λ (s : State) (served : ServesState {G = g.S.Station} fs s).
-    looked_on m mid fs.blocks.kept c.prepare_close.new.blocks.kept fs.root fs.slot fs.inodes c.prepare_close.new.inodes fs.map fs.log fs.pledged fs.files s.tree.descriptors s fs.sectors reads looks.reads.same
-    (λ disk settled v shows over. (looks.kept disk settled v (record { shows = shows; volume = over })).volume) served in
+    looked_on {G = g.S.Station} fs c.prepare_close.new.blocks c.prepare_close.new.inodes reads looks.reads.same
+    (λ disk settled v shows over. (looks.kept disk settled v (record { shows = shows; volume = over })).volume) s served in
     answered_leading fs _ (command.Close fd) reads refl
-    (λ s served. close_sure {G = g.S.Station} c.named_files_have_paths.ensures fs s served fd) Done looks.reads.counted done_is_no_fault
+    (λ s served.
+    let its = its_volume {G = g.S.Station} fs s served in
+    close_sure {G = g.S.Station} c.named_files_have_paths.ensures fs s served fd _
+    (c.in-Ok.ensures.still (blocks_of m.seen.disk) (inodes_of (whole (blocks_of m.seen.disk) fs.root).active) served.running (record { shows = served.shows; volume = its.0 }) its.1
+    (subst (λ (t : ℕ → Option Description). IsMounted served.running t) served.opened served.mounted) served.fits)) Done looks.reads.counted done_is_no_fault
     (λ s served. c.served_states_open.ensures s.tree.descriptors s served)
     (λ s served.
     let now = before s served in
@@ -48,10 +52,14 @@ returns-in-Err-close g c =
     let d = blocks_of mid.seen.disk in
     let reads = looks.reads.reads fs.blocks (reads_none m) in
     let before = λ (s : State) (served : ServesState {G = g.S.Station} fs s).
-    looked_on m mid fs.blocks.kept c.prepare_close.new.blocks.kept fs.root fs.slot fs.inodes c.prepare_close.new.inodes fs.map fs.log fs.pledged fs.files s.tree.descriptors s fs.sectors reads looks.reads.same
-    (λ disk settled v shows over. (looks.kept disk settled v (record { shows = shows; volume = over })).volume) served in
+    looked_on {G = g.S.Station} fs c.prepare_close.new.blocks c.prepare_close.new.inodes reads looks.reads.same
+    (λ disk settled v shows over. (looks.kept disk settled v (record { shows = shows; volume = over })).volume) s served in
     answered_leading fs _ (command.Close fd) reads refl
-    (λ s served. close_sure {G = g.S.Station} c.named_files_have_paths.ensures fs s served fd) (Refused c.in-Err-close.errno) looks.reads.counted (own_refusal {T = Unit {0}} (Err c.in-Err-close.errno) c.in-Err-close.errno refl c.in-Err-close.ensures.own)
+    (λ s served.
+    let its = its_volume {G = g.S.Station} fs s served in
+    close_sure {G = g.S.Station} c.named_files_have_paths.ensures fs s served fd _
+    (c.in-Ok.ensures.still (blocks_of m.seen.disk) (inodes_of (whole (blocks_of m.seen.disk) fs.root).active) served.running (record { shows = served.shows; volume = its.0 }) its.1
+    (subst (λ (t : ℕ → Option Description). IsMounted served.running t) served.opened served.mounted) served.fits)) (Refused c.in-Err-close.errno) looks.reads.counted (own_refusal {T = Unit {0}} (Err c.in-Err-close.errno) c.in-Err-close.errno refl c.in-Err-close.ensures.own)
     (λ s served. c.served_states_open.ensures s.tree.descriptors s served)
     (λ s served.
     let now = before s served in
@@ -70,8 +78,11 @@ returns-in-Err g c =
     let told = c.in-Err.ensures in
     let looks = told.looks in
     unanswered_read fs _ (command.Close c.args.fd) (looks.reads.reads fs.blocks (reads_none m)) refl
-    (λ s served. looked_on _ _ _ _ _ _ _ _ _ _ _ _ _ s fs.sectors (looks.reads.reads fs.blocks (reads_none m)) looks.reads.same
-    (λ disk settled v shows over. (looks.kept disk settled v (record { shows = shows; volume = over })).volume) served)
+    (λ s served. (
+      looked_on {G = g.S.Station} fs c.prepare_close.new.blocks c.prepare_close.new.inodes (looks.reads.reads fs.blocks (reads_none m)) looks.reads.same
+          (λ disk settled v shows over. (looks.kept disk settled v (record { shows = shows; volume = over })).volume) s served,
+      refl,
+    ))
     (λ s served.
     let its = its_volume {G = g.S.Station} fs s served in
     nameless_not_sure {G = g.S.Station} c.named_files_have_paths.ensures fs s served c.args.fd

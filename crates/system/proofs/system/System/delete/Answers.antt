@@ -77,7 +77,7 @@ returns-in-Ok-point_with g c =
     let name = c.as_bytes.result.now in
     let found = c.in-Some.found in
     let made = c.in-Ok-point_with.ensures in
-    settles fs new mid _ (command.SnapDelete c.args.name.now) reads told.reads.counted made.uses made.written made.reads made.log
+    settles fs new mid _ (command.SnapDelete c.args.name.now) reads told.reads.counted made.unlogged made.counted made.log
     (λ s served any.
     let over = stays_read {G = g.S.Station} fs c.find.new.blocks s reads told.reads.same served in
     let after = without {G = g.S.Station} fs s name served in
@@ -89,9 +89,9 @@ returns-in-Ok-point_with g c =
       after = after;
       need = nothing;
       step = λ room. subst (λ (n : Name). deletes s n Done after nothing) c.as_bytes.ensures (delete_step {G = g.S.Station} fs s name served _ is_found.1.listed);
-      covered = made.covered s.tree.descriptors s over (deleted found.slot name) (record { is = (name, refl); can = can });
+      covered = made.covered s.tree.descriptors s over after (deleted found.slot name, record { is = (name, refl); can = can }, refl);
       leaves = either_after m mid (meaning_of {G = g.S.Station} new) s after reads (c.served_states_open.ensures s.tree.descriptors s served)
-          (made.any_moment s.tree.descriptors s over (deleted found.slot name) (record { is = (name, refl); can = can }));
+          (made.any_moment s.tree.descriptors s over after (deleted found.slot name, record { is = (name, refl); can = can }, refl));
     }) _
 
 pub returns-in-Err-point_with : goal.returns-in-Err-point_with
@@ -109,8 +109,7 @@ returns-in-Err-point_with g c =
     let over = λ (s : State) (served : ServesState {G = g.S.Station} fs s). stays_read {G = g.S.Station} fs c.find.new.blocks s reads told.reads.same served in
     let step = λ (s : State) (served : ServesState {G = g.S.Station} fs s).
     delete_step {G = g.S.Station} fs s name served _ (finds g (goal.at.returns-in-Err-point_with g c).In-Some s served).1.listed in
-    not_settled fs new mid _ (command.SnapDelete c.args.name.now) reads told.reads.counted made.uses c.in-Err-point_with.error made.log made.written (λ is. made.device (ap (λ e. Err e) is))
-    (λ is. made.read (ap (λ e. Err e) is)) made.kept (λ s served refused. made.refused s.tree.descriptors s (over s served) refused)
+    not_settled fs new mid _ (command.SnapDelete c.args.name.now) reads told.reads.counted made.unlogged c.in-Err-point_with.error made.counted made.log made.kept (λ s served refused. made.refused s.tree.descriptors s (over s served) refused)
     (λ s served any is.
     let after = without {G = g.S.Station} fs s name served in
     let went = reads.goes served.honest in
@@ -123,8 +122,8 @@ returns-in-Err-point_with g c =
       need = nothing;
       step = λ room. subst (λ (n : Name). deletes s n Done after nothing) c.as_bytes.ensures (step s served);
       leaves = either_after m mid (meaning_of {G = g.S.Station} new) s after reads (c.served_states_open.ensures s.tree.descriptors s served)
-          (made.any_moment s.tree.descriptors s (over s served) (deleted found.slot name) (record { is = (name, refl); can = can }));
+          (made.any_moment s.tree.descriptors s (over s served) after (deleted found.slot name, record { is = (name, refl); can = can }, refl));
     })
-    (λ is. made.full (ap (λ e. Err e) is))
+    (λ is. (made.full (ap (λ e. Err e) is)).1)
     (λ s served room. (Done, without {G = g.S.Station} fs s name served, nothing, subst (λ (n : Name). deletes s n Done (without {G = g.S.Station} fs s name served) nothing) c.as_bytes.ensures (step s served), inr (tt, refl)))
     (λ s served is. made.damaged s.tree.descriptors s (over s served) (ap (λ e. Err e) is)) (λ s served is. made.last s.tree.descriptors s (over s served) (ap (λ e. Err e) is))

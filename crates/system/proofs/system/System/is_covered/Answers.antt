@@ -7,9 +7,9 @@ returns-then-has_empty_log-clause-all g c = λ table s serves yes.
     let m = g.S.Station.meaning f.blocks.station in
     let seen = g.met.S.Station.seen_may_be_left f.blocks.station serves.honest in
     let empty = c.has_empty_log.ensures.0 c.if-has_empty_log.true in
-    let none = laws.no_record m f.blocks.kept f.root f.slot f.inodes f.map f.log f.pledged f.files table s serves seen empty.epoch empty.end in (
-      laws.settled m f.blocks.kept f.root f.slot f.inodes f.map f.log f.pledged f.files table s serves c.new_roots_hold.ensures f.sizes c.unchanged_memory_is_settled.ensures (c.is_settled.ensures.0 yes),
-      laws.no_change m f.blocks.kept f.root f.slot f.inodes f.map f.log f.pledged f.files table s serves none,
+    let none = laws.no_record serves seen empty.epoch empty.end in (
+      laws.settled serves c.new_roots_hold.ensures f.sizes c.unchanged_memory_is_settled.ensures (c.is_settled.ensures.0 yes),
+      laws.no_change serves none,
     )
 
 pub returns-then-has_empty_log-clause-covers : goal.returns-then-has_empty_log-clause-covers
@@ -20,6 +20,6 @@ returns-then-has_empty_log-clause-covers g c = λ table s serves yes.
     let empty = c.has_empty_log.ensures.0 c.if-has_empty_log.true in
     record {
       serves = serves;
-      no_record = laws.no_record m f.blocks.kept f.root f.slot f.inodes f.map f.log f.pledged f.files table s serves seen empty.epoch empty.end;
-      held = laws.settled m f.blocks.kept f.root f.slot f.inodes f.map f.log f.pledged f.files table s serves c.new_roots_hold.ensures f.sizes c.unchanged_memory_is_settled.ensures (c.is_settled.ensures.0 yes);
+      no_record = laws.no_record serves seen empty.epoch empty.end;
+      held = laws.settled serves c.new_roots_hold.ensures f.sizes c.unchanged_memory_is_settled.ensures (c.is_settled.ensures.0 yes);
     }

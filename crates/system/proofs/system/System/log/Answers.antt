@@ -15,7 +15,7 @@ use Rattle.images.specs.Roots.{whole}
 use Rattle.loading.specs.Images.{inodes_of}
 use Rattle.records.specs.Prepared.{Does}
 use Rattle.system.specs.Images.{OpensTo}
-use Rattle.system.specs.Systems.{meaning_of, state_with}
+use Rattle.system.specs.Systems.{Parts, meaning_of, state_with}
 use Rattle.system.proofs.system.System.log.Goals as goal
 
 pub returns-then-ne-clause-any_moment : goal.returns-then-ne-clause-any_moment
@@ -33,8 +33,9 @@ returns-clause-done g c = λ table s serves advances does.
     let disk = blocks_of (meaning_of {G = g.S.Station} f).seen.disk in
     let settled = inodes_of (whole disk f.root).active in
     let count = f.root.geometry.blocks in
-    let same = sym c.log_record.ensures.inodes in
-    let files : f.files ≡ c.log_record.new.self.files = sym c.log_record.ensures.files in
+    let stays = c.log_record.ensures.stays.0 in
+    let same = sym (ap (λ (k : Parts). k.inodes) stays) in
+    let files : f.files ≡ c.log_record.new.self.files = sym (ap (λ (k : Parts). k.files) stays) in
     let opened : table ≡ table_of c.log_record.new.self.files = serves.opened ∙ ap table_of files in
     let after : (ℕ → Option Description) → Volume = λ t. swept t (applied change v) in
     let over = subst (λ (i : InodeFile). IsVolumeOf count disk settled i v) same serves.memory.stands in

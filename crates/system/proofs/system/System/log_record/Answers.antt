@@ -1,7 +1,9 @@
-use Rattle.std.proofs.Common.{Ok, Err, ◌≡◌, ◌+◌, length, ap, arith, sym, subst}
-use Rattle.std.specs.Prelude.{IsFalse}
+use Rattle.std.proofs.Common.{Ok, Err, ◌≡◌, ◌+◌, length, ap, arith, sym, subst, ◌⊎◌, ◌≢◌, inl, inr, refl}
+use Rattle.std.specs.Prelude.{IsFalse, IsErrOf}
 use Rattle.layout.specs.Record.{change_of}
 use Rattle.oplog.specs.LogEnd.{HasRoom, LogEnd, body_of, next_of}
+use Rattle.oplog.specs.declared.log.AppendError.{AppendError}
+use Rattle.oplog.specs.declared.log.AppendError.TheVariants.{Device, LogFull, NoMemory}
 use Rattle.system.proofs.LoggedLaws as laws
 use Rattle.system.proofs.RoomLaws.{had_room}
 use Rattle.system.proofs.system.System.log_record.Goals as goal
@@ -21,9 +23,15 @@ invariant_of-self-clause-few g c =
     let end : next_of c.append.new.self.end ≡ next_of f.log.end + 5 + length (body_of (change_of c.args.change.now)) = ap (λ (l : LogEnd). next_of l.end) c.in-Ok.ensures.end in
     omega (arith, f.few, c.cost_of-cost.ensures.few, end)
 
+-- an error that isn't the device's
+not_device : (e : AppendError) → e ≢ Device → IsErrOf {T = Unit {0}} (Err e) LogFull ⊎ IsErrOf {T = Unit {0}} (Err e) NoMemory
+not_device NoMemory other = inr refl
+not_device Device other = absurd (other refl)
+not_device LogFull other = inl refl
+
 pub returns-in-Err-clause-refused : goal.returns-in-Err-clause-refused
-returns-in-Err-clause-refused g c = λ is.
-    let same = c.in-Err.ensures.refused is in
+returns-in-Err-clause-refused g c = λ other.
+    let same = c.in-Err.ensures.refused (not_device c.in-Err.error other) in
     ((λ i. record c.args.self.now.blocks { station = same.0 i }), same.1)
 
 pub returns-in-Err-clause-any_moment : goal.returns-in-Err-clause-any_moment
@@ -31,28 +39,28 @@ returns-in-Err-clause-any_moment g c = λ table s serves advances.
     let f = c.args.self.now in
     let m = g.S.Station.meaning f.blocks.station in
     let change = change_of c.args.change.now in
-    laws.at_any_moment c.cuts_open.ensures c.records_lead_on.ensures m f.blocks.kept f.root f.slot f.inodes f.map f.log f.pledged f.files table s serves change advances f.sectors f.half
+    laws.at_any_moment c.cuts_open.ensures c.records_lead_on.ensures serves change advances f.sectors f.half
     (g.S.Station.meaning c.append.new.station)
     (c.append.ensures.any_moment f.root.generation serves.bodies
-    (laws.log_stands c.cuts_open.ensures c.records_lead_on.ensures m f.blocks.kept f.root f.slot f.inodes f.map f.log f.pledged f.files table s serves change advances))
+    (laws.log_stands c.cuts_open.ensures c.records_lead_on.ensures serves change advances))
 
 pub returns-in-Ok-clause-any_moment : goal.returns-in-Ok-clause-any_moment
 returns-in-Ok-clause-any_moment g c = λ table s serves advances.
     let f = c.args.self.now in
     let m = g.S.Station.meaning f.blocks.station in
     let change = change_of c.args.change.now in
-    laws.at_any_moment c.cuts_open.ensures c.records_lead_on.ensures m f.blocks.kept f.root f.slot f.inodes f.map f.log f.pledged f.files table s serves change advances f.sectors f.half
+    laws.at_any_moment c.cuts_open.ensures c.records_lead_on.ensures serves change advances f.sectors f.half
     (g.S.Station.meaning c.append.new.station)
     (c.append.ensures.any_moment f.root.generation serves.bodies
-    (laws.log_stands c.cuts_open.ensures c.records_lead_on.ensures m f.blocks.kept f.root f.slot f.inodes f.map f.log f.pledged f.files table s serves change advances))
+    (laws.log_stands c.cuts_open.ensures c.records_lead_on.ensures serves change advances))
 
 pub returns-in-Ok-clause-logged : goal.returns-in-Ok-clause-logged
 returns-in-Ok-clause-logged g c = λ table s serves advances.
     let f = c.args.self.now in
     let m = g.S.Station.meaning f.blocks.station in
     let change = change_of c.args.change.now in
-    laws.logged c.cuts_open.ensures c.records_lead_on.ensures m f.blocks.kept f.root f.slot f.inodes f.map f.log f.pledged f.files table s serves change advances (g.S.Station.meaning c.append.new.station) c.append.new.self
+    laws.logged c.cuts_open.ensures c.records_lead_on.ensures serves change advances (g.S.Station.meaning c.append.new.station) c.append.new.self
     c.append.ensures.disk c.append.ensures.writes.same
     (c.in-Ok.ensures.appended f.root.generation serves.bodies
-    (laws.log_stands c.cuts_open.ensures c.records_lead_on.ensures m f.blocks.kept f.root f.slot f.inodes f.map f.log f.pledged f.files table s serves change advances))
+    (laws.log_stands c.cuts_open.ensures c.records_lead_on.ensures serves change advances))
     (subst (λ (l : LogEnd). IsFalse l.is_stopped) (sym c.in-Ok.ensures.end) serves.goes) c.cost_of-cost.result c.cost_of-cost.ensures.cost

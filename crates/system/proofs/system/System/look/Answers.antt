@@ -17,8 +17,11 @@ returns-in-Ok g c =
     let told = c.in-Ok.ensures in
     let looks = told.looks in
     answered fs _ (command.Path c.args.call.now) (looks.reads.reads fs.blocks (reads_none m)) refl
-    (λ s served. looked_on _ _ _ _ _ _ _ _ _ _ _ _ _ s fs.sectors (looks.reads.reads fs.blocks (reads_none m)) looks.reads.same
-    (λ disk settled v shows over. (looks.kept disk settled v (record { shows = shows; volume = over })).volume) served)
+    (λ s served. (
+      looked_on {G = g.S.Station} fs c.read.new.blocks c.read.new.inodes (looks.reads.reads fs.blocks (reads_none m)) looks.reads.same
+          (λ disk settled v shows over. (looks.kept disk settled v (record { shows = shows; volume = over })).volume) s served,
+      refl,
+    ))
     (λ s served. inr (λ x. x)) _ looks.reads.counted told.no_fault (λ s served. c.served_states_open.ensures s.tree.descriptors s served)
     (λ s served.
     let its = its_volume {G = g.S.Station} fs s served in
@@ -33,8 +36,11 @@ returns-in-Err g c =
     let told = c.in-Err.ensures in
     let looks = told.looks in
     unanswered_read fs _ (command.Path c.args.call.now) (looks.reads.reads fs.blocks (reads_none m)) refl
-    (λ s served. looked_on _ _ _ _ _ _ _ _ _ _ _ _ _ s fs.sectors (looks.reads.reads fs.blocks (reads_none m)) looks.reads.same
-    (λ disk settled v shows over. (looks.kept disk settled v (record { shows = shows; volume = over })).volume) served)
+    (λ s served. (
+      looked_on {G = g.S.Station} fs c.read.new.blocks c.read.new.inodes (looks.reads.reads fs.blocks (reads_none m)) looks.reads.same
+          (λ disk settled v shows over. (looks.kept disk settled v (record { shows = shows; volume = over })).volume) s served,
+      refl,
+    ))
     (λ s served x. x) c.in-Err.error _ c.call_error.ensures looks.reads.device
     (λ s served is.
     let its = its_volume {G = g.S.Station} fs s served in

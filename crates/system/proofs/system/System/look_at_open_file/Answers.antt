@@ -1,4 +1,4 @@
-use Rattle.std.proofs.Common.{ℕ, Option, Err, ap, inr, refl, sym, subst}
+use Rattle.std.proofs.Common.{ℕ, Option, Err, ap, inr, refl, sym, subst, ◌≡◌}
 use Rattle.layout.specs.Places.{blocks_of}
 use Rattle.model.specs.Trees.{Description}
 use Rattle.model.specs.Volumes.{IsMounted}
@@ -7,7 +7,7 @@ use Rattle.images.specs.Roots.{whole}
 use Rattle.loading.specs.Images.{inodes_of}
 use Rattle.descriptors.specs.Tables.{table_of}
 use Rattle.descriptors.specs.declared.table.Descriptors.{Descriptors}
-use Rattle.system.specs.Systems.{IsServing, meaning_of}
+use Rattle.system.specs.Systems.{IsServing, meaning_of, parts_of}
 use Rattle.system.proofs.OpenFileLaws.{looking_not_sure, table_leads}
 use Rattle.system.proofs.ServingLaws.{answered_leading, its_volume, looked_on, unanswered_read}
 use Rattle.system.proofs.system.System.look_at_open_file.Goals as goal
@@ -28,8 +28,8 @@ returns-in-Ok g c =
     let its = its_volume {G = g.S.Station} fs s served in
     let mounted = subst (λ (t : ℕ → Option Description). IsMounted v t) served.opened served.mounted in
     table_leads {G = g.S.Station} _ s call c.in-Ok.reply fs.files
-    (looked_on m (g.S.Station.meaning c.read_open_file.new.blocks.station) fs.blocks.kept c.read_open_file.new.blocks.kept fs.root fs.slot fs.inodes c.read_open_file.new.inodes fs.map fs.log fs.pledged fs.files
-    s.tree.descriptors s fs.sectors reads looks.reads.same (λ disk settled v shows over. (looks.kept disk settled v (record { shows = shows; volume = over })).volume) served)
+    (looked_on {G = g.S.Station} fs c.read_open_file.new.blocks c.read_open_file.new.inodes reads looks.reads.same
+    (λ disk settled v shows over. (looks.kept disk settled v (record { shows = shows; volume = over })).volume) s served)
     (table_of c.read_open_file.new.files) refl (told.fits v served.fits) (told.mounted v mounted)
     (told.answers d (inodes_of (whole d fs.root).active) v (record { shows = served.shows; volume = its.0 }) its.1 mounted served.fits fs.root.geometry.inodes))
 
@@ -43,9 +43,12 @@ returns-in-Err g c =
     let blocks = c.read_open_file.new.blocks in
     let reads = looks.reads.reads fs.blocks (reads_none m) in
     unanswered_read fs _ c.args.call.now reads refl
-    (λ s served. subst (λ (x : Descriptors). IsServing (g.S.Station.meaning blocks.station) blocks.kept fs.root fs.slot c.read_open_file.new.inodes fs.map fs.log fs.pledged x s.tree.descriptors s) (sym told.failed)
-    (looked_on _ _ _ _ _ _ _ _ _ _ _ _ _ s fs.sectors reads looks.reads.same
-    (λ disk settled v shows over. (looks.kept disk settled v (record { shows = shows; volume = over })).volume) served))
+    (λ s served. subst (λ (x : Descriptors). (serves : IsServing (g.S.Station.meaning blocks.station)
+    (record (parts_of {G = g.S.Station} fs) { kept = blocks.kept; inodes = c.read_open_file.new.inodes; files = x }) s.tree.descriptors s) × (serves.replayed.changes ≡ served.replayed.changes)) (sym told.failed) (
+      looked_on {G = g.S.Station} fs blocks c.read_open_file.new.inodes reads looks.reads.same
+          (λ disk settled v shows over. (looks.kept disk settled v (record { shows = shows; volume = over })).volume) s served,
+      refl,
+    ))
     (λ s served. looking_not_sure s c.args.call.now c.requires) c.in-Err.error _ c.call_error.ensures looks.reads.device
     (λ s served is.
     let its = its_volume {G = g.S.Station} fs s served in

@@ -1,4 +1,5 @@
 use Rattle.std.proofs.Common.{◌≡◌, ◌∙◌, ℕ, None, inl, sym, subst}
+use Rattle.std.proofs.lemmas.Result.{IfOk-weaker}
 use Rattle.station.specs.Images.{Images}
 use Rattle.station.specs.Moments.{HasGrown, LeavesJust}
 use Rattle.station.proofs.Moments.{unchanged_twice}
@@ -6,9 +7,9 @@ use Rattle.layout.specs.Places.{blocks_of}
 use Rattle.layout.specs.declared.root.Root.{Root}
 use Rattle.model.specs.Records.{without_nameless}
 use Rattle.model.specs.States.{Forgets}
-use Rattle.loading.specs.Slots.{FitsStation}
+use Rattle.loading.specs.Slots.{FitsStation, IsNewestAt}
 use Rattle.replay.specs.Volumes.{bodies_of}
-use Rattle.system.specs.Opening.{HoldsRecords, IsOf}
+use Rattle.system.specs.Opening.{HoldsRecords, HoldsSome, IsOf}
 use Rattle.system.specs.Systems.{meaning_of, state_with}
 use Rattle.system.proofs.OpenLaws.{if_err_weaker, match_weaker}
 use Rattle.system.proofs.system.System.open.Goals as goal
@@ -23,7 +24,7 @@ returns-in-Ok-clause-goes g c =
 pub returns-in-Ok-clause-device : goal.returns-in-Ok-clause-device
 returns-in-Ok-clause-device g c =
     if_err_weaker c.open_found.result _ _
-    (λ e failed is. inl (subst (λ (n : ℕ). HasGrown n (g.S.Station.meaning e.1).failed_reads) c.in-Ok.ensures.reads (failed is)))
+    (λ e failed is. inl (subst (λ (n : ℕ). HasGrown n (g.S.Station.meaning e.1).failed_reads) c.in-Ok.ensures.settled.1 (failed is)))
     c.open_found.ensures.device
 
 pub returns-in-Ok-clause-opens : goal.returns-in-Ok-clause-opens
@@ -36,10 +37,10 @@ returns-in-Ok-clause-opens g c honest s to =
     let is : c.in-Ok.found.newest.root ≡ o.root = c.in-Ok.ensures.only honest o.root (bodies_of o.changes) o.newest fits o.log.log in
     let went = c.find.ensures.goes honest in
     let there : HoldsRecords (blocks_of m.seen.disk) o.root m.seen.nvram o.first o.last o.snapshots o.changes =
-    record { holds = o.holds; log = o.log; served = to.served; replays = o.replays } in
+    record { holds = o.holds; log = o.log; replays = o.replays } in
     let holds = subst (λ (i : Images). HoldsRecords (blocks_of i.disk) c.in-Ok.found.newest.root i.nvram o.first o.last o.snapshots o.changes) (sym went.seen)
     (subst (λ (r : Root). HoldsRecords (blocks_of m.seen.disk) r m.seen.nvram o.first o.last o.snapshots o.changes) (sym is) there) in
-    let just = subst (λ (i : Images). LeavesJust mid i) (sym went.seen) c.in-Ok.ensures.settled in
+    let just = subst (λ (i : Images). LeavesJust mid i) (sym went.seen) c.in-Ok.ensures.settled.0 in
     let of = subst (λ (i : Images). IsOf i c.in-Ok.found) (sym went.seen) (c.in-Ok.ensures.of_station honest) in
     let forgets = subst (λ (r : Root). Forgets s (state_with r.geometry.inodes (without_nameless o.last) (λ d. None) o.snapshots)) (sym is) o.state in
     match_weaker c.open_found.result _ _ _ _
@@ -54,3 +55,16 @@ returns-in-Err-clause-opens g c honest s to =
     let sized = g.met.S.Station.sized c.args.station honest m.seen (g.met.S.Station.seen_may_be_left c.args.station honest) in
     let fits : FitsStation o.root m = record { sectors = o.size; nvram = sym sized.nvram ∙ o.log.log.size } in
     c.in-Err.ensures.only honest o.root (bodies_of o.changes) o.newest fits o.log.log
+
+pub returns-in-Ok-clause-found : goal.returns-in-Ok-clause-found
+returns-in-Ok-clause-found g c honest =
+    let m = g.S.Station.meaning c.args.station in
+    let n = c.in-Ok.found.newest in
+    let same = c.find.ensures.same in
+    let fits = c.in-Ok.ensures.found.fits in
+    let newest = (c.in-Ok.ensures.of_station honest).newest in
+    IfOk-weaker c.open_found.result _ _ (λ f is. record {
+      newest = subst (λ (r : Root). IsNewestAt f.slot r m.seen.disk) (sym is.0) (subst (λ (k : ℕ). IsNewestAt k n.root m.seen.disk) (sym is.1) newest);
+      fits = subst (λ (r : Root). FitsStation r m) (sym is.0) (record { sectors = sym same.sectors ∙ fits.sectors; nvram = sym same.nvram_bytes ∙ fits.nvram });
+      held = subst (λ (r : Root). HoldsSome f.log r.generation m.seen.nvram) (sym is.0) (is.2 m.seen.nvram (c.in-Ok.ensures.of_station honest).saved);
+    }) c.open_found.ensures.found

@@ -1,4 +1,4 @@
-use Rattle.std.proofs.Common.{◌≡◌, ◌⊎◌, inl, inr, ap, refl, subst, sym}
+use Rattle.std.proofs.Common.{◌≡◌, ◌⊎◌, inl, inr, ap, refl, subst, sym, ◌∙◌, arith}
 use Rattle.std.specs.Prelude.{OnOk}
 use Rattle.images.specs.SnapshotSteps.SnapshotStep.{unchanged}
 use Rattle.model.specs.States.{State, with_snapshots}
@@ -12,17 +12,22 @@ use Rattle.system.proofs.system.System.point.Goals as goal
 same_state : (s t : State) → s ≡ t → with_snapshots t.snapshots s ≡ s
 same_state s t is = ap (λ (x : State). with_snapshots x.snapshots s) (sym is)
 
-pub returns-clause-any_moment : goal.returns-clause-any_moment
-returns-clause-any_moment g c = λ table s serves.
-    let m = g.S.Station.meaning c.args.self.now.blocks.station in
-    let now = g.S.Station.meaning c.point_with.new.self.blocks.station in
-    let after = with_snapshots serves.snapshots s in
-    let same : after ≡ s = same_state s _ serves.state in
-    weaker m now (λ (i : Images). OpensTo m s i ⊎ OpensTo m after i) (OpensTo m s) (c.point_with.ensures.any_moment table s serves unchanged (record { is = refl; can = tt }))
-    (λ i one. elim one [ inl old ↦ old | inr new ↦ subst (λ (t : State). OpensTo m t i) same new ])
-
-pub returns-clause-covered : goal.returns-clause-covered
-returns-clause-covered g c = λ table s serves.
-    let same : with_snapshots serves.snapshots s ≡ s = same_state s _ serves.state in
-    subst (λ (t : State). OnOk c.point_with.result (IsCovered c.point_with.new.self table t)) same
-    (c.point_with.ensures.covered table s serves unchanged (record { is = refl; can = tt }))
+pub returns : goal.returns
+returns g c =
+    let made = c.point_with.ensures in
+    record {
+      counted = made.counted;
+      any_moment = λ table s serves t is.
+          made.any_moment table s serves t (unchanged, record { is = refl; can = tt }, is ∙ sym (same_state s _ serves.state));
+      covered = λ table s serves t is.
+          made.covered table s serves t (unchanged, record { is = refl; can = tt }, is ∙ sym (same_state s _ serves.state));
+      refused = made.refused;
+      kept = made.kept;
+      unlogged = made.unlogged;
+      generation = made.generation;
+      log = made.log;
+      unchanged = made.unchanged;
+      full = λ is. let both = made.full is in (omega (arith, both.0), omega (arith, both.1));
+      damaged = made.damaged;
+      last = made.last;
+    }

@@ -1,9 +1,8 @@
 use Rattle.std.proofs.Common.{◌≡◌, ◌⊎◌, inl, inr, ℕ, ◌+◌, ◌*◌, ◌<◌, Option, Result, Ok, Err, refl, ap, sym, subst, ◌∙◌, arith}
 use Rattle.std.specs.Prelude.{IfErr, IfOk, IsFalse, OnOk}
-use Rattle.std.specs.BTreeMap.{BTreeMap}
 use Rattle.std.proofs.lemmas.Bool.{cases_lt, false≢true}
 use Rattle.station.specs.Images.{Images, Unchanged}
-use Rattle.station.specs.Moments.{Goes, Meaning, HasGrown, MayGrow}
+use Rattle.station.specs.Moments.{Goes, Meaning, HasGrown, LeavesOnly}
 use Rattle.station.proofs.Moments.{leaves_unchanged, same_none, same_twice, started, unchanged_none}
 use Rattle.layout.specs.Limits.{Sizes}
 use Rattle.layout.specs.Places.{blocks_of}
@@ -14,13 +13,12 @@ use Rattle.model.specs.States.{State}
 use Rattle.model.specs.Trees.{Description}
 use Rattle.model.specs.Volumes.{IsMounted}
 use Rattle.descriptors.specs.declared.table.Descriptors.{Descriptors}
-use Rattle.buffers.specs.declared.block.Block.{Block}
 use Rattle.buffers.specs.Readings.{reads_none}
 use Rattle.buffers.specs.declared.cache.Buffers.{Buffers}
 use Rattle.blockmap.specs.declared.map.BlockMap.{BlockMap}
 use Rattle.blockmap.specs.Maps.{settled_at}
-use Rattle.inofile.specs.declared.inode_file.InodeFile.{InodeFile}
 use Rattle.oplog.specs.LogEnd.{LogEnd, no_bodies}
+use Rattle.oplog.specs.declared.log.End.TheVariants.{Unopened}
 use Rattle.images.specs.BlockMap.{entry}
 use Rattle.images.specs.Cuts.{IsPointWith}
 use Rattle.images.specs.Roots as roots
@@ -28,16 +26,19 @@ use Rattle.images.specs.SnapshotSteps.{SnapshotStep}
 use Rattle.conspoint.specs.Cuts.{HasNewRoot}
 use Rattle.conspoint.specs.Plans.{FitsDisk}
 use Rattle.conspoint.specs.Writes.{AreWhole, writes_of}
-use Rattle.conspoint.specs.declared.error.PlanError.TheVariants.{Damaged, NoSpace}
+use Rattle.conspoint.specs.declared.error.PlanError.TheVariants.{Damaged, Device, NoSpace}
 use Rattle.records.specs.Opened.{HasNumbers}
 use Rattle.system.specs.Images.{OpensTo}
 use Rattle.planning.specs.Changes.{head_nodes}
 use Rattle.planning.specs.Plans.{PlansEntries}
 use Rattle.system.specs.Memory.{IsClean}
+use Rattle.system.specs.Counting.{no_call}
+use Rattle.system.specs.Errors.{IsRefused}
 use Rattle.system.specs.Points.{IsPlannedOver, IsStepFor, stepped}
-use Rattle.system.specs.Systems.{IsServing, Serves}
-use Rattle.system.specs.declared.error.PointError.TheVariants.{NotWritten}
+use Rattle.system.specs.Systems.{Parts, IsServing, Serves, parts_of}
 use Rattle.planning.specs.declared.points.Point.{Point}
+use Rattle.system.proofs.CountingLaws.{all_read, counted_after, none_logged, not_carried_out, not_planned, nothing_logged, perhaps_read}
+use Rattle.system.proofs.CoveredLaws.{covered_at}
 use Rattle.system.proofs.SystemLaws as served
 use Rattle.system.proofs.PointLaws as points
 use Rattle.system.proofs.SettledLaws as settled
@@ -57,9 +58,8 @@ on_ok {X = X} {E = E} {A = A} r x is h = subst (λ (q : Result X E). OnOk q A) i
 of_err : {X E : Type 0} (r : Result X E) (e : E) (P : E → Type 0) → r ≡ Err e → IfErr r P → P e
 of_err {X = X} {E = E} r e P is h = subst (λ (q : Result X E). IfErr q P) is h
 
-abbrev OnceCovered : Meaning → BTreeMap ℕ Block → InodeFile → BlockMap → LogEnd → ℕ → Descriptors → (ℕ → Option Description) → State → Root → ℕ → Type 0
-OnceCovered m kept inodes map log pledged files table s root slot =
-    (serves : IsServing m kept root slot inodes map log pledged files table s) × (serves.bodies ≡ no_bodies) × (serves.first ≡ serves.running)
+abbrev OnceCovered : Meaning → Parts → (ℕ → Option Description) → State → Type 0
+OnceCovered m k table s = (serves : IsServing m k table s) × (serves.bodies ≡ no_bodies) × (serves.first ≡ serves.running)
 
 -- ---- what is planned
 
@@ -88,7 +88,7 @@ planned g c table s serves step made =
       point = subst (λ (n : ℕ). IsPointWith step f.root m.seen.disk (writes_of q.plan.blocks) n q.root serves.running) (sym slot)
           (of_ok r q (λ (x : Point). IsPointWith step f.root m.seen.disk (writes_of x.plan.blocks) c.other_slot-slot.result x.root serves.running) c.in-Ok.is
           (c.plan-map.ensures.point m.seen.disk serves.first serves.running serves.snapshots serves.shows
-          (points.plannable m f.blocks.kept f.root f.slot f.inodes f.map f.log f.pledged f.files table s serves here c.other_slot-slot.result c.in-Some.generation c.replace-map.result c.other_slot-slot.ensures epoch c.replace-map.ensures.value)
+          (points.plannable serves here c.other_slot-slot.result c.in-Some.generation c.replace-map.result c.other_slot-slot.ensures epoch c.replace-map.ensures.value)
           step made.is made.can));
     }
 
@@ -103,70 +103,73 @@ carry_out-requires-clause-fits g c =
 
 -- ---- no generation is left
 
-pub returns-in_default-clause-uses : goal.returns-in_default-clause-uses
-returns-in_default-clause-uses g c = record { same = same_none (g.S.Station.meaning c.args.self.now.blocks.station); reads = inl refl; writes = inl refl }
-
-pub returns-in_default-clause-any_moment : goal.returns-in_default-clause-any_moment
-returns-in_default-clause-any_moment g c = λ table s serves step made.
+pub returns-in_default : goal.returns-in_default
+returns-in_default g c =
     let f = c.args.self.now in
     let m = g.S.Station.meaning f.blocks.station in
-    let after = stepped step serves.first serves.snapshots s in
-    started m (λ i. OpensTo m s i ⊎ OpensTo m after i)
-    (λ honest i left. inl (served.all_open c.cuts_open.ensures m f.blocks.kept f.root f.slot f.inodes f.map f.log f.pledged f.files table s serves f.sectors f.half honest i left))
-
-pub returns-in_default-clause-last : goal.returns-in_default-clause-last
-returns-in_default-clause-last g c = λ table s serves is.
-    let f = c.args.self.now in
-    let m = g.S.Station.meaning f.blocks.station in
-    let here = g.met.S.Station.seen_may_be_left f.blocks.station serves.honest in
-    let later : f.root.generation < f.log.epoch = points.later f.log f.root.generation serves.bodies m.seen.nvram (serves.left serves.honest m.seen here).log_stands in
-    let number : c.get.result ≡ f.log.epoch = c.get.ensures ∙ c.epoch.ensures in
-    elim (cases_lt f.log.epoch 4611686018427387904) [
-      | inl lt ↦ absurd (false≢true (c.in_default.ensures.within.1 (omega (arith, number, later), omega (arith, number, lt))))
-      | inr ge ↦ ge
-    ]
-
-pub returns-in_default-clause-kept : goal.returns-in_default-clause-kept
-returns-in_default-clause-kept g c refused = unchanged_none (g.S.Station.meaning c.args.self.now.blocks.station)
+    record {
+      counted = perhaps_read m m (reads_none m);
+      any_moment = λ table s serves t leads.
+          started m (λ i. OpensTo m s i ⊎ OpensTo m t i) (λ honest i left. inl (served.all_open c.cuts_open.ensures serves f.sectors f.half honest i left));
+      covered = λ table s serves t leads. tt;
+      refused = λ table s serves refused. serves;
+      kept = λ refused. unchanged_none m;
+      unlogged = none_logged m;
+      generation = tt;
+      log = refl;
+      unchanged = tt;
+      full = λ is. cc;
+      damaged = λ table s serves is. cc;
+      last = λ table s serves is.
+          let here = g.met.S.Station.seen_may_be_left f.blocks.station serves.honest in
+          let later : f.root.generation < f.log.epoch = points.later f.log f.root.generation serves.bodies m.seen.nvram (serves.left serves.honest m.seen here).log_stands in
+          let number : c.get.result ≡ f.log.epoch = c.get.ensures ∙ c.epoch.ensures in
+          elim (cases_lt f.log.epoch 4611686018427387904) [
+            | inl lt ↦ absurd (false≢true (c.in_default.ensures.within.1 (omega (arith, number, later), omega (arith, number, lt))))
+            | inr ge ↦ ge
+          ];
+    }
 
 -- ---- nothing was planned
 
-pub returns-in-Err-clause-uses : goal.returns-in-Err-clause-uses
-returns-in-Err-clause-uses g c =
-    let f = c.args.self.now in
-    let reads = c.plan-map.ensures.reads.reads f.blocks (reads_none (g.S.Station.meaning f.blocks.station)) in
-    record { same = reads.same; reads = reads.reads; writes = inl reads.writes }
-
-pub returns-in-Err-clause-any_moment : goal.returns-in-Err-clause-any_moment
-returns-in-Err-clause-any_moment g c = λ table s serves step made.
+pub returns-in-Err : goal.returns-in-Err
+returns-in-Err g c =
     let f = c.args.self.now in
     let m = g.S.Station.meaning f.blocks.station in
+    let mid = g.S.Station.meaning c.plan-map.new.blocks.station in
     let reads = c.plan-map.ensures.reads.reads f.blocks (reads_none m) in
-    let after = stepped step serves.first serves.snapshots s in
-    leaves_unchanged m (g.S.Station.meaning c.plan-map.new.blocks.station) (λ i. OpensTo m s i ⊎ OpensTo m after i)
-    (λ honest i left. inl (served.all_open c.cuts_open.ensures m f.blocks.kept f.root f.slot f.inodes f.map f.log f.pledged f.files table s serves f.sectors f.half honest i left)) reads.goes
-
-pub returns-in-Err-clause-kept : goal.returns-in-Err-clause-kept
-returns-in-Err-clause-kept g c refused = (c.plan-map.ensures.reads.reads c.args.self.now.blocks (reads_none (g.S.Station.meaning c.args.self.now.blocks.station))).goes
-
-pub returns-in-Err-clause-refused : goal.returns-in-Err-clause-refused
-returns-in-Err-clause-refused g c = λ table s serves refused.
-    let f = c.args.self.now in
-    let m = g.S.Station.meaning f.blocks.station in
-    let reads = c.plan-map.ensures.reads.reads f.blocks (reads_none m) in
-    served.read_on m f.blocks.kept f.root f.slot f.inodes f.map f.log f.pledged f.files table s serves (g.S.Station.meaning c.plan-map.new.blocks.station) c.plan-map.new.blocks.kept c.plan-map.result.0
-    reads c.plan-map.ensures.reads.same (λ b. c.plan-map.ensures.settled b ∙ ap (λ (x : BlockMap). settled_at x.parts.items b) c.replace-map.ensures.value)
-
-pub returns-in-Err-clause-damaged : goal.returns-in-Err-clause-damaged
-returns-in-Err-clause-damaged g c = λ table s serves is.
-    let f = c.args.self.now in
-    let m = g.S.Station.meaning f.blocks.station in
-    let here = g.met.S.Station.seen_may_be_left f.blocks.station serves.honest in
+    let given = c.plan-map.result.0 in
+    let r = c.plan-map.result.1 in
     let epoch : c.in-Some.generation ≡ f.log.epoch = c.in-Some.ensures.value ∙ c.get.ensures ∙ c.epoch.ensures in
-    let same : c.in-Err.error ≡ Damaged = cc in
-    c.plan-map.ensures.damaged m.seen.disk serves.first serves.running serves.snapshots serves.shows
-    (points.plannable m f.blocks.kept f.root f.slot f.inodes f.map f.log f.pledged f.files table s serves here c.other_slot-slot.result c.in-Some.generation c.replace-map.result c.other_slot-slot.ensures epoch c.replace-map.ensures.value)
-    (c.in-Err.is ∙ ap Err same)
+    record {
+      counted = not_planned m mid c.in-Err.error reads (of_err r c.in-Err.error (λ e. e ≡ Device → HasGrown m.failed_reads mid.failed_reads) c.in-Err.is c.plan-map.ensures.reads.device);
+      any_moment = λ table s serves t leads.
+          leaves_unchanged m mid (λ i. OpensTo m s i ⊎ OpensTo m t i) (λ honest i left. inl (served.all_open c.cuts_open.ensures serves f.sectors f.half honest i left)) reads.goes;
+      covered = λ table s serves t leads. tt;
+      refused = λ table s serves refused.
+          served.read_on serves mid c.plan-map.new.blocks.kept given reads c.plan-map.ensures.reads.same
+          (λ b. c.plan-map.ensures.settled b ∙ ap (λ (x : BlockMap). settled_at x.parts.items b) c.replace-map.ensures.value);
+      kept = λ refused. reads.goes;
+      unlogged = nothing_logged m mid reads.goes;
+      generation = tt;
+      log = refl;
+      unchanged = tt;
+      full = λ is.
+          let same : c.in-Err.error ≡ NoSpace = cc in
+          let was = is_filled f.root f.inodes (head_nodes c.args.change.now) f.map c.replace-map.result c.replace-map.ensures.value f.fresh (c.plan-map.ensures.full (c.in-Err.is ∙ ap Err same)) in (
+            was,
+            still_filled f.root f.inodes (head_nodes c.args.change.now) f.map given f.fresh (of_err r c.in-Err.error (λ e. given.next ≡ 2) c.in-Err.is c.plan-map.ensures.next)
+                (c.plan-map.ensures.count ∙ ap (λ (x : BlockMap). x.count) c.replace-map.ensures.value)
+                (λ b. c.plan-map.ensures.settled b ∙ ap (λ (x : BlockMap). settled_at x.parts.items b) c.replace-map.ensures.value) was,
+          );
+      damaged = λ table s serves is.
+          let here = g.met.S.Station.seen_may_be_left f.blocks.station serves.honest in
+          let same : c.in-Err.error ≡ Damaged = cc in
+          c.plan-map.ensures.damaged m.seen.disk serves.first serves.running serves.snapshots serves.shows
+          (points.plannable serves here c.other_slot-slot.result c.in-Some.generation c.replace-map.result c.other_slot-slot.ensures epoch c.replace-map.ensures.value)
+          (c.in-Err.is ∙ ap Err same);
+      last = λ table s serves is. cc;
+    }
 
 pub invariant_of-self : goal.invariant_of-self
 invariant_of-self g c =
@@ -185,28 +188,6 @@ invariant_of-self g c =
       numbers = f.numbers;
       is_root = f.is_root;
     }
-
-pub returns-in-Err-clause-written : goal.returns-in-Err-clause-written
-returns-in-Err-clause-written g c = λ refused.
-    let f = c.args.self.now in
-    let reads = c.plan-map.ensures.reads.reads f.blocks (reads_none (g.S.Station.meaning f.blocks.station)) in
-    reads.writes
-
-pub returns-in-Err-clause-was_full : goal.returns-in-Err-clause-was_full
-returns-in-Err-clause-was_full g c = λ is.
-    let f = c.args.self.now in
-    let same : c.in-Err.error ≡ NoSpace = cc in
-    is_filled f.root f.inodes (head_nodes c.args.change.now) f.map c.replace-map.result c.replace-map.ensures.value f.fresh (c.plan-map.ensures.full (c.in-Err.is ∙ ap Err same))
-
-pub returns-in-Err-clause-full : goal.returns-in-Err-clause-full
-returns-in-Err-clause-full g c = λ is.
-    let f = c.args.self.now in
-    let same : c.in-Err.error ≡ NoSpace = cc in
-    let given = c.plan-map.result.0 in
-    still_filled f.root f.inodes (head_nodes c.args.change.now) f.map given f.fresh (of_err c.plan-map.result.1 c.in-Err.error (λ e. given.next ≡ 2) c.in-Err.is c.plan-map.ensures.next)
-    (c.plan-map.ensures.count ∙ ap (λ (x : BlockMap). x.count) c.replace-map.ensures.value)
-    (λ b. c.plan-map.ensures.settled b ∙ ap (λ (x : BlockMap). settled_at x.parts.items b) c.replace-map.ensures.value)
-    (is_filled f.root f.inodes (head_nodes c.args.change.now) f.map c.replace-map.result c.replace-map.ensures.value f.fresh (c.plan-map.ensures.full (c.in-Err.is ∙ ap Err same)))
 
 -- ---- a write failed, or no memory was left
 
@@ -229,59 +210,38 @@ invariant_of-self-in-Err-carry_out g c =
       is_root = f.is_root;
     }
 
-pub returns-in-Err-carry_out-clause-uses : goal.returns-in-Err-carry_out-clause-uses
-returns-in-Err-carry_out-clause-uses g c =
+pub returns-in-Err-carry_out : goal.returns-in-Err-carry_out
+returns-in-Err-carry_out g c =
     let f = c.args.self.now in
     let m = g.S.Station.meaning f.blocks.station in
+    let mid = g.S.Station.meaning c.plan-map.new.blocks.station in
     let now = g.S.Station.meaning c.carry_out.new.buffers.station in
     let reads = c.plan-map.ensures.reads.reads f.blocks (reads_none m) in
-    let writes = c.carry_out.ensures.writes in
+    let e = c.in-Err-carry_out.error in
+    let same = λ (refused : IsRefused e). sym (c.in-Err-carry_out.ensures.refused.0 refused) in
     record {
-      same = same_twice m (g.S.Station.meaning c.plan-map.new.blocks.station) now reads.same writes.same;
-      reads = subst (λ (n : ℕ). MayGrow m.failed_reads n) (sym writes.reads) reads.reads;
-      writes = subst (λ (n : ℕ). MayGrow n now.failed_writes) reads.writes writes.writes;
+      counted = not_carried_out m mid now e reads c.in-Err-carry_out.ensures.writes
+          (λ refused. ap (λ (b : Buffers g.row.S.Denot). (g.S.Station.meaning b.station).failed_writes) (c.in-Err-carry_out.ensures.refused.0 refused)) c.in-Err-carry_out.ensures.refused.1;
+      any_moment = λ table s serves t leads.
+          let here = g.met.S.Station.seen_may_be_left f.blocks.station serves.honest in
+          subst (λ (u : State). LeavesOnly m now (λ i. OpensTo m s i ⊎ OpensTo m u i)) (sym leads.2)
+          (points.at_any_moment c.cuts_open.ensures serves f.sectors f.half c.in-Ok.point.plan c.in-Ok.point.root leads.0
+          (planned g (goal.at.returns-in-Err-carry_out g c).In-Ok table s serves leads.0 leads.1) here (g.met.S.Station.sized f.blocks.station serves.honest m.seen here).sector
+          mid now reads.goes c.carry_out.ensures.any_moment);
+      covered = λ table s serves t leads. tt;
+      refused = λ table s serves refused.
+          subst (λ (b : Buffers g.row.S.Denot). IsServing (g.S.Station.meaning b.station) (record (parts_of {G = g.S.Station} f) { kept = b.kept; map = c.give_up.new.self }) table s) (same refused)
+          (served.read_on serves mid c.plan-map.new.blocks.kept c.give_up.new.self reads c.plan-map.ensures.reads.same
+          (λ b. c.give_up.ensures.settled b ∙ c.plan-map.ensures.settled b ∙ ap (λ (x : BlockMap). settled_at x.parts.items b) c.replace-map.ensures.value));
+      kept = λ refused. subst (λ (b : Buffers g.row.S.Denot). Goes Unchanged m (g.S.Station.meaning b.station)) (same refused) reads.goes;
+      unlogged = points.written_unlogged m mid now c.in-Ok.point.plan reads.goes (g.met.S.Station.seen_may_be_left c.plan-map.new.blocks.station) c.carry_out.ensures.any_moment;
+      generation = tt;
+      log = refl;
+      unchanged = tt;
+      full = λ is. elim c.in-Err-carry_out.ensures.refused.1 [ inl w ↦ cc | inr w ↦ cc ];
+      damaged = λ table s serves is. elim c.in-Err-carry_out.ensures.refused.1 [ inl w ↦ cc | inr w ↦ cc ];
+      last = λ table s serves is. elim c.in-Err-carry_out.ensures.refused.1 [ inl w ↦ cc | inr w ↦ cc ];
     }
-
-pub returns-in-Err-carry_out-clause-any_moment : goal.returns-in-Err-carry_out-clause-any_moment
-returns-in-Err-carry_out-clause-any_moment g c = λ table s serves step made.
-    let f = c.args.self.now in
-    let m = g.S.Station.meaning f.blocks.station in
-    let reads = c.plan-map.ensures.reads.reads f.blocks (reads_none m) in
-    let here = g.met.S.Station.seen_may_be_left f.blocks.station serves.honest in
-    points.at_any_moment c.cuts_open.ensures m f.blocks.kept f.root f.slot f.inodes f.map f.log f.pledged f.files table s serves f.sectors f.half c.in-Ok.point.plan c.in-Ok.point.root step
-    (planned g (goal.at.returns-in-Err-carry_out-clause-any_moment g c).In-Ok table s serves step made) here (g.met.S.Station.sized f.blocks.station serves.honest m.seen here).sector
-    (g.S.Station.meaning c.plan-map.new.blocks.station) (g.S.Station.meaning c.carry_out.new.buffers.station) reads.goes c.carry_out.ensures.any_moment
-
-pub returns-in-Err-carry_out-clause-kept : goal.returns-in-Err-carry_out-clause-kept
-returns-in-Err-carry_out-clause-kept g c refused =
-    let m = g.S.Station.meaning c.args.self.now.blocks.station in
-    subst (λ (b : Buffers g.row.S.Denot). Goes Unchanged m (g.S.Station.meaning b.station)) (sym (c.in-Err-carry_out.ensures.refused refused))
-    (c.plan-map.ensures.reads.reads c.args.self.now.blocks (reads_none m)).goes
-
-pub returns-in-Err-carry_out-clause-refused : goal.returns-in-Err-carry_out-clause-refused
-returns-in-Err-carry_out-clause-refused g c = λ table s serves refused.
-    let f = c.args.self.now in
-    let m = g.S.Station.meaning f.blocks.station in
-    let reads = c.plan-map.ensures.reads.reads f.blocks (reads_none m) in
-    subst (λ (b : Buffers g.row.S.Denot). IsServing (g.S.Station.meaning b.station) b.kept f.root f.slot f.inodes c.give_up.new.self f.log f.pledged f.files table s) (sym (c.in-Err-carry_out.ensures.refused refused))
-    (served.read_on m f.blocks.kept f.root f.slot f.inodes f.map f.log f.pledged f.files table s serves (g.S.Station.meaning c.plan-map.new.blocks.station) c.plan-map.new.blocks.kept c.give_up.new.self
-    reads c.plan-map.ensures.reads.same
-    (λ b. c.give_up.ensures.settled b ∙ c.plan-map.ensures.settled b ∙ ap (λ (x : BlockMap). settled_at x.parts.items b) c.replace-map.ensures.value))
-
-pub returns-in-Err-carry_out-clause-written : goal.returns-in-Err-carry_out-clause-written
-returns-in-Err-carry_out-clause-written g c = λ refused.
-    let f = c.args.self.now in
-    let m = g.S.Station.meaning f.blocks.station in
-    let reads = c.plan-map.ensures.reads.reads f.blocks (reads_none m) in
-    ap (λ (b : Buffers g.row.S.Denot). (g.S.Station.meaning b.station).failed_writes) (c.in-Err-carry_out.ensures.refused refused) ∙ reads.writes
-
-pub returns-in-Err-carry_out-clause-device : goal.returns-in-Err-carry_out-clause-device
-returns-in-Err-carry_out-clause-device g c = λ is.
-    let f = c.args.self.now in
-    let m = g.S.Station.meaning f.blocks.station in
-    let reads = c.plan-map.ensures.reads.reads f.blocks (reads_none m) in
-    let same : c.in-Err-carry_out.error ≡ NotWritten = cc in
-    subst (λ (n : ℕ). HasGrown n (g.S.Station.meaning c.carry_out.new.buffers.station).failed_writes) reads.writes (c.in-Err-carry_out.ensures.writes.fault same)
 
 -- ---- the point is made
 
@@ -291,7 +251,7 @@ invariant_of-self-in-Ok-carry_out g c =
     let m = g.S.Station.meaning f.blocks.station in
     let reads = c.plan-map.ensures.reads.reads f.blocks (reads_none m) in
     let same = same_twice m (g.S.Station.meaning c.plan-map.new.blocks.station) (g.S.Station.meaning c.carry_out.new.buffers.station) reads.same c.carry_out.ensures.writes.same in
-    let root : c.in-Ok-carry_out.root ≡ c.in-Ok.point.root = c.in-Ok-carry_out.ensures.root in
+    let root : c.in-Ok-carry_out.root ≡ c.in-Ok.point.root = c.in-Ok-carry_out.ensures.root.0 in
     let sizes : c.in-Ok-carry_out.root.geometry ≡ f.root.geometry =
     ap (λ (r : Root). r.geometry) root ∙ of_ok c.plan-map.result.1 c.in-Ok.point (λ (x : Point). x.root.geometry ≡ f.root.geometry) c.in-Ok.is c.plan-map.ensures.geometry in
     let half : c.go_on.new.self.half ≡ f.log.half = ap (λ (l : LogEnd). l.half) c.go_on.ensures.end in
@@ -308,89 +268,89 @@ invariant_of-self-in-Ok-carry_out g c =
       is_root = subst IsRoot (sym root) (of_ok c.plan-map.result.1 c.in-Ok.point (λ (x : Point). IsRoot x.root) c.in-Ok.is c.plan-map.ensures.root);
     }
 
-pub returns-in-Ok-carry_out-clause-uses : goal.returns-in-Ok-carry_out-clause-uses
-returns-in-Ok-carry_out-clause-uses g c =
+pub returns-in-Ok-carry_out : goal.returns-in-Ok-carry_out
+returns-in-Ok-carry_out g c =
     let f = c.args.self.now in
     let m = g.S.Station.meaning f.blocks.station in
+    let mid = g.S.Station.meaning c.plan-map.new.blocks.station in
     let now = g.S.Station.meaning c.carry_out.new.buffers.station in
     let reads = c.plan-map.ensures.reads.reads f.blocks (reads_none m) in
-    let writes = c.carry_out.ensures.writes in
-    record {
-      same = same_twice m (g.S.Station.meaning c.plan-map.new.blocks.station) now reads.same writes.same;
-      reads = subst (λ (n : ℕ). MayGrow m.failed_reads n) (sym writes.reads) reads.reads;
-      writes = subst (λ (n : ℕ). MayGrow n now.failed_writes) reads.writes writes.writes;
-    }
-
-pub returns-in-Ok-carry_out-clause-written : goal.returns-in-Ok-carry_out-clause-written
-returns-in-Ok-carry_out-clause-written g c =
-    let f = c.args.self.now in
-    let reads = c.plan-map.ensures.reads.reads f.blocks (reads_none (g.S.Station.meaning f.blocks.station)) in
-    c.in-Ok-carry_out.ensures.writes.ok ∙ reads.writes
-
-pub returns-in-Ok-carry_out-clause-reads : goal.returns-in-Ok-carry_out-clause-reads
-returns-in-Ok-carry_out-clause-reads g c =
-    c.carry_out.ensures.writes.reads ∙ on_ok c.plan-map.result.1 c.in-Ok.point c.in-Ok.is c.plan-map.ensures.reads.counted
-
-pub returns-in-Ok-carry_out-clause-any_moment : goal.returns-in-Ok-carry_out-clause-any_moment
-returns-in-Ok-carry_out-clause-any_moment g c = λ table s serves step made.
-    let f = c.args.self.now in
-    let m = g.S.Station.meaning f.blocks.station in
-    let reads = c.plan-map.ensures.reads.reads f.blocks (reads_none m) in
-    let here = g.met.S.Station.seen_may_be_left f.blocks.station serves.honest in
-    points.at_any_moment c.cuts_open.ensures m f.blocks.kept f.root f.slot f.inodes f.map f.log f.pledged f.files table s serves f.sectors f.half c.in-Ok.point.plan c.in-Ok.point.root step
-    (planned g (goal.at.returns-in-Ok-carry_out-clause-any_moment g c).In-Ok table s serves step made) here (g.met.S.Station.sized f.blocks.station serves.honest m.seen here).sector
-    (g.S.Station.meaning c.plan-map.new.blocks.station) (g.S.Station.meaning c.carry_out.new.buffers.station) reads.goes c.carry_out.ensures.any_moment
-
-pub returns-in-Ok-carry_out-clause-covered : goal.returns-in-Ok-carry_out-clause-covered
-returns-in-Ok-carry_out-clause-covered g c = λ table s serves step made.
-    let after = stepped step serves.first serves.snapshots s in
-    let f = c.args.self.now in
-    let m = g.S.Station.meaning f.blocks.station in
-    let now = g.S.Station.meaning c.carry_out.new.buffers.station in
-    let kept = c.carry_out.new.buffers.kept in
-    let p = c.in-Ok.point.plan in
-    let new = c.in-Ok.point.root in
-    let plan = planned g (goal.at.returns-in-Ok-carry_out-clause-covered g c).In-Ok table s serves step made in
-    let reads = c.plan-map.ensures.reads.reads f.blocks (reads_none m) in
-    let went = reads.goes serves.honest in
-    let same = same_twice m (g.S.Station.meaning c.plan-map.new.blocks.station) now reads.same c.carry_out.ensures.writes.same in
-    let honest = same.honest.0 serves.honest in
-    let here = g.met.S.Station.seen_may_be_left f.blocks.station serves.honest in
-    let sizes = (g.met.S.Station.sized f.blocks.station serves.honest m.seen here).sector in
-    let has : HasNewRoot p m.seen now.seen = subst (λ (x : Images). HasNewRoot p x now.seen) went.seen
-    (c.in-Ok-carry_out.ensures.settled went.honest honest now.seen (g.met.S.Station.seen_may_be_left c.carry_out.new.buffers.station honest)) in
-    let whole : AreWhole m.sectors now.seen.disk = λ n low. has.whole n (sizes n low) in
-    let cuts = c.cuts_open.ensures in
-    let laws = c.new_roots_hold.ensures in
-    let images = points.with_root cuts m f.blocks.kept f.root f.slot f.inodes f.map f.log f.pledged f.files table s serves f.sectors f.half p new step plan here sizes now.seen has in
-    let open_now = points.reads cuts m f.blocks.kept f.root f.slot f.inodes f.map f.log f.pledged f.files table s serves f.sectors f.half p new step plan here sizes in
-    let newest = laws.newest m.sectors m.seen.disk now.seen.disk m.seen.nvram s (writes_of p.blocks) p.slot new serves.running step open_now plan.point images in
-    let holds = laws.holds m.sectors m.seen.disk now.seen.disk m.seen.nvram s (writes_of p.blocks) p.slot new serves.running step open_now plan.point images in
+    let writes = c.in-Ok-carry_out.ensures.writes in
     let epoch : c.in-Some.generation ≡ f.log.epoch = c.in-Some.ensures.value ∙ c.get.ensures ∙ c.epoch.ensures in
-    let plannable = points.plannable m f.blocks.kept f.root f.slot f.inodes f.map f.log f.pledged f.files table s serves here c.other_slot-slot.result c.in-Some.generation c.replace-map.result c.other_slot-slot.ensures epoch
-    c.replace-map.ensures.value in
-    let entries : (b : ℕ) → settled_at c.settle.new.self.parts.items b ≡ entry (roots.whole (blocks_of now.seen.disk) new).active b = λ b.
-    c.settle.ensures.settled b ∙ sym (of_ok c.plan-map.result.1 c.in-Ok.point (λ (x : Point). PlansEntries (blocks_of m.seen.disk) f.root x.plan x.root c.plan-map.result.0) c.in-Ok.is
-    (c.plan-map.ensures.entries m.seen.disk serves.first serves.running serves.snapshots serves.shows plannable) (blocks_of now.seen.disk)
-    (settled.has_all laws m f.blocks.kept f.root f.slot f.inodes f.map f.log f.pledged f.files table s serves f.sectors p new step plan now whole has images)
-    (settled.agrees laws m f.blocks.kept f.root f.slot f.inodes f.map f.log f.pledged f.files table s serves f.sectors p new step plan now whole has images) b) in
-    let memory = settled.memory laws m f.blocks.kept f.root f.slot f.inodes f.map f.log f.pledged f.files table s serves f.sectors p new step plan now whole has images holds
-    c.in-Ok-carry_out.file c.settle-in-Ok-carry_out.new.self c.settle.new.self f.sizes c.in-Ok-carry_out.ensures.file c.settle-in-Ok-carry_out.ensures.volume entries in
-    let shown = settled.shows laws m f.blocks.kept f.root f.slot f.inodes f.map f.log f.pledged f.files table s serves f.sectors p new step plan now whole has images kept same.sectors
-    (c.in-Ok-carry_out.ensures.shows (blocks_of m.seen.disk) (c.plan-map.ensures.reads.same (blocks_of m.seen.disk) serves.shows)) in
-    let stands = c.go_on.ensures.covered f.root.generation serves.bodies m.seen.nvram (omega (arith, f.is_root.head.last)) (c.epoch_after.ensures ∙ ap (λ (n : ℕ). n + 1) epoch)
-    (serves.left serves.honest m.seen here).log_stands in
-    let goes = subst (λ (l : LogEnd). IsFalse l.is_stopped) (sym c.go_on.ensures.end) serves.goes in
-    let counted : c.from.result ≡ count_nameless new.geometry.inodes serves.running =
-    c.from.ensures ∙ c.nameless_files.ensures.counted new.geometry.inodes serves.running memory.volume
-    (subst (λ (t : ℕ → Option Description). IsMounted serves.running t) serves.opened serves.mounted) serves.fits in
-    let done : OnceCovered now kept c.settle-in-Ok-carry_out.new.self c.settle.new.self c.go_on.new.self (4 * c.from.result) f.files table after new p.slot = (
-      settled.settled laws m f.blocks.kept f.root f.slot f.inodes f.map f.log f.pledged f.files table s serves f.sectors p new step plan now whole has images holds
-          kept c.settle-in-Ok-carry_out.new.self c.settle.new.self c.go_on.new.self honest c.in-Ok-carry_out.ensures.just shown newest stands goes memory c.from.result counted,
-      refl {a = no_bodies},
-      refl {a = serves.running},
-    ) in
-    let slot : p.slot ≡ c.other_slot-slot.result = of_ok c.plan-map.result.1 c.in-Ok.point (λ (x : Point). x.plan.slot ≡ c.other_slot-slot.result) c.in-Ok.is c.plan-map.ensures.slot in
-    let there = subst (λ (r : Root). OnceCovered now kept c.settle-in-Ok-carry_out.new.self c.settle.new.self c.go_on.new.self (4 * c.from.result) f.files table after r c.other_slot-slot.result) (sym c.in-Ok-carry_out.ensures.root)
-    (subst (OnceCovered now kept c.settle-in-Ok-carry_out.new.self c.settle.new.self c.go_on.new.self (4 * c.from.result) f.files table after new) slot done) in
-    record { serves = there.0; no_record = there.1; held = there.2 }
+    record {
+      counted = counted_after m mid now no_call (all_read m mid reads (on_ok c.plan-map.result.1 c.in-Ok.point c.in-Ok.is c.plan-map.ensures.reads.counted))
+          (record { uses = record { same = writes.same; reads = inl writes.reads; writes = writes.writes }; reads = writes.reads; writes = writes.ok });
+      any_moment = λ table s serves t leads.
+          let here = g.met.S.Station.seen_may_be_left f.blocks.station serves.honest in
+          subst (λ (u : State). LeavesOnly m now (λ i. OpensTo m s i ⊎ OpensTo m u i)) (sym leads.2)
+          (points.at_any_moment c.cuts_open.ensures serves f.sectors f.half c.in-Ok.point.plan c.in-Ok.point.root leads.0
+          (planned g (goal.at.returns-in-Ok-carry_out g c).In-Ok table s serves leads.0 leads.1) here (g.met.S.Station.sized f.blocks.station serves.honest m.seen here).sector
+          mid now reads.goes c.carry_out.ensures.any_moment);
+      covered = λ table s serves t leads.
+          let step = leads.0 in
+          let made = leads.1 in
+          let after = stepped step serves.first serves.snapshots s in
+          let kept = c.carry_out.new.buffers.kept in
+          let p = c.in-Ok.point.plan in
+          let new = c.in-Ok.point.root in
+          let plan = planned g (goal.at.returns-in-Ok-carry_out g c).In-Ok table s serves step made in
+          let went = reads.goes serves.honest in
+          let same = same_twice m (g.S.Station.meaning c.plan-map.new.blocks.station) now reads.same c.carry_out.ensures.writes.same in
+          let honest = same.honest.0 serves.honest in
+          let here = g.met.S.Station.seen_may_be_left f.blocks.station serves.honest in
+          let sizes = (g.met.S.Station.sized f.blocks.station serves.honest m.seen here).sector in
+          let has : HasNewRoot p m.seen now.seen = subst (λ (x : Images). HasNewRoot p x now.seen) went.seen
+          (c.in-Ok-carry_out.ensures.settled.0 went.honest honest now.seen (g.met.S.Station.seen_may_be_left c.carry_out.new.buffers.station honest)) in
+          let whole : AreWhole m.sectors now.seen.disk = λ n low. has.whole n (sizes n low) in
+          let cuts = c.cuts_open.ensures in
+          let laws = c.new_roots_hold.ensures in
+          let images = points.with_root cuts serves f.sectors f.half p new step plan here sizes now.seen has in
+          let open_now = points.reads cuts serves f.sectors f.half p new step plan here sizes in
+          let newest = laws.newest m.sectors m.seen.disk now.seen.disk m.seen.nvram s (writes_of p.blocks) p.slot new serves.running step open_now plan.point images in
+          let holds = laws.holds m.sectors m.seen.disk now.seen.disk m.seen.nvram s (writes_of p.blocks) p.slot new serves.running step open_now plan.point images in
+          let plannable = points.plannable serves here c.other_slot-slot.result c.in-Some.generation c.replace-map.result c.other_slot-slot.ensures epoch
+          c.replace-map.ensures.value in
+          let entries : (b : ℕ) → settled_at c.settle.new.self.parts.items b ≡ entry (roots.whole (blocks_of now.seen.disk) new).active b = λ b.
+          c.settle.ensures.settled b ∙ sym (of_ok c.plan-map.result.1 c.in-Ok.point (λ (x : Point). PlansEntries (blocks_of m.seen.disk) f.root x.plan x.root c.plan-map.result.0) c.in-Ok.is
+          (c.plan-map.ensures.entries m.seen.disk serves.first serves.running serves.snapshots serves.shows plannable) (blocks_of now.seen.disk)
+          (settled.has_all laws serves f.sectors p new step plan now whole has images)
+          (settled.agrees laws serves f.sectors p new step plan now whole has images) b) in
+          let memory = settled.memory laws serves f.sectors p new step plan now whole has images holds
+          c.in-Ok-carry_out.file c.settle-in-Ok-carry_out.new.self c.settle.new.self f.sizes c.in-Ok-carry_out.ensures.root.1 c.settle-in-Ok-carry_out.ensures.volume entries in
+          let shown = settled.shows laws serves f.sectors p new step plan now whole has images kept same.sectors
+          (c.in-Ok-carry_out.ensures.shows (blocks_of m.seen.disk) (c.plan-map.ensures.reads.same (blocks_of m.seen.disk) serves.shows)) in
+          let stands = c.go_on.ensures.covered f.root.generation serves.bodies m.seen.nvram (omega (arith, f.is_root.head.last)) (c.epoch_after.ensures ∙ ap (λ (n : ℕ). n + 1) epoch)
+          (serves.left serves.honest m.seen here).log_stands in
+          let goes = subst (λ (l : LogEnd). IsFalse l.is_stopped) (sym c.go_on.ensures.end) serves.goes in
+          let counted : c.from.result ≡ count_nameless new.geometry.inodes serves.running =
+          c.from.ensures ∙ c.nameless_files.ensures.counted new.geometry.inodes serves.running memory.volume
+          (subst (λ (t : ℕ → Option Description). IsMounted serves.running t) serves.opened serves.mounted) serves.fits in
+          let at = λ (r : Root) (n : ℕ). OnceCovered now (record (parts_of {G = g.S.Station} f) {
+            kept = kept;
+            root = r;
+            slot = n;
+            inodes = c.settle-in-Ok-carry_out.new.self;
+            map = c.settle.new.self;
+            log = c.go_on.new.self;
+            pledged = 4 * c.from.result;
+          }) table after in
+          let done : at new p.slot = (
+            settled.settled laws serves f.sectors p new step plan now whole has images holds
+                kept c.settle-in-Ok-carry_out.new.self c.settle.new.self c.go_on.new.self honest c.in-Ok-carry_out.ensures.settled.1 shown newest stands goes memory c.from.result counted,
+            refl {a = no_bodies},
+            refl {a = serves.running},
+          ) in
+          let slot : p.slot ≡ c.other_slot-slot.result = of_ok c.plan-map.result.1 c.in-Ok.point (λ (x : Point). x.plan.slot ≡ c.other_slot-slot.result) c.in-Ok.is c.plan-map.ensures.slot in
+          let there = subst (λ (r : Root). at r c.other_slot-slot.result) (sym c.in-Ok-carry_out.ensures.root.0) (subst (at new) slot done) in
+          covered_at {G = g.S.Station} _ table _ t leads.2 (record { serves = there.0; no_record = there.1; held = there.2 });
+      refused = λ table s serves. tt;
+      kept = tt;
+      unlogged = points.written_unlogged m mid now c.in-Ok.point.plan reads.goes (g.met.S.Station.seen_may_be_left c.plan-map.new.blocks.station) c.carry_out.ensures.any_moment;
+      generation = ap (λ (r : Root). r.generation) c.in-Ok-carry_out.ensures.root.0
+          ∙ of_ok c.plan-map.result.1 c.in-Ok.point (λ (x : Point). x.root.generation ≡ c.in-Some.generation) c.in-Ok.is c.plan-map.ensures.generation ∙ epoch;
+      log = c.go_on.ensures.end ∙ ap (λ (n : ℕ). record f.log { epoch = n; end = Unopened }) (c.epoch_after.ensures ∙ ap (λ (n : ℕ). n + 1) epoch);
+      unchanged = c.settle-in-Ok-carry_out.ensures.unchanged;
+      full = λ is. cc;
+      damaged = λ table s serves is. cc;
+      last = λ table s serves is. cc;
+    }

@@ -99,7 +99,7 @@ returns-in-Ok g c =
     let name = c.as_bytes-name.result.now in
     let taking = c.in-Ok-Ok.taking in
     let made = c.in-Ok.ensures in
-    settles fs new mid _ (command.SnapTake c.args.name.now) reads told.reads.counted made.uses made.written made.reads made.log
+    settles fs new mid _ (command.SnapTake c.args.name.now) reads told.reads.counted made.unlogged made.counted made.log
     (λ s served covered.
     let v = covered.serves in
     let over = stays_read {G = g.S.Station} fs c.prepare_take.new.blocks s reads told.reads.same v in
@@ -114,9 +114,9 @@ returns-in-Ok g c =
       need = a_snapshot;
       step = λ room. subst (λ (n : Name). takes s n Done after a_snapshot) c.as_bytes-name.ensures
           (take_step {G = g.S.Station} fs s c.cuts_open.ensures.forgets name v covered.held (passed g (goal.at.returns-in-Ok g c).In-Ok-Ok s v));
-      covered = made.covered s.tree.descriptors s over step (record { is = refl; can = can });
+      covered = made.covered s.tree.descriptors s over after (step, record { is = refl; can = can }, refl);
       leaves = either_after m mid (meaning_of {G = g.S.Station} new) s after reads (c.served_states_open.ensures s.tree.descriptors s served)
-          (made.any_moment s.tree.descriptors s over step (record { is = refl; can = can }));
+          (made.any_moment s.tree.descriptors s over after (step, record { is = refl; can = can }, refl));
     }) _
 
 pub returns-in-Err-point_with : goal.returns-in-Err-point_with
@@ -132,8 +132,7 @@ returns-in-Err-point_with g c =
     let taking = c.in-Ok-Ok.taking in
     let made = c.in-Err-point_with.ensures in
     let over = λ (s : State) (served : ServesState {G = g.S.Station} fs s). stays_read {G = g.S.Station} fs c.prepare_take.new.blocks s reads told.reads.same served in
-    not_settled fs new mid _ (command.SnapTake c.args.name.now) reads told.reads.counted made.uses c.in-Err-point_with.error made.log made.written (λ is. made.device (ap (λ e. Err e) is))
-    (λ is. made.read (ap (λ e. Err e) is)) made.kept (λ s served refused. made.refused s.tree.descriptors s (over s served) refused)
+    not_settled fs new mid _ (command.SnapTake c.args.name.now) reads told.reads.counted made.unlogged c.in-Err-point_with.error made.counted made.log made.kept (λ s served refused. made.refused s.tree.descriptors s (over s served) refused)
     (λ s served covered is.
     let v = covered.serves in
     let after : State = with_snapshots (v.snapshots ++ (name, tree_of (without_nameless v.first) closed) ∷ []) s in
@@ -149,9 +148,9 @@ returns-in-Err-point_with g c =
       step = λ room. subst (λ (n : Name). takes s n Done after a_snapshot) c.as_bytes-name.ensures
           (take_step {G = g.S.Station} fs s c.cuts_open.ensures.forgets name v covered.held (passed g (goal.at.returns-in-Err-point_with g c).In-Ok-Ok s v));
       leaves = either_after m mid (meaning_of {G = g.S.Station} new) s after reads (c.served_states_open.ensures s.tree.descriptors s served)
-          (made.any_moment s.tree.descriptors s (over s v) step (record { is = refl; can = can }));
+          (made.any_moment s.tree.descriptors s (over s v) after (step, record { is = refl; can = can }, refl));
     })
-    (λ is. made.full (ap (λ e. Err e) is))
+    (λ is. (made.full (ap (λ e. Err e) is)).1)
     (λ s served room.
     let t = tree_of (without_nameless served.running) closed in
     let after : State = with_snapshots (s.snapshots ++ (name, t) ∷ []) s in

@@ -1,0 +1,97 @@
+-- Functions that tell what stands where a path leads, step by step.
+use Rattle.std.proofs.Common.{◌≡◌, ◌≢◌, ◌<◌, ◌-◌, ℕ, Bool, List, [], ◌∷◌, length, Result, Ok, Err, IfErr, IfOk, IsTrue, arith, refl, subst}
+use Rattle.std.proofs.lemmas.List.Elements.{All-get_or}
+use Rattle.std.specs.Result.{IsErrAnd}
+use Rattle.model.specs.Finding.{IsPlaceOf, here}
+use Rattle.model.specs.Paths.{Name, parts}
+use Rattle.model.specs.Resolution.{Resolution, resolve}
+use Rattle.model.specs.Volumes.{Volume, IsVolume, tree_of}
+use Rattle.model.specs.declared.errno.Errno.{Errno}
+use Rattle.model.specs.declared.errno.Errno.TheVariants.{ENOENT}
+use Rattle.model.specs.declared.limits.TheConstants.{ROOT_NUMBER}
+use Rattle.blocktree.specs.Errors.{IsFault}
+use Rattle.blocktree.specs.declared.error.ReadError.{ReadError}
+use Rattle.buffers.specs.declared.blocks.Blocks.{Ghosts}
+use Rattle.inofile.specs.declared.inode_file.InodeFile.{InodeFile}
+use Rattle.paths.specs.Ends.{EndsWell}
+use Rattle.paths.specs.Numbers.{AreNumbers, IsNumber}
+use Rattle.paths.specs.Places.{place_of, IsPlaceWithin}
+use Rattle.paths.specs.Resolves.{Resolves}
+use Rattle.paths.specs.Standing.{Looks}
+use Rattle.paths.specs.Steps.{found_in}
+use Rattle.paths.specs.declared.lookup.Found.TheVariants as found
+use Rattle.paths.specs.declared.place.Place.{Place}
+use Rattle.paths.specs.declared.place.Place.TheVariants.{Directory, Entry, Gap, Refusal}
+use Rattle.paths.proofs.Looks.{looks_err, looks_ok}
+use Rattle.records.specs.Shown.{NeverDamaged}
+use Rattle.calls.specs.Leading.{LeadsTo, TellsWhere}
+use Rattle.calls.specs.Refusals.{is_path_refusal}
+use Rattle.calls.proofs.LeadLaws.{directory_no_link, leads_directory, leads_entry, leads_gap, leads_refusal}
+use Rattle.calls.proofs.PrepareSteps.{never_damaged}
+use Rattle.calls.proofs.RefusalLaws.{walk_refusal}
+
+-- what a place tells of what stands there
+abbrev pub led_of : Place → Result ℕ Errno
+led_of (Directory trail) = Ok (here trail)
+led_of (Entry trail name number) = Ok number
+led_of (Gap trail name) = Err ENOENT
+led_of (Refusal errno) = Err errno
+
+leads_at : (inodes : ℕ) (v : Volume) → IsVolume inodes v → (p : Place) (r : Resolution) → IsPlaceOf v (place_of p) r → LeadsTo v r (led_of p)
+leads_at inodes v volume (Directory trail) r at = leads_directory inodes v volume trail r at
+leads_at inodes v volume (Entry trail name number) r at = leads_entry inodes v volume trail name.items number r at
+leads_at inodes v volume (Gap trail name) r at = leads_gap v trail name.items r at
+leads_at inodes v volume (Refusal errno) r at = leads_refusal v errno r at
+
+number_here : (inodes : ℕ) (trail : List ℕ) → ROOT_NUMBER < inodes → AreNumbers inodes trail → IsNumber inodes (here trail)
+number_here inodes [] root all = (omega arith, root)
+number_here inodes (x ∷ rest) root all = All-get_or (IsNumber inodes) (x ∷ rest) (length (x ∷ rest) - 1) ROOT_NUMBER (omega arith) all
+
+within_at : (inodes : ℕ) (p : Place) → ROOT_NUMBER < inodes → IsPlaceWithin inodes p → IfOk (led_of p) (IsNumber inodes)
+within_at inodes (Directory trail) root is = number_here inodes trail root is
+within_at inodes (Entry trail name number) root is = is.1
+within_at inodes (Gap trail name) root is = tt
+within_at inodes (Refusal errno) root is = tt
+
+own_at : (inodes : ℕ) (p : Place) → IsPlaceWithin inodes p → IfErr (led_of p) (λ e. IsTrue (is_path_refusal e))
+own_at inodes (Directory trail) is = tt
+own_at inodes (Entry trail name number) is = tt
+own_at inodes (Gap trail name) is = refl
+own_at inodes (Refusal errno) is = walk_refusal errno is
+
+followed_at : (v : Volume) (follow : Bool) (p : Place) → EndsWell v follow (place_of p) → IsTrue follow → IfOk (led_of p) (λ n. found_in (v n) ≢ found.Link)
+followed_at v follow (Directory trail) ends is = directory_no_link (found_in (v (here trail))) ends
+followed_at v follow (Entry trail name number) ends is = ends is
+followed_at v follow (Gap trail name) ends is = tt
+followed_at v follow (Refusal errno) ends is = tt
+
+module _ {B : Type 0} {G : Ghosts B} {a b : B} {s t : InodeFile} {follow : Bool} where
+  module _ {IsText : List ℕ → Type 0} {told : List ℕ → Volume → Resolution → Result ℕ Errno → Type 0} where
+    -- a step before has failed
+    pub leads_nowhere : {X : Type 0} {e : ReadError} (q : Result (Result ℕ Errno) ReadError) → IsErrAnd q (λ f. f ≡ e)
+        → Looks {T = X} G IsFault a b s t (Err e) → NeverDamaged {T = X} G a s (Err e) → TellsWhere G a b s t follow IsText told q
+    leads_nowhere (Ok y) is looks sound = absurd is
+    leads_nowhere (Err f) is looks sound = record {
+      looks = looks_err (Err f) is looks;
+      within = tt;
+      own = tt;
+      leads = λ disk settled v table text stands volume are. tt;
+      followed = λ disk settled v stands volume is. tt;
+      damaged = never_damaged (Err f) is sound;
+    }
+
+  -- what stands where the parts of a path lead
+  pub leads_by : {path : List Name} {p : Place} {y : Result ℕ Errno} → ROOT_NUMBER < s.geometry.inodes → Resolves G a b s t path follow (Ok p) → led_of p ≡ y
+      → TellsWhere G a b s t follow (λ text. path ≡ parts text) (λ _. LeadsTo) (Ok y)
+  leads_by {p = p} root resolves is = record {
+    looks = looks_ok resolves.looks;
+    within = subst (λ (x : Result ℕ Errno). IfOk x (IsNumber s.geometry.inodes)) is (within_at s.geometry.inodes p root resolves.within);
+    own = subst (λ (x : Result ℕ Errno). IfErr x (λ e. IsTrue (is_path_refusal e))) is (own_at s.geometry.inodes p resolves.within);
+    leads = λ disk settled v table text stands volume are.
+        let r = resolve (tree_of v table) follow text in
+        subst (λ (x : Result ℕ Errno). LeadsTo v r x) is (leads_at s.geometry.inodes v volume p r (resolves.found disk settled v table text stands volume are));
+    followed = λ disk settled v stands volume follows.
+        subst (λ (x : Result ℕ Errno). IfOk x (λ n. found_in (v n) ≢ found.Link)) is
+        (followed_at v follow p (resolves.ends disk settled v stands volume) follows);
+    damaged = λ disk settled v stands bad. cc;
+  }

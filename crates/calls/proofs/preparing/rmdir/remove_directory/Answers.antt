@@ -1,0 +1,74 @@
+use Rattle.std.proofs.Common.{rules, ◌≡◌, ◌∙◌, ℕ, false, Some, None, IsFalse, refl, sym, subst}
+use Rattle.model.specs.Paths.{first_refusal, is_root_text, new_text_tests, parts}
+use Rattle.calls.proofs.PrepareSteps.{refuses, follows, stops}
+use Rattle.calls.proofs.RefusalLaws.{new_text_own, walk_refusal}
+use Rattle.calls.proofs.RemoveLaws.{remove_refused, remove_root, finds_entry, remove_comes, remove_led_nowhere}
+use Rattle.records.proofs.StandLaws.{no_look}
+use Rattle.model.specs.Finding.{IsPlaceOf}
+use Rattle.model.specs.Resolution.{resolve}
+use Rattle.model.specs.Volumes.{tree_of}
+use Rattle.paths.specs.Ends.{EndsInName, IsAtName}
+use Rattle.paths.specs.Places.{place_of, IsPlaceWithin}
+use Rattle.calls.specs.Rmdir.{RemovesDirectory}
+use Rattle.calls.proofs.LeadLaws.{leads_gap, leads_refusal}
+use Rattle.calls.proofs.NameLaws.{ends_in_name}
+use Rattle.calls.proofs.preparing.rmdir.remove_directory.Goals as goal
+
+pub returns-in-Some : goal.returns-in-Some
+returns-in-Some g c =
+    let is : first_refusal (new_text_tests c.args.path.now) ≡ Some c.in-Some.errno = sym c.refusal_of_new_text.ensures ∙ c.in-Some.is in
+    refuses no_look (new_text_own c.args.path.now c.in-Some.errno is)
+    (λ disk settled v table stands volume mounted. remove_refused v table c.args.path.now c.in-Some.errno is)
+
+pub returns-then-is_root : goal.returns-then-is_root
+returns-then-is_root g c =
+    let passed : first_refusal (new_text_tests c.args.path.now) ≡ None = search rules in
+    refuses no_look refl
+    (λ disk settled v table stands volume mounted. remove_root v table c.args.path.now passed (sym c.is_root.ensures ∙ c.if-is_root.true))
+
+pub returns-in_err-place : goal.returns-in_err-place
+returns-in_err-place g c = stops c.from_residual-in_err-place.result c.from_residual-in_err-place.ensures.1 c.in_err-place.ensures.looks c.in_err-place.ensures.damaged
+
+pub returns-in-Entry : goal.returns-in-Entry
+returns-in-Entry g c = follows c.in_ok-place.ensures.looks c.remove_entry.ensures (λ disk settled v table stands volume mounted y told.
+    let passed : first_refusal (new_text_tests c.args.path.now) ≡ None = search rules in
+    let not_root : IsFalse (is_root_text c.args.path.now) = search rules in
+    let inodes = c.args.inodes.now.geometry.inodes in
+    let text = c.args.path.now in
+    let r = resolve (tree_of v table) false text in
+    let at = subst (λ p. IsPlaceOf v (place_of p) r) c.in-Entry.is (c.in_ok-place.ensures.found disk settled v table text stands volume (search rules)) in
+    let name = c.in-Entry.name.items in
+    let n = c.in-Entry.number in
+    remove_comes inodes v table volume mounted (c.volumes_are_trees.ensures inodes v table volume mounted) c.records_change_trees.ensures text passed not_root _ name n
+    (finds_entry v c.in-Entry.trail name n r at) y (subst (λ (d : ℕ). RemovesDirectory inodes v d name n y) c.here.ensures told))
+
+pub returns-in-Directory : goal.returns-in-Directory
+returns-in-Directory g c = refuses c.in_ok-place.ensures.looks refl (λ disk settled v table stands volume mounted.
+    let passed : first_refusal (new_text_tests c.args.path.now) ≡ None = search rules in
+    let not_root : IsFalse (is_root_text c.args.path.now) = search rules in
+    let same : c.in_ok-parts.parts ≡ parts c.args.path.now = search rules in
+    let plain = subst EndsInName (sym same) (ends_in_name c.args.path.now passed not_root) in
+    absurd (subst (λ p. IsAtName (place_of p)) c.in-Directory.is (c.in_ok-place.ensures.named disk settled v stands refl plain)))
+
+pub returns-in-Refusal : goal.returns-in-Refusal
+returns-in-Refusal g c = refuses c.in_ok-place.ensures.looks
+    (walk_refusal c.in-Refusal.errno (subst (IsPlaceWithin c.args.inodes.now.geometry.inodes) c.in-Refusal.is c.in_ok-place.ensures.within)) (λ disk settled v table stands volume mounted.
+    let passed : first_refusal (new_text_tests c.args.path.now) ≡ None = search rules in
+    let not_root : IsFalse (is_root_text c.args.path.now) = search rules in
+    let inodes = c.args.inodes.now.geometry.inodes in
+    let text = c.args.path.now in
+    let r = resolve (tree_of v table) false text in
+    let at = subst (λ p. IsPlaceOf v (place_of p) r) c.in-Refusal.is (c.in_ok-place.ensures.found disk settled v table text stands volume (search rules)) in
+    remove_led_nowhere inodes v table volume mounted (c.volumes_are_trees.ensures inodes v table volume mounted) c.records_change_trees.ensures text passed not_root _
+    (leads_refusal v c.in-Refusal.errno r at))
+
+pub returns-in-Gap : goal.returns-in-Gap
+returns-in-Gap g c = refuses c.in_ok-place.ensures.looks refl (λ disk settled v table stands volume mounted.
+    let passed : first_refusal (new_text_tests c.args.path.now) ≡ None = search rules in
+    let not_root : IsFalse (is_root_text c.args.path.now) = search rules in
+    let inodes = c.args.inodes.now.geometry.inodes in
+    let text = c.args.path.now in
+    let r = resolve (tree_of v table) false text in
+    let at = subst (λ p. IsPlaceOf v (place_of p) r) c.in-Gap.is (c.in_ok-place.ensures.found disk settled v table text stands volume (search rules)) in
+    remove_led_nowhere inodes v table volume mounted (c.volumes_are_trees.ensures inodes v table volume mounted) c.records_change_trees.ensures text passed not_root _
+    (leads_gap v c.in-Gap._trail c.in-Gap._name.items r at))

@@ -1,0 +1,11 @@
+//! Calls that change something, each prepared as its record.
+
+pub mod chmod;
+pub mod link;
+pub mod mkdir;
+pub mod open;
+pub mod rename;
+pub mod rmdir;
+pub mod symlink;
+pub mod truncate;
+pub mod unlink;

@@ -1,0 +1,31 @@
+//! Making a directory over a path.
+
+ghost use Rattle.model.specs.Changing.{makes_directory};
+ghost use Rattle.model.specs.Volumes.{tree_of};
+ghost use Rattle.calls.specs.Changing.{Comes};
+ghost use Rattle.calls.specs.Preparing.{Prepares};
+
+use crate::making::make;
+use crate::{Changing, OwnedObject};
+use blocktree::ReadError;
+use buffers::Blocks;
+use inofile::InodeFile;
+use model::{Errno, Mode};
+use std::alloc::Global;
+
+/// Makes a directory of this mode where a path leads, as far as nothing of it is seen yet: prepares its record, or tells why the
+/// call is refused. NoMemory; Device where a read failed; Damaged where a block on the way is outside its format, or where a number
+/// that is free has an object.
+pub fn make_directory<B: Blocks>(
+    alloc: Global,
+    inodes: &mut InodeFile,
+    blocks: &mut B,
+    path: &[u8],
+    mode: Mode,
+) -> Result<Result<Changing, Errno>, ReadError>
+    ensures { Prepares B.Blocks blocks.old blocks.new inodes.old inodes.new
+        (λ inodes v table. Comes (makes_directory inodes (tree_of v table) path.now mode) inodes v
+        table) result }
+{
+    make(alloc, inodes, blocks, path, OwnedObject::Directory { mode })
+}

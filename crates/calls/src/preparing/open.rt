@@ -1,0 +1,159 @@
+//! Opening a file over a path: one that is there, or a new one.
+
+ghost use Rattle.std.specs.Prelude.{◌≡◌, ◌≢◌, ◌<◌, ◌&&◌, IfOk, IsTrue, None, Some, not};
+ghost use Rattle.model.specs.Descriptors.{opens_object};
+ghost use Rattle.model.specs.Paths.{first_refusal, parts as parts_of, text_tests};
+ghost use Rattle.model.specs.Trees as trees;
+ghost use Rattle.model.specs.Volumes.{object_of, tree_of};
+ghost use Rattle.paths.specs.Numbers.{IsNumber};
+ghost use Rattle.paths.specs.Steps.{found_in};
+ghost use Rattle.paths.specs.declared.lookup.Found.TheVariants as found;
+ghost use Rattle.calls.specs.Open.{KeepsBounds, OpensAt, OpensNew, opens_along};
+ghost use Rattle.calls.specs.Preparing.{PreparesOpening};
+
+use crate::finding::find;
+use crate::making::make_in;
+use crate::{Changing, OwnedObject, cut_file, stat_number};
+use blocktree::ReadError;
+use buffers::Blocks;
+use inofile::InodeFile;
+use model::{
+    Errno, Flags, Kind, Mode, records_change_trees, volumes_are_trees, volumes_tell_fresh_numbers,
+};
+use paths::{Parts, Place};
+use std::alloc::Global;
+
+/// A file that is to be opened.
+#[derive(Drop)]
+pub struct Opened {
+    /// Its inode number.
+    pub number: u32,
+    /// Its size in bytes, once it is open.
+    pub size: u64,
+    /// How many names it has.
+    pub links: u32,
+    /// What is changed beside: the file is made, or cut to no bytes.
+    pub changing: Option<Changing>,
+}
+
+/// Finds the file where the parts of a path lead, or prepares the record of a new one, as far as nothing of it is seen yet; and
+/// prepares the record that cuts a file to no bytes, where the flags say so. Or tells why the call is refused. A last symbolic
+/// link is followed, but not where a new file is wanted. NoMemory; Device where a read failed; Damaged where a block on the way is
+/// outside its format, or where a number that is free has an object.
+pub fn open_along<B: Blocks>(
+    alloc: Global,
+    inodes: &mut InodeFile,
+    blocks: &mut B,
+    path: &[u8],
+    parts: Parts,
+    flags: Flags,
+    mode: Mode,
+) -> Result<Result<Opened, Errno>, ReadError>
+    requires parts { parts ≡ parts_of path.now }
+    requires passed { first_refusal (text_tests path.now) ≡ None }
+    ensures within { IfOk result (λ r. IfOk r (KeepsBounds inodes.old.geometry.inodes)) }
+    ensures opens { PreparesOpening B.Blocks blocks.old blocks.new inodes.old inodes.new
+        (λ inodes v table. OpensAt (opens_along inodes (tree_of v table) path.now flags mode) inodes
+        flags v table) result }
+{
+    volumes_are_trees();
+    volumes_tell_fresh_numbers();
+    records_change_trees();
+    let place = find(alloc, inodes, blocks, parts, !wants_new(flags))?;
+    match place {
+        Place::Gap { trail, name } => {
+            open_new(alloc, inodes, blocks, trail.here(), name, flags, mode)
+        }
+        Place::Refusal(errno) => Ok(Err(errno)),
+        Place::Directory(trail) => open_object(alloc, inodes, blocks, trail.here(), flags),
+        Place::Entry {
+            trail: _trail,
+            name: _name,
+            number,
+        } => open_object(alloc, inodes, blocks, number, flags),
+    }
+}
+
+// Whether flags want a file that isn't there yet.
+fn wants_new(flags: Flags) -> bool
+    ensures { result ≡ (flags.creates && flags.exclusive) }
+{
+    flags.creates && flags.exclusive
+}
+
+// Opens the object with a number, if it is a file; EEXIST where a new file is wanted, EISDIR where it is a directory.
+fn open_object<B: Blocks>(
+    alloc: Global,
+    inodes: &mut InodeFile,
+    blocks: &mut B,
+    number: u32,
+    flags: Flags,
+) -> Result<Result<Opened, Errno>, ReadError>
+    requires number { IsNumber inodes.old.geometry.inodes number }
+    ensures within { IfOk result (λ r. IfOk r (KeepsBounds inodes.old.geometry.inodes)) }
+    ensures opens { PreparesOpening B.Blocks blocks.old blocks.new inodes.old inodes.new
+        (λ inodes v table r. (o : trees.Object) → object_of number (v number) ≡ Some o → (IsTrue
+        (not (flags.creates && flags.exclusive)) → found_in (v number) ≢ found.Link) → OpensAt
+        (opens_object (tree_of v table) o flags) inodes flags v table r) result }
+{
+    if wants_new(flags) {
+        return Ok(Err(Errno::EEXIST));
+    }
+    let told = stat_number(alloc, inodes, blocks, number)?;
+    let stat = match told {
+        Ok(stat) => stat,
+        Err(errno) => return Ok(Err(errno)),
+    };
+    let Kind::File = stat.kind else {
+        return Ok(Err(Errno::EISDIR));
+    };
+    if !flags.truncates {
+        return Ok(Ok(Opened {
+            number,
+            size: stat.size,
+            links: stat.links,
+            changing: None,
+        }));
+    }
+    let changing = cut_file(alloc, inodes, blocks, number, 0)?;
+    Ok(Ok(Opened {
+        number,
+        size: 0,
+        links: stat.links,
+        changing,
+    }))
+}
+
+// Makes a file at a name that its parent doesn't have; ENOENT where none is to be made.
+fn open_new<B: Blocks>(
+    alloc: Global,
+    inodes: &mut InodeFile,
+    blocks: &mut B,
+    parent: u32,
+    name: Vec<u8>,
+    flags: Flags,
+    mode: Mode,
+) -> Result<Result<Opened, Errno>, ReadError>
+    ensures within { IfOk result (λ r. IfOk r (KeepsBounds inodes.old.geometry.inodes)) }
+    ensures opens { PreparesOpening B.Blocks blocks.old blocks.new inodes.old inodes.new
+        (λ inodes v table. OpensNew inodes v flags mode parent name.items) result }
+{
+    if !flags.creates {
+        return Ok(Err(Errno::ENOENT));
+    }
+    let object = OwnedObject::File { mode };
+    let made = make_in(alloc, inodes, blocks, parent, name, object)?;
+    let changing = match made {
+        Ok(changing) => changing,
+        Err(errno) => return Ok(Err(errno)),
+    };
+    let Some(number) = changing.change.number_made() else {
+        unreachable!()
+    };
+    Ok(Ok(Opened {
+        number,
+        size: 0,
+        links: 1,
+        changing: Some(changing),
+    }))
+}

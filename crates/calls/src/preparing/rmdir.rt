@@ -1,0 +1,76 @@
+//! Taking the name of a directory away over a path.
+
+ghost use Rattle.model.specs.Changing.{removes_directory};
+ghost use Rattle.model.specs.Volumes.{tree_of};
+ghost use Rattle.paths.specs.Numbers.{IsNumber};
+ghost use Rattle.calls.specs.Changing.{ComesSwept};
+ghost use Rattle.calls.specs.Preparing.{Prepares};
+ghost use Rattle.calls.specs.Rmdir.{RemovesDirectory};
+
+use crate::Changing;
+use crate::finding::{find, is_root};
+use crate::preparing::unlink::remove_name;
+use blocktree::ReadError;
+use buffers::Blocks;
+use inofile::InodeFile;
+use model::{Errno, records_change_trees, volumes_are_trees};
+use paths::{Found, Parts, Place, refusal_of_new_text};
+use records::kind_at;
+use std::alloc::Global;
+
+/// Takes away the name that a path leads to, of an empty directory, as `unlink` does of another object.
+pub fn remove_directory<B: Blocks>(
+    alloc: Global,
+    inodes: &mut InodeFile,
+    blocks: &mut B,
+    path: &[u8],
+) -> Result<Result<Changing, Errno>, ReadError>
+    ensures { Prepares B.Blocks blocks.old blocks.new inodes.old inodes.new
+        (λ inodes v table. ComesSwept (removes_directory (tree_of v table) path.now) inodes v table)
+        result }
+{
+    volumes_are_trees();
+    records_change_trees();
+    let parts = Parts::of(alloc, path)?;
+    if let Some(errno) = refusal_of_new_text(path, &parts) {
+        return Ok(Err(errno));
+    }
+    if is_root(path) {
+        return Ok(Err(Errno::EBUSY));
+    }
+    let place = find(alloc, inodes, blocks, parts, false)?;
+    match place {
+        Place::Entry {
+            trail,
+            name,
+            number,
+        } => return remove_entry(alloc, inodes, blocks, trail.here(), name, number),
+        // Only the path `/`, which doesn't come here, has no name at its end.
+        Place::Directory(_trail) => return Ok(Err(Errno::EBUSY)),
+        Place::Refusal(errno) => return Ok(Err(errno)),
+        Place::Gap {
+            trail: _trail,
+            name: _name,
+        } => return Ok(Err(Errno::ENOENT)),
+    }
+}
+
+// Takes a name away that is this number's: ENOTDIR where that isn't a directory's, ENOTEMPTY where it has names.
+fn remove_entry<B: Blocks>(
+    alloc: Global,
+    inodes: &mut InodeFile,
+    blocks: &mut B,
+    parent: u32,
+    name: Vec<u8>,
+    number: u32,
+) -> Result<Result<Changing, Errno>, ReadError>
+    requires { IsNumber inodes.old.geometry.inodes number }
+    ensures { Prepares B.Blocks blocks.old blocks.new inodes.old inodes.new
+        (λ inodes v table. RemovesDirectory inodes v parent name.items number) result }
+{
+    let found = kind_at(alloc, inodes, blocks, number)?;
+    match found {
+        Found::Directory => remove_name(alloc, inodes, blocks, parent, name, Errno::ENOTEMPTY),
+        _ => Ok(Err(Errno::ENOTDIR)),
+    }
+}

@@ -1,0 +1,60 @@
+//! Making a symbolic link over a path.
+
+ghost use Rattle.std.specs.Prelude.{◌≡◌, ◌==◌};
+ghost use Rattle.std.specs.List.{list_any};
+ghost use Rattle.model.specs.Changing.{link_text_tests, makes_symlink};
+ghost use Rattle.model.specs.Paths.{first_refusal};
+ghost use Rattle.model.specs.Volumes.{tree_of};
+ghost use Rattle.calls.specs.Changing.{Comes};
+ghost use Rattle.calls.specs.Preparing.{Prepares};
+
+use crate::making::make;
+use crate::{Changing, LinkText, OwnedObject};
+use blocktree::ReadError;
+use buffers::Blocks;
+use inofile::InodeFile;
+use model::{Errno, PATH_BYTES};
+use std::alloc::Global;
+
+/// Makes a symbolic link of this text where a path leads, as `make_directory` does a directory.
+pub fn symlink<B: Blocks>(
+    alloc: Global,
+    inodes: &mut InodeFile,
+    blocks: &mut B,
+    text: &[u8],
+    path: &[u8],
+) -> Result<Result<Changing, Errno>, ReadError>
+    ensures { Prepares B.Blocks blocks.old blocks.new inodes.old inodes.new
+        (λ inodes v table. Comes (makes_symlink inodes (tree_of v table) text.now path.now) inodes v
+        table) result }
+{
+    if let Some(errno) = refusal_of_link_text(text) {
+        return Ok(Err(errno));
+    }
+    let bytes = Vec::from_slice(alloc, text)?;
+    let Some(text) = LinkText::new(bytes) else {
+        unreachable!()
+    };
+    make(alloc, inodes, blocks, path, OwnedObject::Link { text })
+}
+
+// Why the text of a symbolic link is refused.
+fn refusal_of_link_text(text: &[u8]) -> Option<Errno>
+    ensures { result ≡ first_refusal (link_text_tests text.now) }
+{
+    if text.is_empty() {
+        Some(Errno::ENOENT)
+    } else if has_zero(text) {
+        Some(Errno::EINVAL)
+    } else if text.len() > PATH_BYTES {
+        Some(Errno::ENAMETOOLONG)
+    } else {
+        None
+    }
+}
+
+fn has_zero(text: &[u8]) -> bool
+    ensures { result ≡ list_any (λ byte. byte == 0) text.now }
+{
+    text.iter().any(|byte| *byte == 0)
+}

@@ -1,0 +1,284 @@
+//! The program's command line, which `clap` reads.
+
+ghost use Rattle.std.specs.Prelude.{◌≡◌};
+ghost use Rattle.command_line.specs.declared.line.LineError.TheVariants.{NoMemory};
+
+use crate::arguments::wafl_command;
+use crate::numbers::{BLOCKS, HALF, INODES, make_number};
+use clap::ArgMatches;
+use clap::error::ErrorKind;
+use std::alloc::{AllocError, AllocFailed, Global};
+use std::convert::AsStr;
+use thiserror::Error;
+
+/// What a command line asks for, and how it is told.
+#[derive(Debug, Drop)]
+pub struct Asked<'a> {
+    pub line: Line<'a>,
+    /// `--explain`: what is wrong with a script or an image is told in a second line, on no terminal too.
+    pub explains: bool,
+}
+
+/// What a command line asks for.
+#[derive(Debug, Drop)]
+pub enum Line<'a> {
+    /// `wafl make DISK NVRAM --blocks N --inodes N --half N [--new]`: makes both files and an empty image on them.
+    Make {
+        disk: &'a str,
+        nvram: &'a str,
+        blocks: u32,
+        inodes: u32,
+        /// Bytes of each half of the NVRAM.
+        half: u32,
+        /// Files that are there and not empty aren't replaced.
+        is_new: bool,
+    },
+    /// `wafl run DISK NVRAM SCRIPT [--stop] [--cut N] [--keep none|all|BITS] [--bytes K] [--fail-sync N]`: mounts the image
+    /// and runs a script.
+    Run {
+        disk: &'a str,
+        nvram: &'a str,
+        /// The script's file; `-` is standard input.
+        script: &'a str,
+        /// The first command that is refused ends the run.
+        stops: bool,
+        faults: RunFaults<'a>,
+    },
+    /// `wafl shell DISK NVRAM`: mounts the image and answers each line of standard input at once.
+    Shell {
+        disk: &'a str,
+        nvram: &'a str,
+    },
+    /// `wafl do DISK NVRAM WORDS..`: mounts the image and does one command.
+    Do {
+        disk: &'a str,
+        nvram: &'a str,
+        /// The command's words, spelled as in a script.
+        words: Vec<&'a str>,
+    },
+    /// `wafl df DISK NVRAM`: mounts the image and tells the room of its disk.
+    Df {
+        disk: &'a str,
+        nvram: &'a str,
+    },
+    /// `wafl put DISK NVRAM FILE PATH`: stores a file of the host's in one of the image.
+    Put {
+        disk: &'a str,
+        nvram: &'a str,
+        /// The host's file; `-` is standard input.
+        file: &'a str,
+        /// The path of the file in the image.
+        path: &'a str,
+    },
+    /// `wafl get DISK NVRAM PATH FILE [--in SNAPSHOT]`: brings a file of the image back.
+    Get {
+        disk: &'a str,
+        nvram: &'a str,
+        /// The path of the file in the image.
+        path: &'a str,
+        /// The host's file; `-` is standard output.
+        file: &'a str,
+        /// The snapshot that it is read from, in place of the running tree.
+        snapshot: Option<&'a str>,
+    },
+    /// `--help`, `--version` and the like: this text is asked for.
+    Help(String),
+}
+
+/// What is to go wrong in a run.
+#[derive(Clone, Copy, Debug)]
+pub struct RunFaults<'a> {
+    /// The device write of this run, counted from 1, within which the power is cut.
+    pub cut: Option<u32>,
+    pub keep: Kept<'a>,
+    /// How many bytes an NVRAM write that is cut keeps.
+    pub bytes: u32,
+    /// The sync of this run, counted from 1, that fails. Mounting makes the first one.
+    pub fail_sync: Option<u32>,
+}
+
+/// Which of the sector writes since the last sync a power cut keeps.
+#[derive(Clone, Copy, Debug)]
+pub enum Kept<'a> {
+    /// `none`.
+    Nothing,
+    /// `all`.
+    Everything,
+    /// A nonempty text of 0 and 1, used again from its start: write i is kept where its character is 1.
+    Bits(&'a str),
+}
+
+/// Why a command line isn't obeyed.
+#[derive(Debug, Drop, Error)]
+pub enum LineError {
+    /// No memory was left.
+    #[error("wafl: no memory\n")]
+    NoMemory,
+    /// The words aren't understood. The text says which, and ends its last line.
+    #[error("{0}")]
+    NotUnderstood(String),
+    /// A number of `make` is one that no image has. The text says which and why, and ends its line.
+    #[error("{0}")]
+    OutOfRange(String),
+}
+
+impl From<AllocError> for LineError {
+    ghost from_gives = { λ _ e. e ≡ NoMemory };
+
+    fn from(_error: AllocError) -> LineError {
+        LineError::NoMemory
+    }
+}
+
+/// What the words ask for. The first is the program's name, as in `env::args`.
+pub fn read_line<'a, S: AsStr>(alloc: Global, words: &'a [S]) -> Result<Asked<'a>, LineError> {
+    let matches = match wafl_command(alloc)?.try_get_matches_from(words) {
+        Ok(matches) => matches,
+        Err(error) => return answer_without_matches(alloc, &error),
+    };
+    let Some((name, matches)) = matches.subcommand() else {
+        return Err(not_understood(alloc, "error: no command\n"));
+    };
+    Ok(Asked {
+        line: subcommand_line(alloc, name, matches)?,
+        explains: matches.get_flag("explain"),
+    })
+}
+
+/// Help where it was asked for, and else why the words aren't understood.
+fn answer_without_matches<'a>(alloc: Global, error: &clap::Error) -> Result<Asked<'a>, LineError> {
+    match error.kind() {
+        ErrorKind::OutOfMemory => Err(LineError::NoMemory),
+        ErrorKind::DisplayHelp | ErrorKind::DisplayVersion => Ok(Asked {
+            line: Line::Help(error.to_string(alloc)?),
+            explains: false,
+        }),
+        _ => Err(LineError::NotUnderstood(error.to_string(alloc)?)),
+    }
+}
+
+fn not_understood(alloc: Global, text: &str) -> LineError {
+    match String::from_str(alloc, text) {
+        Ok(text) => LineError::NotUnderstood(text),
+        Err(AllocError) => LineError::NoMemory,
+    }
+}
+
+/// What a subcommand of this name asks for.
+fn subcommand_line<'a>(
+    alloc: Global,
+    name: &str,
+    matches: &ArgMatches<'a>,
+) -> Result<Line<'a>, LineError> {
+    if name == "make" {
+        return make_line(alloc, matches);
+    }
+    let line = match name {
+        "run" => run_line(matches),
+        "shell" => shell_line(matches),
+        "do" => return do_line(alloc, matches),
+        "df" => df_line(matches),
+        "put" => put_line(matches),
+        "get" => get_line(matches),
+        _ => None,
+    };
+    match line {
+        Some(line) => Ok(line),
+        None => Err(not_understood(
+            alloc,
+            "error: invalid value for '--keep': none, all or a text of 0 and 1\n",
+        )),
+    }
+}
+
+fn make_line<'a>(alloc: Global, matches: &ArgMatches<'a>) -> Result<Line<'a>, LineError> {
+    let (disk, nvram) = image_words(alloc, matches)?;
+    Ok(Line::Make {
+        disk,
+        nvram,
+        blocks: make_number(alloc, matches, BLOCKS)?,
+        inodes: make_number(alloc, matches, INODES)?,
+        half: make_number(alloc, matches, HALF)?,
+        is_new: matches.get_flag("new"),
+    })
+}
+
+/// The files of the image, which each command requires.
+fn image_words<'a>(
+    alloc: Global,
+    matches: &ArgMatches<'a>,
+) -> Result<(&'a str, &'a str), LineError> {
+    match (matches.get_str("disk"), matches.get_str("nvram")) {
+        (Some(disk), Some(nvram)) => Ok((disk, nvram)),
+        _ => Err(not_understood(alloc, "error: no DISK and NVRAM\n")),
+    }
+}
+
+/// None where `--keep` isn't `none`, `all` or a text of 0 and 1.
+fn run_line<'a>(matches: &ArgMatches<'a>) -> Option<Line<'a>> {
+    Some(Line::Run {
+        disk: matches.get_str("disk")?,
+        nvram: matches.get_str("nvram")?,
+        script: matches.get_str("script")?,
+        stops: matches.get_flag("stop"),
+        faults: RunFaults {
+            cut: matches.get_one::<u32>("cut"),
+            keep: read_kept(matches.get_str("keep")?)?,
+            bytes: matches.get_one::<u32>("bytes")?,
+            fail_sync: matches.get_one::<u32>("fail-sync"),
+        },
+    })
+}
+
+fn shell_line<'a>(matches: &ArgMatches<'a>) -> Option<Line<'a>> {
+    Some(Line::Shell {
+        disk: matches.get_str("disk")?,
+        nvram: matches.get_str("nvram")?,
+    })
+}
+
+fn do_line<'a>(alloc: Global, matches: &ArgMatches<'a>) -> Result<Line<'a>, LineError> {
+    let (disk, nvram) = image_words(alloc, matches)?;
+    let words = matches.get_strs("words").unwrap_or(&[]);
+    Ok(Line::Do {
+        disk,
+        nvram,
+        words: Vec::from_slice(alloc, words)?,
+    })
+}
+
+fn df_line<'a>(matches: &ArgMatches<'a>) -> Option<Line<'a>> {
+    Some(Line::Df {
+        disk: matches.get_str("disk")?,
+        nvram: matches.get_str("nvram")?,
+    })
+}
+
+fn put_line<'a>(matches: &ArgMatches<'a>) -> Option<Line<'a>> {
+    Some(Line::Put {
+        disk: matches.get_str("disk")?,
+        nvram: matches.get_str("nvram")?,
+        file: matches.get_str("file")?,
+        path: matches.get_str("path")?,
+    })
+}
+
+fn get_line<'a>(matches: &ArgMatches<'a>) -> Option<Line<'a>> {
+    Some(Line::Get {
+        disk: matches.get_str("disk")?,
+        nvram: matches.get_str("nvram")?,
+        path: matches.get_str("path")?,
+        file: matches.get_str("file")?,
+        snapshot: matches.get_str("in"),
+    })
+}
+
+fn read_kept(word: &str) -> Option<Kept<'_>> {
+    match word {
+        "none" => Some(Kept::Nothing),
+        "all" => Some(Kept::Everything),
+        "" => None,
+        bits if bits.bytes().all(|byte| byte == b'0' || byte == b'1') => Some(Kept::Bits(bits)),
+        _ => None,
+    }
+}

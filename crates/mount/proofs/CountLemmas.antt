@@ -1,0 +1,72 @@
+-- What an error tells of device calls that failed.
+use Rattle.std.proofs.Common.{◌≡◌, ◌≢◌, inl, inr, false, refl}
+use Rattle.station.specs.Calls.{Uses}
+use Rattle.station.specs.Moments.{Meaning}
+use Rattle.station.proofs.Moments.{grown_later, grown_since}
+use Rattle.conspoint.specs.declared.error.PlanError.TheVariants as plan
+use Rattle.model.specs.declared.errno.Errno.{Errno}
+use Rattle.model.specs.declared.errno.Errno.TheVariants.{EIO}
+use Rattle.model.specs.declared.reply.Reply.TheVariants.{Refused}
+use Rattle.system.specs.Counting.{Counted, call_error_failed, point_error_failed}
+use Rattle.system.specs.Opening.{HasFailed}
+use Rattle.system.specs.declared.error.CallError.{CallError}
+use Rattle.system.specs.declared.error.CallError.TheVariants as call
+use Rattle.system.specs.declared.error.PointError.{PointError}
+use Rattle.system.specs.declared.error.PointError.TheVariants as point
+use Rattle.mount.specs.Applying.{NoWriteFailed}
+use Rattle.mount.specs.Refusals.{errno_of_call, errno_of_point}
+
+-- the same refusal
+pub refused_same : {x y : Errno} → Refused x ≡ Refused y → x ≡ y
+refused_same is = cc
+
+-- ---- one call behind another
+
+pub failed_before : (m mid new : Meaning) → HasFailed m mid → Uses mid new → HasFailed m new
+failed_before m mid new (inl read) uses = inl (grown_later m.failed_reads mid.failed_reads new.failed_reads read uses.reads)
+failed_before m mid new (inr write) uses = inr (grown_later m.failed_writes mid.failed_writes new.failed_writes write uses.writes)
+
+pub failed_after : (m mid new : Meaning) → Uses m mid → HasFailed mid new → HasFailed m new
+failed_after m mid new uses (inl read) = inl (grown_since m.failed_reads mid.failed_reads new.failed_reads uses.reads read)
+failed_after m mid new uses (inr write) = inr (grown_since m.failed_writes mid.failed_writes new.failed_writes uses.writes write)
+
+-- ---- EIO, and any other
+
+module _ (m new : Meaning) where
+  pub call_eio : (e : CallError) → Counted m new (call_error_failed false e) → errno_of_call e ≡ EIO → HasFailed m new
+  call_eio call.NoMemory counted is = cc
+  call_eio call.NotRead counted is = inl counted.reads
+  call_eio call.Damaged counted is = cc
+  call_eio call.LogFull counted is = cc
+  call_eio call.NotWritten counted is = inr counted.writes
+
+  pub call_written : (e : CallError) → Counted m new (call_error_failed false e) → errno_of_call e ≢ EIO → NoWriteFailed m new
+  call_written call.NoMemory counted other = counted.writes
+  call_written call.NotRead counted other = counted.writes
+  call_written call.Damaged counted other = counted.writes
+  call_written call.LogFull counted other = counted.writes
+  call_written call.NotWritten counted other = absurd (other refl)
+
+  pub point_eio : (e : PointError) → Counted m new (point_error_failed e) → errno_of_point e ≡ EIO → HasFailed m new
+  point_eio (point.NotPlanned plan.NoMemory) counted is = cc
+  point_eio (point.NotPlanned plan.Device) counted is = inl counted.reads
+  point_eio (point.NotPlanned plan.NoSpace) counted is = cc
+  point_eio (point.NotPlanned plan.Damaged) counted is = cc
+  point_eio point.NotWritten counted is = inr counted.writes
+  point_eio point.NoGeneration counted is = cc
+
+  pub point_written : (e : PointError) → Counted m new (point_error_failed e) → errno_of_point e ≢ EIO → NoWriteFailed m new
+  point_written (point.NotPlanned plan.NoMemory) counted other = counted.writes
+  point_written (point.NotPlanned plan.Device) counted other = counted.writes
+  point_written (point.NotPlanned plan.NoSpace) counted other = counted.writes
+  point_written (point.NotPlanned plan.Damaged) counted other = counted.writes
+  point_written point.NotWritten counted other = absurd (other refl)
+  point_written point.NoGeneration counted other = counted.writes
+
+-- an error that isn't EIO came before the first write
+pub call_refuses : (e : CallError) → errno_of_call e ≢ EIO → e ≢ call.NotWritten
+call_refuses call.NotWritten other is = other refl
+call_refuses call.NoMemory other is = cc
+call_refuses call.NotRead other is = cc
+call_refuses call.Damaged other is = cc
+call_refuses call.LogFull other is = cc

@@ -1,0 +1,74 @@
+-- Looking something up, step by step.
+use Rattle.std.proofs.Common.{◌≡◌, Result, Ok, Err, refl}
+use Rattle.std.specs.Result.{IsErrAnd, IsErrOf}
+use Rattle.blocktree.specs.Errors.{IsFault}
+use Rattle.blocktree.specs.declared.error.ReadError.{ReadError}
+use Rattle.blocktree.specs.declared.error.ReadError.TheVariants.{Damaged}
+use Rattle.buffers.specs.declared.blocks.Blocks.{Ghosts}
+use Rattle.inofile.specs.declared.inode_file.InodeFile.{InodeFile}
+use Rattle.model.specs.Volumes.{Volume}
+use Rattle.paths.specs.Loads.{LooksUp, OnlyLoads}
+use Rattle.paths.specs.Standing.{Looks, NeverDamaged, OnVolumes}
+use Rattle.paths.proofs.Looks.{HasLooked, as_look, has_looked, loads_more, looked_more, looks_err, looks_ok, looks_then, then_failed}
+
+-- an error carried on, whatever would have come in its place
+pub same_error : {T U : Type 0} (q : Result T ReadError) (e d : ReadError) → IsErrAnd q (λ f. f ≡ e) → IsErrOf q d → IsErrOf {T = U} {E = ReadError} (Err e) d
+same_error (Ok y) e d is bad = absurd is
+same_error (Err f) e d is bad = cc
+
+-- nothing is looked at yet
+pub not_looked : {B : Type 0} {G : Ghosts B} {a : B} {s : InodeFile} → HasLooked G a a s s
+not_looked = record {
+  read = record { count = refl; counted = refl; reads = λ start so. so; same = λ disk shows. shows };
+  geometry = refl;
+  loads = record { known = λ n is. is; room = λ n is. is; changed = λ n. (λ is. is, λ is. is) };
+  kept = λ disk settled v stands. stands;
+}
+
+module _ {B T : Type 0} {G : Ghosts B} {a b : B} {s t : InodeFile} {W : T → Type 0} {P : Volume → T → Type 0} where
+  -- it is found by a look that came to an end
+  pub finds : {U : Type 0} {u : U} {x : T} → Looks {T = U} {E = ReadError} G IsFault a b s t (Ok u) → OnlyLoads s t → W x → OnVolumes G a s (λ disk settled v. P v x)
+      → LooksUp G a b s t W P (Ok x)
+  finds look loads within found = record { looks = looks_ok look; loads = loads; within = within; found = found; damaged = λ disk settled v stands bad. cc }
+
+  -- a look has failed
+  pub fails : {U : Type 0} {e : ReadError} (q : Result T ReadError) → IsErrAnd q (λ f. f ≡ e) → Looks {T = U} G IsFault a b s t (Err e) → OnlyLoads s t → NeverDamaged {T = U} G a s (Err e)
+      → LooksUp G a b s t W P q
+  fails (Ok y) is look loads sound = absurd is
+  fails {e = e} (Err f) is look loads sound = record {
+    looks = looks_err (Err f) is look;
+    loads = loads;
+    within = tt;
+    found = λ disk settled v stands. tt;
+    damaged = λ disk settled v stands bad. sound disk settled v stands (same_error (Err f) e Damaged is bad);
+  }
+
+  -- it is found behind all looks
+  pub at_end : {x : T} → HasLooked G a b s t → W x → OnVolumes G a s (λ disk settled v. P v x) → LooksUp G a b s t W P (Ok x)
+  at_end looked within found = record { looks = as_look looked; loads = looked.loads; within = within; found = found; damaged = λ disk settled v stands bad. cc }
+
+  -- something else failed, as memory does
+  pub gives_up : (e : ReadError) (q : Result T ReadError) → IsErrAnd q (λ f. f ≡ e) → (IsFault e → ⊥) → (e ≡ Damaged → ⊥) → HasLooked G a b s t → LooksUp G a b s t W P q
+  gives_up e (Ok y) is other sound looked = absurd is
+  gives_up e (Err f) is other sound looked = record {
+    looks = then_failed e (Err f) is other looked;
+    loads = looked.loads;
+    within = tt;
+    found = λ disk settled v stands. tt;
+    damaged = λ disk settled v stands bad. sound cc;
+  }
+
+module _ {B U : Type 0} {G : Ghosts B} {a b c : B} {s t u : InodeFile} {V : U → Type 0} {Q : Volume → U → Type 0} where
+  -- what was looked at, when something is looked up
+  pub looked_up : {x : U} → HasLooked G a b s t → LooksUp G b c t u V Q (Ok x) → HasLooked G a c s u
+  looked_up looked up = looked_more looked (has_looked up.looks up.loads)
+
+  module _ {T : Type 0} {W : T → Type 0} {P : Volume → T → Type 0} where
+    -- it is found where something was looked up
+    pub then_finds : {x : T} {y : U} → HasLooked G a b s t → LooksUp G b c t u V Q (Ok y) → W x → OnVolumes G a s (λ disk settled v. P v x) → LooksUp G a c s u W P (Ok x)
+    then_finds looked up within found = finds (looks_then looked up.looks) (loads_more s t u looked.loads up.loads) within found
+
+    -- one more look has failed
+    pub then_fails : {e : ReadError} (q : Result T ReadError) → IsErrAnd q (λ f. f ≡ e) → HasLooked G a b s t → LooksUp G b c t u V Q (Err e) → LooksUp G a c s u W P q
+    then_fails {e = e} q is looked up =
+        fails q is (looks_then looked up.looks) (loads_more s t u looked.loads up.loads) (λ disk settled v stands bad. up.damaged disk settled v (looked.kept disk settled v stands) bad)

@@ -1,0 +1,31 @@
+-- Edits of the names in a directory's file.
+use Rattle.std.specs.Prelude.{ℕ, List, Option, Some, None, Result, IfOk, IfSome, IsErrOf}
+use Rattle.layout.specs.DirectoryNames.{NameMap}
+use Rattle.buffers.specs.Reads.{ReadsBlocks}
+use Rattle.buffers.specs.declared.blocks.Blocks.{Ghosts}
+use Rattle.blocktree.specs.Errors.{IsFault}
+use Rattle.blocktree.specs.Trees.{IsSoundAt}
+use Rattle.blocktree.specs.declared.error.ReadError.{ReadError}
+use Rattle.blocktree.specs.declared.error.ReadError.TheVariants.{Damaged}
+use Rattle.dirs.specs.Edits.{FitsIn, HasNames}
+use Rattle.dirs.specs.declared.edit.Edit.{Edit}
+use Rattle.inode.specs.Files.{IsSameFile}
+use Rattle.inode.specs.declared.file.File.{File}
+use Rattle.records.specs.Entering.{Takes, names_after}
+use Rattle.records.specs.declared.naming.NameEdit.{NameEdit}
+
+-- an edit is prepared of names that can be edited so, and else none
+abbrev pub EditsNames : ℕ → (ℕ → List ℕ) → File → NameEdit → NameMap → Option Edit → Type 0
+EditsNames inodes disk file wanted names (Some edit) = Takes wanted names × HasNames inodes disk file edit (names_after wanted names)
+EditsNames inodes disk file wanted names None = Takes wanted names → ⊥
+
+-- Names of a directory's file are edited so, where it has such names before. The file stays the same until the edit is put in
+-- force.
+pub record EditsFile {B : Type 0} (Had : (ℕ → List ℕ) → NameMap → Type 0) (G : Ghosts B) (blocks after : B) (inodes : ℕ) (file new : File) (wanted : NameEdit) (result : Result (Option Edit) ReadError) : Type 0 where
+  pub reads : ReadsBlocks G IsFault blocks after result
+  pub same : IsSameFile file new
+  pub fits : IfOk result (λ e. IfSome e (FitsIn new))
+  pub edited : (disk : ℕ → List ℕ) (names : NameMap) → G.Shows blocks disk → Had disk names
+      → IfOk result (EditsNames inodes disk new wanted names)
+  pub damaged : (disk : ℕ → List ℕ) (names : NameMap) → G.Shows blocks disk → IsErrOf result Damaged → Had disk names
+      → ((i : ℕ) → IsSoundAt (G.count blocks) disk file.tree i) → ⊥

@@ -1,0 +1,127 @@
+//! Bringing a file of an image back.
+
+use crate::error::{TransferError, at};
+use crate::progress::Progress;
+use crate::steps::{Source, find_source, mount_station, read_part};
+use crate::what::Transfer;
+use host_files::{
+    FileError, Found, NewFile, Place, Sparse, find_place, make_beside, on, read_station, remove,
+};
+use mount::Fs;
+use station::Station;
+use std::alloc::Global;
+use std::fs::{File, OpenOptions};
+use std::io::Write;
+use std::rt::Files;
+
+/// The names of standard output.
+const STANDARD_OUTPUT: [&str; 4] = ["-", "/dev/stdout", "/dev/fd/1", "/proc/self/fd/1"];
+
+/// Brings a file of an image back, as it is or as it was in a snapshot, and leaves the image as it is. The bytes go to `out`
+/// where the host's file is a name of standard output. Else they go, whole or not at all, to a new file, which then replaces
+/// the one that the name leads to; what is there and isn't a file, such as a FIFO or a device, is written into.
+pub fn get_file<'a, R: Files<File = File> + AllocGlobal, O: Write, E: Write>(
+    rt: &R,
+    what: Transfer<'a>,
+    snapshot: Option<&'a str>,
+    out: &mut O,
+    progress: &mut Progress<E>,
+) -> Result<(), TransferError<'a>> {
+    let station = read_station(rt, what.disk, what.nvram)?;
+    let mut fs = mount_station(rt.alloc(), station)?;
+    let source = find_source(rt.alloc(), &mut fs, what.path, snapshot);
+    let source = at(what.path, 0, source)?;
+    if STANDARD_OUTPUT.contains(&what.file) {
+        return show(rt.alloc(), &mut fs, source, what, out, progress);
+    }
+    if what.is_of_image(rt) {
+        return Err(TransferError::IsImage { file: what.file });
+    }
+    let place = find_place(rt, what.file)?;
+    match place.found {
+        Found::Folder => Err(TransferError::File(FileError::NotAFile { path: what.file })),
+        Found::Stream => {
+            let mut stream = on(
+                what.file,
+                OpenOptions::new().append(true).open(rt, what.file),
+            )?;
+            show(rt.alloc(), &mut fs, source, what, &mut stream, progress)
+        }
+        Found::Nothing | Found::File(_) => store(rt, &mut fs, source, what, &place, progress),
+    }
+}
+
+/// Reads a file to its end, and then shows its bytes.
+fn show<'a, S: Station, O: Write, E: Write>(
+    alloc: Global,
+    fs: &mut Fs<S>,
+    source: Source<'a>,
+    what: Transfer<'a>,
+    out: &mut O,
+    progress: &mut Progress<E>,
+) -> Result<(), TransferError<'a>> {
+    let mut bytes = Vec::new(alloc);
+    read_to(alloc, fs, source, what, &mut bytes, progress)?;
+    on(what.file, out.write_all(bytes.as_slice()))?;
+    Ok(())
+}
+
+/// Reads a file to its end into a new file beside its place, which it then gets.
+fn store<'a, R: Files<File = File> + AllocGlobal, S: Station, E: Write>(
+    rt: &R,
+    fs: &mut Fs<S>,
+    source: Source<'a>,
+    what: Transfer<'a>,
+    place: &Place<'a>,
+    progress: &mut Progress<E>,
+) -> Result<(), TransferError<'a>> {
+    let mut new = make_beside(rt, place, what.disk, what.nvram)?;
+    let stored = match fill(rt.alloc(), fs, source, what, &mut new, progress) {
+        Ok(()) => place
+            .replace(rt, new.path.as_str())
+            .map_err(TransferError::File),
+        Err(error) => Err(error),
+    };
+    if stored.is_err() {
+        remove(rt, new.path.as_str());
+    }
+    stored
+}
+
+/// Reads a file to its end into a new file, and syncs that.
+fn fill<'a, S: Station, E: Write>(
+    alloc: Global,
+    fs: &mut Fs<S>,
+    source: Source<'a>,
+    what: Transfer<'a>,
+    new: &mut NewFile,
+    progress: &mut Progress<E>,
+) -> Result<(), TransferError<'a>> {
+    let mut sparse = Sparse::new(&mut new.file);
+    read_to(alloc, fs, source, what, &mut sparse, progress)?;
+    on(what.file, sparse.end())?;
+    Ok(())
+}
+
+/// Reads a file to its end, in parts as large as one call reads.
+fn read_to<'a, S: Station, W: Write, E: Write>(
+    alloc: Global,
+    fs: &mut Fs<S>,
+    source: Source<'a>,
+    what: Transfer<'a>,
+    writer: &mut W,
+    progress: &mut Progress<E>,
+) -> Result<(), TransferError<'a>> {
+    let mut offset = 0_u64;
+    for _ in 0..u64::MAX {
+        let part = at(what.path, offset, read_part(alloc, fs, source, offset))?;
+        let bytes = part.as_bytes();
+        if bytes.is_empty() {
+            break;
+        }
+        on(what.file, writer.write_all(bytes))?;
+        offset = offset.saturating_add(bytes.len() as u64);
+        progress.note(offset);
+    }
+    Ok(())
+}
