@@ -1,4 +1,6 @@
 pub mod PlaceLaws
+pub mod PlaceMapLaws
+pub mod WalkLaws
 pub mod SlotLaws
 pub mod NameLaws
 pub mod NodeLaws

@@ -3,29 +3,69 @@ use Rattle.std.proofs.Common.{◌≡◌, ◌↔◌, ◌⊎◌, inl, inr, ℕ, ze
 use Rattle.std.proofs.Common.{◌^◌, ◌≤◌}
 use Rattle.std.specs.Int.{div_ceil}
 use native.Mathlib.Nat.{pow-suc}
-use Rattle.std.proofs.lemmas.Bool.{cases_lt}
+use Rattle.std.proofs.lemmas.Bool.{cases_lt, cases_eq}
 use Rattle.layout.specs.declared.pointer.Pointer.{Pointer}
 use Rattle.layout.specs.declared.pointer.Pointer.TheVariants.{Block}
 use Rattle.blocktree.specs.Names.{IsNodePlace, IsNamed}
 use Rattle.blocktree.specs.Places.{place, IsPath}
+use Rattle.blocktree.specs.PlaceMaps.{place_at, StandsBelow}
+use Rattle.blocktree.specs.declared.place_map.PlaceMap.{PlaceMap}
+use Rattle.layout.proofs.PointerLaws.{block_same, hole_block}
 use Rattle.blocktree.proofs.PlaceLaws.{path_above}
+use Rattle.blocktree.proofs.WalkLaws.{Gap}
 
-pub node_more : (disk : ℕ → List ℕ) (pointers : List Pointer) (depth i p : ℕ) (pointer : Pointer) (A B C : Type 0) → B ↔ (A ⊎ IsNodePlace disk pointers depth i p) → C ↔ (B ⊎ (pointer ≡ Block p))
-    → pointer ≡ place disk pointers depth i → C ↔ (A ⊎ IsNodePlace disk pointers depth (i + 1) p)
-node_more disk pointers depth i p pointer A B C first second is = (forth, back)
+-- one of the first nodes lies at a place: one more, behind some that are holes
+pub stands_more : (places : PlaceMap) (from i place p : ℕ) (A B C : Type 0) → from ≤ i → Gap places from i → place_at places i ≡ Block place
+    → B ↔ (A ⊎ StandsBelow places from p) → C ↔ (B ⊎ (place ≡ p)) → C ↔ (A ⊎ StandsBelow places (i + 1) p)
+stands_more places from i place p A B C le gap there first second = (forth, back)
   where
-    one : B → A ⊎ IsNodePlace disk pointers depth (i + 1) p
-    one b = elim (first.0 b) [ inl a ↦ inl a | inr n ↦ inr (n.0, omega arith, n.2) ]
+    one : B → A ⊎ StandsBelow places (i + 1) p
+    one b = elim (first.0 b) [ inl a ↦ inl a | inr n ↦ inr (n.0, omega (arith, n.1, le), n.2) ]
 
-    forth : C → A ⊎ IsNodePlace disk pointers depth (i + 1) p
-    forth c = elim (second.0 c) [ inl b ↦ one b | inr e ↦ inr (i, omega arith, sym is ∙ e) ]
+    forth : C → A ⊎ StandsBelow places (i + 1) p
+    forth c = elim (second.0 c) [ inl b ↦ one b | inr e ↦ inr (i, omega arith, there ∙ ap Block e) ]
 
-    back : A ⊎ IsNodePlace disk pointers depth (i + 1) p → C
-    back (inl a) = second.1 (inl (first.1 (inl a)))
-    back (inr n) = elim (cases_lt n.0 i) [
+    late : StandsBelow places (i + 1) p → C
+    late n = elim (cases_lt n.0 from) [
       | inl below ↦ second.1 (inl (first.1 (inr (n.0, below, n.2))))
-      | inr last ↦ let same : i ≡ n.0 = omega arith in second.1 (inr (is ∙ ap (place disk pointers depth) same ∙ n.2))
+      | inr more ↦ elim (cases_eq n.0 i) [
+        | inl last ↦ second.1 (inr (block_same place p (sym there ∙ ap (place_at places) (sym last) ∙ n.2)))
+        | inr other ↦ hole_block (sym (gap n.0 more (omega (arith, n.1, other))) ∙ n.2)
+      ]
     ]
+
+    back : A ⊎ StandsBelow places (i + 1) p → C
+    back (inl a) = second.1 (inl (first.1 (inl a)))
+    back (inr n) = late n
+
+-- behind the last one there is none
+pub stands_all : (places : PlaceMap) (from count p : ℕ) (A B : Type 0) → from ≤ count → Gap places from count → B ↔ (A ⊎ StandsBelow places from p) → B ↔ (A ⊎ StandsBelow places count p)
+stands_all places from count p A B le gap is = (forth, back)
+  where
+    forth : B → A ⊎ StandsBelow places count p
+    forth b = elim (is.0 b) [ inl a ↦ inl a | inr n ↦ inr (n.0, omega (arith, n.1, le), n.2) ]
+
+    late : StandsBelow places count p → B
+    late n = elim (cases_lt n.0 from) [
+      | inl below ↦ is.1 (inr (n.0, below, n.2))
+      | inr more ↦ hole_block (sym (gap n.0 more n.1) ∙ n.2)
+    ]
+
+    back : A ⊎ StandsBelow places count p → B
+    back (inl a) = is.1 (inl a)
+    back (inr n) = late n
+
+-- the same of nodes at a depth
+pub level_named : (disk : ℕ → List ℕ) (pointers : List Pointer) (depth count p : ℕ) (places : PlaceMap) (A B : Type 0) → ((i : ℕ) → i < count → place_at places i ≡ place disk pointers depth i)
+    → B ↔ (A ⊎ StandsBelow places count p) → B ↔ (A ⊎ IsNodePlace disk pointers depth count p)
+level_named disk pointers depth count p places A B same is = (forth, back)
+  where
+    forth : B → A ⊎ IsNodePlace disk pointers depth count p
+    forth b = elim (is.0 b) [ inl a ↦ inl a | inr n ↦ inr (n.0, n.1, sym (same n.0 n.1) ∙ n.2) ]
+
+    back : A ⊎ IsNodePlace disk pointers depth count p → B
+    back (inl a) = is.1 (inl a)
+    back (inr n) = is.1 (inr (n.0, n.1, same n.0 n.1 ∙ n.2))
 
 pub named_last : (disk : ℕ → List ℕ) (pointers : List Pointer) (depth count p : ℕ) (A B : Type 0) → depth ≡ 0 → B ↔ (A ⊎ IsNodePlace disk pointers depth count p) → B ↔ (A ⊎ IsNamed disk pointers depth count p)
 unfolding IsNamed

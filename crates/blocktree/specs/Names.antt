@@ -1,9 +1,11 @@
 -- The blocks that a settled inode names: those of the file's bytes and the indirect ones over them.
-use Rattle.std.specs.Prelude.{ℕ, zero, suc, ◌≡◌, ◌⊎◌, ◌<◌, List, slice_index_or}
+use Rattle.std.specs.Prelude.{ℕ, zero, suc, ◌≡◌, ◌⊎◌, ◌<◌, List}
 use Rattle.std.specs.Int.{div_ceil}
 use Rattle.layout.specs.declared.pointer.Pointer.{Pointer}
-use Rattle.layout.specs.declared.pointer.Pointer.TheVariants.{Hole, Block}
+use Rattle.layout.specs.declared.pointer.Pointer.TheVariants.{Block}
+use Rattle.blocktree.specs.PlaceMaps.{place_at}
 use Rattle.blocktree.specs.Places.{place}
+use Rattle.blocktree.specs.declared.place_map.PlaceMap.{PlaceMap}
 
 -- How many nodes stand at a height over so many blocks of a file: at height 0 the blocks themselves, and then one over each 1,024
 -- of those below.
@@ -11,10 +13,10 @@ unfoldable pub nodes_at : ℕ → ℕ → ℕ
 nodes_at count zero = count
 nodes_at count (suc height) = div_ceil (nodes_at count height) 1024
 
--- these are the pointers to the first so many nodes at this depth
-abbrev pub AreNodes : (ℕ → List ℕ) → List Pointer → ℕ → ℕ → List Pointer → Type 0
+-- these are the places of the first so many nodes at this depth
+abbrev pub AreNodes : (ℕ → List ℕ) → List Pointer → ℕ → ℕ → PlaceMap → Type 0
 AreNodes disk pointers depth count nodes =
-    (i : ℕ) → i < count → slice_index_or nodes i Hole ≡ place disk pointers depth i
+    (i : ℕ) → i < count → place_at nodes i ≡ place disk pointers depth i
 
 -- one of the first so many nodes at this depth lies there
 abbrev pub IsNodePlace : (ℕ → List ℕ) → List Pointer → ℕ → ℕ → ℕ → Type 0

@@ -5,8 +5,11 @@
 
 mod error;
 mod names;
+mod nodes;
 mod place;
+mod place_map;
 mod tree;
 
 pub use error::ReadError;
+pub use place_map::{PlaceMap, StoredNode};
 pub use tree::{BlockTree, Location, Slot};

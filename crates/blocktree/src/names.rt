@@ -1,21 +1,22 @@
 //! Which blocks a settled inode names.
 
-ghost use Rattle.std.specs.Prelude.{◌≡◌, ◌↔◌, ◌⊎◌, ℕ, ◌*◌, ◌^◌, ◌<◌, ◌≤◌, List, Contains, OnOk, IfOk, IsErrOf, vec_len, All};
+ghost use Rattle.std.specs.Prelude.{◌≡◌, ◌↔◌, ◌⊎◌, ℕ, ◌*◌, ◌^◌, ◌<◌, ◌≤◌, List, Contains, OnOk, IsErrOf};
 ghost use Rattle.buffers.specs.Reads.{ReadsBlocks};
 ghost use Rattle.blocktree.specs.Errors.{IsFault};
-ghost use Rattle.layout.specs.declared.pointer.Pointer.TheVariants as pointers;
-ghost use Rattle.layout.specs.Pointer.{PointsBelow};
-ghost use Rattle.blocktree.specs.Names.{nodes_at, AreNodes, IsNodePlace, IsNamed};
-ghost use Rattle.blocktree.specs.Places.{place, IsPath};
+ghost use Rattle.blocktree.specs.Names.{nodes_at, IsNodePlace, IsNamed};
+ghost use Rattle.blocktree.specs.PlaceMaps.{StandsBelow};
+ghost use Rattle.blocktree.specs.Places.{IsPath};
 
 use crate::ReadError;
-use crate::place::find_place;
+use crate::nodes::read_places;
+use crate::place_map::PlaceMap;
 use buffers::Blocks;
 use layout::{BODY_POINTERS, BlockNumber, Pointer};
 use std::alloc::{AllocError, Global};
 
 /// Adds the places of the first `count` nodes at this depth under an inode's pointers, and of all above them.
 pub(crate) fn name_nodes<B: Blocks>(
+    alloc: Global,
     blocks: &mut B,
     pointers: &[Pointer; BODY_POINTERS],
     depth: u32,
@@ -31,15 +32,23 @@ pub(crate) fn name_nodes<B: Blocks>(
         → Contains names.new.items p
         ↔ (Contains names.old.items p ⊎ IsNamed disk pointers.now depth count p)) }
 {
-    name_level(blocks, pointers, depth, count, names)?;
+    name_level(alloc, blocks, pointers, depth, count, names)?;
     if depth > 0 {
-        name_nodes(blocks, pointers, depth - 1, count.div_ceil(1024), names)?;
+        name_nodes(
+            alloc,
+            blocks,
+            pointers,
+            depth - 1,
+            count.div_ceil(1024),
+            names,
+        )?;
     }
     Ok(())
 }
 
 /// Adds the places of the first `count` nodes at this depth.
 fn name_level<B: Blocks>(
+    alloc: Global,
     blocks: &mut B,
     pointers: &[Pointer; BODY_POINTERS],
     depth: u32,
@@ -55,39 +64,31 @@ fn name_level<B: Blocks>(
         → Contains names.new.items p
         ↔ (Contains names.old.items p ⊎ IsNodePlace disk pointers.now depth count p)) }
 {
-    for i in 0..count {
-        let pointer = find_place(blocks, pointers, depth, count, i)?;
-        add_place(pointer, names)?;
+    let places = read_places(alloc, blocks, pointers, depth, count)?;
+    add_places(&places, count, names)?;
+    Ok(())
+}
+
+/// Adds the places of the first `count` of these nodes.
+fn add_places(places: &PlaceMap, count: u32, names: &mut Vec<BlockNumber>) -> Result<(), AllocError>
+    ensures { OnOk result ((p : ℕ) → Contains names.new.items p
+        ↔ (Contains names.old.items p ⊎ StandsBelow places.now count p)) }
+{
+    let mut from = 0;
+    while let Some(node) = places.next(from, count) {
+        add_place(node.place, names)?;
+        from = node.index + 1;
     }
     Ok(())
 }
 
-/// The pointers to the first `count` nodes at this depth.
-pub(crate) fn read_nodes<B: Blocks>(
-    alloc: Global,
-    blocks: &mut B,
-    pointers: &[Pointer; BODY_POINTERS],
-    depth: u32,
-    count: u32,
-) -> Result<Vec<Pointer>, ReadError>
-    requires { count ≤ 16 * 1024 ^ depth }
-    ensures reads { ReadsBlocks B.Blocks IsFault blocks.old blocks.new result }
-    ensures length { IfOk result (λ nodes. vec_len nodes ≡ count) }
-    ensures within { IfOk result (λ nodes. All (PointsBelow (B.count blocks.old)) nodes.items) }
-    ensures nodes { (disk : ℕ → List ℕ) → B.Shows blocks.old disk
-        → IfOk result (λ nodes. AreNodes disk pointers.now depth count nodes.items) }
-    ensures sound { (disk : ℕ → List ℕ) → B.Shows blocks.old disk → OnOk result ((i : ℕ)
-        → i < count → IsPath (B.count blocks.old) disk pointers.now depth count i) }
-    ensures damaged { (disk : ℕ → List ℕ) → B.Shows blocks.old disk
-        → IsErrOf result ReadError.Damaged
-        → ((i : ℕ) → i < count → IsPath (B.count blocks.old) disk pointers.now depth count i) → ⊥ }
+/// Adds a place.
+fn add_place(place: BlockNumber, names: &mut Vec<BlockNumber>) -> Result<(), AllocError>
+    ensures { OnOk result ((p : ℕ)
+        → Contains names.new.items p ↔ (Contains names.old.items p ⊎ (place ≡ p))) }
 {
-    let mut nodes = Vec::new(alloc);
-    for i in 0..count {
-        let pointer = find_place(blocks, pointers, depth, count, i)?;
-        nodes.push(pointer)?;
-    }
-    Ok(nodes)
+    names.push(place)?;
+    Ok(())
 }
 
 /// How many nodes stand at this height over so many blocks.
@@ -98,19 +99,4 @@ pub(crate) fn nodes_at(count: u32, height: u32) -> u32
         return count;
     }
     nodes_at(count, height - 1).div_ceil(1024)
-}
-
-/// Adds where a pointer leads, if it is no hole.
-fn add_place(pointer: Pointer, names: &mut Vec<BlockNumber>) -> Result<(), AllocError>
-    ensures { OnOk result ((p : ℕ)
-        → Contains names.new.items p
-        ↔ (Contains names.old.items p ⊎ (pointer ≡ pointers.Block p))) }
-{
-    match pointer {
-        Pointer::Hole => Ok(()),
-        Pointer::Block(place) => {
-            names.push(place)?;
-            Ok(())
-        }
-    }
 }

@@ -42,7 +42,7 @@ pub(crate) fn find_place<B: Blocks>(
 }
 
 /// Pointer `i` of an inode, on a disk of so many blocks.
-fn own_pointer(
+pub(crate) fn own_pointer(
     pointers: &[Pointer; BODY_POINTERS],
     blocks: u32,
     i: u32,

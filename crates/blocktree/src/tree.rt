@@ -1,19 +1,21 @@
 //! A file's blocks, settled ones and changed ones.
 
-ghost use Rattle.std.specs.Prelude.{◌≡◌, ◌⊎◌, ℕ, ◌+◌, ◌-◌, ◌*◌, ◌^◌, ◌<◌, ◌≤◌, List, length, slice_index, vec_len, All, OnOk, IfOk, IsErrOf};
+ghost use Rattle.std.specs.Prelude.{◌≡◌, ◌⊎◌, ℕ, ◌+◌, ◌-◌, ◌*◌, ◌^◌, ◌<◌, ◌≤◌, List, length, slice_index, OnOk, IfOk, IsErrOf};
 ghost use Rattle.layout.specs.Bytes.{zeros};
 ghost use Rattle.layout.specs.Version.{greatest_size};
 ghost use Rattle.layout.specs.declared.version.TheConstants.{VERSION};
 ghost use Rattle.buffers.specs.Reads.{ReadsBlocks};
 ghost use Rattle.blocktree.specs.Errors.{IsFault};
 ghost use Rattle.buffers.specs.Positions.{IsPart};
-ghost use Rattle.layout.specs.Pointer.{PointsBelow};
+ghost use Rattle.blocktree.specs.PlaceMaps.{AreBelow, EndBefore};
 ghost use Rattle.blocktree.specs.Names.{nodes_at, AreNodes, IsNamed};
 ghost use Rattle.blocktree.specs.Places.{block_count, depth_of, IsPath};
 
 use crate::ReadError;
-use crate::names::{name_nodes, nodes_at, read_nodes};
+use crate::names::{name_nodes, nodes_at};
+use crate::nodes::read_places;
 use crate::place::find_place;
+use crate::place_map::{PlaceMap, next_key};
 use buffers::{Block, Blocks};
 use layout::{BLOCK_BYTES, BODY_POINTERS, BlockNumber, Pointer, level_of};
 use std::alloc::{AllocError, Global};
@@ -150,21 +152,21 @@ impl BlockTree {
         self.kept
     }
 
-    /// The settled pointers to all nodes at a height, in their order: at height 0 to the blocks, and then to the indirect
-    /// blocks, each over 1,024 nodes of those below.
+    /// The settled places of the nodes at a height: at height 0 of the blocks, and then of the indirect blocks, each over 1,024
+    /// nodes of those below. Each indirect block over them that is stored is read and tested once.
     pub fn settled_nodes<B: Blocks>(
         &self,
         alloc: Global,
         blocks: &mut B,
         height: u32,
-    ) -> Result<Vec<Pointer>, ReadError>
+    ) -> Result<PlaceMap, ReadError>
         requires { height ≤ self.now.depth }
         ensures reads { ReadsBlocks B.Blocks IsFault blocks.old blocks.new result }
-        ensures length { IfOk result (λ nodes. vec_len nodes ≡ nodes_at self.now.count height) }
-        ensures within { IfOk result (λ nodes. All (PointsBelow (B.count blocks.old)) nodes.items) }
-        ensures nodes { (disk : ℕ → List ℕ) → B.Shows blocks.old disk → IfOk result (λ nodes.
-            AreNodes disk self.now.pointers (self.now.depth - height)
-            (nodes_at self.now.count height) nodes.items) }
+        ensures within { IfOk result (AreBelow (B.count blocks.old)) }
+        ensures end { IfOk result (EndBefore (nodes_at self.now.count height)) }
+        ensures nodes { (disk : ℕ → List ℕ) → B.Shows blocks.old disk → IfOk result
+            (AreNodes disk self.now.pointers (self.now.depth - height)
+            (nodes_at self.now.count height)) }
         ensures sound { (disk : ℕ → List ℕ) → B.Shows blocks.old disk
             → OnOk result (height ≡ 0 → AreSound (B.count blocks.old) disk self.now) }
         ensures damaged { (disk : ℕ → List ℕ) → B.Shows blocks.old disk
@@ -172,7 +174,7 @@ impl BlockTree {
             → AreSound (B.count blocks.old) disk self.now → ⊥ }
     {
         let count = nodes_at(self.count, height);
-        let nodes = read_nodes(alloc, blocks, &self.pointers, self.depth - height, count)?;
+        let nodes = read_places(alloc, blocks, &self.pointers, self.depth - height, count)?;
         Ok(nodes)
     }
 
@@ -191,6 +193,25 @@ impl BlockTree {
             Some(Slot::AsSettled) => None,
             None => None,
         }
+    }
+
+    /// The first changed block from one index on and before another.
+    pub fn next_changed(&self, from: u32, to: u32) -> Option<(u32, &Block)>
+        ensures found { IfSome result (λ n. (from ≤ n.0) × (n.0 < to) × IsChanged self.now n.0) }
+        ensures block { IfSome result (λ n. (disk : ℕ → List ℕ)
+            → tree_block disk self.now n.0 ≡ n.1.now) }
+        ensures before { IfSome result (λ n. (i : ℕ) → from ≤ i → i < n.0
+            → IsChanged self.now i → ⊥) }
+        ensures none { IfNone result ((i : ℕ) → from ≤ i → i < to → IsChanged self.now i → ⊥) }
+    {
+        let mut from = from;
+        while let Some(i) = next_key(&self.slots, from, to) {
+            if let Some(block) = self.changed(i) {
+                return Some((i, block));
+            }
+            from = i + 1;
+        }
+        None
     }
 
     /// Finds block `i`, and makes it resident where it is on the disk.
@@ -300,7 +321,14 @@ impl BlockTree {
             ↔ IsNamed disk self.now.pointers self.now.depth self.now.count p) }
     {
         let mut names = Vec::new(alloc);
-        name_nodes(blocks, &self.pointers, self.depth, self.count, &mut names)?;
+        name_nodes(
+            alloc,
+            blocks,
+            &self.pointers,
+            self.depth,
+            self.count,
+            &mut names,
+        )?;
         Ok(names)
     }
 

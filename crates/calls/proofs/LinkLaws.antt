@@ -1,5 +1,5 @@
 -- What the definitions say of giving a file one more name over paths, by what was found in a volume.
-use Rattle.std.proofs.Common.{◌≡◌, inl, inr, ℕ, ◌+◌, ◌<◌, List, [], ◌∷◌, ◌++◌, Bool, true, false, Option, Some, None, IsSome, Result, Ok, Err, add-one, refl, sym, ap, subst, ◌∙◌}
+use Rattle.std.proofs.Common.{◌≡◌, ◌≢◌, inl, inr, ℕ, ◌+◌, ◌<◌, List, [], ◌∷◌, ◌++◌, Bool, true, false, Option, Some, None, IsSome, Result, Ok, Err, add-one, refl, sym, ap, subst, ◌∙◌}
 use Rattle.std.specs.Prelude.{nat_le, ◌||◌}
 use Rattle.std.proofs.Math.Path.{fun_ext}
 use Rattle.std.proofs.lemmas.Bool.{cases_Bool, cases_eq, cond-true, cond-false, false≢true, lt-leb, le-leb}
@@ -17,15 +17,17 @@ use Rattle.model.specs.Trees.{Tree, Object, Description, IsTree}
 use Rattle.model.specs.Trees as trees
 use Rattle.model.specs.Volumes.{Node, directory_node, file_node, link_node, Volume, object_at, object_of, is_directory_node, is_file_node, is_open, set_name, swept, swept_node, tree_of, with_name_more, with_node, IsMounted, IsVolume}
 use Rattle.model.specs.declared.errno.Errno.{Errno}
-use Rattle.model.specs.declared.errno.Errno.TheVariants.{DIRFULL, EEXIST, EINVAL, EMLINK, EPERM}
-use Rattle.model.specs.declared.limits.TheConstants.{FILE_NAMES}
+use Rattle.model.specs.declared.errno.Errno.TheVariants.{DIRFULL, EEXIST, EINVAL, EMLINK, ENAMETOOLONG, EPERM}
+use Rattle.model.specs.declared.limits.TheConstants.{FILE_NAMES, OPEN_FILES}
 use Rattle.model.specs.declared.reply.Reply.{Reply}
 use Rattle.model.specs.declared.reply.Reply.TheVariants.{Done, Refused}
 use Rattle.model.proofs.LeadLemmas.{AnswersWell, resolves_well}
 use Rattle.model.proofs.LooseLemmas.{some_same}
-use Rattle.calls.specs.Changing.{Comes, ComesBy}
+use Rattle.paths.specs.Steps.{found_in}
+use Rattle.paths.specs.declared.lookup.Found.TheVariants as found
+use Rattle.calls.specs.Changing.{Comes, ComesBy, Decides}
 use Rattle.calls.specs.Leading.{LeadsTo}
-use Rattle.calls.specs.Link.{LinksFile}
+use Rattle.records.specs.Steps.{IsFileOf}
 use Rattle.calls.specs.declared.changed.Changing.{Changing}
 use Rattle.calls.proofs.GapLaws.{FindsGap, gap_parent, place_free, place_full}
 use Rattle.calls.proofs.LeadLaws.{leads_refused, leads_there}
@@ -61,6 +63,23 @@ directory_stays open_now x to (Some (link_node text)) is = absurd (false≢true 
 
 object_file : (n : ℕ) (o : Option Node) (y : Object) (mode count : ℕ) (bytes : List ℕ) → o ≡ Some (file_node mode count bytes) → object_of n o ≡ Some y → trees.file n ≡ y
 object_file n o y mode count bytes is object = some_same (sym (ap (object_of n) is) ∙ object)
+
+-- ---- kinds
+
+pub file_found : (o : Option Node) → found_in o ≡ found.File → (count : ℕ) × IsFileOf count o
+file_found None is = other is
+  where
+    other : {X : Type 0} → found.Nothing ≡ found.File → X
+    other e = cc
+file_found (Some (directory_node mode names)) is = other is
+  where
+    other : {X : Type 0} → found.Directory ≡ found.File → X
+    other e = cc
+file_found (Some (file_node mode count bytes)) is = (count, (mode, bytes, refl))
+file_found (Some (link_node text)) is = other is
+  where
+    other : {X : Type 0} → found.Link ≡ found.File → X
+    other e = cc
 
 module _ (inodes : ℕ) (v : Volume) (table : ℕ → Option Description) (volume : IsVolume inodes v) (mounted : IsMounted v table) (tree : IsTree inodes (tree_of v table)) where
   abbrev t : Tree
@@ -154,7 +173,7 @@ module _ (inodes : ℕ) (v : Volume) (table : ℕ → Option Description) (volum
 
         each : (k : ℕ) → swept table new k ≡ new k
         each k =
-            let open_now = is_open table 32 k in
+            let open_now = is_open table OPEN_FILES k in
             elim (cases_eq k d) [
               | inl is_d ↦
                   let e = node_here d k (set_name x (Some n) (between d)) between is_d in
@@ -202,7 +221,7 @@ module _ (inodes : ℕ) (v : Volume) (table : ℕ → Option Description) (volum
         few_names k few rest reply after need done =
             subst (λ (b : Bool). tested t ((b, EMLINK) ∷ []) rest reply after need) (sym (lt-leb FILE_NAMES k few)) done
 
-        pub link_comes : (c : Result Changing Errno) → LinksFile inodes v n d x c → Comes (links t old path) inodes v table c
+        pub link_comes : (c : Result Changing Errno) → Decides inodes v (link n d x) c → Comes (links t old path) inodes v table c
         link_comes (Ok c) (says, applies) =
             let after = tree_of new table in
             let here = gives applies in
@@ -216,20 +235,17 @@ module _ (inodes : ℕ) (v : Volume) (table : ℕ → Option Description) (volum
                     (place_free inodes v table volume mounted tree d x target gap applies.takes (changes Done made (logs adds_name)) Done after (logs adds_name) (refl, here.gives, refl)),
               ),
             )
-        link_comes (Err errno) (k, file, inl (which, many)) =
-            subst (λ (e : Errno). links t old path (Refused e) t nothing) (sym which)
-            (in_gap (Refused EMLINK) t nothing (
-              k,
-              tell inodes v table n file.0 k file.1 volume file.2,
-              subst (λ (b : Bool). tested t ((b, EMLINK) ∷ []) (with_place t gap.path (changes Done made (logs adds_name))) (Refused EMLINK) t nothing)
-                  (sym (le-leb FILE_NAMES k many)) (refl, refl, refl),
-            ))
-        link_comes (Err errno) (k, file, inr (which, few, not)) =
-            subst (λ (e : Errno). links t old path (Refused e) t nothing) (sym which)
-            (in_gap (Refused DIRFULL) t nothing (
-              k,
-              tell inodes v table n file.0 k file.1 volume file.2,
-              few_names k few _ (Refused DIRFULL) t nothing
-                  (place_full inodes v table volume mounted tree d x target gap (changes Done made (logs adds_name))
-                  (λ takes. not (record { mode = file.0; links = k; bytes = file.1; file = file.2; few = few; takes = takes }))),
-            ))
+        link_comes (Err ENAMETOOLONG) bad = absurd (bad gap.good)
+        link_comes (Err EPERM) other = absurd (false≢true (sym other ∙ ap is_file_node is))
+        link_comes (Err EMLINK) (k, file, many) = in_gap (Refused EMLINK) t nothing (
+          k,
+          tell inodes v table n file.0 k file.1 volume file.2,
+          subst (λ (b : Bool). tested t ((b, EMLINK) ∷ []) (with_place t gap.path (changes Done made (logs adds_name))) (Refused EMLINK) t nothing)
+              (sym (le-leb FILE_NAMES k many)) (refl, refl, refl),
+        )
+        link_comes (Err DIRFULL) (k, file, few, not) = in_gap (Refused DIRFULL) t nothing (
+          k,
+          tell inodes v table n file.0 k file.1 volume file.2,
+          few_names k few _ (Refused DIRFULL) t nothing (place_full inodes v table volume mounted tree d x target gap (changes Done made (logs adds_name)) not),
+        )
+        link_comes (Err _) told = absurd told

@@ -22,14 +22,14 @@ use Rattle.model.specs.Trees as trees
 use Rattle.model.specs.Volumes.{Node, directory_node, file_node, link_node, Volume, entries, number_at, object_at, enter, is_directory_node, set_name, with_node, created, is_open, swept_node, tree_of, swept, IsVolume, IsMounted}
 use Rattle.model.specs.declared.errno.Errno.{Errno}
 use Rattle.model.specs.declared.errno.Errno.TheVariants.{EINVAL, EEXIST, DIRFULL, NONUMBER}
-use Rattle.model.specs.declared.limits.TheConstants.{DIRECTORY_NAMES, FIRST_NUMBER}
+use Rattle.model.specs.declared.limits.TheConstants.{DIRECTORY_NAMES, FIRST_NUMBER, OPEN_FILES}
 use Rattle.model.specs.declared.reply.Reply.{Reply}
 use Rattle.model.specs.declared.reply.Reply.TheVariants.{Done, Refused}
 use Rattle.model.proofs.LeadLemmas.{AnswersWell, resolves_well}
 use Rattle.model.proofs.SweepLemmas.{not_unused}
 use Rattle.model.proofs.WalkLemmas.{number_at-push}
 use Rattle.calls.specs.Changing.{Comes, ComesBy}
-use Rattle.calls.specs.Making.{MakesAt, MakesIn, IsLeastFree}
+use Rattle.calls.specs.Making.{MakesIn, IsLeastFree}
 use Rattle.calls.specs.declared.changed.Changing.{Changing}
 use Rattle.calls.proofs.CountedLists.{counted_list}
 use Rattle.model.proofs.ObjectLaws.{directory_object, directory_of, node_here, node_object, node_other}
@@ -58,16 +58,6 @@ pub text_refused : (inodes : ℕ) (v : Volume) (table : ℕ → Option Descripti
     → creates inodes (tree_of v table) text make (Refused errno) (tree_of v table) nothing
 text_refused inodes v table text make errno is = tested_some (tree_of v table) (new_text_tests text) _ errno is
 
-pub told_answers : {A E : Type 0} (r : Result A E) (P Q : A → Type 0) → ((a : A) → P a → Q a) → IfOk r P → IfOk r Q
-told_answers (Ok a) P Q then p = then a p
-told_answers (Err e) P Q then p = tt
-
--- what is made of the least free number
-pub makes_numbered : (inodes : ℕ) (v : Volume) (n d : ℕ) (x : Name) (what : Made) → IsMade what → IsLeastFree inodes v n → (r : Result Changing Errno)
-    → MakesAt v n d x what r → MakesIn inodes v d x what r
-makes_numbered inodes v n d x what good least (Err errno) told = inl told
-makes_numbered inodes v n d x what good least (Ok c) (says, takes) = (n, says, good, takes, least)
-
 -- ---- objects
 
 -- what is made isn't swept: it has a name
@@ -95,7 +85,7 @@ module _ (table : ℕ → Option Description) (v : Volume) (n d : ℕ) (x : Name
 
   each : (k : ℕ) → swept table (created n d x node v) k ≡ created n d x node v k
   each k =
-      let open_now = is_open table 32 k in
+      let open_now = is_open table OPEN_FILES k in
       elim (cases_eq k d) [
         | inl is_d ↦
             let e = node_here d k (set_name x (Some n) (put d)) put is_d in

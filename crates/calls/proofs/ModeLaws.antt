@@ -15,13 +15,13 @@ use Rattle.model.specs.Trees.{Tree, Object, Description}
 use Rattle.model.specs.Trees as trees
 use Rattle.model.specs.Volumes.{Node, directory_node, file_node, link_node, Volume, is_directory_node, is_file_node, is_open, object_of, swept_node, tree_of, swept, IsVolume, IsMounted}
 use Rattle.model.specs.declared.errno.Errno.{Errno}
-use Rattle.model.specs.declared.limits.TheConstants.{MODE_BITS}
+use Rattle.model.specs.declared.errno.Errno.TheVariants.{DAMAGED}
+use Rattle.model.specs.declared.limits.TheConstants.{OPEN_FILES}
 use Rattle.model.specs.declared.reply.Reply.TheVariants.{Done, Refused}
 use Rattle.model.proofs.LooseLemmas.{some_same}
 use Rattle.paths.specs.Steps.{found_in}
 use Rattle.paths.specs.declared.lookup.Found.TheVariants as found
-use Rattle.calls.specs.Changing.{Comes, ComesBy}
-use Rattle.calls.specs.Chmod.{ModesNumber}
+use Rattle.calls.specs.Changing.{Comes, ComesBy, Decides}
 use Rattle.calls.specs.Leading.{IsLed}
 use Rattle.calls.specs.declared.changed.Changing.{Changing}
 use Rattle.calls.proofs.LeadLaws.{led_some, led_there, led_refused}
@@ -60,7 +60,7 @@ module _ (inodes : ℕ) (v : Volume) (table : ℕ → Option Description) (text 
   pub mode_refused : (errno : Errno) → IsLed (text_tests text) v (resolve t true text) (Err errno) → changes_mode t text mode (Refused errno) t nothing
   mode_refused errno led = led_refused v table there (text_tests text) (resolve t true text) errno led
 
-  module _ (volume : IsVolume inodes v) (mounted : IsMounted v table) (good : mode ≤ MODE_BITS) (law : RecordsChangeTrees) (n : ℕ) where
+  module _ (volume : IsVolume inodes v) (mounted : IsMounted v table) (law : RecordsChangeTrees) (n : ℕ) where
     abbrev change : Change
     change = change_mode n mode
 
@@ -72,11 +72,11 @@ module _ (inodes : ℕ) (v : Volume) (table : ℕ → Option Description) (text 
         elim (cases_eq k n) [
           | inl same ↦
               let e = node_here n k (with_node_mode mode (v n)) v same in
-              let kept = subst (λ (i : ℕ). swept_node (is_open table 32 k) (v i) ≡ v i) same (mounted.is_swept k) in
-              ap (swept_node (is_open table 32 k)) e ∙ mode_swept (is_open table 32 k) mode (v n) kept ∙ sym e
+              let kept = subst (λ (i : ℕ). swept_node (is_open table OPEN_FILES k) (v i) ≡ v i) same (mounted.is_swept k) in
+              ap (swept_node (is_open table OPEN_FILES k)) e ∙ mode_swept (is_open table OPEN_FILES k) mode (v n) kept ∙ sym e
           | inr other ↦
               let e = node_other n k (with_node_mode mode (v n)) v other in
-              ap (swept_node (is_open table 32 k)) e ∙ mounted.is_swept k ∙ sym e
+              ap (swept_node (is_open table OPEN_FILES k)) e ∙ mounted.is_swept k ∙ sym e
         ]
 
     unswept : swept table new ≡ new
@@ -94,7 +94,7 @@ module _ (inodes : ℕ) (v : Volume) (table : ℕ → Option Description) (text 
         subst (λ (y : Object). there p y Done (tree_of new table) (logs changes_bits)) (some_same object) (refl, same, refl)
     done (Some (link_node text)) p x is object same = absurd (false≢true is)
 
-    pub mode_comes : (r : Result Changing Errno) → IsLed (text_tests text) v (resolve t true text) (Ok n) → found_in (v n) ≢ found.Link → ModesNumber inodes v n mode r
+    pub mode_comes : (r : Result Changing Errno) → IsLed (text_tests text) v (resolve t true text) (Ok n) → found_in (v n) ≢ found.Link → Decides inodes v change r
         → Comes (changes_mode t text mode) inodes v table r
     mode_comes (Ok c) led other (says, applies) =
         subst (ComesBy (changes_mode t text mode) inodes v table) (sym says) (
@@ -102,4 +102,5 @@ module _ (inodes : ℕ) (v : Volume) (table : ℕ → Option Description) (text 
           (changed applies).0,
           led_there v table there n Done (tree_of new table) (logs changes_bits) (λ p x at object. done (v n) p x applies.0 object (changed applies).1) (text_tests text) (resolve t true text) led,
         )
-    mode_comes (Err errno) led other not = absurd (not (has_mode (v n) (led_some v (resolve t true text) n led.1) other, good))
+    mode_comes (Err DAMAGED) led other not = absurd (false≢true (sym not ∙ has_mode (v n) (led_some v (resolve t true text) n led.1) other))
+    mode_comes (Err _) led other not = absurd not

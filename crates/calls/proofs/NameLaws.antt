@@ -4,6 +4,7 @@ use Rattle.std.proofs.lemmas.Bool.{or_parts}
 use Rattle.model.specs.Paths.{Name, first_refusal, new_text_tests, parts, is_dot, is_dot_dot, is_root_text, last_part}
 use Rattle.model.specs.Resolution.{resolve_within}
 use Rattle.model.specs.Trees.{root_alone}
+use Rattle.model.specs.declared.limits.TheConstants.{LINKS_FOLLOWED}
 use Rattle.model.proofs.LeadLemmas.{AnswersBelowRoot, all_passed, resolves_below_root}
 use Rattle.paths.specs.Ends.{EndsInName}
 
@@ -23,7 +24,7 @@ last_is_name (x ∷ (y ∷ rest)) some dot dots =
 some_part : (text : List ℕ) → first_refusal (new_text_tests text) ≡ None → is_root_text text ≡ false → parts text ≢ []
 some_part text passed other none =
     let below = resolves_below_root (root_alone 0) text passed other in
-    subst (λ (names : List Name). AnswersBelowRoot (resolve_within 8 (root_alone 0) false [] names)) none below refl
+    subst (λ (names : List Name). AnswersBelowRoot (resolve_within LINKS_FOLLOWED (root_alone 0) false [] names)) none below refl
 
 -- a text that names something to be made or taken away, and isn't `/`, ends in a name
 pub ends_in_name : (text : List ℕ) → first_refusal (new_text_tests text) ≡ None → is_root_text text ≡ false → EndsInName (parts text)

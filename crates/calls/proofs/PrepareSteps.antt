@@ -1,34 +1,51 @@
 -- Functions that prepare the change of a call, step by step.
-use Rattle.std.proofs.Common.{◌≡◌, Option, Result, Ok, Err, IfOk, IfSome, IsTrue, sym, subst}
+use Rattle.std.proofs.Common.{◌≡◌, ℕ, Bool, List, Option, Some, Result, Ok, Err, IfErr, IfOk, IfSome, IsTrue, ap, refl, sym, subst}
 use Rattle.std.specs.Result.{IsErrAnd}
+use Rattle.std.proofs.lemmas.Result.{IfOk-weaker}
 use Rattle.layout.specs.Limits.{Sizes}
-use Rattle.model.specs.Volumes.{IsVolume}
+use Rattle.layout.specs.declared.inode.Inode.{Inode}
+use Rattle.model.specs.Records.{Applies, Change}
+use Rattle.model.specs.Resolution.{Resolution, resolve}
+use Rattle.model.specs.Trees.{Description}
+use Rattle.model.specs.Volumes.{IsVolume, Volume, tree_of}
 use Rattle.model.specs.declared.errno.Errno.{Errno}
 use Rattle.blocktree.specs.Errors.{IsFault}
 use Rattle.blocktree.specs.declared.error.ReadError.{ReadError}
 use Rattle.blocktree.specs.declared.error.ReadError.TheVariants.{Damaged}
 use Rattle.buffers.specs.declared.blocks.Blocks.{Ghosts}
 use Rattle.inofile.specs.declared.inode_file.InodeFile.{InodeFile}
-use Rattle.paths.specs.Standing.{Looks}
+use Rattle.paths.specs.Standing.{Looks, Stands}
 use Rattle.paths.proofs.Looks.{looks_err, looks_more, looks_ok}
 use Rattle.paths.proofs.LookingUp.{same_error}
+use Rattle.records.specs.Failures.{told}
+use Rattle.records.specs.Obstacles.{IsObstacle}
 use Rattle.records.specs.Prepared.{Does, IsReady}
+use Rattle.records.specs.Preparing.{DecidesOn, Premise}
 use Rattle.records.specs.Shown.{NeverDamaged, OnMounted, OnVolumes}
+use Rattle.records.specs.declared.failure.Failure.{Failure}
+use Rattle.records.specs.declared.failure.Failure.TheVariants.{Read, Refused}
+use Rattle.records.specs.declared.prepared.Prepared.{Prepared}
 use Rattle.calls.specs.Changing.{said_by}
+use Rattle.calls.specs.Leading.{TellsWhere}
 use Rattle.calls.specs.Preparing.{Answer, PreparesWith}
 use Rattle.calls.specs.Refusals.{is_path_refusal}
 use Rattle.calls.specs.declared.changed.Changing.{Changing}
-use Rattle.calls.proofs.MakeLaws.{told_answers}
+use Rattle.calls.specs.declared.changed.OwnedChange.{OwnedChange}
+use Rattle.calls.proofs.RefusalLaws.{obstacle_own}
 
 -- no damage was found, in another type
-pub never_damaged : {B T U : Type 0} {G : Ghosts B} {a : B} {s : InodeFile} {e : ReadError} (q : Result U ReadError) → IsErrAnd q (λ f. f ≡ e)
-    → NeverDamaged {T = T} G a s (Err e) → NeverDamaged G a s q
-never_damaged {e = e} q is sound = λ disk settled v stands bad. sound disk settled v stands (same_error q e Damaged is bad)
+pub never_damaged : {B T U : Type 0} {G : Ghosts B} {a : B} {s : InodeFile} (e : ReadError) → NeverDamaged {T = T} G a s (Err e) → NeverDamaged {T = U} G a s (Err e)
+never_damaged e sound = λ disk settled v stands bad. sound disk settled v stands (same_error (Err e) e Damaged refl bad)
+
+-- what is true of a failure is true of what a `?` makes of it
+pub carried : {T : Type 0} (Q : Result T Failure → Type 0) {f : Failure} (q : Result T Failure) → IsErrAnd q (λ g. g ≡ f) → Q (Err f) → Q q
+carried Q (Ok y) is so = absurd is
+carried Q (Err g) is so = subst (λ (x : Failure). Q (Err x)) (sym is) so
 
 module _ {B T : Type 0} {changes : T → Option Changing} {G : Ghosts B} {a b : B} {s t : InodeFile} {P : Answer T} where
   -- the call is refused by an errno
   pub refuses : {X : Type 0} {x : X} {e : Errno} → Looks {T = X} {E = ReadError} G IsFault a b s t (Ok x) → IsTrue (is_path_refusal e)
-      → OnMounted G a s (λ v table. P s.geometry.inodes v table (Err e)) → PreparesWith changes G a b s t P (Ok (Err e))
+      → OnMounted G a s (λ v table. P s.geometry.inodes v table (Err e)) → PreparesWith changes G a b s t P (Err (Refused e))
   refuses looks own answers = record {
     looks = looks_ok looks;
     own = own;
@@ -41,7 +58,7 @@ module _ {B T : Type 0} {changes : T → Option Changing} {G : Ghosts B} {a b : 
   -- the call isn't refused
   pub grants : {X : Type 0} {x : X} {y : T} → Looks {T = X} {E = ReadError} G IsFault a b s t (Ok x) → IfSome (changes y) (λ c. IsReady t c.prepared)
       → OnVolumes G a s (λ disk settled v. IfSome (changes y) (λ c. Does disk settled t v c.prepared (said_by c.change)))
-      → OnMounted G a s (λ v table. P s.geometry.inodes v table (Ok y)) → PreparesWith changes G a b s t P (Ok (Ok y))
+      → OnMounted G a s (λ v table. P s.geometry.inodes v table (Ok y)) → PreparesWith changes G a b s t P (Ok y)
   grants looks ready does answers = record {
     looks = looks_ok looks;
     own = tt;
@@ -52,21 +69,50 @@ module _ {B T : Type 0} {changes : T → Option Changing} {G : Ghosts B} {a b : 
   }
 
   -- a step before has failed
-  pub stops : {X : Type 0} {e : ReadError} (q : Result (Result T Errno) ReadError) → IsErrAnd q (λ f. f ≡ e)
+  pub stops : {X : Type 0} {e : ReadError} (q : Result T Failure) → IsErrAnd q (λ f. f ≡ Read e)
       → Looks {T = X} G IsFault a b s t (Err e) → NeverDamaged {T = X} G a s (Err e) → PreparesWith changes G a b s t P q
-  stops (Ok y) is looks sound = absurd is
-  stops (Err f) is looks sound = record {
-    looks = looks_err (Err f) is looks;
+  stops {e = e} q is looks sound = carried (PreparesWith changes G a b s t P) q is (record {
+    looks = looks_err (Err e) refl looks;
     own = tt;
     ready = tt;
     does = λ disk settled v stands. tt;
     answers = λ disk settled v table stands volume mounted. tt;
-    damaged = never_damaged (Err f) is sound;
-  }
+    damaged = never_damaged e sound;
+  })
+
+  -- another call has failed: a block isn't read, or that call is refused
+  pub fails : {X : Type 0} (f : Failure) (q : Result T Failure) → IsErrAnd q (λ g. g ≡ f) → Looks G IsFault a b s t (told {T = X} (Err f))
+      → IfOk (told {T = X} (Err f)) (λ r. IfErr r (λ e. IsTrue (is_path_refusal e))) → NeverDamaged G a s (told {T = X} (Err f))
+      → OnMounted G a s (λ v table. (errno : Errno) → f ≡ Refused errno → P s.geometry.inodes v table (Err errno)) → PreparesWith changes G a b s t P q
+  fails (Refused errno) q is looks own sound answers =
+      carried (PreparesWith changes G a b s t P) q is
+      (refuses looks own (λ disk settled v table stands volume mounted. answers disk settled v table stands volume mounted errno refl))
+  fails (Read e) q is looks own sound answers = stops q is looks sound
+
+  -- the same where that call is refused by one errno alone
+  pub fails_by : {X : Type 0} (code : Errno) → IsTrue (is_path_refusal code) → (f : Failure) (q : Result T Failure) → IsErrAnd q (λ g. g ≡ f)
+      → Looks G IsFault a b s t (told {T = X} (Err f)) → IfOk (told {T = X} (Err f)) (λ r. IfErr r (λ e. e ≡ code)) → NeverDamaged G a s (told {T = X} (Err f))
+      → OnMounted G a s (λ v table. f ≡ Refused code → P s.geometry.inodes v table (Err code)) → PreparesWith changes G a b s t P q
+  fails_by code own (Refused errno) q is looks by sound answers =
+      carried (PreparesWith changes G a b s t P) q is
+      (subst (λ (e : Errno). PreparesWith changes G a b s t P (Err (Refused e))) (sym by)
+      (refuses looks own (λ disk settled v table stands volume mounted. answers disk settled v table stands volume mounted (ap (λ e. Refused e) by))))
+  fails_by code own (Read e) q is looks by sound answers = stops q is looks sound
+
+  -- nothing stands where a path leads: a block isn't read, or this is refused
+  pub passes : {follow : Bool} {IsText : List ℕ → Type 0} {Q : List ℕ → Volume → Resolution → Result ℕ Errno → Type 0} (f : Failure) (q : Result T Failure)
+      → IsErrAnd q (λ g. g ≡ f) → TellsWhere G a b s t follow IsText Q (Err f) → (text : List ℕ) → IsText text
+      → OnMounted G a s (λ v table. (errno : Errno) → Q text v (resolve (tree_of v table) follow text) (Err errno) → P s.geometry.inodes v table (Err errno))
+      → PreparesWith changes G a b s t P q
+  passes (Refused errno) q is led text same answers =
+      carried (PreparesWith changes G a b s t P) q is
+      (refuses led.looks led.own (λ disk settled v table stands volume mounted.
+      answers disk settled v table stands volume mounted errno (led.leads disk settled v table text stands volume same)))
+  passes (Read e) q is led text same answers = stops q is led.looks led.damaged
 
 module _ {B T : Type 0} {changes : T → Option Changing} {G : Ghosts B} {a b c : B} {s t u : InodeFile} {P : Answer T} where
   -- a step behind a look has failed
-  pub stops_later : {X Y : Type 0} {x : X} {e : ReadError} (q : Result (Result T Errno) ReadError) → IsErrAnd q (λ f. f ≡ e)
+  pub stops_later : {X Y : Type 0} {x : X} {e : ReadError} (q : Result T Failure) → IsErrAnd q (λ f. f ≡ Read e)
       → Looks {T = X} G IsFault a b s t (Ok x) → Looks {T = Y} G IsFault b c t u (Err e) → NeverDamaged {T = Y} G b t (Err e)
       → PreparesWith changes G a c s u P q
   stops_later q is looks then sound =
@@ -74,33 +120,60 @@ module _ {B T : Type 0} {changes : T → Option Changing} {G : Ghosts B} {a b c 
 
 module _ {B T : Type 0} {changes : T → Option Changing} {G : Ghosts B} {a b c : B} {s t u : InodeFile} {P Q : Answer T} where
   -- another function goes on behind a look
-  pub follows : {X : Type 0} {x : X} {r : Result (Result T Errno) ReadError} → Looks {T = X} {E = ReadError} G IsFault a b s t (Ok x)
+  pub follows : {X : Type 0} {x : X} {r : Result T Failure} → Looks {T = X} {E = ReadError} G IsFault a b s t (Ok x)
       → PreparesWith changes G b c t u Q r
       → OnMounted G a s (λ v table. (y : Result T Errno) → Q s.geometry.inodes v table y → P s.geometry.inodes v table y)
       → PreparesWith changes G a c s u P r
-  follows {r = r} looks then told = record {
+  follows {r = r} looks then leads = record {
     looks = looks_more looks then.looks;
     own = then.own;
     ready = then.ready;
     does = λ disk settled v stands. then.does disk settled v (looks.kept disk settled v stands);
     answers = λ disk settled v table stands volume mounted.
-        told_answers r _ _ (told disk settled v table stands volume mounted)
-        (subst (λ (z : Sizes). IfOk r (Q z.inodes v table)) looks.geometry
+        IfOk-weaker (told r) _ _ (leads disk settled v table stands volume mounted)
+        (subst (λ (z : Sizes). IfOk (told r) (Q z.inodes v table)) looks.geometry
         (then.answers disk settled v table (looks.kept disk settled v stands) (subst (λ (z : Sizes). IsVolume z.inodes v) (sym looks.geometry) volume) mounted));
     damaged = λ disk settled v stands is. then.damaged disk settled v (looks.kept disk settled v stands) is;
   }
 
 module _ {B T : Type 0} {changes : T → Option Changing} {G : Ghosts B} {a b : B} {s t : InodeFile} {P Q : Answer T} where
   -- another function does it all, and its answer is this one
-  pub leaves : {r : Result (Result T Errno) ReadError} → PreparesWith changes G a b s t Q r
+  pub leaves : {r : Result T Failure} → PreparesWith changes G a b s t Q r
       → OnMounted G a s (λ v table. (y : Result T Errno) → Q s.geometry.inodes v table y → P s.geometry.inodes v table y)
       → PreparesWith changes G a b s t P r
-  leaves {r = r} all told = record {
+  leaves {r = r} all leads = record {
     looks = all.looks;
     own = all.own;
     ready = all.ready;
     does = all.does;
     answers = λ disk settled v table stands volume mounted.
-        told_answers r _ _ (told disk settled v table stands volume mounted) (all.answers disk settled v table stands volume mounted);
+        IfOk-weaker (told r) _ _ (leads disk settled v table stands volume mounted) (all.answers disk settled v table stands volume mounted);
     damaged = all.damaged;
   }
+
+-- what a record decides is the call's answer
+module _ {B T : Type 0} {changes : T → Option Changing} {G : Ghosts B} {a b : B} {s t : InodeFile} {P : Answer T} {Over Sure : Premise} {change : Change} where
+  -- it is prepared
+  pub granted : {p : Prepared} {y : T} {owned : OwnedChange} → DecidesOn Over Sure G a b s t change (Ok p) → changes y ≡ Some (record { change = owned; prepared = p })
+      → said_by owned ≡ change → OnVolumes G a s Over
+      → ((disk : ℕ → List ℕ) (settled : ℕ → Inode) (v : Volume) (table : ℕ → Option Description) → Stands G disk settled v a s → IsVolume s.geometry.inodes v
+      → (Sure disk settled v → Applies s.geometry.inodes v change) → P s.geometry.inodes v table (Ok y))
+      → PreparesWith changes G a b s t P (Ok y)
+  granted {p = p} decides same says over answers =
+      grants decides.looks
+      (subst (λ o. IfSome o (λ c. IsReady t c.prepared)) (sym same) decides.ready)
+      (λ disk settled v stands.
+      subst (λ o. IfSome o (λ c. Does disk settled t v c.prepared (said_by c.change))) (sym same)
+      (subst (Does disk settled t v p) (sym says) (decides.does disk settled v (over disk settled v stands))))
+      (λ disk settled v table stands volume mounted. answers disk settled v table stands volume (decides.applies disk settled v))
+
+  -- there is an obstacle, or a block isn't read
+  pub hindered : (f : Failure) (q : Result T Failure) → IsErrAnd q (λ g. g ≡ f) → DecidesOn Over Sure G a b s t change (Err f)
+      → ((disk : ℕ → List ℕ) (settled : ℕ → Inode) (v : Volume) (table : ℕ → Option Description) → Stands G disk settled v a s → IsVolume s.geometry.inodes v
+      → (errno : Errno) → (Sure disk settled v → IsObstacle s.geometry.inodes v change errno) → P s.geometry.inodes v table (Err errno))
+      → PreparesWith changes G a b s t P q
+  hindered (Refused errno) q is decides answers =
+      carried (PreparesWith changes G a b s t P) q is
+      (refuses decides.looks (obstacle_own change errno decides.own)
+      (λ disk settled v table stands volume mounted. answers disk settled v table stands volume errno (λ sure. decides.refused disk settled v sure volume)))
+  hindered (Read e) q is decides answers = stops q is decides.looks decides.damaged

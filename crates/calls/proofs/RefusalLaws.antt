@@ -3,10 +3,12 @@ use Rattle.std.proofs.Common.{◌≡◌, inl, inr, ℕ, ℤ, List, [], ◌∷◌
 use Rattle.std.proofs.lemmas.Bool.{cases_Bool, cond-true, cond-false, false≢true}
 use Rattle.model.specs.Changing.{link_text_tests, size_tests}
 use Rattle.model.specs.Paths.{Tests, first_refusal, text_tests, new_text_tests}
+use Rattle.model.specs.Records.{Change, change_mode, create, cut, link, rename, unname, write}
 use Rattle.model.specs.declared.errno.Errno.{Errno}
 use Rattle.model.specs.declared.errno.Errno.TheVariants.{ENOENT, ENOTDIR, ENAMETOOLONG, ELOOP, DAMAGED}
 use Rattle.model.proofs.LooseLemmas.{some_same}
 use Rattle.paths.specs.Refusals.{is_walk_refusal}
+use Rattle.records.specs.Obstacles.{tells_obstacle}
 use Rattle.calls.specs.Refusals.{is_path_refusal}
 use Rattle.model.proofs.OptionLaws.{none_some}
 
@@ -42,6 +44,13 @@ link_text_own text e is = first_own (link_text_tests text) e (refl, (refl, (refl
 pub size_own : (size : ℤ) (e : Errno) → first_refusal (size_tests size) ≡ Some e → IsTrue (is_path_refusal e)
 size_own size e is = first_own (size_tests size) e (refl, (refl, tt)) is
 
--- an errno that is told is one of paths
-pub refused_own : {T : Type 0} {e : Errno} {r : Result T Errno} → r ≡ Err e → IfErr r (λ e. IsTrue (is_path_refusal e)) → IsTrue (is_path_refusal e)
-refused_own {T = T} is own = subst (λ (x : Result T Errno). IfErr x (λ e. IsTrue (is_path_refusal e))) is own
+-- an obstacle to a record is told by an errno of paths
+pub obstacle_own : (change : Change) (e : Errno) → IsTrue (tells_obstacle change e) → IsTrue (is_path_refusal e)
+obstacle_own change DAMAGED is = refl
+obstacle_own (create n d made x) e is = is
+obstacle_own (link n d x) e is = is
+obstacle_own (unname d x) e is = is
+obstacle_own (rename d x k y) e is = is
+obstacle_own (write n offset bytes) e is = is
+obstacle_own (cut n size) e is = is
+obstacle_own (change_mode n mode) e is = is

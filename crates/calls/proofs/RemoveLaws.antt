@@ -15,7 +15,7 @@ use Rattle.model.specs.Trees.{Tree, Object, Description, IsTree, is_directory}
 use Rattle.model.specs.Trees as trees
 use Rattle.model.specs.Volumes.{Node, directory_node, file_node, link_node, Volume, enter, entries, names_in, number_at, object_at, object_of, swept, tree_of, IsMounted, IsVolume}
 use Rattle.model.specs.declared.errno.Errno.{Errno}
-use Rattle.model.specs.declared.errno.Errno.TheVariants.{ENOTDIR, EPERM, EBUSY, ENOTEMPTY}
+use Rattle.model.specs.declared.errno.Errno.TheVariants.{ENOENT, ENOTDIR, EPERM, EBUSY, ENOTEMPTY}
 use Rattle.model.specs.declared.reply.Reply.{Reply}
 use Rattle.model.specs.declared.reply.Reply.TheVariants.{Done, Refused}
 use Rattle.model.proofs.LooseLemmas.{some_same}
@@ -27,7 +27,7 @@ use Rattle.paths.specs.declared.lookup.Found.TheVariants as found
 use Rattle.calls.specs.Changing.{ComesSwept, ComesSweptBy}
 use Rattle.calls.specs.Leading.{LeadsTo}
 use Rattle.calls.specs.Rmdir.{RemovesDirectory}
-use Rattle.calls.specs.Unlink.{RemovesName, UnlinksEntry}
+use Rattle.calls.specs.Unlink.{UnlinksEntry}
 use Rattle.calls.specs.declared.changed.Changing.{Changing}
 use Rattle.calls.proofs.LeadLaws.{leads_refused, leads_there, trail_end}
 use Rattle.calls.proofs.MakeLaws.{child_some, listing, tested_some, tested_none}
@@ -64,18 +64,6 @@ object_other n None x other object = none_some object
 object_other n (Some (directory_node mode names)) x other object = absurd (other refl)
 object_other n (Some (file_node mode links bytes)) x other object = ap (λ (y : Object). is_directory (Some y)) (sym (some_same object))
 object_other n (Some (link_node text)) x other object = ap (λ (y : Object). is_directory (Some y)) (sym (some_same object))
-
--- ---- what comes of a record that takes a name away
-
-pub unlinks_other : (inodes : ℕ) (v : Volume) (d : ℕ) (x : Name) (n : ℕ) (otherwise : Errno) → found_in (v n) ≢ found.Directory → (r : Result Changing Errno)
-    → RemovesName inodes v d x otherwise r → UnlinksEntry inodes v d x n r
-unlinks_other inodes v d x n otherwise other (Ok c) told = (other, told)
-unlinks_other inodes v d x n otherwise other (Err errno) told = inr (other, told.1)
-
-pub removes_directory_name : (inodes : ℕ) (v : Volume) (d : ℕ) (x : Name) (n : ℕ) (otherwise : Errno) → found_in (v n) ≡ found.Directory → otherwise ≡ ENOTEMPTY
-    → (r : Result Changing Errno) → RemovesName inodes v d x otherwise r → RemovesDirectory inodes v d x n r
-removes_directory_name inodes v d x n otherwise is which (Ok c) told = (is, told)
-removes_directory_name inodes v d x n otherwise is which (Err errno) told = inr (told.0 ∙ which, is, told.1)
 
 -- ---- an entry that a path leads to
 
@@ -196,7 +184,11 @@ module _ (inodes : ℕ) (v : Volume) (table : ℕ → Option Description) (volum
           subst (λ (b : Bool). tested t ((b, EPERM) ∷ []) (removes t p) reply new need) (sym not) done
 
       pub unlink_comes : (c : Result Changing Errno) → UnlinksEntry inodes v d x n c → ComesSwept (unlinks t text) inodes v table c
-      unlink_comes (Ok c) (other, (says, applies)) =
+      unlink_comes c (inl (directory, is)) =
+          subst (ComesSwept (unlinks t text) inodes v table) (sym is)
+          (unlink_led (Refused EPERM) t nothing
+          (there_comes d x n r finds unlinked (Refused EPERM) t nothing (λ o object. unlink_no_directory n (finds.path ++ x ∷ []) o directory object)))
+      unlink_comes (Ok c) (inr (other, (says, applies))) =
           let new = tree_of (swept table (applied (unname d x) v)) table in
           subst (ComesSweptBy (unlinks t text) inodes v table) (sym says) (
             applies,
@@ -205,12 +197,10 @@ module _ (inodes : ℕ) (v : Volume) (table : ℕ → Option Description) (volum
                 (there_comes d x n r finds unlinked Done new (logs removes_name) (λ o object.
                 not_directory (finds.path ++ x ∷ []) o Done new (logs removes_name) (object_other n (v n) o other object) (removed d x n r finds applies))),
           )
-      unlink_comes (Err errno) (inl (is, directory)) =
-          subst (λ (e : Errno). unlinks t text (Refused e) t nothing) (sym is)
-          (unlink_led (Refused EPERM) t nothing
-          (there_comes d x n r finds unlinked (Refused EPERM) t nothing (λ o object. unlink_no_directory n (finds.path ++ x ∷ []) o directory object)))
-      unlink_comes (Err errno) (inr (other, not)) =
-          absurd (not (record { number = n; there = finds.edge; empty = λ y. no_names (v n) other y }))
+      unlink_comes (Err ENOENT) (inr (other, none)) = none_some (sym none ∙ finds.edge)
+      unlink_comes (Err ENOTEMPTY) (inr (other, (m, there, filled))) =
+          absurd (filled (λ y. no_names (v m) (subst (λ (k : ℕ). found_in (v k) ≢ found.Directory) (some_same (sym finds.edge ∙ there)) other) y))
+      unlink_comes (Err _) (inr (other, told)) = absurd told
 
   -- ---- rmdir
 
@@ -268,13 +258,9 @@ module _ (inodes : ℕ) (v : Volume) (table : ℕ → Option Description) (volum
         same_number : (a b : ℕ) → Some a ≡ Some b → a ≡ b
         same_number a b e = cc
 
-        filled : (names : List Name) → IsListing t at names → (Applies inodes v (unname d x) → ⊥) → tested t ((not (is_empty names), ENOTEMPTY) ∷ []) (removes t at) (Refused ENOTEMPTY) t nothing
+        filled : (names : List Name) → IsListing t at names → (IsEmpty v n → ⊥) → tested t ((not (is_empty names), ENOTEMPTY) ∷ []) (removes t at) (Refused ENOTEMPTY) t nothing
         filled [] lists cannot =
-            absurd (cannot (record {
-              number = n;
-              there = finds.edge;
-              empty = λ y. none_if (entries v n y) (λ there. let is = (lists.whole y).1 ((child y).1 there) in omega (arith, is.1));
-            }))
+            absurd (cannot (λ y. none_if (entries v n y) (λ there. let is = (lists.whole y).1 ((child y).1 there) in omega (arith, is.1))))
         filled (y ∷ names) lists cannot =
             subst (λ (b : Bool). tested t ((b, ENOTEMPTY) ∷ []) (removes t at) (Refused ENOTEMPTY) t nothing)
             (sym (ap not_of (ne_eqb (length (y ∷ names)) 0 (λ (z : length (y ∷ names) ≡ 0). omega (arith, z))))) (refl, refl, refl)
@@ -283,7 +269,10 @@ module _ (inodes : ℕ) (v : Volume) (table : ℕ → Option Description) (volum
             not_of b = not b
 
         pub remove_comes : (c : Result Changing Errno) → RemovesDirectory inodes v d x n c → ComesSwept (removes_directory t text) inodes v table c
-        remove_comes (Ok c) (is, (says, applies)) =
+        remove_comes c (inl (other, is)) =
+            subst (ComesSwept (removes_directory t text) inodes v table) (sym is)
+            (remove_led (Refused ENOTDIR) t nothing (there_comes d x n resolved finds taken_away (Refused ENOTDIR) t nothing (λ o object. no_directory (v n) o other object)))
+        remove_comes (Ok c) (inr (is, (says, applies))) =
             let new = tree_of (swept table (applied (unname d x) v)) table in
             let same : applies.number ≡ n = same_number applies.number n (sym applies.there ∙ finds.edge) in
             let empty = subst (λ (k : ℕ). IsEmpty v k) same applies.empty in
@@ -295,13 +284,12 @@ module _ (inodes : ℕ) (v : Volume) (table : ℕ → Option Description) (volum
                   subst (λ (z : Object). taken_away at z Done new (logs removes_name)) (sym (object_is n (v n) o is object))
                   ([], empty_listing empty, removed d x n resolved finds applies))),
             )
-        remove_comes (Err errno) (inl (is, other)) =
-            subst (λ (e : Errno). removes_directory t text (Refused e) t nothing) (sym is)
-            (remove_led (Refused ENOTDIR) t nothing (there_comes d x n resolved finds taken_away (Refused ENOTDIR) t nothing (λ o object. no_directory (v n) o other object)))
-        remove_comes (Err errno) (inr (is, directory, not)) =
+        remove_comes (Err ENOENT) (inr (is, none)) = none_some (sym none ∙ finds.edge)
+        remove_comes (Err ENOTEMPTY) (inr (directory, (m, there, not))) =
             let (count, counts, most) = volume.limits.children n in
             let (names, are, many) = listing inodes v table volume mounted tree at n (at_name d x n resolved finds) count counts in
-            subst (λ (e : Errno). removes_directory t text (Refused e) t nothing) (sym is)
-            (remove_led (Refused ENOTEMPTY) t nothing
+            let cannot = subst (λ (k : ℕ). IsEmpty v k → ⊥) (some_same (sym there ∙ finds.edge)) not in
+            remove_led (Refused ENOTEMPTY) t nothing
             (there_comes d x n resolved finds taken_away (Refused ENOTEMPTY) t nothing (λ o object.
-            subst (λ (z : Object). taken_away at z (Refused ENOTEMPTY) t nothing) (sym (object_is n (v n) o directory object)) (names, are, filled names are not))))
+            subst (λ (z : Object). taken_away at z (Refused ENOTEMPTY) t nothing) (sym (object_is n (v n) o directory object)) (names, are, filled names are cannot)))
+        remove_comes (Err _) (inr (is, told)) = absurd told

@@ -1,18 +1,18 @@
 -- What the definitions say of moving a name over two paths that lead to names.
-use Rattle.std.proofs.Common.{◌≡◌, inl, inr, ◌⊎◌, ℕ, List, [], ◌∷◌, ◌++◌, Bool, false, true, ◌||◌, Option, Some, None, IsSome, is_some, Result, Ok, Err, refl, sym, ap, subst, ◌∙◌, arith, length-append}
+use Rattle.std.proofs.Common.{◌≡◌, ◌≢◌, inl, inr, ◌⊎◌, ℕ, List, [], ◌∷◌, ◌++◌, Bool, false, true, ◌||◌, Option, Some, None, IsSome, is_some, Result, Ok, Err, refl, sym, ap, subst, ◌∙◌, arith, length-append}
 use Rattle.std.proofs.lemmas.Bool.{false≢true}
-use Rattle.model.specs.Changing.{moves, renames}
+use Rattle.model.specs.Changing.{move_tests, moves, renames}
 use Rattle.model.specs.Finding.{at_entry, at_gap, at_refusal, here, IsPlaceOf, Trails}
 use Rattle.model.specs.Laws.{BelowIsByPaths, RecordsChangeTrees, TrailsTellBelow}
 use Rattle.model.specs.Outcomes.{Outcome, leads, leads_to}
 use Rattle.model.specs.Paths.{Name, Path, IsName, Tests, first_refusal, is_dot, is_dot_dot, is_root_text, last_part, new_text_tests}
-use Rattle.model.specs.Records.{Change, applied, rename}
+use Rattle.model.specs.Records.{CanRename, CanReplace, Change, IsBelow, applied, rename}
 use Rattle.model.specs.Resolution.{Resolution, named, missing, refused, resolve}
 use Rattle.model.specs.Room.{Need, adds_name, logs, nothing}
 use Rattle.model.specs.Trees.{Tree, Object, Description, IsTree}
 use Rattle.model.specs.Volumes.{Volume, enter, entries, is_directory_node, number_at, object_at, object_of, swept, tree_of, IsMounted, IsVolume}
 use Rattle.model.specs.declared.errno.Errno.{Errno}
-use Rattle.model.specs.declared.errno.Errno.TheVariants.{EBUSY, EINVAL}
+use Rattle.model.specs.declared.errno.Errno.TheVariants.{EBUSY, EINVAL, ENAMETOOLONG, ENOENT}
 use Rattle.model.specs.declared.reply.Reply.{Reply}
 use Rattle.model.specs.declared.reply.Reply.TheVariants.{Done, Refused}
 use Rattle.model.proofs.LeadLemmas.{AnswersWell, resolves_well}
@@ -20,16 +20,19 @@ use Rattle.model.proofs.VolumeLemmas.{directory_no_file}
 use Rattle.model.proofs.WalkLemmas.{number_at-push}
 use Rattle.calls.specs.Changing.{ComesOrStays, ComesSweptBy}
 use Rattle.calls.specs.Leading.{LeadsTo}
-use Rattle.calls.specs.Rename.{MovesAlong, MovesName, PassTests, otherwise}
+use Rattle.calls.specs.Rename.{MovesAlong, MovesName, PassTests}
 use Rattle.calls.specs.declared.changed.Changing.{Changing}
+use Rattle.records.specs.Obstacles.{BarsMove}
 use Rattle.records.proofs.FileLaws.{named_directory}
 use Rattle.calls.proofs.GapLaws.{finds_gap}
 use Rattle.calls.proofs.LeadLaws.{leads_refused, trail_end}
 use Rattle.calls.proofs.MakeLaws.{tested_none, tested_some}
 use Rattle.calls.proofs.RemoveLaws.{FindsEntry, finds_entry, there_comes}
-use Rattle.calls.proofs.RenameEnds.{move_otherwise}
-use Rattle.calls.proofs.RenameLaws.{move_done, move_refused, move_stays, target_takes}
+use Rattle.calls.proofs.RenameEnds.{move_barred}
+use Rattle.calls.proofs.RenameTests.{above_directory, below_trail}
+use Rattle.calls.proofs.RenameLaws.{move_done, move_stays, passes_none, passes_some, target_takes}
 use Rattle.model.proofs.ObjectLaws.{node_object}
+use Rattle.model.proofs.OptionLaws.{none_some, some_same}
 use Rattle.model.proofs.TestLaws.{first_append, first_in_front}
 
 -- ---- texts
@@ -128,27 +131,32 @@ module _ (inodes : ℕ) (v : Volume) (table : ℕ → Option Description) (volum
   -- ---- the trail of the new path
 
   module _ (by_paths : BelowIsByPaths) (by_trails : TrailsTellBelow) (r : Resolution) (d : ℕ) (x : Name) (n : ℕ) (finds : FindsEntry v r d x n) where
-    along : (w : Path) (trail : List ℕ) → Trails (entries v) w trail → is_directory_node (v (here trail)) ≡ true → MovesAlong v d x n trail
-    along w trail trails directory = record {
+    along : (w : Path) (trail : List ℕ) (y : Name) → Trails (entries v) w trail → is_directory_node (v (here trail)) ≡ true → IsName y → entries v (here trail) y ≢ Some n → MovesAlong v d x n trail y
+    along w trail y trails directory name other = record {
       there = finds.edge;
-      directory = directory;
-      tells = λ is.
-          let p = finds.path ++ x ∷ [] in
-          let at = number_at-push (entries v) finds.path x ∙ ap (λ (o : Option ℕ). enter (entries v) o x) finds.at ∙ finds.edge in
-          let on = by_trails inodes v p w trail n volume trails at (directory_no_file (v n) is) (omega (arith, length-append finds.path (x ∷ []))) in
-          let under = by_paths inodes v p w n (here trail) volume at (trail_end v w trail trails) (directory_no_file (v (here trail)) directory) in
-          (λ one. under.1 (on.0 one), λ one. on.1 (under.0 one));
+      name = name;
+      other = other;
+      tells = (
+        λ on. below_trail v w trail n trails on,
+        λ under.
+            let p = finds.path ++ x ∷ [] in
+            let is = above_directory v n (here trail) under.0 under.1 directory in
+            let at = number_at-push (entries v) finds.path x ∙ ap (λ (o : Option ℕ). enter (entries v) o x) finds.at ∙ finds.edge in
+            let on = by_trails inodes v p w trail n volume trails at (directory_no_file (v n) is) (omega (arith, length-append finds.path (x ∷ []))) in
+            on.1 ((by_paths inodes v p w n (here trail) volume at (trail_end v w trail trails) (directory_no_file (v (here trail)) directory)).0 under),
+      );
     }
 
-    pub along_entry : (trail : List ℕ) (y : Name) (m : ℕ) (s : Resolution) → IsPlaceOf v (at_entry trail y m) s → MovesAlong v d x n trail
-    along_entry trail y m (named q) (w, trails, same, to) = along w trail trails (named_directory (v (here trail)) y m to)
-    along_entry trail y m (missing w z) is = absurd is
-    along_entry trail y m (refused errno) is = absurd is
+    pub along_entry : (trail : List ℕ) (y : Name) (m : ℕ) (s : Resolution) → m ≢ n → IsPlaceOf v (at_entry trail y m) s → MovesAlong v d x n trail y
+    along_entry trail y m (named q) apart (w, trails, same, to) =
+        along w trail y trails (named_directory (v (here trail)) y m to) (volume.graph.names (here trail) y (ap is_some to)) (λ is. apart (some_same (sym to ∙ is)))
+    along_entry trail y m (missing w z) apart is = absurd is
+    along_entry trail y m (refused errno) apart is = absurd is
 
-    pub along_gap : (trail : List ℕ) (y : Name) (s : Resolution) → is_directory_node (v (here trail)) ≡ true → IsPlaceOf v (at_gap trail y) s → MovesAlong v d x n trail
-    along_gap trail y (named q) directory is = absurd is
-    along_gap trail y (missing w z) directory (trails, same, none) = along w trail trails directory
-    along_gap trail y (refused errno) directory is = absurd is
+    pub along_gap : (trail : List ℕ) (y : Name) (s : Resolution) → is_directory_node (v (here trail)) ≡ true → IsName y → IsPlaceOf v (at_gap trail y) s → MovesAlong v d x n trail y
+    along_gap trail y (named q) directory name is = absurd is
+    along_gap trail y (missing w z) directory name (trails, same, none) = along w trail y trails directory name (λ is. none_some (sym none ∙ is))
+    along_gap trail y (refused errno) directory name is = absurd is
 
   -- ---- the call
 
@@ -197,23 +205,46 @@ module _ (inodes : ℕ) (v : Volume) (table : ℕ → Option Description) (volum
         abbrev change : Change
         change = rename d x k y
 
-        pub rename_comes : (c : Result (Option Changing) Errno) → MovesName inodes v d x n k y (entries v k y) c → ComesOrStays (renames t old path) inodes v table c
-        rename_comes (Ok None) same =
+        -- the object has the name already
+        pub rename_stays : entries v k y ≡ Some n → renames t old path Done t nothing
+        rename_stays same =
             at_end Done t nothing (λ o object.
             move_stays inodes v table volume mounted tree finds.path d x n finds.at finds.edge ends.path k y ends.at o object same)
-        rename_comes (Ok (Some c)) (other, first, says, applies) =
-            let after = tree_of (swept table (applied change v)) table in
-            subst (ComesSweptBy (renames t old path) inodes v table) (sym says) (
-              applies,
-              (law inodes v table change volume mounted applies tt).0,
-              at_end Done after (logs adds_name) (λ o object.
-                  move_done inodes v table volume mounted tree finds.path d x n finds.at finds.edge ends.path k y ends.at o object below ends.directory other applies first
-                  (λ rest. target_takes inodes v table volume mounted tree finds.path d x n finds.at finds.edge ends.path k y ends.at o object below ends.directory other applies rest Done after (logs adds_name))),
-            )
-        rename_comes (Err errno) (other, inl first) =
-            at_end (Refused errno) t nothing (λ o object.
-            move_refused inodes v table volume mounted tree finds.path d x n finds.at finds.edge ends.path k y ends.at o object below ends.directory other errno first)
-        rename_comes (Err errno) (other, inr (first, is, never)) =
-            subst (λ (e : Errno). renames t old path (Refused e) t nothing) (sym is)
-            (at_end (Refused (otherwise (entries v k y))) t nothing (λ o object.
-            move_otherwise inodes v table volume mounted tree finds.path d x n finds.at finds.edge ends.path k y ends.at o object below ends.directory other first ends.good never))
+
+        module _ (other : entries v k y ≢ Some n) where
+          obstructed : (errno : Errno) → BarsMove v d n k y (entries v k y) errno → renames t old path (Refused errno) t nothing
+          obstructed errno bars =
+              at_end (Refused errno) t nothing (λ o object.
+              move_barred inodes v table volume mounted tree finds.path d x n finds.at finds.edge ends.path k y ends.at o object below ends.directory other ends.good errno bars)
+
+          -- the tests pass where the record applies
+          module _ (can : CanRename v d x k y) where
+            same_number : can.number ≡ n
+            same_number = some_same (sym can.there ∙ finds.edge)
+
+            outside : IsBelow (entries v) n k → ⊥
+            outside = subst (λ (j : ℕ). IsBelow (entries v) j k → ⊥) same_number can.outside
+
+            passes : (o : Object) (object : object_of n (v n) ≡ Some o) → first_refusal (move_tests p o (ends.path ++ y ∷ []) (t.objects (ends.path ++ y ∷ []))) ≡ None
+            passes o object = by (entries v k y) refl (subst (λ (j : ℕ). CanReplace v d k y j (entries v k y)) same_number can.replaces)
+              where
+                by : (a : Option ℕ) → entries v k y ≡ a → CanReplace v d k y n a → first_refusal (move_tests p o (ends.path ++ y ∷ []) (t.objects (ends.path ++ y ∷ []))) ≡ None
+                by None is may =
+                    passes_none inodes v table volume mounted tree finds.path d x n finds.at finds.edge ends.path k y ends.at o object below ends.directory other outside is
+                by (Some m) is may =
+                    passes_some inodes v table volume mounted tree finds.path d x n finds.at finds.edge ends.path k y ends.at o object below ends.directory other outside m is may.1
+
+          pub rename_comes : (c : Result (Option Changing) Errno) → MovesName inodes v d x k y c → ComesOrStays (renames t old path) inodes v table c
+          rename_comes (Ok None) told = absurd told
+          rename_comes (Ok (Some c)) (says, applies) =
+              let after = tree_of (swept table (applied change v)) table in
+              subst (ComesSweptBy (renames t old path) inodes v table) (sym says) (
+                applies,
+                (law inodes v table change volume mounted applies tt).0,
+                at_end Done after (logs adds_name) (λ o object.
+                    move_done inodes v table volume mounted tree finds.path d x n finds.at finds.edge ends.path k y ends.at o object below ends.directory other applies (passes applies o object)
+                    (λ rest. target_takes inodes v table volume mounted tree finds.path d x n finds.at finds.edge ends.path k y ends.at o object below ends.directory other applies rest Done after (logs adds_name))),
+              )
+          rename_comes (Err ENAMETOOLONG) bad = absurd (bad ends.good)
+          rename_comes (Err ENOENT) none = none_some (sym none ∙ finds.edge)
+          rename_comes (Err errno) (m, there, bars) = obstructed errno (subst (λ (j : ℕ). BarsMove v d j k y (entries v k y) errno) (some_same (sym there ∙ finds.edge)) bars)

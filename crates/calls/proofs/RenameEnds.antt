@@ -1,34 +1,27 @@
 -- What the definitions say of moving a name whose tests pass, where the target can't take it.
-use Rattle.std.proofs.Common.{◌≡◌, ◌≢◌, inl, inr, ℕ, List, [], ◌∷◌, ◌++◌, length, Bool, true, false, not, ◌&&◌, ◌||◌, Option, Some, None, IsSome, refl, sym, ap, subst, ◌∙◌, arith}
+use Rattle.std.proofs.Common.{◌≡◌, ◌≢◌, ℕ, List, [], ◌∷◌, ◌++◌, length, Bool, true, false, not, Option, Some, None, IsSome, refl, sym, ap, subst, ◌∙◌, arith}
 use Rattle.std.proofs.lemmas.Bool.{false≢true, ne_eqb}
-use Rattle.model.specs.Changing.{is_same_file, move_tests, moves, with_target}
+use Rattle.model.specs.Changing.{moves, with_target}
 use Rattle.model.specs.Edits.{moved}
 use Rattle.model.specs.Laws.{BelowIsByPaths}
 use Rattle.model.specs.Outcomes.{Outcome, IsListing, changes_swept, either, tested, with_place}
-use Rattle.model.specs.Paths.{Name, Path, IsName, first_refusal, is_empty, path_eq}
-use Rattle.model.specs.Records.{Applies, CanReplace, IsEmpty, rename}
+use Rattle.model.specs.Paths.{Name, Path, IsName, is_empty, path_eq}
+use Rattle.model.specs.Records.{IsBelow, IsEmpty, TakesName}
 use Rattle.model.specs.Resolution.{missing, parent}
 use Rattle.model.specs.Room.{adds_name, logs, nothing}
 use Rattle.model.specs.Trees.{Tree, Object, Description, IsTree}
 use Rattle.model.specs.Volumes.{Node, directory_node, file_node, link_node, Volume, entries, is_directory_node, number_at, names_in, object_at, object_of, tree_of, IsMounted, IsVolume}
-use Rattle.model.specs.declared.errno.Errno.TheVariants.{ENOTDIR, EISDIR, EINVAL, ENOTEMPTY, DIRFULL}
+use Rattle.model.specs.declared.errno.Errno.{Errno}
+use Rattle.model.specs.declared.errno.Errno.TheVariants.{DIRFULL, EEXIST, EINVAL, EISDIR, ENOTDIR, ENOTEMPTY}
+use Rattle.model.specs.declared.reply.Reply.{Reply}
 use Rattle.model.specs.declared.reply.Reply.TheVariants.{Done, Refused}
 use Rattle.model.proofs.LeadLemmas.{parent-push}
 use Rattle.model.proofs.WalkLemmas.{same_path}
-use Rattle.calls.specs.Rename.{FirstOfTests, number_tests, otherwise}
+use Rattle.records.specs.Obstacles.{BarsMove, BarsReplacing, BarsTarget}
 use Rattle.records.proofs.FileLaws.{same_some}
 use Rattle.calls.proofs.GapLaws.{FindsGap, place_full}
-use Rattle.calls.proofs.MakeLaws.{child_some, listing, tested_none}
-use Rattle.calls.proofs.RenameLaws.{applies, at_q, not_either, other_there, same_tests, stands_q}
-use Rattle.model.proofs.OptionLaws.{none_some}
-
--- where the tests pass, both are directories or neither is
-same_kinds : (a b c : Bool) → None ≡ first_refusal ((a && b, EINVAL) ∷ (a && true && not c, ENOTDIR) ∷ (not a && c, EISDIR) ∷ []) → c ≡ a
-same_kinds true true c passed = none_some passed
-same_kinds true false true passed = refl
-same_kinds true false false passed = none_some passed
-same_kinds false b true passed = none_some passed
-same_kinds false b false passed = refl
+use Rattle.calls.proofs.MakeLaws.{child_some, listing}
+use Rattle.calls.proofs.RenameLaws.{at_q, passes_none, passes_some, past_tests, refused_below, refused_directory, refused_other, stands_q}
 
 none_if : (o : Option ℕ) → (IsSome o → ⊥) → o ≡ None
 none_if None nothing_there = refl
@@ -66,58 +59,64 @@ module _ (inodes : ℕ) (v : Volume) (table : ℕ → Option Description) (volum
     abbrev rest : Outcome
     rest = changes_swept Done (moved p q t) (logs adds_name)
 
-    module _ (passed : FirstOfTests v n k target None) (name : IsName y) (never : Applies inodes v (rename d x k y) → ⊥) where
-      cannot : CanReplace v d k y n target → ⊥
-      cannot may = never (applies inodes v table volume mounted tree front d x n at_old edge w k y at_new o object law directory other passed name may)
+    -- nothing has the name: its directory is full
+    no_place : target ≡ None → d ≢ k → (TakesName v k y → ⊥) → IsName y → (a : Bool) → path_eq (parent p) (parent q) ≡ a → either a rest (with_place t (parent q) rest) (Refused DIRFULL) t nothing
+    no_place is apart full name true same = absurd (apart (same_some (sym at_old ∙ ap (number_at (entries v)) one ∙ at_new)))
+      where
+        one : front ≡ w
+        one = sym (parent-push front x) ∙ same_path (parent p) (parent q) same ∙ parent-push w y
+    no_place is apart full name false differ =
+        let gap : FindsGap inodes v table volume mounted tree (missing w y) k y = record { path = w; is = refl; at = at_new; free = is; good = name; parent = directory } in
+        subst (λ (a : Path). with_place t a rest (Refused DIRFULL) t nothing) (sym (parent-push w y))
+        (place_full inodes v table volume mounted tree k y (missing w y) gap rest full)
 
-      same_parents : path_eq (parent p) (parent q) ≡ true → d ≡ k
-      same_parents same =
-          let one : front ≡ w = sym (parent-push front x) ∙ same_path (parent p) (parent q) same ∙ parent-push w y in
-          same_some (sym at_old ∙ ap (number_at (entries v)) one ∙ at_new)
+    -- something has it: it is a directory with names
+    module _ (m : ℕ) (is : target ≡ Some m) (filled : IsEmpty v m → ⊥) where
+      no_names : (a : Option Node) → is_directory_node a ≡ false → v m ≡ a → ⊥
+      no_names a not_one at = filled (λ z. by (v m) (subst (λ (b : Option Node). is_directory_node b ≡ false) (sym at) not_one) z)
+        where
+          by : (b : Option Node) → is_directory_node b ≡ false → (z : Name) → names_in b z ≡ None
+          by None is_not z = refl
+          by (Some (directory_node mode names)) is_not z = absurd (false≢true (sym is_not))
+          by (Some (file_node mode links bytes)) is_not z = refl
+          by (Some (link_node text)) is_not z = refl
 
-      -- nothing has the name: its directory is full
-      no_place : target ≡ None → (a : Bool) → path_eq (parent p) (parent q) ≡ a → either a rest (with_place t (parent q) rest) (Refused DIRFULL) t nothing
-      no_place is true same = absurd (subst (λ (a : Option ℕ). CanReplace v d k y n a → ⊥) is cannot (inl (same_parents same)))
-      no_place is false differ =
-          let gap : FindsGap inodes v table volume mounted tree (missing w y) k y = record { path = w; is = refl; at = at_new; free = is; good = name; parent = directory } in
-          subst (λ (a : Path). with_place t a rest (Refused DIRFULL) t nothing) (sym (parent-push w y))
-          (place_full inodes v table volume mounted tree k y (missing w y) gap rest (λ takes. subst (λ (a : Option ℕ). CanReplace v d k y n a → ⊥) is cannot (inr takes)))
+      not_replaced : (a : Option Node) → IsSome a → v m ≡ a → with_target t p q (object_of m a) rest (Refused ENOTEMPTY) t nothing
+      not_replaced None some at = absurd (false≢true some)
+      not_replaced (Some (directory_node mode names)) some at =
+          let (count, counts, most) = volume.limits.children m in
+          let here = at_q inodes v table volume mounted tree front d x n at_old edge w k y at_new o object ∙ is in
+          let (all, are, many) = listing inodes v table volume mounted tree q m here count counts in
+          (all, are, not_empty q m here filled rest all are)
+      not_replaced (Some (file_node mode links bytes)) some at = absurd (no_names (Some (file_node mode links bytes)) refl at)
+      not_replaced (Some (link_node text)) some at = absurd (no_names (Some (link_node text)) refl at)
 
-      -- something has it: it is a directory with names
-      module _ (m : ℕ) (is : target ≡ Some m) where
-        filled : IsEmpty v m → ⊥
-        filled none =
-            let kinds = same_kinds (is_directory_node (v n)) passed.below (is_directory_node (v m)) (subst (λ (a : Option ℕ). None ≡ first_refusal (number_tests v n passed.below a)) is passed.is) in
-            subst (λ (a : Option ℕ). CanReplace v d k y n a → ⊥) is cannot ((λ same. other (is ∙ ap (λ (j : ℕ). Some j) same)), kinds, none)
+    -- the target as it stands in the tree
+    at_target : (a : Option ℕ) → target ≡ a → (reply : Reply) → with_target t p q (object_at v a) rest reply t nothing → with_target t p q (t.objects q) rest reply t nothing
+    at_target a is reply done =
+        subst (λ (b : Option Object). with_target t p q b rest reply t nothing)
+        (sym (stands_q inodes v table volume mounted tree front d x n at_old edge w k y at_new o object ∙ ap (object_at v) is)) done
 
-        no_names : (a : Option Node) → is_directory_node a ≡ false → v m ≡ a → ⊥
-        no_names a not_one at = filled (λ z. by (v m) (subst (λ (b : Option Node). is_directory_node b ≡ false) (sym at) not_one) z)
-          where
-            by : (b : Option Node) → is_directory_node b ≡ false → (z : Name) → names_in b z ≡ None
-            by None is_not z = refl
-            by (Some (directory_node mode names)) is_not z = absurd (false≢true (sym is_not))
-            by (Some (file_node mode links bytes)) is_not z = refl
-            by (Some (link_node text)) is_not z = refl
+    -- what keeps the object from the name is what the move is refused by
+    module _ (outside : IsBelow (entries v) n k → ⊥) where
+      replacing_barred : (m : ℕ) → target ≡ Some m → (errno : Errno) → BarsReplacing v n m errno → moves t p o q (Refused errno) t nothing
+      replacing_barred m is ENOTDIR (one, isnt) = refused_directory inodes v table volume mounted tree front d x n at_old edge w k y at_new o object law directory other outside m is one isnt
+      replacing_barred m is EISDIR (isnt, one) = refused_other inodes v table volume mounted tree front d x n at_old edge w k y at_new o object law directory other outside m is isnt one
+      replacing_barred m is ENOTEMPTY (same, filled) =
+          past_tests inodes v table volume mounted tree front d x n at_old edge w k y at_new o object law directory other
+          (passes_some inodes v table volume mounted tree front d x n at_old edge w k y at_new o object law directory other outside m is same) (Refused ENOTEMPTY) t nothing
+          (at_target (Some m) is (Refused ENOTEMPTY) (not_replaced m is filled (v m) (volume.graph.used k m y is) refl))
+      replacing_barred m is _ bars = absurd bars
 
-        not_replaced : (a : Option Node) → IsSome a → v m ≡ a → with_target t p q (object_of m a) rest (Refused ENOTEMPTY) t nothing
-        not_replaced None some at = absurd (false≢true some)
-        not_replaced (Some (directory_node mode names)) some at =
-            let (count, counts, most) = volume.limits.children m in
-            let here = at_q inodes v table volume mounted tree front d x n at_old edge w k y at_new o object ∙ is in
-            let (all, are, many) = listing inodes v table volume mounted tree q m here count counts in
-            (all, are, not_empty q m here filled rest all are)
-        not_replaced (Some (file_node mode links bytes)) some at = absurd (no_names (Some (file_node mode links bytes)) refl at)
-        not_replaced (Some (link_node text)) some at = absurd (no_names (Some (link_node text)) refl at)
+      target_barred : IsName y → (a : Option ℕ) → target ≡ a → (errno : Errno) → BarsTarget v d n k y a errno → moves t p o q (Refused errno) t nothing
+      target_barred name (Some m) is errno bars = replacing_barred m is errno bars
+      target_barred name None is DIRFULL (apart, full) =
+          past_tests inodes v table volume mounted tree front d x n at_old edge w k y at_new o object law directory other
+          (passes_none inodes v table volume mounted tree front d x n at_old edge w k y at_new o object law directory other outside is) (Refused DIRFULL) t nothing
+          (at_target None is (Refused DIRFULL) (no_place is apart full name (path_eq (parent p) (parent q)) refl))
+      target_barred name None is _ bars = absurd bars
 
-      refused_at : (a : Option ℕ) → target ≡ a → with_target t p q (object_at v a) rest (Refused (otherwise a)) t nothing
-      refused_at None is = no_place is (path_eq (parent p) (parent q)) refl
-      refused_at (Some m) is = not_replaced m is (v m) (volume.graph.used k m y is) refl
-
-      pub move_otherwise : moves t p o q (Refused (otherwise target)) t nothing
-      move_otherwise =
-          not_either _ _ (path_eq p q || is_same_file o (t.objects q))
-          (other_there inodes v table volume mounted tree front d x n at_old edge w k y at_new o object other) (Refused (otherwise target)) t nothing
-          (tested_none t (move_tests p o q (t.objects q)) (with_target t p q (t.objects q) rest) (Refused (otherwise target)) t nothing
-          (same_tests inodes v table volume mounted tree front d x n at_old edge w k y at_new o object law directory other None passed)
-          (subst (λ (a : Option Object). with_target t p q a rest (Refused (otherwise target)) t nothing)
-          (sym (stands_q inodes v table volume mounted tree front d x n at_old edge w k y at_new o object)) (refused_at target refl)))
+    pub move_barred : IsName y → (errno : Errno) → BarsMove v d n k y target errno → moves t p o q (Refused errno) t nothing
+    move_barred name EEXIST bars = absurd (other bars)
+    move_barred name EINVAL bars = refused_below inodes v table volume mounted tree front d x n at_old edge w k y at_new o object law directory other bars.1
+    move_barred name errno bars = target_barred bars.1 name target refl errno bars.2

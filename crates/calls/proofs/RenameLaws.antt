@@ -8,14 +8,15 @@ use Rattle.std.proofs.lemmas.Bool.{cases_Bool, false≢true, lt-leb, ne_eqb}
 use Rattle.std.proofs.lemmas.Bool.Decides.{nat_tests}
 use Rattle.model.specs.Changing.{is_same_file, move_tests, moves, with_target}
 use Rattle.model.specs.Laws.{BelowIsByPaths}
-use Rattle.model.specs.Outcomes.{Outcome, answers, either, with_place}
+use Rattle.model.specs.Edits.{moved}
+use Rattle.model.specs.Outcomes.{Outcome, answers, changes_swept, either, with_place}
 use Rattle.model.specs.Paths.{Name, Path, IsName, Tests, behind, begins_with, first_refusal, path_eq}
 use Rattle.model.specs.Records.{CanRename, CanReplace, IsBelow, TakesName, applied, rename}
 use Rattle.model.specs.Resolution.{parent}
 use Rattle.model.specs.Room.{Need, adds_name, logs, nothing}
 use Rattle.model.specs.Trees.{Tree, Object, Description, IsTree, is_directory, number}
 use Rattle.model.specs.Trees as trees
-use Rattle.model.specs.Volumes.{Node, directory_node, file_node, link_node, Volume, enter, entries, is_directory_node, is_file_node, names_in, number_at, object_at, object_of, swept, tree_of, IsMounted, IsVolume}
+use Rattle.model.specs.Volumes.{Node, directory_node, file_node, link_node, Volume, enter, entries, is_directory_node, names_in, number_at, object_at, object_of, swept, tree_of, IsMounted, IsVolume}
 use Rattle.model.specs.declared.errno.Errno.{Errno}
 use Rattle.model.specs.declared.errno.Errno.TheVariants.{ENOTDIR, EISDIR, EINVAL, DIRFULL}
 use Rattle.model.specs.declared.limits.TheConstants.{DIRECTORY_NAMES}
@@ -26,8 +27,8 @@ use Rattle.model.proofs.LeadLemmas.{parent-push}
 use Rattle.model.proofs.RenameLemmas.{rename_done}
 use Rattle.model.proofs.VolumeLemmas.{directory_no_file}
 use Rattle.model.proofs.WalkLemmas.{behind-append, behind-is, number_at-push, path_eq-same, same_path}
-use Rattle.calls.specs.Rename.{FirstOfTests, is_directory_at}
 use Rattle.calls.proofs.MakeLaws.{child_some, listing, tested_none, tested_some}
+use Rattle.calls.proofs.RenameTests.{above_directory}
 use Rattle.records.proofs.FileLaws.{named_directory, same_some}
 use Rattle.model.proofs.ObjectLaws.{directory_object, directory_of, node_object, object_number}
 use Rattle.model.proofs.OptionLaws.{none_some}
@@ -49,6 +50,20 @@ not_same_file (trees.file n) m (Some (link_node text)) other = refl
 none_sorted : IsStrictlySortedBy (slice_cmp nat_cmp) []
 unfolding IsStrictlySortedBy
 none_sorted = tt
+
+-- ---- tests
+
+-- the tests of a move, by what they ask
+abbrev pub tests_of : Bool → Bool → Bool → Bool → Tests
+tests_of is below some kind = (is && below, EINVAL) ∷ (is && some && not kind, ENOTDIR) ∷ (not is && kind, EISDIR) ∷ []
+
+no_kinds : (is : Bool) → first_refusal (tests_of is false false false) ≡ None
+no_kinds true = refl
+no_kinds false = refl
+
+same_kinds : (is : Bool) → first_refusal (tests_of is false true is) ≡ None
+same_kinds true = refl
+same_kinds false = refl
 
 -- ---- paths
 
@@ -148,59 +163,76 @@ module _ (inodes : ℕ) (v : Volume) (table : ℕ → Option Description) (volum
     kind_is : is_directory (Some o) ≡ is_directory_node (v n)
     kind_is = ap is_directory (sym object) ∙ directory_of n (v n)
 
-    target_kind : is_directory (t.objects q) ≡ is_directory_at v target
-    target_kind = ap is_directory stands_q ∙ by target
-      where
-        by : (a : Option ℕ) → is_directory (object_at v a) ≡ is_directory_at v a
-        by None = refl
-        by (Some m) = directory_of m (v m)
+    -- what stands at the new name
+    module _ (m : ℕ) (is : target ≡ Some m) where
+      there_at : t.objects q ≡ object_of m (v m)
+      there_at = stands_q ∙ ap (object_at v) is
 
-    target_some : is_some (t.objects q) ≡ is_some target
-    target_some = ap is_some stands_q ∙ by target refl
-      where
-        by : (a : Option ℕ) → target ≡ a → is_some (object_at v a) ≡ is_some a
-        by None is = refl
-        by (Some m) is = node_object m (v m) (volume.graph.used k m y is)
+      some_at : is_some (t.objects q) ≡ true
+      some_at = ap is_some there_at ∙ node_object m (v m) (volume.graph.used k m y is)
+
+      kind_at : is_directory (t.objects q) ≡ is_directory_node (v m)
+      kind_at = ap is_directory there_at ∙ directory_of m (v m)
 
     -- the directory of the new name lies below the object just where its path does
     module _ (law : BelowIsByPaths) (directory : is_directory_node (v k) ≡ true) (other : target ≢ Some n) where
       below_paths : IsBelow (entries v) n k ↔ IsTrue (begins_with w p)
       below_paths = law inodes v p w n k volume at_p at_new (directory_no_file (v k) directory)
 
-      abbrev first : Bool → Bool
-      first below = is_directory_node (v n) && below
+      outside_paths : (IsBelow (entries v) n k → ⊥) → begins_with w p ≡ false
+      outside_paths never = elim (cases_Bool (begins_with w p)) [ inl begins ↦ absurd (never (below_paths.1 begins)) | inr none ↦ none ]
 
-      same_first : (below : Bool) → (IsTrue (is_directory_node (v n)) → IsTrue below ↔ IsBelow (entries v) n k) → (is_directory (Some o) && begins_with q p) ≡ first below
-      same_first below tells = ap (λ (a : Bool). a && begins_with q p) kind_is ∙ ap (λ (a : Bool). is_directory_node (v n) && a) (begins_more w p y (paths_differ other)) ∙ by (is_directory_node (v n)) refl
-        where
-          same_truth : (a b : Bool) → (IsTrue a → IsTrue b) → (IsTrue b → IsTrue a) → a ≡ b
-          same_truth true b to back = sym (to refl)
-          same_truth false true to back = absurd (false≢true (back refl))
-          same_truth false false to back = refl
+      abbrev refusal : Option Errno
+      refusal = first_refusal (move_tests p o q (t.objects q))
 
-          by : (a : Bool) → is_directory_node (v n) ≡ a → (a && begins_with w p) ≡ (a && below)
-          by false is = refl
-          by true is = same_truth (begins_with w p) below (λ begins. (tells is).1 (below_paths.1 begins)) (λ below_is. below_paths.0 ((tells is).0 below_is))
+      tests_are : (is below some kind : Bool) → is_directory_node (v n) ≡ is → begins_with w p ≡ below → is_some (t.objects q) ≡ some → is_directory (t.objects q) ≡ kind
+          → refusal ≡ first_refusal (tests_of is below some kind)
+      tests_are is below some kind first second third last =
+          ap (λ (a : Bool). first_refusal (tests_of a (begins_with q p) (is_some (t.objects q)) (is_directory (t.objects q)))) (kind_is ∙ first)
+          ∙ ap (λ (a : Bool). first_refusal (tests_of is a (is_some (t.objects q)) (is_directory (t.objects q)))) (begins_more w p y (paths_differ other) ∙ second)
+          ∙ ap (λ (a : Bool). first_refusal (tests_of is below a (is_directory (t.objects q)))) third
+          ∙ ap (λ (a : Bool). first_refusal (tests_of is below some a)) last
 
-      pub same_tests : (refusal : Option Errno) → FirstOfTests v n k target refusal → first_refusal (move_tests p o q (t.objects q)) ≡ refusal
-      same_tests refusal tested_so =
-          let is = is_directory_node (v n) in
-          ap (λ (a : Bool). first_refusal ((a, EINVAL) ∷ (is_directory (Some o) && is_some (t.objects q) && not (is_directory (t.objects q)), ENOTDIR) ∷ (not (is_directory (Some o)) && is_directory (t.objects q), EISDIR) ∷ [])) (same_first tested_so.below tested_so.tells)
-          ∙ ap (λ (a : Bool). first_refusal ((first tested_so.below, EINVAL) ∷ (a && is_some (t.objects q) && not (is_directory (t.objects q)), ENOTDIR) ∷ (not a && is_directory (t.objects q), EISDIR) ∷ [])) kind_is
-          ∙ ap (λ (a : Bool). first_refusal ((first tested_so.below, EINVAL) ∷ (is && is_some (t.objects q) && not a, ENOTDIR) ∷ (not is && a, EISDIR) ∷ [])) target_kind
-          ∙ ap (λ (a : Bool). first_refusal ((first tested_so.below, EINVAL) ∷ (is && a && not (is_directory_at v target), ENOTDIR) ∷ (not is && is_directory_at v target, EISDIR) ∷ [])) target_some
-          ∙ sym tested_so.is
+      -- they pass
+      pub passes_none : (IsBelow (entries v) n k → ⊥) → target ≡ None → refusal ≡ None
+      passes_none never is =
+          let none = stands_q ∙ ap (object_at v) is in
+          tests_are (is_directory_node (v n)) false false false refl (outside_paths never) (ap is_some none) (ap is_directory none) ∙ no_kinds (is_directory_node (v n))
+
+      pub passes_some : (IsBelow (entries v) n k → ⊥) → (m : ℕ) → target ≡ Some m → is_directory_node (v m) ≡ is_directory_node (v n) → refusal ≡ None
+      passes_some never m is same =
+          tests_are (is_directory_node (v n)) false true (is_directory_node (v n)) refl (outside_paths never) (some_at m is) (kind_at m is ∙ same) ∙ same_kinds (is_directory_node (v n))
 
       -- ---- what a move comes to
 
       abbrev outcome : Outcome
       outcome = moves t p o q
 
-      -- the name is there already
-      pub move_refused : (errno : Errno) → FirstOfTests v n k target (Some errno) → outcome (Refused errno) t nothing
-      move_refused errno tested_so =
+      first_refused : (errno : Errno) → refusal ≡ Some errno → outcome (Refused errno) t nothing
+      first_refused errno is =
           not_either _ _ (path_eq p q || is_same_file o (t.objects q)) (other_there other) (Refused errno) t nothing
-          (tested_some t (move_tests p o q (t.objects q)) _ errno (same_tests (Some errno) tested_so))
+          (tested_some t (move_tests p o q (t.objects q)) _ errno is)
+
+      -- the directory would come below itself
+      pub refused_below : IsBelow (entries v) n k → outcome (Refused EINVAL) t nothing
+      refused_below below =
+          first_refused EINVAL
+          (tests_are true true (is_some (t.objects q)) (is_directory (t.objects q)) (above_directory v n k below.0 below.1 directory) (below_paths.0 below) refl refl)
+
+      module _ (outside : IsBelow (entries v) n k → ⊥) where
+        -- only one is a directory
+        pub refused_directory : (m : ℕ) → target ≡ Some m → is_directory_node (v n) ≡ true → is_directory_node (v m) ≡ false → outcome (Refused ENOTDIR) t nothing
+        refused_directory m is one not = first_refused ENOTDIR (tests_are true false true false one (outside_paths outside) (some_at m is) (kind_at m is ∙ not))
+
+        pub refused_other : (m : ℕ) → target ≡ Some m → is_directory_node (v n) ≡ false → is_directory_node (v m) ≡ true → outcome (Refused EISDIR) t nothing
+        refused_other m is not one = first_refused EISDIR (tests_are false false true true not (outside_paths outside) (some_at m is) (kind_at m is ∙ one))
+
+      -- the target decides where the tests pass
+      pub past_tests : refusal ≡ None → (reply : Reply) (new : Tree) (need : Need)
+          → with_target t p q (t.objects q) (changes_swept Done (moved p q t) (logs adds_name)) reply new need → outcome reply new need
+      past_tests passed reply new need done =
+          not_either _ _ (path_eq p q || is_same_file o (t.objects q)) (other_there other) reply new need
+          (tested_none t (move_tests p o q (t.objects q)) _ reply new need passed done)
 
       -- the record, where it applies, does what the call does
       module _ (can : CanRename v d x k y) where
@@ -210,22 +242,22 @@ module _ (inodes : ℕ) (v : Volume) (table : ℕ → Option Description) (volum
         emptied : (m : ℕ) (z : Name) → entries v k y ≡ Some m → entries v m z ≡ None
         emptied m z is = (subst (λ (a : Option ℕ). CanReplace v d k y can.number a) is can.replaces).2 z
 
-        outside : behind p w ≡ None
-        outside = by (behind p w) refl
+        above_only : behind p w ≡ None
+        above_only = by (behind p w) refl
           where
             by : (a : Option Path) → behind p w ≡ a → behind p w ≡ None
             by None is = is
             by (Some u) is = absurd (can.outside (subst (λ (j : ℕ). IsBelow (entries v) j k) (sym same_number) (below_paths.1 (ap is_some is))))
 
         -- where its target can take it
-        pub move_done : (passed : FirstOfTests v n k target None)
+        pub move_done : refusal ≡ None
             → ((rest : Outcome) → rest Done (tree_of (swept table (applied (rename d x k y) v)) table) (logs adds_name)
             → with_target t p q (t.objects q) rest Done (tree_of (swept table (applied (rename d x k y) v)) table) (logs adds_name))
             → outcome Done (tree_of (swept table (applied (rename d x k y) v)) table) (logs adds_name)
         move_done passed takes =
             rename_done v volume.graph table mounted.bounded mounted.files front w x y d k n at_old at_new edge
-            (named_directory (v d) x n edge) directory emptied outside (paths_differ other) other can.name
-            o (other_there other) (same_tests None passed) takes
+            (named_directory (v d) x n edge) directory emptied above_only (paths_differ other) other can.name
+            o (other_there other) passed takes
 
         -- its target can take it
         pub target_takes : (rest : Outcome) (reply : Reply) (new : Tree) (need : Need) → rest reply new need → with_target t p q (t.objects q) rest reply new need
@@ -290,38 +322,6 @@ module _ (inodes : ℕ) (v : Volume) (table : ℕ → Option Description) (volum
             by : (a : Option ℕ) → target ≡ a → with_target t p q (object_at v a) rest reply new need
             by None is = free (subst (CanReplace v d k y can.number) is can.replaces)
             by (Some m) is = at_node m (v m) (volume.graph.used k m y is) refl is
-
-      -- what lies below something else than a directory is itself
-      module _ (passed : FirstOfTests v n k target None) where
-        pub not_below : IsBelow (entries v) n k → ⊥
-        not_below below = by (is_directory_node (v n)) refl
-          where
-            refused_first : (a b : Bool) (rest : Tests) → a ≡ true → b ≡ true → None ≡ first_refusal ((a && b, EINVAL) ∷ rest) → ⊥
-            refused_first true true rest is so none = none_some none
-            refused_first true false rest is so none = false≢true so
-            refused_first false b rest is so none = false≢true is
-
-            stays_none : (r : Path) (j : ℕ) → fold (enter (entries v)) None r ≡ Some j → ⊥
-            stays_none [] j is = none_some is
-            stays_none (z ∷ r) j is = stays_none r j is
-
-            no_names : (a : Option Node) (z : Name) → is_directory_node a ≡ false → names_in a z ≡ None
-            no_names None z is = refl
-            no_names (Some (directory_node mode names)) z is = absurd (false≢true (sym is))
-            no_names (Some (file_node mode links bytes)) z is = refl
-            no_names (Some (link_node text)) z is = refl
-
-            alone : (r : Path) → fold (enter (entries v)) (Some n) r ≡ Some k → is_directory_node (v n) ≡ false → ⊥
-            alone [] is none = false≢true (sym none ∙ ap (λ (j : ℕ). is_directory_node (v j)) (same_some is) ∙ directory)
-            alone (z ∷ r) is none = stays_none r k (ap (λ (a : Option ℕ). fold (enter (entries v)) a r) (sym (no_names (v n) z none)) ∙ is)
-
-            by : (a : Bool) → is_directory_node (v n) ≡ a → ⊥
-            by true is = refused_first (is_directory_node (v n)) passed.below ((is_directory_node (v n) && is_some target && not (is_directory_at v target), ENOTDIR) ∷ (not (is_directory_node (v n)) && is_directory_at v target, EISDIR) ∷ []) is ((passed.tells is).1 below) passed.is
-            by false is = alone below.0 below.1 is
-
-        -- the record applies where the target can take the name
-        pub applies : IsName y → CanReplace v d k y n target → CanRename v d x k y
-        applies name may = record { number = n; there = edge; directory = directory; name = name; outside = not_below; replaces = may }
 
     pub move_stays : target ≡ Some n → moves t p o q Done t nothing
     move_stays is = by _ (path_eq p q || is_same_file o (t.objects q)) (same_there is)

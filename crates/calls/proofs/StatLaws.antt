@@ -6,6 +6,7 @@ use Rattle.std.proofs.lemmas.List.FromFn.{length-map-range_with_len}
 use Rattle.layout.specs.FileBytes.{byte_in}
 use Rattle.layout.specs.Inode.{FitsKind}
 use Rattle.layout.specs.Limits.{Sizes}
+use Rattle.layout.specs.declared.geometry.TheConstants.{LEAST_BLOCKS, LEAST_HALF, LEAST_INODES}
 use Rattle.layout.specs.declared.inode.Inode.{Inode}
 use Rattle.layout.specs.declared.kind.Kind.{Kind as LayoutKind}
 use Rattle.layout.specs.declared.kind.Kind.TheVariants as kinds
@@ -24,6 +25,7 @@ use Rattle.model.specs.Trees as trees
 use Rattle.model.specs.Volumes.{Node, directory_node, file_node, link_node, Volume, mode_of, bytes_of, object_of, tree_of, IsVolume}
 use Rattle.model.specs.declared.errno.Errno.{Errno}
 use Rattle.model.specs.declared.errno.Errno.TheVariants.{EINVAL}
+use Rattle.model.specs.declared.limits.TheConstants.{LINK_MODE}
 use Rattle.model.specs.declared.reply.Kind.TheVariants.{File, Dir, Link}
 use Rattle.model.specs.declared.reply.Reply.TheVariants as replies
 use Rattle.model.specs.declared.reply.Stat.{Stat}
@@ -157,12 +159,12 @@ module _ (disk : ℕ → List ℕ) (inodes : ℕ) (settled : Inode) (o : MemoryO
   pub stat_link : (size : ℕ) → size ≡ o.file.size → o.attributes.kind ≡ kinds.Link
       → IsStatOf n node (record { number = n; kind = Link; mode = o.attributes.mode; links = 1; size = size })
   stat_link size same is =
-      let some : Sizes = record { blocks = 64; inodes = 32; half = 131072 } in
+      let some : Sizes = record { blocks = LEAST_BLOCKS; inodes = LEAST_INODES; half = LEAST_HALF } in
       let fits = subst (λ (k : LayoutKind). FitsKind k some o.attributes.mode o.attributes.links o.file.size) is (is_object.fits some) in (
         link_node (file_bytes (content_of disk o)),
         stands kinds.Link is,
         ap (λ (m : ℕ). record { number = n; kind = Link; mode = m; links = 1; size = size }) fits.0
-            ∙ ap (λ (s : ℕ). record { number = n; kind = Link; mode = 0o777; links = 1; size = s })
+            ∙ ap (λ (s : ℕ). record { number = n; kind = Link; mode = LINK_MODE; links = 1; size = s })
             (same ∙ sym (length-map-range_with_len (byte_in (content_of disk o).block) 0 o.file.size)),
       )
 

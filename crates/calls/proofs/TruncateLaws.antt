@@ -1,5 +1,6 @@
 -- What the definitions say of changing a file's size over a path, by what was found in a volume.
-use Rattle.std.proofs.Common.{◌≡◌, ◌≢◌, ℕ, ℤ, nat_abs, List, true, false, Option, Some, None, Result, Ok, Err, refl, sym, subst}
+use Rattle.std.proofs.Common.{◌≡◌, ◌≢◌, ℕ, ℤ, nat_abs, List, true, false, Option, Some, None, Result, Ok, Err, IsTrue, refl, sym, subst}
+use Rattle.std.specs.Result.{IsOkAnd}
 use Rattle.std.proofs.Math.Path.{fun_ext}
 use Rattle.std.proofs.lemmas.Bool.{false≢true}
 use Rattle.model.specs.Changing.{cuts, size_tests, truncates}
@@ -21,7 +22,7 @@ use Rattle.paths.specs.Steps.{found_in}
 use Rattle.paths.specs.declared.lookup.Found.TheVariants as found
 use Rattle.calls.specs.Leading.{IsLed}
 use Rattle.calls.specs.Changing.{ComesOrStays, ComesSweptBy}
-use Rattle.calls.specs.Truncate.{CutsNumber}
+use Rattle.calls.specs.Truncate.{CutsFile, CutsNumber}
 use Rattle.calls.specs.declared.changed.Changing.{Changing}
 use Rattle.calls.proofs.LeadLaws.{led_refused, led_there}
 use Rattle.calls.proofs.MakeLaws.{tested_some}
@@ -40,6 +41,12 @@ found_other None other = refl
 found_other (Some (directory_node mode names)) other = refl
 found_other (Some (file_node mode links bytes)) other = absurd (other refl)
 found_other (Some (link_node text)) other = refl
+
+-- what a file is cut to
+pub cuts_found : (inodes : ℕ) (v : Volume) (table : ℕ → Option Description) (n size : ℕ) (r : Result (Option Changing) Errno) → IsTrue (is_file_node (v n))
+    → (IsTrue (is_file_node (v n)) → IsOkAnd r (CutsFile inodes v table n size)) → CutsNumber inodes v table n size r
+cuts_found inodes v table n size (Ok o) is cuts = (is, cuts is)
+cuts_found inodes v table n size (Err errno) is cuts = absurd (cuts is)
 
 -- ---- where a path leads
 

@@ -1,5 +1,5 @@
 -- Functions that tell what stands where a path leads, step by step.
-use Rattle.std.proofs.Common.{◌≡◌, ◌≢◌, ◌<◌, ◌-◌, ℕ, Bool, List, [], ◌∷◌, length, Result, Ok, Err, IfErr, IfOk, IsTrue, arith, refl, subst}
+use Rattle.std.proofs.Common.{◌≡◌, ◌≢◌, ◌<◌, ◌-◌, ℕ, Bool, List, [], ◌∷◌, length, Option, Result, Ok, Err, IfErr, IfOk, IsTrue, arith, refl, subst}
 use Rattle.std.proofs.lemmas.List.Elements.{All-get_or}
 use Rattle.std.specs.Result.{IsErrAnd}
 use Rattle.model.specs.Finding.{IsPlaceOf, here}
@@ -23,12 +23,21 @@ use Rattle.paths.specs.declared.lookup.Found.TheVariants as found
 use Rattle.paths.specs.declared.place.Place.{Place}
 use Rattle.paths.specs.declared.place.Place.TheVariants.{Directory, Entry, Gap, Refusal}
 use Rattle.paths.proofs.Looks.{looks_err, looks_ok}
-use Rattle.records.specs.Shown.{NeverDamaged}
+use Rattle.records.specs.Failures.{told}
+use Rattle.records.specs.Shown.{NeverDamaged, OnMounted}
+use Rattle.records.specs.declared.failure.Failure.{Failure}
+use Rattle.records.specs.declared.failure.Failure.TheVariants.{Read, Refused}
 use Rattle.calls.specs.Leading.{LeadsTo, TellsWhere}
+use Rattle.calls.specs.Preparing.{Answer, PreparesWith}
 use Rattle.calls.specs.Refusals.{is_path_refusal}
+use Rattle.calls.specs.declared.changed.Changing.{Changing}
 use Rattle.calls.proofs.LeadLaws.{directory_no_link, leads_directory, leads_entry, leads_gap, leads_refusal}
-use Rattle.calls.proofs.PrepareSteps.{never_damaged}
+use Rattle.calls.proofs.PrepareSteps.{carried, never_damaged, refuses}
 use Rattle.calls.proofs.RefusalLaws.{walk_refusal}
+
+-- what a call tells of a number
+abbrev Told : Type 0
+Told = Result (Result ℕ Errno) ReadError
 
 -- what a place tells of what stands there
 abbrev pub led_of : Place → Result ℕ Errno
@@ -65,33 +74,43 @@ followed_at v follow (Entry trail name number) ends is = ends is
 followed_at v follow (Gap trail name) ends is = tt
 followed_at v follow (Refusal errno) ends is = tt
 
-module _ {B : Type 0} {G : Ghosts B} {a b : B} {s t : InodeFile} {follow : Bool} where
-  module _ {IsText : List ℕ → Type 0} {told : List ℕ → Volume → Resolution → Result ℕ Errno → Type 0} where
-    -- a step before has failed
-    pub leads_nowhere : {X : Type 0} {e : ReadError} (q : Result (Result ℕ Errno) ReadError) → IsErrAnd q (λ f. f ≡ e)
-        → Looks {T = X} G IsFault a b s t (Err e) → NeverDamaged {T = X} G a s (Err e) → TellsWhere G a b s t follow IsText told q
-    leads_nowhere (Ok y) is looks sound = absurd is
-    leads_nowhere (Err f) is looks sound = record {
-      looks = looks_err (Err f) is looks;
-      within = tt;
-      own = tt;
-      leads = λ disk settled v table text stands volume are. tt;
-      followed = λ disk settled v stands volume is. tt;
-      damaged = never_damaged (Err f) is sound;
-    }
+module _ {B : Type 0} {G : Ghosts B} {a b : B} {s t : InodeFile} {follow : Bool} {IsText : List ℕ → Type 0} {answer : List ℕ → Volume → Resolution → Result ℕ Errno → Type 0} where
+  -- a step before has failed
+  pub leads_nowhere : {X : Type 0} {e : ReadError} (q : Result ℕ Failure) → IsErrAnd q (λ f. f ≡ Read e)
+      → Looks {T = X} G IsFault a b s t (Err e) → NeverDamaged {T = X} G a s (Err e) → TellsWhere G a b s t follow IsText answer q
+  leads_nowhere {e = e} q is looks sound = carried (TellsWhere G a b s t follow IsText answer) q is (record {
+    looks = looks_err (Err e) refl looks;
+    within = tt;
+    own = tt;
+    leads = λ disk settled v table text stands volume are. tt;
+    followed = λ disk settled v stands volume is. tt;
+    damaged = never_damaged e sound;
+  })
 
-  -- what stands where the parts of a path lead
-  pub leads_by : {path : List Name} {p : Place} {y : Result ℕ Errno} → ROOT_NUMBER < s.geometry.inodes → Resolves G a b s t path follow (Ok p) → led_of p ≡ y
-      → TellsWhere G a b s t follow (λ text. path ≡ parts text) (λ _. LeadsTo) (Ok y)
-  leads_by {p = p} root resolves is = record {
-    looks = looks_ok resolves.looks;
-    within = subst (λ (x : Result ℕ Errno). IfOk x (IsNumber s.geometry.inodes)) is (within_at s.geometry.inodes p root resolves.within);
-    own = subst (λ (x : Result ℕ Errno). IfErr x (λ e. IsTrue (is_path_refusal e))) is (own_at s.geometry.inodes p resolves.within);
-    leads = λ disk settled v table text stands volume are.
-        let r = resolve (tree_of v table) follow text in
-        subst (λ (x : Result ℕ Errno). LeadsTo v r x) is (leads_at s.geometry.inodes v volume p r (resolves.found disk settled v table text stands volume are));
-    followed = λ disk settled v stands volume follows.
-        subst (λ (x : Result ℕ Errno). IfOk x (λ n. found_in (v n) ≢ found.Link)) is
-        (followed_at v follow p (resolves.ends disk settled v stands volume) follows);
-    damaged = λ disk settled v stands bad. cc;
-  }
+-- what stands where the parts of a path lead
+pub leads_by : {B : Type 0} {G : Ghosts B} {a b : B} {s t : InodeFile} {follow : Bool} {path : List Name} {p : Place} {q : Result ℕ Failure} → ROOT_NUMBER < s.geometry.inodes
+    → Resolves G a b s t path follow (Ok p) → Ok (led_of p) ≡ told q → TellsWhere G a b s t follow (λ text. path ≡ parts text) (λ _. LeadsTo) q
+leads_by {G = G} {a = a} {b = b} {s = s} {t = t} {follow = follow} {p = p} root resolves is = record {
+  looks = subst (Looks G IsFault a b s t) is (looks_ok resolves.looks);
+  within = subst (λ (x : Told). IfOk x (λ r. IfOk r (IsNumber s.geometry.inodes))) is (within_at s.geometry.inodes p root resolves.within);
+  own = subst (λ (x : Told). IfOk x (λ r. IfErr r (λ e. IsTrue (is_path_refusal e)))) is (own_at s.geometry.inodes p resolves.within);
+  leads = λ disk settled v table text stands volume are.
+      let r = resolve (tree_of v table) follow text in
+      subst (λ (x : Told). IfOk x (LeadsTo v r)) is (leads_at s.geometry.inodes v volume p r (resolves.found disk settled v table text stands volume are));
+  followed = λ disk settled v stands volume follows.
+      subst (λ (x : Told). IfOk x (λ r. IfOk r (λ n. found_in (v n) ≢ found.Link))) is
+      (followed_at v follow p (resolves.ends disk settled v stands volume) follows);
+  damaged = subst (NeverDamaged G a s) is (λ disk settled v stands bad. cc);
+}
+
+-- a place tells why nothing stands where a path leads, and the call is refused so
+pub finds_none : {B T : Type 0} {changes : T → Option Changing} {G : Ghosts B} {a b : B} {s t : InodeFile} {P : Answer T} {follow : Bool} {path : List Name} {p : Place} {errno : Errno}
+    → Resolves G a b s t path follow (Ok p) → led_of p ≡ Err errno → (text : List ℕ) → path ≡ parts text
+    → OnMounted G a s (λ v table. LeadsTo v (resolve (tree_of v table) follow text) (Err errno) → P s.geometry.inodes v table (Err errno))
+    → PreparesWith changes G a b s t P (Err (Refused errno))
+finds_none {s = s} {follow = follow} {p = p} resolves is text same answers =
+    refuses resolves.looks (subst (λ (r : Result ℕ Errno). IfErr r (λ e. IsTrue (is_path_refusal e))) is (own_at s.geometry.inodes p resolves.within))
+    (λ disk settled v table stands volume mounted.
+    let r = resolve (tree_of v table) follow text in
+    answers disk settled v table stands volume mounted
+    (subst (LeadsTo v r) is (leads_at s.geometry.inodes v volume p r (resolves.found disk settled v table text stands volume same))))

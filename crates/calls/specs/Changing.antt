@@ -1,5 +1,5 @@
 -- What calls by a path that change something come to.
-use Rattle.std.specs.Prelude.{ℕ, Option, Some, None, Result, Ok, Err}
+use Rattle.std.specs.Prelude.{ℕ, ◌≡◌, Option, Some, None, Result, Ok, Err}
 use Rattle.model.specs.Outcomes.{Outcome}
 use Rattle.model.specs.Records.{Change, Made, Applies, applied, create, file, directory, symbolic_link, link, unname, rename, cut, change_mode, work_of}
 use Rattle.model.specs.Room.{nothing, logs}
@@ -7,6 +7,7 @@ use Rattle.model.specs.Trees.{Description}
 use Rattle.model.specs.Volumes.{Volume, IsMounted, swept, tree_of}
 use Rattle.model.specs.declared.errno.Errno.{Errno}
 use Rattle.model.specs.declared.reply.Reply.TheVariants.{Done, Refused}
+use Rattle.records.specs.Obstacles.{IsObstacle}
 use Rattle.calls.specs.declared.changed.Changing.{Changing}
 use Rattle.calls.specs.declared.changed.OwnedChange.{OwnedChange}
 use Rattle.calls.specs.declared.changed.OwnedChange.TheVariants as owned
@@ -60,3 +61,8 @@ abbrev pub ComesOrStays : Outcome → ℕ → Volume → (ℕ → Option Descrip
 ComesOrStays outcome inodes v table (Err errno) = outcome (Refused errno) (tree_of v table) nothing
 ComesOrStays outcome inodes v table (Ok None) = outcome Done (tree_of v table) nothing
 ComesOrStays outcome inodes v table (Ok (Some c)) = ComesSwept outcome inodes v table (Ok c)
+
+-- a call's record applies, and this is it; or this is the first obstacle to it
+abbrev pub Decides : ℕ → Volume → Change → Result Changing Errno → Type 0
+Decides inodes v change (Ok c) = (said_by c.change ≡ change) × Applies inodes v change
+Decides inodes v change (Err errno) = IsObstacle inodes v change errno

@@ -8,11 +8,9 @@ pub mod Readlink
 pub mod Changing
 pub mod Preparing
 pub mod Making
-pub mod Chmod
 pub mod Unlink
 pub mod Rmdir
 pub mod Get
 pub mod Truncate
-pub mod Link
 pub mod Rename
 pub mod Open

@@ -30,11 +30,6 @@ MakesIn inodes v parent name made (Err errno) =
 MakesIn inodes v parent name made (Ok c) =
     (n : ℕ) × (said_by c.change ≡ create n parent made name) × IsMade made × TakesName v parent name × IsLeastFree inodes v n
 
--- the same of a number that is given
-abbrev pub MakesAt : Volume → ℕ → ℕ → Name → Made → Result Changing Errno → Type 0
-MakesAt v number parent name made (Err errno) = (errno ≡ DIRFULL) × (TakesName v parent name → ⊥)
-MakesAt v number parent name made (Ok c) = (said_by c.change ≡ create number parent made name) × TakesName v parent name
-
 -- what is changed is that an object of this number is made
 abbrev pub CreatesNumber : ℕ → OwnedChange → Type 0
 CreatesNumber n (owned.Create creation) = creation.number ≡ n

@@ -4,12 +4,13 @@ use Rattle.model.specs.Trees.{Description}
 use Rattle.model.specs.Volumes.{Volume}
 use Rattle.model.specs.declared.errno.Errno.{Errno}
 use Rattle.blocktree.specs.Errors.{IsFault}
-use Rattle.blocktree.specs.declared.error.ReadError.{ReadError}
 use Rattle.buffers.specs.declared.blocks.Blocks.{Ghosts}
 use Rattle.inofile.specs.declared.inode_file.InodeFile.{InodeFile}
 use Rattle.paths.specs.Standing.{Looks}
+use Rattle.records.specs.Failures.{told}
 use Rattle.records.specs.Prepared.{Does, IsReady}
 use Rattle.records.specs.Shown.{NeverDamaged, OnMounted, OnVolumes}
+use Rattle.records.specs.declared.failure.Failure.{Failure}
 use Rattle.calls.specs.Changing.{said_by}
 use Rattle.calls.specs.Refusals.{is_path_refusal}
 use Rattle.calls.specs.declared.changed.Changing.{Changing}
@@ -20,34 +21,34 @@ abbrev pub Answer : Type 0 → Type 1
 Answer T = ℕ → Volume → (ℕ → Option Description) → Result T Errno → Type 0
 
 -- memory has room for what is to be changed, if anything is
-abbrev pub Readies : {T : Type 0} → (T → Option Changing) → InodeFile → Result (Result T Errno) ReadError → Type 0
-Readies changes s result = IfOk result (λ r. IfOk r (λ x. IfSome (changes x) (λ c. IsReady s c.prepared)))
+abbrev pub Readies : {T : Type 0} → (T → Option Changing) → InodeFile → Result T Failure → Type 0
+Readies changes s result = IfOk result (λ x. IfSome (changes x) (λ c. IsReady s c.prepared))
 
 -- put in force, what is prepared does what its record says
-abbrev pub WillDo : {B T : Type 0} → (T → Option Changing) → Ghosts B → B → InodeFile → InodeFile → Result (Result T Errno) ReadError → Type 0
+abbrev pub WillDo : {B T : Type 0} → (T → Option Changing) → Ghosts B → B → InodeFile → InodeFile → Result T Failure → Type 0
 WillDo changes G blocks s after result =
     OnVolumes G blocks s
-    (λ disk settled v. IfOk result (λ r. IfOk r (λ x. IfSome (changes x) (λ c. Does disk settled after v c.prepared (said_by c.change)))))
+    (λ disk settled v. IfOk result (λ x. IfSome (changes x) (λ c. Does disk settled after v c.prepared (said_by c.change))))
 
 -- Nothing is done but looking; the call is refused by an errno of paths, or what it is to change is prepared, with room for it in memory,
 -- and does what its record says; and over memory that stands for a volume this is the answer, and no damage is found.
 pub record PreparesWith {B T : Type 0} (changes : T → Option Changing) (G : Ghosts B) (blocks after : B) (s t : InodeFile)
-    (answer : Answer T) (result : Result (Result T Errno) ReadError) : Type 0 where
-  pub looks : Looks G IsFault blocks after s t result
-  pub own : IfOk result (λ r. IfErr r (λ e. IsTrue (is_path_refusal e)))
+    (answer : Answer T) (result : Result T Failure) : Type 0 where
+  pub looks : Looks G IsFault blocks after s t (told result)
+  pub own : IfOk (told result) (λ r. IfErr r (λ e. IsTrue (is_path_refusal e)))
   pub ready : Readies changes t result
   pub does : WillDo changes G blocks s t result
-  pub answers : OnMounted G blocks s (λ v table. IfOk result (answer s.geometry.inodes v table))
-  pub damaged : NeverDamaged G blocks s result
+  pub answers : OnMounted G blocks s (λ v table. IfOk (told result) (answer s.geometry.inodes v table))
+  pub damaged : NeverDamaged G blocks s (told result)
 
 -- this of a call that changes something where it isn't refused
-abbrev pub Prepares : {B : Type 0} → Ghosts B → B → B → InodeFile → InodeFile → Answer Changing → Result (Result Changing Errno) ReadError → Type 0
+abbrev pub Prepares : {B : Type 0} → Ghosts B → B → B → InodeFile → InodeFile → Answer Changing → Result Changing Failure → Type 0
 Prepares G blocks after s t answer result = PreparesWith (λ c. Some c) G blocks after s t answer result
 
 -- this of a call that may find nothing to change
-abbrev pub PreparesAny : {B : Type 0} → Ghosts B → B → B → InodeFile → InodeFile → Answer (Option Changing) → Result (Result (Option Changing) Errno) ReadError → Type 0
+abbrev pub PreparesAny : {B : Type 0} → Ghosts B → B → B → InodeFile → InodeFile → Answer (Option Changing) → Result (Option Changing) Failure → Type 0
 PreparesAny G blocks after s t answer result = PreparesWith (λ o. o) G blocks after s t answer result
 
 -- this of opening a file, where it may be made or cut
-abbrev pub PreparesOpening : {B : Type 0} → Ghosts B → B → B → InodeFile → InodeFile → Answer Opened → Result (Result Opened Errno) ReadError → Type 0
+abbrev pub PreparesOpening : {B : Type 0} → Ghosts B → B → B → InodeFile → InodeFile → Answer Opened → Result Opened Failure → Type 0
 PreparesOpening G blocks after s t answer result = PreparesWith (λ o. o.changing) G blocks after s t answer result

@@ -11,8 +11,8 @@ use Rattle.calls.specs.declared.changed.Changing.{Changing}
 
 -- the record that gives this size to the file with this number, or nothing where it has the size
 abbrev pub CutsFile : ℕ → Volume → (ℕ → Option Description) → ℕ → ℕ → Option Changing → Type 0
-CutsFile inodes v table n size None = CutsBytes inodes v table n size None
-CutsFile inodes v table n size (Some c) = (said_by c.change ≡ cut n size) × CutsBytes inodes v table n size (Some c.prepared)
+CutsFile inodes v table n size None = CutsBytes inodes v table n size (Ok None)
+CutsFile inodes v table n size (Some c) = (said_by c.change ≡ cut n size) × CutsBytes inodes v table n size (Ok (Some c.prepared))
 
 -- the same, or that it is no file
 abbrev pub CutsNumber : ℕ → Volume → (ℕ → Option Description) → ℕ → ℕ → Result (Option Changing) Errno → Type 0

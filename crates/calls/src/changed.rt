@@ -78,12 +78,12 @@ impl OwnedChange {
     ghost use Rattle.calls.specs.Making.{CreatesNumber};
 
     /// The number of the object that is made, if one is.
-    pub(crate) fn number_made(&self) -> Option<u32>
+    pub(crate) fn number_made(&self) -> Option<InodeNumber>
         ensures some { IfSome result (λ n. CreatesNumber n self.now) }
         ensures none { IfNone result ((n : ℕ) → CreatesNumber n self.now → ⊥) }
     {
         match self {
-            OwnedChange::Create { creation } => Some(creation.number.get()),
+            OwnedChange::Create { creation } => Some(creation.number),
             _ => None,
         }
     }

@@ -39,6 +39,7 @@ impl OwnedObject {
     ghost use Rattle.std.specs.Prelude.{◌≡◌, ◌≤◌, length};
     ghost use Rattle.layout.specs.Record.{KeepsMadeLimits, made_of, mode_of_made, text_bytes};
     ghost use Rattle.model.specs.Records.{IsMade};
+    ghost use Rattle.model.specs.declared.limits.TheConstants.{MODE_BITS};
     ghost use Rattle.calls.specs.Changing.{made_by};
 
     /// The same, as a record has it.
@@ -46,7 +47,7 @@ impl OwnedObject {
         ensures says { made_of result ≡ made_by self.now }
         ensures good { IsMade (made_of result) }
         ensures limits { KeepsMadeLimits (made_of result) }
-        ensures mode { mode_of_made (made_of result) ≤ 4095 }
+        ensures mode { mode_of_made (made_of result) ≤ MODE_BITS }
         ensures short { length (text_bytes (made_of result)) ≤ 1025 }
     {
         // The type of a mode holds it to its bits.

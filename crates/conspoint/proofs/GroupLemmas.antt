@@ -1,64 +1,82 @@
 -- One node more is placed.
-use Rattle.std.proofs.Common.{◌≡◌, inl, inr, ℕ, ◌+◌, ◌-◌, ◌*◌, ◌<◌, List, [], ◌∷◌, ◌++◌, length, ap, sym, subst, ◌∙◌, arith, length-append, take, drop, get_or-take, get_or-drop}
-use Rattle.std.proofs.lemmas.Bool.{cases_eq}
-use Rattle.std.proofs.lemmas.Grind.{common_steps}
-use Rattle.std.proofs.lemmas.List.Elements.{All-push}
+use Rattle.std.proofs.Common.{◌≡◌, ◌≢◌, ◌⊎◌, inl, inr, ℕ, ◌+◌, ◌*◌, ◌/◌, ◌-◌, ◌<◌, ◌≤◌, List, length, set, get_or-set_other, refl, ap, sym, subst, ◌∙◌, arith}
+use Rattle.std.proofs.lemmas.Bool.{cases_lt, cases_eq}
+use Rattle.std.proofs.lemmas.Grind.{get_or-set_at}
+use Rattle.std.proofs.lemmas.List.{length-set}
+use Rattle.layout.specs.Maps.{indirect_pointer}
 use Rattle.layout.specs.Pointer.{PointsBelow}
 use Rattle.layout.specs.Places.{Blocks}
 use Rattle.layout.specs.declared.geometry.TheConstants.{MOST_BLOCKS}
 use Rattle.layout.specs.declared.pointer.Pointer.{Pointer}
 use Rattle.layout.specs.declared.pointer.Pointer.TheVariants.{Hole, Block}
+use Rattle.layout.proofs.PointerLaws.{hole_block}
+use Rattle.blocktree.specs.PlaceMaps.{AreBelow, place_at}
+use Rattle.blocktree.specs.declared.place_map.PlaceMap.{PlaceMap}
 use Rattle.conspoint.specs.declared.draft.Draft.{Draft}
-use Rattle.conspoint.specs.Drafts.{Grows}
+use Rattle.conspoint.specs.Drafts.{Grows, WasTaken}
 use Rattle.conspoint.specs.Space.{StoresNone}
 use Rattle.conspoint.specs.Groups.{pointer_at, group, IsGroup, ComesFrom, ArePlaced}
 use Rattle.conspoint.proofs.DraftLemmas.{taken_later, taken_earlier}
 
--- an element of a list with one more
-pushed_old : (xs : List Pointer) (p : Pointer) (i : ℕ) → i < length xs → pointer_at (xs ++ p ∷ []) i ≡ pointer_at xs i
-pushed_old xs p i lt = grind (arith, common_steps)
+module _ (a b c : Draft) (settled old new : PlaceMap) (j : ℕ) (p : Pointer) (before : Grows a b) (now : Grows b c) (so_far : ArePlaced a b settled old) (there : place_at new j ≡ p)
+    (others : (i : ℕ) → i ≢ j → place_at new i ≡ place_at old i) (from : ComesFrom b c (place_at settled j) p) (within : PointsBelow MOST_BLOCKS p) where
+  here : (i : ℕ) → i ≡ j → place_at new i ≡ p
+  here i e = ap (place_at new) e ∙ there
 
-pushed_last : (xs : List Pointer) (p : Pointer) (i : ℕ) → i ≡ length xs → pointer_at (xs ++ p ∷ []) i ≡ p
-pushed_last xs p i is = grind (arith, common_steps)
+  -- where the new one leads
+  new_from : (i x : ℕ) → i ≡ j → place_at new i ≡ Block x → (place_at new i ≡ place_at settled i) ⊎ WasTaken b c x
+  new_from i x e is = elim (from x (sym (here i e) ∙ is)) [
+    | inl same ↦ inl (here i e ∙ same ∙ ap (place_at settled) (sym e))
+    | inr taken ↦ inr taken
+  ]
 
-module _ (a b c : Draft) (settled nodes : List Pointer) (p : Pointer) (before : Grows a b) (now : Grows b c) (so_far : ArePlaced a b settled nodes)
-    (from : ComesFrom b c (pointer_at settled (length nodes)) p) (within : PointsBelow MOST_BLOCKS p) where
-  pub placed_more : ArePlaced a c settled (nodes ++ p ∷ [])
+  old_from : (i x : ℕ) → i ≢ j → place_at new i ≡ Block x → (place_at new i ≡ place_at settled i) ⊎ WasTaken a b x
+  old_from i x n is = elim (so_far.from i x (sym (others i n) ∙ is)) [
+    | inl same ↦ inl (others i n ∙ same)
+    | inr taken ↦ inr taken
+  ]
+
+  pub placed_more : ArePlaced a c settled new
   placed_more = record {
-    within = All-push (PointsBelow MOST_BLOCKS) nodes p so_far.within within;
-    from = λ i lt x is. elim (cases_eq i (length nodes)) [
-      | inl e ↦
-          let here : p ≡ Block x = sym (pushed_last nodes p i e) ∙ is in
-          elim (from x here) [
-            | inl same ↦ inl (pushed_last nodes p i e ∙ same ∙ ap (pointer_at settled) (sym e))
-            | inr taken ↦ inr (taken_earlier a b c x before taken)
-          ]
-      | inr other ↦
-          let low : i < length nodes = omega (arith, lt, length-append nodes (p ∷ [])) in
-          elim (so_far.from i low x (sym (pushed_old nodes p i low) ∙ is)) [
-            | inl same ↦ inl (pushed_old nodes p i low ∙ same)
-            | inr taken ↦ inr (taken_later a b c x taken now)
-          ]
+    within = λ i. elim (cases_eq i j) [
+      | inl e ↦ subst (PointsBelow MOST_BLOCKS) (sym (here i e)) within
+      | inr n ↦ subst (PointsBelow MOST_BLOCKS) (sym (others i n)) (so_far.within i)
     ];
-    apart = λ i j x less lt is_i is_j.
-        let low : i < length nodes = omega (arith, less, lt, length-append nodes (p ∷ [])) in
-        let at_i = sym (pushed_old nodes p i low) ∙ is_i in
-        elim (cases_eq j (length nodes)) [
-          | inl e ↦ elim (so_far.from i low x at_i) [
-            | inl same ↦ inl (pushed_old nodes p i low ∙ same)
-            | inr early ↦ elim (from x (sym (pushed_last nodes p j e) ∙ is_j)) [
-              | inl same ↦ inr (pushed_last nodes p j e ∙ same ∙ ap (pointer_at settled) (sym e))
-              | inr late ↦ absurd (omega (arith, early.to, late.from))
-            ]
+    from = λ i x is. elim (cases_eq i j) [
+      | inl e ↦ elim (new_from i x e is) [ inl same ↦ inl same | inr taken ↦ inr (taken_earlier a b c x before taken) ]
+      | inr n ↦ elim (old_from i x n is) [ inl same ↦ inl same | inr taken ↦ inr (taken_later a b c x taken now) ]
+    ];
+    apart = λ i k x less is_i is_k. elim (cases_eq i j) [
+      | inl e ↦
+          let n : k ≢ j = λ f. omega (arith, e, f, less) in
+          elim (old_from k x n is_k) [
+            | inl same ↦ inr same
+            | inr early ↦ elim (new_from i x e is_i) [ inl same ↦ inl same | inr late ↦ absurd (omega (arith, early.to, late.from)) ]
           ]
-          | inr other ↦
-              let low_j : j < length nodes = omega (arith, lt, length-append nodes (p ∷ [])) in
-              elim (so_far.apart i j x less low_j at_i (sym (pushed_old nodes p j low_j) ∙ is_j)) [
-                | inl same ↦ inl (pushed_old nodes p i low ∙ same)
-                | inr same ↦ inr (pushed_old nodes p j low_j ∙ same)
-              ]
-        ];
+      | inr n ↦ elim (cases_eq k j) [
+        | inl e ↦ elim (old_from i x n is_i) [
+          | inl same ↦ inl same
+          | inr early ↦ elim (new_from k x e is_k) [ inl same ↦ inr same | inr late ↦ absurd (omega (arith, early.to, late.from)) ]
+        ]
+        | inr m ↦ elim (so_far.apart i k x less (sym (others i n) ∙ is_i) (sym (others k m) ∙ is_k)) [
+          | inl same ↦ inl (others i n ∙ same)
+          | inr same ↦ inr (others k m ∙ same)
+        ]
+      ]
+    ];
   }
+
+-- nothing is placed yet
+pub placed_none : (d : Draft) (settled nodes : PlaceMap) → ((i : ℕ) → place_at nodes i ≡ Hole) → ArePlaced d d settled nodes
+placed_none d settled nodes holes = record {
+  within = λ i. subst (PointsBelow MOST_BLOCKS) (sym (holes i)) tt;
+  from = λ i x is. hole_block (sym (holes i) ∙ is);
+  apart = λ i k x less is_i is_k. hole_block (sym (holes i) ∙ is_i);
+}
+
+-- all stand where they stood
+pub placed_same : (d : Draft) (settled : PlaceMap) → AreBelow MOST_BLOCKS settled → ArePlaced d d settled settled
+placed_same d settled within = record { within = within; from = λ i x is. inl refl; apart = λ i k x less is_i is_k. inl refl }
 
 -- the same group, read otherwise
 pub same_group : (e : Blocks) (settled over : Pointer) (old old2 new new2 : ℕ → Pointer) → ((i : ℕ) → i < 1024 → old2 i ≡ old i) → ((i : ℕ) → i < 1024 → new2 i ≡ new i)
@@ -68,30 +86,57 @@ same_group e settled over old old2 new new2 olds news (IsGroup.spells block is s
     IsGroup.spells block is size (λ i lt. under i lt ∙ news i lt) (i, low, λ none. there (news i low ∙ none))
 same_group e settled over old old2 new new2 olds news (IsGroup.none is under) = IsGroup.none is (λ i lt. sym (news i lt) ∙ under i lt)
 
--- a node of a part of these
-part_read : (xs : List Pointer) (first i : ℕ) → i < 1024 → pointer_at (take (first + 1024 - first) (drop first xs)) i ≡ pointer_at xs (first + i)
-part_read xs first i lt = get_or-take (first + 1024 - first) (drop first xs) i Hole (omega arith) ∙ get_or-drop first xs i Hole
-
--- the group that a part of the nodes is
-pub part_group : (e : Blocks) (settled over : Pointer) (old new : List Pointer) (j : ℕ)
-    → IsGroup e settled (pointer_at (take (1024 * j + 1024 - 1024 * j) (drop (1024 * j) old))) (pointer_at (take (1024 * j + 1024 - 1024 * j) (drop (1024 * j) new))) over
-    → IsGroup e settled (group old j) (group new j) over
-part_group e settled over old new j is = same_group e settled over (group old j) _ (group new j) _ (part_read old (1024 * j)) (part_read new (1024 * j)) is
-
--- where nothing is stored over a group, nothing is over that part of the nodes
-pub part_none : (old new : List Pointer) (j : ℕ) → StoresNone (group old j) (group new j)
-    → StoresNone (pointer_at (take (1024 * j + 1024 - 1024 * j) (drop (1024 * j) old))) (pointer_at (take (1024 * j + 1024 - 1024 * j) (drop (1024 * j) new)))
-part_none old new j none = elim none [
-  | inl same ↦ inl (λ i lt. part_read new (1024 * j) i lt ∙ same i lt ∙ sym (part_read old (1024 * j) i lt))
-  | inr holes ↦ inr (λ i lt. part_read new (1024 * j) i lt ∙ holes i lt)
+-- where nothing is stored over a group, nothing is over the same nodes read otherwise
+pub same_none : (old old2 new new2 : ℕ → Pointer) → ((i : ℕ) → i < 1024 → old2 i ≡ old i) → ((i : ℕ) → i < 1024 → new2 i ≡ new i) → StoresNone old new → StoresNone old2 new2
+same_none old old2 new new2 olds news none = elim none [
+  | inl same ↦ inl (λ i lt. news i lt ∙ same i lt ∙ sym (olds i lt))
+  | inr holes ↦ inr (λ i lt. news i lt ∙ holes i lt)
 ]
 
--- what holds of each node holds of each and one more
-pub each_more : (P : ℕ → Pointer → Type 0) (nodes : List Pointer) (p : Pointer) (n : ℕ) → length nodes ≡ n → ((j : ℕ) → j < n → P j (pointer_at nodes j)) → P n p
-    → (j : ℕ) → j < n + 1 → P j (pointer_at (nodes ++ p ∷ []) j)
-each_more P nodes p n count so_far last j lt = elim (cases_eq j n) [
-  | inl is ↦ subst (P j) (sym (pushed_last nodes p j (is ∙ sym count))) (subst (λ (m : ℕ). P m p) (sym is) last)
-  | inr other ↦
-      let low : j < n = omega (arith, lt) in
-      subst (P j) (sym (pushed_old nodes p j (omega (arith, low, count)))) (so_far j low)
+-- what holds of each group so far, of those without nodes behind them, and of one, holds of each up to that one
+pub groups_more : (P : ℕ → Pointer → Type 0) (old new : PlaceMap) (from j : ℕ) (p : Pointer) → place_at new j ≡ p → ((i : ℕ) → i ≢ j → place_at new i ≡ place_at old i)
+    → ((i : ℕ) → i < from → P i (place_at old i)) → ((i : ℕ) → from ≤ i → i < j → P i (place_at old i)) → P j p → (i : ℕ) → i < j + 1 → P i (place_at new i)
+groups_more P old new from j p there others so_far between last i lt = elim (cases_eq i j) [
+  | inl e ↦ subst (λ (k : ℕ). P k (place_at new k)) (sym e) (subst (P j) (sym there) last)
+  | inr n ↦ subst (P i) (sym (others i n)) (elim (cases_lt i from) [
+    | inl done ↦ so_far i done
+    | inr more ↦ between i more (omega (arith, lt, n))
+  ])
+]
+
+-- of nodes of which none is stored from one index on, none is in the groups there
+pub none_in_group : (nodes : PlaceMap) (from to k i : ℕ) → ((x : ℕ) → 1024 * from ≤ x → x < to → place_at nodes x ≡ Hole) → from ≤ k → 1024 * k + i < to → group nodes k i ≡ Hole
+none_in_group nodes from to k i gap le lt = gap (1024 * k + i) (omega (arith, le)) lt
+
+-- ---- the nodes of a group as a list
+
+-- of a group that starts at a node, these are the pointers to those before another, and holes behind them
+pub record AreBefore (nodes : PlaceMap) (first from : ℕ) (xs : List Pointer) : Type 0 where
+  pub count : length xs ≡ 1024
+  pub nodes_are : (i : ℕ) → first + i < from → pointer_at xs i ≡ place_at nodes (first + i)
+  pub holes : (i : ℕ) → from ≤ first + i → pointer_at xs i ≡ Hole
+
+pub before_more : (nodes : PlaceMap) (first from k b : ℕ) (xs : List Pointer) → first ≤ from → from ≤ k → k < first + 1024 → ((i : ℕ) → from ≤ i → i < k → place_at nodes i ≡ Hole)
+    → place_at nodes k ≡ Block b → AreBefore nodes first from xs → AreBefore nodes first (k + 1) (set xs (k - first) (Block b))
+before_more nodes first from k b xs low le high gap there so_far = record {
+  count = length-set xs (k - first) (Block b) ∙ so_far.count;
+  nodes_are = λ i lt. elim (cases_eq i (k - first)) [
+    | inl e ↦
+        let at : k ≡ first + i = omega (arith, e, le, low) in
+        get_or-set_at xs (k - first) i (Block b) Hole e (omega (arith, so_far.count, high, le, low)) ∙ sym there ∙ ap (place_at nodes) at
+    | inr n ↦ get_or-set_other xs (k - first) i (Block b) Hole n ∙ elim (cases_lt (first + i) from) [
+      | inl done ↦ so_far.nodes_are i done
+      | inr more ↦ so_far.holes i more ∙ sym (gap (first + i) more (omega (arith, lt, n, le, low)))
+    ]
+  ];
+  holes = λ i past.
+      let n : i ≢ k - first = λ e. omega (arith, e, past, le, low) in
+      get_or-set_other xs (k - first) i (Block b) Hole n ∙ so_far.holes i (omega (arith, past, le));
+}
+
+pub before_all : (nodes : PlaceMap) (first from : ℕ) (xs : List Pointer) → AreBefore nodes first from xs → ((i : ℕ) → from ≤ i → i < first + 1024 → place_at nodes i ≡ Hole)
+    → (i : ℕ) → i < 1024 → pointer_at xs i ≡ place_at nodes (first + i)
+before_all nodes first from xs so_far gap i small = elim (cases_lt (first + i) from) [
+  | inl done ↦ so_far.nodes_are i done
+  | inr more ↦ so_far.holes i more ∙ sym (gap (first + i) more (omega (arith, small)))
 ]

@@ -6,13 +6,14 @@ pub mod DraftLemmas
 pub mod SpaceLemmas
 pub mod SumLemmas
 pub mod StepLemmas
-mod GroupLemmas
+pub mod GroupLemmas
 mod ClosureLemmas
 mod MarkLemmas
 mod BlockLemmas
 mod MapNodes
 pub mod MapBytes
 mod MapWork
+mod MapStands
 mod MapPlan
 mod ImageCuts
 mod DiskBlocks

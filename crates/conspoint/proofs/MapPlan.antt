@@ -22,7 +22,8 @@ use Rattle.conspoint.specs.MapFiles.{map_nodes, node_at, IsOfMoved, PlansMap}
 use Rattle.conspoint.specs.Marks.{Marking}
 use Rattle.conspoint.specs.Marks.Marking.{marks, stays}
 use Rattle.conspoint.proofs.DraftLemmas.{grows_twice, taken_later}
-use Rattle.conspoint.proofs.MapWork.{Work, own_inode, map_stands, not_hole, by_place, new_node, old_node}
+use Rattle.conspoint.proofs.MapStands.{map_stands}
+use Rattle.conspoint.proofs.MapWork.{Work, own_inode, not_hole, by_place, new_node, old_node}
 
 -- ---- marks
 
@@ -185,7 +186,7 @@ module _ (d0 d1 d2 d3 d4 d5 : Draft) (settled places tops : List Pointer) (n fir
     others = λ b i differ.
         ap (λ (ps : List Part). bit_at (entry_at ps b) i) parts_are ∙ others_one (w.into b) i differ ∙ others_one (w.out b) i differ ∙ ap (λ x. bit_at x i) (w.entries b);
     stands = λ e has s d old is agrees.
-        map_stands s d e old d0 d5 settled places tops n (work e has) is agrees (λ b. decided (w.into b)) (λ b. decided (w.out b))
+        map_stands (work e has) is agrees (λ b. decided (w.into b)) (λ b. decided (w.out b))
         (λ b here. let at = among (w.into b) here in (at.0, at.3))
         (λ k b at. decides (w.into b) (k, in_list places k b at, not_hole (pointer_at places k) b at, at))
         (λ b here. let at = among (w.out b) here in (at.0, at.2, at.3))

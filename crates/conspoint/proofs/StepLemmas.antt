@@ -29,7 +29,7 @@ pub other_error : {T P : Type 0} (f : PlanError) → f ≡ NoMemory → IsErrOf 
 other_error f is bad = let no : ⊥ = cc in absurd no
 
 -- two steps take what each takes
-takes_both : {U : Type 0} (n m k : ℕ) (a b c : Draft) (r : Result U PlanError) → n + m ≤ k → TakesAtMost n a b → OnOk r (TakesAtMost m b c) → OnOk r (TakesAtMost k a c)
+pub takes_both : {U : Type 0} (n m k : ℕ) (a b c : Draft) (r : Result U PlanError) → n + m ≤ k → TakesAtMost n a b → OnOk r (TakesAtMost m b c) → OnOk r (TakesAtMost k a c)
 takes_both n m k a b c (Ok y) le first then = omega (arith, le, first, then)
 takes_both n m k a b c (Err e) le first then = tt
 
@@ -153,7 +153,7 @@ group_more w j so_far one none = elim (cases_eq (w j) 0) [
   | inr some ↦ places_then so_far one (omega (arith, some, one_more w j))
 ]
 
-takes_more : {U : Type 0} (n k : ℕ) (a b : Draft) (r : Result U PlanError) → n ≤ k → OnOk r (TakesAtMost n a b) → OnOk r (TakesAtMost k a b)
+pub takes_more : {U : Type 0} (n k : ℕ) (a b : Draft) (r : Result U PlanError) → n ≤ k → OnOk r (TakesAtMost n a b) → OnOk r (TakesAtMost k a b)
 takes_more n k a b (Ok y) le most = omega (arith, le, most)
 takes_more n k a b (Err e) le most = tt
 

@@ -1,5 +1,5 @@
 -- Sums of numbers, and how many blocks of a file are changed.
-use Rattle.std.proofs.Common.{◌≡◌, ℕ, zero, suc, ◌+◌, ◌-◌, ◌<◌, ◌≤◌, Option, Some, None, true, false, inl, inr, refl, sym, subst, arith}
+use Rattle.std.proofs.Common.{◌≡◌, ℕ, zero, suc, ◌+◌, ◌-◌, ◌<◌, ◌≤◌, Option, Some, None, true, false, inl, inr, refl, ap, sym, subst, arith}
 use Rattle.std.specs.Prelude.{min, nat_lt}
 use Rattle.std.specs.Ordering.{nat_cmp}
 use Rattle.std.specs.BTreeMap as tree
@@ -66,3 +66,28 @@ pub changed_within : (t : BlockTree) (first n : ℕ) → changed_blocks t first 
 unfolding sum_below
 changed_within t first zero = omega arith
 changed_within t first (suc n) = omega (arith, changed_within t first n, block_at_most t first n)
+
+-- one changed block more is counted
+pub added_one : (t : BlockTree) (first from i count : ℕ) → first ≤ i → from ≤ i → i < count → IsChanged t i
+    → changed_blocks t first (min from count) + 1 ≤ changed_blocks t first (min (i + 1) count)
+added_one t first from i count le late low changed =
+    let one = block_counts t first i le changed in
+    let before = sums_rise (block_stores t first) (min from count) i (omega (arith, late)) in
+    let end : min (i + 1) count ≡ i + 1 = omega (arith, low) in
+    subst (λ (n : ℕ). changed_blocks t first (min from count) + 1 ≤ changed_blocks t first n) (sym end)
+    (omega (arith, one, before, one_more (block_stores t first) i))
+
+-- where none is counted from one number up to another, the sums are the same
+pub gap_counts : (f : ℕ → ℕ) (a b : ℕ) → a ≤ b → ((i : ℕ) → a ≤ i → i < b → f i ≡ 0) → sum_below f b ≡ sum_below f a
+unfolding sum_below
+gap_counts f a zero le none = (let is : 0 ≡ a = omega (arith, le) in ap (sum_below f) is)
+gap_counts f a (suc b) le none = elim (cases_lt a (suc b)) [
+  | inl lt ↦ omega (arith, gap_counts f a b (omega (arith, lt)) (λ i low high. none i low (omega (arith, high))), none b (omega (arith, lt)) (omega arith))
+  | inr ge ↦ (let is : suc b ≡ a = omega (arith, le, ge) in ap (sum_below f) is)
+]
+
+-- where each is no more, neither is the sum
+pub sums_each : (f g : ℕ → ℕ) (n : ℕ) → ((i : ℕ) → f i ≤ g i) → sum_below f n ≤ sum_below g n
+unfolding sum_below
+sums_each f g zero each = omega arith
+sums_each f g (suc n) each = omega (arith, sums_each f g n each, each n)

@@ -1,12 +1,13 @@
 -- Nodes of a file and the indirect blocks over them.
-use Rattle.std.specs.Prelude.{ℕ, ◌≡◌, ◌⊎◌, ◌+◌, ◌*◌, ◌<◌, List, length, All, slice_index_or}
+use Rattle.std.specs.Prelude.{ℕ, ◌≡◌, ◌⊎◌, ◌+◌, ◌*◌, ◌<◌, List, length, slice_index_or}
 use Rattle.layout.specs.Maps.{indirect_pointer}
 use Rattle.layout.specs.Places.{Blocks}
-use Rattle.layout.specs.Pointer.{PointsBelow}
 use Rattle.layout.specs.declared.geometry.TheConstants.{MOST_BLOCKS}
 use Rattle.layout.specs.declared.TheConstants.{BLOCK_BYTES, BLOCK_POINTERS}
 use Rattle.layout.specs.declared.pointer.Pointer.{Pointer}
 use Rattle.layout.specs.declared.pointer.Pointer.TheVariants.{Hole, Block}
+use Rattle.blocktree.specs.PlaceMaps.{AreBelow, place_at}
+use Rattle.blocktree.specs.declared.place_map.PlaceMap.{PlaceMap}
 use Rattle.conspoint.specs.declared.draft.Draft.{Draft}
 use Rattle.conspoint.specs.Drafts.{WasTaken}
 
@@ -28,17 +29,17 @@ pub data IsGroup (e : Blocks) (settled : Pointer) (old new : ℕ → Pointer) (o
       → IsGroup e settled old new over
 
 -- the nodes of group j
-abbrev pub group : List Pointer → ℕ → ℕ → Pointer
-group pointers j i = pointer_at pointers (BLOCK_POINTERS * j + i)
+abbrev pub group : PlaceMap → ℕ → ℕ → Pointer
+group nodes j i = place_at nodes (BLOCK_POINTERS * j + i)
 
 -- a pointer is as it was, or leads to a block that was given out since
 abbrev pub ComesFrom : Draft → Draft → Pointer → Pointer → Type 0
 ComesFrom old new settled p = (b : ℕ) → p ≡ Block b → (p ≡ settled) ⊎ WasTaken old new b
 
--- the first nodes, which had settled pointers, have these now
-pub record ArePlaced (old new : Draft) (settled nodes : List Pointer) : Type 0 where
-  pub within : All (PointsBelow MOST_BLOCKS) nodes
-  pub from : (i : ℕ) → i < length nodes → ComesFrom old new (pointer_at settled i) (pointer_at nodes i)
+-- nodes that had settled pointers have these now
+pub record ArePlaced (old new : Draft) (settled nodes : PlaceMap) : Type 0 where
+  pub within : AreBelow MOST_BLOCKS nodes
+  pub from : (i : ℕ) → ComesFrom old new (place_at settled i) (place_at nodes i)
   -- no two that moved have one block
-  pub apart : (i j b : ℕ) → i < j → j < length nodes → pointer_at nodes i ≡ Block b → pointer_at nodes j ≡ Block b
-      → (pointer_at nodes i ≡ pointer_at settled i) ⊎ (pointer_at nodes j ≡ pointer_at settled j)
+  pub apart : (i j b : ℕ) → i < j → place_at nodes i ≡ Block b → place_at nodes j ≡ Block b
+      → (place_at nodes i ≡ place_at settled i) ⊎ (place_at nodes j ≡ place_at settled j)

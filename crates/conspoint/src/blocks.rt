@@ -1,86 +1,71 @@
 //! The blocks of a changed file.
 
-ghost use Rattle.std.specs.Prelude.{◌≡◌, ◌≢◌, ℕ, ◌<◌, ◌≤◌, ◌^◌, All, IfOk, IfErr, IsErrOf, length, OnOk};
+ghost use Rattle.std.specs.Prelude.{◌≡◌, ◌≢◌, ℕ, List, ◌<◌, ◌≤◌, IfOk};
 ghost use Rattle.layout.specs.Places.{pointed};
 ghost use Rattle.layout.specs.Pointer.{PointsBelow};
 ghost use Rattle.layout.specs.declared.geometry.TheConstants.{MOST_BLOCKS};
 ghost use Rattle.layout.specs.declared.pointer.Pointer.TheVariants.{Hole};
+ghost use Rattle.blocktree.specs.PlaceMaps.{AreBelow, EndBefore, place_at};
 ghost use Rattle.blocktree.specs.Trees.{IsChanged};
 ghost use Rattle.conspoint.specs.Blocks.{changed_or};
-ghost use Rattle.conspoint.specs.Drafts.{OnEach};
-ghost use Rattle.conspoint.specs.Groups.{pointer_at, ComesFrom, ArePlaced};
-ghost use Rattle.conspoint.specs.Space.{block_stores, changed_blocks};
+ghost use Rattle.conspoint.specs.Drafts.{OnEach, WasTaken};
+ghost use Rattle.conspoint.specs.Groups.{ArePlaced, ComesFrom};
+ghost use Rattle.conspoint.specs.Space.{changed_blocks};
 ghost use Rattle.conspoint.specs.Steps.{Places};
 
 use crate::draft::Draft;
 use crate::error::PlanError;
-use blocktree::BlockTree;
+use blocktree::{BlockTree, PlaceMap};
 use buffers::Block;
-use layout::Pointer;
+use layout::{BlockNumber, Pointer};
 use std::alloc::Global;
 
-/// The pointer to block `i`: to a new block where it is changed, else the settled one. Of the blocks before `first` all are
-/// as settled.
-fn place_block(
-    alloc: Global,
-    draft: &mut Draft,
-    tree: &BlockTree,
-    first: u32,
-    i: u32,
-    settled: Pointer,
-) -> Result<Pointer, PlanError>
-    requires { PointsBelow MOST_BLOCKS settled }
-    ensures step { Places (block_stores tree.now first i) draft.old draft.new result }
-    ensures before { IfOk result (λ p. i < first → p ≡ settled) }
-    ensures holes { IfOk result (λ p. p ≡ Hole → settled ≡ Hole) }
-    ensures stored { IfOk result (λ p. first ≤ i → IsChanged tree.now i → p ≢ Hole) }
-    ensures block { IfOk result (λ p. OnEach draft.new (λ e. first ≤ i
-        → pointed e p ≡ changed_or tree.now i (pointed e settled))) }
-    ensures from { IfOk result (ComesFrom draft.old draft.new settled) }
-    ensures within { IfOk result (PointsBelow MOST_BLOCKS) }
-    ensures unchanged { IfOk result (λ p. (IsChanged tree.now i → ⊥) → p ≡ settled) }
+/// Plans a copy of a block.
+fn store_copy(alloc: Global, draft: &mut Draft, block: &Block) -> Result<BlockNumber, PlanError>
+    ensures step { Places 1 draft.old draft.new result }
+    ensures taken { IfOk result (WasTaken draft.old draft.new) }
+    ensures stored { IfOk result (λ place. OnEach draft.new (λ e. e place ≡ block.now)) }
+    ensures within { IfOk result (λ place. PointsBelow MOST_BLOCKS (Pointer.Block place)) }
+    ensures from { IfOk result (λ place. (settled : Pointer)
+        → ComesFrom draft.old draft.new settled (Pointer.Block place)) }
 {
-    if i < first {
-        return Ok(settled);
-    }
-    match tree.changed(i) {
-        Some(block) => {
-            let place = draft.store(Block::copy_of(alloc, block.bytes())?)?;
-            Ok(Pointer::Block(place))
-        }
-        None => Ok(settled),
-    }
+    let copy = Block::copy_of(alloc, block.bytes())?;
+    draft.store(copy)
 }
 
-/// The pointers to a changed file's blocks, by rising index, where these are the settled ones. Those of settled blocks that
-/// don't count any more are holes. The blocks before `first` aren't looked at, and keep the settled pointers.
+/// The places of a changed file's blocks, where these are the settled ones that count still: of its first `count` blocks each
+/// changed one gets a new place, by rising index. The blocks before `first` aren't looked at, and keep the settled places.
 pub fn place_blocks(
     alloc: Global,
     draft: &mut Draft,
     tree: &BlockTree,
     first: u32,
-    settled: &[Pointer],
-) -> Result<Vec<Pointer>, PlanError>
-    requires within { All (PointsBelow MOST_BLOCKS) settled.now }
-    requires short { length settled.now < 2 ^ 32 }
-    ensures step { Places (changed_blocks tree.now first (length settled.now)) draft.old draft.new result }
-    ensures count { IfOk result (λ nodes. length nodes.items ≡ length settled.now) }
-    ensures before { IfOk result (λ nodes. (i : ℕ) → i < length settled.now → i < first
-        → pointer_at nodes.items i ≡ pointer_at settled.now i) }
-    ensures holes { IfOk result (λ nodes. (i : ℕ) → i < length settled.now
-        → pointer_at nodes.items i ≡ Hole → pointer_at settled.now i ≡ Hole) }
-    ensures stored { IfOk result (λ nodes. (i : ℕ) → i < length settled.now → first ≤ i
-        → IsChanged tree.now i → pointer_at nodes.items i ≢ Hole) }
-    ensures unchanged { IfOk result (λ nodes. (i : ℕ) → i < length settled.now
-        → (IsChanged tree.now i → ⊥) → pointer_at nodes.items i ≡ pointer_at settled.now i) }
-    ensures blocks { IfOk result (λ nodes. OnEach draft.new (λ e. (i : ℕ) → i < length settled.now
-        → first ≤ i → pointed e (pointer_at nodes.items i)
-        ≡ changed_or tree.now i (pointed e (pointer_at settled.now i)))) }
-    ensures placed { IfOk result (λ nodes. ArePlaced draft.old draft.new settled.now nodes.items) }
+    settled: PlaceMap,
+    count: u32,
+) -> Result<PlaceMap, PlanError>
+    requires within { AreBelow MOST_BLOCKS settled }
+    requires end { EndBefore count settled }
+    ensures step { Places (changed_blocks tree.now first count) draft.old draft.new result }
+    ensures end { IfOk result (EndBefore count) }
+    ensures before { IfOk result (λ nodes. (i : ℕ) → i < first
+        → place_at nodes i ≡ place_at settled i) }
+    ensures holes { IfOk result (λ nodes. (i : ℕ)
+        → place_at nodes i ≡ Hole → place_at settled i ≡ Hole) }
+    ensures stored { IfOk result (λ nodes. (i : ℕ) → i < count → first ≤ i
+        → IsChanged tree.now i → place_at nodes i ≢ Hole) }
+    ensures unchanged { IfOk result (λ nodes. (i : ℕ)
+        → (IsChanged tree.now i → ⊥) → place_at nodes i ≡ place_at settled i) }
+    ensures blocks { IfOk result (λ nodes. OnEach draft.new (λ e. (i : ℕ) → i < count
+        → first ≤ i → pointed e (place_at nodes i)
+        ≡ changed_or tree.now i (pointed e (place_at settled i)))) }
+    ensures placed { IfOk result (λ nodes. ArePlaced draft.old draft.new settled nodes) }
 {
-    let mut nodes = Vec::new(alloc);
-    for i in 0..settled.len() {
-        nodes.push(place_block(alloc, draft, tree, first, i as u32, settled[i])?)?;
+    let mut nodes = settled;
+    let mut from = first;
+    while let Some((i, block)) = tree.next_changed(from, count) {
+        let place = store_copy(alloc, draft, block)?;
+        nodes.set(i, Pointer::Block(place))?;
+        from = i + 1;
     }
     Ok(nodes)
 }

@@ -1,11 +1,12 @@
 //! Indirect blocks, made anew.
 
-ghost use Rattle.std.specs.Prelude.{◌≡◌, ℕ, ◌*◌, ◌<◌, All, IfOk, OnOk, IfErr, IsErrOf, IsTrue, IfSome, IfNone, length, ◌↔◌};
+ghost use Rattle.std.specs.Prelude.{◌≡◌, ℕ, ◌<◌, ◌≤◌, All, IfOk, OnOk, IfErr, IsErrOf, IsTrue, IfSome, IfNone, length, ◌↔◌};
 ghost use Rattle.layout.specs.Maps.{indirect_pointer};
 ghost use Rattle.layout.specs.Pointer.{PointsBelow};
 ghost use Rattle.layout.specs.declared.TheConstants.{BLOCK_BYTES, BLOCK_POINTERS};
 ghost use Rattle.layout.specs.declared.geometry.TheConstants.{MOST_BLOCKS};
 ghost use Rattle.layout.specs.declared.pointer.Pointer.TheVariants.{Hole};
+ghost use Rattle.blocktree.specs.PlaceMaps.{AreBelow, EndBefore, place_at};
 ghost use Rattle.conspoint.specs.Drafts.{OnEach};
 ghost use Rattle.conspoint.specs.Groups.{pointer_at, group, IsGroup, ComesFrom, ArePlaced};
 ghost use Rattle.conspoint.specs.Space.{StoresNone};
@@ -13,12 +14,13 @@ ghost use Rattle.conspoint.specs.Steps.{Places, PlacesOver};
 
 use crate::draft::Draft;
 use crate::error::PlanError;
+use blocktree::PlaceMap;
 use buffers::Block;
 use layout::{BLOCK_BYTES, BLOCK_POINTERS, Pointer, set_pointer};
 use std::alloc::Global;
 
 /// Nodes under one indirect block.
-const GROUP: usize = BLOCK_POINTERS;
+const GROUP: u32 = BLOCK_POINTERS as u32;
 
 /// Spells 1,024 pointers as an indirect block.
 fn spell(pointers: &[Pointer], bytes: &mut [u8; BLOCK_BYTES])
@@ -108,30 +110,68 @@ pub fn place_group(
     Ok(Pointer::Block(place))
 }
 
-/// The pointers over nodes, one over each 1,024 of them, in their order.
+/// The nodes of group `j`.
+fn nodes_of(nodes: &PlaceMap, j: u32) -> [Pointer; BLOCK_POINTERS]
+    requires { j < 4194303 }
+    ensures count { length result ≡ BLOCK_POINTERS }
+    ensures nodes { (i : ℕ) → i < BLOCK_POINTERS → pointer_at result i ≡ group nodes.now j i }
+{
+    let first = GROUP * j;
+    let mut all = [Pointer::Hole; BLOCK_POINTERS];
+    let mut from = first;
+    while let Some(node) = nodes.next(from, first + GROUP) {
+        all[(node.index - first) as usize] = Pointer::Block(node.place);
+        from = node.index + 1;
+    }
+    all
+}
+
+/// The first group from one on and before another that has a node which is stored.
+fn next_group(nodes: &PlaceMap, from: u32, to: u32) -> Option<u32>
+    requires { to < 4194304 }
+    ensures found { IfSome result (λ j. (from ≤ j) × (j < to)) }
+    ensures before { IfSome result (λ j. (k i : ℕ) → from ≤ k → k < j → i < BLOCK_POINTERS
+        → group nodes.now k i ≡ Hole) }
+    ensures none { IfNone result ((k i : ℕ) → from ≤ k → k < to → i < BLOCK_POINTERS
+        → group nodes.now k i ≡ Hole) }
+{
+    if from >= to {
+        return None;
+    }
+    match nodes.next(GROUP * from, GROUP * to) {
+        Some(node) => Some(node.index / GROUP),
+        None => None,
+    }
+}
+
+/// The places over nodes, one over each 1,024 of them, by rising index, for so many groups. Over a group without a node that is
+/// stored there is none.
 pub fn place_over(
     alloc: Global,
     draft: &mut Draft,
-    settled: &[Pointer],
-    old: &[Pointer],
-    new: &[Pointer],
-) -> Result<Vec<Pointer>, PlanError>
-    requires old { length old.now ≡ BLOCK_POINTERS * length settled.now }
-    requires new { length new.now ≡ BLOCK_POINTERS * length settled.now }
-    requires within { All (PointsBelow MOST_BLOCKS) new.now }
-    requires settled { All (PointsBelow MOST_BLOCKS) settled.now }
-    ensures step { PlacesOver (length settled.now) (group old.now) (group new.now) draft.old draft.new result }
-    ensures count { IfOk result (λ over. length over.items ≡ length settled.now) }
-    ensures groups { IfOk result (λ over. OnEach draft.new (λ e. (j : ℕ) → j < length settled.now
-        → IsGroup e (pointer_at settled.now j) (group old.now j) (group new.now j)
-        (pointer_at over.items j))) }
-    ensures placed { IfOk result (λ over. ArePlaced draft.old draft.new settled.now over.items) }
+    settled: &PlaceMap,
+    old: &PlaceMap,
+    new: &PlaceMap,
+    groups: u32,
+) -> Result<PlaceMap, PlanError>
+    requires few { groups < 4194304 }
+    requires within { AreBelow MOST_BLOCKS new.now }
+    requires settled { AreBelow MOST_BLOCKS settled.now }
+    ensures step { PlacesOver groups (group old.now) (group new.now) draft.old draft.new result }
+    ensures end { IfOk result (EndBefore groups) }
+    ensures groups { IfOk result (λ over. OnEach draft.new (λ e. (j : ℕ) → j < groups
+        → IsGroup e (place_at settled.now j) (group old.now j) (group new.now j)
+        (place_at over j))) }
+    ensures placed { IfOk result (λ over. ArePlaced draft.old draft.new settled.now over) }
 {
-    let mut over = Vec::new(alloc);
-    for j in 0..settled.len() {
-        let first = GROUP * j;
-        let nodes = &new[first..first + GROUP];
-        over.push(place_group(alloc, draft, settled[j], &old[first..first + GROUP], nodes)?)?;
+    let mut over = PlaceMap::new(alloc);
+    let mut from = 0;
+    while let Some(j) = next_group(new, from, groups) {
+        let before = nodes_of(old, j);
+        let after = nodes_of(new, j);
+        let pointer = place_group(alloc, draft, settled.at(j), &before, &after)?;
+        over.set(j, pointer)?;
+        from = j + 1;
     }
     Ok(over)
 }

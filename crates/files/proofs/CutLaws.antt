@@ -1,5 +1,5 @@
 -- What the definitions say of changing the size of a descriptor's file.
-use Rattle.std.proofs.Common.{◌≡◌, ℕ, ℤ, nat_abs, Option, Some, None, Ok, sym, subst}
+use Rattle.std.proofs.Common.{◌≡◌, ℕ, ℤ, nat_abs, Option, Some, None, Result, Ok, Err, IsOkAnd, sym, subst}
 use Rattle.std.proofs.Math.Path.{fun_ext}
 use Rattle.model.specs.Changing.{cuts}
 use Rattle.model.specs.Descriptors.{truncates_open}
@@ -9,6 +9,7 @@ use Rattle.model.specs.Records as records
 use Rattle.model.specs.Room.{logs, nothing}
 use Rattle.model.specs.Trees.{Tree, Description}
 use Rattle.model.specs.Volumes.{IsMounted, Volume, swept, tree_of}
+use Rattle.model.specs.declared.errno.Errno.{Errno}
 use Rattle.model.specs.declared.reply.Reply.TheVariants.{Done}
 use Rattle.calls.specs.Changing.{ComesOrStays, ComesSweptBy}
 use Rattle.calls.specs.Truncate.{CutsFile}
@@ -35,10 +36,11 @@ module _ (inodes : ℕ) (v : Volume) (table : Descriptors) (fd : ℕ) (size : �
   whole : IsMounted (applied change v) (table_of table) → swept (table_of table) (applied change v) ≡ applied change v
   whole mounted = fun_ext {f = swept (table_of table) (applied change v)} {g = applied change v} mounted.is_swept
 
-  pub ftruncate_told : (o : Option Changing) → PassesOpen (cut_tests size) table fd (Ok f) → CutsFile inodes v (table_of table) f.number (nat_abs size) o
-      → ComesOrStays (truncates_open t fd size) inodes v (table_of table) (Ok o)
-  ftruncate_told None opened cut = open_passes table v fd (cut_tests size) cutting f Done t nothing opened cut
-  ftruncate_told (Some c) opened (says, (over, cut)) =
+  pub ftruncate_told : (r : Result (Option Changing) Errno) → PassesOpen (cut_tests size) table fd (Ok f) → IsOkAnd r (CutsFile inodes v (table_of table) f.number (nat_abs size))
+      → ComesOrStays (truncates_open t fd size) inodes v (table_of table) r
+  ftruncate_told (Err errno) opened cut = absurd cut
+  ftruncate_told (Ok None) opened cut = open_passes table v fd (cut_tests size) cutting f Done t nothing opened cut
+  ftruncate_told (Ok (Some c)) opened (says, (over, cut)) =
       subst (ComesSweptBy (truncates_open t fd size) inodes v (table_of table)) (sym says) (
         over.0,
         subst (λ (w : Volume). IsMounted w (table_of table)) (sym (whole over.1)) over.1,

@@ -1,5 +1,5 @@
 -- What the definitions say of a call on a descriptor, by what is open there.
-use Rattle.std.proofs.Common.{◌≡◌, ◌==◌, inl, inr, ℕ, Option, Some, None, refl, sym, ap, subst, ◌∙◌}
+use Rattle.std.proofs.Common.{◌≡◌, ◌==◌, inl, inr, ℕ, true, Option, Some, None, refl, sym, ap, subst, ◌∙◌}
 use Rattle.std.proofs.lemmas.Bool.{cases_eq, cond-true, cond-false, eq-eqb, ne_eqb}
 use Rattle.std.specs.Option.{option_map}
 use Rattle.model.specs.Descriptors.{with_offset}
@@ -7,7 +7,7 @@ use Rattle.model.specs.Outcomes.{Outcome, described, refuses, tested}
 use Rattle.model.specs.Paths.{Tests, first_refusal}
 use Rattle.model.specs.Room.{Need, nothing}
 use Rattle.model.specs.Trees.{Tree, Description}
-use Rattle.model.specs.Volumes.{Volume, tree_of}
+use Rattle.model.specs.Volumes.{Volume, is_file_node, tree_of}
 use Rattle.model.specs.declared.errno.Errno.{Errno}
 use Rattle.model.specs.declared.errno.Errno.TheVariants.{EBADF}
 use Rattle.model.specs.declared.reply.Reply.{Reply}
@@ -15,11 +15,13 @@ use Rattle.model.specs.declared.reply.Reply.TheVariants.{Refused}
 use Rattle.model.proofs.OptionLaws.{some_same}
 use Rattle.paths.specs.Numbers.{IsNumber}
 use Rattle.records.specs.Opened.{HasNumbers}
-use Rattle.descriptors.specs.Files.{description_of}
+use Rattle.descriptors.specs.Files.{description_of, figures_of}
+use Rattle.descriptors.specs.Fits.{IsFileOf}
 use Rattle.descriptors.specs.Tables.{open_at, put_open, table_of}
 use Rattle.descriptors.specs.declared.open_file.OpenFile.{OpenFile}
 use Rattle.descriptors.specs.declared.table.Descriptors.{Descriptors}
 use Rattle.files.specs.Opened.{tree_with}
+use Rattle.descriptors.proofs.FitLemmas.{figured_file}
 
 module _ (table : Descriptors) (v : Volume) (fd : ℕ) (rest : Description → Outcome) where
   abbrev t : Tree
@@ -34,6 +36,10 @@ module _ (table : Descriptors) (v : Volume) (fd : ℕ) (rest : Description → O
   pub is_open : (f : OpenFile) (reply : Reply) (new : Tree) (need : Need) → open_at table fd ≡ Some f → rest (description_of f) reply new need
       → described t fd rest reply new need
   is_open f reply new need some is = subst (λ (o : Option Description). cases o reply new need) (sym (ap (option_map description_of) some)) is
+
+-- what is said of the file of a number is said of an open file
+pub at_file : {n : ℕ} (v : Volume) (f : OpenFile) (P : ℕ → Type 0) → n ≡ f.number → IsFileOf v f → (is_file_node (v n) ≡ true → P n) → P f.number
+at_file v f P same fits says = subst (λ (k : ℕ). is_file_node (v k) ≡ true → P k) same says (figured_file (v f.number) (figures_of f) fits)
 
 -- ---- tests
 

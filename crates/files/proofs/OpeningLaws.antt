@@ -2,7 +2,7 @@
 use Rattle.std.proofs.Common.{◌≡◌, ℕ, List, Option, Some, None, Ok, Err, sym, ap, subst, ◌∙◌}
 use Rattle.model.specs.Descriptors.{described_by, open_tests, opens}
 use Rattle.model.specs.Outcomes.{Outcome, lowest_free, refuses}
-use Rattle.model.specs.Paths.{Tests, first_refusal, text_tests_then}
+use Rattle.model.specs.Paths.{Tests, first_refusal, text_tests, text_tests_then}
 use Rattle.model.specs.Records.{applied, work_of}
 use Rattle.model.specs.Room.{Need, logs, nothing}
 use Rattle.model.specs.Trees.{Tree, Description}
@@ -17,6 +17,7 @@ use Rattle.calls.specs.Changing.{said_by}
 use Rattle.calls.specs.Open.{IsOpened, OpensAt, OpensOver as FindsOver, opened_tree, opens_along}
 use Rattle.calls.specs.declared.changed.Changing.{Changing}
 use Rattle.calls.specs.declared.preparing.open.Opened.{Opened}
+use Rattle.calls.proofs.GetLaws.{text_before}
 use Rattle.descriptors.specs.Files.{Figures, description_of, figures_of, node_figures}
 use Rattle.descriptors.specs.Fits.{IsFileOf}
 use Rattle.descriptors.specs.Tables.{put_open, table_of}
@@ -47,11 +48,11 @@ module _ (inodes : ℕ) (v : Volume) (table : Descriptors) (text : List ℕ) (fl
   pub open_refused : (errno : Errno) → first_refusal tests ≡ Some errno → outcome (Refused errno) t nothing
   open_refused errno is = refused_by t tests (at_free (lowest_free (table_of table) OPEN_FILES)) errno is
 
-  module _ (passed : first_refusal tests ≡ None) where
+  module _ (good_text : first_refusal (text_tests text) ≡ None) (good_flags : first_refusal (open_tests flags) ≡ None) where
     module _ (fd : ℕ) (free : lowest_free (table_of table) OPEN_FILES ≡ Some fd) where
       at_fd : (reply : Reply) (new : Tree) (need : Need) → along fd reply new need → outcome reply new need
       at_fd reply new need done =
-          passes t tests (at_free (lowest_free (table_of table) OPEN_FILES)) reply new need passed
+          passes t tests (at_free (lowest_free (table_of table) OPEN_FILES)) reply new need (text_before text (open_tests flags) good_text ∙ good_flags)
           (subst (λ (o : Option ℕ). at_free o reply new need) (sym free) done)
 
       pub open_nowhere : (errno : Errno) → OpensAt along inodes flags v (table_of table) (Err errno) → outcome (Refused errno) t nothing

@@ -1,7 +1,8 @@
 -- What the definitions say of writing through a descriptor.
 use Rattle.std.proofs.Common.{◌≡◌, ◌+◌, ◌||◌, ℕ, ℤ, nat_abs, List, length, if◌then◌else◌, Option, Some, None, Result, Ok, Err, refl, sym, ap, subst, ◌∙◌}
 use Rattle.std.specs.Option.{option_map}
-use Rattle.std.specs.Prelude.{IfOk, IsSome}
+use Rattle.std.specs.Prelude.{IfErr, IfOk, IsSome, IsTrue, true}
+use Rattle.std.specs.Result.{IsErrAnd}
 use Rattle.std.proofs.lemmas.Result.{IfOk-weaker}
 use Rattle.model.specs.Descriptors.{puts, with_offset, writes, writes_to}
 use Rattle.model.specs.Edits.{contents}
@@ -10,14 +11,23 @@ use Rattle.model.specs.Reading.{is_negative, is_too_many}
 use Rattle.model.specs.Records.{Change, applied, work_of, write}
 use Rattle.model.specs.Room.{logs, nothing}
 use Rattle.model.specs.Trees.{Tree, Description}
-use Rattle.model.specs.Volumes.{IsMounted, Volume, tree_of}
+use Rattle.model.specs.Volumes.{IsMounted, Volume, is_file_node, tree_of}
 use Rattle.model.specs.declared.errno.Errno.{Errno}
+use Rattle.model.specs.declared.errno.Errno.TheVariants.{EFBIG}
 use Rattle.model.specs.declared.reply.Reply.TheVariants.{Refused, Wrote}
+use Rattle.blocktree.specs.Errors.{IsFault}
 use Rattle.blocktree.specs.declared.error.ReadError.{ReadError}
 use Rattle.buffers.specs.declared.blocks.Blocks.{Ghosts}
 use Rattle.inofile.specs.declared.inode_file.InodeFile.{InodeFile}
-use Rattle.records.specs.Rewriting.{GoesOver}
-use Rattle.records.specs.Shown.{OnMounted}
+use Rattle.paths.specs.Standing.{Looks}
+use Rattle.records.specs.Failures.{told}
+use Rattle.records.specs.Rewriting.{GoesOver, PutsBytes}
+use Rattle.records.specs.Shown.{NeverDamaged, OnMounted}
+use Rattle.records.specs.declared.failure.Failure.{Failure}
+use Rattle.records.specs.declared.failure.Failure.TheVariants as failures
+use Rattle.records.specs.declared.prepared.Prepared.{Prepared}
+use Rattle.calls.specs.Refusals.{is_path_refusal}
+use Rattle.calls.proofs.PrepareSteps.{carried}
 use Rattle.descriptors.specs.Files.{description_of, figures_of}
 use Rattle.descriptors.specs.Fits.{FitsVolume, IsFileOf}
 use Rattle.descriptors.specs.Tables.{at_place, moved_to, open_at, put_open, table_of}
@@ -30,6 +40,8 @@ use Rattle.files.specs.Reading.{PassesOpen}
 use Rattle.files.specs.Writing.{IsTransfer, IsWrite, IsWritten, PutsFile, Writes, of_writing, write_of, write_place, write_tests}
 use Rattle.files.specs.declared.written.Written.{Written}
 use Rattle.files.specs.declared.written.Writing.{Writing}
+use Rattle.files.proofs.OpenLaws.{at_file}
+use Rattle.files.proofs.Preparing.{refuses, stops}
 use Rattle.files.proofs.ReadLaws.{figured_size, open_passes}
 
 -- a moved offset in the tree
@@ -115,20 +127,37 @@ module _ (inodes : ℕ) (v : Volume) (table : Descriptors) (fd : ℕ) (f : OpenF
 
 -- ---- a write through a descriptor
 
-module _ {B : Type 0} {G : Ghosts B} {a b : B} {s t : InodeFile} {r : Result (Result (Option Writing) Errno) ReadError} (table : Descriptors) (fd : ℕ) (f : OpenFile) (offset : ℕ) (bytes : List ℕ) where
+-- so bytes are put into an open file
+abbrev Puts : {B : Type 0} → Ghosts B → B → InodeFile → OpenFile → ℕ → List ℕ → Result (Result (Option Writing) Errno) ReadError → Type 0
+Puts G a s f offset bytes x = OnMounted G a s (λ v opened. IsFileOf v f → IfOk x (PutsFile s.geometry.inodes v opened f offset bytes))
+
+module _ {B : Type 0} {G : Ghosts B} {a b : B} {s t : InodeFile} {n : ℕ} (f : OpenFile) (offset : ℕ) (bytes : List ℕ) (same : n ≡ f.number) where
+  -- nothing is put into the file of a number, for its size or a block that wasn't read
+  pub put_failed : (e : Failure) (q : Result (Option Writing) Failure) → IsErrAnd q (λ g. g ≡ e) → Looks {T = Result (Option Prepared) Errno} G IsFault a b s t (told (Err e))
+      → IfOk (told {T = Option Prepared} (Err e)) (λ r. IfErr r (λ k. k ≡ EFBIG)) → NeverDamaged {T = Result (Option Prepared) Errno} G a s (told (Err e))
+      → OnMounted G a s (λ v opened. is_file_node (v n) ≡ true → IfOk (told (Err e)) (PutsBytes s.geometry.inodes v opened n offset bytes))
+      → PreparesTold (of_writing bytes) (IsTransfer bytes) G a b s t (Puts G a s f offset bytes) q
+  put_failed (failures.Refused e) q is looks big sound put =
+      carried (PreparesTold (of_writing bytes) (IsTransfer bytes) G a b s t (Puts G a s f offset bytes)) q is
+      (refuses looks (subst (λ (k : Errno). IsTrue (is_path_refusal k)) (sym big) refl) (λ disk settled v opened stands volume mounted is.
+      at_file v f (λ k. PutsBytes s.geometry.inodes v opened k offset bytes (Err e)) same is (put disk settled v opened stands volume mounted)))
+  put_failed (failures.Read e) q is looks big sound put =
+      carried (PreparesTold (of_writing bytes) (IsTransfer bytes) G a b s t (Puts G a s f offset bytes)) q is (stops looks sound (λ disk settled v opened stands volume mounted is. tt))
+
+module _ {B : Type 0} {G : Ghosts B} {a b : B} {s t : InodeFile} {r : Result (Option Writing) Failure} (table : Descriptors) (fd : ℕ) (f : OpenFile) (offset : ℕ) (bytes : List ℕ) where
   -- what is put into the file of a descriptor is a write
   pub written_through : {P : Volume → Result (Option Writing) Errno → Type 0} → open_at table fd ≡ Some f
-      → PreparesTold (of_writing bytes) (IsTransfer bytes) G a b s t (OnMounted G a s (λ v opened. IsFileOf v f → IfOk r (PutsFile s.geometry.inodes v opened f offset bytes))) r
+      → PreparesTold (of_writing bytes) (IsTransfer bytes) G a b s t (Puts G a s f offset bytes) r
       → OnOpen G a s table (λ v. (y : Result (Option Writing) Errno) → PutsFile s.geometry.inodes v (table_of table) f offset bytes y → P v y)
       → PreparesOpen (of_writing bytes) (IsWrite table fd bytes) G a b s t table P r
-  written_through some put told = record {
+  written_through some put gives = record {
     looks = put.looks;
     own = put.own;
-    within = IfOk-weaker r _ _ (λ x within. IfOk-weaker x _ _ opened_too within) put.within;
+    within = IfOk-weaker r _ _ opened_too put.within;
     ready = put.ready;
     does = put.does;
     answers = λ disk settled v stands volume mounted fits.
-        IfOk-weaker r _ _ (told disk settled v stands volume mounted fits) (put.answers disk settled v (table_of table) stands volume mounted (fits.files fd f some));
+        IfOk-weaker (told r) _ _ (gives disk settled v stands volume mounted fits) (put.answers disk settled v (table_of table) stands volume mounted (fits.files fd f some));
     damaged = put.damaged;
   }
     where

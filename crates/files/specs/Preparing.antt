@@ -7,9 +7,12 @@ use Rattle.blocktree.specs.Errors.{IsFault}
 use Rattle.blocktree.specs.declared.error.ReadError.{ReadError}
 use Rattle.buffers.specs.declared.blocks.Blocks.{Ghosts}
 use Rattle.inofile.specs.declared.inode_file.InodeFile.{InodeFile}
+use Rattle.paths.specs.Loads.{IsAny}
 use Rattle.paths.specs.Standing.{Looks}
+use Rattle.records.specs.Failures.{told}
 use Rattle.records.specs.Prepared.{Does, IsReady}
 use Rattle.records.specs.Shown.{NeverDamaged, OnVolumes}
+use Rattle.records.specs.declared.failure.Failure.{Failure}
 use Rattle.records.specs.declared.prepared.Prepared.{Prepared}
 use Rattle.calls.specs.Changing.{said_by}
 use Rattle.calls.specs.Refusals.{is_path_refusal}
@@ -27,26 +30,22 @@ of_changing o P = IfSome o (λ c. P c.prepared (said_by c.change))
 
 -- Nothing is done but looking. The call is refused by an errno of paths; or what it is to change is prepared, with room for it in
 -- memory, and does what its record says. What is told of it, is told; and no damage is found.
-pub record PreparesTold {B T : Type 0} (changes : Changes T) (IsWithin : T → Type 0) (G : Ghosts B) (blocks after : B) (s t : InodeFile) (Told : Type 0)
-    (result : Result (Result T Errno) ReadError) : Type 0 where
-  pub looks : Looks G IsFault blocks after s t result
-  pub own : IfOk result (λ r. IfErr r (λ e. IsTrue (is_path_refusal e)))
-  pub within : IfOk result (λ r. IfOk r IsWithin)
-  pub ready : IfOk result (λ r. IfOk r (λ x. changes x (λ p change. IsReady t p)))
-  pub does : OnVolumes G blocks s (λ disk settled v. IfOk result (λ r. IfOk r (λ x. changes x (λ p change. Does disk settled t v p change))))
-  pub answers : Told
-  pub damaged : NeverDamaged G blocks s result
+pub record PreparesTold {B T : Type 0} (changes : Changes T) (IsWithin : T → Type 0) (G : Ghosts B) (blocks after : B) (s t : InodeFile) (Told : Result (Result T Errno) ReadError → Type 0)
+    (result : Result T Failure) : Type 0 where
+  pub looks : Looks G IsFault blocks after s t (told result)
+  pub own : IfOk (told result) (λ r. IfErr r (λ e. IsTrue (is_path_refusal e)))
+  pub within : IfOk result IsWithin
+  pub ready : IfOk result (λ x. changes x (λ p change. IsReady t p))
+  pub does : OnVolumes G blocks s (λ disk settled v. IfOk result (λ x. changes x (λ p change. Does disk settled t v p change)))
+  pub answers : Told (told result)
+  pub damaged : NeverDamaged G blocks s (told result)
 
 -- the same of a call that is answered so on each mounted volume that the table fits
 abbrev pub PreparesOpen : {B T : Type 0} → Changes T → (T → Type 0) → Ghosts B → B → B → InodeFile → InodeFile → Descriptors
-    → (Volume → Result T Errno → Type 0) → Result (Result T Errno) ReadError → Type 0
+    → (Volume → Result T Errno → Type 0) → Result T Failure → Type 0
 PreparesOpen changes IsWithin G blocks after s t table answer result =
-    PreparesTold changes IsWithin G blocks after s t (OnOpen G blocks s table (λ v. IfOk result (answer v))) result
+    PreparesTold changes IsWithin G blocks after s t (λ r. OnOpen G blocks s table (λ v. IfOk r (answer v))) result
 
--- Nothing is done but looking, and a call is answered so on each mounted volume that the table fits; and no damage is found.
-pub record AnswersOpen {B T : Type 0} (G : Ghosts B) (blocks after : B) (s t : InodeFile) (table : Descriptors) (answer : Volume → Result T Errno → Type 0)
-    (result : Result (Result T Errno) ReadError) : Type 0 where
-  pub looks : Looks G IsFault blocks after s t result
-  pub own : IfOk result (λ r. IfErr r (λ e. IsTrue (is_path_refusal e)))
-  pub answers : OnOpen G blocks s table (λ v. IfOk result (answer v))
-  pub damaged : NeverDamaged G blocks s result
+-- the same of a call that prepares nothing
+abbrev pub AnswersOpen : {B T : Type 0} → Ghosts B → B → B → InodeFile → InodeFile → Descriptors → (Volume → Result T Errno → Type 0) → Result T Failure → Type 0
+AnswersOpen G blocks after s t table answer result = PreparesOpen (λ x P. Unit {0}) IsAny G blocks after s t table answer result

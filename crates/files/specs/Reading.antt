@@ -7,12 +7,13 @@ use Rattle.model.specs.Volumes.{IsMounted, Volume, bytes_of}
 use Rattle.model.specs.declared.errno.Errno.{Errno}
 use Rattle.model.specs.declared.errno.Errno.TheVariants.{EBADF, EINVAL}
 use Rattle.blocktree.specs.Errors.{IsFault}
-use Rattle.blocktree.specs.declared.error.ReadError.{ReadError}
 use Rattle.buffers.specs.declared.blocks.Blocks.{Ghosts}
 use Rattle.inofile.specs.declared.inode_file.InodeFile.{InodeFile}
 use Rattle.paths.specs.Standing.{Looks}
+use Rattle.records.specs.Failures.{told}
 use Rattle.records.specs.Opened.{HasNumbers}
 use Rattle.records.specs.Shown.{NeverDamaged}
+use Rattle.records.specs.declared.failure.Failure.{Failure}
 use Rattle.calls.specs.Refusals.{is_path_refusal}
 use Rattle.descriptors.specs.Files.{description_of}
 use Rattle.descriptors.specs.Fits.{FitsVolume}
@@ -40,13 +41,12 @@ ReadsFile v n offset count (Err errno) = ⊥
 -- Nothing is done but looking, and offsets may move in the table; after an error or a refusal none has moved. A call is answered so on
 -- each mounted volume that the table fits; and no damage is found.
 pub record AnswersMoving {B T : Type 0} (G : Ghosts B) (blocks after : B) (s t : InodeFile) (table moved : Descriptors) (answer : Volume → Result T Errno → Type 0)
-    (result : Result (Result T Errno) ReadError) : Type 0 where
-  pub looks : Looks G IsFault blocks after s t result
-  pub own : IfOk result (λ r. IfErr r (λ e. IsTrue (is_path_refusal e)))
-  pub answers : OnOpen G blocks s table (λ v. IfOk result (answer v))
+    (result : Result T Failure) : Type 0 where
+  pub looks : Looks G IsFault blocks after s t (told result)
+  pub own : IfOk (told result) (λ r. IfErr r (λ e. IsTrue (is_path_refusal e)))
+  pub answers : OnOpen G blocks s table (λ v. IfOk (told result) (answer v))
   pub fits : (v : Volume) → FitsVolume table v → FitsVolume moved v
   pub mounted : (v : Volume) → IsMounted v (table_of table) → IsMounted v (table_of moved)
   pub numbers : (n : ℕ) → HasNumbers n table → HasNumbers n moved
-  pub failed : OnErr result (moved ≡ table)
-  pub refused : IfOk result (λ r. OnErr r (moved ≡ table))
-  pub damaged : NeverDamaged G blocks s result
+  pub refused : OnErr result (moved ≡ table)
+  pub damaged : NeverDamaged G blocks s (told result)

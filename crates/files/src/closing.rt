@@ -14,6 +14,7 @@ use blocktree::ReadError;
 use buffers::Blocks;
 use descriptors::{Descriptors, OpenFile, tables_follow_volumes};
 use inofile::InodeFile;
+use layout::InodeNumber;
 use model::Errno;
 use records::{drop_nameless, load_to_change};
 use std::alloc::Global;
@@ -37,7 +38,7 @@ pub fn prepare_close<B: Blocks>(
             if file.links > 0 {
                 return Ok(());
             }
-            load_to_change(alloc, inodes, blocks, file.number)
+            load_to_change(alloc, inodes, blocks, InodeNumber::new(file.number))
         }
         None => Ok(()),
     }
@@ -69,6 +70,6 @@ fn drop_unused(inodes: &mut InodeFile, table: &Descriptors, file: &OpenFile)
         (swept_at (table_of table.now) file.now.number v) }
 {
     if file.links == 0 && !table.is_open(file.number) {
-        drop_nameless(inodes, file.number);
+        drop_nameless(inodes, InodeNumber::new(file.number));
     }
 }

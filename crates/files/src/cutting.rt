@@ -14,12 +14,13 @@ ghost use Rattle.files.specs.Preparing.{PreparesOpen, of_changing};
 ghost use Rattle.files.specs.Reading.{PassesOpen};
 
 use crate::writing::is_writing;
-use blocktree::ReadError;
 use buffers::Blocks;
 use calls::{Changing, cut_file, refusal_of_size};
 use descriptors::{Descriptors, OpenFile};
 use inofile::InodeFile;
+use layout::InodeNumber;
 use model::Errno;
+use records::Failure;
 use std::alloc::Global;
 
 /// Gives a size to the file of a descriptor, as far as nothing of it is seen yet: prepares its record, or tells that the file has
@@ -33,18 +34,15 @@ pub fn prepare_ftruncate<B: Blocks>(
     table: &Descriptors,
     fd: u32,
     size: i64,
-) -> Result<Result<Option<Changing>, Errno>, ReadError>
+) -> Result<Option<Changing>, Failure>
     requires { HasNumbers inodes.old.geometry.inodes table.now }
     ensures { PreparesOpen of_changing IsAny B.Blocks blocks.old blocks.new inodes.old inodes.new
         table.now (λ v. ComesOrStays (truncates_open (tree_with table.now v) fd size)
         inodes.old.geometry.inodes v (table_of table.now)) result }
 {
-    let file = match file_to_cut(table, fd, size) {
-        Ok(file) => file,
-        Err(errno) => return Ok(Err(errno)),
-    };
-    let cut = cut_file(alloc, inodes, blocks, file.number, size.unsigned_abs())?;
-    Ok(Ok(cut))
+    let file = file_to_cut(table, fd, size)?;
+    let number = InodeNumber::new(file.number);
+    cut_file(alloc, inodes, blocks, number, size.unsigned_abs())
 }
 
 // The file of a descriptor that may get this size; the refusal of the first test that holds.

@@ -9,13 +9,13 @@ ghost use Rattle.files.specs.Opening.{CanOpen, Opens, of_opening};
 ghost use Rattle.files.specs.Preparing.{PreparesOpen};
 
 use crate::writing::is_writing;
-use blocktree::ReadError;
 use buffers::Blocks;
 use calls::{Changing, open_along};
 use descriptors::{Descriptors, OpenFile};
 use inofile::InodeFile;
 use model::{Errno, Flags, Mode};
 use paths::{Parts, refusal_of_text};
+use records::Failure;
 use std::alloc::Global;
 
 /// A file that is to be opened, and its descriptor.
@@ -43,7 +43,7 @@ pub fn prepare_open<B: Blocks>(
     path: &[u8],
     flags: Flags,
     mode: Mode,
-) -> Result<Result<Opening, Errno>, ReadError>
+) -> Result<Opening, Failure>
     ensures { PreparesOpen of_opening (CanOpen table.now inodes.old.geometry.inodes) B.Blocks
         blocks.old blocks.new inodes.old inodes.new table.now
         (λ v. Opens (opens inodes.old.geometry.inodes (tree_with table.now v) path.now flags mode)
@@ -51,25 +51,21 @@ pub fn prepare_open<B: Blocks>(
 {
     let parts = Parts::of(alloc, path)?;
     if let Some(errno) = refusal_of_text(path, &parts) {
-        return Ok(Err(errno));
+        return Err(Failure::Refused(errno));
     }
     if let Some(errno) = refusal_of_flags(flags) {
-        return Ok(Err(errno));
+        return Err(Failure::Refused(errno));
     }
     let Some(fd) = table.lowest_free() else {
-        return Ok(Err(Errno::EMFILE));
+        return Err(Failure::Refused(Errno::EMFILE));
     };
-    let found = open_along(alloc, inodes, blocks, path, parts, flags, mode)?;
-    let opened = match found {
-        Ok(opened) => opened,
-        Err(errno) => return Ok(Err(errno)),
-    };
-    let file = OpenFile::opened(opened.number, flags, opened.size, opened.links);
-    Ok(Ok(Opening {
+    let opened = open_along(alloc, inodes, blocks, path, parts, flags, mode)?;
+    let file = OpenFile::opened(opened.number.get(), flags, opened.size, opened.links);
+    Ok(Opening {
         fd,
         file,
         changing: opened.changing,
-    }))
+    })
 }
 
 // Why flags are refused: they want a new file and don't say that one is made, or want a file cut that isn't for writing.

@@ -15,12 +15,12 @@ ghost use Rattle.files.specs.Opened.{tree_with};
 ghost use Rattle.files.specs.Preparing.{AnswersOpen};
 ghost use Rattle.files.specs.Reading.{AnswersMoving, PassesOpen, ReadsFile, read_tests};
 
-use blocktree::ReadError;
 use buffers::Blocks;
 use descriptors::{Descriptors, OpenFile};
 use inofile::InodeFile;
+use layout::InodeNumber;
 use model::{Access, Errno, GREATEST_OFFSET, TRANSFER_BYTES, Text};
-use records::read_bytes;
+use records::{Failure, read_bytes};
 use std::alloc::Global;
 
 /// As many bytes as asked and there, from a descriptor's offset on, which moves behind them; or why the call is refused: EBADF where
@@ -33,24 +33,16 @@ pub fn read<B: Blocks>(
     table: &mut Descriptors,
     fd: u32,
     count: u32,
-) -> Result<Result<Text, Errno>, ReadError>
+) -> Result<Text, Failure>
     requires { HasNumbers inodes.old.geometry.inodes table.old }
     ensures { AnswersMoving B.Blocks blocks.old blocks.new inodes.old inodes.new table.old
         table.new (λ v r. reads (tree_with table.old v) fd count (data_reply r)
         (tree_with table.new v) nothing) result }
 {
-    let file = match file_to_read(table, fd, count as usize > TRANSFER_BYTES) {
-        Ok(file) => file,
-        Err(errno) => return Ok(Err(errno)),
-    };
-    let found = read_file(alloc, inodes, blocks, file.number, file.offset, count)?;
-    match found {
-        Ok(text) => {
-            table.set_offset(fd, place_behind(file.offset, text.as_bytes()));
-            Ok(Ok(text))
-        }
-        Err(errno) => Ok(Err(errno)),
-    }
+    let file = file_to_read(table, fd, count as usize > TRANSFER_BYTES)?;
+    let text = read_file(alloc, inodes, blocks, file.number, file.offset, count)?;
+    table.set_offset(fd, place_behind(file.offset, text.as_bytes()));
+    Ok(text)
 }
 
 /// As many bytes as asked and there, from an offset on, of the file of a descriptor, whose own offset stays; or why the call is
@@ -64,16 +56,13 @@ pub fn pread<B: Blocks>(
     fd: u32,
     offset: i64,
     count: u32,
-) -> Result<Result<Text, Errno>, ReadError>
+) -> Result<Text, Failure>
     requires { HasNumbers inodes.old.geometry.inodes table.now }
     ensures { AnswersOpen B.Blocks blocks.old blocks.new inodes.old inodes.new table.now
         (λ v r. reads_from (tree_with table.now v) fd offset count (data_reply r)
         (tree_with table.now v) nothing) result }
 {
-    let file = match file_to_read(table, fd, is_no_range(offset, count)) {
-        Ok(file) => file,
-        Err(errno) => return Ok(Err(errno)),
-    };
+    let file = file_to_read(table, fd, is_no_range(offset, count))?;
     read_file(
         alloc,
         inodes,
@@ -127,15 +116,16 @@ fn read_file<B: Blocks>(
     number: u32,
     offset: u64,
     count: u32,
-) -> Result<Result<Text, Errno>, ReadError>
+) -> Result<Text, Failure>
     requires { IsNumber inodes.old.geometry.inodes number }
     ensures { Tells B.Blocks blocks.old blocks.new inodes.old inodes.new (λ v found.
         IsTrue (is_file_node (v number)) → ReadsFile v number offset count found) result }
 {
+    let number = InodeNumber::new(number);
     let found = read_bytes(alloc, inodes, blocks, number, offset, count)?;
     match found {
-        Some(text) => Ok(Ok(text)),
-        None => Ok(Err(Errno::DAMAGED)),
+        Some(text) => Ok(text),
+        None => Err(Failure::Refused(Errno::DAMAGED)),
     }
 }
 

@@ -7,12 +7,13 @@ ghost use Rattle.records.specs.Opened.{HasNumbers};
 ghost use Rattle.files.specs.Opened.{tree_with};
 ghost use Rattle.files.specs.Preparing.{AnswersOpen};
 
-use blocktree::ReadError;
 use buffers::Blocks;
 use calls::stat_number;
 use descriptors::Descriptors;
 use inofile::InodeFile;
+use layout::InodeNumber;
 use model::{Errno, Stat, volumes_tell_links};
+use records::Failure;
 use std::alloc::Global;
 
 /// What `stat` would tell of the file of a descriptor, also where it has no name any more and so 0 links; or EBADF where the
@@ -23,7 +24,7 @@ pub fn fstat<B: Blocks>(
     blocks: &mut B,
     table: &Descriptors,
     fd: u32,
-) -> Result<Result<Stat, Errno>, ReadError>
+) -> Result<Stat, Failure>
     requires { HasNumbers inodes.old.geometry.inodes table.now }
     ensures { AnswersOpen B.Blocks blocks.old blocks.new inodes.old inodes.new table.now
         (λ v r. stats_open (tree_with table.now v) fd (stat_reply r) (tree_with table.now v) nothing)
@@ -31,7 +32,7 @@ pub fn fstat<B: Blocks>(
 {
     volumes_tell_links();
     let Some(file) = table.get(fd) else {
-        return Ok(Err(Errno::EBADF));
+        return Err(Failure::Refused(Errno::EBADF));
     };
-    stat_number(alloc, inodes, blocks, file.number)
+    stat_number(alloc, inodes, blocks, InodeNumber::new(file.number))
 }

@@ -15,12 +15,12 @@ ghost use Rattle.files.specs.Reading.{PassesOpen};
 ghost use Rattle.files.specs.Writing.{IsTransfer, IsWrite, PutsFile, Writes, moved_to, of_writing, write_place, write_tests};
 
 use crate::{Writing, Written};
-use blocktree::ReadError;
 use buffers::Blocks;
 use descriptors::{Descriptors, OpenFile};
 use inofile::InodeFile;
+use layout::InodeNumber;
 use model::{Access, Errno, TRANSFER_BYTES};
-use records::write_bytes;
+use records::{Failure, write_bytes};
 use std::alloc::Global;
 
 /// Prepares that bytes are written at a descriptor's offset, or behind the last byte under append; none where there are no bytes; or
@@ -34,16 +34,13 @@ pub fn prepare_write<B: Blocks>(
     table: &Descriptors,
     fd: u32,
     bytes: &[u8],
-) -> Result<Result<Option<Writing>, Errno>, ReadError>
+) -> Result<Option<Writing>, Failure>
     ensures { PreparesOpen (of_writing bytes.now) (IsWrite table.now fd bytes.now) B.Blocks blocks.old
         blocks.new inodes.old inodes.new table.now
         (λ v. Writes (writes (tree_with table.now v) fd bytes.now) inodes.old.geometry.inodes v
         table.now bytes.now (λ w. moved_to fd w.behind (table_of table.now))) result }
 {
-    let file = match file_to_write(table, fd, bytes.len() > TRANSFER_BYTES) {
-        Ok(file) => file,
-        Err(errno) => return Ok(Err(errno)),
-    };
+    let file = file_to_write(table, fd, bytes.len() > TRANSFER_BYTES)?;
     write_file(alloc, inodes, blocks, &file, place_of(&file), bytes)
 }
 
@@ -59,17 +56,13 @@ pub fn prepare_pwrite<B: Blocks>(
     fd: u32,
     offset: i64,
     bytes: &[u8],
-) -> Result<Result<Option<Writing>, Errno>, ReadError>
+) -> Result<Option<Writing>, Failure>
     ensures { PreparesOpen (of_writing bytes.now) (IsWrite table.now fd bytes.now) B.Blocks blocks.old
         blocks.new inodes.old inodes.new table.now
         (λ v. Writes (writes_to (tree_with table.now v) fd offset bytes.now)
         inodes.old.geometry.inodes v table.now bytes.now (λ _. table_of table.now)) result }
 {
-    let is_wrong = is_no_range(offset, bytes);
-    let file = match file_to_write(table, fd, is_wrong) {
-        Ok(file) => file,
-        Err(errno) => return Ok(Err(errno)),
-    };
+    let file = file_to_write(table, fd, is_no_range(offset, bytes))?;
     write_file(alloc, inodes, blocks, &file, offset.unsigned_abs(), bytes)
 }
 
@@ -123,27 +116,24 @@ fn write_file<B: Blocks>(
     file: &OpenFile,
     offset: u64,
     bytes: &[u8],
-) -> Result<Result<Option<Writing>, Errno>, ReadError>
+) -> Result<Option<Writing>, Failure>
     requires few { length bytes.now ≤ TRANSFER_BYTES }
     requires bounds { KeepsBounds file.now }
     requires within { offset ≤ 2 ^ 63 }
     ensures { PreparesTold (of_writing bytes.now) (IsTransfer bytes.now) B.Blocks blocks.old
-        blocks.new inodes.old inodes.new (OnMounted B.Blocks blocks.old inodes.old (λ v table.
-        IsFileOf v file.now → IfOk result
+        blocks.new inodes.old inodes.new (λ r. OnMounted B.Blocks blocks.old inodes.old (λ v table.
+        IsFileOf v file.now → IfOk r
         (PutsFile inodes.old.geometry.inodes v table file.now offset bytes.now))) result }
 {
-    let planned = write_bytes(alloc, inodes, blocks, file.number, offset, bytes)?;
-    match planned {
-        Ok(Some(prepared)) => {
-            let end = offset + bytes.len() as u64;
-            let written = Written {
-                number: file.number,
-                offset,
-                behind: end,
-            };
-            Ok(Ok(Some(Writing { written, prepared })))
-        }
-        Ok(None) => Ok(Ok(None)),
-        Err(errno) => Ok(Err(errno)),
-    }
+    let number = InodeNumber::new(file.number);
+    let planned = write_bytes(alloc, inodes, blocks, number, offset, bytes)?;
+    let Some(prepared) = planned else {
+        return Ok(None);
+    };
+    let written = Written {
+        number,
+        offset,
+        behind: offset + bytes.len() as u64,
+    };
+    Ok(Some(Writing { written, prepared }))
 }

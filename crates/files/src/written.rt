@@ -3,13 +3,14 @@
 ghost use Rattle.std.specs.Prelude.{◌≡◌, ◌≤◌};
 ghost use Rattle.model.specs.declared.limits.TheConstants.{GREATEST_OFFSET};
 
+use layout::InodeNumber;
 use records::Prepared;
 
 /// Where bytes go that a call writes.
 #[derive(Clone, Copy, Debug)]
 pub struct Written {
     /// The file's inode number.
-    pub number: u32,
+    pub number: InodeNumber,
     /// Where the bytes go, in bytes.
     pub offset: u64,
     /// The place behind the bytes, in bytes.

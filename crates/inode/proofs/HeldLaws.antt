@@ -1,16 +1,17 @@
 -- Settled inodes in their grammar.
-use Rattle.std.proofs.Common.{◌≡◌, inl, inr, ℕ, zero, suc, ◌-◌, ◌*◌, ◌/◌, ◌%◌, ◌≤◌, List, ◌++◌, length, take, get_or, refl, sym, ap, subst, ◌∙◌, arith, ◌==◌, if◌then◌else◌}
+use Rattle.std.proofs.Common.{◌≡◌, inl, inr, ℕ, zero, suc, ◌+◌, ◌-◌, ◌*◌, ◌/◌, ◌%◌, ◌<◌, ◌≤◌, List, ◌++◌, length, take, drop, get_or, get_or-drop, length-drop, refl, sym, ap, subst, ◌∙◌, arith, ◌==◌, if◌then◌else◌}
 use Rattle.std.proofs.lemmas.Bool.Decides.{nat_tests}
-use Rattle.std.specs.Prelude.{nat_lt, slice_index}
+use Rattle.std.specs.Prelude.{nat_lt, slice_index, All}
 use Rattle.std.specs.Int.{div_ceil}
-use Rattle.std.proofs.lemmas.Bool.{cases_lt, cond_below}
-use Rattle.std.proofs.lemmas.List.{length-take}
+use Rattle.std.proofs.lemmas.Bool.{cases_lt, cond_above, cond_below}
+use Rattle.std.proofs.lemmas.List.{get_or_past, length-take}
+use Rattle.std.proofs.lemmas.List.Elements.{All-get_or}
 use Rattle.layout.specs.Bytes.{zeros}
 use Rattle.layout.specs.FileBytes.{byte_in, EndsAt}
-use Rattle.layout.specs.Inode.{IsInode, FitsBody, FitsPointers}
+use Rattle.layout.specs.Inode.{IsInode, FitsBody, FitsPointers, pointers_used}
 use Rattle.layout.specs.Limits.{Sizes}
 use Rattle.layout.specs.Maps.{IsIndirectBlock}
-use Rattle.layout.specs.Places.{pointed, place}
+use Rattle.layout.specs.Places.{follow, pointed, place}
 use Rattle.layout.specs.Version.{level_of}
 use Rattle.layout.specs.declared.inode.Body.{Body}
 use Rattle.layout.specs.declared.inode.Body.TheVariants.{Inline, Pointers}
@@ -18,7 +19,7 @@ use Rattle.layout.specs.declared.inode.Inode.{Inode}
 use Rattle.layout.specs.declared.pointer.Pointer.{Pointer}
 use Rattle.layout.specs.declared.pointer.Pointer.TheVariants.{Hole, Block}
 use Rattle.layout.specs.declared.version.TheConstants.{VERSION}
-use Rattle.blocktree.specs.Places.{block_count, depth_of, IsNode, IsPath}
+use Rattle.blocktree.specs.Places.{depth_of, IsNode, IsPath}
 use Rattle.blocktree.specs.Trees.{settled_block, AreSound}
 use Rattle.blocktree.specs.declared.tree.BlockTree.{BlockTree}
 use Rattle.images.specs.Nodes.{held, file_block, pointers_of, place_at_height}
@@ -27,7 +28,6 @@ use Rattle.inode.specs.Bases.{IsBased, anew, over, StartsFrom}
 use Rattle.inode.specs.Bodies.{body_block, inode_block}
 use Rattle.inode.specs.Edges.{filled}
 use Rattle.inode.proofs.EdgeLaws.{filled_short}
-use Rattle.layout.proofs.SizeLaws.{level_one, level_two}
 use Rattle.layout.proofs.PointerLaws.{points_below}
 
 -- ---- blocks
@@ -74,48 +74,105 @@ starts f t (Pointers ps) is has = over ps is has.0
 pub starts_based : (f : Inode) (t : BlockTree) → StartsFrom f.body f.size t → IsBased f t
 starts_based f t from = starts f t f.body refl from
 
--- ---- paths
+-- ---- nodes and their paths
 
--- the pointers of the inode, highest of all
-highest : (disk : ℕ → List ℕ) (f : Inode) (level i : ℕ) → level_of f.size ≡ suc level → (held disk f).place level i ≡ get_or (pointers_of f.body) i Hole
-unfolding held place
-highest disk f level i is =
-    ap (λ k. if nat_lt level k then place disk (pointers_of f.body) (k - suc level) i else Hole) is
-    ∙ sym (cond_below level (suc level) (place disk (pointers_of f.body) (suc level - suc level) i) Hole (omega arith))
-    ∙ ap (λ k. place disk (pointers_of f.body) k i) none
-  where
-    none : suc level - suc level ≡ 0
-    none = omega arith
+-- a node at a height is where the inode's pointers lead at the depth under them
+pub node_place : (disk : ℕ → List ℕ) (f : Inode) (ps : List Pointer) (depth m i : ℕ) → f.body ≡ Pointers ps → level_of f.size ≡ suc (depth + m) → (held disk f).place m i ≡ place disk ps depth i
+unfolding held
+node_place disk f ps depth m i body level =
+    let down : level_of f.size - suc m ≡ depth = omega (arith, level) in
+    let low : m < level_of f.size = omega (arith, level) in
+    sym (cond_below m (level_of f.size) (place disk (pointers_of f.body) (level_of f.size - suc m) i) Hole low)
+    ∙ ap (λ (k : ℕ). place disk (pointers_of f.body) k i) down
+    ∙ ap (λ b. place disk (pointers_of b) depth i) body
+
+-- at the level and over it there is none
+pub node_above : (disk : ℕ → List ℕ) (f : Inode) (m i : ℕ) → level_of f.size ≤ m → (held disk f).place m i ≡ Hole
+unfolding held
+node_above disk f m i le = sym (cond_above m (level_of f.size) (place disk (pointers_of f.body) (level_of f.size - suc m) i) Hole Hole le refl)
+
+-- the inode's pointers lead to the highest nodes
+pub used_is : (size top : ℕ) → level_of size ≡ suc top → pointers_used size ≡ nodes_at size top
+unfolding nodes_at
+used_is size zero level = grind (arith, nat_tests, level)
+used_is size (suc zero) level = grind (arith, nat_tests, level)
+used_is size (suc (suc top)) level = absurd (let most : level_of size ≤ 2 = grind (arith, nat_tests) in omega (arith, most, level))
+
+-- pointers of which those from one on are holes
+past_used : (ps : List Pointer) (n i : ℕ) → All (λ p. p ≡ Hole) (drop n ps) → n ≤ i → get_or ps i Hole ≡ Hole
+past_used ps n i holes le = elim (cases_lt i (length ps)) [
+  | inl lt ↦
+      let at : n + (i - n) ≡ i = omega arith in
+      let low : i - n < length (drop n ps) = omega (arith, length-drop n ps) in
+      ap (λ k. get_or ps k Hole) (sym at) ∙ sym (get_or-drop n ps (i - n) Hole) ∙ All-get_or (λ p. p ≡ Hole) (drop n ps) (i - n) Hole low holes
+  | inr ge ↦ get_or_past ps i Hole ge
+]
 
 module _ (s : Sizes) (disk : ℕ → List ℕ) (f : Inode) (ps : List Pointer) (sound : IsSoundFile s (held disk f)) (body : f.body ≡ Pointers ps) where
-  fits : FitsPointers ps s.blocks f.size
+  pub fits : FitsPointers ps s.blocks f.size
   unfolding held
   fits = subst (λ (b : Body). FitsBody b s.blocks f.size) body sound.inode.body
 
   -- an indirect block that is stored
-  node_is : (j : ℕ) (p : Pointer) → (held disk f).place 1 j ≡ p → IsNode s.blocks disk (block_count f.size - 1024 * j) p
-  unfolding held nodes_at
-  node_is j Hole is = tt
-  node_is j (Block b) is =
-      let at : pointed disk (place_at_height disk f 1 j) ≡ disk b = ap (pointed disk) is in
-      subst (λ bytes. IsIndirectBlock s.blocks (block_count f.size - 1024 * j) bytes) at (sound.indirect 0 j b is)
+  node_is : (m j : ℕ) (p : Pointer) → (held disk f).place (suc m) j ≡ p → IsNode s.blocks disk (nodes_at f.size m - 1024 * j) p
+  unfolding held
+  node_is m j Hole is = tt
+  node_is m j (Block b) is =
+      let at : pointed disk (place_at_height disk f (suc m) j) ≡ disk b = ap (pointed disk) is in
+      subst (λ bytes. IsIndirectBlock s.blocks (nodes_at f.size m - 1024 * j) bytes) at (sound.indirect m j b is)
 
-  path_is : (i : ℕ) → IsPath s.blocks disk ps (depth_of f.size) (block_count f.size) i
-  unfolding IsPath place
-  path_is i = elim (cases_lt 65536 f.size) [
-    | inr low ↦
-        let depth : 0 ≡ depth_of f.size = omega (arith, level_one f.size fits.0 low) in
-        subst (λ (d : ℕ). IsPath s.blocks disk ps d (block_count f.size) i) depth (points_below s.blocks ps i fits.2)
-    | inl large ↦
-        let level = level_two f.size large in
-        let depth : 1 ≡ depth_of f.size = omega (arith, level) in
-        let top : (held disk f).place 1 (i / 1024) ≡ get_or ps (i / 1024) Hole = highest disk f 1 (i / 1024) level ∙ ap (λ b. get_or (pointers_of b) (i / 1024) Hole) body in
-        subst (λ (d : ℕ). IsPath s.blocks disk ps d (block_count f.size) i) depth (points_below s.blocks ps (i / 1024) fits.2, node_is (i / 1024) _ top)
+  over_is : (depth m i : ℕ) → level_of f.size ≡ suc (suc depth + m) → IsNode s.blocks disk (nodes_at f.size m - 1024 * (i / 1024)) (place disk ps depth (i / 1024))
+  over_is depth m i level = node_is m (i / 1024) (place disk ps depth (i / 1024)) (node_place disk f ps depth (suc m) (i / 1024) body (omega (arith, level)))
+
+  pub path_is : (depth m i : ℕ) → level_of f.size ≡ suc (depth + m) → IsPath s.blocks disk ps depth (nodes_at f.size m) i
+  unfolding IsPath nodes_at
+  path_is zero m i level = points_below s.blocks ps i fits.2
+  path_is (suc depth) m i level = (path_is depth (suc m) (i / 1024) (omega (arith, level)), over_is depth m i level)
+
+  -- under an indirect block in its grammar
+  under : (m i : ℕ) (p : Pointer) → IsNode s.blocks disk (nodes_at f.size m - 1024 * (i / 1024)) p → nodes_at f.size m ≤ i → follow disk p (i % 1024) ≡ Hole
+  under m i Hole node past = refl
+  under m i (Block b) node past = (node.within (i % 1024) (omega arith)).1 (omega (arith, past))
+
+  past_depth : (depth m i : ℕ) → level_of f.size ≡ suc (depth + m) → nodes_at f.size m ≤ i → place disk ps depth i ≡ Hole
+  unfolding place
+  past_depth zero m i level past =
+      let top : level_of f.size ≡ suc m = omega (arith, level) in
+      past_used ps (pointers_used f.size) i fits.3 (omega (arith, past, used_is f.size m top))
+  past_depth (suc depth) m i level past = under m i (place disk ps depth (i / 1024)) (over_is depth m i level) past
+
+  past_node : (m i : ℕ) → nodes_at f.size m ≤ i → (held disk f).place m i ≡ Hole
+  past_node m i past = elim (cases_lt m (level_of f.size)) [
+    | inl low ↦
+        let level : level_of f.size ≡ suc (level_of f.size - suc m + m) = omega (arith, low) in
+        node_place disk f ps (level_of f.size - suc m) m i body level ∙ past_depth (level_of f.size - suc m) m i level past
+    | inr high ↦ node_above disk f m i high
   ]
 
+-- a file whose inode has the bytes has no level
+inline_level : (size : ℕ) → size ≤ 128 → level_of size ≡ 0
+inline_level size low = grind (arith, nat_tests, low)
+
+past_of : (s : Sizes) (disk : ℕ → List ℕ) (f : Inode) (m i : ℕ) (body : Body) → f.body ≡ body → IsSoundFile s (held disk f) → nodes_at f.size m ≤ i → (held disk f).place m i ≡ Hole
+unfolding held
+past_of s disk f m i (Pointers ps) is sound past = past_node s disk f ps sound is m i past
+past_of s disk f m i (Inline bytes) is sound past =
+    let fits = subst (λ (b : Body). FitsBody b s.blocks f.size) is sound.inode.body in
+    node_above disk f m i (omega (arith, inline_level f.size fits.0))
+
+-- past the nodes at a height all are holes
+pub node_past : (s : Sizes) (disk : ℕ → List ℕ) (f : Inode) (m i : ℕ) → IsSoundFile s (held disk f) → nodes_at f.size m ≤ i → (held disk f).place m i ≡ Hole
+node_past s disk f m i sound past = past_of s disk f m i f.body refl sound past
+
+-- a file whose inode has pointers has a level
+some_level : (size : ℕ) → 128 < size → level_of size ≡ suc (depth_of size + 0)
+some_level size large = grind (arith, nat_tests, large)
+
 pub based_sound : (s : Sizes) (disk : ℕ → List ℕ) (f : Inode) (t : BlockTree) → IsSoundFile s (held disk f) → IsBased f t → AreSound s.blocks disk t
+unfolding nodes_at
 based_sound s disk f t sound (anew none) i lt = absurd (omega (arith, none, lt))
 based_sound s disk f t sound (over ps body has) i lt =
+    let large = fits s disk f ps sound body in
     subst (λ (p : List Pointer). IsPath s.blocks disk p t.depth t.count i) (sym has.pointers_are)
     (subst (λ (d : ℕ). IsPath s.blocks disk ps d t.count i) (sym has.depth)
-    (subst (λ (n : ℕ). IsPath s.blocks disk ps (depth_of f.size) n i) (sym has.count) (path_is s disk f ps sound body i)))
+    (subst (λ (n : ℕ). IsPath s.blocks disk ps (depth_of f.size) n i) (sym has.count) (path_is s disk f ps sound body (depth_of f.size) 0 i (some_level f.size large.0))))

@@ -3,4 +3,4 @@ pub mod EdgeLaws
 pub mod ComposingLaws
 pub mod PutLaws
 pub mod BaseLaws
-mod HeldLaws
+pub mod HeldLaws

@@ -1,12 +1,18 @@
 //! What settled inodes have, as images have it.
 
-ghost use Rattle.std.specs.Prelude.{ℕ, ◌≡◌, List};
+ghost use Rattle.std.specs.Prelude.{ℕ, suc, ◌≡◌, ◌+◌, ◌≤◌, List};
 ghost use Rattle.layout.specs.Limits.{Sizes};
+ghost use Rattle.layout.specs.Places.{place};
+ghost use Rattle.layout.specs.Version.{level_of};
+ghost use Rattle.layout.specs.declared.inode.Body.TheVariants.{Pointers};
 ghost use Rattle.layout.specs.declared.inode.Inode.{Inode};
+ghost use Rattle.layout.specs.declared.pointer.Pointer.{Pointer};
+ghost use Rattle.layout.specs.declared.pointer.Pointer.TheVariants.{Hole};
+ghost use Rattle.blocktree.specs.Places.{IsPath};
 ghost use Rattle.blocktree.specs.Trees.{AreSound, IsSoundAt};
 ghost use Rattle.blocktree.specs.declared.tree.BlockTree.{BlockTree};
 ghost use Rattle.images.specs.Nodes.{file_block, held};
-ghost use Rattle.images.specs.Soundness.{IsSoundFile};
+ghost use Rattle.images.specs.Soundness.{IsSoundFile, nodes_at};
 ghost use Rattle.inode.specs.Bases.{IsBased};
 ghost use Rattle.inode.specs.Bodies.{inode_block};
 
@@ -18,6 +24,25 @@ pub fn settled_files_are_as_held()
     images::blocks_are_where_pointers_lead();
     images::inline_bytes_are_the_first_block();
 }
+
+/// Of a file in its grammar each node stands, at each height, where the inode's pointers lead at the depth under them, and what
+/// stands over it is in its grammar. From the file's level on, and past as many nodes as its size has, all are holes. It does
+/// nothing.
+pub fn nodes_are_where_pointers_lead()
+    ensures places { (disk : ℕ → List ℕ) (f : Inode) (pointers : List Pointer)
+        (depth height i : ℕ) → f.body ≡ Pointers pointers
+        → level_of f.size ≡ suc (depth + height)
+        → (held disk f).place height i ≡ place disk pointers depth i }
+    ensures paths { (s : Sizes) (disk : ℕ → List ℕ) (f : Inode) (pointers : List Pointer)
+        (depth height i : ℕ) → IsSoundFile s (held disk f) → f.body ≡ Pointers pointers
+        → level_of f.size ≡ suc (depth + height)
+        → IsPath s.blocks disk pointers depth (nodes_at f.size height) i }
+    ensures past { (s : Sizes) (disk : ℕ → List ℕ) (f : Inode) (height i : ℕ)
+        → IsSoundFile s (held disk f) → nodes_at f.size height ≤ i
+        → (held disk f).place height i ≡ Hole }
+    ensures above { (disk : ℕ → List ℕ) (f : Inode) (height i : ℕ) → level_of f.size ≤ height
+        → (held disk f).place height i ≡ Hole }
+{}
 
 /// What stands over the settled blocks of a tree that is based on a file in its grammar is in its grammar. It does nothing.
 pub fn based_trees_are_sound()

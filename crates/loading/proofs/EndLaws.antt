@@ -22,6 +22,8 @@ use Rattle.layout.specs.declared.pointer.Pointer.{Pointer}
 use Rattle.layout.specs.declared.pointer.Pointer.TheVariants.{Hole}
 use Rattle.buffers.specs.Positions.{IsPart}
 use Rattle.blocktree.specs.Names.{AreNodes, nodes_at}
+use Rattle.blocktree.specs.PlaceMaps.{place_at}
+use Rattle.blocktree.specs.declared.place_map.PlaceMap.{PlaceMap}
 use Rattle.blocktree.specs.Places.{block_count, depth_of, IsPath}
 use Rattle.blocktree.specs.Trees.{AreSound, IsSoundAt}
 use Rattle.blocktree.specs.declared.tree.BlockTree.{BlockTree}
@@ -124,18 +126,10 @@ all_stored disk (Pointers pointers) size t starts stored = λ i lt hole.
 
 -- ---- the places that were read
 
-pub node_at : (disk : Blocks) (t : BlockTree) (nodes : List Pointer) (i : ℕ) → AreNodes disk t.pointers (t.depth - 0) (nodes_at t.count 0) nodes → i < t.count
-    → get_or nodes i Hole ≡ place disk t.pointers t.depth i
+pub lowest_nodes : (disk : Blocks) (t : BlockTree) (nodes : PlaceMap) → AreNodes disk t.pointers (t.depth - 0) (nodes_at t.count 0) nodes → (i : ℕ) → i < t.count
+    → place_at nodes i ≡ place disk t.pointers t.depth i
 unfolding nodes_at
-node_at disk t nodes i are lt = let none : t.depth - 0 ≡ t.depth = omega arith in are i lt ∙ ap (λ d. place disk t.pointers d i) none
-
-pub node_count : (t : BlockTree) (nodes : List Pointer) (i : ℕ) → length nodes ≡ nodes_at t.count 0 → i < length nodes → i < t.count
-unfolding nodes_at
-node_count t nodes i long lt = subst (λ n. i < n) long lt
-
-pub node_within : (t : BlockTree) (nodes : List Pointer) (i : ℕ) → length nodes ≡ nodes_at t.count 0 → i < t.count → i < length nodes
-unfolding nodes_at
-node_within t nodes i long lt = subst (λ n. i < n) (sym long) lt
+lowest_nodes disk t nodes are i lt = let none : t.depth - 0 ≡ t.depth = omega arith in are i lt ∙ ap (λ d. place disk t.pointers d i) none
 
 -- ---- a map's file
 

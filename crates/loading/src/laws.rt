@@ -17,29 +17,29 @@ ghost use Rattle.inofile.specs.Settled.{AreSettled, held_content};
 ghost use Rattle.loading.specs.Images.{IsFileOf, IsReadable, inodes_of};
 ghost use Rattle.loading.specs.Laws.{AreMapFiles, HaveSoundPaths, ReadAsHeld, TreesReadAsHeld};
 
-use images::{
-    blocks_are_where_pointers_lead, inline_bytes_are_the_first_block,
-    inodes_are_what_their_bytes_spell,
-};
+use images::inodes_are_what_their_bytes_spell;
+use inode::{nodes_are_where_pointers_lead, settled_files_are_as_held};
 
 /// A file in its grammar reads as it is held. It does nothing.
 pub fn sound_files_read_as_held()
     ensures { ReadAsHeld }
 {
-    blocks_are_where_pointers_lead();
-    inline_bytes_are_the_first_block();
+    settled_files_are_as_held();
 }
 
 /// All that stands over a block of a file in its grammar is in its grammar. It does nothing.
 pub fn sound_files_have_sound_paths()
     ensures { HaveSoundPaths }
-{}
+{
+    nodes_are_where_pointers_lead();
+}
 
 /// Of a file in its grammar that has no hole all blocks are stored, and zeros stand past its end. It does nothing.
 pub fn files_without_holes_are_stored()
     ensures { AreMapFiles }
 {
     sound_files_read_as_held();
+    nodes_are_where_pointers_lead();
 }
 
 /// What is under a root that holds a volume is readable. It does nothing.

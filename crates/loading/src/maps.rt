@@ -1,6 +1,6 @@
 //! The inode map and the block map, read from their files.
 
-ghost use Rattle.std.specs.Prelude.{◌≡◌, ◌≢◌, ℕ, ◌/◌, ◌<◌, ◌≤◌, List, IsTrue, IsFalse, OnOk, IfOk, IsErrOf, length, slice_index_or, vec_len};
+ghost use Rattle.std.specs.Prelude.{◌≡◌, ◌≢◌, ℕ, ◌/◌, ◌<◌, ◌≤◌, List, IsTrue, IsFalse, OnOk, IfOk, IsErrOf, length, vec_len};
 ghost use Rattle.std.specs.Int.{div_ceil};
 ghost use Rattle.layout.specs.FileBytes.{EndsAt};
 ghost use Rattle.layout.specs.Inode.{IsInode};
@@ -12,6 +12,7 @@ ghost use Rattle.layout.specs.Version.{greatest_size};
 ghost use Rattle.layout.specs.declared.version.TheConstants.{VERSION};
 ghost use Rattle.buffers.specs.Reads.{ReadsBlocks};
 ghost use Rattle.blocktree.specs.Errors.{IsFault};
+ghost use Rattle.blocktree.specs.PlaceMaps.{place_at};
 ghost use Rattle.blocktree.specs.Trees.{AreSound, IsSoundAt};
 ghost use Rattle.inode.specs.Bodies.{inode_block};
 ghost use Rattle.inode.specs.Files.{byte_at, bytes_of, file_block};
@@ -19,10 +20,10 @@ ghost use Rattle.loading.specs.Readings.{AreParts, AreUnchanged, HasAllPlaces, I
 
 use crate::inodes::is_zero_from;
 use blockmap::MapPart;
-use blocktree::ReadError;
+use blocktree::{PlaceMap, ReadError};
 use buffers::Blocks;
 use inode::File;
-use layout::{BLOCK_BYTES, BLOCK_POINTERS, Geometry, Inode, Pointer, is_inode_map};
+use layout::{BLOCK_BYTES, BLOCK_POINTERS, Geometry, Inode, is_inode_map};
 use std::alloc::Global;
 
 /// The bytes of the inode map whose settled inode this is.
@@ -137,26 +138,27 @@ fn check_stored<B: Blocks>(alloc: Global, blocks: &mut B, file: &File) -> Result
         → AreSound (B.count blocks.old) disk file.now.tree
         → HasAllPlaces disk file.now.tree → ⊥ }
 {
-    let places = file.tree().settled_nodes(alloc, blocks, 0)?;
-    if has_hole(&places) {
+    let tree = file.tree();
+    let places = tree.settled_nodes(alloc, blocks, 0)?;
+    if has_hole(&places, tree.count()) {
         return Err(ReadError::Damaged);
     }
     Ok(())
 }
 
-/// Whether one of these pointers is a hole.
-fn has_hole(places: &[Pointer]) -> bool
-    ensures one { IsTrue result → (i : ℕ) × (i < length places.now)
-        × (slice_index_or places.now i Hole ≡ Hole) }
-    ensures none { IsFalse result → (i : ℕ) → i < length places.now
-        → slice_index_or places.now i Hole ≢ Hole }
+/// Whether one of so many nodes is a hole.
+fn has_hole(places: &PlaceMap, count: u32) -> bool
+    ensures one { IsTrue result → (i : ℕ) × (i < count) × (place_at places.now i ≡ Hole) }
+    ensures none { IsFalse result → (i : ℕ) → i < count → place_at places.now i ≢ Hole }
 {
-    for i in 0..places.len() {
-        if places[i].is_hole() {
+    let mut from = 0;
+    while let Some(node) = places.next(from, count) {
+        if from < node.index {
             return true;
         }
+        from = node.index + 1;
     }
-    false
+    from < count
 }
 
 /// Tests that zeros stand past a file's end in its last block.

@@ -1,8 +1,10 @@
 -- Drafts that grow, and files that are planned over nothing.
-use Rattle.std.proofs.Common.{◌≡◌, ◌⊎◌, inl, inr, ◌↔◌, ◌≤◌, ℕ, suc, Bool, true, false, List, [], ◌∷◌, length, refl, ap, sym, subst, ◌∙◌, arith}
-use Rattle.std.proofs.lemmas.Bool.{cases_eq, eq-eqb, ne_eqb, cases_Bool}
+use Rattle.std.proofs.Common.{◌≡◌, ◌⊎◌, inl, inr, ◌↔◌, ◌≤◌, ℕ, Bool, true, false, List, length, refl, ap, sym, subst, ◌∙◌, arith}
+use Rattle.std.proofs.lemmas.Bool.{eq-eqb, eqb-true, cases_Bool}
 use Rattle.std.proofs.lemmas.List.Folds.{list_any_at}
-use Rattle.std.specs.Prelude.{◌==◌, ◌||◌, slice_index}
+use Rattle.std.proofs.lemmas.List.{get_or_default}
+use Rattle.std.proofs.lemmas.Map.Views.{Contains-from_any}
+use Rattle.std.specs.Prelude.{◌==◌, slice_index}
 use Rattle.std.specs.Prelude.{Err, IsErrOf, Ok, Result}
 use Rattle.std.specs.Int.{bit_at}
 use Rattle.layout.specs.Inode.{FitsKind}
@@ -58,13 +60,7 @@ own_change s d o kind blocks sound none_named based ends attributes fits = recor
 -- ---- marks
 
 among : (xs : List ℕ) (b : ℕ) → is_one xs b ≡ true → IsAmong xs (length xs) b
-among [] b is = absurd (cc)
-among (x ∷ xs) b is = elim (cases_eq b x) [
-  | inl same ↦ (0, omega arith, sym same)
-  | inr other ↦
-      let rest : IsAmong xs (length xs) b = among xs b (sym (ap (λ t. t || is_one xs b) (ne_eqb b x other)) ∙ is) in
-      (suc rest.0, (let lt = rest.1 in omega arith), rest.2)
-]
+among xs b is = (let at = Contains-from_any (λ x y e. eqb-true x y e) b xs is in (at.0, at.1, get_or_default xs at.0 0 b at.1 ∙ at.2))
 
 one_of : (xs : List ℕ) (b : ℕ) → IsAmong xs (length xs) b → is_one xs b ≡ true
 one_of xs b at = list_any_at (λ x. b == x) xs at.0 0 at.1 (eq-eqb b (slice_index xs at.0) (sym at.2))

@@ -1,13 +1,14 @@
 -- A new image's files against the blocks of an empty disk.
 use Rattle.std.proofs.Common.{◌≡◌, inl, inr, ℕ, zero, suc, ◌+◌, ◌-◌, ◌*◌, ◌≤◌, Bool, true, false, Option, Some, None, List, refl, sym, subst, ◌∙◌, arith}
 use Rattle.std.proofs.lemmas.Bool.{cases_lt}
-use Rattle.std.specs.Prelude.{if◌then◌else◌, ◌==◌, min, nat_le, nat_lt}
+use Rattle.std.proofs.lemmas.Bool.Decides.{nat_tests}
+use Rattle.std.specs.Prelude.{if◌then◌else◌, ◌==◌, nat_lt}
 use Rattle.std.specs.Prelude.{Err, IfErr, IsErrOf, Result}
 use Rattle.std.specs.Int.{div_ceil}
 use Rattle.std.specs.Ordering.{nat_cmp}
 use Rattle.std.specs.BTreeMap as tree
 use Rattle.layout.specs.Version.{level_of}
-use Rattle.blocktree.specs.Places.{block_count, depth_of}
+use Rattle.blocktree.specs.Places.{block_count}
 use Rattle.blocktree.specs.Trees.{IsChanged, IsChangedSlot}
 use Rattle.blocktree.specs.declared.tree.BlockTree.{BlockTree}
 use Rattle.blocktree.specs.declared.tree.Slot.{Slot}
@@ -20,10 +21,10 @@ use Rattle.conspoint.specs.Drafts.{IsShortage}
 use Rattle.conspoint.specs.declared.error.PlanError.{PlanError}
 use Rattle.conspoint.specs.declared.error.PlanError.TheVariants.{NoMemory, Device, NoSpace, Damaged}
 use Rattle.conspoint.specs.MapFiles.{map_nodes}
-use Rattle.conspoint.specs.Space.{changed_blocks, slot_stores, sum_below}
-use Rattle.conspoint.proofs.SumLemmas.{changed_within}
+use Rattle.conspoint.specs.Space.{block_stores, changed_blocks, slot_stores, sum_below}
+use Rattle.conspoint.proofs.SumLemmas.{changed_within, gap_counts, sum_of_none}
 use Rattle.inode.specs.declared.file.File.{File}
-use Rattle.placement.specs.Space.{file_stores, first_stores, level_stores, more_over}
+use Rattle.placement.specs.Space.{file_stores, first_stores, height_stores, level_stores, more_over}
 use Rattle.making.specs.Space.{NUMBERS_STORES, TOP_STORES}
 use Rattle.making.specs.Starts.{IsEmptyMap, system_entry}
 use Rattle.making.proofs.EmptyMapLaws.{system_low, system_past}
@@ -52,17 +53,18 @@ empty_left blocks m empty =
     rw (empty.count, empty.next) (omega (arith, free_of_empty m.parts.items empty.settled blocks, free_of_empty m.parts.items empty.settled 2))
 
 -- not many more blocks are stored of a file than are changed
-stores_few : (level blocks changed more : ℕ) → more ≤ 1 → level_stores level blocks changed more ≤ 2 * changed + 1
-stores_few zero blocks changed more one = omega arith
-stores_few (suc level) blocks changed more one = omega (arith, one)
+stores_few : (level blocks changed more : ℕ) → level ≤ 2 → more ≤ 1 → level_stores level blocks changed more ≤ 2 * changed + 1
+unfolding sum_below height_stores
+stores_few zero blocks changed more low one = omega arith
+stores_few (suc zero) blocks changed more low one = omega arith
+stores_few (suc (suc zero)) blocks changed more low one = omega (arith, one)
+stores_few (suc (suc (suc level))) blocks changed more low one = absurd (omega (arith, low))
 
-one_of : (s t : Bool) → (if s then 1 else if t then 0 else 1) ≤ 1
-one_of true t = omega arith
-one_of false true = omega arith
-one_of false false = omega arith
+level_low : (size : ℕ) → level_of size ≤ 2
+level_low size = grind (arith, nat_tests)
 
 more_few : (f : File) → more_over f ≤ 1
-more_few f = one_of (nat_lt (min f.tree.kept (block_count f.size)) f.tree.count) (f.tree.depth == depth_of f.size)
+more_few f = grind (arith, nat_tests)
 
 unchanged_slot : (s : Option Slot) → (IsChangedSlot s → ⊥) → slot_stores s ≡ 0
 unchanged_slot None not = refl
@@ -74,17 +76,14 @@ none_or true x is = refl
 none_or false x is = is
 
 none_changed : (t : BlockTree) (first n : ℕ) → ((i : ℕ) → IsChanged t i → ⊥) → changed_blocks t first n ≡ 0
-unfolding sum_below
-none_changed t first zero not = refl
-none_changed t first (suc n) not =
-    let below = none_changed t first n not in
-    let here = none_or (nat_lt n first) (slot_stores (tree.get nat_cmp t.slots n)) (unchanged_slot (tree.get nat_cmp t.slots n) (not n)) in
-    omega (arith, below, here)
+none_changed t first n not =
+    gap_counts (block_stores t first) 0 n (omega arith) (λ i low high. none_or (nat_lt i first) (slot_stores (tree.get nat_cmp t.slots i)) (unchanged_slot (tree.get nat_cmp t.slots i) (not i)))
+    ∙ sum_of_none (block_stores t first)
 
 -- the inode map has two blocks at the most
 pub numbers_few : (f : File) (inodes : ℕ) → f.size ≡ div_ceil inodes 8 → inodes ≤ 65536 → file_stores f ≤ NUMBERS_STORES
 numbers_few f inodes size most =
-    let few = stores_few (level_of f.size) (block_count f.size) (changed_blocks f.tree 0 (block_count f.size)) (more_over f) (more_few f) in
+    let few = stores_few (level_of f.size) (block_count f.size) (changed_blocks f.tree 0 (block_count f.size)) (more_over f) (level_low f.size) (more_few f) in
     let within = changed_within f.tree 0 (block_count f.size) in
     let blocks : block_count f.size ≤ 2 = omega (arith, size, most) in
     omega (arith, few, within, blocks)
@@ -92,17 +91,13 @@ numbers_few f inodes size most =
 -- of the inode file only the first block is stored
 pub top_few : (f : File) → ((i : ℕ) → IsChanged f.tree i → ⊥) → first_stores f ≤ TOP_STORES
 top_few f not =
-    let few = stores_few (level_of f.size) (block_count f.size) (changed_blocks f.tree 1 (block_count f.size) + 1) (more_over f) (more_few f) in
+    let few = stores_few (level_of f.size) (block_count f.size) (changed_blocks f.tree 1 (block_count f.size) + 1) (more_over f) (level_low f.size) (more_few f) in
     let none = none_changed f.tree 1 (block_count f.size) not in
     omega (arith, few, none)
 
-one_more : (t : Bool) (n : ℕ) → (if t then n else n + 1) ≤ n + 1
-one_more true n = omega arith
-one_more false n = omega arith
-
 -- the block map has one indirect block at the most
 pub map_few : (n : ℕ) → map_nodes n ≤ n + 1
-map_few n = one_more (nat_le n 16) n
+map_few n = grind (arith, nat_tests)
 
 -- a shortage that isn't one of space
 pub memory_alone : {T : Type 0} (e : PlanError) → IsShortage e → (IsErrOf {T = T} (Err e) NoSpace → ⊥) → e ≡ NoMemory

@@ -103,10 +103,6 @@ pub answered_as : {S : Type 0} {G : Ghosts S} (old new : Fs S G) (s : State) (co
     → IsAppliedAt old s new command (Refused y)
 answered_as old new s command x y is applied = subst (λ (z : Errno). IsAppliedAt old s new command (Refused z)) (sym is) applied
 
--- the same command
-pub asked_as : {S : Type 0} {G : Ghosts S} (old new : Fs S G) (s : State) (x y : Command) (reply : Reply) → y ≡ x → IsAppliedAt old s new x reply → IsAppliedAt old s new y reply
-asked_as old new s x y reply is applied = subst (λ (z : Command). IsAppliedAt old s new z reply) (sym is) applied
-
 -- after so many commands a further one of all of them is young
 pub young_at : (a b i n : ℕ) → b ≤ a + POINTS * i → i < n → a + POINTS * n < 2 ^ 62 → b + POINTS ≤ 2 ^ 62
 young_at a b i n le below lasts = omega arith

@@ -5,4 +5,5 @@ mod CallLemmas
 mod AttemptLemmas
 mod CountLemmas
 mod AnswerLemmas
+mod PointLemmas
 mod RunLemmas

@@ -14,7 +14,7 @@ pub enum MountError {
     /// No slot holds a root.
     #[error("NOROOT")]
     NoRoot = 3,
-    /// What stands on the devices is outside the formats.
+    /// What stands on the devices is outside the formats, or its log has a record that can't be done again.
     #[error("DAMAGED")]
     Damaged = 4,
 }

@@ -15,10 +15,11 @@ use station::Station;
 use std::alloc::Global;
 use system::System;
 
-/// Mounts an image: reads its newest root and what hangs from it, and replays its log. It writes nothing. Where what the
-/// station reads opens to a state, Ok serves that state, without open files; `NoRoot` comes where neither slot holds a root,
-/// `Damaged` where one does but what the station reads opens to no state, `Device` only where a device call failed. Whatever
-/// else the station holds, Ok has taken the newest root, the station has its sizes, and the NVRAM holds a log over it.
+/// Mounts an image: reads its newest root and what hangs from it, and replays its log. Reads give what they gave before, and a
+/// cut leaves what it might have left before. Where what the station reads opens to a state, Ok serves that state, without open
+/// files; `NoRoot` comes where neither slot holds a root, `Damaged` only where one does but what the station reads opens to no
+/// state, `Device` only where a device call failed. Whatever else the station holds, Ok has taken the newest root, the station
+/// has its sizes, and the NVRAM holds a log over it.
 pub fn mount<S: Station>(alloc: Global, station: S) -> Result<Fs<S>, (MountError, S)>
     ensures same { MatchResult result
         (λ fs. IsSameStation (S.meaning station) (meaning_of fs.system))

@@ -11,7 +11,7 @@ mod text;
 mod trail;
 mod walk;
 
-pub use loading::load;
+pub use loading::{load, object};
 pub use lookup::{Found, list, number_at, object_at, text_at};
 pub use place::Place;
 pub use resolution::resolve;

@@ -1,11 +1,19 @@
-//! An object on its way into memory.
+//! An object on its way into memory, and there.
 
+ghost use Rattle.std.specs.Prelude.{◌≡◌, ℕ, List, None, IfNone, IfSome};
+ghost use Rattle.layout.specs.declared.inode.Inode.{Inode};
+ghost use Rattle.model.specs.Volumes.{Volume};
+ghost use Rattle.inofile.specs.Inodes.{IsKnown};
+ghost use Rattle.inofile.specs.Objects.{IsObject};
+ghost use Rattle.inofile.specs.Volumes.{IsVolumeOf};
 ghost use Rattle.paths.specs.Loads.{TakesIn};
 ghost use Rattle.paths.specs.Numbers.{IsNumber};
 
 use blocktree::ReadError;
 use buffers::Blocks;
+use inode::Object;
 use inofile::InodeFile;
+use layout::InodeNumber;
 use std::alloc::Global;
 
 /// Takes an object into memory. NoMemory; Device where a read failed; Damaged where a block on the way is outside its format.
@@ -13,10 +21,22 @@ pub fn load<B: Blocks>(
     alloc: Global,
     inodes: &mut InodeFile,
     blocks: &mut B,
-    number: u32,
+    number: InodeNumber,
 ) -> Result<(), ReadError>
     requires { IsNumber inodes.old.geometry.inodes number }
     ensures { TakesIn B.Blocks blocks.old blocks.new inodes.old inodes.new number result }
 {
-    inodes.load(alloc, blocks, number)
+    inodes.load(alloc, blocks, number.get())
+}
+
+/// The object with a number, if there is one; what is known of it is in memory.
+pub fn object(inodes: &InodeFile, number: InodeNumber) -> Option<&Object>
+    requires { IsKnown inodes.now number }
+    ensures stands { (count : ℕ) (disk : ℕ → List ℕ) (settled : ℕ → Inode) (v : Volume)
+        → IsVolumeOf count disk settled inodes.now v → IfSome result (λ o.
+        IsObject disk inodes.now.geometry.inodes (settled number) o.now (v number)) }
+    ensures stands_for_none { (count : ℕ) (disk : ℕ → List ℕ) (settled : ℕ → Inode) (v : Volume)
+        → IsVolumeOf count disk settled inodes.now v → IfNone result (v number ≡ None) }
+{
+    inodes.get(number.get())
 }

@@ -11,12 +11,12 @@ ghost use Rattle.paths.specs.Loads.{IsAny, LooksUp};
 ghost use Rattle.paths.specs.Numbers.{IsNumber};
 ghost use Rattle.paths.specs.Steps.{found_as, found_in, text_in};
 
-use crate::loading::load;
+use crate::loading::{load, object};
 use blocktree::ReadError;
 use buffers::Blocks;
 use inode::File;
 use inofile::{InodeFile, objects_stand_in_their_grammar};
-use layout::Kind;
+use layout::{InodeNumber, Kind};
 use model::Names;
 use std::alloc::Global;
 
@@ -34,14 +34,14 @@ pub fn object_at<B: Blocks>(
     alloc: Global,
     inodes: &mut InodeFile,
     blocks: &mut B,
-    number: u32,
+    number: InodeNumber,
 ) -> Result<Found, ReadError>
     requires { IsNumber inodes.old.geometry.inodes number }
     ensures { LooksUp B.Blocks blocks.old blocks.new inodes.old inodes.new IsAny
         (λ v found. found ≡ found_in (v number)) result }
 {
     load(alloc, inodes, blocks, number)?;
-    let Some(object) = inodes.get(number) else {
+    let Some(object) = object(inodes, number) else {
         return Ok(Found::Nothing);
     };
     Ok(found_by(object.attributes.kind))
@@ -64,9 +64,9 @@ pub fn number_at<B: Blocks>(
     alloc: Global,
     inodes: &mut InodeFile,
     blocks: &mut B,
-    directory: u32,
+    directory: InodeNumber,
     name: &[u8],
-) -> Result<Option<u32>, ReadError>
+) -> Result<Option<InodeNumber>, ReadError>
     requires { IsNumber inodes.old.geometry.inodes directory }
     ensures { LooksUp B.Blocks blocks.old blocks.new inodes.old inodes.new
         (λ number. IfSome number (IsNumber inodes.old.geometry.inodes))
@@ -74,14 +74,25 @@ pub fn number_at<B: Blocks>(
 {
     load(alloc, inodes, blocks, directory)?;
     let count = inodes.geometry().inodes();
-    let Some(object) = inodes.get(directory) else {
+    let Some(object) = object(inodes, directory) else {
         return Ok(None);
     };
     if object.attributes.kind != Kind::Directory {
         return Ok(None);
     }
     objects_stand_in_their_grammar();
-    dirs::find(alloc, &object.file, blocks, count, name)
+    numbered(dirs::find(alloc, &object.file, blocks, count, name))
+}
+
+// A number that was looked for.
+fn numbered(found: Result<Option<u32>, ReadError>) -> Result<Option<InodeNumber>, ReadError>
+    ensures { result ≡ found }
+{
+    match found {
+        Ok(Some(number)) => Ok(Some(InodeNumber::new(number))),
+        Ok(None) => Ok(None),
+        Err(error) => Err(error),
+    }
 }
 
 /// The names of a directory, sorted by their bytes; none where it is no directory.
@@ -89,7 +100,7 @@ pub fn list<B: Blocks>(
     alloc: Global,
     inodes: &mut InodeFile,
     blocks: &mut B,
-    directory: u32,
+    directory: InodeNumber,
 ) -> Result<Names, ReadError>
     requires { IsNumber inodes.old.geometry.inodes directory }
     ensures { LooksUp B.Blocks blocks.old blocks.new inodes.old inodes.new IsAny
@@ -97,7 +108,7 @@ pub fn list<B: Blocks>(
 {
     load(alloc, inodes, blocks, directory)?;
     let count = inodes.geometry().inodes();
-    let Some(object) = inodes.get(directory) else {
+    let Some(object) = object(inodes, directory) else {
         return Ok(Names::new(Vec::new(alloc)));
     };
     if object.attributes.kind != Kind::Directory {
@@ -112,14 +123,14 @@ pub fn text_at<B: Blocks>(
     alloc: Global,
     inodes: &mut InodeFile,
     blocks: &mut B,
-    number: u32,
+    number: InodeNumber,
 ) -> Result<Vec<u8>, ReadError>
     requires { IsNumber inodes.old.geometry.inodes number }
     ensures { LooksUp B.Blocks blocks.old blocks.new inodes.old inodes.new IsAny
         (λ v text. text.items ≡ text_in (v number)) result }
 {
     load(alloc, inodes, blocks, number)?;
-    let Some(object) = inodes.get(number) else {
+    let Some(object) = object(inodes, number) else {
         return Ok(Vec::new(alloc));
     };
     if object.attributes.kind != Kind::Link {

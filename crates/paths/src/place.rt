@@ -1,6 +1,7 @@
 //! Where a path leads.
 
 use crate::Trail;
+use layout::InodeNumber;
 use model::Errno;
 
 /// Where a path leads.
@@ -12,7 +13,7 @@ pub enum Place {
     Entry {
         trail: Trail,
         name: Vec<u8>,
-        number: u32,
+        number: InodeNumber,
     },
     /// To a name that the directory at the end of the trail doesn't have.
     Gap {

@@ -13,6 +13,7 @@ use crate::text::{ITSELF, PARENT};
 use blocktree::ReadError;
 use buffers::Blocks;
 use inofile::InodeFile;
+use layout::InodeNumber;
 use model::{Errno, NAME_BYTES};
 use std::alloc::Global;
 
@@ -24,11 +25,11 @@ pub(crate) enum Step {
     /// To the parent, by `..`.
     Rises,
     /// Into a directory.
-    Enters(u32),
+    Enters(InodeNumber),
     /// To where a link leads.
-    Follows(u32),
+    Follows(InodeNumber),
     /// It ends at an object.
-    EndsAt(u32),
+    EndsAt(InodeNumber),
     /// It ends where nothing has this name.
     FindsNothing,
     Refused(Errno),
@@ -40,7 +41,7 @@ pub(crate) fn step_by<B: Blocks>(
     alloc: Global,
     inodes: &mut InodeFile,
     blocks: &mut B,
-    directory: u32,
+    directory: InodeNumber,
     part: &[u8],
     is_last: bool,
     follow: bool,
@@ -81,7 +82,7 @@ fn step_to_nothing(is_last: bool) -> Step
 }
 
 // The step by a part that leads to a number.
-fn step_to(number: u32, found: Found, is_last: bool, follow: bool) -> Step
+fn step_to(number: InodeNumber, found: Found, is_last: bool, follow: bool) -> Step
     ensures within { (inodes : ℕ) → IsNumber inodes number → IsStepWithin inodes result }
     ensures step { (v : Volume) (trail : List ℕ) (part : Name) (rest : List Name) →
         found ≡ found_in (v number) → is_empty rest ≡ is_last →

@@ -1,8 +1,10 @@
 //! The directories that a walk came through.
 
-ghost use Rattle.std.specs.Prelude.{◌≡◌, ◌-◌, ◌++◌, ◌∷◌, [], List, ℕ, length, take, OnOk, OnErr};
+ghost use Rattle.std.specs.Prelude.{◌≡◌, ◌-◌, ◌++◌, ◌∷◌, ◌↔◌, [], List, ℕ, IsTrue, length, take, OnOk, OnErr};
+ghost use Rattle.std.specs.List.{Contains};
 ghost use Rattle.model.specs.Finding.{here};
 
+use layout::InodeNumber;
 use model::ROOT_NUMBER;
 use std::alloc::{AllocError, Global};
 use std::marker::Model;
@@ -10,7 +12,7 @@ use std::marker::Model;
 /// The numbers of the directories from the root's child down to where a walk stands. The root's trail is empty.
 #[derive(Debug, Drop)]
 pub struct Trail {
-    numbers: Vec<u32>,
+    numbers: Vec<InodeNumber>,
 }
 
 impl Model for Trail {
@@ -29,20 +31,22 @@ impl Trail {
         }
     }
 
-    /// The numbers, from the root's child down.
-    pub fn numbers(&self) -> &[u32]
-        ensures { result.now ≡ self.now }
+    /// Whether a directory is one of them.
+    pub fn passes(&self, number: InodeNumber) -> bool
+        ensures { IsTrue result ↔ Contains self.now number }
     {
-        &self.numbers
+        self.numbers
+            .iter()
+            .any(|passed| passed.get() == number.get())
     }
 
     /// The number of the directory at the end.
-    pub fn here(&self) -> u32
+    pub fn here(&self) -> InodeNumber
         ensures { result ≡ here self.now }
     {
         match self.numbers.as_slice() {
             [.., number] => *number,
-            [] => ROOT_NUMBER,
+            [] => InodeNumber::new(ROOT_NUMBER),
         }
     }
 
@@ -54,7 +58,7 @@ impl Trail {
     }
 
     /// Goes down into a directory.
-    pub(crate) fn enter(&mut self, number: u32) -> Result<(), AllocError>
+    pub(crate) fn enter(&mut self, number: InodeNumber) -> Result<(), AllocError>
         ensures entered { OnOk result (self.new ≡ self.old ++ number ∷ []) }
         ensures same { OnErr result (self.new ≡ self.old) }
     {

@@ -1,24 +1,30 @@
 -- How many indirect blocks a point stores over a file: one for each group with a changed block, and one more where it was cut or got
 -- another level.
-use Rattle.std.proofs.Common.{◌≡◌, ℕ, zero, suc, ◌+◌, ◌-◌, ◌*◌, ◌/◌, ◌<◌, ◌≤◌, List, length, ◌⊎◌, inl, inr, refl, sym, subst, ◌∙◌, arith, true, false}
+use Rattle.std.proofs.Common.{◌≡◌, ℕ, zero, suc, ◌+◌, ◌-◌, ◌*◌, ◌/◌, ◌^◌, ◌<◌, ◌≤◌, ◌⊎◌, inl, inr, Result, Ok, refl, ap, sym, subst, ◌∙◌, arith, true, false}
 use Rattle.std.specs.Prelude.{min, nat_lt, ◌==◌, if◌then◌else◌}
-use Rattle.std.proofs.lemmas.Bool.{cases_eq, cases_lt, cond_below}
+use Rattle.std.proofs.lemmas.Bool.{cases_eq, cases_lt, cond_above, cond_below}
 use Rattle.std.proofs.lemmas.Bool.Decides.{nat_tests}
-use Rattle.std.proofs.lemmas.Grind.{common_steps}
-use Rattle.layout.specs.declared.pointer.Pointer.{Pointer}
-use Rattle.layout.specs.declared.pointer.Pointer.TheVariants.{Hole}
-use Rattle.conspoint.specs.Groups.{pointer_at, group}
 use Rattle.layout.specs.Version.{level_of}
+use Rattle.layout.specs.declared.pointer.Pointer.TheVariants.{Hole}
+use Rattle.blocktree.specs.Names.{nodes_at}
+use Rattle.blocktree.specs.PlaceMaps.{EndBefore, place_at}
 use Rattle.blocktree.specs.Places.{block_count, depth_of}
+use Rattle.blocktree.specs.declared.place_map.PlaceMap.{PlaceMap}
 use Rattle.blocktree.specs.Trees.{IsChanged}
 use Rattle.blocktree.specs.declared.tree.BlockTree.{BlockTree}
+use Rattle.conspoint.specs.Groups.{group}
 use Rattle.conspoint.specs.Space.{CountsGroups, StoresNone, block_stores, sum_below}
+use Rattle.conspoint.specs.Steps.{Places}
+use Rattle.conspoint.specs.declared.draft.Draft.{Draft}
+use Rattle.conspoint.specs.declared.error.PlanError.{PlanError}
+use Rattle.conspoint.proofs.StepLemmas.{places_then}
 use Rattle.conspoint.proofs.SumLemmas.{block_counts, is_in_sum, one_more, sum_of_none, sums_rise}
 use Rattle.inode.specs.declared.file.File.{File}
-use Rattle.placement.specs.Layouts.{under}
-use Rattle.placement.specs.Nodes.{AreCounted}
-use Rattle.placement.specs.Space.{level_stores, more_over, over_nodes}
+use Rattle.placement.specs.Nodes.{AreCounted, height_of, node, under}
+use Rattle.placement.specs.Space.{height_stores, level_stores, more_over}
+use Rattle.placement.specs.Steps.{PlacesHeights, raise_stores}
 use Rattle.placement.specs.declared.nodes.Nodes.{Nodes}
+use Rattle.placement.proofs.HeldLaws.{first_nodes}
 
 -- what is counted of so many blocks in the first groups
 abbrev reach : (ℕ → ℕ) → ℕ → ℕ → ℕ
@@ -91,61 +97,56 @@ none_counted f count at more j i none small low =
 not_at : (f : ℕ → ℕ) (count at j : ℕ) → weight f count at 1 j ≡ 0 → j ≡ at → ⊥
 not_at f count at j none is = omega (arith, none, here 1 j at is)
 
-past_end : (blocks : List Pointer) (i : ℕ) → length blocks ≤ i → pointer_at blocks i ≡ Hole
-past_end blocks i le = grind (arith, common_steps)
-
 -- what stands at a block of a file: where it isn't counted, what the settled nodes that count have there
-abbrev LeavesUncounted : (ℕ → ℕ) → ℕ → Nodes → List Pointer → Type 0
-LeavesUncounted f kept settled blocks =
-    (i : ℕ) → i < length blocks → f i ≡ 0 → pointer_at blocks i ≡ (if nat_lt i kept then pointer_at settled.blocks.items i else Hole)
+abbrev pub LeavesUncounted : (ℕ → ℕ) → ℕ → Nodes → ℕ → PlaceMap → Type 0
+LeavesUncounted f kept settled count blocks =
+    (i : ℕ) → i < count → f i ≡ 0 → place_at blocks i ≡ (if nat_lt i kept then node settled 0 i else Hole)
+
+under_some : (settled : Nodes) (j i : ℕ) → 1 < height_of settled → under settled 0 j i ≡ node settled 0 (1024 * j + i)
+under_some settled j i some = sym (cond_below 1 (height_of settled) (node settled 0 (1024 * j + i)) Hole some)
 
 -- a group that doesn't count stores no indirect block: its blocks are as they were, or holes
-stays : (f : ℕ → ℕ) (kept : ℕ) (settled : Nodes) (blocks : List Pointer) (j : ℕ) → (length settled.over.items ≡ 0 → kept ≤ 16) → LeavesUncounted f kept settled blocks
-    → weight f (length blocks) (min kept (length blocks) / 1024) 1 j ≡ 0 → StoresNone (under settled j) (group blocks j)
-stays f kept settled blocks j few unchanged none = elim (cases_lt j (min kept (length blocks) / 1024)) [
+stays : (f : ℕ → ℕ) (kept : ℕ) (settled : Nodes) (count : ℕ) (blocks : PlaceMap) (j : ℕ) → (height_of settled ≤ 1 → kept ≤ 16) → EndBefore count blocks → LeavesUncounted f kept settled count blocks
+    → weight f count (min kept count / 1024) 1 j ≡ 0 → StoresNone (under settled 0 j) (group blocks j)
+stays f kept settled count blocks j few end unchanged none = elim (cases_lt j (min kept count / 1024)) [
   | inl before ↦
-      let whole : 1024 * (j + 1) ≤ min kept (length blocks) = omega (arith, before) in
+      let whole : 1024 * (j + 1) ≤ min kept count = omega (arith, before) in
+      let some : 1 < height_of settled = elim (cases_lt 1 (height_of settled)) [ inl lt ↦ lt | inr ge ↦ absurd (omega (arith, few ge, whole)) ] in
       inl (λ i small.
-      let low : 1024 * j + i < length blocks = omega (arith, whole, small) in
+      let low : 1024 * j + i < count = omega (arith, whole, small) in
       let counts : 1024 * j + i < kept = omega (arith, whole, small) in
-      let some : (length settled.over.items == 0) ≡ false = grind (arith, nat_tests, few, whole) in
-      let old : under settled j i ≡ pointer_at settled.blocks.items (1024 * j + i) = rw some refl in
-      unchanged (1024 * j + i) low (none_counted f (length blocks) _ 1 j i none small low) ∙ sym (cond_below (1024 * j + i) kept (pointer_at settled.blocks.items (1024 * j + i)) Hole counts) ∙ sym old)
+      unchanged (1024 * j + i) low (none_counted f count _ 1 j i none small low) ∙ sym (cond_below (1024 * j + i) kept (node settled 0 (1024 * j + i)) Hole counts) ∙ sym (under_some settled j i some))
   | inr after ↦
-      let past : min kept (length blocks) < 1024 * j = omega (arith, after, not_at f (length blocks) (min kept (length blocks) / 1024) j none) in
-      inr (λ i small. elim (cases_lt (1024 * j + i) (length blocks)) [
+      let past : min kept count < 1024 * j = omega (arith, after, not_at f count (min kept count / 1024) j none) in
+      inr (λ i small. elim (cases_lt (1024 * j + i) count) [
         | inl low ↦
-            let no : nat_lt (1024 * j + i) kept ≡ false = grind (arith, nat_tests, past, low) in
-            let hole : (if nat_lt (1024 * j + i) kept then pointer_at settled.blocks.items (1024 * j + i) else Hole) ≡ Hole = rw no refl in
-            unchanged (1024 * j + i) low (none_counted f (length blocks) _ 1 j i none small low) ∙ hole
-        | inr high ↦ past_end blocks (1024 * j + i) high
+            unchanged (1024 * j + i) low (none_counted f count _ 1 j i none small low)
+            ∙ sym (cond_above (1024 * j + i) kept (node settled 0 (1024 * j + i)) Hole Hole (omega (arith, past, low)) refl)
+        | inr high ↦ end (1024 * j + i) high
       ])
 ]
 
 -- what settled nodes have past their last block
-under_past : (settled : Nodes) (j i : ℕ) → length settled.blocks.items ≤ 1024 * j + i → under settled j i ≡ Hole
-under_past settled j i past = elim (cases_eq (length settled.over.items) 0) [
-  | inl none ↦ (let yes : (length settled.over.items == 0) ≡ true = grind (arith, nat_tests, none) in rw yes refl)
-  | inr some ↦ (let no : (length settled.over.items == 0) ≡ false = grind (arith, nat_tests, some) in rw no (past_end settled.blocks.items (1024 * j + i) past))
+under_past : (settled : Nodes) (j i : ℕ) → node settled 0 (1024 * j + i) ≡ Hole → under settled 0 j i ≡ Hole
+under_past settled j i hole = elim (cases_lt 1 (height_of settled)) [
+  | inl some ↦ under_some settled j i some ∙ hole
+  | inr none ↦ sym (cond_above 1 (height_of settled) (node settled 0 (1024 * j + i)) Hole Hole none refl)
 ]
 
 -- where all settled blocks count, and indirect ones stand over them, the blocks of such a group are as they were
-unmoved : (f : ℕ → ℕ) (kept at : ℕ) (settled : Nodes) (blocks : List Pointer) (j : ℕ) → length settled.blocks.items ≡ kept → kept ≤ length blocks → (length settled.over.items ≡ 0 → kept ≡ 0)
-    → LeavesUncounted f kept settled blocks → weight f (length blocks) at 0 j ≡ 0 → StoresNone (under settled j) (group blocks j)
-unmoved f kept at settled blocks j all long over unchanged none = inl (λ i small. elim (cases_lt (1024 * j + i) kept) [
+unmoved : (f : ℕ → ℕ) (kept at : ℕ) (settled : Nodes) (count : ℕ) (blocks : PlaceMap) (j : ℕ) → ((i : ℕ) → kept ≤ i → node settled 0 i ≡ Hole) → kept ≤ count → 1 < height_of settled → EndBefore count blocks
+    → LeavesUncounted f kept settled count blocks → weight f count at 0 j ≡ 0 → StoresNone (under settled 0 j) (group blocks j)
+unmoved f kept at settled count blocks j all long over end unchanged none = inl (λ i small. elim (cases_lt (1024 * j + i) kept) [
   | inl counts ↦
-      let low : 1024 * j + i < length blocks = omega (arith, counts, long) in
-      let some : (length settled.over.items == 0) ≡ false = grind (arith, nat_tests, over, counts) in
-      let old : under settled j i ≡ pointer_at settled.blocks.items (1024 * j + i) = rw some refl in
-      unchanged (1024 * j + i) low (none_counted f (length blocks) at 0 j i none small low) ∙ sym (cond_below (1024 * j + i) kept (pointer_at settled.blocks.items (1024 * j + i)) Hole counts) ∙ sym old
+      let low : 1024 * j + i < count = omega (arith, counts, long) in
+      unchanged (1024 * j + i) low (none_counted f count at 0 j i none small low) ∙ sym (cond_below (1024 * j + i) kept (node settled 0 (1024 * j + i)) Hole counts) ∙ sym (under_some settled j i over)
   | inr past ↦
-      let old = under_past settled j i (omega (arith, past, all)) in
-      elim (cases_lt (1024 * j + i) (length blocks)) [
+      let old = under_past settled j i (all (1024 * j + i) past) in
+      elim (cases_lt (1024 * j + i) count) [
         | inl low ↦
-            let no : nat_lt (1024 * j + i) kept ≡ false = grind (arith, nat_tests, past) in
-            let hole : (if nat_lt (1024 * j + i) kept then pointer_at settled.blocks.items (1024 * j + i) else Hole) ≡ Hole = rw no refl in
-            unchanged (1024 * j + i) low (none_counted f (length blocks) at 0 j i none small low) ∙ hole ∙ sym old
-        | inr high ↦ past_end blocks (1024 * j + i) high ∙ sym old
+            unchanged (1024 * j + i) low (none_counted f count at 0 j i none small low)
+            ∙ sym (cond_above (1024 * j + i) kept (node settled 0 (1024 * j + i)) Hole Hole past refl) ∙ sym old
+        | inr high ↦ end (1024 * j + i) high ∙ sym old
       ]
 ])
 
@@ -171,49 +172,60 @@ more_cases f = elim (cases_lt (min f.tree.kept (block_count f.size)) f.tree.coun
       ]
 ]
 
-over_deep : (level blocks j : ℕ) → j < over_nodes level blocks → 2 ≤ level
-over_deep zero blocks j lt = absurd (omega (arith, lt))
-over_deep (suc zero) blocks j lt = absurd (omega (arith, lt))
-over_deep (suc (suc level)) blocks j lt = omega arith
+-- a file whose blocks have no indirect one over them has few
+few_kept : (t : BlockTree) → t.depth ≡ 0 → t.kept ≤ 16
+few_kept t flat =
+    let fits : (t.count ≤ 16 * 1024 ^ t.depth) × (t.kept ≤ t.count) = t.fits in
+    let one : 1024 ^ t.depth ≡ 1 = ap (λ (k : ℕ). 1024 ^ k) flat in
+    omega (arith, fits.0, fits.1, one)
 
 -- These numbers count each group of a file's blocks over which an indirect block is stored, where f counts each block that isn't as it
 -- was settled.
-pub counts_groups : (f : ℕ → ℕ) (file : File) (settled : Nodes) (blocks : List Pointer) → AreCounted file.tree settled → length blocks ≡ block_count file.size
-    → LeavesUncounted f file.tree.kept settled blocks
-    → CountsGroups (weight f (length blocks) (min file.tree.kept (length blocks) / 1024) (more_over file)) (over_nodes (level_of file.size) (block_count file.size)) (under settled) (group blocks)
-counts_groups f file settled blocks counted size unchanged j low none = elim (more_cases file) [
-  | inl one ↦ stays f file.tree.kept settled blocks j counted.few unchanged
-      (subst (λ (m : ℕ). weight f (length blocks) (min file.tree.kept (length blocks) / 1024) m j ≡ 0) one none)
+pub counts_groups : (f : ℕ → ℕ) (file : File) (settled : Nodes) (blocks : PlaceMap) → AreCounted file.tree settled → EndBefore (block_count file.size) blocks
+    → LeavesUncounted f file.tree.kept settled (block_count file.size) blocks → 2 ≤ level_of file.size
+    → CountsGroups (weight f (block_count file.size) (min file.tree.kept (block_count file.size) / 1024) (more_over file)) (nodes_at (block_count file.size) 1) (under settled 0) (group blocks)
+counts_groups f file settled blocks counted end unchanged level j low none = elim (more_cases file) [
+  | inl one ↦ stays f file.tree.kept settled (block_count file.size) blocks j (λ flat. few_kept file.tree (omega (arith, flat, counted.heights))) end unchanged
+      (subst (λ (m : ℕ). weight f (block_count file.size) (min file.tree.kept (block_count file.size) / 1024) m j ≡ 0) one none)
   | inr deep ↦
       let fits = file.tree.fits in
       let all : file.tree.kept ≡ file.tree.count = omega (arith, fits.1, deep.kept) in
-      let level = over_deep (level_of file.size) (block_count file.size) j low in
-      unmoved f file.tree.kept (min file.tree.kept (length blocks) / 1024) settled blocks j (counted.blocks ∙ sym all) (omega (arith, all, deep.long, size))
-      (λ empty. elim (counted.over empty) [
-        | inl flat ↦ absurd (omega (arith, flat, deep.depth, level))
-        | inr no_blocks ↦ all ∙ no_blocks
-      ])
-      unchanged (subst (λ (m : ℕ). weight f (length blocks) (min file.tree.kept (length blocks) / 1024) m j ≡ 0) deep.none none)
+      unmoved f file.tree.kept (min file.tree.kept (block_count file.size) / 1024) settled (block_count file.size) blocks j
+      (λ i le. counted.end 0 i (omega (arith, first_nodes file.tree.count, le, all))) (omega (arith, all, deep.long)) (omega (arith, counted.heights, deep.depth, level)) end
+      unchanged (subst (λ (m : ℕ). weight f (block_count file.size) (min file.tree.kept (block_count file.size) / 1024) m j ≡ 0) deep.none none)
 ]
-
--- a group of nodes over which nothing is stored, read otherwise
-pub none_elsewhere : (old old2 new new2 : ℕ → Pointer) → ((i : ℕ) → i < 1024 → old2 i ≡ old i) → ((i : ℕ) → i < 1024 → new2 i ≡ new i) → StoresNone old new → StoresNone old2 new2
-none_elsewhere old old2 new new2 olds news none = elim none [
-  | inl same ↦ inl (λ i lt. news i lt ∙ same i lt ∙ sym (olds i lt))
-  | inr holes ↦ inr (λ i lt. news i lt ∙ holes i lt)
-]
-
--- the same of all groups
-pub counted_elsewhere : (w : ℕ → ℕ) (n : ℕ) (old old2 new new2 : ℕ → ℕ → Pointer) → ((j i : ℕ) → j < n → i < 1024 → old2 j i ≡ old j i) → ((j i : ℕ) → j < n → i < 1024 → new2 j i ≡ new j i)
-    → CountsGroups w n old new → CountsGroups w n old2 new2
-counted_elsewhere w n old old2 new new2 olds news counts j low none =
-    none_elsewhere (old j) (old2 j) (new j) (new2 j) (λ i lt. olds j i low lt) (λ i lt. news j i low lt) (counts j low none)
 
 -- ---- what a file at a level comes to
 
-pub stores_some : (level blocks changed more : ℕ) → 1 ≤ level → level_stores level blocks changed more ≡ changed + min (over_nodes level blocks) (changed + more)
-stores_some zero blocks changed more le = absurd (omega (arith, le))
-stores_some (suc level) blocks changed more le = refl
+raise_fits : (blocks changed more : ℕ) (w : ℕ → ℕ) (h : ℕ) → sum_below w (nodes_at blocks 1) ≤ min (nodes_at blocks 1) (changed + more) → raise_stores blocks w (suc h) ≤ height_stores blocks changed more (suc h)
+unfolding raise_stores height_stores
+raise_fits blocks changed more w zero le = le
+raise_fits blocks changed more w (suc h) le = omega arith
+
+-- the blocks that are changed, and what is stored over them
+pub stores_most : (level blocks changed more : ℕ) (w : ℕ → ℕ) → sum_below w (nodes_at blocks 1) ≤ min (nodes_at blocks 1) (changed + more) → 1 ≤ level
+    → changed + sum_below (raise_stores blocks w) level ≤ level_stores level blocks changed more
+unfolding sum_below raise_stores height_stores
+stores_most zero blocks changed more w fits le = absurd (omega (arith, le))
+stores_most (suc zero) blocks changed more w fits le = omega arith
+stores_most (suc (suc level)) blocks changed more w fits le =
+    omega (arith, stores_most (suc level) blocks changed more w fits (omega arith), raise_fits blocks changed more w level fits)
+
+pub changed_most : (level blocks changed more : ℕ) → 1 ≤ level → changed ≤ level_stores level blocks changed more
+unfolding height_stores
+changed_most level blocks changed more some = omega (arith, is_in_sum (height_stores blocks changed more) 0 level some)
+
+-- the blocks of a file are placed, and the nodes over them, where f counts each block that isn't as it was settled
+pub placed_most : {T U : Type 0} {a b c : Draft} {x : T} {r : Result U PlanError} (f : ℕ → ℕ) (changed : ℕ) (file : File) (settled : Nodes) (blocks : PlaceMap) → AreCounted file.tree settled
+    → EndBefore (block_count file.size) blocks → LeavesUncounted f file.tree.kept settled (block_count file.size) blocks → 1 ≤ level_of file.size → sum_below f (block_count file.size) ≤ changed
+    → Places changed a b (Ok x) → PlacesHeights (block_count file.size) (level_of file.size) (under settled 0) (group blocks) b c r
+    → Places (level_stores (level_of file.size) (block_count file.size) changed (more_over file)) a c r
+placed_most f changed file settled blocks counted end unchanged level fits first over =
+    let count = block_count file.size in
+    let at = min file.tree.kept count / 1024 in
+    let most = weights_most f count at (more_over file) (nodes_at count 1) in
+    places_then first (over (weight f count at (more_over file)) (counts_groups f file settled blocks counted end unchanged))
+    (stores_most (level_of file.size) count changed (more_over file) (weight f count at (more_over file)) (omega (arith, most, fits)) level)
 
 -- a block that isn't counted isn't changed
 pub not_changed : (t : BlockTree) (first i : ℕ) → first ≤ i → block_stores t first i ≡ 0 → IsChanged t i → ⊥

@@ -1,6 +1,6 @@
 -- A file that is laid out is placed.
 use Rattle.std.proofs.Common.{◌≡◌, ◌↔◌, inl, inr, ℕ, ◌/◌, ◌%◌, ◌≤◌, List, get_or, Contains, refl, ap, sym, ◌∙◌, arith}
-use Rattle.std.specs.Prelude.{true, ◌==◌, nat_eq, if◌then◌else◌}
+use Rattle.std.specs.Prelude.{true, nat_eq}
 use Rattle.std.specs.Cmp.{IsEquivalence}
 use Rattle.std.proofs.lemmas.Bool.{cases_lt, cond_below, cond_above, eqb-true, eq-eqb}
 use Rattle.std.proofs.lemmas.Bool.Decides.{nat_tests}
@@ -24,6 +24,7 @@ use Rattle.placement.specs.Layouts.{inode_with, AreSettled, IsLaidOut}
 use Rattle.placement.specs.Nodes.{HasMoved, ArePlacedOver}
 use Rattle.placement.proofs.InlineLaws.{zero_byte}
 use Rattle.placement.proofs.MovedLaws.{comes, named, stays, freed_are, once_after}
+use Rattle.placement.proofs.StandLaws.{other_first}
 
 nat_equivalence : IsEquivalence nat_eq
 nat_equivalence = record {
@@ -48,10 +49,8 @@ object_ends d o ends p le = elim (cases_lt (p / 4096) (block_count o.file.size))
 
 -- and so it has with another first block
 pub first_ends : (bytes : List ℕ) (block : ℕ → List ℕ) (size : ℕ) → 4096 ≤ size → EndsAt size (byte_in block) → EndsAt size (byte_in (with_first bytes block))
-first_ends bytes block size large ends p le = let some : 1 ≤ p / 4096 = omega (arith, le, large) in ap (λ xs. get_or xs (p % 4096) 0) (sym (other_first (p / 4096) bytes (block (p / 4096)) some)) ∙ ends p le
-  where
-    other_first : (k : ℕ) (x y : List ℕ) → 1 ≤ k → y ≡ (if k == 0 then x else y)
-    other_first k x y some = grind (arith, nat_tests)
+first_ends bytes block size large ends p le =
+    ap (λ xs. get_or xs (p % 4096) 0) (sym (other_first (p / 4096) bytes (block (p / 4096)) (λ is. omega (arith, is, le, large)))) ∙ ends p le
 
 module _ (s : Sizes) (old new : Draft) (d e : Blocks) (base : Inode) (o : Object) (body : Body) (block : ℕ → List ℕ) (settled placed : Nodes) (change : IsChangeOf s old d base o)
     (known : AreSettled d base o.file.tree settled) (laid : IsLaidOut s e block (inode_with o body) placed) (ends : EndsAt o.file.size (byte_in block)) (over : ArePlacedOver old new settled placed)

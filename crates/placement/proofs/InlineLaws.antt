@@ -14,13 +14,15 @@ use Rattle.images.specs.Nodes.{held, body_block}
 use Rattle.blocktree.specs.Places.{block_count}
 use Rattle.inode.specs.Files.{file_block, IsFile}
 use Rattle.inode.specs.declared.object.Object.{Object}
-use Rattle.conspoint.specs.Groups.{pointer_at}
 use Rattle.placement.specs.declared.nodes.Nodes.{Nodes}
 use Rattle.placement.specs.Files.{object_block}
 use Rattle.placement.specs.Layouts.{inode_with, IsLaidOut}
-use Rattle.placement.specs.Nodes.{node}
-use Rattle.placement.proofs.HeldLaws.{above_place, is_inline}
-use Rattle.placement.proofs.PlacedLaws.{no_block}
+use Rattle.placement.specs.Nodes.{height_of, node}
+use Rattle.blocktree.specs.declared.place_map.PlaceMap.{PlaceMap}
+use Rattle.inode.proofs.HeldLaws.{node_above}
+use Rattle.placement.proofs.HeldLaws.{is_inline}
+use Rattle.placement.proofs.PlacedLaws.{node_over}
+use Rattle.layout.proofs.PointerLaws.{hole_block}
 use Rattle.layout.proofs.ZeroLaws.{length-zeros}
 
 pub zero_byte : (n k : ℕ) → get_or (zeros n) k 0 ≡ 0
@@ -79,7 +81,7 @@ head_is bytes block size count whole low each =
           ∙ sym (get_or-append_right (take size block) (zeros (128 - size)) k 0 (omega (arith, ge, head)))
     ])
 
-module _ (s : Sizes) (d e : Blocks) (o : Object) (bytes : List ℕ) (nodes : Nodes) (level : level_of o.file.size ≡ 0) (no_blocks : nodes.blocks.items ≡ []) (no_over : nodes.over.items ≡ [])
+module _ (s : Sizes) (d e : Blocks) (o : Object) (bytes : List ℕ) (nodes : Nodes) (level : level_of o.file.size ≡ 0) (none : nodes.heights.items ≡ [])
     (ends : IsFile d o.file) (whole : length (file_block d o.file 0) ≡ 4096) (is : bytes ≡ take o.file.size (file_block d o.file 0) ++ zeros (128 - o.file.size)) where
   past : (k : ℕ) → o.file.size ≤ k → get_or (file_block d o.file 0) k 0 ≡ 0
   past k le = elim (cases_lt k 4096) [
@@ -91,9 +93,9 @@ module _ (s : Sizes) (d e : Blocks) (o : Object) (bytes : List ℕ) (nodes : Nod
   ]
 
   inline_place : (m i : ℕ) → (held e (inode_with o (Inline bytes))).place m i ≡ node nodes m i
-  inline_place zero i = above_place e (inode_with o (Inline bytes)) 0 i (omega (arith, level)) ∙ ap (λ xs. pointer_at xs i) (sym no_blocks)
-  inline_place (suc zero) i = above_place e (inode_with o (Inline bytes)) 1 i (omega (arith, level)) ∙ ap (λ xs. pointer_at xs i) (sym no_over)
-  inline_place (suc (suc m)) i = above_place e (inode_with o (Inline bytes)) (suc (suc m)) i (omega (arith, level))
+  inline_place m i =
+      let empty : height_of nodes ≡ 0 = ap (λ (xs : List PlaceMap). length xs) none in
+      node_above e (inode_with o (Inline bytes)) m i (omega (arith, level)) ∙ sym (node_over nodes m i (omega (arith, empty)))
 
   first_block : bytes ++ zeros 3968 ≡ object_block d o 0
   first_block =
@@ -121,5 +123,5 @@ module _ (s : Sizes) (d e : Blocks) (o : Object) (bytes : List ℕ) (nodes : Nod
     nodes = record { places = inline_place };
     blocks = λ i. inline_block (pointed e ((held e (inode_with o (Inline bytes))).place 0 i)) i;
     body = subst (λ xs. FitsInline xs o.file.size) (sym is) (inline_fits (file_block d o.file 0) o.file.size whole (is_inline o.file.size level) past);
-    indirect = λ m i b at. no_block b (sym (above_place e (inode_with o (Inline bytes)) (suc m) i (omega (arith, level))) ∙ at);
+    indirect = λ m i b at. hole_block (sym (node_above e (inode_with o (Inline bytes)) (suc m) i (omega (arith, level))) ∙ at);
   }

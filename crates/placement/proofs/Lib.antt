@@ -10,3 +10,4 @@ mod ListLaws
 mod FirstLaws
 mod HoleLaws
 mod CostLaws
+mod RaiseLaws

@@ -1,39 +1,27 @@
 -- Which blocks a file takes and leaves, where its nodes were placed.
-use Rattle.std.proofs.Common.{◌≡◌, ◌⊎◌, inl, inr, ℕ, zero, suc, ap, sym, ◌∙◌}
+use Rattle.std.proofs.Common.{◌≡◌, ◌⊎◌, inl, inr, ℕ, ap, sym, ◌∙◌}
 use Rattle.std.proofs.lemmas.Bool.{cases_eq}
 use Rattle.layout.specs.declared.pointer.Pointer.{Pointer}
 use Rattle.layout.specs.declared.pointer.Pointer.TheVariants.{Hole, Block}
+use Rattle.layout.proofs.PointerLaws.{block_same, hole_block}
 use Rattle.images.specs.Nodes.{Held, Names, IsOnce}
 use Rattle.blockmap.specs.Maps.{IsFree}
 use Rattle.conspoint.specs.declared.draft.Draft.{Draft}
 use Rattle.conspoint.specs.Drafts.{WasTaken}
 use Rattle.placement.specs.declared.nodes.Nodes.{Nodes}
 use Rattle.placement.specs.Nodes.{node, AreNodes, HasMoved, ArePlacedOver}
-use Rattle.placement.proofs.PlacedLaws.{no_block}
-
-moved_node : (from to : Nodes) (b : ℕ) → HasMoved from to b → (m : ℕ) × (i : ℕ) × (node from m i ≡ Block b) × (node to m i ≡ Block b → ⊥)
-moved_node from to b (inl left) = (0, left.0, left.1, left.2)
-moved_node from to b (inr left) = (1, left.0, left.1, left.2)
-
-node_moved : (from to : Nodes) (b m i : ℕ) → node from m i ≡ Block b → (node to m i ≡ Block b → ⊥) → HasMoved from to b
-node_moved from to b zero i is not = inl (i, is, not)
-node_moved from to b (suc zero) i is not = inr (i, is, not)
-node_moved from to b (suc (suc m)) i is not = no_block b is
 
 is_at : (p : Pointer) (b : ℕ) → (p ≡ Block b) ⊎ (p ≡ Block b → ⊥)
-is_at Hole b = inr (λ is. no_block b is)
+is_at Hole b = inr (λ is. hole_block is)
 is_at (Block a) b = elim (cases_eq a b) [
   | inl e ↦ inl (ap Block e)
-  | inr other ↦ inr (λ is. other (same_block a b is))
+  | inr other ↦ inr (λ is. other (block_same a b is))
 ]
-  where
-    same_block : (a b : ℕ) → Block a ≡ Block b → a ≡ b
-    same_block a b is = cc
 
 -- what moved to a block was given it
 pub moved_taken : (old new : Draft) (settled placed : Nodes) (b : ℕ) → ArePlacedOver old new settled placed → HasMoved placed settled b → WasTaken old new b
 moved_taken old new settled placed b over moved =
-    let at = moved_node placed settled b moved in
+    let at = moved in
     elim (over.from at.0 at.1 b at.2) [ inl same ↦ absurd (at.3 same) | inr taken ↦ taken ]
 
 module _ (old new : Draft) (before after : Held) (settled placed : Nodes) (was : AreNodes settled before) (now : AreNodes placed after) (over : ArePlacedOver old new settled placed)
@@ -71,11 +59,11 @@ module _ (old new : Draft) (before after : Held) (settled placed : Nodes) (was :
       let at = sym (now.places names.height names.index) ∙ names.is in
       elim (is_at (node settled names.height names.index) b) [
         | inl same ↦ inl (named_before names.height names.index b same)
-        | inr not ↦ inr (node_moved placed settled b names.height names.index at not)
+        | inr not ↦ inr (names.height, names.index, at, not)
       ]
 
   pub named : (b : ℕ) → HasMoved placed settled b → Names after b
-  named b moved = let at = moved_node placed settled b moved in named_after at.0 at.1 b at.2
+  named b moved = let at = moved in named_after at.0 at.1 b at.2
 
   still_at : (m i k j b : ℕ) → node settled m i ≡ Block b → node settled k j ≡ Block b → node placed k j ≡ Block b → node placed m i ≡ Block b
   still_at m i k j b is too there =
@@ -84,7 +72,7 @@ module _ (old new : Draft) (before after : Held) (settled placed : Nodes) (was :
 
   pub freed_are : (b : ℕ) → HasMoved settled placed b → Names before b × (Names after b → ⊥)
   freed_are b moved =
-      let at = moved_node settled placed b moved in
+      let at = moved in
       let names = named_before at.0 at.1 b at.2 in (
         names,
         λ still. let there = sym (now.places still.height still.index) ∙ still.is in
@@ -99,5 +87,5 @@ module _ (old new : Draft) (before after : Held) (settled placed : Nodes) (was :
       let at = sym (was.places names.height names.index) ∙ names.is in
       elim (is_at (node placed names.height names.index) b) [
         | inl there ↦ inl (named_after names.height names.index b there)
-        | inr not ↦ inr (node_moved settled placed b names.height names.index at not)
+        | inr not ↦ inr (names.height, names.index, at, not)
       ]

@@ -1,84 +1,129 @@
--- Pointers that were placed, at any index, and the nodes of a file that they are.
-use Rattle.std.proofs.Common.{◌≡◌, ◌⊎◌, inl, inr, ℕ, zero, suc, ◌<◌, ◌≤◌, List, [], length, All, refl, ap, sym, subst, ◌∙◌, arith}
+-- Nodes that were placed, at any index, and the nodes of a file that they are.
+use Rattle.std.proofs.Common.{◌≡◌, ◌⊎◌, inl, inr, ℕ, ◌+◌, ◌<◌, ◌≤◌, List, [], ◌∷◌, ◌++◌, length, get_or, length-append, refl, ap, sym, subst, ◌∙◌, arith}
 use Rattle.std.proofs.lemmas.Bool.{cases_lt, cases_eq, cond_below, cond_above}
-use Rattle.std.proofs.lemmas.List.{get_or_past}
-use Rattle.std.proofs.lemmas.List.Elements.{All-get_or, All-from_get_or}
-use Rattle.std.specs.Prelude.{nat_lt, if◌then◌else◌}
+use Rattle.std.proofs.lemmas.List.{get_or_append_left}
+use Rattle.std.proofs.lemmas.Option.{slice_get_past, slice_get-get_or}
+use Rattle.std.proofs.Math.Seq.{get_or-append_seam}
+use Rattle.std.specs.List.{slice_get}
+use Rattle.std.specs.Prelude.{min, nat_lt, if◌then◌else◌, Option, Some}
 use Rattle.layout.specs.Pointer.{PointsBelow}
 use Rattle.layout.specs.declared.geometry.TheConstants.{MOST_BLOCKS}
 use Rattle.layout.specs.declared.pointer.Pointer.{Pointer}
 use Rattle.layout.specs.declared.pointer.Pointer.TheVariants.{Hole, Block}
+use Rattle.layout.proofs.PointerLaws.{hole_block}
+use Rattle.blocktree.specs.PlaceMaps.{AreBelow, place_at}
+use Rattle.blocktree.specs.declared.place_map.PlaceMap.{PlaceMap}
+use Rattle.blocktree.proofs.WalkLaws.{node_below}
 use Rattle.conspoint.specs.declared.draft.Draft.{Draft}
 use Rattle.conspoint.specs.Drafts.{Grows, WasTaken}
-use Rattle.conspoint.specs.Groups.{pointer_at, ArePlaced}
+use Rattle.conspoint.specs.Groups.{ArePlaced}
+use Rattle.conspoint.proofs.DraftLemmas.{taken_earlier, taken_later}
 use Rattle.placement.specs.declared.nodes.Nodes.{Nodes}
-use Rattle.placement.specs.Nodes.{node, ArePlacedAt, ArePlacedOver}
-
--- a hole leads to no block
-pub no_block : {A : Type 0} (b : ℕ) → Hole ≡ Block b → A
-no_block b e = absurd (cc)
-
--- a pointer that leads to a block is one of these
-pub within_length : (xs : List Pointer) (i b : ℕ) → pointer_at xs i ≡ Block b → i < length xs
-within_length xs i b is = elim (cases_lt i (length xs)) [
-  | inl lt ↦ lt
-  | inr ge ↦ no_block b (sym (get_or_past xs i Hole ge) ∙ is)
-]
-
-pub below_of : (n : ℕ) (p : Pointer) (b : ℕ) → p ≡ Block b → PointsBelow n p → b < n
-below_of n p b is below = let at : PointsBelow n (Block b) = subst (PointsBelow n) is below in at.1
-
-pub pointer_below : (n : ℕ) (xs : List Pointer) (i : ℕ) → All (PointsBelow n) xs → PointsBelow n (pointer_at xs i)
-pointer_below n xs i all = elim (cases_lt i (length xs)) [
-  | inl lt ↦ All-get_or (PointsBelow n) xs i Hole lt all
-  | inr ge ↦ subst (PointsBelow n) (sym (get_or_past xs i Hole ge)) tt
-]
+use Rattle.placement.specs.Nodes.{node, height_of, place_of, ArePlacedAt, ArePlacedIn, ArePlacedOver}
 
 -- pointers within a disk are so within a larger one
 wider_one : (n m : ℕ) (p : Pointer) → n ≤ m → PointsBelow n p → PointsBelow m p
 wider_one n m Hole le below = tt
 wider_one n m (Block b) le below = (below.0, omega (arith, below.1))
 
-pub wider : (n m : ℕ) (xs : List Pointer) → n ≤ m → All (PointsBelow n) xs → All (PointsBelow m) xs
-wider n m xs le all = All-from_get_or (PointsBelow m) xs Hole (λ i lt. wider_one n m (pointer_at xs i) le (pointer_below n xs i all))
+pub wider : (n m : ℕ) (p : PlaceMap) → n ≤ m → AreBelow n p → AreBelow m p
+wider n m p le all i = wider_one n m (place_at p i) le (all i)
 
 -- a pointer within the largest disk that leads to a block of this one
 narrower : (n : ℕ) (p : Pointer) → PointsBelow MOST_BLOCKS p → ((b : ℕ) → p ≡ Block b → b < n) → PointsBelow n p
 narrower n Hole below low = tt
 narrower n (Block b) below low = (below.0, low b refl)
 
+-- ---- the nodes at one height
+
+-- over the highest there is none
+pub node_over : (n : Nodes) (m i : ℕ) → height_of n ≤ m → node n m i ≡ Hole
+node_over n m i le = ap (λ (o : Option PlaceMap). place_of o i) (slice_get_past n.heights.items m le)
+
+-- a node that leads to a block is at one of the heights
+pub node_height : (n : Nodes) (m i b : ℕ) → node n m i ≡ Block b → m < height_of n
+node_height n m i b is = elim (cases_lt m (height_of n)) [
+  | inl lt ↦ lt
+  | inr ge ↦ hole_block (sym (node_over n m i ge) ∙ is)
+]
+
+old_at : (xs : List PlaceMap) (p : PlaceMap) (m : ℕ) → m < length xs → slice_get (xs ++ p ∷ []) m ≡ slice_get xs m
+old_at xs p m lt =
+    slice_get-get_or (xs ++ p ∷ []) m p (omega (arith, length-append xs (p ∷ []), lt))
+    ∙ ap (λ (q : PlaceMap). Some q) (get_or_append_left xs (p ∷ []) p m lt) ∙ sym (slice_get-get_or xs m p lt)
+
+last_at : (xs : List PlaceMap) (p : PlaceMap) (m : ℕ) → m ≡ length xs → slice_get (xs ++ p ∷ []) m ≡ Some p
+last_at xs p m is =
+    slice_get-get_or (xs ++ p ∷ []) m p (omega (arith, length-append xs (p ∷ []), is))
+    ∙ ap (λ (q : PlaceMap). Some q) (ap (λ (k : ℕ). get_or (xs ++ p ∷ []) k p) is ∙ get_or-append_seam xs p [] p)
+
+-- with one height more
+pub node_pushed : (old new : Nodes) (p : PlaceMap) (m i : ℕ) → new.heights.items ≡ old.heights.items ++ p ∷ [] → m < height_of old → node new m i ≡ node old m i
+node_pushed old new p m i is lt =
+    ap (λ (xs : List PlaceMap). place_of (slice_get xs m) i) is ∙ ap (λ (o : Option PlaceMap). place_of o i) (old_at old.heights.items p m lt)
+
+pub node_last : (old new : Nodes) (p : PlaceMap) (m i : ℕ) → new.heights.items ≡ old.heights.items ++ p ∷ [] → m ≡ height_of old → node new m i ≡ place_at p i
+node_last old new p m i is last =
+    ap (λ (xs : List PlaceMap). place_of (slice_get xs m) i) is ∙ ap (λ (o : Option PlaceMap). place_of o i) (last_at old.heights.items p m last)
+
+-- ---- one height
+
+-- as many are kept of the same pointers, read otherwise
+pub kept_as : (old settled : ℕ → Pointer) (kept : PlaceMap) (k n : ℕ) → k ≡ n → ((i : ℕ) → old i ≡ settled i) → ((i : ℕ) → place_at kept i ≡ (if nat_lt i k then old i else Hole))
+    → (i : ℕ) → place_at kept i ≡ (if nat_lt i n then settled i else Hole)
+kept_as old settled kept k n same is each i =
+    each i ∙ ap (λ (m : ℕ). if nat_lt i m then old i else Hole) same ∙ ap (λ (p : Pointer). if nat_lt i n then p else Hole) (is i)
+
 -- those of the first pointers that are kept
-pub kept_same : (settled kept : List Pointer) (k n : ℕ) → length kept ≡ n → ((i : ℕ) → i < n → pointer_at kept i ≡ (if nat_lt i k then pointer_at settled i else Hole))
-    → (i b : ℕ) → pointer_at kept i ≡ Block b → pointer_at settled i ≡ Block b
-kept_same settled kept k n count each i b is =
-    let here = each i (omega (arith, within_length kept i b is, count)) in
-    elim (cases_lt i k) [
-      | inl lt ↦ cond_below i k (pointer_at settled i) Hole lt ∙ sym here ∙ is
-      | inr ge ↦ no_block b (cond_above i k (pointer_at settled i) Hole Hole ge refl ∙ sym here ∙ is)
-    ]
+pub kept_same : (settled : ℕ → Pointer) (kept : PlaceMap) (k : ℕ) → ((i : ℕ) → place_at kept i ≡ (if nat_lt i k then settled i else Hole)) → (i b : ℕ) → place_at kept i ≡ Block b → settled i ≡ Block b
+kept_same settled kept k each i b is = elim (cases_lt i k) [
+  | inl lt ↦ cond_below i k (settled i) Hole lt ∙ sym (each i) ∙ is
+  | inr ge ↦ hole_block (cond_above i k (settled i) Hole Hole ge refl ∙ sym (each i) ∙ is)
+]
+
+-- and they stay on the disk
+kept_one : (n : ℕ) (p q : Pointer) → p ≡ q → PointsBelow n q → PointsBelow n p
+kept_one n p q is below = subst (PointsBelow n) (sym is) below
+
+pub kept_below : (n : ℕ) (settled : ℕ → Pointer) (kept : PlaceMap) (k : ℕ) → ((i : ℕ) → place_at kept i ≡ (if nat_lt i k then settled i else Hole)) → ((i : ℕ) → PointsBelow n (settled i)) → AreBelow n kept
+kept_below n settled kept k each within i = elim (cases_lt i k) [
+  | inl lt ↦ kept_one n (place_at kept i) (settled i) (each i ∙ sym (cond_below i k (settled i) Hole lt)) (within i)
+  | inr ge ↦ kept_one n (place_at kept i) Hole (each i ∙ sym (cond_above i k (settled i) Hole Hole ge refl)) tt
+]
+
+-- and past these all are holes
+pub kept_end : (settled : ℕ → Pointer) (kept : PlaceMap) (k n : ℕ) → k ≤ n → ((i : ℕ) → place_at kept i ≡ (if nat_lt i k then settled i else Hole)) → (i : ℕ) → n ≤ i → place_at kept i ≡ Hole
+kept_end settled kept k n le each i past = each i ∙ sym (cond_above i k (settled i) Hole Hole (omega (arith, le, past)) refl)
+
+-- of the first n it doesn't matter whether more would be kept
+pub kept_first : (settled : ℕ → Pointer) (kept : PlaceMap) (k n i : ℕ) → ((i : ℕ) → place_at kept i ≡ (if nat_lt i (min k n) then settled i else Hole)) → i < n → place_at kept i ≡ (if nat_lt i k then settled i else Hole)
+kept_first settled kept k n i each lt = elim (cases_lt i k) [
+  | inl low ↦ each i ∙ sym (cond_below i (min k n) (settled i) Hole (omega (arith, low, lt))) ∙ cond_below i k (settled i) Hole low
+  | inr high ↦ each i ∙ sym (cond_above i (min k n) (settled i) Hole Hole (omega (arith, high)) refl) ∙ cond_above i k (settled i) Hole Hole high refl
+]
 
 -- pointers were placed over others, each of which is a hole or as these have it
-module _ (old new : Draft) (settled kept nodes : List Pointer) (within : All (PointsBelow old.map.count) kept)
-    (same : (i b : ℕ) → pointer_at kept i ≡ Block b → pointer_at settled i ≡ Block b) (placed : ArePlaced old new kept nodes) where
-  came : (i b : ℕ) → pointer_at nodes i ≡ Block b → (pointer_at kept i ≡ Block b) ⊎ WasTaken old new b
-  came i b is = elim (placed.from i (within_length nodes i b is) b is) [
+module _ (old new : Draft) (settled : ℕ → Pointer) (kept nodes : PlaceMap) (within : AreBelow old.map.count kept)
+    (same : (i b : ℕ) → place_at kept i ≡ Block b → settled i ≡ Block b) (placed : ArePlaced old new kept nodes) where
+  came : (i b : ℕ) → place_at nodes i ≡ Block b → (place_at kept i ≡ Block b) ⊎ WasTaken old new b
+  came i b is = elim (placed.from i b is) [
     | inl was ↦ inl (sym was ∙ is)
     | inr taken ↦ inr taken
   ]
 
-  low : (i b : ℕ) → pointer_at nodes i ≡ Block b → b < old.map.count
+  low : (i b : ℕ) → place_at nodes i ≡ Block b → b < old.map.count
   low i b is = elim (came i b is) [
-    | inl was ↦ below_of old.map.count (pointer_at kept i) b was (pointer_below old.map.count kept i within)
+    | inl was ↦ node_below old.map.count (place_at kept i) b was (within i)
     | inr taken ↦ taken.within
   ]
 
-  ordered : (i j b : ℕ) → i < j → pointer_at nodes i ≡ Block b → pointer_at nodes j ≡ Block b → (pointer_at settled i ≡ Block b) ⊎ (pointer_at settled j ≡ Block b)
-  ordered i j b less is_i is_j = elim (placed.apart i j b less (within_length nodes j b is_j) is_i is_j) [
+  ordered : (i j b : ℕ) → i < j → place_at nodes i ≡ Block b → place_at nodes j ≡ Block b → (settled i ≡ Block b) ⊎ (settled j ≡ Block b)
+  ordered i j b less is_i is_j = elim (placed.apart i j b less is_i is_j) [
     | inl was ↦ inl (same i b (sym was ∙ is_i))
     | inr was ↦ inr (same j b (sym was ∙ is_j))
   ]
 
-  two : (i j b : ℕ) → pointer_at nodes i ≡ Block b → pointer_at nodes j ≡ Block b → ((pointer_at settled i ≡ Block b) ⊎ (pointer_at settled j ≡ Block b)) ⊎ (i ≡ j)
+  two : (i j b : ℕ) → place_at nodes i ≡ Block b → place_at nodes j ≡ Block b → ((settled i ≡ Block b) ⊎ (settled j ≡ Block b)) ⊎ (i ≡ j)
   two i j b is_i is_j = elim (cases_lt i j) [
     | inl less ↦ inl (ordered i j b less is_i is_j)
     | inr ge ↦ elim (cases_eq i j) [
@@ -89,64 +134,116 @@ module _ (old new : Draft) (settled kept nodes : List Pointer) (within : All (Po
 
   pub placed_at : ArePlacedAt old new settled nodes
   placed_at = record {
-    within = All-from_get_or (PointsBelow old.map.count) nodes Hole
-        (λ i lt. narrower old.map.count (pointer_at nodes i) (All-get_or (PointsBelow MOST_BLOCKS) nodes i Hole lt placed.within) (low i));
+    within = λ i. narrower old.map.count (place_at nodes i) (placed.within i) (low i);
     from = λ i b is. elim (came i b is) [ inl was ↦ inl (same i b was) | inr taken ↦ inr taken ];
     apart = two;
   }
 
--- what was given out before, or later
-pub later : (a b c : Draft) (x : ℕ) → Grows b c → WasTaken a b x → WasTaken a c x
-later a b c x grows taken = record { from = taken.from; to = omega (arith, taken.to, grows.next); within = taken.within; free = taken.free }
+-- ---- all heights
 
-pub earlier : (a b c : Draft) (x : ℕ) → Grows a b → WasTaken b c x → WasTaken a c x
-earlier a b c x grows taken = record {
-  from = omega (arith, grows.next, taken.from);
-  to = taken.to;
-  within = omega (arith, grows.count, taken.within);
-  free = sym (grows.settled.settled x) ∙ taken.free;
+-- nothing is placed at no height
+pub none_placed : (a b : Draft) (settled placed : Nodes) (n : ℕ) → ArePlacedIn n n a b settled placed
+none_placed a b settled placed n = record {
+  within = λ m i le lt. absurd (omega (arith, le, lt));
+  from = λ m i x le lt. absurd (omega (arith, le, lt));
+  apart = λ m i k j x le lt. absurd (omega (arith, le, lt));
 }
 
--- first a file's blocks were placed, and then the indirect blocks over them
-module _ (a b c : Draft) (settled placed : Nodes) (first : Grows a b) (second : Grows b c) (blocks : ArePlacedAt a b settled.blocks.items placed.blocks.items)
-    (over : ArePlacedAt b c settled.over.items placed.over.items) where
-  came_over : (m i x : ℕ) → node placed m i ≡ Block x → (node settled m i ≡ Block x) ⊎ WasTaken a c x
-  came_over zero i x is = elim (blocks.from i x is) [ inl was ↦ inl was | inr taken ↦ inr (later a b c x second taken) ]
-  came_over (suc zero) i x is = elim (over.from i x is) [ inl was ↦ inl was | inr taken ↦ inr (earlier a b c x first taken) ]
-  came_over (suc (suc m)) i x is = no_block x is
+-- the nodes at one height are placed
+pub one_placed : (a b : Draft) (settled placed : Nodes) (h : ℕ) (p : PlaceMap) → ArePlacedAt a b (node settled h) p → ((i : ℕ) → node placed h i ≡ place_at p i) → ArePlacedIn h (h + 1) a b settled placed
+one_placed a b settled placed h p at is = record {
+  within = λ m i le lt. (let e : h ≡ m = omega (arith, le, lt) in subst (λ (k : ℕ). PointsBelow a.map.count (node placed k i)) e (subst (PointsBelow a.map.count) (sym (is i)) (at.within i)));
+  from = λ m i x le lt there.
+      let e : h ≡ m = omega (arith, le, lt) in
+      let here : node placed h i ≡ Block x = ap (λ (k : ℕ). node placed k i) e ∙ there in
+      elim (at.from i x (sym (is i) ∙ here)) [
+        | inl was ↦ inl (ap (λ (k : ℕ). node settled k i) (sym e) ∙ was)
+        | inr taken ↦ inr taken
+      ];
+  apart = λ m i k j x le lt le2 lt2 is_i is_j.
+      let e : h ≡ m = omega (arith, le, lt) in
+      let f : h ≡ k = omega (arith, le2, lt2) in
+      let here : node placed h i ≡ Block x = ap (λ (k : ℕ). node placed k i) e ∙ is_i in
+      let there : node placed h j ≡ Block x = ap (λ (k : ℕ). node placed k j) f ∙ is_j in
+      elim (at.apart i j x (sym (is i) ∙ here) (sym (is j) ∙ there)) [
+        | inl either ↦ elim either [
+          | inl was ↦ inl (inl (ap (λ (k : ℕ). node settled k i) (sym e) ∙ was))
+          | inr was ↦ inl (inr (ap (λ (k : ℕ). node settled k j) (sym f) ∙ was))
+        ]
+        | inr same ↦ inr (sym e ∙ f, same)
+      ];
+}
 
-  between : (i j x : ℕ) → pointer_at placed.blocks.items i ≡ Block x → pointer_at placed.over.items j ≡ Block x
-      → (pointer_at settled.blocks.items i ≡ Block x) ⊎ (pointer_at settled.over.items j ≡ Block x)
-  between i j x is_i is_j = elim (blocks.from i x is_i) [
+-- the same nodes at these heights
+pub placed_same : (a b : Draft) (settled old new : Nodes) (least past : ℕ) → ((m i : ℕ) → least ≤ m → m < past → node new m i ≡ node old m i) → ArePlacedIn least past a b settled old → ArePlacedIn least past a b settled new
+placed_same a b settled old new least past same so_far = record {
+  within = λ m i le lt. subst (PointsBelow a.map.count) (sym (same m i le lt)) (so_far.within m i le lt);
+  from = λ m i x le lt is. so_far.from m i x le lt (sym (same m i le lt) ∙ is);
+  apart = λ m i k j x le lt le2 lt2 is_i is_j. so_far.apart m i k j x le lt le2 lt2 (sym (same m i le lt) ∙ is_i) (sym (same k j le2 lt2) ∙ is_j);
+}
+
+-- first those at some heights were placed, and then those at the heights over them
+module _ (a b c : Draft) (settled placed : Nodes) (least mid past : ℕ) (first : Grows a b) (second : Grows b c) (lower : ArePlacedIn least mid a b settled placed) (upper : ArePlacedIn mid past b c settled placed) where
+  came_both : (m i x : ℕ) → least ≤ m → m < past → node placed m i ≡ Block x → (node settled m i ≡ Block x) ⊎ WasTaken a c x
+  came_both m i x le lt is = elim (cases_lt m mid) [
+    | inl low ↦ elim (lower.from m i x le low is) [ inl was ↦ inl was | inr taken ↦ inr (taken_later a b c x taken second) ]
+    | inr high ↦ elim (upper.from m i x high lt is) [ inl was ↦ inl was | inr taken ↦ inr (taken_earlier a b c x first taken) ]
+  ]
+
+  between : (m i k j x : ℕ) → least ≤ m → m < mid → mid ≤ k → k < past → node placed m i ≡ Block x → node placed k j ≡ Block x → (node settled m i ≡ Block x) ⊎ (node settled k j ≡ Block x)
+  between m i k j x le low high lt is_i is_j = elim (lower.from m i x le low is_i) [
     | inl was ↦ inl was
-    | inr early ↦ elim (over.from j x is_j) [
+    | inr early ↦ elim (upper.from k j x high lt is_j) [
       | inl was ↦ inr was
       | inr late ↦ absurd (omega (arith, early.to, late.from))
     ]
   ]
 
-  apart_over : (m i k j x : ℕ) → node placed m i ≡ Block x → node placed k j ≡ Block x
+  apart_both : (m i k j x : ℕ) → least ≤ m → m < past → least ≤ k → k < past → node placed m i ≡ Block x → node placed k j ≡ Block x
       → ((node settled m i ≡ Block x) ⊎ (node settled k j ≡ Block x)) ⊎ ((m ≡ k) × (i ≡ j))
-  apart_over zero i zero j x is_i is_j = elim (blocks.apart i j x is_i is_j) [ inl was ↦ inl was | inr e ↦ inr (refl, e) ]
-  apart_over zero i (suc zero) j x is_i is_j = inl (between i j x is_i is_j)
-  apart_over zero i (suc (suc k)) j x is_i is_j = no_block x is_j
-  apart_over (suc zero) i zero j x is_i is_j = elim (between j i x is_j is_i) [ inl was ↦ inl (inr was) | inr was ↦ inl (inl was) ]
-  apart_over (suc zero) i (suc zero) j x is_i is_j = elim (over.apart i j x is_i is_j) [ inl was ↦ inl was | inr e ↦ inr (refl, e) ]
-  apart_over (suc zero) i (suc (suc k)) j x is_i is_j = no_block x is_j
-  apart_over (suc (suc m)) i k j x is_i is_j = no_block x is_i
+  apart_both m i k j x le lt le2 lt2 is_i is_j = elim (cases_lt m mid) [
+    | inl low ↦ elim (cases_lt k mid) [
+      | inl low2 ↦ lower.apart m i k j x le low le2 low2 is_i is_j
+      | inr high2 ↦ inl (between m i k j x le low high2 lt2 is_i is_j)
+    ]
+    | inr high ↦ elim (cases_lt k mid) [
+      | inl low2 ↦ elim (between k j m i x le2 low2 high lt is_j is_i) [ inl was ↦ inl (inr was) | inr was ↦ inl (inl was) ]
+      | inr high2 ↦ upper.apart m i k j x high lt high2 lt2 is_i is_j
+    ]
+  ]
 
-  pub placed_over : ArePlacedOver a c settled placed
-  placed_over = record {
-    blocks_within = blocks.within;
-    over_within = subst (λ (n : ℕ). All (PointsBelow n) placed.over.items) first.count over.within;
-    from = came_over;
-    apart = apart_over;
+  pub placed_both : ArePlacedIn least past a c settled placed
+  placed_both = record {
+    within = λ m i le lt. elim (cases_lt m mid) [
+      | inl low ↦ lower.within m i le low
+      | inr high ↦ subst (λ (n : ℕ). PointsBelow n (node placed m i)) first.count (upper.within m i high lt)
+    ];
+    from = came_both;
+    apart = apart_both;
   }
 
--- nothing is placed
-pub none_placed : (a c : Draft) (settled nodes : List Pointer) → nodes ≡ [] → ArePlacedAt a c settled nodes
-none_placed a c settled nodes none = record {
-  within = subst (λ (xs : List Pointer). All (PointsBelow a.map.count) xs) (sym none) (All-from_get_or (PointsBelow a.map.count) [] Hole (λ i lt. absurd (omega (arith, lt))));
-  from = λ i b is. no_block b (ap (λ (xs : List Pointer). pointer_at xs i) (sym none) ∙ is);
-  apart = λ i j b is_i is_j. no_block b (ap (λ (xs : List Pointer). pointer_at xs i) (sym none) ∙ is_i);
+-- over the highest there is no node to place
+pub placed_over : (a b : Draft) (settled placed : Nodes) (past : ℕ) → height_of placed ≤ past → ArePlacedIn 0 past a b settled placed → ArePlacedOver a b settled placed
+placed_over a b settled placed past all in_all = record {
+  within = λ m i. elim (cases_lt m past) [
+    | inl lt ↦ in_all.within m i (omega arith) lt
+    | inr ge ↦ subst (PointsBelow a.map.count) (sym (node_over placed m i (omega (arith, all, ge)))) tt
+  ];
+  from = λ m i x is. in_all.from m i x (omega arith) (omega (arith, all, node_height placed m i x is)) is;
+  apart = λ m i k j x is_i is_j. in_all.apart m i k j x (omega arith) (omega (arith, all, node_height placed m i x is_i)) (omega arith) (omega (arith, all, node_height placed k j x is_j)) is_i is_j;
 }
+
+-- a file without nodes
+pub none_laid : (d : Draft) (settled n : Nodes) → height_of n ≤ 0 → ArePlacedOver d d settled n
+none_laid d settled n none = placed_over d d settled n 0 none (none_placed d d settled n 0)
+
+-- the lowest nodes stay on the disk, and those that are placed over them
+pub all_within : (blocks level : ℕ) (a b : Draft) (settled n : Nodes) (lowest : PlaceMap) → blocks ≡ a.map.count → height_of n ≡ level → AreBelow a.map.count lowest → ((i : ℕ) → node n 0 i ≡ place_at lowest i)
+    → ArePlacedIn 1 level a b settled n → (m i : ℕ) → PointsBelow blocks (node n m i)
+all_within blocks level a b settled n lowest same heights within is placed m i = subst (λ (k : ℕ). PointsBelow k (node n m i)) (sym same) (elim (cases_eq m 0) [
+  | inl e ↦ subst (λ (k : ℕ). PointsBelow a.map.count (node n k i)) (sym e) (subst (PointsBelow a.map.count) (sym (is i)) (within i))
+  | inr some ↦ elim (cases_lt m level) [
+    | inl low ↦ placed.within m i (omega arith) low
+    | inr high ↦ subst (PointsBelow a.map.count) (sym (node_over n m i (omega (arith, heights, high)))) tt
+  ]
+])

@@ -21,9 +21,9 @@ use Rattle.placement.specs.declared.file.PlacedFile.{PlacedFile}
 no_fault : {P : Type 0} (f : PlanError) → f ≡ NoMemory → IsReadFault f → P
 no_fault f is fault = let no : ⊥ = cc in absurd no
 
-takes_nothing : {T : Type 0} (n : ℕ) (d : Draft) (r : Result T PlanError) → OnOk r (TakesAtMost n d d)
-takes_nothing n d (Ok v) = omega arith
-takes_nothing n d (Err e) = tt
+pub takes_none : {T : Type 0} (n : ℕ) (d : Draft) (r : Result T PlanError) → OnOk r (TakesAtMost n d d)
+takes_none n d (Ok v) = omega arith
+takes_none n d (Err e) = tt
 
 module _ {B : Type 0} {G : Ghosts B} where
   pub reads_nothing : {x : B} → ReadsBlocks {T = Unit {0}} {E = PlanError} G IsReadFault x x (Ok tt)
@@ -36,7 +36,7 @@ module _ {B : Type 0} {G : Ghosts B} where
     grows = grows_none d;
     parts = refl;
     others = λ p was. was;
-    takes = takes_nothing n d r;
+    takes = takes_none n d r;
     lacks = λ bad. absurd (why bad);
   }
 

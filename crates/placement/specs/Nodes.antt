@@ -1,53 +1,79 @@
--- Where the nodes of a file are: its blocks, and the indirect blocks over each 1,024 of them.
-use Rattle.std.specs.Prelude.{ℕ, zero, suc, ◌≡◌, ◌≤◌, ◌⊎◌, List, length, All}
+-- Where the nodes of a file are, by height: its blocks, the indirect blocks over each 1,024 of them, and so on.
+use Rattle.std.specs.Prelude.{ℕ, suc, ◌≡◌, ◌+◌, ◌*◌, ◌<◌, ◌≤◌, ◌⊎◌, length, nat_lt, if◌then◌else◌, Option, Some, None}
+use Rattle.std.specs.List.{slice_get}
 use Rattle.layout.specs.Pointer.{PointsBelow}
+use Rattle.layout.specs.declared.TheConstants.{BLOCK_POINTERS}
 use Rattle.layout.specs.declared.pointer.Pointer.{Pointer}
 use Rattle.layout.specs.declared.pointer.Pointer.TheVariants.{Hole, Block}
-use Rattle.layout.specs.declared.TheConstants.{BODY_POINTERS}
 use Rattle.images.specs.Nodes.{Held}
+use Rattle.blocktree.specs.Names.{nodes_at}
+use Rattle.blocktree.specs.PlaceMaps.{AreBelow, place_at}
+use Rattle.blocktree.specs.declared.place_map.PlaceMap.{PlaceMap}
 use Rattle.blocktree.specs.declared.tree.BlockTree.{BlockTree}
 use Rattle.conspoint.specs.declared.draft.Draft.{Draft}
 use Rattle.conspoint.specs.Drafts.{WasTaken}
-use Rattle.conspoint.specs.Groups.{pointer_at}
 use Rattle.placement.specs.declared.nodes.Nodes.{Nodes}
 
--- node i at a height: there are blocks, and indirect blocks over them
+-- the pointer to node i of these, where there are any
+abbrev pub place_of : Option PlaceMap → ℕ → Pointer
+place_of (Some places) i = place_at places i
+place_of None i = Hole
+
+-- node i at a height: holes above the highest
 abbrev pub node : Nodes → ℕ → ℕ → Pointer
-node n zero i = pointer_at n.blocks.items i
-node n (suc zero) i = pointer_at n.over.items i
-node n (suc (suc height)) i = Hole
+node n m i = place_of (slice_get n.heights.items m) i
+
+-- how many heights have nodes
+abbrev pub height_of : Nodes → ℕ
+height_of n = length n.heights.items
+
+-- what the indirect block over group j of the nodes at a height spells: where there is no height above, none
+abbrev pub under : Nodes → ℕ → ℕ → ℕ → Pointer
+under n m j i = if nat_lt (suc m) (height_of n) then node n m (BLOCK_POINTERS * j + i) else Hole
 
 -- these are the nodes of what hangs from an inode
 pub record AreNodes (n : Nodes) (h : Held) : Type 0 where
   pub places : (m i : ℕ) → h.place m i ≡ node n m i
 
--- a block stands at one of these pointers, and not at the same of those
-abbrev pub HasLeft : List Pointer → List Pointer → ℕ → Type 0
-HasLeft from to b = (i : ℕ) × (pointer_at from i ≡ Block b) × (pointer_at to i ≡ Block b → ⊥)
+-- all nodes of a file stay on a disk of so many blocks
+abbrev pub AreWithin : ℕ → Nodes → Type 0
+AreWithin blocks n = (m i : ℕ) → PointsBelow blocks (node n m i)
+
+-- at each height all nodes are among the first so many
+abbrev pub AreShort : ℕ → Nodes → Type 0
+AreShort count n = (m i : ℕ) → count ≤ i → node n m i ≡ Hole
+
+-- a block stands at one of these nodes of one height, and not at the same of those
+abbrev pub HasLeft : PlaceMap → (ℕ → Pointer) → ℕ → Type 0
+HasLeft from to b = (i : ℕ) × (place_at from i ≡ Block b) × (to i ≡ Block b → ⊥)
 
 -- a block stands at one of these nodes, and not at the same of those
 abbrev pub HasMoved : Nodes → Nodes → ℕ → Type 0
-HasMoved from to b = HasLeft from.blocks.items to.blocks.items b ⊎ HasLeft from.over.items to.over.items b
+HasMoved from to b = (m : ℕ) × (i : ℕ) × (node from m i ≡ Block b) × (node to m i ≡ Block b → ⊥)
 
--- Pointers were placed over settled ones, on a disk of so many blocks: each leads where the settled one did, or to a block that was
--- given out, and no two of these to one.
-pub record ArePlacedAt (old new : Draft) (settled placed : List Pointer) : Type 0 where
-  pub within : All (PointsBelow old.map.count) placed
-  pub from : (i b : ℕ) → pointer_at placed i ≡ Block b → (pointer_at settled i ≡ Block b) ⊎ WasTaken old new b
-  pub apart : (i j b : ℕ) → pointer_at placed i ≡ Block b → pointer_at placed j ≡ Block b
-      → ((pointer_at settled i ≡ Block b) ⊎ (pointer_at settled j ≡ Block b)) ⊎ (i ≡ j)
+-- Nodes of one height were placed over settled ones, on a disk of so many blocks: each leads where the settled one did, or to a block
+-- that was given out, and no two of these to one.
+pub record ArePlacedAt (old new : Draft) (settled : ℕ → Pointer) (placed : PlaceMap) : Type 0 where
+  pub within : AreBelow old.map.count placed
+  pub from : (i b : ℕ) → place_at placed i ≡ Block b → (settled i ≡ Block b) ⊎ WasTaken old new b
+  pub apart : (i j b : ℕ) → place_at placed i ≡ Block b → place_at placed j ≡ Block b
+      → ((settled i ≡ Block b) ⊎ (settled j ≡ Block b)) ⊎ (i ≡ j)
 
--- the same of all nodes of a file
+-- the same of all nodes at some heights of a file: from one on and below another
+pub record ArePlacedIn (least past : ℕ) (old new : Draft) (settled placed : Nodes) : Type 0 where
+  pub within : (m i : ℕ) → least ≤ m → m < past → PointsBelow old.map.count (node placed m i)
+  pub from : (m i b : ℕ) → least ≤ m → m < past → node placed m i ≡ Block b → (node settled m i ≡ Block b) ⊎ WasTaken old new b
+  pub apart : (m i k j b : ℕ) → least ≤ m → m < past → least ≤ k → k < past → node placed m i ≡ Block b → node placed k j ≡ Block b
+      → ((node settled m i ≡ Block b) ⊎ (node settled k j ≡ Block b)) ⊎ ((m ≡ k) × (i ≡ j))
+
+-- and of all nodes of a file
 pub record ArePlacedOver (old new : Draft) (settled placed : Nodes) : Type 0 where
-  pub blocks_within : All (PointsBelow old.map.count) placed.blocks.items
-  pub over_within : All (PointsBelow old.map.count) placed.over.items
+  pub within : AreWithin old.map.count placed
   pub from : (m i b : ℕ) → node placed m i ≡ Block b → (node settled m i ≡ Block b) ⊎ WasTaken old new b
   pub apart : (m i k j b : ℕ) → node placed m i ≡ Block b → node placed k j ≡ Block b
       → ((node settled m i ≡ Block b) ⊎ (node settled k j ≡ Block b)) ⊎ ((m ≡ k) × (i ≡ j))
 
--- How many settled nodes of a file there are: as many blocks as the tree counts, and indirect blocks where it counts some below them;
--- without these no more blocks count than an inode has pointers.
+-- of the settled nodes of a file as many heights were read as its tree has, and past the nodes that it counts there all are holes
 pub record AreCounted (t : BlockTree) (n : Nodes) : Type 0 where
-  pub blocks : length n.blocks.items ≡ t.count
-  pub over : length n.over.items ≡ 0 → (t.depth ≡ 0) ⊎ (t.count ≡ 0)
-  pub few : length n.over.items ≡ 0 → t.kept ≤ BODY_POINTERS
+  pub heights : height_of n ≡ suc t.depth
+  pub end : (m i : ℕ) → nodes_at t.count m ≤ i → node n m i ≡ Hole

@@ -1,33 +1,29 @@
 -- How many blocks a file may take of a disk.
 use Rattle.std.specs.Prelude.{ℕ, zero, suc, ◌+◌, ◌==◌, min, nat_lt, if◌then◌else◌}
-use Rattle.std.specs.Int.{div_ceil}
 use Rattle.layout.specs.Version.{level_of}
-use Rattle.layout.specs.declared.TheConstants.{BLOCK_POINTERS}
+use Rattle.blocktree.specs.Names.{nodes_at}
 use Rattle.blocktree.specs.Places.{block_count, depth_of}
 use Rattle.inode.specs.declared.file.File.{File}
-use Rattle.conspoint.specs.Space.{changed_blocks}
+use Rattle.conspoint.specs.Space.{changed_blocks, sum_below}
 
--- the indirect blocks over so many blocks, at a level
-abbrev pub over_nodes : ℕ → ℕ → ℕ
-over_nodes zero blocks = 0
-over_nodes (suc zero) blocks = 0
-over_nodes (suc (suc level)) blocks = div_ceil blocks BLOCK_POINTERS
-
--- all nodes of a file at a level that has so many blocks: one that its inode has room for stores none
+-- all nodes of a file at a level that has so many blocks, height by height: one that its inode has room for has none
 abbrev pub level_nodes : ℕ → ℕ → ℕ
-level_nodes zero blocks = 0
-level_nodes (suc level) blocks = blocks + over_nodes (suc level) blocks
+level_nodes level blocks = sum_below (nodes_at blocks) level
 
 -- all blocks that a file of so many bytes may take: its own, and the indirect blocks over them
 abbrev pub file_nodes : ℕ → ℕ
 file_nodes size = level_nodes (level_of size) (block_count size)
 
--- What a consistency point stores of a file at a level, where so many of its blocks are changed: these, and at the most one indirect
--- block for each of them, and so many more.
+-- What a consistency point stores of a file's nodes at a height, where so many of its blocks are changed: these, over them at the most one
+-- indirect block for each, and so many more, and higher up all that there are.
+unfoldable pub height_stores : ℕ → ℕ → ℕ → ℕ → ℕ
+height_stores blocks changed more zero = changed
+height_stores blocks changed more (suc zero) = min (nodes_at blocks 1) (changed + more)
+height_stores blocks changed more (suc (suc height)) = nodes_at blocks (suc (suc height))
+
+-- and of all of them at a level
 abbrev pub level_stores : ℕ → ℕ → ℕ → ℕ → ℕ
-level_stores zero blocks changed more = 0
-level_stores (suc level) blocks changed more =
-    changed + min (over_nodes (suc level) blocks) (changed + more)
+level_stores level blocks changed more = sum_below (height_stores blocks changed more) level
 
 -- one indirect block more where settled blocks of the file were cut off, or it has another level than it had
 abbrev pub more_over : File → ℕ

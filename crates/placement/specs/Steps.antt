@@ -1,10 +1,13 @@
 -- What the steps that place a file promise.
-use Rattle.std.specs.Prelude.{ℕ, ◌≡◌, ◌<◌, All, true, Result, OnOk, IfOk, IsErrOf}
+use Rattle.std.specs.Prelude.{ℕ, zero, suc, ◌≡◌, ◌<◌, ◌≤◌, All, true, Result, OnOk, IfOk, IsErrOf}
+use Rattle.layout.specs.declared.pointer.Pointer.{Pointer}
+use Rattle.blocktree.specs.Names.{nodes_at}
 use Rattle.buffers.specs.Reads.{ReadsBlocks}
 use Rattle.buffers.specs.declared.blocks.Blocks.{Ghosts}
 use Rattle.conspoint.specs.Drafts.{Grows, IsReserved, WasTaken}
 use Rattle.conspoint.specs.Errors.{IsReadFault}
-use Rattle.conspoint.specs.Space.{Lacks, TakesAtMost}
+use Rattle.conspoint.specs.Space.{CountsGroups, Lacks, TakesAtMost, sum_below}
+use Rattle.conspoint.specs.Steps.{Places}
 use Rattle.conspoint.specs.declared.draft.Draft.{Draft}
 use Rattle.conspoint.specs.declared.error.PlanError.{PlanError}
 use Rattle.conspoint.specs.declared.error.PlanError.TheVariants.{NoSpace}
@@ -20,6 +23,18 @@ pub record ReadsAndPlaces {B T : Type 0} (G : Ghosts B) (n : ℕ) (blocks after 
   pub others : (p : ℕ) → IsReserved old p → IsReserved new p
   pub takes : OnOk result (TakesAtMost n old new)
   pub lacks : IsErrOf result NoSpace → Lacks n old
+
+-- how many nodes are placed over so many blocks at a height, where these numbers count the groups of blocks over which one is stored, and
+-- higher up all count
+unfoldable pub raise_stores : ℕ → (ℕ → ℕ) → ℕ → ℕ
+raise_stores blocks w zero = 0
+raise_stores blocks w (suc zero) = sum_below w (nodes_at blocks 1)
+raise_stores blocks w (suc (suc height)) = nodes_at blocks (suc (suc height))
+
+-- a step that places the nodes over so many blocks of a file at a level
+abbrev pub PlacesHeights : {T : Type 0} → ℕ → ℕ → (ℕ → ℕ → Pointer) → (ℕ → ℕ → Pointer) → Draft → Draft → Result T PlanError → Type 0
+PlacesHeights blocks level settled nodes old new result =
+    (w : ℕ → ℕ) → (2 ≤ level → CountsGroups w (nodes_at blocks 1) settled nodes) → Places (sum_below (raise_stores blocks w) level) old new result
 
 -- the file of an answer that has something beside it
 abbrev pub file_in : {T : Type 0} → PlacedFile × T → PlacedFile

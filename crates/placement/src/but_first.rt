@@ -1,22 +1,22 @@
 //! A changed file whose first block comes later: the inode file's, which has the inode of the block map.
 
-ghost use Rattle.std.specs.Prelude.{◌≡◌, ℕ, ◌<◌, ◌≤◌, ◌^◌, ◌+◌, List, length, All, IfOk, IsErrOf, nat_lt, if◌then◌else◌};
+ghost use Rattle.std.specs.Prelude.{◌≡◌, ℕ, ◌<◌, ◌≤◌, ◌+◌, List, IfOk, IsErrOf, nat_lt, if◌then◌else◌};
 ghost use Rattle.layout.specs.Limits.{Sizes};
 ghost use Rattle.layout.specs.Places.{pointed};
-ghost use Rattle.layout.specs.Pointer.{PointsBelow};
 ghost use Rattle.layout.specs.declared.TheConstants.{BLOCK_BYTES};
 ghost use Rattle.layout.specs.declared.inode.Inode.{Inode};
 ghost use Rattle.layout.specs.declared.pointer.Pointer.TheVariants.{Hole, Block};
 ghost use Rattle.images.specs.Contents.{content_of};
 ghost use Rattle.images.specs.Nodes.{held, Agrees, Names};
+ghost use Rattle.blocktree.specs.PlaceMaps.{EndBefore, place_at};
+ghost use Rattle.blocktree.specs.Places.{block_count};
 ghost use Rattle.blocktree.specs.Trees.{IsChanged};
 ghost use Rattle.conspoint.specs.Blocks.{changed_or};
 ghost use Rattle.conspoint.specs.Drafts.{OnEach, IsReserved};
-ghost use Rattle.conspoint.specs.Groups.{pointer_at};
 ghost use Rattle.conspoint.specs.Space.{changed_blocks};
 ghost use Rattle.placement.specs.Files.{IsChangeOf, IsPlaced, content_with, is_one, object_block, with_first};
 ghost use Rattle.placement.specs.Layouts.{AreSettled, IsLaidOut, inode_with};
-ghost use Rattle.placement.specs.Nodes.{AreCounted, ArePlacedAt, ArePlacedOver};
+ghost use Rattle.placement.specs.Nodes.{AreCounted, ArePlacedAt, ArePlacedOver, AreShort, AreWithin, height_of, node};
 ghost use Rattle.placement.specs.Space.{first_stores};
 ghost use Rattle.conspoint.specs.Steps.{Places};
 ghost use Rattle.placement.specs.Steps.{PlacesFile, file_in};
@@ -25,51 +25,41 @@ use crate::blocks::place_lowest;
 use crate::file::{Laid, PlacedFile, block_count, lay_over, placed_file};
 use crate::nodes::Nodes;
 use crate::settled::settled_nodes;
-use blocktree::BlockTree;
+use blocktree::{BlockTree, PlaceMap};
 use buffers::Blocks;
 use conspoint::{Draft, PlanError};
 use inode::Object;
 use layout::{BlockNumber, Pointer};
 use std::alloc::Global;
 
-/// These pointers, with one to this block as the first.
-fn with_first(pointers: Vec<Pointer>, first: BlockNumber) -> Vec<Pointer>
-    requires { 0 < length pointers.items }
-    ensures count { length result.items ≡ length pointers.items }
-    ensures first { pointer_at result.items 0 ≡ Block first }
-    ensures others { (i : ℕ) → 1 ≤ i → pointer_at result.items i ≡ pointer_at pointers.items i }
-{
-    let mut all = pointers;
-    all[0] = Pointer::Block(first);
-    all
-}
-
-/// Pointers to a file's `count` blocks, where its settled ones are these. The place of block 0 is only reserved.
+/// The places of a file's `count` blocks, over its settled nodes. The place of block 0 is only reserved.
 fn place_but_first(
     alloc: Global,
     draft: &mut Draft,
     tree: &BlockTree,
-    settled: &[Pointer],
-    count: usize,
-) -> Result<(Vec<Pointer>, BlockNumber), PlanError>
-    requires few { count < 2 ^ 32 }
+    settled: &Nodes,
+    count: u32,
+) -> Result<(PlaceMap, BlockNumber), PlanError>
     requires some { 0 < count }
-    requires within { All (PointsBelow draft.old.map.count) settled.now }
+    requires height { 0 < height_of settled.now }
+    requires settled { AreWithin draft.old.map.count settled.now }
     ensures step { Places (changed_blocks tree.now 1 count + 1) draft.old draft.new result }
     ensures unchanged { IfOk result (λ r. (i : ℕ) → i < count → 1 ≤ i
-        → (IsChanged tree.now i → ⊥) → pointer_at r.0.items i
-        ≡ (if nat_lt i tree.now.kept then pointer_at settled.now i else Hole)) }
+        → (IsChanged tree.now i → ⊥) → place_at r.0 i
+        ≡ (if nat_lt i tree.now.kept then node settled.now 0 i else Hole)) }
     ensures reserved { IfOk result (λ r. IsReserved draft.new r.1) }
-    ensures count { IfOk result (λ r. length r.0.items ≡ count) }
-    ensures first { IfOk result (λ r. pointer_at r.0.items 0 ≡ Block r.1) }
+    ensures end { IfOk result (λ r. EndBefore count r.0) }
+    ensures first { IfOk result (λ r. place_at r.0 0 ≡ Block r.1) }
     ensures blocks { IfOk result (λ r. OnEach draft.new (λ e. (i : ℕ) → i < count
-        → 1 ≤ i → pointed e (pointer_at r.0.items i) ≡ changed_or tree.now i (pointed e
-        (if nat_lt i tree.now.kept then pointer_at settled.now i else Hole)))) }
-    ensures placed { IfOk result (λ r. ArePlacedAt draft.old draft.new settled.now r.0.items) }
+        → 1 ≤ i → pointed e (place_at r.0 i) ≡ changed_or tree.now i (pointed e
+        (if nat_lt i tree.now.kept then node settled.now 0 i else Hole)))) }
+    ensures placed { IfOk result (λ r.
+        ArePlacedAt draft.old draft.new (node settled.now 0) r.0) }
 {
-    let below = place_lowest(alloc, draft, tree, 1, settled, count)?;
+    let mut places = place_lowest(alloc, draft, tree, 1, settled, count)?;
     let first = draft.reserve()?;
-    Ok((with_first(below, first), first))
+    places.set(0, Pointer::Block(first))?;
+    Ok((places, first))
 }
 
 /// An object, over the nodes of its settled inode. The place of its block 0 is only reserved.
@@ -80,12 +70,12 @@ fn lay_but_first(
     settled: &Nodes,
 ) -> Result<(Laid, BlockNumber), PlanError>
     requires some { BLOCK_BYTES ≤ object.now.file.size }
-    requires blocks { All (PointsBelow draft.old.map.count) settled.now.blocks.items }
-    requires over { All (PointsBelow draft.old.map.count) settled.now.over.items }
+    requires settled { AreWithin draft.old.map.count settled.now }
     requires counted { AreCounted object.now.file.tree settled.now }
     ensures step { Places (first_stores object.now.file) draft.old draft.new result }
     ensures reserved { IfOk result (λ r. IsReserved draft.new r.1) }
     ensures placed { IfOk result (λ r. ArePlacedOver draft.old draft.new settled.now r.0.nodes) }
+    ensures short { IfOk result (λ r. AreShort (block_count object.now.file.size) r.0.nodes) }
     ensures stands { (s : Sizes) (disk : ℕ → List ℕ) (base : Inode)
         → IsChangeOf s draft.old disk base object.now
         → AreSettled disk base object.now.file.tree settled.now
@@ -94,7 +84,7 @@ fn lay_but_first(
         (inode_with object.now r.0.body) r.0.nodes)) }
 {
     let count = block_count(object);
-    let placed = place_but_first(alloc, draft, object.file.tree(), &settled.blocks, count)?;
+    let placed = place_but_first(alloc, draft, object.file.tree(), settled, count)?;
     let (blocks, first) = placed;
     let laid = lay_over(alloc, draft, object, settled, blocks)?;
     Ok((laid, first))

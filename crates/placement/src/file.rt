@@ -1,39 +1,39 @@
 //! A changed file, placed.
 
 ghost use Rattle.std.specs.Prelude.{◌≡◌, ◌≢◌, ℕ, ◌<◌, ◌≤◌, List, [], length, All, Contains, ◌↔◌, IfOk, IsErrOf, nat_lt, if◌then◌else◌};
-ghost use Rattle.std.specs.Int.{div_ceil};
 ghost use Rattle.layout.specs.Limits.{Sizes};
-ghost use Rattle.layout.specs.Pointer.{PointsBelow};
 ghost use Rattle.layout.specs.Version.{level_of};
-ghost use Rattle.layout.specs.declared.TheConstants.{BLOCK_POINTERS};
 ghost use Rattle.layout.specs.declared.inode.Inode.{Inode};
 ghost use Rattle.layout.specs.declared.pointer.Pointer.TheVariants.{Hole};
 ghost use Rattle.images.specs.Contents.{content_of};
 ghost use Rattle.images.specs.Nodes.{held, Agrees, Names};
 ghost use Rattle.images.specs.Soundness.{HasNoHole, IsSoundFile};
+ghost use Rattle.blocktree.specs.Names.{nodes_at};
+ghost use Rattle.blocktree.specs.PlaceMaps.{AreBelow, EndBefore, place_at};
 ghost use Rattle.blocktree.specs.Places.{block_count};
 ghost use Rattle.blocktree.specs.Trees.{IsChanged, IsSoundAt};
 ghost use Rattle.inode.specs.Files.{IsFile};
 ghost use Rattle.conspoint.specs.Drafts.{OnEach};
-ghost use Rattle.conspoint.specs.Groups.{group, pointer_at};
+ghost use Rattle.conspoint.specs.Groups.{group};
 ghost use Rattle.placement.specs.Files.{AreAllChanged, IsChangeOf, IsPlaced, IsWholeOver, is_one, object_block, object_content};
-ghost use Rattle.placement.specs.Layouts.{AreSettled, Carries, IsLaidOut, LeadTo, StandsIn, inode_with, under};
-ghost use Rattle.placement.specs.Nodes.{AreCounted, ArePlacedAt, ArePlacedOver, HasMoved};
-ghost use Rattle.placement.specs.Space.{file_stores, over_nodes};
-ghost use Rattle.conspoint.specs.Steps.{Places, PlacesOver};
-ghost use Rattle.placement.specs.Steps.{PlacesFile, ReadsAndPlaces};
+ghost use Rattle.placement.specs.Layouts.{AreSettled, Carries, IsLaidOut, StandsIn, inode_with};
+ghost use Rattle.placement.specs.Nodes.{AreCounted, ArePlacedIn, ArePlacedOver, AreShort, AreWithin, HasMoved, height_of, node, under};
+ghost use Rattle.placement.specs.Space.{file_stores};
+ghost use Rattle.conspoint.specs.Steps.{Places};
+ghost use Rattle.placement.specs.Steps.{PlacesFile, PlacesHeights, ReadsAndPlaces};
 ghost use Rattle.buffers.specs.Reads.{ReadsBlocks};
 ghost use Rattle.conspoint.specs.Errors.{IsReadFault};
 
 use crate::blocks::place_lowest;
-use crate::indirect::place_indirect;
 use crate::inline::inline_bytes;
 use crate::nodes::{Nodes, body_of, moved};
+use crate::raising::raise_all;
 use crate::settled::settled_nodes;
+use blocktree::PlaceMap;
 use buffers::Blocks;
 use conspoint::{Draft, PlanError};
-use inode::Object;
-use layout::{BlockNumber, Body, Inode, Pointer, level_of};
+use inode::{Object, nodes_are_where_pointers_lead};
+use layout::{BlockNumber, Body, Inode, level_of};
 use std::alloc::{AllocError, Global};
 
 /// A file that has places for all its nodes.
@@ -55,55 +55,10 @@ pub(crate) struct Laid {
 }
 
 /// How many blocks an object has.
-pub(crate) fn block_count(object: &Object) -> usize
+pub(crate) fn block_count(object: &Object) -> u32
     ensures { result ≡ block_count object.now.file.size }
 {
-    object.file.size().div_ceil(4096) as usize
-}
-
-/// A file of level 1: its inode has the pointers to its blocks.
-fn lay_direct(alloc: Global, object: &Object, blocks: Vec<Pointer>) -> Laid
-    requires level { level_of object.now.file.size ≡ 1 }
-    requires count { length blocks.items ≡ block_count object.now.file.size }
-    ensures blocks { result.nodes.blocks.items ≡ blocks.items }
-    ensures over { result.nodes.over.items ≡ [] }
-    ensures stands { (s : Sizes) (e : ℕ → List ℕ) (block : ℕ → List ℕ)
-        → All (PointsBelow s.blocks) blocks.items → LeadTo e blocks.items block
-        → IsLaidOut s e block (inode_with object.now result.body) result.nodes }
-{
-    let body = Body::Pointers(body_of(&blocks));
-    let nodes = Nodes {
-        blocks,
-        over: Vec::new(alloc),
-    };
-    Laid { nodes, body }
-}
-
-/// A file of level 2: its inode has the pointers to the indirect blocks over its blocks.
-fn lay_indirect(
-    alloc: Global,
-    draft: &mut Draft,
-    object: &Object,
-    settled: &Nodes,
-    blocks: Vec<Pointer>,
-) -> Result<Laid, PlanError>
-    requires level { level_of object.now.file.size ≡ 2 }
-    requires count { length blocks.items ≡ block_count object.now.file.size }
-    requires blocks { All (PointsBelow draft.old.map.count) blocks.items }
-    requires over { All (PointsBelow draft.old.map.count) settled.now.over.items }
-    ensures step { PlacesOver (div_ceil (block_count object.now.file.size) BLOCK_POINTERS) (under settled.now) (group blocks.items) draft.old draft.new result }
-    ensures blocks { IfOk result (λ l. l.nodes.blocks.items ≡ blocks.items) }
-    ensures over { IfOk result (λ l.
-        ArePlacedAt draft.old draft.new settled.now.over.items l.nodes.over.items) }
-    ensures stands { (s : Sizes) (disk : ℕ → List ℕ) (base : Inode)
-        → s.blocks ≡ draft.old.map.count → IsSoundFile s (held disk base)
-        → AreSettled disk base object.now.file.tree settled.now → IfOk result (λ l.
-        Carries s draft.new disk base blocks.items (inode_with object.now l.body) l.nodes) }
-{
-    let over = place_indirect(alloc, draft, settled, &blocks)?;
-    let body = Body::Pointers(body_of(&over));
-    let nodes = Nodes { blocks, over };
-    Ok(Laid { nodes, body })
+    object.file.size().div_ceil(4096) as u32
 }
 
 /// A file with these blocks, at the level that its size has, which isn't 0.
@@ -112,26 +67,30 @@ pub(crate) fn lay_over(
     draft: &mut Draft,
     object: &Object,
     settled: &Nodes,
-    blocks: Vec<Pointer>,
+    blocks: PlaceMap,
 ) -> Result<Laid, PlanError>
     requires level { 1 ≤ level_of object.now.file.size }
-    requires count { length blocks.items ≡ block_count object.now.file.size }
-    requires blocks { All (PointsBelow draft.old.map.count) blocks.items }
-    requires over { All (PointsBelow draft.old.map.count) settled.now.over.items }
-    ensures step { PlacesOver (over_nodes (level_of object.now.file.size) (block_count object.now.file.size)) (under settled.now) (group blocks.items) draft.old draft.new result }
-    ensures blocks { IfOk result (λ l. l.nodes.blocks.items ≡ blocks.items) }
-    ensures over { IfOk result (λ l.
-        ArePlacedAt draft.old draft.new settled.now.over.items l.nodes.over.items) }
+    requires end { EndBefore (block_count object.now.file.size) blocks }
+    requires blocks { AreBelow draft.old.map.count blocks }
+    requires settled { AreWithin draft.old.map.count settled.now }
+    ensures step { PlacesHeights (block_count object.now.file.size) (level_of object.now.file.size) (under settled.now 0) (group blocks) draft.old draft.new result }
+    ensures blocks { IfOk result (λ l. (i : ℕ) → node l.nodes 0 i ≡ place_at blocks i) }
+    ensures end { IfOk result (λ l. (m i : ℕ)
+        → nodes_at (block_count object.now.file.size) m ≤ i → node l.nodes m i ≡ Hole) }
+    ensures heights { IfOk result (λ l.
+        height_of l.nodes ≡ level_of object.now.file.size) }
+    ensures placed { IfOk result (λ l. ArePlacedIn 1 (level_of object.now.file.size)
+        draft.old draft.new settled.now l.nodes) }
     ensures stands { (s : Sizes) (disk : ℕ → List ℕ) (base : Inode)
         → s.blocks ≡ draft.old.map.count → IsSoundFile s (held disk base)
         → AreSettled disk base object.now.file.tree settled.now → IfOk result (λ l.
-        Carries s draft.new disk base blocks.items (inode_with object.now l.body) l.nodes) }
+        Carries s draft.new disk base (place_at blocks) (inode_with object.now l.body) l.nodes) }
 {
-    if level_of(object.file.size()) == 1 {
-        return Ok(lay_direct(alloc, object, blocks));
-    }
-    let laid = lay_indirect(alloc, draft, object, settled, blocks)?;
-    Ok(laid)
+    let level = usize::from(level_of(object.file.size()));
+    let nodes = raise_all(alloc, draft, settled, blocks, block_count(object), level)?;
+    let highest = nodes.height(level - 1);
+    let body = Body::Pointers(body_of(highest));
+    Ok(Laid { nodes, body })
 }
 
 /// An object that isn't of level 0, over the nodes of its settled inode.
@@ -142,17 +101,17 @@ fn lay_blocks(
     settled: &Nodes,
 ) -> Result<Laid, PlanError>
     requires level { 1 ≤ level_of object.now.file.size }
-    requires blocks { All (PointsBelow draft.old.map.count) settled.now.blocks.items }
-    requires over { All (PointsBelow draft.old.map.count) settled.now.over.items }
+    requires settled { AreWithin draft.old.map.count settled.now }
     requires counted { AreCounted object.now.file.tree settled.now }
     ensures step { Places (file_stores object.now.file) draft.old draft.new result }
     ensures holes { IfOk result (λ l. (i : ℕ) → i < block_count object.now.file.size
-        → pointer_at l.nodes.blocks.items i ≡ Hole
-        → (if nat_lt i object.now.file.tree.kept then pointer_at settled.now.blocks.items i
+        → node l.nodes 0 i ≡ Hole
+        → (if nat_lt i object.now.file.tree.kept then node settled.now 0 i
         else Hole) ≡ Hole) }
     ensures stored { IfOk result (λ l. (i : ℕ) → i < block_count object.now.file.size
-        → IsChanged object.now.file.tree i → pointer_at l.nodes.blocks.items i ≢ Hole) }
+        → IsChanged object.now.file.tree i → node l.nodes 0 i ≢ Hole) }
     ensures placed { IfOk result (λ l. ArePlacedOver draft.old draft.new settled.now l.nodes) }
+    ensures short { IfOk result (λ l. AreShort (block_count object.now.file.size) l.nodes) }
     ensures stands { (s : Sizes) (disk : ℕ → List ℕ) (base : Inode)
         → IsChangeOf s draft.old disk base object.now
         → AreSettled disk base object.now.file.tree settled.now
@@ -160,7 +119,7 @@ fn lay_blocks(
         StandsIn s draft.new disk base object.now (inode_with object.now l.body) l.nodes) }
 {
     let count = block_count(object);
-    let blocks = place_lowest(alloc, draft, object.file.tree(), 0, &settled.blocks, count)?;
+    let blocks = place_lowest(alloc, draft, object.file.tree(), 0, settled, count)?;
     let laid = lay_over(alloc, draft, object, settled, blocks)?;
     Ok(laid)
 }
@@ -169,7 +128,7 @@ fn lay_blocks(
 fn lay_inline<B: Blocks>(alloc: Global, blocks: &mut B, object: &Object) -> Result<Laid, PlanError>
     requires level { level_of object.now.file.size ≡ 0 }
     ensures reads { ReadsBlocks B.Blocks IsReadFault blocks.old blocks.new result }
-    ensures none { IfOk result (λ l. (l.nodes.blocks.items ≡ []) × (l.nodes.over.items ≡ [])) }
+    ensures none { IfOk result (λ l. l.nodes.heights.items ≡ []) }
     ensures stands { (s : Sizes) (disk : ℕ → List ℕ) (e : ℕ → List ℕ) → B.Shows blocks.old disk
         → IsFile disk object.now.file → IfOk result (λ l.
         IsLaidOut s e (object_block disk object.now) (inode_with object.now l.body) l.nodes) }
@@ -180,8 +139,7 @@ fn lay_inline<B: Blocks>(alloc: Global, blocks: &mut B, object: &Object) -> Resu
 {
     let body = Body::Inline(inline_bytes(alloc, blocks, &object.file)?);
     let nodes = Nodes {
-        blocks: Vec::new(alloc),
-        over: Vec::new(alloc),
+        heights: Vec::new(alloc),
     };
     Ok(Laid { nodes, body })
 }
@@ -194,19 +152,19 @@ fn lay<B: Blocks>(
     object: &Object,
     settled: &Nodes,
 ) -> Result<Laid, PlanError>
-    requires blocks { All (PointsBelow draft.old.map.count) settled.now.blocks.items }
-    requires over { All (PointsBelow draft.old.map.count) settled.now.over.items }
+    requires settled { AreWithin draft.old.map.count settled.now }
     requires counted { AreCounted object.now.file.tree settled.now }
     ensures step { ReadsAndPlaces B.Blocks (file_stores object.now.file) blocks.old blocks.new draft.old draft.new result }
     ensures holes { IfOk result (λ l. (i : ℕ)
         → 1 ≤ level_of object.now.file.size → i < block_count object.now.file.size
-        → pointer_at l.nodes.blocks.items i ≡ Hole
-        → (if nat_lt i object.now.file.tree.kept then pointer_at settled.now.blocks.items i
+        → node l.nodes 0 i ≡ Hole
+        → (if nat_lt i object.now.file.tree.kept then node settled.now 0 i
         else Hole) ≡ Hole) }
     ensures stored { IfOk result (λ l. (i : ℕ)
         → 1 ≤ level_of object.now.file.size → i < block_count object.now.file.size
-        → IsChanged object.now.file.tree i → pointer_at l.nodes.blocks.items i ≢ Hole) }
+        → IsChanged object.now.file.tree i → node l.nodes 0 i ≢ Hole) }
     ensures placed { IfOk result (λ l. ArePlacedOver draft.old draft.new settled.now l.nodes) }
+    ensures short { IfOk result (λ l. AreShort (block_count object.now.file.size) l.nodes) }
     ensures stands { (s : Sizes) (disk : ℕ → List ℕ) (base : Inode) → B.Shows blocks.old disk
         → IsChangeOf s draft.old disk base object.now
         → AreSettled disk base object.now.file.tree settled.now
@@ -216,6 +174,7 @@ fn lay<B: Blocks>(
         → IsChangeOf s draft.old disk base object.now → s.blocks ≡ B.count blocks.old
         → IsErrOf result PlanError.Damaged → ⊥ }
 {
+    nodes_are_where_pointers_lead();
     if level_of(object.file.size()) == 0 {
         let small = lay_inline(alloc, blocks, object)?;
         return Ok(small);
@@ -231,21 +190,21 @@ pub(crate) fn placed_file(
     settled: &Nodes,
     laid: Laid,
 ) -> Result<PlacedFile, AllocError>
+    requires laid { AreShort (block_count object.now.file.size) laid.nodes }
+    requires counted { AreCounted object.now.file.tree settled.now }
     ensures inode { IfOk result (λ p. p.inode ≡ inode_with object.now laid.body) }
     ensures taken { IfOk result (λ p. (b : ℕ)
         → Contains p.taken.items b ↔ HasMoved laid.nodes settled.now b) }
     ensures freed { IfOk result (λ p. (b : ℕ)
         → Contains p.freed.items b ↔ HasMoved settled.now laid.nodes b) }
-    ensures taken_within { (count : ℕ) → All (PointsBelow count) laid.nodes.blocks.items
-        → All (PointsBelow count) laid.nodes.over.items
+    ensures taken_within { (count : ℕ) → AreWithin count laid.nodes
         → IfOk result (λ p. All (λ b. b < count) p.taken.items) }
-    ensures freed_within { (count : ℕ) → All (PointsBelow count) settled.now.blocks.items
-        → All (PointsBelow count) settled.now.over.items
+    ensures freed_within { (count : ℕ) → AreWithin count settled.now
         → IfOk result (λ p. All (λ b. b < count) p.freed.items) }
 {
     let Laid { nodes, body } = laid;
-    let taken = moved(alloc, &nodes, settled)?;
-    let freed = moved(alloc, settled, &nodes)?;
+    let taken = moved(alloc, &nodes, settled, block_count(object))?;
+    let freed = moved(alloc, settled, &nodes, object.file.tree().count())?;
     let inode = Inode {
         kind: object.attributes.kind,
         mode: object.attributes.mode,

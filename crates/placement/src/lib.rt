@@ -5,9 +5,9 @@
 mod blocks;
 mod but_first;
 mod file;
-mod indirect;
 mod inline;
 mod nodes;
+mod raising;
 mod settled;
 
 pub use but_first::place_file_but_first;

@@ -1,161 +1,164 @@
-//! The places of a file's nodes.
+//! The places of a file's nodes, by height.
 
-ghost use Rattle.std.specs.Prelude.{◌≡◌, ℕ, ◌<◌, ◌≤◌, ◌⊎◌, All, Contains, IfOk, OnOk, IfSome, IfNone, ◌↔◌, length, nat_lt, if◌then◌else◌};
+ghost use Rattle.std.specs.Prelude.{◌≡◌, ℕ, ◌+◌, ◌<◌, ◌≤◌, ◌⊎◌, ◌^◌, All, Contains, IfOk, OnOk, IsTrue, ◌↔◌, length, nat_lt, if◌then◌else◌};
 ghost use Rattle.layout.specs.Pointer.{PointsBelow};
 ghost use Rattle.layout.specs.declared.TheConstants.{BODY_POINTERS};
 ghost use Rattle.layout.specs.declared.pointer.Pointer.TheVariants.{Hole, Block};
+ghost use Rattle.blocktree.specs.PlaceMaps.{AreBelow, EndBefore, place_at};
 ghost use Rattle.conspoint.specs.Groups.{pointer_at};
 ghost use Rattle.conspoint.specs.MapFiles.{map_nodes};
-ghost use Rattle.placement.specs.Nodes.{HasLeft, HasMoved};
+ghost use Rattle.placement.specs.Nodes.{AreShort, AreWithin, HasLeft, HasMoved, height_of, node};
 
+use blocktree::PlaceMap;
 use layout::{BODY_POINTERS, BlockNumber, Pointer};
 use std::alloc::{AllocError, Global};
 
 /// Where the nodes of a file are.
 #[derive(Debug, Drop)]
 pub struct Nodes {
-    /// Its blocks, by index.
-    pub(crate) blocks: Vec<Pointer>,
-    /// The indirect blocks over each 1,024 of them; none in a file without indirect blocks.
-    pub(crate) over: Vec<Pointer>,
+    /// Those at each height, as far as there are any: its blocks, the indirect blocks over each 1,024 of them, and so on.
+    pub(crate) heights: Vec<PlaceMap>,
 }
 
 impl Nodes {
+    /// The pointer to node `i` at a height: a hole above the highest.
+    pub(crate) fn at(&self, height: usize, i: u32) -> Pointer
+        ensures { result ≡ node self.now height i }
+    {
+        if height < self.heights.len() {
+            return self.height(height).at(i);
+        }
+        Pointer::Hole
+    }
+
+    /// The nodes at one of the heights.
+    pub(crate) fn height(&self, height: usize) -> &PlaceMap
+        requires { height < height_of self.now }
+        ensures { (i : ℕ) → place_at result.now i ≡ node self.now height i }
+    {
+        &self.heights[height]
+    }
+
     /// The nodes of a file of so many blocks in a row: its blocks, and behind them the indirect block over them, where an inode
     /// has no room for their pointers.
     pub fn in_a_row(&self, alloc: Global, count: usize) -> Result<Vec<Pointer>, AllocError>
+        requires { count < 2 ^ 32 }
         ensures count { IfOk result (λ all. length all.items ≡ map_nodes count) }
         ensures blocks { IfOk result (λ all. (i : ℕ) → i < count
-            → pointer_at all.items i ≡ pointer_at self.now.blocks.items i) }
+            → pointer_at all.items i ≡ node self.now 0 i) }
         ensures over { IfOk result (λ all. BODY_POINTERS < count
-            → pointer_at all.items count ≡ pointer_at self.now.over.items 0) }
-        ensures within { (blocks : ℕ) → All (PointsBelow blocks) self.now.blocks.items
-            → All (PointsBelow blocks) self.now.over.items
+            → pointer_at all.items count ≡ node self.now 1 0) }
+        ensures within { (blocks : ℕ) → AreWithin blocks self.now
             → IfOk result (λ all. All (PointsBelow blocks) all.items) }
     {
-        let mut all = stretched(alloc, &self.blocks, count, count)?;
+        let mut all = Vec::new(alloc);
+        for i in 0..count {
+            all.push(self.at(0, i as u32))?;
+        }
         if count <= BODY_POINTERS {
             return Ok(all);
         }
-        all.push(pointer_or_hole(&self.over, 0))?;
+        all.push(self.at(1, 0))?;
         Ok(all)
     }
 }
 
-/// So many pointers, of which the first `kept` are these, as far as these go, and the others holes.
-pub(crate) fn stretched(
+/// Those of the first nodes that are kept, as far as these go.
+pub(crate) fn first_places(
     alloc: Global,
-    pointers: &[Pointer],
-    kept: usize,
-    count: usize,
-) -> Result<Vec<Pointer>, AllocError>
-    ensures count { IfOk result (λ all. length all.items ≡ count) }
-    ensures each { IfOk result (λ all. (i : ℕ) → i < count → pointer_at all.items i
-        ≡ (if nat_lt i kept then pointer_at pointers.now i else Hole)) }
-    ensures within { (blocks : ℕ) → All (PointsBelow blocks) pointers.now
-        → IfOk result (λ all. All (PointsBelow blocks) all.items) }
+    places: &PlaceMap,
+    kept: u32,
+) -> Result<PlaceMap, AllocError>
+    ensures each { IfOk result (λ all. (i : ℕ)
+        → place_at all i ≡ (if nat_lt i kept then place_at places.now i else Hole)) }
 {
-    let mut all = Vec::new(alloc);
-    for i in 0..count {
-        all.push(kept_pointer(pointers, kept, i))?;
+    let mut first = PlaceMap::new(alloc);
+    let mut from = 0;
+    while let Some(node) = places.next(from, kept) {
+        first.set(node.index, Pointer::Block(node.place))?;
+        from = node.index + 1;
     }
-    Ok(all)
+    Ok(first)
 }
 
-/// Pointer `i` of the first `kept`, and a hole past them.
-fn kept_pointer(pointers: &[Pointer], kept: usize, i: usize) -> Pointer
-    ensures value { result ≡ (if nat_lt i kept then pointer_at pointers.now i else Hole) }
-    ensures within { (blocks : ℕ) → All (PointsBelow blocks) pointers.now
-        → PointsBelow blocks result }
-{
-    if i < kept {
-        pointer_or_hole(pointers, i)
-    } else {
-        Pointer::Hole
-    }
-}
-
-/// Pointer `i`; a hole past the end.
-fn pointer_or_hole(pointers: &[Pointer], i: usize) -> Pointer
-    ensures value { result ≡ pointer_at pointers.now i }
-    ensures within { (blocks : ℕ) → All (PointsBelow blocks) pointers.now
-        → PointsBelow blocks result }
-{
-    if i < pointers.len() {
-        pointers[i]
-    } else {
-        Pointer::Hole
-    }
-}
-
-/// An inode's pointers: these, and holes behind them.
-pub(crate) fn body_of(pointers: &[Pointer]) -> [Pointer; BODY_POINTERS]
-    requires { length pointers.now ≤ BODY_POINTERS }
+/// An inode's pointers: these, which end where it has room for no more.
+pub(crate) fn body_of(places: &PlaceMap) -> [Pointer; BODY_POINTERS]
+    requires { EndBefore BODY_POINTERS places.now }
     ensures count { length result ≡ BODY_POINTERS }
-    ensures each { (i : ℕ) → pointer_at result i ≡ pointer_at pointers.now i }
+    ensures each { (i : ℕ) → pointer_at result i ≡ place_at places.now i }
 {
     let mut body = [Pointer::Hole; BODY_POINTERS];
-    for i in 0..pointers.len() {
-        body[i] = pointers[i];
+    for i in 0..BODY_POINTERS {
+        body[i] = places.at(i as u32);
     }
     body
 }
 
-/// The block that stands at a pointer, if the other isn't the same.
-fn left(from: Pointer, to: Pointer) -> Option<BlockNumber>
-    ensures some { IfSome result (λ b. (from ≡ Block b) × (to ≡ Block b → ⊥)) }
-    ensures none { IfNone result ((b : ℕ) → from ≡ Block b → to ≡ Block b) }
+/// Whether a pointer leads to a block.
+fn leads_to(pointer: Pointer, block: BlockNumber) -> bool
+    ensures { IsTrue result ↔ (pointer ≡ Block block) }
 {
-    match from {
-        Pointer::Hole => None,
-        Pointer::Block(block) => match to {
-            Pointer::Block(other) if other.get() == block.get() => None,
-            Pointer::Block(_) => Some(block),
-            Pointer::Hole => Some(block),
-        },
+    match pointer {
+        Pointer::Hole => false,
+        Pointer::Block(other) => other.get() == block.get(),
     }
 }
 
-/// Adds the block at a pointer, if the other isn't the same.
-fn add_one(from: Pointer, to: Pointer, blocks: &mut Vec<BlockNumber>) -> Result<(), AllocError>
+/// Adds a block, if this pointer doesn't lead to it.
+fn add_moved(
+    block: BlockNumber,
+    to: Pointer,
+    blocks: &mut Vec<BlockNumber>,
+) -> Result<(), AllocError>
     ensures left { OnOk result ((b : ℕ) → Contains blocks.new.items b
-        ↔ (Contains blocks.old.items b ⊎ ((from ≡ Block b) × (to ≡ Block b → ⊥)))) }
-    ensures within { (count : ℕ) → PointsBelow count from
+        ↔ (Contains blocks.old.items b ⊎ ((block ≡ b) × (to ≡ Block b → ⊥)))) }
+    ensures within { (count : ℕ) → block < count
         → All (λ b. b < count) blocks.old.items → All (λ b. b < count) blocks.new.items }
 {
-    if let Some(block) = left(from, to) {
+    if !leads_to(to, block) {
         blocks.push(block)?;
     }
     Ok(())
 }
 
-/// Adds the blocks at pointers of one file that don't stand at the same of the other.
+/// Adds the blocks at the first `count` nodes of one height of a file that don't stand at the same of the other.
 fn add_left(
-    from: &[Pointer],
-    to: &[Pointer],
+    from: &PlaceMap,
+    to: &Nodes,
+    height: usize,
+    count: u32,
     blocks: &mut Vec<BlockNumber>,
 ) -> Result<(), AllocError>
+    requires { EndBefore count from.now }
     ensures left { OnOk result ((b : ℕ) → Contains blocks.new.items b
-        ↔ (Contains blocks.old.items b ⊎ HasLeft from.now to.now b)) }
-    ensures within { (count : ℕ) → All (PointsBelow count) from.now
-        → All (λ b. b < count) blocks.old.items → All (λ b. b < count) blocks.new.items }
+        ↔ (Contains blocks.old.items b ⊎ HasLeft from.now (node to.now height) b)) }
+    ensures within { (disk : ℕ) → AreBelow disk from.now
+        → All (λ b. b < disk) blocks.old.items → All (λ b. b < disk) blocks.new.items }
 {
-    for i in 0..from.len() {
-        add_one(from[i], pointer_or_hole(to, i), blocks)?;
+    let mut next = 0;
+    while let Some(node) = from.next(next, count) {
+        add_moved(node.place, to.at(height, node.index), blocks)?;
+        next = node.index + 1;
     }
     Ok(())
 }
 
-/// The blocks at nodes of one file that don't stand at the same of the other.
-pub(crate) fn moved(alloc: Global, from: &Nodes, to: &Nodes) -> Result<Vec<BlockNumber>, AllocError>
+/// The blocks at nodes of one file, of which each height has `count` at the most, that don't stand at the same of the other.
+pub(crate) fn moved(
+    alloc: Global,
+    from: &Nodes,
+    to: &Nodes,
+    count: u32,
+) -> Result<Vec<BlockNumber>, AllocError>
+    requires { AreShort count from.now }
     ensures moved { IfOk result (λ blocks. (b : ℕ)
         → Contains blocks.items b ↔ HasMoved from.now to.now b) }
-    ensures within { (count : ℕ) → All (PointsBelow count) from.now.blocks.items
-        → All (PointsBelow count) from.now.over.items
-        → IfOk result (λ blocks. All (λ b. b < count) blocks.items) }
+    ensures within { (disk : ℕ) → AreWithin disk from.now
+        → IfOk result (λ blocks. All (λ b. b < disk) blocks.items) }
 {
     let mut blocks = Vec::new(alloc);
-    add_left(&from.blocks, &to.blocks, &mut blocks)?;
-    add_left(&from.over, &to.over, &mut blocks)?;
+    for height in 0..from.heights.len() {
+        add_left(from.height(height), to, height, count, &mut blocks)?;
+    }
     Ok(blocks)
 }

@@ -1,10 +1,10 @@
 -- What a change of the snapshots makes of the slots and of the block map's sets.
-use Rattle.std.proofs.Common.{◌≡◌, ◌≢◌, inl, inr, ◌↔◌, ℕ, zero, suc, ◌+◌, ◌-◌, ◌≤◌, Bool, Some, List, length, refl, ap, sym, subst, ◌∙◌, arith}
+use Rattle.std.proofs.Common.{◌≡◌, ◌≢◌, inl, inr, ◌↔◌, ℕ, zero, suc, ◌+◌, ◌≤◌, Bool, Some, List, length, refl, ap, sym, subst, ◌∙◌, arith}
 use Rattle.std.proofs.Math.Path.{fun_ext}
 use Rattle.std.proofs.lemmas.Bool.{cases_eq, cases_lt}
-use Rattle.std.proofs.lemmas.List.{get_or_past, get_or-set_same, get_or-set_other}
+use Rattle.std.proofs.lemmas.List.{get_or_past}
 use Rattle.std.specs.Int.{bit_at}
-use Rattle.std.specs.Prelude.{if◌then◌else◌, slice_index_or, slice_set}
+use Rattle.std.specs.Prelude.{if◌then◌else◌}
 use Rattle.blockmap.specs.Bits.{SetsBit, SetsPlane}
 use Rattle.blockmap.specs.Maps.{entry_at, settled_at}
 use Rattle.blockmap.specs.Parts.{Part}
@@ -15,7 +15,7 @@ use Rattle.images.specs.Points.{Slot}
 use Rattle.images.specs.Points.Slot.{stays, takes, drops}
 use Rattle.images.specs.Roots.{frozen_inode_file, slot, whole}
 use Rattle.images.specs.Snapshots.{AreSnapshots, HasSnapshot}
-use Rattle.images.specs.SnapshotSteps.{SnapshotStep, unchanged, taken, deleted, CanStep, HasHead, IsSlotNumber, SetsSlot, StepsSlots}
+use Rattle.images.specs.SnapshotSteps.{SnapshotStep, unchanged, taken, deleted, CanStep, HasHead, IsSlotNumber, StepsSlots}
 use Rattle.images.specs.States.{IsSound}
 use Rattle.layout.specs.Places.{Blocks, pointed}
 use Rattle.layout.specs.Pointer.{PointsBelow}
@@ -65,21 +65,6 @@ plane_from k p bit old mid after same changes = subst (λ (ps : List Part). Chan
 
 pub plane_active : (k bit : ℕ) (p : Pointer) (plane before after : ℕ → ℕ) → IsSlotNumber k → ChangesPlane k p bit plane before after → KeepsActive before after
 plane_active k bit p plane before after number changes = λ b. changes.others b 0 (omega (arith, number.first)) (omega arith)
-
-other_slots : (r new : Root) (k : ℕ) (p : Pointer) → new.snapshots ≡ slice_set r.snapshots k p → (l : ℕ) → l ≢ suc k → slot new l ≡ slot r l
-other_slots r new k p set zero other = refl
-other_slots r new k p set (suc l) other = ap (λ (xs : List Pointer). slice_index_or xs l Hole) set ∙ get_or-set_other r.snapshots k l p Hole (λ same. other (ap suc same))
-
--- a root with a pointer in one of its slots
-pub slot_set : (r new : Root) (k : ℕ) (p : Pointer) → IsSlotNumber k → length r.snapshots ≡ 20 → new.snapshots ≡ slice_set r.snapshots (k - 1) p → SetsSlot r new k p
-slot_set r new zero p number size is = absurd (omega (arith, number.first))
-slot_set r new (suc k) p number size is =
-    let at : suc k - 1 ≡ k = omega arith in
-    let set : new.snapshots ≡ slice_set r.snapshots k p = is ∙ ap (λ n. slice_set r.snapshots n p) at in
-    record {
-      there = ap (λ (xs : List Pointer). slice_index_or xs k Hole) set ∙ get_or-set_same r.snapshots k p Hole (omega (arith, number.last, size));
-      others = other_slots r new k p set;
-    }
 
 -- ---- the new root's slots and planes
 

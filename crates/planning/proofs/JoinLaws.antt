@@ -26,10 +26,6 @@ use Rattle.planning.specs.Steps.{IsUnderWay}
 use Rattle.planning.proofs.ProgressLaws.{more_planned}
 use Rattle.planning.proofs.SpellingLaws.{PutsOneByOne, one_spelled}
 
--- a block that was taken in a first part of what was planned
-pub taken_later : (old mid new : Draft) (b : ℕ) → Grows mid new → WasTaken old mid b → WasTaken old new b
-taken_later old mid new b goes was = record { from = was.from; to = omega (arith, was.to, goes.next); within = was.within; free = was.free }
-
 -- marks of blocks in a map whose entries are those of before
 pub marked_over : (taken freed : ℕ → Bool) (old mid new : List Part) → mid ≡ old → IsMarked taken freed (entry_at mid) (entry_at new) → IsMarked taken freed (entry_at old) (entry_at new)
 marked_over taken freed old mid new same marked = subst (λ (ps : List Part). IsMarked taken freed (entry_at ps) (entry_at new)) same marked

@@ -16,7 +16,6 @@ mod StartLaws
 mod SettledLaws
 mod LoopLaws
 mod SpaceLaws
-mod CountLaws
 mod TopLaws
 mod PromiseLaws
 mod PlacingLaws

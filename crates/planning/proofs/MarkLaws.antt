@@ -1,8 +1,9 @@
 -- The map's marks of a file's blocks, which are first taken out and then put in.
-use Rattle.std.proofs.Common.{◌≡◌, ◌⊎◌, inl, inr, ℕ, suc, true, false, List, [], ◌∷◌, length, ap, sym, ◌∙◌, arith}
-use Rattle.std.proofs.lemmas.Bool.{cases_eq, eq-eqb, ne_eqb, cases_Bool}
+use Rattle.std.proofs.Common.{◌≡◌, ◌⊎◌, inl, inr, ℕ, true, false, List, length, ap, sym, ◌∙◌, arith}
+use Rattle.std.proofs.lemmas.Bool.{eq-eqb, eqb-true, cases_Bool}
 use Rattle.std.proofs.lemmas.List.Folds.{list_any_at}
-use Rattle.std.specs.Prelude.{◌==◌, ◌||◌, slice_index}
+use Rattle.std.proofs.lemmas.Map.Views.{Contains-from_any}
+use Rattle.std.specs.Prelude.{◌==◌, slice_index}
 use Rattle.std.specs.Int.{bit_at}
 use Rattle.blockmap.specs.Parts.{Part}
 use Rattle.blockmap.specs.Maps.{entry_at}
@@ -10,16 +11,11 @@ use Rattle.conspoint.specs.Marks.{IsAmong, AreMarked}
 use Rattle.images.specs.BlockMap.{HasBit}
 use Rattle.placement.specs.Files.{is_one}
 use Rattle.planning.specs.Progress.{IsMarked}
+use Rattle.planning.proofs.LoopLaws.{among_all}
 use Rattle.planning.proofs.ProgressLaws.{true_false}
 
 among : (xs : List ℕ) (b : ℕ) → is_one xs b ≡ true → IsAmong xs (length xs) b
-among [] b is = absurd (cc)
-among (x ∷ xs) b is = elim (cases_eq b x) [
-  | inl same ↦ (0, omega arith, sym same)
-  | inr other ↦
-      let rest : IsAmong xs (length xs) b = among xs b (sym (ap (λ t. t || is_one xs b) (ne_eqb b x other)) ∙ is) in
-      (suc rest.0, (let lt = rest.1 in omega arith), rest.2)
-]
+among xs b is = (among_all xs b).0 (Contains-from_any (λ x y e. eqb-true x y e) b xs is)
 
 one_of : (xs : List ℕ) (b : ℕ) → IsAmong xs (length xs) b → is_one xs b ≡ true
 one_of xs b at = list_any_at (λ x. b == x) xs at.0 0 at.1 (eq-eqb b (slice_index xs at.0) (sym at.2))

@@ -1,11 +1,9 @@
 -- One number's file, over its settled inode.
-use Rattle.std.proofs.Common.{◌≡◌, inl, inr, ℕ, suc, ◌-◌, ◌/◌, ◌%◌, ◌<◌, ◌≤◌, ◌++◌, Bool, true, false, List, refl, ap, sym, subst, ◌∙◌, arith}
-use Rattle.std.proofs.lemmas.Bool.{cases_lt, cond-false}
-use Rattle.std.proofs.lemmas.List.{length-replicate, get_or_append_left, get_or-append_right}
+use Rattle.std.proofs.Common.{◌≡◌, inl, inr, ℕ, suc, ◌-◌, ◌/◌, ◌%◌, ◌<◌, ◌≤◌, Bool, true, false, List, refl, ap, sym, subst, ◌∙◌, arith}
+use Rattle.std.proofs.lemmas.Bool.{cond-false}
 use Rattle.std.proofs.lemmas.Bool.Decides.{nat_tests}
 use Rattle.std.specs.Prelude.{nat_lt, slice_index, if◌then◌else◌, Option, Some, None}
 use Rattle.layout.specs.Bytes.{zeros}
-use Rattle.layout.specs.FileBytes.{byte_in}
 use Rattle.layout.specs.Inode.{FitsBody, FitsKind, IsInode}
 use Rattle.layout.specs.Limits.{Sizes}
 use Rattle.layout.specs.Places.{Blocks}
@@ -39,7 +37,7 @@ use Rattle.model.specs.Volumes.{Node, Volume}
 use Rattle.placement.specs.Files.{IsBasedOn, IsPlaced, IsChangeOf, object_content}
 use Rattle.planning.specs.Numbers.{IsCleared, IsNumberPlaced, IsObjectOver, IsOverSettled, IsSettledFile, trimmed}
 use Rattle.placement.specs.Files.IsBasedOn.{settled, none}
-use Rattle.images.proofs.EmptyLaws.{none_named, inline_zero, free_sound, held_inode}
+use Rattle.images.proofs.EmptyLaws.{none_named, free_sound, held_inode}
 use Rattle.layout.proofs.SizeLaws.{level_none}
 use Rattle.layout.proofs.ZeroLaws.{zero_byte}
 
@@ -94,17 +92,6 @@ placed_anew s d e f new left taken came freed gone apart placed cleared nothing 
     from_taken b names = elim (placed.comes b names) [ inl was ↦ absurd (none_named d free_inode refl b was) | inr is ↦ is ]
 
 -- ---- zeros
-
-zero_block : (n m k : ℕ) → slice_index (zeros n ++ zeros m) k ≡ 0
-unfolding zeros
-zero_block n m k = elim (cases_lt k n) [
-  | inl lt ↦ get_or_append_left (zeros n) (zeros m) 0 k (omega (arith, length-replicate {A = ℕ} n 0)) ∙ zero_byte k n
-  | inr le ↦ get_or-append_right (zeros n) (zeros m) n k 0 (length-replicate {A = ℕ} n 0) le ∙ zero_byte (k - n) m
-]
-
-free_ends : (d : Blocks) (p : ℕ) → byte_in (file_block (held d free_inode)) p ≡ 0
-unfolding held
-free_ends d p = inline_zero ((held d free_inode).bytes 0 (p / 4096)) (p / 4096) (p % 4096)
 
 -- past the end of a file of no bytes
 past_end : (size i : ℕ) (bytes : List ℕ) → size ≡ 0 → (if nat_lt i (block_count size) then bytes else zeros 4096) ≡ zeros 4096

@@ -153,6 +153,13 @@ map_size_is count disk s top settled_of are =
 pub loaded_based : (s : Sizes) (disk : Blocks) (f : Inode) (t : BlockTree) → IsSoundFile s (held disk f) → StartsFrom f.body f.size t → IsBasedOn f t
 loaded_based s disk f t sound starts = based_start s disk f t t sound starts (record { pointers = refl; depth = refl; count = refl })
 
+-- an inode map of these bytes in memory, over its settled inode
+pub record IsMapOver (s : Sizes) (draft : Draft) (disk : Blocks) (base : Inode) (o : Object) (bytes : List ℕ) : Type 0 where
+  pub change : IsChangeOf s draft disk base o
+  pub whole : HasNoHole (held disk base) → IsWholeOver disk base o
+  pub bytes_are : bytes_of (object_content disk o) ≡ bytes
+  pub kind : o.attributes.kind ≡ kinds.InodeMap
+
 -- the inode map's file with its first blocks changed to these bytes
 module _ (count : ℕ) (draft : Draft) (disk : Blocks) (s : Sizes) (top : File) (settled_of : ℕ → Inode) (before : ℕ → ℕ) (f : Inode) (old : File) (o : Object) (bytes : List ℕ)
     (are : AreSettled count disk s top settled_of) (once : NamesOnce (settled_tree disk settled_of)) (exact : IsExactPlane (settled_tree disk settled_of) before)
@@ -170,18 +177,15 @@ module _ (count : ℕ) (draft : Draft) (disk : Blocks) (s : Sizes) (top : File) 
   o_size : o.file.size ≡ length bytes
   o_size = new_size ∙ old_size ∙ f_size
 
-  pub map_change : IsChangeOf s draft disk (settled_of 1) o
-  map_change = own_change count draft disk s top settled_of before 1 f old.tree o are once exact same count_is is starts stays attributes (new_size ∙ old_size)
-      (parts_end disk old o.file bytes o_size here others old_ends (old_size ∙ f_size))
-
-  pub map_whole : HasNoHole (held disk (settled_of 1)) → IsWholeOver disk (settled_of 1) o
-  map_whole no_hole = subst (λ (x : Inode). IsWholeOver disk x o) is (whole_over s disk f old.tree o sound (subst (λ (x : Inode). HasNoHole (held disk x)) (sym is) no_hole) starts (new_size ∙ old_size) kept)
-
-  pub map_bytes : bytes_of (object_content disk o) ≡ bytes
-  map_bytes = object_bytes disk o bytes o_size (parts_bytes disk old o.file bytes o_size here others)
-
-  pub map_kind : o.attributes.kind ≡ kinds.InodeMap
-  map_kind = ap (λ (a : Attributes). a.kind) attributes ∙ ap (λ (i : Inode). i.kind) is ∙ are.fits 1
+  pub map_over : IsMapOver s draft disk (settled_of 1) o bytes
+  map_over = record {
+    change = own_change count draft disk s top settled_of before 1 f old.tree o are once exact same count_is is starts stays attributes (new_size ∙ old_size)
+        (parts_end disk old o.file bytes o_size here others old_ends (old_size ∙ f_size));
+    whole = λ no_hole. subst (λ (x : Inode). IsWholeOver disk x o) is
+        (whole_over s disk f old.tree o sound (subst (λ (x : Inode). HasNoHole (held disk x)) (sym is) no_hole) starts (new_size ∙ old_size) kept);
+    bytes_are = object_bytes disk o bytes o_size (parts_bytes disk old o.file bytes o_size here others);
+    kind = ap (λ (a : Attributes). a.kind) attributes ∙ ap (λ (i : Inode). i.kind) is ∙ are.fits 1;
+  }
 
 -- the kind of an inode whose file is this
 pub kind_of : (e : Blocks) (f : Inode) (c : Content) (k : Kind) → content_of (held e f) ≡ c → c.kind ≡ k → f.kind ≡ k

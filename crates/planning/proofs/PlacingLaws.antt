@@ -11,11 +11,11 @@ use Rattle.conspoint.specs.declared.draft.Draft.{Draft}
 use Rattle.conspoint.specs.declared.error.PlanError.{PlanError}
 use Rattle.conspoint.specs.declared.error.PlanError.TheVariants.{NoMemory, NoSpace}
 use Rattle.conspoint.proofs.DraftLemmas.{grows_twice}
-use Rattle.conspoint.proofs.StepLemmas.{no_error}
+use Rattle.conspoint.proofs.StepLemmas.{no_error, takes_both, takes_more}
 use Rattle.placement.specs.Steps.{PlacesFile, ReadsAndPlaces}
 use Rattle.placement.specs.declared.file.PlacedFile.{PlacedFile}
 use Rattle.placement.proofs.StepLaws.{file_err, file_out, read_ended, reads_nothing}
-use Rattle.planning.proofs.PromiseLaws.{plans_unread, takes_both, takes_more}
+use Rattle.planning.proofs.PromiseLaws.{plans_unread}
 
 module _ {B T : Type 0} {G : Ghosts B} {n : ℕ} {f : T → PlacedFile} {x y : B} {a b : Draft} {r : Result T PlanError} where
   -- what it does beside the answer

@@ -1,5 +1,5 @@
 -- Parts of a plan, one after the other: what they promise of the disk, of the draft, and of the inode file in memory.
-use Rattle.std.proofs.Common.{◌≡◌, ℕ, ◌+◌, ◌≤◌, Result, Ok, Err, inl, inr, refl, ap, sym, subst, ◌∙◌, arith}
+use Rattle.std.proofs.Common.{◌≡◌, ℕ, ◌+◌, ◌≤◌, Result, Ok, Err, refl, ap, sym, subst, ◌∙◌, arith}
 use Rattle.std.specs.Prelude.{OnOk}
 use Rattle.std.specs.Result.{IfErr, IsErrAnd, IsErrOf}
 use Rattle.layout.specs.declared.root.Root.{Root}
@@ -18,12 +18,13 @@ use Rattle.conspoint.specs.Steps.{Marks, Puts, Takes}
 use Rattle.conspoint.specs.declared.draft.Draft.{Draft}
 use Rattle.conspoint.specs.declared.error.PlanError.{PlanError}
 use Rattle.conspoint.specs.declared.error.PlanError.TheVariants.{Damaged, Device, NoMemory, NoSpace}
-use Rattle.conspoint.proofs.DraftLemmas.{grows_none, grows_twice}
+use Rattle.conspoint.proofs.DraftLemmas.{grows_twice}
 use Rattle.conspoint.proofs.SpaceLemmas.{same_left}
-use Rattle.conspoint.proofs.StepLemmas.{marks_take, no_error, other_error, same_error}
+use Rattle.conspoint.proofs.StepLemmas.{marks_take, no_error, other_error, same_error, takes_both, takes_more}
 use Rattle.inode.specs.declared.file.File.{File}
 use Rattle.placement.specs.Steps.{PlacesFile}
 use Rattle.placement.specs.declared.file.PlacedFile.{PlacedFile}
+use Rattle.placement.proofs.StepLaws.{read_ended}
 use Rattle.planning.specs.Inodes.{ChangesFile, KeepsFile}
 use Rattle.planning.specs.Progress.{KeepsSets}
 use Rattle.planning.specs.Promises.{PlansFiles, PlansRoot}
@@ -68,10 +69,6 @@ module _ {B : Type 0} {G : Ghosts B} {x y : B} where
 
 -- ---- parts that plan files
 
-sets_none : {T : Type 0} (a : Draft) (r : Result T PlanError) → OnOk r (KeepsSets (entry_at a.map.parts.items) (entry_at a.map.parts.items))
-sets_none a (Ok v) = λ b i other. refl
-sets_none a (Err e) = tt
-
 sets_same : {T : Type 0} (a b : Draft) (r : Result T PlanError) → b.map.parts.items ≡ a.map.parts.items → OnOk r (KeepsSets (entry_at a.map.parts.items) (entry_at b.map.parts.items))
 sets_same a b (Ok v) same = sets_from a.map.parts.items b.map.parts.items b.map.parts.items same (λ k i other. refl)
 sets_same a b (Err e) same = tt
@@ -80,18 +77,6 @@ sets_then : {T : Type 0} (a b c : Draft) (r : Result T PlanError) → KeepsSets 
     → OnOk r (KeepsSets (entry_at b.map.parts.items) (entry_at c.map.parts.items)) → OnOk r (KeepsSets (entry_at a.map.parts.items) (entry_at c.map.parts.items))
 sets_then a b c (Ok v) first then = sets_twice (entry_at a.map.parts.items) (entry_at b.map.parts.items) (entry_at c.map.parts.items) first then
 sets_then a b c (Err e) first then = tt
-
-takes_none : {T : Type 0} (n : ℕ) (a : Draft) (r : Result T PlanError) → OnOk r (TakesAtMost n a a)
-takes_none n a (Ok v) = omega arith
-takes_none n a (Err e) = tt
-
-pub takes_more : {T : Type 0} (n k : ℕ) (a b : Draft) (r : Result T PlanError) → n ≤ k → OnOk r (TakesAtMost n a b) → OnOk r (TakesAtMost k a b)
-takes_more n k a b (Ok v) le few = omega (arith, le, few)
-takes_more n k a b (Err e) le few = tt
-
-pub takes_both : {T : Type 0} (n m k : ℕ) (a b c : Draft) (r : Result T PlanError) → n + m ≤ k → TakesAtMost n a b → OnOk r (TakesAtMost m b c) → OnOk r (TakesAtMost k a c)
-takes_both n m k a b c (Ok v) le first then = omega (arith, le, first, then)
-takes_both n m k a b c (Err e) le first then = tt
 
 module _ {B : Type 0} {G : Ghosts B} {n : ℕ} {x y : B} {a b : Draft} where
   pub plans_ok : {T U : Type 0} {v : T} {w : U} → PlansFiles G n x y a b (Ok v) → PlansFiles G n x y a b (Ok w)
@@ -118,7 +103,9 @@ module _ {B : Type 0} {G : Ghosts B} {n : ℕ} {x y : B} {a b : Draft} where
 module _ {B : Type 0} {G : Ghosts B} {n : ℕ} {x y : B} {d : Draft} where
   -- only reading is done
   pub plans_read : {T : Type 0} {r : Result T PlanError} → ReadsBlocks G IsReadFault x y r → (IsErrOf r NoSpace → ⊥) → PlansFiles G n x y d d r
-  plans_read {r = r} read why = record { reads = read; grows = grows_none d; sets = sets_none d r; takes = takes_none n d r; lacks = λ bad. absurd (why bad) }
+  plans_read {r = r} read why =
+      let step = read_ended {n = n} read why in
+      record { reads = read; grows = step.grows; sets = sets_same d d r step.parts; takes = step.takes; lacks = step.lacks }
 
   pub plans_seen : {T : Type 0} {v : T} → ReadsBlocks {T = T} {E = ReadError} G IsFault x y (Ok v) → PlansFiles G n x y d d (Ok v)
   plans_seen read = plans_read (read_of read) (λ bad. no_error NoSpace bad)

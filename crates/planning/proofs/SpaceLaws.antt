@@ -1,12 +1,11 @@
 -- How many blocks are counted for what changed.
-use Rattle.std.proofs.Common.{◌≡◌, ℕ, zero, suc, ◌+◌, ◌<◌, ◌≤◌, Option, Some, None, length, inl, inr, refl, ap, sym, subst, arith}
+use Rattle.std.proofs.Common.{◌≡◌, ℕ, zero, suc, ◌+◌, ◌<◌, ◌≤◌, Option, Some, None, length, inl, inr, ap, sym, subst, ◌∙◌, arith}
 use Rattle.std.proofs.lemmas.Bool.{cases_lt}
 use Rattle.std.proofs.lemmas.List.Kept.{AllPairs-from_increasing}
 use Rattle.std.specs.List.Sorted.{IsStrictlyIncreasing}
 use Rattle.std.specs.Prelude.{List, slice_index}
-use Rattle.images.specs.Contents.{Content}
 use Rattle.inode.specs.declared.object.Object.{Object}
-use Rattle.inofile.specs.Inodes.{IsChangedSlot, slot_content, slot_object}
+use Rattle.inofile.specs.Inodes.{IsChangedSlot, slot_object}
 use Rattle.inofile.specs.declared.inode_file.Slot.{Slot}
 use Rattle.inofile.specs.declared.inode_file.Slot.TheVariants.{AsSettled, Loaded, Changed}
 use Rattle.inofile.specs.declared.inode_file.InodeFile.{InodeFile}
@@ -14,8 +13,9 @@ use Rattle.layout.specs.Version.{level_of}
 use Rattle.blocktree.specs.Places.{block_count}
 use Rattle.inode.specs.declared.file.File.{File}
 use Rattle.conspoint.specs.Space.{changed_blocks}
-use Rattle.conspoint.proofs.SumLemmas.{changed_within}
-use Rattle.placement.specs.Space.{file_nodes, file_stores, level_nodes, level_stores, more_over}
+use Rattle.conspoint.proofs.SumLemmas.{changed_within, sum_of_none, sums_each}
+use Rattle.blocktree.specs.Names.{nodes_at}
+use Rattle.placement.specs.Space.{file_nodes, file_stores, height_stores, level_nodes, level_stores, more_over}
 use Rattle.planning.specs.Space.{nodes_below, number_nodes, slot_nodes}
 
 -- below a later number as many are counted, or more
@@ -52,27 +52,18 @@ is_behind xs i n k rises within is lt =
 
 -- ---- no more is stored of a file than it has
 
+height_within : (blocks changed more h : ℕ) → changed ≤ blocks → height_stores blocks changed more h ≤ nodes_at blocks h
+unfolding height_stores nodes_at
+height_within blocks changed more zero le = le
+height_within blocks changed more (suc zero) le = omega arith
+height_within blocks changed more (suc (suc h)) le = omega arith
+
 level_within : (level blocks changed more : ℕ) → changed ≤ blocks → level_stores level blocks changed more ≤ level_nodes level blocks
-level_within zero blocks changed more le = omega arith
-level_within (suc level) blocks changed more le = omega (arith, le)
+level_within level blocks changed more le = sums_each (height_stores blocks changed more) (nodes_at blocks) level (λ h. height_within blocks changed more h le)
 
 pub stores_within : (f : File) → file_stores f ≤ file_nodes f.size
 stores_within f = level_within (level_of f.size) (block_count f.size) (changed_blocks f.tree 0 (block_count f.size)) (more_over f) (omega (arith, changed_within f.tree 0 (block_count f.size)))
 
--- ---- what is counted in memory
-
-pub counts_none : (s : InodeFile) → nodes_below s 0 ≡ 0
-unfolding nodes_below
-counts_none s = refl
-
-pub counts_more : (s : InodeFile) (n : ℕ) → nodes_below s (n + 1) ≡ nodes_below s n + number_nodes s n
-unfolding nodes_below
-counts_more s n = let next : n + 1 ≡ suc n = omega arith in rw next refl
-
--- where a changed number has no object, none of its blocks is counted
-pub counts_no_object : (disk : ℕ → List ℕ) (slot : Option Slot) (below : Option Content) → IsChangedSlot slot → slot_content disk slot below ≡ None → slot_nodes slot ≡ 0
-counts_no_object disk None below changed is = refl
-counts_no_object disk (Some AsSettled) below changed is = refl
-counts_no_object disk (Some (Loaded object)) below changed is = refl
-counts_no_object disk (Some (Changed None)) below changed is = refl
-counts_no_object disk (Some (Changed (Some p))) below changed is = absurd cc
+-- of an empty file nothing
+pub none_stored : (f : File) → f.size ≡ 0 → file_stores f ≤ 0
+none_stored f empty = (let none = ap file_nodes empty ∙ sum_of_none (nodes_at 0) in omega (arith, none, stores_within f))

@@ -16,6 +16,7 @@ use Rattle.layout.specs.declared.kind.Kind.{Kind}
 use Rattle.layout.specs.declared.kind.Kind.TheVariants as kinds
 use Rattle.layout.specs.declared.root.Root.{Root}
 use Rattle.layout.specs.declared.version.TheConstants.{VERSION}
+use Rattle.model.specs.Volumes.{Volume}
 use Rattle.blockmap.specs.Maps.{entry_at, settled_at}
 use Rattle.conspoint.specs.Cuts.{disk_with_blocks}
 use Rattle.conspoint.specs.Drafts.{HasAll}
@@ -26,39 +27,44 @@ use Rattle.images.specs.Contents.{Content}
 use Rattle.images.specs.Nodes.{Agrees, held}
 use Rattle.images.specs.Nodes as nodes
 use Rattle.images.specs.Roots.{HeldTree, Reach}
-use Rattle.images.specs.Soundness.{IsSoundTree}
+use Rattle.images.specs.Soundness.{IsSoundFile}
 use Rattle.inode.specs.Files.{file_block}
 use Rattle.inode.specs.declared.file.File.{File}
 use Rattle.inofile.specs.Inodes.{IsChanged}
 use Rattle.inofile.specs.declared.inode_file.InodeFile.{InodeFile}
 use Rattle.planning.specs.Inodes.{AreSpelled}
-use Rattle.planning.specs.Plans.{IsAllPlanned}
-use Rattle.planning.specs.Progress.{IsExactPlane, IsProgress, KeepsActive, unplanned}
+use Rattle.planning.specs.Plans.{IsAllPlanned, IsPlanStart}
+use Rattle.planning.specs.Progress.{IsExactPlane, IsProgress, unplanned}
 use Rattle.planning.specs.Steps.{ArePlanned, settled_tree}
 use Rattle.planning.proofs.OwnLaws.{inode_is}
 use Rattle.planning.proofs.ProgressLaws.{none_planned}
 use Rattle.images.proofs.EmptyLaws.{no_bit}
 use Rattle.layout.proofs.ZeroLaws.{zero_byte}
 
--- nothing is planned, and the inode file is as it is settled
-pub started : (d : Draft) (disk : Blocks) (settled : ℕ → Inode) (before : ℕ → ℕ) (inodes : InodeFile) (file : File) → KeepsActive before (entry_at d.map.parts.items) → ((b : ℕ) → settled_at d.map.parts.items b ≡ before b)
-    → IsSoundTree inodes.geometry (settled_tree disk settled) → ((i : ℕ) → file_block disk file i ≡ nodes.file_block (held disk (settled 0)) i) → ArePlanned (λ n. ⊥) d disk settled before inodes file
-started d disk settled before inodes file active same sound as_held = record {
-  way = record {
-    plan = unplanned (settled_tree disk settled);
-    settled = same;
-    progress = λ e has agrees.
-        none_planned inodes.geometry (settled_tree disk settled) e d.map.next before (entry_at d.map.parts.items) active;
-    contents = λ e has agrees n least is. absurd (cc);
-    spelled = subst (λ (g : ℕ → List ℕ). AreSpelled inodes.geometry.inodes g (λ n. (settled_tree disk settled n).inode)) (sym (fun_ext as_held)) (record {
-      each = sound.inodes.each;
-      first = sound.inodes.first;
-      past = sound.inodes.past;
-      behind = sound.inodes.behind;
-    });
-  };
-  just = λ n. (λ is. absurd (cc), λ no. absurd no);
-}
+module _ {count : ℕ} {d : Draft} {disk : Blocks} {root : Root} {settled : ℕ → Inode} {inodes : InodeFile} {v : Volume} {before : ℕ → ℕ}
+    (start : IsPlanStart count d disk root settled inodes v before) where
+  pub top_sound : IsSoundFile inodes.geometry (held disk root.inode_file)
+  top_sound = subst (λ (x : Inode). IsSoundFile inodes.geometry (held disk x)) start.top (start.memory.volume.inodes.sound 0)
+
+  -- nothing is planned, and the inode file is as it is settled
+  pub started : (file : File) → ((i : ℕ) → file_block disk file i ≡ nodes.file_block (held disk root.inode_file) i) → ArePlanned (λ n. ⊥) d disk settled before inodes file
+  started file as_held = record {
+    way = record {
+      plan = unplanned (settled_tree disk settled);
+      settled = start.same;
+      progress = λ e has agrees.
+          none_planned inodes.geometry (settled_tree disk settled) e d.map.next before (entry_at d.map.parts.items) start.active;
+      contents = λ e has agrees n least is. absurd (cc);
+      spelled = subst (λ (g : ℕ → List ℕ). AreSpelled inodes.geometry.inodes g (λ n. (settled_tree disk settled n).inode))
+          (sym (fun_ext (λ i. as_held i ∙ ap (λ (x : Inode). nodes.file_block (held disk x) i) (sym start.top)))) (record {
+            each = start.sound.inodes.each;
+            first = start.sound.inodes.first;
+            past = start.sound.inodes.past;
+            behind = start.sound.inodes.behind;
+          });
+    };
+    just = λ n. (λ is. absurd (cc), λ no. absurd no);
+  }
 
 -- the file system's own numbers aren't among the changed ones
 pub not_own : (inodes : InodeFile) (changed : ℕ → Bool) → ((n : ℕ) → (changed n ≡ true) ↔ IsChanged inodes n) → ((n : ℕ) → IsChanged inodes n → (3 ≤ n) × (n < inodes.geometry.inodes))

@@ -1,5 +1,5 @@
 -- Blocks of the inode map that tell of their numbers what they told.
-use Rattle.std.proofs.Common.{◌≡◌, ◌≢◌, ◌↔◌, ◌⊎◌, inl, inr, ℕ, zero, suc, ◌+◌, ◌*◌, ◌/◌, ◌%◌, ◌<◌, ◌≤◌, List, length, refl, ap, sym, subst, ◌∙◌, arith}
+use Rattle.std.proofs.Common.{◌≡◌, ◌≢◌, ◌↔◌, ◌⊎◌, inl, inr, ℕ, zero, suc, ◌+◌, ◌*◌, ◌/◌, ◌%◌, ◌<◌, ◌≤◌, List, length, ap, sym, subst, ◌∙◌, arith}
 use Rattle.std.proofs.lemmas.Bool.{cases_eq, cases_lt}
 use Rattle.std.proofs.lemmas.Bool.Decides.{nat_tests}
 use Rattle.std.proofs.lemmas.List.{get_or_default, get_or_past, same_lists}
@@ -26,7 +26,7 @@ use Rattle.inode.specs.Bases.{StartsUnchanged}
 use Rattle.inode.specs.Files.{file_block as blocks_of}
 use Rattle.inode.specs.declared.file.File.{File}
 use Rattle.inofile.specs.Volumes.{MapsVolume}
-use Rattle.placement.specs.Space.{file_stores, level_stores, more_over}
+use Rattle.placement.specs.Space.{file_stores, height_stores, level_stores, more_over}
 use Rattle.planning.specs.Space.{CountsBlocks, CountsMoves, TellsSame}
 use Rattle.planning.proofs.MapLaws.{stands_none, stands_some}
 use Rattle.planning.proofs.TopLaws.{stored_most}
@@ -98,10 +98,11 @@ changed_few w t (suc n) counts =
     let before = changed_few w t n counts in
     let these = one_more (block_stores t.tree 0) n in
     let those = one_more w n in
-    omega (arith, before, these, those, stored_most t.tree n (w n) (counts n))
+    omega (arith, before, these, those, stored_most t.tree 0 n (w n) (omega arith) (counts n))
     )
 
 flat_stores : (level blocks changed more : ℕ) → level ≤ 1 → level_stores level blocks changed more ≤ changed
+unfolding sum_below height_stores
 flat_stores zero blocks changed more le = omega arith
 flat_stores (suc zero) blocks changed more le = omega arith
 flat_stores (suc (suc level)) blocks changed more le = absurd (omega (arith, le))
@@ -109,16 +110,12 @@ flat_stores (suc (suc level)) blocks changed more le = absurd (omega (arith, le)
 small_level : (size : ℕ) → size ≤ 8192 → level_of size ≤ 1
 small_level size le = grind (arith, nat_tests)
 
-none_stored : (level blocks changed more : ℕ) → level ≡ 0 → level_stores level blocks changed more ≡ 0
-none_stored zero blocks changed more is = refl
-none_stored (suc level) blocks changed more is = absurd (omega (arith, is))
-
 -- of a file whose changed blocks these numbers count, where it was loaded without a change
 pub few_stored : (w : ℕ → ℕ) (b : Body) (blocks size : ℕ) (first last : File) → FitsBody b blocks size → size ≤ 8192 → last.size ≡ size → StartsUnchanged b first.tree
     → ((i : ℕ) → IsChanged last.tree i → (1 ≤ w i) ⊎ IsChanged first.tree i) → file_stores last ≤ sum_below w (block_count size)
 few_stored w (Inline bytes) blocks size first last fits small is unchanged counts =
-    let none = none_stored (level_of last.size) (block_count last.size) (changed_blocks last.tree 0 (block_count last.size)) (more_over last)
-    (level_none last.size (omega (arith, is, fits.0))) in
+    let stores = height_stores (block_count last.size) (changed_blocks last.tree 0 (block_count last.size)) (more_over last) in
+    let none = ap (sum_below stores) (level_none last.size (omega (arith, is, fits.0))) ∙ sum_of_none stores in
     omega (arith, none)
 few_stored w (Pointers pointers) blocks size first last fits small is unchanged counts =
     let flat = flat_stores (level_of last.size) (block_count last.size) (changed_blocks last.tree 0 (block_count last.size)) (more_over last) (small_level last.size (omega (arith, is, small))) in

@@ -17,7 +17,7 @@ use Rattle.blocktree.specs.declared.tree.BlockTree.{BlockTree}
 use Rattle.blocktree.specs.declared.tree.Slot.TheVariants as slots
 use Rattle.blocktree.specs.declared.tree.Slot.{Slot}
 use Rattle.conspoint.specs.Space.{block_stores, changed_blocks, slot_stores, sum_below}
-use Rattle.conspoint.proofs.SumLemmas.{is_in_sum, one_more, sum_of_none}
+use Rattle.conspoint.proofs.SumLemmas.{block_counts, is_in_sum, one_more, sum_of_none, sums_each}
 use Rattle.inode.specs.Bases.{StartsFrom, StartsUnchanged}
 use Rattle.inode.specs.declared.file.File.{File}
 use Rattle.inofile.specs.Inodes as numbers
@@ -25,7 +25,7 @@ use Rattle.inofile.specs.Inodes.{is_changed_slot}
 use Rattle.inofile.specs.declared.inode_file.InodeFile.{InodeFile}
 use Rattle.inofile.specs.declared.inode_file.Slot.TheVariants as inode_slots
 use Rattle.inofile.specs.declared.inode_file.Slot as inode_slot
-use Rattle.placement.specs.Space.{first_stores, level_stores, more_over}
+use Rattle.placement.specs.Space.{first_stores, height_stores, level_stores, more_over}
 use Rattle.planning.specs.Inodes.{ChangesOnly, HasChange}
 use Rattle.planning.specs.Space.{number_changes, top_block, top_nodes}
 use Rattle.planning.proofs.StartLaws.{top_size}
@@ -76,37 +76,23 @@ stored_or_not None = inl refl
 stored_or_not (Some slots.AsSettled) = inl refl
 stored_or_not (Some (slots.Changed block)) = inr tt
 
-one_at_most : (s : Option Slot) → slot_stores s ≤ 1
-one_at_most None = omega arith
-one_at_most (Some slots.AsSettled) = omega arith
-one_at_most (Some (slots.Changed block)) = omega arith
-
 -- what is counted of a block is one where it is changed, and else none
-pub stored_most : (t : BlockTree) (i m : ℕ) → (IsChanged t i → 1 ≤ m) → block_stores t 0 i ≤ m
-stored_most t i m counts =
-    let no : nat_lt i 0 ≡ false = grind (arith, nat_tests) in
-    let slot = tree.get nat_cmp t.slots i in
-    let is : block_stores t 0 i ≡ slot_stores slot = rw no refl in
-    elim (stored_or_not slot) [
-      | inl none ↦ omega (arith, is, none)
-      | inr changed ↦ omega (arith, is, one_at_most slot, counts changed)
+pub stored_most : (t : BlockTree) (first i m : ℕ) → first ≤ i → (IsChanged t i → 1 ≤ m) → block_stores t first i ≤ m
+stored_most t first i m le counts =
+    let no : nat_lt i first ≡ false = grind (arith, nat_tests, le) in
+    elim (stored_or_not (tree.get nat_cmp t.slots i)) [
+      | inl none ↦ (let is : block_stores t first i ≡ 0 = rw no none in omega (arith, is))
+      | inr changed ↦ omega (arith, block_counts t first i le changed, counts changed)
     ]
 
 not_first : (t : BlockTree) (i : ℕ) → i ≡ 0 → block_stores t 1 i ≡ 0
 not_first t i is = let yes : nat_lt i 1 ≡ true = grind (arith, nat_tests, is) in rw yes refl
 
 later_one : (s : InodeFile) (t : BlockTree) (i : ℕ) → (i ≡ 0 → ⊥) → (IsChanged t i → (i ≡ 0) ⊎ HasChange s i) → block_stores t 1 i ≤ top_block s i
-later_one s t i later only =
-    let no : nat_lt i 1 ≡ false = grind (arith, nat_tests, later) in
-    let slot = tree.get nat_cmp t.slots i in
-    let is : block_stores t 1 i ≡ slot_stores slot = rw no refl in
-    elim (stored_or_not slot) [
-      | inl none ↦ omega (arith, is, none)
-      | inr changed ↦ elim (only changed) [
-        | inl first ↦ absurd (later first)
-        | inr has ↦ omega (arith, is, one_at_most slot, has_change s i has)
-      ]
-    ]
+later_one s t i later only = stored_most t 1 i (top_block s i) (omega (arith, later)) (λ changed. elim (only changed) [
+  | inl first ↦ absurd (later first)
+  | inr has ↦ omega (arith, has_change s i has)
+])
 
 -- the changed blocks after the first are counted, and the first
 top_counts : (s : InodeFile) (t : BlockTree) (n : ℕ) → ((i : ℕ) → IsChanged t i → (i ≡ 0) ⊎ HasChange s i) → changed_blocks t 1 n + min 1 n ≤ sum_below (top_block s) n
@@ -125,9 +111,14 @@ top_counts s t (suc n) only =
 
 -- ---- the inode file of a plan
 
+height_rises : (blocks a b more h : ℕ) → a ≤ b → height_stores blocks a more h ≤ height_stores blocks b more h
+unfolding height_stores
+height_rises blocks a b more zero le = le
+height_rises blocks a b more (suc zero) le = omega (arith, le)
+height_rises blocks a b more (suc (suc h)) le = omega arith
+
 level_rises : (level blocks a b more : ℕ) → a ≤ b → level_stores level blocks a more ≤ level_stores level blocks b more
-level_rises zero blocks a b more le = omega arith
-level_rises (suc level) blocks a b more le = omega (arith, le)
+level_rises level blocks a b more le = sums_each (height_stores blocks a more) (height_stores blocks b more) level (λ h. height_rises blocks a b more h le)
 
 -- all of a settled file of this size counts
 pub record IsWhole (size : ℕ) (t : BlockTree) : Type 0 where

@@ -10,6 +10,7 @@ use Rattle.layout.specs.declared.pointer.Pointer.{Pointer}
 use Rattle.layout.specs.declared.pointer.Pointer.TheVariants.{Block}
 use Rattle.layout.specs.declared.root.Root.{Root}
 use Rattle.model.specs.Paths.{Name}
+use Rattle.model.specs.declared.limits.TheConstants.{SNAPSHOT_NAME_BYTES}
 use Rattle.planning.specs.Progress.{KeepsSets}
 use Rattle.planning.specs.declared.change.SnapshotChange.{SnapshotChange}
 use Rattle.planning.specs.declared.change.SnapshotChange.TheVariants.{Unchanged, Take, Delete}
@@ -17,7 +18,7 @@ use Rattle.planning.specs.declared.change.SnapshotChange.TheVariants.{Unchanged,
 -- the slot is one of a root's, and the name of a new snapshot has room in its root block
 abbrev pub FitsSlots : SnapshotChange → Type 0
 FitsSlots Unchanged = Unit {0}
-FitsSlots (Take k order name) = IsSlotNumber k × (length name.now ≤ 63)
+FitsSlots (Take k order name) = IsSlotNumber k × (length name.now ≤ SNAPSHOT_NAME_BYTES)
 FitsSlots (Delete k) = IsSlotNumber k
 
 -- what is asked for over a root is this step: a snapshot that is taken has the root's inode file

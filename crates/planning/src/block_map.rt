@@ -1,6 +1,6 @@
 //! The block map's file.
 
-ghost use Rattle.std.specs.Prelude.{ℕ, ◌≡◌, ◌<◌, ◌≤◌, List, All, IfOk, OnOk, IsErrOf, length, false};
+ghost use Rattle.std.specs.Prelude.{ℕ, ◌≡◌, ◌^◌, ◌<◌, ◌≤◌, List, All, IfOk, OnOk, IsErrOf, length, false};
 ghost use Rattle.layout.specs.Limits.{AreSizes, Sizes};
 ghost use Rattle.layout.specs.Pointer.{PointsBelow};
 ghost use Rattle.layout.specs.Version.{greatest_size};
@@ -40,7 +40,8 @@ fn map_nodes<B: Blocks>(
     settled: Inode,
     count: usize,
 ) -> Result<Vec<Pointer>, PlanError>
-    requires { settled.size ≤ greatest_size VERSION }
+    requires size { settled.size ≤ greatest_size VERSION }
+    requires few { count < 2 ^ 32 }
     ensures reads { ReadsBlocks B.Blocks IsReadFault blocks.old blocks.new result }
     ensures count { IfOk result (λ nodes. length nodes.items ≡ map_nodes count) }
     ensures within { IfOk result (λ nodes. All (PointsBelow (B.count blocks.old)) nodes.items) }

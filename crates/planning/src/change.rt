@@ -6,6 +6,7 @@ ghost use Rattle.layout.specs.Pointer.{PointsBelow};
 ghost use Rattle.layout.specs.Root.{IsRoot};
 ghost use Rattle.layout.specs.SnapRoot.{snapshot_bytes};
 ghost use Rattle.layout.specs.declared.pointer.Pointer.{Pointer};
+ghost use Rattle.model.specs.declared.limits.TheConstants.{SNAPSHOT_NAME_BYTES};
 ghost use Rattle.blockmap.specs.Maps.{entry_at, settled_at};
 ghost use Rattle.conspoint.specs.Drafts.{OnEach, WasTaken};
 ghost use Rattle.images.specs.Roots.{slot};
@@ -44,7 +45,7 @@ fn place_head(
     order: u64,
     name: &[u8],
 ) -> Result<BlockNumber, PlanError>
-    requires { length name.now ≤ 63 }
+    requires { length name.now ≤ SNAPSHOT_NAME_BYTES }
     ensures step { Places 1 draft.old draft.new result }
     ensures taken { IfOk result (WasTaken draft.old draft.new) }
     ensures stored { IfOk result (λ place. OnEach draft.new (λ e. e place
@@ -91,7 +92,7 @@ fn take(
     name: &[u8],
 ) -> Result<Pointer, PlanError>
     requires slot { IsSlotNumber slot }
-    requires short { length name.now ≤ 63 }
+    requires short { length name.now ≤ SNAPSHOT_NAME_BYTES }
     ensures step { Takes 1 draft.old draft.new result }
     ensures active { OnOk result (KeepsActive (entry_at draft.old.map.parts.items)
         (entry_at draft.new.map.parts.items)) }

@@ -85,6 +85,7 @@ fn are_same(block: &[u8; BLOCK_BYTES], part: &[u8; BLOCK_BYTES]) -> bool
 }
 
 /// Changes block `i` of a file to what these bytes have there, where it differs.
+#[tactic(auto, using(crate::proofs::PromiseLaws::keeps_none))]
 fn put_part<B: Blocks>(
     alloc: Global,
     blocks: &mut B,
@@ -165,6 +166,7 @@ fn settled_map<B: Blocks>(blocks: &mut B, inodes: &InodeFile) -> Result<Inode, P
 }
 
 /// Plans the inode map, where its file isn't as memory has it.
+#[tactic(auto, using(crate::proofs::PromiseLaws::file_none))]
 pub(crate) fn plan_inode_map<B: Blocks>(
     alloc: Global,
     draft: &mut Draft,

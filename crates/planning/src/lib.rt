@@ -3,7 +3,6 @@
 
 mod block_map;
 mod change;
-mod counts;
 mod inode_blocks;
 mod inode_map;
 mod number;
@@ -12,5 +11,4 @@ mod points;
 mod top;
 
 pub use change::SnapshotChange;
-pub use counts::point_blocks;
 pub use points::{Point, plan};

@@ -43,6 +43,7 @@ pub(crate) fn mark_placed(draft: &mut Draft, placed: &PlacedFile) -> Result<(), 
 }
 
 /// Plans a number that is changed: its file gets places, the map their marks, and the inode file its inode.
+#[tactic(auto, using(crate::proofs::PromiseLaws::file_none))]
 pub(crate) fn plan_number<B: Blocks>(
     alloc: Global,
     draft: &mut Draft,

@@ -222,7 +222,7 @@ fn plan_root<B: Blocks>(
 /// Plans a consistency point that settles all that memory has changed, and does with the snapshots what is asked for: every place
 /// and every byte of it, and its root. Nothing is written. Where it fails, the map has no change. A snapshot that is taken has the
 /// tree of the root that is there, so its blocks stay in use. The point gives out no more blocks than are counted for what changed
-/// (`point_blocks` tells how many), and one for a snapshot that is taken; for want of space it fails only where fewer are left.
+/// (`point_nodes`), and one for a snapshot that is taken; for want of space it fails only where fewer are left.
 pub fn plan<B: Blocks>(
     alloc: Global,
     blocks: &mut B,

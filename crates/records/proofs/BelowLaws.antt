@@ -1,17 +1,20 @@
 -- What lies below an object.
-use Rattle.std.proofs.Common.{◌≡◌, ◌⊎◌, inl, inr, ℕ, zero, suc, ◌+◌, ◌<◌, ◌≤◌, ◌↔◌, Bool, true, false, cond, List, [], ◌∷◌, ◌++◌, length, get_or, Option, Some, None, IfSome, fold, refl, sym, ap, subst, ◌∙◌, arith}
+use Rattle.std.proofs.Common.{◌≡◌, ◌⊎◌, inl, inr, ℕ, zero, suc, ◌+◌, ◌<◌, ◌≤◌, ◌↔◌, Bool, true, false, cond, List, [], ◌∷◌, ◌++◌, length, get_or, Option, Some, None, IfSome, IsFalse, IsTrue, fold, refl, sym, ap, subst, ◌∙◌, arith}
 use Rattle.std.proofs.Math.ListN.{replicate, set, length-set}
 use Rattle.std.proofs.lemmas.Bool.{cases_eq, false≢true}
 use Rattle.std.proofs.lemmas.List.{get_or-set_other, get_or-set_same, length_push}
 use Rattle.std.proofs.lemmas.List.Elements.{All-head, All-replicate, All-tail, Contains-append_left, Contains-push, Contains-push_cases}
-use Rattle.std.proofs.lemmas.List.Sums.{sum_by-set}
+use Rattle.std.proofs.lemmas.List.Sums.{fold-append, sum_by-set}
 use Rattle.std.specs.List.{All, Contains}
 use Rattle.model.specs.Paths.{Name, Path}
 use Rattle.model.specs.Records.{IsBelow}
-use Rattle.model.specs.Volumes.{Entries, enter}
+use Rattle.model.specs.Volumes.{Entries, IsGraph, Volume, enter, entries, is_directory_node, is_file_node}
+use Rattle.model.specs.declared.limits.TheConstants.{ROOT_NUMBER}
 use Rattle.records.specs.Below.{IsChild, IsMarked, Marks, Searches, count_unmarked}
 use Rattle.records.proofs.FileLaws.{same_some}
 use Rattle.model.proofs.OptionLaws.{none_some}
+use Rattle.model.proofs.VolumeLemmas.{alone, directory_no_file, enters_directory}
+use Rattle.model.proofs.WalkLemmas.{longer, number_at-push}
 
 -- an object is below itself
 pub below_self : (e : Entries) (n : ℕ) → IsBelow e n n
@@ -26,20 +29,39 @@ pub below_child : (e : Entries) (n d m : ℕ) → IsBelow e n d → IsChild e d 
 below_child e n d m below child =
     (below.0 ++ child.0 ∷ [], fold_more e (Some n) below.0 child.0 ∙ ap (λ o. enter e o child.0) below.1 ∙ child.1)
 
--- marks that are closed under names have all below them
-module _ (e : Entries) (marks : List Bool) (closed : (d n : ℕ) → IsMarked marks d → IsChild e d n → IsMarked marks n) where
-  child_marked : (n : ℕ) (x : Name) (o : Option ℕ) → IsMarked marks n → e n x ≡ o → IfSome o (IsMarked marks)
-  child_marked n x None is at = tt
-  child_marked n x (Some m) is at = closed n m is (x, at)
+-- what is true of each object that a name of one stands for of which it is true, is true of all below it
+module _ (e : Entries) (P : ℕ → Type 0) (closed : (d n : ℕ) → P d → IsChild e d n → P n) where
+  closed_child : (n : ℕ) (x : Name) (o : Option ℕ) → P n → e n x ≡ o → IfSome o P
+  closed_child n x None is at = tt
+  closed_child n x (Some m) is at = closed n m is (x, at)
 
-  closed_from : (p : Path) (o : Option ℕ) (k : ℕ) → IfSome o (IsMarked marks) → fold (enter e) o p ≡ Some k → IsMarked marks k
+  closed_from : (p : Path) (o : Option ℕ) (k : ℕ) → IfSome o P → fold (enter e) o p ≡ Some k → P k
   closed_from [] None k is at = none_some at
-  closed_from [] (Some n) k is at = subst (IsMarked marks) (same_some at) is
+  closed_from [] (Some n) k is at = subst P (same_some at) is
   closed_from (x ∷ p) None k is at = closed_from p None k tt at
-  closed_from (x ∷ p) (Some n) k is at = closed_from p (e n x) k (child_marked n x (e n x) is refl) at
+  closed_from (x ∷ p) (Some n) k is at = closed_from p (e n x) k (closed_child n x (e n x) is refl) at
 
-  pub closed_below : (n k : ℕ) → IsMarked marks n → IsBelow e n k → IsMarked marks k
+  pub closed_below : (n k : ℕ) → P n → IsBelow e n k → P k
   closed_below n k is below = closed_from below.0 (Some n) k is below.1
+
+-- nothing below an object leads back to it
+module _ (v : Volume) (graph : IsGraph v) where
+  leads_no_file : (n k : ℕ) (p : Path) → fold (enter (entries v)) (Some n) p ≡ Some k → IsTrue (is_directory_node (v k)) → IsFalse (is_file_node (v n))
+  leads_no_file n k [] at is = subst (λ (j : ℕ). IsFalse (is_file_node (v j))) (sym (same_some at)) (directory_no_file (v k) is)
+  leads_no_file n k (x ∷ p) at is = by (entries v n x) refl
+    where
+      by : (o : Option ℕ) → entries v n x ≡ o → IsFalse (is_file_node (v n))
+      by None none = absurd (closed_from (entries v) (λ j. ⊥) (λ d m never child. never) p None k tt (sym (ap (λ (o : Option ℕ). fold (enter (entries v)) o p) none) ∙ at))
+      by (Some m) some = directory_no_file (v n) (enters_directory (v n) x m some)
+
+  pub never_around : (n k : ℕ) (y : Name) → entries v k y ≡ Some n → IsBelow (entries v) n k → ⊥
+  never_around n k y there (p, below) =
+      let e = entries v in
+      let other = leads_no_file n k p below (enters_directory (v k) y n there) in
+      let from = graph.reached n (graph.used k n y there) other in
+      let at_k = fold-append (enter e) (Some ROOT_NUMBER) from.0 p ∙ ap (λ (o : Option ℕ). fold (enter e) o p) from.1 ∙ below in
+      let at_n = number_at-push e (from.0 ++ p) y ∙ ap (λ (o : Option ℕ). enter e o y) at_k ∙ there in
+      longer from.0 p y (alone v graph ((from.0 ++ p) ++ y ∷ []) from.0 n at_n from.1 other)
 
 -- ---- marks
 
@@ -166,7 +188,7 @@ module _ (e : Entries) (top here : ℕ) (marks after : List Bool) (left rest mor
 pub searched_all : (e : Entries) (top : ℕ) (marks : List Bool) (left : List ℕ) → left ≡ [] → Searches e top marks left → (n : ℕ) → IsMarked marks n ↔ IsBelow e top n
 searched_all e top marks left none was n = (
   was.below n,
-  closed_below e marks (λ d m is child. elim (was.closed d m is child) [
+  closed_below e (IsMarked marks) (λ d m is child. elim (was.closed d m is child) [
     | inl marked ↦ marked
     | inr waits ↦ nothing (subst (λ (xs : List ℕ). Contains xs d) none waits)
   ]) top n was.itself,

@@ -1,17 +1,16 @@
 -- Bytes that a file in memory gets.
-use Rattle.std.proofs.Common.{◌≡◌, ◌+◌, ◌-◌, ◌++◌, ℕ, List, length, take, drop, Option, Some, Result, Ok, Err, IfOk, IsTrue, false, refl, sym, ap, subst, ◌∙◌, append_assoc}
+use Rattle.std.proofs.Common.{◌≡◌, ◌+◌, ◌-◌, ◌++◌, ℕ, List, length, take, drop, Option, Some, Result, Ok, Err, IfOk, IsTrue, refl, sym, ap, subst, ◌∙◌, append_assoc}
 use Rattle.std.proofs.Math.Path.{fun_ext}
-use Rattle.std.proofs.lemmas.Bool.{both_ways}
 use Rattle.layout.specs.Bytes.{zeros}
 use Rattle.layout.specs.FileBytes.{byte_in, first_bytes, EndsAt}
 use Rattle.layout.specs.Inode.{FitsKind}
 use Rattle.layout.specs.Limits.{Sizes}
 use Rattle.layout.specs.declared.inode.Inode.{Inode}
 use Rattle.layout.specs.declared.kind.Kind.{Kind}
-use Rattle.layout.specs.declared.kind.Kind.TheVariants as kinds
 use Rattle.model.specs.Edits.{resized, written}
 use Rattle.model.specs.Records.{Applies, applied, with_file_bytes}
 use Rattle.model.specs.Volumes.{Node, Volume, file_node, is_file_node, with_node}
+use Rattle.model.specs.declared.errno.Errno.TheVariants.{EFBIG}
 use Rattle.images.specs.Contents as images
 use Rattle.images.specs.Contents.{Content, StandsAs}
 use Rattle.inode.specs.Changes.{changed_block}
@@ -23,8 +22,10 @@ use Rattle.inode.specs.declared.object.Object.{Object}
 use Rattle.inofile.specs.Objects.{IsObject}
 use Rattle.inofile.specs.Settled.{content_of}
 use Rattle.records.specs.Contents.{KeepsBounds, Rewrites, bytes_after, rewriting}
+use Rattle.records.specs.Obstacles.{IsObstacle, tells_obstacle}
 use Rattle.records.specs.declared.contents.Rewrite.{Rewrite}
 use Rattle.records.specs.declared.contents.Rewrite.TheVariants.{Write, Cut}
+use Rattle.records.proofs.KindLaws.{held_file, file_kind}
 
 -- ---- lists of bytes
 
@@ -66,43 +67,19 @@ module _ (disk : ℕ → List ℕ) (old new : File) (change : Change) (done : Is
 
 -- ---- objects that are files
 
-no_file : {X : Type 0} (found x : Option Node) → found ≡ x → is_file_node x ≡ false → IsTrue (is_file_node found) → X
-no_file found x same not is = absurd (both_ways (is_file_node x) not (subst (λ (o : Option Node). IsTrue (is_file_node o)) same is))
-
--- what is a file in memory stands for one, and nothing else does
-pub file_stands : (k : Kind) (inodes : ℕ) (c : Content) (found : Option Node) → k ≡ kinds.File → StandsAs k inodes c found → found ≡ Some (file_node c.mode c.links (images.bytes_of c))
-file_stands k inodes c found is stands = subst (λ (x : Kind). StandsAs x inodes c found) is stands
-
-pub not_file : (k : Kind) (inodes : ℕ) (c : Content) (found : Option Node) → StandsAs k inodes c found → (k ≡ kinds.File → ⊥) → false ≡ is_file_node found
-not_file kinds.Free inodes c found stands other = sym (ap is_file_node stands)
-not_file kinds.File inodes c found stands other = absurd (other refl)
-not_file kinds.Directory inodes c found stands other = sym (ap is_file_node stands.2)
-not_file kinds.Link inodes c found stands other = sym (ap is_file_node stands)
-not_file kinds.InodeFile inodes c found stands other = sym (ap is_file_node stands)
-not_file kinds.InodeMap inodes c found stands other = sym (ap is_file_node stands)
-not_file kinds.BlockMap inodes c found stands other = sym (ap is_file_node stands)
-
 module _ (inodes size : ℕ) (block : ℕ → List ℕ) (f : List ℕ → List ℕ) (c : Content) (found : Option Node) (is : IsTrue (is_file_node found)) where
   abbrev after : Content
   after = record { kind = c.kind; mode = c.mode; links = c.links; size = size; block = block }
 
   fits_after : (k : Kind) (s : Sizes) → StandsAs k inodes c found → FitsKind k s c.mode c.links c.size → FitsKind k s c.mode c.links size
-  fits_after kinds.Free s stands fits = no_file found _ stands refl is
-  fits_after kinds.File s stands fits = fits
-  fits_after kinds.Directory s stands fits = no_file found _ stands.2 refl is
-  fits_after kinds.Link s stands fits = no_file found _ stands refl is
-  fits_after kinds.InodeFile s stands fits = no_file found _ stands refl is
-  fits_after kinds.InodeMap s stands fits = no_file found _ stands refl is
-  fits_after kinds.BlockMap s stands fits = no_file found _ stands refl is
+  fits_after k s stands fits =
+      let kind = file_kind k inodes c found stands is in
+      subst (λ (x : Kind). FitsKind x s c.mode c.links size) (sym kind) (subst (λ (x : Kind). FitsKind x s c.mode c.links c.size) kind fits)
 
   stands_after : images.bytes_of after ≡ f (images.bytes_of c) → (k : Kind) → StandsAs k inodes c found → StandsAs k inodes after (with_file_bytes f found)
-  stands_after same kinds.Free stands = no_file found _ stands refl is
-  stands_after same kinds.File stands = ap (with_file_bytes f) stands ∙ ap (λ (b : List ℕ). Some (file_node c.mode c.links b)) (sym same)
-  stands_after same kinds.Directory stands = no_file found _ stands.2 refl is
-  stands_after same kinds.Link stands = no_file found _ stands refl is
-  stands_after same kinds.InodeFile stands = no_file found _ stands refl is
-  stands_after same kinds.InodeMap stands = no_file found _ stands refl is
-  stands_after same kinds.BlockMap stands = no_file found _ stands refl is
+  stands_after same k stands =
+      subst (λ (x : Kind). StandsAs x inodes after (with_file_bytes f found)) (sym (file_kind k inodes c found stands is))
+      (ap (with_file_bytes f) (held_file k inodes c found stands is) ∙ ap (λ (b : List ℕ). Some (file_node c.mode c.links b)) (sym same))
 
 -- a file in memory with other bytes
 pub bytes_put : (disk : ℕ → List ℕ) (inodes : ℕ) (settled : Inode) (o : Object) (found : Option Node) (f : List ℕ → List ℕ) (change : Change) (new : File)
@@ -139,3 +116,13 @@ bounds_kept inodes v n (Cut size) can = can.1
 pub told_both : {T E : Type 0} (r : Result T E) (P Q : T → Type 0) → IfOk r P → IfOk r Q → IfOk r (λ x. P x × Q x)
 told_both (Ok x) P Q one two = (one, two)
 told_both (Err e) P Q one two = tt
+
+-- ---- a change that doesn't apply
+
+pub tells_rewriting : (n : ℕ) (rewrite : Rewrite) → IsTrue (tells_obstacle (rewriting n rewrite) EFBIG)
+tells_rewriting n (Write offset bytes) = refl
+tells_rewriting n (Cut size) = refl
+
+pub bars_rewriting : (inodes : ℕ) (v : Volume) (n : ℕ) (rewrite : Rewrite) → (Applies inodes v (rewriting n rewrite) → ⊥) → IsObstacle inodes v (rewriting n rewrite) EFBIG
+bars_rewriting inodes v n (Write offset bytes) never = never
+bars_rewriting inodes v n (Cut size) never = never

@@ -24,7 +24,7 @@ use Rattle.records.specs.declared.naming.NameEdit.{NameEdit}
 use Rattle.records.specs.declared.naming.NameEdit.TheVariants as edits
 use Rattle.records.specs.Entering.{Accepts, HasPlace, IsDirectoryObject, PreparesEdit, Takes, TakesEntry, with_names}
 use Rattle.records.specs.Naming.{EditsNames}
-use Rattle.records.proofs.NamingLaws.{file_itself}
+use Rattle.inode.proofs.BaseLaws.{same_itself}
 use Rattle.model.proofs.ObjectLaws.{node_here, node_other}
 use Rattle.model.proofs.ListingLemmas.{names_apart}
 use Rattle.images.proofs.KindLaws.{directory_kind}
@@ -147,23 +147,13 @@ vacant_apart v n d vacant directory same = apart (v d) (subst (λ k. IsTrue (is_
 
 -- ---- answers
 
-pub told_so : {A E : Type 0} (r : Result (Option A) E) (P Q : A → Type 0) → ((a : A) → P a → Q a) → IfOk r (λ o. IfSome o P) → IfOk r (λ o. IfSome o Q)
-told_so (Ok (Some a)) P Q then p = then a p
-told_so (Ok None) P Q then p = tt
-told_so (Err e) P Q then p = tt
-
-pub refused_so : {A E : Type 0} (r : Result (Option A) E) (P Q : Type 0) → (P → Q) → IfOk r (λ o. IfNone o P) → IfOk r (λ o. IfNone o Q)
-refused_so (Ok (Some a)) P Q then p = tt
-refused_so (Ok None) P Q then p = then p
-refused_so (Err e) P Q then p = tt
-
 pub not_some : {A : Type 0} (o : Option A) → is_some o ≡ false → o ≡ None
 not_some None is = refl
 not_some (Some a) is = absurd (false≢true (sym is))
 
 -- what isn't touched is the same
 pub same_object : (x : Option Object) → IsSameOrNone x x
-same_object (Some o) = record { attributes = refl; file = file_itself o.file }
+same_object (Some o) = record { attributes = refl; file = same_itself o.file }
 same_object None = tt
 
 -- an object that was taken out, or none

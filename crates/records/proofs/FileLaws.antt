@@ -27,15 +27,6 @@ use Rattle.records.specs.declared.steps.Update.TheVariants as updates
 use Rattle.records.proofs.EnterLaws.{names_set, put_volume}
 use Rattle.model.proofs.OptionLaws.{none_some}
 
-pub not_file : (k : Kind) (inodes : ℕ) (c : Content) (o : Option Node) → StandsAs k inodes c o → (k ≡ kinds.File → ⊥) → is_file_node o ≡ false
-not_file kinds.Free inodes c o stands other = ap is_file_node stands
-not_file kinds.File inodes c o stands other = absurd (other refl)
-not_file kinds.Directory inodes c o stands other = ap is_file_node stands.2
-not_file kinds.Link inodes c o stands other = ap is_file_node stands
-not_file kinds.InodeFile inodes c o stands other = ap is_file_node stands
-not_file kinds.InodeMap inodes c o stands other = ap is_file_node stands
-not_file kinds.BlockMap inodes c o stands other = ap is_file_node stands
-
 -- what isn't a file is gone with its name
 pub gone_with_name : (k : Kind) (inodes : ℕ) (c : Content) (o : Option Node) → StandsAs k inodes c o → (k ≡ kinds.File → ⊥) → with_name_less o ≡ None
 gone_with_name kinds.Free inodes c o stands other = ap with_name_less stands

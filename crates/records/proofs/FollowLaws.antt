@@ -5,9 +5,6 @@ use Rattle.std.proofs.lemmas.Bool.{cases_eq, cond-true, cond-false, eq-eqb, ne_e
 use Rattle.std.proofs.lemmas.List.FromFn.{length-map-range_with_len}
 use Rattle.layout.specs.FileBytes.{byte_in}
 use Rattle.layout.specs.declared.inode.Inode.{Inode}
-use Rattle.layout.specs.declared.kind.Kind.{Kind}
-use Rattle.layout.specs.declared.kind.Kind.TheVariants as kinds
-use Rattle.images.specs.Contents.{Content, StandsAs}
 use Rattle.model.specs.Records.{Change, applied}
 use Rattle.model.specs.Trees.{Description}
 use Rattle.model.specs.Volumes.{Node, directory_node, file_node, link_node, Volume, IsMounted, is_file_node, is_open, swept, swept_node, with_node}
@@ -27,27 +24,18 @@ use Rattle.records.specs.Steps.{IsBeside}
 use Rattle.records.specs.Sweeping.{OpensFiles, with_object_of, without_file}
 use Rattle.records.specs.declared.prepared.Prepared.{Prepared}
 use Rattle.records.specs.declared.steps.Step.{Step}
-use Rattle.records.proofs.StepLaws.{other_file}
+use Rattle.records.proofs.KindLaws.{held_file}
 use Rattle.records.proofs.SweepLaws.{number_of, rest_stays}
 use Rattle.model.proofs.ObjectLaws.{node_here, node_other}
 
 -- ---- a file in memory
 
-module _ (inodes : ℕ) (c : Content) (found : Option Node) (is : IsTrue (is_file_node found)) where
-  figures_by : (k : Kind) → StandsAs k inodes c found → node_figures found ≡ Some (record { links = c.links; size = c.size })
-  figures_by kinds.Free stands = other_file found _ stands refl is
-  figures_by kinds.File stands =
-      ap node_figures stands ∙ ap (λ (s : ℕ). Some (record { links = c.links; size = s })) (length-map-range_with_len (byte_in c.block) 0 c.size)
-  figures_by kinds.Directory stands = other_file found _ stands.2 refl is
-  figures_by kinds.Link stands = other_file found _ stands refl is
-  figures_by kinds.InodeFile stands = other_file found _ stands refl is
-  figures_by kinds.InodeMap stands = other_file found _ stands refl is
-  figures_by kinds.BlockMap stands = other_file found _ stands refl is
-
 -- a file has the links and the size that its object in memory has
 pub object_figures : (disk : ℕ → List ℕ) (inodes : ℕ) (settled : Inode) (o : Object) (found : Option Node) → IsObject disk inodes settled o found → IsTrue (is_file_node found)
     → node_figures found ≡ Some (record { links = o.attributes.links; size = o.file.size })
-object_figures disk inodes settled o found stands is = figures_by inodes (content_of disk o) found is o.attributes.kind stands.stands
+object_figures disk inodes settled o found stands is =
+    ap node_figures (held_file o.attributes.kind inodes (content_of disk o) found stands.stands is)
+    ∙ ap (λ (s : ℕ). Some (record { links = o.attributes.links; size = s })) (length-map-range_with_len (byte_in (content_of disk o).block) 0 o.file.size)
 
 -- ---- open files with the figures noted that a number has
 

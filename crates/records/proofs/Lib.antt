@@ -1,7 +1,10 @@
 pub mod EnterLaws
 pub mod StandLaws
+pub mod KindLaws
 pub mod Looking
-pub mod Preparing
+pub mod ObstacleLaws
+pub mod Failures
+pub mod Deciding
 pub mod StepLaws
 pub mod ContentLaws
 pub mod RewriteLaws

@@ -23,9 +23,9 @@ pub same_error : {T U : Type 0} (f e d : ReadError) → f ≡ e → IsErrOf {T =
 same_error f e d is bad = cc
 
 -- what is true of one answer is true of it by another name
-pub told : {T E : Type 0} (r : Result T E) (P Q : T → Type 0) → ((x : T) → P x → Q x) → IfOk r P → IfOk r Q
-told (Ok x) P Q then is = then x is
-told (Err e) P Q then is = tt
+pub ok_so : {T E : Type 0} (r : Result T E) (P Q : T → Type 0) → ((x : T) → P x → Q x) → IfOk r P → IfOk r Q
+ok_so (Ok x) P Q then is = then x is
+ok_so (Err e) P Q then is = tt
 
 module _ {B T : Type 0} {G : Ghosts B} {a b : B} {s t : InodeFile} {Known : InodeFile → Type 0} {r : Result T ReadError} where
   -- an object that came into memory is something that was found
@@ -34,7 +34,7 @@ module _ {B T : Type 0} {G : Ghosts B} {a b : B} {s t : InodeFile} {Known : Inod
     looks = brings.looks;
     stays = brings.stays;
     keeps = brings.keeps;
-    found = λ disk settled v stands. told r (λ x. Unit {0}) (λ x. Unit {0}) (λ x is. is) (any r);
+    found = λ disk settled v stands. ok_so r (λ x. Unit {0}) (λ x. Unit {0}) (λ x is. is) (any r);
     damaged = brings.damaged;
   }
     where
@@ -90,7 +90,7 @@ module _ {B T U : Type 0} {G : Ghosts B} {a b c : B} {s t u : InodeFile} {P : Fi
     stays = λ n is. last.stays n (first.stays n is);
     keeps = λ n is. last.keeps n (first.keeps n is);
     found = λ disk settled v stands.
-        told r (Q disk settled v) (λ y. P disk settled v x × Q disk settled v y) (λ y is. (first.found disk settled v stands, is))
+        ok_so r (Q disk settled v) (λ y. P disk settled v x × Q disk settled v y) (λ y is. (first.found disk settled v stands, is))
         (last.found disk settled v (first.looks.kept disk settled v stands));
     damaged = λ disk settled v stands is. last.damaged disk settled v (first.looks.kept disk settled v stands) is;
   }

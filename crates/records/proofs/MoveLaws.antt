@@ -329,11 +329,16 @@ same_kind true false is = absurd (false≢true (sym is))
 same_kind false true is = absurd (false≢true (sym is))
 same_kind false false is = refl
 
-pub other_kind : (a b : Bool) → not (beq a b) ≡ true → a ≡ b → ⊥
-other_kind true true is same = false≢true is
-other_kind true false is same = false≢true (sym same)
-other_kind false true is same = false≢true same
-other_kind false false is same = false≢true is
+-- only one is true
+pub true_alone : (a b : Bool) → not (beq a b) ≡ true → a ≡ true → b ≡ false
+true_alone true true is one = absurd (false≢true is)
+true_alone true false is one = refl
+true_alone false b is one = absurd (false≢true one)
+
+pub other_alone : (a b : Bool) → not (beq a b) ≡ true → a ≡ false → b ≡ true
+other_alone true b is one = absurd (false≢true (sym one))
+other_alone false true is one = refl
+other_alone false false is one = absurd (false≢true is)
 
 -- ---- edits
 

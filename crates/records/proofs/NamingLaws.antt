@@ -22,7 +22,7 @@ use Rattle.records.specs.declared.naming.NameEdit.{NameEdit}
 use Rattle.records.specs.declared.naming.NameEdit.TheVariants as edits
 use Rattle.records.specs.Entering.{HasPlace}
 use Rattle.layout.specs.declared.entry.Entry.{Entry}
-use Rattle.records.proofs.Looking.{same_error, told}
+use Rattle.records.proofs.Looking.{ok_so, same_error}
 use Rattle.records.proofs.StandLaws.{reads_err}
 use Rattle.inode.proofs.BaseLaws.{still_same}
 
@@ -36,18 +36,6 @@ name_replaced y to names = fun_ext {f = with_name y to (with_name y None names)}
   where
     each : (z : Name) → with_name y to (with_name y None names) z ≡ with_name y to names z
     each z = elim (bytes_eq z y) as (λ (b : Bool). (if b then to else (if b then None else names z)) ≡ (if b then to else names z)) [ true ↦ refl | false ↦ refl ]
-
--- ---- the same file
-
-pub file_itself : (f : File) → IsSameFile f f
-file_itself f = record {
-  size = refl;
-  blocks = λ disk i. refl;
-  base = λ settled is. is;
-  sound = λ blocks disk i is. is;
-  was_sound = λ blocks disk i is. is;
-  changes = record { settled = record { pointers = refl; depth = refl; count = refl }; kept = refl; only = λ i is. is };
-}
 
 -- what leads to a file's blocks is in the grammar still
 pub sound_still : (a b : File) (count other : ℕ) (disk : ℕ → List ℕ) → IsSameFile a b → other ≡ count → ((i : ℕ) → IsSoundAt count disk a.tree i) → (i : ℕ) → IsSoundAt other disk b.tree i
@@ -100,7 +88,7 @@ module _ {B T : Type 0} {Had Then : (ℕ → List ℕ) → NameMap → Type 0} {
     same = still_same file mid new same last.same;
     fits = last.fits;
     edited = λ disk names shows had.
-        told r (EditsNames inodes disk new more (f names)) (EditsNames inodes disk new wanted names) (turns disk names shows had)
+        ok_so r (EditsNames inodes disk new more (f names)) (EditsNames inodes disk new wanted names) (turns disk names shows had)
         (last.edited disk (f names) (reads.same disk shows) (so disk names shows had));
     damaged = λ disk names shows is had grammar.
         last.damaged disk (f names) (reads.same disk shows) is (so disk names shows had)

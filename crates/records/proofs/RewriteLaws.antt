@@ -1,19 +1,18 @@
 -- What the definitions say of changes of a file's bytes, by what was found in a volume.
-use Rattle.std.proofs.Common.{◌≡◌, ◌≤◌, ◌<◌, ◌+◌, ◌==◌, ℕ, zero, suc, List, [], length, Bool, true, false, nat_lt, Option, Some, None, Result, Ok, Err, IfOk, IfNone, IsTrue, unwrap_or, refl, sym, ap, subst, ◌∙◌, inl, inr, arith}
+use Rattle.std.proofs.Common.{◌≡◌, ◌≤◌, ◌<◌, ◌+◌, ◌==◌, ℕ, zero, suc, List, [], length, Bool, true, false, nat_lt, Option, Some, None, IsTrue, unwrap_or, refl, sym, ap, subst, ◌∙◌, inl, inr, arith}
 use Rattle.std.proofs.Math.Path.{fun_ext}
-use Rattle.std.proofs.lemmas.Bool.{cases_eq, cond-true, cond-false, false≢true}
+use Rattle.std.proofs.lemmas.Bool.{cases_eq, cond-true, cond-false}
 use Rattle.std.proofs.lemmas.Bool.Decides.{nat_tests}
 use Rattle.std.proofs.lemmas.List.FromFn.{length-map-range_with_len}
 use Rattle.layout.specs.FileBytes.{byte_in}
 use Rattle.layout.specs.declared.kind.Kind.{Kind}
-use Rattle.layout.specs.declared.kind.Kind.TheVariants as kinds
 use Rattle.model.specs.Changing.{cuts}
 use Rattle.model.specs.Changes.{ChangesTree, TakesFreeNumber}
 use Rattle.model.specs.Descriptors.{puts}
 use Rattle.model.specs.Edits.{contents, with_bytes, written}
 use Rattle.model.specs.Laws.{RecordsChangeTrees}
 use Rattle.model.specs.Paths.{is_empty}
-use Rattle.model.specs.Records.{Applies, applied, cut, with_file_bytes}
+use Rattle.model.specs.Records.{Applies, applied, with_file_bytes}
 use Rattle.model.specs.Room.{nothing, logs, changes_size, puts_bytes}
 use Rattle.model.specs.Trees.{Tree, Description}
 use Rattle.model.specs.Volumes.{Node, directory_node, file_node, link_node, Volume, IsMounted, IsVolume, bytes_of, is_file_node, is_open, swept, swept_node, tree_of, with_node}
@@ -21,12 +20,12 @@ use Rattle.model.specs.declared.errno.Errno.TheVariants.{EFBIG}
 use Rattle.model.specs.declared.limits.TheConstants.{GREATEST_FILE, OPEN_FILES}
 use Rattle.model.specs.declared.reply.Reply.TheVariants.{Done, Refused, Wrote}
 use Rattle.records.specs.Contents.{bytes_after, rewriting}
-use Rattle.records.specs.Rewriting.{CutsBytes, GoesOver}
-use Rattle.records.specs.declared.prepared.Prepared.{Prepared}
+use Rattle.records.specs.Rewriting.{GoesOver}
 use Rattle.records.specs.declared.contents.Rewrite.{Rewrite}
 use Rattle.records.specs.declared.contents.Rewrite.TheVariants.{Write, Cut}
 use Rattle.images.specs.Contents.{Content, StandsAs}
-use Rattle.records.proofs.ContentLaws.{not_file, rewriting_applied}
+use Rattle.records.proofs.ContentLaws.{rewriting_applied}
+use Rattle.records.proofs.KindLaws.{held_file}
 use Rattle.model.proofs.ObjectLaws.{node_here, node_other}
 
 -- ---- nothing is to be swept
@@ -129,21 +128,7 @@ within_limit m n le = grind (arith, nat_tests)
 pub other_size : (m n : ℕ) → (m ≡ n → ⊥) → (m == n) ≡ false
 other_size m n ne = grind (arith, nat_tests)
 
--- a cut that applies is prepared
-pub cut_answers : {E : Type 0} (r : Result (Option Prepared) E) (inodes : ℕ) (v : Volume) (table : ℕ → Option Description) (n size : ℕ) → Applies inodes v (cut n size)
-    → IfOk r (λ p. IfNone p (Applies inodes v (cut n size) → ⊥))
-    → GoesOver inodes v table (cut n size) × cuts (tree_of v table) n size Done (tree_of (applied (cut n size) v) table) (logs (changes_size (length (contents (tree_of v table) n)) size))
-    → IfOk r (CutsBytes inodes v table n size)
-cut_answers (Ok (Some p)) inodes v table n size can not all = all
-cut_answers (Ok None) inodes v table n size can not all = absurd (not can)
-cut_answers (Err e) inodes v table n size can not all = tt
-
 -- a file in memory has as many bytes as in the volume
 pub file_size : (k : Kind) (inodes : ℕ) (c : Content) (found : Option Node) → StandsAs k inodes c found → IsTrue (is_file_node found) → c.size ≡ length (unwrap_or (bytes_of found) [])
-file_size kinds.Free inodes c found stands is = absurd (false≢true (not_file kinds.Free inodes c found stands (λ e. cc) ∙ is))
-file_size kinds.File inodes c found stands is = sym (ap (λ (o : Option Node). length (unwrap_or (bytes_of o) [])) stands ∙ length-map-range_with_len (byte_in c.block) 0 c.size)
-file_size kinds.Directory inodes c found stands is = absurd (false≢true (not_file kinds.Directory inodes c found stands (λ e. cc) ∙ is))
-file_size kinds.Link inodes c found stands is = absurd (false≢true (not_file kinds.Link inodes c found stands (λ e. cc) ∙ is))
-file_size kinds.InodeFile inodes c found stands is = absurd (false≢true (not_file kinds.InodeFile inodes c found stands (λ e. cc) ∙ is))
-file_size kinds.InodeMap inodes c found stands is = absurd (false≢true (not_file kinds.InodeMap inodes c found stands (λ e. cc) ∙ is))
-file_size kinds.BlockMap inodes c found stands is = absurd (false≢true (not_file kinds.BlockMap inodes c found stands (λ e. cc) ∙ is))
+file_size k inodes c found stands is =
+    sym (ap (λ (o : Option Node). length (unwrap_or (bytes_of o) [])) (held_file k inodes c found stands is) ∙ length-map-range_with_len (byte_in c.block) 0 c.size)

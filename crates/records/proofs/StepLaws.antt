@@ -22,6 +22,7 @@ use Rattle.records.specs.Steps.{Commits, FitsUpdate, IsApart, Steps, StepsSome, 
 use Rattle.records.specs.declared.steps.Update.{Update}
 use Rattle.records.specs.declared.steps.Update.TheVariants as updates
 use Rattle.records.specs.declared.steps.Step.{Step}
+use Rattle.records.proofs.KindLaws.{held_file, file_kind}
 use Rattle.records.proofs.StandLaws.{stays_at_hand}
 
 -- an object that has a mode
@@ -78,31 +79,16 @@ steps_after disk settled s t v w step same_sizes same steps = (
 
 -- ---- counts of names
 
--- what is no file isn't one
-pub other_file : {X : Type 0} (found x : Option Node) → found ≡ x → is_file_node x ≡ false → IsTrue (is_file_node found) → X
-other_file found x same not is = absurd (both_ways (is_file_node x) not (subst (λ (o : Option Node). IsTrue (is_file_node o)) same is))
-
 module _ (inodes links : ℕ) (c : Content) (found : Option Node) (is : IsTrue (is_file_node found)) where
   abbrev counted : Content
   counted = record { kind = c.kind; mode = c.mode; links = links; size = c.size; block = c.block }
 
-  fits_counted : (k : Kind) (s : Sizes) → links ≤ 1000 → StandsAs k inodes c found → FitsKind k s c.mode c.links c.size → FitsKind k s c.mode links c.size
-  fits_counted kinds.Free s few stands fits = other_file found _ stands refl is
-  fits_counted kinds.File s few stands fits = few
-  fits_counted kinds.Directory s few stands fits = other_file found _ stands.2 refl is
-  fits_counted kinds.Link s few stands fits = other_file found _ stands refl is
-  fits_counted kinds.InodeFile s few stands fits = other_file found _ stands refl is
-  fits_counted kinds.InodeMap s few stands fits = other_file found _ stands refl is
-  fits_counted kinds.BlockMap s few stands fits = other_file found _ stands refl is
+  fits_counted : (k : Kind) (s : Sizes) → links ≤ 1000 → StandsAs k inodes c found → FitsKind k s c.mode links c.size
+  fits_counted k s few stands = subst (λ (x : Kind). FitsKind x s c.mode links c.size) (sym (file_kind k inodes c found stands is)) few
 
   stands_counted : (k : Kind) → StandsAs k inodes c found → StandsAs k inodes counted (with_links links found)
-  stands_counted kinds.Free stands = other_file found _ stands refl is
-  stands_counted kinds.File stands = ap (with_links links) stands
-  stands_counted kinds.Directory stands = other_file found _ stands.2 refl is
-  stands_counted kinds.Link stands = other_file found _ stands refl is
-  stands_counted kinds.InodeFile stands = other_file found _ stands refl is
-  stands_counted kinds.InodeMap stands = other_file found _ stands refl is
-  stands_counted kinds.BlockMap stands = other_file found _ stands refl is
+  stands_counted k stands =
+      subst (λ (x : Kind). StandsAs x inodes counted (with_links links found)) (sym (file_kind k inodes c found stands is)) (ap (with_links links) (held_file k inodes c found stands is))
 
 -- a file in memory with another count of names
 pub links_set : (disk : ℕ → List ℕ) (inodes : ℕ) (settled : Inode) (o : Object) (found : Option Node) (links : ℕ) → links ≤ 1000
@@ -111,7 +97,7 @@ pub links_set : (disk : ℕ → List ℕ) (inodes : ℕ) (settled : Inode) (o : 
 links_set disk inodes settled o found links few was is = record {
   kind = was.kind;
   mode = was.mode;
-  fits = λ s. fits_counted inodes links (content_of disk o) found is o.attributes.kind s few was.stands (was.fits s);
+  fits = λ s. fits_counted inodes links (content_of disk o) found is o.attributes.kind s few was.stands;
   stands = stands_counted inodes links (content_of disk o) found is o.attributes.kind was.stands;
   ends = was.ends;
   base = was.base;

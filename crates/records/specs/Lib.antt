@@ -5,6 +5,8 @@ pub mod Steps
 pub mod Prepared
 pub mod Shown
 pub mod Looking
+pub mod Failures
+pub mod Obstacles
 pub mod Preparing
 pub mod Naming
 pub mod Reading

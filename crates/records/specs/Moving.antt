@@ -1,11 +1,14 @@
 -- What a move does to names.
-use Rattle.std.specs.Prelude.{ℕ, ◌≡◌, ◌≢◌, List, Option, Some, None}
+use Rattle.std.specs.Prelude.{ℕ, ◌≡◌, ◌≢◌, List, Option, Some, None, Result, Ok, Err}
 use Rattle.layout.specs.declared.entry.Entry.{Entry}
 use Rattle.layout.specs.declared.inode.Inode.{Inode}
 use Rattle.model.specs.Paths.{Name}
 use Rattle.model.specs.Records.{IsBelow, IsEmpty}
 use Rattle.model.specs.Volumes.{Volume, entries, is_directory_node, with_name_less}
+use Rattle.model.specs.declared.errno.Errno.{Errno}
+use Rattle.model.specs.declared.errno.Errno.TheVariants.{EEXIST}
 use Rattle.inode.specs.declared.object.Object.{Object}
+use Rattle.records.specs.Obstacles.{BarsReplacing}
 use Rattle.records.specs.Steps.{IsAlone, Updates}
 use Rattle.records.specs.declared.naming.NameEdit.{NameEdit}
 use Rattle.records.specs.declared.naming.NameEdit.TheVariants as edits
@@ -25,10 +28,11 @@ abbrev pub Releases : (ℕ → List ℕ) → (ℕ → Inode) → Volume → ℕ 
 Releases disk settled v m (Some update) = TakesName disk settled v m update × IsEmpty v m
 Releases disk settled v m None = IsEmpty v m → ⊥
 
--- a step takes away the name of the object m where n may take it, and else there is none
-abbrev pub ReplacesBy : (ℕ → List ℕ) → (ℕ → Inode) → Volume → ℕ → ℕ → Option Step → Type 0
-ReplacesBy disk settled v n m (Some step) = (step.number ≡ m) × MayReplace v n m × TakesName disk settled v m step.update
-ReplacesBy disk settled v n m None = MayReplace v n m → ⊥
+-- a step takes away the name of the object m, which n may take; or what keeps it from it: the object is the same, or else what is told
+abbrev pub ReplacesBy : (ℕ → List ℕ) → (ℕ → Inode) → Volume → ℕ → ℕ → Result Step Errno → Type 0
+ReplacesBy disk settled v n m (Ok step) = (step.number ≡ m) × MayReplace v n m × TakesName disk settled v m step.update
+ReplacesBy disk settled v n m (Err EEXIST) = m ≡ n
+ReplacesBy disk settled v n m (Err errno) = (m ≢ n) × BarsReplacing v n m errno
 
 -- a step, if there is one, depends on no object in memory
 abbrev pub IsSomeAlone : Option Step → Type 0

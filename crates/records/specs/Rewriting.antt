@@ -27,9 +27,10 @@ PutsBytes inodes v table n offset bytes (Ok (Some p)) =
     × ((also : Tree → Tree) → puts (tree_of v table) n offset bytes also (Wrote (length bytes))
     (also (tree_of (applied (write n offset bytes) v) table)) (logs (puts_bytes (length (contents (tree_of v table) n)) offset (length bytes))))
 
--- what a new size of a file comes to: nothing where it is the old one, or what the record does
-abbrev pub CutsBytes : ℕ → Volume → (ℕ → Option Description) → ℕ → ℕ → Option Prepared → Type 0
-CutsBytes inodes v table n size None = cuts (tree_of v table) n size Done (tree_of v table) nothing
-CutsBytes inodes v table n size (Some p) =
+-- what a new size of a file comes to: nothing where it is the old one, or what the record does; it isn't refused
+abbrev pub CutsBytes : ℕ → Volume → (ℕ → Option Description) → ℕ → ℕ → Result (Option Prepared) Errno → Type 0
+CutsBytes inodes v table n size (Err errno) = ⊥
+CutsBytes inodes v table n size (Ok None) = cuts (tree_of v table) n size Done (tree_of v table) nothing
+CutsBytes inodes v table n size (Ok (Some p)) =
     GoesOver inodes v table (cut n size)
     × cuts (tree_of v table) n size Done (tree_of (applied (cut n size) v) table) (logs (changes_size (length (contents (tree_of v table) n)) size))

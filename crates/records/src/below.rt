@@ -14,6 +14,7 @@ ghost use Rattle.records.specs.Shown.{NeverDamaged, OnVolumes};
 use blocktree::ReadError;
 use buffers::Blocks;
 use inofile::InodeFile;
+use layout::InodeNumber;
 use std::alloc::{AllocError, Global};
 
 /// Whether a number is that of an object, or of one below it.
@@ -21,8 +22,8 @@ pub(crate) fn is_below<B: Blocks>(
     alloc: Global,
     inodes: &mut InodeFile,
     blocks: &mut B,
-    top: u32,
-    number: u32,
+    top: InodeNumber,
+    number: InodeNumber,
 ) -> Result<bool, ReadError>
     requires top { IsNumber inodes.old.geometry.inodes top }
     requires number { number < inodes.old.geometry.inodes }
@@ -40,7 +41,7 @@ pub(crate) fn is_below<B: Blocks>(
         let children = children_of(alloc, inodes, blocks, here)?;
         mark_all(&mut marks, &mut left, children.as_slice())?;
     }
-    Ok(marks[number as usize])
+    Ok(marks[number.get() as usize])
 }
 
 // The numbers at the names of a directory; none where it is no directory.
@@ -48,8 +49,8 @@ fn children_of<B: Blocks>(
     alloc: Global,
     inodes: &mut InodeFile,
     blocks: &mut B,
-    number: u32,
-) -> Result<Vec<u32>, ReadError>
+    number: InodeNumber,
+) -> Result<Vec<InodeNumber>, ReadError>
     requires { IsNumber inodes.old.geometry.inodes number }
     ensures looks { Looks B.Blocks IsFault blocks.old blocks.new inodes.old inodes.new result }
     ensures loads { OnlyLoads inodes.old inodes.new }
@@ -70,7 +71,11 @@ fn children_of<B: Blocks>(
 }
 
 // Marks these numbers. Those that weren't marked yet are left to be looked into.
-fn mark_all(marks: &mut Vec<bool>, left: &mut Vec<u32>, numbers: &[u32]) -> Result<(), AllocError>
+fn mark_all(
+    marks: &mut Vec<bool>,
+    left: &mut Vec<InodeNumber>,
+    numbers: &[InodeNumber],
+) -> Result<(), AllocError>
     requires { AreNumbers (length marks.old.items) numbers.now }
     ensures marks { Marks marks.old.items marks.new.items left.old.items left.new.items }
     ensures all { OnOk result ((n : ℕ) → Contains numbers.now n → IsMarked marks.new.items n) }
@@ -86,7 +91,11 @@ fn mark_all(marks: &mut Vec<bool>, left: &mut Vec<u32>, numbers: &[u32]) -> Resu
 }
 
 // Marks a number. One that wasn't marked yet is left to be looked into.
-fn mark(marks: &mut Vec<bool>, left: &mut Vec<u32>, number: u32) -> Result<(), AllocError>
+fn mark(
+    marks: &mut Vec<bool>,
+    left: &mut Vec<InodeNumber>,
+    number: InodeNumber,
+) -> Result<(), AllocError>
     requires { number < length marks.old.items }
     ensures marks { Marks marks.old.items marks.new.items left.old.items left.new.items }
     ensures marked { OnOk result (IsMarked marks.new.items number) }
@@ -95,7 +104,7 @@ fn mark(marks: &mut Vec<bool>, left: &mut Vec<u32>, number: u32) -> Result<(), A
     ensures within { (count : ℕ) → IsNumber count number → AreNumbers count left.old.items
         → AreNumbers count left.new.items }
 {
-    let at = number as usize;
+    let at = number.get() as usize;
     if marks[at] {
         return Ok(());
     }

@@ -1,6 +1,6 @@
 //! Records that change a file's bytes.
 
-ghost use Rattle.std.specs.Prelude.{◌≡◌, ◌≤◌, ◌+◌, ◌↔◌, ℕ, List, Option, Some, IsTrue, IfOk, IfSome, IsErrOf, is_some, length};
+ghost use Rattle.std.specs.Prelude.{◌≡◌, ◌≤◌, ◌+◌, ◌↔◌, ℕ, List, Option, Some, IsTrue, IfErr, IfOk, IfSome, IsErrOf, is_some, length};
 ghost use Rattle.layout.specs.declared.inode.Inode.{Inode};
 ghost use Rattle.model.specs.Edits.{resized, written};
 ghost use Rattle.model.specs.Records.{with_file_bytes};
@@ -15,19 +15,20 @@ ghost use Rattle.inofile.specs.Inodes.{loaded};
 ghost use Rattle.inofile.specs.Objects.{IsObject, IsObjectOrNone, IsSameObject, IsSameOrNone};
 ghost use Rattle.paths.specs.Numbers.{IsNumber};
 ghost use Rattle.records.specs.Contents.{FitsFile, KeepsBounds, PlansFile, Rewrites, RewritesIn, bytes_after, rewriting};
+ghost use Rattle.records.specs.Failures.{told};
 ghost use Rattle.records.specs.Looking.{Finds};
-ghost use Rattle.records.specs.Preparing.{PreparesRecord};
+ghost use Rattle.records.specs.Preparing.{DecidesRecord};
 ghost use Rattle.records.specs.Steps.{TakesUpdate};
 
-use crate::Prepared;
 use crate::loading::{is_number, load_to_change};
 use crate::steps::{Step, Update};
+use crate::{Failure, Prepared};
 use blocktree::ReadError;
 use buffers::Blocks;
 use inode::{Change, ChangeError, File, Object};
 use inofile::{InodeFile, objects_stand_in_their_grammar};
-use layout::Kind;
-use model::{GREATEST_FILE, TRANSFER_BYTES};
+use layout::{InodeNumber, Kind};
+use model::{Errno, GREATEST_FILE, TRANSFER_BYTES};
 use std::alloc::Global;
 
 /// What becomes of a file's bytes.
@@ -39,36 +40,37 @@ pub(crate) enum Rewrite<'a> {
     Cut { size: u64 },
 }
 
-/// Prepares that a file's bytes are changed; None where the number is of no file, or the change goes past a limit.
+/// Prepares that a file's bytes are changed; or tells the obstacle: EFBIG where the number is of no file, or the change goes past a limit.
 pub(crate) fn prepare_bytes<B: Blocks>(
     alloc: Global,
     inodes: &mut InodeFile,
     blocks: &mut B,
-    number: u32,
+    number: InodeNumber,
     rewrite: &Rewrite<'_>,
-) -> Result<Option<Prepared>, ReadError>
-    ensures prepares { PreparesRecord B.Blocks blocks.old blocks.new inodes.old inodes.new
+) -> Result<Prepared, Failure>
+    ensures decides { DecidesRecord B.Blocks blocks.old blocks.new inodes.old inodes.new
         (rewriting number rewrite.now) result }
-    ensures bounds { IfOk result (λ p. IfSome p (λ _. KeepsBounds rewrite.now)) }
+    ensures own { IfOk (told result) (λ r. IfErr r (λ e. e ≡ Errno.EFBIG)) }
+    ensures bounds { IfOk result (λ _. KeepsBounds rewrite.now) }
 {
     if !keeps_bounds(rewrite) {
-        return Ok(None);
+        return Err(Failure::Refused(Errno::EFBIG));
     }
     if !is_number(inodes, number) {
-        return Ok(None);
+        return Err(Failure::Refused(Errno::EFBIG));
     }
     let planned = plan_number(alloc, inodes, blocks, number, rewrite)?;
     let Some(change) = planned else {
-        return Ok(None);
+        return Err(Failure::Refused(Errno::EFBIG));
     };
-    Ok(Some(Prepared {
+    Ok(Prepared {
         first: Step {
             number,
             update: Update::Bytes(change),
         },
         next: None,
         last: None,
-    }))
+    })
 }
 
 // Whether a change of a file's bytes keeps to the limits.
@@ -90,7 +92,7 @@ fn plan_number<B: Blocks>(
     alloc: Global,
     inodes: &mut InodeFile,
     blocks: &mut B,
-    number: u32,
+    number: InodeNumber,
     rewrite: &Rewrite<'_>,
 ) -> Result<Option<Change>, ReadError>
     requires bounds { KeepsBounds rewrite.now }
@@ -103,9 +105,10 @@ fn plan_number<B: Blocks>(
 {
     objects_stand_in_their_grammar();
     load_to_change(alloc, inodes, blocks, number)?;
-    let mut object = inodes.take(number);
+    let n = number.get();
+    let mut object = inodes.take(n);
     let planned = plan_object(alloc, &mut object, blocks, rewrite);
-    inodes.put_back(number, object);
+    inodes.put_back(n, object);
     planned
 }
 

@@ -23,7 +23,7 @@ use buffers::Blocks;
 use dirs::Edit;
 use inode::Object;
 use inofile::{InodeFile, objects_stand_in_their_grammar};
-use layout::Kind;
+use layout::{InodeNumber, Kind};
 use std::alloc::Global;
 
 /// An edit of a directory's names, as it is known in memory from then on; None where the number is of no directory, or of one
@@ -32,7 +32,7 @@ pub(crate) fn edit_parent<B: Blocks>(
     alloc: Global,
     inodes: &mut InodeFile,
     blocks: &mut B,
-    parent: u32,
+    parent: InodeNumber,
     wanted: &NameEdit<'_>,
 ) -> Result<Option<Edit>, ReadError>
     requires parent { IsNumber inodes.old.geometry.inodes parent }
@@ -52,7 +52,7 @@ pub(crate) fn edit_known<B: Blocks>(
     alloc: Global,
     inodes: &mut InodeFile,
     blocks: &mut B,
-    parent: u32,
+    parent: InodeNumber,
     wanted: &NameEdit<'_>,
 ) -> Result<Option<Edit>, ReadError>
     requires parent { IsAtHand inodes.old parent }
@@ -66,9 +66,10 @@ pub(crate) fn edit_known<B: Blocks>(
 {
     objects_stand_in_their_grammar();
     let count = inodes.geometry().inodes();
-    let mut object = inodes.take(parent);
+    let n = parent.get();
+    let mut object = inodes.take(n);
     let edit = edit_object(alloc, &mut object, blocks, count, wanted);
-    inodes.put_back(parent, object);
+    inodes.put_back(n, object);
     edit
 }
 

@@ -8,6 +8,7 @@ ghost use Rattle.records.specs.Looking.{Finds};
 use blocktree::ReadError;
 use buffers::Blocks;
 use inofile::InodeFile;
+use layout::InodeNumber;
 use paths::Found;
 use std::alloc::Global;
 
@@ -16,7 +17,7 @@ pub fn kind_at<B: Blocks>(
     alloc: Global,
     inodes: &mut InodeFile,
     blocks: &mut B,
-    number: u32,
+    number: InodeNumber,
 ) -> Result<Found, ReadError>
     requires { IsNumber inodes.old.geometry.inodes number }
     ensures { Finds B.Blocks blocks.old blocks.new inodes.old inodes.new

@@ -6,6 +6,7 @@
 mod below;
 mod contents;
 mod entering;
+mod failure;
 mod kinds;
 mod links;
 mod loading;
@@ -20,8 +21,9 @@ mod sweeping;
 mod unnaming;
 mod vacancy;
 
+pub use failure::Failure;
 pub use kinds::kind_at;
-pub use links::{links_of, prepare_link};
+pub use links::prepare_link;
 pub use loading::{load, load_to_change};
 pub use moding::prepare_mode;
 pub use prepared::{Prepared, commit, prepare, prepare_new};

@@ -6,68 +6,69 @@ ghost use Rattle.model.specs.Records.{link};
 ghost use Rattle.model.specs.Volumes.{Volume, is_file_node};
 ghost use Rattle.inofile.specs.Inodes.{IsKnown};
 ghost use Rattle.inofile.specs.Volumes.{IsVolumeOf};
-ghost use Rattle.records.specs.Preparing.{PreparesRecord};
+ghost use Rattle.records.specs.Preparing.{DecidesRecord};
 ghost use Rattle.records.specs.Steps.{IsFileOf};
 
-use crate::Prepared;
 use crate::entering::edit_parent;
 use crate::loading::{is_number, load_to_change};
 use crate::naming::NameEdit;
 use crate::steps::{Step, Update};
-use blocktree::ReadError;
+use crate::{Failure, Prepared};
 use buffers::Blocks;
 use inofile::InodeFile;
-use layout::{Entry, InodeNumber, Kind};
-use model::FILE_NAMES;
+use layout::{Entry, InodeNumber, Kind, is_name};
+use model::{Errno, FILE_NAMES};
 use std::alloc::Global;
 
-/// Prepares that a file gets a name more; None where the number is of no file, or of one with as many names as it may have, or
-/// where the parent doesn't take the name.
+/// Prepares that a file gets a name more; or tells the first obstacle: ENAMETOOLONG where the name is none, EPERM where the number is of
+/// no file, EMLINK where the file has as many names as it may have, DIRFULL where the parent doesn't take the name.
 pub fn prepare_link<B: Blocks>(
     alloc: Global,
     inodes: &mut InodeFile,
     blocks: &mut B,
     number: InodeNumber,
-    parent: u32,
+    parent: InodeNumber,
     name: &[u8],
-) -> Result<Option<Prepared>, ReadError>
-    ensures { PreparesRecord B.Blocks blocks.old blocks.new inodes.old inodes.new
+) -> Result<Prepared, Failure>
+    ensures { DecidesRecord B.Blocks blocks.old blocks.new inodes.old inodes.new
         (link number parent name.now) result }
 {
+    if !is_name(name) {
+        return Err(Failure::Refused(Errno::ENAMETOOLONG));
+    }
     let entry = Entry { number, name };
     if !entry.fits(inodes.geometry().inodes()) {
-        return Ok(None);
+        return Err(Failure::Refused(Errno::EPERM));
     }
-    if !is_number(inodes, parent) {
-        return Ok(None);
-    }
-    let n = number.get();
-    load_to_change(alloc, inodes, blocks, n)?;
-    let Some(links) = links_of(inodes, n) else {
-        return Ok(None);
+    load_to_change(alloc, inodes, blocks, number)?;
+    let Some(links) = links_of(inodes, number) else {
+        return Err(Failure::Refused(Errno::EPERM));
     };
     if links >= FILE_NAMES {
-        return Ok(None);
+        return Err(Failure::Refused(Errno::EMLINK));
+    }
+    if !is_number(inodes, parent) {
+        return Err(Failure::Refused(Errno::DIRFULL));
     }
     let planned = edit_parent(alloc, inodes, blocks, parent, &NameEdit::Add(entry))?;
     let Some(edit) = planned else {
-        return Ok(None);
+        return Err(Failure::Refused(Errno::DIRFULL));
     };
-    Ok(Some(Prepared {
+    Ok(Prepared {
         first: Step {
             number: parent,
             update: Update::Names(edit),
         },
         next: Some(Step {
-            number: n,
+            number,
             update: Update::Links(links + 1),
         }),
         last: None,
-    }))
+    })
 }
 
-/// How many names a file has; None where the number is of none.
-pub fn links_of(inodes: &InodeFile, number: u32) -> Option<u32>
+// How many names a file has; None where the number is of none.
+fn links_of(inodes: &InodeFile, number: InodeNumber) -> Option<u32>
     requires { IsKnown inodes.now number }
     ensures file { (count : ℕ) (disk : ℕ → List ℕ) (settled : ℕ → Inode) (v : Volume)
         → IsVolumeOf count disk settled inodes.now v
@@ -76,7 +77,7 @@ pub fn links_of(inodes: &InodeFile, number: u32) -> Option<u32>
         → IsVolumeOf count disk settled inodes.now v
         → IfNone result (is_file_node (v number) ≡ false) }
 {
-    let Some(object) = inodes.get(number) else {
+    let Some(object) = paths::object(inodes, number) else {
         return None;
     };
     match object.attributes.kind {

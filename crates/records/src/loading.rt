@@ -1,6 +1,6 @@
 //! Objects on their way into memory.
 
-ghost use Rattle.std.specs.Prelude.{◌≡◌, None, IsFalse, IsTrue};
+ghost use Rattle.std.specs.Prelude.{◌≡◌, ◌≢◌, None, IsFalse, IsTrue};
 ghost use Rattle.model.specs.Volumes.{Volume, IsVolume};
 ghost use Rattle.inofile.specs.Inodes.{IsKnown};
 ghost use Rattle.paths.specs.Numbers.{IsNumber};
@@ -10,16 +10,24 @@ ghost use Rattle.records.specs.Steps.{IsAtHand};
 use blocktree::ReadError;
 use buffers::Blocks;
 use inofile::InodeFile;
-use layout::ROOT_NUMBER;
+use layout::{InodeNumber, ROOT_NUMBER};
 use std::alloc::Global;
 
 /// Whether a number is that of the root or of another object; a volume has nothing of any other.
-pub(crate) fn is_number(inodes: &InodeFile, number: u32) -> bool
+pub(crate) fn is_number(inodes: &InodeFile, number: InodeNumber) -> bool
     ensures yes { IsTrue result → IsNumber inodes.now.geometry.inodes number }
     ensures no { IsFalse result
         → (v : Volume) → IsVolume inodes.now.geometry.inodes v → v number ≡ None }
 {
-    number >= ROOT_NUMBER && number < inodes.geometry().inodes()
+    number.get() >= ROOT_NUMBER && number.get() < inodes.geometry().inodes()
+}
+
+/// Whether two numbers are the same.
+pub(crate) fn is_same(one: InodeNumber, other: InodeNumber) -> bool
+    ensures yes { IsTrue result → one ≡ other }
+    ensures no { IsFalse result → one ≢ other }
+{
+    one.get() == other.get()
 }
 
 /// Takes an object into memory.
@@ -27,13 +35,13 @@ pub fn load<B: Blocks>(
     alloc: Global,
     inodes: &mut InodeFile,
     blocks: &mut B,
-    number: u32,
+    number: InodeNumber,
 ) -> Result<(), ReadError>
     requires { IsNumber inodes.old.geometry.inodes number }
     ensures { Brings B.Blocks blocks.old blocks.new inodes.old inodes.new
         (λ s. IsKnown s number) result }
 {
-    inodes.load(alloc, blocks, number)
+    paths::load(alloc, inodes, blocks, number)
 }
 
 /// Takes an object into memory, with room for a change of it. NoMemory; Device where a read failed; Damaged where a block on the
@@ -42,13 +50,13 @@ pub fn load_to_change<B: Blocks>(
     alloc: Global,
     inodes: &mut InodeFile,
     blocks: &mut B,
-    number: u32,
+    number: InodeNumber,
 ) -> Result<(), ReadError>
     requires { IsNumber inodes.old.geometry.inodes number }
     ensures { Brings B.Blocks blocks.old blocks.new inodes.old inodes.new
         (λ s. IsAtHand s number) result }
 {
     load(alloc, inodes, blocks, number)?;
-    inodes.prepare_set(number)?;
+    inodes.prepare_set(number.get())?;
     Ok(())
 }

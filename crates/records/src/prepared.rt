@@ -1,6 +1,6 @@
 //! Records, prepared and committed.
 
-ghost use Rattle.std.specs.Prelude.{◌≡◌, ◌≤◌, ◌<◌, ℕ, List, Some, IfOk, IfSome, IfNone, IsTrue};
+ghost use Rattle.std.specs.Prelude.{◌≡◌, ◌≤◌, ◌<◌, ℕ, List, Some, IfErr, IfOk, IsTrue};
 ghost use Rattle.layout.specs.Record.{change_of, made_of};
 ghost use Rattle.layout.specs.declared.inode.Inode.{Inode};
 ghost use Rattle.model.specs.Paths.{IsName};
@@ -10,10 +10,12 @@ ghost use Rattle.blocktree.specs.Errors.{IsFault};
 ghost use Rattle.inofile.specs.Objects.{IsObject};
 ghost use Rattle.inofile.specs.Volumes.{IsVolumeOf};
 ghost use Rattle.paths.specs.Standing.{Looks, Stands};
+ghost use Rattle.records.specs.Failures.{told};
 ghost use Rattle.records.specs.Prepared.{AreAtHand, IsReady, Does};
-ghost use Rattle.records.specs.Preparing.{PreparesRecord};
+ghost use Rattle.records.specs.Preparing.{DecidesRecord};
 ghost use Rattle.records.specs.Shown.{NeverDamaged, OnVolumes};
 
+use crate::Failure;
 use crate::contents::{Rewrite, prepare_bytes};
 use crate::entering::edit_parent;
 use crate::links::prepare_link;
@@ -24,11 +26,11 @@ use crate::renaming::prepare_rename;
 use crate::steps::{Step, Update, commit_some, commit_step};
 use crate::unnaming::prepare_unname;
 use crate::vacancy::{is_made, is_vacant, new_object};
-use blocktree::ReadError;
 use buffers::Blocks;
 use inode::{Object, based_trees_are_sound};
 use inofile::InodeFile;
 use layout::{Entry, FIRST_NUMBER, InodeNumber, NewObject, Record};
+use model::Errno;
 use std::alloc::Global;
 
 /// A record's change of the image in memory, with all memory taken and all blocks read: what becomes of one object, and then of
@@ -40,15 +42,15 @@ pub struct Prepared {
     pub(crate) last: Option<Step>,
 }
 
-/// Prepares what a record says; None where it doesn't apply. Nothing changes by it. NoMemory and Device tell what is said of
+/// Prepares what a record says; or tells an obstacle to it. Nothing changes by it. NoMemory and Device tell what is said of
 /// reading; Damaged that a block is out of its grammar.
 pub fn prepare<B: Blocks>(
     alloc: Global,
     inodes: &mut InodeFile,
     blocks: &mut B,
     logged: &Record<'_>,
-) -> Result<Option<Prepared>, ReadError>
-    ensures { PreparesRecord B.Blocks blocks.old blocks.new inodes.old inodes.new
+) -> Result<Prepared, Failure>
+    ensures { DecidesRecord B.Blocks blocks.old blocks.new inodes.old inodes.new
         (change_of logged.now) result }
 {
     match logged {
@@ -57,7 +59,7 @@ pub fn prepare<B: Blocks>(
             parent,
             object,
             name,
-        } => prepare_create(alloc, inodes, blocks, *number, parent.get(), name, object),
+        } => prepare_create(alloc, inodes, blocks, *number, *parent, name, object),
         Record::Write {
             number,
             offset,
@@ -67,114 +69,109 @@ pub fn prepare<B: Blocks>(
                 offset: *offset,
                 bytes,
             };
-            prepare_bytes(alloc, inodes, blocks, number.get(), &rewrite)
+            prepare_bytes(alloc, inodes, blocks, *number, &rewrite)
         }
         Record::Cut { number, size } => {
             let rewrite = Rewrite::Cut { size: *size };
-            prepare_bytes(alloc, inodes, blocks, number.get(), &rewrite)
+            prepare_bytes(alloc, inodes, blocks, *number, &rewrite)
         }
         Record::Link {
             number,
             parent,
             name,
-        } => prepare_link(alloc, inodes, blocks, *number, parent.get(), name),
-        Record::Unname { parent, name } => {
-            prepare_unname(alloc, inodes, blocks, parent.get(), name)
-        }
+        } => prepare_link(alloc, inodes, blocks, *number, *parent, name),
+        Record::Unname { parent, name } => prepare_unname(alloc, inodes, blocks, *parent, name),
         Record::Rename {
             parent,
             name,
             new_parent,
             new_name,
-        } => {
-            let to = new_parent.get();
-            prepare_rename(alloc, inodes, blocks, parent.get(), name, to, new_name)
-        }
-        Record::ChangeMode { number, mode } => {
-            prepare_mode(alloc, inodes, blocks, number.get(), *mode)
-        }
+        } => prepare_rename(alloc, inodes, blocks, *parent, name, *new_parent, new_name),
+        Record::ChangeMode { number, mode } => prepare_mode(alloc, inodes, blocks, *number, *mode),
     }
 }
 
-// Prepares that an object is made.
+// Prepares that an object is made; or tells the first obstacle: DAMAGED where none may be made of the number, DIRFULL where the parent
+// doesn't take the name.
 fn prepare_create<B: Blocks>(
     alloc: Global,
     inodes: &mut InodeFile,
     blocks: &mut B,
     number: InodeNumber,
-    parent: u32,
+    parent: InodeNumber,
     name: &[u8],
     object: &NewObject<'_>,
-) -> Result<Option<Prepared>, ReadError>
-    ensures { PreparesRecord B.Blocks blocks.old blocks.new inodes.old inodes.new
+) -> Result<Prepared, Failure>
+    ensures { DecidesRecord B.Blocks blocks.old blocks.new inodes.old inodes.new
         (create number parent (made_of object.now) name.now) result }
 {
     let n = number.get();
     if n < FIRST_NUMBER || n >= inodes.geometry().inodes() {
-        return Ok(None);
+        return Err(Failure::Refused(Errno::DAMAGED));
     }
     if !is_made(object) {
-        return Ok(None);
+        return Err(Failure::Refused(Errno::DAMAGED));
     }
-    let vacant = is_vacant(alloc, inodes, blocks, n)?;
+    let vacant = is_vacant(alloc, inodes, blocks, number)?;
     if !vacant {
-        return Ok(None);
+        return Err(Failure::Refused(Errno::DAMAGED));
     }
     based_trees_are_sound();
     let new = new_object(alloc, blocks, object)?;
     prepare_new(alloc, inodes, blocks, number, parent, name, new)
 }
 
-/// Prepares that this object is made of this number, which is vacant; None where the parent doesn't take the name.
+/// Prepares that this object is made of this number, which is vacant; or tells the obstacle: DIRFULL where the parent doesn't take the
+/// name.
 pub fn prepare_new<B: Blocks>(
     alloc: Global,
     inodes: &mut InodeFile,
     blocks: &mut B,
     number: InodeNumber,
-    parent: u32,
+    parent: InodeNumber,
     name: &[u8],
     object: Object,
-) -> Result<Option<Prepared>, ReadError>
+) -> Result<Prepared, Failure>
     requires low { FIRST_NUMBER ≤ number }
     requires high { number < inodes.old.geometry.inodes }
-    ensures looks { Looks B.Blocks IsFault blocks.old blocks.new inodes.old inodes.new result }
-    ensures ready { IfOk result (λ p. IfSome p (IsReady inodes.new)) }
+    ensures looks { Looks B.Blocks IsFault blocks.old blocks.new inodes.old inodes.new (told result) }
+    ensures full { IfOk (told result) (λ r. IfErr r (λ errno. errno ≡ Errno.DIRFULL)) }
+    ensures ready { IfOk result (IsReady inodes.new) }
     ensures does { (disk : ℕ → List ℕ) (settled : ℕ → Inode) (v : Volume) (made : Made)
         → Stands B.Blocks disk settled v blocks.old inodes.old → IsTrue (is_vacant (v number))
         → ((k : ℕ) → IsObject disk k (settled number) object (Some (node_of made)))
-        → IfOk result (λ p. IfSome p
-        (λ x. Does disk settled inodes.new v x (create number parent made name.now))) }
-    ensures named { IfOk result (λ p. IfSome p (λ _. IsName name.now)) }
+        → IfOk result (λ x. Does disk settled inodes.new v x (create number parent made name.now)) }
+    ensures named { IfOk result (λ _. IsName name.now) }
     ensures takes { OnVolumes B.Blocks blocks.old inodes.old (λ disk settled v.
-        IfOk result (λ p. IfSome p (λ _. TakesName v parent name.now))) }
+        IfOk result (λ _. TakesName v parent name.now)) }
     ensures refused { OnVolumes B.Blocks blocks.old inodes.old (λ disk settled v.
         IsVolume inodes.old.geometry.inodes v
-        → IfOk result (λ p. IfNone p (TakesName v parent name.now → ⊥))) }
-    ensures damaged { NeverDamaged B.Blocks blocks.old inodes.old result }
+        → IfOk (told result) (λ r. IfErr r (λ _. TakesName v parent name.now → ⊥))) }
+    ensures damaged { NeverDamaged B.Blocks blocks.old inodes.old (told result) }
 {
     let entry = Entry { number, name };
     if !entry.fits(inodes.geometry().inodes()) {
-        return Ok(None);
+        return Err(Failure::Refused(Errno::DIRFULL));
     }
     if !is_number(inodes, parent) {
-        return Ok(None);
+        return Err(Failure::Refused(Errno::DIRFULL));
     }
-    load_to_change(alloc, inodes, blocks, number.get())?;
+    load_to_change(alloc, inodes, blocks, number)?;
     let planned = edit_parent(alloc, inodes, blocks, parent, &NameEdit::Add(entry))?;
     let Some(edit) = planned else {
-        return Ok(None);
+        return Err(Failure::Refused(Errno::DIRFULL));
     };
-    Ok(Some(Prepared {
+    Ok(Prepared {
         first: Step {
             number: parent,
             update: Update::Names(edit),
         },
         next: Some(Step {
-            number: number.get(),
+            number,
             update: Update::Set(Some(object)),
         }),
         last: None,
-    }))
+    })
 }
 
 /// Puts a prepared change in force. It takes no memory and can't fail.

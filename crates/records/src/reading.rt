@@ -15,7 +15,7 @@ use blocktree::ReadError;
 use buffers::Blocks;
 use inode::File;
 use inofile::{InodeFile, objects_stand_in_their_grammar};
-use layout::Kind;
+use layout::{InodeNumber, Kind};
 use model::Text;
 use std::alloc::Global;
 
@@ -25,7 +25,7 @@ pub fn read_bytes<B: Blocks>(
     alloc: Global,
     inodes: &mut InodeFile,
     blocks: &mut B,
-    number: u32,
+    number: InodeNumber,
     offset: u64,
     count: u32,
 ) -> Result<Option<Text>, ReadError>
@@ -35,7 +35,7 @@ pub fn read_bytes<B: Blocks>(
 {
     objects_stand_in_their_grammar();
     load(alloc, inodes, blocks, number)?;
-    let Some(object) = inodes.get(number) else {
+    let Some(object) = paths::object(inodes, number) else {
         return Ok(None);
     };
     match object.attributes.kind {

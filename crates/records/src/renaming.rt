@@ -1,7 +1,8 @@
 //! Records that move a name.
 
-ghost use Rattle.std.specs.Prelude.{◌≡◌, ◌≢◌, ℕ, List, Option, None, Some, IsTrue, IfOk, IfSome, IfNone};
+ghost use Rattle.std.specs.Prelude.{◌≡◌, ◌≢◌, ℕ, List, Option, None, Some, IsTrue, IfErr, IfOk, IfSome, IfNone};
 ghost use Rattle.layout.specs.Directory.{IsEntry, named_of};
+ghost use Rattle.model.specs.Laws.{is_own};
 ghost use Rattle.model.specs.Records.{IsBelow, rename};
 ghost use Rattle.model.specs.Volumes.{entries, is_directory_node};
 ghost use Rattle.dirs.specs.Directory.{with_name};
@@ -9,82 +10,86 @@ ghost use Rattle.inofile.specs.Inodes.{loaded};
 ghost use Rattle.paths.specs.Numbers.{IsNumber};
 ghost use Rattle.paths.specs.Standing.{Stands};
 ghost use Rattle.records.specs.Entering.{Accepts, EditsIn, IsNameEdit, PreparesEdit};
+ghost use Rattle.records.specs.Failures.{told};
 ghost use Rattle.records.specs.Looking.{Finds};
 ghost use Rattle.records.specs.Moving.{IsOutside, IsSomeAlone, Moves, ReplacesBy};
-ghost use Rattle.records.specs.Preparing.{PreparesOn, PreparesRecord};
+ghost use Rattle.records.specs.Preparing.{DecidesOn, DecidesRecord};
 ghost use Rattle.records.specs.Steps.{IsAlone, IsAtHand, IsSomeAtHand, TakesUpdate};
 ghost use Rattle.records.specs.declared.steps.Update.TheVariants as updates;
 
-use crate::Prepared;
 use crate::below::is_below;
 use crate::entering::{edit_known, edit_parent};
 use crate::kinds::kind_at;
-use crate::loading::{is_number, load_to_change};
+use crate::loading::{is_number, is_same, load_to_change};
 use crate::naming::NameEdit;
 use crate::steps::{Step, Update};
 use crate::unnaming::{number_in, release};
+use crate::{Failure, Prepared};
 use blocktree::ReadError;
 use buffers::Blocks;
 use dirs::Edit;
 use inofile::InodeFile;
-use layout::{Entry, InodeNumber};
+use layout::{Entry, InodeNumber, is_name};
+use model::Errno;
 use paths::Found;
 use std::alloc::Global;
 
-/// Prepares that what has a name gets the new one in its place, and that what had the new name has it no more; None where the
-/// name isn't there, where the object would come below itself, or where it can't have the new name.
+/// Prepares that what has a name gets the new one in its place, and that what had the new name has it no more; or tells an obstacle:
+/// EINVAL where the object would come below itself, DIRFULL where the new parent's number is none, or else as `prepare_move` does.
 pub(crate) fn prepare_rename<'n, B: Blocks>(
     alloc: Global,
     inodes: &mut InodeFile,
     blocks: &mut B,
-    parent: u32,
+    parent: InodeNumber,
     name: &'n [u8],
-    new_parent: u32,
+    new_parent: InodeNumber,
     new_name: &'n [u8],
-) -> Result<Option<Prepared>, ReadError>
-    ensures { PreparesRecord B.Blocks blocks.old blocks.new inodes.old inodes.new
+) -> Result<Prepared, Failure>
+    ensures { DecidesRecord B.Blocks blocks.old blocks.new inodes.old inodes.new
         (rename parent name.now new_parent new_name.now) result }
 {
     if !is_number(inodes, parent) {
-        return Ok(None);
-    }
-    if !is_number(inodes, new_parent) {
-        return Ok(None);
+        return Err(Failure::Refused(Errno::ENOENT));
     }
     let found = number_in(alloc, inodes, blocks, parent, name)?;
     let Some(number) = found else {
-        return Ok(None);
+        return Err(Failure::Refused(Errno::ENOENT));
     };
+    if !is_number(inodes, new_parent) {
+        return Err(Failure::Refused(Errno::DIRFULL));
+    }
     let below = is_below(alloc, inodes, blocks, number, new_parent)?;
     if below {
-        return Ok(None);
+        return Err(Failure::Refused(Errno::EINVAL));
     }
     move_found(
         alloc, inodes, blocks, parent, name, number, new_parent, new_name,
     )
 }
 
-/// The same where it is known that the new parent doesn't lie below the object, as the walk to it tells: nothing further is looked
-/// at for it.
+/// Prepares the same where it is known that the new parent doesn't lie below the object, as the walk to it tells: nothing further is
+/// looked at for it; or tells the first obstacle: ENAMETOOLONG where the new name is none, ENOENT where the name isn't there, EEXIST
+/// where the object has the new name already, ENOTDIR where a directory would take the name of something else, EISDIR the other way
+/// round, ENOTEMPTY where it would take that of a directory with names, DIRFULL where the new parent takes no such name.
 pub fn prepare_move<'n, B: Blocks>(
     alloc: Global,
     inodes: &mut InodeFile,
     blocks: &mut B,
-    parent: u32,
+    parent: InodeNumber,
     name: &'n [u8],
-    new_parent: u32,
+    new_parent: InodeNumber,
     new_name: &'n [u8],
-) -> Result<Option<Prepared>, ReadError>
+) -> Result<Prepared, Failure>
     requires parent { IsNumber inodes.old.geometry.inodes parent }
     requires new_parent { IsNumber inodes.old.geometry.inodes new_parent }
-    ensures { PreparesOn (λ disk settled v. Stands B.Blocks disk settled v blocks.old inodes.old)
+    ensures { DecidesOn (λ disk settled v. Stands B.Blocks disk settled v blocks.old inodes.old)
         (λ disk settled v. Stands B.Blocks disk settled v blocks.old inodes.old
         × IsOutside v parent name.now new_parent) B.Blocks blocks.old blocks.new inodes.old inodes.new
         (rename parent name.now new_parent new_name.now) result }
 {
     let found = number_in(alloc, inodes, blocks, parent, name)?;
     let Some(number) = found else {
-        return Ok(None);
+        return Err(Failure::Refused(Errno::ENOENT));
     };
     move_found(
         alloc, inodes, blocks, parent, name, number, new_parent, new_name,
@@ -97,16 +102,16 @@ fn move_found<'n, B: Blocks>(
     alloc: Global,
     inodes: &mut InodeFile,
     blocks: &mut B,
-    parent: u32,
+    parent: InodeNumber,
     name: &'n [u8],
-    number: u32,
-    new_parent: u32,
+    number: InodeNumber,
+    new_parent: InodeNumber,
     new_name: &'n [u8],
-) -> Result<Option<Prepared>, ReadError>
+) -> Result<Prepared, Failure>
     requires parent { IsNumber inodes.old.geometry.inodes parent }
     requires number { IsNumber inodes.old.geometry.inodes number }
     requires new_parent { IsNumber inodes.old.geometry.inodes new_parent }
-    ensures { PreparesOn (λ disk settled v. Stands B.Blocks disk settled v blocks.old inodes.old
+    ensures { DecidesOn (λ disk settled v. Stands B.Blocks disk settled v blocks.old inodes.old
         × (entries v parent name.now ≡ Some number))
         (λ disk settled v. Stands B.Blocks disk settled v blocks.old inodes.old
         × (entries v parent name.now ≡ Some number)
@@ -114,12 +119,16 @@ fn move_found<'n, B: Blocks>(
         B.Blocks blocks.old blocks.new inodes.old inodes.new
         (rename parent name.now new_parent new_name.now) result }
 {
+    if !is_name(new_name) {
+        return Err(Failure::Refused(Errno::ENAMETOOLONG));
+    }
     let entry = Entry {
-        number: InodeNumber::new(number),
+        number,
         name: new_name,
     };
+    // What has a name has an ordinary number.
     if !entry.fits(inodes.geometry().inodes()) {
-        return Ok(None);
+        return Err(Failure::Refused(Errno::ENOENT));
     }
     let target = number_in(alloc, inodes, blocks, new_parent, new_name)?;
     let Some(other) = target else {
@@ -127,10 +136,7 @@ fn move_found<'n, B: Blocks>(
             alloc, inodes, blocks, parent, name, new_parent, &entry, None,
         );
     };
-    let replaced = replace(alloc, inodes, blocks, number, other)?;
-    let Some(step) = replaced else {
-        return Ok(None);
-    };
+    let step = replace(alloc, inodes, blocks, number, other)?;
     place(
         alloc,
         inodes,
@@ -143,38 +149,41 @@ fn move_found<'n, B: Blocks>(
     )
 }
 
-// What becomes of another object whose name an object takes; None where it is the same one, or only one of them is a directory, or
-// it is a directory that isn't empty.
+// What becomes of another object whose name an object takes; EEXIST where it is the same one, ENOTDIR or EISDIR where only one of them
+// is a directory, ENOTEMPTY where it is a directory with names.
 fn replace<B: Blocks>(
     alloc: Global,
     inodes: &mut InodeFile,
     blocks: &mut B,
-    number: u32,
-    other: u32,
-) -> Result<Option<Step>, ReadError>
+    number: InodeNumber,
+    other: InodeNumber,
+) -> Result<Step, Failure>
     requires number { IsNumber inodes.old.geometry.inodes number }
     requires other { IsNumber inodes.old.geometry.inodes other }
     ensures replaced { Finds B.Blocks blocks.old blocks.new inodes.old inodes.new
-        (λ disk settled v. ReplacesBy disk settled v number other) result }
-    ensures ready { IfOk result
-        (λ s. IfSome s (λ x. IsAlone x.update × IsAtHand inodes.new x.number)) }
+        (λ disk settled v. ReplacesBy disk settled v number other) (told result) }
+    ensures own { IfOk (told result) (λ r. IfErr r (λ errno. IsTrue (is_own errno))) }
+    ensures ready { IfOk result (λ x. IsAlone x.update × IsAtHand inodes.new x.number) }
 {
-    if other == number {
-        return Ok(None);
+    if is_same(other, number) {
+        return Err(Failure::Refused(Errno::EEXIST));
     }
     let is_directory = is_directory_at(alloc, inodes, blocks, number)?;
     let other_is = is_directory_at(alloc, inodes, blocks, other)?;
     if is_directory != other_is {
-        return Ok(None);
+        if is_directory {
+            return Err(Failure::Refused(Errno::ENOTDIR));
+        }
+        return Err(Failure::Refused(Errno::EISDIR));
     }
     let released = release(alloc, inodes, blocks, other)?;
     let Some(update) = released else {
-        return Ok(None);
+        return Err(Failure::Refused(Errno::ENOTEMPTY));
     };
-    Ok(Some(Step {
+    Ok(Step {
         number: other,
         update,
-    }))
+    })
 }
 
 /// Whether a directory has this number.
@@ -182,7 +191,7 @@ pub fn is_directory_at<B: Blocks>(
     alloc: Global,
     inodes: &mut InodeFile,
     blocks: &mut B,
-    number: u32,
+    number: InodeNumber,
 ) -> Result<bool, ReadError>
     requires { IsNumber inodes.old.geometry.inodes number }
     ensures { Finds B.Blocks blocks.old blocks.new inodes.old inodes.new
@@ -195,25 +204,25 @@ pub fn is_directory_at<B: Blocks>(
     }
 }
 
-// Gives an object the new name in place of the old one, where a step is known for what had the new name, if anything had it; None
-// where the new parent is no directory, or has no place for the name.
+// Gives an object the new name in place of the old one, where a step is known for what had the new name, if anything had it; DIRFULL
+// where nothing had it, and the new parent, another directory, doesn't take it.
 #[allow(clippy::too_many_arguments)]
 fn place<'n, B: Blocks>(
     alloc: Global,
     inodes: &mut InodeFile,
     blocks: &mut B,
-    parent: u32,
+    parent: InodeNumber,
     name: &'n [u8],
-    new_parent: u32,
+    new_parent: InodeNumber,
     entry: &Entry<'n>,
     replaced: Option<Step>,
-) -> Result<Option<Prepared>, ReadError>
+) -> Result<Prepared, Failure>
     requires parent { IsNumber inodes.old.geometry.inodes parent }
     requires new_parent { IsNumber inodes.old.geometry.inodes new_parent }
     requires entry { IsEntry inodes.old.geometry.inodes (named_of entry.now) }
     requires at_hand { IsSomeAtHand inodes.old replaced }
     requires alone { IsSomeAlone replaced }
-    ensures { PreparesOn (λ disk settled v. Stands B.Blocks disk settled v blocks.old inodes.old
+    ensures { DecidesOn (λ disk settled v. Stands B.Blocks disk settled v blocks.old inodes.old
         × Moves disk settled v parent name.now entry.now.number new_parent entry.now.name.now replaced)
         (λ disk settled v. Stands B.Blocks disk settled v blocks.old inodes.old
         × Moves disk settled v parent name.now entry.now.number new_parent entry.now.name.now replaced
@@ -221,7 +230,7 @@ fn place<'n, B: Blocks>(
         B.Blocks blocks.old blocks.new inodes.old inodes.new
         (rename parent name.now new_parent entry.now.name.now) result }
 {
-    if parent == new_parent {
+    if is_same(parent, new_parent) {
         let wanted = NameEdit::Move(
             name,
             Entry {
@@ -231,16 +240,16 @@ fn place<'n, B: Blocks>(
         );
         let planned = edit_parent(alloc, inodes, blocks, new_parent, &wanted)?;
         let Some(edit) = planned else {
-            return Ok(None);
+            return Err(Failure::Refused(Errno::DIRFULL));
         };
-        return Ok(Some(Prepared {
+        return Ok(Prepared {
             first: Step {
                 number: new_parent,
                 update: Update::Names(edit),
             },
             next: replaced,
             last: None,
-        }));
+        });
     }
     let wanted = if replaced.is_some() {
         NameEdit::Replace(Entry {
@@ -255,9 +264,9 @@ fn place<'n, B: Blocks>(
     };
     let both = edit_both(alloc, inodes, blocks, parent, name, new_parent, &wanted)?;
     let Some((added, removed)) = both else {
-        return Ok(None);
+        return Err(Failure::Refused(Errno::DIRFULL));
     };
-    Ok(Some(Prepared {
+    Ok(Prepared {
         first: Step {
             number: new_parent,
             update: Update::Names(added),
@@ -267,7 +276,7 @@ fn place<'n, B: Blocks>(
             update: Update::Names(removed),
         }),
         last: replaced,
-    }))
+    })
 }
 
 // An edit of one directory, and a name less in another one. Both are known in memory before either is edited.
@@ -275,9 +284,9 @@ fn edit_both<B: Blocks>(
     alloc: Global,
     inodes: &mut InodeFile,
     blocks: &mut B,
-    parent: u32,
+    parent: InodeNumber,
     name: &[u8],
-    new_parent: u32,
+    new_parent: InodeNumber,
     wanted: &NameEdit<'_>,
 ) -> Result<Option<(Edit, Edit)>, ReadError>
     requires parent { IsNumber inodes.old.geometry.inodes parent }

@@ -3,22 +3,25 @@
 ghost use Rattle.std.specs.Prelude.{◌≡◌, ◌+◌, ◌≤◌, IfErr, IfOk, IfSome, IsTrue, length, unwrap_or, []};
 ghost use Rattle.model.specs.Records.{cut, write};
 ghost use Rattle.model.specs.Volumes.{bytes_of, is_file_node};
+ghost use Rattle.model.specs.declared.errno.Errno.TheVariants.{EFBIG};
 ghost use Rattle.model.specs.declared.limits.TheConstants.{GREATEST_FILE, TRANSFER_BYTES};
 ghost use Rattle.blocktree.specs.Errors.{IsFault};
 ghost use Rattle.paths.specs.Numbers.{IsNumber};
 ghost use Rattle.paths.specs.Standing.{Looks};
+ghost use Rattle.records.specs.Failures.{told};
 ghost use Rattle.records.specs.Looking.{Finds};
 ghost use Rattle.records.specs.Prepared.{Does, IsReady};
 ghost use Rattle.records.specs.Rewriting.{CutsBytes, PutsBytes};
 ghost use Rattle.records.specs.Shown.{NeverDamaged, OnMounted, OnVolumes};
 
-use crate::Prepared;
 use crate::contents::{Rewrite, prepare_bytes};
 use crate::loading::load;
+use crate::{Failure, Prepared};
 use blocktree::ReadError;
 use buffers::Blocks;
 use inofile::InodeFile;
-use model::{Errno, records_change_trees};
+use layout::InodeNumber;
+use model::records_change_trees;
 use std::alloc::Global;
 
 /// Prepares that bytes are written into the file with a number, at an offset; None where there are none, EFBIG where the file would
@@ -27,56 +30,54 @@ pub fn write_bytes<B: Blocks>(
     alloc: Global,
     inodes: &mut InodeFile,
     blocks: &mut B,
-    number: u32,
+    number: InodeNumber,
     offset: u64,
     bytes: &[u8],
-) -> Result<Result<Option<Prepared>, Errno>, ReadError>
+) -> Result<Option<Prepared>, Failure>
     requires { length bytes.now ≤ TRANSFER_BYTES }
-    ensures looks { Looks B.Blocks IsFault blocks.old blocks.new inodes.old inodes.new result }
-    ensures own { IfOk result (λ r. IfErr r (λ e. e ≡ Errno.EFBIG)) }
-    ensures some { IfOk result (λ r. IfOk r (λ p. IfSome p (λ _. 1 ≤ length bytes.now))) }
-    ensures within { IfOk result (λ r. IfOk r (λ p. IfSome p
-        (λ _. offset + length bytes.now ≤ GREATEST_FILE))) }
-    ensures ready { IfOk result (λ r. IfOk r (λ p. IfSome p (IsReady inodes.new))) }
+    ensures looks { Looks B.Blocks IsFault blocks.old blocks.new inodes.old inodes.new (told result) }
+    ensures own { IfOk (told result) (λ r. IfErr r (λ e. e ≡ EFBIG)) }
+    ensures some { IfOk result (λ p. IfSome p (λ _. 1 ≤ length bytes.now)) }
+    ensures within { IfOk result (λ p. IfSome p
+        (λ _. offset + length bytes.now ≤ GREATEST_FILE)) }
+    ensures ready { IfOk result (λ p. IfSome p (IsReady inodes.new)) }
     ensures does { OnVolumes B.Blocks blocks.old inodes.old (λ disk settled v.
-        IfOk result (λ r. IfOk r (λ p. IfSome p
-        (λ x. Does disk settled inodes.new v x (write number offset bytes.now))))) }
+        IfOk result (λ p. IfSome p
+        (λ x. Does disk settled inodes.new v x (write number offset bytes.now)))) }
     ensures answers { OnMounted B.Blocks blocks.old inodes.old (λ v table.
-        IsTrue (is_file_node (v number)) → IfOk result
+        IsTrue (is_file_node (v number)) → IfOk (told result)
         (PutsBytes inodes.old.geometry.inodes v table number offset bytes.now)) }
-    ensures damaged { NeverDamaged B.Blocks blocks.old inodes.old result }
+    ensures damaged { NeverDamaged B.Blocks blocks.old inodes.old (told result) }
 {
     records_change_trees();
     if bytes.is_empty() {
-        return Ok(Ok(None));
+        return Ok(None);
     }
     let rewrite = Rewrite::Write { offset, bytes };
-    let planned = prepare_bytes(alloc, inodes, blocks, number, &rewrite)?;
-    let Some(prepared) = planned else {
-        return Ok(Err(Errno::EFBIG));
-    };
-    Ok(Ok(Some(prepared)))
+    let prepared = prepare_bytes(alloc, inodes, blocks, number, &rewrite)?;
+    Ok(Some(prepared))
 }
 
-/// Prepares that the file with a number gets a size; None where it has it. NoMemory; Device where a read failed; Damaged where a
+/// Prepares that the file with a number gets a size; None where it has it, EFBIG where it is no file. NoMemory; Device where a read failed; Damaged where a
 /// block on the way is outside its format.
 pub fn cut_bytes<B: Blocks>(
     alloc: Global,
     inodes: &mut InodeFile,
     blocks: &mut B,
-    number: u32,
+    number: InodeNumber,
     size: u64,
-) -> Result<Option<Prepared>, ReadError>
+) -> Result<Option<Prepared>, Failure>
     requires number { IsNumber inodes.old.geometry.inodes number }
     requires within { size ≤ GREATEST_FILE }
-    ensures looks { Looks B.Blocks IsFault blocks.old blocks.new inodes.old inodes.new result }
+    ensures looks { Looks B.Blocks IsFault blocks.old blocks.new inodes.old inodes.new (told result) }
+    ensures own { IfOk (told result) (λ r. IfErr r (λ e. e ≡ EFBIG)) }
     ensures ready { IfOk result (λ p. IfSome p (IsReady inodes.new)) }
     ensures does { OnVolumes B.Blocks blocks.old inodes.old (λ disk settled v.
         IfOk result (λ p. IfSome p (λ x. Does disk settled inodes.new v x (cut number size)))) }
     ensures answers { OnMounted B.Blocks blocks.old inodes.old (λ v table.
-        IsTrue (is_file_node (v number)) → IfOk result
+        IsTrue (is_file_node (v number)) → IfOk (told result)
         (CutsBytes inodes.old.geometry.inodes v table number size)) }
-    ensures damaged { NeverDamaged B.Blocks blocks.old inodes.old result }
+    ensures damaged { NeverDamaged B.Blocks blocks.old inodes.old (told result) }
 {
     records_change_trees();
     let now = size_at(alloc, inodes, blocks, number)?;
@@ -84,7 +85,8 @@ pub fn cut_bytes<B: Blocks>(
         return Ok(None);
     }
     let rewrite = Rewrite::Cut { size };
-    prepare_bytes(alloc, inodes, blocks, number, &rewrite)
+    let prepared = prepare_bytes(alloc, inodes, blocks, number, &rewrite)?;
+    Ok(Some(prepared))
 }
 
 // How many bytes the file with a number has.
@@ -92,14 +94,14 @@ fn size_at<B: Blocks>(
     alloc: Global,
     inodes: &mut InodeFile,
     blocks: &mut B,
-    number: u32,
+    number: InodeNumber,
 ) -> Result<u64, ReadError>
     requires { IsNumber inodes.old.geometry.inodes number }
     ensures { Finds B.Blocks blocks.old blocks.new inodes.old inodes.new (λ disk settled v n.
         IsTrue (is_file_node (v number)) → n ≡ length (unwrap_or (bytes_of (v number)) [])) result }
 {
     load(alloc, inodes, blocks, number)?;
-    match inodes.get(number) {
+    match paths::object(inodes, number) {
         Some(object) => Ok(object.file.size()),
         None => Ok(0),
     }

@@ -13,6 +13,7 @@ use crate::entering::commit_edit;
 use dirs::Edit;
 use inode::{Change, Object};
 use inofile::InodeFile;
+use layout::InodeNumber;
 use model::Mode;
 
 /// What becomes of an object.
@@ -33,7 +34,7 @@ pub(crate) enum Update {
 /// The object with a number, and what becomes of it.
 #[derive(Drop)]
 pub(crate) struct Step {
-    pub(crate) number: u32,
+    pub(crate) number: InodeNumber,
     pub(crate) update: Update,
 }
 
@@ -43,9 +44,10 @@ pub(crate) fn commit_step(inodes: &mut InodeFile, step: Step)
     ensures { Commits inodes.old inodes.new (Some step) }
 {
     let Step { number, update } = step;
-    let mut object = inodes.take(number);
+    let n = number.get();
+    let mut object = inodes.take(n);
     update_object(&mut object, update);
-    inodes.commit_set(number, object);
+    inodes.commit_set(n, object);
 }
 
 /// Puts a step in force, if there is one.

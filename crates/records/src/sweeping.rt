@@ -18,7 +18,7 @@ use crate::prepared::{Prepared, commit};
 use crate::steps::Step;
 use descriptors::Descriptors;
 use inofile::InodeFile;
-use layout::Kind;
+use layout::{InodeNumber, Kind};
 
 /// Puts a prepared change in force, and drops a file that it leaves with neither name nor descriptor. The table then has the size
 /// and links of each open file as memory has them. It takes no memory and can't fail.
@@ -39,7 +39,7 @@ pub fn commit_swept(inodes: &mut InodeFile, files: &mut Descriptors, prepared: P
         → IsMounted (swept (table_of files.old) (applied change v)) (table_of files.old)
         → FitsVolume files.new (swept (table_of files.old) (applied change v)) }
 {
-    let first = prepared.first.number;
+    let first = first_number(&prepared.first);
     let next = number_of(&prepared.next);
     let last = number_of(&prepared.last);
     commit(inodes, prepared);
@@ -48,8 +48,15 @@ pub fn commit_swept(inodes: &mut InodeFile, files: &mut Descriptors, prepared: P
     settle(inodes, files, last);
 }
 
-// The number of a step, if there is one.
-fn number_of(step: &Option<Step>) -> Option<u32>
+// The number of a step.
+fn first_number(step: &Step) -> InodeNumber
+    ensures { result ≡ step.now.number }
+{
+    step.number
+}
+
+// The same, if there is one.
+fn number_of(step: &Option<Step>) -> Option<InodeNumber>
     ensures { result ≡ option_map (λ step. step.number) step.now }
 {
     match step {
@@ -59,7 +66,7 @@ fn number_of(step: &Option<Step>) -> Option<u32>
 }
 
 /// Drops the file of a number where it has no name; any other object stays. It takes no memory and can't fail.
-pub fn drop_nameless(inodes: &mut InodeFile, number: u32)
+pub fn drop_nameless(inodes: &mut InodeFile, number: InodeNumber)
     requires { IsAtHand inodes.old number }
     ensures geometry { inodes.new.geometry ≡ inodes.old.geometry }
     ensures stays { (n : ℕ) → IsKnown inodes.old n → IsKnown inodes.new n }
@@ -70,13 +77,13 @@ pub fn drop_nameless(inodes: &mut InodeFile, number: u32)
         (with_node number (swept_node false (v number)) v) }
 {
     if is_nameless(inodes, number) {
-        inodes.commit_set(number, None);
+        inodes.commit_set(number.get(), None);
     }
 }
 
 // Drops the file of a number, if there is one, where it has neither name nor descriptor; where it is open, the table then has its
 // size and links as memory has them.
-fn settle(inodes: &mut InodeFile, files: &mut Descriptors, number: Option<u32>)
+fn settle(inodes: &mut InodeFile, files: &mut Descriptors, number: Option<InodeNumber>)
     requires { IfSome number (IsAtHand inodes.old) }
     ensures geometry { inodes.new.geometry ≡ inodes.old.geometry }
     ensures stays { (n : ℕ) → IsKnown inodes.old n → IsKnown inodes.new n }
@@ -92,7 +99,7 @@ fn settle(inodes: &mut InodeFile, files: &mut Descriptors, number: Option<u32>)
         → FitsVolume files.old v → FitsVolume files.new (with_object_of w number v) }
 {
     if let Some(number) = number {
-        if files.is_open(number) {
+        if files.is_open(number.get()) {
             note_figures(inodes, files, number);
         } else {
             drop_nameless(inodes, number);
@@ -101,7 +108,7 @@ fn settle(inodes: &mut InodeFile, files: &mut Descriptors, number: Option<u32>)
 }
 
 // Notes in the table the size and links that an open file has in memory.
-fn note_figures(inodes: &InodeFile, files: &mut Descriptors, number: u32)
+fn note_figures(inodes: &InodeFile, files: &mut Descriptors, number: InodeNumber)
     requires { IsKnown inodes.now number }
     ensures opened { table_of files.new ≡ table_of files.old }
     ensures numbers { (n : ℕ) → HasNumbers n files.old → HasNumbers n files.new }
@@ -109,19 +116,20 @@ fn note_figures(inodes: &InodeFile, files: &mut Descriptors, number: u32)
         → IsVolumeOf count disk settled inodes.now w → IsTrue (is_file_node (w number))
         → FitsVolume files.old v → FitsVolume files.new (with_node number (w number) v) }
 {
-    if let Some(object) = inodes.get(number) {
-        files.resized(number, object.file.size());
-        files.relinked(number, object.attributes.links);
+    if let Some(object) = paths::object(inodes, number) {
+        let n = number.get();
+        files.resized(n, object.file.size());
+        files.relinked(n, object.attributes.links);
     }
 }
 
 /// Whether a file in memory has no name.
-pub fn is_nameless(inodes: &InodeFile, number: u32) -> bool
+pub fn is_nameless(inodes: &InodeFile, number: InodeNumber) -> bool
     requires { IsKnown inodes.now number }
     ensures { (count : ℕ) (disk : ℕ → List ℕ) (settled : ℕ → Inode) (v : Volume)
         → IsVolumeOf count disk settled inodes.now v → result ≡ is_nameless (v number) }
 {
-    let Some(object) = inodes.get(number) else {
+    let Some(object) = inodes.get(number.get()) else {
         return false;
     };
     match object.attributes.kind {

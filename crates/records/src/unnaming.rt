@@ -10,55 +10,56 @@ ghost use Rattle.inofile.specs.Volumes.{IsVolumeOf};
 ghost use Rattle.paths.specs.Numbers.{IsNumber};
 ghost use Rattle.records.specs.Looking.{Finds};
 ghost use Rattle.records.specs.Moving.{Releases};
-ghost use Rattle.records.specs.Preparing.{PreparesRecord};
+ghost use Rattle.records.specs.Preparing.{DecidesRecord};
 ghost use Rattle.records.specs.Steps.{IsAlone, IsAtHand, Updates};
 
-use crate::Prepared;
 use crate::entering::edit_parent;
 use crate::loading::{is_number, load_to_change};
 use crate::naming::NameEdit;
 use crate::steps::{Step, Update};
+use crate::{Failure, Prepared};
 use blocktree::ReadError;
 use buffers::Blocks;
 use inofile::InodeFile;
-use layout::Kind;
+use layout::{InodeNumber, Kind};
+use model::Errno;
 use std::alloc::Global;
 
-/// Prepares that a name is taken away, and with it what it named, but a file stays, with a name less; None where the name isn't
-/// there, or names a directory that isn't empty.
+/// Prepares that a name is taken away, and with it what it named, but a file stays, with a name less; or tells the first obstacle:
+/// ENOENT where the name isn't there, ENOTEMPTY where it is that of a directory with names.
 pub fn prepare_unname<B: Blocks>(
     alloc: Global,
     inodes: &mut InodeFile,
     blocks: &mut B,
-    parent: u32,
+    parent: InodeNumber,
     name: &[u8],
-) -> Result<Option<Prepared>, ReadError>
-    ensures { PreparesRecord B.Blocks blocks.old blocks.new inodes.old inodes.new
+) -> Result<Prepared, Failure>
+    ensures { DecidesRecord B.Blocks blocks.old blocks.new inodes.old inodes.new
         (unname parent name.now) result }
 {
     if !is_number(inodes, parent) {
-        return Ok(None);
+        return Err(Failure::Refused(Errno::ENOENT));
     }
     let found = number_in(alloc, inodes, blocks, parent, name)?;
     let Some(number) = found else {
-        return Ok(None);
+        return Err(Failure::Refused(Errno::ENOENT));
     };
     let released = release(alloc, inodes, blocks, number)?;
     let Some(update) = released else {
-        return Ok(None);
+        return Err(Failure::Refused(Errno::ENOTEMPTY));
     };
     let planned = edit_parent(alloc, inodes, blocks, parent, &NameEdit::Remove(name))?;
     let Some(edit) = planned else {
-        return Ok(None);
+        return Err(Failure::Refused(Errno::ENOENT));
     };
-    Ok(Some(Prepared {
+    Ok(Prepared {
         first: Step {
             number: parent,
             update: Update::Names(edit),
         },
         next: Some(Step { number, update }),
         last: None,
-    }))
+    })
 }
 
 /// The number at a name of a directory; None where it doesn't have it, or is no directory.
@@ -66,9 +67,9 @@ pub(crate) fn number_in<B: Blocks>(
     alloc: Global,
     inodes: &mut InodeFile,
     blocks: &mut B,
-    directory: u32,
+    directory: InodeNumber,
     name: &[u8],
-) -> Result<Option<u32>, ReadError>
+) -> Result<Option<InodeNumber>, ReadError>
     requires { IsNumber inodes.old.geometry.inodes directory }
     ensures number { Finds B.Blocks blocks.old blocks.new inodes.old inodes.new
         (λ disk settled v n. n ≡ entries v directory name.now) result }
@@ -83,7 +84,7 @@ pub(crate) fn release<B: Blocks>(
     alloc: Global,
     inodes: &mut InodeFile,
     blocks: &mut B,
-    number: u32,
+    number: InodeNumber,
 ) -> Result<Option<Update>, ReadError>
     requires { IsNumber inodes.old.geometry.inodes number }
     ensures released { Finds B.Blocks blocks.old blocks.new inodes.old inodes.new
@@ -103,7 +104,7 @@ fn is_empty<B: Blocks>(
     alloc: Global,
     inodes: &mut InodeFile,
     blocks: &mut B,
-    number: u32,
+    number: InodeNumber,
 ) -> Result<bool, ReadError>
     requires { IsNumber inodes.old.geometry.inodes number }
     ensures { Finds B.Blocks blocks.old blocks.new inodes.old inodes.new
@@ -114,14 +115,14 @@ fn is_empty<B: Blocks>(
 }
 
 // What becomes of an object that loses a name.
-fn released(inodes: &InodeFile, number: u32) -> Update
+fn released(inodes: &InodeFile, number: InodeNumber) -> Update
     requires { IsKnown inodes.now number }
     ensures alone { IsAlone result }
     ensures updates { (count : ℕ) (disk : ℕ → List ℕ) (settled : ℕ → Inode) (v : Volume)
         → IsVolumeOf count disk settled inodes.now v → (many : ℕ) (o : Option Object)
         → Updates disk many (settled number) (v number) o result (with_name_less (v number)) }
 {
-    let Some(object) = inodes.get(number) else {
+    let Some(object) = paths::object(inodes, number) else {
         return Update::Set(None);
     };
     match object.attributes.kind {

@@ -20,7 +20,7 @@ use blocktree::ReadError;
 use buffers::Blocks;
 use inode::{Attributes, ChangeError, File, Object};
 use inofile::InodeFile;
-use layout::{FIRST_NUMBER, Kind, NewObject, is_link_text};
+use layout::{FIRST_NUMBER, InodeNumber, Kind, NewObject, is_link_text};
 use model::{LINK_MODE, MODE_BITS, Mode};
 use std::alloc::Global;
 
@@ -29,7 +29,7 @@ pub fn is_vacant<B: Blocks>(
     alloc: Global,
     inodes: &mut InodeFile,
     blocks: &mut B,
-    number: u32,
+    number: InodeNumber,
 ) -> Result<bool, ReadError>
     requires low { FIRST_NUMBER ≤ number }
     requires high { number < inodes.old.geometry.inodes }
@@ -37,7 +37,7 @@ pub fn is_vacant<B: Blocks>(
         (λ disk settled v vacant. vacant ≡ is_vacant (v number)) result }
 {
     load(alloc, inodes, blocks, number)?;
-    let Some(object) = inodes.get(number) else {
+    let Some(object) = paths::object(inodes, number) else {
         return Ok(true);
     };
     match object.attributes.kind {

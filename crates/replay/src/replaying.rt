@@ -14,7 +14,7 @@ use buffers::Blocks;
 use inofile::InodeFile;
 use layout::{Gate, Record, read_gate};
 use model::records_keep_volumes;
-use records::{commit, prepare};
+use records::{Failure, commit, prepare};
 use std::alloc::Global;
 
 /// Replays the records from a gate on over the inodes in memory, and answers how many bytes stand from the closed gate on.
@@ -71,9 +71,10 @@ fn replay_one<B: Blocks>(
     let Some(logged) = Record::read(body) else {
         return Err(ReadError::Damaged);
     };
-    let planned = prepare(alloc, inodes, blocks, &logged)?;
-    let Some(prepared) = planned else {
-        return Err(ReadError::Damaged);
+    let prepared = match prepare(alloc, inodes, blocks, &logged) {
+        Ok(prepared) => prepared,
+        Err(Failure::Refused(_errno)) => return Err(ReadError::Damaged),
+        Err(Failure::Read(error)) => return Err(error),
     };
     commit(inodes, prepared);
     Ok(())

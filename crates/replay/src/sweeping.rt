@@ -14,7 +14,7 @@ ghost use Rattle.replay.specs.Volumes.{ComesTo, HasVolume};
 use blocktree::ReadError;
 use buffers::Blocks;
 use inofile::InodeFile;
-use layout::FIRST_NUMBER;
+use layout::{FIRST_NUMBER, InodeNumber};
 use model::mounts_find_volumes;
 use records::is_nameless;
 use std::alloc::Global;
@@ -86,7 +86,7 @@ fn drop_if_nameless<B: Blocks>(
     }
     inodes.load(alloc, blocks, number)?;
     inodes.prepare_set(number)?;
-    records::drop_nameless(inodes, number);
+    records::drop_nameless(inodes, InodeNumber::new(number));
     Ok(())
 }
 
@@ -111,5 +111,5 @@ fn has_nameless<B: Blocks>(
         return Ok(false);
     }
     inodes.load(alloc, blocks, number)?;
-    Ok(is_nameless(inodes, number))
+    Ok(is_nameless(inodes, InodeNumber::new(number)))
 }

@@ -1,6 +1,6 @@
 -- Commands done one after the other, and what is shown of them.
 use Rattle.std.proofs.Common.{◌≡◌, inl, inr, ℕ, ◌+◌, ◌*◌, ◌<◌, ◌≤◌, ◌^◌, ◌-◌, Bool, true, List, [], ◌∷◌, ◌++◌, length, length-drop, take, drop, Option, Some, None, arith, refl, sym, ◌∙◌, ap, subst, append_assoc}
-use Rattle.std.specs.Io.KnownBytes.{Appends, Keeps}
+use Rattle.std.specs.Io.KnownBytes.{Appends}
 use Rattle.std.proofs.lemmas.Grind.{flat_map-append}
 use Rattle.std.proofs.lemmas.List.{length-append, append-nil, take_all}
 use Rattle.std.proofs.Math.Seq.{take-add}
@@ -27,12 +27,6 @@ appends_twice None b c xs ys first second = tt
 appends_twice (Some x) None c xs ys first second = absurd first
 appends_twice (Some x) (Some y) None xs ys first second = absurd second
 appends_twice (Some x) (Some y) (Some z) xs ys first second = second ∙ ap (λ l. l ++ ys) first ∙ append_assoc x xs ys
-
-pub appends_kept : (a b c : Option (List ℕ)) (xs : List ℕ) → Appends a b xs → Keeps b c → Appends a c xs
-appends_kept None b c xs first kept = tt
-appends_kept (Some x) None c xs first kept = absurd first
-appends_kept (Some x) (Some y) None xs first kept = absurd kept
-appends_kept (Some x) (Some y) (Some z) xs first kept = kept ∙ first
 
 -- some of the bytes that are left were written
 pub more_written : (o a b : Option (List ℕ)) (bytes : List ℕ) (at count : ℕ) → at ≤ length bytes → count ≤ length (take (length bytes - at) (drop at bytes)) → Appends o a (take at bytes)

@@ -52,13 +52,6 @@ pub record IsSkipping (known : Option (List ℕ)) (p : List ℕ) (r : Option (Li
   pub long : LINE_BYTES < length (gone ++ p)
   pub comment : is_comment ≡ is_skipped (gone ++ p)
 
-consumes_none : (k : Option (List ℕ)) → Consumes k k []
-consumes_none None = tt
-consumes_none (Some x) = refl
-
-pub skipping_first : (p : List ℕ) (r : Option (List ℕ)) (is_comment : Bool) → IsPlain p → LINE_BYTES < length p → is_comment ≡ is_skipped p → IsSkipping (prepend_known p r) p r is_comment
-skipping_first p r is_comment plain long comment = record { gone = []; consumes = consumes_none (prepend_known p r); plain = plain; long = long; comment = comment }
-
 -- what is pending goes too
 all_gone : (known : Option (List ℕ)) (p : List ℕ) (r k : Option (List ℕ)) (gone : List ℕ) → Consumes known (prepend_known p r) gone → Keeps (prepend_known [] r) k → Consumes known k (gone ++ p)
 all_gone None p r k gone consumes kept = tt
@@ -107,21 +100,6 @@ module _ (known : Option (List ℕ)) (p : List ℕ) (r : Option (List ℕ)) (is_
       loses_behind (Some x) (Some xs) consumes =
           inl (consumes ∙ ap (λ l. all ++ l) (ap (λ l. l ++ xs) (sym (take-append-drop i q) ∙ ap (λ l. take i q ++ l) ends) ∙ append_assoc (take i q) (10 ∷ drop (i + 1) q) xs)
           ∙ sym (append_assoc all (take i q) (10 ∷ (drop (i + 1) q ++ xs))))
-
-  -- or the input does
-  pub skipped_all : q ≡ [] → IsAtEnd s → (line : List ℕ) × TakesLine known (prepend_known q s) line × IsHeardAs line (TooLong is_comment)
-  skipped_all none end = (
-    all,
-    record { plain = so_far.plain; loses = loses_all known s q none end (all_gone known p r (prepend_known q s) so_far.gone so_far.consumes kept) },
-    (so_far.long, so_far.comment),
-  )
-    where
-      loses_all : (k t : Option (List ℕ)) (q : List ℕ) → q ≡ [] → IsAtEnd t → Consumes k (prepend_known q t) all → Loses k (prepend_known q t) all
-      loses_all None t q none end consumes = tt
-      loses_all (Some x) None q none end consumes = absurd consumes
-      loses_all (Some x) (Some xs) q none end consumes =
-          let nothing : q ++ xs ≡ [] = ap (λ l. q ++ l) end ∙ append-nil q ∙ none in
-          inr (consumes ∙ ap (λ l. all ++ l) nothing ∙ append-nil all, nothing, λ is. absurd (omega (arith, some, ap (λ (l : List ℕ). length l) is)))
 
 at_end : (k : Option (List ℕ)) (p : List ℕ) (r : Option (List ℕ)) → Keeps k (prepend_known p r) → IsAtEnd r → p ≡ [] → IsAtEnd k
 at_end None p r kept end none = tt

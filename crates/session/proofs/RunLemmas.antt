@@ -85,9 +85,6 @@ module _ {S : Type 0} {G : Ghosts S} (first : Fs S G) (commands : List Command) 
 
   module _ (fs next : Fs S G) (was_cut cut_now : Bool → Type 0) (i : ℕ) (command : Command) (a b : Option (List ℕ)) (below : i < length commands) (is : command ≡ get_or commands i command)
       (reached : IsReached first fs (take i commands) stops was_cut o a) where
-    steps_with : Reply → List (Command × Reply)
-    steps_with reply = reached.steps ++ (command, reply) ∷ []
-
     shows_more : (reply : Reply) → Appends a b (shown reply) → Appends o b (lines_of_steps (reached.steps ++ (command, reply) ∷ []))
     shows_more reply shows = subst (λ (l : List ℕ). Appends o b l) (lines_more reached.steps command reply) (appends_twice o a b _ _ reached.shows shows)
 

@@ -1,5 +1,5 @@
 -- Lines answered one after the other, and how that ends.
-use Rattle.std.proofs.Common.{◌≡◌, inl, inr, ℕ, ◌<◌, Bool, true, false, List, [], ◌∷◌, ◌++◌, length, Option, Some, None, Result, Ok, Err, refl, sym, ◌∙◌, ap, subst}
+use Rattle.std.proofs.Common.{◌≡◌, inl, inr, ℕ, Bool, true, false, List, [], ◌∷◌, ◌++◌, Option, Some, None, Result, Ok, Err, refl, sym, ◌∙◌, ap, subst}
 use Rattle.std.specs.Prelude.{if◌then◌else◌}
 use Rattle.std.specs.Io.KnownBytes.{Appends, IsAtEnd, Keeps}
 use Rattle.std.proofs.lemmas.Grind.{flat_map-append}
@@ -13,7 +13,6 @@ use Rattle.session.specs.Answers.{cut_line, AnswersShowing, EndsAnswer, EndsCut,
 use Rattle.session.specs.Reading.{IsReadFault, TakesLine}
 use Rattle.session.specs.Scripts.{is_skipped, IsBadLine, IsLineOf}
 use Rattle.session.specs.Shells.{bad_line, said, said_of, step_before, steps_of, AnswersLine, ComesTo, Dialog, DoesStep, EndsBad, EndsListening, EndsUnsaid, HasHeard, IsLast, TakesLines}
-use Rattle.session.specs.declared.reading.TheConstants.{LINE_BYTES}
 use Rattle.session.specs.declared.status.Status.{Status}
 use Rattle.session.specs.declared.status.Status.TheVariants.{Done, NotUnderstood, FileFault, Cut, NotMounted, NotACommand, NoMemory, Refused}
 use Rattle.session.proofs.AnswerLemmas.{appends_none, appends_twice, done_more}
@@ -24,10 +23,6 @@ use Rattle.session.proofs.ReadingLemmas.{keeps_same, loses_kept}
 -- what a flag shows
 flag_says : (b : Bool) (line : List ℕ) → b ≡ is_skipped line → (if b then [] else bad_line) ≡ said_of line None
 flag_says b line is = ap (λ (x : Bool). if x then [] else bad_line) is
-
-long_comes : (line : List ℕ) (b : Bool) → is_skipped line ≡ b → LINE_BYTES < length line → ComesTo line None
-long_comes line true is long = inl is
-long_comes line false is long = inr (inr (is, long))
 
 module _ {S : Type 0} {G : Ghosts S} (fs : Fs S G) (line : List ℕ) (cut : Bool → Type 0) (o : Option (List ℕ)) where
   -- it is answered as no command
@@ -42,14 +37,8 @@ module _ {S : Type 0} {G : Ghosts S} (fs : Fs S G) (line : List ℕ) (cut : Bool
   unsaid o' b (Err NoMemory) comes is ends = absurd ends
   unsaid o' b (Err Refused) comes is ends = absurd ends
 
-  pub too_long_said : (o' : Option (List ℕ)) (b : Bool) (result : Result (Unit {0}) Status) → (LINE_BYTES < length line) × (b ≡ is_skipped line) → EndsBad b o o' result → AnswersLine fs fs line cut cut o o' result
-  too_long_said o' b result heard ends = unsaid o' b result (long_comes line b (sym heard.1) heard.0) (flag_says b line heard.1) ends
-
   pub bad_said : (o' : Option (List ℕ)) (result : Result (Unit {0}) Status) → IsBadLine line → EndsBad false o o' result → AnswersLine fs fs line cut cut o o' result
   bad_said o' result bad ends = unsaid o' false result (inr (inl bad)) (flag_says false line (sym bad.kept)) ends
-
-  pub skipped_said : is_skipped line ≡ true → AnswersLine fs fs line cut cut o o (Ok tt)
-  skipped_said is = (None, inl is, refl, λ on. on, subst (λ (l : List ℕ). Appends o o l) (flag_says true line (sym is)) (appends_none o))
 
   pub not_read : AnswersLine fs fs line cut cut o o (Err NoMemory)
   not_read = ([], refl, appends_none o)

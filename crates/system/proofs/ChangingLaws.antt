@@ -1,6 +1,6 @@
 -- What a call comes to whose record is prepared as a change, on a system that serves a state.
-use Rattle.std.proofs.Common.{◌≡◌, ℕ, List, Option, Some, None, Result, Ok, Err, ap, sym, subst, ◌∙◌}
-use Rattle.std.specs.Prelude.{IfOk, IfSome}
+use Rattle.std.proofs.Common.{◌≡◌, ℕ, List, Option, Some, Result, Ok, Err, ap, sym, subst, ◌∙◌}
+use Rattle.std.specs.Result.{IsErrAnd}
 use Rattle.station.specs.Images.{Images}
 use Rattle.station.specs.Moments.{Meaning}
 use Rattle.station.specs.declared.station.Station.{Ghosts}
@@ -8,22 +8,27 @@ use Rattle.layout.specs.Places.{blocks_of}
 use Rattle.layout.specs.Record.{Change, IsChange}
 use Rattle.layout.specs.Limits.{Sizes}
 use Rattle.layout.specs.declared.root.Root.{Root}
-use Rattle.model.specs.Records.{Applies, applied, work_of}
-use Rattle.model.specs.Room.{Work, nothing, logs, adds_name}
+use Rattle.model.specs.Records.{applied, work_of}
+use Rattle.model.specs.Room.{nothing, logs}
 use Rattle.model.specs.States.{State}
 use Rattle.model.specs.Steps.{calls}
 use Rattle.model.specs.Trees.{Description, Tree}
-use Rattle.model.specs.Volumes.{Volume, IsMounted, swept, tree_of}
+use Rattle.model.specs.Volumes.{Volume, swept, tree_of}
 use Rattle.model.specs.declared.command.Command.TheVariants as command
 use Rattle.model.specs.declared.command.PathCall.{PathCall}
 use Rattle.model.specs.declared.errno.Errno.{Errno}
 use Rattle.model.specs.declared.reply.Reply.{Reply}
-use Rattle.model.specs.declared.reply.Reply.TheVariants.{Done, Refused}
-use Rattle.blocktree.specs.declared.error.ReadError.{ReadError}
+use Rattle.model.specs.declared.reply.Reply.TheVariants.{Done}
+use Rattle.buffers.specs.declared.blocks.Blocks as blocks
 use Rattle.inofile.specs.declared.inode_file.InodeFile.{InodeFile}
 use Rattle.calls.specs.Changing.{Comes, ComesOrStays, ComesSwept, said_by, ComesSweptBy}
 use Rattle.records.specs.Prepared.{Does}
+use Rattle.records.specs.declared.failure.Failure.{Failure}
+use Rattle.records.specs.declared.failure.Failure.TheVariants as failures
+use Rattle.records.specs.declared.prepared.Prepared.{Prepared}
 use Rattle.calls.specs.declared.changed.Changing.{Changing}
+use Rattle.calls.specs.Preparing.{Prepares, PreparesAny}
+use Rattle.calls.proofs.PrepareSteps.{carried, refuses, stops}
 use Rattle.calls.proofs.SweptLaws.{comes_swept}
 use Rattle.images.specs.Roots.{whole}
 use Rattle.loading.specs.Images.{inodes_of}
@@ -49,6 +54,12 @@ pub asked_or_stays : (n : ℕ) (call asked : PathCall) (v : Volume) (table : ℕ
     → ComesOrStays (calls n (tree_of v table) asked) n v table r → CallComes call n v table r
 asked_or_stays n call asked v table r is here = subst (λ (k : PathCall). CallComes k n v table r) (sym is) here
 
+-- the same of one that failed
+pub passes_on : {B : Type 0} {G : blocks.Ghosts B} {a b : B} {s t : InodeFile} (call : PathCall) (f : Failure) (q : Result (Option Changing) Failure) → IsErrAnd q (λ g. g ≡ f)
+    → Prepares G a b s t (RecordComes call) (Err f) → PreparesAny G a b s t (CallComes call) q
+passes_on {G = G} {a = a} {b = b} {s = s} {t = t} call (failures.Refused errno) q is told = carried (PreparesAny G a b s t (CallComes call)) q is (refuses told.looks told.own told.answers)
+passes_on call (failures.Read e) q is told = stops q is told.looks told.damaged
+
 -- a call with one text, that was taken as bytes
 pub one_text : (call : PathCall) (of : List ℕ → PathCall) (path bytes : List ℕ) → call ≡ of path → bytes ≡ path → call ≡ of bytes
 one_text call of path bytes is same = is ∙ ap of (sym same)
@@ -59,29 +70,15 @@ two_texts call of one other first second is same_first same_second = is ∙ (λ 
 
 -- ---- what a system that serves a state is told
 
--- what a call comes to on the tree of a system's volume
-abbrev pub ComesOver : {S : Type 0} {G : Ghosts S} (f : System S G) (s : State) → ServesState f s → PathCall → Result (Option Changing) Errno → Type 0
-ComesOver f s serves call = CallComes call f.inodes.geometry.inodes serves.running s.tree.descriptors
-
 same_inodes : {S : Type 0} {G : Ghosts S} (f : System S G) (s : State) (serves : ServesState f s) → f.inodes.geometry.inodes ≡ s.inodes
 same_inodes f s serves = ap (λ (g : Sizes). g.inodes) f.sizes ∙ sym (ap (λ (u : State). u.inodes) serves.state)
 
 -- a call that changes nothing is answered so by the state that the system serves
-stays : {S : Type 0} {G : Ghosts S} (f : System S G) (s : State) (serves : ServesState f s) (call : PathCall) (reply : Reply)
+pub stays : {S : Type 0} {G : Ghosts S} (f : System S G) (s : State) (serves : ServesState f s) (call : PathCall) (reply : Reply)
     → calls f.inodes.geometry.inodes (tree_of serves.running s.tree.descriptors) call reply (tree_of serves.running s.tree.descriptors) nothing → WouldCall s (command.Path call) reply s nothing
 stays f s serves call reply told =
     let t : Tree = tree_of serves.running s.tree.descriptors in
     told_of f s serves call reply (subst (λ (n : ℕ). calls n t call reply t nothing) (same_inodes f s serves) told)
-
-pub changing_refused : {S : Type 0} {G : Ghosts S} (f : System S G) (s : State) (serves : ServesState f s) (call : PathCall) (r : Result (Option Changing) Errno) (errno : Errno) → r ≡ Err errno
-    → ComesOver f s serves call r → WouldCall s (command.Path call) (Refused errno) s nothing
-changing_refused f s serves call r errno is told =
-    stays f s serves call (Refused errno) (subst (λ (x : Result (Option Changing) Errno). ComesOver f s serves call x) is told)
-
-pub changing_nothing : {S : Type 0} {G : Ghosts S} (f : System S G) (s : State) (serves : ServesState f s) (call : PathCall) (r : Result (Option Changing) Errno) → r ≡ Ok None
-    → ComesOver f s serves call r → WouldCall s (command.Path call) Done s nothing
-changing_nothing f s serves call r is told =
-    stays f s serves call Done (subst (λ (x : Result (Option Changing) Errno). ComesOver f s serves call x) is told)
 
 -- What is told of a call whose record is to be logged, by a system that serves a state.
 pub record IsChanged {S : Type 0} {G : Ghosts S} (f : System S G) (s : State) (serves : ServesState f s) (call : PathCall) (change : Change) : Type 0 where
@@ -89,17 +86,15 @@ pub record IsChanged {S : Type 0} {G : Ghosts S} (f : System S G) (s : State) (s
   pub step : WouldCall s (command.Path call) Done
       (state_with f.root.geometry.inodes (swept s.tree.descriptors (applied change serves.running)) s.tree.descriptors serves.snapshots) (logs (work_of serves.running change))
 
-pub changing_told : {S : Type 0} {G : Ghosts S} (f : System S G) (s : State) (serves : ServesState f s) (call : PathCall) (r : Result (Option Changing) Errno) (c : Changing) (change : Change) → r ≡ Ok (Some c)
-    → change ≡ said_by c.change → IsChange change → ComesOver f s serves call r → IsChanged f s serves call change
-changing_told f s serves call r c change is says is_change told =
+pub changing_told : {S : Type 0} {G : Ghosts S} (f : System S G) (s : State) (serves : ServesState f s) (call : PathCall) (c : Changing) (change : Change) → change ≡ said_by c.change → IsChange change
+    → CallComes call f.inodes.geometry.inodes serves.running s.tree.descriptors (Ok (Some c)) → IsChanged f s serves call change
+changing_told f s serves call c change says is_change told =
     let v = serves.running in
     let table = s.tree.descriptors in
     let inodes = f.root.geometry.inodes in
-    let sizes : f.inodes.geometry.inodes ≡ inodes = ap (λ (g : Sizes). g.inodes) f.sizes in
     let tree : s.tree ≡ tree_of v table = ap (λ (u : State). u.tree) serves.state in
     let count : s.inodes ≡ inodes = ap (λ (u : State). u.inodes) serves.state in
-    let told_here : CallComes call inodes v table (Ok (Some c)) = subst (λ (n : ℕ). CallComes call n v table (Ok (Some c))) sizes
-    (subst (λ (x : Result (Option Changing) Errno). ComesOver f s serves call x) is told) in
+    let told_here : CallComes call inodes v table (Ok (Some c)) = subst (λ (g : Sizes). CallComes call g.inodes v table (Ok (Some c))) f.sizes told in
     let here = subst (ComesSweptBy (calls inodes (tree_of v table) call) inodes v table) (sym says) told_here in
     let after : Tree = tree_of (swept table (applied change v)) table in
     record {
@@ -112,11 +107,9 @@ changing_told f s serves call r c change is says is_change told =
     }
 
 -- a prepared change does the same on a disk that reads the same
-pub changing_over : (m n : Meaning) (root : Root) (inodes : InodeFile) (v : Volume) (r : Result (Option Changing) Errno) (changing : Changing) (change : Change) → r ≡ Ok (Some changing)
-    → change ≡ said_by changing.change → m.seen ≡ n.seen
-    → IfOk r (λ o. IfSome o (λ x. Does (blocks_of m.seen.disk) (inodes_of (whole (blocks_of m.seen.disk) root).active) inodes v x.prepared (said_by x.change)))
-    → Does (blocks_of n.seen.disk) (inodes_of (whole (blocks_of n.seen.disk) root).active) inodes v changing.prepared change
-changing_over m n root inodes v r changing change is says same does =
-    let here = subst (λ (x : Result (Option Changing) Errno). IfOk x (λ o. IfSome o (λ x. Does (blocks_of m.seen.disk) (inodes_of (whole (blocks_of m.seen.disk) root).active) inodes v x.prepared (said_by x.change)))) is does in
-    subst (λ (i : Images). Does (blocks_of i.disk) (inodes_of (whole (blocks_of i.disk) root).active) inodes v changing.prepared change) same
-    (subst (λ (c : Change). Does (blocks_of m.seen.disk) (inodes_of (whole (blocks_of m.seen.disk) root).active) inodes v changing.prepared c) (sym says) here)
+pub does_over : (m n : Meaning) (root : Root) (inodes : InodeFile) (v : Volume) (prepared : Prepared) (change said : Change) → change ≡ said → m.seen ≡ n.seen
+    → Does (blocks_of m.seen.disk) (inodes_of (whole (blocks_of m.seen.disk) root).active) inodes v prepared said
+    → Does (blocks_of n.seen.disk) (inodes_of (whole (blocks_of n.seen.disk) root).active) inodes v prepared change
+does_over m n root inodes v prepared change said says same does =
+    subst (λ (i : Images). Does (blocks_of i.disk) (inodes_of (whole (blocks_of i.disk) root).active) inodes v prepared change) same
+    (subst (Does (blocks_of m.seen.disk) (inodes_of (whole (blocks_of m.seen.disk) root).active) inodes v prepared) (sym says) does)

@@ -1,8 +1,8 @@
 -- Which device calls failed of those that were made one behind the other, and that none of them wrote the NVRAM.
-use Rattle.std.proofs.Common.{◌≡◌, ◌⊎◌, ◌+◌, ◌≤◌, ℕ, Bool, true, false, if◌then◌else◌, Ok, Err, inl, inr, refl, sym, subst, ◌∙◌, arith}
+use Rattle.std.proofs.Common.{◌≡◌, ◌⊎◌, ◌+◌, ℕ, Bool, true, false, if◌then◌else◌, Ok, Err, inl, inr, refl, sym, subst, ◌∙◌, arith}
 use Rattle.std.specs.Prelude.{IsFalse}
 use Rattle.station.specs.Calls.{OnlyWrites, Uses}
-use Rattle.station.specs.Images.{Images, Unchanged}
+use Rattle.station.specs.Images.{Unchanged}
 use Rattle.station.specs.Moments.{After, Goes, HasGrown, Meaning}
 use Rattle.station.proofs.Calls.{uses_twice}
 use Rattle.station.proofs.Moments.{joined, leaves_unchanged, started, weaker}

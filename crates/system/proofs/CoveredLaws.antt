@@ -1,7 +1,6 @@
 -- A system that has nothing beside its root.
 use Rattle.std.proofs.Common.{◌≡◌, ℕ, ◌+◌, ◌≤◌, ◌^◌, List, [], ◌∷◌, Option, refl, ap, sym, subst, ◌∙◌, arith, inl, inr}
 use Rattle.std.specs.Prelude.{map}
-use Rattle.std.specs.BTreeMap.{BTreeMap}
 use Rattle.station.specs.declared.station.Station.{Ghosts}
 use Rattle.station.specs.Moments.{Meaning, MayLeave}
 use Rattle.layout.specs.Limits.{Sizes}
@@ -10,21 +9,17 @@ use Rattle.layout.specs.Places.{blocks_of}
 use Rattle.layout.specs.Record.{Change, change_bytes}
 use Rattle.layout.specs.declared.inode.Inode.{Inode}
 use Rattle.layout.specs.declared.log.TheConstants.{FIRST_GATE}
-use Rattle.layout.specs.declared.root.Root.{Root}
 use Rattle.model.specs.States.{State}
 use Rattle.model.specs.Trees.{Description}
 use Rattle.model.specs.Volumes.{Volume}
-use Rattle.buffers.specs.declared.block.Block.{Block}
-use Rattle.blockmap.specs.declared.map.BlockMap.{BlockMap}
 use Rattle.images.specs.Contents.{HoldsVolume}
 use Rattle.images.specs.Roots.{whole}
 use Rattle.inofile.specs.Inodes.{HasNoChange}
 use Rattle.inofile.specs.Settled.{held_content}
 use Rattle.inofile.specs.Volumes.{IsVolumeOf}
-use Rattle.descriptors.specs.declared.table.Descriptors.{Descriptors}
 use Rattle.inofile.specs.declared.inode_file.InodeFile.{InodeFile}
 use Rattle.loading.specs.Images.{inodes_of}
-use Rattle.oplog.specs.LogEnd.{LogEnd, EndsAt, all_of, next_of, no_bodies}
+use Rattle.oplog.specs.LogEnd.{EndsAt, all_of, next_of, no_bodies}
 use Rattle.oplog.specs.declared.log.End.{End}
 use Rattle.oplog.specs.declared.log.End.TheVariants.{Unopened, At}
 use Rattle.system.specs.Laws.{RootLaws}

@@ -1,6 +1,6 @@
 -- What a call comes to that a record is logged for, once objects came into memory.
 use Rattle.std.proofs.Common.{◌≡◌, ◌≢◌, ◌⊎◌, inl, inr, ℕ, ◌+◌, ◌≤◌, [], ◌∷◌, ◌++◌, length, Result, Ok, Err, refl, ap, sym, subst, ◌∙◌, if◌then◌else◌, arith}
-use Rattle.std.specs.Prelude.{All, IsFalse, IsErrOf}
+use Rattle.std.specs.Prelude.{IsFalse, IsErrOf}
 use Rattle.station.specs.Calls.{OnlyWrites}
 use Rattle.station.specs.Images.{Images}
 use Rattle.station.specs.Moments.{Meaning, EachCut}
@@ -30,7 +30,8 @@ use Rattle.system.specs.Systems.{Parts, IsServing, meaning_of, parts_of}
 use Rattle.system.specs.declared.error.CallError.{CallError}
 use Rattle.system.specs.declared.system.System.{System}
 use Rattle.system.proofs.CountingLaws.{all_read, all_written, counted_after, not_written_yet, perhaps_read}
-use Rattle.system.proofs.ServingLaws.{AllOpen, ServesOver}
+use Rattle.system.proofs.LookedLaws.{ServesOver}
+use Rattle.system.proofs.ServingLaws.{AllOpen}
 
 -- what opens to a state does so for a station of the same size
 pub opens_same : (m n : Meaning) (s : State) (c : Images) → n.sectors ≡ m.sectors → OpensTo n s c → OpensTo m s c

@@ -4,7 +4,9 @@ mod PointLaws
 mod SettledLaws
 mod OpenLaws
 mod LoggedLaws
+mod LookedLaws
 mod ServingLaws
+mod AskingLaws
 mod HandlingLaws
 mod ChangingLaws
 mod RoomLaws
@@ -13,6 +15,7 @@ mod SpaceLaws
 mod TableLaws
 mod MovedLaws
 mod OpenFileLaws
+mod DoingLaws
 mod CloseLaws
 mod FileChangeLaws
 mod ViewLaws

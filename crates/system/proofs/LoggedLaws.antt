@@ -3,22 +3,18 @@ use Rattle.std.proofs.Common.{◌≡◌, ◌⊎◌, inl, inr, ℕ, ◌+◌, ◌*
 use Rattle.std.specs.Prelude.{IsFalse, map}
 use Rattle.std.proofs.lemmas.List.{map-append}
 use Rattle.std.proofs.lemmas.List.Elements.{All-push}
-use Rattle.std.specs.BTreeMap.{BTreeMap}
 use Rattle.station.specs.Images.{Images, Sector}
 use Rattle.station.specs.Moments.{Meaning, EachCut, IsSameStation, KeepsDisk, LeavesOnly, MayLeave}
 use Rattle.station.proofs.Moments.{weaker}
 use Rattle.layout.specs.Log.{LogHolds}
 use Rattle.layout.specs.Places.{blocks_of}
 use Rattle.layout.specs.Record.{Change, IsChange, change_bytes}
-use Rattle.layout.specs.declared.root.Root.{Root}
 use Rattle.model.specs.Records.{Applies, Extends, Replays, applied, work_of}
 use Rattle.model.specs.Room.{cost}
 use Rattle.model.specs.States.{State}
 use Rattle.model.specs.Trees.{Description}
 use Rattle.model.specs.Volumes.{Volume, IsVolume, swept}
 use Rattle.buffers.specs.Disks.{IsBlock, ShowsDisk}
-use Rattle.buffers.specs.declared.block.Block.{Block}
-use Rattle.blockmap.specs.declared.map.BlockMap.{BlockMap}
 use Rattle.inofile.specs.Volumes.{IsVolumeOf}
 use Rattle.descriptors.specs.Fits.{FitsVolume}
 use Rattle.descriptors.specs.Tables.{table_of}

@@ -1,24 +1,19 @@
 -- A system whose open files change, while its log and its disk stay as they are.
 use Rattle.std.proofs.Common.{◌≡◌, ◌⊎◌, inl, inr, ℕ, zero, suc, List, Option, Some, None, Bool, true, false, refl, sym, subst, ◌∙◌}
 use Rattle.std.specs.Prelude.{IsSome, IsTrue}
-use Rattle.std.specs.BTreeMap.{BTreeMap}
 use Rattle.station.specs.Images.{Images}
 use Rattle.station.specs.Moments.{Meaning}
 use Rattle.station.proofs.Moments.{weaker}
 use Rattle.layout.specs.Places.{blocks_of}
-use Rattle.layout.specs.declared.root.Root.{Root}
 use Rattle.model.specs.Paths.{Name}
 use Rattle.model.specs.Records.{Extends, is_vacant}
 use Rattle.model.specs.States.{State}
 use Rattle.model.specs.Trees.{Description, Tree}
 use Rattle.model.specs.Volumes.{IsMounted, Node, Volume, directory_node, file_node, is_open, link_node, swept, swept_node}
-use Rattle.buffers.specs.declared.block.Block.{Block}
-use Rattle.blockmap.specs.declared.map.BlockMap.{BlockMap}
 use Rattle.images.specs.Roots.{whole}
 use Rattle.inofile.specs.Volumes.{IsVolumeOf}
 use Rattle.inofile.specs.declared.inode_file.InodeFile.{InodeFile}
 use Rattle.loading.specs.Images.{inodes_of}
-use Rattle.oplog.specs.LogEnd.{LogEnd}
 use Rattle.descriptors.specs.Fits.{FitsVolume}
 use Rattle.descriptors.specs.Tables.{table_of}
 use Rattle.descriptors.specs.declared.table.Descriptors.{Descriptors}

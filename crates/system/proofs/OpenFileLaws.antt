@@ -1,15 +1,10 @@
 -- What a call on descriptors comes to on a system that serves a state.
 use Rattle.std.proofs.Common.{◌≡◌, ◌≢◌, ◌+◌, ◌≤◌, ◌⊎◌, inl, inr, ℕ, List, Option, Some, None, Result, Ok, Err, length, ap, sym, subst, ◌∙◌, arith, refl}
-use Rattle.std.specs.Prelude.{IsTrue, IfOk, IfSome}
-use Rattle.std.proofs.Math.Path.{fun_ext}
-use Rattle.std.specs.BTreeMap.{BTreeMap}
-use Rattle.station.specs.Images.{Images}
+use Rattle.std.specs.Prelude.{IsTrue}
 use Rattle.station.specs.Moments.{Meaning}
 use Rattle.station.specs.declared.station.Station.{Ghosts}
 use Rattle.layout.specs.Limits.{Sizes}
-use Rattle.layout.specs.Places.{blocks_of}
 use Rattle.layout.specs.Record.{Change, IsChange}
-use Rattle.layout.specs.declared.root.Root.{Root}
 use Rattle.model.specs.Circumstances.{IsSure}
 use Rattle.model.specs.Paths.{Name}
 use Rattle.model.specs.Records.{applied, work_of}
@@ -23,17 +18,12 @@ use Rattle.model.specs.declared.errno.Errno.{Errno}
 use Rattle.model.specs.declared.reply.Reply.{Reply}
 use Rattle.model.specs.declared.reply.Reply.TheVariants.{Refused}
 use Rattle.buffers.specs.declared.blocks.Blocks as blocks
-use Rattle.blockmap.specs.declared.map.BlockMap.{BlockMap}
-use Rattle.images.specs.Roots.{whole}
 use Rattle.inofile.specs.declared.inode_file.InodeFile.{InodeFile}
-use Rattle.loading.specs.Images.{inodes_of}
-use Rattle.blocktree.specs.declared.error.ReadError.{ReadError}
-use Rattle.records.specs.Prepared.{Does}
-use Rattle.records.specs.Rewriting.{GoesOver}
+use Rattle.records.specs.declared.failure.Failure.{Failure}
 use Rattle.descriptors.specs.Fits.{FitsVolume}
 use Rattle.descriptors.specs.Tables.{table_of}
 use Rattle.descriptors.specs.declared.table.Descriptors.{Descriptors}
-use Rattle.oplog.specs.LogEnd.{LogEnd, HasRoom, body_of}
+use Rattle.oplog.specs.LogEnd.{HasRoom, body_of}
 use Rattle.system.specs.Logging.{Advances}
 use Rattle.system.specs.OpenFiles.{DoesBeside, DoesCall, DoesRecord, FitsMove, PreparesDoing, WouldLead, is_logging_call, is_looking_call, is_table_call, moved_table, recorded}
 use Rattle.system.specs.Serving.{HasEmptyLog, ServesState, WouldCall}
@@ -48,61 +38,22 @@ use Rattle.system.proofs.ServingLaws.{LeadsTo}
 -- ---- which calls are always answered
 
 pub table_sure : (s : State) (call : Command) → IsTrue (is_table_call call) → IsSure s call
-table_sure s (command.Path c) is = cc
-table_sure s (command.Open path flags mode) is = cc
-table_sure s (command.Close fd) is = cc
-table_sure s (command.Read fd count) is = cc
-table_sure s (command.Write fd given) is = cc
-table_sure s (command.Pread fd offset count) is = cc
-table_sure s (command.Pwrite fd offset given) is = cc
 table_sure s (command.Lseek fd whence offset) is = tt
-table_sure s (command.Ftruncate fd size) is = cc
-table_sure s (command.Fstat fd) is = cc
 table_sure s (command.Fsync fd) is = tt
-table_sure s command.Sync is = cc
-table_sure s command.Df is = cc
-table_sure s (command.SnapTake name) is = cc
-table_sure s (command.SnapDelete name) is = cc
-table_sure s command.SnapList is = cc
-table_sure s (command.Within name c) is = cc
+table_sure s _ is = cc
 
 pub looking_not_sure : (s : State) (call : Command) → IsTrue (is_looking_call call) → ¬ IsSure s call
-looking_not_sure s (command.Path c) is sure = cc
-looking_not_sure s (command.Open path flags mode) is sure = cc
-looking_not_sure s (command.Close fd) is sure = cc
 looking_not_sure s (command.Read fd count) is sure = sure
-looking_not_sure s (command.Write fd given) is sure = cc
 looking_not_sure s (command.Pread fd offset count) is sure = sure
-looking_not_sure s (command.Pwrite fd offset given) is sure = cc
-looking_not_sure s (command.Lseek fd whence offset) is sure = cc
-looking_not_sure s (command.Ftruncate fd size) is sure = cc
 looking_not_sure s (command.Fstat fd) is sure = sure
-looking_not_sure s (command.Fsync fd) is sure = cc
-looking_not_sure s command.Sync is sure = cc
-looking_not_sure s command.Df is sure = cc
-looking_not_sure s (command.SnapTake name) is sure = cc
-looking_not_sure s (command.SnapDelete name) is sure = cc
-looking_not_sure s command.SnapList is sure = cc
-looking_not_sure s (command.Within name c) is sure = cc
+looking_not_sure s _ is sure = cc
 
 pub logging_not_sure : (s : State) (call : Command) → IsTrue (is_logging_call call) → ¬ IsSure s call
-logging_not_sure s (command.Path c) is sure = cc
 logging_not_sure s (command.Open path flags mode) is sure = sure
-logging_not_sure s (command.Close fd) is sure = cc
-logging_not_sure s (command.Read fd count) is sure = cc
 logging_not_sure s (command.Write fd given) is sure = sure
-logging_not_sure s (command.Pread fd offset count) is sure = cc
 logging_not_sure s (command.Pwrite fd offset given) is sure = sure
-logging_not_sure s (command.Lseek fd whence offset) is sure = cc
 logging_not_sure s (command.Ftruncate fd size) is sure = sure
-logging_not_sure s (command.Fstat fd) is sure = cc
-logging_not_sure s (command.Fsync fd) is sure = cc
-logging_not_sure s command.Sync is sure = cc
-logging_not_sure s command.Df is sure = cc
-logging_not_sure s (command.SnapTake name) is sure = cc
-logging_not_sure s (command.SnapDelete name) is sure = cc
-logging_not_sure s command.SnapList is sure = cc
-logging_not_sure s (command.Within name c) is sure = cc
+logging_not_sure s _ is sure = cc
 
 -- ---- calls that log nothing
 
@@ -128,29 +79,26 @@ table_leads new s call reply files now after opened fits mounted told = record {
 }
 
 -- a refusal, on a system
-pub refused_by : {S : Type 0} {G : Ghosts S} (f : System S G) (s : State) (serves : ServesState f s) (call : Command) (r : Result Doing Errno) (errno : Errno) → r ≡ Err errno
-    → DoesCall f.inodes.geometry.inodes serves.running (table_of f.files) call r → WouldCall s call (Refused errno) s nothing
-refused_by {S} {G} f s serves call r errno is told =
+pub refused_by : {S : Type 0} {G : Ghosts S} (f : System S G) (s : State) (serves : ServesState f s) (call : Command) (errno : Errno)
+    → DoesCall f.inodes.geometry.inodes serves.running (table_of f.files) call (Err errno) → WouldCall s call (Refused errno) s nothing
+refused_by {S} {G} f s serves call errno told =
     let n = f.root.geometry.inodes in
-    let here : DoesCall n serves.running (table_of f.files) call (Err errno) =
-    subst (λ (g : Sizes). DoesCall g.inodes serves.running (table_of f.files) call (Err errno)) f.sizes
-    (subst (λ (x : Result Doing Errno). DoesCall f.inodes.geometry.inodes serves.running (table_of f.files) call x) is told) in
     let same : state_with n serves.running (table_of f.files) serves.snapshots ≡ s =
     sym (serves.state ∙ ap (λ (t : ℕ → Option Description). state_with n serves.running t serves.snapshots) serves.opened) in
     subst (λ (u : State). WouldCall s call (Refused errno) u nothing) same
-    (led_to serves call (Refused errno) (table_of f.files) here)
+    (led_to serves call (Refused errno) (table_of f.files) (subst (λ (g : Sizes). DoesCall g.inodes serves.running (table_of f.files) call (Err errno)) f.sizes told))
 
 -- ---- calls that may log a record
 
 -- what is told of a call that logs nothing
-pub told_beside : {S : Type 0} {G : Ghosts S} (f : System S G) (s : State) (serves : ServesState f s) (call : Command) (r : Result Doing Errno) (d : Doing) → r ≡ Ok d → d.change ≡ None
-    → DoesCall f.inodes.geometry.inodes serves.running (table_of f.files) call r
+pub told_beside : {S : Type 0} {G : Ghosts S} (f : System S G) (s : State) (serves : ServesState f s) (call : Command) (d : Doing) → d.change ≡ None
+    → DoesCall f.inodes.geometry.inodes serves.running (table_of f.files) call (Ok d)
     → FitsMove serves.running d.table × WouldLead f.root.geometry.inodes serves.running (table_of f.files) call d.reply serves.running (moved_table d.table (table_of f.files)) nothing
-told_beside f s serves call r d is none told =
+told_beside f s serves call d none told =
     let v = serves.running in
     let table = table_of f.files in
     subst (λ (o : Option FileChange). DoesBeside f.root.geometry.inodes v table call d.reply d.table o) none
-    (subst (λ (g : Sizes). DoesCall g.inodes v table call (Ok d)) f.sizes (subst (λ (x : Result Doing Errno). DoesCall f.inodes.geometry.inodes v table call x) is told))
+    (subst (λ (g : Sizes). DoesCall g.inodes v table call (Ok d)) f.sizes told)
 
 -- What is told of a call whose record is to be logged, by a system that serves a state.
 pub record IsLogged {S : Type 0} {G : Ghosts S} (f : System S G) (s : State) (serves : ServesState f s) (call : Command) (reply : Reply) (move : TableMove) (change : Change) : Type 0 where
@@ -159,14 +107,14 @@ pub record IsLogged {S : Type 0} {G : Ghosts S} (f : System S G) (s : State) (se
   pub step : WouldCall s call reply
       (state_with f.root.geometry.inodes (swept s.tree.descriptors (applied change serves.running)) (moved_table move s.tree.descriptors) serves.snapshots) (logs (work_of serves.running change))
 
-pub told_logged : {S : Type 0} {G : Ghosts S} (f : System S G) (s : State) (serves : ServesState f s) (call : Command) (r : Result Doing Errno) (d : Doing) (c : FileChange) (change : Change) → r ≡ Ok d
-    → d.change ≡ Some c → change ≡ recorded c.record → IsChange change → DoesCall f.inodes.geometry.inodes serves.running (table_of f.files) call r → IsLogged f s serves call d.reply d.table change
-told_logged f s serves call r d c change is some says is_change told =
+pub told_logged : {S : Type 0} {G : Ghosts S} (f : System S G) (s : State) (serves : ServesState f s) (call : Command) (d : Doing) (c : FileChange) (change : Change) → d.change ≡ Some c
+    → change ≡ recorded c.record → IsChange change → DoesCall f.inodes.geometry.inodes serves.running (table_of f.files) call (Ok d) → IsLogged f s serves call d.reply d.table change
+told_logged f s serves call d c change some says is_change told =
     let v = serves.running in
     let table = s.tree.descriptors in
     let n = f.root.geometry.inodes in
     let with_files : DoesBeside n v (table_of f.files) call d.reply d.table (Some c) = subst (λ (o : Option FileChange). DoesBeside n v (table_of f.files) call d.reply d.table o) some
-    (subst (λ (g : Sizes). DoesCall g.inodes v (table_of f.files) call (Ok d)) f.sizes (subst (λ (x : Result Doing Errno). DoesCall f.inodes.geometry.inodes v (table_of f.files) call x) is told)) in
+    (subst (λ (g : Sizes). DoesCall g.inodes v (table_of f.files) call (Ok d)) f.sizes told) in
     let of_record = subst (λ (t : ℕ → Option Description). DoesRecord n v t call d.reply d.table (recorded c.record)) (sym serves.opened) with_files in
     let here = subst (DoesRecord n v table call d.reply d.table) (sym says) of_record in
     record {
@@ -174,19 +122,6 @@ told_logged f s serves call r d c change is some says is_change told =
       fits = here.2;
       step = subst (λ (u : State). WouldCall u call d.reply (state_with n (swept table (applied change v)) (moved_table d.table table) serves.snapshots) (logs (work_of v change))) (sym serves.state) (here.3 serves.snapshots);
     }
-
--- a prepared change does the same on a disk that reads the same
-pub logs_over : (m n : Meaning) (root : Root) (inodes : InodeFile) (v : Volume) (r : Result Doing Errno) (d : Doing) (c : FileChange) (change : Change) → r ≡ Ok d → d.change ≡ Some c
-    → change ≡ recorded c.record → m.seen ≡ n.seen
-    → IfOk r (λ d. IfSome d.change (λ c. Does (blocks_of m.seen.disk) (inodes_of (whole (blocks_of m.seen.disk) root).active) inodes v c.prepared (recorded c.record)))
-    → Does (blocks_of n.seen.disk) (inodes_of (whole (blocks_of n.seen.disk) root).active) inodes v c.prepared change
-logs_over m n root inodes v r d c change is some says same does =
-    let disk = blocks_of m.seen.disk in
-    let settled = inodes_of (whole disk root).active in
-    let at_d = subst (λ (x : Result Doing Errno). IfOk x (λ d. IfSome d.change (λ c. Does disk settled inodes v c.prepared (recorded c.record)))) is does in
-    let here = subst (λ (o : Option FileChange). IfSome o (λ c. Does disk settled inodes v c.prepared (recorded c.record))) some at_d in
-    subst (λ (i : Images). Does (blocks_of i.disk) (inodes_of (whole (blocks_of i.disk) root).active) inodes v c.prepared change) same
-    (subst (λ (k : Change). Does disk settled inodes v c.prepared k) (sym says) here)
 
 -- behind a record, with another table of open files
 pub moved_on : {m : Meaning} {k : Parts} {table : ℕ → Option Description} (n : ℕ) {v : Volume} (snapshots : List (Name × Tree)) {changes : List Change}
@@ -214,20 +149,7 @@ record_fits f change empty short (inr full) =
 
 -- ---- what the calls over memory and the table promise
 
--- a record that applies and needs no sweep
-pub goes_beside : (n : ℕ) (v : Volume) (table : ℕ → Option Description) (call : Command) (reply : Reply) (move : TableMove) (c : FileChange)
-    → GoesOver n v table (recorded c.record) → ((w : Volume) → FitsMove w move)
-    → WouldLead n v table call reply (applied (recorded c.record) v) (moved_table move table) (logs (work_of v (recorded c.record))) → DoesBeside n v table call reply move (Some c)
-goes_beside n v table call reply move c goes fits told =
-    let w = applied (recorded c.record) v in
-    let same : w ≡ swept table w = sym (fun_ext {f = swept table w} {g = w} goes.1.is_swept) in (
-      goes.0,
-      subst (λ (x : Volume). IsMounted x table) same goes.1,
-      fits (swept table w),
-      subst (λ (x : Volume). WouldLead n v table call reply x (moved_table move table) (logs (work_of v (recorded c.record)))) same told,
-    )
-
--- the same, where the call was asked in these words
-pub asked_so : {B : Type 0} {G : blocks.Ghosts B} {a b : B} {s t : InodeFile} {files : Descriptors} (call asked : Command) (r : Result (Result Doing Errno) ReadError) → call ≡ asked
+-- a call that was asked in these words
+pub asked_so : {B : Type 0} {G : blocks.Ghosts B} {a b : B} {s t : InodeFile} {files : Descriptors} (call asked : Command) (r : Result Doing Failure) → call ≡ asked
     → PreparesDoing G a b s t files asked r → PreparesDoing G a b s t files call r
 asked_so {G = G} {a = a} {b = b} {s = s} {t = t} {files = files} call asked r is told = subst (λ (k : Command). PreparesDoing G a b s t files k r) (sym is) told

@@ -1,6 +1,5 @@
 -- What a cut leaves of a point that is planned for a system.
 use Rattle.std.proofs.Common.{◌≡◌, ◌≢◌, ◌⊎◌, inl, inr, ℕ, ◌+◌, ◌*◌, ◌/◌, ◌<◌, ◌^◌, List, [], Option, refl, ap, sym, subst, ◌∙◌, arith}
-use Rattle.std.specs.BTreeMap.{BTreeMap}
 use Rattle.station.specs.Images.{Images, Unchanged}
 use Rattle.station.specs.Moments.{Meaning, MayLeave, After, Goes, LeavesOnly}
 use Rattle.station.proofs.Moments.{joined, leaves_unchanged, weaker}
@@ -11,10 +10,7 @@ use Rattle.layout.specs.Root.{root_bytes}
 use Rattle.layout.specs.declared.root.Root.{Root}
 use Rattle.model.specs.States.{State}
 use Rattle.model.specs.Trees.{Description}
-use Rattle.buffers.specs.declared.block.Block.{Block}
 use Rattle.blockmap.specs.declared.map.BlockMap.{BlockMap}
-use Rattle.descriptors.specs.declared.table.Descriptors.{Descriptors}
-use Rattle.inofile.specs.declared.inode_file.InodeFile.{InodeFile}
 use Rattle.images.specs.BlockMap.{entry}
 use Rattle.images.specs.Cuts as points
 use Rattle.images.specs.Cuts.{Write, AreFree}

@@ -1,22 +1,17 @@
--- What looking into an image does to a system that serves a state, and what a call comes to then.
-use Rattle.std.proofs.Common.{◌≡◌, ◌≢◌, ◌⊎◌, ◌*◌, ◌/◌, inl, ℕ, List, Option, Result, Ok, Err, refl, ap, sym, subst, ◌∙◌, arith}
-use Rattle.std.specs.Prelude.{IsFalse, IsTrue, IfErr, false}
-use Rattle.std.specs.BTreeMap.{BTreeMap}
-use Rattle.station.specs.Images.{Images}
-use Rattle.station.specs.Moments.{Meaning, EachCut, HasGrown}
+-- What a call comes to on a system that serves a state.
+use Rattle.std.proofs.Common.{◌≡◌, ◌⊎◌, inl, inr, List, Result, Ok, Err, refl, ap, sym, subst}
+use Rattle.std.specs.Prelude.{IsErrOf, IsFalse, IsTrue, IfErr, IfOk, OnErr, OnOk, false}
+use Rattle.std.proofs.lemmas.Result.{IfOk-weaker}
+use Rattle.station.specs.Moments.{EachCut, HasGrown}
 use Rattle.station.specs.declared.station.Station.{Ghosts}
-use Rattle.station.proofs.Moments.{each_unchanged, leaves_unchanged, weaker}
-use Rattle.layout.specs.Places.{Blocks, blocks_of}
-use Rattle.layout.specs.declared.root.Root.{Root}
-use Rattle.layout.specs.Limits.{Sizes}
-use Rattle.layout.specs.declared.inode.Inode.{Inode}
+use Rattle.station.proofs.Moments.{leaves_unchanged, weaker}
 use Rattle.model.specs.Circumstances.{IsSure}
 use Rattle.model.specs.Records.{Change}
 use Rattle.model.specs.Room.{nothing}
 use Rattle.model.specs.States.{State}
 use Rattle.model.specs.Steps.{calls}
-use Rattle.model.specs.Trees.{Description, Tree}
-use Rattle.model.specs.Volumes.{Volume, IsVolume, tree_of}
+use Rattle.model.specs.Trees.{Tree}
+use Rattle.model.specs.Volumes.{tree_of}
 use Rattle.model.specs.declared.command.Command.{Command}
 use Rattle.model.specs.declared.command.Command.TheVariants as command
 use Rattle.model.specs.declared.command.PathCall.{PathCall}
@@ -25,97 +20,24 @@ use Rattle.model.specs.declared.errno.Errno.TheVariants.{EIO}
 use Rattle.model.specs.declared.reply.Reply.{Reply}
 use Rattle.model.specs.declared.reply.Reply.TheVariants.{Done, Refused}
 use Rattle.calls.specs.Refusals.{is_path_refusal}
-use Rattle.buffers.specs.Disks.{ShowsDisk, ReadsOn}
-use Rattle.buffers.specs.declared.block.Block.{Block}
-use Rattle.buffers.specs.declared.cache.Buffers.{Buffers}
-use Rattle.blockmap.specs.declared.map.BlockMap.{BlockMap}
-use Rattle.images.specs.Roots.{whole}
-use Rattle.inofile.specs.Volumes.{IsVolumeOf}
-use Rattle.descriptors.specs.declared.table.Descriptors.{Descriptors}
-use Rattle.inofile.specs.declared.inode_file.InodeFile.{InodeFile}
-use Rattle.loading.specs.Images.{inodes_of}
+use Rattle.buffers.specs.Disks.{ReadsOn}
 use Rattle.oplog.specs.LogEnd.{LogEnd}
+use Rattle.blocktree.specs.Errors.{IsFault}
 use Rattle.blocktree.specs.declared.error.ReadError.{ReadError}
 use Rattle.blocktree.specs.declared.error.ReadError.TheVariants as read_errors
+use Rattle.records.specs.Failures.{told}
+use Rattle.records.specs.declared.failure.Failure.{Failure}
+use Rattle.records.specs.declared.failure.Failure.TheVariants as failures
+use Rattle.system.specs.Answering.{answer_to, reply_of}
+use Rattle.system.specs.Counting.{Counted, call_error_failed}
 use Rattle.system.specs.Errors.{call_error}
-use Rattle.system.specs.Images.{OpensTo, IsUnder, IsLeft}
-use Rattle.system.specs.Memory.{IsInMemory}
+use Rattle.system.specs.Images.{OpensTo}
 use Rattle.system.specs.Serving.{Handles, IsSureOn, TellsNoFault, ServesState, WouldCall}
-use Rattle.system.specs.Systems.{Parts, IsServing, meaning_of, parts_of}
+use Rattle.system.specs.Systems.{meaning_of}
 use Rattle.system.specs.declared.error.CallError.{CallError}
+use Rattle.system.specs.declared.error.CallError.TheVariants as call_errors
 use Rattle.system.specs.declared.system.System.{System}
 use Rattle.system.proofs.CountingLaws.{all_read, not_read, perhaps_read}
-
--- memory over the tree of a root
-abbrev pub OverRoot : Blocks → Root → InodeFile → Volume → Type 0
-OverRoot disk root inodes v = IsVolumeOf root.geometry.blocks disk (inodes_of (whole disk root).active) inodes v
-
--- a system serves a state that has these blocks and these inodes in memory, and all else as another
-abbrev pub ServesOver : {S : Type 0} {G : Ghosts S} → System S G → Buffers S → InodeFile → State → Type 0
-ServesOver {S} {G} f blocks inodes s = IsServing (G.meaning blocks.station) (record (parts_of f) { kept = blocks.kept; inodes = inodes }) s.tree.descriptors s
-
--- objects came into memory, and nothing was done but reading
-abbrev pub looked : {m : Meaning} {k : Parts} {table : ℕ → Option Description} {s : State} (serves : IsServing m k table s) (new : Meaning) (now_kept : BTreeMap ℕ Block) (now_inodes : InodeFile)
-    → ReadsOn m new → ((disk : ℕ → List ℕ) → ShowsDisk m k.kept disk → ShowsDisk new now_kept disk)
-    → ((v : Volume) → OverRoot (blocks_of m.seen.disk) k.root k.inodes v → OverRoot (blocks_of m.seen.disk) k.root now_inodes v)
-    → IsServing new (record k { kept = now_kept; inodes = now_inodes }) table s
-looked {m} {k} serves new now_kept now_inodes reads shows stays =
-    let went = reads.goes serves.honest in
-    let disk : m.seen.disk ≡ new.seen.disk = sym (ap (λ (i : Images). i.disk) went.seen) in
-    record {
-      honest = went.honest;
-      shows = subst (λ (d : ℕ → List ℕ). ShowsDisk new now_kept (blocks_of d)) disk (shows (blocks_of m.seen.disk) serves.shows);
-      first = serves.first;
-      snapshots = serves.snapshots;
-      under = subst (IsUnder k.slot k.root serves.first serves.snapshots) disk serves.under;
-      bodies = serves.bodies;
-      left = subst (λ (d : ℕ → List ℕ). EachCut new (IsLeft k.root k.log serves.bodies d)) disk
-          (each_unchanged m new (IsLeft k.root k.log serves.bodies m.seen.disk) reads.same serves.left reads.goes);
-      running = serves.running;
-      mounted = serves.mounted;
-      replayed = serves.replayed;
-      memory = subst (λ (d : ℕ → List ℕ). IsInMemory (blocks_of d) k.root now_inodes k.map serves.running) disk (record {
-        stands = stays serves.running serves.memory.stands;
-        volume = serves.memory.volume;
-        entries = serves.memory.entries;
-      });
-      goes = serves.goes;
-      pledges = serves.pledges;
-      opened = serves.opened;
-      fits = serves.fits;
-      state = serves.state;
-    }
-
-pub eighth : (n b : ℕ) → n ≡ 8 * b → n / 8 ≡ b
-eighth n b is = omega arith
-
--- the same, where memory is spoken of as a layer below does
-abbrev pub looked_on : {S : Type 0} {G : Ghosts S} (f : System S G) (blocks : Buffers S) (inodes : InodeFile) → ReadsOn (meaning_of f) (G.meaning blocks.station)
-    → ((disk : ℕ → List ℕ) → ShowsDisk (meaning_of f) f.blocks.kept disk → ShowsDisk (G.meaning blocks.station) blocks.kept disk)
-    → ((disk : ℕ → List ℕ) (settled : ℕ → Inode) (v : Volume) → ShowsDisk (meaning_of f) f.blocks.kept disk → IsVolumeOf ((meaning_of f).sectors / 8) disk settled f.inodes v
-    → IsVolumeOf ((G.meaning blocks.station).sectors / 8) disk settled inodes v)
-    → (s : State) → ServesState f s → ServesOver f blocks inodes s
-looked_on {S} {G} f blocks inodes reads shows stays s serves =
-    let m = meaning_of f in
-    let new = G.meaning blocks.station in
-    let d = blocks_of m.seen.disk in
-    let settled = inodes_of (whole d f.root).active in
-    let before : m.sectors / 8 ≡ f.root.geometry.blocks = eighth m.sectors f.root.geometry.blocks f.sectors in
-    let after : new.sectors / 8 ≡ f.root.geometry.blocks = eighth new.sectors f.root.geometry.blocks (reads.same.sectors ∙ f.sectors) in
-    looked serves new blocks.kept inodes reads shows (λ v over.
-    subst (λ (n : ℕ). IsVolumeOf n d settled inodes v) after
-    (stays d settled v serves.shows (subst (λ (n : ℕ). IsVolumeOf n d settled f.inodes v) (sym before) over)))
-
--- what a system that serves a state tells a layer below of its volume
-pub its_volume : {S : Type 0} {G : Ghosts S} (f : System S G) (s : State) → (serves : ServesState f s)
-    → IsVolumeOf ((meaning_of f).sectors / 8) (blocks_of (meaning_of f).seen.disk) (inodes_of (whole (blocks_of (meaning_of f).seen.disk) f.root).active) f.inodes serves.running
-    × IsVolume f.inodes.geometry.inodes serves.running
-its_volume f s serves =
-    let d = blocks_of (meaning_of f).seen.disk in
-    let settled = inodes_of (whole d f.root).active in (
-      subst (λ (n : ℕ). IsVolumeOf n d settled f.inodes serves.running) (sym (eighth (meaning_of f).sectors f.root.geometry.blocks f.sectors)) serves.memory.stands,
-      subst (λ (g : Sizes). IsVolume g.inodes serves.running) (sym f.sizes) serves.memory.volume,
-    )
 
 -- what is told of a system's volume is told of the state that it serves
 pub told_of : {S : Type 0} {G : Ghosts S} (f : System S G) (s : State) (serves : ServesState f s) (call : PathCall) (reply : Reply)
@@ -123,11 +45,6 @@ pub told_of : {S : Type 0} {G : Ghosts S} (f : System S G) (s : State) (serves :
 told_of f s serves call reply told =
     let tree : s.tree ≡ tree_of serves.running s.tree.descriptors = ap (λ (u : State). u.tree) serves.state in
     λ room. (subst (λ (t : Tree). calls s.inodes t call reply t nothing) (sym tree) told, refl)
-
--- what a call is answered that was asked in these words
-pub as_asked : (count : ℕ) (t : Tree) (call asked : PathCall) (reply told : Reply) → call ≡ asked → reply ≡ told → calls count t asked told t nothing → calls count t call reply t nothing
-as_asked count t call asked reply told is same here =
-    subst (λ (k : PathCall). calls count t k reply t nothing) (sym is) (subst (λ (r : Reply). calls count t asked r t nothing) (sym same) here)
 
 -- a refusal of the call's own
 pub own_refusal : {T : Type 0} (r : Result T Errno) (errno : Errno) → r ≡ Err errno → IfErr r (λ e. IsTrue (is_path_refusal e)) → TellsNoFault (Refused errno)
@@ -204,55 +121,74 @@ module _ {S : Type 0} {G : Ghosts S} (old new : System S G) (call : Command) (re
   pub unanswered_read : ServesOn old new → ((s : State) → ServesState old s → ¬ IsSure s call) → (error : ReadError) (e : CallError) → e ≡ call_error error
       → (error ≡ read_errors.Device → HasGrown (meaning_of old).failed_reads (meaning_of new).failed_reads)
       → ((s : State) → ServesState old s → error ≡ read_errors.Damaged → ⊥) → Handles old new call (Err e)
-  unanswered_read stays not_sure error e is fault damaged = subst (λ (x : CallError). Handles old new call (Err x)) (sym is) (by_case error fault damaged)
+  unanswered_read stays not_sure error e is fault damaged = subst (λ (x : CallError). Handles old new call (Err x)) (sym is) (record {
+    counted = counted error fault;
+    no_fault = tt;
+    epoch = ap (λ (l : LogEnd). l.epoch) log;
+    runs = λ runs _. runs_on runs;
+    refused = λ errno is. cc;
+    kept = λ _. reads.goes;
+    serves = λ s served _. (stays s served).0;
+    done = λ s served. tt;
+    broken = λ s served bad. absurd ((told_by error).0 bad);
+    sure = not_sure;
+    full = λ s served bad. absurd ((told_by error).1 bad);
+    damaged = λ s served bad. damaged s served ((told_by error).2 bad);
+  })
     where
-      m : Meaning
-      m = meaning_of old
+      counted : (error : ReadError) → (error ≡ read_errors.Device → HasGrown (meaning_of old).failed_reads (meaning_of new).failed_reads)
+          → Counted (meaning_of old) (meaning_of new) (call_error_failed old.log.is_stopped (call_error error))
+      counted read_errors.NoMemory fault = perhaps_read (meaning_of old) (meaning_of new) reads
+      counted read_errors.Device fault = not_read (meaning_of old) (meaning_of new) reads (fault refl)
+      counted read_errors.Damaged fault = perhaps_read (meaning_of old) (meaning_of new) reads
 
-      n : Meaning
-      n = meaning_of new
+      told_by : (error : ReadError) → let r : Result Reply CallError = Err (call_error error) in
+          (IsErrOf r call_errors.NotWritten → ⊥) × (IsErrOf r call_errors.LogFull → ⊥) × (IsErrOf r call_errors.Damaged → error ≡ read_errors.Damaged)
+      told_by read_errors.NoMemory = (λ is. cc, λ is. cc, λ is. cc)
+      told_by read_errors.Device = (λ is. cc, λ is. cc, λ is. cc)
+      told_by read_errors.Damaged = (λ is. cc, λ is. cc, λ is. refl)
 
-      by_case : (error : ReadError) → (error ≡ read_errors.Device → HasGrown m.failed_reads n.failed_reads)
-          → ((s : State) → ServesState old s → error ≡ read_errors.Damaged → ⊥) → Handles old new call (Err (call_error error))
-      by_case read_errors.NoMemory fault damaged = record {
-        counted = perhaps_read m n reads;
-        no_fault = tt;
-        epoch = ap (λ (l : LogEnd). l.epoch) log;
-        runs = λ runs _. runs_on runs;
-        refused = λ errno is. cc;
-        kept = λ _. reads.goes;
-        serves = λ s served _. (stays s served).0;
-        done = λ s served. tt;
-        broken = λ s served is. cc;
-        sure = not_sure;
-        full = λ s served is. cc;
-        damaged = λ s served is. cc;
-      }
-      by_case read_errors.Device fault damaged = record {
-        counted = not_read m n reads (fault refl);
-        no_fault = tt;
-        epoch = ap (λ (l : LogEnd). l.epoch) log;
-        runs = λ runs _. runs_on runs;
-        refused = λ errno is. cc;
-        kept = λ _. reads.goes;
-        serves = λ s served _. (stays s served).0;
-        done = λ s served. tt;
-        broken = λ s served is. cc;
-        sure = not_sure;
-        full = λ s served is. cc;
-        damaged = λ s served is. cc;
-      }
-      by_case read_errors.Damaged fault damaged = record {
-        counted = perhaps_read m n reads;
-        no_fault = tt;
-        epoch = ap (λ (l : LogEnd). l.epoch) log;
-        runs = λ runs _. runs_on runs;
-        refused = λ errno is. cc;
-        kept = λ _. reads.goes;
-        serves = λ s served _. (stays s served).0;
-        done = λ s served. tt;
-        broken = λ s served is. cc;
-        sure = not_sure;
-        full = λ s served is. cc;
-        damaged = λ s served is. damaged s served refl;
-      }
+  -- a call failed: it is refused, or a block wasn't read
+  pub failed_by : {T : Type 0} (f : Failure) (q : Result Reply CallError) → q ≡ answer_to (Err f) → ((s : State) → ServesState old s → ¬ IsSure s call) → AllOpen old
+      → OnOk (told {T = T} (Err f)) ((meaning_of new).failed_reads ≡ (meaning_of old).failed_reads)
+      → IfErr (told {T = T} (Err f)) (λ e. IsFault e → HasGrown (meaning_of old).failed_reads (meaning_of new).failed_reads)
+      → IfOk (told {T = T} (Err f)) (λ r. IfErr r (λ e. IsTrue (is_path_refusal e))) → ServesOn old new
+      → (Answer : (s : State) → ServesState old s → Result T Errno → Type 0) → ((s : State) (served : ServesState old s) → IfOk (told (Err f)) (Answer s served))
+      → ((s : State) (served : ServesState old s) (errno : Errno) → Answer s served (Err errno) → WouldCall s call (Refused errno) s nothing)
+      → ((s : State) → ServesState old s → IsErrOf (told {T = T} (Err f)) read_errors.Damaged → ⊥) → Handles old new call q
+  failed_by {T} (failures.Refused errno) q is not_sure opens counted device own stays Answer answers refused damaged =
+      subst (Handles old new call) (sym is)
+      (answered stays (λ s served. inr (not_sure s served)) (Refused errno) counted (own_refusal {T = T} (Err errno) errno refl own) opens
+      (λ s served. refused s served errno (answers s served)))
+  failed_by (failures.Read e) q is not_sure opens counted device own stays Answer answers refused damaged =
+      subst (Handles old new call) (sym is) (unanswered_read stays not_sure e (call_error e) refl device (λ s served bad. damaged s served (ap (λ x. Err x) bad)))
+
+  -- a call that logs nothing came to this
+  pub came_to : (r : Result Reply Failure) (q : Result Reply CallError) → q ≡ answer_to r → ((s : State) → ServesState old s → ¬ IsSure s call) → AllOpen old
+      → OnOk (told r) ((meaning_of new).failed_reads ≡ (meaning_of old).failed_reads)
+      → IfErr (told r) (λ e. IsFault e → HasGrown (meaning_of old).failed_reads (meaning_of new).failed_reads)
+      → IfOk (told r) (λ x. IfErr x (λ e. IsTrue (is_path_refusal e))) → IfOk r TellsNoFault → OnErr r (ServesOn old new)
+      → ((s : State) → (served : ServesState old s) → IfOk (told r) (λ x. LeadsTo new s call (reply_of x) served.replayed.changes))
+      → ((s : State) → ServesState old s → IsErrOf (told r) read_errors.Damaged → ⊥) → Handles old new call q
+  came_to (Ok reply) q is not_sure opens counted device own no_fault stays leads damaged =
+      subst (Handles old new call) (sym is) (answered_leading (λ s served. inr (not_sure s served)) reply counted no_fault opens leads)
+  came_to (Err (failures.Refused errno)) q is not_sure opens counted device own no_fault stays leads damaged =
+      subst (Handles old new call) (sym is)
+      (answered_leading (λ s served. inr (not_sure s served)) (Refused errno) counted (own_refusal {T = Reply} (Err errno) errno refl own) opens leads)
+  came_to (Err (failures.Read e)) q is not_sure opens counted device own no_fault stays leads damaged =
+      failed_by {T = Reply} (failures.Read e) q is not_sure opens counted device own stays (λ s served r. ⊥) (λ s served. tt) (λ s served errno is. absurd is) damaged
+
+  -- a call that only looks came to this
+  pub looked_up : (r : Result Reply Failure) (q : Result Reply CallError) → q ≡ answer_to r → ((s : State) → ServesState old s → ¬ IsSure s call) → AllOpen old
+      → OnOk (told r) ((meaning_of new).failed_reads ≡ (meaning_of old).failed_reads)
+      → IfErr (told r) (λ e. IsFault e → HasGrown (meaning_of old).failed_reads (meaning_of new).failed_reads)
+      → IfOk (told r) (λ x. IfErr x (λ e. IsTrue (is_path_refusal e))) → IfOk r TellsNoFault → ServesOn old new
+      → ((s : State) → ServesState old s → IfOk (told r) (λ x. WouldCall s call (reply_of x) s nothing))
+      → ((s : State) → ServesState old s → IsErrOf (told r) read_errors.Damaged → ⊥) → Handles old new call q
+  looked_up r q is not_sure opens counted device own no_fault stays steps damaged =
+      came_to r q is not_sure opens counted device own no_fault (on_err r)
+      (λ s served. IfOk-weaker (told r) _ _ (λ x step. record { after = s; step = step; serves = (stays s served).0; records = (stays s served).1 }) (steps s served)) damaged
+    where
+      on_err : (r : Result Reply Failure) → OnErr r (ServesOn old new)
+      on_err (Ok reply) = tt
+      on_err (Err f) = stays

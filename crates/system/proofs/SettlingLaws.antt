@@ -1,7 +1,6 @@
 -- What the tests of `snap take` come to, and a command that ends behind a consistency point of its own.
-use Rattle.std.proofs.Common.{◌≡◌, ◌≢◌, inl, ℕ, ◌+◌, ◌≤◌, ◌<◌, ◌^◌, List, [], ◌∷◌, ◌++◌, not, Option, Some, None, Result, Ok, Err, refl, ap, sym, subst, ◌∙◌, arith}
+use Rattle.std.proofs.Common.{◌≡◌, ◌≢◌, ◌+◌, ◌≤◌, ◌<◌, ◌^◌, List, [], ◌∷◌, ◌++◌, not, Option, Some, None, Result, Ok, Err, refl, ap, sym, subst, ◌∙◌}
 use Rattle.std.specs.Prelude.{bytes_eq, filter, is_none}
-use Rattle.station.specs.Calls.{Uses}
 use Rattle.station.specs.Images.{Unchanged}
 use Rattle.station.specs.Moments.{Goes, HasGrown, Meaning}
 use Rattle.station.specs.declared.station.Station.{Ghosts}

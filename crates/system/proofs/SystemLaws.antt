@@ -1,12 +1,11 @@
 -- The images of a system that serves a state open to it.
-use Rattle.std.proofs.Common.{◌≡◌, ℕ, ◌*◌, List, All, Option, None, refl, ap, sym, subst, ◌∙◌}
+use Rattle.std.proofs.Common.{◌≡◌, ℕ, ◌*◌, List, Option, None, refl, ap, sym, subst, ◌∙◌}
 use Rattle.std.specs.BTreeMap.{BTreeMap}
 use Rattle.station.specs.Images.{Images}
 use Rattle.station.specs.Moments.{Meaning, EachCut}
 use Rattle.station.proofs.Moments.{each_unchanged}
 use Rattle.layout.specs.Log.{LogHolds}
-use Rattle.layout.specs.Places.{blocks_of}
-use Rattle.layout.specs.Record.{Change}
+use Rattle.layout.specs.Places.{Blocks, blocks_of}
 use Rattle.layout.specs.declared.root.Root.{Root}
 use Rattle.model.specs.Paths.{Name}
 use Rattle.model.specs.Records.{without_nameless}
@@ -17,21 +16,28 @@ use Rattle.buffers.specs.Disks.{ShowsDisk, ReadsOn}
 use Rattle.buffers.specs.declared.block.Block.{Block}
 use Rattle.blockmap.specs.Maps.{settled_at}
 use Rattle.blockmap.specs.declared.map.BlockMap.{BlockMap}
-use Rattle.descriptors.specs.declared.table.Descriptors.{Descriptors}
+use Rattle.inofile.specs.Volumes.{IsVolumeOf}
 use Rattle.inofile.specs.declared.inode_file.InodeFile.{InodeFile}
-use Rattle.images.specs.States.{Opens, OpensBy, SameButFree}
-use Rattle.oplog.specs.LogEnd.{LogEnd, Bodies, all_of}
+use Rattle.images.specs.Roots.{whole}
+use Rattle.images.specs.States.{Opens, SameButFree}
+use Rattle.loading.specs.Images.{inodes_of}
+use Rattle.oplog.specs.LogEnd.{Bodies, all_of}
 use Rattle.system.specs.Images.{OpensTo, IsLeft, IsReplayed, IsUnder}
 use Rattle.system.specs.Laws.{CutLaws}
 use Rattle.system.specs.Memory.{IsInMemory}
 use Rattle.system.specs.Systems.{Parts, IsServing, state_with}
 
+-- memory over the tree of a root
+abbrev pub OverRoot : Blocks → Root → InodeFile → Volume → Type 0
+OverRoot disk root inodes v = IsVolumeOf root.geometry.blocks disk (inodes_of (whole disk root).active) inodes v
+
 module _ {m : Meaning} {k : Parts} {table : ℕ → Option Description} {s : State} (serves : IsServing m k table s) where
-  -- where nothing was done but reading
-  abbrev pub read_on : (new : Meaning) (now_kept : BTreeMap ℕ Block) (now_map : BlockMap) → ReadsOn m new
+  -- where nothing was done but reading, and objects came into memory
+  abbrev pub read_into : (new : Meaning) (now_kept : BTreeMap ℕ Block) (now_inodes : InodeFile) (now_map : BlockMap) → ReadsOn m new
       → ((disk : ℕ → List ℕ) → ShowsDisk m k.kept disk → ShowsDisk new now_kept disk)
-      → ((b : ℕ) → settled_at now_map.parts.items b ≡ settled_at k.map.parts.items b) → IsServing new (record k { kept = now_kept; map = now_map }) table s
-  read_on new now_kept now_map reads shows entries =
+      → ((v : Volume) → OverRoot (blocks_of m.seen.disk) k.root k.inodes v → OverRoot (blocks_of m.seen.disk) k.root now_inodes v)
+      → ((b : ℕ) → settled_at now_map.parts.items b ≡ settled_at k.map.parts.items b) → IsServing new (record k { kept = now_kept; inodes = now_inodes; map = now_map }) table s
+  read_into new now_kept now_inodes now_map reads shows stays entries =
       let went = reads.goes serves.honest in
       let disk : m.seen.disk ≡ new.seen.disk = sym (ap (λ (i : Images). i.disk) went.seen) in
       record {
@@ -46,8 +52,8 @@ module _ {m : Meaning} {k : Parts} {table : ℕ → Option Description} {s : Sta
         running = serves.running;
         mounted = serves.mounted;
         replayed = serves.replayed;
-        memory = subst (λ (d : ℕ → List ℕ). IsInMemory (blocks_of d) k.root k.inodes now_map serves.running) disk (record {
-          stands = serves.memory.stands;
+        memory = subst (λ (d : ℕ → List ℕ). IsInMemory (blocks_of d) k.root now_inodes now_map serves.running) disk (record {
+          stands = stays serves.running serves.memory.stands;
           volume = serves.memory.volume;
           entries = λ b. entries b ∙ serves.memory.entries b;
         });
@@ -57,6 +63,12 @@ module _ {m : Meaning} {k : Parts} {table : ℕ → Option Description} {s : Sta
         fits = serves.fits;
         state = serves.state;
       }
+
+  -- where none did
+  abbrev pub read_on : (new : Meaning) (now_kept : BTreeMap ℕ Block) (now_map : BlockMap) → ReadsOn m new
+      → ((disk : ℕ → List ℕ) → ShowsDisk m k.kept disk → ShowsDisk new now_kept disk)
+      → ((b : ℕ) → settled_at now_map.parts.items b ≡ settled_at k.map.parts.items b) → IsServing new (record k { kept = now_kept; map = now_map }) table s
+  read_on new now_kept now_map reads shows entries = read_into new now_kept k.inodes now_map reads shows (λ v over. over) entries
 
 -- A disk that holds a volume under its newest root, with records that lead to the running one, opens to its state.
 module _ (laws : CutLaws) (m : Meaning) (disk : ℕ → List ℕ) (root : Root) (slot : ℕ) (first : Volume) (snapshots : List (Name × Tree)) (under : IsUnder slot root first snapshots disk)

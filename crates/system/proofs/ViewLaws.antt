@@ -1,6 +1,6 @@
 -- What a call on the tree of a snapshot comes to.
-use Rattle.std.proofs.Common.{◌≡◌, ℕ, List, [], ◌∷◌, ap, Bool, false, not, Option, Some, None, Result, Ok, Err, refl, sym, subst}
-use Rattle.std.specs.Prelude.{IfOk, IsTrue}
+use Rattle.std.proofs.Common.{◌≡◌, ℕ, List, [], ◌∷◌, ap, Bool, not, Option, Some, None, refl, sym, subst}
+use Rattle.std.specs.Prelude.{IsTrue}
 use Rattle.model.specs.Laws.{MountsForget}
 use Rattle.model.specs.Paths.{Name}
 use Rattle.model.specs.Records.{Extends, is_vacant, without_nameless}
@@ -20,13 +20,8 @@ use Rattle.buffers.specs.declared.cache.Buffers.{Buffers}
 use Rattle.system.specs.Serving.{ServesState, TellsNoFault}
 use Rattle.system.specs.Systems.{meaning_of}
 use Rattle.system.specs.declared.system.System.{System}
-use Rattle.system.proofs.ServingLaws.{ServesOver}
+use Rattle.system.proofs.LookedLaws.{ServesOver}
 use Rattle.system.proofs.SystemLaws.{read_on}
-
--- what follows for each answer that is Ok
-pub if_ok : {X E : Type 0} (r : Result X E) (P Q : X → Type 0) → ((x : X) → P x → Q x) → IfOk r P → IfOk r Q
-if_ok (Ok x) P Q follows holds = follows x holds
-if_ok (Err e) P Q follows holds = tt
 
 abbrev pub closed : ℕ → Option Description
 closed d = None
@@ -46,14 +41,6 @@ module _ (s : State) (name : Name) (c : PathCall) where
     | None ↦ says s (Refused NOSNAP)
     | Some pair ↦ passing s ((not reading, EROFS) ∷ []) (λ reply new need. calls s.inodes pair.1 c reply pair.1 need × (new ≡ s))
   ]) answer s nothing
-
-  pub none_viewed : frozen s name ≡ None → views s name c (Refused NOSNAP) s nothing
-  none_viewed is = subst (λ (o : Option (Name × Tree)). viewed (is_reading_call c) o (Refused NOSNAP)) (sym is) (refl, refl, refl)
-
-  pub change_viewed : (pair : Name × Tree) → frozen s name ≡ Some pair → is_reading_call c ≡ false → views s name c (Refused EROFS) s nothing
-  change_viewed pair is changes =
-      subst (λ (o : Option (Name × Tree)). viewed (is_reading_call c) o (Refused EROFS)) (sym is)
-      (subst (λ (b : Bool). viewed b (Some pair) (Refused EROFS)) (sym changes) (refl, refl, refl))
 
   pub reading_viewed : (pair : Name × Tree) (reply : Reply) → frozen s name ≡ Some pair → IsTrue (is_reading_call c) → calls s.inodes pair.1 c reply pair.1 nothing
       → views s name c reply s nothing

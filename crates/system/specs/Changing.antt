@@ -1,11 +1,9 @@
 -- What calls by a path that change something come to.
-use Rattle.std.specs.Prelude.{Bool, true, false, ℕ, Option, Result}
+use Rattle.std.specs.Prelude.{Bool, true, false, Option}
 use Rattle.model.specs.Steps.{calls}
-use Rattle.model.specs.Trees.{Description}
-use Rattle.model.specs.Volumes.{Volume, tree_of}
+use Rattle.model.specs.Volumes.{tree_of}
 use Rattle.model.specs.declared.command.PathCall.{PathCall}
 use Rattle.model.specs.declared.command.PathCall.TheVariants as call
-use Rattle.model.specs.declared.errno.Errno.{Errno}
 use Rattle.calls.specs.Changing.{ComesOrStays, ComesSwept}
 use Rattle.calls.specs.Preparing.{Answer}
 use Rattle.calls.specs.declared.changed.Changing.{Changing}

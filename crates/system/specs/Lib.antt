@@ -13,5 +13,6 @@ pub mod Logging
 pub mod Serving
 pub mod Room
 pub mod Changing
+pub mod Answering
 pub mod OpenFiles
 pub mod Settling

@@ -17,10 +17,11 @@ use Rattle.descriptors.specs.Files.{KeepsBounds, description_of}
 use Rattle.descriptors.specs.Fits.{IsFileOf}
 use Rattle.descriptors.specs.Tables.{put_open, table_of}
 use Rattle.descriptors.specs.declared.table.Descriptors.{Descriptors}
-use Rattle.blocktree.specs.declared.error.ReadError.{ReadError}
 use Rattle.buffers.specs.declared.blocks.Blocks.{Ghosts}
 use Rattle.inofile.specs.declared.inode_file.InodeFile.{InodeFile}
+use Rattle.records.specs.declared.failure.Failure.{Failure}
 use Rattle.calls.specs.Changing.{said_by}
+use Rattle.calls.specs.declared.changed.Changing.{Changing}
 use Rattle.files.specs.Preparing.{Changes, PreparesOpen}
 use Rattle.files.specs.Writing.{moved_to}
 use Rattle.system.specs.Serving.{IsAccepted, WouldCall}
@@ -116,6 +117,11 @@ DoesCall inodes v table call (Ok d) = DoesBeside inodes v table call d.reply d.t
 abbrev pub KeepsOpen : (ℕ → Option Description) → (ℕ → Option Description) → Type 0
 KeepsOpen table after = (d n : ℕ) → is_numbered (table d) n ≡ true → is_numbered (after d) n ≡ true
 
+-- a change whose record says what it does, if there is one
+abbrev pub said_change : Option Changing → Option FileChange
+said_change None = None
+said_change (Some c) = Some (record { «record» = Says c.change; prepared = c.prepared })
+
 -- what is prepared beside the table, if anything is
 abbrev pub of_doing : Changes Doing
 of_doing d P = IfSome d.change (λ c. P c.prepared (recorded c.record))
@@ -128,6 +134,6 @@ pub record MayDo (inodes : ℕ) (files : Descriptors) (d : Doing) : Type 0 where
   pub limits : IfSome d.change (λ c. KeepsRecord c.record)
 
 -- What a call is to do is prepared on the image in memory, as far as nothing of it is seen yet; or why it is refused.
-abbrev pub PreparesDoing : {B : Type 0} → Ghosts B → B → B → InodeFile → InodeFile → Descriptors → Command → Result (Result Doing Errno) ReadError → Type 0
+abbrev pub PreparesDoing : {B : Type 0} → Ghosts B → B → B → InodeFile → InodeFile → Descriptors → Command → Result Doing Failure → Type 0
 PreparesDoing G blocks after s t files call result =
     PreparesOpen of_doing (MayDo s.geometry.inodes files) G blocks after s t files (λ v. DoesCall s.geometry.inodes v (table_of files) call) result

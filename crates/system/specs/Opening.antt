@@ -1,5 +1,5 @@
 -- What a mount reads, and what it makes of it.
-use Rattle.std.specs.Prelude.{ℕ, ◌≡◌, ◌⊎◌, List, All, IsFalse, ◌<◌, ◌^◌}
+use Rattle.std.specs.Prelude.{ℕ, ◌≡◌, ◌⊎◌, List, IsFalse, ◌<◌, ◌^◌}
 use Rattle.station.specs.Images.{Images}
 use Rattle.station.specs.Moments.{Meaning, HasGrown}
 use Rattle.layout.specs.Places.{Blocks}

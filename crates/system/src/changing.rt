@@ -5,11 +5,11 @@ ghost use Rattle.model.specs.Steps.{is_reading_call};
 ghost use Rattle.calls.specs.Preparing.{Prepares, PreparesAny};
 ghost use Rattle.system.specs.Changing.{CallComes, RecordComes, may_stay};
 
-use blocktree::ReadError;
 use buffers::Blocks;
 use calls::Changing;
 use inofile::InodeFile;
-use model::{Errno, PathCall};
+use model::PathCall;
+use records::Failure;
 use std::alloc::Global;
 
 /// What a call is to change on the image in memory, as far as nothing of it is seen yet: prepares its record, or tells why the call
@@ -20,7 +20,7 @@ pub(crate) fn prepare<B: Blocks>(
     inodes: &mut InodeFile,
     blocks: &mut B,
     call: &PathCall,
-) -> Result<Result<Option<Changing>, Errno>, ReadError>
+) -> Result<Option<Changing>, Failure>
     requires { IsFalse (is_reading_call call.now) }
     ensures { PreparesAny B.Blocks blocks.old blocks.new inodes.old inodes.new
         (CallComes call.now) result }
@@ -32,10 +32,10 @@ pub(crate) fn prepare<B: Blocks>(
         PathCall::Truncate { path, size } => {
             calls::truncate(alloc, inodes, blocks, path.as_bytes(), *size)
         }
-        _ => match prepare_record(alloc, inodes, blocks, call)? {
-            Ok(changing) => Ok(Ok(Some(changing))),
-            Err(errno) => Ok(Err(errno)),
-        },
+        _ => {
+            let changing = prepare_record(alloc, inodes, blocks, call)?;
+            Ok(Some(changing))
+        }
     }
 }
 
@@ -45,7 +45,7 @@ fn prepare_record<B: Blocks>(
     inodes: &mut InodeFile,
     blocks: &mut B,
     call: &PathCall,
-) -> Result<Result<Changing, Errno>, ReadError>
+) -> Result<Changing, Failure>
     requires changes { IsFalse (is_reading_call call.now) }
     requires changes_always { IsFalse (may_stay call.now) }
     ensures { Prepares B.Blocks blocks.old blocks.new inodes.old inodes.new

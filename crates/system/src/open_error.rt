@@ -17,7 +17,7 @@ pub enum OpenError {
     /// No slot holds a root.
     #[error("no slot holds a root")]
     NoRoot = 3,
-    /// What stands on the devices is outside the formats, or holds a record that this version doesn't do.
+    /// What stands on the devices is outside the formats, or its log has a record that can't be done again.
     #[error("the image is damaged")]
     Damaged = 4,
 }

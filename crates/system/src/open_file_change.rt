@@ -1,20 +1,19 @@
 //! What calls on descriptors are to change.
 
-ghost use Rattle.std.specs.Prelude.{IsTrue};
+ghost use Rattle.std.specs.Prelude.{◌≡◌, IsTrue};
 ghost use Rattle.model.specs.declared.command.Command.TheVariants as command;
 ghost use Rattle.records.specs.Opened.{HasNumbers};
-ghost use Rattle.system.specs.OpenFiles.{PreparesDoing, is_logging_call};
+ghost use Rattle.system.specs.OpenFiles.{PreparesDoing, is_logging_call, said_change};
 
 use crate::file_change::{CallRecord, Doing, FileChange};
 use crate::table_move::TableMove;
-use blocktree::ReadError;
 use buffers::Blocks;
 use calls::Changing;
 use descriptors::Descriptors;
 use files::{Opening, Writing, prepare_ftruncate, prepare_open, prepare_pwrite, prepare_write};
 use inofile::InodeFile;
-use layout::InodeNumber;
-use model::{Command, Errno, Flags, Mode, Reply};
+use model::{Command, Flags, Mode, Reply};
+use records::Failure;
 use std::alloc::Global;
 
 /// What a call is to do on the image in memory and to the table of open files, as far as nothing of it is seen yet; or why it is
@@ -25,7 +24,7 @@ pub(crate) fn prepare_open_file<'a, B: Blocks>(
     blocks: &mut B,
     files: &Descriptors,
     call: &'a Command,
-) -> Result<Result<Doing<'a>, Errno>, ReadError>
+) -> Result<Doing<'a>, Failure>
     requires logs { IsTrue (is_logging_call call.now) }
     requires numbers { HasNumbers inodes.old.geometry.inodes files.now }
     ensures { PreparesDoing B.Blocks blocks.old blocks.new inodes.old inodes.new files.now
@@ -56,34 +55,33 @@ fn prepare_writing<'a, B: Blocks>(
     files: &Descriptors,
     fd: u32,
     bytes: &'a [u8],
-) -> Result<Result<Doing<'a>, Errno>, ReadError>
+) -> Result<Doing<'a>, Failure>
     ensures { PreparesDoing B.Blocks blocks.old blocks.new inodes.old inodes.new files.now
         (command.Write fd bytes.now) result }
 {
     let found = prepare_write(alloc, inodes, blocks, files, fd, bytes)?;
     match found {
-        Ok(Some(writing)) => {
+        Some(writing) => {
             let Writing { written, prepared } = writing;
             let record = CallRecord::Writes {
-                number: InodeNumber::new(written.number),
+                number: written.number,
                 offset: written.offset,
                 bytes,
             };
-            Ok(Ok(Doing {
+            Ok(Doing {
                 reply: Reply::Wrote(bytes.len() as u32),
                 change: Some(FileChange { record, prepared }),
                 table: TableMove::Moves {
                     fd,
                     place: written.behind,
                 },
-            }))
+            })
         }
-        Ok(None) => Ok(Ok(Doing {
+        None => Ok(Doing {
             reply: Reply::Wrote(0),
             change: None,
             table: TableMove::Stays,
-        })),
-        Err(errno) => Ok(Err(errno)),
+        }),
     }
 }
 
@@ -96,31 +94,30 @@ fn prepare_writing_at<'a, B: Blocks>(
     fd: u32,
     offset: i64,
     bytes: &'a [u8],
-) -> Result<Result<Doing<'a>, Errno>, ReadError>
+) -> Result<Doing<'a>, Failure>
     ensures { PreparesDoing B.Blocks blocks.old blocks.new inodes.old inodes.new files.now
         (command.Pwrite fd offset bytes.now) result }
 {
     let found = prepare_pwrite(alloc, inodes, blocks, files, fd, offset, bytes)?;
     match found {
-        Ok(Some(writing)) => {
+        Some(writing) => {
             let Writing { written, prepared } = writing;
             let record = CallRecord::Writes {
-                number: InodeNumber::new(written.number),
+                number: written.number,
                 offset: written.offset,
                 bytes,
             };
-            Ok(Ok(Doing {
+            Ok(Doing {
                 reply: Reply::Wrote(bytes.len() as u32),
                 change: Some(FileChange { record, prepared }),
                 table: TableMove::Stays,
-            }))
+            })
         }
-        Ok(None) => Ok(Ok(Doing {
+        None => Ok(Doing {
             reply: Reply::Wrote(0),
             change: None,
             table: TableMove::Stays,
-        })),
-        Err(errno) => Ok(Err(errno)),
+        }),
     }
 }
 
@@ -132,29 +129,17 @@ fn prepare_cutting<'a, B: Blocks>(
     files: &Descriptors,
     fd: u32,
     size: i64,
-) -> Result<Result<Doing<'a>, Errno>, ReadError>
+) -> Result<Doing<'a>, Failure>
     requires { HasNumbers inodes.old.geometry.inodes files.now }
     ensures { PreparesDoing B.Blocks blocks.old blocks.new inodes.old inodes.new files.now
         (command.Ftruncate fd size) result }
 {
     let found = prepare_ftruncate(alloc, inodes, blocks, files, fd, size)?;
-    match found {
-        Ok(Some(changing)) => {
-            let Changing { change, prepared } = changing;
-            let record = CallRecord::Says(change);
-            Ok(Ok(Doing {
-                reply: Reply::Done,
-                change: Some(FileChange { record, prepared }),
-                table: TableMove::Stays,
-            }))
-        }
-        Ok(None) => Ok(Ok(Doing {
-            reply: Reply::Done,
-            change: None,
-            table: TableMove::Stays,
-        })),
-        Err(errno) => Ok(Err(errno)),
-    }
+    Ok(Doing {
+        reply: Reply::Done,
+        change: said(found),
+        table: TableMove::Stays,
+    })
 }
 
 // The same of a file that is opened.
@@ -166,33 +151,28 @@ fn prepare_opening<'a, B: Blocks>(
     path: &[u8],
     flags: Flags,
     mode: Mode,
-) -> Result<Result<Doing<'a>, Errno>, ReadError>
+) -> Result<Doing<'a>, Failure>
     ensures { PreparesDoing B.Blocks blocks.old blocks.new inodes.old inodes.new files.now
         (command.Open path.now flags mode) result }
 {
-    let found = prepare_open(alloc, inodes, blocks, files, path, flags, mode)?;
-    match found {
-        Ok(opening) => {
-            let Opening { fd, file, changing } = opening;
-            let reply = Reply::Fd(fd);
-            let table = TableMove::Opens { fd, file };
-            match changing {
-                Some(Changing { change, prepared }) => {
-                    let record = CallRecord::Says(change);
-                    let change = Some(FileChange { record, prepared });
-                    Ok(Ok(Doing {
-                        reply,
-                        change,
-                        table,
-                    }))
-                }
-                None => Ok(Ok(Doing {
-                    reply,
-                    change: None,
-                    table,
-                })),
-            }
+    let opening = prepare_open(alloc, inodes, blocks, files, path, flags, mode)?;
+    let Opening { fd, file, changing } = opening;
+    Ok(Doing {
+        reply: Reply::Fd(fd),
+        change: said(changing),
+        table: TableMove::Opens { fd, file },
+    })
+}
+
+// A change whose record says what it does, if there is one.
+fn said<'a>(changing: Option<Changing>) -> Option<FileChange<'a>>
+    ensures { result ≡ said_change changing }
+{
+    match changing {
+        Some(Changing { change, prepared }) => {
+            let record = CallRecord::Says(change);
+            Some(FileChange { record, prepared })
         }
-        Err(errno) => Ok(Err(errno)),
+        None => None,
     }
 }

@@ -1,25 +1,22 @@
 //! Calls on descriptors that log nothing.
 
-ghost use Rattle.std.specs.Prelude.{◌≡◌, ℕ, IfErr, IfOk, IsTrue, OnErr};
+ghost use Rattle.std.specs.Prelude.{ℕ, IfErr, IfOk, IsTrue};
 ghost use Rattle.model.specs.Room.{nothing};
 ghost use Rattle.model.specs.Volumes.{IsMounted, Volume};
-ghost use Rattle.blocktree.specs.Errors.{IsFault};
-ghost use Rattle.calls.specs.Standing.{Looks};
 ghost use Rattle.records.specs.Opened.{HasNumbers};
-ghost use Rattle.records.specs.Shown.{NeverDamaged};
 ghost use Rattle.descriptors.specs.Fits.{FitsVolume};
 ghost use Rattle.descriptors.specs.Tables.{table_of};
-ghost use Rattle.files.specs.Opened.{OnOpen};
+ghost use Rattle.files.specs.Reading.{AnswersMoving};
+ghost use Rattle.system.specs.Answering.{reply_of};
 ghost use Rattle.system.specs.OpenFiles.{WouldLead, is_looking_call, is_table_call};
 ghost use Rattle.system.specs.Serving.{TellsNoFault};
 
-use crate::reading::{data_reply, stat_reply};
-use blocktree::ReadError;
 use buffers::Blocks;
 use descriptors::Descriptors;
 use files::{fstat, fsync, lseek, pread, read};
 use inofile::InodeFile;
 use model::{Command, Reply};
+use records::Failure;
 use std::alloc::Global;
 
 /// The answer of a call that looks at the table of open files alone; an offset may move by it.
@@ -48,41 +45,34 @@ pub(crate) fn answer_from_table(files: &mut Descriptors, call: &Command) -> Repl
     }
 }
 
-/// What a call that only reads a file is answered on the image in memory; an offset may move by it. NoMemory; Device where a read
-/// failed; Damaged where a block on the way is outside its format. After an error no offset has moved.
+/// What a call that only reads a file is answered on the image in memory; an offset may move by it, but for one that is refused.
+/// NoMemory; Device where a read failed; Damaged where a block on the way is outside its format. Then no offset has moved.
 pub(crate) fn read_open_file<B: Blocks>(
     alloc: Global,
     inodes: &mut InodeFile,
     blocks: &mut B,
     files: &mut Descriptors,
     call: &Command,
-) -> Result<Reply, ReadError>
+) -> Result<Reply, Failure>
     requires looks { IsTrue (is_looking_call call.now) }
     requires numbers { HasNumbers inodes.old.geometry.inodes files.old }
-    ensures looks { Looks B.Blocks IsFault blocks.old blocks.new inodes.old inodes.new result }
     ensures no_fault { IfOk result TellsNoFault }
-    ensures answers { OnOpen B.Blocks blocks.old inodes.old files.old (λ v.
-        IfOk result (λ reply. (n : ℕ)
-        → WouldLead n v (table_of files.old) call.now reply v (table_of files.new) nothing)) }
-    ensures fits { (v : Volume) → FitsVolume files.old v → FitsVolume files.new v }
-    ensures mounted { (v : Volume) → IsMounted v (table_of files.old)
-        → IsMounted v (table_of files.new) }
-    ensures numbers { (n : ℕ) → HasNumbers n files.old → HasNumbers n files.new }
-    ensures failed { OnErr result (files.new ≡ files.old) }
-    ensures damaged { NeverDamaged B.Blocks blocks.old inodes.old result }
+    ensures tells { AnswersMoving B.Blocks blocks.old blocks.new inodes.old inodes.new files.old
+        files.new (λ v r. (n : ℕ) → WouldLead n v (table_of files.old) call.now (reply_of r) v
+        (table_of files.new) nothing) result }
 {
     match call {
         Command::Read { fd, count } => {
             let bytes = read(alloc, inodes, blocks, files, *fd, *count)?;
-            Ok(data_reply(bytes))
+            Ok(Reply::Data(bytes))
         }
         Command::Pread { fd, offset, count } => {
             let bytes = pread(alloc, inodes, blocks, files, *fd, *offset, *count)?;
-            Ok(data_reply(bytes))
+            Ok(Reply::Data(bytes))
         }
         Command::Fstat { fd } => {
             let stat = fstat(alloc, inodes, blocks, files, *fd)?;
-            Ok(stat_reply(stat))
+            Ok(Reply::Stat(stat))
         }
         _ => unreachable!(),
     }

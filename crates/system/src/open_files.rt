@@ -8,7 +8,7 @@ use crate::file_change::{Doing, FileChange};
 use crate::laws::{records_lead_on, served_states_open};
 use crate::open_file_change::prepare_open_file;
 use crate::open_file_reading::{answer_from_table, read_open_file};
-use crate::serving::{call_error, log_error};
+use crate::serving::{answer, call_error, log_error};
 use crate::{CallError, System};
 use files::{close, named_files_have_paths, prepare_close};
 use model::{Command, Reply};
@@ -46,16 +46,14 @@ impl<S: Station> System<S> {
         ensures { Handles self.old self.new call.now result }
     {
         served_states_open(self);
-        match read_open_file(
+        let outcome = read_open_file(
             self.alloc,
             &mut self.inodes,
             &mut self.blocks,
             &mut self.files,
             call,
-        ) {
-            Ok(reply) => Ok(reply),
-            Err(error) => Err(call_error(error)),
-        }
+        );
+        answer(outcome)
     }
 
     // Frees a descriptor. A file that it leaves with neither name nor descriptor goes from memory; the image keeps it until the
@@ -94,7 +92,7 @@ impl<S: Station> System<S> {
             &self.files,
             call,
         ) {
-            Ok(Ok(doing)) => {
+            Ok(doing) => {
                 let Doing {
                     reply,
                     change,
@@ -116,8 +114,7 @@ impl<S: Station> System<S> {
                     }
                 }
             }
-            Ok(Err(errno)) => Ok(Reply::Refused(errno)),
-            Err(error) => Err(call_error(error)),
+            Err(failure) => answer(Err(failure)),
         }
     }
 }

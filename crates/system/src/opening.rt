@@ -176,11 +176,11 @@ fn open_found<S: Station>(
 }
 
 impl<S: Station> System<S> {
-    /// Mounts an image: reads its newest root, what memory is to have of the tree under it, and replays the log over that. It
-    /// writes nothing. `NoRoot` comes where neither slot holds a root, `Device` only where a device call failed. Where what the
-    /// station reads opens to a state by records that this version does, Ok gives a system that serves what a mount finds of it,
-    /// and `Damaged` doesn't come. No directory and no file is read, so Ok may come over an image that opens to none; but it has
-    /// taken the newest root, the station has its sizes, and the NVRAM holds a log over it.
+    /// Mounts an image: reads its newest root, what memory is to have of the tree under it, and replays the log over that. Reads
+    /// give what they gave before, and a cut leaves what it might have left before. `NoRoot` comes where neither slot holds a root,
+    /// `Device` only where a device call failed. Where what the station reads opens to a state, Ok gives a system that serves what
+    /// a mount finds of it, and `Damaged` doesn't come. No directory and no file is read, so Ok may come over an image that opens
+    /// to none; but it has taken the newest root, the station has its sizes, and the NVRAM holds a log over it.
     pub fn open(alloc: Global, mut station: S) -> Result<System<S>, (OpenError, S)>
         ensures same { MatchResult result
             (λ f. IsSameStation (S.meaning station) (meaning_of f))

@@ -2,6 +2,7 @@
 
 ghost use Rattle.std.specs.Prelude.{◌≡◌, IsFalse, IsTrue};
 ghost use Rattle.model.specs.Steps.{is_reading_call};
+ghost use Rattle.system.specs.Answering.{answer_to};
 ghost use Rattle.system.specs.Errors.{call_error, log_error};
 ghost use Rattle.system.specs.Serving.{Handles, IsCall};
 
@@ -13,6 +14,7 @@ use blocktree::ReadError;
 use calls::Changing;
 use model::{Command, PathCall, Reply};
 use oplog::AppendError;
+use records::Failure;
 use station::Station;
 
 /// A failed read, to who gave the call.
@@ -23,6 +25,17 @@ pub(crate) fn call_error(error: ReadError) -> CallError
         ReadError::NoMemory => CallError::NoMemory,
         ReadError::Device => CallError::NotRead,
         ReadError::Damaged => CallError::Damaged,
+    }
+}
+
+/// What is answered to who gave a call that came to this.
+pub(crate) fn answer(outcome: Result<Reply, Failure>) -> Result<Reply, CallError>
+    ensures { result ≡ answer_to outcome }
+{
+    match outcome {
+        Ok(reply) => Ok(reply),
+        Err(Failure::Refused(errno)) => Ok(Reply::Refused(errno)),
+        Err(Failure::Read(error)) => Err(call_error(error)),
     }
 }
 
@@ -71,10 +84,7 @@ impl<S: Station> System<S> {
         ensures { Handles self.old self.new (Command.Path call.now) result }
     {
         served_states_open(self);
-        match read(self.alloc, &mut self.inodes, &mut self.blocks, call) {
-            Ok(reply) => Ok(reply),
-            Err(error) => Err(call_error(error)),
-        }
+        answer(read(self.alloc, &mut self.inodes, &mut self.blocks, call))
     }
 
     // Logs the record of a call that changes something, and puts it in force.
@@ -84,16 +94,15 @@ impl<S: Station> System<S> {
     {
         served_states_open(self);
         match prepare(self.alloc, &mut self.inodes, &mut self.blocks, call) {
-            Ok(Ok(Some(changing))) => {
+            Ok(Some(changing)) => {
                 let Changing { change, prepared } = changing;
                 match self.log(&change.record(), prepared) {
                     Ok(()) => Ok(Reply::Done),
                     Err(error) => Err(log_error(error)),
                 }
             }
-            Ok(Ok(None)) => Ok(Reply::Done),
-            Ok(Err(errno)) => Ok(Reply::Refused(errno)),
-            Err(error) => Err(call_error(error)),
+            Ok(None) => Ok(Reply::Done),
+            Err(failure) => answer(Err(failure)),
         }
     }
 }

@@ -1,6 +1,6 @@
 //! Calls on the snapshots that change nothing.
 
-ghost use Rattle.std.specs.Prelude.{◌≡◌, ℕ, List, IfOk, IsErrOf};
+ghost use Rattle.std.specs.Prelude.{◌≡◌, ℕ, List, IfErr, IfOk, IsErrOf, IsTrue};
 ghost use Rattle.layout.specs.Root.{IsRoot};
 ghost use Rattle.model.specs.Paths.{Name};
 ghost use Rattle.model.specs.Room.{nothing};
@@ -11,19 +11,23 @@ ghost use Rattle.model.specs.Volumes.{Volume};
 ghost use Rattle.model.specs.declared.command.Command.{Command};
 ghost use Rattle.buffers.specs.Reads.{ReadsBlocks};
 ghost use Rattle.blocktree.specs.Errors.{IsFault};
+ghost use Rattle.records.specs.Failures.{told};
+ghost use Rattle.calls.specs.Refusals.{is_path_refusal};
 ghost use Rattle.images.specs.Roots.{whole};
 ghost use Rattle.images.specs.States.{Holds};
+ghost use Rattle.system.specs.Answering.{reply_of};
 ghost use Rattle.system.specs.Serving.{Handles, TellsNoFault};
 
 use crate::laws::served_states_open;
 use crate::reading::{is_reading, read};
-use crate::serving::call_error;
+use crate::serving::{answer, call_error};
 use crate::{CallError, System};
 use blocktree::ReadError;
 use buffers::Blocks;
 use calls::reading_forgets_open_files;
 use layout::Root;
 use model::{Errno, PathCall, Reply, Text, mounts_forget_open_files};
+use records::Failure;
 use snapshots::{find, names, view};
 use station::Station;
 use std::alloc::Global;
@@ -37,26 +41,27 @@ fn read_within<B: Blocks>(
     root: &Root,
     name: &[u8],
     call: &PathCall,
-) -> Result<Reply, ReadError>
+) -> Result<Reply, Failure>
     requires root { IsRoot root.now }
     requires size { B.count blocks.old ≡ root.now.geometry.blocks }
-    ensures reads { ReadsBlocks B.Blocks IsFault blocks.old blocks.new result }
+    ensures reads { ReadsBlocks B.Blocks IsFault blocks.old blocks.new (told result) }
+    ensures own { IfOk (told result) (λ r. IfErr r (λ e. IsTrue (is_path_refusal e))) }
     ensures no_fault { IfOk result TellsNoFault }
     ensures views { (disk : ℕ → List ℕ) → B.Shows blocks.old disk → (v : Volume)
         (pairs : List (Name × Tree)) → Holds root.now (whole disk root.now) v pairs → (s : State)
-        → s.snapshots ≡ pairs → IfOk result (λ reply.
-        views s name.now call.now reply s nothing) }
+        → s.snapshots ≡ pairs → IfOk (told result) (λ r.
+        views s name.now call.now (reply_of r) s nothing) }
     ensures damaged { (disk : ℕ → List ℕ) → B.Shows blocks.old disk → (v : Volume)
         (pairs : List (Name × Tree)) → Holds root.now (whole disk root.now) v pairs
-        → IsErrOf result ReadError.Damaged → ⊥ }
+        → IsErrOf (told result) ReadError.Damaged → ⊥ }
 {
     reading_forgets_open_files();
     mounts_forget_open_files();
     let Some(found) = find(blocks, root, name)? else {
-        return Ok(Reply::Refused(Errno::NOSNAP));
+        return Err(Failure::Refused(Errno::NOSNAP));
     };
     if !is_reading(call) {
-        return Ok(Reply::Refused(Errno::EROFS));
+        return Err(Failure::Refused(Errno::EROFS));
     }
     let mut inodes = view(alloc, blocks, root, &found)?;
     read(alloc, &mut inodes, blocks, call)
@@ -68,16 +73,14 @@ impl<S: Station> System<S> {
         ensures { Handles self.old self.new (Command.Within name.now call.now) result }
     {
         served_states_open(self);
-        match read_within(
+        let outcome = read_within(
             self.alloc,
             &mut self.blocks,
             &self.root,
             name.as_bytes(),
             call,
-        ) {
-            Ok(reply) => Ok(reply),
-            Err(error) => Err(call_error(error)),
-        }
+        );
+        answer(outcome)
     }
 
     /// Lists the names of the snapshots, oldest first.

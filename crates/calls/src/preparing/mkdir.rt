@@ -7,10 +7,10 @@ ghost use Rattle.calls.specs.Preparing.{Prepares};
 
 use crate::making::make;
 use crate::{Changing, OwnedObject};
-use blocktree::ReadError;
 use buffers::Blocks;
 use inofile::InodeFile;
-use model::{Errno, Mode};
+use model::Mode;
+use records::Failure;
 use std::alloc::Global;
 
 /// Makes a directory of this mode where a path leads, as far as nothing of it is seen yet: prepares its record, or tells why the
@@ -22,7 +22,7 @@ pub fn make_directory<B: Blocks>(
     blocks: &mut B,
     path: &[u8],
     mode: Mode,
-) -> Result<Result<Changing, Errno>, ReadError>
+) -> Result<Changing, Failure>
     ensures { Prepares B.Blocks blocks.old blocks.new inodes.old inodes.new
         (λ inodes v table. Comes (makes_directory inodes (tree_of v table) path.now mode) inodes v
         table) result }

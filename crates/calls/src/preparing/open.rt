@@ -14,20 +14,21 @@ ghost use Rattle.calls.specs.Preparing.{PreparesOpening};
 use crate::finding::find;
 use crate::making::make_in;
 use crate::{Changing, OwnedObject, cut_file, stat_number};
-use blocktree::ReadError;
 use buffers::Blocks;
 use inofile::InodeFile;
+use layout::InodeNumber;
 use model::{
     Errno, Flags, Kind, Mode, records_change_trees, volumes_are_trees, volumes_tell_fresh_numbers,
 };
 use paths::{Parts, Place};
+use records::Failure;
 use std::alloc::Global;
 
 /// A file that is to be opened.
 #[derive(Drop)]
 pub struct Opened {
     /// Its inode number.
-    pub number: u32,
+    pub number: InodeNumber,
     /// Its size in bytes, once it is open.
     pub size: u64,
     /// How many names it has.
@@ -48,10 +49,10 @@ pub fn open_along<B: Blocks>(
     parts: Parts,
     flags: Flags,
     mode: Mode,
-) -> Result<Result<Opened, Errno>, ReadError>
+) -> Result<Opened, Failure>
     requires parts { parts ≡ parts_of path.now }
     requires passed { first_refusal (text_tests path.now) ≡ None }
-    ensures within { IfOk result (λ r. IfOk r (KeepsBounds inodes.old.geometry.inodes)) }
+    ensures within { IfOk result (KeepsBounds inodes.old.geometry.inodes) }
     ensures opens { PreparesOpening B.Blocks blocks.old blocks.new inodes.old inodes.new
         (λ inodes v table. OpensAt (opens_along inodes (tree_of v table) path.now flags mode) inodes
         flags v table) result }
@@ -64,7 +65,7 @@ pub fn open_along<B: Blocks>(
         Place::Gap { trail, name } => {
             open_new(alloc, inodes, blocks, trail.here(), name, flags, mode)
         }
-        Place::Refusal(errno) => Ok(Err(errno)),
+        Place::Refusal(errno) => Err(Failure::Refused(errno)),
         Place::Directory(trail) => open_object(alloc, inodes, blocks, trail.here(), flags),
         Place::Entry {
             trail: _trail,
@@ -86,42 +87,38 @@ fn open_object<B: Blocks>(
     alloc: Global,
     inodes: &mut InodeFile,
     blocks: &mut B,
-    number: u32,
+    number: InodeNumber,
     flags: Flags,
-) -> Result<Result<Opened, Errno>, ReadError>
+) -> Result<Opened, Failure>
     requires number { IsNumber inodes.old.geometry.inodes number }
-    ensures within { IfOk result (λ r. IfOk r (KeepsBounds inodes.old.geometry.inodes)) }
+    ensures within { IfOk result (KeepsBounds inodes.old.geometry.inodes) }
     ensures opens { PreparesOpening B.Blocks blocks.old blocks.new inodes.old inodes.new
         (λ inodes v table r. (o : trees.Object) → object_of number (v number) ≡ Some o → (IsTrue
         (not (flags.creates && flags.exclusive)) → found_in (v number) ≢ found.Link) → OpensAt
         (opens_object (tree_of v table) o flags) inodes flags v table r) result }
 {
     if wants_new(flags) {
-        return Ok(Err(Errno::EEXIST));
+        return Err(Failure::Refused(Errno::EEXIST));
     }
-    let told = stat_number(alloc, inodes, blocks, number)?;
-    let stat = match told {
-        Ok(stat) => stat,
-        Err(errno) => return Ok(Err(errno)),
-    };
+    let stat = stat_number(alloc, inodes, blocks, number)?;
     let Kind::File = stat.kind else {
-        return Ok(Err(Errno::EISDIR));
+        return Err(Failure::Refused(Errno::EISDIR));
     };
     if !flags.truncates {
-        return Ok(Ok(Opened {
+        return Ok(Opened {
             number,
             size: stat.size,
             links: stat.links,
             changing: None,
-        }));
+        });
     }
     let changing = cut_file(alloc, inodes, blocks, number, 0)?;
-    Ok(Ok(Opened {
+    Ok(Opened {
         number,
         size: 0,
         links: stat.links,
         changing,
-    }))
+    })
 }
 
 // Makes a file at a name that its parent doesn't have; ENOENT where none is to be made.
@@ -129,31 +126,27 @@ fn open_new<B: Blocks>(
     alloc: Global,
     inodes: &mut InodeFile,
     blocks: &mut B,
-    parent: u32,
+    parent: InodeNumber,
     name: Vec<u8>,
     flags: Flags,
     mode: Mode,
-) -> Result<Result<Opened, Errno>, ReadError>
-    ensures within { IfOk result (λ r. IfOk r (KeepsBounds inodes.old.geometry.inodes)) }
+) -> Result<Opened, Failure>
+    ensures within { IfOk result (KeepsBounds inodes.old.geometry.inodes) }
     ensures opens { PreparesOpening B.Blocks blocks.old blocks.new inodes.old inodes.new
         (λ inodes v table. OpensNew inodes v flags mode parent name.items) result }
 {
     if !flags.creates {
-        return Ok(Err(Errno::ENOENT));
+        return Err(Failure::Refused(Errno::ENOENT));
     }
     let object = OwnedObject::File { mode };
-    let made = make_in(alloc, inodes, blocks, parent, name, object)?;
-    let changing = match made {
-        Ok(changing) => changing,
-        Err(errno) => return Ok(Err(errno)),
-    };
+    let changing = make_in(alloc, inodes, blocks, parent, name, object)?;
     let Some(number) = changing.change.number_made() else {
         unreachable!()
     };
-    Ok(Ok(Opened {
+    Ok(Opened {
         number,
         size: 0,
         links: 1,
         changing: Some(changing),
-    }))
+    })
 }

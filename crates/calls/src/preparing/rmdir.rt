@@ -10,12 +10,12 @@ ghost use Rattle.calls.specs.Rmdir.{RemovesDirectory};
 use crate::Changing;
 use crate::finding::{find, is_root};
 use crate::preparing::unlink::remove_name;
-use blocktree::ReadError;
 use buffers::Blocks;
 use inofile::InodeFile;
+use layout::InodeNumber;
 use model::{Errno, records_change_trees, volumes_are_trees};
 use paths::{Found, Parts, Place, refusal_of_new_text};
-use records::kind_at;
+use records::{Failure, kind_at};
 use std::alloc::Global;
 
 /// Takes away the name that a path leads to, of an empty directory, as `unlink` does of another object.
@@ -24,7 +24,7 @@ pub fn remove_directory<B: Blocks>(
     inodes: &mut InodeFile,
     blocks: &mut B,
     path: &[u8],
-) -> Result<Result<Changing, Errno>, ReadError>
+) -> Result<Changing, Failure>
     ensures { Prepares B.Blocks blocks.old blocks.new inodes.old inodes.new
         (λ inodes v table. ComesSwept (removes_directory (tree_of v table) path.now) inodes v table)
         result }
@@ -33,10 +33,10 @@ pub fn remove_directory<B: Blocks>(
     records_change_trees();
     let parts = Parts::of(alloc, path)?;
     if let Some(errno) = refusal_of_new_text(path, &parts) {
-        return Ok(Err(errno));
+        return Err(Failure::Refused(errno));
     }
     if is_root(path) {
-        return Ok(Err(Errno::EBUSY));
+        return Err(Failure::Refused(Errno::EBUSY));
     }
     let place = find(alloc, inodes, blocks, parts, false)?;
     match place {
@@ -46,31 +46,31 @@ pub fn remove_directory<B: Blocks>(
             number,
         } => return remove_entry(alloc, inodes, blocks, trail.here(), name, number),
         // Only the path `/`, which doesn't come here, has no name at its end.
-        Place::Directory(_trail) => return Ok(Err(Errno::EBUSY)),
-        Place::Refusal(errno) => return Ok(Err(errno)),
+        Place::Directory(_trail) => return Err(Failure::Refused(Errno::EBUSY)),
+        Place::Refusal(errno) => return Err(Failure::Refused(errno)),
         Place::Gap {
             trail: _trail,
             name: _name,
-        } => return Ok(Err(Errno::ENOENT)),
+        } => return Err(Failure::Refused(Errno::ENOENT)),
     }
 }
 
-// Takes a name away that is this number's: ENOTDIR where that isn't a directory's, ENOTEMPTY where it has names.
+// Takes a name away that is this number's; ENOTDIR where that isn't a directory's.
 fn remove_entry<B: Blocks>(
     alloc: Global,
     inodes: &mut InodeFile,
     blocks: &mut B,
-    parent: u32,
+    parent: InodeNumber,
     name: Vec<u8>,
-    number: u32,
-) -> Result<Result<Changing, Errno>, ReadError>
+    number: InodeNumber,
+) -> Result<Changing, Failure>
     requires { IsNumber inodes.old.geometry.inodes number }
     ensures { Prepares B.Blocks blocks.old blocks.new inodes.old inodes.new
         (λ inodes v table. RemovesDirectory inodes v parent name.items number) result }
 {
     let found = kind_at(alloc, inodes, blocks, number)?;
     match found {
-        Found::Directory => remove_name(alloc, inodes, blocks, parent, name, Errno::ENOTEMPTY),
-        _ => Ok(Err(Errno::ENOTDIR)),
+        Found::Directory => remove_name(alloc, inodes, blocks, parent, name),
+        _ => Err(Failure::Refused(Errno::ENOTDIR)),
     }
 }

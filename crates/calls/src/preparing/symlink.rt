@@ -10,10 +10,10 @@ ghost use Rattle.calls.specs.Preparing.{Prepares};
 
 use crate::making::make;
 use crate::{Changing, LinkText, OwnedObject};
-use blocktree::ReadError;
 use buffers::Blocks;
 use inofile::InodeFile;
 use model::{Errno, PATH_BYTES};
+use records::Failure;
 use std::alloc::Global;
 
 /// Makes a symbolic link of this text where a path leads, as `make_directory` does a directory.
@@ -23,13 +23,13 @@ pub fn symlink<B: Blocks>(
     blocks: &mut B,
     text: &[u8],
     path: &[u8],
-) -> Result<Result<Changing, Errno>, ReadError>
+) -> Result<Changing, Failure>
     ensures { Prepares B.Blocks blocks.old blocks.new inodes.old inodes.new
         (λ inodes v table. Comes (makes_symlink inodes (tree_of v table) text.now path.now) inodes v
         table) result }
 {
     if let Some(errno) = refusal_of_link_text(text) {
-        return Ok(Err(errno));
+        return Err(Failure::Refused(errno));
     }
     let bytes = Vec::from_slice(alloc, text)?;
     let Some(text) = LinkText::new(bytes) else {

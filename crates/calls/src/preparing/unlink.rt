@@ -1,23 +1,21 @@
 //! Taking a name away over a path, of anything but a directory.
 
-ghost use Rattle.std.specs.Prelude.{IsTrue};
 ghost use Rattle.model.specs.Changing.{unlinks};
+ghost use Rattle.model.specs.Records.{unname};
 ghost use Rattle.model.specs.Volumes.{tree_of};
 ghost use Rattle.paths.specs.Numbers.{IsNumber};
-ghost use Rattle.calls.specs.Changing.{ComesSwept};
+ghost use Rattle.calls.specs.Changing.{ComesSwept, Decides};
 ghost use Rattle.calls.specs.Preparing.{Prepares};
-ghost use Rattle.calls.specs.Refusals.{is_path_refusal};
-ghost use Rattle.calls.specs.Unlink.{RemovesName, UnlinksEntry};
+ghost use Rattle.calls.specs.Unlink.{UnlinksEntry};
 
 use crate::finding::find;
 use crate::{Changing, EntryName, OwnedChange};
-use blocktree::ReadError;
 use buffers::Blocks;
 use inofile::InodeFile;
 use layout::InodeNumber;
 use model::{Errno, records_change_trees, volumes_are_trees};
 use paths::{Found, Parts, Place, refusal_of_new_text};
-use records::{kind_at, prepare_unname};
+use records::{Failure, kind_at, prepare_unname};
 use std::alloc::Global;
 
 /// Takes away the name that a path leads to, of a file or of a symbolic link, which isn't followed, as far as nothing of it is seen
@@ -28,7 +26,7 @@ pub fn unlink<B: Blocks>(
     inodes: &mut InodeFile,
     blocks: &mut B,
     path: &[u8],
-) -> Result<Result<Changing, Errno>, ReadError>
+) -> Result<Changing, Failure>
     ensures { Prepares B.Blocks blocks.old blocks.new inodes.old inodes.new
         (λ inodes v table. ComesSwept (unlinks (tree_of v table) path.now) inodes v table) result }
 {
@@ -36,7 +34,7 @@ pub fn unlink<B: Blocks>(
     records_change_trees();
     let parts = Parts::of(alloc, path)?;
     if let Some(errno) = refusal_of_new_text(path, &parts) {
-        return Ok(Err(errno));
+        return Err(Failure::Refused(errno));
     }
     let place = find(alloc, inodes, blocks, parts, false)?;
     match place {
@@ -45,12 +43,12 @@ pub fn unlink<B: Blocks>(
             name,
             number,
         } => return unlink_entry(alloc, inodes, blocks, trail.here(), name, number),
-        Place::Directory(_trail) => return Ok(Err(Errno::EPERM)),
-        Place::Refusal(errno) => return Ok(Err(errno)),
+        Place::Directory(_trail) => return Err(Failure::Refused(Errno::EPERM)),
+        Place::Refusal(errno) => return Err(Failure::Refused(errno)),
         Place::Gap {
             trail: _trail,
             name: _name,
-        } => return Ok(Err(Errno::ENOENT)),
+        } => return Err(Failure::Refused(Errno::ENOENT)),
     }
 }
 
@@ -59,45 +57,38 @@ fn unlink_entry<B: Blocks>(
     alloc: Global,
     inodes: &mut InodeFile,
     blocks: &mut B,
-    parent: u32,
+    parent: InodeNumber,
     name: Vec<u8>,
-    number: u32,
-) -> Result<Result<Changing, Errno>, ReadError>
+    number: InodeNumber,
+) -> Result<Changing, Failure>
     requires { IsNumber inodes.old.geometry.inodes number }
     ensures { Prepares B.Blocks blocks.old blocks.new inodes.old inodes.new
         (λ inodes v table. UnlinksEntry inodes v parent name.items number) result }
 {
     let found = kind_at(alloc, inodes, blocks, number)?;
     match found {
-        Found::Directory => Ok(Err(Errno::EPERM)),
-        // What stands at a name that is there, and is no directory, can be taken away.
-        _ => remove_name(alloc, inodes, blocks, parent, name, Errno::DAMAGED),
+        Found::Directory => Err(Failure::Refused(Errno::EPERM)),
+        _ => remove_name(alloc, inodes, blocks, parent, name),
     }
 }
 
-/// Prepares that a name is taken away; the refusal `otherwise` where its record doesn't apply.
+/// Prepares that a name is taken away, or tells the first obstacle to its record.
 pub(crate) fn remove_name<B: Blocks>(
     alloc: Global,
     inodes: &mut InodeFile,
     blocks: &mut B,
-    parent: u32,
+    parent: InodeNumber,
     name: Vec<u8>,
-    otherwise: Errno,
-) -> Result<Result<Changing, Errno>, ReadError>
-    requires { IsTrue (is_path_refusal otherwise) }
+) -> Result<Changing, Failure>
     ensures { Prepares B.Blocks blocks.old blocks.new inodes.old inodes.new
-        (λ inodes v table. RemovesName inodes v parent name.items otherwise) result }
+        (λ inodes v table. Decides inodes v (unname parent name.items)) result }
 {
     let Some(name) = EntryName::new(name) else {
-        return Ok(Err(otherwise));
+        return Err(Failure::Refused(Errno::ENOENT));
     };
-    let planned = prepare_unname(alloc, inodes, blocks, parent, &name.bytes)?;
-    let Some(prepared) = planned else {
-        return Ok(Err(otherwise));
-    };
-    let parent = InodeNumber::new(parent);
-    Ok(Ok(Changing {
+    let prepared = prepare_unname(alloc, inodes, blocks, parent, &name.bytes)?;
+    Ok(Changing {
         change: OwnedChange::Unname { parent, name },
         prepared,
-    }))
+    })
 }

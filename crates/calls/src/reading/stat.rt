@@ -11,13 +11,12 @@ ghost use Rattle.calls.specs.Stat.{IsStatOf, TellsStat, stat_reply};
 ghost use Rattle.calls.specs.Seeing.{Answers, Tells};
 
 use crate::leading::lead;
-use blocktree::ReadError;
 use buffers::Blocks;
 use inode::Object;
 use inofile::InodeFile;
-use layout::Kind;
+use layout::{InodeNumber, Kind};
 use model::{Errno, Stat, volumes_tell_links};
-use records::load;
+use records::{Failure, load};
 use std::alloc::Global;
 
 /// What stands where a path leads, where a last symbolic link is followed, or why the call is refused. NoMemory; Device where a
@@ -27,7 +26,7 @@ pub fn stat<B: Blocks>(
     inodes: &mut InodeFile,
     blocks: &mut B,
     path: &[u8],
-) -> Result<Result<Stat, Errno>, ReadError>
+) -> Result<Stat, Failure>
     ensures { Answers B.Blocks blocks.old blocks.new inodes.old inodes.new
         (λ t. stats t true path.now) stat_reply result }
 {
@@ -40,7 +39,7 @@ pub fn lstat<B: Blocks>(
     inodes: &mut InodeFile,
     blocks: &mut B,
     path: &[u8],
-) -> Result<Result<Stat, Errno>, ReadError>
+) -> Result<Stat, Failure>
     ensures { Answers B.Blocks blocks.old blocks.new inodes.old inodes.new
         (λ t. stats t false path.now) stat_reply result }
 {
@@ -54,16 +53,13 @@ fn stat_at<B: Blocks>(
     blocks: &mut B,
     path: &[u8],
     follow: bool,
-) -> Result<Result<Stat, Errno>, ReadError>
+) -> Result<Stat, Failure>
     ensures { Answers B.Blocks blocks.old blocks.new inodes.old inodes.new
         (λ t. stats t follow path.now) stat_reply result }
 {
     volumes_tell_links();
-    let found = lead(alloc, inodes, blocks, path, follow)?;
-    match found {
-        Ok(number) => stat_number(alloc, inodes, blocks, number),
-        Err(errno) => Ok(Err(errno)),
-    }
+    let number = lead(alloc, inodes, blocks, path, follow)?;
+    stat_number(alloc, inodes, blocks, number)
 }
 
 /// What the object with a number is; DAMAGED where there is none. NoMemory; Device where a read failed; Damaged where a block on
@@ -72,21 +68,22 @@ pub fn stat_number<B: Blocks>(
     alloc: Global,
     inodes: &mut InodeFile,
     blocks: &mut B,
-    number: u32,
-) -> Result<Result<Stat, Errno>, ReadError>
+    number: InodeNumber,
+) -> Result<Stat, Failure>
     requires { IsNumber inodes.old.geometry.inodes number }
-    ensures within { IfOk result (λ r. IfOk r (λ s. s.size ≤ GREATEST_FILE)) }
+    ensures within { IfOk result (λ s. s.size ≤ GREATEST_FILE) }
     ensures told { Tells B.Blocks blocks.old blocks.new inodes.old inodes.new
         (λ v. TellsStat v number) result }
 {
     load(alloc, inodes, blocks, number)?;
-    let Some(object) = inodes.get(number) else {
-        return Ok(Err(Errno::DAMAGED));
+    let at = number.get();
+    let Some(object) = inodes.get(at) else {
+        return Err(Failure::Refused(Errno::DAMAGED));
     };
-    let Some(stat) = stat_of(number, object) else {
-        return Ok(Err(Errno::DAMAGED));
+    let Some(stat) = stat_of(at, object) else {
+        return Err(Failure::Refused(Errno::DAMAGED));
     };
-    Ok(Ok(stat))
+    Ok(stat)
 }
 
 // What is told of an object in memory; None where it is one of the file system's own files.

@@ -6,13 +6,13 @@ pub returns-in_err-place : goal.returns-in_err-place
 returns-in_err-place g c = leads_nowhere c.from_residual.result c.from_residual.ensures.1 c.in_err-place.ensures.looks c.in_err-place.ensures.damaged
 
 pub returns-in-Directory : goal.returns-in-Directory
-returns-in-Directory g c = leads_by (search rules) c.in_ok-place.ensures (ap led_of c.in-Directory.is ∙ ap Ok (sym c.here.ensures))
+returns-in-Directory g c = leads_by (search rules) c.in_ok-place.ensures (ap (λ p. Ok (led_of p)) c.in-Directory.is ∙ ap (λ n. Ok (Ok n)) (sym c.here.ensures))
 
 pub returns-in-Entry : goal.returns-in-Entry
-returns-in-Entry g c = leads_by (search rules) c.in_ok-place.ensures (ap led_of c.in-Entry.is)
+returns-in-Entry g c = leads_by (search rules) c.in_ok-place.ensures (ap (λ p. Ok (led_of p)) c.in-Entry.is)
 
 pub returns-in-Refusal : goal.returns-in-Refusal
-returns-in-Refusal g c = leads_by (search rules) c.in_ok-place.ensures (ap led_of c.in-Refusal.is)
+returns-in-Refusal g c = leads_by (search rules) c.in_ok-place.ensures (ap (λ p. Ok (led_of p)) c.in-Refusal.is)
 
 pub returns-in-Gap : goal.returns-in-Gap
-returns-in-Gap g c = leads_by (search rules) c.in_ok-place.ensures (ap led_of c.in-Gap.is)
+returns-in-Gap g c = leads_by (search rules) c.in_ok-place.ensures (ap (λ p. Ok (led_of p)) c.in-Gap.is)

@@ -1,16 +1,20 @@
-use Rattle.std.proofs.Common.{rules, ◌∙◌, ℕ, List, Some, IfOk, sym, ap, subst}
+use Rattle.std.proofs.Common.{rules, ◌≡◌, ◌∙◌, ℕ, List, Some, Err, IfErr, IfOk, inl, refl, sym, ap, subst}
 use Rattle.std.proofs.lemmas.Bool.{false≢true}
 use Rattle.layout.specs.Limits.{Sizes}
-use Rattle.model.specs.Records.{Made, IsMade, is_vacant, node_of}
+use Rattle.model.specs.Records.{Made, IsMade, TakesName, create, is_vacant, node_of}
 use Rattle.model.specs.Volumes.{IsVolume}
+use Rattle.model.specs.declared.errno.Errno.TheVariants.{DIRFULL}
 use Rattle.blocktree.specs.Trees.{IsSoundAt}
 use Rattle.inofile.specs.Objects.{IsObject}
 use Rattle.paths.proofs.Looks.{looks_more}
+use Rattle.records.specs.Failures.{told}
+use Rattle.records.specs.Prepared.{Does}
+use Rattle.records.specs.declared.failure.Failure.{Failure}
+use Rattle.records.specs.declared.prepared.Prepared.{Prepared}
+use Rattle.records.proofs.StandLaws.{looks_of_reads, looks_stays, stands_over, stands_with}
 use Rattle.calls.specs.Changing.{made_by}
 use Rattle.calls.specs.Making.{CreatesObject, IsLeastFree, MakesIn}
-use Rattle.calls.proofs.MakeLaws.{makes_numbered, told_answers}
-use Rattle.calls.proofs.PrepareSteps.{follows, stops, stops_later}
-use Rattle.records.proofs.StandLaws.{looks_of_reads, looks_stays, stands_over, stands_with}
+use Rattle.calls.proofs.PrepareSteps.{fails_by, follows, grants, refuses, stops, stops_later}
 use Rattle.calls.proofs.making.make_in.Goals as goal
 
 pub returns-in_err-new-clause-prepares : goal.returns-in_err-new-clause-prepares
@@ -48,42 +52,53 @@ returns-then-not-vacant-clause-prepares g c = record {
       let read = stands_over c.args.blocks.now c.new_object.new.blocks c.args.inodes.now c.new_object.ensures.reads.count (c.new_object.ensures.reads.same disk stands.shows) stands.volume in
       let now = stands_with c.new_object.new.blocks c.args.inodes.now c.least_free.new.self c.least_free.ensures.volume read in
       let free = c.in-Some.ensures.free _ disk settled v read.volume in
-      absurd (false≢true (sym c.if-not-vacant.true ∙ c.in_ok-vacant.ensures.found disk settled v now ∙ ap is_vacant free));
+      absurd (false≢true (sym c.if-not-vacant.true ∙ c.in_ok-vacant.ensures.found disk settled v now ∙ ap (λ n. is_vacant (v n)) c.new-number.ensures ∙ ap is_vacant free));
 }
+
+pub returns-in_default-new-clause-prepares : goal.returns-in_default-new-clause-prepares
+returns-in_default-new-clause-prepares g c =
+    refuses (looks_more (looks_stays (looks_of_reads c.in_ok-new.ensures.reads) c.least_free.ensures.geometry c.least_free.ensures.volume) c.in_ok-vacant.ensures.looks) refl
+    (λ disk settled v table stands volume mounted. inl (refl, λ takes. c.in_default-new.ensures.none takes.name))
+
+pub returns-in_err-prepared-clause-prepares : goal.returns-in_err-prepared-clause-prepares
+returns-in_err-prepared-clause-prepares g c =
+    let before = looks_more (looks_stays (looks_of_reads c.in_ok-new.ensures.reads) c.least_free.ensures.geometry c.least_free.ensures.volume) c.in_ok-vacant.ensures.looks in
+    let all = c.in_err-prepared.ensures in
+    fails_by {X = Prepared} DIRFULL refl _ c.from_residual-in_err-prepared.result c.from_residual-in_err-prepared.ensures.1 (looks_more before all.looks) all.full
+    (λ disk settled v stands is. all.damaged disk settled v (before.kept disk settled v stands) is)
+    (λ disk settled v table stands volume mounted is.
+    let not = subst (λ (f : Failure). IfOk (told {T = Prepared} (Err f)) (λ r. IfErr r (λ _. TakesName v c.args.parent c.deref.result.now → ⊥))) is
+    (all.refused disk settled v (before.kept disk settled v stands) (subst (λ (s : Sizes). IsVolume s.inodes v) (sym before.geometry) volume)) in
+    inl (refl, subst (λ (x : List ℕ). TakesName v c.args.parent x → ⊥) (c.deref.ensures.value ∙ c.in-Some-new.ensures.some) not))
 
 pub returns-clause-prepares : goal.returns-clause-prepares
 returns-clause-prepares g c =
     let before = looks_more (looks_stays (looks_of_reads c.in_ok-new.ensures.reads) c.least_free.ensures.geometry c.least_free.ensures.volume) c.in_ok-vacant.ensures.looks in
-    record {
-      looks = looks_more before c.make_numbered.ensures.looks;
-      own = c.make_numbered.ensures.own;
-      ready = c.make_numbered.ensures.ready;
-      does = λ disk settled v stands.
-          let read = stands_over {G = g.B.Blocks} c.args.blocks.now c.new_object.new.blocks c.args.inodes.now c.new_object.ensures.reads.count (c.new_object.ensures.reads.same disk stands.shows) stands.volume in
-          let there = λ (k : ℕ). subst (λ (m : Made). IsObject disk k (settled c.in-Some.free) c.in_ok-new.new (Some (node_of m))) c.as_new.ensures.says (c.in_ok-new.ensures.object disk stands.shows k (settled c.in-Some.free)) in
-          c.make_numbered.ensures.does disk settled v (before.kept disk settled v stands) (c.in-Some.ensures.free _ disk settled v read.volume) there;
-      answers = λ disk settled v table stands volume mounted.
-          let read = stands_over {G = g.B.Blocks} c.args.blocks.now c.new_object.new.blocks c.args.inodes.now c.new_object.ensures.reads.count (c.new_object.ensures.reads.same disk stands.shows) stands.volume in
-          let inodes = c.args.inodes.now.geometry.inodes in
-          let made = made_by c.args.object in
-          let all = subst (λ (s : Sizes). IsVolume s.inodes v) (sym before.geometry) volume in
-          let good : IsMade made = subst IsMade c.as_new.ensures.says c.as_new.ensures.good in
-          let least : IsLeastFree inodes v c.in-Some.free = record {
-            low = c.in-Some.ensures.within.0;
-            high = c.in-Some.ensures.within.1;
-            free = c.in-Some.ensures.free _ disk settled v read.volume;
-            least = c.in-Some.ensures.least _ disk settled v read.volume;
-          } in
-          told_answers c.make_numbered.result _ _ (makes_numbered inodes v c.in-Some.free c.args.parent c.args.name.items made good least)
-          (c.make_numbered.ensures.makes disk settled v (before.kept disk settled v stands) all);
-      damaged = λ disk settled v stands is. c.make_numbered.ensures.damaged disk settled v (before.kept disk settled v stands) is;
-    }
+    let made = made_by c.args.object in
+    let name = c.in-Some-new.name.bytes.items in
+    let n = c.new-number.result in
+    grants (looks_more before c.in_ok-prepared.ensures.looks) c.in_ok-prepared.ensures.ready
+    (λ disk settled v stands.
+    let read = stands_over {G = g.B.Blocks} c.args.blocks.now c.new_object.new.blocks c.args.inodes.now c.new_object.ensures.reads.count (c.new_object.ensures.reads.same disk stands.shows) stands.volume in
+    let free = ap v c.new-number.ensures ∙ c.in-Some.ensures.free _ disk settled v read.volume in
+    let there = λ (k : ℕ). subst (λ (m : Made). IsObject disk k (settled n) c.in_ok-new.new (Some (node_of m))) c.as_new.ensures.says (c.in_ok-new.ensures.object disk stands.shows k (settled n)) in
+    subst (λ (x : List ℕ). Does disk settled c.prepare_new.new.inodes v c.in_ok-prepared.prepared (create n c.args.parent made x)) c.deref.ensures.value
+    (c.in_ok-prepared.ensures.does disk settled v made (before.kept disk settled v stands) (ap is_vacant free) there))
+    (λ disk settled v table stands volume mounted.
+    let read = stands_over {G = g.B.Blocks} c.args.blocks.now c.new_object.new.blocks c.args.inodes.now c.new_object.ensures.reads.count (c.new_object.ensures.reads.same disk stands.shows) stands.volume in
+    let least : IsLeastFree c.args.inodes.now.geometry.inodes v c.in-Some.free = record {
+      low = c.in-Some.ensures.within.0;
+      high = c.in-Some.ensures.within.1;
+      free = c.in-Some.ensures.free _ disk settled v read.volume;
+      least = c.in-Some.ensures.least _ disk settled v read.volume;
+    } in (
+      n,
+      ap (create n c.args.parent made) c.in-Some-new.ensures.some,
+      subst IsMade c.as_new.ensures.says c.as_new.ensures.good,
+      subst (λ (x : List ℕ). TakesName v c.args.parent x) (c.deref.ensures.value ∙ c.in-Some-new.ensures.some) (c.in_ok-prepared.ensures.takes disk settled v (before.kept disk settled v stands)),
+      subst (IsLeastFree c.args.inodes.now.geometry.inodes v) (sym c.new-number.ensures) least,
+    ))
 
 pub returns-in_default-clause-creates : goal.returns-in_default-clause-creates
 returns-in_default-clause-creates g c =
-    subst (λ (s : Sizes). IfOk c.refuse_in.result (λ r. IfOk r (λ x. CreatesObject s.inodes x.change))) c.least_free.ensures.geometry c.refuse_in.ensures.creates
-
-pub returns-clause-creates : goal.returns-clause-creates
-returns-clause-creates g c =
-    subst (λ (s : Sizes). IfOk c.make_numbered.result (λ r. IfOk r (λ x. CreatesObject s.inodes x.change)))
-    (c.is_vacant.ensures.looks.geometry ∙ c.least_free.ensures.geometry) c.make_numbered.ensures.creates
+    subst (λ (s : Sizes). IfOk c.refuse_in.result (λ x. CreatesObject s.inodes x.change)) c.least_free.ensures.geometry c.refuse_in.ensures.creates

@@ -1,59 +1,92 @@
-use Rattle.std.proofs.Common.{◌≡◌, ℕ, ◌+◌, List, length, length-append, ap, sym, subst, ◌∙◌, arith, rules}
+use Rattle.std.proofs.Common.{◌≡◌, inl, inr, ℕ, ◌+◌, ◌<◌, ◌≤◌, List, length, refl, sym, subst, ◌∙◌, arith, rules}
+use Rattle.std.proofs.lemmas.Bool.{cases_lt}
+use Rattle.std.proofs.lemmas.List.Elements.{All-from_get_or}
+use Rattle.layout.specs.Pointer.{PointsBelow}
+use Rattle.layout.specs.declared.geometry.TheConstants.{MOST_BLOCKS}
 use Rattle.layout.specs.declared.pointer.Pointer.{Pointer}
 use Rattle.layout.specs.declared.pointer.Pointer.TheVariants.{Hole}
+use Rattle.blocktree.specs.PlaceMaps.{place_at}
+use Rattle.blocktree.proofs.PlaceMapLaws.{changed_all}
 use Rattle.conspoint.specs.Groups.{pointer_at, group, IsGroup, ComesFrom}
-use Rattle.std.proofs.lemmas.List.{get_or_default}
 use Rattle.conspoint.proofs.StepLemmas.{group_more, over_of, places_err, places_none, places_ok, places_out, places_rise}
-use Rattle.conspoint.proofs.GroupLemmas.{placed_more, part_group, part_none, each_more}
+use Rattle.conspoint.proofs.GroupLemmas.{groups_more, placed_more, placed_none, same_group, same_none}
 use Rattle.conspoint.proofs.SumLemmas.{sums_rise}
 use Rattle.conspoint.proofs.group.place_over.Goals as goal
+
+pub place_group-requires : goal.place_group-requires
+place_group-requires c = record {
+  old = c.nodes_of-before.ensures.count;
+  new = c.nodes_of-after.ensures.count;
+  within = All-from_get_or (PointsBelow MOST_BLOCKS) c.nodes_of-after.result Hole
+      (λ i lt. subst (PointsBelow MOST_BLOCKS) (sym (c.nodes_of-after.ensures.nodes i (omega (arith, lt, c.nodes_of-after.ensures.count)))) (c.requires.within _));
+  settled = subst (PointsBelow MOST_BLOCKS) (sym c.at.ensures) (c.requires.settled c.in-Some.j);
+}
+
+pub loop-j-init : goal.loop-j-init
+loop-j-init c = record {
+  low = omega arith;
+  step = λ w counts. places_none c.args.draft.now;
+  behind = λ i le. c.new-over.ensures i;
+  groups = λ e has j lt. absurd (omega (arith, lt));
+  placed = placed_none c.args.draft.now c.args.settled.now c.new-over.result c.new-over.ensures;
+}
 
 pub loop-j-preserved : goal.loop-j-preserved
 loop-j-preserved c =
     let so_far = c.loop-j.invariant in
-    let j = c.loop-j.j in
-    let over = c.loop-j.over.items in
-    let p = c.in_ok-place_group.field-0 in
+    let j = c.in-Some.j in
+    let found = c.in-Some.ensures.found in
     let settled = c.args.settled.now in
-    let now = c.place_group.ensures.step.grows in
-    let before = (so_far.step (λ i. 1) (λ i lt none. absurd (omega (arith, none)))).grows in
-    let settled_is : c.index-settled-j.result ≡ pointer_at settled j = c.index-settled-j.is ∙ get_or_default settled j c.index-settled-j.result Hole c.loop-j-test.true in
-    let from = subst (λ (n : ℕ). ComesFrom c.loop-j.draft c.place_group.new.draft (pointer_at settled n) p) (sym so_far.count) (rw settled_is at c.in_ok-place_group.ensures.from) in
+    let old = c.args.old.now in
+    let new = c.args.new.now in
+    let p = c.in_ok-pointer.pointer in
+    let placed = c.in_ok-pointer.ensures in
+    let put = c.in_ok-set.ensures in
+    let before = c.nodes_of-before in
+    let after = c.nodes_of-after in
     record {
-      step = λ w counts. places_ok (group_more w j (so_far.step w counts) c.in_ok-place_group.ensures.step
-          (λ none. c.in_ok-place_group.ensures.none (part_none c.args.old.now c.args.new.now j (counts j c.loop-j-test.true none))));
-      groups = λ e has. rw c.in_ok-push.ensures.items (each_more (λ i q. IsGroup e (pointer_at settled i) (group c.args.old.now i) (group c.args.new.now i) q) over p j so_far.count (so_far.groups e (now.has e has))
-          (part_group e (pointer_at settled j) p c.args.old.now c.args.new.now j (rw settled_is at (c.in_ok-place_group.ensures.group e has))));
-      count = ap (λ (xs : List Pointer). length xs) c.in_ok-push.ensures.items ∙ length-append over _ ∙ omega (arith, so_far.count);
-      placed = rw c.in_ok-push.ensures.items (placed_more c.args.draft.now c.loop-j.draft c.place_group.new.draft settled over p before now so_far.placed from c.in_ok-place_group.ensures.within);
+      low = omega (arith, found.1);
+      step = λ w counts. places_ok (group_more w j (places_rise (so_far.step w counts) (sums_rise w c.loop-j.from j found.0)) placed.step
+          (λ none. placed.none (same_none (group old j) (pointer_at before.result) (group new j) (pointer_at after.result) before.ensures.nodes after.ensures.nodes (counts j found.1 none))));
+      behind = changed_all (λ k q. j + 1 ≤ k → q ≡ Hole) c.loop-j.over c.set.new.self j p put.there put.others (λ le. absurd (omega (arith, le))) (λ k n le. so_far.behind k (omega (arith, le, found.0)));
+      groups = λ e has. groups_more (λ k q. IsGroup e (place_at settled k) (group old k) (group new k) q) c.loop-j.over c.set.new.self c.loop-j.from j p put.there put.others
+          (so_far.groups e (placed.step.grows.has e has))
+          (λ k le lt. IsGroup.none (so_far.behind k le) (λ i small. c.in-Some.ensures.before k i le lt small))
+          (same_group e (place_at settled j) p (group old j) (pointer_at before.result) (group new j) (pointer_at after.result) before.ensures.nodes after.ensures.nodes
+          (subst (λ (s : Pointer). IsGroup e s (pointer_at before.result) (pointer_at after.result) p) c.at.ensures (placed.group e has)));
+      placed = placed_more c.args.draft.now c.loop-j.draft c.place_group.new.draft settled c.loop-j.over c.set.new.self j p
+          (so_far.step (λ i. 1) (λ i lt none. absurd (omega (arith, none)))).grows placed.step.grows so_far.placed put.there put.others
+          (subst (λ (s : Pointer). ComesFrom c.loop-j.draft c.place_group.new.draft s p) c.at.ensures placed.from) placed.within;
     }
 
-pub returns-clause-groups : goal.returns-clause-groups
-returns-clause-groups c e has j lt = c.loop-j.invariant.groups e has j (omega (arith, lt, c.loop-j-test.false))
-
-pub returns-in_err-place_group-clause-step : goal.returns-in_err-place_group-clause-step
-returns-in_err-place_group-clause-step c = over_of (λ w counts.
-    let most = sums_rise w (c.loop-j.j + 1) (length c.args.settled.now) (omega (arith, c.loop-j-test.true)) in
+pub returns-in_err-pointer-clause-step : goal.returns-in_err-pointer-clause-step
+returns-in_err-pointer-clause-step c = over_of (λ w counts.
+    let so_far = c.loop-j.invariant in
+    let j = c.in-Some.j in
+    let found = c.in-Some.ensures.found in
     places_rise (places_err c.from_residual.result c.from_residual.ensures.1
-    (group_more w c.loop-j.j (c.loop-j.invariant.step w counts) c.in_err-place_group.ensures.step
-    (λ none. c.in_err-place_group.ensures.none (part_none c.args.old.now c.args.new.now c.loop-j.j (counts c.loop-j.j c.loop-j-test.true none))))) most)
+    (group_more w j (places_rise (so_far.step w counts) (sums_rise w c.loop-j.from j found.0)) c.in_err-pointer.ensures.step
+    (λ none. c.in_err-pointer.ensures.none (same_none (group c.args.old.now j) (pointer_at c.nodes_of-before.result) (group c.args.new.now j) (pointer_at c.nodes_of-after.result) c.nodes_of-before.ensures.nodes c.nodes_of-after.ensures.nodes (counts j found.1 none)))))
+    (sums_rise w (j + 1) c.args.groups (omega (arith, found.1))))
 
-pub returns-in_err-push-clause-step : goal.returns-in_err-push-clause-step
-returns-in_err-push-clause-step c = over_of (λ w counts.
-    places_out c.from_residual-in_err-push.result c.from_residual-in_err-push.ensures.1
-    (places_rise (group_more w c.loop-j.j (c.loop-j.invariant.step w counts) c.in_ok-place_group.ensures.step
-    (λ none. c.in_ok-place_group.ensures.none (part_none c.args.old.now c.args.new.now c.loop-j.j (counts c.loop-j.j c.loop-j-test.true none))))
-    (sums_rise w (c.loop-j.j + 1) (length c.args.settled.now) (omega (arith, c.loop-j-test.true)))))
+pub returns-in_err-set-clause-step : goal.returns-in_err-set-clause-step
+returns-in_err-set-clause-step c = over_of (λ w counts.
+    let so_far = c.loop-j.invariant in
+    let j = c.in-Some.j in
+    let found = c.in-Some.ensures.found in
+    places_out c.from_residual-in_err-set.result c.from_residual-in_err-set.ensures.1
+    (places_rise (group_more w j (places_rise (so_far.step w counts) (sums_rise w c.loop-j.from j found.0)) c.in_ok-pointer.ensures.step
+    (λ none. c.in_ok-pointer.ensures.none (same_none (group c.args.old.now j) (pointer_at c.nodes_of-before.result) (group c.args.new.now j) (pointer_at c.nodes_of-after.result) c.nodes_of-before.ensures.nodes c.nodes_of-after.ensures.nodes (counts j found.1 none))))
+    (sums_rise w (j + 1) c.args.groups (omega (arith, found.1)))))
 
 pub returns-clause-step : goal.returns-clause-step
-returns-clause-step c = over_of (λ w counts.
-    let most = sums_rise w c.loop-j.j (length c.args.settled.now) (omega arith) in
-    places_rise (places_ok (c.loop-j.invariant.step w counts)) most)
+returns-clause-step c = over_of (λ w counts. places_rise (places_ok (c.loop-j.invariant.step w counts)) (sums_rise w c.loop-j.from c.args.groups c.loop-j.invariant.low))
 
-pub loop-j-init : goal.loop-j-init
-loop-j-init c = record {
-  step = λ w counts. places_none c.args.draft.now;
-  groups = search rules;
-  count = search rules;
-  placed = search rules;
-}
+pub returns-clause-end : goal.returns-clause-end
+returns-clause-end c = λ i le. c.loop-j.invariant.behind i (omega (arith, le, c.loop-j.invariant.low))
+
+pub returns-clause-groups : goal.returns-clause-groups
+returns-clause-groups c e has j lt = elim (cases_lt j c.loop-j.from) [
+  | inl done ↦ c.loop-j.invariant.groups e has j done
+  | inr more ↦ IsGroup.none (c.loop-j.invariant.behind j more) (λ i small. c.in_default.ensures.none j i more lt small)
+]

@@ -1,14 +1,19 @@
-use Rattle.std.proofs.Common.{◌≡◌, ℕ, ◌<◌, Ok, length}
+use Rattle.std.proofs.Common.{ℕ, ◌-◌, ◌<◌, ◌≤◌, Ok}
+use Rattle.blocktree.specs.PlaceMaps.{EndBefore, place_at}
 use Rattle.conspoint.specs.Drafts.{OnEach}
-use Rattle.conspoint.specs.Groups.{pointer_at, group, IsGroup, ArePlaced}
+use Rattle.conspoint.specs.Groups.{group, IsGroup, ArePlaced}
 use Rattle.conspoint.specs.Space.{CountsGroups, sum_below}
 use Rattle.conspoint.specs.Steps.{Places}
 use Rattle.conspoint.proofs.group.place_over.Given as goal
 
 abbrev pub invariant-loop-j : goal.invariant-loop-j
 invariant-loop-j l = record {
-  step : (w : ℕ → ℕ) → CountsGroups w (length l.settled) (group l.old) (group l.new) → Places {T = Unit {0}} (sum_below w l.j) l.fn.draft l.draft (Ok tt);
-  groups : OnEach l.draft (λ e. (j : ℕ) → j < l.j → IsGroup e (pointer_at l.settled j) (group l.old j) (group l.new j) (pointer_at l.over.items j));
-  count : length l.over.items ≡ l.j;
-  placed : ArePlaced l.fn.draft l.draft l.settled l.over.items;
+  low : l.from ≤ l.groups;
+  step : (w : ℕ → ℕ) → CountsGroups w l.groups (group l.old) (group l.new) → Places {T = Unit {0}} (sum_below w l.from) l.fn.draft l.draft (Ok tt);
+  behind : EndBefore l.from l.over;
+  groups : OnEach l.draft (λ e. (j : ℕ) → j < l.from → IsGroup e (place_at l.settled j) (group l.old j) (group l.new j) (place_at l.over j));
+  placed : ArePlaced l.fn.draft l.draft l.settled l.over;
 }
+
+abbrev pub decreases-loop-j : goal.decreases-loop-j
+decreases-loop-j l = l.groups - l.from

@@ -1,5 +1,5 @@
-use Rattle.std.proofs.Common.{sym, subst, ◌∙◌, ◌<◌, arith}
-use Rattle.model.specs.Volumes.{Volume}
+use Rattle.std.proofs.Common.{ℕ, false, sym, subst, ◌∙◌, ◌<◌, arith}
+use Rattle.model.specs.Volumes.{Volume, swept_node, with_node}
 use Rattle.inofile.specs.Volumes.{IsVolumeOf}
 use Rattle.descriptors.specs.Files.{figures_of}
 use Rattle.descriptors.specs.Tables.{table_of}
@@ -11,7 +11,7 @@ pub returns-then-not-is_open-clause-volume : goal.returns-then-not-is_open-claus
 returns-then-not-is_open-clause-volume c = λ count disk settled v stands is.
     let closed = sym c.is_open.ensures ∙ c.if-not-is_open.true in
     subst (λ (w : Volume). IsVolumeOf count disk settled c.drop_nameless.new.inodes w) (drops (table_of c.args.table.now) c.args.file.now.number v closed)
-    (c.drop_nameless.ensures.volume count disk settled v stands)
+    (subst (λ (n : ℕ). IsVolumeOf count disk settled c.drop_nameless.new.inodes (with_node n (swept_node false (v n)) v)) c.new.ensures (c.drop_nameless.ensures.volume count disk settled v stands))
 
 pub returns-else-file-eq0-clause-volume : goal.returns-else-file-eq0-clause-volume
 returns-else-file-eq0-clause-volume c = λ count disk settled v stands is.

@@ -1,29 +1,22 @@
 use Rattle.std.proofs.Common.{◌≡◌, ◌||◌, Bool, ℕ, ℤ, nat_abs, w64, Ok, ap, subst, ◌∙◌}
 use Rattle.std.proofs.lemmas.Int.{to_z-of_z}
-use Rattle.std.proofs.lemmas.Result.{IfOk-weaker}
 use Rattle.model.specs.Reading.{is_negative, is_too_many}
 use Rattle.descriptors.specs.Files.{figures_of}
 use Rattle.files.specs.Reading.{PassesOpen, ReadsFile, read_tests}
 use Rattle.descriptors.proofs.FitLemmas.{figured_file}
+use Rattle.files.proofs.Preparing.{sees}
 use Rattle.files.proofs.ReadLaws.{pread_told}
 use Rattle.files.proofs.reading.pread.Goals as goal
 
 pub returns : goal.returns
 returns g c =
     let table = c.args.table.now in
-    let f = c.in-Ok.file in
+    let f = c.in_ok-file.file in
     let back = to_z-of_z w64 c.args.offset c.ranges.offset in
     let wrong : c.is_no_range.result ≡ (is_negative c.args.offset || is_too_many c.args.count) =
     c.is_no_range.ensures ∙ ap (λ (z : ℤ). is_negative z || is_too_many c.args.count) back in
-    let opened = subst (λ (b : Bool). PassesOpen (read_tests b) table c.args.fd (Ok f)) wrong c.in-Ok.ensures.passes in
+    let opened = subst (λ (b : Bool). PassesOpen (read_tests b) table c.args.fd (Ok f)) wrong c.in_ok-file.ensures.passes in
     let start : c.unsigned_abs.result ≡ nat_abs c.args.offset = c.unsigned_abs.ensures.value ∙ ap nat_abs back in
-    record {
-      looks = c.read_file.ensures.looks;
-      own = c.read_file.ensures.own;
-      answers = λ disk settled v stands volume mounted fits.
-          let is = figured_file (v f.number) (figures_of f) (fits.files c.args.fd f opened.0) in
-          IfOk-weaker c.read_file.result _ _
-          (λ r reads. pread_told table v c.args.fd c.args.offset c.args.count f r opened (subst (λ (n : ℕ). ReadsFile v f.number n c.args.count r) start (reads is)))
-          (c.read_file.ensures.tells disk settled v stands);
-      damaged = c.read_file.ensures.damaged;
-    }
+    sees c.read_file.ensures (λ disk settled v stands volume mounted fits r reads.
+    let is = figured_file (v f.number) (figures_of f) (fits.files c.args.fd f opened.0) in
+    pread_told table v c.args.fd c.args.offset c.args.count f r opened (subst (λ (n : ℕ). ReadsFile v f.number n c.args.count r) start (reads is)))

@@ -10,13 +10,13 @@ use Rattle.files.proofs.writing.prepare_pwrite.Goals as goal
 pub returns : goal.returns
 returns g c =
     let table = c.args.table.now in
-    let f = c.in-Ok.file in
+    let f = c.in_ok-file.file in
     let inodes = c.args.inodes.now.geometry.inodes in
     let bytes = c.args.bytes.now in
     let back = to_z-of_z w64 c.args.offset c.ranges.offset in
-    let wrong : c.is_no_range-is_wrong.result ≡ (is_negative c.args.offset || is_too_many (length bytes)) =
-    c.is_no_range-is_wrong.ensures ∙ ap (λ (z : ℤ). is_negative z || is_too_many (length bytes)) back in
-    let opened = subst (λ (b : Bool). PassesOpen (write_tests b) table c.args.fd (Ok f)) wrong c.in-Ok.ensures.passes in
+    let wrong : c.is_no_range.result ≡ (is_negative c.args.offset || is_too_many (length bytes)) =
+    c.is_no_range.ensures ∙ ap (λ (z : ℤ). is_negative z || is_too_many (length bytes)) back in
+    let opened = subst (λ (b : Bool). PassesOpen (write_tests b) table c.args.fd (Ok f)) wrong c.in_ok-file.ensures.passes in
     let start : c.unsigned_abs.result ≡ nat_abs c.args.offset = c.unsigned_abs.ensures.value ∙ ap nat_abs back in
     written_through table c.args.fd f c.unsigned_abs.result bytes opened.0 c.write_file.ensures (λ disk settled v stands volume mounted fits r put.
     pwrite_told inodes v table c.args.fd f bytes opened.0 fits c.args.offset r opened (subst (λ (n : ℕ). PutsFile inodes v (table_of table) f n bytes r) start put))

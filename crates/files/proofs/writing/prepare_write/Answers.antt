@@ -7,8 +7,8 @@ use Rattle.files.proofs.writing.prepare_write.Goals as goal
 pub returns : goal.returns
 returns g c =
     let table = c.args.table.now in
-    let f = c.in-Ok.file in
-    let opened = c.in-Ok.ensures.passes in
+    let f = c.in_ok-file.file in
+    let opened = c.in_ok-file.ensures.passes in
     let bytes = c.args.bytes.now in
     written_through table c.args.fd f c.place_of.result bytes opened.0 c.write_file.ensures (λ disk settled v stands volume mounted fits r put.
     write_told c.args.inodes.now.geometry.inodes v table c.args.fd f bytes opened.0 fits r opened (subst (λ (n : ℕ). PutsFile c.args.inodes.now.geometry.inodes v (table_of table) f n bytes r) c.place_of.ensures put))

@@ -1,3 +1,6 @@
+use Rattle.std.proofs.Common.{ℕ, subst}
+use Rattle.std.specs.Prelude.{OnOk}
+use Rattle.inofile.specs.Inodes.{IsKnown}
 use Rattle.paths.proofs.Looks.{stands_over}
 use Rattle.paths.proofs.loading.load.Goals as goal
 
@@ -11,6 +14,6 @@ returns g c = record {
         (c.load.ensures.volume disk settled v stands.shows stands.volume);
   };
   loads = record { known = c.load.ensures.stays; room = c.load.ensures.keeps; changed = c.load.ensures.changed };
-  known = c.load.ensures.known;
+  known = subst (λ (k : ℕ). OnOk c.load.result (IsKnown c.load.new.self k)) c.get.ensures c.load.ensures.known;
   damaged = λ disk settled v stands is. c.load.ensures.damaged disk settled stands.shows is stands.volume.inodes;
 }

@@ -28,7 +28,7 @@ pub returns : goal.returns
 returns g c =
     let same : c.load.new.inodes.geometry.inodes ≡ c.inodes-count.result = sym (c.inodes-count.ensures.value ∙ ap (λ s. s.inodes) c.geometry.ensures) in
     let kind : c.in-Some.object.now.attributes.kind ≡ kinds.Directory = search rules in
-    record {
+    rw c.numbered.ensures (record {
       looks = looks_reads c.in_ok-load.ensures.looks c.find.ensures.reads;
       loads = c.load.ensures.loads;
       within = search rules;
@@ -46,4 +46,4 @@ returns g c =
           c.find.ensures.damaged disk now.shows is
           (λ i below. c.objects_stand_in_their_grammar.ensures _ disk settled c.load.new.inodes v c.args.directory i o (v c.args.directory) now.volume is_object)
           (subst (λ n. AreDirectoryBlocks n (o.file.size / 4096) (file_block disk o.file)) same blocks);
-    }
+    })

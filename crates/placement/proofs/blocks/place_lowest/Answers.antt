@@ -1,18 +1,55 @@
-use Rattle.std.proofs.Common.{All, List, sym, subst}
-use Rattle.layout.specs.Pointer.{PointsBelow}
+use Rattle.std.proofs.Common.{◌≡◌, ℕ, ap, sym, ◌∙◌, arith}
+use Rattle.std.specs.Prelude.{min, nat_lt, if◌then◌else◌}
+use Rattle.layout.specs.Places.{pointed}
 use Rattle.layout.specs.declared.geometry.TheConstants.{MOST_BLOCKS}
-use Rattle.layout.specs.declared.pointer.Pointer.{Pointer}
-use Rattle.placement.proofs.PlacedLaws.{wider, kept_same, placed_at}
+use Rattle.layout.specs.declared.pointer.Pointer.TheVariants.{Hole}
+use Rattle.blocktree.specs.PlaceMaps.{place_at}
+use Rattle.conspoint.specs.Blocks.{changed_or}
+use Rattle.placement.specs.Nodes.{node}
+use Rattle.placement.proofs.PlacedLaws.{kept_as, kept_below, kept_end, kept_first, kept_same, placed_at, wider}
 use Rattle.placement.proofs.blocks.place_lowest.Goals as goal
+use Rattle.placement.proofs.blocks.place_lowest.Goals.{In_ok-below}
 
-pub place_blocks-requires-clause-within : goal.place_blocks-requires-clause-within
-place_blocks-requires-clause-within c =
+-- the settled blocks that count still
+below_is : (c : In_ok-below) → (i : ℕ) → place_at c.in_ok-below.below i ≡ (if nat_lt i (min c.args.tree.now.kept c.args.count) then node c.args.settled.now 0 i else Hole)
+below_is c =
+    kept_as (place_at c.height.result.now) (node c.args.settled.now 0) c.in_ok-below.below c.min-kept.result (min c.args.tree.now.kept c.args.count)
+    (c.min-kept.ensures ∙ ap (λ (k : ℕ). min k c.args.count) c.kept.ensures.value) c.height.ensures c.in_ok-below.ensures.each
+
+pub place_blocks-requires : goal.place_blocks-requires
+place_blocks-requires c =
     let count = c.args.draft.now.map.count in
-    subst (λ (xs : List Pointer). All (PointsBelow MOST_BLOCKS) xs) (sym c.deref.ensures.value)
-    (wider count MOST_BLOCKS c.in_ok-kept.kept.items c.args.draft.now.map.most (c.in_ok-kept.ensures.within count c.requires.within))
+    let settled = node c.args.settled.now 0 in
+    let below = c.in_ok-below.below in
+    let kept = min c.args.tree.now.kept c.args.count in
+    let each = below_is (goal.at.place_blocks-requires c).In_ok-below in
+    record {
+      within = wider count MOST_BLOCKS below c.args.draft.now.map.most (kept_below count settled below kept each (c.requires.settled 0));
+      end = kept_end settled below kept c.args.count (omega arith) each;
+    }
 
 pub returns-clause-placed : goal.returns-clause-placed
 returns-clause-placed c =
-    let kept = c.in_ok-kept.kept.items in
-    placed_at c.args.draft.now c.place_blocks.new.draft c.args.settled.now kept c.in_ok-nodes.nodes.items (c.in_ok-kept.ensures.within c.args.draft.now.map.count c.requires.within)
-    (kept_same c.args.settled.now kept c.kept.result c.args.count c.in_ok-kept.ensures.count c.in_ok-kept.ensures.each) (rw c.deref.ensures.value at c.in_ok-nodes.ensures.placed)
+    let count = c.args.draft.now.map.count in
+    let settled = node c.args.settled.now 0 in
+    let below = c.in_ok-below.below in
+    let kept = min c.args.tree.now.kept c.args.count in
+    let each = below_is (goal.at.returns-clause-placed c).In_ok-below in
+    placed_at c.args.draft.now c.place_blocks.new.draft settled below c.in_ok-nodes.nodes
+    (kept_below count settled below kept each (c.requires.settled 0)) (kept_same settled below kept each) c.in_ok-nodes.ensures.placed
+
+pub returns-clause-unchanged : goal.returns-clause-unchanged
+returns-clause-unchanged c = λ i lt not.
+    c.in_ok-nodes.ensures.unchanged i not
+    ∙ kept_first (node c.args.settled.now 0) c.in_ok-below.below c.args.tree.now.kept c.args.count i (below_is (goal.at.returns-clause-unchanged c).In_ok-below) lt
+
+pub returns-clause-holes : goal.returns-clause-holes
+returns-clause-holes c = λ i lt hole.
+    sym (kept_first (node c.args.settled.now 0) c.in_ok-below.below c.args.tree.now.kept c.args.count i (below_is (goal.at.returns-clause-holes c).In_ok-below) lt)
+    ∙ c.in_ok-nodes.ensures.holes i hole
+
+pub returns-clause-blocks : goal.returns-clause-blocks
+returns-clause-blocks c = λ e has i lt le.
+    let t = c.args.tree.now in
+    c.in_ok-nodes.ensures.blocks e has i lt le
+    ∙ ap (λ p. changed_or t i (pointed e p)) (kept_first (node c.args.settled.now 0) c.in_ok-below.below t.kept c.args.count i (below_is (goal.at.returns-clause-blocks c).In_ok-below) lt)

@@ -1,18 +1,28 @@
-use Rattle.std.proofs.Common.{rules, ℕ, ◌<◌, subst, arith}
+use Rattle.std.proofs.Common.{rules, ℕ, ◌<◌, List, length, ap, subst, arith}
 use Rattle.blocktree.specs.Places.{IsPath}
-use Rattle.placement.proofs.SettledLaws.{paths_sound}
+use Rattle.blocktree.specs.declared.place_map.PlaceMap.{PlaceMap}
+use Rattle.placement.proofs.PlacedLaws.{node_over, none_laid}
+use Rattle.placement.proofs.SettledLaws.{NodeLaws, paths_sound}
 use Rattle.placement.proofs.StepLaws.{both_err, both_ok, place_ended, read_ended, reads_nothing}
 use Rattle.placement.proofs.file.lay.Goals as goal
 
 pub returns-then-level_of-eq0-clause-stands : goal.returns-then-level_of-eq0-clause-stands
 returns-then-level_of-eq0-clause-stands g c = λ s disk base shows change known e has same. c.in_ok-small.ensures.stands s disk e shows change.ends
 
+pub returns-then-level_of-eq0-clause-placed : goal.returns-then-level_of-eq0-clause-placed
+returns-then-level_of-eq0-clause-placed g c = none_laid c.args.draft.now c.args.settled.now c.in_ok-small.small.nodes (omega (arith, ap (λ (xs : List PlaceMap). length xs) c.in_ok-small.ensures.none))
+
+pub returns-then-level_of-eq0-clause-short : goal.returns-then-level_of-eq0-clause-short
+returns-then-level_of-eq0-clause-short g c = λ m i past. node_over c.in_ok-small.small.nodes m i (omega (arith, ap (λ (xs : List PlaceMap). length xs) c.in_ok-small.ensures.none))
+
 pub returns-in_err-small-clause-damaged : goal.returns-in_err-small-clause-damaged
 returns-in_err-small-clause-damaged g c = λ s disk base shows change blocks bad.
+    let law = c.nodes_are_where_pointers_lead.ensures in
+    let laws : NodeLaws = record { places = law.places; paths = law.paths; past = law.past; above = law.above } in
     let t = c.args.object.now.file.tree in
     c.in_err-small.ensures.damaged disk shows (search rules)
     (λ not kept. let low : 0 < t.count = omega (arith, kept, t.fits.1) in
-    subst (λ (n : ℕ). IsPath n disk t.pointers t.depth t.count 0) blocks (paths_sound s disk base t change.based change.sound 0 low))
+    subst (λ (n : ℕ). IsPath n disk t.pointers t.depth t.count 0) blocks (paths_sound laws s disk base t change.based change.sound 0 low))
 
 pub returns-clause-stands : goal.returns-clause-stands
 returns-clause-stands g c = λ s disk base shows change known. c.in_ok-laid.ensures.stands s disk base change known

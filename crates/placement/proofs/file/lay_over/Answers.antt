@@ -1,7 +1,52 @@
-use Rattle.std.proofs.Common.{ℕ, All, sym, subst}
-use Rattle.layout.specs.Pointer.{PointsBelow}
+use Rattle.std.proofs.Common.{rules, ◌≡◌, ℕ, ◌-◌, ◌≤◌, ap, subst, ◌∙◌, arith}
+use Rattle.layout.specs.Places.{pointed}
+use Rattle.layout.specs.Version.{level_of}
+use Rattle.blocktree.specs.Names.{nodes_at}
+use Rattle.blocktree.specs.Places.{block_count}
+use Rattle.conspoint.specs.Groups.{group}
+use Rattle.conspoint.proofs.StepLemmas.{places_err, places_ok}
+use Rattle.placement.specs.Nodes.{ArePlacedIn, height_of, node, under}
+use Rattle.placement.proofs.HeldLaws.{nodes_same, top_few, top_of}
+use Rattle.placement.proofs.PlacedLaws.{all_within}
+use Rattle.placement.proofs.RaiseLaws.{heights_as}
+use Rattle.placement.proofs.StandLaws.{laid_stands}
 use Rattle.placement.proofs.file.lay_over.Goals as goal
 
-pub returns-then-level_of-eq1-clause-stands : goal.returns-then-level_of-eq1-clause-stands
-returns-then-level_of-eq1-clause-stands c = λ s disk base blocks sound known e has same block leads.
-    c.lay_direct.ensures.stands s e block (subst (λ (n : ℕ). All (PointsBelow n) c.args.blocks.items) (sym blocks) c.requires.blocks) leads
+pub body_of-requires : goal.body_of-requires
+body_of-requires c = λ i le.
+    let size = c.args.object.now.file.size in
+    let top = top_few size (level_of size - 1) c.args.object.now.file.within (top_of size c.requires.level) in
+    let few : nodes_at (block_count size) (level_of size - 1) ≤ i = omega (arith, le, top) in
+    let level : c.from-level.result ≡ level_of size = search rules in
+    let count : nodes_at c.block_count.result (c.from-level.result - 1) ≡ nodes_at (block_count size) (level_of size - 1) = ap (λ (n : ℕ). nodes_at n (c.from-level.result - 1)) c.block_count.ensures ∙ ap (λ (n : ℕ). nodes_at (block_count size) (n - 1)) level in
+    c.height-highest.ensures i ∙ c.in_ok-nodes.ensures.end (c.from-level.result - 1) i (omega (arith, few, count))
+
+pub returns-clause-stands : goal.returns-clause-stands
+returns-clause-stands c = λ s disk base blocks sound known e has same block leads.
+    let o = c.args.object.now in
+    let size = o.file.size in
+    let n = c.in_ok-nodes.nodes in
+    let raised = c.in_ok-nodes.ensures in
+    let level : c.from-level.result ≡ level_of size = search rules in
+    let heights : height_of n ≡ level_of size = raised.heights ∙ level in
+    let top = top_of size c.requires.level in
+    laid_stands s disk e base o c.args.settled.now sound known same block c.body_of.result n (level_of size - 1) top (heights ∙ top)
+    (all_within s.blocks (level_of size) c.args.draft.now c.raise_all.new.draft c.args.settled.now n c.args.blocks blocks heights c.requires.blocks raised.lowest (subst (λ (k : ℕ). ArePlacedIn 1 k c.args.draft.now c.raise_all.new.draft c.args.settled.now n) level raised.placed))
+    (λ m i past. raised.end m i (omega (arith, past, nodes_same size m, ap (λ (n : ℕ). nodes_at n m) c.block_count.ensures)))
+    c.body_of.ensures.count
+    (λ i. c.body_of.ensures.each i ∙ c.height-highest.ensures i ∙ ap (λ (k : ℕ). node n (k - 1) i) level)
+    (raised.over e has)
+    (λ i. ap (pointed e) (raised.lowest i) ∙ leads i)
+
+pub returns-in_err-nodes-clause-step : goal.returns-in_err-nodes-clause-step
+returns-in_err-nodes-clause-step c = λ w counts.
+    let size = c.args.object.now.file.size in
+    let level : c.from-level.result ≡ level_of size = search rules in
+    places_err c.from_residual.result c.from_residual.ensures.1
+    (heights_as (block_count size) c.block_count.result (level_of size) c.from-level.result (under c.args.settled.now 0) (group c.args.blocks) c.block_count.ensures level c.in_err-nodes.ensures.step w counts)
+
+pub returns-clause-step : goal.returns-clause-step
+returns-clause-step c = λ w counts.
+    let size = c.args.object.now.file.size in
+    let level : c.from-level.result ≡ level_of size = search rules in
+    places_ok (heights_as (block_count size) c.block_count.result (level_of size) c.from-level.result (under c.args.settled.now 0) (group c.args.blocks) c.block_count.ensures level c.in_ok-nodes.ensures.step w counts)

@@ -1,20 +1,19 @@
-use Rattle.std.proofs.Common.{◌≡◌, Contains, ◌∙◌}
-use Rattle.std.proofs.lemmas.List.{get_or_default}
-use Rattle.layout.specs.declared.pointer.Pointer.TheVariants.{Hole}
-use Rattle.conspoint.specs.Groups.{pointer_at}
+use Rattle.std.proofs.Common.{Contains}
+use Rattle.blocktree.proofs.WalkLaws.{node_below}
+use Rattle.placement.specs.Nodes.{node}
 use Rattle.placement.proofs.ListLaws.{left_more, left_all}
-use Rattle.placement.proofs.PlacedLaws.{pointer_below}
 use Rattle.placement.proofs.nodes.add_left.Goals as goal
 
-pub loop-i-preserved : goal.loop-i-preserved
-loop-i-preserved c =
-    let from = c.args.from.now in
-    let here : c.index-from-i.result ≡ pointer_at from c.loop-i.i = c.index-from-i.is ∙ get_or_default from c.loop-i.i c.index-from-i.result Hole c.loop-i-test.true in
+pub loop-next-preserved : goal.loop-next-preserved
+loop-next-preserved c =
+    let n = c.in-Some.node in
+    let found = c.in-Some.ensures.found in
     record {
-      left = λ b. left_more c.loop-i.i b from c.args.to.now c.index-from-i.result c.pointer_or_hole.result (Contains c.args.blocks.now.items b) (Contains c.loop-i.blocks.items b) (Contains c.add_one.new.blocks.items b) here
-          c.pointer_or_hole.ensures.value (c.loop-i.invariant.left b) (c.in_ok-add_one.ensures.left b);
-      within = λ count all low. let one = pointer_below count from c.loop-i.i all in c.add_one.ensures.within count (rw here one) (c.loop-i.invariant.within count all low);
+      left = λ b. left_more c.loop-next.next n.index n.place b c.args.from.now (node c.args.to.now c.args.height) (Contains c.args.blocks.now.items b) (Contains c.loop-next.blocks.items b) (Contains c.add_moved.new.blocks.items b)
+          found.0 c.in-Some.ensures.before found.2 (c.loop-next.invariant.left b) (rw c.at.ensures at (c.in_ok-add_moved.ensures.left b));
+      within = λ count all low. c.add_moved.ensures.within count (node_below count _ n.place found.2 (all n.index)) (c.loop-next.invariant.within count all low);
     }
 
 pub returns-clause-left : goal.returns-clause-left
-returns-clause-left c = λ b. left_all c.loop-i.i b c.args.from.now c.args.to.now (Contains c.args.blocks.now.items b) (Contains c.loop-i.blocks.items b) c.loop-i-test.false (c.loop-i.invariant.left b)
+returns-clause-left c = λ b.
+    left_all c.loop-next.next c.args.count b c.args.from.now (node c.args.to.now c.args.height) (Contains c.args.blocks.now.items b) (Contains c.loop-next.blocks.items b) c.in_default.ensures.none c.requires (c.loop-next.invariant.left b)

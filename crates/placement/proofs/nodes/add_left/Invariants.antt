@@ -1,10 +1,14 @@
-use Rattle.std.proofs.Common.{◌↔◌, ◌⊎◌, ℕ, ◌<◌, All, Contains}
-use Rattle.layout.specs.Pointer.{PointsBelow}
+use Rattle.std.proofs.Common.{◌↔◌, ◌⊎◌, ℕ, ◌-◌, ◌<◌, All, Contains}
+use Rattle.blocktree.specs.PlaceMaps.{AreBelow}
+use Rattle.placement.specs.Nodes.{node}
 use Rattle.placement.proofs.ListLaws.{HasLeftBelow}
 use Rattle.placement.proofs.nodes.add_left.Given as goal
 
-abbrev pub invariant-loop-i : goal.invariant-loop-i
-invariant-loop-i l = record {
-  left : (b : ℕ) → Contains l.blocks.items b ↔ (Contains l.fn.blocks.items b ⊎ HasLeftBelow l.i l.from l.to b);
-  within : (count : ℕ) → All (PointsBelow count) l.from → All (λ b. b < count) l.fn.blocks.items → All (λ b. b < count) l.blocks.items;
+abbrev pub invariant-loop-next : goal.invariant-loop-next
+invariant-loop-next l = record {
+  left : (b : ℕ) → Contains l.blocks.items b ↔ (Contains l.fn.blocks.items b ⊎ HasLeftBelow l.next l.from (node l.to l.height) b);
+  within : (disk : ℕ) → AreBelow disk l.from → All (λ b. b < disk) l.fn.blocks.items → All (λ b. b < disk) l.blocks.items;
 }
+
+abbrev pub decreases-loop-next : goal.decreases-loop-next
+decreases-loop-next l = l.count - l.next

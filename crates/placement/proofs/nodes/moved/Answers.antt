@@ -1,13 +1,15 @@
-use Rattle.std.proofs.Common.{◌≡◌, ℕ, List, [], length, Contains, ap, arith}
-use Rattle.placement.specs.Nodes.{HasLeft}
-use Rattle.placement.proofs.ListLaws.{left_both}
+use Rattle.std.proofs.Common.{rules, Contains, arith}
+use Rattle.placement.proofs.ListLaws.{moved_more, moved_all, moved_none}
 use Rattle.placement.proofs.nodes.moved.Goals as goal
 
-none_in : (xs : List ℕ) (b : ℕ) → xs ≡ [] → Contains xs b → ⊥
-none_in xs b empty has = let none : length xs ≡ 0 = ap (λ (ys : List ℕ). length ys) empty in absurd (omega (arith, has.1, none))
+pub loop-height-init : goal.loop-height-init
+loop-height-init c = record { moved = λ b. moved_none c.new-blocks.result.items b c.args.from.now c.args.to.now c.new-blocks.ensures.items; within = search rules }
+
+pub loop-height-preserved : goal.loop-height-preserved
+loop-height-preserved c = record {
+  moved = λ b. moved_more c.loop-height.height b c.args.from.now c.args.to.now c.height.result.now (Contains c.loop-height.blocks.items b) (Contains c.add_left.new.blocks.items b) c.height.ensures (c.loop-height.invariant.moved b) (c.in_ok-add_left.ensures.left b);
+  within = λ count all. c.add_left.ensures.within count (λ i. rw c.height.ensures (all c.loop-height.height i)) (c.loop-height.invariant.within count all);
+}
 
 pub returns-clause-moved : goal.returns-clause-moved
-returns-clause-moved c = λ b.
-    left_both (Contains c.new-blocks.result.items b) (Contains c.add_left.new.blocks.items b) (Contains c.add_left-2.new.blocks.items b) (HasLeft c.args.from.now.blocks.items c.args.to.now.blocks.items b)
-    (HasLeft c.args.from.now.over.items c.args.to.now.over.items b) (none_in c.new-blocks.result.items b c.new-blocks.ensures.items)
-    (rw (c.deref.ensures.value, c.deref-2.ensures.value) at (c.in_ok-add_left.ensures.left b)) (rw (c.deref-3.ensures.value, c.deref-4.ensures.value) at (c.in_ok-add_left-2.ensures.left b))
+returns-clause-moved c = λ b. moved_all c.loop-height.height b c.args.from.now c.args.to.now (Contains c.loop-height.blocks.items b) (omega arith) (c.loop-height.invariant.moved b)

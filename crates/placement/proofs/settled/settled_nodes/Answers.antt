@@ -1,38 +1,58 @@
-use Rattle.std.proofs.Common.{rules, ◌≡◌, ℕ, ◌-◌, ◌<◌, length, ap, subst, ◌∙◌, arith}
+use Rattle.std.proofs.Common.{rules, ◌≡◌, inl, inr, ℕ, suc, ◌+◌, ◌-◌, ◌<◌, refl, ap, sym, subst, ◌∙◌, arith}
+use Rattle.std.proofs.lemmas.Bool.{cases_lt}
 use Rattle.layout.specs.Places.{place}
+use Rattle.layout.specs.Pointer.{PointsBelow}
 use Rattle.blocktree.specs.Names.{nodes_at}
 use Rattle.blocktree.specs.Places.{IsPath}
-use Rattle.placement.proofs.SettledLaws.{are_settled, few_kept, over_none, paths_sound}
+use Rattle.blocktree.specs.PlaceMaps.{place_at}
+use Rattle.placement.specs.declared.nodes.Nodes.{Nodes}
+use Rattle.placement.specs.Nodes.{height_of}
+use Rattle.placement.proofs.PlacedLaws.{node_last, node_pushed}
+use Rattle.placement.proofs.RaiseLaws.{end_pushed, height_pushed, within_pushed}
+use Rattle.placement.proofs.SettledLaws.{NodeLaws, are_settled, paths_sound}
 use Rattle.placement.proofs.settled.settled_nodes.Goals as goal
 
-pub returns-in_err-below-clause-damaged : goal.returns-in_err-below-clause-damaged
-returns-in_err-below-clause-damaged g c = λ s disk base shows based sound blocks bad.
+pub loop-height-preserved : goal.loop-height-preserved
+loop-height-preserved g c =
+    let so_far = c.loop-height.invariant in
     let t = c.args.tree.now in
-    c.in_err-below.ensures.damaged disk shows (search rules)
-    (subst (λ (n : ℕ). (i : ℕ) → i < t.count → IsPath n disk t.pointers t.depth t.count i) blocks (paths_sound s disk base t based sound))
-
-pub returns-clause-settled : goal.returns-clause-settled
-unfolding nodes_at
-returns-clause-settled g c = λ s disk base shows based sound.
-    let t = c.args.tree.now in
-    let below = c.in_ok-below.below in
-    let ok = below.ok in
-    let length_is = c.in_ok-below.ensures.length in
-    let count : length below.items ≡ t.count = omega (arith, length_is, ok.0) in
-    let deep : t.depth - 0 ≡ t.depth = omega arith in
-    are_settled s disk base t (record { blocks = below; over = c.in_ok-over.over }) sound count
-    (λ i lt. c.in_ok-below.ensures.nodes disk shows i lt ∙ ap (λ (k : ℕ). place disk t.pointers k i) deep)
-    c.in_ok-over.ensures.none c.in_ok-over.ensures.some (c.in_ok-over.ensures.nodes disk (search rules)) based
+    let h = c.loop-height.height in
+    let old = c.loop-height.nodes in
+    let new : Nodes = record { heights = c.push.new.self } in
+    let p = c.in_ok-places.places in
+    let is = c.in_ok-push.ensures.items in
+    let count = so_far.read.count in
+    record {
+      read = search rules;
+      count = height_pushed old new p is ∙ ap (λ (n : ℕ). n + 1) so_far.count;
+      within = within_pushed (g.B.Blocks.count c.args.blocks.now) old new p is so_far.within (λ i. subst (λ (n : ℕ). PointsBelow n (place_at p i)) count (c.in_ok-places.ensures.within i));
+      end = end_pushed old new p t.count h (nodes_at t.count h) is so_far.count refl c.in_ok-places.ensures.end so_far.end;
+      nodes = λ disk shows m i lt low. elim (cases_lt m h) [
+        | inl before ↦ node_pushed old new p m i is (omega (arith, before, so_far.count)) ∙ so_far.nodes disk shows m i before low
+        | inr last ↦
+            let e : h ≡ m = omega (arith, lt, last) in
+            node_last old new p m i is (omega (arith, e, so_far.count))
+            ∙ c.in_ok-places.ensures.nodes disk (so_far.read.same disk shows) i (subst (λ (k : ℕ). i < nodes_at t.count k) (sym e) low)
+            ∙ ap (λ (k : ℕ). place disk t.pointers (t.depth - k) i) e
+      ];
+    }
 
 pub returns-clause-sizes : goal.returns-clause-sizes
-unfolding nodes_at
-returns-clause-sizes g c =
+returns-clause-sizes g c = record { heights = search rules; end = c.loop-height.invariant.end }
+
+pub returns-in_err-places-clause-damaged : goal.returns-in_err-places-clause-damaged
+returns-in_err-places-clause-damaged g c = λ s disk base shows based sound blocks bad.
+    let law = c.nodes_are_where_pointers_lead.ensures in
     let t = c.args.tree.now in
-    let below = c.in_ok-below.below in
-    let ok = below.ok in
-    let length_is = c.in_ok-below.ensures.length in
-    record {
-      blocks = omega (arith, length_is, ok.0);
-      over = over_none t.depth t.count (length c.in_ok-over.over.items) c.in_ok-over.ensures.some;
-      few = few_kept t (length c.in_ok-over.over.items) c.in_ok-over.ensures.some;
-    }
+    let laws : NodeLaws = record { places = law.places; paths = law.paths; past = law.past; above = law.above } in
+    c.in_err-places.ensures.damaged disk (c.loop-height.invariant.read.same disk shows) (search rules)
+    (subst (λ (n : ℕ). (i : ℕ) → i < t.count → IsPath n disk t.pointers t.depth t.count i) (blocks ∙ sym c.loop-height.invariant.read.count) (paths_sound laws s disk base t based sound))
+
+pub returns-clause-settled : goal.returns-clause-settled
+returns-clause-settled g c = λ s disk base shows based sound.
+    let law = c.nodes_are_where_pointers_lead.ensures in
+    let t = c.args.tree.now in
+    let so_far = c.loop-height.invariant in
+    let laws : NodeLaws = record { places = law.places; paths = law.paths; past = law.past; above = law.above } in
+    let heights : height_of c.loop-height.nodes ≡ suc t.depth = search rules in
+    are_settled laws s disk base t c.loop-height.nodes sound heights so_far.end (λ m i le low. so_far.nodes disk shows m i (omega (arith, le, heights, so_far.count)) low) based

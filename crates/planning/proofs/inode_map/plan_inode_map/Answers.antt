@@ -1,6 +1,7 @@
 use Rattle.std.proofs.Common.{◌≡◌, ◌≤◌, inl, inr, ℕ, List, length, ap, sym, subst, ◌∙◌, arith, rules}
 use Rattle.blocktree.specs.Places.{block_count}
 use Rattle.blocktree.specs.Trees.{IsSoundAt}
+use Rattle.blockmap.specs.Maps.{settled_at}
 use Rattle.buffers.specs.Positions.{IsPart}
 use Rattle.conspoint.specs.Space.{sum_below}
 use Rattle.images.specs.Contents.{Content, bytes_of}
@@ -9,19 +10,23 @@ use Rattle.images.specs.Nodes as nodes
 use Rattle.images.specs.Soundness.{IsSoundFile}
 use Rattle.inode.specs.Files.{IsAsHeld, byte_at, file_block}
 use Rattle.layout.specs.declared.inode.Inode.{Inode}
+use Rattle.model.specs.Volumes.{Volume}
 use Rattle.placement.specs.Files.{is_one}
 use Rattle.placement.specs.Space.{file_nodes, file_stores}
 use Rattle.planning.specs.Plans.{IsInodeMapOn}
-use Rattle.planning.specs.Steps.{settled_tree}
+use Rattle.planning.specs.Space.{CountsBlocks, map_stores}
+use Rattle.planning.specs.Steps.{IsOverTree, settled_tree}
 use Rattle.conspoint.proofs.SpaceLemmas.{same_left}
 use Rattle.planning.proofs.SpaceLaws.{stores_within}
-use Rattle.planning.proofs.JoinLaws.{map_planned, map_stays, marked_over, taken_later}
-use Rattle.conspoint.proofs.DraftLemmas.{grows_twice}
-use Rattle.planning.proofs.OwnLaws.{held_bytes, inode_is, kind_of, map_bytes, map_change, map_kind, map_size_is, map_whole}
+use Rattle.planning.proofs.JoinLaws.{map_planned, map_stays, marked_over}
+use Rattle.conspoint.proofs.DraftLemmas.{grows_twice, taken_later}
+use Rattle.planning.proofs.OwnLaws.{IsMapOver, held_bytes, inode_is, kind_of, map_over, map_size_is}
 use Rattle.planning.proofs.TellLaws.{counts_one, few_stored}
+use Rattle.planning.proofs.inode_map.plan_inode_map.Given.{Over}
 use Rattle.planning.proofs.inode_map.plan_inode_map.Goals as goal
+use Rattle.planning.proofs.inode_map.plan_inode_map.Goals.{In_ok-put_parts}
 use Rattle.images.proofs.EmptyLaws.{held_inode}
-use Rattle.planning.proofs.PromiseLaws.{file_none, plans_after, plans_err, plans_file, plans_marks, plans_out, plans_read, plans_reads, plans_rise, plans_then, plans_unread, read_of}
+use Rattle.planning.proofs.PromiseLaws.{plans_after, plans_err, plans_file, plans_marks, plans_out, plans_read, plans_reads, plans_rise, plans_then, plans_unread, read_of}
 use Rattle.std.specs.Int.{div_ceil}
 
 pub returns-in_err-settled-clause-damaged : goal.returns-in_err-settled-clause-damaged
@@ -67,29 +72,28 @@ returns-in_err-put_parts-clause-damaged g c = λ disk settled v before shows mem
     (λ i. subst (λ n. IsSoundAt n disk tree i) (memory.volume.inodes.count ∙ sym c.settled_map.ensures.reads.count ∙ sym c.has_bytes.ensures.reads.count)
     (c.based_trees_are_sound.ensures.at s disk c.in_ok-settled.settled tree i sound c.in_ok-object.ensures.base))
 
-pub returns-in_err-placed-clause-damaged : goal.returns-in_err-placed-clause-damaged
-returns-in_err-placed-clause-damaged g c = λ disk settled v before shows memory same below bad.
+-- the file that is placed, over the settled one
+map_now : (g : Over) (c : In_ok-put_parts g) (disk : ℕ → List ℕ) (settled : ℕ → Inode) (v : Volume) (before : ℕ → ℕ) → g.B.Blocks.Shows c.args.blocks.now disk
+    → IsOverTree (g.B.Blocks.count c.args.blocks.now) disk settled c.args.inodes.now v before → ((b : ℕ) → settled_at c.args.draft.now.map.parts.items b ≡ before b)
+    → IsMapOver c.args.inodes.now.geometry c.args.draft.now disk (settled 1) (record c.in_ok-object.object { file = c.put_parts.new.file }) c.args.inodes.now.numbers.bytes.items
+map_now g c disk settled v before shows memory same =
     let now : c.in_ok-settled.settled ≡ settled 1 = c.in_ok-settled.ensures.read disk settled shows memory.volume.inodes in
     let s = c.args.inodes.now.geometry in
-    let bytes = c.args.inodes.now.numbers.bytes.items in
-    let old = c.in_ok-object.object.file in
     let sound = subst (λ (x : Inode). IsSoundFile s (held disk x)) (sym now) (memory.volume.inodes.sound 1) in
-    c.in_err-placed.ensures.damaged s disk (settled 1) (c.put_parts.ensures.reads.same disk (c.has_bytes.ensures.reads.same disk (c.settled_map.ensures.reads.same disk shows)))
-    (map_change (g.B.Blocks.count c.args.blocks.now) c.args.draft.now disk s c.args.inodes.now.file settled before c.in_ok-settled.settled old _ bytes memory.volume.inodes memory.once memory.exact same c.requires.disk now
+    let shown = c.has_bytes.ensures.reads.same disk (c.settled_map.ensures.reads.same disk shows) in
+    map_over (g.B.Blocks.count c.args.blocks.now) c.args.draft.now disk s c.args.inodes.now.file settled before c.in_ok-settled.settled c.in_ok-object.object.file _ c.args.inodes.now.numbers.bytes.items
+    memory.volume.inodes memory.once memory.exact same c.requires.disk now
     c.in_ok-object.ensures.size (c.in_ok-object.ensures.ends s disk sound) c.in_ok-object.ensures.settled c.in_ok-object.ensures.attributes c.put_parts.ensures.file.settled c.put_parts.ensures.file.kept c.put_parts.ensures.file.size
-    (sym (ap (λ (xs : List ℕ). length xs) c.map_bytes.ensures.bytes) ∙ c.map_bytes.ensures.length) (rw c.map_bytes-2.ensures.bytes at (c.in_ok-put_parts.ensures.here disk (c.has_bytes.ensures.reads.same disk (c.settled_map.ensures.reads.same disk shows)))) (rw c.map_bytes-2.ensures.bytes at (c.in_ok-put_parts.ensures.others disk)))
-    (search rules)
+    (sym (ap (λ (xs : List ℕ). length xs) c.map_bytes.ensures.bytes) ∙ c.map_bytes.ensures.length) (rw c.map_bytes-2.ensures.bytes at (c.in_ok-put_parts.ensures.here disk shown)) (rw c.map_bytes-2.ensures.bytes at (c.in_ok-put_parts.ensures.others disk))
+
+pub returns-in_err-placed-clause-damaged : goal.returns-in_err-placed-clause-damaged
+returns-in_err-placed-clause-damaged g c = λ disk settled v before shows memory same below bad.
+    let map = map_now g (goal.at.returns-in_err-placed-clause-damaged g c).In_ok-put_parts disk settled v before shows memory same in
+    c.in_err-placed.ensures.damaged c.args.inodes.now.geometry disk (settled 1) (c.put_parts.ensures.reads.same disk (c.has_bytes.ensures.reads.same disk (c.settled_map.ensures.reads.same disk shows))) map.change (search rules)
 
 pub returns-clause-planned : goal.returns-clause-planned
 returns-clause-planned g c = λ disk settled v before found shows memory no_hole way fresh.
-    let now : c.in_ok-settled.settled ≡ settled 1 = c.in_ok-settled.ensures.read disk settled shows memory.volume.inodes in
-    let count = g.B.Blocks.count c.args.blocks.now in
     let s = c.args.inodes.now.geometry in
-    let top = c.args.inodes.now.file in
-    let bytes = c.args.inodes.now.numbers.bytes.items in
-    let first = c.in_ok-object.object.file in
-    let o = record c.in_ok-object.object { file = c.put_parts.new.file } in
-    let sound = subst (λ (x : Inode). IsSoundFile s (held disk x)) (sym now) (memory.volume.inodes.sound 1) in
     let shown = c.put_parts.ensures.reads.same disk (c.has_bytes.ensures.reads.same disk (c.settled_map.ensures.reads.same disk shows)) in
     let old = c.args.draft.now in
     let mid = c.place_file.new.draft in
@@ -98,35 +102,31 @@ returns-clause-planned g c = λ disk settled v before found shows memory no_hole
     let placed = c.in_ok-placed.placed in
     let taken = is_one placed.taken.items in
     let freed = is_one placed.freed.items in
-    let here = rw c.map_bytes-2.ensures.bytes at (c.in_ok-put_parts.ensures.here disk (c.has_bytes.ensures.reads.same disk (c.settled_map.ensures.reads.same disk shows))) in
-    let others = rw c.map_bytes-2.ensures.bytes at (c.in_ok-put_parts.ensures.others disk) in
-    let change = map_change count old disk s top settled before c.in_ok-settled.settled first o bytes memory.volume.inodes memory.once memory.exact way.settled c.requires.disk now
-    c.in_ok-object.ensures.size (c.in_ok-object.ensures.ends s disk sound) c.in_ok-object.ensures.settled c.in_ok-object.ensures.attributes c.put_parts.ensures.file.settled c.put_parts.ensures.file.kept c.put_parts.ensures.file.size
-    (sym (ap (λ (xs : List ℕ). length xs) c.map_bytes.ensures.bytes) ∙ c.map_bytes.ensures.length) here others in
-    let whole = map_whole count old disk s top settled before c.in_ok-settled.settled first o bytes memory.volume.inodes memory.once memory.exact way.settled c.requires.disk now
-    c.in_ok-object.ensures.size (c.in_ok-object.ensures.ends s disk sound) c.in_ok-object.ensures.settled c.in_ok-object.ensures.attributes c.put_parts.ensures.file.settled c.put_parts.ensures.file.kept c.put_parts.ensures.file.size
-    (sym (ap (λ (xs : List ℕ). length xs) c.map_bytes.ensures.bytes) ∙ c.map_bytes.ensures.length) here others no_hole in
-    let spelled = map_bytes count old disk s top settled before c.in_ok-settled.settled first o bytes memory.volume.inodes memory.once memory.exact way.settled c.requires.disk now
-    c.in_ok-object.ensures.size (c.in_ok-object.ensures.ends s disk sound) c.in_ok-object.ensures.settled c.in_ok-object.ensures.attributes c.put_parts.ensures.file.settled c.put_parts.ensures.file.kept c.put_parts.ensures.file.size
-    (sym (ap (λ (xs : List ℕ). length xs) c.map_bytes.ensures.bytes) ∙ c.map_bytes.ensures.length) here others in
-    let kind = map_kind count old disk s top settled before c.in_ok-settled.settled first o bytes memory.volume.inodes memory.once memory.exact way.settled c.requires.disk now
-    c.in_ok-object.ensures.size (c.in_ok-object.ensures.ends s disk sound) c.in_ok-object.ensures.settled c.in_ok-object.ensures.attributes c.put_parts.ensures.file.settled c.put_parts.ensures.file.kept c.put_parts.ensures.file.size
-    (sym (ap (λ (xs : List ℕ). length xs) c.map_bytes.ensures.bytes) ∙ c.map_bytes.ensures.length) here others in
+    let map = map_now g (goal.at.returns-clause-planned g c).In_ok-put_parts disk settled v before shows memory way.settled in
     let said = c.inodes_are_put_one_by_one.ensures in
     let shown_last = c.place_file.ensures.step.reads.same disk shown in
-    map_planned (record { there = said.there; others = said.others; behind = said.behind }) old new disk before s (settled_tree disk settled) found c.args.file.now c.put_inode.new.file placed.inode bytes taken freed
-    way memory.once memory.exact fresh (omega (arith, c.requires.sizes.least_inodes)) (grows_twice old mid new c.place_file.ensures.step.grows goes) (λ b is. taken_later old mid new b goes (c.in_ok-placed.ensures.step.given b is))
-    (λ e has agrees. c.in_ok-placed.ensures.placed s disk (settled 1) shown change e (goes.has e has) agrees)
-    (λ e has agrees. kind_of e placed.inode _ _ (c.in_ok-placed.ensures.content s disk (settled 1) shown change e (goes.has e has) agrees) kind)
+    map_planned (record { there = said.there; others = said.others; behind = said.behind }) old new disk before s (settled_tree disk settled) found c.args.file.now c.put_inode.new.file placed.inode c.args.inodes.now.numbers.bytes.items
+    taken freed way memory.once memory.exact fresh (omega (arith, c.requires.sizes.least_inodes)) (grows_twice old mid new c.place_file.ensures.step.grows goes) (λ b is. taken_later old mid new b (c.in_ok-placed.ensures.step.given b is) goes)
+    (λ e has agrees. c.in_ok-placed.ensures.placed s disk (settled 1) shown map.change e (goes.has e has) agrees)
+    (λ e has agrees. kind_of e placed.inode _ _ (c.in_ok-placed.ensures.content s disk (settled 1) shown map.change e (goes.has e has) agrees) map.kind)
     (marked_over taken freed old.map.parts.items mid.map.parts.items new.map.parts.items c.place_file.ensures.step.parts c.in_ok-mark_placed.ensures.marked)
     (λ e has agrees. record {
-      bytes_are = ap (λ (x : Content). bytes_of x) (c.in_ok-placed.ensures.content s disk (settled 1) shown change e (goes.has e has) agrees) ∙ spelled;
-      no_hole = c.in_ok-placed.ensures.no_hole s disk (settled 1) shown change whole e (goes.has e has) agrees;
+      bytes_are = ap (λ (x : Content). bytes_of x) (c.in_ok-placed.ensures.content s disk (settled 1) shown map.change e (goes.has e has) agrees) ∙ map.bytes_are;
+      no_hole = c.in_ok-placed.ensures.no_hole s disk (settled 1) shown map.change (map.whole no_hole) e (goes.has e has) agrees;
     })
     (c.in_ok-put_inode.ensures.put disk shown_last) (c.in_ok-put_inode.ensures.whole disk shown_last) c.in_ok-put_inode.ensures.long
 
-pub returns-in_err-placed-clause-short : goal.returns-in_err-placed-clause-short
-returns-in_err-placed-clause-short g c = λ disk settled v before shows memory w counts bad.
+-- no more of the file is stored than there is of it
+few_nodes : (g : Over) (c : In_ok-put_parts g) → file_stores c.put_parts.new.file ≤ file_nodes (div_ceil c.args.inodes.now.geometry.inodes 8)
+few_nodes g c =
+    let size = ap file_nodes (c.put_parts.ensures.file.size ∙ c.in_ok-object.ensures.size ∙ c.in_ok-settled.ensures.size) in
+    omega (arith, size, stores_within c.put_parts.new.file)
+
+-- and no more than counts
+few_counted : (g : Over) (c : In_ok-put_parts g) (disk : ℕ → List ℕ) (settled : ℕ → Inode) (v : Volume) (before : ℕ → ℕ) → g.B.Blocks.Shows c.args.blocks.now disk
+    → IsOverTree (g.B.Blocks.count c.args.blocks.now) disk settled c.args.inodes.now v before → (w : ℕ → ℕ) → CountsBlocks w c.args.inodes.now.numbers.bytes.items (nodes.file_block (held disk (settled 1)))
+    → file_stores c.put_parts.new.file ≤ map_stores w c.args.inodes.now
+few_counted g c disk settled v before shows memory w counts =
     let now : c.in_ok-settled.settled ≡ settled 1 = c.in_ok-settled.ensures.read disk settled shows memory.volume.inodes in
     let s = c.args.inodes.now.geometry in
     let bytes = c.args.inodes.now.numbers.bytes.items in
@@ -142,26 +142,17 @@ returns-in_err-placed-clause-short g c = λ disk settled v before shows memory w
       | inr before ↦ inr before
     ]) in
     let all = ap (λ (n : ℕ). sum_below w (block_count n)) c.in_ok-settled.ensures.size in
-    omega (arith, few, all, c.in_err-placed.ensures.step.lacks (search rules))
+    omega (arith, few, all)
+
+pub returns-in_err-placed-clause-short : goal.returns-in_err-placed-clause-short
+returns-in_err-placed-clause-short g c = λ disk settled v before shows memory w counts bad.
+    let few = few_counted g (goal.at.returns-in_err-placed-clause-short g c).In_ok-put_parts disk settled v before shows memory w counts in
+    omega (arith, few, c.in_err-placed.ensures.step.lacks (search rules))
 
 pub returns-clause-stores : goal.returns-clause-stores
 returns-clause-stores g c = λ disk settled v before shows memory w counts.
-    let now : c.in_ok-settled.settled ≡ settled 1 = c.in_ok-settled.ensures.read disk settled shows memory.volume.inodes in
-    let s = c.args.inodes.now.geometry in
-    let bytes = c.args.inodes.now.numbers.bytes.items in
-    let first = c.in_ok-object.object.file in
-    let sound = subst (λ (x : Inode). IsSoundFile s (held disk x)) (sym now) (memory.volume.inodes.sound 1) in
-    let shown = c.has_bytes.ensures.reads.same disk (c.settled_map.ensures.reads.same disk shows) in
-    let only = rw c.map_bytes-2.ensures.bytes at (c.put_parts.ensures.only disk shown) in
-    let few = few_stored w c.in_ok-settled.settled.body s.blocks c.in_ok-settled.settled.size first c.put_parts.new.file (inode_is s disk c.in_ok-settled.settled sound).body
-    (omega (arith, c.in_ok-settled.ensures.size, c.requires.sizes.most_inodes)) (c.put_parts.ensures.file.size ∙ c.in_ok-object.ensures.size) c.in_ok-object.ensures.unchanged
-    (λ i changed. elim (only i changed) [
-      | inl other ↦ inl (counts_one w bytes (nodes.file_block (held disk (settled 1))) (file_block disk first i) i counts
-          (c.in_ok-object.ensures.held s disk sound i ∙ ap (λ (x : Inode). nodes.file_block (held disk x) i) now) other)
-      | inr before ↦ inr before
-    ]) in
-    let all = ap (λ (n : ℕ). sum_below w (block_count n)) c.in_ok-settled.ensures.size in
-    omega (arith, few, all, c.in_ok-placed.ensures.step.takes, same_left c.place_file.new.draft c.mark_placed.new.draft c.mark_placed.ensures.step.grows c.mark_placed.ensures.step.next)
+    let few = few_counted g (goal.at.returns-clause-stores g c).In_ok-put_parts disk settled v before shows memory w counts in
+    omega (arith, few, c.in_ok-placed.ensures.step.takes, same_left c.place_file.new.draft c.mark_placed.new.draft c.mark_placed.ensures.step.grows c.mark_placed.ensures.step.next)
 
 pub returns-in_err-settled-clause-step : goal.returns-in_err-settled-clause-step
 returns-in_err-settled-clause-step g c =
@@ -184,48 +175,23 @@ returns-in_err-put_parts-clause-step g c =
 
 pub returns-in_err-placed-clause-step : goal.returns-in_err-placed-clause-step
 returns-in_err-placed-clause-step g c =
-    let size = ap file_nodes (c.put_parts.ensures.file.size ∙ c.in_ok-object.ensures.size ∙ c.in_ok-settled.ensures.size) in
-    let few : file_stores c.put_parts.new.file ≤ file_nodes (div_ceil c.args.inodes.now.geometry.inodes 8) = omega (arith, size, stores_within c.put_parts.new.file) in
+    let few = few_nodes g (goal.at.returns-in_err-placed-clause-step g c).In_ok-put_parts in
     plans_after c.in_ok-settled.ensures.reads (plans_after (read_of c.in_ok-is_there.ensures.reads) (plans_after (read_of c.in_ok-put_parts.ensures.reads) (plans_err c.from_residual-in_err-placed.result c.from_residual-in_err-placed.ensures.1 (plans_rise (plans_file c.in_err-placed.ensures.step) few))))
 
 pub returns-in_err-mark_placed-clause-step : goal.returns-in_err-mark_placed-clause-step
 returns-in_err-mark_placed-clause-step g c =
-    let size = ap file_nodes (c.put_parts.ensures.file.size ∙ c.in_ok-object.ensures.size ∙ c.in_ok-settled.ensures.size) in
-    let few : file_stores c.put_parts.new.file ≤ file_nodes (div_ceil c.args.inodes.now.geometry.inodes 8) = omega (arith, size, stores_within c.put_parts.new.file) in
+    let few = few_nodes g (goal.at.returns-in_err-mark_placed-clause-step g c).In_ok-put_parts in
     plans_after c.in_ok-settled.ensures.reads (plans_after (read_of c.in_ok-is_there.ensures.reads) (plans_after (read_of c.in_ok-put_parts.ensures.reads) (plans_err c.from_residual-in_err-mark_placed.result c.from_residual-in_err-mark_placed.ensures.1 (plans_then (plans_rise (plans_file c.in_ok-placed.ensures.step) few) (plans_marks c.in_err-mark_placed.ensures.step tt) (omega arith)))))
 
 pub returns-in_err-put_inode-clause-step : goal.returns-in_err-put_inode-clause-step
 returns-in_err-put_inode-clause-step g c =
-    let size = ap file_nodes (c.put_parts.ensures.file.size ∙ c.in_ok-object.ensures.size ∙ c.in_ok-settled.ensures.size) in
-    let few : file_stores c.put_parts.new.file ≤ file_nodes (div_ceil c.args.inodes.now.geometry.inodes 8) = omega (arith, size, stores_within c.put_parts.new.file) in
+    let few = few_nodes g (goal.at.returns-in_err-put_inode-clause-step g c).In_ok-put_parts in
     plans_after c.in_ok-settled.ensures.reads (plans_after (read_of c.in_ok-is_there.ensures.reads) (plans_after (read_of c.in_ok-put_parts.ensures.reads) (plans_then {n = file_nodes (div_ceil c.args.inodes.now.geometry.inodes 8)} (plans_then (plans_rise (plans_file c.in_ok-placed.ensures.step) few) (plans_marks c.in_ok-mark_placed.ensures.step c.in_ok-mark_placed.ensures.marked.others) (omega arith)) (plans_unread {n = 0} c.from_residual-in_err-put_inode.result c.from_residual-in_err-put_inode.ensures.1 c.in_err-put_inode.ensures.reads) (omega arith))))
 
 pub returns-clause-step : goal.returns-clause-step
 returns-clause-step g c =
-    let size = ap file_nodes (c.put_parts.ensures.file.size ∙ c.in_ok-object.ensures.size ∙ c.in_ok-settled.ensures.size) in
-    let few : file_stores c.put_parts.new.file ≤ file_nodes (div_ceil c.args.inodes.now.geometry.inodes 8) = omega (arith, size, stores_within c.put_parts.new.file) in
+    let few = few_nodes g (goal.at.returns-clause-step g c).In_ok-put_parts in
     plans_after c.in_ok-settled.ensures.reads (plans_after (read_of c.in_ok-is_there.ensures.reads) (plans_after (read_of c.in_ok-put_parts.ensures.reads) (plans_then {n = file_nodes (div_ceil c.args.inodes.now.geometry.inodes 8)} (plans_then (plans_rise (plans_file c.in_ok-placed.ensures.step) few) (plans_marks c.in_ok-mark_placed.ensures.step c.in_ok-mark_placed.ensures.marked.others) (omega arith)) (plans_reads {n = 0} c.in_ok-put_inode.ensures.reads) (omega arith))))
-
-pub returns-in_err-settled-clause-file : goal.returns-in_err-settled-clause-file
-returns-in_err-settled-clause-file g c = file_none c.args.file.now
-
-pub returns-in_err-object-clause-file : goal.returns-in_err-object-clause-file
-returns-in_err-object-clause-file g c = file_none c.args.file.now
-
-pub returns-in_err-is_there-clause-file : goal.returns-in_err-is_there-clause-file
-returns-in_err-is_there-clause-file g c = file_none c.args.file.now
-
-pub returns-then-is_there-clause-file : goal.returns-then-is_there-clause-file
-returns-then-is_there-clause-file g c = file_none c.args.file.now
-
-pub returns-in_err-put_parts-clause-file : goal.returns-in_err-put_parts-clause-file
-returns-in_err-put_parts-clause-file g c = file_none c.args.file.now
-
-pub returns-in_err-placed-clause-file : goal.returns-in_err-placed-clause-file
-returns-in_err-placed-clause-file g c = file_none c.args.file.now
-
-pub returns-in_err-mark_placed-clause-file : goal.returns-in_err-mark_placed-clause-file
-returns-in_err-mark_placed-clause-file g c = file_none c.args.file.now
 
 pub returns-in_err-put_inode-clause-file : goal.returns-in_err-put_inode-clause-file
 returns-in_err-put_inode-clause-file g c = c.put_inode.ensures.file

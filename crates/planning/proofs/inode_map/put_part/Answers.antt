@@ -20,30 +20,6 @@ returns-clause-only g c = λ disk shows j changed. elim (c.set_block.ensures.onl
   | inr before ↦ inr (c.make_room.ensures.only j before)
 ]
 
-pub returns-in_err-part-clause-file : goal.returns-in_err-part-clause-file
-returns-in_err-part-clause-file g c = record {
-  size = search rules;
-  settled = search rules;
-  sound = search rules;
-  kept = search rules;
-}
-
-pub returns-in_err-before-clause-file : goal.returns-in_err-before-clause-file
-returns-in_err-before-clause-file g c = record {
-  size = search rules;
-  settled = search rules;
-  sound = search rules;
-  kept = search rules;
-}
-
-pub returns-then-are_same-clause-file : goal.returns-then-are_same-clause-file
-returns-then-are_same-clause-file g c = record {
-  size = search rules;
-  settled = search rules;
-  sound = search rules;
-  kept = search rules;
-}
-
 pub returns-in_err-make_room-clause-file : goal.returns-in_err-make_room-clause-file
 returns-in_err-make_room-clause-file g c = record {
   size = search rules;

@@ -6,7 +6,7 @@ use Rattle.planning.specs.Steps.{settled_tree}
 use Rattle.planning.proofs.SettledLaws.{over_settled}
 use Rattle.planning.proofs.StepLaws.{goes_on}
 use Rattle.planning.proofs.number.plan_number.Goals as goal
-use Rattle.planning.proofs.PromiseLaws.{file_none, plans_err, plans_file, plans_marks, plans_reads, plans_then, plans_unread}
+use Rattle.planning.proofs.PromiseLaws.{plans_err, plans_file, plans_marks, plans_reads, plans_then, plans_unread}
 use Rattle.planning.specs.Space.{number_nodes}
 
 pub returns-clause-planned : goal.returns-clause-planned
@@ -44,12 +44,6 @@ returns-in_err-put_inode-clause-step g c =
 pub returns-clause-step : goal.returns-clause-step
 returns-clause-step g c =
     plans_then {n = number_nodes c.args.inodes.now c.args.number} (plans_then (plans_file c.in_ok-placed.ensures.step) (plans_marks c.in_ok-mark_placed.ensures.step c.in_ok-mark_placed.ensures.marked.others) (omega arith)) (plans_reads {n = 0} c.in_ok-put_inode.ensures.reads) (omega arith)
-
-pub returns-in_err-placed-clause-file : goal.returns-in_err-placed-clause-file
-returns-in_err-placed-clause-file g c = file_none c.args.file.now
-
-pub returns-in_err-mark_placed-clause-file : goal.returns-in_err-mark_placed-clause-file
-returns-in_err-mark_placed-clause-file g c = file_none c.args.file.now
 
 pub returns-in_err-put_inode-clause-file : goal.returns-in_err-put_inode-clause-file
 returns-in_err-put_inode-clause-file g c = c.put_inode.ensures.file

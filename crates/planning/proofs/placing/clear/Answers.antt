@@ -1,11 +1,10 @@
-use Rattle.std.proofs.Common.{◌≡◌, ℕ, refl, ap, ◌∙◌, rules, arith}
+use Rattle.std.proofs.Common.{◌≡◌, ℕ, refl, ◌∙◌, rules}
 use Rattle.layout.specs.Bytes.{zeros}
 use Rattle.layout.specs.declared.kind.Kind.TheVariants as kinds
 use Rattle.inode.specs.Files.{file_block}
 use Rattle.inode.specs.declared.object.Object.{Object}
 use Rattle.placement.specs.Files.{IsChangeOf}
-use Rattle.placement.specs.Space.{file_nodes}
-use Rattle.planning.proofs.SpaceLaws.{stores_within}
+use Rattle.planning.proofs.SpaceLaws.{none_stored}
 use Rattle.planning.proofs.NumberLaws.{cleared_change, is_cleared, cut_off}
 use Rattle.planning.proofs.placing.clear.Goals as goal
 use Rattle.planning.proofs.PlacingLaws.{placed_err, placed_out, placed_rise}
@@ -32,11 +31,7 @@ pub returns-in_err-file-clause-step : goal.returns-in_err-file-clause-step
 returns-in_err-file-clause-step g c = placed_out c.from_residual.result c.from_residual.ensures.1
 
 pub returns-in_err-placed-clause-step : goal.returns-in_err-placed-clause-step
-returns-in_err-placed-clause-step g c =
-    let none : file_nodes c.set_size.new.self.size ≡ 0 = ap file_nodes c.set_size.ensures.size in
-    placed_err c.from_residual-in_err-placed.result c.from_residual-in_err-placed.ensures.1 (placed_rise c.in_err-placed.ensures.step (omega (arith, none, stores_within c.set_size.new.self)))
+returns-in_err-placed-clause-step g c = placed_err c.from_residual-in_err-placed.result c.from_residual-in_err-placed.ensures.1 (placed_rise c.in_err-placed.ensures.step (none_stored c.set_size.new.self c.set_size.ensures.size))
 
 pub returns-clause-step : goal.returns-clause-step
-returns-clause-step g c =
-    let none : file_nodes c.set_size.new.self.size ≡ 0 = ap file_nodes c.set_size.ensures.size in
-    placed_rise c.in_ok-placed.ensures.step (omega (arith, none, stores_within c.set_size.new.self))
+returns-clause-step g c = placed_rise c.in_ok-placed.ensures.step (none_stored c.set_size.new.self c.set_size.ensures.size)

@@ -1,99 +1,87 @@
-use Rattle.std.proofs.Common.{◌≡◌, ℕ, ◌+◌, ◌*◌, ◌/◌, ◌%◌, refl, ap, sym, subst, ◌∙◌, rules, arith}
+use Rattle.std.proofs.Common.{◌≡◌, ℕ, ◌+◌, ◌*◌, ◌/◌, ◌%◌, ◌≤◌, List, refl, ap, sym, subst, ◌∙◌, rules, arith}
 use Rattle.std.specs.Int.{div_ceil}
 use Rattle.layout.specs.Inode.{inode_bytes}
 use Rattle.layout.specs.Limits.{AreSizes}
 use Rattle.layout.specs.declared.inode.Inode.{Inode}
 use Rattle.layout.specs.declared.kind.Kind.TheVariants as kinds
+use Rattle.model.specs.Volumes.{Volume}
 use Rattle.blocktree.specs.Trees.{IsSoundAt}
 use Rattle.images.specs.InodeFiles.{put_at}
-use Rattle.images.specs.Nodes.{held}
-use Rattle.images.specs.Nodes as nodes
-use Rattle.images.specs.Soundness.{IsSoundFile}
 use Rattle.inode.specs.Files.{file_block}
 use Rattle.inode.specs.declared.object.Attributes.{Attributes}
 use Rattle.inofile.specs.Inodes.{files_of}
+use Rattle.placement.specs.Files.{IsChangeOf}
+use Rattle.placement.specs.Space.{first_stores}
 use Rattle.planning.specs.Numbers.{trimmed}
+use Rattle.planning.specs.Plans.{HasNumbers, IsPlanStart}
 use Rattle.planning.specs.Progress.{with_file}
 use Rattle.planning.specs.Space.{map_file_nodes, change_nodes, top_nodes}
 use Rattle.planning.specs.Steps.{IsOverTree, settled_tree}
 use Rattle.planning.proofs.OwnLaws.{own_change}
-use Rattle.planning.proofs.StartLaws.{not_own, spelled_ends, started, top_size}
+use Rattle.planning.proofs.StartLaws.{not_own, spelled_ends, started, top_size, top_sound}
 use Rattle.planning.proofs.TopLaws.{top_few}
 use Rattle.planning.proofs.WholeLaws.{all_planned}
+use Rattle.planning.proofs.points.plan_files.Given.{Over}
 use Rattle.planning.proofs.points.plan_files.Goals as goal
+use Rattle.planning.proofs.points.plan_files.Goals.{After-plan_changes, In_ok-plan_changes}
 use Rattle.planning.proofs.PromiseLaws.{plans_err, plans_ok, plans_out, plans_rise, plans_then}
+
+-- what the inode file is when the numbers are planned
+top_change : (g : Over) (c : In_ok-plan_changes g) (disk : ℕ → List ℕ) (settled : ℕ → Inode) (v : Volume) (before : ℕ → ℕ)
+    → IsPlanStart (g.B.Blocks.count c.args.blocks.now) c.args.draft.now disk c.args.root.now settled c.args.inodes.now v before
+    → HasNumbers c.plan_changes.new.draft disk settled before c.args.inodes.now c.plan_changes.new.file
+    → IsChangeOf c.args.inodes.now.geometry c.plan_changes.new.draft disk (settled 0) (record c.in_ok-top.top { file = c.plan_changes.new.file })
+top_change g c disk settled v before start numbers =
+    let s = c.args.inodes.now.geometry in
+    let root = c.args.root.now in
+    let o = record c.in_ok-top.top { file = c.plan_changes.new.file } in
+    let size : o.file.size ≡ root.inode_file.size = c.plan_changes.ensures.file.size ∙ c.in_ok-top.ensures.size in
+    own_change (g.B.Blocks.count c.args.blocks.now) c.plan_changes.new.draft disk s c.args.inodes.now.file settled before 0 root.inode_file c.in_ok-top.top.file.tree o start.memory.volume.inodes start.memory.once start.memory.exact
+    (λ b. c.plan_changes.ensures.step.grows.settled.settled b ∙ start.same b) (c.requires.disk ∙ sym c.plan_changes.ensures.step.grows.count) (sym start.top) c.in_ok-top.ensures.settled c.plan_changes.ensures.file.settled
+    c.in_ok-top.ensures.attributes size (spelled_ends s.inodes o.file.size (file_block disk o.file) numbers.map.way.plan.inode numbers.map.way.spelled (size ∙ top_size s root c.requires.root_is c.requires.sizes))
+
+-- and how many of its blocks are stored
+top_within : (g : Over) (c : After-plan_changes g) → first_stores c.plan_changes.new.file ≤ top_nodes c.args.inodes.now c.args.root.now.inode_file.size
+top_within g c = top_few c.args.inodes.now c.args.root.now c.in_ok-top.top.file c.plan_changes.new.file c.requires.root_is c.in_ok-top.ensures.settled c.in_ok-top.ensures.unchanged
+    c.in_ok-top.ensures.size c.plan_changes.ensures.file.size c.plan_changes.ensures.file.settled c.plan_changes.ensures.file.changes
 
 pub returns-in_err-plan_changes-clause-damaged : goal.returns-in_err-plan_changes-clause-damaged
 returns-in_err-plan_changes-clause-damaged g c = λ disk settled v before shows start bad.
     let s = c.args.inodes.now.geometry in
-    let old = c.args.draft.now in
-    let root = c.args.root.now in
     let first_file = c.in_ok-top.top.file in
-    let are = start.memory.volume.inodes in
-    let sound : IsSoundFile s (held disk root.inode_file) = subst (λ (x : Inode). IsSoundFile s (held disk x)) start.top (are.sound 0) in
-    let begin = started old disk settled before c.args.inodes.now first_file start.active start.same start.sound
-    (λ i. c.in_ok-top.ensures.held s disk sound i ∙ ap (λ (x : Inode). nodes.file_block (held disk x) i) (sym start.top)) in
-    c.in_err-plan_changes.ensures.damaged disk settled v before shows start.memory begin
-    (λ i. subst (λ n. IsSoundAt n disk first_file.tree i) are.count (c.based_trees_are_sound.ensures.at s disk root.inode_file first_file.tree i sound c.in_ok-top.ensures.base)) (search rules)
+    let sound = top_sound start in
+    c.in_err-plan_changes.ensures.damaged disk settled v before shows start.memory (started start first_file (c.in_ok-top.ensures.held s disk sound))
+    (λ i. subst (λ n. IsSoundAt n disk first_file.tree i) start.memory.volume.inodes.count (c.based_trees_are_sound.ensures.at s disk c.args.root.now.inode_file first_file.tree i sound c.in_ok-top.ensures.base)) (search rules)
 
 pub returns-in_err-placed-clause-damaged : goal.returns-in_err-placed-clause-damaged
 returns-in_err-placed-clause-damaged g c = λ disk settled v before shows start bad.
     let s = c.args.inodes.now.geometry in
-    let old = c.args.draft.now in
-    let root = c.args.root.now in
-    let first_file = c.in_ok-top.top.file in
-    let are = start.memory.volume.inodes in
-    let sound : IsSoundFile s (held disk root.inode_file) = subst (λ (x : Inode). IsSoundFile s (held disk x)) start.top (are.sound 0) in
-    let begin = started old disk settled before c.args.inodes.now first_file start.active start.same start.sound
-    (λ i. c.in_ok-top.ensures.held s disk sound i ∙ ap (λ (x : Inode). nodes.file_block (held disk x) i) (sym start.top)) in
-    let o = record c.in_ok-top.top { file = c.plan_changes.new.file } in
+    let begin = started start c.in_ok-top.top.file (c.in_ok-top.ensures.held s disk (top_sound start)) in
     let numbers = c.in_ok-plan_changes.ensures.planned disk settled v before shows start.memory start.sound.inode_map begin in
-    let p = numbers.map.way.plan in
-    let same_now = λ (b : ℕ). c.plan_changes.ensures.step.grows.settled.settled b ∙ start.same b in
-    let size : o.file.size ≡ root.inode_file.size = c.plan_changes.ensures.file.size ∙ c.in_ok-top.ensures.size in
-    let large : o.file.size ≡ 4096 * div_ceil s.inodes 21 = size ∙ top_size s root c.requires.root_is c.requires.sizes in
-    let change = own_change (g.B.Blocks.count c.args.blocks.now) c.plan_changes.new.draft disk s c.args.inodes.now.file settled before 0 root.inode_file first_file.tree o are start.memory.once start.memory.exact same_now
-    (c.requires.disk ∙ sym c.plan_changes.ensures.step.grows.count) (sym start.top) c.in_ok-top.ensures.settled c.plan_changes.ensures.file.settled c.in_ok-top.ensures.attributes size
-    (spelled_ends s.inodes o.file.size (file_block disk o.file) p.inode numbers.map.way.spelled large) in
-    let shown = c.plan_changes.ensures.step.reads.same disk shows in
-    c.in_err-placed.ensures.damaged s disk (settled 0) shown change (search rules)
+    let change = top_change g (goal.at.returns-in_err-placed-clause-damaged g c).In_ok-plan_changes disk settled v before start numbers in
+    c.in_err-placed.ensures.damaged s disk (settled 0) (c.plan_changes.ensures.step.reads.same disk shows) change (search rules)
 
 pub returns-in_err-plan_last-clause-damaged : goal.returns-in_err-plan_last-clause-damaged
 returns-in_err-plan_last-clause-damaged g c = λ disk settled v before shows start bad.
-    let s = c.args.inodes.now.geometry in
-    let old = c.args.draft.now in
-    let root = c.args.root.now in
     let first_file = c.in_ok-top.top.file in
-    let are = start.memory.volume.inodes in
-    let sound : IsSoundFile s (held disk root.inode_file) = subst (λ (x : Inode). IsSoundFile s (held disk x)) start.top (are.sound 0) in
-    let begin = started old disk settled before c.args.inodes.now first_file start.active start.same start.sound
-    (λ i. c.in_ok-top.ensures.held s disk sound i ∙ ap (λ (x : Inode). nodes.file_block (held disk x) i) (sym start.top)) in
     let shown = c.plan_changes.ensures.step.reads.same disk shows in
     let count : g.B.Blocks.count c.args.blocks.now ≡ g.B.Blocks.count c.place_top.new.blocks = sym c.plan_changes.ensures.step.reads.count ∙ sym c.place_top.ensures.step.reads.count in
     c.in_err-plan_last.ensures.damaged disk settled v before (c.place_top.ensures.step.reads.same disk shown) (subst (λ n. IsOverTree n disk settled c.args.inodes.now v before) count start.memory)
     (subst (λ n. IsSoundAt n disk c.plan_changes.new.file.tree 0) count (c.plan_changes.ensures.file.sound (g.B.Blocks.count c.args.blocks.now) disk 0
-    (subst (λ n. IsSoundAt n disk first_file.tree 0) are.count (c.based_trees_are_sound.ensures.at s disk root.inode_file first_file.tree 0 sound c.in_ok-top.ensures.base))))
+    (subst (λ n. IsSoundAt n disk first_file.tree 0) start.memory.volume.inodes.count (c.based_trees_are_sound.ensures.at c.args.inodes.now.geometry disk c.args.root.now.inode_file first_file.tree 0 (top_sound start) c.in_ok-top.ensures.base))))
     (search rules)
 
 pub returns-clause-planned : goal.returns-clause-planned
 returns-clause-planned g c = λ disk settled v before shows start.
     let s = c.args.inodes.now.geometry in
-    let old = c.args.draft.now in
     let root = c.args.root.now in
-    let first_file = c.in_ok-top.top.file in
-    let are = start.memory.volume.inodes in
-    let sound : IsSoundFile s (held disk root.inode_file) = subst (λ (x : Inode). IsSoundFile s (held disk x)) start.top (are.sound 0) in
-    let begin = started old disk settled before c.args.inodes.now first_file start.active start.same start.sound
-    (λ i. c.in_ok-top.ensures.held s disk sound i ∙ ap (λ (x : Inode). nodes.file_block (held disk x) i) (sym start.top)) in
+    let begin = started start c.in_ok-top.top.file (c.in_ok-top.ensures.held s disk (top_sound start)) in
     let o = record c.in_ok-top.top { file = c.plan_changes.new.file } in
     let numbers = c.in_ok-plan_changes.ensures.planned disk settled v before shows start.memory start.sound.inode_map begin in
     let p = numbers.map.way.plan in
     let same_now = λ (b : ℕ). c.plan_changes.ensures.step.grows.settled.settled b ∙ start.same b in
-    let size : o.file.size ≡ root.inode_file.size = c.plan_changes.ensures.file.size ∙ c.in_ok-top.ensures.size in
-    let large : o.file.size ≡ 4096 * div_ceil s.inodes 21 = size ∙ top_size s root c.requires.root_is c.requires.sizes in
-    let change = own_change (g.B.Blocks.count c.args.blocks.now) c.plan_changes.new.draft disk s c.args.inodes.now.file settled before 0 root.inode_file first_file.tree o are start.memory.once start.memory.exact same_now
-    (c.requires.disk ∙ sym c.plan_changes.ensures.step.grows.count) (sym start.top) c.in_ok-top.ensures.settled c.plan_changes.ensures.file.settled c.in_ok-top.ensures.attributes size
-    (spelled_ends s.inodes o.file.size (file_block disk o.file) p.inode numbers.map.way.spelled large) in
+    let large : o.file.size ≡ 4096 * div_ceil s.inodes 21 = c.plan_changes.ensures.file.size ∙ c.in_ok-top.ensures.size ∙ top_size s root c.requires.root_is c.requires.sizes in
+    let change = top_change g (goal.at.returns-clause-planned g c).In_ok-plan_changes disk settled v before start numbers in
     let shown = c.plan_changes.ensures.step.reads.same disk shows in
     let count : g.B.Blocks.count c.args.blocks.now ≡ g.B.Blocks.count c.place_top.new.blocks = sym c.plan_changes.ensures.step.reads.count ∙ sym c.place_top.ensures.step.reads.count in
     let kind : o.attributes.kind ≡ kinds.InodeFile = ap (λ (a : Attributes). a.kind) c.in_ok-top.ensures.attributes ∙ c.requires.root_is.kind in
@@ -117,23 +105,20 @@ returns-in_err-plan_changes-clause-short g c = λ disk settled v before shows me
 
 pub returns-in_err-placed-clause-short : goal.returns-in_err-placed-clause-short
 returns-in_err-placed-clause-short g c = λ disk settled v before shows memory w counts bad.
-    let top = top_few c.args.inodes.now c.args.root.now c.in_ok-top.top.file c.plan_changes.new.file c.requires.root_is c.in_ok-top.ensures.settled c.in_ok-top.ensures.unchanged
-    c.in_ok-top.ensures.size c.plan_changes.ensures.file.size c.plan_changes.ensures.file.settled c.plan_changes.ensures.file.changes in
+    let top = top_within g (goal.at.returns-in_err-placed-clause-short g c).After-plan_changes in
     let stores = c.in_ok-plan_changes.ensures.stores disk settled v before shows memory w counts in
     omega (arith, stores, c.in_err-placed.ensures.step.lacks (search rules), top)
 
 pub returns-in_err-plan_last-clause-short : goal.returns-in_err-plan_last-clause-short
 returns-in_err-plan_last-clause-short g c = λ disk settled v before shows memory w counts bad.
-    let top = top_few c.args.inodes.now c.args.root.now c.in_ok-top.top.file c.plan_changes.new.file c.requires.root_is c.in_ok-top.ensures.settled c.in_ok-top.ensures.unchanged
-    c.in_ok-top.ensures.size c.plan_changes.ensures.file.size c.plan_changes.ensures.file.settled c.plan_changes.ensures.file.changes in
+    let top = top_within g (goal.at.returns-in_err-plan_last-clause-short g c).After-plan_changes in
     let stores = c.in_ok-plan_changes.ensures.stores disk settled v before shows memory w counts in
     let count = ap map_file_nodes (c.place_top.ensures.step.grows.count ∙ c.plan_changes.ensures.step.grows.count) in
     omega (arith, stores, c.in_ok-placed.ensures.step.takes, c.in_err-plan_last.ensures.step.lacks (search rules), top, count)
 
 pub returns-clause-stores : goal.returns-clause-stores
 returns-clause-stores g c = λ disk settled v before shows memory w counts.
-    let top = top_few c.args.inodes.now c.args.root.now c.in_ok-top.top.file c.plan_changes.new.file c.requires.root_is c.in_ok-top.ensures.settled c.in_ok-top.ensures.unchanged
-    c.in_ok-top.ensures.size c.plan_changes.ensures.file.size c.plan_changes.ensures.file.settled c.plan_changes.ensures.file.changes in
+    let top = top_within g (goal.at.returns-clause-stores g c).After-plan_changes in
     let stores = c.in_ok-plan_changes.ensures.stores disk settled v before shows memory w counts in
     let count = ap map_file_nodes (c.place_top.ensures.step.grows.count ∙ c.plan_changes.ensures.step.grows.count) in
     omega (arith, stores, c.in_ok-placed.ensures.step.takes, c.in_ok-plan_last.ensures.step.takes, top, count)
@@ -147,20 +132,17 @@ returns-in_err-plan_changes-clause-step g c =
 
 pub returns-in_err-placed-clause-step : goal.returns-in_err-placed-clause-step
 returns-in_err-placed-clause-step g c =
-    let top = top_few c.args.inodes.now c.args.root.now c.in_ok-top.top.file c.plan_changes.new.file c.requires.root_is c.in_ok-top.ensures.settled c.in_ok-top.ensures.unchanged
-    c.in_ok-top.ensures.size c.plan_changes.ensures.file.size c.plan_changes.ensures.file.settled c.plan_changes.ensures.file.changes in
+    let top = top_within g (goal.at.returns-in_err-placed-clause-step g c).After-plan_changes in
     plans_err c.from_residual-in_err-placed.result c.from_residual-in_err-placed.ensures.1 (plans_then c.in_ok-plan_changes.ensures.step c.in_err-placed.ensures.step (omega (arith, top)))
 
 pub returns-in_err-plan_last-clause-step : goal.returns-in_err-plan_last-clause-step
 returns-in_err-plan_last-clause-step g c =
-    let top = top_few c.args.inodes.now c.args.root.now c.in_ok-top.top.file c.plan_changes.new.file c.requires.root_is c.in_ok-top.ensures.settled c.in_ok-top.ensures.unchanged
-    c.in_ok-top.ensures.size c.plan_changes.ensures.file.size c.plan_changes.ensures.file.settled c.plan_changes.ensures.file.changes in
+    let top = top_within g (goal.at.returns-in_err-plan_last-clause-step g c).After-plan_changes in
     let count = ap map_file_nodes (c.place_top.ensures.step.grows.count ∙ c.plan_changes.ensures.step.grows.count) in
     plans_err c.from_residual-in_err-plan_last.result c.from_residual-in_err-plan_last.ensures.1 (plans_then (plans_then {k = change_nodes c.args.inodes.now + top_nodes c.args.inodes.now c.args.root.now.inode_file.size} c.in_ok-plan_changes.ensures.step c.in_ok-placed.ensures.step (omega (arith, top))) c.in_err-plan_last.ensures.step (omega (arith, count)))
 
 pub returns-clause-step : goal.returns-clause-step
 returns-clause-step g c =
-    let top = top_few c.args.inodes.now c.args.root.now c.in_ok-top.top.file c.plan_changes.new.file c.requires.root_is c.in_ok-top.ensures.settled c.in_ok-top.ensures.unchanged
-    c.in_ok-top.ensures.size c.plan_changes.ensures.file.size c.plan_changes.ensures.file.settled c.plan_changes.ensures.file.changes in
+    let top = top_within g (goal.at.returns-clause-step g c).After-plan_changes in
     let count = ap map_file_nodes (c.place_top.ensures.step.grows.count ∙ c.plan_changes.ensures.step.grows.count) in
     plans_ok (plans_then (plans_then {k = change_nodes c.args.inodes.now + top_nodes c.args.inodes.now c.args.root.now.inode_file.size} c.in_ok-plan_changes.ensures.step c.in_ok-placed.ensures.step (omega (arith, top))) c.in_ok-plan_last.ensures.step (omega (arith, count)))

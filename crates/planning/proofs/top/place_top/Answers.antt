@@ -3,8 +3,8 @@ use Rattle.layout.specs.declared.inode.Inode.{Inode}
 use Rattle.images.specs.Contents.{Content}
 use Rattle.placement.specs.Files.{is_one}
 use Rattle.planning.specs.Steps.{settled_tree}
-use Rattle.planning.proofs.JoinLaws.{marked_over, progress_more, taken_later}
-use Rattle.conspoint.proofs.DraftLemmas.{grows_twice}
+use Rattle.planning.proofs.JoinLaws.{marked_over, progress_more}
+use Rattle.conspoint.proofs.DraftLemmas.{grows_twice, taken_later}
 use Rattle.planning.proofs.top.place_top.Goals as goal
 use Rattle.images.proofs.EmptyLaws.{held_inode}
 use Rattle.planning.proofs.PromiseLaws.{plans_err, plans_file, plans_marks, plans_ok, plans_then}
@@ -20,7 +20,7 @@ returns-clause-planned g c = λ s disk settled before p shows change kind once e
     record {
       taken = is_one placed.taken.items;
       progress = progress_more old new disk before s (settled_tree disk settled) p 0 placed.inode (is_one placed.taken.items) (is_one placed.freed.items) once exact same progress fresh grows
-          (λ b is. taken_later old mid new b goes (c.in_ok-all.ensures.step.given b is))
+          (λ b is. taken_later old mid new b (c.in_ok-all.ensures.step.given b is) goes)
           (λ e has agrees. c.in_ok-all.ensures.placed s disk (settled 0) shows change e (goes.has e has) agrees)
           (λ e has agrees. sym (ap (λ (i : Inode). i.kind) (held_inode e placed.inode))
           ∙ ap (λ (x : Content). x.kind) (c.in_ok-all.ensures.content s disk (settled 0) shows change e (goes.has e has) agrees) ∙ kind)

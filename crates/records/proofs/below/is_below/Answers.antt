@@ -75,5 +75,5 @@ returns-clause-below g c = λ disk settled v stands.
     let empty : 0 < vec_len c.loop-here.left → ⊥ = λ some. false≢true (ended (c.pop.ensures.variant.1 some)) in
     let none : c.loop-here.left.items ≡ [] = nil_from_length c.loop-here.left.items (omega (arith, empty, c.loop-here.left.ok)) in
     let told = searched_all (entries v) c.args.top marks c.loop-here.left.items none (so_far.searched disk settled v stands) number in
-    let same : c.index.result.now ≡ get_or marks number false = c.index.ensures ∙ get_or_default marks number c.index.result.now false (subst (λ (k : ℕ). number < k) (sym so_far.whole) c.requires.number) in
+    let same : c.index.result.now ≡ get_or marks number false = c.index.ensures ∙ ap (λ (k : ℕ). get_or marks k c.index.result.now) c.get.ensures ∙ get_or_default marks number c.index.result.now false (subst (λ (k : ℕ). number < k) (sym so_far.whole) c.requires.number) in
     (λ is. told.0 (sym same ∙ is), λ below. same ∙ told.1 below)

@@ -16,5 +16,5 @@ invariant-loop-here g l = record {
   within : AreNumbers l.fn.inodes.geometry.inodes l.left.items;
   whole : length l.marks.items ≡ l.fn.inodes.geometry.inodes;
   searched : (disk : ℕ → List ℕ) (settled : ℕ → Inode) (v : Volume) → Stands g.B.Blocks disk settled v l.fn.blocks l.fn.inodes
-      → Searches (entries v) l.top l.marks.items l.left.items;
+      → Searches (entries v) l.fn.top l.marks.items l.left.items;
 }

@@ -1,4 +1,4 @@
-use Rattle.std.proofs.Common.{◌∙◌, false, sym, subst}
+use Rattle.std.proofs.Common.{◌∙◌, ◌<◌, ◌∷◌, ◌++◌, [], ℕ, false, length, ap, sym, subst}
 use Rattle.std.proofs.lemmas.List.{get_or_default}
 use Rattle.records.specs.Below.{Marks}
 use Rattle.records.proofs.BelowLaws.{marks_one}
@@ -8,6 +8,7 @@ pub returns-clause-marks : goal.returns-clause-marks
 returns-clause-marks c =
     let marks = c.args.marks.now.items in
     let left = c.args.left.now.items in
-    let n = c.args.number in
-    let not = get_or_default marks n false c.index.result.now c.requires ∙ sym c.index.ensures ∙ c.if-index.false in
-    subst (Marks marks _ left) (sym c.in_ok-push.ensures.items) (marks_one marks left n c.requires not)
+    let at = c.get-at.result in
+    let within = subst (λ (k : ℕ). k < length marks) (sym c.get-at.ensures) c.requires in
+    let not = get_or_default marks at false c.index.result.now within ∙ sym c.index.ensures ∙ c.if-index.false in
+    subst (Marks marks _ left) (ap (λ (k : ℕ). left ++ k ∷ []) c.get-at.ensures ∙ sym c.in_ok-push.ensures.items) (marks_one marks left at within not)

@@ -1,7 +1,8 @@
-use Rattle.std.proofs.Common.{ℕ, ◌<◌, List, length, take, get_or, inl, inr, sym, subst, arith}
+use Rattle.std.proofs.Common.{ℕ, ◌<◌, ◌∙◌, List, length, take, get_or, inl, inr, sym, subst, arith}
 use Rattle.std.proofs.lemmas.List.{take_all, take_more}
 use Rattle.std.proofs.lemmas.List.Elements.{Contains-get_or, Contains-push_cases}
 use Rattle.std.specs.List.{Contains}
+use Rattle.paths.specs.Numbers.{IsNumber}
 use Rattle.records.specs.Below.{IsMarked}
 use Rattle.records.proofs.BelowLaws.{marks_more}
 use Rattle.records.proofs.below.mark_all.Goals as goal
@@ -16,14 +17,14 @@ returns-in_err-mark-clause-only c = λ n is.
     let here : at < length numbers = omega arith in
     elim (c.mark.ensures.only n is) [
       | inl before ↦ c.loop-number.invariant.only n before
-      | inr same ↦ inr (subst (Contains numbers) (sym same) (Contains-get_or numbers at 0 here))
+      | inr same ↦ inr (subst (Contains numbers) (sym (same ∙ c.number-item.is)) (Contains-get_or numbers at c.number-item.result here))
     ]
 
 pub returns-in_err-mark-clause-within : goal.returns-in_err-mark-clause-within
 returns-in_err-mark-clause-within c = λ count all old.
     let at = c.loop-number.number-index in
     let here : at < length c.args.numbers.now = omega arith in
-    c.mark.ensures.within count (all at 0 here) (c.loop-number.invariant.within count all old)
+    c.mark.ensures.within count (subst (IsNumber count) (sym c.number-item.is) (all at c.number-item.result here)) (c.loop-number.invariant.within count all old)
 
 pub loop-number-preserved : goal.loop-number-preserved
 loop-number-preserved c =
@@ -31,17 +32,18 @@ loop-number-preserved c =
     let at = c.loop-number.number-index in
     let here : at < length numbers = omega arith in
     let so_far = c.loop-number.invariant in
+    let item = c.number-item.result in
     record {
       marking = marks_more _ _ _ _ _ _ so_far.marking c.mark.ensures.marks;
-      all = λ n is. elim (Contains-push_cases (take at numbers) (get_or numbers at 0) n (subst (λ (xs : List ℕ). Contains xs n) (take_more numbers at 0 here) is)) [
+      all = λ n is. elim (Contains-push_cases (take at numbers) (get_or numbers at item) n (subst (λ (xs : List ℕ). Contains xs n) (take_more numbers at item here) is)) [
         | inl before ↦ c.mark.ensures.marks.kept n (so_far.all n before)
-        | inr same ↦ subst (IsMarked c.mark.new.marks.items) same c.in_ok-mark.ensures.marked
+        | inr same ↦ subst (IsMarked c.mark.new.marks.items) (c.number-item.is ∙ same) c.in_ok-mark.ensures.marked
       ];
       only = λ n is. elim (c.mark.ensures.only n is) [
         | inl before ↦ so_far.only n before
-        | inr same ↦ inr (subst (Contains numbers) (sym same) (Contains-get_or numbers at 0 here))
+        | inr same ↦ inr (subst (Contains numbers) (sym (same ∙ c.number-item.is)) (Contains-get_or numbers at c.number-item.result here))
       ];
-      within = λ count all old. c.mark.ensures.within count (all at 0 here) (so_far.within count all old);
+      within = λ count all old. c.mark.ensures.within count (subst (IsNumber count) (sym c.number-item.is) (all at item here)) (so_far.within count all old);
     }
 
 pub returns-clause-all : goal.returns-clause-all

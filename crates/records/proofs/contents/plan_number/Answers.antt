@@ -16,10 +16,10 @@ returns-clause-planned g c =
     let count = g.B.Blocks.count c.load_to_change.new.blocks in
     let take = c.take-object.ensures in
     let plan = c.plan_object-planned.ensures in
-    let n = c.args.number in
+    let n = c.get-n.result in
     let s = c.load_to_change.new.inodes in
     let f = bytes_after c.args.rewrite.now in
-    behind (brought c.in_ok-load_to_change.ensures) (record {
+    rw (sym c.get-n.ensures) (behind (brought c.in_ok-load_to_change.ensures) (record {
       looks = record {
         reads = plan.reads;
         geometry = c.put_back.ensures.geometry ∙ take.geometry;
@@ -39,4 +39,4 @@ returns-clause-planned g c =
           plan.damaged disk now.shows is
           (λ object some i. c.objects_stand_in_their_grammar.ensures count disk settled s v n i object (v n) now.volume
           (subst (λ (x : Option Object). IsObjectOrNone disk s.geometry.inodes (settled n) x (v n)) some o));
-    })
+    }))

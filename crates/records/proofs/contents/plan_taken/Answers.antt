@@ -1,6 +1,6 @@
-use Rattle.std.proofs.Common.{Some}
+use Rattle.std.proofs.Common.{Some, sym}
 use Rattle.inofile.specs.Settled.{content_of}
-use Rattle.records.proofs.ContentLaws.{not_file}
+use Rattle.records.proofs.KindLaws.{not_file}
 use Rattle.records.proofs.EnterLaws.{same_object}
 use Rattle.records.proofs.contents.plan_taken.Goals as goal
 
@@ -10,4 +10,4 @@ returns-in_default-clause-same g c = same_object (Some c.args.object.now)
 pub returns-in_default-clause-told : goal.returns-in_default-clause-told
 returns-in_default-clause-told g c = λ disk inodes settled found is.
     let o = c.args.object.now in
-    not_file o.attributes.kind inodes (content_of disk o) found is.stands c.in_default.not-File
+    sym (not_file o.attributes.kind inodes (content_of disk o) found is.stands c.in_default.not-File)

@@ -6,35 +6,35 @@ use Rattle.inofile.specs.Inodes.{loaded}
 use Rattle.records.specs.Contents.{RewritesIn, bytes_after}
 use Rattle.records.specs.Steps.{TakesUpdate}
 use Rattle.records.specs.declared.steps.Update.TheVariants as updates
-use Rattle.records.proofs.ContentLaws.{bounds_kept, file_changed, rewriting_applied, rewriting_applies}
-use Rattle.records.proofs.Preparing.{prepares, refuses, stops}
+use Rattle.records.proofs.ContentLaws.{bars_rewriting, bounds_kept, file_changed, rewriting_applied, rewriting_applies, tells_rewriting}
+use Rattle.records.proofs.Deciding.{decides, obstructs, stops}
 use Rattle.records.proofs.StandLaws.{no_look}
 use Rattle.records.proofs.contents.prepare_bytes.Goals as goal
 
-pub returns-then-not-keeps_bounds-clause-prepares : goal.returns-then-not-keeps_bounds-clause-prepares
-returns-then-not-keeps_bounds-clause-prepares g c = refuses no_look (λ disk settled v stands volume can.
-    both_ways c.keeps_bounds.result c.if-not-keeps_bounds.true (c.keeps_bounds.ensures.1 (bounds_kept c.args.inodes.now.geometry.inodes v c.args.number c.args.rewrite.now can)))
+pub returns-then-not-keeps_bounds-clause-decides : goal.returns-then-not-keeps_bounds-clause-decides
+returns-then-not-keeps_bounds-clause-decides g c = obstructs no_look (tells_rewriting c.args.number c.args.rewrite.now) (λ disk settled v stands volume. bars_rewriting _ v c.args.number c.args.rewrite.now (λ can.
+    both_ways c.keeps_bounds.result c.if-not-keeps_bounds.true (c.keeps_bounds.ensures.1 (bounds_kept c.args.inodes.now.geometry.inodes v c.args.number c.args.rewrite.now can))))
 
-pub returns-then-not-is_number-clause-prepares : goal.returns-then-not-is_number-clause-prepares
-returns-then-not-is_number-clause-prepares g c = refuses no_look (λ disk settled v stands volume can.
+pub returns-then-not-is_number-clause-decides : goal.returns-then-not-is_number-clause-decides
+returns-then-not-is_number-clause-decides g c = obstructs no_look (tells_rewriting c.args.number c.args.rewrite.now) (λ disk settled v stands volume. bars_rewriting _ v c.args.number c.args.rewrite.now (λ can.
     false≢true (subst (λ (o : Option Node). IsTrue (is_file_node o)) (c.is_number.ensures.no c.if-not-is_number.true v volume)
+    (file_changed c.args.inodes.now.geometry.inodes v c.args.number c.args.rewrite.now can))))
+
+pub returns-in_err-planned-clause-decides : goal.returns-in_err-planned-clause-decides
+returns-in_err-planned-clause-decides g c = stops c.from_residual.result c.from_residual.ensures.1 c.in_err-planned.ensures.planned.looks c.in_err-planned.ensures.planned.damaged
+
+pub returns-in_default-clause-decides : goal.returns-in_default-clause-decides
+returns-in_default-clause-decides g c = obstructs c.in_ok-planned.ensures.planned.looks (tells_rewriting c.args.number c.args.rewrite.now) (λ disk settled v stands volume. bars_rewriting _ v c.args.number c.args.rewrite.now (λ can.
+    both_ways (is_file_node (v c.args.number)) (sym (c.in_ok-planned.ensures.planned.found disk settled v stands).0 ∙ ap is_some c.in_default.is)
     (file_changed c.args.inodes.now.geometry.inodes v c.args.number c.args.rewrite.now can)))
 
-pub returns-in_err-planned-clause-prepares : goal.returns-in_err-planned-clause-prepares
-returns-in_err-planned-clause-prepares g c = stops c.from_residual.result c.from_residual.ensures.1 c.in_err-planned.ensures.planned.looks c.in_err-planned.ensures.planned.damaged
-
-pub returns-in_default-clause-prepares : goal.returns-in_default-clause-prepares
-returns-in_default-clause-prepares g c = refuses c.in_ok-planned.ensures.planned.looks (λ disk settled v stands volume can.
-    both_ways (is_file_node (v c.args.number)) (sym (c.in_ok-planned.ensures.planned.found disk settled v stands).0 ∙ ap is_some c.in_default.is)
-    (file_changed c.args.inodes.now.geometry.inodes v c.args.number c.args.rewrite.now can))
-
-pub returns-clause-prepares : goal.returns-clause-prepares
-returns-clause-prepares g c =
+pub returns-clause-decides : goal.returns-clause-decides
+returns-clause-decides g c =
     let n = c.args.number in
     let planned = c.in_ok-planned.ensures in
     let s = c.plan_number.new.inodes in
     let f = bytes_after c.args.rewrite.now in
-    prepares planned.planned.looks
+    decides planned.planned.looks
     (record {
       first = subst (λ o. IfSome o (λ x. TakesUpdate s n (updates.Bytes x))) c.in-Some.is planned.ready;
       next = tt;

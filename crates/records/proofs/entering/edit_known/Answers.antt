@@ -12,10 +12,10 @@ returns-clause-edit g c =
     let count = g.B.Blocks.count c.args.blocks.now in
     let take = c.take-object.ensures in
     let edit = c.edit_object-edit.ensures in
-    let n = c.args.parent in
+    let n = c.get-n.result in
     let before = c.args.inodes.now.geometry.inodes in
     let same : c.inodes-count.result ≡ before = c.inodes-count.ensures.value ∙ ap (λ (s : Sizes). s.inodes) c.geometry.ensures in
-    record {
+    rw (sym c.get-n.ensures) (record {
       looks = record {
         reads = edit.reads;
         geometry = c.put_back.ensures.geometry ∙ take.geometry;
@@ -37,4 +37,4 @@ returns-clause-edit g c =
           edit.damaged disk (settled n) (v n) stands.shows is (subst (λ (k : ℕ). IsObjectOrNone disk k (settled n) c.take-object.result (v n)) (sym same) o)
           (λ object some i. c.objects_stand_in_their_grammar.ensures count disk settled c.args.inodes.now v n i object (v n) stands.volume
           (subst (λ (x : Option Object). IsObjectOrNone disk before (settled n) x (v n)) some o));
-    }
+    })

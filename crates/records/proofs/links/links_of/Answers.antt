@@ -2,7 +2,7 @@ use Rattle.std.proofs.Common.{ap, subst}
 use Rattle.images.specs.Contents.{StandsAs, bytes_of}
 use Rattle.model.specs.Volumes.{is_file_node}
 use Rattle.inofile.specs.Settled.{content_of}
-use Rattle.records.proofs.FileLaws.{not_file}
+use Rattle.records.proofs.KindLaws.{not_file}
 use Rattle.records.proofs.links.links_of.Goals as goal
 
 pub returns-in_default-clause-other : goal.returns-in_default-clause-other

@@ -1,26 +1,30 @@
-use Rattle.std.proofs.Common.{rules, ◌≤◌, ◌<◌, ℕ, IsTrue, ap, sym, subst, ◌∙◌}
+use Rattle.std.proofs.Common.{rules, ◌≡◌, ◌≤◌, ◌<◌, ℕ, List, IsTrue, refl, sym, subst, ◌∙◌}
 use Rattle.std.proofs.lemmas.Bool.{both_ways}
 use Rattle.blocktree.specs.Trees.{IsSoundAt}
 use Rattle.layout.specs.Limits.{Sizes}
 use Rattle.layout.specs.Record.{made_of}
-use Rattle.model.specs.Records.{IsMade, is_vacant}
-use Rattle.model.specs.Volumes.{IsVolume}
+use Rattle.layout.specs.declared.inode.Inode.{Inode}
+use Rattle.model.specs.Records.{IsMade, TakesName, create}
+use Rattle.model.specs.Volumes.{IsVolume, Volume}
+use Rattle.model.specs.declared.errno.Errno.TheVariants.{DIRFULL}
+use Rattle.paths.specs.Standing.{Stands}
 use Rattle.paths.proofs.Looks.{looks_more, looks_reads}
-use Rattle.records.proofs.EnterLaws.{refused_so, told_so}
-use Rattle.records.proofs.Preparing.{refuses, stops}
+use Rattle.records.specs.Obstacles.{IsObstacle, tells_obstacle}
+use Rattle.records.proofs.Deciding.{obstructs, stops}
+use Rattle.records.proofs.Failures.{refusal_is}
+use Rattle.records.proofs.Looking.{ok_so}
 use Rattle.records.proofs.StandLaws.{no_look}
 use Rattle.records.proofs.prepared.prepare_create.Goals as goal
 
 pub returns-then-not-is_made : goal.returns-then-not-is_made
-returns-then-not-is_made g c = refuses no_look (λ disk settled v stands volume can. both_ways c.is_made.result c.if-not-is_made.true (c.is_made.ensures.1 can.good))
+returns-then-not-is_made g c = obstructs no_look refl (λ disk settled v stands volume may. both_ways c.is_made.result c.if-not-is_made.true (c.is_made.ensures.1 may.2))
 
 pub returns-in_err-vacant : goal.returns-in_err-vacant
 returns-in_err-vacant g c = stops c.from_residual.result c.from_residual.ensures.1 c.in_err-vacant.ensures.looks c.in_err-vacant.ensures.damaged
 
 pub returns-then-not-vacant : goal.returns-then-not-vacant
-returns-then-not-vacant g c = refuses c.in_ok-vacant.ensures.looks (λ disk settled v stands volume can.
-    both_ways c.in_ok-vacant.vacant c.if-not-vacant.true
-    (c.in_ok-vacant.ensures.found disk settled v stands ∙ ap (λ (k : ℕ). is_vacant (v k)) c.get-n.ensures ∙ can.vacant))
+returns-then-not-vacant g c = obstructs c.in_ok-vacant.ensures.looks refl (λ disk settled v stands volume may.
+    both_ways c.in_ok-vacant.vacant c.if-not-vacant.true (c.in_ok-vacant.ensures.found disk settled v stands ∙ may.3))
 
 pub returns-in_err-new : goal.returns-in_err-new
 returns-in_err-new g c = stops c.from_residual-in_err-new.result c.from_residual-in_err-new.ensures.1 (looks_reads c.in_ok-vacant.ensures.looks c.in_err-new.ensures.reads) (λ disk settled v stands is.
@@ -40,18 +44,22 @@ returns g c =
     let low : 4 ≤ c.args.number = search rules in
     let high : c.args.number < c.args.inodes.now.geometry.inodes = search rules in
     let good : IsMade (made_of c.args.object.now) = c.is_made.ensures.0 c.if-not-is_made.false in
+    let is_free = λ (disk : ℕ → List ℕ) (settled : ℕ → Inode) (v : Volume) (stands : Stands g.B.Blocks disk settled v c.args.blocks.now c.args.inodes.now).
+    sym (vacant.found disk settled v stands) ∙ c.if-not-vacant.false in
     record {
       looks = looks_more before new.looks;
+      own = refusal_is (λ e. IsTrue (tells_obstacle (create c.args.number c.args.parent (made_of c.args.object.now) c.args.name.now) e)) (λ e. e ≡ DIRFULL) c.prepare_new.result new.full new.full (λ is. refl);
       ready = new.ready;
       does = λ disk settled v stands.
-          let is_free : IsTrue (is_vacant (v c.args.number)) = ap (λ (k : ℕ). is_vacant (v k)) (sym c.get-n.ensures) ∙ sym (vacant.found disk settled v stands) ∙ c.if-not-vacant.false in
-          new.does disk settled v (made_of c.args.object.now) (before.kept disk settled v stands) is_free
+          new.does disk settled v (made_of c.args.object.now) (before.kept disk settled v stands) (is_free disk settled v stands)
           (λ k. made.object disk (vacant.looks.kept disk settled v stands).shows k (settled c.args.number));
       applies = λ disk settled v stands.
-          let is_free : IsTrue (is_vacant (v c.args.number)) = ap (λ (k : ℕ). is_vacant (v k)) (sym c.get-n.ensures) ∙ sym (vacant.found disk settled v stands) ∙ c.if-not-vacant.false in
-          told_so c.prepare_new.result _ _ (λ p taken. record { low = low; high = high; vacant = is_free; takes = taken; good = good }) (new.takes disk settled v (before.kept disk settled v stands));
+          ok_so c.prepare_new.result _ _ (λ p taken. record { low = low; high = high; vacant = is_free disk settled v stands; takes = taken; good = good })
+          (new.takes disk settled v (before.kept disk settled v stands));
       refused = λ disk settled v stands volume.
-          refused_so c.prepare_new.result _ _ (λ not can. not can.takes)
-          (new.refused disk settled v (before.kept disk settled v stands) (subst (λ (s : Sizes). IsVolume s.inodes v) (sym before.geometry) volume));
+          refusal_is (IsObstacle c.args.inodes.now.geometry.inodes v (create c.args.number c.args.parent (made_of c.args.object.now) c.args.name.now))
+          (λ e. TakesName v c.args.parent c.args.name.now → ⊥) c.prepare_new.result new.full
+          (new.refused disk settled v (before.kept disk settled v stands) (subst (λ (s : Sizes). IsVolume s.inodes v) (sym before.geometry) volume))
+          (λ full. ((low, high, good, is_free disk settled v stands), full));
       damaged = λ disk settled v stands is. new.damaged disk settled v (before.kept disk settled v stands) is;
     }

@@ -1,16 +1,16 @@
-use Rattle.std.proofs.Common.{rules, ℕ, Option, Some, IfSome, IsTrue, refl, ap, sym, subst, ◌∙◌}
+use Rattle.std.proofs.Common.{Option, Some, IfSome, IsTrue, refl, ap, sym, subst, ◌∙◌}
 use Rattle.std.proofs.lemmas.Bool.{false≢true}
 use Rattle.layout.specs.declared.entry.Entry.{Entry}
 use Rattle.model.specs.Records.{node_of}
 use Rattle.model.specs.Volumes.{Node, is_directory_node, with_node}
 use Rattle.inofile.specs.Inodes.{loaded}
-use Rattle.inofile.specs.Objects.{IsObject}
-use Rattle.paths.proofs.Looks.{looks_err, looks_more, looks_ok}
+use Rattle.paths.proofs.Looks.{looks_more, looks_ok}
 use Rattle.records.specs.Entering.{PreparesEdit, names_after, with_names}
-use Rattle.records.specs.Steps.{IsAtHand, TakesUpdate}
+use Rattle.records.specs.Steps.{TakesUpdate}
 use Rattle.records.specs.declared.naming.NameEdit.TheVariants as edits
 use Rattle.records.specs.declared.steps.Update.TheVariants as updates
 use Rattle.records.proofs.EnterLaws.{accepts_entry, found_directory, names_set, put_volume, takes_accepted, vacant_apart}
+use Rattle.records.proofs.Failures.{damaged_read, looks_read}
 use Rattle.records.proofs.Looking.{at_hand_behind}
 use Rattle.records.proofs.prepared.prepare_new.Goals as goal
 
@@ -19,18 +19,18 @@ returns-then-not-is_number-clause-refused g c = λ disk settled v stands volume 
     false≢true (subst (λ (o : Option Node). IsTrue (is_directory_node o)) (c.is_number.ensures.no c.if-not-is_number.true v volume) takes.directory)
 
 pub returns-in_err-load_to_change-clause-looks : goal.returns-in_err-load_to_change-clause-looks
-returns-in_err-load_to_change-clause-looks g c = looks_err c.from_residual.result c.from_residual.ensures.1 c.in_err-load_to_change.ensures.looks
+returns-in_err-load_to_change-clause-looks g c = looks_read c.from_residual.result c.from_residual.ensures.1 c.in_err-load_to_change.ensures.looks
 
 pub returns-in_err-load_to_change-clause-damaged : goal.returns-in_err-load_to_change-clause-damaged
-returns-in_err-load_to_change-clause-damaged g c = λ disk settled v stands is. c.in_err-load_to_change.ensures.damaged disk settled v stands (search rules)
+returns-in_err-load_to_change-clause-damaged g c = damaged_read c.from_residual.result c.from_residual.ensures.1 c.in_err-load_to_change.ensures.damaged
 
 pub returns-in_err-planned-clause-looks : goal.returns-in_err-planned-clause-looks
 returns-in_err-planned-clause-looks g c =
-    looks_err c.from_residual-in_err-planned.result c.from_residual-in_err-planned.ensures.1 (looks_more c.in_ok-load_to_change.ensures.looks c.in_err-planned.ensures.edit.looks)
+    looks_read c.from_residual-in_err-planned.result c.from_residual-in_err-planned.ensures.1 (looks_more c.in_ok-load_to_change.ensures.looks c.in_err-planned.ensures.edit.looks)
 
 pub returns-in_err-planned-clause-damaged : goal.returns-in_err-planned-clause-damaged
-returns-in_err-planned-clause-damaged g c = λ disk settled v stands is.
-    c.in_err-planned.ensures.edit.damaged disk settled v (c.in_ok-load_to_change.ensures.looks.kept disk settled v stands) (search rules)
+returns-in_err-planned-clause-damaged g c = damaged_read c.from_residual-in_err-planned.result c.from_residual-in_err-planned.ensures.1 (λ disk settled v stands.
+    c.in_err-planned.ensures.edit.damaged disk settled v (c.in_ok-load_to_change.ensures.looks.kept disk settled v stands))
 
 pub returns-in_default-clause-looks : goal.returns-in_default-clause-looks
 returns-in_default-clause-looks g c = looks_ok (looks_more c.in_ok-load_to_change.ensures.looks c.in_ok-planned.ensures.edit.looks)
@@ -52,7 +52,7 @@ returns-clause-ready g c =
     record {
       first = subst (λ o. IfSome o (λ e. TakesUpdate c.edit_parent.new.inodes c.args.parent (updates.Names e))) c.in-Some.is planned.ready;
       next = record {
-        at_hand = at_hand_behind c.get-2.result planned.edit (subst (IsAtHand c.load_to_change.new.inodes) (c.get.ensures ∙ sym c.get-2.ensures) c.in_ok-load_to_change.ensures.known);
+        at_hand = at_hand_behind c.args.number planned.edit c.in_ok-load_to_change.ensures.known;
         fits = tt;
       };
       last = tt;
@@ -72,21 +72,18 @@ returns-clause-does g c = λ disk settled v made stands is_free is_object.
     let f = names_after (edits.Add entry) in
     let edit = subst (PreparesEdit disk s.geometry.inodes (edits.Add entry) (v d) (loaded s d)) c.in-Some.is (c.in_ok-planned.ensures.edit.found disk settled v now) in
     let node = node_of made in
-    let k = c.get-2.result in
-    let same = c.get-2.ensures in
     let apart = vacant_apart v number d is_free (found_directory (v d) edit.1.mode edit.1.names edit.1.is) in
     let to = with_names f (v d) in
     let between = with_node d to v in
     record {
       between = between;
-      second = with_node k (Some node) between;
+      second = with_node number (Some node) between;
       first = (to, (f, edit.0, refl), refl);
-      next = (Some node, subst (λ (k : ℕ). IsObject disk s.geometry.inodes (settled k) c.args.object (Some node)) (sym same) (is_object s.geometry.inodes), refl);
+      next = (Some node, is_object s.geometry.inodes, refl);
       last =
           sym (put_volume number d name (Some number) (Some node) v apart)
-          ∙ ap (λ o. with_node number (Some node) (with_node d o v)) (sym (names_set name (Some number) (v d)))
-          ∙ ap (λ (j : ℕ). with_node j (Some node) between) (sym same);
-      next_beside = λ e. apart (sym same ∙ e);
+          ∙ ap (λ o. with_node number (Some node) (with_node d o v)) (sym (names_set name (Some number) (v d)));
+      next_beside = apart;
       last_beside = tt;
       beside = tt;
     }

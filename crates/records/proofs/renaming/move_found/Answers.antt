@@ -1,36 +1,31 @@
-use Rattle.std.proofs.Common.{◌≡◌, ◌∙◌, ℕ, List, Option, None, Some, ap, sym, subst}
+use Rattle.std.proofs.Common.{◌≡◌, ◌∙◌, ℕ, List, Option, None, Some, Err, IfErr, refl, ap, sym, subst}
 use Rattle.std.proofs.lemmas.Bool.{both_ways}
 use Rattle.layout.specs.Directory.{IsEntry}
 use Rattle.layout.specs.Limits.{Sizes}
 use Rattle.layout.specs.declared.inode.Inode.{Inode}
-use Rattle.model.specs.Paths.{Name}
-use Rattle.model.specs.Records.{CanReplace, IsBelow}
+use Rattle.model.specs.Records.{rename}
 use Rattle.model.specs.Volumes.{Volume, entries}
 use Rattle.paths.specs.Standing.{Stands}
 use Rattle.paths.proofs.Looks.{looks_more}
-use Rattle.records.specs.Moving.{MayReplace, Moves, Replaces, ReplacesBy}
-use Rattle.records.specs.declared.steps.Step.{Step}
-use Rattle.records.proofs.FileLaws.{same_some}
+use Rattle.records.specs.Moving.{Moves, Replaces, ReplacesBy}
+use Rattle.records.specs.Obstacles.{IsObstacle}
+use Rattle.records.proofs.Deciding.{follows, obstructs, passes, stops}
+use Rattle.records.proofs.Failures.{refused_by}
 use Rattle.records.proofs.MoveLaws.{entry_named}
+use Rattle.records.proofs.ObstacleLaws.{bars_rename, bars_replacing}
 use Rattle.records.proofs.StandLaws.{no_look}
-use Rattle.records.proofs.Preparing.{follows, refuses, stops}
 use Rattle.records.proofs.renaming.move_found.Goals as goal
 
--- it moves, by the number that its entry has
-moves_to : (disk : ℕ → List ℕ) (settled : ℕ → Inode) (v : Volume) (d : ℕ) (x : Name) (n m k : ℕ) (y : Name) → n ≡ m → entries v d x ≡ Some m
-    → (step : Option Step) → Replaces disk settled v m (entries v k y) step → Moves disk settled v d x n k y step
-moves_to disk settled v d x n m k y same there step replaces = record {
-  there = there ∙ ap (λ (j : ℕ). Some j) (sym same);
-  replaces = subst (λ (j : ℕ). Replaces disk settled v j (entries v k y) step) (sym same) replaces;
-}
+pub returns-then-not-is_name : goal.returns-then-not-is_name
+returns-then-not-is_name g c = obstructs no_look refl (λ disk settled v known volume name. both_ways c.is_name.result c.if-not-is_name.true (c.is_name.ensures.1 name))
 
 pub returns-then-not-fits : goal.returns-then-not-fits
-returns-then-not-fits g c = refuses no_look (λ disk settled v known volume can.
+returns-then-not-fits g c = obstructs no_look refl (λ disk settled v known volume.
     let inodes = c.args.inodes.now.geometry.inodes in
     let count : c.inodes.result ≡ inodes = c.inodes.ensures.value ∙ ap (λ (s : Sizes). s.inodes) c.geometry.ensures in
-    let n = c.new.result in
-    let is = entry_named inodes v c.args.parent c.args.name.now n c.args.new_name.now volume (known.1 ∙ ap (λ (k : ℕ). Some k) (sym c.new.ensures)) can.name in
-    both_ways c.fits.result c.if-not-fits.true (c.fits.ensures.1 (subst (λ (k : ℕ). IsEntry k (record { number = n; name = c.args.new_name.now })) (sym count) is)))
+    let n = c.args.number in
+    let is = entry_named inodes v c.args.parent c.args.name.now n c.args.new_name.now volume known.1 (c.is_name.ensures.0 c.if-not-is_name.false) in
+    absurd (both_ways c.fits.result c.if-not-fits.true (c.fits.ensures.1 (subst (λ (k : ℕ). IsEntry k (record { number = n; name = c.args.new_name.now })) (sym count) is))))
 
 pub returns-in_err-target : goal.returns-in_err-target
 returns-in_err-target g c = stops c.from_residual.result c.from_residual.ensures.1 c.in_err-target.ensures.number.looks c.in_err-target.ensures.number.damaged
@@ -39,54 +34,57 @@ returns-in_err-target g c = stops c.from_residual.result c.from_residual.ensures
 pub returns-in_default : goal.returns-in_default
 returns-in_default g c =
     let target = c.in_ok-target.ensures.number in
+    let d = c.args.parent in
+    let x = c.args.name.now in
     let n = c.args.number in
-    let k = c.args.new_parent in
-    let moves = λ (disk : ℕ → List ℕ) (settled : ℕ → Inode) (v : Volume) (stands : Stands g.B.Blocks disk settled v c.args.blocks.now c.args.inodes.now) (there : entries v c.args.parent c.args.name.now ≡ Some n).
-    moves_to disk settled v c.args.parent c.args.name.now c.new.result n k c.args.new_name.now c.new.ensures there None
-    (subst (λ (o : Option ℕ). Replaces disk settled v n o None) (sym c.in_default.is ∙ target.found disk settled v stands) tt) in
+    let moves = λ (disk : ℕ → List ℕ) (settled : ℕ → Inode) (v : Volume) (stands : Stands g.B.Blocks disk settled v c.args.blocks.now c.args.inodes.now) (there : entries v d x ≡ Some n).
+    let m : Moves disk settled v d x n c.args.new_parent c.args.new_name.now None = record {
+      there = there;
+      replaces = subst (λ (o : Option ℕ). Replaces disk settled v n o None) (sym c.in_default.is ∙ target.found disk settled v stands) tt;
+    } in
+    m in
     follows target.looks c.place.ensures
     (λ disk settled v known. (target.looks.kept disk settled v known.0, moves disk settled v known.0 known.1))
-    (λ disk settled v known. (
-      target.looks.kept disk settled v known.0,
-      moves disk settled v known.0 known.1,
-      λ is. known.2 (subst (λ (j : ℕ). IsBelow (entries v) j k) c.new.ensures is),
-    ))
+    (λ disk settled v known. (target.looks.kept disk settled v known.0, moves disk settled v known.0 known.1, known.2))
 
 -- where another object has it
 
-pub returns-in_err-replaced : goal.returns-in_err-replaced
-returns-in_err-replaced g c =
+pub returns-in_err-step : goal.returns-in_err-step
+returns-in_err-step g c =
     let target = c.in_ok-target.ensures.number in
-    stops c.from_residual-in_err-replaced.result c.from_residual-in_err-replaced.ensures.1 (looks_more target.looks c.in_err-replaced.ensures.replaced.looks)
-    (λ disk settled v stands is. c.in_err-replaced.ensures.replaced.damaged disk settled v (target.looks.kept disk settled v stands) is)
-
-pub returns-in_default-replaced : goal.returns-in_default-replaced
-returns-in_default-replaced g c =
-    let target = c.in_ok-target.ensures.number in
-    refuses (looks_more target.looks c.in_ok-replaced.ensures.replaced.looks) (λ disk settled v known volume can.
-    let other = c.in-Some.other in
-    let is = sym c.in-Some.is ∙ target.found disk settled v known.0 in
-    let may = subst (λ (o : Option ℕ). CanReplace v c.args.parent c.args.new_parent c.args.new_name.now can.number o) (sym is) can.replaces in
-    let same = same_some (sym can.there ∙ known.1) in
-    subst (λ (o : Option Step). ReplacesBy disk settled v c.args.number other o) c.in_default-replaced.is (c.in_ok-replaced.ensures.replaced.found disk settled v (target.looks.kept disk settled v known.0))
-    (subst (λ (n : ℕ). MayReplace v n other) same may))
+    let failed = c.in_err-step.ensures in
+    passes _ c.from_residual-in_err-step.result c.from_residual-in_err-step.ensures.1 (looks_more target.looks failed.replaced.looks) failed.own
+    (λ disk settled v known volume.
+    let d = c.args.parent in
+    let x = c.args.name.now in
+    let n = c.args.number in
+    let m = c.in-Some.other in
+    let k = c.args.new_parent in
+    let y = c.args.new_name.now in
+    refused_by (ReplacesBy disk settled v n m) (λ r. IfErr r (IsObstacle c.args.inodes.now.geometry.inodes v (rename d x k y))) _ (Err _) refl
+    (λ errno bars.
+    bars_rename c.args.inodes.now.geometry.inodes v d x n m k y errno known.1 (sym (target.found disk settled v known.0) ∙ c.in-Some.is)
+    (bars_replacing disk settled v d n m k y errno known.2 bars))
+    (failed.replaced.found disk settled v (target.looks.kept disk settled v known.0)))
+    (λ disk settled v stands is. failed.replaced.damaged disk settled v (target.looks.kept disk settled v stands) is)
 
 pub returns : goal.returns
 returns g c =
     let target = c.in_ok-target.ensures.number in
-    let told = c.in_ok-replaced.ensures.replaced in
-    let before = looks_more target.looks told.looks in
+    let took = c.in_ok-step.ensures.replaced in
+    let before = looks_more target.looks took.looks in
+    let d = c.args.parent in
+    let x = c.args.name.now in
     let n = c.args.number in
-    let k = c.args.new_parent in
-    let step = Some c.in-Some-replaced.step in
-    let moves = λ (disk : ℕ → List ℕ) (settled : ℕ → Inode) (v : Volume) (stands : Stands g.B.Blocks disk settled v c.args.blocks.now c.args.inodes.now) (there : entries v c.args.parent c.args.name.now ≡ Some n).
-    let some = subst (λ (o : Option Step). ReplacesBy disk settled v n c.in-Some.other o) c.in-Some-replaced.is (told.found disk settled v (target.looks.kept disk settled v stands)) in
-    moves_to disk settled v c.args.parent c.args.name.now c.new.result n k c.args.new_name.now c.new.ensures there step
-    (subst (λ (o : Option ℕ). Replaces disk settled v n o step) (sym c.in-Some.is ∙ target.found disk settled v stands) some) in
+    let step = Some c.in_ok-step.step in
+    let moves = λ (disk : ℕ → List ℕ) (settled : ℕ → Inode) (v : Volume) (stands : Stands g.B.Blocks disk settled v c.args.blocks.now c.args.inodes.now) (there : entries v d x ≡ Some n).
+    let m : Moves disk settled v d x n c.args.new_parent c.args.new_name.now step = record {
+      there = there;
+      replaces =
+          subst (λ (o : Option ℕ). Replaces disk settled v n o step) (sym c.in-Some.is ∙ target.found disk settled v stands)
+          (took.found disk settled v (target.looks.kept disk settled v stands));
+    } in
+    m in
     follows before c.place-2.ensures
     (λ disk settled v known. (before.kept disk settled v known.0, moves disk settled v known.0 known.1))
-    (λ disk settled v known. (
-      before.kept disk settled v known.0,
-      moves disk settled v known.0 known.1,
-      λ is. known.2 (subst (λ (j : ℕ). IsBelow (entries v) j k) c.new.ensures is),
-    ))
+    (λ disk settled v known. (before.kept disk settled v known.0, moves disk settled v known.0 known.1, known.2))

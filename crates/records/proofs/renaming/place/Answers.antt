@@ -13,7 +13,8 @@ use Rattle.records.proofs.EnterLaws.{found_directory, takes_accepted}
 use Rattle.records.proofs.FileLaws.{alone_some, alone_some_apart, apart_none, named_directory}
 use Rattle.records.proofs.Looking.{some_at_hand_behind}
 use Rattle.records.proofs.MoveLaws.{accepts_move, accepts_other, aside_new, aside_old, beside_new, beside_none, beside_old, can_rename, moved_across, moved_inside, names_for, steps_on, wanted_none, wanted_some}
-use Rattle.records.proofs.Preparing.{prepares, refuses, stops}
+use Rattle.records.proofs.Deciding.{decides, obstructs, stops}
+use Rattle.records.proofs.ObstacleLaws.{no_place}
 use Rattle.records.proofs.renaming.place.Goals.{then-is_some, else-is_some}
 use Rattle.records.proofs.renaming.place.Goals as goal
 use Rattle.model.proofs.ObjectLaws.{node_other}
@@ -22,16 +23,16 @@ pub returns-in_err-planned : goal.returns-in_err-planned
 returns-in_err-planned g c = stops c.from_residual.result c.from_residual.ensures.1 c.in_err-planned.ensures.edit.looks c.in_err-planned.ensures.edit.damaged
 
 pub returns-in_default : goal.returns-in_default
-returns-in_default g c = refuses c.in_ok-planned.ensures.edit.looks (λ disk settled v known volume can.
+returns-in_default g c = obstructs c.in_ok-planned.ensures.edit.looks refl (λ disk settled v known volume.
     let entry : Entry = record { number = c.args.entry.now.number; name = c.args.entry.now.name } in
     let old : Entry = record { number = 0; name = c.args.name } in
     let k = c.args.new_parent in
     let s = c.edit_parent.new.inodes in
-    subst (PreparesEdit disk s.geometry.inodes (edits.Move c.args.name entry) (v k) (loaded s k)) c.in_default.is (c.in_ok-planned.ensures.edit.found disk settled v known.0)
-    (accepts_move disk settled v c.args.parent c.args.name.now entry.number k entry.name.now c.args.replaced known.1 c.args.inodes.now.geometry.inodes old entry refl refl volume c.if-parent-new_parent.true))
+    absurd (subst (PreparesEdit disk s.geometry.inodes (edits.Move c.args.name entry) (v k) (loaded s k)) c.in_default.is (c.in_ok-planned.ensures.edit.found disk settled v known.0)
+    (accepts_move disk settled v c.args.parent c.args.name.now entry.number k entry.name.now c.args.replaced known.1 c.args.inodes.now.geometry.inodes old entry refl refl volume (c.is_same.ensures.yes c.if-is_same.true))))
 
-pub returns-then-parent-new_parent : goal.returns-then-parent-new_parent
-returns-then-parent-new_parent g c =
+pub returns-then-is_same : goal.returns-then-is_same
+returns-then-is_same g c =
     let planned = c.in_ok-planned.ensures in
     let entry : Entry = record { number = c.args.entry.now.number; name = c.args.entry.now.name } in
     let d = c.args.parent in
@@ -42,7 +43,7 @@ returns-then-parent-new_parent g c =
     let step = c.args.replaced in
     let s = c.edit_parent.new.inodes in
     let f = names_after (edits.Move c.args.name entry) in
-    prepares planned.edit.looks
+    decides planned.edit.looks
     (record {
       first = subst (λ o. IfSome o (λ e. TakesUpdate s k (updates.Names e))) c.in-Some.is planned.ready;
       next = alone_some s step c.requires.alone (some_at_hand_behind step planned.edit c.requires.at_hand);
@@ -63,20 +64,20 @@ returns-then-parent-new_parent g c =
       next = steps_on disk settled v d x n k y step moves s between (λ m other apart. node_other k m (with_names f (v k)) v apart);
       last =
           ap (λ (to : Option ℕ). with_entry k y to (with_entry d x None (released target v))) moves.there
-          ∙ moved_inside d k x y (Some n) target v c.if-parent-new_parent.true (aside_new disk settled v d x n k y step moves);
+          ∙ moved_inside d k x y (Some n) target v (c.is_same.ensures.yes c.if-is_same.true) (aside_new disk settled v d x n k y step moves);
       next_beside = beside_new disk settled v d x n k y step moves;
       last_beside = tt;
       beside = beside_none step;
     })
     (λ disk settled v known.
     let edit = subst (PreparesEdit disk s.geometry.inodes (edits.Move c.args.name entry) (v k) (loaded s k)) c.in-Some.is (planned.edit.found disk settled v known.0) in
-    can_rename disk settled v d x n k y step known.1 (found_directory (v k) edit.1.mode edit.1.names edit.1.is) c.requires.entry.name known.2 (λ none. inl c.if-parent-new_parent.true))
+    can_rename disk settled v d x n k y step known.1 (found_directory (v k) edit.1.mode edit.1.names edit.1.is) c.requires.entry.name known.2 (λ none. inl (c.is_same.ensures.yes c.if-is_same.true)))
 
 pub returns-in_err-both : goal.returns-in_err-both
 returns-in_err-both g c = stops c.from_residual-in_err-both.result c.from_residual-in_err-both.ensures.1 c.in_err-both.ensures.both.looks c.in_err-both.ensures.both.damaged
 
 pub returns-in_default-both : goal.returns-in_default-both
-returns-in_default-both g c = refuses c.in_ok-both.ensures.both.looks (λ disk settled v known volume can.
+returns-in_default-both g c = obstructs c.in_ok-both.ensures.both.looks refl (λ disk settled v known volume.
     let entry : Entry = record { number = c.args.entry.now.number; name = c.args.entry.now.name } in
     let d = c.args.parent in
     let x = c.args.name.now in
@@ -86,9 +87,10 @@ returns-in_default-both g c = refuses c.in_ok-both.ensures.both.looks (λ disk s
       | then-is_some w ↦ w.wanted-is ∙ wanted_some entry step (sym c.is_some.ensures ∙ w.if-is_some.true)
       | else-is_some w ↦ w.wanted-is ∙ wanted_none entry step (sym c.is_some.ensures ∙ w.if-is_some.false)
     ] in
-    let accepts = accepts_other disk settled v d x entry.number k entry.name.now step known.1 c.args.inodes.now.geometry.inodes entry refl volume c.if-parent-new_parent.false can in
+    no_place c.args.inodes.now.geometry.inodes disk settled v d x entry.number k entry.name.now step known.1 c.requires.entry.name known.2 (c.is_same.ensures.no c.if-is_same.false) (λ can.
+    let accepts = accepts_other disk settled v d x entry.number k entry.name.now step known.1 c.args.inodes.now.geometry.inodes entry refl volume (c.is_same.ensures.no c.if-is_same.false) can in
     subst (λ o. IfNone o (Accepts c.if-is_some.wanted (v k) → IsTrue (is_directory_node (v d)) → ⊥)) c.in_default-both.is (c.in_ok-both.ensures.both.found disk settled v known.0).1
-    (subst (λ (e : NameEdit). Accepts e (v k)) (sym wanted) accepts) (named_directory (v d) x entry.number known.1.there))
+    (subst (λ (e : NameEdit). Accepts e (v k)) (sym wanted) accepts) (named_directory (v d) x entry.number known.1.there)))
 
 pub returns : goal.returns
 returns g c =
@@ -101,7 +103,7 @@ returns g c =
     let y = entry.name.now in
     let step = c.args.replaced in
     let s = c.edit_both.new.inodes in
-    let other = c.if-parent-new_parent.false in
+    let other = c.is_same.ensures.no c.if-is_same.false in
     let wanted : c.if-is_some.wanted ≡ edit_for entry step = elim c.if-is_some.branch [
       | then-is_some w ↦ w.wanted-is ∙ wanted_some entry step (sym c.is_some.ensures ∙ w.if-is_some.true)
       | else-is_some w ↦ w.wanted-is ∙ wanted_none entry step (sym c.is_some.ensures ∙ w.if-is_some.false)
@@ -109,7 +111,7 @@ returns g c =
     let f = with_name y (Some n) in
     let h = with_name x None in
     let ready = subst (λ o. IfSome o (λ e. TakesUpdate s k (updates.Names e.0) × TakesUpdate s d (updates.Names e.1))) c.in-Some-both.is both.ready in
-    prepares both.both.looks
+    decides both.both.looks
     (record {
       first = ready.0;
       next = ready.1;

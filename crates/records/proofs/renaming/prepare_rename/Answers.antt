@@ -1,28 +1,52 @@
-use Rattle.std.proofs.Common.{◌∙◌, ℕ, Option, IsTrue, ap, sym, subst}
+use Rattle.std.proofs.Common.{◌≡◌, ◌∙◌, ℕ, Option, None, Some, IsSome, IsTrue, refl, ap, sym, subst}
 use Rattle.std.proofs.lemmas.Bool.{both_ways, false≢true}
-use Rattle.model.specs.Records.{IsBelow}
-use Rattle.model.specs.Volumes.{Node, entries, is_directory_node, names_in}
+use Rattle.layout.specs.Limits.{Sizes}
+use Rattle.model.specs.Volumes.{IsVolume, Node, entries, is_directory_node, names_in}
+use Rattle.model.specs.declared.errno.Errno.TheVariants.{DIRFULL}
+use Rattle.model.proofs.OptionLaws.{none_some}
 use Rattle.paths.proofs.Looks.{looks_more}
-use Rattle.records.proofs.FileLaws.{same_some}
-use Rattle.records.proofs.Preparing.{follows, refuses, stops}
+use Rattle.records.specs.Obstacles.{BarsMove}
+use Rattle.records.proofs.BelowLaws.{closed_below, never_around}
+use Rattle.records.proofs.Deciding.{follows, obstructs, stops}
 use Rattle.records.proofs.StandLaws.{no_look}
 use Rattle.records.proofs.renaming.prepare_rename.Goals as goal
-use Rattle.model.proofs.OptionLaws.{none_some}
 
 pub returns-then-not-is_number : goal.returns-then-not-is_number
-returns-then-not-is_number g c = refuses no_look (λ disk settled v stands volume can.
-    none_some (ap (λ (o : Option Node). names_in o c.args.name.now) (sym (c.is_number.ensures.no c.if-not-is_number.true v volume)) ∙ can.there))
-
-pub returns-then-not-is_number-2 : goal.returns-then-not-is_number-2
-returns-then-not-is_number-2 g c = refuses no_look (λ disk settled v stands volume can.
-    false≢true (subst (λ (o : Option Node). IsTrue (is_directory_node o)) (c.is_number-2.ensures.no c.if-not-is_number-2.true v volume) can.directory))
+returns-then-not-is_number g c = obstructs no_look refl (λ disk settled v stands volume.
+    ap (λ (o : Option Node). names_in o c.args.name.now) (c.is_number.ensures.no c.if-not-is_number.true v volume))
 
 pub returns-in_err-found : goal.returns-in_err-found
 returns-in_err-found g c = stops c.from_residual.result c.from_residual.ensures.1 c.in_err-found.ensures.number.looks c.in_err-found.ensures.number.damaged
 
 pub returns-in_default : goal.returns-in_default
-returns-in_default g c = refuses c.in_ok-found.ensures.number.looks (λ disk settled v stands volume can.
-    none_some (sym c.in_default.is ∙ c.in_ok-found.ensures.number.found disk settled v stands ∙ can.there))
+returns-in_default g c = obstructs c.in_ok-found.ensures.number.looks refl (λ disk settled v stands volume.
+    sym (c.in_ok-found.ensures.number.found disk settled v stands) ∙ c.in_default.is)
+
+-- nothing has a number that is none
+pub returns-then-not-is_number-2 : goal.returns-then-not-is_number-2
+returns-then-not-is_number-2 g c =
+    let found = c.in_ok-found.ensures.number in
+    obstructs found.looks refl (λ disk settled v stands volume.
+    let x = c.args.name.now in
+    let n = c.in-Some.number in
+    let k = c.args.new_parent in
+    let y = c.args.new_name.now in
+    let there : entries v c.args.parent x ≡ Some n = sym (found.found disk settled v stands) ∙ c.in-Some.is in
+    let nothing = c.is_number-2.ensures.no c.if-not-is_number-2.true v (subst (λ (s : Sizes). IsVolume s.inodes v) (sym found.looks.geometry) volume) in
+    let none : entries v k y ≡ None = ap (λ (o : Option Node). names_in o y) nothing in (
+      n,
+      there,
+      subst (λ (o : Option ℕ). BarsMove v c.args.parent n k y o DIRFULL) (sym none) (
+        (λ at. none_some at),
+        (λ below.
+            let some = closed_below (entries v) (λ j. IsSome (v j)) (λ d m some child. volume.graph.used d m child.0 child.1) n k (volume.graph.used c.args.parent n x there) below in
+            false≢true (subst IsSome nothing some)),
+        (
+          (λ same. none_some (sym (ap (λ (j : ℕ). entries v j x) same ∙ ap (λ (o : Option Node). names_in o x) nothing) ∙ there)),
+          (λ takes. false≢true (subst (λ (o : Option Node). IsTrue (is_directory_node o)) nothing takes.directory)),
+        ),
+      ),
+    ))
 
 pub returns-in_err-below : goal.returns-in_err-below
 returns-in_err-below g c =
@@ -31,11 +55,13 @@ returns-in_err-below g c =
     c.in_ok-found.ensures.number.looks.kept c.in_ok-found.ensures.number.looks.kept
 
 pub returns-then-below : goal.returns-then-below
-returns-then-below g c = refuses (looks_more c.in_ok-found.ensures.number.looks c.in_ok-below.ensures.looks) (λ disk settled v stands volume can.
-    let now = c.in_ok-found.ensures.number.looks.kept disk settled v stands in
-    let there = sym (c.in_ok-found.ensures.number.found disk settled v stands) ∙ c.in-Some.is in
-    let below = (c.in_ok-below.ensures.below disk settled v now).0 c.if-below.true in
-    can.outside (subst (λ (n : ℕ). IsBelow (entries v) n c.args.new_parent) (same_some (sym there ∙ can.there)) below))
+returns-then-below g c =
+    let found = c.in_ok-found.ensures.number in
+    obstructs (looks_more found.looks c.in_ok-below.ensures.looks) refl (λ disk settled v stands volume.
+    let n = c.in-Some.number in
+    let k = c.args.new_parent in
+    let below = (c.in_ok-below.ensures.below disk settled v (found.looks.kept disk settled v stands)).0 c.if-below.true in
+    (n, sym (found.found disk settled v stands) ∙ c.in-Some.is, ((λ at. never_around v volume.graph n k c.args.new_name.now at below), below)))
 
 pub returns : goal.returns
 returns g c =
@@ -44,8 +70,5 @@ returns g c =
     follows before c.move_found.ensures
     (λ disk settled v stands. (before.kept disk settled v stands, sym (found.found disk settled v stands) ∙ c.in-Some.is))
     (λ disk settled v stands.
-    let told = c.in_ok-below.ensures.below disk settled v (found.looks.kept disk settled v stands) in (
-      before.kept disk settled v stands,
-      sym (found.found disk settled v stands) ∙ c.in-Some.is,
-      λ is. both_ways c.in_ok-below.below c.if-below.false (told.1 is),
-    ))
+    let told = c.in_ok-below.ensures.below disk settled v (found.looks.kept disk settled v stands) in
+    (before.kept disk settled v stands, sym (found.found disk settled v stands) ∙ c.in-Some.is, λ is. both_ways c.in_ok-below.below c.if-below.false (told.1 is)))

@@ -1,12 +1,15 @@
-use Rattle.std.proofs.Common.{rules, ◌≡◌, ◌+◌, length, true, false, inl, inr, IfNone, IfSome, nat_lt, subst, arith}
+use Rattle.std.proofs.Common.{rules, ◌≡◌, ◌+◌, length, true, false, inl, inr, Err, IfErr, nat_lt, arith}
 use Rattle.std.proofs.lemmas.Bool.{cases_lt}
 use Rattle.std.proofs.lemmas.Bool.Decides.{nat_tests}
 use Rattle.model.specs.Paths.{is_empty}
 use Rattle.model.specs.Records.{Applies, applied, write}
 use Rattle.model.specs.Volumes.{tree_of}
+use Rattle.model.specs.declared.errno.Errno.TheVariants.{EFBIG}
 use Rattle.model.specs.declared.limits.TheConstants.{GREATEST_FILE}
-use Rattle.records.specs.Prepared.{Does}
+use Rattle.records.specs.Obstacles.{IsObstacle}
+use Rattle.records.specs.Rewriting.{PutsBytes}
 use Rattle.records.specs.declared.contents.Rewrite.TheVariants.{Write}
+use Rattle.records.proofs.Failures.{damaged_failed, looks_failed, refusal_is, refused_by}
 use Rattle.records.proofs.RewriteLaws.{filled, past_limit, puts_all, puts_nothing, puts_too_much, rewritten, some_bytes, within_limit}
 use Rattle.records.proofs.rewriting.write_bytes.Goals as goal
 
@@ -15,25 +18,29 @@ returns-then-is_empty-clause-answers g c = λ disk settled v table stands volume
     let none : is_empty c.args.bytes.now ≡ true = first_of (search rules, grind (arith, nat_tests)) in
     puts_nothing (tree_of v table) c.args.number c.args.offset c.args.bytes.now also none
 
-pub returns-in_err-planned-clause-damaged : goal.returns-in_err-planned-clause-damaged
-returns-in_err-planned-clause-damaged g c = λ disk settled v stands is. c.in_err-planned.ensures.prepares.damaged disk settled v stands (search rules)
+pub returns-in_err-prepared-clause-looks : goal.returns-in_err-prepared-clause-looks
+returns-in_err-prepared-clause-looks g c = looks_failed _ c.from_residual.result c.from_residual.ensures.1 c.in_err-prepared.ensures.decides.looks
 
-pub returns-in_default-clause-answers : goal.returns-in_default-clause-answers
-returns-in_default-clause-answers g c = λ disk settled v table stands volume mounted is also.
-    let inodes = c.args.inodes.now.geometry.inodes in
+pub returns-in_err-prepared-clause-own : goal.returns-in_err-prepared-clause-own
+returns-in_err-prepared-clause-own g c = refused_by (λ r. IfErr r (λ e. e ≡ EFBIG)) _ _ c.from_residual.result c.from_residual.ensures.1 (λ errno own. own) c.in_err-prepared.ensures.own
+
+pub returns-in_err-prepared-clause-answers : goal.returns-in_err-prepared-clause-answers
+returns-in_err-prepared-clause-answers g c = λ disk settled v table stands volume mounted is.
+    let failed = c.in_err-prepared.ensures in
+    let offset = c.args.offset in
     let bytes = c.args.bytes.now in
-    let not = subst (λ o. IfNone o (Applies inodes v (write c.args.number c.args.offset bytes) → ⊥)) c.in_default.is (c.in_ok-planned.ensures.prepares.refused disk settled v stands volume) in
     let none : is_empty bytes ≡ false = first_of (search rules, grind (arith, nat_tests)) in
-    let some = filled bytes none in
-    let past : nat_lt GREATEST_FILE (c.args.offset + length bytes) ≡ true = elim (cases_lt GREATEST_FILE (c.args.offset + length bytes)) [
-      | inl lt ↦ past_limit GREATEST_FILE (c.args.offset + length bytes) lt
-      | inr le ↦ absurd (not (is, some, c.requires, le))
+    let past : (Applies c.args.inodes.now.geometry.inodes v (write c.args.number offset bytes) → ⊥) → nat_lt GREATEST_FILE (offset + length bytes) ≡ true = λ never. elim (cases_lt GREATEST_FILE (offset + length bytes)) [
+      | inl lt ↦ past_limit GREATEST_FILE (offset + length bytes) lt
+      | inr le ↦ absurd (never (is, filled bytes none, c.requires, le))
     ] in
-    puts_too_much (tree_of v table) c.args.number c.args.offset bytes also none past
+    let puts = PutsBytes c.args.inodes.now.geometry.inodes v table c.args.number offset bytes in
+    refused_by (λ r. IfErr r (λ errno. puts (Err errno))) _ _ c.from_residual.result c.from_residual.ensures.1 (λ errno done. done)
+    (refusal_is (λ errno. puts (Err errno)) (IsObstacle c.args.inodes.now.geometry.inodes v (write c.args.number offset bytes)) (Err _) failed.own (failed.decides.refused disk settled v stands volume)
+    (λ never also. puts_too_much (tree_of v table) c.args.number offset bytes also none (past never)))
 
-pub returns-clause-does : goal.returns-clause-does
-returns-clause-does g c = λ disk settled v stands.
-    subst (λ o. IfSome o (λ x. Does disk settled c.prepare_bytes.new.inodes v x (write c.args.number c.args.offset c.args.bytes.now))) c.in-Some.is (c.in_ok-planned.ensures.prepares.does disk settled v stands)
+pub returns-in_err-prepared-clause-damaged : goal.returns-in_err-prepared-clause-damaged
+returns-in_err-prepared-clause-damaged g c = damaged_failed _ c.from_residual.result c.from_residual.ensures.1 c.in_err-prepared.ensures.decides.damaged
 
 pub returns-clause-answers : goal.returns-clause-answers
 returns-clause-answers g c = λ disk settled v table stands volume mounted is.
@@ -41,7 +48,7 @@ returns-clause-answers g c = λ disk settled v table stands volume mounted is.
     let n = c.args.number in
     let bytes = c.args.bytes.now in
     let change = write n c.args.offset bytes in
-    let can = subst (λ o. IfSome o (λ _. Applies inodes v change)) c.in-Some.is (c.in_ok-planned.ensures.prepares.applies disk settled v stands) in
+    let can = c.in_ok-prepared.ensures.decides.applies disk settled v stands in
     let told = rewritten inodes v table volume mounted c.records_change_trees.ensures n (Write c.args.offset c.args.bytes) can in (
       told.0,
       λ also. puts_all (tree_of v table) n c.args.offset bytes also (tree_of (applied change v) table) (some_bytes bytes can.1) (within_limit GREATEST_FILE (c.args.offset + length bytes) can.3) told.1,

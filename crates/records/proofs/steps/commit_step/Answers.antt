@@ -1,21 +1,23 @@
-use Rattle.std.proofs.Common.{Option, sym, subst, ◌∙◌}
+use Rattle.std.proofs.Common.{◌≡◌, ℕ, Option, ap, sym, subst, ◌∙◌}
 use Rattle.layout.specs.Limits.{Sizes}
 use Rattle.inode.specs.declared.object.Object.{Object}
+use Rattle.inofile.specs.Inodes.{loaded}
 use Rattle.inofile.specs.Objects.{IsObjectOrNone}
 use Rattle.inofile.specs.Volumes.{IsVolumeOf}
-use Rattle.model.specs.Volumes.{Volume}
+use Rattle.model.specs.Volumes.{Node, Volume, with_node}
 use Rattle.records.specs.Steps.{FitsUpdate, Updates}
 use Rattle.records.proofs.EnterLaws.{object_or_none}
 use Rattle.records.proofs.StandLaws.{stays_at_hand}
 use Rattle.records.proofs.steps.commit_step.Goals as goal
 
 pub update_object-requires : goal.update_object-requires
-update_object-requires c = subst (λ (o : Option Object). FitsUpdate o c.args.step.update) (sym c.take-object.ensures.loaded) c.requires.fits
+update_object-requires c =
+    subst (λ (o : Option Object). FitsUpdate o c.args.step.update) (ap (loaded c.args.inodes.now) (sym c.get-n.ensures) ∙ sym c.take-object.ensures.loaded) c.requires.fits
 
 pub returns : goal.returns
 returns c =
     let s = c.args.inodes.now in
-    let n = c.args.step.number in
+    let n = c.get-n.result in
     let take = c.take-object.ensures in
     let set = c.commit_set.ensures in
     let geometry = set.geometry ∙ take.geometry in
@@ -23,9 +25,10 @@ returns c =
       geometry = geometry;
       keeps = λ k is. set.keeps k (take.keeps k is);
       stays = λ k is. set.stays k (take.stays k is);
-      at_hand = stays_at_hand s c.commit_set.new.self geometry (λ k is. set.keeps k (take.keeps k is)) (λ k is. set.stays k (take.stays k is)) n c.requires.at_hand;
-      rest = λ k ne. set.rest k (λ e. ne (sym e)) ∙ take.rest k (λ e. ne (sym e));
-      volume = λ count disk settled v w volume steps.
+      at_hand = stays_at_hand s c.commit_set.new.self geometry (λ k is. set.keeps k (take.keeps k is)) (λ k is. set.stays k (take.stays k is)) c.args.step.number c.requires.at_hand;
+      rest = λ k ne. set.rest k (λ e. ne (sym (e ∙ c.get-n.ensures))) ∙ take.rest k (λ e. ne (sym (e ∙ c.get-n.ensures)));
+      volume = λ count disk settled v w volume on.
+          let steps = subst (λ (k : ℕ). (to : Option Node) × Updates disk s.geometry.inodes (settled k) (v k) (loaded s k) c.args.step.update to × (w ≡ with_node k to v)) (sym c.get-n.ensures) on in
           let o = object_or_none disk s.geometry.inodes (settled n) c.take-object.result (v n) (take.stands count disk settled v volume) (take.stands_for_none count disk settled v volume) in
           let up = subst (λ (x : Option Object). Updates disk s.geometry.inodes (settled n) (v n) x c.args.step.update steps.0) (sym take.loaded) steps.1 in
           subst (λ (x : Volume). IsVolumeOf count disk settled c.commit_set.new.self x) (sym steps.2)

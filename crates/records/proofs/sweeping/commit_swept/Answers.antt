@@ -3,16 +3,17 @@ use Rattle.model.specs.Records.{applied}
 use Rattle.model.specs.Trees.{Description}
 use Rattle.model.specs.Volumes.{Volume}
 use Rattle.inofile.specs.Volumes.{IsVolumeOf}
+use Rattle.descriptors.specs.Fits.{FitsVolume}
 use Rattle.descriptors.specs.Tables.{table_of}
 use Rattle.records.specs.Steps.{IsAtHand}
-use Rattle.records.specs.Sweeping.{OpensFiles, without_file}
+use Rattle.records.specs.Sweeping.{OpensFiles, with_object_of, without_file}
 use Rattle.records.proofs.FollowLaws.{fits_all, still_files, swept_opens}
 use Rattle.records.proofs.StandLaws.{some_stays_at_hand}
 use Rattle.records.proofs.SweepLaws.{all_swept, number_at_hand}
 use Rattle.records.proofs.sweeping.commit_swept.Goals as goal
 
 pub settle-requires : goal.settle-requires
-settle-requires c = c.commit.ensures.at_hand.first
+settle-requires c = subst (IsAtHand c.commit.new.inodes) (sym c.first_number-first.ensures) c.commit.ensures.at_hand.first
 
 pub settle-requires-2 : goal.settle-requires-2
 settle-requires-2 c =
@@ -44,7 +45,7 @@ returns-clause-volume c = λ count disk settled v change stands does mounted.
     let x : Volume = without_file table (Some p.first.number) w in
     let y : Volume = without_file table next x in
     let is_w = c.commit.ensures.volume count disk settled v change stands does in
-    let is_x = c.settle.ensures.volume count disk settled w is_w in
+    let is_x = subst (λ (k : ℕ). IsVolumeOf count disk settled c.settle.new.inodes (without_file table (Some k) w)) c.first_number-first.ensures (c.settle.ensures.volume count disk settled w is_w) in
     let is_y = subst (λ (t : ℕ → Option Description). IsVolumeOf count disk settled c.settle-2.new.inodes (without_file t next x)) c.settle.ensures.opened (c.settle-2.ensures.volume count disk settled x is_x) in
     let is_z = subst (λ (t : ℕ → Option Description). IsVolumeOf count disk settled c.settle-3.new.inodes (without_file t last y)) (c.settle-2.ensures.opened ∙ c.settle.ensures.opened)
     (c.settle-3.ensures.volume count disk settled y is_y) in
@@ -62,12 +63,12 @@ returns-clause-fits c = λ count disk settled v change stands does mounted fits 
     let y : Volume = without_file table next x in
     let back = c.settle-2.ensures.opened ∙ c.settle.ensures.opened in
     let is_w = c.commit.ensures.volume count disk settled v change stands does in
-    let is_x = c.settle.ensures.volume count disk settled w is_w in
+    let is_x = subst (λ (k : ℕ). IsVolumeOf count disk settled c.settle.new.inodes (without_file table (Some k) w)) c.first_number-first.ensures (c.settle.ensures.volume count disk settled w is_w) in
     let is_y = subst (λ (t : ℕ → Option Description). IsVolumeOf count disk settled c.settle-2.new.inodes (without_file t next x)) c.settle.ensures.opened (c.settle-2.ensures.volume count disk settled x is_x) in
     let opens_w = swept_opens table w after in
     let opens_x = still_files disk settled c.args.inodes.now v p change does old w (Some p.first.number) opens_w in
     let opens_y = still_files disk settled c.args.inodes.now v p change does old x next opens_x in
-    let one = c.settle.ensures.fits count disk settled v w is_w opens_w fits in
+    let one = subst (λ (k : ℕ). FitsVolume c.settle.new.files (with_object_of w (Some k) v)) c.first_number-first.ensures (c.settle.ensures.fits count disk settled v w is_w opens_w fits) in
     let two = c.settle-2.ensures.fits count disk settled _ x is_x (subst (λ (t : ℕ → Option Description). OpensFiles t x) (sym c.settle.ensures.opened) opens_x) one in
     let three = c.settle-3.ensures.fits count disk settled _ y is_y (subst (λ (t : ℕ → Option Description). OpensFiles t y) (sym back) opens_y) two in
     fits_all disk settled c.args.inodes.now v p change does old next last c.settle-3.new.files c.number_of-next.ensures c.number_of-last.ensures (c.settle-3.ensures.opened ∙ back) three

@@ -1,5 +1,6 @@
-use Rattle.std.proofs.Common.{ℕ, Option, subst, sym, ◌∙◌}
-use Rattle.model.specs.Volumes.{Volume}
+use Rattle.std.proofs.Common.{◌≡◌, ℕ, Option, subst, sym, ◌∙◌}
+use Rattle.model.specs.Volumes.{Volume, is_open}
+use Rattle.model.specs.declared.limits.TheConstants.{OPEN_FILES}
 use Rattle.inofile.specs.Volumes.{IsVolumeOf}
 use Rattle.descriptors.specs.Fits.{FitsVolume}
 use Rattle.descriptors.specs.Tables.{table_of}
@@ -11,26 +12,26 @@ use Rattle.records.proofs.sweeping.settle.Goals as goal
 pub returns-then-is_open-clause-volume : goal.returns-then-is_open-clause-volume
 returns-then-is_open-clause-volume c = λ count disk settled v stands.
     let table = table_of c.args.files.now in
-    let opened = sym c.is_open.ensures ∙ c.if-is_open.true in
+    let opened = sym (subst (λ (k : ℕ). c.is_open.result ≡ is_open table OPEN_FILES k) c.get.ensures c.is_open.ensures) ∙ c.if-is_open.true in
     subst (λ (n : Option ℕ). IsVolumeOf count disk settled c.args.inodes.now (without_file table n v)) (sym c.in-Some.is)
     (subst (λ (x : Volume). IsVolumeOf count disk settled c.args.inodes.now x) (open_stays table c.in-Some.number v opened) stands)
 
 pub returns-then-is_open-clause-fits : goal.returns-then-is_open-clause-fits
 returns-then-is_open-clause-fits c = λ count disk settled v w stands opens fits.
     let table = table_of c.args.files.now in
-    let opened = sym c.is_open.ensures ∙ c.if-is_open.true in
+    let opened = sym (subst (λ (k : ℕ). c.is_open.result ≡ is_open table OPEN_FILES k) c.get.ensures c.is_open.ensures) ∙ c.if-is_open.true in
     subst (λ (n : Option ℕ). FitsVolume c.note_figures.new.files (with_object_of w n v)) (sym c.in-Some.is)
     (c.note_figures.ensures.fits count disk settled v w stands (opened_file table w c.in-Some.number opens opened) fits)
 
 pub returns-else-is_open-clause-volume : goal.returns-else-is_open-clause-volume
 returns-else-is_open-clause-volume c = λ count disk settled v stands.
     let table = table_of c.args.files.now in
-    let closed = sym c.is_open.ensures ∙ c.if-is_open.false in
+    let closed = sym (subst (λ (k : ℕ). c.is_open.result ≡ is_open (table_of c.args.files.now) OPEN_FILES k) c.get.ensures c.is_open.ensures) ∙ c.if-is_open.false in
     subst (λ (n : Option ℕ). IsVolumeOf count disk settled c.drop_nameless.new.inodes (without_file table n v)) (sym c.in-Some.is)
     (subst (λ (x : Volume). IsVolumeOf count disk settled c.drop_nameless.new.inodes x) (closed_goes table c.in-Some.number v closed) (c.drop_nameless.ensures.volume count disk settled v stands))
 
 pub returns-else-is_open-clause-fits : goal.returns-else-is_open-clause-fits
 returns-else-is_open-clause-fits c = λ count disk settled v w stands opens fits.
-    let closed = sym c.is_open.ensures ∙ c.if-is_open.false in
+    let closed = sym (subst (λ (k : ℕ). c.is_open.result ≡ is_open (table_of c.args.files.now) OPEN_FILES k) c.get.ensures c.is_open.ensures) ∙ c.if-is_open.false in
     subst (λ (n : Option ℕ). FitsVolume c.args.files.now (with_object_of w n v)) (sym c.in-Some.is)
     (closed_fits c.args.files.now c.in-Some.number (w c.in-Some.number) v closed fits)

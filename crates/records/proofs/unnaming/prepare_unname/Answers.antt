@@ -1,5 +1,4 @@
 use Rattle.std.proofs.Common.{◌≡◌, ℕ, Option, None, Some, IfSome, refl, ap, sym, subst, ◌∙◌}
-use Rattle.model.specs.Records.{IsEmpty}
 use Rattle.model.specs.Volumes.{Node, entries, names_in, released, with_entry, with_name_less, with_node}
 use Rattle.inofile.specs.Inodes.{loaded}
 use Rattle.paths.proofs.Looks.{looks_more}
@@ -10,24 +9,23 @@ use Rattle.records.specs.declared.naming.NameEdit.TheVariants as edits
 use Rattle.records.specs.declared.steps.Update.{Update}
 use Rattle.records.specs.declared.steps.Update.TheVariants as updates
 use Rattle.records.proofs.EnterLaws.{directory_is}
-use Rattle.records.proofs.FileLaws.{alone_apart, alone_takes, both_steps, empty_apart, named_directory, same_some}
+use Rattle.records.proofs.FileLaws.{alone_apart, alone_takes, both_steps, empty_apart, named_directory}
 use Rattle.records.proofs.Looking.{at_hand_behind}
-use Rattle.records.proofs.Preparing.{follows, prepares, refuses, stops}
+use Rattle.records.proofs.Deciding.{decides, follows, obstructs, stops}
 use Rattle.records.proofs.StandLaws.{no_look}
 use Rattle.records.proofs.unnaming.prepare_unname.Goals as goal
-use Rattle.model.proofs.OptionLaws.{none_some}
 use Rattle.model.proofs.ObjectLaws.{node_other}
 
 pub returns-then-not-is_number : goal.returns-then-not-is_number
-returns-then-not-is_number g c = refuses no_look (λ disk settled v stands volume can.
-    none_some (ap (λ (o : Option Node). names_in o c.args.name.now) (sym (c.is_number.ensures.no c.if-not-is_number.true v volume)) ∙ can.there))
+returns-then-not-is_number g c = obstructs no_look refl (λ disk settled v stands volume.
+    ap (λ (o : Option Node). names_in o c.args.name.now) (c.is_number.ensures.no c.if-not-is_number.true v volume))
 
 pub returns-in_err-found : goal.returns-in_err-found
 returns-in_err-found g c = stops c.from_residual.result c.from_residual.ensures.1 c.in_err-found.ensures.number.looks c.in_err-found.ensures.number.damaged
 
 pub returns-in_default : goal.returns-in_default
-returns-in_default g c = refuses c.in_ok-found.ensures.number.looks (λ disk settled v stands volume can.
-    none_some (sym c.in_default.is ∙ c.in_ok-found.ensures.number.found disk settled v stands ∙ can.there))
+returns-in_default g c = obstructs c.in_ok-found.ensures.number.looks refl (λ disk settled v stands volume.
+    sym (c.in_ok-found.ensures.number.found disk settled v stands) ∙ c.in_default.is)
 
 pub returns-in_err-released : goal.returns-in_err-released
 returns-in_err-released g c =
@@ -36,10 +34,12 @@ returns-in_err-released g c =
     c.in_ok-found.ensures.number.looks.kept c.in_ok-found.ensures.number.looks.kept
 
 pub returns-in_default-released : goal.returns-in_default-released
-returns-in_default-released g c = refuses (looks_more c.in_ok-found.ensures.number.looks c.in_ok-released.ensures.released.looks) (λ disk settled v stands volume can.
-    let now = c.in_ok-found.ensures.number.looks.kept disk settled v stands in
-    let same = same_some (sym c.in-Some.is ∙ c.in_ok-found.ensures.number.found disk settled v stands ∙ can.there) in
-    subst (Releases disk settled v c.in-Some.number) c.in_default-released.is (c.in_ok-released.ensures.released.found disk settled v now) (subst (IsEmpty v) (sym same) can.empty))
+returns-in_default-released g c = obstructs (looks_more c.in_ok-found.ensures.number.looks c.in_ok-released.ensures.released.looks) refl (λ disk settled v stands volume. (
+  c.in-Some.number,
+  sym (c.in_ok-found.ensures.number.found disk settled v stands) ∙ c.in-Some.is,
+  subst (Releases disk settled v c.in-Some.number) c.in_default-released.is
+      (c.in_ok-released.ensures.released.found disk settled v (c.in_ok-found.ensures.number.looks.kept disk settled v stands)),
+))
 
 pub returns-in_err-planned : goal.returns-in_err-planned
 returns-in_err-planned g c =
@@ -51,12 +51,14 @@ returns-in_err-planned g c =
 pub returns-in_default-planned : goal.returns-in_default-planned
 returns-in_default-planned g c =
     let before = looks_more c.in_ok-found.ensures.number.looks c.in_ok-released.ensures.released.looks in
-    follows before (refuses c.in_ok-planned.ensures.edit.looks (λ disk settled v then volume can.
+    obstructs (looks_more before c.in_ok-planned.ensures.edit.looks) refl (λ disk settled v stands volume.
     let d = c.args.parent in
     let s = c.edit_parent.new.inodes in
-    let is = directory_is (v d) (named_directory (v d) c.args.name.now can.number can.there) in
-    subst (PreparesEdit disk s.geometry.inodes (edits.Remove c.args.name) (v d) (loaded s d)) c.in_default-planned.is (c.in_ok-planned.ensures.edit.found disk settled v then)
-    (record { mode = is.0; names = is.1; is = is.2; takes = tt }))) before.kept before.kept
+    let there = sym (c.in_ok-found.ensures.number.found disk settled v stands) ∙ c.in-Some.is in
+    let is = directory_is (v d) (named_directory (v d) c.args.name.now c.in-Some.number there) in
+    absurd (subst (PreparesEdit disk s.geometry.inodes (edits.Remove c.args.name) (v d) (loaded s d)) c.in_default-planned.is
+    (c.in_ok-planned.ensures.edit.found disk settled v (before.kept disk settled v stands))
+    (record { mode = is.0; names = is.1; is = is.2; takes = tt })))
 
 pub returns : goal.returns
 returns g c =
@@ -70,7 +72,7 @@ returns g c =
     let update = c.in-Some-released.update in
     let f = names_after (edits.Remove c.args.name) in
     let ready = subst (λ (o : Option Update). IfSome o (λ u. IsAlone u × IsAtHand c.release.new.inodes n)) c.in-Some-released.is told.ready in
-    prepares (looks_more (looks_more found.number.looks told.released.looks) planned.edit.looks)
+    decides (looks_more (looks_more found.number.looks told.released.looks) planned.edit.looks)
     (record {
       first = subst (λ o. IfSome o (λ e. TakesUpdate s d (updates.Names e))) c.in-Some-planned.is planned.ready;
       next = alone_takes s n update ready.0 (at_hand_behind n planned.edit ready.1);

@@ -1,5 +1,5 @@
-use Rattle.std.proofs.Common.{rules, ap, subst}
-use Rattle.model.specs.Volumes.{Volume, is_nameless}
+use Rattle.std.proofs.Common.{rules, ℕ, false, ap, subst}
+use Rattle.model.specs.Volumes.{Volume, is_nameless, swept_node, with_node}
 use Rattle.inofile.specs.Volumes.{IsVolumeOf}
 use Rattle.records.proofs.SweepLaws.{kept}
 use Rattle.replay.proofs.Errors.{undamaged}
@@ -22,4 +22,5 @@ pub returns-clause-drops : goal.returns-clause-drops
 returns-clause-drops g c disk settled v shows stands =
     let count = g.B.Blocks.count c.args.blocks.now in
     let loaded = c.in_ok-load.ensures.volume disk settled v shows stands in
-    c.drop_nameless.ensures.volume count disk settled v (c.in_ok-prepare_set.ensures.volume count disk settled v loaded)
+    subst (λ (k : ℕ). IsVolumeOf count disk settled c.drop_nameless.new.inodes (with_node k (swept_node false (v k)) v)) c.new.ensures
+    (c.drop_nameless.ensures.volume count disk settled v (c.in_ok-prepare_set.ensures.volume count disk settled v loaded))

@@ -1,4 +1,4 @@
-use Rattle.std.proofs.Common.{rules, sym, ap}
+use Rattle.std.proofs.Common.{rules, ℕ, ◌∙◌, sym, ap}
 use Rattle.model.specs.Volumes.{is_nameless}
 use Rattle.replay.proofs.Errors.{undamaged}
 use Rattle.replay.proofs.sweeping.has_nameless.Goals as goal
@@ -15,4 +15,4 @@ returns-in_err-load-clause-tells g c disk settled v shows stands =
 pub returns-clause-tells : goal.returns-clause-tells
 returns-clause-tells g c disk settled v shows stands =
     let loaded = c.in_ok-load.ensures.volume disk settled v shows stands in
-    (c.is_nameless.ensures (g.B.Blocks.count c.args.blocks.now) disk settled v loaded, loaded)
+    (c.is_nameless.ensures (g.B.Blocks.count c.args.blocks.now) disk settled v loaded ∙ ap (λ (k : ℕ). is_nameless (v k)) c.new.ensures, loaded)

@@ -1,27 +1,21 @@
-use Rattle.std.proofs.Common.{ℕ, ℤ, List, sym, subst, rules, w64}
+use Rattle.std.proofs.Common.{ℕ, ℤ, List, subst, rules, w64}
 use Rattle.std.proofs.lemmas.Int.{to_z-of_z}
 use Rattle.model.specs.declared.command.PathCall.TheVariants as path_calls
 use Rattle.model.specs.Changing.{truncates}
 use Rattle.model.specs.Volumes.{tree_of}
 use Rattle.calls.specs.Changing.{ComesOrStays}
-use Rattle.calls.proofs.PrepareSteps.{grants, leaves, refuses, stops}
-use Rattle.system.proofs.ChangingLaws.{asked_or_stays, one_text, two_texts}
+use Rattle.calls.proofs.PrepareSteps.{grants, leaves}
+use Rattle.system.proofs.ChangingLaws.{asked_or_stays, one_text, passes_on, two_texts}
 use Rattle.system.proofs.changing.prepare.Goals as goal
 
 pub returns-in_err-changing-in_default : goal.returns-in_err-changing-in_default
 returns-in_err-changing-in_default g c =
-    stops c.from_residual.result c.from_residual.ensures.1 c.in_err-changing-in_default.ensures.looks c.in_err-changing-in_default.ensures.damaged
+    passes_on c.args.call.now _ c.from_residual.result c.from_residual.ensures.1 c.in_err-changing-in_default.ensures
 
-pub returns-in-Ok : goal.returns-in-Ok
-returns-in-Ok g c =
+pub returns-in_ok-changing-in_default : goal.returns-in_ok-changing-in_default
+returns-in_ok-changing-in_default g c =
     let told = c.in_ok-changing-in_default.ensures in
-    grants told.looks (rw c.in-Ok.is at told.ready) (λ disk settled v stands. rw c.in-Ok.is at (told.does disk settled v stands))
-    (λ disk settled v table stands volume mounted. rw c.in-Ok.is at (told.answers disk settled v table stands volume mounted))
-
-pub returns-in-Err : goal.returns-in-Err
-returns-in-Err g c =
-    let told = c.in_ok-changing-in_default.ensures in
-    refuses told.looks (rw c.in-Err.is at told.own) (λ disk settled v table stands volume mounted. rw c.in-Err.is at (told.answers disk settled v table stands volume mounted))
+    grants told.looks told.ready told.does told.answers
 
 pub returns-in-Rename : goal.returns-in-Rename
 returns-in-Rename g c =

@@ -1,5 +1,4 @@
 use Rattle.std.proofs.Common.{List, ℕ}
-use Rattle.model.specs.Room.{adds_name, removes_name, changes_bits}
 use Rattle.model.specs.declared.command.PathCall.TheVariants as path_calls
 use Rattle.calls.proofs.PrepareSteps.{leaves}
 use Rattle.system.proofs.ChangingLaws.{asked, asked_swept, one_text, two_texts}

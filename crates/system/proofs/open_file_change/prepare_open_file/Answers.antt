@@ -1,9 +1,7 @@
 use Rattle.std.proofs.Common.{rules, ◌∙◌, ℕ, ℤ, List, w64, ap, sym, subst}
-use Rattle.std.specs.Prelude.{IfOk}
 use Rattle.std.proofs.lemmas.Int.{to_z-of_z}
 use Rattle.model.specs.declared.command.Command.TheVariants as command
-use Rattle.descriptors.specs.Tables.{table_of}
-use Rattle.system.specs.OpenFiles.{DoesCall, PreparesDoing}
+use Rattle.system.specs.OpenFiles.{PreparesDoing}
 use Rattle.system.proofs.OpenFileLaws.{asked_so}
 use Rattle.system.proofs.open_file_change.prepare_open_file.Goals as goal
 

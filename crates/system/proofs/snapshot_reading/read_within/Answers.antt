@@ -1,4 +1,5 @@
 use Rattle.std.proofs.Common.{rules, ◌≡◌, ◌∙◌, ℕ, Option, ap, sym, subst}
+use Rattle.std.proofs.lemmas.Result.{IfOk-weaker}
 use Rattle.layout.specs.Limits.{Sizes}
 use Rattle.loading.specs.Images.{inodes_of}
 use Rattle.images.specs.Roots.{whole}
@@ -8,9 +9,11 @@ use Rattle.model.specs.Room.{nothing}
 use Rattle.model.specs.Trees.{Tree}
 use Rattle.model.specs.Volumes.{IsVolume}
 use Rattle.paths.specs.Standing.{Stands}
+use Rattle.records.specs.Failures.{told}
 use Rattle.snapshots.specs.Found.{Finds, named}
 use Rattle.snapshots.specs.declared.finding.Found.{Found}
-use Rattle.system.proofs.ViewLaws.{closed, frozen_told, if_ok, reading_viewed}
+use Rattle.system.specs.Answering.{reply_of}
+use Rattle.system.proofs.ViewLaws.{closed, frozen_told, reading_viewed}
 use Rattle.system.proofs.snapshot_reading.read_within.Goals as goal
 
 pub returns-clause-views : goal.returns-clause-views
@@ -28,11 +31,11 @@ returns-clause-views g c = λ disk shows v pairs holds s same.
       shows = c.view.ensures.reads.same disk next;
       volume = subst (λ (n : ℕ). IsVolumeOf n disk (inodes_of t) c.in_ok-inodes.inodes kept) (sym count) (are.volume kept hold);
     } in
-    if_ok c.read.result _ _
-    (λ reply told. reading_viewed s name call (name, finds.1.tree) reply (ap (named name) same ∙ finds.1.listed) (search rules)
-    (subst (λ (u : Tree). calls s.inodes u call reply u nothing) (sym is)
-    (frozen_told c.mounts_forget_open_files.ensures c.reading_forgets_open_files.ensures r.geometry.inodes s.inodes kept call reply volume (search rules) (told s.inodes))))
-    (c.read.ensures.answers disk (inodes_of t) kept closed stands (subst (λ (x : Sizes). IsVolume x.inodes kept) (sym are.geometry) volume))
+    IfOk-weaker (told c.read.result) _ _
+    (λ x answers. reading_viewed s name call (name, finds.1.tree) (reply_of x) (ap (named name) same ∙ finds.1.listed) (search rules)
+    (subst (λ (u : Tree). calls s.inodes u call (reply_of x) u nothing) (sym is)
+    (frozen_told c.mounts_forget_open_files.ensures c.reading_forgets_open_files.ensures r.geometry.inodes s.inodes kept call (reply_of x) volume (search rules) (answers s.inodes))))
+    (c.read.ensures.tells.answers disk (inodes_of t) kept closed stands (subst (λ (x : Sizes). IsVolume x.inodes kept) (sym are.geometry) volume))
 
 pub returns-clause-damaged : goal.returns-clause-damaged
 returns-clause-damaged g c = λ disk shows v pairs holds is.
@@ -44,7 +47,7 @@ returns-clause-damaged g c = λ disk shows v pairs holds is.
     let next = c.find.ensures.reads.same disk shows in
     let are = c.in_ok-inodes.ensures.views disk next v name pairs holds finds in
     let count : g.B.Blocks.count c.view.new.blocks ≡ r.geometry.blocks = c.view.ensures.reads.count ∙ c.find.ensures.reads.count ∙ c.requires.size in
-    c.read.ensures.damaged disk (inodes_of t) kept (record {
+    c.read.ensures.tells.damaged disk (inodes_of t) kept (record {
       shows = c.view.ensures.reads.same disk next;
       volume = subst (λ (n : ℕ). IsVolumeOf n disk (inodes_of t) c.in_ok-inodes.inodes kept) (sym count) (are.volume kept hold);
     }) is

@@ -3,8 +3,8 @@ use Rattle.blocktree.specs.Places.{IsPath}
 use Rattle.blocktree.proofs.NodeLaws.{nodes_within, nodes_paths, nodes_lowest}
 use Rattle.blocktree.proofs.tree.BlockTree.settled_nodes.Goals as goal
 
-pub read_nodes-requires : goal.read_nodes-requires
-read_nodes-requires g c =
+pub read_places-requires : goal.read_places-requires
+read_places-requires g c =
     subst (λ (n : ℕ). n ≤ 16 * 1024 ^ (c.args.self.now.depth - c.args.height)) (sym c.nodes_at-count.ensures) (nodes_within c.args.self.now.depth c.args.self.now.count c.args.height c.requires c.args.self.now.fits.0)
 
 pub returns-in_err-nodes-clause-damaged : goal.returns-in_err-nodes-clause-damaged

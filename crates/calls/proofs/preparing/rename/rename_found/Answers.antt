@@ -1,4 +1,4 @@
-use Rattle.std.proofs.Common.{ℕ, Option, Some, None, false, refl, sym, subst}
+use Rattle.std.proofs.Common.{◌∙◌, ℕ, Some, false, refl, ap, sym, subst}
 use Rattle.layout.specs.Limits.{Sizes}
 use Rattle.model.specs.Finding.{IsPlaceOf, here}
 use Rattle.model.specs.Resolution.{resolve}
@@ -7,12 +7,11 @@ use Rattle.paths.specs.Ends.{EndsInName, IsAtName}
 use Rattle.paths.specs.Numbers.{IsNumber}
 use Rattle.paths.specs.Places.{place_of, IsPlaceWithin}
 use Rattle.calls.specs.Rename.{MovesAlong, MovesName}
-use Rattle.calls.proofs.GapLaws.{finds_gap}
 use Rattle.calls.proofs.NameLaws.{ends_in_name}
-use Rattle.calls.proofs.PrepareSteps.{follows, refuses, stops}
+use Rattle.calls.proofs.PrepareSteps.{follows, grants, refuses, stops}
 use Rattle.calls.proofs.RefusalLaws.{walk_refusal}
 use Rattle.calls.proofs.RemoveLaws.{finds_entry}
-use Rattle.calls.proofs.RenameComes.{along_entry, along_gap, ends_entry, ends_gap, rename_comes, target_refused, target_well}
+use Rattle.calls.proofs.RenameComes.{along_entry, along_gap, ends_entry, ends_gap, rename_comes, rename_stays, target_refused, target_well}
 use Rattle.calls.proofs.RenameTests.{here_number}
 use Rattle.calls.proofs.preparing.rename.rename_found.Goals as goal
 
@@ -31,6 +30,23 @@ move_name-requires-in-Gap-clause-parent g c =
 pub returns-in_err-place : goal.returns-in_err-place
 returns-in_err-place g c = stops c.from_residual.result c.from_residual.ensures.1 c.in_err-place.ensures.looks c.in_err-place.ensures.damaged
 
+-- the object has the name already
+pub returns-then-get : goal.returns-then-get
+returns-then-get g c = grants c.in_ok-place.ensures.looks tt (λ disk settled v stands. tt) (λ disk settled v table stands volume mounted place.
+    let inodes = c.args.inodes.now.geometry.inodes in
+    let old = c.args.old.now in
+    let path = c.args.path.now in
+    let r = resolve (tree_of v table) false path in
+    let tree = c.volumes_are_trees.ensures inodes v table volume mounted in
+    let finds = finds_entry v c.args.trail c.args.name.items c.args.number (resolve (tree_of v table) false old) place in
+    let at = subst (λ p. IsPlaceOf v (place_of p) r) c.in-Entry.is (c.in_ok-place.ensures.found disk settled v table path stands volume c.requires.to) in
+    let above = c.in-Entry.above in
+    let y = c.in-Entry.new_name.items in
+    let m = c.in-Entry.other in
+    let ends = ends_entry inodes v table volume mounted tree above y m r at in
+    rename_stays inodes v table volume mounted tree old path c.requires.passed c.records_change_trees.ensures (here c.args.trail) c.args.name.items c.args.number finds c.numbers_tell_what_lies_below.ensures (here above) y ends
+    ((finds_entry v above y m r at).edge ∙ ap (λ (j : ℕ). Some j) (sym c.get.ensures ∙ c.if-get.true ∙ c.get-in-Entry.ensures)))
+
 pub returns-in-Entry : goal.returns-in-Entry
 returns-in-Entry g c = follows c.in_ok-place.ensures.looks c.move_name.ensures (λ disk settled v table stands volume mounted told moves place.
     let inodes = c.args.inodes.now.geometry.inodes in
@@ -46,13 +62,11 @@ returns-in-Entry g c = follows c.in_ok-place.ensures.looks c.move_name.ensures (
     let y = c.in-Entry.new_name.items in
     let m = c.in-Entry.other in
     let ends = ends_entry inodes v table volume mounted tree above y m r at in
-    let edge = (finds_entry v above y m r at).edge in
     let along = along_entry inodes v table volume mounted tree c.numbers_tell_what_lies_below.ensures c.trails_tell_what_lies_below.ensures
-    (resolve (tree_of v table) false old) (here c.args.trail) x n finds above y m r at in
-    let from_here = subst (λ (d : ℕ). MovesName inodes v d x n (here above) y (Some m) told) c.here-parent.ensures
-    (moves (subst (λ (d : ℕ). MovesAlong v d x n above) (sym c.here-parent.ensures) along)) in
-    rename_comes inodes v table volume mounted tree old path c.requires.passed c.records_change_trees.ensures (here c.args.trail) x n finds c.numbers_tell_what_lies_below.ensures (here above) y ends told
-    (subst (λ (a : Option ℕ). MovesName inodes v (here c.args.trail) x n (here above) y a told) (sym edge) from_here))
+    (resolve (tree_of v table) false old) (here c.args.trail) x n finds above y m r (λ e. c.if-get.false (c.get.ensures ∙ e ∙ sym c.get-in-Entry.ensures)) at in
+    rename_comes inodes v table volume mounted tree old path c.requires.passed c.records_change_trees.ensures (here c.args.trail) x n finds c.numbers_tell_what_lies_below.ensures (here above) y ends along.other told
+    (subst (λ (d : ℕ). MovesName inodes v d x (here above) y told) c.here-parent.ensures
+    (moves (subst (λ (d : ℕ). MovesAlong v d x n above y) (sym c.here-parent.ensures) along))))
 
 pub returns-in-Gap : goal.returns-in-Gap
 returns-in-Gap g c = follows c.in_ok-place.ensures.looks c.move_name-in-Gap.ensures (λ disk settled v table stands volume mounted told moves place.
@@ -69,13 +83,11 @@ returns-in-Gap g c = follows c.in_ok-place.ensures.looks c.move_name-in-Gap.ensu
     let y = c.in-Gap.new_name.items in
     let well = target_well inodes v table volume mounted tree old path c.requires.passed in
     let ends = ends_gap inodes v table volume mounted tree above y r well at in
-    let free = (finds_gap inodes v table volume mounted tree above y r well at).free in
     let along = along_gap inodes v table volume mounted tree c.numbers_tell_what_lies_below.ensures c.trails_tell_what_lies_below.ensures
-    (resolve (tree_of v table) false old) (here c.args.trail) x n finds above y r ends.directory at in
-    let from_here = subst (λ (d : ℕ). MovesName inodes v d x n (here above) y None told) c.here-parent.ensures
-    (moves (subst (λ (d : ℕ). MovesAlong v d x n above) (sym c.here-parent.ensures) along)) in
-    rename_comes inodes v table volume mounted tree old path c.requires.passed c.records_change_trees.ensures (here c.args.trail) x n finds c.numbers_tell_what_lies_below.ensures (here above) y ends told
-    (subst (λ (a : Option ℕ). MovesName inodes v (here c.args.trail) x n (here above) y a told) (sym free) from_here))
+    (resolve (tree_of v table) false old) (here c.args.trail) x n finds above y r ends.directory ends.good at in
+    rename_comes inodes v table volume mounted tree old path c.requires.passed c.records_change_trees.ensures (here c.args.trail) x n finds c.numbers_tell_what_lies_below.ensures (here above) y ends along.other told
+    (subst (λ (d : ℕ). MovesName inodes v d x (here above) y told) c.here-parent.ensures
+    (moves (subst (λ (d : ℕ). MovesAlong v d x n above y) (sym c.here-parent.ensures) along))))
 
 pub returns-in-Directory : goal.returns-in-Directory
 returns-in-Directory g c = refuses c.in_ok-place.ensures.looks refl (λ disk settled v table stands volume mounted place.

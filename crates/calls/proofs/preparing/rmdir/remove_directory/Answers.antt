@@ -1,17 +1,17 @@
-use Rattle.std.proofs.Common.{rules, ◌≡◌, ◌∙◌, ℕ, false, Some, None, IsFalse, refl, sym, subst}
+use Rattle.std.proofs.Common.{rules, ◌≡◌, ◌∙◌, ℕ, false, Some, None, IsFalse, refl, ap, sym, subst}
 use Rattle.model.specs.Paths.{first_refusal, is_root_text, new_text_tests, parts}
 use Rattle.calls.proofs.PrepareSteps.{refuses, follows, stops}
-use Rattle.calls.proofs.RefusalLaws.{new_text_own, walk_refusal}
+use Rattle.calls.proofs.RefusalLaws.{new_text_own}
 use Rattle.calls.proofs.RemoveLaws.{remove_refused, remove_root, finds_entry, remove_comes, remove_led_nowhere}
 use Rattle.records.proofs.StandLaws.{no_look}
 use Rattle.model.specs.Finding.{IsPlaceOf}
 use Rattle.model.specs.Resolution.{resolve}
 use Rattle.model.specs.Volumes.{tree_of}
 use Rattle.paths.specs.Ends.{EndsInName, IsAtName}
-use Rattle.paths.specs.Places.{place_of, IsPlaceWithin}
+use Rattle.paths.specs.Places.{place_of}
 use Rattle.calls.specs.Rmdir.{RemovesDirectory}
-use Rattle.calls.proofs.LeadLaws.{leads_gap, leads_refusal}
 use Rattle.calls.proofs.NameLaws.{ends_in_name}
+use Rattle.calls.proofs.WhereSteps.{finds_none, led_of}
 use Rattle.calls.proofs.preparing.rmdir.remove_directory.Goals as goal
 
 pub returns-in-Some : goal.returns-in-Some
@@ -51,24 +51,15 @@ returns-in-Directory g c = refuses c.in_ok-place.ensures.looks refl (λ disk set
     absurd (subst (λ p. IsAtName (place_of p)) c.in-Directory.is (c.in_ok-place.ensures.named disk settled v stands refl plain)))
 
 pub returns-in-Refusal : goal.returns-in-Refusal
-returns-in-Refusal g c = refuses c.in_ok-place.ensures.looks
-    (walk_refusal c.in-Refusal.errno (subst (IsPlaceWithin c.args.inodes.now.geometry.inodes) c.in-Refusal.is c.in_ok-place.ensures.within)) (λ disk settled v table stands volume mounted.
+returns-in-Refusal g c = finds_none c.in_ok-place.ensures (ap led_of c.in-Refusal.is) c.args.path.now (search rules) (λ disk settled v table stands volume mounted.
     let passed : first_refusal (new_text_tests c.args.path.now) ≡ None = search rules in
     let not_root : IsFalse (is_root_text c.args.path.now) = search rules in
     let inodes = c.args.inodes.now.geometry.inodes in
-    let text = c.args.path.now in
-    let r = resolve (tree_of v table) false text in
-    let at = subst (λ p. IsPlaceOf v (place_of p) r) c.in-Refusal.is (c.in_ok-place.ensures.found disk settled v table text stands volume (search rules)) in
-    remove_led_nowhere inodes v table volume mounted (c.volumes_are_trees.ensures inodes v table volume mounted) c.records_change_trees.ensures text passed not_root _
-    (leads_refusal v c.in-Refusal.errno r at))
+    remove_led_nowhere inodes v table volume mounted (c.volumes_are_trees.ensures inodes v table volume mounted) c.records_change_trees.ensures c.args.path.now passed not_root _)
 
 pub returns-in-Gap : goal.returns-in-Gap
-returns-in-Gap g c = refuses c.in_ok-place.ensures.looks refl (λ disk settled v table stands volume mounted.
+returns-in-Gap g c = finds_none c.in_ok-place.ensures (ap led_of c.in-Gap.is) c.args.path.now (search rules) (λ disk settled v table stands volume mounted.
     let passed : first_refusal (new_text_tests c.args.path.now) ≡ None = search rules in
     let not_root : IsFalse (is_root_text c.args.path.now) = search rules in
     let inodes = c.args.inodes.now.geometry.inodes in
-    let text = c.args.path.now in
-    let r = resolve (tree_of v table) false text in
-    let at = subst (λ p. IsPlaceOf v (place_of p) r) c.in-Gap.is (c.in_ok-place.ensures.found disk settled v table text stands volume (search rules)) in
-    remove_led_nowhere inodes v table volume mounted (c.volumes_are_trees.ensures inodes v table volume mounted) c.records_change_trees.ensures text passed not_root _
-    (leads_gap v c.in-Gap._trail c.in-Gap._name.items r at))
+    remove_led_nowhere inodes v table volume mounted (c.volumes_are_trees.ensures inodes v table volume mounted) c.records_change_trees.ensures c.args.path.now passed not_root _)

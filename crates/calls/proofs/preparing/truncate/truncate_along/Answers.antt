@@ -1,32 +1,36 @@
-use Rattle.std.proofs.Common.{◌≡◌, ◌≢◌, ◌∙◌, ℕ, nat_abs, w64, true, inr, Result, IfOk, refl, ap, subst}
+use Rattle.std.proofs.Common.{◌≡◌, ◌∙◌, ℕ, nat_abs, w64, inr, Err, refl, ap, sym, subst}
 use Rattle.std.proofs.lemmas.Int.{to_z-of_z}
-use Rattle.model.specs.Resolution.{resolve}
-use Rattle.model.specs.Volumes.{tree_of}
-use Rattle.model.specs.declared.errno.Errno.{Errno}
-use Rattle.paths.specs.Steps.{found_in}
-use Rattle.paths.specs.declared.lookup.Found.TheVariants as found
-use Rattle.calls.specs.Leading.{LeadsTo}
+use Rattle.model.specs.declared.errno.Errno.TheVariants.{EISDIR}
+use Rattle.paths.proofs.Looks.{looks_more}
 use Rattle.calls.specs.Truncate.{CutsNumber}
-use Rattle.calls.proofs.PrepareSteps.{follows, refuses, stops}
-use Rattle.calls.proofs.RefusalLaws.{refused_own}
-use Rattle.calls.proofs.TruncateLaws.{truncate_comes, truncate_nowhere}
+use Rattle.calls.proofs.PrepareSteps.{follows, passes, refuses, stops_later}
+use Rattle.calls.proofs.TruncateLaws.{cuts_found, found_file, found_other, truncate_comes, truncate_nowhere}
 use Rattle.calls.proofs.preparing.truncate.truncate_along.Goals as goal
 
-pub returns-in_err-found : goal.returns-in_err-found
-returns-in_err-found g c = stops c.from_residual.result c.from_residual.ensures.1 c.in_err-found.ensures.looks c.in_err-found.ensures.damaged
+pub returns-in_err-number : goal.returns-in_err-number
+returns-in_err-number g c = passes _ c.from_residual.result c.from_residual.ensures.1 c.in_err-number.ensures c.args.path.now c.requires.parts
+    (λ disk settled v table stands volume mounted errno is.
+    truncate_nowhere c.args.inodes.now.geometry.inodes v table c.args.path.now c.args.size errno (inr (c.requires.passed, is)))
 
-pub returns-in-Ok : goal.returns-in-Ok
-returns-in-Ok g c = follows c.in_ok-found.ensures.looks c.cut_number.ensures (λ disk settled v table stands volume mounted r cuts.
+pub returns-in_err-found : goal.returns-in_err-found
+returns-in_err-found g c =
+    stops_later c.from_residual-in_err-found.result c.from_residual-in_err-found.ensures.1 c.in_ok-number.ensures.looks c.in_err-found.ensures.looks c.in_err-found.ensures.damaged
+
+pub returns-in-File : goal.returns-in-File
+returns-in-File g c = follows (looks_more c.in_ok-number.ensures.looks c.in_ok-found.ensures.looks) c.cut_file.ensures (λ disk settled v table stands volume mounted r cuts.
     let text = c.args.path.now in
     let inodes = c.args.inodes.now.geometry.inodes in
-    let n = c.in-Ok.number in
+    let n = c.in_ok-number.number in
     let size : c.unsigned_abs.result ≡ nat_abs c.args.size = c.unsigned_abs.ensures.value ∙ ap nat_abs (to_z-of_z w64 c.args.size c.ranges.size) in
-    let leads = subst (λ (x : Result ℕ Errno). LeadsTo v (resolve (tree_of v table) true text) x) c.in-Ok.is (c.in_ok-found.ensures.leads disk settled v table text stands volume c.requires.parts) in
-    let plain = subst (λ (x : Result ℕ Errno). IfOk x (λ k. found_in (v k) ≢ found.Link)) c.in-Ok.is (c.in_ok-found.ensures.followed disk settled v stands volume refl) in
-    truncate_comes inodes v table text c.args.size n (c.requires.passed, leads) plain r (subst (λ (m : ℕ). CutsNumber inodes v table n m r) size cuts))
+    let is = found_file (v n) (sym (c.in_ok-found.ensures.found disk settled v (c.find_object.ensures.looks.kept disk settled v stands)) ∙ c.in-File.is) in
+    truncate_comes inodes v table text c.args.size n (c.requires.passed, c.in_ok-number.ensures.leads disk settled v table text stands volume c.requires.parts)
+    (c.in_ok-number.ensures.followed disk settled v stands volume refl) r
+    (subst (λ (m : ℕ). CutsNumber inodes v table n m r) size (cuts_found inodes v table n c.unsigned_abs.result r is cuts)))
 
-pub returns-in-Err : goal.returns-in-Err
-returns-in-Err g c = refuses c.in_ok-found.ensures.looks (refused_own c.in-Err.is c.in_ok-found.ensures.own) (λ disk settled v table stands volume mounted.
+pub returns-in_default : goal.returns-in_default
+returns-in_default g c = refuses (looks_more c.in_ok-number.ensures.looks c.in_ok-found.ensures.looks) refl (λ disk settled v table stands volume mounted.
     let text = c.args.path.now in
-    let leads = subst (λ (x : Result ℕ Errno). LeadsTo v (resolve (tree_of v table) true text) x) c.in-Err.is (c.in_ok-found.ensures.leads disk settled v table text stands volume c.requires.parts) in
-    truncate_nowhere c.args.inodes.now.geometry.inodes v table text c.args.size c.in-Err.errno (inr (c.requires.passed, leads)))
+    let n = c.in_ok-number.number in
+    let found = c.in_ok-found.ensures.found disk settled v (c.find_object.ensures.looks.kept disk settled v stands) in
+    truncate_comes c.args.inodes.now.geometry.inodes v table text c.args.size n (c.requires.passed, c.in_ok-number.ensures.leads disk settled v table text stands volume c.requires.parts)
+    (c.in_ok-number.ensures.followed disk settled v stands volume refl) (Err EISDIR) (found_other (v n) (λ e. c.in_default.not-File (found ∙ e)), refl))

@@ -1,7 +1,5 @@
-use Rattle.std.proofs.Common.{◌∙◌, inl, refl, sym}
-use Rattle.model.specs.declared.errno.Errno.TheVariants.{DAMAGED}
+use Rattle.std.proofs.Common.{◌∙◌, inl, inr, refl, sym}
 use Rattle.calls.proofs.PrepareSteps.{follows, refuses, stops}
-use Rattle.calls.proofs.RemoveLaws.{unlinks_other}
 use Rattle.calls.proofs.preparing.unlink.unlink_entry.Goals as goal
 
 pub returns-in_err-found : goal.returns-in_err-found
@@ -9,8 +7,8 @@ returns-in_err-found g c = stops c.from_residual.result c.from_residual.ensures.
 
 pub returns-in-Directory : goal.returns-in-Directory
 returns-in-Directory g c = refuses c.in_ok-found.ensures.looks refl
-    (λ disk settled v table stands volume mounted. inl (refl, sym (c.in_ok-found.ensures.found disk settled v stands) ∙ c.in-Directory.is))
+    (λ disk settled v table stands volume mounted. inl (sym (c.in_ok-found.ensures.found disk settled v stands) ∙ c.in-Directory.is, refl))
 
 pub returns-in_default : goal.returns-in_default
-returns-in_default g c = follows c.in_ok-found.ensures.looks c.remove_name.ensures (λ disk settled v table stands volume mounted r told.
-    unlinks_other c.args.inodes.now.geometry.inodes v c.args.parent c.args.name.items c.args.number DAMAGED (λ is. c.in_default.not-Directory (c.in_ok-found.ensures.found disk settled v stands ∙ is)) r told)
+returns-in_default g c = follows c.in_ok-found.ensures.looks c.remove_name.ensures
+    (λ disk settled v table stands volume mounted r told. inr (λ is. c.in_default.not-Directory (c.in_ok-found.ensures.found disk settled v stands ∙ is), told))

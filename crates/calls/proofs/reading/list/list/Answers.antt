@@ -1,27 +1,35 @@
-use Rattle.std.proofs.Common.{Result, ℕ, true, subst, refl}
-use Rattle.model.specs.Paths.{text_tests}
-use Rattle.model.specs.Resolution.{resolve}
-use Rattle.model.specs.Volumes.{tree_of}
-use Rattle.model.specs.declared.errno.Errno.{Errno}
-use Rattle.calls.specs.Leading.{IsLed}
+use Rattle.std.proofs.Common.{◌∙◌, Ok, Err, refl, sym}
+use Rattle.model.specs.declared.errno.Errno.TheVariants.{ENOTDIR}
+use Rattle.paths.proofs.Looks.{looks_more}
 use Rattle.calls.proofs.ListLaws.{list_answers, list_refused}
-use Rattle.calls.proofs.RefusalLaws.{refused_own}
-use Rattle.calls.proofs.SeeSteps.{follows, refuses, stops}
+use Rattle.calls.proofs.SeeSteps.{grants, passes, refuses, stops_later}
 use Rattle.calls.proofs.reading.list.list.Goals as goal
 
+pub returns-in_err-number : goal.returns-in_err-number
+returns-in_err-number g c = passes _ c.from_residual.result c.from_residual.ensures.1 c.in_err-number.ensures c.args.path.now refl
+    (λ disk settled v table stands volume. list_refused c.args.inodes.now.geometry.inodes v table volume c.args.path.now)
+
 pub returns-in_err-found : goal.returns-in_err-found
-returns-in_err-found g c = stops c.from_residual.result c.from_residual.ensures.1 c.in_err-found.ensures.looks c.in_err-found.ensures.damaged
+returns-in_err-found g c =
+    stops_later c.from_residual-in_err-found.result c.from_residual-in_err-found.ensures.1 c.in_ok-number.ensures.looks c.in_err-found.ensures.looks c.in_err-found.ensures.damaged
 
-pub returns-in-Ok : goal.returns-in-Ok
-returns-in-Ok g c = follows c.in_ok-found.ensures.looks c.list_number.ensures (λ disk settled v table stands volume told lists.
+pub returns-then-not-found : goal.returns-then-not-found
+returns-then-not-found g c = refuses (looks_more c.in_ok-number.ensures.looks c.in_ok-found.ensures.looks) refl (λ disk settled v table stands volume.
     let text = c.args.path.now in
-    let r = resolve (tree_of v table) true text in
-    list_answers c.args.inodes.now.geometry.inodes v table volume c.in-Ok.number text told
-    (subst (λ (x : Result ℕ Errno). IsLed (text_tests text) v r x) c.in-Ok.is (c.in_ok-found.ensures.leads disk settled v table text stands volume refl)) lists)
+    let now = c.lead.ensures.looks.kept disk settled v stands in
+    list_answers c.args.inodes.now.geometry.inodes v table volume c.in_ok-number.number text (Err ENOTDIR) (c.in_ok-number.ensures.leads disk settled v table text stands volume refl)
+    (sym (c.in_ok-found.ensures.found disk settled v now) ∙ c.if-not-found.true, refl))
 
-pub returns-in-Err : goal.returns-in-Err
-returns-in-Err g c = refuses c.in_ok-found.ensures.looks (refused_own c.in-Err.is c.in_ok-found.ensures.own) (λ disk settled v table stands volume.
+pub returns-in_err-names : goal.returns-in_err-names
+returns-in_err-names g c =
+    stops_later c.from_residual-in_err-names.result c.from_residual-in_err-names.ensures.1
+    (looks_more c.in_ok-number.ensures.looks c.in_ok-found.ensures.looks) c.in_err-names.ensures.looks c.in_err-names.ensures.damaged
+
+pub returns : goal.returns
+returns g c = grants (looks_more (looks_more c.in_ok-number.ensures.looks c.in_ok-found.ensures.looks) c.in_ok-names.ensures.looks) (λ disk settled v table stands volume.
     let text = c.args.path.now in
-    let r = resolve (tree_of v table) true text in
-    list_refused c.args.inodes.now.geometry.inodes v table volume text c.in-Err.errno
-    (subst (λ (x : Result ℕ Errno). IsLed (text_tests text) v r x) c.in-Err.is (c.in_ok-found.ensures.leads disk settled v table text stands volume refl)))
+    let now = c.lead.ensures.looks.kept disk settled v stands in
+    list_answers c.args.inodes.now.geometry.inodes v table volume c.in_ok-number.number text (Ok c.in_ok-names.names) (c.in_ok-number.ensures.leads disk settled v table text stands volume refl) (
+      sym (c.in_ok-found.ensures.found disk settled v now) ∙ c.if-not-found.false,
+      c.in_ok-names.ensures.found disk settled v (c.is_directory_at.ensures.looks.kept disk settled v now),
+    ))

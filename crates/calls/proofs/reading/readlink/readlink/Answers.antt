@@ -1,27 +1,35 @@
-use Rattle.std.proofs.Common.{Result, ℕ, false, subst, refl}
-use Rattle.model.specs.Paths.{text_tests}
-use Rattle.model.specs.Resolution.{resolve}
-use Rattle.model.specs.Volumes.{tree_of}
-use Rattle.model.specs.declared.errno.Errno.{Errno}
-use Rattle.calls.specs.Leading.{IsLed}
-use Rattle.calls.proofs.RefusalLaws.{refused_own}
-use Rattle.calls.proofs.SeeSteps.{follows, refuses, stops}
-use Rattle.calls.proofs.StatLaws.{link_answers, link_refused}
+use Rattle.std.proofs.Common.{◌∙◌, Ok, Err, refl}
+use Rattle.model.specs.declared.errno.Errno.TheVariants.{EINVAL}
+use Rattle.paths.proofs.Looks.{looks_more}
+use Rattle.calls.proofs.SeeSteps.{grants, passes, refuses, stops_later}
+use Rattle.calls.proofs.StatLaws.{link_answers, link_refused, link_text}
 use Rattle.calls.proofs.reading.readlink.readlink.Goals as goal
 
+pub returns-in_err-number : goal.returns-in_err-number
+returns-in_err-number g c = passes _ c.from_residual.result c.from_residual.ensures.1 c.in_err-number.ensures c.args.path.now refl
+    (λ disk settled v table stands volume. link_refused v table c.args.path.now)
+
 pub returns-in_err-found : goal.returns-in_err-found
-returns-in_err-found g c = stops c.from_residual.result c.from_residual.ensures.1 c.in_err-found.ensures.looks c.in_err-found.ensures.damaged
+returns-in_err-found g c =
+    stops_later c.from_residual-in_err-found.result c.from_residual-in_err-found.ensures.1 c.in_ok-number.ensures.looks c.in_err-found.ensures.looks c.in_err-found.ensures.damaged
 
-pub returns-in-Ok : goal.returns-in-Ok
-returns-in-Ok g c = follows c.in_ok-found.ensures.looks c.read_number.ensures (λ disk settled v table stands volume told tells.
-    let text = c.args.path.now in
-    let r = resolve (tree_of v table) false text in
-    link_answers v table text c.in-Ok.number told
-    (subst (λ (x : Result ℕ Errno). IsLed (text_tests text) v r x) c.in-Ok.is (c.in_ok-found.ensures.leads disk settled v table text stands volume refl)) tells)
+pub returns-in_err-text-in-Link : goal.returns-in_err-text-in-Link
+returns-in_err-text-in-Link g c =
+    stops_later c.from_residual-in_err-text-in-Link.result c.from_residual-in_err-text-in-Link.ensures.1
+    (looks_more c.in_ok-number.ensures.looks c.in_ok-found.ensures.looks) c.in_err-text-in-Link.ensures.looks c.in_err-text-in-Link.ensures.damaged
 
-pub returns-in-Err : goal.returns-in-Err
-returns-in-Err g c = refuses c.in_ok-found.ensures.looks (refused_own c.in-Err.is c.in_ok-found.ensures.own) (λ disk settled v table stands volume.
+pub returns-in_ok-text-in-Link : goal.returns-in_ok-text-in-Link
+returns-in_ok-text-in-Link g c = grants (looks_more (looks_more c.in_ok-number.ensures.looks c.in_ok-found.ensures.looks) c.in_ok-text-in-Link.ensures.looks) (λ disk settled v table stands volume.
     let text = c.args.path.now in
-    let r = resolve (tree_of v table) false text in
-    link_refused v table text c.in-Err.errno
-    (subst (λ (x : Result ℕ Errno). IsLed (text_tests text) v r x) c.in-Err.is (c.in_ok-found.ensures.leads disk settled v table text stands volume refl)))
+    let n = c.in_ok-number.number in
+    let now = c.lead.ensures.looks.kept disk settled v stands in
+    link_answers v table text n (Ok c.new.result) (c.in_ok-number.ensures.leads disk settled v table text stands volume refl)
+    (link_text (v n) c.in_ok-found.found c.new.result (c.in_ok-found.ensures.found disk settled v now) c.in-Link.is
+    (c.new.ensures ∙ c.in_ok-text-in-Link.ensures.found disk settled v (c.kind_at.ensures.looks.kept disk settled v now))))
+
+pub returns-in_default : goal.returns-in_default
+returns-in_default g c = refuses (looks_more c.in_ok-number.ensures.looks c.in_ok-found.ensures.looks) refl (λ disk settled v table stands volume.
+    let text = c.args.path.now in
+    let now = c.lead.ensures.looks.kept disk settled v stands in
+    link_answers v table text c.in_ok-number.number (Err EINVAL) (c.in_ok-number.ensures.leads disk settled v table text stands volume refl)
+    (λ is. c.in_default.not-Link (c.in_ok-found.ensures.found disk settled v now ∙ is), refl))

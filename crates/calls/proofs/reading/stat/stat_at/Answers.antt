@@ -1,27 +1,14 @@
-use Rattle.std.proofs.Common.{Result, ℕ, subst, refl}
-use Rattle.model.specs.Paths.{text_tests}
-use Rattle.model.specs.Resolution.{resolve}
-use Rattle.model.specs.Volumes.{tree_of}
-use Rattle.model.specs.declared.errno.Errno.{Errno}
-use Rattle.calls.specs.Leading.{IsLed}
-use Rattle.calls.proofs.RefusalLaws.{refused_own}
-use Rattle.calls.proofs.SeeSteps.{follows, refuses, stops}
+use Rattle.std.proofs.Common.{refl}
+use Rattle.calls.proofs.SeeSteps.{follows, passes}
 use Rattle.calls.proofs.StatLaws.{stat_answers, stat_refused}
 use Rattle.calls.proofs.reading.stat.stat_at.Goals as goal
 
-pub returns-in_err-found : goal.returns-in_err-found
-returns-in_err-found g c = stops c.from_residual.result c.from_residual.ensures.1 c.in_err-found.ensures.looks c.in_err-found.ensures.damaged
+pub returns-in_err-number : goal.returns-in_err-number
+returns-in_err-number g c = passes _ c.from_residual.result c.from_residual.ensures.1 c.in_err-number.ensures c.args.path.now refl
+    (λ disk settled v table stands volume. stat_refused v table c.args.follow c.args.path.now)
 
-pub returns-in-Ok : goal.returns-in-Ok
-returns-in-Ok g c = follows c.in_ok-found.ensures.looks c.stat_number.ensures.told (λ disk settled v table stands volume told tells.
+pub returns : goal.returns
+returns g c = follows c.in_ok-number.ensures.looks c.stat_number.ensures.told (λ disk settled v table stands volume stat tells.
     let text = c.args.path.now in
-    let r = resolve (tree_of v table) c.args.follow text in
-    let led = subst (λ (x : Result ℕ Errno). IsLed (text_tests text) v r x) c.in-Ok.is (c.in_ok-found.ensures.leads disk settled v table text stands volume refl) in
-    stat_answers v table c.args.inodes.now.geometry.inodes volume c.volumes_tell_links.ensures c.in-Ok.number c.args.follow text told led tells)
-
-pub returns-in-Err : goal.returns-in-Err
-returns-in-Err g c = refuses c.in_ok-found.ensures.looks (refused_own c.in-Err.is c.in_ok-found.ensures.own) (λ disk settled v table stands volume.
-    let text = c.args.path.now in
-    let r = resolve (tree_of v table) c.args.follow text in
-    stat_refused v table c.args.follow text c.in-Err.errno
-    (subst (λ (x : Result ℕ Errno). IsLed (text_tests text) v r x) c.in-Err.is (c.in_ok-found.ensures.leads disk settled v table text stands volume refl)))
+    let led = c.in_ok-number.ensures.leads disk settled v table text stands volume refl in
+    stat_answers v table c.args.inodes.now.geometry.inodes volume c.volumes_tell_links.ensures c.in_ok-number.number c.args.follow text stat led tells)

@@ -1,6 +1,6 @@
 use Rattle.std.proofs.Common.{arith}
 use Rattle.model.specs.declared.command.Command.TheVariants as command
-use Rattle.mount.proofs.AnswerLemmas.{settles_done, settles_not, settles_refused}
+use Rattle.mount.proofs.PointLemmas.{settles_done, settles_not, settles_refused}
 use Rattle.mount.proofs.fs.Fs.delete.Goals as goal
 
 pub returns-in-Ok-Ok : goal.returns-in-Ok-Ok

@@ -1,4 +1,4 @@
-use Rattle.mount.proofs.AnswerLemmas.{makes_none, makes_room}
+use Rattle.mount.proofs.PointLemmas.{makes_none, makes_room}
 use Rattle.mount.proofs.fs.Fs.settle.Goals as goal
 
 pub returns-in-Ok : goal.returns-in-Ok

@@ -4,7 +4,8 @@ use Rattle.model.specs.declared.command.Command.TheVariants.{Sync}
 use Rattle.model.specs.declared.reply.Reply.TheVariants.{Done}
 use Rattle.system.specs.Images.{OpensTo}
 use Rattle.system.specs.Systems.{meaning_of}
-use Rattle.mount.proofs.AnswerLemmas.{at_once, no_room, synced_by}
+use Rattle.mount.proofs.AnswerLemmas.{at_once, no_room}
+use Rattle.mount.proofs.PointLemmas.{synced_by}
 use Rattle.mount.proofs.AttemptLemmas.{stays_by, still_going, sync_needs, synced}
 use Rattle.mount.proofs.fs.Fs.sync.Goals as goal
 

@@ -4,7 +4,8 @@ use Rattle.model.specs.declared.command.Command.TheVariants as command
 use Rattle.model.specs.declared.errno.Errno.{Errno}
 use Rattle.model.specs.declared.errno.Errno.TheVariants.{EIO}
 use Rattle.system.specs.Settling.{TestsTake}
-use Rattle.mount.proofs.AnswerLemmas.{behind_that, glance_fails, glance_keeps, glance_refuses}
+use Rattle.mount.proofs.AnswerLemmas.{behind_that}
+use Rattle.mount.proofs.PointLemmas.{glance_fails, glance_keeps, glance_refuses}
 use Rattle.mount.proofs.AttemptLemmas.{change_needs, still_going}
 use Rattle.mount.proofs.fs.Fs.take.Goals as goal
 

@@ -1,11 +1,6 @@
-use Rattle.std.proofs.Common.{◌≡◌, ◌⊎◌, inl, inr, ap, refl, subst, sym, ◌∙◌, arith}
-use Rattle.std.specs.Prelude.{OnOk}
+use Rattle.std.proofs.Common.{◌≡◌, ap, refl, sym, ◌∙◌, arith}
 use Rattle.images.specs.SnapshotSteps.SnapshotStep.{unchanged}
 use Rattle.model.specs.States.{State, with_snapshots}
-use Rattle.station.specs.Images.{Images}
-use Rattle.station.proofs.Moments.{weaker}
-use Rattle.system.specs.Images.{OpensTo}
-use Rattle.system.specs.Systems.{IsCovered}
 use Rattle.system.proofs.system.System.point.Goals as goal
 
 -- a state has the snapshots that it has

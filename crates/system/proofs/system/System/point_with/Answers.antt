@@ -3,7 +3,7 @@ use Rattle.std.specs.Prelude.{IfErr, IfOk, IsFalse, OnOk}
 use Rattle.std.proofs.lemmas.Bool.{cases_lt, false≢true}
 use Rattle.station.specs.Images.{Images, Unchanged}
 use Rattle.station.specs.Moments.{Goes, Meaning, HasGrown, LeavesOnly}
-use Rattle.station.proofs.Moments.{leaves_unchanged, same_none, same_twice, started, unchanged_none}
+use Rattle.station.proofs.Moments.{leaves_unchanged, same_twice, started, unchanged_none}
 use Rattle.layout.specs.Limits.{Sizes}
 use Rattle.layout.specs.Places.{blocks_of}
 use Rattle.layout.specs.Root.{IsRoot, root_bytes}
@@ -12,7 +12,6 @@ use Rattle.model.specs.Records.{count_nameless}
 use Rattle.model.specs.States.{State}
 use Rattle.model.specs.Trees.{Description}
 use Rattle.model.specs.Volumes.{IsMounted}
-use Rattle.descriptors.specs.declared.table.Descriptors.{Descriptors}
 use Rattle.buffers.specs.Readings.{reads_none}
 use Rattle.buffers.specs.declared.cache.Buffers.{Buffers}
 use Rattle.blockmap.specs.declared.map.BlockMap.{BlockMap}

@@ -1,0 +1,29 @@
+-- Where the nodes at one height of a file lie.
+use Rattle.std.specs.Prelude.{ℕ, ◌≡◌, ◌<◌, ◌≤◌, Option, Some, None}
+use Rattle.std.specs.Ordering.{nat_cmp}
+use Rattle.std.specs.BTreeMap as tree
+use Rattle.layout.specs.Pointer.{PointsBelow}
+use Rattle.layout.specs.declared.pointer.Pointer.{Pointer}
+use Rattle.layout.specs.declared.pointer.Pointer.TheVariants.{Hole, Block}
+use Rattle.blocktree.specs.declared.place_map.PlaceMap.{PlaceMap}
+
+-- a pointer to a place, where there is one
+abbrev pub place_or_hole : Option ℕ → Pointer
+place_or_hole (Some place) = Block place
+place_or_hole None = Hole
+
+-- the pointer to node i: a hole where none is stored
+unfoldable pub place_at : PlaceMap → ℕ → Pointer
+place_at p i = place_or_hole (tree.get nat_cmp p.blocks i)
+
+-- no pointer leads past a disk of so many blocks
+abbrev pub AreBelow : ℕ → PlaceMap → Type 0
+AreBelow blocks p = (i : ℕ) → PointsBelow blocks (place_at p i)
+
+-- from this index on all are holes
+abbrev pub EndBefore : ℕ → PlaceMap → Type 0
+EndBefore n p = (i : ℕ) → n ≤ i → place_at p i ≡ Hole
+
+-- one of the first so many nodes lies there
+abbrev pub StandsBelow : PlaceMap → ℕ → ℕ → Type 0
+StandsBelow p count b = (i : ℕ) × (i < count) × (place_at p i ≡ Block b)

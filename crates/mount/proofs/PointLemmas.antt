@@ -1,0 +1,231 @@
+-- What a file system promises of commands that make consistency points.
+use Rattle.std.proofs.Common.{◌≡◌, ◌≢◌, ◌⊎◌, inl, inr, ℕ, ◌+◌, ◌≤◌, ◌^◌, Bool, Result, Ok, Err, refl, ap, sym, subst, ◌∙◌, arith}
+use Rattle.std.specs.Prelude.{IfErr, IsFalse, MatchResult}
+use Rattle.station.specs.Moments.{LeavesOnly, Meaning}
+use Rattle.station.specs.declared.station.Station.{Ghosts}
+use Rattle.station.proofs.Moments.{weaker}
+use Rattle.model.specs.Circumstances.{IsSure}
+use Rattle.model.specs.Room.{nothing}
+use Rattle.model.specs.Runs.{IsWithin}
+use Rattle.model.specs.States.{State}
+use Rattle.model.specs.declared.command.Command.{Command}
+use Rattle.model.specs.declared.command.Command.TheVariants.{Sync}
+use Rattle.model.specs.declared.errno.Errno.{Errno}
+use Rattle.model.specs.declared.errno.Errno.TheVariants.{EIO}
+use Rattle.model.specs.declared.reply.Reply.TheVariants.{Done, Refused}
+use Rattle.oplog.specs.LogEnd.{LogEnd}
+use Rattle.system.specs.Counting.{Counted, call_error_failed}
+use Rattle.system.specs.Images.{OpensTo}
+use Rattle.system.specs.Points.{IsFilled, MakesPoint, StaysAt}
+use Rattle.system.specs.Serving.{ServesState, WouldCall}
+use Rattle.system.specs.Settling.{Glances, IsRefusedBy, IsSettled, Settles}
+use Rattle.system.specs.Systems as systems
+use Rattle.system.specs.declared.error.CallError.{CallError}
+use Rattle.system.specs.declared.error.PointError.{PointError}
+use Rattle.system.proofs.CountingLaws.{next_age, nothing_logged, same_age}
+use Rattle.mount.specs.Applying.{Answers, HasSettled, KeepsStates, MakesRoom, Stays}
+use Rattle.mount.specs.Refusals.{errno_of_call, errno_of_point, fails_point}
+use Rattle.mount.specs.Systems.{OpensToSome, Serves, mounted}
+use Rattle.mount.specs.declared.fs.Fs.{Fs}
+use Rattle.mount.proofs.AttemptLemmas.{answered_as, cut_within, filled_by, log_emptied, no_point, not_answered, own_refusal, reads_fail_nothing, settled, stays_by, stays_read, still_going, synced}
+use Rattle.mount.proofs.CountLemmas.{call_eio, call_written, point_eio, point_written, refused_same}
+use Rattle.mount.proofs.AnswerLemmas.{AllOpen, ages_same, ages_within}
+
+-- ---- a consistency point
+
+module _ {S : Type 0} {G : Ghosts S} (old new : Fs S G) (runs : IsFalse old.has_failed) where
+  abbrev first : Meaning
+  first = systems.meaning_of old.system
+
+  abbrev last : Meaning
+  last = systems.meaning_of new.system
+
+  held : (s : State) → Serves (mounted old s) → ServesState old.system s
+  held s serves = serves.kept (still_going old s serves runs)
+
+  one_of : (s : State) → LeavesOnly first last (λ c. OpensTo first s c ⊎ OpensTo first s c) → LeavesOnly first last (OpensTo first s)
+  one_of s leaves = weaker first last (λ c. OpensTo first s c ⊎ OpensTo first s c) (OpensTo first s) leaves (λ c either. elim either [ inl one ↦ one | inr other ↦ other ])
+
+  -- one was made
+  pub makes_room : (u : Unit {0}) → MakesPoint StaysAt IsFilled old.system new.system (Ok u) → IsFalse new.has_failed → MakesRoom old new (Ok u)
+  makes_room u told runs_on = record {
+    uses = told.counted.uses;
+    eio = λ is. cc;
+    written = tt;
+    unlogged = told.unlogged;
+    epoch = next_age old.system.log.epoch new.system.log.epoch (ap (λ (l : LogEnd). l.epoch) told.log);
+    made = record {
+      keeps = record {
+        counted = told.counted;
+        unlogged = told.unlogged;
+        epoch = next_age old.system.log.epoch new.system.log.epoch (ap (λ (l : LogEnd). l.epoch) told.log);
+        stays = λ s serves.
+            stays_by old new s serves runs told.counted.uses.same runs_on (told.covered s.tree.descriptors s (held s serves) s refl).serves
+            (one_of s (told.any_moment s.tree.descriptors s (held s serves) s refl));
+      };
+      going = runs_on;
+      empty = log_emptied new.system old.system.log old.system.log.epoch told.log told.generation;
+      covered = λ s serves. told.covered s.tree.descriptors s (held s serves) s refl;
+    };
+    applied = λ command s serves next needs. tt;
+  }
+
+  -- none was
+  pub makes_none : (e : PointError) (errno : Errno) → errno ≡ errno_of_point e → MakesPoint StaysAt IsFilled old.system new.system (Err e) → new.has_failed ≡ fails_point e → MakesRoom old new (Err errno)
+  makes_none e errno is told flag = record {
+    uses = told.counted.uses;
+    eio = λ same. point_eio first last e told.counted (sym is ∙ errno_same errno EIO (Err errno) (Err EIO) refl refl same);
+    written = λ other. point_written first last e told.counted (λ fault. other (is ∙ fault));
+    unlogged = told.unlogged;
+    epoch = same_age old.system.log.epoch new.system.log.epoch (ap (λ (l : LogEnd). l.epoch) told.log);
+    made = tt;
+    applied = λ command s serves next needs.
+        let here = held s serves in
+        let leaves = one_of s (told.any_moment s.tree.descriptors s here s refl) in
+        answered_as old new s command (errno_of_point e) errno is
+        (no_point old new s serves runs command e needs.not_sure next told.counted (λ x. (filled_by command new.system (told.full (ap (λ y. Err y) x)).1, needs.stores))
+        (λ x. told.last s.tree.descriptors s here (ap (λ y. Err y) x)) (λ x. told.damaged s.tree.descriptors s here (ap (λ y. Err y) x)) flag
+        (λ refused runs_on. stays_by old new s serves runs told.counted.uses.same runs_on (told.refused s.tree.descriptors s here refused) leaves)
+        (λ x. weaker first last (OpensTo first s) (OpensToSome first (IsWithin s command)) leaves (λ i opens. (s, opens, inl refl))));
+  }
+    where
+      errno_same : (x y : Errno) (r q : Result (Unit {0}) Errno) → r ≡ Err x → q ≡ Err y → r ≡ q → x ≡ y
+      errno_same x y r q left right is = cc
+
+-- behind it all is in the root, as `sync` promises
+pub synced_by : {S : Type 0} {G : Ghosts S} (n : ℕ) (old new : Fs S G) (runs : IsFalse old.has_failed) → 1 ≤ n → HasSettled old new → Answers n (λ s. Unit {0}) old new Sync Done
+synced_by n old new runs le made = record {
+  uses = made.keeps.counted.uses;
+  eio = λ is. cc;
+  written = λ _. made.keeps.counted.writes;
+  unlogged = λ errno is. cc;
+  epoch = ages_within n 1 old.system.log.epoch new.system.log.epoch le made.keeps.epoch;
+  still = λ s serves p sure. absurd sure;
+  applied = λ s serves young p. synced old new s serves runs (made.keeps.stays s serves) made.keeps.counted.reads made.keeps.counted.writes (made.covered s serves);
+}
+
+-- ---- the tests of `snap take`
+
+module _ {S : Type 0} {G : Ghosts S} (old new : Fs S G) (runs : IsFalse old.has_failed) (runs_on : IsFalse new.has_failed) (opens : AllOpen old.system) where
+  kept_as : {T : Type 0} (r : Result T CallError) → Glances {T = T} old.system new.system r → (s : State) → (serves : Serves (mounted old s)) → Stays old new s
+  kept_as r told s serves =
+      let here = serves.kept (still_going old s serves runs) in
+      stays_read old new s serves runs told.reads.same runs_on (told.serves s here) told.reads.goes (opens s here)
+
+  same_epoch : {T : Type 0} (r : Result T CallError) → Glances {T = T} old.system new.system r → new.system.log.epoch ≡ old.system.log.epoch
+  same_epoch r told = ap (λ (l : LogEnd). l.epoch) told.log
+
+  -- they were read
+  pub glance_keeps : {T : Type 0} (x : T) → Glances {T = T} old.system new.system (Ok x) → KeepsStates 0 old new
+  glance_keeps {T = T} x told = record {
+    counted = told.counted;
+    unlogged = nothing_logged (systems.meaning_of old.system) (systems.meaning_of new.system) told.reads.goes;
+    epoch = ages_same 0 old.system.log.epoch new.system.log.epoch (same_epoch {T = T} (Ok x) told);
+    stays = kept_as {T = T} (Ok x) told;
+  }
+
+  module _ (n : ℕ) (command : Command) (not_sure : (s : State) → ¬ IsSure s command) where
+    -- and refuse the command
+    pub glance_refuses : {T : Type 0} (x : T) (errno : Errno) → Glances {T = T} old.system new.system (Ok x) → errno ≢ EIO
+        → ((s : State) → ServesState old.system s → WouldCall s command (Refused errno) s nothing) → Answers n (λ s. Unit {0}) old new command (Refused errno)
+    glance_refuses {T = T} x errno told own step = record {
+      uses = told.counted.uses;
+      eio = λ is. absurd (own (refused_same is));
+      written = λ _. told.counted.writes;
+      unlogged = λ y is other. nothing_logged (systems.meaning_of old.system) (systems.meaning_of new.system) told.reads.goes;
+      epoch = ages_same n old.system.log.epoch new.system.log.epoch (same_epoch {T = T} (Ok x) told);
+      still = λ s serves p sure. absurd (not_sure s sure);
+      applied = λ s serves young p.
+          own_refusal old new s serves runs command (not_sure s) (kept_as {T = T} (Ok x) told s serves) errno told.counted.reads told.counted.writes (step s (serves.kept (still_going old s serves runs)));
+    }
+
+    -- or couldn't be
+    pub glance_fails : {T : Type 0} (e : CallError) (errno : Errno) → errno ≡ errno_of_call e → Glances {T = T} old.system new.system (Err e) → IsFalse old.system.log.is_stopped
+        → Answers n (λ s. Unit {0}) old new command (Refused errno)
+    glance_fails {T = T} e errno is told not_stopped =
+        let m = systems.meaning_of old.system in
+        let l = systems.meaning_of new.system in
+        let counted = subst (λ (b : Bool). Counted m l (call_error_failed b e)) not_stopped told.counted in
+        record {
+          uses = counted.uses;
+          eio = λ same. call_eio m l e counted (sym is ∙ refused_same same);
+          written = λ other. call_written m l e counted (λ fault. other (ap Refused (is ∙ fault)));
+          unlogged = λ x same other. nothing_logged m l told.reads.goes;
+          epoch = ages_same n old.system.log.epoch new.system.log.epoch (same_epoch {T = T} (Err e) told);
+          still = λ s serves p sure. absurd (not_sure s sure);
+          applied = λ s serves young p.
+              let here = serves.kept (still_going old s serves runs) in
+              answered_as old new s command (errno_of_call e) errno is
+              (not_answered old new s serves runs command e (not_sure s) told.refuses.0 (reads_fail_nothing e new.has_failed told.refuses.1 runs_on) counted
+              (λ x. told.damaged s here (ap (λ y. Err y) x)) (λ _. told.reads.goes) (λ _. told.serves s here) (λ x. absurd (told.refuses.1 x)) (opens s here));
+        }
+
+-- ---- commands that end behind a consistency point of their own
+
+module _ {S : Type 0} {G : Ghosts S} (n : ℕ) (P : State → Type 0) (old new : Fs S G) (command : Command) (le : 1 ≤ n) (runs : IsFalse old.has_failed) (not_sure : (s : State) → ¬ IsSure s command)
+    (opens : AllOpen old.system) where
+  abbrev start : Meaning
+  start = systems.meaning_of old.system
+
+  abbrev end : Meaning
+  end = systems.meaning_of new.system
+
+  going_state : (s : State) → Serves (mounted old s) → ServesState old.system s
+  going_state s serves = serves.kept (still_going old s serves runs)
+
+  abbrev Done_by : State → Result (Unit {0}) Errno → Type 0
+  Done_by s r = MatchResult r (λ _. IsSettled old.system new.system s command) (IsRefusedBy old.system new.system s command)
+
+  one_point : (a : ℕ) → a + n ≤ 2 ^ 62 → a + 1 ≤ 2 ^ 62
+  one_point a young = omega (arith, le, young)
+
+  -- it was done
+  pub settles_done : (r : Result (Unit {0}) Errno) (u : Unit {0}) → r ≡ Ok u → Settles old.system new.system P command (Ok r) → IsFalse new.has_failed → AllOpen new.system → Answers n P old new command Done
+  settles_done r u is told runs_on now = record {
+    uses = told.counted.uses;
+    eio = λ same. cc;
+    written = λ _. told.counted.writes;
+    unlogged = λ errno same. cc;
+    epoch = ages_within n 1 old.system.log.epoch new.system.log.epoch le told.epoch;
+    still = λ s serves p sure. absurd (not_sure s sure);
+    applied = λ s serves young p.
+        settled old new s serves runs command (not_sure s) told.counted.uses.same runs_on told.counted.reads told.counted.writes
+        (subst (Done_by s) is (told.done s (going_state s serves) p)) now;
+  }
+
+  -- it was refused by its own tests
+  pub settles_refused : (r : Result (Unit {0}) Errno) (found errno : Errno) → r ≡ Err found → errno ≡ found → Settles old.system new.system P command (Ok r) → IsFalse new.has_failed → Answers n P old new command (Refused errno)
+  settles_refused r found errno was same told runs_on =
+      let is : r ≡ Err errno = was ∙ ap (λ (x : Errno). Err x) (sym same) in
+      let own : errno ≢ EIO = subst (λ (x : Result (Unit {0}) Errno). IfErr x (λ e. e ≢ EIO)) is told.own in
+      record {
+        uses = told.counted.uses;
+        eio = λ same. absurd (own (refused_same same));
+        written = λ _. told.counted.writes;
+        unlogged = λ x same other. told.unlogged;
+        epoch = ages_within n 1 old.system.log.epoch new.system.log.epoch le told.epoch;
+        still = λ s serves p sure. absurd (not_sure s sure);
+        applied = λ s serves young p.
+            let here = going_state s serves in
+            let refusal = subst (Done_by s) is (told.done s here p) in
+            own_refusal old new s serves runs command (not_sure s) (stays_read old new s serves runs told.counted.uses.same runs_on refusal.serves refusal.goes (opens s here)) errno
+            told.counted.reads told.counted.writes refusal.step;
+      }
+
+  -- its point wasn't made
+  pub settles_not : (e : PointError) (errno : Errno) → errno ≡ errno_of_point e → Settles old.system new.system P command (Err e) → new.has_failed ≡ fails_point e → Answers n P old new command (Refused errno)
+  settles_not e errno is told flag = record {
+    uses = told.counted.uses;
+    eio = λ same. point_eio start end e told.counted (sym is ∙ refused_same same);
+    written = λ other. point_written start end e told.counted (λ fault. other (ap Refused (is ∙ fault)));
+    unlogged = λ x same other. told.unlogged;
+    epoch = ages_within n 1 old.system.log.epoch new.system.log.epoch le told.epoch;
+    still = λ s serves p sure. absurd (not_sure s sure);
+    applied = λ s serves young p.
+        let here = going_state s serves in
+        answered_as old new s command (errno_of_point e) errno is
+        (no_point old new s serves runs command e (not_sure s) (one_point old.system.log.epoch young) told.counted (λ x. told.full s here (ap (λ y. Err y) x))
+        (λ x. told.last s here (ap (λ y. Err y) x)) (λ x. told.damaged s here (ap (λ y. Err y) x)) flag
+        (λ refused runs_on. stays_read old new s serves runs told.counted.uses.same runs_on (told.serves s here refused) (told.kept refused) (opens s here))
+        (λ x. cut_within old.system new.system s command (told.broken s here p (ap (λ y. Err y) x))));
+  }

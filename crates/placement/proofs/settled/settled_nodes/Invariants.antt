@@ -1,0 +1,16 @@
+use Rattle.std.proofs.Common.{◌≡◌, ℕ, ◌-◌, ◌<◌, ◌≤◌, List}
+use Rattle.layout.specs.Places.{place}
+use Rattle.layout.specs.declared.pointer.Pointer.TheVariants.{Hole}
+use Rattle.buffers.specs.Reads.{HasOnlyRead}
+use Rattle.blocktree.specs.Names.{nodes_at}
+use Rattle.placement.specs.Nodes.{AreWithin, height_of, node}
+use Rattle.placement.proofs.settled.settled_nodes.Given as goal
+
+abbrev pub invariant-loop-height : goal.invariant-loop-height
+invariant-loop-height g l = record {
+  read : HasOnlyRead g.B.Blocks l.initial.blocks l.blocks;
+  count : height_of l.nodes ≡ l.height;
+  within : AreWithin (g.B.Blocks.count l.initial.blocks) l.nodes;
+  end : (m i : ℕ) → nodes_at l.tree.count m ≤ i → node l.nodes m i ≡ Hole;
+  nodes : (disk : ℕ → List ℕ) → g.B.Blocks.Shows l.initial.blocks disk → (m i : ℕ) → m < l.height → i < nodes_at l.tree.count m → node l.nodes m i ≡ place disk l.tree.pointers (l.tree.depth - m) i;
+}

@@ -1,0 +1,67 @@
+-- Failures that are passed on.
+use Rattle.std.proofs.Common.{◌≡◌, Result, Ok, Err, IfErr, IfOk, subst, sym}
+use Rattle.std.specs.Result.{IsErrAnd}
+use Rattle.model.specs.declared.errno.Errno.{Errno}
+use Rattle.blocktree.specs.Errors.{IsFault}
+use Rattle.blocktree.specs.declared.error.ReadError.{ReadError}
+use Rattle.buffers.specs.declared.blocks.Blocks.{Ghosts}
+use Rattle.inofile.specs.declared.inode_file.InodeFile.{InodeFile}
+use Rattle.paths.specs.Standing.{Looks}
+use Rattle.paths.proofs.Looks.{looks_err, looks_ok}
+use Rattle.records.specs.Failures.{told}
+use Rattle.records.specs.Shown.{NeverDamaged}
+use Rattle.records.specs.declared.failure.Failure.{Failure}
+use Rattle.records.specs.declared.failure.Failure.TheVariants.{Read, Refused}
+
+-- ---- a block wasn't read
+
+module _ {T : Type 0} where
+  pub read_failed : (e : ReadError) (q : Result T Failure) → IsErrAnd q (λ f. f ≡ Read e) → IsErrAnd (told q) (λ f. f ≡ e)
+  read_failed e (Ok x) is = absurd is
+  read_failed e (Err (Refused errno)) is = absurd (cc)
+  read_failed e (Err (Read f)) is = cc
+
+  pub read_told : (A : Result T Errno → Type 0) (e : ReadError) (q : Result T Failure) → IsErrAnd q (λ f. f ≡ Read e) → IfOk (told q) A
+  read_told A e (Ok x) is = absurd is
+  read_told A e (Err (Refused errno)) is = absurd (cc)
+  read_told A e (Err (Read f)) is = tt
+
+pub looks_read : {B T U : Type 0} {G : Ghosts B} {a b : B} {s t : InodeFile} {e : ReadError} (q : Result U Failure) → IsErrAnd q (λ f. f ≡ Read e)
+    → Looks {T = T} G IsFault a b s t (Err e) → Looks G IsFault a b s t (told q)
+looks_read {e = e} q is look = looks_err (told q) (read_failed e q is) look
+
+pub damaged_read : {B T U : Type 0} {G : Ghosts B} {a : B} {s : InodeFile} {e : ReadError} (q : Result U Failure) → IsErrAnd q (λ f. f ≡ Read e)
+    → NeverDamaged {T = T} G a s (Err e) → NeverDamaged G a s (told q)
+damaged_read (Ok x) is sound = absurd is
+damaged_read (Err (Refused errno)) is sound = absurd (cc)
+damaged_read (Err (Read f)) is sound = λ disk settled v stands bad. sound disk settled v stands (cc)
+
+-- ---- a step failed, and the whole by it
+
+-- what is told of its refusal is told of the whole's
+pub refused_by : {T U : Type 0} (N : Result T Errno → Type 0) (A : Result U Errno → Type 0) (f : Failure) (q : Result U Failure) → IsErrAnd q (λ g. g ≡ f)
+    → ((errno : Errno) → N (Err errno) → A (Err errno)) → IfOk (told (Err f)) N → IfOk (told q) A
+refused_by N A f (Ok x) is then n = absurd is
+refused_by N A (Refused errno) (Err g) is then n = subst (λ (h : Failure). IfOk (told (Err h)) A) (sym is) (then errno n)
+refused_by N A (Read e) (Err g) is then n = subst (λ (h : Failure). IfOk (told (Err h)) A) (sym is) tt
+
+-- what is told of a refusal, where it is known which it is
+pub refusal_is : {T : Type 0} {errno : Errno} (P N : Errno → Type 0) (r : Result T Failure) → IfOk (told r) (λ q. IfErr q (λ e. e ≡ errno)) → IfOk (told r) (λ q. IfErr q N)
+    → (N errno → P errno) → IfOk (told r) (λ q. IfErr q P)
+refusal_is P N (Ok x) is n then = tt
+refusal_is P N (Err (Refused e)) is n then = subst P (sym is) (then (subst N is n))
+refusal_is P N (Err (Read e)) is n then = tt
+
+pub looks_failed : {B T U : Type 0} {G : Ghosts B} {a b : B} {s t : InodeFile} (f : Failure) (q : Result U Failure) → IsErrAnd q (λ g. g ≡ f) → Looks G IsFault a b s t (told {T = T} (Err f))
+    → Looks G IsFault a b s t (told q)
+looks_failed f (Ok x) is look = absurd is
+looks_failed {U = U} {G = G} {a = a} {b = b} {s = s} {t = t} (Refused errno) (Err g) is look =
+    subst (λ (h : Failure). Looks {T = Result U Errno} G IsFault a b s t (told (Err h))) (sym is) (looks_ok look)
+looks_failed (Read e) (Err g) is look = looks_read (Err g) is look
+
+pub damaged_failed : {B T U : Type 0} {G : Ghosts B} {a : B} {s : InodeFile} (f : Failure) (q : Result U Failure) → IsErrAnd q (λ g. g ≡ f) → NeverDamaged G a s (told {T = T} (Err f))
+    → NeverDamaged G a s (told q)
+damaged_failed f (Ok x) is sound = absurd is
+damaged_failed {U = U} {G = G} {a = a} {s = s} (Refused errno) (Err g) is sound =
+    subst (λ (h : Failure). NeverDamaged {T = Result U Errno} G a s (told (Err h))) (sym is) (λ disk settled v stands bad. cc)
+damaged_failed (Read e) (Err g) is sound = damaged_read (Err g) is sound
