@@ -6,7 +6,7 @@ use Rattle.blockmap.specs.declared.map.BlockMap.{BlockMap}
 use Rattle.blockmap.specs.declared.map.TheConstants.{FIRST_BLOCK}
 
 -- There may be room for more changes, and no entry changes.
-pub record MakesRoom (old new : BlockMap) : Type 0 where
+pub record HasMadeRoom (old new : BlockMap) : Type 0 where
   pub count : new.count ≡ old.count
   pub next : new.next ≡ old.next
   pub settled : KeepsSettled old.parts.items new.parts.items

@@ -15,7 +15,7 @@ abbrev pub free_entries : List ℕ → ℕ
 free_entries entries = count_by (λ e. e == 0) entries
 
 -- a block's entries, and beside them how many settled ones are free
-pub record IsPart (p : Part) (free : ℕ) : Type 0 where
+pub record IsMapPart (p : Part) (free : ℕ) : Type 0 where
   pub settled : length p.settled ≡ BLOCK_POINTERS
   pub entries : length p.entries ≡ BLOCK_POINTERS
   pub counted : free ≡ free_entries p.settled
@@ -24,8 +24,8 @@ abbrev pub or_else : Option (List ℕ) → List ℕ → List ℕ
 or_else (Some entries) settled = entries
 or_else None settled = settled
 
-abbrev pub part_of : List ℕ → Option (List ℕ) → Part
-part_of settled changed =
+abbrev pub map_part_of : List ℕ → Option (List ℕ) → Part
+map_part_of settled changed =
     record { settled = settled; entries = or_else changed settled; is_touched = is_some changed }
 
 -- one of a block's entries is in set k

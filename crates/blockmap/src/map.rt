@@ -34,7 +34,7 @@ pub struct BlockMap {
 }
 
 impl BlockMap {
-    ghost use Rattle.blockmap.specs.Changes.{MakesRoom, PutsBlock, PutsPlane, SettlesAs};
+    ghost use Rattle.blockmap.specs.Changes.{HasMadeRoom, PutsBlock, PutsPlane, SettlesAs};
     ghost use Rattle.blockmap.specs.Maps.{settled_at, entry_at, free_below, HasSetAt, HoldsPart, IsFree, IsTouched};
     ghost use Rattle.blockmap.specs.Space.{left};
 
@@ -140,7 +140,7 @@ impl BlockMap {
     /// Makes room for changes of entries in block `j` of the map, which is stored then. No entry changes by it.
     pub fn touch(&mut self, j: usize) -> Result<(), AllocError>
         requires { j < length self.old.parts.items }
-        ensures room { MakesRoom self.old self.new }
+        ensures room { HasMadeRoom self.old self.new }
         ensures touched { OnOk result (IsTouched self.new.parts.items j) }
         // No more of the map is stored for it.
         ensures same { (i : ℕ) → i ≢ j
@@ -192,7 +192,7 @@ impl BlockMap {
 
     /// Makes room for changes of all entries. None changes by it.
     fn touch_all(&mut self) -> Result<(), AllocError>
-        ensures room { MakesRoom self.old self.new }
+        ensures room { HasMadeRoom self.old self.new }
         ensures touched { OnOk result ((j : ℕ) → j < length self.old.parts.items
             → IsTouched self.new.parts.items j) }
     {
@@ -220,7 +220,7 @@ impl BlockMap {
     /// Makes room for changes of all blocks of the map with an entry in set `set`. No entry changes by it.
     fn touch_set(&mut self, set: u32) -> Result<(), AllocError>
         requires { set < 32 }
-        ensures room { MakesRoom self.old self.new }
+        ensures room { HasMadeRoom self.old self.new }
         ensures touched { OnOk result ((j : ℕ) → j < length self.old.parts.items
             → HasSetAt set self.old.parts.items j → IsTouched self.new.parts.items j) }
         ensures few { (j : ℕ) → IsTouched self.new.parts.items j

@@ -23,14 +23,14 @@ pub struct MapPart {
 
 impl Model for MapPart {
     ghost use Rattle.std.specs.Option.{option_map};
-    ghost use Rattle.blockmap.specs.Parts.{Part, IsPart, part_of};
+    ghost use Rattle.blockmap.specs.Parts.{Part, IsMapPart, map_part_of};
 
     ghost Value = { Part };
 
-    ghost view = { λ p. part_of p.settled.items (option_map (λ v. v.items) p.changed) };
+    ghost view = { λ p. map_part_of p.settled.items (option_map (λ v. v.items) p.changed) };
 
-    ghost invariant = { λ p. IsPart
-        (part_of p.settled.items (option_map (λ v. v.items) p.changed)) p.free };
+    ghost invariant = { λ p. IsMapPart
+        (map_part_of p.settled.items (option_map (λ v. v.items) p.changed)) p.free };
 }
 
 /// How many of a block's entries are zero.

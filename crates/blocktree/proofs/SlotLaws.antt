@@ -1,5 +1,5 @@
 -- What a change of the slots does to a file's blocks.
-use Rattle.std.proofs.Common.{◌≡◌, inl, inr, ℕ, ◌<◌, ◌≤◌, List, refl, Bool, true, false, None, arith, if◌then◌else◌, nat_lt, ltb, min}
+use Rattle.std.proofs.Common.{◌≡◌, inl, inr, ℕ, ◌<◌, ◌≤◌, ◌⊎◌, List, refl, Bool, true, false, Some, None, Option, arith, if◌then◌else◌, nat_lt, ltb, min}
 use Rattle.std.proofs.lemmas.Grind.{common_steps}
 use Rattle.std.proofs.lemmas.Bool.{cases_lt}
 use Rattle.std.proofs.lemmas.Bool.Decides.{nat_tests}
@@ -10,8 +10,24 @@ use Rattle.std.specs.BTreeMap.{BTreeMap, get, is_at, ContainsKey}
 use Rattle.layout.specs.Bytes.{zeros}
 use Rattle.layout.specs.declared.pointer.Pointer.{Pointer}
 use Rattle.blocktree.specs.Places.{pointed, place}
-use Rattle.blocktree.specs.Trees.{slot_bytes, settled_block, IsChangedSlot}
+use Rattle.blocktree.specs.Trees.{slot_bytes, slot_stores, settled_block, IsChangedSlot}
 use Rattle.blocktree.specs.declared.tree.Slot.{Slot}
+use Rattle.blocktree.specs.declared.tree.Slot.TheVariants.{AsSettled, Changed}
+
+pub one_at_most : (s : Option Slot) → slot_stores s ≤ 1
+one_at_most None = omega arith
+one_at_most (Some AsSettled) = omega arith
+one_at_most (Some (Changed block)) = omega arith
+
+pub slot_is : (s : Option Slot) → (slot_stores s ≡ 0) ⊎ IsChangedSlot s
+slot_is None = inl refl
+slot_is (Some AsSettled) = inl refl
+slot_is (Some (Changed block)) = inr tt
+
+pub changed_slot : (s : Option Slot) → IsChangedSlot s → slot_stores s ≡ 1
+changed_slot None changed = absurd changed
+changed_slot (Some AsSettled) changed = absurd changed
+changed_slot (Some (Changed block)) changed = refl
 
 below_true : (i n : ℕ) → i < n → ltb i n ≡ true
 below_true i n lt = grind (arith, nat_tests)

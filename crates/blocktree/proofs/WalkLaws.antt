@@ -7,7 +7,7 @@ use Rattle.layout.specs.Pointer.{PointsBelow}
 use Rattle.layout.specs.declared.pointer.Pointer.{Pointer}
 use Rattle.layout.specs.declared.pointer.Pointer.TheVariants.{Hole, Block}
 use Rattle.blocktree.specs.PlaceMaps.{place_at}
-use Rattle.blocktree.specs.Places.{follow, place, IsNode, IsPath}
+use Rattle.blocktree.specs.Places.{follow, place, IsStoredNode, IsPath}
 use Rattle.blocktree.proofs.PlaceLaws.{node_of_path}
 use Rattle.blocktree.specs.declared.place_map.PlaceMap.{PlaceMap}
 
@@ -51,17 +51,17 @@ follows_all disk above places count from groups all gap behind so_far i low = el
 
 -- the indirect blocks of nodes are in the grammar
 abbrev pub SoundNode : ℕ → (ℕ → List ℕ) → PlaceMap → ℕ → ℕ → Type 0
-SoundNode blocks disk above count j = IsNode blocks disk (count - 1024 * j) (place_at above j)
+SoundNode blocks disk above count j = IsStoredNode blocks disk (count - 1024 * j) (place_at above j)
 
 pub gap_sound : (blocks : ℕ) (disk : ℕ → List ℕ) (above : PlaceMap) (count j : ℕ) → place_at above j ≡ Hole → SoundNode blocks disk above count j
-gap_sound blocks disk above count j hole = subst (λ (p : Pointer). IsNode blocks disk (count - 1024 * j) p) (sym hole) tt
+gap_sound blocks disk above count j hole = subst (λ (p : Pointer). IsStoredNode blocks disk (count - 1024 * j) p) (sym hole) tt
 
 pub sound_more : (blocks : ℕ) (disk : ℕ → List ℕ) (above : PlaceMap) (count from j node : ℕ) → Gap above from j → place_at above j ≡ Block node
     → ((k : ℕ) → k < from → SoundNode blocks disk above count k) → IsIndirectBlock blocks (count - 1024 * j) (disk node) → (k : ℕ) → k < j + 1 → SoundNode blocks disk above count k
 sound_more blocks disk above count from j node gap there so_far here k lt = elim (cases_lt k from) [
   | inl done ↦ so_far k done
   | inr more ↦ elim (cases_eq k j) [
-    | inl e ↦ subst (λ (n : ℕ). SoundNode blocks disk above count n) (sym e) (subst (λ (p : Pointer). IsNode blocks disk (count - 1024 * j) p) (sym there) here)
+    | inl e ↦ subst (λ (n : ℕ). SoundNode blocks disk above count n) (sym e) (subst (λ (p : Pointer). IsStoredNode blocks disk (count - 1024 * j) p) (sym there) here)
     | inr n ↦ gap_sound blocks disk above count k (gap k more (omega (arith, lt, n)))
   ]
 ]
@@ -75,7 +75,7 @@ sound_all blocks disk above count from groups gap so_far k lt = elim (cases_lt k
 
 -- a node is an indirect block in its grammar
 pub node_block : (blocks : ℕ) (disk : ℕ → List ℕ) (above : PlaceMap) (count j node : ℕ) → place_at above j ≡ Block node → SoundNode blocks disk above count j → IsIndirectBlock blocks (count - 1024 * j) (disk node)
-node_block blocks disk above count j node there sound = subst (λ (p : Pointer). IsNode blocks disk (count - 1024 * j) p) there sound
+node_block blocks disk above count j node there sound = subst (λ (p : Pointer). IsStoredNode blocks disk (count - 1024 * j) p) there sound
 
 -- where a group of pointers is put, all stays on the disk, and ends where it has to
 pub below_more : (blocks count j : ℕ) (bytes : List ℕ) (old new : PlaceMap) → IsIndirectBlock blocks (count - 1024 * j) bytes → ((i : ℕ) → PointsBelow blocks (place_at old i))
@@ -117,7 +117,7 @@ own_count (suc depth) count e le = absurd (omega arith)
 
 -- where each node's way is in the grammar, so is the indirect block over a group
 pub node_over : (blocks n : ℕ) (disk : ℕ → List ℕ) (pointers : List Pointer) (depth count j : ℕ) (above : PlaceMap) → n ≡ blocks → (depth ≡ 0 → ⊥) → j < div_ceil count 1024
-    → place_at above j ≡ place disk pointers (depth - 1) j → ((i : ℕ) → i < count → IsPath blocks disk pointers depth count i) → IsNode n disk (count - 1024 * j) (place_at above j)
+    → place_at above j ≡ place disk pointers (depth - 1) j → ((i : ℕ) → i < count → IsPath blocks disk pointers depth count i) → IsStoredNode n disk (count - 1024 * j) (place_at above j)
 node_over blocks n disk pointers depth count j above same some lt is paths =
     let first : 1024 * j < count = omega (arith, lt) in
     let back : 1024 * j / 1024 ≡ j = omega arith in

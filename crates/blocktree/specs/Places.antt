@@ -18,13 +18,13 @@ abbrev pub depth_of : ℕ → ℕ
 depth_of size = level_of size - 1
 
 -- an indirect block, where one is stored, over so many nodes, on a disk of so many blocks
-abbrev pub IsNode : ℕ → (ℕ → List ℕ) → ℕ → Pointer → Type 0
-IsNode blocks disk used Hole = Unit {0}
-IsNode blocks disk used (Block place) = IsIndirectBlock blocks used (disk place)
+abbrev pub IsStoredNode : ℕ → (ℕ → List ℕ) → ℕ → Pointer → Type 0
+IsStoredNode blocks disk used Hole = Unit {0}
+IsStoredNode blocks disk used (Block place) = IsIndirectBlock blocks used (disk place)
 
 -- all that stands over node i of so many is in the grammar: the inode's pointer, and each indirect block
 unfoldable pub IsPath : ℕ → (ℕ → List ℕ) → List Pointer → ℕ → ℕ → ℕ → Type 0
 IsPath blocks disk pointers zero count i = PointsBelow blocks (slice_index_or pointers i Hole)
 IsPath blocks disk pointers (suc depth) count i =
     IsPath blocks disk pointers depth (div_ceil count 1024) (i / 1024)
-    × IsNode blocks disk (count - 1024 * (i / 1024)) (place disk pointers depth (i / 1024))
+    × IsStoredNode blocks disk (count - 1024 * (i / 1024)) (place disk pointers depth (i / 1024))

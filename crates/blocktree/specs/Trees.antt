@@ -50,6 +50,12 @@ IsChangedSlot (Some (Changed block)) = Unit {0}
 IsChangedSlot (Some AsSettled) = ⊥
 IsChangedSlot None = ⊥
 
+-- one for a changed block
+abbrev pub slot_stores : Option Slot → ℕ
+slot_stores (Some (Changed block)) = 1
+slot_stores (Some AsSettled) = 0
+slot_stores None = 0
+
 -- block i is changed
 abbrev pub IsChanged : BlockTree → ℕ → Type 0
 IsChanged t i = IsChangedSlot (tree.get nat_cmp t.slots i)
@@ -76,10 +82,10 @@ KeepsSound old new =
     → IsSoundAt blocks disk old i → IsSoundAt blocks disk new i
 
 -- block i is there
-abbrev pub IsAt : (ℕ → List ℕ) → BlockTree → ℕ → Location → Type 0
-IsAt disk t i locations.Changed = IsChanged t i
-IsAt disk t i locations.Hole = tree_block disk t i ≡ zeros 4096
-IsAt disk t i (locations.Disk place) = tree_block disk t i ≡ disk place
+abbrev pub IsAtLocation : (ℕ → List ℕ) → BlockTree → ℕ → Location → Type 0
+IsAtLocation disk t i locations.Changed = IsChanged t i
+IsAtLocation disk t i locations.Hole = tree_block disk t i ≡ zeros 4096
+IsAtLocation disk t i (locations.Disk place) = tree_block disk t i ≡ disk place
 
 -- a fact of the place, where it is on the disk
 abbrev pub OnDisk : Location → (ℕ → Type 0) → Type 0

@@ -5,7 +5,7 @@ ghost use Rattle.std.specs.Int.{div_ceil};
 ghost use Rattle.buffers.specs.Reads.{ReadsBlocks};
 ghost use Rattle.blocktree.specs.Errors.{IsFault};
 ghost use Rattle.blocktree.specs.PlaceMaps.{AreBelow, EndBefore, place_at};
-ghost use Rattle.blocktree.specs.Places.{follow, place, IsNode, IsPath};
+ghost use Rattle.blocktree.specs.Places.{follow, place, IsStoredNode, IsPath};
 ghost use Rattle.layout.specs.Maps.{indirect_pointer, IsIndirectBlock};
 ghost use Rattle.layout.specs.Pointer.{PointsBelow};
 ghost use Rattle.layout.specs.declared.pointer.Pointer.TheVariants.{Hole};
@@ -126,10 +126,10 @@ fn places_under<B: Blocks>(
         → place_at p i ≡ follow disk (place_at above.now (i / 1024)) (i % 1024)) }
     ensures sound { (disk : ℕ → List ℕ) → B.Shows blocks.old disk → OnOk result ((j : ℕ)
         → j < div_ceil count 1024
-        → IsNode (B.count blocks.old) disk (count - 1024 * j) (place_at above.now j)) }
+        → IsStoredNode (B.count blocks.old) disk (count - 1024 * j) (place_at above.now j)) }
     ensures damaged { (disk : ℕ → List ℕ) → B.Shows blocks.old disk
         → IsErrOf result ReadError.Damaged → ((j : ℕ) → j < div_ceil count 1024
-        → IsNode (B.count blocks.old) disk (count - 1024 * j) (place_at above.now j)) → ⊥ }
+        → IsStoredNode (B.count blocks.old) disk (count - 1024 * j) (place_at above.now j)) → ⊥ }
 {
     let groups = count.div_ceil(GROUP);
     let mut places = PlaceMap::new(alloc);

@@ -6,7 +6,7 @@ ghost use Rattle.blocktree.specs.Errors.{IsFault};
 ghost use Rattle.layout.specs.Maps.{indirect_pointer, IsIndirectBlock};
 ghost use Rattle.layout.specs.Pointer.{PointsBelow};
 ghost use Rattle.layout.specs.declared.pointer.Pointer.TheVariants.{Hole};
-ghost use Rattle.blocktree.specs.Places.{follow, place, IsNode, IsPath};
+ghost use Rattle.blocktree.specs.Places.{follow, place, IsStoredNode, IsPath};
 
 use crate::ReadError;
 use buffers::Blocks;
@@ -86,10 +86,10 @@ fn follow<B: Blocks>(
     ensures pointer { (disk : ℕ → List ℕ) → B.Shows blocks.old disk
         → IfOk result (λ p. p ≡ follow disk above i) }
     ensures sound { (disk : ℕ → List ℕ) → B.Shows blocks.old disk
-        → OnOk result (IsNode (B.count blocks.old) disk used above) }
+        → OnOk result (IsStoredNode (B.count blocks.old) disk used above) }
     ensures damaged { (disk : ℕ → List ℕ) → B.Shows blocks.old disk
         → IsErrOf result ReadError.Damaged
-        → IsNode (B.count blocks.old) disk used above → ⊥ }
+        → IsStoredNode (B.count blocks.old) disk used above → ⊥ }
 {
     match above {
         Pointer::Hole => Ok(Pointer::Hole),

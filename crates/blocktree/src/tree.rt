@@ -78,7 +78,7 @@ impl BlockTree {
     ghost use Rattle.std.specs.Ordering.{nat_cmp};
     ghost use Rattle.std.specs.BTreeMap as tree;
     ghost use Rattle.buffers.specs.Positions.{laid};
-    ghost use Rattle.blocktree.specs.Trees.{AreSound, tree_block, slot_bytes, settled_block, HasRoom, KeepsRoom, SameBlocks, SameSettled, IsChanged, IsSoundAt, KeepsSound, IsAt, OnDisk};
+    ghost use Rattle.blocktree.specs.Trees.{AreSound, tree_block, slot_bytes, settled_block, HasRoom, KeepsRoom, SameBlocks, SameSettled, IsChanged, IsSoundAt, KeepsSound, IsAtLocation, OnDisk};
 
     /// The blocks of a settled file of this size with these pointers in its inode.
     pub fn settled(alloc: Global, pointers: [Pointer; BODY_POINTERS], size: u64) -> BlockTree
@@ -108,18 +108,6 @@ impl BlockTree {
         ensures unchanged { (i : ℕ) → IsChanged result i → ⊥ }
     {
         BlockTree::settled(alloc, [Pointer::Hole; BODY_POINTERS], 0)
-    }
-
-    /// The blocks of a file that has only a changed block 0.
-    pub fn of_block(alloc: Global, block: Block) -> Result<BlockTree, AllocError>
-        ensures count { IfOk result (λ t. t.count ≡ 0) }
-        ensures blocks { IfOk result (λ t. (disk : ℕ → List ℕ) (i : ℕ)
-            → tree_block disk t i ≡ (if i == 0 then block else zeros 4096)) }
-    {
-        let mut tree = BlockTree::empty(alloc);
-        tree.make_room(0)?;
-        tree.set(0, block);
-        Ok(tree)
     }
 
     /// The pointers of the settled inode.
@@ -219,7 +207,7 @@ impl BlockTree {
         ensures reads { ReadsBlocks B.Blocks IsFault blocks.old blocks.new result }
         ensures resident { IfOk result (λ l. OnDisk l (B.IsResident blocks.new)) }
         ensures found { (disk : ℕ → List ℕ) → B.Shows blocks.old disk
-            → IfOk result (IsAt disk self.now i) }
+            → IfOk result (IsAtLocation disk self.now i) }
         ensures sound { (disk : ℕ → List ℕ) → B.Shows blocks.old disk
             → OnOk result (IsSoundAt (B.count blocks.old) disk self.now i) }
         ensures damaged { (disk : ℕ → List ℕ) → B.Shows blocks.old disk
@@ -249,7 +237,7 @@ impl BlockTree {
         location: Location,
     ) -> &'a [u8; BLOCK_BYTES]
         requires { OnDisk location (B.IsResident blocks.now) }
-        ensures { (disk : ℕ → List ℕ) → B.Shows blocks.now disk → IsAt disk self.now i location
+        ensures { (disk : ℕ → List ℕ) → B.Shows blocks.now disk → IsAtLocation disk self.now i location
             → result.now ≡ tree_block disk self.now i }
     {
         match location {

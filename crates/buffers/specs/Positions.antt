@@ -3,8 +3,8 @@ use Rattle.std.specs.Prelude.{ℕ, ◌≡◌, ◌+◌, ◌-◌, ◌<◌, List, l
 pub use Rattle.layout.specs.FileBytes.{first_bytes}
 
 -- bytes by position, with these from one position on
-abbrev pub written : (ℕ → ℕ) → ℕ → List ℕ → ℕ → ℕ
-written f at bytes p = if nat_le at p && nat_lt p (at + length bytes) then slice_index bytes (p - at) else f p
+abbrev pub with_bytes_at : (ℕ → ℕ) → ℕ → List ℕ → ℕ → ℕ
+with_bytes_at f at bytes p = if nat_le at p && nat_lt p (at + length bytes) then slice_index bytes (p - at) else f p
 
 -- bytes by position, and zeros from one position on
 abbrev pub cut : (ℕ → ℕ) → ℕ → ℕ → ℕ

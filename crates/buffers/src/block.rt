@@ -2,7 +2,7 @@
 
 ghost use Rattle.std.specs.Prelude.{◌≡◌, ℕ, ◌+◌, ◌<◌, ◌≤◌, length, slice_index, IfOk};
 ghost use Rattle.layout.specs.Bytes.{zeros};
-ghost use Rattle.buffers.specs.Positions.{written, cut};
+ghost use Rattle.buffers.specs.Positions.{with_bytes_at, cut};
 
 use layout::BLOCK_BYTES;
 use std::alloc::{AllocError, Global};
@@ -52,7 +52,7 @@ impl Block {
     pub fn put(&mut self, at: usize, bytes: &[u8])
         requires { at + length bytes.now ≤ 4096 }
         ensures bytes { (k : ℕ)
-            → slice_index self.new k ≡ written (slice_index self.old) at bytes.now k }
+            → slice_index self.new k ≡ with_bytes_at (slice_index self.old) at bytes.now k }
         ensures length { length self.new ≡ 4096 }
     {
         self.bytes[at..at + bytes.len()].copy_from_slice(bytes);

@@ -9,7 +9,7 @@ use Rattle.model.specs.Paths.{Name, Path, IsName}
 use Rattle.model.specs.Records.{TakesName}
 use Rattle.model.specs.Resolution.{Resolution, named, missing, refused}
 use Rattle.model.specs.Room.{Need, nothing}
-use Rattle.model.specs.Trees.{Tree, Object, Description, IsTree, is_directory}
+use Rattle.model.specs.Trees.{Tree, Description, IsTree, is_directory}
 use Rattle.model.specs.Trees as trees
 use Rattle.model.specs.Volumes.{Volume, entries, number_at, object_at, is_directory_node, tree_of, IsMounted, IsVolume}
 use Rattle.model.specs.declared.errno.Errno.TheVariants.{DIRFULL}

@@ -1,5 +1,6 @@
 -- What the definitions say of reading a file over a path, by what was found in a volume.
 use Rattle.std.proofs.Common.{◌≡◌, ◌≢◌, ℕ, ℤ, nat_abs, ◌||◌, List, [], true, false, Option, Some, None, Result, Ok, Err, unwrap_or, refl, sym, ap, subst, ◌∙◌}
+use Rattle.std.specs.Prelude.{IsFalse, IsTrue}
 use Rattle.std.proofs.lemmas.Bool.{cond-true, cond-false, false≢true}
 use Rattle.model.specs.Edits.{read_at}
 use Rattle.model.specs.Outcomes.{Outcome, answers, refuses}
@@ -7,13 +8,13 @@ use Rattle.model.specs.Paths.{Path, Tests, first_refusal, text_tests, text_tests
 use Rattle.model.specs.Reading.{gets, is_negative, is_too_many}
 use Rattle.model.specs.Resolution.{resolve}
 use Rattle.model.specs.Room.{nothing}
-use Rattle.model.specs.Trees.{Tree, Object, Description, IsTree}
+use Rattle.model.specs.Trees.{Tree, Object, Description}
 use Rattle.model.specs.Trees as trees
-use Rattle.model.specs.Volumes.{Node, directory_node, file_node, link_node, Volume, object_of, is_file_node, tree_of}
+use Rattle.model.specs.Volumes.{Node, directory_node, file_node, link_node, Volume, bytes_of_node, object_of, is_file_node, tree_of}
 use Rattle.model.specs.declared.errno.Errno.{Errno}
 use Rattle.model.specs.declared.errno.Errno.TheVariants.{EISDIR, EINVAL}
 use Rattle.model.specs.declared.reply.Reply.TheVariants.{Data, Refused}
-use Rattle.calls.specs.Get.{GetsNumber, data_reply, range_tests}
+use Rattle.calls.specs.Get.{data_reply, range_tests}
 use Rattle.model.proofs.LooseLemmas.{some_same}
 use Rattle.paths.specs.Steps.{found_in}
 use Rattle.paths.specs.declared.lookup.Found.TheVariants as found
@@ -22,6 +23,12 @@ use Rattle.calls.proofs.LeadLaws.{led_refused, led_there}
 use Rattle.calls.proofs.MakeLaws.{tested_some}
 use Rattle.model.proofs.OptionLaws.{none_some}
 use Rattle.model.proofs.TestLaws.{first_append, first_in_front}
+
+-- bytes of the file with this number, or that it is none
+abbrev pub GetsNumber : Volume → ℕ → ℕ → ℕ → Result (List ℕ) Errno → Type 0
+GetsNumber v n offset count (Ok bytes) =
+    IsTrue (is_file_node (v n)) × (bytes ≡ read_at offset count (unwrap_or (bytes_of_node (v n)) []))
+GetsNumber v n offset count (Err errno) = IsFalse (is_file_node (v n)) × (errno ≡ EISDIR)
 
 -- ---- a refusal of what is asked
 

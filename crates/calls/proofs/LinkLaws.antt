@@ -27,7 +27,7 @@ use Rattle.paths.specs.Steps.{found_in}
 use Rattle.paths.specs.declared.lookup.Found.TheVariants as found
 use Rattle.calls.specs.Changing.{Comes, ComesBy, Decides}
 use Rattle.calls.specs.Leading.{LeadsTo}
-use Rattle.records.specs.Steps.{IsFileOf}
+use Rattle.records.specs.Steps.{IsFileWithLinks}
 use Rattle.calls.specs.declared.changed.Changing.{Changing}
 use Rattle.calls.proofs.GapLaws.{FindsGap, gap_parent, place_free, place_full}
 use Rattle.calls.proofs.LeadLaws.{leads_refused, leads_there}
@@ -66,7 +66,7 @@ object_file n o y mode count bytes is object = some_same (sym (ap (object_of n) 
 
 -- ---- kinds
 
-pub file_found : (o : Option Node) → found_in o ≡ found.File → (count : ℕ) × IsFileOf count o
+pub file_found : (o : Option Node) → found_in o ≡ found.File → (count : ℕ) × IsFileWithLinks count o
 file_found None is = other is
   where
     other : {X : Type 0} → found.Nothing ≡ found.File → X

@@ -14,11 +14,17 @@ use Rattle.model.specs.declared.errno.Errno.{Errno}
 use Rattle.model.specs.declared.errno.Errno.TheVariants.{ENOTDIR}
 use Rattle.model.specs.declared.reply.Reply.TheVariants.{Names, Refused}
 use Rattle.model.proofs.LooseLemmas.{some_same}
+use Rattle.dirs.specs.Listings.{IsListingOfNames}
 use Rattle.calls.specs.Leading.{IsLed}
-use Rattle.calls.specs.List.{ListsNumber, reply_of}
+use Rattle.calls.specs.List.{reply_of}
 use Rattle.calls.proofs.LeadLaws.{led_refused, led_there}
 use Rattle.calls.proofs.MakeLaws.{child_some}
 use Rattle.model.proofs.OptionLaws.{none_some}
+
+-- the names of the directory with this number, or that it is none
+abbrev pub ListsNumber : Volume → ℕ → Result (List Name) Errno → Type 0
+ListsNumber v n (Ok names) = IsTrue (is_directory_node (v n)) × IsListingOfNames (entries v n) names
+ListsNumber v n (Err errno) = IsFalse (is_directory_node (v n)) × (errno ≡ ENOTDIR)
 
 module _ (inodes : ℕ) (v : Volume) (table : ℕ → Option Description) (volume : IsVolume inodes v) where
   abbrev t : Tree

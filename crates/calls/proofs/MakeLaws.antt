@@ -1,5 +1,5 @@
 -- What the definitions say of making an object over a path, by what was found in a volume.
-use Rattle.std.proofs.Common.{◌≡◌, ◌↔◌, inl, inr, ℕ, ◌<◌, ◌≤◌, List, [], ◌∷◌, ◌++◌, length, Bool, true, false, ◌||◌, Option, Some, None, IsSome, is_some, Result, Ok, Err, IfOk, refl, sym, ap, subst, ◌∙◌, arith}
+use Rattle.std.proofs.Common.{◌≡◌, ◌↔◌, inl, inr, ℕ, ◌<◌, ◌≤◌, List, [], ◌∷◌, ◌++◌, length, Bool, true, false, ◌||◌, Option, Some, None, IsSome, is_some, Result, Ok, Err, refl, sym, ap, subst, ◌∙◌, arith}
 use Rattle.std.specs.Prelude.{nat_le}
 use Rattle.std.proofs.Math.Path.{fun_ext}
 use Rattle.std.proofs.lemmas.Bool.{cases_lt, cases_eq, lt-leb, le-leb, false≢true}
@@ -17,7 +17,7 @@ use Rattle.model.specs.Paths.{Name, Path, IsName, Tests, first_refusal, new_text
 use Rattle.model.specs.Records.{Change, Made, file, directory, symbolic_link, Applies, IsMade, TakesName, applied, create, is_vacant, node_of}
 use Rattle.model.specs.Resolution.{Resolution, named, missing, refused, resolve}
 use Rattle.model.specs.Room.{Need, nothing, logs, adds_name}
-use Rattle.model.specs.Trees.{Tree, Object, Description, IsTree, IsUsed, is_directory}
+use Rattle.model.specs.Trees.{Tree, Object, Description, IsTree, is_directory}
 use Rattle.model.specs.Trees as trees
 use Rattle.model.specs.Volumes.{Node, directory_node, file_node, link_node, Volume, entries, number_at, object_at, enter, is_directory_node, set_name, with_node, created, is_open, swept_node, tree_of, swept, IsVolume, IsMounted}
 use Rattle.model.specs.declared.errno.Errno.{Errno}

@@ -16,7 +16,7 @@ use Rattle.model.specs.Resolution.{Resolution, named, missing, refused, resolve}
 use Rattle.model.specs.Room.{Need, Work, adds_name, changes_size, logs, nothing}
 use Rattle.model.specs.Trees.{Tree, Object, Description, IsTree}
 use Rattle.model.specs.Trees as trees
-use Rattle.model.specs.Volumes.{IsMounted, IsVolume, Node, directory_node, file_node, link_node, Volume, bytes_of, is_directory_node, is_file_node, object_at, object_of, set_name, swept, tree_of, with_node}
+use Rattle.model.specs.Volumes.{IsMounted, IsVolume, Node, directory_node, file_node, link_node, Volume, bytes_of_node, is_directory_node, is_file_node, object_at, object_of, set_name, swept, tree_of, with_node}
 use Rattle.model.specs.declared.command.Flags.{Flags}
 use Rattle.model.specs.declared.errno.Errno.{Errno}
 use Rattle.model.specs.declared.errno.Errno.TheVariants.{DIRFULL, EEXIST, EISDIR, ENOENT, NONUMBER}
@@ -31,7 +31,7 @@ use Rattle.paths.specs.declared.lookup.Found.TheVariants as found
 use Rattle.calls.specs.Changing.{said_by}
 use Rattle.calls.specs.Leading.{LeadsTo}
 use Rattle.calls.specs.Making.{CreatesNumber, IsLeastFree, MakesIn}
-use Rattle.calls.specs.Open.{OpensBy, IsOpened, OpensAt, OpensMade, OpensNew, OpensOver, opens_along}
+use Rattle.calls.specs.Open.{OpensByRecord, IsOpened, OpensAt, OpensMade, OpensNew, OpensOver, opens_along}
 use Rattle.calls.specs.Stat.{TellsStat, stat_in}
 use Rattle.calls.specs.Truncate.{CutsFile}
 use Rattle.calls.specs.declared.changed.Changing.{Changing}
@@ -206,7 +206,7 @@ module _ (inodes : ℕ) (v : Volume) (table : ℕ → Option Description) (n : �
         no_bytes : nothing ≡ need_of_cut n 0 tree → 0 ≡ length f.bytes
         no_bytes needs =
             elim (cases_eq 0 held) [
-              | inl e ↦ e ∙ ap (λ (o : Option Node). length (unwrap_or (bytes_of o) [])) f.is
+              | inl e ↦ e ∙ ap (λ (o : Option Node). length (unwrap_or (bytes_of_node o) [])) f.is
               | inr more ↦ nothing_logs (needs ∙ cond-false (0 == held) nothing (logs (changes_size held 0)) (ne_eqb 0 held more))
             ]
 
@@ -233,7 +233,7 @@ module _ (inodes : ℕ) (v : Volume) (table : ℕ → Option Description) (n : �
             (λ (w : Volume).
             IsMounted w table × IsOpened w o × ((fd : ℕ) → opens_object tree y flags fd (Fd fd) (put fd (tree_of w table)) (logs (work_of v cut_change)))) (sym whole)
             (over.1, cut_now (Some c), λ fd. cut_at fd (tree_of after table) (logs (work_of v cut_change)) is needs) in
-            subst (OpensBy (opens_object tree y flags) inodes flags v table o) (sym says) (over.0, still, is_file, opens)
+            subst (OpensByRecord (opens_object tree y flags) inodes flags v table o) (sym says) (over.0, still, is_file, opens)
 
 -- ---- a file that is made
 
@@ -346,7 +346,7 @@ module _ (inodes : ℕ) (v : Volume) (table : ℕ → Option Description) (volum
               ap (swept table (made n good can free)) (sym same) ∙ is_made n good can free ∙ ap (λ (k : ℕ). Some (file_node mode k [])) (sym one),
               empty,
             ) in
-            subst (OpensBy outcome inodes flags v table o) (sym says) (
+            subst (OpensByRecord outcome inodes flags v table o) (sym says) (
               applies n good can free,
               (changed n good can free).0,
               is,

@@ -1,5 +1,5 @@
 -- What the definitions say of moving a name over paths, by what was found in a volume.
-use Rattle.std.proofs.Common.{append_assoc, ◌≡◌, ◌≢◌, ◌↔◌, inl, inr, ℕ, ◌<◌, ◌==◌, [], ◌∷◌, ◌++◌, length, Bool, true, false, not, ◌&&◌, ◌||◌, IsTrue, Option, Some, None, IsSome, is_some, fold, refl, sym, ap, subst, ◌∙◌, arith}
+use Rattle.std.proofs.Common.{append_assoc, ◌≡◌, ◌≢◌, ◌↔◌, inl, inr, ℕ, ◌<◌, ◌==◌, [], ◌∷◌, ◌++◌, length, Bool, true, false, not, ◌&&◌, ◌||◌, IsTrue, Option, Some, None, IsSome, is_some, refl, sym, ap, subst, ◌∙◌, arith}
 use Rattle.std.specs.Prelude.{nat_le}
 use Rattle.std.specs.Ordering.{nat_cmp}
 use Rattle.std.specs.Cmp.Lexicographic.{slice_cmp}
@@ -10,13 +10,13 @@ use Rattle.model.specs.Changing.{is_same_file, move_tests, moves, with_target}
 use Rattle.model.specs.Laws.{BelowIsByPaths}
 use Rattle.model.specs.Edits.{moved}
 use Rattle.model.specs.Outcomes.{Outcome, answers, changes_swept, either, with_place}
-use Rattle.model.specs.Paths.{Name, Path, IsName, Tests, behind, begins_with, first_refusal, path_eq}
+use Rattle.model.specs.Paths.{Name, Path, Tests, behind, begins_with, first_refusal, path_eq}
 use Rattle.model.specs.Records.{CanRename, CanReplace, IsBelow, TakesName, applied, rename}
 use Rattle.model.specs.Resolution.{parent}
 use Rattle.model.specs.Room.{Need, adds_name, logs, nothing}
 use Rattle.model.specs.Trees.{Tree, Object, Description, IsTree, is_directory, number}
 use Rattle.model.specs.Trees as trees
-use Rattle.model.specs.Volumes.{Node, directory_node, file_node, link_node, Volume, enter, entries, is_directory_node, names_in, number_at, object_at, object_of, swept, tree_of, IsMounted, IsVolume}
+use Rattle.model.specs.Volumes.{Node, directory_node, file_node, link_node, Volume, enter, entries, is_directory_node, number_at, object_at, object_of, swept, tree_of, IsMounted, IsVolume}
 use Rattle.model.specs.declared.errno.Errno.{Errno}
 use Rattle.model.specs.declared.errno.Errno.TheVariants.{ENOTDIR, EISDIR, EINVAL, DIRFULL}
 use Rattle.model.specs.declared.limits.TheConstants.{DIRECTORY_NAMES}
@@ -78,10 +78,7 @@ begins_more w p y other = by (behind p w) refl (behind p (w ++ y ∷ [])) refl
     by (Some u) is None more =
         let longer : w ++ y ∷ [] ≡ p ++ (u ++ y ∷ []) = ap (λ (r : Path). r ++ y ∷ []) (behind-is p w u is) ∙ append_assoc p u (y ∷ []) in
         let some : behind p (w ++ y ∷ []) ≡ Some (u ++ y ∷ []) = ap (behind p) longer ∙ behind-append p (u ++ y ∷ []) in
-        none_path (sym more ∙ some)
-      where
-        none_path : {X : Type 0} {z : Path} → None ≡ Some z → X
-        none_path e = cc
+        none_some (sym more ∙ some)
 
 pub not_either : (this that : Outcome) (a : Bool) → a ≡ false → (reply : Reply) (new : Tree) (need : Need) → that reply new need → either a this that reply new need
 not_either this that true is reply new need done = absurd (false≢true (sym is))

@@ -12,7 +12,7 @@ use Rattle.model.specs.Volumes.{Volume, enter, entries, is_directory_node, numbe
 use Rattle.model.proofs.OptionLaws.{none_some, some_same}
 use Rattle.model.specs.declared.limits.TheConstants.{ROOT_NUMBER}
 use Rattle.paths.specs.Numbers.{AreNumbers, IsNumber}
-use Rattle.records.specs.Moving.{IsOutside}
+use Rattle.records.specs.Moving.{LiesOutside}
 use Rattle.records.proofs.FileLaws.{named_directory}
 use Rattle.calls.specs.Rename.{MovesAlong}
 use Rattle.calls.proofs.LeadLaws.{trail_end}
@@ -58,7 +58,7 @@ module _ (v : Volume) (d : ℕ) (x : Name) (n : ℕ) (trail : List ℕ) (y : Nam
   pub lies_below : below ≡ true → IsBelow (entries v) n (here trail)
   lies_below one = moves.tells.0 (told.0 one)
 
-  pub lies_outside : below ≡ false → IsOutside v d x (here trail)
+  pub lies_outside : below ≡ false → LiesOutside v d x (here trail)
   lies_outside never m at is_below =
       let under = subst (λ (j : ℕ). IsBelow (entries v) j (here trail)) (some_same (sym at ∙ moves.there)) is_below in
       false≢true (sym never ∙ told.1 (moves.tells.1 under))

@@ -93,9 +93,6 @@ module _ (old new : Tree) (forgets : ForgetsOpenFiles old new) (reply : Reply) w
   resolves follow text =
       resolve_bare old follow text ∙ ap (λ (o : Path → Option Object). resolve (bare o) follow text) (sym forgets.objects) ∙ sym (resolve_bare new follow text)
 
-  answers_same : (one other : Reply) → one ≡ other → Sees (answers old one) (answers new other)
-  answers_same one other same told = (told.0 ∙ same, refl, refl)
-
   tested_same : (tests : Tests) (one other : Outcome) → Sees one other → Sees (tested old tests one) (tested new tests other)
   tested_same tests one other sees =
       elim (first_refusal tests) as (λ f. (elim f as (λ _. Outcome) [ Some errno ↦ refuses old errno | None ↦ one ]) reply old nothing

@@ -10,7 +10,7 @@ use Rattle.layout.specs.declared.geometry.TheConstants.{LEAST_BLOCKS, LEAST_HALF
 use Rattle.layout.specs.declared.inode.Inode.{Inode}
 use Rattle.layout.specs.declared.kind.Kind.{Kind as LayoutKind}
 use Rattle.layout.specs.declared.kind.Kind.TheVariants as kinds
-use Rattle.images.specs.Contents.{StandsAs, bytes_of as file_bytes}
+use Rattle.images.specs.Contents.{StandsAs, content_bytes}
 use Rattle.inode.specs.declared.object.Object.{Object as MemoryObject}
 use Rattle.inofile.specs.Objects.{IsObject, IsObjectKind}
 use Rattle.inofile.specs.Settled.{content_of}
@@ -22,7 +22,7 @@ use Rattle.model.specs.Resolution.{resolve}
 use Rattle.model.specs.Room.{nothing}
 use Rattle.model.specs.Trees.{Tree, Object, Description}
 use Rattle.model.specs.Trees as trees
-use Rattle.model.specs.Volumes.{Node, directory_node, file_node, link_node, Volume, mode_of, bytes_of, object_of, tree_of, IsVolume}
+use Rattle.model.specs.Volumes.{Node, directory_node, file_node, link_node, Volume, mode_of, bytes_of_node, object_of, tree_of, IsVolume}
 use Rattle.model.specs.declared.errno.Errno.{Errno}
 use Rattle.model.specs.declared.errno.Errno.TheVariants.{EINVAL}
 use Rattle.model.specs.declared.limits.TheConstants.{LINK_MODE}
@@ -34,10 +34,15 @@ use Rattle.paths.specs.Steps.{found_in, text_in}
 use Rattle.paths.specs.declared.lookup.Found.{Found}
 use Rattle.paths.specs.declared.lookup.Found.TheVariants as found
 use Rattle.calls.specs.Leading.{IsLed}
-use Rattle.calls.specs.Readlink.{TellsText, text_reply}
+use Rattle.calls.specs.Readlink.{text_reply}
 use Rattle.calls.specs.Stat.{IsStatOf, TellsStat, stat_in, stat_reply}
 use Rattle.calls.proofs.LeadLaws.{led_some, led_there, led_refused}
 use Rattle.model.proofs.OptionLaws.{none_some}
+
+-- the text of the link with this number, or that it is none
+abbrev pub TellsText : Volume → ℕ → Result (List ℕ) Errno → Type 0
+TellsText v n (Ok text) = v n ≡ Some (link_node text)
+TellsText v n (Err errno) = (found_in (v n) ≢ found.Link) × (errno ≡ EINVAL)
 
 -- what is no object isn't there
 pub nothing_there : {X : Type 0} (o : Option Node) → IsSome o → ((x : Node) → o ≡ Some x → ⊥) → X
@@ -64,7 +69,7 @@ module _ (v : Volume) (table : ℕ → Option Description) where
           links,
           tell_links inodes v table n mode links bytes volume is,
           (
-            ap (λ (o : Option Node). replies.Stat (record { number = n; kind = File; mode = unwrap_or (mode_of o) 0; links = links; size = length (unwrap_or (bytes_of o) []) })) (sym is),
+            ap (λ (o : Option Node). replies.Stat (record { number = n; kind = File; mode = unwrap_or (mode_of o) 0; links = links; size = length (unwrap_or (bytes_of_node o) []) })) (sym is),
             refl,
             refl,
           ),
@@ -150,7 +155,7 @@ module _ (disk : ℕ → List ℕ) (inodes : ℕ) (settled : Inode) (o : MemoryO
   pub stat_file : (size : ℕ) → size ≡ o.file.size → o.attributes.kind ≡ kinds.File
       → IsStatOf n node (record { number = n; kind = File; mode = o.attributes.mode; links = o.attributes.links; size = size })
   stat_file size same is = (
-    file_node o.attributes.mode o.attributes.links (file_bytes (content_of disk o)),
+    file_node o.attributes.mode o.attributes.links (content_bytes (content_of disk o)),
     stands kinds.File is,
     ap (λ (s : ℕ). record { number = n; kind = File; mode = o.attributes.mode; links = o.attributes.links; size = s })
         (same ∙ sym (length-map-range_with_len (byte_in (content_of disk o).block) 0 o.file.size)),
@@ -161,7 +166,7 @@ module _ (disk : ℕ → List ℕ) (inodes : ℕ) (settled : Inode) (o : MemoryO
   stat_link size same is =
       let some : Sizes = record { blocks = LEAST_BLOCKS; inodes = LEAST_INODES; half = LEAST_HALF } in
       let fits = subst (λ (k : LayoutKind). FitsKind k some o.attributes.mode o.attributes.links o.file.size) is (is_object.fits some) in (
-        link_node (file_bytes (content_of disk o)),
+        link_node (content_bytes (content_of disk o)),
         stands kinds.Link is,
         ap (λ (m : ℕ). record { number = n; kind = Link; mode = m; links = 1; size = size }) fits.0
             ∙ ap (λ (s : ℕ). record { number = n; kind = Link; mode = LINK_MODE; links = 1; size = s })

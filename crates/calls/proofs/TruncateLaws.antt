@@ -1,12 +1,12 @@
 -- What the definitions say of changing a file's size over a path, by what was found in a volume.
-use Rattle.std.proofs.Common.{◌≡◌, ◌≢◌, ℕ, ℤ, nat_abs, List, true, false, Option, Some, None, Result, Ok, Err, IsTrue, refl, sym, subst}
+use Rattle.std.proofs.Common.{◌≡◌, ◌≢◌, ℕ, ℤ, nat_abs, List, true, false, Option, Some, None, Result, Ok, Err, IsFalse, IsTrue, refl, sym, subst}
 use Rattle.std.specs.Result.{IsOkAnd}
 use Rattle.std.proofs.Math.Path.{fun_ext}
 use Rattle.std.proofs.lemmas.Bool.{false≢true}
 use Rattle.model.specs.Changing.{cuts, size_tests, truncates}
 use Rattle.model.specs.Outcomes.{Outcome, refuses}
 use Rattle.model.specs.Paths.{Path, Tests, first_refusal, text_tests_then}
-use Rattle.model.specs.Records.{Applies, Change, applied, work_of}
+use Rattle.model.specs.Records.{Change, applied, work_of}
 use Rattle.model.specs.Records as records
 use Rattle.model.specs.Resolution.{resolve}
 use Rattle.model.specs.Room.{Need, logs, nothing}
@@ -22,7 +22,7 @@ use Rattle.paths.specs.Steps.{found_in}
 use Rattle.paths.specs.declared.lookup.Found.TheVariants as found
 use Rattle.calls.specs.Leading.{IsLed}
 use Rattle.calls.specs.Changing.{ComesOrStays, ComesSweptBy}
-use Rattle.calls.specs.Truncate.{CutsFile, CutsNumber}
+use Rattle.calls.specs.Truncate.{CutsFile}
 use Rattle.calls.specs.declared.changed.Changing.{Changing}
 use Rattle.calls.proofs.LeadLaws.{led_refused, led_there}
 use Rattle.calls.proofs.MakeLaws.{tested_some}
@@ -41,6 +41,11 @@ found_other None other = refl
 found_other (Some (directory_node mode names)) other = refl
 found_other (Some (file_node mode links bytes)) other = absurd (other refl)
 found_other (Some (link_node text)) other = refl
+
+-- a file with this number is cut, or it is none
+abbrev pub CutsNumber : ℕ → Volume → (ℕ → Option Description) → ℕ → ℕ → Result (Option Changing) Errno → Type 0
+CutsNumber inodes v table n size (Ok o) = IsTrue (is_file_node (v n)) × CutsFile inodes v table n size o
+CutsNumber inodes v table n size (Err errno) = IsFalse (is_file_node (v n)) × (errno ≡ EISDIR)
 
 -- what a file is cut to
 pub cuts_found : (inodes : ℕ) (v : Volume) (table : ℕ → Option Description) (n size : ℕ) (r : Result (Option Changing) Errno) → IsTrue (is_file_node (v n))

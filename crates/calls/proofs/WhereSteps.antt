@@ -15,7 +15,7 @@ use Rattle.buffers.specs.declared.blocks.Blocks.{Ghosts}
 use Rattle.inofile.specs.declared.inode_file.InodeFile.{InodeFile}
 use Rattle.paths.specs.Ends.{EndsWell}
 use Rattle.paths.specs.Numbers.{AreNumbers, IsNumber}
-use Rattle.paths.specs.Places.{place_of, IsPlaceWithin}
+use Rattle.paths.specs.Places.{model_place_of, IsPlaceWithin}
 use Rattle.paths.specs.Resolves.{Resolves}
 use Rattle.paths.specs.Standing.{Looks}
 use Rattle.paths.specs.Steps.{found_in}
@@ -46,7 +46,7 @@ led_of (Entry trail name number) = Ok number
 led_of (Gap trail name) = Err ENOENT
 led_of (Refusal errno) = Err errno
 
-leads_at : (inodes : ℕ) (v : Volume) → IsVolume inodes v → (p : Place) (r : Resolution) → IsPlaceOf v (place_of p) r → LeadsTo v r (led_of p)
+leads_at : (inodes : ℕ) (v : Volume) → IsVolume inodes v → (p : Place) (r : Resolution) → IsPlaceOf v (model_place_of p) r → LeadsTo v r (led_of p)
 leads_at inodes v volume (Directory trail) r at = leads_directory inodes v volume trail r at
 leads_at inodes v volume (Entry trail name number) r at = leads_entry inodes v volume trail name.items number r at
 leads_at inodes v volume (Gap trail name) r at = leads_gap v trail name.items r at
@@ -68,7 +68,7 @@ own_at inodes (Entry trail name number) is = tt
 own_at inodes (Gap trail name) is = refl
 own_at inodes (Refusal errno) is = walk_refusal errno is
 
-followed_at : (v : Volume) (follow : Bool) (p : Place) → EndsWell v follow (place_of p) → IsTrue follow → IfOk (led_of p) (λ n. found_in (v n) ≢ found.Link)
+followed_at : (v : Volume) (follow : Bool) (p : Place) → EndsWell v follow (model_place_of p) → IsTrue follow → IfOk (led_of p) (λ n. found_in (v n) ≢ found.Link)
 followed_at v follow (Directory trail) ends is = directory_no_link (found_in (v (here trail))) ends
 followed_at v follow (Entry trail name number) ends is = ends is
 followed_at v follow (Gap trail name) ends is = tt

@@ -30,16 +30,16 @@ abbrev pub IsOpened : Volume → Opened → Type 0
 IsOpened v o = (mode : ℕ) × (bytes : List ℕ) × (v o.number ≡ Some (file_node mode o.links bytes)) × (o.size ≡ length bytes)
 
 -- a number and a size that are told keep to the limits
-abbrev pub KeepsBounds : ℕ → Opened → Type 0
-KeepsBounds inodes o = IsNumber inodes o.number × (o.size ≤ GREATEST_FILE)
+abbrev pub KeepsOpenedBounds : ℕ → Opened → Type 0
+KeepsOpenedBounds inodes o = IsNumber inodes o.number × (o.size ≤ GREATEST_FILE)
 
 -- the tree with the file at a descriptor, as it is just opened with these flags
 abbrev pub opened_tree : Flags → Opened → ℕ → Tree → Tree
 opened_tree flags o fd t = with_descriptor fd (Some (described_by o.number flags)) t
 
 -- what opening a file comes to where this record, which applies, makes or cuts it
-abbrev pub OpensBy : (ℕ → Outcome) → ℕ → Flags → Volume → (ℕ → Option Description) → Opened → Change → Type 0
-OpensBy outcome inodes flags v table o change =
+abbrev pub OpensByRecord : (ℕ → Outcome) → ℕ → Flags → Volume → (ℕ → Option Description) → Opened → Change → Type 0
+OpensByRecord outcome inodes flags v table o change =
     Applies inodes v change × IsMounted (swept table (applied change v)) table × IsOpened (swept table (applied change v)) o
     × ((fd : ℕ) → outcome fd (Fd fd) (opened_tree flags o fd (tree_of (swept table (applied change v)) table)) (logs (work_of v change)))
 
@@ -47,7 +47,7 @@ OpensBy outcome inodes flags v table o change =
 abbrev pub OpensOver : (ℕ → Outcome) → ℕ → Flags → Volume → (ℕ → Option Description) → Opened → Option Changing → Type 0
 OpensOver outcome inodes flags v table o None =
     IsOpened v o × ((fd : ℕ) → outcome fd (Fd fd) (opened_tree flags o fd (tree_of v table)) nothing)
-OpensOver outcome inodes flags v table o (Some c) = OpensBy outcome inodes flags v table o (said_by c.change)
+OpensOver outcome inodes flags v table o (Some c) = OpensByRecord outcome inodes flags v table o (said_by c.change)
 
 -- what opening a file comes to, at whatever descriptor: a refusal, or the file
 abbrev pub OpensAt : (ℕ → Outcome) → ℕ → Flags → Volume → (ℕ → Option Description) → Result Opened Errno → Type 0

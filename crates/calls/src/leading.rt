@@ -4,12 +4,11 @@ ghost use Rattle.std.specs.Prelude.{◌≡◌};
 ghost use Rattle.model.specs.Paths.{parts as parts_of, text_tests};
 ghost use Rattle.calls.specs.Leading.{IsLed, LeadsTo, TellsWhere};
 
-use crate::finding::find;
 use buffers::Blocks;
 use inofile::InodeFile;
 use layout::InodeNumber;
 use model::Errno;
-use paths::{Found, Parts, Place, refusal_of_text};
+use paths::{Parts, Place, refusal_of_text, resolve};
 use records::Failure;
 use std::alloc::Global;
 
@@ -24,7 +23,7 @@ pub(crate) fn find_object<B: Blocks>(
     ensures { TellsWhere B.Blocks blocks.old blocks.new inodes.old inodes.new follow
         (λ text. parts ≡ parts_of text) (λ _. LeadsTo) result }
 {
-    let place = find(alloc, inodes, blocks, parts, follow)?;
+    let place = resolve(alloc, inodes, blocks, parts, follow)?;
     match place {
         Place::Directory(trail) => Ok(trail.here()),
         Place::Entry {

@@ -3,12 +3,12 @@
 #![tactic(auto)]
 
 mod changed;
-mod finding;
 mod leading;
 mod made;
 mod making;
 mod preparing;
 mod reading;
+mod root;
 mod seeing;
 
 pub use changed::{Changing, EntryName, OwnedChange};

@@ -1,6 +1,6 @@
 //! Making an object over a path.
 
-ghost use Rattle.std.specs.Prelude.{◌≡◌, IfOk};
+ghost use Rattle.std.specs.Prelude.{IfOk};
 ghost use Rattle.model.specs.Changing.{creates};
 ghost use Rattle.model.specs.Changes.{with_made};
 ghost use Rattle.model.specs.Records.{Made};
@@ -9,7 +9,6 @@ ghost use Rattle.calls.specs.Changing.{Comes, made_by};
 ghost use Rattle.calls.specs.Making.{CreatesObject, HasNoNumber, MakesIn};
 ghost use Rattle.calls.specs.Preparing.{Prepares};
 
-use crate::finding::find;
 use crate::{Changing, Creation, EntryName, OwnedChange, OwnedObject};
 use blocktree::ReadError;
 use buffers::Blocks;
@@ -17,7 +16,7 @@ use inode::{Object, based_trees_are_sound};
 use inofile::InodeFile;
 use layout::{FIRST_NUMBER, InodeNumber};
 use model::{Errno, records_change_trees, volumes_are_trees, volumes_tell_fresh_numbers};
-use paths::{Parts, Place, refusal_of_new_text};
+use paths::{Parts, Place, refusal_of_new_text, resolve};
 use records::{Failure, is_vacant, new_object, prepare_new};
 use std::alloc::Global;
 
@@ -42,7 +41,7 @@ pub(crate) fn make<B: Blocks>(
     if let Some(errno) = refusal_of_new_text(path, &parts) {
         return Err(Failure::Refused(errno));
     }
-    let place = find(alloc, inodes, blocks, parts, false)?;
+    let place = resolve(alloc, inodes, blocks, parts, false)?;
     let (trail, name) = match place {
         Place::Gap { trail, name } => (trail, name),
         Place::Refusal(errno) => return Err(Failure::Refused(errno)),

@@ -9,11 +9,11 @@ use Rattle.layout.specs.declared.pointer.Pointer.TheVariants.{Hole, Block}
 use Rattle.conspoint.specs.declared.draft.Draft.{Draft}
 use Rattle.conspoint.specs.Drafts.{Grows, IsReserved, WasTaken}
 use Rattle.conspoint.specs.Groups.{pointer_at}
-use Rattle.conspoint.specs.Closures.{HasRoomFor, IsClosed}
+use Rattle.conspoint.specs.Closures.{IsInTouchedPart, IsClosedOver}
 use Rattle.conspoint.proofs.DraftLemmas.{taken_later, taken_earlier}
 
-module _ (d e : Draft) (settled places : List Pointer) (k p : ℕ) (grows : Grows d e) (keeps : (x : ℕ) → IsReserved d x → IsReserved e x) (so_far : IsClosed d settled places)
-    (within : k < length places) (fresh : d.map.next ≤ p) (here : IsReserved e p) (room : HasRoomFor e p) (before : (b : ℕ) → pointer_at settled k ≡ Block b → HasRoomFor e b) where
+module _ (d e : Draft) (settled places : List Pointer) (k p : ℕ) (grows : Grows d e) (keeps : (x : ℕ) → IsReserved d x → IsReserved e x) (so_far : IsClosedOver d settled places)
+    (within : k < length places) (fresh : d.map.next ≤ p) (here : IsReserved e p) (room : IsInTouchedPart e p) (before : (b : ℕ) → pointer_at settled k ≡ Block b → IsInTouchedPart e b) where
   at : (i : ℕ) → i ≡ k → pointer_at (slice_set places k (Block p)) i ≡ Block p
   at i is = ap (pointer_at (slice_set places k (Block p))) is ∙ get_or-set_same places k (Block p) Hole within
 
@@ -26,14 +26,14 @@ module _ (d e : Draft) (settled places : List Pointer) (k p : ℕ) (grows : Grow
   clash : (i b : ℕ) → p ≡ b → pointer_at places i ≡ Block b → ⊥
   clash i b same is = let low = (so_far.reserved i b is).below in omega arith
 
-  pub closed_more : IsClosed e settled (slice_set places k (Block p))
+  pub closed_more : IsClosedOver e settled (slice_set places k (Block p))
   closed_more = record {
     reserved = λ i b is. elim (cases_eq i k) [
       | inl same ↦ subst (IsReserved e) (number i b same is) here
       | inr other ↦ keeps b (so_far.reserved i b (sym (off i other) ∙ is))
     ];
     new = λ i b is. elim (cases_eq i k) [
-      | inl same ↦ subst (HasRoomFor e) (number i b same is) room
+      | inl same ↦ subst (IsInTouchedPart e) (number i b same is) room
       | inr other ↦ grows.settled.touched (b / 1024) (so_far.new i b (sym (off i other) ∙ is))
     ];
     old = λ i x b is was. elim (cases_eq i k) [

@@ -1,9 +1,8 @@
 -- One node more is placed.
-use Rattle.std.proofs.Common.{◌≡◌, ◌≢◌, ◌⊎◌, inl, inr, ℕ, ◌+◌, ◌*◌, ◌/◌, ◌-◌, ◌<◌, ◌≤◌, List, length, set, get_or-set_other, refl, ap, sym, subst, ◌∙◌, arith}
+use Rattle.std.proofs.Common.{◌≡◌, ◌≢◌, ◌⊎◌, inl, inr, ℕ, ◌+◌, ◌-◌, ◌<◌, ◌≤◌, List, length, set, get_or-set_other, refl, ap, sym, subst, ◌∙◌, arith}
 use Rattle.std.proofs.lemmas.Bool.{cases_lt, cases_eq}
 use Rattle.std.proofs.lemmas.Grind.{get_or-set_at}
 use Rattle.std.proofs.lemmas.List.{length-set}
-use Rattle.layout.specs.Maps.{indirect_pointer}
 use Rattle.layout.specs.Pointer.{PointsBelow}
 use Rattle.layout.specs.Places.{Blocks}
 use Rattle.layout.specs.declared.geometry.TheConstants.{MOST_BLOCKS}
@@ -15,7 +14,7 @@ use Rattle.blocktree.specs.declared.place_map.PlaceMap.{PlaceMap}
 use Rattle.conspoint.specs.declared.draft.Draft.{Draft}
 use Rattle.conspoint.specs.Drafts.{Grows, WasTaken}
 use Rattle.conspoint.specs.Space.{StoresNone}
-use Rattle.conspoint.specs.Groups.{pointer_at, group, IsGroup, ComesFrom, ArePlaced}
+use Rattle.conspoint.specs.Groups.{pointer_at, IsGroup, ComesFrom, ArePlaced}
 use Rattle.conspoint.proofs.DraftLemmas.{taken_later, taken_earlier}
 
 module _ (a b c : Draft) (settled old new : PlaceMap) (j : ℕ) (p : Pointer) (before : Grows a b) (now : Grows b c) (so_far : ArePlaced a b settled old) (there : place_at new j ≡ p)
@@ -103,10 +102,6 @@ groups_more P old new from j p there others so_far between last i lt = elim (cas
     | inr more ↦ between i more (omega (arith, lt, n))
   ])
 ]
-
--- of nodes of which none is stored from one index on, none is in the groups there
-pub none_in_group : (nodes : PlaceMap) (from to k i : ℕ) → ((x : ℕ) → 1024 * from ≤ x → x < to → place_at nodes x ≡ Hole) → from ≤ k → 1024 * k + i < to → group nodes k i ≡ Hole
-none_in_group nodes from to k i gap le lt = gap (1024 * k + i) (omega (arith, le)) lt
 
 -- ---- the nodes of a group as a list
 

@@ -12,12 +12,12 @@ use Rattle.conspoint.specs.Cuts.{IsOutside, StaysOutside, HasNewRoot}
 use Rattle.conspoint.specs.Writes.{AreWhole, write_of, writes_of}
 
 -- a sector of none of the blocks
-outside : (blocks : List PlannedBlock) (n : ℕ) → cuts.IsOutside (writes_of blocks) n → IsOutside blocks n
+outside : (blocks : List PlannedBlock) (n : ℕ) → cuts.IsOutsideWrites (writes_of blocks) n → IsOutside blocks n
 outside blocks n not k d lt at =
     not k (write_of d) (omega (arith, length-map blocks write_of, lt))
     (ap (λ (w : cuts.Write). w.place) (get_or-map write_of blocks k d (write_of d) lt) ∙ at)
 
-pub unfinished : (blocks : List PlannedBlock) (old new : Images) → StaysOutside blocks old new → cuts.StaysOutside (writes_of blocks) old.disk new.disk
+pub unfinished : (blocks : List PlannedBlock) (old new : Images) → StaysOutside blocks old new → cuts.StaysOutsideWrites (writes_of blocks) old.disk new.disk
 unfinished blocks old new stays n not = stays.disk n (outside blocks n not)
 
 -- lists of one length with the same elements
@@ -38,7 +38,7 @@ sectors_are sectors disk b bytes whole fits is i lt =
     ∙ sym (is.bytes_are (512 * i + r) (omega arith))
     ∙ sym (get_or-drop (512 * i) bytes r 0) ∙ sym (get_or-take 512 (drop (512 * i) bytes) r 0 low))
 
-pub finished : (sectors : ℕ) (p : Planned) (old new : Images) → FitsDisk sectors p → AreWhole sectors old.disk → HasNewRoot p old new → cuts.HasNewRoot (writes_of p.blocks) p.slot p.root old.disk new.disk
+pub finished : (sectors : ℕ) (p : Planned) (old new : Images) → FitsDisk sectors p → AreWhole sectors old.disk → HasNewRoot p old new → cuts.HasRootWritten (writes_of p.blocks) p.slot p.root old.disk new.disk
 finished sectors p old new fits whole has = record {
   others = λ n not differ. has.disk n (outside p.blocks n not) differ;
   holds = λ k w lt. holds k w (omega (arith, length-map p.blocks write_of, lt));

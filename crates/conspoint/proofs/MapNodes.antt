@@ -49,6 +49,10 @@ module _ (n : ℕ) (g : ℕ → Pointer) (h : Held) (stands : Stands n g h) wher
   spot_of (suc zero) (suc i) b is = absurd (no_block (h.place 1 (suc i)) b (stands.beside i) is)
   spot_of (suc (suc m)) i b is = absurd (no_block (h.place (suc (suc m)) i) b (stands.above m i) is)
 
+  pub at_spot : (m i k b : ℕ) → IsSpot n m i k → g k ≡ Block b → h.place m i ≡ Block b
+  at_spot m i k b (inl low) is = ap (λ m. h.place m i) low.0 ∙ ap (h.place 0) low.1 ∙ stands.low k low.2 ∙ is
+  at_spot m i k b (inr top) is = ap (λ m. h.place m i) top.0 ∙ ap (h.place 1) top.1 ∙ stands.top ∙ ap g (sym top.2) ∙ is
+
   pub named_at : (k b : ℕ) → k ≤ n → g k ≡ Block b → Names h b
   named_at k b le is = elim (cases_lt k n) [
     | inl lt ↦ record { height = 0; index = k; is = stands.low k lt ∙ is }

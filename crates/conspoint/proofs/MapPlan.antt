@@ -15,14 +15,14 @@ use Rattle.blockmap.specs.Maps.{HoldsPart, IsTouched, entry_at}
 use Rattle.blockmap.specs.Parts.{Part}
 use Rattle.blockmap.specs.declared.map.BlockMap.{BlockMap}
 use Rattle.conspoint.specs.declared.draft.Draft.{Draft}
-use Rattle.conspoint.specs.Closures.{IsClosed, PartsMoved, OverMoved}
+use Rattle.conspoint.specs.Closures.{IsClosedOver, PartsMoved, OverMoved}
 use Rattle.conspoint.specs.Drafts.{OnEach, HasAll, Grows, WasTaken}
 use Rattle.conspoint.specs.Groups.{pointer_at}
 use Rattle.conspoint.specs.MapFiles.{map_nodes, node_at, IsOfMoved, PlansMap}
 use Rattle.conspoint.specs.Marks.{Marking}
 use Rattle.conspoint.specs.Marks.Marking.{marks, stays}
 use Rattle.conspoint.proofs.DraftLemmas.{grows_twice, taken_later}
-use Rattle.conspoint.proofs.MapStands.{map_stands}
+use Rattle.conspoint.proofs.MapStands.{all_taken, map_stands}
 use Rattle.conspoint.proofs.MapWork.{Work, own_inode, not_hole, by_place, new_node, old_node}
 
 -- ---- marks
@@ -76,7 +76,7 @@ pub record Steps (d0 d1 d2 d3 d4 d5 : Draft) (settled places tops : List Pointer
   pub store_map : d4.map ≡ d3.map
   pub over_map : d5.map ≡ d4.map
   pub taken : (k b : ℕ) → pointer_at places k ≡ Block b → WasTaken d0 d1 b
-  pub closed : IsClosed d1 settled places
+  pub closed : IsClosedOver d1 settled places
   pub moved : PartsMoved d1 places
   pub over_moved : OverMoved d1 places
   pub entries : (b : ℕ) → entry_at d1.map.parts.items b ≡ entry_at d0.map.parts.items b
@@ -191,4 +191,10 @@ module _ (d0 d1 d2 d3 d4 d5 : Draft) (settled places tops : List Pointer) (n fir
         (λ k b at. decides (w.into b) (k, in_list places k b at, not_hole (pointer_at places k) b at, at))
         (λ b here. let at = among (w.out b) here in (at.0, at.2, at.3))
         (λ k b some at. decides (w.out b) (k, omega (arith, in_list settled k b at, w.size), some, at));
+    anew = λ all e has s d old is agrees b.
+        all_taken (work e has) is agrees (λ b. decided (w.into b)) (λ b. decided (w.out b))
+        (λ b here. let at = among (w.into b) here in (at.0, at.3))
+        (λ k b at. decides (w.into b) (k, in_list places k b at, not_hole (pointer_at places k) b at, at))
+        (λ b here. let at = among (w.out b) here in (at.0, at.2, at.3))
+        (λ k b some at. decides (w.out b) (k, omega (arith, in_list settled k b at, w.size), some, at)) all b;
   }

@@ -12,7 +12,6 @@ use Rattle.layout.specs.Inode.{IsInode, pointers_used}
 use Rattle.layout.specs.Places.{Blocks, pointed}
 use Rattle.layout.specs.declared.inode.Body.{Body}
 use Rattle.layout.specs.declared.inode.Inode.{Inode}
-use Rattle.layout.specs.declared.kind.Kind.TheVariants as kinds
 use Rattle.layout.specs.declared.pointer.Pointer.{Pointer}
 use Rattle.layout.specs.declared.pointer.Pointer.TheVariants.{Hole, Block}
 use Rattle.layout.specs.declared.version.TheConstants.{VERSION}
@@ -23,12 +22,12 @@ use Rattle.blockmap.specs.Parts.{Part}
 use Rattle.blockmap.specs.Maps.{IsTouched, no_part, entry_at, settled_at}
 use Rattle.conspoint.specs.declared.draft.Draft.{Draft}
 use Rattle.conspoint.specs.Groups.{pointer_at}
-use Rattle.conspoint.specs.MapFiles.{node_at, IsSettledMap, IsMapOn}
-use Rattle.conspoint.proofs.MapNodes.{IsSpot, spot_once, spot_of, named_at, spot_named, body_of}
+use Rattle.conspoint.specs.MapFiles.{AreTouched, node_at, IsSettledMap, IsMapOn}
+use Rattle.conspoint.proofs.MapNodes.{IsSpot, at_spot, spot_once, spot_of, named_at, spot_named, body_of}
 use Rattle.conspoint.proofs.MapBytes.{word_zero, zero_bytes}
 use Rattle.layout.proofs.PointerLaws.{no_block}
 use Rattle.layout.proofs.ZeroLaws.{zero_byte}
-use Rattle.conspoint.proofs.MapWork.{is_block, Work, own_inode, by_place, not_hole, new_node, old_node, ends, goes_on, node_past, old_stands, old_size, untouched, most_nodes, old_named, same_block, old_once, apart_from_old, node_once, node_below, new_block, spelled, new_stands}
+use Rattle.conspoint.proofs.MapWork.{all_new, is_block, Work, own_inode, by_place, not_hole, new_node, old_node, ends, goes_on, node_past, old_stands, old_size, untouched, most_nodes, old_named, same_block, old_once, apart_from_old, node_once, node_below, new_block, spelled, new_stands}
 
 module _ {s : Sizes} {d e : Blocks} {old : Inode} {before after : Draft} {settled places tops : List Pointer} {n : ℕ} (w : Work e before after settled places tops n)
     (is : IsSettledMap s d old before.map settled) (agrees : Agrees (Names (held d old)) d e) where
@@ -192,12 +191,20 @@ module _ {s : Sizes} {d e : Blocks} {old : Inode} {before after : Draft} {settle
       | inl lt ↦ absurd (no_block (node_at settled places k) b (node_past w is agrees k (omega (arith, most_nodes w is agrees))) at)
     ]) at
 
-    comes : (b : ℕ) → Names (held e (own_inode tops before.map.count)) b → Names (held d old) b ⊎ (taken b ≡ true)
-    comes b names =
+    moves : (m i b : ℕ) → (held e (own_inode tops before.map.count)).place m i ≡ Block b → ((held d old).place m i ≡ Block b) ⊎ (taken b ≡ true)
+    moves m i b at =
+        let s = spot_of n (node_at settled places) (held e (own_inode tops before.map.count)) (new_stands w is agrees) m i b at in
+        elim (by_place (pointer_at places s.0)) [
+          | inl none ↦ inl (at_spot n (pointer_at settled) (held d old) (old_stands w is agrees) m i s.0 b s.1 (sym (old_node settled places s.0 none) ∙ s.2))
+          | inr new ↦ inr (taken_all s.0 b (new.1 ∙ sym (new_node settled places s.0 new.0 new.1) ∙ s.2))
+        ]
+
+    pub all_taken : AreTouched before.map.parts.items → (b : ℕ) → Names (held e (own_inode tops before.map.count)) b → taken b ≡ true
+    all_taken all b names =
         let s = spot_named n (node_at settled places) (held e (own_inode tops before.map.count)) (new_stands w is agrees) b names in
         elim (by_place (pointer_at places s.0)) [
-          | inl none ↦ inl (old_named w is agrees s.0 b (sym (old_node settled places s.0 none) ∙ s.2))
-          | inr new ↦ inr (taken_all s.0 b (new.1 ∙ sym (new_node settled places s.0 new.0 new.1) ∙ s.2))
+          | inl none ↦ absurd (all_new w is agrees all s.0 b s.2 none)
+          | inr new ↦ taken_all s.0 b (new.1 ∙ sym (new_node settled places s.0 new.0 new.1) ∙ s.2)
         ]
 
     stays : (b : ℕ) → Names (held d old) b → Names (held e (own_inode tops before.map.count)) b ⊎ (freed b ≡ true)
@@ -233,7 +240,7 @@ module _ {s : Sizes} {d e : Blocks} {old : Inode} {before after : Draft} {settle
     map_stands = record {
       kind = refl;
       entries = entries_are;
-      comes = comes;
+      moves = moves;
       named = λ b is_taken. let t = taken_is b is_taken in new_named t.0 b (new_node settled places t.0 b t.1);
       stays = stays;
       freed_are = freed_are;

@@ -1,5 +1,5 @@
 -- What the planning of the block map's file has done: where its nodes stand then.
-use Rattle.std.proofs.Common.{◌≡◌, ◌≢◌, ◌⊎◌, inl, inr, ℕ, ◌+◌, ◌-◌, ◌*◌, ◌/◌, ◌%◌, ◌<◌, ◌≤◌, true, false, leb, List, length, refl, ap, sym, subst, ◌∙◌, arith}
+use Rattle.std.proofs.Common.{◌≡◌, ◌≢◌, ◌⊎◌, inl, inr, ℕ, ◌+◌, ◌*◌, ◌/◌, ◌%◌, ◌<◌, ◌≤◌, true, false, leb, List, length, refl, ap, sym, subst, ◌∙◌, arith}
 use Rattle.std.specs.Prelude.{nat_le, nat_lt, if◌then◌else◌}
 use Rattle.std.specs.Int.{div_ceil}
 use Rattle.std.proofs.lemmas.Bool.{cases_lt, cond_below, cond_above, le-leb, lt-leb}
@@ -23,7 +23,7 @@ use Rattle.blockmap.specs.Maps.{HoldsPart, IsTouched}
 use Rattle.conspoint.specs.declared.draft.Draft.{Draft}
 use Rattle.conspoint.specs.Drafts.{Grows, WasTaken}
 use Rattle.conspoint.specs.Groups.{pointer_at}
-use Rattle.conspoint.specs.MapFiles.{map_nodes, or_settled, node_at, IsSettledMap}
+use Rattle.conspoint.specs.MapFiles.{AreTouched, map_nodes, or_settled, node_at, IsSettledMap}
 use Rattle.conspoint.specs.Plans.{ChangesTouched}
 use Rattle.conspoint.proofs.MapNodes.{Stands, named_at, stands_direct, stands_under, sound_stands}
 use Rattle.layout.proofs.PointerLaws.{no_block}
@@ -106,6 +106,22 @@ module _ {s : Sizes} {d e : Blocks} {old : Inode} {before after : Draft} {settle
   -- what was touched is stored
   pub untouched : (k : ℕ) → k < n → pointer_at places k ≡ Hole → IsTouched before.map.parts.items k → ⊥
   untouched k lt hole touched = w.moved k lt (w.grows.settled.touched k touched) hole
+
+  -- where all is stored, each node has a new place
+  pub all_new : AreTouched before.map.parts.items → (k b : ℕ) → node_at settled places k ≡ Block b → pointer_at places k ≢ Hole
+  all_new all k b at none = elim (cases_lt k n) [
+    | inl lt ↦ untouched k lt none (all k (omega (arith, w.parts, lt)))
+    | inr ge ↦ elim (cases_lt 16 n) [
+      | inr less ↦ no_block (node_at settled places k) b (node_past k (omega (arith, ge, ends less))) at
+      | inl many ↦ elim (cases_lt n k) [
+        | inl past ↦ no_block (node_at settled places k) b (node_past k (omega (arith, past, goes_on many))) at
+        | inr le ↦
+            let last : k ≡ n = omega arith in
+            w.over_moved 0 some (omega (arith, goes_on many, w.size)) (λ hole. untouched 0 some hole (all 0 (omega (arith, w.parts, some))))
+            (ap (pointer_at places) (sym last) ∙ none)
+      ]
+    ]
+  ]
 
   -- no settled node that stays is a hole
   pub old_block : (k : ℕ) → k < n → pointer_at places k ≡ Hole → pointer_at settled k ≢ Hole

@@ -1,5 +1,5 @@
 -- One block more is marked.
-use Rattle.std.proofs.Common.{◌≡◌, ◌≢◌, inl, inr, ℕ, ◌+◌, Bool, List, refl, ap, sym, subst, ◌∙◌, arith}
+use Rattle.std.proofs.Common.{◌≡◌, ◌≢◌, inl, inr, ℕ, ◌+◌, Bool, List, ap, sym, subst, ◌∙◌, arith}
 use Rattle.std.specs.Prelude.{slice_index, if◌then◌else◌}
 use Rattle.std.specs.Int.{bit_at}
 use Rattle.std.proofs.lemmas.Bool.{cases_eq}
@@ -40,9 +40,6 @@ module _ (blocks : List ℕ) (n x : ℕ) (is_in : Bool) (old mid new : List Part
   }
 
 -- ---- the blocks at nodes that moved
-
-pub marking_none : (nodes places : List Pointer) (is_in : Bool) (parts : List Part) (b : ℕ) → Marking (IsOfMoved nodes places 0) is_in parts parts b
-marking_none nodes places is_in parts b = stays (λ among. let lt = among.1 in omega arith) refl
 
 module _ (nodes places : List Pointer) (k b : ℕ) (is_in : Bool) (old mid new : List Part) (node place : Pointer) (node_is : node ≡ pointer_at nodes k) (place_is : place ≡ pointer_at places k) where
   -- the one more is node k

@@ -4,17 +4,18 @@ use Rattle.std.specs.Prelude.{OnOk}
 use Rattle.std.specs.Result.{IsErrAnd, IsErrOf}
 use Rattle.std.proofs.lemmas.Bool.{cases_eq}
 use Rattle.layout.specs.declared.pointer.Pointer.{Pointer}
+use Rattle.images.specs.Sums.{sum_below}
+use Rattle.images.proofs.SumLaws.{one_more}
 use Rattle.blockmap.specs.Space.{left}
 use Rattle.blockmap.specs.declared.map.BlockMap.{BlockMap}
 use Rattle.conspoint.specs.declared.draft.Draft.{Draft}
 use Rattle.conspoint.specs.declared.error.PlanError.{PlanError}
 use Rattle.conspoint.specs.declared.error.PlanError.TheVariants.{NoMemory, NoSpace}
 use Rattle.conspoint.specs.Drafts.{IsReserved, IsShortage, WasTaken}
-use Rattle.conspoint.specs.Space.{CountsGroups, TakesAtMost, sum_below}
+use Rattle.conspoint.specs.Space.{CountsGroups, TakesAtMost}
 use Rattle.conspoint.specs.Steps.{Keeps, Marks, Places, PlacesOver, Puts, Takes}
 use Rattle.conspoint.proofs.DraftLemmas.{grows_none, grows_twice}
 use Rattle.conspoint.proofs.SpaceLemmas.{same_left}
-use Rattle.conspoint.proofs.SumLemmas.{one_more}
 
 -- an error, with another type of results
 pub same_error : {T U : Type 0} (f e d : PlanError) → f ≡ e → IsErrOf {T = T} {E = PlanError} (Err f) d → IsErrOf {T = U} {E = PlanError} (Err e) d

@@ -32,21 +32,6 @@ pub goes_stays_on : (blocks same : List PlannedBlock) (old mid new : Meaning) �
 goes_stays_on blocks same old mid new is first second =
     goes_twice old mid new (StaysOutside blocks) (StaysOutside blocks) (StaysOutside blocks) first (subst (λ (xs : List PlannedBlock). Goes (StaysOutside xs) mid new) is second) (λ a b stays. stays) (stays_twice blocks)
 
--- a write of a planned block
-pub write_stays : (blocks : List PlannedBlock) (at : ℕ) (b : PlannedBlock) (old new : Images) → at < length blocks → get_or blocks at b ≡ b → length b.bytes ≡ 4096
-    → SomeSectorsWritten (8 * b.place) b.bytes old new → StaysOutside blocks old new
-write_stays blocks at b old new lt is size some = record {
-  nvram = some.nvram;
-  disk = λ n outside. elim (some.disk n) [
-    | inl same ↦ same
-    | inr reached ↦
-        let other : b.place ≢ n / 8 = subst (λ (x : PlannedBlock). x.place ≢ n / 8) is (outside at b lt) in
-        let low = reached.0.0 in
-        let high = reached.0.1 in
-        absurd (omega arith)
-  ];
-}
-
 -- the block that was written
 block_written : (sectors : ℕ → Sector) (place : ℕ) (bytes : List ℕ) → length bytes ≡ 4096 → IsBlock (disk_with (8 * place) bytes sectors) place bytes
 block_written sectors place bytes len = record {

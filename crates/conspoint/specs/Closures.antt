@@ -8,16 +8,16 @@ use Rattle.conspoint.specs.Drafts.{IsReserved}
 use Rattle.conspoint.specs.Groups.{pointer_at}
 
 -- the entry of a block lies in a part of the map that is stored anew
-abbrev pub HasRoomFor : Draft → ℕ → Type 0
-HasRoomFor d b = IsTouched d.map.parts.items (b / 1024)
+abbrev pub IsInTouchedPart : Draft → ℕ → Type 0
+IsInTouchedPart d b = IsTouched d.map.parts.items (b / 1024)
 
 -- Of the map's own nodes, those that moved have reserved places, each its own, and the map has room for the entries of the new
 -- place and of the one before.
-pub record IsClosed (d : Draft) (settled places : List Pointer) : Type 0 where
+pub record IsClosedOver (d : Draft) (settled places : List Pointer) : Type 0 where
   pub reserved : (k b : ℕ) → pointer_at places k ≡ Block b → IsReserved d b
-  pub new : (k b : ℕ) → pointer_at places k ≡ Block b → HasRoomFor d b
+  pub new : (k b : ℕ) → pointer_at places k ≡ Block b → IsInTouchedPart d b
   pub old : (k p b : ℕ) → pointer_at places k ≡ Block p → pointer_at settled k ≡ Block b
-      → HasRoomFor d b
+      → IsInTouchedPart d b
   pub apart : (i k b : ℕ) → pointer_at places i ≡ Block b → pointer_at places k ≡ Block b → i ≡ k
 
 -- each part of the map that is stored anew has a new place

@@ -3,6 +3,7 @@ use Rattle.std.specs.Prelude.{ℕ, ◌≡◌, ◌≢◌, ◌⊎◌, ◌↔◌, �
 use Rattle.std.specs.Int.{bit_at}
 use Rattle.blockmap.specs.Bits.{HasBit}
 use Rattle.blockmap.specs.Maps.{IsTouched, entry_at, settled_at}
+use Rattle.blockmap.specs.Parts.{Part}
 use Rattle.blockmap.specs.declared.map.BlockMap.{BlockMap}
 use Rattle.layout.specs.Limits.{Sizes, AreSizes}
 use Rattle.layout.specs.Maps.{map_entry}
@@ -38,6 +39,10 @@ abbrev pub IsOfMoved : List Pointer → List Pointer → ℕ → ℕ → Type 0
 IsOfMoved nodes places n b =
     (k : ℕ) × (k < n) × (pointer_at places k ≢ Hole) × (pointer_at nodes k ≡ Block b)
 
+-- the next consistency point stores each block of the map
+abbrev pub AreTouched : List Part → Type 0
+AreTouched parts = (j : ℕ) → j < length parts → IsTouched parts j
+
 -- The disk has the settled entries under this inode, in its grammar, and its nodes stand here. A block that the next consistency
 -- point stores anew may be missing, or have other entries: an empty file is one whose blocks are all stored then.
 pub record IsSettledMap (s : Sizes) (d : Blocks) (f : Inode) (map : BlockMap) (nodes : List Pointer) : Type 0 where
@@ -55,12 +60,12 @@ pub record IsSettledMap (s : Sizes) (d : Blocks) (f : Inode) (map : BlockMap) (n
   pub lowest : (k : ℕ) → k < length map.parts.items → pointer_at nodes k ≡ (held d f).place 0 k
   pub over : level_of f.size ≡ 2 → pointer_at nodes (length map.parts.items) ≡ (held d f).place 1 0
 
--- The disk e has the map under this inode, in its grammar, with these entries. Its nodes stand in blocks of the settled map and in
--- the taken ones; of the blocks of the settled one, those are freed that it doesn't name.
+-- The disk e has the map under this inode, in its grammar, with these entries. Each of its nodes stands where that of the settled map
+-- does, or in a taken block; of the blocks of the settled one, those are freed that it doesn't name.
 pub record IsMapOn (s : Sizes) (d e : Blocks) (old new : Inode) (taken freed : ℕ → Bool) (entry_of : ℕ → ℕ) : Type 0 where
   pub kind : new.kind ≡ kinds.BlockMap
   pub entries : (b : ℕ) → map_entry (file_block (held e new) (b / 1024)) (b % 1024) ≡ entry_of b
-  pub comes : (b : ℕ) → Names (held e new) b → Names (held d old) b ⊎ (taken b ≡ true)
+  pub moves : (m i b : ℕ) → (held e new).place m i ≡ Block b → ((held d old).place m i ≡ Block b) ⊎ (taken b ≡ true)
   pub named : (b : ℕ) → taken b ≡ true → Names (held e new) b
   pub stays : (b : ℕ) → Names (held d old) b → Names (held e new) b ⊎ (freed b ≡ true)
   pub freed_are : (b : ℕ) → freed b ≡ true → Names (held d old) b × (Names (held e new) b → ⊥)
@@ -81,3 +86,7 @@ pub record PlansMap (before after : Draft) (settled : List Pointer) (f : Inode) 
   pub stands : OnEach after (λ e. (s : Sizes) (d : Blocks) (old : Inode)
       → IsSettledMap s d old before.map settled → Agrees (Names (held d old)) d e
       → IsMapOn s d e old f taken freed (entry_at after.map.parts.items))
+  -- where each block of the map is to be stored, so is all of its file
+  pub anew : AreTouched before.map.parts.items → OnEach after (λ e. (s : Sizes) (d : Blocks) (old : Inode)
+      → IsSettledMap s d old before.map settled → Agrees (Names (held d old)) d e
+      → (b : ℕ) → Names (held e f) b → taken b ≡ true)

@@ -18,7 +18,7 @@ AreApart blocks = (i j : ℕ) (d : PlannedBlock)
     → i < j → j < length blocks → (get_or blocks i d).place ≢ (get_or blocks j d).place
 
 -- whole blocks, each behind the two that the slots of the roots lie in, and each at a place of its own
-pub record ArePlanned (blocks : List PlannedBlock) : Type 0 where
+pub record ArePlacedBehindSlots (blocks : List PlannedBlock) : Type 0 where
   pub behind : All (λ b. 2 ≤ b.place) blocks
   pub sizes : All (λ b. length b.bytes ≡ BLOCK_BYTES) blocks
   pub apart : AreApart blocks
@@ -28,7 +28,7 @@ abbrev pub IsSlot : ℕ → Type 0
 IsSlot n = (n ≡ SLOT_A) ⊎ (n ≡ SLOT_B)
 
 pub record IsPlanned (p : Planned) : Type 0 where
-  pub blocks : ArePlanned p.blocks
+  pub blocks : ArePlacedBehindSlots p.blocks
   pub written : p.written ≤ length p.blocks
   pub slot : IsSlot p.slot
   pub root : length p.root ≡ ROOT_BYTES
@@ -40,7 +40,7 @@ pub record FitsDisk (sectors : ℕ) (p : Planned) : Type 0 where
 
 -- what holds of the blocks planned so far, where free blocks below this one may be given out
 pub record AreDrafted (count next : ℕ) (IsFree : ℕ → Type 0) (blocks : List PlannedBlock) : Type 0 where
-  pub planned : ArePlanned blocks
+  pub planned : ArePlacedBehindSlots blocks
   pub below : All (λ b. b.place < next) blocks
   pub within : All (λ b. b.place < count) blocks
   pub free : All (λ b. IsFree b.place) blocks

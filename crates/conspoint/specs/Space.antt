@@ -1,13 +1,13 @@
 -- How many of the free blocks a step of a plan takes.
-use Rattle.std.specs.Prelude.{ℕ, zero, suc, ◌+◌, ◌<◌, ◌≤◌, ◌≡◌, ◌⊎◌, Option, Some, None, nat_lt, if◌then◌else◌}
+use Rattle.std.specs.Prelude.{ℕ, ◌+◌, ◌<◌, ◌≤◌, ◌≡◌, ◌⊎◌, nat_lt, if◌then◌else◌}
 use Rattle.std.specs.Ordering.{nat_cmp}
 use Rattle.std.specs.BTreeMap as tree
 use Rattle.layout.specs.declared.TheConstants.{BLOCK_POINTERS}
 use Rattle.layout.specs.declared.pointer.Pointer.{Pointer}
 use Rattle.layout.specs.declared.pointer.Pointer.TheVariants.{Hole}
+use Rattle.images.specs.Sums.{sum_below}
 use Rattle.blocktree.specs.declared.tree.BlockTree.{BlockTree}
-use Rattle.blocktree.specs.declared.tree.Slot.{Slot}
-use Rattle.blocktree.specs.declared.tree.Slot.TheVariants.{AsSettled, Changed}
+use Rattle.blocktree.specs.Trees.{slot_stores}
 use Rattle.blockmap.specs.Space.{left}
 use Rattle.conspoint.specs.declared.draft.Draft.{Draft}
 
@@ -18,17 +18,6 @@ TakesAtMost n old new = left old.map ≤ left new.map + n
 -- fewer blocks than these are left to be given out
 abbrev pub Lacks : ℕ → Draft → Type 0
 Lacks n d = left d.map < n
-
--- the sum of the first n
-unfoldable pub sum_below : (ℕ → ℕ) → ℕ → ℕ
-sum_below f zero = 0
-sum_below f (suc n) = sum_below f n + f n
-
--- how many blocks a point stores for what memory has of a block
-abbrev pub slot_stores : Option Slot → ℕ
-slot_stores (Some (Changed block)) = 1
-slot_stores (Some AsSettled) = 0
-slot_stores None = 0
 
 -- how many for block i of a file, of which those before `first` don't count
 abbrev pub block_stores : BlockTree → ℕ → ℕ → ℕ

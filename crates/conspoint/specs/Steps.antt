@@ -2,11 +2,12 @@
 -- for want of space a step fails only where fewer are left, and else only for want of memory.
 use Rattle.std.specs.Prelude.{ℕ, ◌≡◌, Result, OnOk, IfErr, IsErrOf}
 use Rattle.layout.specs.declared.pointer.Pointer.{Pointer}
+use Rattle.images.specs.Sums.{sum_below}
 use Rattle.conspoint.specs.declared.draft.Draft.{Draft}
 use Rattle.conspoint.specs.declared.error.PlanError.{PlanError}
 use Rattle.conspoint.specs.declared.error.PlanError.TheVariants.{NoSpace}
 use Rattle.conspoint.specs.Drafts.{Grows, IsReserved, IsShortage}
-use Rattle.conspoint.specs.Space.{CountsGroups, Lacks, TakesAtMost, sum_below}
+use Rattle.conspoint.specs.Space.{CountsGroups, Lacks, TakesAtMost}
 
 -- a step that may change entries of the map
 pub record Takes {T : Type 0} (n : ℕ) (old new : Draft) (result : Result T PlanError) : Type 0 where

@@ -5,7 +5,7 @@ ghost use Rattle.layout.specs.declared.pointer.Pointer.TheVariants.{Hole, Block}
 ghost use Rattle.blockmap.specs.Maps.{entry_at};
 ghost use Rattle.conspoint.specs.Drafts.{WasTaken, IsReserved};
 ghost use Rattle.conspoint.specs.Groups.{pointer_at};
-ghost use Rattle.conspoint.specs.Closures.{IsClosed, PartsMoved, OverMoved, HasRoomFor};
+ghost use Rattle.conspoint.specs.Closures.{IsClosedOver, PartsMoved, OverMoved, IsInTouchedPart};
 ghost use Rattle.conspoint.specs.Steps.{Takes};
 
 use crate::draft::Draft;
@@ -72,8 +72,8 @@ fn move_node(draft: &mut Draft, before: Pointer) -> Result<BlockNumber, PlanErro
     ensures reserved { IfOk result (IsReserved draft.new) }
     ensures entries { (b : ℕ)
         → entry_at draft.new.map.parts.items b ≡ entry_at draft.old.map.parts.items b }
-    ensures new { IfOk result (HasRoomFor draft.new) }
-    ensures old { OnOk result ((b : ℕ) → before ≡ Block b → HasRoomFor draft.new b) }
+    ensures new { IfOk result (IsInTouchedPart draft.new) }
+    ensures old { OnOk result ((b : ℕ) → before ≡ Block b → IsInTouchedPart draft.new b) }
 {
     if let Pointer::Block(place) = before {
         draft.touch(place)?;
@@ -96,7 +96,7 @@ pub fn reserve_map(
     requires none { (k : ℕ) → pointer_at places.old k ≡ Hole }
     ensures step { Takes (length places.old) draft.old draft.new result }
     ensures size { length places.new ≡ length places.old }
-    ensures closed { OnOk result (IsClosed draft.new settled.now places.new) }
+    ensures closed { OnOk result (IsClosedOver draft.new settled.now places.new) }
     ensures taken { OnOk result ((k b : ℕ) → pointer_at places.new k ≡ Block b
         → WasTaken draft.old draft.new b) }
     ensures parts { OnOk result (PartsMoved draft.new places.new) }

@@ -25,7 +25,7 @@ pub struct Draft {
 
 impl Draft {
     ghost use Rattle.conspoint.specs.Drafts.{OnEach, WasTaken, IsReserved};
-    ghost use Rattle.conspoint.specs.Closures.{HasRoomFor};
+    ghost use Rattle.conspoint.specs.Closures.{IsInTouchedPart};
     ghost use Rattle.conspoint.specs.Steps.{Keeps, Marks, Places, Puts};
 
     /// A plan with no block, over a map with no change.
@@ -79,7 +79,7 @@ impl Draft {
     pub fn touch(&mut self, block: BlockNumber) -> Result<(), PlanError>
         requires { block < self.old.map.count }
         ensures step { Marks self.old self.new result }
-        ensures touched { OnOk result (HasRoomFor self.new block) }
+        ensures touched { OnOk result (IsInTouchedPart self.new block) }
         ensures entries { (b : ℕ)
             → entry_at self.new.map.parts.items b ≡ entry_at self.old.map.parts.items b }
     {
@@ -104,7 +104,7 @@ impl Draft {
     /// Puts a block into the active tree's set of the map, or takes it out, where the map has room for it.
     pub fn mark_touched(&mut self, block: BlockNumber, is_in: bool)
         requires within { block < self.old.map.count }
-        requires room { HasRoomFor self.old block }
+        requires room { IsInTouchedPart self.old block }
         ensures step { Keeps self.old self.new }
         ensures bit { SetsBit 0 is_in (entry_at self.old.map.parts.items block)
             (entry_at self.new.map.parts.items block) }
@@ -124,7 +124,7 @@ impl Draft {
             (entry_at self.new.map.parts.items block)) }
         ensures stay { OnOk result (OnlyChanges block self.old.map.parts.items
             self.new.map.parts.items) }
-        ensures touched { OnOk result (HasRoomFor self.new block) }
+        ensures touched { OnOk result (IsInTouchedPart self.new block) }
     {
         self.touch(block)?;
         self.map.mark_system(block, is_in);

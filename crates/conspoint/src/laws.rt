@@ -38,10 +38,10 @@ pub fn written_disks_have_the_blocks()
 pub fn cuts_are_those_of_images()
     ensures unfinished { (blocks : List PlannedBlock) (old new : Images)
         → StaysOutside blocks old new
-        → points.StaysOutside (writes_of blocks) old.disk new.disk }
+        → points.StaysOutsideWrites (writes_of blocks) old.disk new.disk }
     ensures finished { (sectors : ℕ) (p : Planned) (old new : Images)
         → FitsDisk sectors p → AreWhole sectors old.disk → HasNewRoot p old new
-        → points.HasNewRoot (writes_of p.blocks) p.slot p.root old.disk new.disk }
+        → points.HasRootWritten (writes_of p.blocks) p.slot p.root old.disk new.disk }
 {}
 
 /// A block of a disk of whole sectors is its eight sectors. It does nothing.

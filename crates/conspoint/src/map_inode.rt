@@ -8,7 +8,7 @@ ghost use Rattle.layout.specs.declared.TheConstants.{BLOCK_POINTERS, BODY_POINTE
 ghost use Rattle.layout.specs.declared.geometry.TheConstants.{MOST_BLOCKS};
 ghost use Rattle.layout.specs.declared.pointer.Pointer.TheVariants.{Hole};
 ghost use Rattle.blockmap.specs.Maps.{IsTouched};
-ghost use Rattle.conspoint.specs.Closures.{HasRoomFor};
+ghost use Rattle.conspoint.specs.Closures.{IsInTouchedPart};
 ghost use Rattle.conspoint.specs.Drafts.{OnEach, IsReserved};
 ghost use Rattle.conspoint.specs.Groups.{pointer_at};
 ghost use Rattle.conspoint.specs.MapFiles.{map_nodes, or_settled, node_at, IsOfMoved, PlansMap};
@@ -27,7 +27,7 @@ use std::alloc::{AllocError, Global};
 /// Puts the block at a node into the active tree's set, or takes it out, where the node has a new place.
 fn mark_node(draft: &mut Draft, node: Pointer, place: Pointer, is_in: bool)
     requires within { (b : ℕ) → node ≡ Pointer.Block b → b < draft.old.map.count }
-    requires room { (b : ℕ) → place ≢ Hole → node ≡ Pointer.Block b → HasRoomFor draft.old b }
+    requires room { (b : ℕ) → place ≢ Hole → node ≡ Pointer.Block b → IsInTouchedPart draft.old b }
     ensures step { Keeps draft.old draft.new }
     ensures same { (j : ℕ) → IsTouched draft.new.map.parts.items j
         → IsTouched draft.old.map.parts.items j }
@@ -48,7 +48,7 @@ fn mark_moved(draft: &mut Draft, nodes: &[Pointer], places: &[Pointer], is_in: b
     requires within { (k b : ℕ) → pointer_at nodes.now k ≡ Pointer.Block b
         → b < draft.old.map.count }
     requires room { (k b : ℕ) → pointer_at places.now k ≢ Hole
-        → pointer_at nodes.now k ≡ Pointer.Block b → HasRoomFor draft.old b }
+        → pointer_at nodes.now k ≡ Pointer.Block b → IsInTouchedPart draft.old b }
     ensures step { Keeps draft.old draft.new }
     ensures same { (j : ℕ) → IsTouched draft.new.map.parts.items j
         → IsTouched draft.old.map.parts.items j }

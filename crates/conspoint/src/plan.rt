@@ -4,7 +4,7 @@ ghost use Rattle.std.specs.Prelude.{◌≡◌, ◌⊎◌, ℕ, ◌+◌, ◌-◌,
 ghost use Rattle.station.specs.Moments.{MayLeave, EachCut, LeavesJust, Shows, Goes, LeavesOnly};
 ghost use Rattle.station.specs.Calls.{OnlyWrites};
 ghost use Rattle.buffers.specs.Disks.{ShowsDisk, disk_with_sector};
-ghost use Rattle.conspoint.specs.Plans.{Planned, ArePlanned, IsPlanned, IsSlot, FitsDisk};
+ghost use Rattle.conspoint.specs.Plans.{Planned, ArePlacedBehindSlots, IsPlanned, IsSlot, FitsDisk};
 ghost use Rattle.conspoint.specs.Cuts.{StaysOutside, HoldsWritten, HasNewRoot, IsFault, disk_so_far};
 
 use buffers::{Block, BufferError, Buffers};
@@ -44,7 +44,7 @@ impl Model for Plan {
 impl Plan {
     /// A plan of which nothing is written. The slot is the sector of the root.
     pub fn new(blocks: Vec<PlannedBlock>, slot: u32, root: [u8; ROOT_BYTES]) -> Plan
-        requires blocks { ArePlanned blocks.items }
+        requires blocks { ArePlacedBehindSlots blocks.items }
         requires slot { IsSlot slot }
         ensures { result
             ≡ record { blocks = blocks.items; written = 0; slot = slot; root = root } }

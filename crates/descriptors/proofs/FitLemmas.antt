@@ -6,7 +6,7 @@ use Rattle.std.specs.Option.{option_map}
 use Rattle.model.specs.Trees.{Description}
 use Rattle.model.specs.Volumes.{IsMounted, Node, Volume, directory_node, file_node, link_node, is_file_node, is_open, swept, swept_node}
 use Rattle.model.proofs.SweepLemmas.{found_open, stays_open}
-use Rattle.descriptors.specs.Files.{Figures, figures_of, description_of, node_figures, relinked_file, resized_file, with_links, with_size}
+use Rattle.descriptors.specs.Files.{Figures, figures_of, description_of, node_figures, relinked_file, resized_file, with_figure_links, with_size}
 use Rattle.descriptors.specs.Fits.{SameFigures, FitsVolume, ChangesFigures}
 use Rattle.descriptors.specs.Tables.{open_at, table_of}
 use Rattle.descriptors.specs.declared.open_file.OpenFile.{OpenFile}
@@ -85,6 +85,6 @@ resized_figures n size f =
 pub relinked_number : (n links : ℕ) (f : OpenFile) → (relinked_file n links f).number ≡ f.number
 relinked_number n links f = elim (f.number == n) as (λ b. (if b then record f { links = links } else f).number ≡ f.number) [ true ↦ refl | false ↦ refl ]
 
-pub relinked_figures : (n links : ℕ) (f : OpenFile) → figures_of (relinked_file n links f) ≡ (if f.number == n then with_links links (figures_of f) else figures_of f)
+pub relinked_figures : (n links : ℕ) (f : OpenFile) → figures_of (relinked_file n links f) ≡ (if f.number == n then with_figure_links links (figures_of f) else figures_of f)
 relinked_figures n links f =
-    elim (f.number == n) as (λ b. figures_of (if b then record f { links = links } else f) ≡ (if b then with_links links (figures_of f) else figures_of f)) [ true ↦ refl | false ↦ refl ]
+    elim (f.number == n) as (λ b. figures_of (if b then record f { links = links } else f) ≡ (if b then with_figure_links links (figures_of f) else figures_of f)) [ true ↦ refl | false ↦ refl ]

@@ -42,8 +42,8 @@ abbrev pub with_size : ℕ → Figures → Figures
 with_size size figures = record figures { size = size }
 
 -- figures with so many names
-abbrev pub with_links : ℕ → Figures → Figures
-with_links links figures = record figures { links = links }
+abbrev pub with_figure_links : ℕ → Figures → Figures
+with_figure_links links figures = record figures { links = links }
 
 -- an open file with so many bytes, where it is the file n
 abbrev pub resized_file : ℕ → ℕ → OpenFile → OpenFile

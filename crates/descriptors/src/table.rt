@@ -6,7 +6,7 @@ ghost use Rattle.model.specs.Outcomes.{lowest_free};
 ghost use Rattle.model.specs.Records.{count_nameless};
 ghost use Rattle.model.specs.Volumes.{IsMounted, IsVolume, Volume, is_numbered, is_open};
 ghost use Rattle.model.specs.declared.limits.TheConstants.{GREATEST_FILE, GREATEST_OFFSET, OPEN_FILES};
-ghost use Rattle.descriptors.specs.Files.{KeepsBounds, description_of, relinked_file, resized_file, with_links, with_size};
+ghost use Rattle.descriptors.specs.Files.{KeepsBounds, description_of, relinked_file, resized_file, with_figure_links, with_size};
 ghost use Rattle.descriptors.specs.declared.open_file.OpenFile.{OpenFile};
 
 use crate::OpenFile;
@@ -207,7 +207,7 @@ impl Descriptors {
             ≡ option_map (relinked_file number links) (open_at self.old fd) }
         ensures table { table_of self.new ≡ table_of self.old }
         ensures fits { (v w : Volume) → FitsVolume self.old v
-            → ChangesFigures self.old number (with_links links) v w → FitsVolume self.new w }
+            → ChangesFigures self.old number (with_figure_links links) v w → FitsVolume self.new w }
     {
         relink_all(&mut self.files, number, links);
     }

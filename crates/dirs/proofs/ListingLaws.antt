@@ -17,7 +17,7 @@ use Rattle.layout.specs.Directory.{Named}
 use Rattle.model.specs.Paths.{Name}
 use Rattle.layout.specs.DirectoryNames.{number_of, NameMap, HoldNames}
 use Rattle.dirs.specs.Directory.{first_entries}
-use Rattle.dirs.specs.Listings.{lists, IsListing}
+use Rattle.dirs.specs.Listings.{lists_name, IsListingOfNames}
 use Rattle.dirs.proofs.NameLaws.{number_of-here, number_of-behind}
 use Rattle.dirs.proofs.CountLaws.{name_stands, entry_names, some_of}
 
@@ -39,13 +39,13 @@ module _ {K : Type 0} (f : K → Name) where
   by_bytes : K → K → Ordering
   by_bytes x y = slice_cmp nat_cmp (f x) (f y)
 
-  pub lists-insert : (keys : List K) (key : K) (name : Name) → lists (map f (insert_key (λ x y. slice_cmp nat_cmp (f x) (f y)) keys key)) name ≡ (lists (map f keys) name || bytes_eq name (f key))
+  pub lists-insert : (keys : List K) (key : K) (name : Name) → lists_name (map f (insert_key (λ x y. slice_cmp nat_cmp (f x) (f y)) keys key)) name ≡ (lists_name (map f keys) name || bytes_eq name (f key))
   lists-insert [] key name = or-false (bytes_eq name (f key))
   lists-insert (x ∷ keys) key name =
-      elim (slice_cmp nat_cmp (f key) (f x)) as (λ o. slice_cmp nat_cmp (f key) (f x) ≡ o → lists (map f (match_ordering o (key ∷ x ∷ keys) (x ∷ keys) (x ∷ insert_key (λ x y. slice_cmp nat_cmp (f x) (f y)) keys key))) name ≡ ((bytes_eq name (f x) || lists (map f keys) name) || bytes_eq name (f key))) [
-        | Less ↦ λ e. or_comm (bytes_eq name (f key)) (bytes_eq name (f x) || lists (map f keys) name)
-        | Equal ↦ λ e. or_again (bytes_eq name (f x)) (lists (map f keys) name) ∙ ap (λ n. (bytes_eq name (f x) || lists (map f keys) name) || bytes_eq name n) (sym (slice_cmp-IsAntisymmetric nat_cmp-IsAntisymmetric (f key) (f x) e))
-        | Greater ↦ λ e. ap (λ b. bytes_eq name (f x) || b) (lists-insert keys key name) ∙ or_assoc (bytes_eq name (f x)) (lists (map f keys) name) (bytes_eq name (f key))
+      elim (slice_cmp nat_cmp (f key) (f x)) as (λ o. slice_cmp nat_cmp (f key) (f x) ≡ o → lists_name (map f (match_ordering o (key ∷ x ∷ keys) (x ∷ keys) (x ∷ insert_key (λ x y. slice_cmp nat_cmp (f x) (f y)) keys key))) name ≡ ((bytes_eq name (f x) || lists_name (map f keys) name) || bytes_eq name (f key))) [
+        | Less ↦ λ e. or_comm (bytes_eq name (f key)) (bytes_eq name (f x) || lists_name (map f keys) name)
+        | Equal ↦ λ e. or_again (bytes_eq name (f x)) (lists_name (map f keys) name) ∙ ap (λ n. (bytes_eq name (f x) || lists_name (map f keys) name) || bytes_eq name n) (sym (slice_cmp-IsAntisymmetric nat_cmp-IsAntisymmetric (f key) (f x) e))
+        | Greater ↦ λ e. ap (λ b. bytes_eq name (f x) || b) (lists-insert keys key name) ∙ or_assoc (bytes_eq name (f x)) (lists_name (map f keys) name) (bytes_eq name (f key))
       ] refl
 
   below_all : (x : K) (keys : List K) → AllByRecursion (λ y. slice_cmp nat_cmp (f x) (f y) ≡ Less) keys → AllByRecursion (λ n. slice_cmp nat_cmp (f x) n ≡ Less) (map f keys)
@@ -74,7 +74,7 @@ stands-append name (e ∷ front) rest =
 
 -- names that list each entry, in order, are the listing
 pub listing : (inodes count : ℕ) (block : ℕ → List ℕ) (names : NameMap) (listed : List Name) → (h : HoldNames inodes count block names) → IsStrictlySortedBy (slice_cmp nat_cmp) listed
-    → ((name : Name) → lists listed name ≡ is_some (number_of name (first_entries h.entries count))) → IsListing names listed
+    → ((name : Name) → lists_name listed name ≡ is_some (number_of name (first_entries h.entries count))) → IsListingOfNames names listed
 listing inodes count block names listed h sorted each = record {
   sorted = sorted;
   whole = λ name. (

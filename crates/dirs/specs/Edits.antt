@@ -17,8 +17,8 @@ abbrev pub edited_block : (ℕ → List ℕ) → File → Edit → ℕ → List 
 edited_block disk f e i = unwrap_or (tree.get nat_cmp e.changed i) (file_block disk f i)
 
 -- with an edit, a directory has these names
-abbrev pub HasNames : ℕ → (ℕ → List ℕ) → File → Edit → NameMap → Type 0
-HasNames inodes disk f e names = HoldNames inodes e.count (edited_block disk f e) names
+abbrev pub HasEditedNames : ℕ → (ℕ → List ℕ) → File → Edit → NameMap → Type 0
+HasEditedNames inodes disk f e names = HoldNames inodes e.count (edited_block disk f e) names
 
 -- a file is a directory with these names
 abbrev pub IsDirectory : ℕ → (ℕ → List ℕ) → File → NameMap → Type 0

@@ -6,3 +6,4 @@ pub mod Edits
 pub mod FirstFit
 pub mod Listings
 pub mod Surveys
+pub mod Room

@@ -8,10 +8,10 @@ use Rattle.model.specs.Paths.{Name}
 use Rattle.layout.specs.DirectoryNames.{NameMap}
 
 -- whether a name is among these
-abbrev pub lists : List Name → Name → Bool
-lists listed name = list_any (λ other. bytes_eq name other) listed
+abbrev pub lists_name : List Name → Name → Bool
+lists_name listed name = list_any (λ other. bytes_eq name other) listed
 
 -- all names of a directory, sorted by their bytes, each once
-pub record IsListing (names : NameMap) (listed : List Name) : Type 0 where
+pub record IsListingOfNames (names : NameMap) (listed : List Name) : Type 0 where
   pub sorted : IsStrictlySortedBy (slice_cmp nat_cmp) listed
   pub whole : (name : Name) → Contains listed name ↔ IsSome (names name)

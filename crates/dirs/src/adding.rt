@@ -24,8 +24,9 @@ impl Edit {
     ghost use Rattle.layout.specs.DirectoryNames.{NameMap};
     ghost use Rattle.dirs.specs.Directory.{HasCount, with_name};
     ghost use Rattle.dirs.specs.Entries.{used_by};
-    ghost use Rattle.dirs.specs.Edits.{edited_block, HasNames, IsSoundEdit, IsReached, FitsIn};
+    ghost use Rattle.dirs.specs.Edits.{edited_block, HasEditedNames, IsSoundEdit, IsReached, FitsIn};
     ghost use Rattle.dirs.specs.FirstFit.{IsFirstFit};
+    ghost use Rattle.dirs.specs.Room.{AddsPiece};
 
     /// Prepares that a name is added, which stands nowhere in the directory: in the first block with room for it, else in a
     /// new last one. DirFull where the directory has as many names as it may have.
@@ -44,24 +45,25 @@ impl Edit {
         ensures file { IsSameFile file.old file.new }
         ensures keeps { KeepsRoom file.old.tree file.new.tree }
         ensures fits { FitsIn file.old self.old → FitsIn file.new self.new }
+        ensures pieces { AddsPiece self.old self.new }
         ensures added { (disk : ℕ → List ℕ) (names : NameMap) → B.Shows blocks.old disk →
-            HasNames inodes disk file.old self.old names → names entry.now.name.now ≡ None →
-            OnOk result (HasNames inodes disk file.new self.new
+            HasEditedNames inodes disk file.old self.old names → names entry.now.name.now ≡ None →
+            OnOk result (HasEditedNames inodes disk file.new self.new
             (with_name entry.now.name.now (Some entry.now.number) names)) }
         ensures first { (disk : ℕ → List ℕ) (names : NameMap) → B.Shows blocks.old disk →
-            (has : HasNames inodes disk file.old self.old names) → OnOk result
+            (has : HasEditedNames inodes disk file.old self.old names) → OnOk result
             (IsFirstFit inodes (named_of entry.now) has.entries self.old.count self.new.count
             (edited_block disk file.old self.old) (edited_block disk file.new self.new)) }
         ensures sound { (disk : ℕ → List ℕ) → B.Shows blocks.old disk →
             OnOk result (IsSoundEdit inodes disk file.old self.old) }
         ensures kept { (disk : ℕ → List ℕ) (names : NameMap) →
-            HasNames inodes disk file.old self.old names →
-            OnErr result (HasNames inodes disk file.new self.new names) }
+            HasEditedNames inodes disk file.old self.old names →
+            OnErr result (HasEditedNames inodes disk file.new self.new names) }
         ensures room { (disk : ℕ → List ℕ) (names : NameMap) → B.Shows blocks.old disk →
-            HasNames inodes disk file.old self.old names →
+            HasEditedNames inodes disk file.old self.old names →
             OnOk result ((n : ℕ) × HasCount names n × (n < DIRECTORY_NAMES)) }
         ensures full { (disk : ℕ → List ℕ) (names : NameMap) → B.Shows blocks.old disk →
-            HasNames inodes disk file.old self.old names →
+            HasEditedNames inodes disk file.old self.old names →
             IsErrOf result AddError.DirFull →
             (n : ℕ) × HasCount names n × (DIRECTORY_NAMES ≤ n) }
         ensures damaged { (disk : ℕ → List ℕ) → B.Shows blocks.old disk →
@@ -96,6 +98,7 @@ impl Edit {
         ensures file { IsSameFile file.old file.new }
         ensures keeps { KeepsRoom file.old.tree file.new.tree }
         ensures fits { FitsIn file.old self.old → FitsIn file.new self.new }
+        ensures pieces { AddsPiece self.old self.new }
         ensures many { self.new.count ≡ self.old.count }
         ensures others { (disk : ℕ → List ℕ) (j : ℕ) → (j ≢ i) →
             edited_block disk file.new self.new j ≡ edited_block disk file.old self.old j }
@@ -132,6 +135,7 @@ impl Edit {
         ensures file { IsSameFile file.old file.new }
         ensures keeps { KeepsRoom file.old.tree file.new.tree }
         ensures fits { FitsIn file.old self.old → FitsIn file.new self.new }
+        ensures pieces { AddsPiece self.old self.new }
         ensures many { OnOk result (self.new.count ≡ self.old.count + 1) }
         ensures as_many { OnErr result (self.new.count ≡ self.old.count) }
         ensures others { (disk : ℕ → List ℕ) (j : ℕ) → (j ≢ self.old.count) →

@@ -14,7 +14,7 @@ ghost use Rattle.layout.specs.DirectoryNames.{number_of, NameMap};
 ghost use Rattle.dirs.specs.Directory.{AreDirectoryBlocks};
 ghost use Rattle.dirs.specs.Entries.{IsObjectNumber};
 ghost use Rattle.dirs.specs.Edits.{IsDirectory, IsReached, IsFirstFound};
-ghost use Rattle.dirs.specs.Listings.{IsListing, lists};
+ghost use Rattle.dirs.specs.Listings.{IsListingOfNames, lists_name};
 
 use crate::Edit;
 use blocktree::ReadError;
@@ -58,7 +58,7 @@ pub fn list<B: Blocks>(
 ) -> Result<Names, ReadError>
     ensures reads { ReadsBlocks B.Blocks IsFault blocks.old blocks.new result }
     ensures listed { (disk : ℕ → List ℕ) (names : NameMap) → B.Shows blocks.old disk →
-        IsDirectory inodes disk file.now names → IfOk result (IsListing names) }
+        IsDirectory inodes disk file.now names → IfOk result (IsListingOfNames names) }
     ensures sound { (disk : ℕ → List ℕ) → B.Shows blocks.old disk →
         OnOk result (AreDirectoryBlocks inodes (file.now.size / 4096) (file_block disk file.now)) }
     ensures damaged { (disk : ℕ → List ℕ) → B.Shows blocks.old disk →
@@ -82,8 +82,8 @@ fn add_names(
     inodes: u32,
 ) -> Result<(), ReadError>
     ensures names { (entries : List Named) → HoldsEntries inodes bytes.now entries →
-        OnOk result ((name : Name) → lists (map (λ n. n.items) names.new.keys) name
-        ≡ (lists (map (λ n. n.items) names.old.keys) name || is_some (number_of name entries))) }
+        OnOk result ((name : Name) → lists_name (map (λ n. n.items) names.new.keys) name
+        ≡ (lists_name (map (λ n. n.items) names.old.keys) name || is_some (number_of name entries))) }
     ensures sound { OnOk result ((entries : List Named) × HoldsEntries inodes bytes.now entries) }
     ensures damaged { IsErrOf result ReadError.Damaged → (entries : List Named) →
         HoldsEntries inodes bytes.now entries → ⊥ }
@@ -104,8 +104,8 @@ fn add_each(
     inodes: u32,
 ) -> Result<(), AllocError>
     ensures { (entries : List Named) → HoldsEntries inodes bytes.now entries →
-        OnOk result ((name : Name) → lists (map (λ n. n.items) names.new.keys) name
-        ≡ (lists (map (λ n. n.items) names.old.keys) name || is_some (number_of name entries))) }
+        OnOk result ((name : Name) → lists_name (map (λ n. n.items) names.new.keys) name
+        ≡ (lists_name (map (λ n. n.items) names.old.keys) name || is_some (number_of name entries))) }
 {
     match next_entry(bytes, inodes) {
         NextEntry::End => Ok(()),

@@ -41,16 +41,18 @@ impl Edit {
     ghost use Rattle.inode.specs.Files.{IsFile, IsSameFile};
     ghost use Rattle.layout.specs.DirectoryNames.{NameMap, AllHold};
     ghost use Rattle.dirs.specs.Entries.{IsObjectNumber};
-    ghost use Rattle.dirs.specs.Edits.{edited_block, HasNames, IsSoundEdit, IsReached, IsNamePlace, IsFirstFound, FitsIn, IsDirectory};
+    ghost use Rattle.dirs.specs.Edits.{edited_block, HasEditedNames, IsSoundEdit, IsReached, IsNamePlace, IsFirstFound, FitsIn, IsDirectory};
     ghost use Rattle.dirs.specs.Looks.{TellsEntries, IsLikely};
+    ghost use Rattle.dirs.specs.Room.{AddsPiece, ChangesFew, piece_count};
 
     /// An edit of this directory that changes nothing yet.
     pub fn of(alloc: Global, file: &File) -> Edit
         ensures same { (inodes : ℕ) (disk : ℕ → List ℕ) (names : NameMap) →
-            IsDirectory inodes disk file.now names → HasNames inodes disk file.now result names }
+            IsDirectory inodes disk file.now names → HasEditedNames inodes disk file.now result names }
         ensures fits { FitsIn file.now result }
         ensures count { result.count ≡ file.now.size / 4096 }
         ensures none { (i : ℕ) → tree.get nat_cmp result.changed i ≡ None }
+        ensures pieces { piece_count result ≡ 0 }
     {
         Edit {
             changed: BTreeMap::new(alloc),
@@ -120,6 +122,7 @@ impl Edit {
         ensures keeps { KeepsRoom file.old.tree file.new.tree }
         ensures fits { FitsIn file.old self.old → FitsIn file.new self.new }
         ensures count { self.new.count ≡ self.old.count }
+        ensures pieces { AddsPiece self.old self.new }
         ensures here { (disk : ℕ → List ℕ) →
             OnOk result (edited_block disk file.new self.new i ≡ bytes.now) }
         ensures others { (disk : ℕ → List ℕ) (j : ℕ) → (j ≢ i) →
@@ -178,7 +181,7 @@ impl Edit {
     ) -> Result<Option<u32>, ReadError>
         ensures reads { ReadsBlocks B.Blocks IsFault blocks.old blocks.new result }
         ensures found { (disk : ℕ → List ℕ) (names : NameMap) → B.Shows blocks.old disk →
-            HasNames inodes disk file.now self.now names →
+            HasEditedNames inodes disk file.now self.now names →
             IfOk result (λ number. number ≡ names name.now) }
         ensures sound { (disk : ℕ → List ℕ) → B.Shows blocks.old disk →
             IfOk result (IsFirstFound inodes (edited_block disk file.now self.now)
@@ -201,9 +204,10 @@ impl Edit {
         ensures size { file.new.size ≡ 4096 * self.count }
         ensures ends { (disk : ℕ → List ℕ) → IsFile disk file.new }
         ensures names { (inodes : ℕ) (disk : ℕ → List ℕ) (names : NameMap) →
-            HasNames inodes disk file.old self names → IsDirectory inodes disk file.new names }
+            HasEditedNames inodes disk file.old self names → IsDirectory inodes disk file.new names }
         ensures base { KeepsBase file.old.tree file.new.tree }
         ensures sound { KeepsSound file.old.tree file.new.tree }
+        ensures few { ChangesFew (piece_count self) file.old file.new }
     {
         let Edit { mut changed, count } = self;
         while let Some((i, block)) = changed.pop_first() {

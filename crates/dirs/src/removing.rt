@@ -18,7 +18,8 @@ impl Edit {
     ghost use Rattle.inode.specs.Files.{IsSameFile};
     ghost use Rattle.layout.specs.DirectoryNames.{NameMap, AllHold};
     ghost use Rattle.dirs.specs.Directory.{AreDirectoryBlocks, with_name};
-    ghost use Rattle.dirs.specs.Edits.{edited_block, HasNames, IsSoundEdit, IsReached, IsFirstFound, FitsIn};
+    ghost use Rattle.dirs.specs.Room.{AddsPiece};
+    ghost use Rattle.dirs.specs.Edits.{edited_block, HasEditedNames, IsSoundEdit, IsReached, IsFirstFound, FitsIn};
 
     // How many blocks are left where the empty ones right before block `end` are cut away.
     fn trimmed<B: Blocks>(
@@ -61,15 +62,16 @@ impl Edit {
         ensures file { IsSameFile file.old file.new }
         ensures keeps { KeepsRoom file.old.tree file.new.tree }
         ensures fits { FitsIn file.old self.old → FitsIn file.new self.new }
+        ensures pieces { AddsPiece self.old self.new }
         ensures removed { (disk : ℕ → List ℕ) (names : NameMap) → B.Shows blocks.old disk →
-            HasNames inodes disk file.old self.old names →
-            OnOk result (HasNames inodes disk file.new self.new (with_name name.now None names)) }
+            HasEditedNames inodes disk file.old self.old names →
+            OnOk result (HasEditedNames inodes disk file.new self.new (with_name name.now None names)) }
         ensures sound { (disk : ℕ → List ℕ) → B.Shows blocks.old disk → OnOk result
             ((number : Option ℕ) × IsFirstFound inodes (edited_block disk file.old self.old)
             self.old.count name.now number) }
         ensures kept { (disk : ℕ → List ℕ) (names : NameMap) →
-            HasNames inodes disk file.old self.old names →
-            OnErr result (HasNames inodes disk file.new self.new names) }
+            HasEditedNames inodes disk file.old self.old names →
+            OnErr result (HasEditedNames inodes disk file.new self.new names) }
         ensures damaged { (disk : ℕ → List ℕ) → B.Shows blocks.old disk →
             IsErrOf result ReadError.Damaged →
             IsReached (B.count blocks.old) disk file.old self.old.count →

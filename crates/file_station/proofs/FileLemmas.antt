@@ -1,7 +1,7 @@
 -- Calls on two files, one after the other.
 use Rattle.std.proofs.Common.{inl, inr, ℕ, ◌≤◌, List, arith, sym, ◌∙◌, subst}
 use Rattle.std.proofs.lemmas.Bool.{cases_lt}
-use Rattle.file_station.specs.Files.{FileMeaning, FilesMeaning, AreSameFiles, Keeps, FileWent, FilesGo}
+use Rattle.file_station.specs.Files.{FileMeaning, FilesMeaning, AreSameFiles, LeavesFile, FileWent, FilesGo}
 
 pub same_twice : (old mid new : FilesMeaning) → AreSameFiles old mid → AreSameFiles mid new → AreSameFiles old new
 same_twice old mid new first second = record {
@@ -11,7 +11,7 @@ same_twice old mid new first second = record {
 }
 
 -- a step of a file, and then a call that keeps it
-file_then_kept : (step : List ℕ → List ℕ → Type 0) (a b c : ℕ) (x y z : FileMeaning) → a ≤ b → FileWent step a b x y → FileWent Keeps b c y z → FileWent step a c x z
+file_then_kept : (step : List ℕ → List ℕ → Type 0) (a b c : ℕ) (x y z : FileMeaning) → a ≤ b → FileWent step a b x y → FileWent LeavesFile b c y z → FileWent step a c x z
 file_then_kept step a b c x y z le first second = record {
   kept = λ t f early.
       let later : t ≤ b = omega (arith, early, le) in
@@ -24,10 +24,10 @@ file_then_kept step a b c x y z le first second = record {
   seen = subst (step x.seen) (sym second.seen) first.seen;
 }
   where
-    before : (f : List ℕ) → ((e : List ℕ) × y.left_at b e × Keeps e f) → (d : List ℕ) × x.left_at a d × step d f
+    before : (f : List ℕ) → ((e : List ℕ) × y.left_at b e × LeavesFile e f) → (d : List ℕ) × x.left_at a d × step d f
     before f (e, left, same) = let d = first.now e left in (d.0, d.1, subst (step d.0) (sym same) d.2)
 
-pub then_kept : (on_disk on_nvram : List ℕ → List ℕ → Type 0) (old mid new : FilesMeaning) → FilesGo on_disk on_nvram old mid → FilesGo Keeps Keeps mid new → FilesGo on_disk on_nvram old new
+pub then_kept : (on_disk on_nvram : List ℕ → List ℕ → Type 0) (old mid new : FilesMeaning) → FilesGo on_disk on_nvram old mid → FilesGo LeavesFile LeavesFile mid new → FilesGo on_disk on_nvram old new
 then_kept on_disk on_nvram old mid new one two honest =
     let first = one honest in
     let second = two first.honest in

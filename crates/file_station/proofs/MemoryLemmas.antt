@@ -3,14 +3,14 @@ use Rattle.std.proofs.Common.{◌≡◌, inl, inr, ℕ, List, [], ◌∷◌, ◌
 use Rattle.std.proofs.lemmas.List.{take-append-le}
 use Rattle.std.proofs.lemmas.List.Sums.{fold-append}
 use Rattle.file_station.specs.Files.{FileWent, FilesGo, disk_step, nvram_step, file_with}
-use Rattle.file_station.specs.Memory.{written, file_after, contents, IsAdded}
-use Rattle.file_station.specs.MemoryMeaning.{file_known, known}
+use Rattle.file_station.specs.Memory.{written_file, file_after, contents, IsAdded}
+use Rattle.file_station.specs.MemoryMeaning.{file_known, known_files}
 use Rattle.file_station.specs.declared.image_files.Part.{Part}
 use Rattle.file_station.specs.declared.image_files.Part.TheVariants.{Disk, Nvram}
 use Rattle.file_station.specs.declared.memory_files.FileWrite.{FileWrite}
 
 -- no write
-pub goes_none : (disk nvram : List ℕ) (ws : List FileWrite) (on_disk on_nvram : List ℕ → List ℕ → Type 0) → ((f : List ℕ) → on_disk f f) → ((f : List ℕ) → on_nvram f f) → FilesGo on_disk on_nvram (known disk nvram ws) (known disk nvram ws)
+pub goes_none : (disk nvram : List ℕ) (ws : List FileWrite) (on_disk on_nvram : List ℕ → List ℕ → Type 0) → ((f : List ℕ) → on_disk f f) → ((f : List ℕ) → on_nvram f f) → FilesGo on_disk on_nvram (known_files disk nvram ws) (known_files disk nvram ws)
 goes_none disk nvram ws on_disk on_nvram d n honest = record {
   honest = tt;
   later = omega arith;
@@ -55,7 +55,7 @@ file_goes step part first ws w does = record {
 
 module _ (disk nvram : List ℕ) (ws ws' : List FileWrite) (part : Part) (at : ℕ) (bytes : List ℕ) where
   -- nothing was written
-  pub goes_refused : ws' ≡ ws → FilesGo (disk_step part at bytes) (nvram_step part at bytes) (known disk nvram ws) (known disk nvram ws')
+  pub goes_refused : ws' ≡ ws → FilesGo (disk_step part at bytes) (nvram_step part at bytes) (known_files disk nvram ws) (known_files disk nvram ws')
   goes_refused e = rw e (goes_none disk nvram ws (disk_step part at bytes) (nvram_step part at bytes) (on_disk part) (on_nvram part))
     where
       on_disk : (p : Part) (f : List ℕ) → disk_step p at bytes f f
@@ -69,7 +69,7 @@ module _ (disk nvram : List ℕ) (ws ws' : List FileWrite) (part : Part) (at : �
           record { kept = 0; within = omega arith; is = sym same }
 
   module _ (adds : IsAdded ws ws' part at bytes) where
-    pub goes_write : FilesGo (disk_step part at bytes) (nvram_step part at bytes) (known disk nvram ws) (known disk nvram ws')
+    pub goes_write : FilesGo (disk_step part at bytes) (nvram_step part at bytes) (known_files disk nvram ws) (known_files disk nvram ws')
     goes_write honest =
         rw adds.2 record {
           honest = tt;
@@ -78,14 +78,14 @@ module _ (disk nvram : List ℕ) (ws ws' : List FileWrite) (part : Part) (at : �
           nvram = file_goes (nvram_step part at bytes) Nvram nvram ws record { part = part; at = at; bytes = adds.0 } (on_nvram part);
         }
       where
-        on_disk : (p : Part) (f : List ℕ) → disk_step p at bytes f (written Disk f p at adds.0.items)
+        on_disk : (p : Part) (f : List ℕ) → disk_step p at bytes f (written_file Disk f p at adds.0.items)
         on_disk Disk f = λ n. inr (rw adds.1 refl)
         on_disk Nvram f = refl
 
-        on_nvram : (p : Part) (f : List ℕ) → nvram_step p at bytes f (written Nvram f p at adds.0.items)
+        on_nvram : (p : Part) (f : List ℕ) → nvram_step p at bytes f (written_file Nvram f p at adds.0.items)
         on_nvram Disk f = refl
         on_nvram Nvram f = record { kept = length bytes; within = omega arith; is = rw (adds.1, take_all (length bytes) bytes (omega arith)) refl }
 
     -- the files are what the writes make of them
-    pub contents_written : (p q : Part) (first file : List ℕ) → part ≡ q → file ≡ contents p first ws → written p file q at bytes ≡ contents p first ws'
+    pub contents_written : (p q : Part) (first file : List ℕ) → part ≡ q → file ≡ contents p first ws → written_file p file q at bytes ≡ contents p first ws'
     contents_written p q first file e is = rw (← e, adds.2, contents-push p first ws (record { part = part; at = at; bytes = adds.0 }), ← is, adds.1) refl

@@ -4,24 +4,24 @@ use Rattle.std.proofs.Math.Path.{fun_ext}
 use Rattle.std.specs.Prelude.{OnOk, OnErr, is_ok}
 use Rattle.station.specs.Images.{Images, Unchanged, SectorsWritten, SomeSectorsWritten, NvramWritten, NvramPrefixWritten, disk_with}
 use Rattle.station.specs.Device.{images_of, sectors_of}
-use Rattle.station.specs.Moments.{After, Goes, SeenGoes, LeftGoes, IsSameStation, counted}
+use Rattle.station.specs.Moments.{After, Goes, SeenGoes, LeftGoes, IsSameStation, counted_up}
 use Rattle.station.specs.Calls.{WriteCall}
 use Rattle.station.proofs.DiskLemmas.{cases_reach, sectors_of-write}
-use Rattle.file_station.specs.Files.{FilesMeaning, AreSameFiles, Keeps, SomeSectorsKept, PrefixKept, FilesGo, HasLengths, file_with, file_of}
+use Rattle.file_station.specs.Files.{FilesMeaning, AreSameFiles, LeavesFile, SomeSectorsKept, PrefixKept, FilesGo, HasLengths, file_with, file_of}
 use Rattle.file_station.specs.declared.image_files.Part.{Part}
 use Rattle.file_station.specs.declared.image_files.Part.TheVariants.{Disk, Nvram}
 use Rattle.file_station.specs.Stations.{station_of}
 
 -- STEPS
 
-unchanged : (d e n o : List ℕ) → Keeps d e → Keeps n o → Unchanged (images_of d n) (images_of e o)
+unchanged : (d e n o : List ℕ) → LeavesFile d e → LeavesFile n o → Unchanged (images_of d n) (images_of e o)
 unchanged d e n o disk nvram i = images_of (disk i) (nvram i)
 
 module _ (at first : ℕ) (bytes : List ℕ) (place : at ≡ 512 * first) (whole : length bytes % 512 ≡ 0) where
   with_sectors : (d : List ℕ) (k : ℕ) → at + length bytes ≤ length d → sectors_of (file_with at bytes d) k ≡ disk_with first bytes (sectors_of d) k
   with_sectors d k fits = rw place (sectors_of-write d bytes first k (omega (arith, fits, place)) whole)
 
-  some_sectors : (d e n o : List ℕ) → at + length bytes ≤ length d → SomeSectorsKept at bytes d e → Keeps n o → SomeSectorsWritten first bytes (images_of d n) (images_of e o)
+  some_sectors : (d e n o : List ℕ) → at + length bytes ≤ length d → SomeSectorsKept at bytes d e → LeavesFile n o → SomeSectorsWritten first bytes (images_of d n) (images_of e o)
   some_sectors d e n o fits some nvram = record {
     nvram = nvram;
     disk = λ k. elim (some k) [
@@ -35,12 +35,12 @@ module _ (at first : ℕ) (bytes : List ℕ) (place : at ≡ 512 * first) (whole
     ];
   }
 
-  all_sectors : (d e n o : List ℕ) → at + length bytes ≤ length d → e ≡ file_with at bytes d → Keeps n o → SectorsWritten first bytes (images_of d n) (images_of e o)
+  all_sectors : (d e n o : List ℕ) → at + length bytes ≤ length d → e ≡ file_with at bytes d → LeavesFile n o → SectorsWritten first bytes (images_of d n) (images_of e o)
   all_sectors d e n o fits is nvram =
       let disk : sectors_of e ≡ disk_with first bytes (sectors_of d) = fun_ext (λ k. ap (λ f. sectors_of f k) is ∙ with_sectors d k fits) in
       λ i. record { disk = disk i; nvram = nvram i }
 
-some_nvram : (at : ℕ) (bytes d e n o : List ℕ) → Keeps d e → PrefixKept at bytes n o → NvramPrefixWritten at bytes (images_of d n) (images_of e o)
+some_nvram : (at : ℕ) (bytes d e n o : List ℕ) → LeavesFile d e → PrefixKept at bytes n o → NvramPrefixWritten at bytes (images_of d n) (images_of e o)
 some_nvram at bytes d e n o disk some = record { kept = some.kept; within = some.within; writes = λ i. record { disk = sectors_of (disk i); nvram = some.is i } }
 
 -- CALLS
@@ -78,13 +78,13 @@ module _ (m m' : FilesMeaning) (lengths : m.is_honest → HasLengths m) where
 
   -- a write to the disk's file
   module _ (at first : ℕ) (bytes : List ℕ) (place : at ≡ 512 * first) (whole : length bytes % 512 ≡ 0) (fits : at + length bytes ≤ m.disk.length)
-      (files : AreSameFiles m m') (go : FilesGo (SomeSectorsKept at bytes) Keeps m m') where
-    pub writes_sectors : {T E : Type 0} (r w w' : ℕ) (result : Result T E) → OnOk result (w' ≡ w) → OnErr result (w' ≡ counted w)
+      (files : AreSameFiles m m') (go : FilesGo (SomeSectorsKept at bytes) LeavesFile m m') where
+    pub writes_sectors : {T E : Type 0} (r w w' : ℕ) (result : Result T E) → OnOk result (w' ≡ w) → OnErr result (w' ≡ counted_up w)
         → WriteCall (SomeSectorsWritten first bytes) (station_of m r w) (station_of m' r w') result
     writes_sectors r w w' result ok err = record {
       same = same r w r w' files;
       counts = record { reads = refl; ok = ok; err = err };
-      goes = goes r w r w' (SomeSectorsKept at bytes) Keeps (SomeSectorsWritten first bytes) go
+      goes = goes r w r w' (SomeSectorsKept at bytes) LeavesFile (SomeSectorsWritten first bytes) go
           (λ d e n o long _ some keeps. some_sectors at first bytes place whole d e n o (omega (arith, long, fits)) some keeps);
     }
 
@@ -95,13 +95,13 @@ module _ (m m' : FilesMeaning) (lengths : m.is_honest → HasLengths m) where
         all_sectors at first bytes place whole m.disk.seen m'.disk.seen m.nvram.seen m'.nvram.seen (omega (arith, long, fits)) (written honest) (go honest).nvram.seen
 
   -- a write to the NVRAM's file
-  module _ (start at : ℕ) (bytes : List ℕ) (place : start ≡ at) (files : AreSameFiles m m') (go : FilesGo Keeps (PrefixKept start bytes) m m') where
-    pub writes_nvram : {T E : Type 0} (r w w' : ℕ) (result : Result T E) → OnOk result (w' ≡ w) → OnErr result (w' ≡ counted w)
+  module _ (start at : ℕ) (bytes : List ℕ) (place : start ≡ at) (files : AreSameFiles m m') (go : FilesGo LeavesFile (PrefixKept start bytes) m m') where
+    pub writes_nvram : {T E : Type 0} (r w w' : ℕ) (result : Result T E) → OnOk result (w' ≡ w) → OnErr result (w' ≡ counted_up w)
         → WriteCall (NvramPrefixWritten at bytes) (station_of m r w) (station_of m' r w') result
     writes_nvram r w w' result ok err = record {
       same = same r w r w' files;
       counts = record { reads = refl; ok = ok; err = err };
-      goes = goes r w r w' Keeps (PrefixKept start bytes) (NvramPrefixWritten at bytes) go (λ d e n o _ _ keeps some. some_nvram at bytes d e n o keeps (rw place at some));
+      goes = goes r w r w' LeavesFile (PrefixKept start bytes) (NvramPrefixWritten at bytes) go (λ d e n o _ _ keeps some. some_nvram at bytes d e n o keeps (rw place at some));
     }
 
     -- which was settled: each of the two files is left independently of the other

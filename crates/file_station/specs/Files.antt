@@ -32,18 +32,18 @@ pub record AreSameFiles (old new : FilesMeaning) : Type 0 where
   pub honest : old.is_honest ↔ new.is_honest
 
 -- of honest files: reads of this one give a file with P
-abbrev pub Shows : FilesMeaning → Part → (List ℕ → Type 0) → Type 0
-Shows m part P = m.is_honest → P (file_of m part).seen
+abbrev pub ShowsFile : FilesMeaning → Part → (List ℕ → Type 0) → Type 0
+ShowsFile m part P = m.is_honest → P (file_of m part).seen
 
 -- a cut now leaves just this of a file
-abbrev pub LeavesJust : FilesMeaning → Part → List ℕ → Type 0
-LeavesJust m part file = (f : List ℕ) → (file_of m part).left_at m.moment f → f ≡ file
+abbrev pub LeavesJustFile : FilesMeaning → Part → List ℕ → Type 0
+LeavesJustFile m part file = (f : List ℕ) → (file_of m part).left_at m.moment f → f ≡ file
 
 -- STEPS OF A FILE
 
 -- it stays
-abbrev pub Keeps : List ℕ → List ℕ → Type 0
-Keeps old new = new ≡ old
+abbrev pub LeavesFile : List ℕ → List ℕ → Type 0
+LeavesFile old new = new ≡ old
 
 -- the file with these bytes at this offset
 abbrev pub file_with : ℕ → List ℕ → List ℕ → List ℕ
@@ -64,10 +64,10 @@ pub record PrefixKept (at : ℕ) (bytes old new : List ℕ) : Type 0 where
 -- what a write to one of the files does to each
 abbrev pub disk_step : Part → ℕ → List ℕ → List ℕ → List ℕ → Type 0
 disk_step Disk at bytes = SomeSectorsKept at bytes
-disk_step Nvram at bytes = Keeps
+disk_step Nvram at bytes = LeavesFile
 
 abbrev pub nvram_step : Part → ℕ → List ℕ → List ℕ → List ℕ → Type 0
-nvram_step Disk at bytes = Keeps
+nvram_step Disk at bytes = LeavesFile
 nvram_step Nvram at bytes = PrefixKept at bytes
 
 -- A file went on by a step from one moment to another: whatever a cut leaves of it within or after that is what one

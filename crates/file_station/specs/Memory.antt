@@ -7,14 +7,14 @@ use Rattle.file_station.specs.declared.image_files.Part.TheVariants.{Disk, Nvram
 use Rattle.file_station.specs.declared.memory_files.FileWrite.{FileWrite}
 
 -- a file after a write to it, and after one to the other file
-abbrev pub written : Part → List ℕ → Part → ℕ → List ℕ → List ℕ
-written Disk file Disk at bytes = file_with at bytes file
-written Disk file Nvram at bytes = file
-written Nvram file Disk at bytes = file
-written Nvram file Nvram at bytes = file_with at bytes file
+abbrev pub written_file : Part → List ℕ → Part → ℕ → List ℕ → List ℕ
+written_file Disk file Disk at bytes = file_with at bytes file
+written_file Disk file Nvram at bytes = file
+written_file Nvram file Disk at bytes = file
+written_file Nvram file Nvram at bytes = file_with at bytes file
 
 abbrev pub file_after : Part → List ℕ → FileWrite → List ℕ
-file_after part file w = written part file w.part w.at w.bytes.items
+file_after part file w = written_file part file w.part w.at w.bytes.items
 
 -- a file that held this first, after these writes
 unfoldable pub contents : Part → List ℕ → List FileWrite → List ℕ

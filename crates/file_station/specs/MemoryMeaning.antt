@@ -16,19 +16,19 @@ file_known part first writes = record {
   left_at = λ t file. file ≡ contents part first (take t writes);
 }
 
-abbrev pub known : List ℕ → List ℕ → List FileWrite → FilesMeaning
-known disk nvram writes = record {
+abbrev pub known_files : List ℕ → List ℕ → List FileWrite → FilesMeaning
+known_files disk nvram writes = record {
   is_honest = Unit {0};
   moment = length writes;
   disk = file_known Disk disk writes;
   nvram = file_known Nvram nvram writes;
 }
 
-abbrev pub meaning_of : MemoryFiles → FilesMeaning
-meaning_of s = known s.first_disk.items s.first_nvram.items s.writes.items
+abbrev pub memory_meaning : MemoryFiles → FilesMeaning
+memory_meaning s = known_files s.first_disk.items s.first_nvram.items s.writes.items
 
 -- files of these bytes, before any write
-pub record IsLoaded (on_disk in_nvram : List ℕ) (m : FilesMeaning) : Type 0 where
+pub record AreLoadedFiles (on_disk in_nvram : List ℕ) (m : FilesMeaning) : Type 0 where
   pub disk : m.disk.seen ≡ on_disk
   pub nvram : m.nvram.seen ≡ in_nvram
   pub disk_length : m.disk.length ≡ length on_disk
@@ -39,10 +39,10 @@ pub record IsLoaded (on_disk in_nvram : List ℕ) (m : FilesMeaning) : Type 0 wh
 all_taken : (writes : List FileWrite) → take (length writes) writes ≡ writes
 all_taken writes = take_all (length writes) writes (omega arith)
 
-pub seen_may_be_left : (s : MemoryFiles) (part : Part) → (file_of (meaning_of s) part).left_at (meaning_of s).moment (file_of (meaning_of s) part).seen
+pub seen_may_be_left : (s : MemoryFiles) (part : Part) → (file_of (memory_meaning s) part).left_at (memory_meaning s).moment (file_of (memory_meaning s) part).seen
 seen_may_be_left s Disk = ap (contents Disk s.first_disk.items) (sym (all_taken s.writes.items))
 seen_may_be_left s Nvram = ap (contents Nvram s.first_nvram.items) (sym (all_taken s.writes.items))
 
-pub lengths : (s : MemoryFiles) (part : Part) (file : List ℕ) → (file_of (meaning_of s) part).left_at (meaning_of s).moment file → length file ≡ (file_of (meaning_of s) part).length
+pub lengths : (s : MemoryFiles) (part : Part) (file : List ℕ) → (file_of (memory_meaning s) part).left_at (memory_meaning s).moment file → length file ≡ (file_of (memory_meaning s) part).length
 lengths s Disk file left = ap length (left ∙ ap (contents Disk s.first_disk.items) (all_taken s.writes.items) ∙ sym s.disk_is) ∙ s.disk_size
 lengths s Nvram file left = ap length (left ∙ ap (contents Nvram s.first_nvram.items) (all_taken s.writes.items) ∙ sym s.nvram_is) ∙ s.nvram_size

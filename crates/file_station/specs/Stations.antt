@@ -11,8 +11,8 @@ pub record FitStation (m : FilesMeaning) : Type 0 where
   pub nvram : m.nvram.length < 2 ^ 32
 
 -- they aren't
-abbrev pub IsBadSize : FilesMeaning → Type 0
-IsBadSize m = (0 < m.disk.length % 512) ⊎ (2 ^ 32 ≤ m.disk.length / 512) ⊎ (2 ^ 32 ≤ m.nvram.length)
+abbrev pub HasBadSize : FilesMeaning → Type 0
+HasBadSize m = (0 < m.disk.length % 512) ⊎ (2 ^ 32 ≤ m.disk.length / 512) ⊎ (2 ^ 32 ≤ m.nvram.length)
 
 -- these files as a station, with these counts of calls that failed
 abbrev pub station_of : FilesMeaning → ℕ → ℕ → Meaning

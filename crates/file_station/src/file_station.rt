@@ -1,9 +1,9 @@
 //! A station over the two files of an image.
 
 ghost use Rattle.std.specs.Prelude.{◌≡◌, ◌↔◌, ◌+◌, ◌≤◌, length, is_ok, IfOk, OnOk, OnErr, IsErrOf};
-ghost use Rattle.station.specs.Moments.{counted};
-ghost use Rattle.file_station.specs.Files.{AreSameFiles, FilesGo, Keeps, PrefixKept, Shows, LeavesJust, file_with};
-ghost use Rattle.file_station.specs.Stations.{FitStation, IsBadSize};
+ghost use Rattle.station.specs.Moments.{counted_up};
+ghost use Rattle.file_station.specs.Files.{AreSameFiles, FilesGo, LeavesFile, PrefixKept, ShowsFile, LeavesJustFile, file_with};
+ghost use Rattle.file_station.specs.Stations.{FitStation, HasBadSize};
 ghost use Rattle.file_station.specs.declared.image_files.Part.TheVariants.{Disk, Nvram};
 
 use crate::{ImageFiles, Part};
@@ -39,7 +39,7 @@ impl<M: ImageFiles + Drop> FileStation<M> {
     pub fn over(files: M) -> Result<FileStation<M>, SizeError>
         ensures files { IfOk result (λ s. s.files ≡ files) }
         ensures no_fault { IfOk result (λ s. (s.failed_reads ≡ 0) × (s.failed_writes ≡ 0)) }
-        ensures bad_size { IsErrOf result SizeError.BadSize ↔ IsBadSize (M.meaning files) }
+        ensures bad_size { IsErrOf result SizeError.BadSize ↔ HasBadSize (M.meaning files) }
         ensures readable { IsErrOf result SizeError.Unreadable → ⊥ }
     {
         let disk = files.len(Part::Disk);
@@ -61,11 +61,11 @@ impl<M: ImageFiles + Drop> FileStation<M> {
         ensures same { AreSameFiles (M.meaning self.old.files) (M.meaning self.new.files) }
         ensures reads { self.new.failed_reads ≡ self.old.failed_reads }
         ensures writes { self.new.failed_writes ≡ self.old.failed_writes }
-        ensures goes { FilesGo Keeps Keeps (M.meaning self.old.files) (M.meaning self.new.files) }
+        ensures goes { FilesGo LeavesFile LeavesFile (M.meaning self.old.files) (M.meaning self.new.files) }
         ensures disk { OnOk result
-            (Shows (M.meaning self.old.files) Disk (LeavesJust (M.meaning self.new.files) Disk)) }
+            (ShowsFile (M.meaning self.old.files) Disk (LeavesJustFile (M.meaning self.new.files) Disk)) }
         ensures nvram { OnOk result
-            (Shows (M.meaning self.old.files) Nvram (LeavesJust (M.meaning self.new.files) Nvram)) }
+            (ShowsFile (M.meaning self.old.files) Nvram (LeavesJustFile (M.meaning self.new.files) Nvram)) }
     {
         sync_files(&mut self.files)
     }
@@ -74,11 +74,11 @@ impl<M: ImageFiles + Drop> FileStation<M> {
 /// Syncs both files.
 fn sync_files<M: ImageFiles>(files: &mut M) -> io::Result<()>
     ensures same { AreSameFiles (M.meaning files.old) (M.meaning files.new) }
-    ensures goes { FilesGo Keeps Keeps (M.meaning files.old) (M.meaning files.new) }
+    ensures goes { FilesGo LeavesFile LeavesFile (M.meaning files.old) (M.meaning files.new) }
     ensures disk { OnOk result
-        (Shows (M.meaning files.old) Disk (LeavesJust (M.meaning files.new) Disk)) }
+        (ShowsFile (M.meaning files.old) Disk (LeavesJustFile (M.meaning files.new) Disk)) }
     ensures nvram { OnOk result
-        (Shows (M.meaning files.old) Nvram (LeavesJust (M.meaning files.new) Nvram)) }
+        (ShowsFile (M.meaning files.old) Nvram (LeavesJustFile (M.meaning files.new) Nvram)) }
 {
     files.sync(Part::Disk)?;
     files.sync(Part::Nvram)
@@ -88,12 +88,12 @@ fn sync_files<M: ImageFiles>(files: &mut M) -> io::Result<()>
 fn write_nvram<M: ImageFiles>(files: &mut M, at: u64, bytes: &[u8]) -> io::Result<()>
     requires { at + length bytes.now ≤ (M.meaning files.old).nvram.length }
     ensures same { AreSameFiles (M.meaning files.old) (M.meaning files.new) }
-    ensures goes { FilesGo Keeps (PrefixKept at bytes.now)
+    ensures goes { FilesGo LeavesFile (PrefixKept at bytes.now)
         (M.meaning files.old) (M.meaning files.new) }
-    ensures written { OnOk result (Shows (M.meaning files.old) Nvram
+    ensures written { OnOk result (ShowsFile (M.meaning files.old) Nvram
         (λ file. (M.meaning files.new).nvram.seen ≡ file_with at bytes.now file)) }
-    ensures kept { OnOk result (Shows (M.meaning files.old) Nvram
-        (λ file. LeavesJust (M.meaning files.new) Nvram (file_with at bytes.now file))) }
+    ensures kept { OnOk result (ShowsFile (M.meaning files.old) Nvram
+        (λ file. LeavesJustFile (M.meaning files.new) Nvram (file_with at bytes.now file))) }
 {
     let file = Part::Nvram;
     files.write(file, at, bytes)?;
@@ -104,7 +104,7 @@ fn write_nvram<M: ImageFiles>(files: &mut M, at: u64, bytes: &[u8]) -> io::Resul
 fn note(failed: &mut u64, done: io::Result<()>) -> Result<(), DeviceFault>
     ensures answer { is_ok result ≡ is_ok done }
     ensures ok { OnOk result (failed.new ≡ failed.old) }
-    ensures err { OnErr result (failed.new ≡ counted failed.old) }
+    ensures err { OnErr result (failed.new ≡ counted_up failed.old) }
 {
     if done.is_err() {
         *failed = failed.saturating_add(1);

@@ -1,7 +1,7 @@
 //! The two files of an image, and what a power cut may leave of them.
 
 ghost use Rattle.std.specs.Prelude.{◌≡◌, ℕ, ◌+◌, ◌≤◌, List, length, take, drop, OnOk};
-ghost use Rattle.file_station.specs.Files.{FilesMeaning, file_of, AreSameFiles, FilesGo, Shows, Keeps, disk_step, nvram_step, file_with, LeavesJust};
+ghost use Rattle.file_station.specs.Files.{FilesMeaning, file_of, AreSameFiles, FilesGo, ShowsFile, LeavesFile, disk_step, nvram_step, file_with, LeavesJustFile};
 
 use std::io;
 
@@ -40,8 +40,8 @@ pub trait ImageFiles {
     fn read(&mut self, part: Part, at: u64, out: &mut [u8]) -> io::Result<()>
         requires { at + length out.old ≤ (file_of (meaning self.old) part).length }
         ensures same { AreSameFiles (meaning self.old) (meaning self.new) }
-        ensures goes { FilesGo Keeps Keeps (meaning self.old) (meaning self.new) }
-        ensures bytes { OnOk result (Shows (meaning self.old) part
+        ensures goes { FilesGo LeavesFile LeavesFile (meaning self.old) (meaning self.new) }
+        ensures bytes { OnOk result (ShowsFile (meaning self.old) part
             (λ file. out.new ≡ take (length out.old) (drop at file))) };
 
     /// Writes from byte `at` on.
@@ -50,15 +50,15 @@ pub trait ImageFiles {
         ensures same { AreSameFiles (meaning self.old) (meaning self.new) }
         ensures goes { FilesGo (disk_step part at bytes.now) (nvram_step part at bytes.now)
             (meaning self.old) (meaning self.new) }
-        ensures written { OnOk result (Shows (meaning self.old) part
+        ensures written { OnOk result (ShowsFile (meaning self.old) part
             (λ file. (file_of (meaning self.new) part).seen ≡ file_with at bytes.now file)) };
 
     /// Settles what reads of this file give.
     fn sync(&mut self, part: Part) -> io::Result<()>
         ensures same { AreSameFiles (meaning self.old) (meaning self.new) }
-        ensures goes { FilesGo Keeps Keeps (meaning self.old) (meaning self.new) }
+        ensures goes { FilesGo LeavesFile LeavesFile (meaning self.old) (meaning self.new) }
         ensures settled { OnOk result
-            (Shows (meaning self.old) part (λ file. LeavesJust (meaning self.new) part file)) };
+            (ShowsFile (meaning self.old) part (λ file. LeavesJustFile (meaning self.new) part file)) };
 
     /// What reads give is among what a cut now may leave.
     ghost seen_may_be_left: { (s : Self) (part : Part) → (meaning s).is_honest

@@ -37,11 +37,11 @@ pub struct MemoryFiles {
 
 impl MemoryFiles {
     ghost use Rattle.std.specs.Prelude.{IfOk};
-    ghost use Rattle.file_station.specs.MemoryMeaning.{meaning_of, IsLoaded};
+    ghost use Rattle.file_station.specs.MemoryMeaning.{memory_meaning, AreLoadedFiles};
 
     /// Files of these bytes.
     pub fn new(alloc: Global, disk: Vec<u8>, nvram: Vec<u8>) -> Result<MemoryFiles, AllocError>
-        ensures { IfOk result (λ s. IsLoaded disk.items nvram.items (meaning_of s)) }
+        ensures { IfOk result (λ s. AreLoadedFiles disk.items nvram.items (memory_meaning s)) }
     {
         Ok(MemoryFiles {
             alloc,
@@ -80,10 +80,10 @@ fn put(file: &mut Vec<u8>, at: usize, bytes: &[u8])
 }
 
 impl ImageFiles for MemoryFiles {
-    ghost use Rattle.file_station.specs.MemoryMeaning.{meaning_of};
+    ghost use Rattle.file_station.specs.MemoryMeaning.{memory_meaning};
     ghost use Rattle.file_station.specs.MemoryMeaning as laws;
 
-    ghost meaning = { meaning_of };
+    ghost meaning = { memory_meaning };
 
     ghost seen_may_be_left = { λ s part honest. laws.seen_may_be_left s part };
 

@@ -24,7 +24,7 @@ use Rattle.descriptors.specs.Tables.{put_open, table_of}
 use Rattle.descriptors.specs.declared.open_file.OpenFile.{OpenFile}
 use Rattle.descriptors.specs.declared.table.Descriptors.{Descriptors}
 use Rattle.files.specs.Opened.{tree_with}
-use Rattle.files.specs.Opening.{Opens, OpensOver}
+use Rattle.files.specs.Opening.{OpensDescriptor, OpensDescriptorOver}
 use Rattle.files.specs.declared.opening.Opening.{Opening}
 use Rattle.files.proofs.OpenLaws.{passes, refused_by}
 
@@ -75,11 +75,11 @@ module _ (inodes : ℕ) (v : Volume) (table : Descriptors) (text : List ℕ) (fl
             at_fd (Fd fd) (tree_of w (put_open fd (Some (description_of f)) (table_of table))) need
             (subst (λ (d : Description). along fd (Fd fd) (tree_of w (put_open fd (Some d) (table_of table))) need) (sym described) done)
 
-        over : (changing : Option Changing) → FindsOver along inodes flags v (table_of table) o changing → OpensOver outcome inodes v table opening changing
+        over : (changing : Option Changing) → FindsOver along inodes flags v (table_of table) o changing → OpensDescriptorOver outcome inodes v table opening changing
         over None (is, opened) = (is_file v is, opens_at v nothing (opened fd))
         over (Some c) (applies, mounted, is, opened) =
             let w = swept (table_of table) (applied (said_by c.change) v) in
             (applies, mounted, is_file w is, opens_at w (logs (work_of v (said_by c.change))) (opened fd))
 
-        pub open_told : OpensAt along inodes flags v (table_of table) (Ok o) → Opens outcome inodes v table (Ok opening)
+        pub open_told : OpensAt along inodes flags v (table_of table) (Ok o) → OpensDescriptor outcome inodes v table (Ok opening)
         open_told told = over o.changing told

@@ -8,7 +8,7 @@ use Rattle.model.specs.Paths.{Tests}
 use Rattle.model.specs.Reading.{is_negative, is_too_many}
 use Rattle.model.specs.Room.{Need, nothing}
 use Rattle.model.specs.Trees.{Tree, Description}
-use Rattle.model.specs.Volumes.{Node, Volume, bytes_of, directory_node, file_node, link_node}
+use Rattle.model.specs.Volumes.{Node, Volume, bytes_of_node, directory_node, file_node, link_node}
 use Rattle.model.specs.declared.errno.Errno.{Errno}
 use Rattle.model.specs.declared.reply.Reply.{Reply}
 use Rattle.model.specs.declared.reply.Reply.TheVariants.{Data, Refused}
@@ -41,7 +41,7 @@ module _ (table : Descriptors) (v : Volume) (fd : ℕ) (tests : Description → 
 
 -- ---- an open file of a volume
 
-pub figured_size : (o : Option Node) (figures : Figures) → node_figures o ≡ Some figures → length (unwrap_or (bytes_of o) []) ≡ figures.size
+pub figured_size : (o : Option Node) (figures : Figures) → node_figures o ≡ Some figures → length (unwrap_or (bytes_of_node o) []) ≡ figures.size
 figured_size None figures e = cc
 figured_size (Some (directory_node mode names)) figures e = cc
 figured_size (Some (file_node mode links bytes)) figures e = cc

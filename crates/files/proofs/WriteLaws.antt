@@ -37,7 +37,7 @@ use Rattle.descriptors.specs.declared.table.Descriptors.{Descriptors}
 use Rattle.files.specs.Opened.{OnOpen, tree_with}
 use Rattle.files.specs.Preparing.{PreparesOpen, PreparesTold}
 use Rattle.files.specs.Reading.{PassesOpen}
-use Rattle.files.specs.Writing.{IsTransfer, IsWrite, IsWritten, PutsFile, Writes, of_writing, write_of, write_place, write_tests}
+use Rattle.files.specs.Writing.{IsTransfer, IsWrite, IsBehindWritten, PutsFile, WritesFile, of_writing, write_of, write_place, write_tests}
 use Rattle.files.specs.declared.written.Written.{Written}
 use Rattle.files.specs.declared.written.Writing.{Writing}
 use Rattle.files.proofs.OpenLaws.{at_file}
@@ -57,7 +57,7 @@ module _ (inodes : ℕ) (v : Volume) (table : Descriptors) (fd : ℕ) (f : OpenF
   size_now : length (contents t f.number) ≡ f.size
   size_now = figured_size (v f.number) (figures_of f) (fits.files fd f some)
 
-  module _ (offset : ℕ) (w : Written) (is : IsWritten f offset bytes w) (over : GoesOver inodes v (table_of table) (write f.number offset bytes)) where
+  module _ (offset : ℕ) (w : Written) (is : IsBehindWritten f offset bytes w) (over : GoesOver inodes v (table_of table) (write f.number offset bytes)) where
     pub behind_is : w.behind ≡ offset + length bytes
     behind_is = is.behind_is
 
@@ -90,7 +90,7 @@ module _ (inodes : ℕ) (v : Volume) (table : Descriptors) (fd : ℕ) (f : OpenF
   putting d = puts t d.number (place_in d) bytes (with_offset fd d (place_in d + length bytes))
 
   pub write_told : (r : Result (Option Writing) Errno) → PassesOpen (write_tests (is_too_many (length bytes))) table fd (Ok f) → PutsFile inodes v (table_of table) f place bytes r
-      → Writes (writes t fd bytes) inodes v table bytes (λ w. moved_to fd w.behind (table_of table)) r
+      → WritesFile (writes t fd bytes) inodes v table bytes (λ w. moved_to fd w.behind (table_of table)) r
   write_told (Err errno) opened put =
       open_passes table v fd (write_tests (is_too_many (length bytes))) putting f (Refused errno) t nothing opened
       (subst (λ (p : ℕ). puts t f.number p bytes (with_offset fd (description_of f) (p + length bytes)) (Refused errno) t nothing) same_place (put (with_offset fd (description_of f) (place + length bytes))))
@@ -115,7 +115,7 @@ module _ (inodes : ℕ) (v : Volume) (table : Descriptors) (fd : ℕ) (f : OpenF
   -- ---- at an offset
 
   pub pwrite_told : (offset : ℤ) (r : Result (Option Writing) Errno) → PassesOpen (write_tests (is_negative offset || is_too_many (length bytes))) table fd (Ok f)
-      → PutsFile inodes v (table_of table) f (nat_abs offset) bytes r → Writes (writes_to t fd offset bytes) inodes v table bytes (λ w. table_of table) r
+      → PutsFile inodes v (table_of table) f (nat_abs offset) bytes r → WritesFile (writes_to t fd offset bytes) inodes v table bytes (λ w. table_of table) r
   pwrite_told offset (Err errno) opened put =
       open_passes table v fd (write_tests (is_negative offset || is_too_many (length bytes))) (λ d. puts t d.number (nat_abs offset) bytes (λ after. after)) f (Refused errno) t nothing opened (put (λ after. after))
   pwrite_told offset (Ok None) opened put =

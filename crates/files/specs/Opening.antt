@@ -32,15 +32,15 @@ abbrev pub with_opened : Opening → Descriptors → ℕ → Option Description
 with_opened o table = put_open o.fd (Some (description_of o.file)) (table_of table)
 
 -- what opening a file comes to that changes nothing beside, or does what a record says
-abbrev pub OpensOver : Outcome → ℕ → Volume → Descriptors → Opening → Option Changing → Type 0
-OpensOver outcome inodes v table o None = IsFileOf v o.file × outcome (Fd o.fd) (tree_of v (with_opened o table)) nothing
-OpensOver outcome inodes v table o (Some c) =
+abbrev pub OpensDescriptorOver : Outcome → ℕ → Volume → Descriptors → Opening → Option Changing → Type 0
+OpensDescriptorOver outcome inodes v table o None = IsFileOf v o.file × outcome (Fd o.fd) (tree_of v (with_opened o table)) nothing
+OpensDescriptorOver outcome inodes v table o (Some c) =
     Applies inodes v (said_by c.change)
     × IsMounted (swept (table_of table) (applied (said_by c.change) v)) (table_of table)
     × IsFileOf (swept (table_of table) (applied (said_by c.change) v)) o.file
     × outcome (Fd o.fd) (tree_of (swept (table_of table) (applied (said_by c.change) v)) (with_opened o table)) (logs (work_of v (said_by c.change)))
 
 -- what opening comes to: a refusal, or a file at a descriptor
-abbrev pub Opens : Outcome → ℕ → Volume → Descriptors → Result Opening Errno → Type 0
-Opens outcome inodes v table (Err errno) = outcome (Refused errno) (tree_with table v) nothing
-Opens outcome inodes v table (Ok o) = OpensOver outcome inodes v table o o.changing
+abbrev pub OpensDescriptor : Outcome → ℕ → Volume → Descriptors → Result Opening Errno → Type 0
+OpensDescriptor outcome inodes v table (Err errno) = outcome (Refused errno) (tree_with table v) nothing
+OpensDescriptor outcome inodes v table (Ok o) = OpensDescriptorOver outcome inodes v table o o.changing

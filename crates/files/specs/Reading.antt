@@ -3,7 +3,7 @@ use Rattle.std.specs.Prelude.{ℕ, ◌≡◌, ◌⊎◌, Bool, not, List, [], �
 use Rattle.model.specs.Edits.{read_at}
 use Rattle.model.specs.Paths.{Tests, first_refusal}
 use Rattle.model.specs.Trees.{Description}
-use Rattle.model.specs.Volumes.{IsMounted, Volume, bytes_of}
+use Rattle.model.specs.Volumes.{IsMounted, Volume, bytes_of_node}
 use Rattle.model.specs.declared.errno.Errno.{Errno}
 use Rattle.model.specs.declared.errno.Errno.TheVariants.{EBADF, EINVAL}
 use Rattle.blocktree.specs.Errors.{IsFault}
@@ -35,7 +35,7 @@ PassesOpen tests table fd (Err errno) =
 
 -- so many bytes of the file n from an offset on, as far as there are any
 abbrev pub ReadsFile : Volume → ℕ → ℕ → ℕ → Result (List ℕ) Errno → Type 0
-ReadsFile v n offset count (Ok bytes) = bytes ≡ read_at offset count (unwrap_or (bytes_of (v n)) [])
+ReadsFile v n offset count (Ok bytes) = bytes ≡ read_at offset count (unwrap_or (bytes_of_node (v n)) [])
 ReadsFile v n offset count (Err errno) = ⊥
 
 -- Nothing is done but looking, and offsets may move in the table; after an error or a refusal none has moved. A call is answered so on

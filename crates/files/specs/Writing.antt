@@ -45,7 +45,7 @@ abbrev pub IsWrite : Descriptors → ℕ → List ℕ → Option Writing → Typ
 IsWrite table fd bytes o = IfSome o (λ _. (1 ≤ length bytes) × (length bytes ≤ TRANSFER_BYTES) × IsSome (table_of table fd))
 
 -- bytes go to an open file, at an offset, and this place is behind them
-pub record IsWritten (f : OpenFile) (offset : ℕ) (bytes : List ℕ) (w : Written) : Type 0 where
+pub record IsBehindWritten (f : OpenFile) (offset : ℕ) (bytes : List ℕ) (w : Written) : Type 0 where
   pub number_is : w.number ≡ f.number
   pub offset_is : w.offset ≡ offset
   pub behind_is : w.behind ≡ offset + length bytes
@@ -55,13 +55,13 @@ abbrev pub PutsFile : ℕ → Volume → (ℕ → Option Description) → OpenFi
 PutsFile inodes v table f offset bytes (Err errno) = PutsBytes inodes v table f.number offset bytes (Err errno)
 PutsFile inodes v table f offset bytes (Ok None) = PutsBytes inodes v table f.number offset bytes (Ok None)
 PutsFile inodes v table f offset bytes (Ok (Some w)) =
-    IsWritten f offset bytes w.written × PutsBytes inodes v table f.number offset bytes (Ok (Some w.prepared))
+    IsBehindWritten f offset bytes w.written × PutsBytes inodes v table f.number offset bytes (Ok (Some w.prepared))
 
 -- what a write comes to: a refusal, nothing where there are no bytes, or what its record does, with these descriptors then
-abbrev pub Writes : Outcome → ℕ → Volume → Descriptors → List ℕ → (Written → ℕ → Option Description) → Result (Option Writing) Errno → Type 0
-Writes outcome inodes v table bytes after (Err errno) = outcome (Refused errno) (tree_with table v) nothing
-Writes outcome inodes v table bytes after (Ok None) = outcome (Wrote 0) (tree_with table v) nothing
-Writes outcome inodes v table bytes after (Ok (Some w)) =
+abbrev pub WritesFile : Outcome → ℕ → Volume → Descriptors → List ℕ → (Written → ℕ → Option Description) → Result (Option Writing) Errno → Type 0
+WritesFile outcome inodes v table bytes after (Err errno) = outcome (Refused errno) (tree_with table v) nothing
+WritesFile outcome inodes v table bytes after (Ok None) = outcome (Wrote 0) (tree_with table v) nothing
+WritesFile outcome inodes v table bytes after (Ok (Some w)) =
     GoesOver inodes v (table_of table) (write_of w.written bytes)
     × IsMounted (applied (write_of w.written bytes) v) (after w.written)
     × outcome (Wrote (length bytes)) (tree_of (applied (write_of w.written bytes) v) (after w.written)) (logs (work_of v (write_of w.written bytes)))

@@ -5,7 +5,7 @@ ghost use Rattle.model.specs.Descriptors.{open_tests, opens};
 ghost use Rattle.model.specs.Paths.{first_refusal};
 ghost use Rattle.calls.specs.Refusals.{is_path_refusal};
 ghost use Rattle.files.specs.Opened.{tree_with};
-ghost use Rattle.files.specs.Opening.{CanOpen, Opens, of_opening};
+ghost use Rattle.files.specs.Opening.{CanOpen, OpensDescriptor, of_opening};
 ghost use Rattle.files.specs.Preparing.{PreparesOpen};
 
 use crate::writing::is_writing;
@@ -46,7 +46,7 @@ pub fn prepare_open<B: Blocks>(
 ) -> Result<Opening, Failure>
     ensures { PreparesOpen of_opening (CanOpen table.now inodes.old.geometry.inodes) B.Blocks
         blocks.old blocks.new inodes.old inodes.new table.now
-        (λ v. Opens (opens inodes.old.geometry.inodes (tree_with table.now v) path.now flags mode)
+        (λ v. OpensDescriptor (opens inodes.old.geometry.inodes (tree_with table.now v) path.now flags mode)
         inodes.old.geometry.inodes v table.now) result }
 {
     let parts = Parts::of(alloc, path)?;

@@ -12,7 +12,7 @@ ghost use Rattle.descriptors.specs.Tables.{table_of};
 ghost use Rattle.files.specs.Opened.{tree_with};
 ghost use Rattle.files.specs.Preparing.{PreparesOpen, PreparesTold};
 ghost use Rattle.files.specs.Reading.{PassesOpen};
-ghost use Rattle.files.specs.Writing.{IsTransfer, IsWrite, PutsFile, Writes, moved_to, of_writing, write_place, write_tests};
+ghost use Rattle.files.specs.Writing.{IsTransfer, IsWrite, PutsFile, WritesFile, moved_to, of_writing, write_place, write_tests};
 
 use crate::{Writing, Written};
 use buffers::Blocks;
@@ -37,7 +37,7 @@ pub fn prepare_write<B: Blocks>(
 ) -> Result<Option<Writing>, Failure>
     ensures { PreparesOpen (of_writing bytes.now) (IsWrite table.now fd bytes.now) B.Blocks blocks.old
         blocks.new inodes.old inodes.new table.now
-        (λ v. Writes (writes (tree_with table.now v) fd bytes.now) inodes.old.geometry.inodes v
+        (λ v. WritesFile (writes (tree_with table.now v) fd bytes.now) inodes.old.geometry.inodes v
         table.now bytes.now (λ w. moved_to fd w.behind (table_of table.now))) result }
 {
     let file = file_to_write(table, fd, bytes.len() > TRANSFER_BYTES)?;
@@ -59,7 +59,7 @@ pub fn prepare_pwrite<B: Blocks>(
 ) -> Result<Option<Writing>, Failure>
     ensures { PreparesOpen (of_writing bytes.now) (IsWrite table.now fd bytes.now) B.Blocks blocks.old
         blocks.new inodes.old inodes.new table.now
-        (λ v. Writes (writes_to (tree_with table.now v) fd offset bytes.now)
+        (λ v. WritesFile (writes_to (tree_with table.now v) fd offset bytes.now)
         inodes.old.geometry.inodes v table.now bytes.now (λ _. table_of table.now)) result }
 {
     let file = file_to_write(table, fd, is_no_range(offset, bytes))?;

@@ -8,7 +8,7 @@ use Rattle.model.specs.States.{ForgetsOpenFiles}
 use Rattle.model.specs.Trees.{root_alone}
 use Rattle.model.specs.Volumes.{file_node, entries, enter, number_at, object_at, IsNode, IsVolume, tree_of}
 use Rattle.model.proofs.MountLemmas.{mounts_forget}
-pub use Rattle.images.specs.FirstRoots.{root_alone as alone}
+pub use Rattle.images.specs.FirstRoots.{root_alone_volume as alone}
 
 -- ---- what the directory's file holds
 

@@ -32,7 +32,7 @@ use Rattle.images.specs.BlockMap.{entry, roots}
 use Rattle.images.specs.Soundness.{IsSoundFile, IsSoundTree}
 use Rattle.images.specs.SnapshotSteps.{SnapshotStep, kept_after}
 use Rattle.images.specs.States.{IsSound, Holds, Opens, OpensBy}
-use Rattle.images.specs.Cuts.{Write, IsOfDisk, IsOutside, StaysOutside, AreFree, HasNewRoot, IsPointWith}
+use Rattle.images.specs.Cuts.{Write, IsOfDisk, IsOutsideWrites, StaysOutsideWrites, AreFree, HasRootWritten, IsPointWith}
 use Rattle.images.proofs.Frames.{frozen_none}
 use Rattle.images.proofs.PointLaws.{free_is_free, active_base, frozen_read}
 use Rattle.images.proofs.OverlayLaws.{held_up}
@@ -47,10 +47,10 @@ use Rattle.images.proofs.EmptyLaws.{no_bit}
 
 -- ---- before the root
 
-outside_free : (r : Root) (d : ℕ → List ℕ) (writes : List Write) (n : ℕ) → AreFree r d writes → entry (whole (blocks_of d) r).active (n / 8) ≢ 0 → IsOutside writes n
+outside_free : (r : Root) (d : ℕ → List ℕ) (writes : List Write) (n : ℕ) → AreFree r d writes → entry (whole (blocks_of d) r).active (n / 8) ≢ 0 → IsOutsideWrites writes n
 outside_free r d writes n free some = λ k w lt same. some (ap (entry (whole (blocks_of d) r).active) (sym same) ∙ free k w lt)
 
-pub open_as_before : (sectors : ℕ) (d e : ℕ → List ℕ) (nvram : List ℕ) (s : State) (writes : List Write) → (o : Opens sectors d nvram s) → AreFree o.root d writes → StaysOutside writes d e
+pub open_as_before : (sectors : ℕ) (d e : ℕ → List ℕ) (nvram : List ℕ) (s : State) (writes : List Write) → (o : Opens sectors d nvram s) → AreFree o.root d writes → StaysOutsideWrites writes d e
     → OpensBy sectors e nvram s o.changes
 open_as_before sectors d e nvram s writes o free stays =
     open_alike sectors d e nvram s o (λ n some. stays n (outside_free o.root d writes n free some))
@@ -131,11 +131,11 @@ low_slot : (r : Root) (d : ℕ → List ℕ) (sector : ℕ) → (sector ≡ SLOT
 low_slot r d sector (inl b) = omega (arith, b.0)
 low_slot r d sector (inr a) = omega (arith, a.0)
 
-module _ (sectors : ℕ) (d e : ℕ → List ℕ) (nvram : List ℕ) (s : State) (writes : List Write) (sector : ℕ) (new : Root) (v : Volume) (step : SnapshotStep) (o : Opens sectors d nvram s) (point : IsPointWith step o.root d writes sector new v) (has : HasNewRoot writes sector (root_bytes new) d e) where
+module _ (sectors : ℕ) (d e : ℕ → List ℕ) (nvram : List ℕ) (s : State) (writes : List Write) (sector : ℕ) (new : Root) (v : Volume) (step : SnapshotStep) (o : Opens sectors d nvram s) (point : IsPointWith step o.root d writes sector new v) (has : HasRootWritten writes sector (root_bytes new) d e) where
   old_root : IsRoot o.root
   old_root = newest_is_root o.root (d SLOT_A) (d SLOT_B) o.newest
 
-  needs_stay : Agrees (Needs o.root (whole (blocks_of d) o.root)) (blocks_of d) (blocks_of e)
+  pub needs_stay : Agrees (Needs o.root (whole (blocks_of d) o.root)) (blocks_of d) (blocks_of e)
   needs_stay b needs = same_block d e b (λ i lt.
       let behind = (needed_behind (blocks_of d) o.root old_root o.holds.sound b needs).0 in
       let low = low_slot o.root d sector point.slot in
@@ -145,9 +145,11 @@ module _ (sectors : ℕ) (d e : ℕ → List ℕ) (nvram : List ℕ) (s : State)
       (ap (entry (whole (blocks_of d) o.root).active) (sym block ∙ sym same) ∙ point.free k w within) needs)
       (λ same. absurd (omega (arith, same))))
 
+  pub written : All (λ w. blocks_of e w.place ≡ w.bytes) writes
+  written k w lt = sectors_block e (get_or writes k w).place (get_or writes k w).bytes (point.long k w lt) (has.holds k w lt)
+
   pub new_holds : Holds new (whole (blocks_of e) new) v (kept_after step o.first o.snapshots)
   new_holds =
-      let written : All (λ w. blocks_of e w.place ≡ w.bytes) writes = λ k w lt. sectors_block e (get_or writes k w).place (get_or writes k w).bytes (point.long k w lt) (has.holds k w lt) in
       let plans = point.plans (blocks_of e) written needs_stay in
       step_holds (blocks_of d) (blocks_of e) o.root new point.files o.first v o.snapshots old_root o.holds needs_stay plans.plan plans.sound
       point.later point.objects point.volume step point.possible point.snapshots (point.head (blocks_of e) written)

@@ -17,7 +17,7 @@ use Rattle.layout.specs.declared.pointer.Pointer.TheVariants.{Hole}
 use Rattle.layout.specs.declared.version.TheConstants.{VERSION}
 use Rattle.layout.proofs.PointerLaws.{no_block}
 use Rattle.layout.proofs.ZeroLaws.{zero_byte}
-use Rattle.images.specs.Nodes.{held, Names, IsOnce, body_block, file_block, place_at_height, pointers_of}
+use Rattle.images.specs.Nodes.{held, Names, body_block, file_block, place_at_height, pointers_of}
 use Rattle.images.specs.Roots.{free_inode, inode_part}
 use Rattle.images.specs.BlockMap.{HasBit}
 use Rattle.images.specs.FirstRoots.{empty_directory}
@@ -33,9 +33,6 @@ none_named d f level b names =
     no_block (place_at_height d f names.height names.index) b
     (ap (λ n. if nat_lt names.height n then place d (pointers_of f.body) (n - suc names.height) names.index else Hole) level
     ∙ sym (cond_above names.height 0 (place d (pointers_of f.body) (0 - suc names.height) names.index) Hole Hole (omega arith) refl)) names.is
-
-pub none_twice : (d : Blocks) (f : Inode) → level_of f.size ≡ 0 → IsOnce (held d f)
-none_twice d f level m i k j b here there = absurd (none_named d f level b (record { height = m; index = i; is = here }))
 
 pub inline_zero : (stored : List ℕ) (i k : ℕ) → slice_index (body_block (Inline (zeros 128)) stored i) k ≡ 0
 unfolding zeros

@@ -1,5 +1,5 @@
 -- A root of an image that has nothing but an empty root directory holds just that.
-use Rattle.std.proofs.Common.{◌≡◌, ◌≢◌, inl, inr, ◌↔◌, ℕ, zero, suc, ◌-◌, ◌*◌, ◌<◌, ◌≤◌, List, [], None, refl, ap, sym, subst, ◌∙◌, arith}
+use Rattle.std.proofs.Common.{◌≡◌, ◌≢◌, inl, inr, ◌↔◌, ℕ, zero, suc, ◌*◌, ◌<◌, ◌≤◌, List, [], None, refl, ap, sym, subst, ◌∙◌, arith}
 use Rattle.std.proofs.Math.Path.{fun_ext}
 use Rattle.std.proofs.lemmas.Bool.{cases_lt}
 use Rattle.std.proofs.lemmas.List.Elements.{All-nil}
@@ -17,10 +17,10 @@ use Rattle.layout.specs.declared.root.Root.{Root}
 use Rattle.layout.specs.declared.version.TheConstants.{VERSION}
 use Rattle.model.specs.States.{empty}
 use Rattle.images.specs.Nodes.{held, Names, IsOnce}
-use Rattle.images.specs.Roots.{HeldTree, Reach, free_inode, frozen_at, inode_of, slot, tree, whole}
+use Rattle.images.specs.Roots.{HeldTree, Reach, free_inode, frozen_at, inode_under, slot, tree, whole}
 use Rattle.images.specs.BlockMap.{HasBit, IsExact, IsSystem, NamesOnce, entry, roots, head}
-use Rattle.images.specs.Contents.{Content, HoldsVolume, StandsAs, contents}
-use Rattle.images.specs.FirstRoots.{IsFirst, empty_directory, first_inodes, first_tree, root_alone}
+use Rattle.images.specs.Contents.{Content, HoldsVolume, StandsAs, tree_contents}
+use Rattle.images.specs.FirstRoots.{IsFirst, empty_directory, first_inodes, first_tree, root_alone_volume}
 use Rattle.images.specs.Soundness.{FitsNumber, IsSoundFile, IsSoundTree, MapsNumbers}
 use Rattle.images.specs.States.{Holds, OpensBy}
 use Rattle.images.proofs.Frames.{frozen_none}
@@ -63,7 +63,7 @@ module _ (r : Root) (e : Blocks) (numbers map : Inode) (is : IsFirst r e numbers
   free_past (suc (suc (suc (suc n)))) past = refl
 
   tree_first : (n : ℕ) → tree e r.geometry.inodes r.inode_file n ≡ t n
-  unfolding tree inode_of held
+  unfolding tree inode_under held
   tree_first zero = refl
   tree_first (suc n) = elim (cases_lt (suc n) r.geometry.inodes) [
     | inl lt ↦
@@ -146,17 +146,17 @@ module _ (r : Root) (e : Blocks) (numbers map : Inode) (is : IsFirst r e numbers
   stands_as : (k : Kind) (c : Content) (kind_is : c.kind ≡ k) → StandsAs k r.geometry.inodes c None → StandsAs c.kind r.geometry.inodes c None
   stands_as k c kind_is stands = subst (λ x. StandsAs x r.geometry.inodes c None) (sym kind_is) stands
 
-  objects : HoldsVolume r.geometry.inodes (contents t) root_alone
+  objects : HoldsVolume r.geometry.inodes (tree_contents t) root_alone_volume
   unfolding held
-  objects zero = stands_as kinds.InodeFile (contents t 0) is.root.kind refl
-  objects (suc zero) = stands_as kinds.InodeMap (contents t 1) is.tree.numbers_kind refl
-  objects (suc (suc zero)) = stands_as kinds.BlockMap (contents t 2) is.tree.map_kind refl
+  objects zero = stands_as kinds.InodeFile (tree_contents t 0) is.root.kind refl
+  objects (suc zero) = stands_as kinds.InodeMap (tree_contents t 1) is.tree.numbers_kind refl
+  objects (suc (suc zero)) = stands_as kinds.BlockMap (tree_contents t 2) is.tree.map_kind refl
   objects (suc (suc (suc zero))) = (λ x. None, no_names r.geometry.inodes _, refl)
   objects (suc (suc (suc (suc n)))) = refl
 
   -- ---- all of it
 
-  pub first_holds : Holds r (whole e r) root_alone []
+  pub first_holds : Holds r (whole e r) root_alone_volume []
   first_holds = record {
     sound = record {
       active = subst (IsSoundTree r.geometry) (sym active_is) tree_sound;
@@ -164,7 +164,7 @@ module _ (r : Root) (e : Blocks) (numbers map : Inode) (is : IsFirst r e numbers
       snapshots = no_snapshots r (whole e r) is.slots;
       exact = exact;
     };
-    holds = subst (λ (u : HeldTree). HoldsVolume r.geometry.inodes (contents u) root_alone) (sym active_is) objects;
+    holds = subst (λ (u : HeldTree). HoldsVolume r.geometry.inodes (tree_contents u) root_alone_volume) (sym active_is) objects;
     volume = alone_volume r.geometry.inodes;
     kept = none_kept r (whole e r) is.slots;
   }
@@ -172,18 +172,18 @@ module _ (r : Root) (e : Blocks) (numbers map : Inode) (is : IsFirst r e numbers
 -- ---- the state
 
 pub first_opens : (sectors : ℕ) (disk : ℕ → List ℕ) (nvram : List ℕ) (r : Root) → IsNewest r (disk SLOT_A) (disk SLOT_B) → sectors ≡ 8 * r.geometry.blocks
-    → Holds r (whole (blocks_of disk) r) root_alone [] → LogHolds r.geometry.half r.generation nvram [] → OpensBy sectors disk nvram (empty r.geometry.inodes) []
+    → Holds r (whole (blocks_of disk) r) root_alone_volume [] → LogHolds r.geometry.half r.generation nvram [] → OpensBy sectors disk nvram (empty r.geometry.inodes) []
 first_opens sectors disk nvram r newest size holds log = record {
   opens = record {
     root = r;
     newest = newest;
     size = size;
-    first = root_alone;
+    first = root_alone_volume;
     snapshots = [];
     holds = holds;
     changes = [];
     log = record { are = All-nil IsChange; log = log };
-    last = root_alone;
+    last = root_alone_volume;
     replays = refl;
     state = record { tree = alone_forgets r.geometry.inodes; rest = refl };
   };

@@ -10,7 +10,7 @@ use Rattle.layout.specs.declared.pointer.Pointer.{Pointer}
 use Rattle.layout.specs.declared.pointer.Pointer.TheVariants.{Hole, Block}
 use Rattle.layout.specs.declared.root.Root.{Root}
 use Rattle.images.specs.Nodes.{held, Names, Agrees, pointers_of, place_at_height}
-use Rattle.images.specs.Roots.{tree, Reach, inode_of, free_inode, slot, frozen_inode_file, frozen_at, whole, Needs, active, frozen, head}
+use Rattle.images.specs.Roots.{tree, Reach, inode_under, free_inode, slot, frozen_inode_file, frozen_at, whole, Needs, active, frozen, head}
 use Rattle.layout.proofs.PointerLaws.{follow_same, pointed_same, hole_block}
 
 below : {A : Type 0} (k n : ℕ) (x y z : A) → (k < n → x ≡ y) → (if nat_lt k n then x else z) ≡ (if nat_lt k n then y else z)
@@ -48,12 +48,12 @@ held_same d e f same =
 
 -- the whole tree
 pub tree_same : (d e : Blocks) (inodes : ℕ) (top : Inode) → Agrees (Reach (tree d inodes top)) d e → tree e inodes top ≡ tree d inodes top
-unfolding tree inode_of held
+unfolding tree inode_under held
 tree_same d e inodes top same =
     let root_is : held e top ≡ held d top = held_same d e top (λ b names. same b (record { file = 0; names = names })) in
     fun_ext (λ n.
-    ap (λ h. held e (inode_of h inodes n)) root_is
-    ∙ held_same d e (inode_of (held d top) inodes n) (λ b names. same b (record { file = n; names = names })))
+    ap (λ h. held e (inode_under h inodes n)) root_is
+    ∙ held_same d e (inode_under (held d top) inodes n) (λ b names. same b (record { file = n; names = names })))
 
 -- ---- with its snapshots
 

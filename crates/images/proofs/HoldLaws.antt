@@ -14,9 +14,9 @@ use Rattle.model.specs.Paths.{Name}
 use Rattle.model.specs.Trees.{Tree}
 use Rattle.model.specs.Volumes.{Node, Volume, IsVolume}
 use Rattle.images.specs.Nodes.{Held, held, Agrees}
-use Rattle.images.specs.Roots.{HeldTree, Whole, whole, Needs, slot, inode_of}
+use Rattle.images.specs.Roots.{HeldTree, Whole, whole, Needs, slot, inode_under}
 use Rattle.images.specs.BlockMap.{NamesOnce}
-use Rattle.images.specs.Contents.{Content, StandsAs, HoldsVolume, contents}
+use Rattle.images.specs.Contents.{Content, StandsAs, HoldsVolume, tree_contents}
 use Rattle.images.specs.Soundness.{IsSoundFile, IsSoundTree, FitsNumber}
 use Rattle.images.specs.Snapshots.{HasSnapshot, AreSnapshots, IsFrozenTree, AreKept, AreKeptAbove}
 use Rattle.images.specs.States.{IsSound, Holds}
@@ -26,12 +26,12 @@ use Rattle.model.proofs.OptionLaws.{some_or_none}
 
 -- ---- the tree
 
-active_tree : (e : Blocks) (r : Root) (inode : ℕ → Inode) → ((n : ℕ) → inode_of (held e r.inode_file) r.geometry.inodes n ≡ inode n)
+pub active_tree : (e : Blocks) (r : Root) (inode : ℕ → Inode) → ((n : ℕ) → inode_under (held e r.inode_file) r.geometry.inodes n ≡ inode n)
     → (whole e r).active ≡ (λ n. held e (inode n))
 unfolding whole
 active_tree e r inode is = tree_is e r inode is
 
-sound_tree : (d e : Blocks) (r new : Root) (files : ℕ → Content) → IsRoot r → IsSound r (whole d r)
+pub sound_tree : (d e : Blocks) (r new : Root) (files : ℕ → Content) → IsRoot r → IsSound r (whole d r)
     → Agrees (Needs r (whole d r)) d e → (plan : IsPlannedOn (whole d r) (whole d r).active 0 r e new files)
     → IsSoundPlan r.geometry e plan.inode plan.changed → IsSoundTree r.geometry (λ n. held e (plan.inode n))
 unfolding held
@@ -115,10 +115,10 @@ own_stands inodes (suc zero) c o low fits none = subst (λ kind. StandsAs kind i
 own_stands inodes (suc (suc zero)) c o low fits none = subst (λ kind. StandsAs kind inodes c o) (sym fits) none
 own_stands inodes (suc (suc (suc n))) c o low fits none = absurd (omega arith)
 
-objects_held : (s : Sizes) (t : HeldTree) (files : ℕ → Content) (v : Volume) → IsSoundTree s t → ((n : ℕ) → 3 ≤ n → contents t n ≡ files n)
-    → HoldObjects s.inodes files v → IsVolume s.inodes v → HoldsVolume s.inodes (contents t) v
+objects_held : (s : Sizes) (t : HeldTree) (files : ℕ → Content) (v : Volume) → IsSoundTree s t → ((n : ℕ) → 3 ≤ n → tree_contents t n ≡ files n)
+    → HoldObjects s.inodes files v → IsVolume s.inodes v → HoldsVolume s.inodes (tree_contents t) v
 objects_held s t files v sound content objects volume n = elim (cases_lt n 3) [
-  | inl low ↦ own_stands s.inodes n (contents t n) (v n) low (sound.kinds n) (own_none s.inodes n v volume low)
+  | inl low ↦ own_stands s.inodes n (tree_contents t n) (v n) low (sound.kinds n) (own_none s.inodes n v volume low)
   | inr ordinary ↦ subst (λ (c : Content). StandsAs c.kind s.inodes c (v n)) (sym (content n ordinary)) (objects n ordinary)
 ]
 
@@ -144,7 +144,7 @@ point_with d e r new files first v snapshots root holds same plan good objects v
         snapshots = are;
         exact = settled.exact;
       };
-      holds = subst (λ (g : Sizes). HoldsVolume g.inodes (contents (whole e new).active) v) (sym plan.geometry)
+      holds = subst (λ (g : Sizes). HoldsVolume g.inodes (tree_contents (whole e new).active) v) (sym plan.geometry)
           (objects_held r.geometry (whole e new).active files v tree settled.content objects volume);
       volume = subst (λ (g : Sizes). IsVolume g.inodes v) (sym plan.geometry) volume;
       kept = kept;

@@ -3,11 +3,11 @@ use Rattle.std.proofs.Common.{◌≡◌, inl, inr, ℕ, zero, suc, true, false, 
 use Rattle.layout.specs.Places.{Blocks}
 use Rattle.layout.specs.declared.root.Root.{Root}
 use Rattle.images.specs.Nodes.{held}
-use Rattle.images.specs.Roots.{HeldTree, tree, inode_of, whole, slot}
+use Rattle.images.specs.Roots.{HeldTree, tree, inode_under, whole, slot}
 use Rattle.images.specs.BlockMap.{entry, IsSystem, roots, head}
-use Rattle.images.specs.Contents.{contents}
+use Rattle.images.specs.Contents.{tree_contents}
 use Rattle.images.specs.Points as point
-use Rattle.images.specs.Points.{Marks, IsPlannedOn, IsSoundPlan}
+use Rattle.images.specs.Points.{MarksPlane, IsPlannedOn, IsSoundPlan}
 use Rattle.images.specs.States.{IsSound}
 use Rattle.images.specs.Cuts.{PlansOn}
 
@@ -26,20 +26,20 @@ was_system : (r : Root) (g b : ℕ) → IsSystem (record r { generation = g }) b
 was_system r g b (roots low) = roots low
 was_system r g b (head k is) = head k (sym (slot_is r g k) ∙ is)
 
-no_marks : (t : HeldTree) → Marks (λ n. false) t 0 t (entry t) (entry t)
+no_marks : (t : HeldTree) → MarksPlane (λ n. false) t 0 t (entry t) (entry t)
 no_marks t b = (λ has. inl (has, λ n e. bad e), λ marked. elim marked [ inl kept ↦ kept.0 | inr comes ↦ bad comes.1 ])
 
-pub idle_plan : (d : Blocks) (r : Root) (g : ℕ) → IsSound r (whole d r) → PlansOn d r d (record r { generation = g }) (contents (whole d r).active)
+pub idle_plan : (d : Blocks) (r : Root) (g : ℕ) → IsSound r (whole d r) → PlansOn d r d (record r { generation = g }) (tree_contents (whole d r).active)
 unfolding whole tree held
 idle_plan d r g sound = record {
   plan = record {
-    inode = inode_of (held d r.inode_file) r.geometry.inodes;
+    inode = inode_under (held d r.inode_file) r.geometry.inodes;
     changed = λ n. false;
     taken = λ n b. false;
     inodes = λ n. refl;
     geometry = refl;
     content = λ n ordinary e. bad e;
-    comes = λ n b e. bad e;
+    moves = λ n m i b e. bad e;
     each = λ n e. bad e;
     stays = λ n e. refl;
     same = λ n ordinary e. refl;
@@ -56,5 +56,10 @@ idle_plan d r g sound = record {
     numbers = sound.active.numbers;
     inode_map = sound.active.inode_map;
     block_map = sound.active.block_map;
+  };
+  own = record {
+    heads = λ n k b new e. bad e;
+    map = λ k block b new names. absurd (new.1 (sym (slot_is r g k) ∙ new.0));
+    first = λ k block new. absurd (new.1 (sym (slot_is r g k) ∙ new.0));
   };
 }

@@ -8,22 +8,22 @@ use Rattle.layout.specs.Bytes.{zeros}
 use Rattle.images.specs.Nodes.{Held, file_block}
 use Rattle.images.specs.Roots.{inode_part, inode_bytes_at}
 use Rattle.images.specs.Overlays.{Overlay, overlaid_block, or_else}
-use Rattle.images.specs.InodeFiles.{put_at, with_inode}
+use Rattle.images.specs.InodeFiles.{spliced_at, with_inode}
 
 -- a part of a list after others were written over it: these, before them, behind them
-part-same : (size at : ℕ) (xs ys : List ℕ) → at + length ys ≤ length xs → size ≡ length ys → take size (drop at (put_at at ys xs)) ≡ ys
+part-same : (size at : ℕ) (xs ys : List ℕ) → at + length ys ≤ length xs → size ≡ length ys → take size (drop at (spliced_at at ys xs)) ≡ ys
 part-same size at xs ys fits is = same_lists _ _ (simp (length-take, length-drop, length-append) (omega arith)) (λ k d h. grind (arith, places))
 
-part-below : (size at from : ℕ) (xs ys : List ℕ) → at + length ys ≤ length xs → from + size ≤ at → take size (drop from (put_at at ys xs)) ≡ take size (drop from xs)
+part-below : (size at from : ℕ) (xs ys : List ℕ) → at + length ys ≤ length xs → from + size ≤ at → take size (drop from (spliced_at at ys xs)) ≡ take size (drop from xs)
 part-below size at from xs ys fits below = same_lists _ _ (simp (length-take, length-drop, length-append) (omega arith)) (λ k d h. grind (arith, places))
 
-part-past : (size at from : ℕ) (xs ys : List ℕ) → at + length ys ≤ length xs → at + length ys ≤ from → take size (drop from (put_at at ys xs)) ≡ take size (drop from xs)
+part-past : (size at from : ℕ) (xs ys : List ℕ) → at + length ys ≤ length xs → at + length ys ≤ from → take size (drop from (spliced_at at ys xs)) ≡ take size (drop from xs)
 part-past size at from xs ys fits past = same_lists _ _ (simp (length-take, length-drop, length-append) (omega arith)) (λ k d h. grind (arith, places))
 
-put_here : (s : ℕ) (bytes block : List ℕ) → length block ≡ 4096 → length bytes ≡ 192 → s < 21 → inode_part (put_at (192 * s) bytes block) s ≡ bytes
+put_here : (s : ℕ) (bytes block : List ℕ) → length block ≡ 4096 → length bytes ≡ 192 → s < 21 → inode_part (spliced_at (192 * s) bytes block) s ≡ bytes
 put_here s bytes block size long low = part-same 192 (192 * s) block bytes (omega arith) (omega arith)
 
-put_there : (s r : ℕ) (bytes block : List ℕ) → length block ≡ 4096 → length bytes ≡ 192 → s < 21 → r < 21 → r ≢ s → inode_part (put_at (192 * s) bytes block) r ≡ inode_part block r
+put_there : (s r : ℕ) (bytes block : List ℕ) → length block ≡ 4096 → length bytes ≡ 192 → s < 21 → r < 21 → r ≢ s → inode_part (spliced_at (192 * s) bytes block) r ≡ inode_part block r
 put_there s r bytes block size long low low_too other = elim (cases_lt r s) [
   | inl below ↦ part-below 192 (192 * s) (192 * r) block bytes (omega arith) (omega arith)
   | inr past ↦ part-past 192 (192 * s) (192 * r) block bytes (omega arith) (omega arith)
@@ -36,11 +36,11 @@ test_other : (i j : ℕ) → i ≢ j → (i == j) ≡ false
 test_other i j other = grind (arith, nat_tests)
 
 -- the block with it, and the others
-with_block : (h : Held) (c : Overlay) (n : ℕ) (bytes : List ℕ) (i : ℕ) → i ≡ n / 21 → overlaid_block h (with_inode h c n bytes) i ≡ put_at (192 * (n % 21)) bytes (overlaid_block h c i)
-with_block h c n bytes i is = ap (λ t. or_else (if t then Some (put_at (192 * (n % 21)) bytes (overlaid_block h c i)) else c.block i) (if nat_lt i c.kept then file_block h i else zeros 4096)) (test_same i (n / 21) is)
+with_block : (h : Held) (c : Overlay) (n : ℕ) (bytes : List ℕ) (i : ℕ) → i ≡ n / 21 → overlaid_block h (with_inode h c n bytes) i ≡ spliced_at (192 * (n % 21)) bytes (overlaid_block h c i)
+with_block h c n bytes i is = ap (λ t. or_else (if t then Some (spliced_at (192 * (n % 21)) bytes (overlaid_block h c i)) else c.block i) (if nat_lt i c.kept then file_block h i else zeros 4096)) (test_same i (n / 21) is)
 
 without_block : (h : Held) (c : Overlay) (n : ℕ) (bytes : List ℕ) (i : ℕ) → i ≢ n / 21 → overlaid_block h (with_inode h c n bytes) i ≡ overlaid_block h c i
-without_block h c n bytes i other = ap (λ t. or_else (if t then Some (put_at (192 * (n % 21)) bytes (overlaid_block h c i)) else c.block i) (if nat_lt i c.kept then file_block h i else zeros 4096)) (test_other i (n / 21) other)
+without_block h c n bytes i other = ap (λ t. or_else (if t then Some (spliced_at (192 * (n % 21)) bytes (overlaid_block h c i)) else c.block i) (if nat_lt i c.kept then file_block h i else zeros 4096)) (test_other i (n / 21) other)
 
 -- inode n is then these bytes, and each other as before
 pub with_here : (h : Held) (c : Overlay) (n : ℕ) (bytes : List ℕ) → length (overlaid_block h c (n / 21)) ≡ 4096 → length bytes ≡ 192
@@ -63,8 +63,8 @@ with_behind h c n i bytes size long = elim (cases_eq i (n / 21)) [
   | inr other ↦ ap (drop 4032) (without_block h c n bytes i other)
 ]
   where
-    behind : (at from : ℕ) (xs ys : List ℕ) → at + length ys ≤ length xs → at + length ys ≤ from → drop from (put_at at ys xs) ≡ drop from xs
+    behind : (at from : ℕ) (xs ys : List ℕ) → at + length ys ≤ length xs → at + length ys ≤ from → drop from (spliced_at at ys xs) ≡ drop from xs
     behind at from xs ys fits past = same_lists _ _ (simp (length-take, length-drop, length-append) (omega arith)) (λ k d h. grind (arith, places))
 
-    put_behind : (s : ℕ) (bytes block : List ℕ) → length block ≡ 4096 → length bytes ≡ 192 → s < 21 → drop 4032 (put_at (192 * s) bytes block) ≡ drop 4032 block
+    put_behind : (s : ℕ) (bytes block : List ℕ) → length block ≡ 4096 → length bytes ≡ 192 → s < 21 → drop 4032 (spliced_at (192 * s) bytes block) ≡ drop 4032 block
     put_behind s bytes block size long low = behind (192 * s) 4032 block bytes (omega arith) (omega arith)

@@ -1,3 +1,4 @@
+pub mod SumLaws
 pub mod KindLaws
 pub mod EmptyLaws
 mod Frames
@@ -16,4 +17,7 @@ pub mod FirstLaws
 mod SettlingLaws
 pub mod ReadingLaws
 mod CutLaws
+mod SpanLaws
+mod OwnLaws
+mod RoomLaws
 mod IdleLaws

@@ -74,9 +74,6 @@ module _ (e : Blocks) (old : Inode) (c : Overlay) (f : Inode) (taken : ℕ → B
         | inl lt ↦ (omega arith, sym (laid_place m i (omega arith)) ∙ there)
         | inr ge ↦ absurd (hole_block (cond_above m (level_of f.size) (place e (pointers_of f.body) (level_of f.size - suc m) i) Hole Hole ge refl ∙ there))
       ]
-    where
-      no_node : (b : ℕ) → Hole ≡ Block b → ⊥
-      no_node b e = absurd (cc)
 
   laid_comes : (b : ℕ) → Names (held e f) b → Names (held e old) b ⊎ (taken b ≡ true)
   laid_comes b names =

@@ -10,26 +10,26 @@ use Rattle.layout.specs.declared.inode.Inode.{Inode}
 use Rattle.layout.specs.declared.pointer.Pointer.{Pointer}
 use Rattle.layout.specs.declared.pointer.Pointer.TheVariants.{Hole, Block}
 use Rattle.layout.specs.declared.root.Root.{Root}
-use Rattle.images.specs.Nodes.{held, Names, IsOnce, Agrees}
-use Rattle.images.specs.Roots.{HeldTree, tree, inode_of, Reach, whole, Needs, active, frozen, head, slot, frozen_inode_file, frozen_at}
-use Rattle.images.specs.BlockMap.{HasBit, entry, IsExact, IsApart, NamesOnce, IsSystem, head as system_head}
-use Rattle.images.specs.Contents.{Content, content_of, contents}
-use Rattle.images.specs.Points.{Marks, IsPlannedOn, IsSettled, IsBase, Slot, Frozen}
+use Rattle.images.specs.Nodes.{Held, held, Names, IsOnce, Agrees}
+use Rattle.images.specs.Roots.{HeldTree, tree, inode_under, Reach, whole, Needs, active, frozen, head, slot, frozen_inode_file, frozen_at}
+use Rattle.images.specs.BlockMap.{HasBit, entry, IsExact, HasFilesApart, NamesOnce, IsSystem, head as system_head}
+use Rattle.images.specs.Contents.{Content, content_of, tree_contents}
+use Rattle.images.specs.Points.{MarksPlane, IsPlannedOn, IsUnderNewRoot, IsBase, Slot, Frozen}
 use Rattle.images.specs.Points as point
 use Rattle.images.proofs.Frames.{held_same, tree_same, frozen_same, frozen_none}
 use Rattle.layout.proofs.PointerLaws.{pointed_same}
 use Rattle.images.proofs.EmptyLaws.{no_bit}
 
 -- the tree of the new root
-pub tree_is : (e : Blocks) (r : Root) (inode : ℕ → Inode) → ((n : ℕ) → inode_of (held e r.inode_file) r.geometry.inodes n ≡ inode n)
+pub tree_is : (e : Blocks) (r : Root) (inode : ℕ → Inode) → ((n : ℕ) → inode_under (held e r.inode_file) r.geometry.inodes n ≡ inode n)
     → tree e r.geometry.inodes r.inode_file ≡ (λ n. held e (inode n))
 unfolding tree
 tree_is e r inode is = fun_ext (λ n. ap (held e) (is n))
 
 -- the active plane
-active_exact : (changed : ℕ → Bool) (old : HeldTree) (plane : ℕ) (new : HeldTree) (before after : ℕ → ℕ) → IsApart old
+active_exact : (changed : ℕ → Bool) (old : HeldTree) (plane : ℕ) (new : HeldTree) (before after : ℕ → ℕ) → HasFilesApart old
     → ((n : ℕ) → changed n ≡ false → new n ≡ old n)
-    → Marks changed old plane new before after
+    → MarksPlane changed old plane new before after
     → ((b : ℕ) → HasBit plane (before b) ↔ Reach old b) → (b : ℕ) → HasBit 0 (after b) ↔ Reach new b
 active_exact changed old plane new before after apart stays marks exact b = (
   λ has. elim ((marks b).0 has) [
@@ -54,11 +54,11 @@ active_exact changed old plane new before after apart stays marks exact b = (
     ]
 
 -- the new tree's blocks belong to one file each
-stays_apart : (old new : HeldTree) (taken : ℕ → ℕ → Bool) → IsApart old
+stays_apart : (old new : HeldTree) (taken : ℕ → ℕ → Bool) → HasFilesApart old
     → ((n b : ℕ) → Names (new n) b → Names (old n) b ⊎ (taken n b ≡ true))
     → ((n b : ℕ) → taken n b ≡ true → Reach old b → ⊥)
     → ((n m b : ℕ) → taken n b ≡ true → taken m b ≡ true → n ≡ m)
-    → IsApart new
+    → HasFilesApart new
 stays_apart old new taken apart comes fresh once n m b here there =
     elim (comes n b here) [
       | inl was ↦ elim (comes m b there) [
@@ -115,7 +115,7 @@ frozen_takes d e r new k block same geometry there is =
     ∙ tree_same d e r.geometry.inodes r.inode_file (λ b names. same b (active names))
 
 -- one that is deleted
-frozen_drops : (e : Blocks) (new : Root) (k b : ℕ) → slot new k ≡ Hole → Reach ((whole e new).frozen k) b → ⊥
+pub frozen_drops : (e : Blocks) (new : Root) (k b : ℕ) → slot new k ≡ Hole → Reach ((whole e new).frozen k) b → ⊥
 unfolding whole
 frozen_drops e new k b none names = frozen_none e new.geometry.inodes b (subst (λ p. Reach (frozen_at e new.geometry.inodes p) b) none names)
 
@@ -137,7 +137,7 @@ slot_plane d e r new before after k same geometry zero_is k_is (point.Slot.drops
     (λ has. absurd (plane b has), λ names. absurd (frozen_drops e new k b none names))
 
 -- a slot past the last one is free
-no_slot : (r : Root) (k : ℕ) → IsRoot r → 20 < k → slot r k ≡ Hole
+pub no_slot : (r : Root) (k : ℕ) → IsRoot r → 20 < k → slot r k ≡ Hole
 no_slot r zero root past = absurd (omega arith)
 no_slot r (suc k) root past = get_or_past r.snapshots k Hole (omega (arith, root.slots))
 
@@ -152,18 +152,27 @@ free_is_free d r b root exact free (frozen (suc k) names) = elim (cases_eq (suc 
   | inr other ↦ no_bit (suc k) _ free ((exact.frozen b (suc k) (omega arith) other).1 names)
 ]
 
+-- each node of a file stands where it stood, or in a taken block
+pub moved : (d e : Blocks) (r new : Root) (t : HeldTree) (plane : ℕ) (files : ℕ → Content) → IsBase d r t plane → Agrees (Needs r (whole d r)) d e
+    → (plan : IsPlannedOn (whole d r) t plane r e new files) → (n m i b : ℕ) → (held e (plan.inode n)).place m i ≡ Block b
+    → ((t n).place m i ≡ Block b) ⊎ (plan.taken n b ≡ true)
+moved d e r new t plane files base same plan n m i b is = elim (cases_Bool (plan.changed n)) [
+  | inl yes_it ↦ plan.moves n m i b yes_it is
+  | inr no_it ↦ inl (subst (λ (h : Held). h.place m i ≡ Block b) (stays_held d e r t plane n (plan.inode n) base same (plan.stays n no_it)) is)
+]
+
 -- The point's theorem: on any disk that has the planned blocks and the old root's.
 pub point_stands : (d e : Blocks) (r new : Root) (t : HeldTree) (plane : ℕ) (files : ℕ → Content) → IsRoot r → IsExact r (whole d r) → IsBase d r t plane
-    → Agrees (Needs r (whole d r)) d e → IsPlannedOn (whole d r) t plane r e new files → IsSettled r new (whole d r) (whole e new) files
+    → Agrees (Needs r (whole d r)) d e → IsPlannedOn (whole d r) t plane r e new files → IsUnderNewRoot r new (whole d r) (whole e new) files
 unfolding whole
 point_stands d e r new t plane files root exact base same plan =
     let active_is : (whole e new).active ≡ (λ n. held e (plan.inode n)) = tree_is e new plan.inode plan.inodes in
     let after : ℕ → ℕ = entry (λ n. held e (plan.inode n)) in
     let after_is : (b : ℕ) → entry (whole e new).active b ≡ after b = λ b. ap (λ t. entry t b) active_is in
-    let apart : IsApart (λ n. held e (plan.inode n)) = stays_apart t _ plan.taken base.once.apart comes
+    let apart : HasFilesApart (λ n. held e (plan.inode n)) = stays_apart t _ plan.taken base.once.apart comes
     (λ n b came reach. free_is_free d r b root exact (plan.free n b came) (base.needed b reach)) plan.once in
     record {
-      content = λ n ordinary. ap (λ t. contents t n) active_is ∙ elim (cases_Bool (plan.changed n)) [
+      content = λ n ordinary. ap (λ t. tree_contents t n) active_is ∙ elim (cases_Bool (plan.changed n)) [
         | inl yes_it ↦ plan.content n ordinary yes_it
         | inr no_it ↦ ap content_of (stays n no_it) ∙ sym (plan.same n ordinary no_it)
       ];
@@ -182,9 +191,9 @@ point_stands d e r new t plane files root exact base same plan =
     stays n no_it = stays_held d e r t plane n (plan.inode n) base same (plan.stays n no_it)
 
     comes : (n b : ℕ) → Names (held e (plan.inode n)) b → Names (t n) b ⊎ (plan.taken n b ≡ true)
-    comes n b names = elim (cases_Bool (plan.changed n)) [
-      | inl yes_it ↦ plan.comes n b yes_it names
-      | inr no_it ↦ inl (subst (λ h. Names h b) (stays n no_it) names)
+    comes n b names = elim (moved d e r new t plane files base same plan n names.height names.index b names.is) [
+      | inl was ↦ inl (record { height = names.height; index = names.index; is = was })
+      | inr is ↦ inr is
     ]
 
     each : (n : ℕ) → IsOnce (held e (plan.inode n))

@@ -21,7 +21,7 @@ use Rattle.layout.specs.declared.version.TheConstants.{VERSION}
 use Rattle.layout.proofs.InodeLaws.{inode_again}
 use Rattle.layout.proofs.SnapshotLaws.{snapshot_again}
 use Rattle.images.specs.Nodes.{held, body_block, file_block, place_at_height, pointers_of}
-use Rattle.images.specs.Roots.{free_inode, or_free, inode_from, inode_bytes_at, inode_of, tree, frozen_inode_file, inode_file_or_free}
+use Rattle.images.specs.Roots.{free_inode, or_free, inode_from, inode_bytes_at, inode_under, tree, frozen_inode_file, inode_file_or_free}
 use Rattle.images.specs.Soundness.{nodes_at, IsSoundFile}
 use Rattle.images.proofs.OverlayLaws.{held_up}
 pub use Rattle.layout.proofs.SizeLaws.{level_one, level_two, used_one, used_two}
@@ -30,14 +30,14 @@ pub use Rattle.layout.proofs.SizeLaws.{level_one, level_two, used_one, used_two}
 
 pub read_spelled : (s : Sizes) (d : Blocks) (top i : Inode) (n : ℕ) → AreSizes s → 1 ≤ n → n < s.inodes → IsInode VERSION s i
     → inode_bytes_at (file_block (held d top)) n ≡ inode_bytes i → tree d s.inodes top n ≡ held d i
-unfolding tree inode_of inode_from
+unfolding tree inode_under inode_from
 read_spelled s d top i zero are some lt fits is = absurd (omega arith)
 read_spelled s d top i (suc n) are some lt fits is =
     ap (held d) (sym (cond_below (suc n) s.inodes (inode_from (inode_bytes_at (file_block (held d top)) (suc n))) free_inode lt)
     ∙ ap inode_from is ∙ ap or_free (inode_again i (record { sizes = s; are_sizes = are; fits = fits })))
 
 pub read_past : (d : Blocks) (inodes : ℕ) (top : Inode) (n : ℕ) → 1 ≤ n → inodes ≤ n → tree d inodes top n ≡ held d free_inode
-unfolding tree inode_of
+unfolding tree inode_under
 read_past d inodes top zero some ge = absurd (omega arith)
 read_past d inodes top (suc n) some ge = ap (held d) (sym (cond_above (suc n) inodes (inode_from (inode_bytes_at (file_block (held d top)) (suc n))) free_inode free_inode ge refl))
 

@@ -17,7 +17,7 @@ use Rattle.model.specs.States.{State, Forgets, going}
 use Rattle.model.specs.Trees.{Tree}
 use Rattle.model.specs.Volumes.{Volume, tree_of}
 use Rattle.images.specs.Roots.{HeldTree, Whole, whole}
-use Rattle.images.specs.Contents.{contents}
+use Rattle.images.specs.Contents.{tree_contents}
 use Rattle.images.specs.Snapshots.{HasSnapshot, AreSnapshots, IsFrozenTree, AreKeptAbove}
 use Rattle.images.specs.States.{Holds, LogHoldsChanges, Opens}
 use Rattle.images.proofs.VolumeLaws.{volume_once}
@@ -49,7 +49,7 @@ snapshot_once r w k l s q one other same = some_is s q (sym one.read ∙ ap (λ 
 
 frozen_once : (inodes : ℕ) (t : HeldTree) (tree other : Tree) → inodes ≤ 2 ^ 32 → IsFrozenTree inodes t tree → IsFrozenTree inodes t other → tree ≡ other
 frozen_once inodes t tree other limit one two =
-    one.3 ∙ ap (λ (v : Volume). tree_of (without_nameless v) (λ d. None)) (volume_once inodes (contents t) one.0 two.0 limit one.1 two.1) ∙ sym two.3
+    one.3 ∙ ap (λ (v : Volume). tree_of (without_nameless v) (λ d. None)) (volume_once inodes (tree_contents t) one.0 two.0 limit one.1 two.1) ∙ sym two.3
 
 -- a root has one list of snapshots
 kept_once : (r : Root) (w : Whole) (above : ℕ) (pairs others : List (Name × Tree)) → r.geometry.inodes ≤ 2 ^ 32 → AreSnapshots r w
@@ -90,7 +90,7 @@ opens_once sectors disk nvram s t one two =
     let changes : two.changes ≡ one.changes = changes_once two.changes one.changes log.are one.log.are
     (log_once r.geometry.half r.generation nvram _ _ log.log one.log.log) in
     let holds = subst (λ (r : Root). Holds r (whole (blocks_of disk) r) two.first two.snapshots) root two.holds in
-    let first : two.first ≡ one.first = volume_once r.geometry.inodes (contents w.active) two.first one.first limit holds.holds one.holds.holds in
+    let first : two.first ≡ one.first = volume_once r.geometry.inodes (tree_contents w.active) two.first one.first limit holds.holds one.holds.holds in
     let snapshots : two.snapshots ≡ one.snapshots = kept_once r w 0 two.snapshots one.snapshots limit one.holds.sound.snapshots holds.kept one.holds.kept in
     let replays = subst (λ (r : Root). Replays r.geometry.inodes two.first two.changes two.last) root two.replays in
     let last : two.last ≡ one.last = replays_once r.geometry.inodes one.first one.changes two.last one.last

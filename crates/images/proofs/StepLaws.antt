@@ -1,5 +1,5 @@
 -- A point that takes or deletes a snapshot leaves the others as they were.
-use Rattle.std.proofs.Common.{◌≡◌, ◌≢◌, ◌⊎◌, inl, inr, ℕ, None, ◌<◌, ◌≤◌, ◌+◌, true, not, List, [], ◌∷◌, ◌++◌, filter, Some, refl, ap, sym, subst, ◌∙◌, arith}
+use Rattle.std.proofs.Common.{◌≡◌, ◌≢◌, ◌⊎◌, inl, inr, ℕ, None, ◌<◌, ◌≤◌, true, not, List, [], ◌∷◌, ◌++◌, filter, Some, refl, ap, sym, subst, ◌∙◌, arith}
 use Rattle.std.specs.Prelude.{bytes_eq}
 use Rattle.std.proofs.lemmas.Bool.{cases_lt, cases_eq, cond-true, cond-false, cases_Bool}
 use Rattle.std.proofs.lemmas.Slice.Eq.{bytes_eq-Decides}
@@ -15,7 +15,7 @@ use Rattle.model.specs.Paths.{Name}
 use Rattle.model.specs.Trees.{Tree}
 use Rattle.model.specs.Records.{without_nameless}
 use Rattle.model.specs.Volumes.{Volume, IsVolume, tree_of}
-use Rattle.images.specs.Contents.{Content, HoldsVolume, contents}
+use Rattle.images.specs.Contents.{Content, HoldsVolume, tree_contents}
 use Rattle.images.specs.Nodes.{Agrees}
 use Rattle.images.specs.Points.{HoldObjects, IsPlannedOn, IsSoundPlan}
 use Rattle.images.specs.Roots.{HeldTree, Needs, Whole, frozen_inode_file, slot, whole}
@@ -259,8 +259,8 @@ module _ (d e : Blocks) (r new : Root) (files : ℕ → Content) (first v : Volu
       (snapshots ++ (s.name, tree_of (without_nameless first) (λ n. None)) ∷ [])
       (taken_kept r new (whole d r) (whole e new) k sets.others heads_stay plan.geometry later s can has (trees k sets.others) (tree_of (without_nameless first) (λ n. None)) (
         first,
-        subst (λ (t : HeldTree). HoldsVolume new.geometry.inodes (contents t) first) (sym tree_is)
-            (subst (λ (g : Sizes). HoldsVolume g.inodes (contents (whole d r).active) first) (sym plan.geometry) holds.holds),
+        subst (λ (t : HeldTree). HoldsVolume new.geometry.inodes (tree_contents t) first) (sym tree_is)
+            (subst (λ (g : Sizes). HoldsVolume g.inodes (tree_contents (whole d r).active) first) (sym plan.geometry) holds.holds),
         subst (λ (g : Sizes). IsVolume g.inodes first) (sym plan.geometry) holds.volume,
         refl,
       )

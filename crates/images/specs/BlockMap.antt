@@ -27,10 +27,10 @@ pub record IsExact (r : Root) (w : Whole) : Type 0 where
   pub system : (b : ℕ) → HasBit 31 (entry w.active b) ↔ IsSystem r b
 
 -- each block belongs to one file
-abbrev pub IsApart : HeldTree → Type 0
-IsApart t = (n m b : ℕ) → Names (t n) b → Names (t m) b → n ≡ m
+abbrev pub HasFilesApart : HeldTree → Type 0
+HasFilesApart t = (n m b : ℕ) → Names (t n) b → Names (t m) b → n ≡ m
 
 -- and to one node of it: no block is named twice
 pub record NamesOnce (t : HeldTree) : Type 0 where
-  pub apart : IsApart t
+  pub apart : HasFilesApart t
   pub each : (n : ℕ) → IsOnce (t n)

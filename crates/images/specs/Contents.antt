@@ -26,12 +26,12 @@ content_of h = record {
 }
 
 -- the content of each number
-abbrev pub contents : HeldTree → ℕ → Content
-contents t n = content_of (t n)
+abbrev pub tree_contents : HeldTree → ℕ → Content
+tree_contents t n = content_of (t n)
 
 -- the bytes of a file
-abbrev pub bytes_of : Content → List ℕ
-bytes_of c = first_bytes (byte_in c.block) c.size
+abbrev pub content_bytes : Content → List ℕ
+content_bytes c = first_bytes (byte_in c.block) c.size
 
 -- a directory in an image of so many inodes: its blocks of entries give its names
 abbrev pub IsDirectoryOf : ℕ → Content → NameMap → Type 0
@@ -40,10 +40,10 @@ IsDirectoryOf inodes c names = HoldNames inodes (c.size / BLOCK_BYTES) c.block n
 -- the object of this kind that a content stands for; the file system's own files are none
 abbrev pub StandsAs : Kind → ℕ → Content → Option Node → Type 0
 StandsAs kinds.Free inodes c o = o ≡ None
-StandsAs kinds.File inodes c o = o ≡ Some (file_node c.mode c.links (bytes_of c))
+StandsAs kinds.File inodes c o = o ≡ Some (file_node c.mode c.links (content_bytes c))
 StandsAs kinds.Directory inodes c o =
     (names : NameMap) × IsDirectoryOf inodes c names × (o ≡ Some (directory_node c.mode names))
-StandsAs kinds.Link inodes c o = o ≡ Some (link_node (bytes_of c))
+StandsAs kinds.Link inodes c o = o ≡ Some (link_node (content_bytes c))
 StandsAs kinds.InodeFile inodes c o = o ≡ None
 StandsAs kinds.InodeMap inodes c o = o ≡ None
 StandsAs kinds.BlockMap inodes c o = o ≡ None

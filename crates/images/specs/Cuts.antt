@@ -6,11 +6,12 @@ use Rattle.layout.specs.Root.{IsRoot}
 use Rattle.layout.specs.declared.TheConstants.{BLOCK_BYTES, SECTOR_BYTES, SLOT_A, SLOT_B}
 use Rattle.layout.specs.declared.root.Root.{Root}
 use Rattle.model.specs.Volumes.{Volume, IsVolume}
-use Rattle.images.specs.Nodes.{Agrees}
+use Rattle.images.specs.Nodes.{Agrees, held}
 use Rattle.images.specs.Roots.{whole, Needs}
 use Rattle.images.specs.BlockMap.{entry}
 use Rattle.images.specs.Contents.{Content}
 use Rattle.images.specs.Points.{IsPlannedOn, IsSoundPlan, HoldObjects}
+use Rattle.images.specs.Room.{StoresOwn, free_under}
 use Rattle.images.specs.SnapshotSteps.{SnapshotStep, CanStep, StepsSlots, HasHead}
 
 -- a block of a disk of so many, behind the two that hold the roots
@@ -23,12 +24,12 @@ pub record Write : Type 0 where
   pub bytes : List ℕ
 
 -- a sector of none of these blocks
-abbrev pub IsOutside : List Write → ℕ → Type 0
-IsOutside writes n = All (λ w. w.place ≢ n / 8) writes
+abbrev pub IsOutsideWrites : List Write → ℕ → Type 0
+IsOutsideWrites writes n = All (λ w. w.place ≢ n / 8) writes
 
 -- only sectors of these blocks differ from one disk to the other, whether they are written yet or not
-abbrev pub StaysOutside : List Write → (ℕ → List ℕ) → (ℕ → List ℕ) → Type 0
-StaysOutside writes d e = (n : ℕ) → IsOutside writes n → e n ≡ d n
+abbrev pub StaysOutsideWrites : List Write → (ℕ → List ℕ) → (ℕ → List ℕ) → Type 0
+StaysOutsideWrites writes d e = (n : ℕ) → IsOutsideWrites writes n → e n ≡ d n
 
 -- these blocks are free in the map that the disk has under a root
 abbrev pub AreFree : Root → (ℕ → List ℕ) → List Write → Type 0
@@ -40,8 +41,8 @@ HoldsWrite disk w =
     (i : ℕ) → i < 8 → disk (8 * w.place + i) ≡ take SECTOR_BYTES (drop (SECTOR_BYTES * i) w.bytes)
 
 -- all blocks are written, and this sector has a new root; the other sectors are as before
-pub record HasNewRoot (writes : List Write) (sector : ℕ) (root : List ℕ) (d e : ℕ → List ℕ) : Type 0 where
-  pub others : (n : ℕ) → IsOutside writes n → n ≢ sector → e n ≡ d n
+pub record HasRootWritten (writes : List Write) (sector : ℕ) (root : List ℕ) (d e : ℕ → List ℕ) : Type 0 where
+  pub others : (n : ℕ) → IsOutsideWrites writes n → n ≢ sector → e n ≡ d n
   pub holds : All (HoldsWrite e) writes
   pub root_is : e sector ≡ root
 
@@ -54,12 +55,20 @@ IsOtherSlot r d sector =
 pub record PlansOn (d : Blocks) (r : Root) (e : Blocks) (new : Root) (files : ℕ → Content) : Type 0 where
   pub plan : IsPlannedOn (whole d r) (whole d r).active 0 r e new files
   pub sound : IsSoundPlan r.geometry e plan.inode plan.changed
+  pub own : StoresOwn (λ n. held e (plan.inode n)) r new plan.taken
 
 -- and on each that has them
 abbrev pub Plans : Blocks → Root → List Write → Root → (ℕ → Content) → Type 0
 Plans d r writes new files =
     (e : Blocks) → All (λ w. e w.place ≡ w.bytes) writes → Agrees (Needs r (whole d r)) d e
     → PlansOn d r e new files
+
+-- on each disk that has the planned blocks, the new root leaves no fewer free than the old one, but for so many
+abbrev pub LeavesFree : ℕ → Root → Blocks → List Write → Root → Type 0
+LeavesFree spent r d writes new =
+    (e : Blocks) → All (λ w. e w.place ≡ w.bytes) writes → Agrees (Needs r (whole d r)) d e
+    → free_under (whole d r).active r.geometry.blocks
+    ≤ free_under (whole e new).active r.geometry.blocks + spent
 
 -- A consistency point over a disk with a root is planned, that leads to this volume: the blocks that it writes, and the new
 -- root with its sector. So is what it does with the snapshots.

@@ -16,7 +16,7 @@ use Rattle.model.specs.Volumes.{Volume, directory_node}
 use Rattle.images.specs.Nodes.{held, Names, IsOnce, file_block}
 use Rattle.images.specs.Roots.{HeldTree, Reach, free_inode, slot}
 use Rattle.images.specs.BlockMap.{HasBit, entry}
-use Rattle.images.specs.Contents.{content_of, bytes_of}
+use Rattle.images.specs.Contents.{content_of, content_bytes}
 use Rattle.images.specs.Soundness.{HasNoHole, IsSoundFile, SpellsInodes}
 
 -- an empty directory of mode 0755
@@ -36,12 +36,12 @@ abbrev pub first_tree : Blocks → Inode → Inode → Inode → HeldTree
 first_tree e top numbers map n = held e (first_inodes top numbers map n)
 
 -- number 3 is an empty directory of mode 0755, and nothing else is there
-abbrev pub root_alone : Volume
-root_alone zero = None
-root_alone (suc zero) = None
-root_alone (suc (suc zero)) = None
-root_alone (suc (suc (suc zero))) = Some (directory_node 0o755 (λ x. None))
-root_alone (suc (suc (suc (suc n)))) = None
+abbrev pub root_alone_volume : Volume
+root_alone_volume zero = None
+root_alone_volume (suc zero) = None
+root_alone_volume (suc (suc zero)) = None
+root_alone_volume (suc (suc (suc zero))) = Some (directory_node 0o755 (λ x. None))
+root_alone_volume (suc (suc (suc (suc n)))) = None
 
 -- What a disk e has under the inode of an inode file, where these are the inodes of the two maps: the file system's own three files in
 -- their grammar, and in the map of the blocks just those that they name.
@@ -50,7 +50,7 @@ pub record IsFirstTree (s : Sizes) (e : Blocks) (top numbers map : Inode) : Type
   pub map_kind : map.kind ≡ kinds.BlockMap
   pub files : (n : ℕ) → n < ROOT_NUMBER → IsSoundFile s (first_tree e top numbers map n)
   pub spelled : SpellsInodes s.inodes (file_block (held e top)) (first_tree e top numbers map)
-  pub taken : (n : ℕ) → IsTaken (bytes_of (content_of (held e numbers))) n ↔ (n < FIRST_NUMBER)
+  pub taken : (n : ℕ) → IsTaken (content_bytes (content_of (held e numbers))) n ↔ (n < FIRST_NUMBER)
   pub numbers_whole : HasNoHole (held e numbers)
   pub map_whole : HasNoHole (held e map)
   pub once : (n : ℕ) → n < ROOT_NUMBER → IsOnce (first_tree e top numbers map n)

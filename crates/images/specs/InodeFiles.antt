@@ -5,15 +5,15 @@ use Rattle.images.specs.Nodes.{Held}
 use Rattle.images.specs.Overlays.{Overlay, overlaid_block}
 
 -- a block with these bytes from one place on
-abbrev pub put_at : ℕ → List ℕ → List ℕ → List ℕ
-put_at at bytes block = take at block ++ (bytes ++ drop (at + length bytes) block)
+abbrev pub spliced_at : ℕ → List ℕ → List ℕ → List ℕ
+spliced_at at bytes block = take at block ++ (bytes ++ drop (at + length bytes) block)
 
 -- the changed inode file with these bytes for inode n
 abbrev pub with_inode : Held → Overlay → ℕ → List ℕ → Overlay
 with_inode h c n bytes = record c {
   block = λ i.
       if i == n / INODES_PER_BLOCK
-      then Some (put_at (INODE_BYTES * (n % INODES_PER_BLOCK)) bytes (overlaid_block h c i))
+      then Some (spliced_at (INODE_BYTES * (n % INODES_PER_BLOCK)) bytes (overlaid_block h c i))
       else c.block i;
 }
 

@@ -1,3 +1,4 @@
+pub mod Sums
 pub mod Nodes
 pub mod Roots
 pub mod BlockMap
@@ -9,5 +10,6 @@ pub mod Overlays
 pub mod InodeFiles
 pub mod Points
 pub mod SnapshotSteps
+pub mod Room
 pub mod Cuts
 pub mod FirstRoots

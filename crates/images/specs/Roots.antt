@@ -38,14 +38,14 @@ abbrev pub HeldTree : Type 0
 HeldTree = ℕ → Held
 
 -- inode n of so many, where this is the inode file
-unfoldable pub inode_of : Held → ℕ → ℕ → Inode
-inode_of h inodes zero = h.inode
-inode_of h inodes (suc n) =
+unfoldable pub inode_under : Held → ℕ → ℕ → Inode
+inode_under h inodes zero = h.inode
+inode_under h inodes (suc n) =
     if nat_lt (suc n) inodes then inode_from (inode_bytes_at (file_block h) (suc n)) else free_inode
 
 -- the tree of so many inodes under the inode of the inode file
 unfoldable pub tree : Blocks → ℕ → Inode → HeldTree
-tree disk inodes top n = held disk (inode_of (held disk top) inodes n)
+tree disk inodes top n = held disk (inode_under (held disk top) inodes n)
 
 -- the blocks that a tree names
 pub record Reach (t : HeldTree) (b : ℕ) : Type 0 where

@@ -10,7 +10,7 @@ use Rattle.model.specs.Records.{without_nameless}
 use Rattle.model.specs.Trees.{Tree}
 use Rattle.model.specs.Volumes.{Volume, IsVolume, tree_of}
 use Rattle.images.specs.Roots.{HeldTree, Whole, slot}
-use Rattle.images.specs.Contents.{HoldsVolume, contents}
+use Rattle.images.specs.Contents.{HoldsVolume, tree_contents}
 
 -- slot k has the root block of this snapshot
 pub record HasSnapshot (r : Root) (w : Whole) (k : ℕ) (s : Snapshot) : Type 0 where
@@ -43,7 +43,7 @@ pub record IsNext (r : Root) (w : Whole) (above k : ℕ) (s : Snapshot) : Type 0
 -- the tree of a snapshot: that of its volume, without the files that had no name
 abbrev pub IsFrozenTree : ℕ → HeldTree → Tree → Type 0
 IsFrozenTree inodes t tree =
-    (v : Volume) × HoldsVolume inodes (contents t) v × IsVolume inodes v
+    (v : Volume) × HoldsVolume inodes (tree_contents t) v × IsVolume inodes v
     × (tree ≡ tree_of (without_nameless v) (λ d. None))
 
 -- the names and trees of the snapshots with order numbers above this one, oldest first

@@ -16,7 +16,7 @@ use Rattle.layout.specs.declared.version.TheConstants.{VERSION}
 use Rattle.images.specs.Nodes.{Held, file_block}
 use Rattle.images.specs.Roots.{HeldTree, inode_bytes_at}
 use Rattle.images.specs.BlockMap.{NamesOnce}
-use Rattle.images.specs.Contents.{content_of, bytes_of}
+use Rattle.images.specs.Contents.{content_of, content_bytes}
 
 -- how many nodes a file of so many bytes has at a height
 unfoldable pub nodes_at : ℕ → ℕ → ℕ
@@ -63,7 +63,7 @@ pub record SpellsInodes (inodes : ℕ) (block : ℕ → List ℕ) (t : HeldTree)
 -- the inode map's file says which numbers are in use: the first four, and those of the inodes that aren't free
 abbrev pub MapsNumbers : HeldTree → Type 0
 MapsNumbers t =
-    (n : ℕ) → IsTaken (bytes_of (content_of (t 1))) n
+    (n : ℕ) → IsTaken (content_bytes (content_of (t 1))) n
     ↔ ((n < FIRST_NUMBER) ⊎ ((t n).inode.kind ≢ kinds.Free))
 
 -- a tree in its grammar, in an image of these sizes

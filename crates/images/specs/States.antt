@@ -14,7 +14,7 @@ use Rattle.model.specs.Trees.{Tree}
 use Rattle.model.specs.Volumes.{Volume, IsVolume, tree_of}
 use Rattle.images.specs.Roots.{Whole, whole, slot}
 use Rattle.images.specs.BlockMap.{IsExact, entry}
-use Rattle.images.specs.Contents.{HoldsVolume, contents}
+use Rattle.images.specs.Contents.{HoldsVolume, tree_contents}
 use Rattle.images.specs.Snapshots.{AreSnapshots, AreKept}
 use Rattle.images.specs.Soundness.{IsSoundTree}
 
@@ -29,7 +29,7 @@ pub record IsSound (r : Root) (w : Whole) : Type 0 where
 -- names and trees of its snapshots, oldest first.
 pub record Holds (r : Root) (w : Whole) (v : Volume) (snapshots : List (Name × Tree)) : Type 0 where
   pub sound : IsSound r w
-  pub holds : HoldsVolume r.geometry.inodes (contents w.active) v
+  pub holds : HoldsVolume r.geometry.inodes (tree_contents w.active) v
   pub volume : IsVolume r.geometry.inodes v
   pub kept : AreKept r w snapshots
 

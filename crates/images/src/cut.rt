@@ -1,6 +1,6 @@
 //! What a cut may leave of a consistency point.
 
-ghost use Rattle.std.specs.Prelude.{ℕ, ◌≡◌, List};
+ghost use Rattle.std.specs.Prelude.{ℕ, ◌≡◌, ◌+◌, ◌≤◌, List};
 ghost use Rattle.layout.specs.Opens.{IsNewest};
 ghost use Rattle.layout.specs.Places.{Blocks, blocks_of};
 ghost use Rattle.layout.specs.Root.{IsRoot, root_bytes};
@@ -9,8 +9,9 @@ ghost use Rattle.layout.specs.declared.root.Root.{Root};
 ghost use Rattle.model.specs.Records.{Change, Replays, without_nameless};
 ghost use Rattle.model.specs.States.{State, with_snapshots};
 ghost use Rattle.model.specs.Volumes.{Volume};
-ghost use Rattle.images.specs.Cuts.{AreFree, HasNewRoot, IsOfDisk, IsPointWith, PlansOn, StaysOutside, Write};
-ghost use Rattle.images.specs.Contents.{contents};
+ghost use Rattle.images.specs.Cuts.{AreFree, HasRootWritten, IsOfDisk, IsPointWith, LeavesFree, PlansOn, StaysOutsideWrites, Write};
+ghost use Rattle.images.specs.Contents.{tree_contents};
+ghost use Rattle.images.specs.Room.{KeepsOwn, free_under};
 ghost use Rattle.images.specs.Roots.{Needs, whole};
 ghost use Rattle.images.specs.SnapshotSteps.{SnapshotStep, kept_after};
 ghost use Rattle.images.specs.States.{Holds, IsSound, LogHoldsChanges, Opens, OpensBy};
@@ -25,22 +26,37 @@ pub fn needed_blocks_are_of_the_disk()
 /// nothing.
 pub fn unfinished_points_open_as_before()
     ensures { (sectors : ℕ) (d e : ℕ → List ℕ) (nvram : List ℕ) (s : State) (writes : List Write)
-        → (o : Opens sectors d nvram s) → AreFree o.root d writes → StaysOutside writes d e
+        → (o : Opens sectors d nvram s) → AreFree o.root d writes → StaysOutsideWrites writes d e
         → OpensBy sectors e nvram s o.changes }
 {}
 
 /// Once its root is written, that is the newest one, and it holds the planned volume and the same snapshots, but for one that
-/// it takes or deletes. It does nothing.
+/// it takes or deletes. These share nothing that every point stores, and as many blocks are free as was planned. It does
+/// nothing.
 pub fn finished_points_hold()
     ensures newest { (sectors : ℕ) (d e : ℕ → List ℕ) (nvram : List ℕ) (s : State)
         (writes : List Write) (sector : ℕ) (new : Root) (v : Volume) (step : SnapshotStep)
         → (o : Opens sectors d nvram s) → IsPointWith step o.root d writes sector new v
-        → HasNewRoot writes sector (root_bytes new) d e → IsNewest new (e SLOT_A) (e SLOT_B) }
+        → HasRootWritten writes sector (root_bytes new) d e → IsNewest new (e SLOT_A) (e SLOT_B) }
     ensures holds { (sectors : ℕ) (d e : ℕ → List ℕ) (nvram : List ℕ) (s : State)
         (writes : List Write) (sector : ℕ) (new : Root) (v : Volume) (step : SnapshotStep)
         → (o : Opens sectors d nvram s) → IsPointWith step o.root d writes sector new v
-        → HasNewRoot writes sector (root_bytes new) d e
+        → HasRootWritten writes sector (root_bytes new) d e
         → Holds new (whole (blocks_of e) new) v (kept_after step o.first o.snapshots) }
+    ensures own { (sectors : ℕ) (d e : ℕ → List ℕ) (nvram : List ℕ) (s : State)
+        (writes : List Write) (sector : ℕ) (new : Root) (v : Volume) (step : SnapshotStep)
+        → (o : Opens sectors d nvram s) → IsPointWith step o.root d writes sector new v
+        → HasRootWritten writes sector (root_bytes new) d e
+        → KeepsOwn o.root (whole (blocks_of d) o.root)
+        → KeepsOwn new (whole (blocks_of e) new) }
+    ensures free { (sectors : ℕ) (d e : ℕ → List ℕ) (nvram : List ℕ) (s : State)
+        (writes : List Write) (sector : ℕ) (new : Root) (v : Volume) (step : SnapshotStep)
+        (spent : ℕ) → (o : Opens sectors d nvram s)
+        → IsPointWith step o.root d writes sector new v
+        → HasRootWritten writes sector (root_bytes new) d e
+        → LeavesFree spent o.root (blocks_of d) writes new
+        → free_under (whole (blocks_of d) o.root).active o.root.geometry.blocks
+        ≤ free_under (whole (blocks_of e) new).active o.root.geometry.blocks + spent }
 {}
 
 /// And where the records that the new root doesn't cover lead from the planned volume to what the old images came to, files
@@ -51,7 +67,7 @@ pub fn finished_points_open()
         (writes : List Write) (sector : ℕ) (new : Root) (v : Volume) (step : SnapshotStep)
         (rest : List Change) (last : Volume)
         → (o : Opens sectors d nvram s) → IsPointWith step o.root d writes sector new v
-        → HasNewRoot writes sector (root_bytes new) d e → LogHoldsChanges new nvram rest
+        → HasRootWritten writes sector (root_bytes new) d e → LogHoldsChanges new nvram rest
         → Replays o.root.geometry.inodes v rest last
         → without_nameless last ≡ without_nameless o.last
         → OpensBy sectors e nvram (with_snapshots (kept_after step o.first o.snapshots) s) rest }
@@ -60,5 +76,5 @@ pub fn finished_points_open()
 /// A point that changes nothing but the generation can be planned: what is asked of a plan can be met. It does nothing.
 pub fn nothing_can_be_planned()
     ensures { (d : Blocks) (r : Root) (generation : ℕ) → IsSound r (whole d r)
-        → PlansOn d r d (record r { generation = generation }) (contents (whole d r).active) }
+        → PlansOn d r d (record r { generation = generation }) (tree_contents (whole d r).active) }
 {}

@@ -8,7 +8,7 @@ ghost use Rattle.layout.specs.Places.{Blocks, blocks_of};
 ghost use Rattle.layout.specs.declared.TheConstants.{SLOT_A, SLOT_B};
 ghost use Rattle.layout.specs.declared.inode.Inode.{Inode};
 ghost use Rattle.layout.specs.declared.root.Root.{Root};
-ghost use Rattle.images.specs.FirstRoots.{IsFirst, root_alone};
+ghost use Rattle.images.specs.FirstRoots.{IsFirst, root_alone_volume};
 ghost use Rattle.images.specs.Nodes.{Names, held};
 ghost use Rattle.images.specs.Roots.{free_inode, whole};
 ghost use Rattle.images.specs.Soundness.{IsSoundFile};
@@ -18,7 +18,7 @@ ghost use Rattle.model.specs.States.{empty};
 /// A root whose image has nothing but an empty root directory holds that, and no snapshots. It does nothing.
 pub fn first_roots_hold()
     ensures { (r : Root) (e : Blocks) (numbers map : Inode) → IsFirst r e numbers map
-        → Holds r (whole e r) root_alone [] }
+        → Holds r (whole e r) root_alone_volume [] }
 {}
 
 /// A free inode is in the grammar and names no block: a file may be placed over it. It does nothing.
@@ -32,7 +32,7 @@ pub fn free_files_hold_nothing()
 pub fn first_images_open_to_the_empty_state()
     ensures { (sectors : ℕ) (disk : ℕ → List ℕ) (nvram : List ℕ) (r : Root)
         → IsNewest r (disk SLOT_A) (disk SLOT_B) → sectors ≡ 8 * r.geometry.blocks
-        → Holds r (whole (blocks_of disk) r) root_alone []
+        → Holds r (whole (blocks_of disk) r) root_alone_volume []
         → LogHolds r.geometry.half r.generation nvram []
         → OpensBy sectors disk nvram (empty r.geometry.inodes) [] }
 {}

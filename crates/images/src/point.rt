@@ -13,7 +13,7 @@ ghost use Rattle.images.specs.Roots.{HeldTree, Needs, whole};
 ghost use Rattle.images.specs.BlockMap.{IsExact, NamesOnce, entry};
 ghost use Rattle.images.specs.Contents.{Content, content_of};
 ghost use Rattle.images.specs.Overlays.{IsInline, LaysOut, Overlay, overlaid_content};
-ghost use Rattle.images.specs.Points.{HoldObjects, IsBase, IsPlannedOn, IsSettled};
+ghost use Rattle.images.specs.Points.{HoldObjects, IsBase, IsPlannedOn, IsUnderNewRoot};
 ghost use Rattle.images.specs.Points.{IsSoundPlan};
 ghost use Rattle.images.specs.SnapshotSteps.{CanStep, HasHead, SnapshotStep, StepsSlots, kept_after};
 ghost use Rattle.images.specs.States.{Holds};
@@ -58,7 +58,7 @@ pub fn planned_points_settle()
     ensures { (d e : Blocks) (r new : Root) (t : HeldTree) (plane : ℕ) (files : ℕ → Content)
         → IsRoot r → IsExact r (whole d r) → IsBase d r t plane
         → Agrees (Needs r (whole d r)) d e → IsPlannedOn (whole d r) t plane r e new files
-        → IsSettled r new (whole d r) (whole e new) files }
+        → IsUnderNewRoot r new (whole d r) (whole e new) files }
 {}
 
 /// Where the old root held a volume, and what was planned of the active tree is in its grammar, the new root holds the planned

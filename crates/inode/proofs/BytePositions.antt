@@ -4,7 +4,7 @@ use Rattle.std.proofs.lemmas.Bool.{cases_lt}
 use Rattle.std.proofs.lemmas.Bool.Decides.{nat_tests}
 use Rattle.std.proofs.lemmas.List.{get_or_append_left, get_or-append_right, length-take, length-drop, get_or_past, get_or_default, length_push}
 use Rattle.layout.specs.Bytes.{zeros}
-use Rattle.buffers.specs.Positions.{written, laid, cut}
+use Rattle.buffers.specs.Positions.{with_bytes_at, laid, cut}
 use Rattle.blocktree.specs.Places.{block_count}
 use Rattle.layout.specs.FileBytes.{byte_in}
 use Rattle.inode.specs.Changes.{changed_block}
@@ -17,13 +17,13 @@ slice_index-zeros n k = zero_byte k n
 
 -- ---- what is written, by cases
 
-pub written_below : (f : ℕ → ℕ) (at : ℕ) (bytes : List ℕ) (p : ℕ) → p < at → written f at bytes p ≡ f p
+pub written_below : (f : ℕ → ℕ) (at : ℕ) (bytes : List ℕ) (p : ℕ) → p < at → with_bytes_at f at bytes p ≡ f p
 written_below f at bytes p lt = grind (arith, nat_tests)
 
-pub written_above : (f : ℕ → ℕ) (at : ℕ) (bytes : List ℕ) (p : ℕ) → at + length bytes ≤ p → written f at bytes p ≡ f p
+pub written_above : (f : ℕ → ℕ) (at : ℕ) (bytes : List ℕ) (p : ℕ) → at + length bytes ≤ p → with_bytes_at f at bytes p ≡ f p
 written_above f at bytes p le = grind (arith, nat_tests)
 
-pub written_in : (f : ℕ → ℕ) (at : ℕ) (bytes : List ℕ) (p : ℕ) → at ≤ p → p < at + length bytes → written f at bytes p ≡ slice_index bytes (p - at)
+pub written_in : (f : ℕ → ℕ) (at : ℕ) (bytes : List ℕ) (p : ℕ) → at ≤ p → p < at + length bytes → with_bytes_at f at bytes p ≡ slice_index bytes (p - at)
 written_in f at bytes p le lt = grind (arith, nat_tests)
 
 -- ---- positions in blocks
@@ -36,7 +36,7 @@ byte_in_block blocks i r lt =
 
 -- the part of a write that falls into one block
 pub written_piece : (f g : ℕ → ℕ) (offset : ℕ) (bytes part : List ℕ) (start from to r : ℕ) → from ≡ max offset start → to ≡ min (offset + length bytes) (start + 4096) → offset < start + 4096 → start < offset + length bytes
-    → part ≡ take (to - offset - (from - offset)) (drop (from - offset) bytes) → r < 4096 → (to - from ≢ 4096 → g r ≡ f (start + r)) → written g (from - start) part r ≡ written f offset bytes (start + r)
+    → part ≡ take (to - offset - (from - offset)) (drop (from - offset) bytes) → r < 4096 → (to - from ≢ 4096 → g r ≡ f (start + r)) → with_bytes_at g (from - start) part r ≡ with_bytes_at f offset bytes (start + r)
 written_piece f g offset bytes part start from to r from_is to_is below above part_is lt same =
     let len : length part ≡ to - from = ap length part_is ∙ omega (arith, length-take (to - offset - (from - offset)) (drop (from - offset) bytes), length-drop (from - offset) bytes) in
     elim (cases_lt (start + r) offset) [
@@ -88,8 +88,8 @@ changed_within blocks size first pieces p within = rw (below (p / 4096) (block_c
 pub write_laid : (blocks : ℕ → List ℕ) (old_size size offset : ℕ) (bytes : List ℕ) (first : ℕ) (pieces : List (List ℕ)) → first ≡ offset / 4096 → 0 < length bytes → size ≡ max old_size (offset + length bytes)
     → first + length pieces ≡ block_count (offset + length bytes)
     → ((p : ℕ) → old_size ≤ p → byte_in blocks p ≡ 0)
-    → ((j : ℕ) → j < length pieces → (r : ℕ) → r < 4096 → slice_index (get_or pieces j []) r ≡ written (byte_in blocks) offset bytes (4096 * (first + j) + r))
-    → (p : ℕ) → byte_in (changed_block blocks size first pieces) p ≡ written (byte_in blocks) offset bytes p
+    → ((j : ℕ) → j < length pieces → (r : ℕ) → r < 4096 → slice_index (get_or pieces j []) r ≡ with_bytes_at (byte_in blocks) offset bytes (4096 * (first + j) + r))
+    → (p : ℕ) → byte_in (changed_block blocks size first pieces) p ≡ with_bytes_at (byte_in blocks) offset bytes p
 write_laid blocks old_size size offset bytes first pieces first_is some size_is count zero_past pieces_are p =
     elim (cases_lt (p / 4096) (block_count size)) [
       | inr past ↦
@@ -102,7 +102,7 @@ write_laid blocks old_size size offset bytes first pieces first_is some size_is 
               let place : 4096 * (first + (p / 4096 - first)) + p % 4096 ≡ p = omega arith in
               ap (λ (b : List ℕ). slice_index b (p % 4096)) (laid_in blocks first pieces (p / 4096) [] reached here)
               ∙ pieces_are (p / 4096 - first) (omega arith) (p % 4096) (omega arith)
-              ∙ ap (written (byte_in blocks) offset bytes) place
+              ∙ ap (with_bytes_at (byte_in blocks) offset bytes) place
           | inr behind ↦
               ap (λ (b : List ℕ). slice_index b (p % 4096)) (laid_past blocks first pieces (p / 4096) behind) ∙ sym (written_above (byte_in blocks) offset bytes p (omega arith))
         ]
@@ -206,7 +206,7 @@ piece_more pieces more block first i f is at before here j lt r within =
           ∙ here r within ∙ ap (λ (n : ℕ). f (4096 * n + r)) place
     ]
 
-pub written_same : (f g : ℕ → ℕ) (at : ℕ) (bytes : List ℕ) (p : ℕ) → f p ≡ g p → written f at bytes p ≡ written g at bytes p
+pub written_same : (f g : ℕ → ℕ) (at : ℕ) (bytes : List ℕ) (p : ℕ) → f p ≡ g p → with_bytes_at f at bytes p ≡ with_bytes_at g at bytes p
 written_same f g at bytes p e = ap (λ (x : ℕ). if leb at p && ltb p (at + length bytes) then slice_index bytes (p - at) else x) e
 
 -- a fact of each index from one on, and of the next

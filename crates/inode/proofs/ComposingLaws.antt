@@ -3,7 +3,7 @@ use Rattle.std.proofs.Common.{◌≡◌, ℕ, ◌+◌, ◌-◌, ◌/◌, ◌%◌
 use Rattle.std.proofs.lemmas.Bool.{cases_lt}
 use Rattle.std.proofs.lemmas.Bool.Decides.{nat_tests}
 use Rattle.layout.specs.Bytes.{zeros}
-use Rattle.buffers.specs.Positions.{written, cut, laid}
+use Rattle.buffers.specs.Positions.{with_bytes_at, cut, laid}
 use Rattle.blocktree.specs.Places.{block_count}
 use Rattle.layout.specs.FileBytes.{EndsAt}
 use Rattle.inode.specs.Files.{file_block, byte_at, byte_with, IsSameFile, IsCommitted}
@@ -36,7 +36,7 @@ committed_byte disk old mid new w f same done with p =
     ∙ ap (λ (b : List ℕ). if ltb (p / 4096) (block_count w.size) then b else zeros 4096) (laid_same (file_block disk mid) (file_block disk old) w.first w.pieces.items (p / 4096) (same.blocks disk (p / 4096))))
     ∙ with p
 
-pub written_ends : (f g : ℕ → ℕ) (old size offset : ℕ) (bytes : List ℕ) → size ≡ max old (offset + length bytes) → EndsAt old f → ((p : ℕ) → g p ≡ written f offset bytes p) → EndsAt size g
+pub written_ends : (f g : ℕ → ℕ) (old size offset : ℕ) (bytes : List ℕ) → size ≡ max old (offset + length bytes) → EndsAt old f → ((p : ℕ) → g p ≡ with_bytes_at f offset bytes p) → EndsAt size g
 written_ends f g old size offset bytes is whole all p past = all p ∙ written_above f offset bytes p (omega arith) ∙ whole p (omega arith)
 
 pub cut_ends : (f g : ℕ → ℕ) (size : ℕ) → ((p : ℕ) → g p ≡ cut f size p) → EndsAt size g

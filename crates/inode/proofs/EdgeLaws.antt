@@ -5,7 +5,7 @@ use Rattle.std.proofs.lemmas.List.{get_or_append_left, get_or-append_right, get_
 use Rattle.std.proofs.lemmas.List.FromFn.{get_or-map-range_with_len, length-map-range_with_len, fill_by_all}
 use Rattle.layout.specs.Bytes.{zeros}
 use Rattle.layout.specs.FileBytes.{first_bytes}
-use Rattle.buffers.specs.Positions.{written, cut}
+use Rattle.buffers.specs.Positions.{with_bytes_at, cut}
 use Rattle.inode.specs.Edges.{filled, written_list}
 use Rattle.inode.proofs.BytePositions.{slice_index-zeros, written_below, written_above, written_in, cut_below}
 use Rattle.layout.proofs.ZeroLaws.{length-zeros}
@@ -44,7 +44,7 @@ length-written f size offset bytes =
     omega (arith, length-append (front f size offset) (bytes ++ behind f size (offset + length bytes)), length-append bytes (behind f size (offset + length bytes)), length-drop (offset + length bytes) (first_bytes f size), length-first_bytes f size, length-filled f size offset)
 
 written_byte : (f : ℕ → ℕ) (size offset : ℕ) (bytes : List ℕ) → ((p : ℕ) → size ≤ p → f p ≡ 0) → (k : ℕ) → k < max size (offset + length bytes)
-    → slice_index (front f size offset ++ (bytes ++ behind f size (offset + length bytes))) k ≡ written f offset bytes k
+    → slice_index (front f size offset ++ (bytes ++ behind f size (offset + length bytes))) k ≡ with_bytes_at f offset bytes k
 written_byte f size offset bytes zero_past k lt =
     elim (cases_lt k offset) [
       | inl below ↦ get_or_append_left (front f size offset) (bytes ++ behind f size (offset + length bytes)) 0 k (omega (arith, length-filled f size offset)) ∙ filled_byte f size offset k zero_past below ∙ sym (written_below f offset bytes k below)
@@ -62,9 +62,9 @@ written_byte f size offset bytes zero_past k lt =
 
 -- a write gives the first bytes, filled up with zeros, then what is written, then what stood behind
 write_gives : (f : ℕ → ℕ) (size offset : ℕ) (bytes : List ℕ) → ((p : ℕ) → size ≤ p → f p ≡ 0)
-    → first_bytes (written f offset bytes) (max size (offset + length bytes)) ≡ (take offset (first_bytes f size) ++ zeros (offset - size)) ++ (bytes ++ drop (offset + length bytes) (first_bytes f size))
+    → first_bytes (with_bytes_at f offset bytes) (max size (offset + length bytes)) ≡ (take offset (first_bytes f size) ++ zeros (offset - size)) ++ (bytes ++ drop (offset + length bytes) (first_bytes f size))
 write_gives f size offset bytes zero_past =
-    sym (fill_by_all (written f offset bytes) (front f size offset ++ (bytes ++ behind f size (offset + length bytes))) (max size (offset + length bytes)) 0 (length-written f size offset bytes) (written_byte f size offset bytes zero_past))
+    sym (fill_by_all (with_bytes_at f offset bytes) (front f size offset ++ (bytes ++ behind f size (offset + length bytes))) (max size (offset + length bytes)) 0 (length-written f size offset bytes) (written_byte f size offset bytes zero_past))
 
 same_first : (f g : ℕ → ℕ) (n : ℕ) → ((p : ℕ) → f p ≡ g p) → first_bytes f n ≡ first_bytes g n
 same_first f g n same = fill_by_all g (first_bytes f n) n 0 (length-first_bytes f n) (λ k lt. byte_of f n k lt ∙ same k)
@@ -74,17 +74,17 @@ pub list_of_cut : (f g : ℕ → ℕ) (old size : ℕ) → ((p : ℕ) → old �
 list_of_cut f g old size zero_past is = same_first g (cut f size) size is ∙ cut_gives f old size zero_past ∙ rw (length-first_bytes f old) refl
 
 -- the list of bytes after a write
-pub list_of_write : (f g : ℕ → ℕ) (old size offset : ℕ) (bytes : List ℕ) → size ≡ max old (offset + length bytes) → ((p : ℕ) → old ≤ p → f p ≡ 0) → ((p : ℕ) → g p ≡ written f offset bytes p)
+pub list_of_write : (f g : ℕ → ℕ) (old size offset : ℕ) (bytes : List ℕ) → size ≡ max old (offset + length bytes) → ((p : ℕ) → old ≤ p → f p ≡ 0) → ((p : ℕ) → g p ≡ with_bytes_at f offset bytes p)
     → first_bytes g size ≡ written_list (first_bytes f old) offset bytes
 list_of_write f g old size offset bytes size_is zero_past is =
-    same_first g (written f offset bytes) size is ∙ ap (first_bytes (written f offset bytes)) size_is ∙ write_gives f old offset bytes zero_past ∙ rw (length-first_bytes f old) refl
+    same_first g (with_bytes_at f offset bytes) size is ∙ ap (first_bytes (with_bytes_at f offset bytes)) size_is ∙ write_gives f old offset bytes zero_past ∙ rw (length-first_bytes f old) refl
 
 -- lists are equal where their elements are
 pub same_bytes : (xs ys : List ℕ) (n : ℕ) → length xs ≡ n → length ys ≡ n → ((k : ℕ) → k < n → slice_index xs k ≡ slice_index ys k) → xs ≡ ys
 same_bytes xs ys n lx ly same = fill_by_all (slice_index ys) xs n 0 lx same ∙ sym (fill_by_all (slice_index ys) ys n 0 ly (λ k lt. refl))
 
 -- a block of zeros into which bytes were put
-pub filled_block : (block bytes : List ℕ) (n : ℕ) → length block ≡ n → length bytes ≤ n → ((k : ℕ) → slice_index block k ≡ written (slice_index (zeros n)) 0 bytes k) → block ≡ bytes ++ zeros (n - length bytes)
+pub filled_block : (block bytes : List ℕ) (n : ℕ) → length block ≡ n → length bytes ≤ n → ((k : ℕ) → slice_index block k ≡ with_bytes_at (slice_index (zeros n)) 0 bytes k) → block ≡ bytes ++ zeros (n - length bytes)
 filled_block block bytes n lb fits is =
     same_bytes block (bytes ++ zeros (n - length bytes)) n lb (omega (arith, length-append bytes (zeros (n - length bytes)), length-zeros (n - length bytes))) (λ k lt. is k ∙ elim (cases_lt k (length bytes)) [
       | inl within ↦ written_in (slice_index (zeros n)) 0 bytes k (omega arith) (omega arith) ∙ ap (slice_index bytes) (sub-zero k) ∙ sym (get_or_append_left bytes (zeros (n - length bytes)) 0 k within)
@@ -99,7 +99,7 @@ filled_short xs n le = ap (λ (b : List ℕ). b ++ zeros (n - length xs)) (take_
 
 -- block 0 of an inline body
 pub inline_block : (block bytes : List ℕ) (size kept : ℕ) → length block ≡ 4096 → length bytes ≡ 128 → kept ≡ min size 128
-    → ((k : ℕ) → slice_index block k ≡ written (slice_index (zeros 4096)) 0 (take kept bytes) k) → block ≡ filled 4096 (take size bytes)
+    → ((k : ℕ) → slice_index block k ≡ with_bytes_at (slice_index (zeros 4096)) 0 (take kept bytes) k) → block ≡ filled 4096 (take size bytes)
 inline_block block bytes size kept lb len is put =
     let part : take kept bytes ≡ take size bytes = ap (λ (n : ℕ). take n bytes) (is ∙ ap (min size) (sym len)) ∙ take_min size bytes in
     filled_block block (take kept bytes) 4096 lb (omega (arith, length-take kept bytes)) put

@@ -19,7 +19,7 @@ use Rattle.layout.specs.declared.inode.Inode.{Inode}
 use Rattle.layout.specs.declared.pointer.Pointer.{Pointer}
 use Rattle.layout.specs.declared.pointer.Pointer.TheVariants.{Hole, Block}
 use Rattle.layout.specs.declared.version.TheConstants.{VERSION}
-use Rattle.blocktree.specs.Places.{depth_of, IsNode, IsPath}
+use Rattle.blocktree.specs.Places.{depth_of, IsStoredNode, IsPath}
 use Rattle.blocktree.specs.Trees.{settled_block, AreSound}
 use Rattle.blocktree.specs.declared.tree.BlockTree.{BlockTree}
 use Rattle.images.specs.Nodes.{held, file_block, pointers_of, place_at_height}
@@ -114,14 +114,14 @@ module _ (s : Sizes) (disk : ℕ → List ℕ) (f : Inode) (ps : List Pointer) (
   fits = subst (λ (b : Body). FitsBody b s.blocks f.size) body sound.inode.body
 
   -- an indirect block that is stored
-  node_is : (m j : ℕ) (p : Pointer) → (held disk f).place (suc m) j ≡ p → IsNode s.blocks disk (nodes_at f.size m - 1024 * j) p
+  node_is : (m j : ℕ) (p : Pointer) → (held disk f).place (suc m) j ≡ p → IsStoredNode s.blocks disk (nodes_at f.size m - 1024 * j) p
   unfolding held
   node_is m j Hole is = tt
   node_is m j (Block b) is =
       let at : pointed disk (place_at_height disk f (suc m) j) ≡ disk b = ap (pointed disk) is in
       subst (λ bytes. IsIndirectBlock s.blocks (nodes_at f.size m - 1024 * j) bytes) at (sound.indirect m j b is)
 
-  over_is : (depth m i : ℕ) → level_of f.size ≡ suc (suc depth + m) → IsNode s.blocks disk (nodes_at f.size m - 1024 * (i / 1024)) (place disk ps depth (i / 1024))
+  over_is : (depth m i : ℕ) → level_of f.size ≡ suc (suc depth + m) → IsStoredNode s.blocks disk (nodes_at f.size m - 1024 * (i / 1024)) (place disk ps depth (i / 1024))
   over_is depth m i level = node_is m (i / 1024) (place disk ps depth (i / 1024)) (node_place disk f ps depth (suc m) (i / 1024) body (omega (arith, level)))
 
   pub path_is : (depth m i : ℕ) → level_of f.size ≡ suc (depth + m) → IsPath s.blocks disk ps depth (nodes_at f.size m) i
@@ -130,7 +130,7 @@ module _ (s : Sizes) (disk : ℕ → List ℕ) (f : Inode) (ps : List Pointer) (
   path_is (suc depth) m i level = (path_is depth (suc m) (i / 1024) (omega (arith, level)), over_is depth m i level)
 
   -- under an indirect block in its grammar
-  under : (m i : ℕ) (p : Pointer) → IsNode s.blocks disk (nodes_at f.size m - 1024 * (i / 1024)) p → nodes_at f.size m ≤ i → follow disk p (i % 1024) ≡ Hole
+  under : (m i : ℕ) (p : Pointer) → IsStoredNode s.blocks disk (nodes_at f.size m - 1024 * (i / 1024)) p → nodes_at f.size m ≤ i → follow disk p (i % 1024) ≡ Hole
   under m i Hole node past = refl
   under m i (Block b) node past = (node.within (i % 1024) (omega arith)).1 (omega (arith, past))
 

@@ -4,3 +4,4 @@ pub mod ComposingLaws
 pub mod PutLaws
 pub mod BaseLaws
 pub mod HeldLaws
+pub mod RoomLaws

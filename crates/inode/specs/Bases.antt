@@ -21,7 +21,7 @@ StartsFrom (Pointers pointers) size t = HasPointers pointers size t × (t.kept �
 
 -- no block is changed after loading, but the one that an inline body became
 abbrev pub StartsUnchanged : Body → BlockTree → Type 0
-StartsUnchanged (Inline bytes) t = Unit {0}
+StartsUnchanged (Inline bytes) t = (i : ℕ) → IsChanged t i → i ≡ 0
 StartsUnchanged (Pointers pointers) t = (i : ℕ) → IsChanged t i → ⊥
 
 -- The settled blocks of a tree are those that this inode names, or it has none.

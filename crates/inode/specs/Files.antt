@@ -28,8 +28,8 @@ abbrev pub IsFile : (ℕ → List ℕ) → File → Type 0
 IsFile disk f = EndsAt f.size (byte_at disk f)
 
 -- the bytes of a file
-abbrev pub bytes_of : (ℕ → List ℕ) → File → List ℕ
-bytes_of disk f = first_bytes (byte_at disk f) f.size
+abbrev pub bytes_of_file : (ℕ → List ℕ) → File → List ℕ
+bytes_of_file disk f = first_bytes (byte_at disk f) f.size
 
 -- block i of a file as if a change were in force
 abbrev pub block_with : (ℕ → List ℕ) → File → Change → ℕ → List ℕ

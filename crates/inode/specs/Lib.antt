@@ -4,3 +4,4 @@ pub mod Bodies
 pub mod Bases
 pub mod Edges
 pub mod Files
+pub mod Room

@@ -2,9 +2,10 @@
 
 ghost use Rattle.std.specs.Prelude.{◌≡◌, ◌≢◌, ◌⊎◌, ℕ, ◌+◌, ◌*◌, ◌<◌, ◌≤◌, ◌/◌, ◌%◌, List, length, slice_index, OnOk, OnErr, IsErrOf, IsFalse, IsTrue, IfOk, max};
 ghost use Rattle.layout.specs.Version.{greatest_size};
+ghost use Rattle.layout.specs.declared.TheConstants.{INLINE_BYTES};
 ghost use Rattle.buffers.specs.Reads.{ReadsBlocks};
 ghost use Rattle.blocktree.specs.Errors.{IsFault};
-ghost use Rattle.buffers.specs.Positions.{written, cut};
+ghost use Rattle.buffers.specs.Positions.{with_bytes_at, cut};
 ghost use Rattle.blocktree.specs.Places.{block_count};
 ghost use Rattle.inode.specs.Errors.{IsChangeFault};
 
@@ -27,6 +28,7 @@ fn block_count(size: u64) -> u32
 fn keeps_last_block(old: u64, new: u64) -> bool
     ensures whole { IsTrue result → (old ≤ new) ⊎ (new % 4096 ≡ 0) }
     ensures within { IsFalse result → new % 4096 ≢ 0 }
+    ensures level { IsFalse result → (new < old) ⊎ (new ≤ INLINE_BYTES) }
 {
     if new % 4096 == 0 {
         return true;
@@ -40,7 +42,8 @@ impl File {
     ghost use Rattle.blocktree.specs.Trees.{HasRoom, IsChanged, KeepsRoom, IsSoundAt, KeepsSound, SameSettled};
     ghost use Rattle.inode.specs.Bases.{KeepsBase};
     ghost use Rattle.inode.specs.Edges.{filled, written_list, IsPartlyWritten, CutsBlock};
-    ghost use Rattle.inode.specs.Files.{file_block, byte_at, byte_with, bytes_of, bytes_with, IsFile, IsSameFile, Fits, IsCommitted};
+    ghost use Rattle.inode.specs.Room.{StoresMore, size_room, write_room};
+    ghost use Rattle.inode.specs.Files.{file_block, byte_at, byte_with, bytes_of_file, bytes_with, IsFile, IsSameFile, Fits, IsCommitted};
 
     /// Makes room for a change of block `i`. Nothing changes by it.
     pub fn make_room(&mut self, i: u32) -> Result<(), AllocError>
@@ -115,11 +118,13 @@ impl File {
         ensures fits { IfOk result (λ w. Fits self.new.tree w) }
         ensures bytes { (disk : ℕ → List ℕ) → B.Shows blocks.old disk → IsFile disk self.old
             → IfOk result (λ w. (p : ℕ)
-            → byte_with disk self.old w p ≡ written (byte_at disk self.old) offset bytes.now p) }
+            → byte_with disk self.old w p ≡ with_bytes_at (byte_at disk self.old) offset bytes.now p) }
         ensures list { (disk : ℕ → List ℕ) → B.Shows blocks.old disk → IsFile disk self.old
             → IfOk result
             (λ w. bytes_with disk self.old w
-            ≡ written_list (bytes_of disk self.old) offset bytes.now) }
+            ≡ written_list (bytes_of_file disk self.old) offset bytes.now) }
+        ensures stores { IfOk result
+            (λ w. StoresMore self.new w (write_room self.old.size offset (length bytes.now))) }
     {
         if offset > greatest_size(VERSION) || bytes.len() as u64 > greatest_size(VERSION) - offset {
             return Err(ChangeError::TooBig);
@@ -163,7 +168,7 @@ impl File {
         ensures sound { KeepsSound self.old.tree self.new.tree }
         ensures bytes { (disk : ℕ → List ℕ) → B.Shows blocks.old disk
             → IfOk result (λ b. (r : ℕ) → r < 4096
-            → slice_index b r ≡ written (byte_at disk self.old) offset bytes.now (4096 * i + r)) }
+            → slice_index b r ≡ with_bytes_at (byte_at disk self.old) offset bytes.now (4096 * i + r)) }
     {
         let start = 4096 * u64::from(i);
         let from = offset.max(start);
@@ -245,7 +250,8 @@ impl File {
             → IfOk result (λ w. (p : ℕ)
             → byte_with disk self.old w p ≡ cut (byte_at disk self.old) size p) }
         ensures list { (disk : ℕ → List ℕ) → B.Shows blocks.old disk → IsFile disk self.old
-            → IfOk result (λ w. bytes_with disk self.old w ≡ filled size (bytes_of disk self.old)) }
+            → IfOk result (λ w. bytes_with disk self.old w ≡ filled size (bytes_of_file disk self.old)) }
+        ensures stores { IfOk result (λ w. StoresMore self.new w (size_room self.old.size size)) }
     {
         if size > greatest_size(VERSION) {
             return Err(ChangeError::TooBig);
@@ -313,7 +319,7 @@ impl File {
             → OnOk result (IsFile disk self.new) }
         ensures list { (disk : ℕ → List ℕ) → B.Shows blocks.old disk → IsFile disk self.old
             → OnOk result
-            (bytes_of disk self.new ≡ written_list (bytes_of disk self.old) offset bytes.now) }
+            (bytes_of_file disk self.new ≡ written_list (bytes_of_file disk self.old) offset bytes.now) }
     {
         let change = self.prepare_write(alloc, blocks, offset, bytes)?;
         self.commit(change);
@@ -335,7 +341,7 @@ impl File {
         ensures file { (disk : ℕ → List ℕ) → B.Shows blocks.old disk → IsFile disk self.old
             → OnOk result (IsFile disk self.new) }
         ensures list { (disk : ℕ → List ℕ) → B.Shows blocks.old disk → IsFile disk self.old
-            → OnOk result (bytes_of disk self.new ≡ filled size (bytes_of disk self.old)) }
+            → OnOk result (bytes_of_file disk self.new ≡ filled size (bytes_of_file disk self.old)) }
     {
         let change = self.prepare_cut(alloc, blocks, size)?;
         self.commit(change);

@@ -26,7 +26,7 @@ impl File {
     ghost use Rattle.layout.specs.Bytes.{zeros};
     ghost use Rattle.layout.specs.Limits.{Sizes};
     ghost use Rattle.layout.specs.declared.inode.Inode.{Inode};
-    ghost use Rattle.blocktree.specs.Trees.{IsChanged, IsSoundAt, IsAt, OnDisk};
+    ghost use Rattle.blocktree.specs.Trees.{IsChanged, IsSoundAt, IsAtLocation, OnDisk};
     ghost use Rattle.images.specs.Nodes.{held};
     ghost use Rattle.images.specs.Soundness.{IsSoundFile};
     ghost use Rattle.inode.specs.Bases.{IsBased, StartsFrom, StartsUnchanged};
@@ -88,7 +88,7 @@ impl File {
         ensures reads { ReadsBlocks B.Blocks IsFault blocks.old blocks.new result }
         ensures resident { IfOk result (λ l. OnDisk l (B.IsResident blocks.new)) }
         ensures found { (disk : ℕ → List ℕ) → B.Shows blocks.old disk
-            → IfOk result (IsAt disk self.now.tree i) }
+            → IfOk result (IsAtLocation disk self.now.tree i) }
         ensures sound { (disk : ℕ → List ℕ) → B.Shows blocks.old disk
             → OnOk result (IsSoundAt (B.count blocks.old) disk self.now.tree i) }
         ensures damaged { (disk : ℕ → List ℕ) → B.Shows blocks.old disk
@@ -106,7 +106,7 @@ impl File {
         location: Location,
     ) -> &'a [u8; BLOCK_BYTES]
         requires { OnDisk location (B.IsResident blocks.now) }
-        ensures { (disk : ℕ → List ℕ) → B.Shows blocks.now disk → IsAt disk self.now.tree i location
+        ensures { (disk : ℕ → List ℕ) → B.Shows blocks.now disk → IsAtLocation disk self.now.tree i location
             → result.now ≡ file_block disk self.now i }
     {
         self.tree.bytes(blocks, i, location)

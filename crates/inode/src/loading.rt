@@ -4,7 +4,7 @@ ghost use Rattle.std.specs.Prelude.{◌≡◌, ◌≤◌, ℕ, List, IfOk};
 ghost use Rattle.layout.specs.Version.{greatest_size};
 ghost use Rattle.layout.specs.declared.inode.Body.TheVariants.{Inline};
 ghost use Rattle.layout.specs.declared.version.TheConstants.{VERSION};
-ghost use Rattle.blocktree.specs.Trees.{tree_block};
+ghost use Rattle.blocktree.specs.Trees.{tree_block, IsChanged};
 ghost use Rattle.inode.specs.Bases.{StartsFrom, StartsUnchanged};
 ghost use Rattle.inode.specs.Bodies.{body_block};
 
@@ -36,6 +36,7 @@ fn inline_tree(
     ensures count { IfOk result (λ t. t.count ≡ 0) }
     ensures blocks { IfOk result (λ t. (disk : ℕ → List ℕ) (i : ℕ)
         → tree_block disk t i ≡ body_block disk (Inline bytes.now) size i) }
+    ensures first { IfOk result (λ t. (i : ℕ) → IsChanged t i → i ≡ 0) }
 {
     if size == 0 {
         return Ok(BlockTree::empty(alloc));
@@ -43,5 +44,8 @@ fn inline_tree(
     let length = size.min(INLINE_BYTES as u64) as usize;
     let mut block = Block::zeroed(alloc)?;
     block.put(0, &bytes[..length]);
-    BlockTree::of_block(alloc, block)
+    let mut tree = BlockTree::empty(alloc);
+    tree.make_room(0)?;
+    tree.set(0, block);
+    Ok(tree)
 }

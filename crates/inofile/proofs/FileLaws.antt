@@ -15,7 +15,7 @@ use Rattle.images.specs.Nodes.{held}
 use Rattle.images.specs.Roots.{free_inode}
 use Rattle.images.specs.Soundness.{FitsNumber}
 use Rattle.inode.specs.declared.object.Object.{Object}
-use Rattle.inofile.specs.Inodes.{or_free, slot_content, files_of, IsChangedSlot}
+use Rattle.inofile.specs.Inodes.{or_free_content, slot_content, files_of, IsChangedSlot}
 use Rattle.inofile.specs.Objects.{StandsFor, IsAsSettled, IsObjectOrNone}
 use Rattle.inofile.specs.Settled.{held_content, settled_content}
 use Rattle.inofile.specs.Volumes.{SlotStandsFor, IsVolumeOf, HasNoOwn}
@@ -33,10 +33,10 @@ free_or_not kinds.InodeFile = inr (λ e. (cc))
 free_or_not kinds.InodeMap = inr (λ e. (cc))
 free_or_not kinds.BlockMap = inr (λ e. (cc))
 
-settled_file : (disk : ℕ → List ℕ) (s : Sizes) (i : Inode) → IsInode VERSION s i → or_free disk (settled_content disk i) ≡ held_content disk i
+settled_file : (disk : ℕ → List ℕ) (s : Sizes) (i : Inode) → IsInode VERSION s i → or_free_content disk (settled_content disk i) ≡ held_content disk i
 settled_file disk s i is = elim (free_or_not i.kind) [
-  | inl free ↦ ap (or_free disk) (free_content disk i free) ∙ ap (held_content disk) (sym (free_is s i is free))
-  | inr used ↦ ap (or_free disk) (unless i.kind (held_content disk i) used)
+  | inl free ↦ ap (or_free_content disk) (free_content disk i free) ∙ ap (held_content disk) (sym (free_is s i is free))
+  | inr used ↦ ap (or_free_content disk) (unless i.kind (held_content disk i) used)
 ]
 
 none_stands : (disk : ℕ → List ℕ) (inodes : ℕ) (found : Option Node) → found ≡ None → StandsFor inodes (held_content disk free_inode) found
@@ -44,24 +44,24 @@ unfolding held
 none_stands disk inodes found none = none
 
 object_stands : (disk : ℕ → List ℕ) (inodes : ℕ) (settled : Inode) (object : Option Object) (below : Option Content) (found : Option Node) → IsObjectOrNone disk inodes settled object found
-    → StandsFor inodes (or_free disk (slot_content disk (Some (Changed object)) below)) found
+    → StandsFor inodes (or_free_content disk (slot_content disk (Some (Changed object)) below)) found
 object_stands disk inodes settled (Some o) below found is = is.stands
 object_stands disk inodes settled None below found is = none_stands disk inodes found is
 
 slot_stands : (disk : ℕ → List ℕ) (s : Sizes) (inodes : ℕ) (settled : Inode) (slot : Option Slot) (found : Option Node) → IsInode VERSION s settled
-    → SlotStandsFor disk inodes settled slot found → StandsFor inodes (or_free disk (slot_content disk slot (settled_content disk settled))) found
+    → SlotStandsFor disk inodes settled slot found → StandsFor inodes (or_free_content disk (slot_content disk slot (settled_content disk settled))) found
 slot_stands disk s inodes settled (Some AsSettled) found is stands = subst (λ (c : Content). StandsFor inodes c found) (sym (settled_file disk s settled is)) stands
 slot_stands disk s inodes settled (Some (Loaded object)) found is stands = object_stands disk inodes settled object (settled_content disk settled) found stands.1
 slot_stands disk s inodes settled (Some (Changed object)) found is stands = object_stands disk inodes settled object (settled_content disk settled) found stands
 slot_stands disk s inodes settled None found is stands = subst (λ (c : Content). StandsFor inodes c found) (sym (settled_file disk s settled is)) stands
 
 loaded_file : (disk : ℕ → List ℕ) (settled : Inode) (object : Option Object) (below : Option Content) → IsAsSettled disk settled object
-    → or_free disk (slot_content disk (Some (Loaded object)) below) ≡ held_content disk settled
-loaded_file disk settled (Some o) below is = is
+    → or_free_content disk (slot_content disk (Some (Loaded object)) below) ≡ held_content disk settled
+loaded_file disk settled (Some o) below is = is.0
 loaded_file disk settled None below is = ap (held_content disk) (sym is)
 
 slot_file : (disk : ℕ → List ℕ) (s : Sizes) (inodes : ℕ) (settled : Inode) (slot : Option Slot) (found : Option Node) → IsInode VERSION s settled → (IsChangedSlot slot → ⊥)
-    → SlotStandsFor disk inodes settled slot found → or_free disk (slot_content disk slot (settled_content disk settled)) ≡ held_content disk settled
+    → SlotStandsFor disk inodes settled slot found → or_free_content disk (slot_content disk slot (settled_content disk settled)) ≡ held_content disk settled
 slot_file disk s inodes settled (Some AsSettled) found is not stands = settled_file disk s settled is
 slot_file disk s inodes settled (Some (Loaded object)) found is not stands = loaded_file disk settled object (settled_content disk settled) stands.0
 slot_file disk s inodes settled (Some (Changed object)) found is not stands = absurd (not tt)

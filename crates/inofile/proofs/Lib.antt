@@ -4,3 +4,4 @@ mod VolumeLaws
 mod SlotLaws
 mod FileLaws
 pub mod ChangedLaws
+pub mod RoomLaws

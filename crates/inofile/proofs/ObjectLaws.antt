@@ -9,6 +9,7 @@ use Rattle.layout.specs.declared.inode.Body.TheVariants.{Inline, Pointers}
 use Rattle.layout.specs.declared.inode.Inode.{Inode}
 use Rattle.layout.specs.declared.kind.Kind.{Kind}
 use Rattle.layout.specs.declared.kind.Kind.TheVariants as kinds
+use Rattle.layout.specs.Version.{level_of}
 use Rattle.layout.specs.declared.version.TheConstants.{VERSION}
 use Rattle.model.specs.Volumes.{Node}
 use Rattle.blocktree.specs.Places.{block_count, depth_of}
@@ -137,11 +138,22 @@ same_object disk inodes settled (Some old) (Some new) found same is = record {
   base = same.file.base settled is.base;
 }
 
+same_untouched : (old new : Object) → IsSameObject old new → IsUntouched old → IsUntouched new
+same_untouched old new same is =
+    let deep : 1 ≤ level_of new.file.size → 1 ≤ level_of old.file.size = subst (λ (n : ℕ). 1 ≤ level_of n) same.file.size in
+    record {
+      kept = λ high. same.file.changes.kept ∙ is.kept (deep high) ∙ sym same.file.changes.settled.count;
+      count = λ high. same.file.changes.settled.count ∙ is.count (deep high) ∙ ap block_count (sym same.file.size);
+      depth = λ high. same.file.changes.settled.depth ∙ is.depth (deep high) ∙ ap depth_of (sym same.file.size);
+      none = λ high i changed. is.none (deep high) i (same.file.changes.only i changed);
+      few = λ low i changed. is.few (subst (λ (n : ℕ). level_of n ≡ 0) same.file.size low) i (same.file.changes.only i changed);
+    }
+
 pub same_settled : (disk : ℕ → List ℕ) (settled : Inode) (was now : Option Object) → IsSameOrNone was now → IsAsSettled disk settled was → IsAsSettled disk settled now
 same_settled disk settled None None same is = is
 same_settled disk settled None (Some o) same is = absurd same
 same_settled disk settled (Some o) None same is = absurd same
-same_settled disk settled (Some old) (Some new) same is = same_content disk old new same ∙ is
+same_settled disk settled (Some old) (Some new) same is = (same_content disk old new same ∙ is.0, same_untouched old new same is.1)
 
 -- an object is some object of the volume
 kind_some : (k : Kind) (inodes : ℕ) (c : Content) (found : Option Node) → IsObjectKind k → StandsAs k inodes c found → IsSome found
@@ -168,12 +180,14 @@ untouched_body (Inline bytes) blocks size o fits same starts unchanged =
       count = λ deep. absurd (omega (arith, deep, flat));
       depth = λ deep. absurd (omega (arith, deep, flat));
       none = λ deep i is. absurd (omega (arith, deep, flat));
+      few = λ low. unchanged;
     }
 untouched_body (Pointers pointers) blocks size o fits same starts unchanged = record {
   kept = λ deep. starts.1;
   count = λ deep. starts.0.count ∙ ap block_count (sym same);
   depth = λ deep. starts.0.depth ∙ ap depth_of (sym same);
   none = λ deep i is. unchanged i is;
+  few = λ low i is. absurd (unchanged i is);
 }
 
 pub loaded_untouched : (s : Sizes) (i : Inode) (o : Object) → IsInode VERSION s i → o.file.size ≡ i.size → StartsFrom i.body i.size o.file.tree → StartsUnchanged i.body o.file.tree → IsUntouched o

@@ -21,23 +21,23 @@ slot_content disk (Some (Changed object)) below = option_map (content_of disk) o
 slot_content disk None below = below
 
 -- the map from numbers to objects
-abbrev pub object_at : (ℕ → List ℕ) → (ℕ → Inode) → InodeFile → ℕ → Option Content
-object_at disk settled s n =
+abbrev pub content_at : (ℕ → List ℕ) → (ℕ → Inode) → InodeFile → ℕ → Option Content
+content_at disk settled s n =
     slot_content disk (tree.get nat_cmp s.slots n) (settled_content disk (settled n))
 
 -- an object's content, or that of a free inode
-abbrev pub or_free : (ℕ → List ℕ) → Option Content → Content
-or_free disk (Some content) = content
-or_free disk None = held_content disk free_inode
+abbrev pub or_free_content : (ℕ → List ℕ) → Option Content → Content
+or_free_content disk (Some content) = content
+or_free_content disk None = held_content disk free_inode
 
 -- the content of each number
 abbrev pub files_of : (ℕ → List ℕ) → (ℕ → Inode) → InodeFile → ℕ → Content
-files_of disk settled s n = or_free disk (object_at disk settled s n)
+files_of disk settled s n = or_free_content disk (content_at disk settled s n)
 
 -- no object differs
 abbrev pub SameObjects : (ℕ → List ℕ) → (ℕ → Inode) → InodeFile → InodeFile → Type 0
 SameObjects disk settled old new =
-    (n : ℕ) → object_at disk settled new n ≡ object_at disk settled old n
+    (n : ℕ) → content_at disk settled new n ≡ content_at disk settled old n
 
 abbrev pub slot_object : Option Slot → Option Object
 slot_object (Some AsSettled) = None

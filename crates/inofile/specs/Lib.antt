@@ -3,4 +3,5 @@ pub mod Settled
 pub mod Inodes
 pub mod Objects
 pub mod Volumes
+pub mod Room
 pub mod Giving

@@ -47,16 +47,18 @@ abbrev pub IsObjectOrNone : (ℕ → List ℕ) → ℕ → Inode → Option Obje
 IsObjectOrNone disk inodes settled (Some o) found = IsObject disk inodes settled o found
 IsObjectOrNone disk inodes settled None found = found ≡ None
 
--- An object as it is loaded: where its bytes don't stand in its inode, no block of its file is changed, and all settled ones count.
+-- An object as it is loaded: where its bytes don't stand in its inode, no block of its file is changed, and all settled ones count; where
+-- they do, at the most the first block is.
 pub record IsUntouched (o : Object) : Type 0 where
   pub kept : 1 ≤ level_of o.file.size → o.file.tree.kept ≡ o.file.tree.count
   pub count : 1 ≤ level_of o.file.size → o.file.tree.count ≡ block_count o.file.size
   pub depth : 1 ≤ level_of o.file.size → o.file.tree.depth ≡ depth_of o.file.size
   pub none : 1 ≤ level_of o.file.size → (i : ℕ) → IsChanged o.file.tree i → ⊥
+  pub few : level_of o.file.size ≡ 0 → (i : ℕ) → IsChanged o.file.tree i → i ≡ 0
 
--- what was loaded is as it is settled
+-- what was loaded is as it is settled, and wasn't touched since
 abbrev pub IsAsSettled : (ℕ → List ℕ) → Inode → Option Object → Type 0
-IsAsSettled disk settled (Some o) = content_of disk o ≡ held_content disk settled
+IsAsSettled disk settled (Some o) = (content_of disk o ≡ held_content disk settled) × IsUntouched o
 IsAsSettled disk settled None = settled ≡ free_inode
 
 -- the same object, whatever the disk

@@ -18,7 +18,8 @@ use std::alloc::{AllocError, Global};
 
 impl InodeFile {
     ghost use Rattle.inofile.specs.Giving.{IsGiven};
-    ghost use Rattle.inofile.specs.Inodes.{loaded, object_at, SameObjects, IsKnown, HasRoomFor, IsChanged};
+    ghost use Rattle.inofile.specs.Inodes.{loaded, content_at, SameObjects, IsKnown, HasRoomFor, IsChanged};
+    ghost use Rattle.inofile.specs.Room.{NeedsNoMore};
     ghost use Rattle.inofile.specs.Volumes.{IsVolumeOf, IsVolumeWithout, MapsVolume, slot_with};
 
     /// Makes room for a change of the object with a number. No object changes by it.
@@ -29,6 +30,7 @@ impl InodeFile {
         ensures room { OnOk result (HasRoomFor self.new number) }
         ensures stays { (n : ℕ) → IsKnown self.old n → IsKnown self.new n }
         ensures keeps { (n : ℕ) → HasRoomFor self.old n → HasRoomFor self.new n }
+        ensures needs { NeedsNoMore self.old self.new }
         ensures changed { (n : ℕ) → IsChanged self.new n ↔ IsChanged self.old n }
         ensures loaded { (n : ℕ) → loaded self.new n ≡ loaded self.old n }
         ensures same { (disk : ℕ → List ℕ) (settled : ℕ → Inode)
@@ -64,12 +66,16 @@ impl InodeFile {
         ensures map { self.new.numbers ≡ self.old.numbers }
         ensures stays { (n : ℕ) → IsKnown self.old n → IsKnown self.new n }
         ensures keeps { (n : ℕ) → HasRoomFor self.old n → HasRoomFor self.new n }
+        ensures slots { (n : ℕ) → (n ≢ number)
+            → tree.get nat_cmp self.new.slots n ≡ tree.get nat_cmp self.old.slots n }
+        ensures back { slot_with result (tree.get nat_cmp self.new.slots number)
+            ≡ tree.get nat_cmp self.old.slots number }
         ensures loaded { result ≡ loaded self.old number }
         ensures rest { (n : ℕ) → (n ≢ number) → loaded self.new n ≡ loaded self.old n }
         ensures taken { (disk : ℕ → List ℕ) (settled : ℕ → Inode)
-            → option_map (content_of disk) result ≡ object_at disk settled self.old number }
+            → option_map (content_of disk) result ≡ content_at disk settled self.old number }
         ensures others { (disk : ℕ → List ℕ) (settled : ℕ → Inode) (n : ℕ) → (n ≢ number)
-            → object_at disk settled self.new n ≡ object_at disk settled self.old n }
+            → content_at disk settled self.new n ≡ content_at disk settled self.old n }
         ensures changed { (n : ℕ) → IsChanged self.new n ↔ IsChanged self.old n }
         ensures stands { (count : ℕ) (disk : ℕ → List ℕ) (settled : ℕ → Inode) (v : Volume)
             → IsVolumeOf count disk settled self.old v → IfSome result (λ o.
@@ -99,9 +105,13 @@ impl InodeFile {
         ensures stays { (n : ℕ) → IsKnown self.old n → IsKnown self.new n }
         ensures keeps { (n : ℕ) → HasRoomFor self.old n → HasRoomFor self.new n }
         ensures set { (disk : ℕ → List ℕ) (settled : ℕ → Inode) (n : ℕ)
-            → object_at disk settled self.new n
+            → content_at disk settled self.new n
             ≡ (if n == number then option_map (content_of disk) object
-            else object_at disk settled self.old n) }
+            else content_at disk settled self.old n) }
+        ensures slots { (n : ℕ) → (n ≢ number)
+            → tree.get nat_cmp self.new.slots n ≡ tree.get nat_cmp self.old.slots n }
+        ensures here { tree.get nat_cmp self.new.slots number
+            ≡ slot_with object (tree.get nat_cmp self.old.slots number) }
         ensures loaded { loaded self.new number ≡ object }
         ensures rest { (n : ℕ) → (n ≢ number) → loaded self.new n ≡ loaded self.old n }
         ensures changed { (n : ℕ) → IsChanged self.new n ↔ IsChanged self.old n }
@@ -133,7 +143,7 @@ impl InodeFile {
         ensures unchanged { (n : ℕ) → IsChanged self.new n → ⊥ }
         ensures unknown { (n : ℕ) → IsKnown self.new n → ⊥ }
         ensures settled { (disk : ℕ → List ℕ) (settled : ℕ → Inode) (n : ℕ)
-            → object_at disk settled self.new n ≡ settled_content disk (settled n) }
+            → content_at disk settled self.new n ≡ settled_content disk (settled n) }
         ensures volume { (count : ℕ) (disk : ℕ → List ℕ) (settled : ℕ → Inode) (v : Volume)
             → AreSettled count disk self.old.geometry file settled
             → MapsVolume self.old.numbers.bytes.items v

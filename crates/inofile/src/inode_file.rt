@@ -56,7 +56,8 @@ ghost use Rattle.inofile.specs.Settled.{AreSettled, content_of, held_content, se
 ghost use Rattle.inofile.specs.Slots.{ChangesObjects};
 
 impl InodeFile {
-    ghost use Rattle.inofile.specs.Inodes.{is_changed_slot, object_at, SameObjects, IsKnown, HasRoomFor, HasNoChange, IsChanged, loaded};
+    ghost use Rattle.inofile.specs.Inodes.{is_changed_slot, content_at, SameObjects, IsKnown, HasRoomFor, HasNoChange, IsChanged, loaded};
+    ghost use Rattle.inofile.specs.Room.{NeedsNoMore};
     ghost use Rattle.inofile.specs.Volumes.{IsVolumeOf, MapsVolume};
     ghost use Rattle.layout.specs.Maps.{IsTaken};
 
@@ -67,7 +68,7 @@ impl InodeFile {
         ensures file { result.file ≡ file }
         ensures map { result.numbers.bytes.items ≡ map.items }
         ensures settled { (disk : ℕ → List ℕ) (settled : ℕ → Inode) (n : ℕ)
-            → object_at disk settled result n ≡ settled_content disk (settled n) }
+            → content_at disk settled result n ≡ settled_content disk (settled n) }
         ensures unchanged { (n : ℕ) → IsChanged result n → ⊥ }
         ensures volume { (count : ℕ) (disk : ℕ → List ℕ) (settled : ℕ → Inode) (v : Volume)
             → AreSettled count disk geometry file settled → MapsVolume map.items v
@@ -121,6 +122,7 @@ impl InodeFile {
         ensures known { OnOk result (IsKnown self.new number) }
         ensures stays { (n : ℕ) → IsKnown self.old n → IsKnown self.new n }
         ensures keeps { (n : ℕ) → HasRoomFor self.old n → HasRoomFor self.new n }
+        ensures needs { NeedsNoMore self.old self.new }
         ensures changed { (n : ℕ) → IsChanged self.new n ↔ IsChanged self.old n }
         ensures loaded { IsKnown self.old number
             → loaded self.new number ≡ loaded self.old number }
@@ -222,10 +224,10 @@ impl InodeFile {
     pub fn get(&self, number: u32) -> Option<&Object>
         requires { IsKnown self.now number }
         ensures some { (disk : ℕ → List ℕ) (settled : ℕ → Inode)
-            → IfSome result (λ o. object_at disk settled self.now number
+            → IfSome result (λ o. content_at disk settled self.now number
             ≡ Some (content_of disk o.now)) }
         ensures none { (disk : ℕ → List ℕ) (settled : ℕ → Inode)
-            → IfNone result (object_at disk settled self.now number ≡ None) }
+            → IfNone result (content_at disk settled self.now number ≡ None) }
         ensures loaded { IfSome result (λ o. loaded self.now number ≡ Some o.now) }
         ensures stands { (count : ℕ) (disk : ℕ → List ℕ) (settled : ℕ → Inode) (v : Volume)
             → IsVolumeOf count disk settled self.now v → IfSome result (λ o.

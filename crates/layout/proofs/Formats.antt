@@ -4,7 +4,7 @@ use Rattle.std.proofs.lemmas.Bool.{cases_lt, ltb-false, le-ltb, le-leb, leb-true
 use Rattle.std.proofs.lemmas.List.{get_or_append_left, get_or_past, take_at, drop_at, take-append-drop, length-append, length-take, get_or-drop, append-nil, nil_from_length}
 use Rattle.layout.specs.Bytes.{little, number, zeros, IsBytes}
 use Rattle.layout.specs.Format.{Format, num, ranged, part, blank, counted, padded, ◌▸◌}
-use Rattle.layout.specs.Reading.{◌>>=◌, number_at, ranged_at, part_at, is_zero, zeros_at, counted_at, padded_at, then_at, all_of}
+use Rattle.layout.specs.Reading.{◌>>=◌, number_read, ranged_at, part_at, is_zero, zeros_at, counted_at, padded_at, then_at, all_of}
 use Rattle.layout.proofs.NumberLaws.{length-little, number-spelled, number-little, number-lt}
 use Rattle.layout.proofs.ZeroLaws.{length-zeros}
 
@@ -60,7 +60,7 @@ num_exact n = record {
 pub ranged_exact : (n least most : ℕ) → most < 256 ^ n → IsExact (ranged n least most)
 ranged_exact n least most small = record {
   takes = λ bytes x fits e.
-      let a = bind_some (number_at n bytes) (λ y. cond (leb least y.0 && leb y.0 most) (Some y) None) x e in
+      let a = bind_some (number_read n bytes) (λ y. cond (leb least y.0 && leb y.0 most) (Some y) None) x e in
       let g = if_then (leb least a.0.0 && leb a.0.0 most) (Some a.0) x a.2 in
       let both = and_parts (leb least a.0.0) (leb a.0.0 most) g.0 in
       subst (λ (y : ℕ × List ℕ). Takes bytes (little n y.0) y.1 × ((least ≤ y.0) × (y.0 ≤ most))) (some_is a.0 x g.1)
@@ -109,7 +109,7 @@ blank_exact n = record {
 pub counted_exact : (n : ℕ) → IsExact (counted n)
 counted_exact n = record {
   takes = λ bytes x fits e.
-      let a = bind_some (number_at n bytes) (λ y. part_at y.0 y.1) x e in
+      let a = bind_some (number_read n bytes) (λ y. part_at y.0 y.1) x e in
       let first = (num_exact n).takes bytes a.0 fits a.1 in
       let second = (part_exact a.0.0).takes a.0.1 x first.0.rest_fits a.2 in
       let both = Takes-then bytes (little n a.0.0) a.0.1 x.0 x.1 first.0 second.0 in
@@ -172,7 +172,7 @@ pub made_again : {A C : Type 0} {f : Format A} → IsExact f → (make : A → C
 made_again exact make v fits = rw (whole_again exact v fits) refl
 
 -- a byte in front
-pub byte_again : (byte : ℕ) (rest : List ℕ) → number_at 1 (byte ∷ rest) ≡ Some (byte, rest)
+pub byte_again : (byte : ℕ) (rest : List ℕ) → number_read 1 (byte ∷ rest) ≡ Some (byte, rest)
 unfolding number
 byte_again byte rest =
     let long : ltb (length (byte ∷ rest)) 1 ≡ false = le-ltb _ _ (omega arith) in

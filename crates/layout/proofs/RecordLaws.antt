@@ -4,7 +4,7 @@ use Rattle.std.proofs.lemmas.Bool.{eqb-true}
 use Rattle.std.proofs.lemmas.List.{nil_from_length}
 use Rattle.layout.specs.Bytes.{little, IsBytes}
 use Rattle.layout.specs.Format.{Format}
-use Rattle.layout.specs.Reading.{◌>>=◌, number_at, counted_at, all_of}
+use Rattle.layout.specs.Reading.{◌>>=◌, number_read, counted_at, all_of}
 use Rattle.layout.specs.Record.{Made, file, directory, symbolic_link, Change, create, link, unname, rename, write, cut, change_mode, create_head, link_fields, unname_fields, rename_fields, write_fields, cut_fields, change_mode_fields, kind_of_made, mode_of_made, text_bytes, change_bytes, KeepsMadeLimits, FitsFields, IsChange}
 use Rattle.layout.specs.RecordReading.{link_in, unname_in, rename_in, write_in, cut_in, change_mode_in, made_in, create_in, change_in}
 use Rattle.layout.proofs.NumberLaws.{little_one}
@@ -98,7 +98,7 @@ spelled_by op bytes x rest c small parts is_op law =
 pub change_takes : (bytes : List ℕ) (c : Change) → IsBytes bytes → change_in bytes ≡ Some c → Spelled bytes c
 unfolding change_in link_in unname_in rename_in write_in cut_in change_mode_in
 change_takes bytes c fits e =
-    let w = bind_some (number_at 1 bytes) _ c e in
+    let w = bind_some (number_read 1 bytes) _ c e in
     let rest = w.0.1 in
     let t = (num_exact 1).takes bytes w.0 fits w.1 in
     let ok = t.0.rest_fits in

@@ -5,7 +5,7 @@ use Rattle.std.proofs.lemmas.Bool.{eqb-true}
 use Rattle.std.proofs.lemmas.List.{append-nil, drop_all}
 use Rattle.layout.specs.Bytes.{little, zeros, IsBytes}
 use Rattle.layout.specs.Pointer.{pointers_bytes, pointers_in}
-use Rattle.layout.specs.Reading.{number_at, all_of}
+use Rattle.layout.specs.Reading.{number_read, all_of}
 use Rattle.layout.specs.Inode.{inode_bytes}
 use Rattle.layout.specs.InodeReading.{inode_in}
 use Rattle.layout.specs.Root.{magic, root_head, root_fields, head_bytes, root_bytes, IsRoot}
@@ -22,7 +22,7 @@ magic_is = refl
 magic_exact : IsExact magic
 magic_exact = record {
   takes = λ bytes x fits e.
-      let a = bind_some (number_at 8 bytes) (λ y. cond (eqb y.0 0x544f4f524c464157) (Some (tt, y.1)) None) x e in
+      let a = bind_some (number_read 8 bytes) (λ y. cond (eqb y.0 0x544f4f524c464157) (Some (tt, y.1)) None) x e in
       let g = if_then (eqb a.0.0 0x544f4f524c464157) (Some (tt, a.0.1)) x a.2 in
       let t = ((num_exact 8).takes bytes a.0 fits a.1).0 in
       let spelled : little 8 a.0.0 ≡ codes "WAFLROOT" = ap (little 8) (eqb-true _ _ g.0) ∙ magic_is in

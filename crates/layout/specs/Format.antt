@@ -3,7 +3,7 @@
 use Rattle.std.specs.Prelude.{ℕ, ◌≡◌, ◌-◌, ◌^◌, ◌<◌, ◌≤◌, List, ◌++◌, length, Option}
 use Rattle.model.specs.declared.limits.TheConstants.{MODE_BITS}
 use Rattle.layout.specs.Bytes.{little, zeros}
-use Rattle.layout.specs.Reading.{number_at, ranged_at, part_at, zeros_at, counted_at, padded_at, then_at}
+use Rattle.layout.specs.Reading.{number_read, ranged_at, part_at, zeros_at, counted_at, padded_at, then_at}
 
 pub record Format (A : Type 0) : Type 1 where
   pub at : List ℕ → Option (A × List ℕ)
@@ -12,7 +12,7 @@ pub record Format (A : Type 0) : Type 1 where
 
 -- a number of n bytes
 abbrev pub num : ℕ → Format ℕ
-num n = record { at = number_at n; text = little n; Fits = λ x. x < 256 ^ n }
+num n = record { at = number_read n; text = little n; Fits = λ x. x < 256 ^ n }
 
 -- a number of n bytes, within limits
 abbrev pub ranged : ℕ → ℕ → ℕ → Format ℕ

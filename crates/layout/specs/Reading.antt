@@ -9,13 +9,13 @@ None >>= f = None
 (Some x) >>= f = f x
 
 -- a number of n bytes
-abbrev pub number_at : ℕ → List ℕ → Option (ℕ × List ℕ)
-number_at n bytes = if nat_lt (length bytes) n then None else Some (number n bytes, drop n bytes)
+abbrev pub number_read : ℕ → List ℕ → Option (ℕ × List ℕ)
+number_read n bytes = if nat_lt (length bytes) n then None else Some (number n bytes, drop n bytes)
 
 -- a number of n bytes, within limits
 abbrev pub ranged_at : ℕ → ℕ → ℕ → List ℕ → Option (ℕ × List ℕ)
 ranged_at n least most bytes =
-    number_at n bytes >>= λ x. if nat_le least x.0 && nat_le x.0 most then Some x else None
+    number_read n bytes >>= λ x. if nat_le least x.0 && nat_le x.0 most then Some x else None
 
 -- n bytes
 abbrev pub part_at : ℕ → List ℕ → Option (List ℕ × List ℕ)
@@ -30,7 +30,7 @@ zeros_at n bytes = part_at n bytes >>= λ x. if is_zero x.0 then Some (tt, x.1) 
 
 -- a length of n bytes, and so many bytes
 abbrev pub counted_at : ℕ → List ℕ → Option (List ℕ × List ℕ)
-counted_at n bytes = number_at n bytes >>= λ x. part_at x.0 x.1
+counted_at n bytes = number_read n bytes >>= λ x. part_at x.0 x.1
 
 -- a length of one byte, so many bytes, and zeros up to n bytes
 abbrev pub padded_at : ℕ → List ℕ → Option (List ℕ × List ℕ)

@@ -1,7 +1,7 @@
 -- Reading the body of a record, before its limits are looked at.
 use Rattle.std.specs.Prelude.{ℕ, List, length, Option, Some, None, ◌==◌, if◌then◌else◌}
 use Rattle.model.specs.declared.limits.TheConstants.{LINK_MODE}
-use Rattle.layout.specs.Reading.{◌>>=◌, number_at, counted_at, all_of}
+use Rattle.layout.specs.Reading.{◌>>=◌, number_read, counted_at, all_of}
 use Rattle.layout.specs.Record.{Made, file, directory, symbolic_link, Change, create, link, unname, rename, write, cut, change_mode, create_head, link_fields, unname_fields, rename_fields, write_fields, cut_fields, change_mode_fields}
 
 unfoldable pub link_in : List ℕ → Option Change
@@ -38,7 +38,7 @@ create_in bytes =
 
 unfoldable pub change_in : List ℕ → Option Change
 change_in bytes =
-    number_at 1 bytes >>= λ x.
+    number_read 1 bytes >>= λ x.
     if x.0 == 1 then create_in x.1
     else (if x.0 == 2 then link_in x.1
     else (if x.0 == 3 then unname_in x.1

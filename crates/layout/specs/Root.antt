@@ -2,7 +2,7 @@
 use Rattle.std.specs.Prelude.{ℕ, ◌≡◌, ◌<◌, ◌≤◌, ◌^◌, ◌-◌, List, ◌++◌, length, All, codes, Some, None, ◌==◌, if◌then◌else◌}
 use Rattle.layout.specs.Bytes.{zeros}
 use Rattle.layout.specs.Format.{Format, ranged, part, blank, ◌▸◌}
-use Rattle.layout.specs.Reading.{◌>>=◌, number_at}
+use Rattle.layout.specs.Reading.{◌>>=◌, number_read}
 use Rattle.layout.specs.Limits.{Sizes, AreSizes}
 use Rattle.layout.specs.Pointer.{PointsBelow, pointers_bytes}
 use Rattle.layout.specs.Inode.{IsInode, inode_bytes}
@@ -18,7 +18,7 @@ use Rattle.layout.specs.declared.root.Root.{Root}
 -- the first eight bytes of a root
 abbrev pub magic : Format (Unit {0})
 magic = record {
-  at = λ bytes. number_at 8 bytes >>= λ x. if x.0 == MAGIC then Some (tt, x.1) else None;
+  at = λ bytes. number_read 8 bytes >>= λ x. if x.0 == MAGIC then Some (tt, x.1) else None;
   text = λ v. codes "WAFLROOT";
   Fits = λ v. Unit {0};
 }

@@ -3,7 +3,7 @@
 ghost use Rattle.std.specs.Prelude.{◌≡◌, ◌≤◌, IfSome, length};
 ghost use Rattle.std.specs.Option.{option_map};
 ghost use Rattle.model.specs.declared.limits.TheConstants.{MODE_BITS, SNAPSHOT_NAME_BYTES};
-ghost use Rattle.layout.specs.Reading.{number_at, ranged_at, part_at, zeros_at, counted_at, padded_at};
+ghost use Rattle.layout.specs.Reading.{number_read, ranged_at, part_at, zeros_at, counted_at, padded_at};
 ghost use Rattle.layout.specs.Format.{mode_bits};
 
 use crate::fields::is_zero;
@@ -12,7 +12,7 @@ use model::{MODE_BITS, SNAPSHOT_NAME_BYTES};
 
 /// A byte.
 pub(crate) fn u8_at(bytes: &[u8]) -> Option<(u8, &[u8])>
-    ensures { option_map (λ x. (x.0, x.1.now)) result ≡ number_at 1 bytes.now }
+    ensures { option_map (λ x. (x.0, x.1.now)) result ≡ number_read 1 bytes.now }
 {
     let (byte, rest) = bytes.split_first()?;
     Some((*byte, rest))
@@ -21,7 +21,7 @@ pub(crate) fn u8_at(bytes: &[u8]) -> Option<(u8, &[u8])>
 /// A number of 16 bits.
 #[tactic(auto, unfolding(crate::specs::Bytes::number))]
 pub(crate) fn u16_at(bytes: &[u8]) -> Option<(u16, &[u8])>
-    ensures { option_map (λ x. (x.0, x.1.now)) result ≡ number_at 2 bytes.now }
+    ensures { option_map (λ x. (x.0, x.1.now)) result ≡ number_read 2 bytes.now }
 {
     if bytes.len() < 2 {
         return None;
@@ -33,7 +33,7 @@ pub(crate) fn u16_at(bytes: &[u8]) -> Option<(u16, &[u8])>
 /// A number of 32 bits.
 #[tactic(auto, unfolding(crate::specs::Bytes::number))]
 pub(crate) fn u32_at(bytes: &[u8]) -> Option<(u32, &[u8])>
-    ensures { option_map (λ x. (x.0, x.1.now)) result ≡ number_at 4 bytes.now }
+    ensures { option_map (λ x. (x.0, x.1.now)) result ≡ number_read 4 bytes.now }
 {
     if bytes.len() < 4 {
         return None;
@@ -45,7 +45,7 @@ pub(crate) fn u32_at(bytes: &[u8]) -> Option<(u32, &[u8])>
 /// A number of 64 bits.
 #[tactic(auto, unfolding(crate::specs::Bytes::number))]
 pub(crate) fn u64_at(bytes: &[u8]) -> Option<(u64, &[u8])>
-    ensures { option_map (λ x. (x.0, x.1.now)) result ≡ number_at 8 bytes.now }
+    ensures { option_map (λ x. (x.0, x.1.now)) result ≡ number_read 8 bytes.now }
 {
     if bytes.len() < 8 {
         return None;

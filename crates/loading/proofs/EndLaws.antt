@@ -29,7 +29,7 @@ use Rattle.blocktree.specs.Trees.{AreSound, IsSoundAt}
 use Rattle.blocktree.specs.declared.tree.BlockTree.{BlockTree}
 use Rattle.inode.specs.Bases.{HasPointers, StartsFrom}
 use Rattle.inode.specs.Bodies.{body_block, inode_block}
-use Rattle.inode.specs.Files.{file_block, byte_at, bytes_of}
+use Rattle.inode.specs.Files.{file_block, byte_at, bytes_of_file}
 use Rattle.inode.specs.declared.file.File.{File}
 use Rattle.loading.specs.Readings.{HasAllPlaces, IsBodyPath, IsMapFile, IsStored, inode_byte, inode_bytes_of}
 use Rattle.loading.proofs.MapLaws.{past_end}
@@ -152,7 +152,7 @@ pub inode_map_size : (kind : Kind) (s : Sizes) (mode links size : ℕ) → kind 
 inode_map_size kind s mode links size is fits = (subst (λ k. FitsKind k s mode links size) is fits).2
 
 pub same_bytes : (disk : Blocks) (inode : Inode) (file : File) → file.size ≡ inode.size → ((i : ℕ) → file_block disk file i ≡ inode_block disk inode i)
-    → bytes_of disk file ≡ inode_bytes_of disk inode
+    → bytes_of_file disk file ≡ inode_bytes_of disk inode
 same_bytes disk inode file size same =
     ap (λ n. first_bytes (byte_at disk file) n) size
     ∙ ap (λ block. first_bytes (byte_in block) inode.size) (fun_ext {f = file_block disk file} {g = inode_block disk inode} same)

@@ -26,11 +26,11 @@ use Rattle.inofile.specs.Inodes.{IsChanged}
 use Rattle.inofile.specs.Settled.{AreSettled, held_content}
 use Rattle.inofile.specs.Volumes.{IsVolumeOf, MapsVolume}
 use Rattle.inofile.specs.declared.inode_file.InodeFile.{InodeFile}
-use Rattle.images.specs.Contents.{HoldsVolume, bytes_of, content_of, contents}
+use Rattle.images.specs.Contents.{HoldsVolume, content_bytes, content_of, tree_contents}
 use Rattle.images.specs.Nodes.{held}
 use Rattle.images.specs.Roots.{inode_part, tree, whole}
 use Rattle.images.specs.Soundness.{IsSoundTree}
-use Rattle.loading.specs.Images.{AreInodesOf, IsLoaded, IsReadable, inodes_of}
+use Rattle.loading.specs.Images.{AreInodesOf, IsLoadedUnder, IsReadable, inodes_of}
 use Rattle.loading.specs.InodeBlocks.{AreInodeBlocks}
 use Rattle.loading.specs.Laws.{TreesReadAsHeld}
 use Rattle.loading.specs.Readings.{AreParts, AreUnchanged, IsBodyPath, IsMapFile, inode_bytes_of}
@@ -85,7 +85,7 @@ module _ (l : TreesReadAsHeld) (disk : Blocks) (r : Root) (are : AreSizes r.geom
   pub numbers_are : (i : Inode) → tree disk r.geometry.inodes r.inode_file 1 ≡ held disk i → IsInodeMap 0 r.geometry.inodes (inode_bytes_of disk i)
   numbers_are i is = trees.is_map r.geometry are disk r.inode_file sound root l.reads l.paths l.stored l.spells l.ends i is
 
-  pub hold_volume : (v : Volume) → HoldsVolume r.geometry.inodes (contents (whole disk r).active) v
+  pub hold_volume : (v : Volume) → HoldsVolume r.geometry.inodes (tree_contents (whole disk r).active) v
       → HoldsVolume r.geometry.inodes (λ n. held_content disk (inodes_of (whole disk r).active n)) v
   unfolding whole
   hold_volume v = trees.holds_volume r.geometry are disk r.inode_file sound root l.reads l.paths l.stored l.spells l.ends v
@@ -140,7 +140,7 @@ module _ (l : TreesReadAsHeld) (disk : Blocks) (r : Root) (are : AreSizes r.geom
     inodes_loaded i bytes inodes is_i read geometry file_is numbers unchanged stands =
         let settled : AreSettled r.geometry.blocks disk r.geometry file (inodes_of (tree disk r.geometry.inodes r.inode_file)) =
         trees.settled r.geometry are disk r.inode_file sound root l.reads l.paths l.stored l.spells l.ends file same (λ k. reached r.geometry.blocks k refl) in
-        let whole_bytes : bytes ≡ bytes_of (content_of (tree disk r.geometry.inodes r.inode_file 1)) =
+        let whole_bytes : bytes ≡ content_bytes (content_of (tree disk r.geometry.inodes r.inode_file 1)) =
         read ∙ trees.map_bytes r.geometry are disk r.inode_file sound root l.reads l.paths l.stored l.spells l.ends i is_i in
         record {
           geometry = geometry;
@@ -161,7 +161,7 @@ module _ (l : TreesReadAsHeld) (disk : Blocks) (r : Root) (are : AreSizes r.geom
         → ((v : Volume) → AreSettled r.geometry.blocks disk r.geometry file (inodes_of (tree disk r.geometry.inodes r.inode_file)) → MapsVolume bytes v
         → HoldsVolume r.geometry.inodes (λ n. held_content disk (inodes_of (tree disk r.geometry.inodes r.inode_file) n)) v
         → IsVolumeOf r.geometry.blocks disk (inodes_of (tree disk r.geometry.inodes r.inode_file)) inodes v)
-        → IsLoaded disk r map inodes
+        → IsLoadedUnder disk r map inodes
     unfolding whole
     loaded i b bytes parts map inodes is_i is_b size read have clean items count next geometry file_is numbers unchanged stands =
         record {

@@ -9,13 +9,13 @@ use Rattle.buffers.proofs.ReadLaws.{reads_err}
 use Rattle.blocktree.specs.Errors.{IsFault}
 use Rattle.blocktree.specs.declared.error.ReadError.{ReadError}
 use Rattle.blocktree.specs.declared.error.ReadError.TheVariants.{Device, NoMemory}
-use Rattle.loading.specs.Images.{IsLoaded, IsReadable}
+use Rattle.loading.specs.Images.{IsLoadedUnder, IsReadable}
 use Rattle.loading.specs.Loading.{LoadsUnder}
 use Rattle.loading.specs.declared.under_root.Loaded.{Loaded}
 
 -- a step before has failed
 pub not_loaded : {B U : Type 0} {G : Ghosts B} {a b : B} {r : Root} {e : ReadError} (q : Result Loaded ReadError) → IsErrAnd q (λ f. f ≡ e) → ReadsBlocks {T = U} G IsFault a b (Err e)
-    → ((disk : ℕ → List ℕ) → G.Shows a disk → IsReadable disk r → MatchResult q (λ l. IsLoaded disk r l.map l.inodes) (λ e. (e ≡ NoMemory) ⊎ (e ≡ Device)))
+    → ((disk : ℕ → List ℕ) → G.Shows a disk → IsReadable disk r → MatchResult q (λ l. IsLoadedUnder disk r l.map l.inodes) (λ e. (e ≡ NoMemory) ⊎ (e ≡ Device)))
     → LoadsUnder G a b r q
 not_loaded (Ok l) is reads loads = absurd is
 not_loaded (Err f) is reads loads = record {

@@ -9,7 +9,7 @@ use Rattle.layout.specs.declared.pointer.Pointer.TheVariants.{Hole, Block}
 use Rattle.layout.specs.declared.root.Root.{Root}
 use Rattle.images.specs.Roots.{frozen_inode_file, slot, whole}
 use Rattle.images.specs.Snapshots.{AreSnapshots, HasSnapshot}
-use Rattle.loading.specs.Snapshots.{AreApart, AreApartAt, IsSnapshotAt}
+use Rattle.loading.specs.Snapshots.{AreOfTwoSnapshots, AreApartAt, IsSnapshotAt}
 
 pub at_slot : (disk : Blocks) (r : Root) (k : ℕ) (p : Pointer) → AreSnapshots r (whole disk r) → slot r (suc k) ≡ p → IsSnapshotAt r.geometry r.generation disk p
 unfolding whole
@@ -36,7 +36,7 @@ module _ (disk : Blocks) (r : Root) (are : AreSnapshots r (whole disk r))
 -- whether two blocks are apart, by the snapshots that they spell
 pub as_spelled : (a b : List ℕ) (v w : Snapshot) → IsSnapshot v → IsSnapshot w → a ≡ snapshot_bytes v → b ≡ snapshot_bytes w
     → ((s : Snapshot) → IsSnapshot s → a ≡ snapshot_bytes s → v ≡ s) → ((s : Snapshot) → IsSnapshot s → b ≡ snapshot_bytes s → w ≡ s)
-    → AreApart a b ↔ ((v.name ≢ w.name) × (v.order ≢ w.order))
+    → AreOfTwoSnapshots a b ↔ ((v.name ≢ w.name) × (v.order ≢ w.order))
 as_spelled a b v w is_v is_w at_v at_w one other = (
   λ apart. apart v w is_v is_w at_v at_w,
   λ differ s q is_s is_q at_s at_q.

@@ -20,9 +20,9 @@ use Rattle.inode.specs.Files as memory
 use Rattle.inode.specs.declared.file.File.{File}
 use Rattle.inofile.specs.Settled.{AreSettled, held_content}
 use Rattle.inofile.specs.Volumes.{MapsVolume}
-use Rattle.images.specs.Contents.{Content, HoldsVolume, StandsAs, bytes_of, content_of, contents}
+use Rattle.images.specs.Contents.{Content, HoldsVolume, StandsAs, content_bytes, content_of, tree_contents}
 use Rattle.images.specs.Nodes.{file_block, held}
-use Rattle.images.specs.Roots.{free_inode, inode_bytes_at, inode_part, inode_of, tree}
+use Rattle.images.specs.Roots.{free_inode, inode_bytes_at, inode_part, inode_under, tree}
 use Rattle.images.specs.Soundness.{IsOrdinary, HasNoHole, IsSoundFile, IsSoundTree}
 use Rattle.blockmap.specs.Maps.{settled_at, entry_at, IsTouched}
 use Rattle.blockmap.specs.Parts.{Part}
@@ -31,14 +31,14 @@ use Rattle.images.specs.BlockMap.{entry}
 use Rattle.images.proofs.EmptyLaws.{free_bytes, free_fits}
 use Rattle.images.proofs.KindLaws.{ordinary_kind}
 use Rattle.loading.specs.Images.{IsMapOf, inodes_of}
-use Rattle.loading.specs.InodeBlocks.{AreInodeBlocks, FitsPlace, IsInodeAt, IsInodeBlock}
+use Rattle.loading.specs.InodeBlocks.{AreInodeBlocks, HasKindOfPlace, IsInodeAt, IsInodeBlock}
 use Rattle.loading.specs.Laws.{AreMapFiles, EndTrees, HaveSoundPaths, ReadAsHeld, SpellTrees}
 use Rattle.loading.proofs.MapLaws.{entries_are, past_end, same_entries}
 use Rattle.loading.specs.Readings.{AreParts, AreUnchanged, IsBodyPath, IsMapFile, inode_bytes_of}
 
 -- ---- free inodes
 
-free_past : (inodes n : ℕ) → 3 < inodes → inodes ≤ n → FitsPlace inodes n kinds.Free
+free_past : (inodes n : ℕ) → 3 < inodes → inodes ≤ n → HasKindOfPlace inodes n kinds.Free
 free_past inodes n many past = record {
   number = λ some lt. absurd (omega arith);
   root = λ is. absurd (omega arith);
@@ -46,7 +46,7 @@ free_past inodes n many past = record {
   past = λ ge. refl;
 }
 
-free_first : (inodes : ℕ) → 3 < inodes → FitsPlace inodes 0 kinds.Free
+free_first : (inodes : ℕ) → 3 < inodes → HasKindOfPlace inodes 0 kinds.Free
 free_first inodes many = record {
   number = λ some lt. absurd (omega arith);
   root = λ is. absurd (omega arith);
@@ -81,7 +81,7 @@ module _ (s : Sizes) (are : AreSizes s) (disk : Blocks) (top : Inode) (sound : I
     (root : (tree disk s.inodes top 3).inode.kind ≡ kinds.Directory) (reads : ReadAsHeld) (paths : HaveSoundPaths) (stored : AreMapFiles)
     (spells : SpellTrees) (ends : EndTrees) where
   first_is : tree disk s.inodes top 0 ≡ held disk top
-  unfolding tree inode_of held
+  unfolding tree inode_under held
   first_is = refl
 
   pub top_sound : IsSoundFile s (held disk top)
@@ -92,7 +92,7 @@ module _ (s : Sizes) (are : AreSizes s) (disk : Blocks) (top : Inode) (sound : I
 
   -- ---- the inode file
 
-  in_use : (n : ℕ) → 1 ≤ n → n < s.inodes → FitsPlace s.inodes n (tree disk s.inodes top n).inode.kind
+  in_use : (n : ℕ) → 1 ≤ n → n < s.inodes → HasKindOfPlace s.inodes n (tree disk s.inodes top n).inode.kind
   in_use n some lt = record {
     number = λ _ _. sound.kinds n;
     root = λ is. ap (λ k. (tree disk s.inodes top k).inode.kind) is ∙ root;
@@ -169,12 +169,12 @@ module _ (s : Sizes) (are : AreSizes s) (disk : Blocks) (top : Inode) (sound : I
     reached = reached;
   }
 
-  pub holds_volume : (v : Volume) → HoldsVolume s.inodes (contents (tree disk s.inodes top)) v
+  pub holds_volume : (v : Volume) → HoldsVolume s.inodes (tree_contents (tree disk s.inodes top)) v
       → HoldsVolume s.inodes (λ n. held_content disk (inodes_of (tree disk s.inodes top) n)) v
   holds_volume v holds n = subst (λ h. StandsAs (content_of h).kind s.inodes (content_of h) (v n)) (sym (held_again n)) (holds n)
 
-  pub maps_volume : (v : Volume) → HoldsVolume s.inodes (contents (tree disk s.inodes top)) v
-      → MapsVolume (bytes_of (content_of (tree disk s.inodes top 1))) v
+  pub maps_volume : (v : Volume) → HoldsVolume s.inodes (tree_contents (tree disk s.inodes top)) v
+      → MapsVolume (content_bytes (content_of (tree disk s.inodes top 1))) v
   maps_volume v holds n = elim (cases_lt n 4) [
     | inl low ↦ (λ _. inl low, λ _. (sound.numbers n).1 (inl low))
     | inr high ↦
@@ -202,16 +202,16 @@ module _ (s : Sizes) (are : AreSizes s) (disk : Blocks) (top : Inode) (sound : I
   pub block_map_file : (i : Inode) → tree disk s.inodes top 2 ≡ held disk i → IsMapFile disk i
   block_map_file i is = stored s disk i (own_sound 2 i is) (subst HasNoHole is sound.block_map)
 
-  pub map_bytes : (i : Inode) → tree disk s.inodes top 1 ≡ held disk i → inode_bytes_of disk i ≡ bytes_of (content_of (tree disk s.inodes top 1))
+  pub map_bytes : (i : Inode) → tree disk s.inodes top 1 ≡ held disk i → inode_bytes_of disk i ≡ content_bytes (content_of (tree disk s.inodes top 1))
   unfolding held
   map_bytes i is =
       ap (λ block. first_bytes (byte_in block) i.size) (reads s disk i (own_sound 1 i is))
-      ∙ ap (λ h. bytes_of (content_of h)) (sym is)
+      ∙ ap (λ h. content_bytes (content_of h)) (sym is)
 
   free_kind : (n : ℕ) → s.inodes ≤ n → (tree disk s.inodes top n).inode.kind ≡ kinds.Free
   free_kind n past = ap (λ i. i.kind) (free_behind n past)
 
-  own_map : IsInodeMap 0 s.inodes (bytes_of (content_of (tree disk s.inodes top 1)))
+  own_map : IsInodeMap 0 s.inodes (content_bytes (content_of (tree disk s.inodes top 1)))
   own_map = record {
     own = λ n within first. (sound.numbers n).1 (inl (omega arith));
     past = λ n within past taken. elim ((sound.numbers n).0 taken) [

@@ -19,7 +19,7 @@ use Rattle.inofile.specs.Volumes.{IsVolumeOf}
 use Rattle.inofile.specs.declared.inode_file.InodeFile.{InodeFile}
 use Rattle.blockmap.specs.Maps.{settled_at, entry_at, IsTouched}
 use Rattle.blockmap.specs.declared.map.BlockMap.{BlockMap}
-use Rattle.images.specs.Contents.{HoldsVolume, bytes_of, content_of, contents}
+use Rattle.images.specs.Contents.{HoldsVolume, content_bytes, content_of, tree_contents}
 use Rattle.images.specs.BlockMap.{entry}
 use Rattle.images.specs.Roots.{HeldTree, whole}
 use Rattle.images.specs.Soundness.{IsSoundTree}
@@ -30,7 +30,7 @@ pub record IsReadable (disk : Blocks) (r : Root) : Type 0 where
   pub root : ((whole disk r).active ROOT_NUMBER).inode.kind ≡ Directory
 
 -- a file in memory is that of a settled inode, of which nothing is changed
-pub record IsFileOf (inode : Inode) (file : File) : Type 0 where
+pub record IsFileOfInode (inode : Inode) (file : File) : Type 0 where
   pub blocks : (disk : Blocks) (i : ℕ) → file_block disk file i ≡ inode_block disk inode i
   pub starts : StartsFrom inode.body inode.size file.tree
 
@@ -52,12 +52,12 @@ pub record IsMapOf (t : HeldTree) (blocks : ℕ) (map : BlockMap) : Type 0 where
 pub record AreInodesOf (disk : Blocks) (s : Sizes) (t : HeldTree) (inodes : InodeFile) : Type 0 where
   pub geometry : inodes.geometry ≡ s
   pub settled : AreSettled s.blocks disk s inodes.file (inodes_of t)
-  pub numbers : inodes.numbers.bytes.items ≡ bytes_of (content_of (t 1))
+  pub numbers : inodes.numbers.bytes.items ≡ content_bytes (content_of (t 1))
   pub unchanged : (n : ℕ) → IsChanged inodes n → ⊥
-  pub volume : (v : Volume) → HoldsVolume s.inodes (contents t) v
+  pub volume : (v : Volume) → HoldsVolume s.inodes (tree_contents t) v
       → IsVolumeOf s.blocks disk (inodes_of t) inodes v
 
 -- what was loaded is what a disk has under a root
-pub record IsLoaded (disk : Blocks) (r : Root) (entries : BlockMap) (files : InodeFile) : Type 0 where
+pub record IsLoadedUnder (disk : Blocks) (r : Root) (entries : BlockMap) (files : InodeFile) : Type 0 where
   pub map : IsMapOf (whole disk r).active r.geometry.blocks entries
   pub inodes : AreInodesOf disk r.geometry (whole disk r).active files

@@ -14,7 +14,7 @@ use Rattle.images.specs.Roots.{inode_part}
 use Rattle.images.specs.Soundness.{FitsNumber}
 
 -- the kinds that the inode at a place of the inode file may have, in an image of so many inodes
-pub record FitsPlace (inodes n : ℕ) (kind : Kind) : Type 0 where
+pub record HasKindOfPlace (inodes n : ℕ) (kind : Kind) : Type 0 where
   pub number : 1 ≤ n → n < inodes → FitsNumber n kind
   pub root : n ≡ ROOT_NUMBER → kind ≡ Directory
   pub none : n ≡ 0 → kind ≡ Free
@@ -25,7 +25,7 @@ pub record IsInodeAt (s : Sizes) (n : ℕ) (bytes : List ℕ) : Type 0 where
   pub inode : Inode
   pub is : IsInode VERSION s inode
   pub spelled : bytes ≡ inode_bytes inode
-  pub kind : FitsPlace s.inodes n inode.kind
+  pub kind : HasKindOfPlace s.inodes n inode.kind
 
 -- a block of an inode file, its first inode at this place: inodes, and zeros behind them
 pub record IsInodeBlock (s : Sizes) (first : ℕ) (bytes : List ℕ) : Type 0 where

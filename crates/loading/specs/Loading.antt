@@ -10,7 +10,7 @@ use Rattle.blocktree.specs.Errors.{IsFault}
 use Rattle.blocktree.specs.declared.error.ReadError.{ReadError}
 use Rattle.blocktree.specs.declared.error.ReadError.TheVariants.{Device, NoMemory}
 use Rattle.inode.specs.Files.{file_block}
-use Rattle.loading.specs.Images.{IsLoaded, IsReadable}
+use Rattle.loading.specs.Images.{IsLoadedUnder, IsReadable}
 use Rattle.loading.specs.InodeBlocks.{AreInodeBlocks}
 use Rattle.loading.specs.Readings.{AreUnchanged}
 use Rattle.loading.specs.declared.under_root.Loaded.{Loaded}
@@ -27,4 +27,4 @@ pub record LoadsUnder {B : Type 0} (G : Ghosts B) (old after : B) (root : Root) 
   pub numbers : IfOk result (λ l. IsInodeMap 0 root.geometry.inodes l.inodes.numbers.bytes.items)
   pub inodes : (disk : ℕ → List ℕ) → G.Shows old disk → IfOk result (λ l. AreInodeBlocks root.geometry (file_block disk l.inodes.file))
   pub loads : (disk : ℕ → List ℕ) → G.Shows old disk → IsReadable disk root
-      → MatchResult result (λ l. IsLoaded disk root l.map l.inodes) (λ e. (e ≡ NoMemory) ⊎ (e ≡ Device))
+      → MatchResult result (λ l. IsLoadedUnder disk root l.map l.inodes) (λ e. (e ≡ NoMemory) ⊎ (e ≡ Device))

@@ -22,8 +22,8 @@ IsSnapshotAt sizes most disk Hole = Unit {0}
 IsSnapshotAt sizes most disk (Block b) = IsSnapshotBlock sizes most (disk b)
 
 -- these bytes are no roots of two snapshots that have one name or one order
-abbrev pub AreApart : List ℕ → List ℕ → Type 0
-AreApart a b =
+abbrev pub AreOfTwoSnapshots : List ℕ → List ℕ → Type 0
+AreOfTwoSnapshots a b =
     (s q : Snapshot) → IsSnapshot s → IsSnapshot q → a ≡ snapshot_bytes s → b ≡ snapshot_bytes q
     → (s.name ≢ q.name) × (s.order ≢ q.order)
 
@@ -31,4 +31,4 @@ AreApart a b =
 abbrev pub AreApartAt : Blocks → Pointer → Pointer → Type 0
 AreApartAt disk Hole b = Unit {0}
 AreApartAt disk (Block a) Hole = Unit {0}
-AreApartAt disk (Block a) (Block b) = AreApart (disk a) (disk b)
+AreApartAt disk (Block a) (Block b) = AreOfTwoSnapshots (disk a) (disk b)

@@ -11,7 +11,7 @@ ghost use Rattle.blocktree.specs.Trees.{IsSoundAt};
 ghost use Rattle.inode.specs.Files.{file_block};
 ghost use Rattle.images.specs.Roots.{inode_part};
 ghost use Rattle.images.specs.Soundness.{IsOrdinary};
-ghost use Rattle.loading.specs.InodeBlocks.{AreInodeBlocks, FitsPlace, IsInodeAt, IsInodeBlock};
+ghost use Rattle.loading.specs.InodeBlocks.{AreInodeBlocks, HasKindOfPlace, IsInodeAt, IsInodeBlock};
 
 use blocktree::ReadError;
 use buffers::Blocks;
@@ -122,7 +122,7 @@ fn is_inode_at(bytes: &[u8], place: u32, geometry: Geometry) -> bool
 /// the last number.
 fn kind_fits(kind: Kind, place: u32, inodes: u32) -> bool
     requires { ROOT_NUMBER < inodes }
-    ensures { IsTrue result ↔ FitsPlace inodes place kind }
+    ensures { IsTrue result ↔ HasKindOfPlace inodes place kind }
 {
     if place >= inodes {
         return kind == Kind::Free;

@@ -8,13 +8,13 @@ ghost use Rattle.layout.specs.declared.root.Root.{Root};
 ghost use Rattle.model.specs.Paths.{Name};
 ghost use Rattle.model.specs.Trees.{Tree};
 ghost use Rattle.model.specs.Volumes.{Volume};
-ghost use Rattle.images.specs.Contents.{HoldsVolume, contents};
+ghost use Rattle.images.specs.Contents.{HoldsVolume, tree_contents};
 ghost use Rattle.images.specs.Roots.{whole};
 ghost use Rattle.images.specs.Snapshots.{HasSnapshot, IsFrozenTree};
 ghost use Rattle.images.specs.States.{Holds};
 ghost use Rattle.inode.specs.declared.file.File.{File};
 ghost use Rattle.inofile.specs.Settled.{AreSettled, held_content};
-ghost use Rattle.loading.specs.Images.{IsFileOf, IsReadable, inodes_of};
+ghost use Rattle.loading.specs.Images.{IsFileOfInode, IsReadable, inodes_of};
 ghost use Rattle.loading.specs.Laws.{AreMapFiles, HaveSoundPaths, ReadAsHeld, TreesReadAsHeld};
 
 use images::inodes_are_what_their_bytes_spell;
@@ -66,10 +66,10 @@ pub fn snapshots_are_readable()
 /// nothing.
 pub fn readable_inodes_are_settled()
     ensures settled { (disk : Blocks) (r : Root) (file : File) → IsRoot r → IsReadable disk r
-        → IsFileOf r.inode_file file
+        → IsFileOfInode r.inode_file file
         → AreSettled r.geometry.blocks disk r.geometry file (inodes_of (whole disk r).active) }
     ensures holds { (disk : Blocks) (r : Root) (v : Volume) → IsRoot r → IsReadable disk r
-        → HoldsVolume r.geometry.inodes (contents (whole disk r).active) v
+        → HoldsVolume r.geometry.inodes (tree_contents (whole disk r).active) v
         → HoldsVolume r.geometry.inodes
         (λ n. held_content disk (inodes_of (whole disk r).active n)) v }
 {

@@ -15,7 +15,7 @@ ghost use Rattle.blocktree.specs.Errors.{IsFault};
 ghost use Rattle.blocktree.specs.PlaceMaps.{place_at};
 ghost use Rattle.blocktree.specs.Trees.{AreSound, IsSoundAt};
 ghost use Rattle.inode.specs.Bodies.{inode_block};
-ghost use Rattle.inode.specs.Files.{byte_at, bytes_of, file_block};
+ghost use Rattle.inode.specs.Files.{byte_at, bytes_of_file, file_block};
 ghost use Rattle.loading.specs.Readings.{AreParts, AreUnchanged, HasAllPlaces, IsBodyPath, IsMapFile, inode_bytes_of};
 
 use crate::inodes::is_zero_from;
@@ -63,7 +63,7 @@ fn read_all<B: Blocks>(alloc: Global, blocks: &mut B, file: &File) -> Result<Vec
     ensures reads { ReadsBlocks B.Blocks IsFault blocks.old blocks.new result }
     ensures size { IfOk result (λ v. vec_len v ≡ file.now.size) }
     ensures bytes { (disk : ℕ → List ℕ) → B.Shows blocks.old disk
-        → IfOk result (λ v. v.items ≡ bytes_of disk file.now) }
+        → IfOk result (λ v. v.items ≡ bytes_of_file disk file.now) }
     ensures damaged { (disk : ℕ → List ℕ) → B.Shows blocks.old disk
         → IsErrOf result ReadError.Damaged
         → ((i : ℕ) → IsSoundAt (B.count blocks.old) disk file.now.tree i) → ⊥ }

@@ -10,7 +10,7 @@ ghost use Rattle.buffers.specs.Reads.{ReadsBlocks};
 ghost use Rattle.blocktree.specs.Errors.{IsFault};
 ghost use Rattle.images.specs.Roots.{whole};
 ghost use Rattle.images.specs.Snapshots.{AreSnapshots};
-ghost use Rattle.loading.specs.Snapshots.{AreApart, AreApartAt, IsSnapshotAt};
+ghost use Rattle.loading.specs.Snapshots.{AreOfTwoSnapshots, AreApartAt, IsSnapshotAt};
 
 use blocktree::ReadError;
 use buffers::Blocks;
@@ -89,7 +89,7 @@ fn are_apart<B: Blocks>(blocks: &mut B, a: Pointer, b: Pointer) -> Result<bool, 
 
 /// Whether two blocks are no roots of snapshots of one name or one order.
 fn differ(a: &[u8; BLOCK_BYTES], b: &[u8; BLOCK_BYTES]) -> bool
-    ensures { IsTrue result ↔ AreApart a.now b.now }
+    ensures { IsTrue result ↔ AreOfTwoSnapshots a.now b.now }
 {
     let Some(a) = SnapRoot::read(a) else {
         return true;

@@ -97,7 +97,7 @@ has_file s old mid new f taken freed none_named grows next parts came given plac
   stands = λ e has.
       let p = placed e (grows.has e has) (λ b names. absurd (none_named b names)) in
       record {
-        named = λ b. (λ names. elim (p.comes b names) [ inl was ↦ absurd (none_named b was) | inr is ↦ is ], p.named b);
+        named = λ b. (λ names. elim (p.moves names.height names.index b names.is) [ inl was ↦ absurd (none_named b (record { height = names.height; index = names.index; is = was })) | inr is ↦ is ], p.named b);
         once = p.once;
         sound = p.sound;
       };

@@ -24,7 +24,7 @@ use Rattle.conspoint.specs.declared.draft.Draft.{Draft}
 use Rattle.conspoint.proofs.MapBytes.{word_zero}
 use Rattle.images.specs.Nodes.{held, Names, file_block}
 use Rattle.images.specs.Soundness.{IsSoundFile}
-use Rattle.making.specs.Plans.{HasFile, IsBlockMapOn, IsPlacedOver}
+use Rattle.making.specs.Plans.{HasFile, IsDraftMapOn, IsPlacedOver}
 use Rattle.making.specs.Starts.{nothing, system_entry}
 use Rattle.layout.proofs.PointerLaws.{no_block}
 use Rattle.layout.proofs.ZeroLaws.{zero_byte}
@@ -131,11 +131,11 @@ module _ (s : Sizes) (old new : Draft) (nodes : List Pointer) (f : Inode) (are :
     stands = λ e has.
         let m = on e has in
         record {
-          named = λ b. (λ names. elim (m.comes b names) [ inl was ↦ absurd (no_name s b was) | inr is ↦ is ], m.named b);
+          named = λ b. (λ names. elim (m.moves names.height names.index b names.is) [ inl was ↦ absurd (no_name s b (record { height = names.height; index = names.index; is = was })) | inr is ↦ is ], m.named b);
           once = m.once;
           sound = m.sound;
         };
   }
 
-  pub map_on : (e : Blocks) → HasAll e new.blocks.items → IsBlockMapOn e new f
+  pub map_on : (e : Blocks) → HasAll e new.blocks.items → IsDraftMapOn e new f
   map_on e has = let m = on e has in record { kind = m.kind; whole = m.no_hole; entries = m.entries }

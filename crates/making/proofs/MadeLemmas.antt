@@ -12,7 +12,7 @@ use Rattle.layout.specs.declared.TheConstants.{SLOT_A, SLOT_B}
 use Rattle.layout.specs.declared.numbers.TheConstants.{FIRST_GENERATION}
 use Rattle.layout.specs.declared.root.Root.{Root}
 use Rattle.buffers.specs.Disks.{IsBlock}
-use Rattle.images.specs.FirstRoots.{root_alone}
+use Rattle.images.specs.FirstRoots.{root_alone_volume}
 use Rattle.images.specs.Roots.{whole}
 use Rattle.images.specs.States.{Holds, OpensBy}
 use Rattle.conspoint.specs.Cuts.{IsOutside}
@@ -54,7 +54,7 @@ pub record IsFirstPlan (s : Sizes) (p : Planned) (r : Root) : Type 0 where
   pub root : IsRoot r
   pub generation : r.generation ≡ FIRST_GENERATION
   pub geometry : r.geometry ≡ s
-  pub holds : (e : Blocks) → HasAll e p.blocks → Holds r (whole e r) root_alone []
+  pub holds : (e : Blocks) → HasAll e p.blocks → Holds r (whole e r) root_alone_volume []
 
 module _ (s : Sizes) (p : Planned) (r : Root) (is : IsFirstPlan s p r) (c : Images) (w : IsWritten s.half p c) where
   in_a : c.disk SLOT_A ≡ root_bytes r
@@ -88,7 +88,7 @@ module _ (s : Sizes) (p : Planned) (r : Root) (is : IsFirstPlan s p r) (c : Imag
     has_all = λ i d lt. reads sectors c.disk _ _ sized (fits.blocks i d lt) (w.written.blocks i d lt)
 
     pub opens : sectors ≡ 8 * s.blocks → length c.nvram ≡ 2 * s.half
-        → ((n : ℕ) (disk : ℕ → List ℕ) (nvram : List ℕ) (q : Root) → IsNewest q (disk SLOT_A) (disk SLOT_B) → n ≡ 8 * q.geometry.blocks → Holds q (whole (blocks_of disk) q) root_alone []
+        → ((n : ℕ) (disk : ℕ → List ℕ) (nvram : List ℕ) (q : Root) → IsNewest q (disk SLOT_A) (disk SLOT_B) → n ≡ 8 * q.geometry.blocks → Holds q (whole (blocks_of disk) q) root_alone_volume []
         → LogHolds q.geometry.half q.generation nvram [] → OpensBy n disk nvram (empty q.geometry.inodes) [])
         → OpensBy sectors c.disk c.nvram (empty s.inodes) []
     opens size nvram law =

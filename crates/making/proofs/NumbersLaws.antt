@@ -14,7 +14,7 @@ use Rattle.layout.specs.Places.{Blocks}
 use Rattle.layout.specs.declared.inode.Inode.{Inode}
 use Rattle.layout.specs.declared.kind.Kind.TheVariants as kinds
 use Rattle.blocktree.specs.Places.{block_count}
-use Rattle.images.specs.Contents.{Content, bytes_of, content_of}
+use Rattle.images.specs.Contents.{Content, content_bytes, content_of}
 use Rattle.images.specs.Nodes.{held}
 use Rattle.images.specs.Soundness.{HasNoHole}
 use Rattle.inode.specs.Files.{IsFile, file_block}
@@ -97,6 +97,6 @@ pub numbers_on : (e : Blocks) (f : Inode) (o : Object) (inodes : ℕ) → o.attr
 numbers_on e f o inodes attributes size some blocks content whole = record {
   kind = ap (λ (i : Inode). i.kind) (sym (held_inode e f)) ∙ ap (λ (c : Content). c.kind) content ∙ ap (λ (a : Attributes). a.kind) attributes;
   whole = whole;
-  taken = subst (λ (c : Content). (n : ℕ) → IsTaken (bytes_of c) n ↔ (n < 4)) (sym content)
+  taken = subst (λ (c : Content). (n : ℕ) → IsTaken (content_bytes c) n ↔ (n < 4)) (sym content)
       (taken_low (byte_in (object_block nothing o)) o.file.size (object_byte o blocks) (omega (arith, size, some)));
 }

@@ -8,11 +8,13 @@ use Rattle.std.specs.Int.{div_ceil}
 use Rattle.std.specs.Ordering.{nat_cmp}
 use Rattle.std.specs.BTreeMap as tree
 use Rattle.layout.specs.Version.{level_of}
+use Rattle.images.specs.Sums.{sum_below}
+use Rattle.images.proofs.SumLaws.{gap_counts, sum_of_none}
 use Rattle.blocktree.specs.Places.{block_count}
-use Rattle.blocktree.specs.Trees.{IsChanged, IsChangedSlot}
+use Rattle.blocktree.specs.Trees.{IsChanged, IsChangedSlot, slot_stores}
 use Rattle.blocktree.specs.declared.tree.BlockTree.{BlockTree}
 use Rattle.blocktree.specs.declared.tree.Slot.{Slot}
-use Rattle.blocktree.specs.declared.tree.Slot.TheVariants.{AsSettled, Changed}
+use Rattle.blocktree.proofs.SlotLaws.{slot_is}
 use Rattle.blockmap.specs.Maps.{free_below, settled_at}
 use Rattle.blockmap.specs.Parts.{Part}
 use Rattle.blockmap.specs.Space.{left}
@@ -21,9 +23,10 @@ use Rattle.conspoint.specs.Drafts.{IsShortage}
 use Rattle.conspoint.specs.declared.error.PlanError.{PlanError}
 use Rattle.conspoint.specs.declared.error.PlanError.TheVariants.{NoMemory, Device, NoSpace, Damaged}
 use Rattle.conspoint.specs.MapFiles.{map_nodes}
-use Rattle.conspoint.specs.Space.{block_stores, changed_blocks, slot_stores, sum_below}
-use Rattle.conspoint.proofs.SumLemmas.{changed_within, gap_counts, sum_of_none}
+use Rattle.conspoint.specs.Space.{block_stores, changed_blocks}
+use Rattle.conspoint.proofs.SumLemmas.{changed_within}
 use Rattle.inode.specs.declared.file.File.{File}
+use Rattle.inode.proofs.RoomLaws.{more_at_most}
 use Rattle.placement.specs.Space.{file_stores, first_stores, height_stores, level_stores, more_over}
 use Rattle.making.specs.Space.{NUMBERS_STORES, TOP_STORES}
 use Rattle.making.specs.Starts.{IsEmptyMap, system_entry}
@@ -63,13 +66,8 @@ stores_few (suc (suc (suc level))) blocks changed more low one = absurd (omega (
 level_low : (size : ℕ) → level_of size ≤ 2
 level_low size = grind (arith, nat_tests)
 
-more_few : (f : File) → more_over f ≤ 1
-more_few f = grind (arith, nat_tests)
-
 unchanged_slot : (s : Option Slot) → (IsChangedSlot s → ⊥) → slot_stores s ≡ 0
-unchanged_slot None not = refl
-unchanged_slot (Some AsSettled) not = refl
-unchanged_slot (Some (Changed block)) not = absurd (not tt)
+unchanged_slot s not = elim (slot_is s) [ inl none ↦ none | inr changed ↦ absurd (not changed) ]
 
 none_or : (t : Bool) (x : ℕ) → x ≡ 0 → (if t then 0 else x) ≡ 0
 none_or true x is = refl
@@ -83,7 +81,7 @@ none_changed t first n not =
 -- the inode map has two blocks at the most
 pub numbers_few : (f : File) (inodes : ℕ) → f.size ≡ div_ceil inodes 8 → inodes ≤ 65536 → file_stores f ≤ NUMBERS_STORES
 numbers_few f inodes size most =
-    let few = stores_few (level_of f.size) (block_count f.size) (changed_blocks f.tree 0 (block_count f.size)) (more_over f) (level_low f.size) (more_few f) in
+    let few = stores_few (level_of f.size) (block_count f.size) (changed_blocks f.tree 0 (block_count f.size)) (more_over f) (level_low f.size) (more_at_most f) in
     let within = changed_within f.tree 0 (block_count f.size) in
     let blocks : block_count f.size ≤ 2 = omega (arith, size, most) in
     omega (arith, few, within, blocks)
@@ -91,7 +89,7 @@ numbers_few f inodes size most =
 -- of the inode file only the first block is stored
 pub top_few : (f : File) → ((i : ℕ) → IsChanged f.tree i → ⊥) → first_stores f ≤ TOP_STORES
 top_few f not =
-    let few = stores_few (level_of f.size) (block_count f.size) (changed_blocks f.tree 1 (block_count f.size) + 1) (more_over f) (level_low f.size) (more_few f) in
+    let few = stores_few (level_of f.size) (block_count f.size) (changed_blocks f.tree 1 (block_count f.size) + 1) (more_over f) (level_low f.size) (more_at_most f) in
     let none = none_changed f.tree 1 (block_count f.size) not in
     omega (arith, few, none)
 

@@ -9,7 +9,7 @@ use Rattle.layout.specs.Places.{Blocks}
 use Rattle.layout.specs.declared.inode.Inode.{Inode}
 use Rattle.layout.specs.declared.kind.Kind.TheVariants as kinds
 use Rattle.images.specs.FirstRoots.{empty_directory, first_inodes, first_tree}
-use Rattle.images.specs.InodeFiles.{FitsPlace, put_at, with_inode}
+use Rattle.images.specs.InodeFiles.{FitsPlace, spliced_at, with_inode}
 use Rattle.images.specs.Nodes.{Held, held, file_block}
 use Rattle.images.specs.Overlays.{Overlay, overlaid_block}
 use Rattle.images.specs.Roots.{free_inode, inode_bytes_at}
@@ -26,7 +26,7 @@ pub record PutsOneByOne : Type 0 where
   pub behind : (h : Held) (c : Overlay) (n i : ℕ) (bytes : List ℕ) → FitsPlace h c n bytes
       → drop (192 * 21) (overlaid_block h (with_inode h c n bytes) i) ≡ drop (192 * 21) (overlaid_block h c i)
 
-length-put : (at : ℕ) (bytes block : List ℕ) → length block ≡ 4096 → length bytes ≡ 192 → at + 192 ≤ 4096 → length (put_at at bytes block) ≡ 4096
+length-put : (at : ℕ) (bytes block : List ℕ) → length block ≡ 4096 → length bytes ≡ 192 → at + 192 ≤ 4096 → length (spliced_at at bytes block) ≡ 4096
 length-put at bytes block whole long fits = simp (length-take, length-drop, length-append) (omega (arith, whole, long))
 
 module _ (puts : PutsOneByOne) (numbers map : Inode) (long_numbers : length (inode_bytes numbers) ≡ 192) (long_map : length (inode_bytes map) ≡ 192) (long_directory : length (inode_bytes empty_directory) ≡ 192) where
@@ -52,7 +52,7 @@ module _ (puts : PutsOneByOne) (numbers map : Inode) (long_numbers : length (ino
   fits2 = record { block = length-put 192 (inode_bytes numbers) (zeros 4096) (length-zeros 4096) long_numbers (omega arith); inode = long_map }
 
   fits3 : FitsPlace base c2 3 (inode_bytes empty_directory)
-  fits3 = record { block = length-put 384 (inode_bytes map) (put_at 192 (inode_bytes numbers) (zeros 4096)) fits2.block long_map (omega arith); inode = long_directory }
+  fits3 = record { block = length-put 384 (inode_bytes map) (spliced_at 192 (inode_bytes numbers) (zeros 4096)) fits2.block long_map (omega arith); inode = long_directory }
 
   blocks_are : (i : ℕ) → overlaid_block base c3 i ≡ (if i == 0 then inodes_block numbers map else zeros 4096)
   blocks_are zero = refl

@@ -18,7 +18,7 @@ use Rattle.images.specs.Nodes.{IsOnce, Names, file_block, held}
 use Rattle.images.specs.Roots.{Reach}
 use Rattle.images.specs.Soundness.{IsSoundFile}
 use Rattle.images.proofs.FirstLaws.{free_named, none_named}
-use Rattle.making.specs.Plans.{HasFile, HasTree, IsBlockMapOn, IsNumbersOn, IsTopOn, StandsIn}
+use Rattle.making.specs.Plans.{HasFile, HasTree, IsDraftMapOn, IsNumbersOn, IsTopOn, StandsInJust}
 use Rattle.making.specs.Starts.{IsEmptyMap, inodes_block, system_entry}
 use Rattle.making.proofs.EmptyMapLaws.{system_low, system_past}
 use Rattle.making.proofs.SpelledLaws.{PutsOneByOne, first_spelled}
@@ -47,7 +47,7 @@ start_system b = (
 
 module _ (puts : PutsOneByOne) (s : Sizes) (are : AreSizes s) (d0 d1 d2 d3 d4 : Draft) (numbers top map : Inode) (first : ℕ)
     (has1 : HasFile s d0 d1 numbers) (on1 : OnEach d1 (λ e. IsNumbersOn e numbers)) (has0 : HasFile s d1 d2 top) (on0 : OnEach d2 (λ e. IsTopOn e first top))
-    (has2 : HasFile s d2 d3 map) (on2 : OnEach d3 (λ e. IsBlockMapOn e d3 map)) (grows2 : Grows d1 d2) (grows3 : Grows d2 d3) (grows4 : Grows d3 d4)
+    (has2 : HasFile s d2 d3 map) (on2 : OnEach d3 (λ e. IsDraftMapOn e d3 map)) (grows2 : Grows d1 d2) (grows3 : Grows d2 d3) (grows4 : Grows d3 d4)
     (start : IsEmptyMap s.blocks d0.map) (stored : OnEach d4 (λ e. e first ≡ inodes_block numbers map))
     (long_numbers : length (inode_bytes numbers) ≡ 192) (long_map : length (inode_bytes map) ≡ 192) (long_directory : length (inode_bytes empty_directory) ≡ 192) where
   module _ (e : Blocks) (has : HasAll e d4.blocks.items) where
@@ -60,13 +60,13 @@ module _ (puts : PutsOneByOne) (s : Sizes) (are : AreSizes s) (d0 d1 d2 d3 d4 : 
     at1 : HasAll e d1.blocks.items
     at1 = grows2.has e at2
 
-    in1 : StandsIn s e numbers has1.taken
+    in1 : StandsInJust s e numbers has1.taken
     in1 = has1.stands e at1
 
-    in0 : StandsIn s e top has0.taken
+    in0 : StandsInJust s e top has0.taken
     in0 = has0.stands e at2
 
-    in2 : StandsIn s e map has2.taken
+    in2 : StandsInJust s e map has2.taken
     in2 = has2.stands e at3
 
     others_are : (b k : ℕ) → k ≢ 0 → bit_at (entry_at d3.map.parts.items b) k ≡ bit_at (system_entry b) k

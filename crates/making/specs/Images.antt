@@ -34,14 +34,14 @@ pub record EmptiesSlots (old new : Images) : Type 0 where
   pub nvram : new.nvram ≡ old.nvram
 
 -- no root and no records
-pub record IsCleared (half : ℕ) (c : Images) : Type 0 where
+pub record HasNoRoots (half : ℕ) (c : Images) : Type 0 where
   pub slots : HasEmptySlots c
   pub halves : HasClosedHalves half c.nvram
 
 -- images without root and records, but for this plan's blocks and root
 pub record IsWritten (half : ℕ) (p : Planned) (c : Images) : Type 0 where
   pub before : Images
-  pub cleared : IsCleared half before
+  pub cleared : HasNoRoots half before
   pub written : HasNewRoot p before c
 
 -- a new image: a root of the first generation in slot A, nothing in slot B, and an empty log

@@ -13,14 +13,14 @@ use Rattle.blockmap.specs.Maps.{IsTouched, entry_at, settled_at}
 use Rattle.conspoint.specs.Drafts.{OnEach, WasTaken}
 use Rattle.conspoint.specs.declared.draft.Draft.{Draft}
 use Rattle.images.specs.BlockMap.{HasBit}
-use Rattle.images.specs.Contents.{bytes_of, content_of}
+use Rattle.images.specs.Contents.{content_bytes, content_of}
 use Rattle.images.specs.FirstRoots.{IsFirstTree}
 use Rattle.images.specs.Nodes.{held, Names, IsOnce, file_block}
 use Rattle.images.specs.Soundness.{HasNoHole, IsSoundFile}
 use Rattle.making.specs.Starts.{system_entry}
 
 -- on a disk e the file of this inode is in its grammar and stands in just these blocks, each for one node
-pub record StandsIn (s : Sizes) (e : Blocks) (f : Inode) (taken : ℕ → Bool) : Type 0 where
+pub record StandsInJust (s : Sizes) (e : Blocks) (f : Inode) (taken : ℕ → Bool) : Type 0 where
   pub named : (b : ℕ) → Names (held e f) b ↔ (taken b ≡ true)
   pub once : IsOnce (held e f)
   pub sound : IsSoundFile s (held e f)
@@ -34,13 +34,13 @@ pub record HasFile (s : Sizes) (old new : Draft) (f : Inode) : Type 0 where
       ↔ (HasBit 0 (entry_at old.map.parts.items b) ⊎ (taken b ≡ true))
   pub others : (b i : ℕ) → i ≢ 0
       → bit_at (entry_at new.map.parts.items b) i ≡ bit_at (entry_at old.map.parts.items b) i
-  pub stands : OnEach new (λ e. StandsIn s e f taken)
+  pub stands : OnEach new (λ e. StandsInJust s e f taken)
 
 -- on a disk e this is the inode of an inode map of which the numbers 0 to 3 are taken
 pub record IsNumbersOn (e : Blocks) (f : Inode) : Type 0 where
   pub kind : f.kind ≡ kinds.InodeMap
   pub whole : HasNoHole (held e f)
-  pub taken : (n : ℕ) → IsTaken (bytes_of (content_of (held e f))) n ↔ (n < FIRST_NUMBER)
+  pub taken : (n : ℕ) → IsTaken (content_bytes (content_of (held e f))) n ↔ (n < FIRST_NUMBER)
 
 -- on a disk e this is the inode of an inode file that has its first block at this place, and no other
 pub record IsTopOn (e : Blocks) (first : ℕ) (f : Inode) : Type 0 where
@@ -48,7 +48,7 @@ pub record IsTopOn (e : Blocks) (first : ℕ) (f : Inode) : Type 0 where
   pub blocks : (i : ℕ) → file_block (held e f) i ≡ (if i == 0 then e first else zeros 4096)
 
 -- on a disk e this is the inode of a block map with the entries of a draft
-pub record IsBlockMapOn (e : Blocks) (d : Draft) (f : Inode) : Type 0 where
+pub record IsDraftMapOn (e : Blocks) (d : Draft) (f : Inode) : Type 0 where
   pub kind : f.kind ≡ kinds.BlockMap
   pub whole : HasNoHole (held e f)
   pub entries : (b : ℕ) → map_entry (file_block (held e f) (b / 1024)) (b % 1024)

@@ -10,7 +10,7 @@ use Rattle.blockmap.specs.Maps.{IsTouched, entry_at, settled_at}
 use Rattle.blockmap.specs.Parts.{Part}
 use Rattle.blockmap.specs.declared.map.BlockMap.{BlockMap}
 use Rattle.images.specs.FirstRoots.{empty_directory}
-use Rattle.images.specs.InodeFiles.{put_at}
+use Rattle.images.specs.InodeFiles.{spliced_at}
 use Rattle.making.specs.declared.map.TheConstants.{SYSTEM_ENTRY}
 
 abbrev pub nothing : Blocks
@@ -44,5 +44,5 @@ numbers_block i = if i == 0 then 15 ∷ zeros 4095 else zeros 4096
 -- the first block of the inode file, with the inodes of the two maps and of the root directory
 abbrev pub inodes_block : Inode → Inode → List ℕ
 inodes_block numbers map =
-    put_at (INODE_BYTES * 3) (inode_bytes empty_directory)
-    (put_at (INODE_BYTES * 2) (inode_bytes map) (put_at (INODE_BYTES * 1) (inode_bytes numbers) (zeros BLOCK_BYTES)))
+    spliced_at (INODE_BYTES * 3) (inode_bytes empty_directory)
+    (spliced_at (INODE_BYTES * 2) (inode_bytes map) (spliced_at (INODE_BYTES * 1) (inode_bytes numbers) (zeros BLOCK_BYTES)))

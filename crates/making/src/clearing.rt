@@ -2,7 +2,7 @@
 
 ghost use Rattle.std.specs.Prelude.{◌≡◌, ◌≤◌, OnOk};
 ghost use Rattle.station.specs.Moments.{IsSameStation, CountsWrite};
-ghost use Rattle.making.specs.Images.{EmptiesSlots, HasClosedHalves, IsCleared, Suits};
+ghost use Rattle.making.specs.Images.{EmptiesSlots, HasClosedHalves, HasNoRoots, Suits};
 
 use layout::{CLOSED, Geometry, SECTOR_BYTES, SLOT_A, SLOT_B};
 use station::{DeviceFault, Station};
@@ -13,7 +13,7 @@ pub(crate) fn clear<S: Station>(station: &mut S, geometry: Geometry) -> Result<(
     ensures same { IsSameStation (S.meaning station.old) (S.meaning station.new) }
     ensures counts { CountsWrite (S.meaning station.old) (S.meaning station.new) result }
     ensures cleared { (S.meaning station.old).is_honest
-        → OnOk result (IsCleared geometry.half (S.meaning station.new).seen) }
+        → OnOk result (HasNoRoots geometry.half (S.meaning station.new).seen) }
 {
     // The gates first, so that no record stands behind a root that it isn't of: without its newest root an image might open
     // by an older one.

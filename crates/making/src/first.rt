@@ -12,11 +12,11 @@ ghost use Rattle.conspoint.specs.Groups.{pointer_at};
 ghost use Rattle.conspoint.specs.MapFiles.{map_nodes};
 ghost use Rattle.conspoint.specs.Plans.{FitsDisk};
 ghost use Rattle.conspoint.specs.Space.{Lacks};
-ghost use Rattle.images.specs.FirstRoots.{root_alone};
+ghost use Rattle.images.specs.FirstRoots.{root_alone_volume};
 ghost use Rattle.images.specs.Roots.{whole};
 ghost use Rattle.images.specs.States.{Holds};
 ghost use Rattle.making.specs.Space.{NUMBERS_STORES, TOP_STORES};
-ghost use Rattle.making.specs.Plans.{HasFile, HasTree, IsBlockMapOn, IsNumbersOn, IsPlacedOver, IsTopOn};
+ghost use Rattle.making.specs.Plans.{HasFile, HasTree, IsDraftMapOn, IsNumbersOn, IsPlacedOver, IsTopOn};
 ghost use Rattle.making.specs.Starts.{IsEmptyMap};
 ghost use Rattle.conspoint.specs.Steps.{Takes};
 
@@ -109,7 +109,7 @@ fn place_map(alloc: Global, draft: &mut Draft, geometry: Geometry) -> Result<Ino
     ensures grows { Grows draft.old draft.new }
     ensures others { (p : ℕ) → IsReserved draft.old p → IsReserved draft.new p }
     ensures file { IfOk result (HasFile geometry draft.old draft.new) }
-    ensures map { IfOk result (λ f. OnEach draft.new (λ e. IsBlockMapOn e draft.new f)) }
+    ensures map { IfOk result (λ f. OnEach draft.new (λ e. IsDraftMapOn e draft.new f)) }
     ensures lacks { IsErrOf result PlanError.NoSpace
         → Lacks (map_nodes (div_ceil geometry.blocks BLOCK_POINTERS)) draft.old }
     ensures shortage { IfErr result IsShortage }
@@ -154,7 +154,7 @@ pub fn plan_first(alloc: Global, geometry: Geometry) -> Result<FirstPoint, PlanE
     ensures generation { IfOk result (λ p. p.root.generation ≡ FIRST_GENERATION) }
     ensures geometry { IfOk result (λ p. p.root.geometry ≡ geometry) }
     ensures holds { IfOk result (λ p. (e : Blocks) → HasAll e p.plan.blocks
-        → Holds p.root (whole e p.root) root_alone []) }
+        → Holds p.root (whole e p.root) root_alone_volume []) }
     ensures memory { IfErr result (λ e. e ≡ PlanError.NoMemory) }
 {
     first_roots_hold();

@@ -5,7 +5,7 @@ ghost use Rattle.std.specs.Int.{div_ceil};
 ghost use Rattle.layout.specs.Bytes.{zeros};
 ghost use Rattle.layout.specs.Inode.{inode_bytes};
 ghost use Rattle.images.specs.FirstRoots.{empty_directory};
-ghost use Rattle.images.specs.InodeFiles.{put_at};
+ghost use Rattle.images.specs.InodeFiles.{spliced_at};
 ghost use Rattle.images.specs.Roots.{free_inode};
 ghost use Rattle.blocktree.specs.Trees.{IsChanged};
 ghost use Rattle.inode.specs.Bases.{IsBased};
@@ -53,7 +53,7 @@ fn put_inode(block: &mut Block, at: u32, inode: &Inode)
     requires at { at < 21 }
     requires whole { length block.old ≡ 4096 }
     ensures whole { length block.new ≡ 4096 }
-    ensures put { block.new ≡ put_at (INODE_BYTES * at) (inode_bytes inode.now) block.old }
+    ensures put { block.new ≡ spliced_at (INODE_BYTES * at) (inode_bytes inode.now) block.old }
     ensures long { length (inode_bytes inode.now) ≡ INODE_BYTES }
 {
     let mut bytes = [0; INODE_BYTES];

@@ -7,7 +7,7 @@ use Rattle.model.specs.Counting.{Counts}
 use Rattle.model.specs.Paths.{Name}
 use Rattle.model.specs.Edits.{written, resized}
 use Rattle.model.specs.Trees.{Description}
-use Rattle.model.specs.Volumes.{Node, directory_node, file_node, link_node, Volume, Entries, bytes_of, names_in, entries, with_node, set_name, with_entry, is_file_node, is_directory_node, is_nameless, with_name_less, with_name_more, released, is_open, swept_node, swept}
+use Rattle.model.specs.Volumes.{Node, directory_node, file_node, link_node, Volume, Entries, bytes_of_node, names_in, entries, with_node, set_name, with_entry, is_file_node, is_directory_node, is_nameless, with_name_less, with_name_more, released, is_open, swept_node, swept}
 use Rattle.model.specs.Laws.{ReplayFollows, ReplayEndsSame, ReplaysCostTheSame}
 use Rattle.model.specs.Room.{puts_bytes, changes_size}
 use Rattle.model.specs.Records.{Change, create, link, unname, rename, write, cut, change_mode, node_of, with_file_bytes, with_node_mode, applied, IsBelow, TakesName, IsEmpty, is_vacant, CanReplace, Applies, without_nameless, Extends}
@@ -264,6 +264,6 @@ costs_the_same inodes v w (create number parent made name) extends can = refl
 costs_the_same inodes v w (link number parent name) extends can = refl
 costs_the_same inodes v w (unname parent name) extends can = refl
 costs_the_same inodes v w (rename parent name new_parent new_name) extends can = refl
-costs_the_same inodes v w (write number offset bytes) extends can = ap (λ o. puts_bytes (length (unwrap_or (bytes_of o) [])) offset (length bytes)) (file_kept v w extends number can.0)
-costs_the_same inodes v w (cut number size) extends can = ap (λ o. changes_size (length (unwrap_or (bytes_of o) [])) size) (file_kept v w extends number can.0)
+costs_the_same inodes v w (write number offset bytes) extends can = ap (λ o. puts_bytes (length (unwrap_or (bytes_of_node o) [])) offset (length bytes)) (file_kept v w extends number can.0)
+costs_the_same inodes v w (cut number size) extends can = ap (λ o. changes_size (length (unwrap_or (bytes_of_node o) [])) size) (file_kept v w extends number can.0)
 costs_the_same inodes v w (change_mode number mode) extends can = refl

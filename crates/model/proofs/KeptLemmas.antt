@@ -8,7 +8,7 @@ use Rattle.std.proofs.lemmas.List.Sums.{fold-append}
 use Rattle.model.specs.Paths.{Name, Path, IsName, behind}
 use Rattle.model.specs.Trees.{Description}
 use Rattle.model.specs.Edits.{relocate, relocated, moved}
-use Rattle.model.specs.Volumes.{Node, directory_node, file_node, link_node, Volume, Entries, names_in, entries, enter, number_at, object_of, object_at, bytes_of, mode_of, tree_of, with_node, with_edge, set_name, with_entry, is_file_node, is_directory_node, IsGraph, with_name_less, released, renamed, HasNames}
+use Rattle.model.specs.Volumes.{Node, directory_node, file_node, link_node, Volume, Entries, names_in, entries, enter, number_at, object_of, object_at, bytes_of_node, mode_of, tree_of, with_node, with_edge, set_name, with_entry, is_file_node, is_directory_node, IsGraph, with_name_less, released, renamed, HasNames}
 use Rattle.model.proofs.WalkLemmas.{number_at-push, number_at-moved, behind-append, behind-is, edge_from, edge_other, edge_here, relocated-is, same_bytes, bytes_eq-same}
 use Rattle.model.proofs.CountLemmas.{same_count, one_less, one_more}
 use Rattle.model.proofs.VolumeLemmas.{ends, alone, directory_no_file}
@@ -17,7 +17,7 @@ use Rattle.model.proofs.ObjectLaws.{node_other}
 -- an object is the same but for its names and their count
 pub record Kept (old new : Option Node) : Type 0 where
   pub object : (n : ℕ) → object_of n new ≡ object_of n old
-  pub bytes : bytes_of new ≡ bytes_of old
+  pub bytes : bytes_of_node new ≡ bytes_of_node old
   pub mode : mode_of new ≡ mode_of old
   pub directory : is_directory_node new ≡ is_directory_node old
   pub file : is_file_node new ≡ is_file_node old

@@ -5,7 +5,7 @@ use Rattle.model.specs.declared.limits.TheConstants.{ROOT_NUMBER, FIRST_NUMBER, 
 use Rattle.model.specs.Counting.{Counts, CountsUpTo}
 use Rattle.model.specs.Paths.{Name}
 use Rattle.model.specs.Trees.{Description}
-use Rattle.model.specs.Volumes.{Node, directory_node, file_node, link_node, Volume, Entries, entries, with_edge, with_node, set_name, with_entry, IsNode, KeepsLimits, with_name_less, released, is_open, swept_node, swept}
+use Rattle.model.specs.Volumes.{Node, directory_node, file_node, link_node, Volume, Entries, entries, with_edge, with_node, set_name, with_entry, IsNode, KeepsNodeLimits, with_name_less, released, is_open, swept_node, swept}
 use Rattle.model.proofs.WalkLemmas.{edge_here, edge_other}
 use Rattle.model.proofs.CountLemmas.{same_count, one_more, one_less}
 use Rattle.model.proofs.ListingLemmas.{names_apart}
@@ -135,7 +135,7 @@ module _ (e : Entries) (k : ℕ) (b : Name) (to : Option ℕ) where
       ]
 
 -- a sweep keeps the limits
-pub limits_swept : (inodes : ℕ) (v : Volume) (table : ℕ → Option Description) → entries (swept table v) ≡ entries v → KeepsLimits inodes v → KeepsLimits inodes (swept table v)
+pub limits_swept : (inodes : ℕ) (v : Volume) (table : ℕ → Option Description) → entries (swept table v) ≡ entries v → KeepsNodeLimits inodes v → KeepsNodeLimits inodes (swept table v)
 limits_swept inodes v table same limits = record {
   nodes = λ n. swept_good (is_open table 32 n) (v n) (limits.nodes n);
   numbers = λ n some. limits.numbers n (swept_some (is_open table 32 n) (v n) some);

@@ -4,7 +4,7 @@ use Rattle.std.proofs.lemmas.Bool.{cases_Bool, cases_eq, cases_lt, cond_both, co
 use Rattle.model.specs.declared.limits.TheConstants.{ROOT_NUMBER, FIRST_NUMBER, MODE_BITS, GREATEST_FILE, GREATEST_OFFSET, OPEN_FILES, FILE_NAMES, DIRECTORY_NAMES}
 use Rattle.model.specs.Counting.{Counts, CountsUpTo}
 use Rattle.model.specs.Paths.{Path, IsName, IsLinkText}
-use Rattle.model.specs.Trees.{Tree, Object, directory, symlink, file, number, is_directory, Description, Stands, IsOpen, IsUsed, IsTree}
+use Rattle.model.specs.Trees.{Tree, Object, directory, symlink, file, number, is_directory, Description, StandsAtPath, IsOpen, IsUsed, IsTree}
 use Rattle.model.specs.Edits.{with_mode, with_bytes, with_descriptor, IsSwept}
 use Rattle.model.specs.Volumes.{is_open}
 use Rattle.model.proofs.SweepLemmas.{found_open, opened_by}
@@ -17,10 +17,10 @@ pub record IsLooseTree (inodes : ℕ) (t : Tree) : Type 0 where
   pub above : (p q : Path) → q ≢ [] → IsSome (t.objects (p ++ q)) → is_directory (t.objects p) ≡ true
   pub names : (p : Path) → IsSome (t.objects p) → All IsName p
   pub single : (p q : Path) (o r : Object) → t.objects p ≡ Some o → t.objects q ≡ Some r → number o ≡ number r → (p ≡ q) ⊎ ((o ≡ file (number o)) × (r ≡ o))
-  pub bytes : (n : ℕ) → (Stands t file n ⊎ IsOpen t n) → IsSome (t.bytes n)
-  pub mode : (n : ℕ) → (Stands t directory n ⊎ Stands t file n ⊎ IsOpen t n) → IsSome (t.mode n)
-  pub loose_bytes : (n : ℕ) → IsSome (t.bytes n) → (Stands t file n ⊎ IsOpen t n) ⊎ (¬ IsUsed t n)
-  pub loose_mode : (n : ℕ) → IsSome (t.mode n) → (Stands t directory n ⊎ Stands t file n ⊎ IsOpen t n) ⊎ (¬ IsUsed t n)
+  pub bytes : (n : ℕ) → (StandsAtPath t file n ⊎ IsOpen t n) → IsSome (t.bytes n)
+  pub mode : (n : ℕ) → (StandsAtPath t directory n ⊎ StandsAtPath t file n ⊎ IsOpen t n) → IsSome (t.mode n)
+  pub loose_bytes : (n : ℕ) → IsSome (t.bytes n) → (StandsAtPath t file n ⊎ IsOpen t n) ⊎ (¬ IsUsed t n)
+  pub loose_mode : (n : ℕ) → IsSome (t.mode n) → (StandsAtPath t directory n ⊎ StandsAtPath t file n ⊎ IsOpen t n) ⊎ (¬ IsUsed t n)
   pub opened : (n : ℕ) (p : Path) (o : Object) → IsOpen t n → t.objects p ≡ Some o → number o ≡ n → o ≡ file n
   pub numbers : (n : ℕ) → IsUsed t n → (n ≡ ROOT_NUMBER) ⊎ ((FIRST_NUMBER ≤ n) × (n < inodes))
   pub texts : (p : Path) (n : ℕ) (text : List ℕ) → t.objects p ≡ Some (symlink n text) → IsLinkText text
@@ -61,11 +61,11 @@ if_some P o r is holds = subst (λ q. IfSome q P) (sym is) holds
 if_none : {X : Type 0} (P : X → Type 0) (o : Option X) → o ≡ None → IfSome o P
 if_none P o is = if_some P o None is tt
 
-pub used_file : (t : Tree) (n : ℕ) → Stands t file n ⊎ IsOpen t n → IsUsed t n
+pub used_file : (t : Tree) (n : ℕ) → StandsAtPath t file n ⊎ IsOpen t n → IsUsed t n
 used_file t n (inl (p, is)) = inl (p, file n, is, refl)
 used_file t n (inr open_file) = inr open_file
 
-pub used_either : (t : Tree) (n : ℕ) → Stands t directory n ⊎ Stands t file n ⊎ IsOpen t n → IsUsed t n
+pub used_either : (t : Tree) (n : ℕ) → StandsAtPath t directory n ⊎ StandsAtPath t file n ⊎ IsOpen t n → IsUsed t n
 used_either t n (inl (p, is)) = inl (p, directory n, is, refl)
 used_either t n (inr others) = used_file t n others
 
@@ -74,14 +74,14 @@ module _ (inodes : ℕ) (old new : Tree) (loose : IsLooseTree inodes old) (swept
   abbrev left : Tree
   left = record old { bytes = new.bytes; mode = new.mode }
 
-  bytes_left : (n : ℕ) → IsSome (new.bytes n) → Stands old file n ⊎ IsOpen old n
+  bytes_left : (n : ℕ) → IsSome (new.bytes n) → StandsAtPath old file n ⊎ IsOpen old n
   bytes_left n some =
       elim (some_or_none (old.bytes n)) [
         | inl there ↦ elim (loose.loose_bytes n there) [ inl stands ↦ stands | inr unused ↦ absent (new.bytes n) (swept.gone n unused).0 some ]
         | inr none ↦ absent (new.bytes n) (swept.gone n (λ used. absent (new.bytes n) ((swept.kept n used).0 ∙ none) some)).0 some
       ]
 
-  mode_left : (n : ℕ) → IsSome (new.mode n) → Stands old directory n ⊎ Stands old file n ⊎ IsOpen old n
+  mode_left : (n : ℕ) → IsSome (new.mode n) → StandsAtPath old directory n ⊎ StandsAtPath old file n ⊎ IsOpen old n
   mode_left n some =
       elim (some_or_none (old.mode n)) [
         | inl there ↦ elim (loose.loose_mode n there) [ inl stands ↦ stands | inr unused ↦ absent (new.mode n) (swept.gone n unused).1 some ]
@@ -127,11 +127,11 @@ find_open table past n =
       ])
     ]
 
-find_file : (t : Tree) (n count : ℕ) → Counts (λ p. t.objects p ≡ Some (file n)) count → Stands t file n ⊎ ((p : Path) → t.objects p ≢ Some (file n))
+find_file : (t : Tree) (n count : ℕ) → Counts (λ p. t.objects p ≡ Some (file n)) count → StandsAtPath t file n ⊎ ((p : Path) → t.objects p ≢ Some (file n))
 find_file t n zero none = inr none
 find_file t n (suc count) (p, is, rest) = inl (p, is)
 
-pub decided : (t : Tree) (n : ℕ) → CountsUpTo FILE_NAMES (λ p. t.objects p ≡ Some (file n)) → ((d : ℕ) → OPEN_FILES ≤ d → t.descriptors d ≡ None) → ((p : Path) (o : Object) → t.objects p ≡ Some o → number o ≡ n → o ≡ file n) → (Stands t file n ⊎ IsOpen t n) ⊎ (¬ IsUsed t n)
+pub decided : (t : Tree) (n : ℕ) → CountsUpTo FILE_NAMES (λ p. t.objects p ≡ Some (file n)) → ((d : ℕ) → OPEN_FILES ≤ d → t.descriptors d ≡ None) → ((p : Path) (o : Object) → t.objects p ≡ Some o → number o ≡ n → o ≡ file n) → (StandsAtPath t file n ⊎ IsOpen t n) ⊎ (¬ IsUsed t n)
 decided t n counts past files =
     elim (find_file t n counts.0 counts.1) [
       | inl stands ↦ inl (inl stands)
@@ -145,7 +145,7 @@ decided t n counts past files =
     ]
 
 -- of a file or an open file, all that has its number is that file
-pub all_files : (inodes : ℕ) (t : Tree) → IsLooseTree inodes t → (n : ℕ) → Stands t file n ⊎ IsOpen t n → (p : Path) (o : Object) → t.objects p ≡ Some o → number o ≡ n → o ≡ file n
+pub all_files : (inodes : ℕ) (t : Tree) → IsLooseTree inodes t → (n : ℕ) → StandsAtPath t file n ⊎ IsOpen t n → (p : Path) (o : Object) → t.objects p ≡ Some o → number o ≡ n → o ≡ file n
 all_files inodes t loose n (inl (q, is)) p o at_p same =
     elim (loose.single q p (file n) o is at_p (sym same)) [
       | inl one ↦ some_same (sym at_p ∙ ap t.objects (sym one) ∙ is)
@@ -165,7 +165,7 @@ module _ (inodes : ℕ) (old : Tree) (tree : IsTree inodes old) (table : ℕ →
   was_used n (inl path) = inl path
   was_used n (inr open_file) = inr (was_open n open_file)
 
-  was_file : (n : ℕ) → Stands closed file n ⊎ IsOpen closed n → Stands old file n ⊎ IsOpen old n
+  was_file : (n : ℕ) → StandsAtPath closed file n ⊎ IsOpen closed n → StandsAtPath old file n ⊎ IsOpen old n
   was_file n (inl stands) = inl stands
   was_file n (inr open_file) = inr (was_open n open_file)
 
@@ -176,10 +176,10 @@ module _ (inodes : ℕ) (old : Tree) (tree : IsTree inodes old) (table : ℕ →
       none_by None is = is
       none_by (Some f) is = none_some (sym (tree.table d beyond) ∙ fewer d f is)
 
-  still : (n : ℕ) → Stands old file n ⊎ IsOpen old n → (Stands closed file n ⊎ IsOpen closed n) ⊎ (¬ IsUsed closed n)
+  still : (n : ℕ) → StandsAtPath old file n ⊎ IsOpen old n → (StandsAtPath closed file n ⊎ IsOpen closed n) ⊎ (¬ IsUsed closed n)
   still n stands = decided closed n (tree.links n) past (λ p o at_p same. all_files inodes old (tree_is_loose inodes old tree) n stands p o at_p same)
 
-  mode_still : (n : ℕ) → Stands old directory n ⊎ Stands old file n ⊎ IsOpen old n → (Stands closed directory n ⊎ Stands closed file n ⊎ IsOpen closed n) ⊎ (¬ IsUsed closed n)
+  mode_still : (n : ℕ) → StandsAtPath old directory n ⊎ StandsAtPath old file n ⊎ IsOpen old n → (StandsAtPath closed directory n ⊎ StandsAtPath closed file n ⊎ IsOpen closed n) ⊎ (¬ IsUsed closed n)
   mode_still n (inl stands) = inl (inl stands)
   mode_still n (inr others) = elim (still n others) [ inl stands ↦ inl (inr stands) | inr unused ↦ inr unused ]
 
@@ -205,7 +205,7 @@ module _ (inodes : ℕ) (old : Tree) (tree : IsTree inodes old) (table : ℕ →
   }
 
 -- a tree stays one where a file that is used gets other bytes, or an object that has a mode another mode
-pub bytes_keep : (inodes : ℕ) (t : Tree) (n : ℕ) (given : List ℕ) → IsTree inodes t → Stands t file n ⊎ IsOpen t n → length given ≤ GREATEST_FILE → IsTree inodes (with_bytes n given t)
+pub bytes_keep : (inodes : ℕ) (t : Tree) (n : ℕ) (given : List ℕ) → IsTree inodes t → StandsAtPath t file n ⊎ IsOpen t n → length given ≤ GREATEST_FILE → IsTree inodes (with_bytes n given t)
 bytes_keep inodes t n given tree stands few = record {
   root = tree.root;
   above = tree.above;
@@ -213,7 +213,7 @@ bytes_keep inodes t n given tree stands few = record {
   single = tree.single;
   bytes = λ k. (
     λ some. elim (cases_eq k n) [
-      | inl is ↦ subst (λ j. Stands t file j ⊎ IsOpen t j) (sym is) stands
+      | inl is ↦ subst (λ j. StandsAtPath t file j ⊎ IsOpen t j) (sym is) stands
       | inr other ↦ (tree.bytes k).0 (sym (ap is_some (cond-false (k == n) (Some given) (t.bytes k) (ne_eqb k n other))) ∙ some)
     ],
     λ there. cond_both (k == n) (Some given) (t.bytes k) IsSome (λ e. refl) (λ e. (tree.bytes k).1 there),
@@ -230,7 +230,7 @@ bytes_keep inodes t n given tree stands few = record {
   offsets = tree.offsets;
 }
 
-pub mode_keeps : (inodes : ℕ) (t : Tree) (n mode : ℕ) → IsTree inodes t → Stands t directory n ⊎ Stands t file n ⊎ IsOpen t n → mode ≤ MODE_BITS → IsTree inodes (with_mode n mode t)
+pub mode_keeps : (inodes : ℕ) (t : Tree) (n mode : ℕ) → IsTree inodes t → StandsAtPath t directory n ⊎ StandsAtPath t file n ⊎ IsOpen t n → mode ≤ MODE_BITS → IsTree inodes (with_mode n mode t)
 mode_keeps inodes t n mode tree stands few = record {
   root = tree.root;
   above = tree.above;
@@ -239,7 +239,7 @@ mode_keeps inodes t n mode tree stands few = record {
   bytes = tree.bytes;
   mode = λ k. (
     λ some. elim (cases_eq k n) [
-      | inl is ↦ subst (λ j. Stands t directory j ⊎ Stands t file j ⊎ IsOpen t j) (sym is) stands
+      | inl is ↦ subst (λ j. StandsAtPath t directory j ⊎ StandsAtPath t file j ⊎ IsOpen t j) (sym is) stands
       | inr other ↦ (tree.mode k).0 (sym (ap is_some (cond-false (k == n) (Some mode) (t.mode k) (ne_eqb k n other))) ∙ some)
     ],
     λ there. cond_both (k == n) (Some mode) (t.mode k) IsSome (λ e. refl) (λ e. (tree.mode k).1 there),
@@ -256,7 +256,7 @@ mode_keeps inodes t n mode tree stands few = record {
 }
 
 -- a file that is used is opened at a free descriptor, or the offset of an open one moves
-module _ (inodes : ℕ) (t : Tree) (tree : IsTree inodes t) (fd : ℕ) (f : Description) (below : fd < OPEN_FILES) (stands : Stands t file f.number ⊎ IsOpen t f.number) (few : f.offset ≤ GREATEST_OFFSET) (was : (g : Description) → t.descriptors fd ≡ Some g → g.number ≡ f.number) where
+module _ (inodes : ℕ) (t : Tree) (tree : IsTree inodes t) (fd : ℕ) (f : Description) (below : fd < OPEN_FILES) (stands : StandsAtPath t file f.number ⊎ IsOpen t f.number) (few : f.offset ≤ GREATEST_OFFSET) (was : (g : Description) → t.descriptors fd ≡ Some g → g.number ≡ f.number) where
   abbrev held : Tree
   held = with_descriptor fd (Some f) t
 
@@ -274,18 +274,18 @@ module _ (inodes : ℕ) (t : Tree) (tree : IsTree inodes t) (fd : ℕ) (f : Desc
       ]
 
   -- a file that is open now was used
-  opened_was : (n : ℕ) → IsOpen held n → Stands t file n ⊎ IsOpen t n
+  opened_was : (n : ℕ) → IsOpen held n → StandsAtPath t file n ⊎ IsOpen t n
   opened_was n (d, g, is, same) =
       elim (held_is d g is) [
-        | inl new ↦ subst (λ k. Stands t file k ⊎ IsOpen t k) (sym (ap (λ (h : Description). h.number) new) ∙ same) stands
+        | inl new ↦ subst (λ k. StandsAtPath t file k ⊎ IsOpen t k) (sym (ap (λ (h : Description). h.number) new) ∙ same) stands
         | inr old ↦ inr (d, g, old, same)
       ]
 
-  file_was : (n : ℕ) → Stands held file n ⊎ IsOpen held n → Stands t file n ⊎ IsOpen t n
+  file_was : (n : ℕ) → StandsAtPath held file n ⊎ IsOpen held n → StandsAtPath t file n ⊎ IsOpen t n
   file_was n (inl there) = inl there
   file_was n (inr open_file) = opened_was n open_file
 
-  file_stays : (n : ℕ) → Stands t file n ⊎ IsOpen t n → Stands held file n ⊎ IsOpen held n
+  file_stays : (n : ℕ) → StandsAtPath t file n ⊎ IsOpen t n → StandsAtPath held file n ⊎ IsOpen held n
   file_stays n (inl there) = inl there
   file_stays n (inr (d, g, is, same)) =
       elim (cases_eq d fd) [

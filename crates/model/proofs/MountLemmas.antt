@@ -2,7 +2,7 @@
 use Rattle.std.proofs.Common.{◌≡◌, inl, inr, ℕ, [], ◌∷◌, false, Option, None, refl, sym, ap, subst}
 use Rattle.model.specs.Trees.{Description, HasPath, IsUsed}
 use Rattle.model.specs.States.{ForgetsOpenFiles}
-use Rattle.model.specs.Volumes.{Volume, bytes_of, mode_of, tree_of, IsVolume}
+use Rattle.model.specs.Volumes.{Volume, bytes_of_node, mode_of, tree_of, IsVolume}
 use Rattle.model.specs.Records.{applied, without_nameless}
 use Rattle.model.specs.Laws.{ReplaysKeepVolumes, MountsFind, MountsForget}
 use Rattle.model.proofs.SweepLemmas.{objects-swept, used_stays, not_unused, none_from}
@@ -43,8 +43,8 @@ mounts_forget inodes running replayed table volume extends =
       descriptors = refl;
       kept = λ n there.
           let same : without_nameless running n ≡ running n = used_stays running volume.graph closed (λ d past. refl) n (inl there) in
-          (ap bytes_of same, ap mode_of same);
+          (ap bytes_of_node same, ap mode_of same);
       gone = λ n nowhere.
           let none : without_nameless running n ≡ None = none_from (without_nameless running n) (λ stays. nowhere (path_of_used running n (not_unused running volume.graph closed (λ d past. refl) n stays))) in
-          (ap bytes_of none, ap mode_of none);
+          (ap bytes_of_node none, ap mode_of none);
     }

@@ -6,8 +6,8 @@ use Rattle.std.proofs.lemmas.List.Elements.{All-nil, All-push}
 use Rattle.model.specs.declared.limits.TheConstants.{ROOT_NUMBER, FILE_NAMES, DIRECTORY_NAMES, GREATEST_FILE, MODE_BITS}
 use Rattle.model.specs.Counting.{CountsUpTo}
 use Rattle.model.specs.Paths.{Name, Path, IsName, IsLinkText}
-use Rattle.model.specs.Trees.{Tree, Object, directory, symlink, file, number, is_directory, Description, Stands, IsOpen, IsUsed, IsTree}
-use Rattle.model.specs.Volumes.{Node, directory_node, file_node, link_node, Volume, Entries, entries, enter, number_at, object_of, object_at, bytes_of, mode_of, tree_of, is_file_node, is_directory_node, IsNode, IsVolume, IsMounted}
+use Rattle.model.specs.Trees.{Tree, Object, directory, symlink, file, number, is_directory, Description, StandsAtPath, IsOpen, IsUsed, IsTree}
+use Rattle.model.specs.Volumes.{Node, directory_node, file_node, link_node, Volume, Entries, entries, enter, number_at, object_of, object_at, bytes_of_node, mode_of, tree_of, is_file_node, is_directory_node, IsNode, IsVolume, IsMounted}
 use Rattle.model.proofs.CountLemmas.{same_count}
 use Rattle.model.proofs.WalkLemmas.{number_at-push}
 use Rattle.model.proofs.VolumeLemmas.{ends, alone, enters_directory, directory_no_file, directory_some, last_step}
@@ -52,7 +52,7 @@ object_some n (Some (directory_node mode names)) = refl
 object_some n (Some (file_node mode links bytes)) = refl
 object_some n (Some (link_node text)) = refl
 
-file_bytes : (o : Option Node) → is_some (bytes_of o) ≡ is_file_node o
+file_bytes : (o : Option Node) → is_some (bytes_of_node o) ≡ is_file_node o
 file_bytes None = refl
 file_bytes (Some (directory_node mode names)) = refl
 file_bytes (Some (file_node mode links bytes)) = refl
@@ -81,7 +81,7 @@ file_some None e = e
 file_some (Some o) e = refl
 
 -- the limits of one object
-size_kept : (o : Option Node) → IfSome o IsNode → IfSome (bytes_of o) (λ bytes. length bytes ≤ GREATEST_FILE)
+size_kept : (o : Option Node) → IfSome o IsNode → IfSome (bytes_of_node o) (λ bytes. length bytes ≤ GREATEST_FILE)
 size_kept None good = tt
 size_kept (Some (directory_node mode names)) good = tt
 size_kept (Some (file_node mode links bytes)) good = good.2
@@ -155,24 +155,24 @@ module _ (inodes : ℕ) (v : Volume) (volume : IsVolume inodes v) (table : ℕ �
       ]
 
   -- a file that stands somewhere or is open
-  file_used : (n : ℕ) → is_file_node (v n) ≡ true → Stands t file n ⊎ IsOpen t n
+  file_used : (n : ℕ) → is_file_node (v n) ≡ true → StandsAtPath t file n ⊎ IsOpen t n
   file_used n a_file =
       elim (not_unused v volume.graph table mounted.bounded n (λ none. false≢true (sym (ap is_some (sym (mounted.is_swept n) ∙ none)) ∙ file_some (v n) a_file))) [
         | inl there ↦ inl (there.0, object_is there.0 n (found_number v (number_at (entries v) there.0) there.1 n there.2 there.3) ∙ node_file n (v n) a_file)
         | inr open_file ↦ inr open_file
       ]
 
-  used_file : (n : ℕ) → Stands t file n ⊎ IsOpen t n → is_file_node (v n) ≡ true
+  used_file : (n : ℕ) → StandsAtPath t file n ⊎ IsOpen t n → is_file_node (v n) ≡ true
   used_file n (inl there) = object_file n (v n) n (sym (object_is there.0 n (at_path there.0 (file n) there.1)) ∙ there.1)
   used_file n (inr (d, f, is, same)) = ap (λ k. is_file_node (v k)) (sym same) ∙ mounted.files d f is
 
-  bytes_are : (n : ℕ) → IsSome (t.bytes n) ↔ (Stands t file n ⊎ IsOpen t n)
+  bytes_are : (n : ℕ) → IsSome (t.bytes n) ↔ (StandsAtPath t file n ⊎ IsOpen t n)
   bytes_are n = (λ some. file_used n (sym (file_bytes (v n)) ∙ some), λ used. file_bytes (v n) ∙ used_file n used)
 
-  directory_stands : (n : ℕ) → is_directory_node (v n) ≡ true → Stands t directory n
+  directory_stands : (n : ℕ) → is_directory_node (v n) ≡ true → StandsAtPath t directory n
   directory_stands n is = let path = volume.graph.reached n (directory_some (v n) is) (directory_no_file (v n) is) in (path.0, object_is path.0 n path.1 ∙ node_directory n (v n) is)
 
-  modes_are : (n : ℕ) → IsSome (t.mode n) ↔ (Stands t directory n ⊎ Stands t file n ⊎ IsOpen t n)
+  modes_are : (n : ℕ) → IsSome (t.mode n) ↔ (StandsAtPath t directory n ⊎ StandsAtPath t file n ⊎ IsOpen t n)
   modes_are n = (
     λ some. elim (mode_kinds (v n) some) [
       | inl is ↦ inl (directory_stands n is)

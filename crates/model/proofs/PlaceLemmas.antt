@@ -7,7 +7,7 @@ use Rattle.std.proofs.lemmas.List.Elements.{All-push}
 use Rattle.model.specs.declared.limits.TheConstants.{ROOT_NUMBER, FIRST_NUMBER, MODE_BITS, GREATEST_FILE, FILE_NAMES, DIRECTORY_NAMES}
 use Rattle.model.specs.Counting.{Counts, CountsUpTo}
 use Rattle.model.specs.Paths.{Name, Path, IsName, IsLinkText, path_eq}
-use Rattle.model.specs.Trees.{Tree, Object, directory, symlink, file, number, is_directory, Stands, IsOpen, IsUsed, IsTree}
+use Rattle.model.specs.Trees.{Tree, Object, directory, symlink, file, number, is_directory, StandsAtPath, IsOpen, IsUsed, IsTree}
 use Rattle.model.specs.Edits.{put_at, with_mode, with_bytes}
 use Rattle.model.specs.Outcomes.{IsListing}
 use Rattle.model.proofs.CountLemmas.{same_count, one_more}
@@ -223,18 +223,18 @@ module _ (inodes : ℕ) (old : Tree) (tree : IsTree inodes old) (path : Path) (n
         ]
       ]
 
-  stands_on : (kind : ℕ → Object) (n : ℕ) → Stands old kind n → Stands new kind n
+  stands_on : (kind : ℕ → Object) (n : ℕ) → StandsAtPath old kind n → StandsAtPath new kind n
   stands_on kind n there = (there.0, stays there.0 (kind n) there.1)
 
   -- a file or an open file of the object's number is the object
-  is_file : Stands new file (number o) ⊎ IsOpen new (number o) → o ≡ file (number o)
+  is_file : StandsAtPath new file (number o) ⊎ IsOpen new (number o) → o ≡ file (number o)
   is_file (inl (p, is)) = elim (found_in p (file (number o)) is) [ inl one ↦ sym one.1 | inr one ↦ (joins.free p (file (number o)) one refl).1 ]
   is_file (inr open_file) = joins.opened open_file
 
-  bytes_new : (n : ℕ) → IsSome (bytes n) ↔ (Stands new file n ⊎ IsOpen new n)
+  bytes_new : (n : ℕ) → IsSome (bytes n) ↔ (StandsAtPath new file n ⊎ IsOpen new n)
   bytes_new n =
       elim (cases_eq n (number o)) [
-        | inl is ↦ subst (λ k. IsSome (bytes k) ↔ (Stands new file k ⊎ IsOpen new k)) (sym is) (
+        | inl is ↦ subst (λ k. IsSome (bytes k) ↔ (StandsAtPath new file k ⊎ IsOpen new k)) (sym is) (
           λ some. inl (place, here ∙ ap (λ x. Some x) (joins.of_bytes some)),
           λ there. joins.has_bytes (is_file there),
         )
@@ -244,13 +244,13 @@ module _ (inodes : ℕ) (old : Tree) (tree : IsTree inodes old) (path : Path) (n
         )
       ]
     where
-      file_stood : (n : ℕ) → n ≢ number o → Stands new file n → Stands old file n
+      file_stood : (n : ℕ) → n ≢ number o → StandsAtPath new file n → StandsAtPath old file n
       file_stood n other (p, is) = elim (found_in p (file n) is) [ inl one ↦ absurd (other (ap number one.1)) | inr one ↦ (p, one) ]
 
-  mode_new : (n : ℕ) → IsSome (mode n) ↔ (Stands new directory n ⊎ Stands new file n ⊎ IsOpen new n)
+  mode_new : (n : ℕ) → IsSome (mode n) ↔ (StandsAtPath new directory n ⊎ StandsAtPath new file n ⊎ IsOpen new n)
   mode_new n =
       elim (cases_eq n (number o)) [
-        | inl is ↦ subst (λ k. IsSome (mode k) ↔ (Stands new directory k ⊎ Stands new file k ⊎ IsOpen new k)) (sym is) (
+        | inl is ↦ subst (λ k. IsSome (mode k) ↔ (StandsAtPath new directory k ⊎ StandsAtPath new file k ⊎ IsOpen new k)) (sym is) (
           λ some. elim (joins.of_mode some) [
             | inl kind ↦ inl (place, here ∙ ap (λ x. Some x) kind)
             | inr kind ↦ inr (inl (place, here ∙ ap (λ x. Some x) kind))
@@ -272,7 +272,7 @@ module _ (inodes : ℕ) (old : Tree) (tree : IsTree inodes old) (path : Path) (n
         )
       ]
     where
-      stood : (kind : ℕ → Object) (n : ℕ) → number o ≢ number (kind n) → Stands new kind n → Stands old kind n
+      stood : (kind : ℕ → Object) (n : ℕ) → number o ≢ number (kind n) → StandsAtPath new kind n → StandsAtPath old kind n
       stood kind n other (p, is) = elim (found_in p (kind n) is) [ inl one ↦ absurd (other (ap number (sym one.1))) | inr one ↦ (p, one) ]
 
   opened_new : (n : ℕ) (p : Path) (r : Object) → IsOpen new n → new.objects p ≡ Some r → number r ≡ n → r ≡ file n

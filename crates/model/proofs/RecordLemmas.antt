@@ -7,7 +7,7 @@ use Rattle.model.specs.Paths.{Name, Path}
 use Rattle.model.specs.Trees as trees
 use Rattle.model.specs.Trees.{Tree, number, Description}
 use Rattle.model.specs.Edits.{contents, resized, written, put_at, without_object}
-use Rattle.model.specs.Volumes.{Node, directory_node, file_node, link_node, Volume, names_in, entries, number_at, object_of, object_at, bytes_of, mode_of, tree_of, with_node, set_name, with_entry, is_file_node, is_directory_node, is_nameless, IsGraph, IsVolume, with_name_more, released, created, linked, unnamed, is_open, swept_node, swept, IsMounted}
+use Rattle.model.specs.Volumes.{Node, directory_node, file_node, link_node, Volume, names_in, entries, number_at, object_of, object_at, bytes_of_node, mode_of, tree_of, with_node, set_name, with_entry, is_file_node, is_directory_node, is_nameless, IsGraph, IsVolume, with_name_more, released, created, linked, unnamed, is_open, swept_node, swept, IsMounted}
 use Rattle.model.specs.Records.{Made, file, directory, symbolic_link, Change, create, link, unname, rename, write, cut, change_mode, node_of, with_file_bytes, with_node_mode, applied, CanCreate, CanLink, Applies}
 use Rattle.model.specs.Changes.{IsAt, with_made, ChangesTree, TakesFreeNumber}
 use Rattle.model.specs.Laws.{RecordsChangeTrees, VolumesAreTrees}
@@ -167,8 +167,8 @@ module _ (inodes : ℕ) (v : Volume) (volume : IsVolume inodes v) (table : ℕ �
     shown : {X : Type 0} (f : Option Node → X) → ((m : ℕ) → f (new m) ≡ f (more m)) → (m : ℕ) → f (new m) ≡ (if m == number then f (Some (node_of made)) else f (v m))
     shown f same m = same m ∙ chosen f (m == number) (Some (node_of made)) (v m)
 
-    bytes : (m : ℕ) → bytes_of (new m) ≡ (if m == number then bytes_of (Some (node_of made)) else bytes_of (v m))
-    bytes = shown bytes_of (λ m. (entry_keeps parent name (Some number) more m).bytes)
+    bytes : (m : ℕ) → bytes_of_node (new m) ≡ (if m == number then bytes_of_node (Some (node_of made)) else bytes_of_node (v m))
+    bytes = shown bytes_of_node (λ m. (entry_keeps parent name (Some number) more m).bytes)
 
     modes : (m : ℕ) → mode_of (new m) ≡ (if m == number then mode_of (Some (node_of made)) else mode_of (v m))
     modes = shown mode_of (λ m. (entry_keeps parent name (Some number) more m).mode)
@@ -198,10 +198,10 @@ module _ (inodes : ℕ) (v : Volume) (volume : IsVolume inodes v) (table : ℕ �
       (objects number parent (file mode) name can free) (fun_ext (bytes number parent (file mode) name can free)) (fun_ext (modes number parent (file mode) name can free)) refl
   makes_tree number parent (directory mode) name can free =
       trees_same (tree_of (created number parent name (node_of (directory mode)) v) table) (with_made (directory mode) (q number parent (directory mode) name can free) number t)
-      (objects number parent (directory mode) name can free) (fun_ext (λ m. bytes number parent (directory mode) name can free m ∙ as_before number parent (directory mode) name can free bytes_of refl refl m)) (fun_ext (modes number parent (directory mode) name can free)) refl
+      (objects number parent (directory mode) name can free) (fun_ext (λ m. bytes number parent (directory mode) name can free m ∙ as_before number parent (directory mode) name can free bytes_of_node refl refl m)) (fun_ext (modes number parent (directory mode) name can free)) refl
   makes_tree number parent (symbolic_link text) name can free =
       trees_same (tree_of (created number parent name (node_of (symbolic_link text)) v) table) (with_made (symbolic_link text) (q number parent (symbolic_link text) name can free) number t)
-      (objects number parent (symbolic_link text) name can free) (fun_ext (λ m. bytes number parent (symbolic_link text) name can free m ∙ as_before number parent (symbolic_link text) name can free bytes_of refl refl m))
+      (objects number parent (symbolic_link text) name can free) (fun_ext (λ m. bytes number parent (symbolic_link text) name can free m ∙ as_before number parent (symbolic_link text) name can free bytes_of_node refl refl m))
       (fun_ext (λ m. modes number parent (symbolic_link text) name can free m ∙ as_before number parent (symbolic_link text) name can free mode_of refl refl m)) refl
 
   -- one more name
@@ -260,7 +260,7 @@ module _ (inodes : ℕ) (v : Volume) (volume : IsVolume inodes v) (table : ℕ �
   bytes_object : (f : List ℕ → List ℕ) (o : Option Node) (m : ℕ) → object_of m (with_file_bytes f o) ≡ object_of m o
   bytes_object f o m = bytes_by (object_of m) (λ mode links a b. refl) f o
 
-  bytes_here : (f : List ℕ → List ℕ) (o : Option Node) → is_file_node o ≡ true → bytes_of (with_file_bytes f o) ≡ Some (f (unwrap_or (bytes_of o) []))
+  bytes_here : (f : List ℕ → List ℕ) (o : Option Node) → is_file_node o ≡ true → bytes_of_node (with_file_bytes f o) ≡ Some (f (unwrap_or (bytes_of_node o) []))
   bytes_here f None is = absurd (false≢true is)
   bytes_here f (Some (directory_node mode names)) is = absurd (false≢true is)
   bytes_here f (Some (file_node mode links bytes)) is = refl
@@ -278,7 +278,7 @@ module _ (inodes : ℕ) (v : Volume) (volume : IsVolume inodes v) (table : ℕ �
     bytes_tree =
         trees_same (tree_of (with_node n (with_file_bytes f (v n)) v) table) (record t { bytes = λ k. if k == n then Some (f (contents t n)) else t.bytes k })
         (altered_objects n (with_file_bytes f (v n)) (bytes_names f (v n)) (bytes_object f (v n)) (bytes_nameless f (v n)))
-        (fun_ext (λ k. chosen bytes_of (k == n) (with_file_bytes f (v n)) (v k) ∙ ap (λ b. if k == n then b else t.bytes k) (bytes_here f (v n) is)))
+        (fun_ext (λ k. chosen bytes_of_node (k == n) (with_file_bytes f (v n)) (v k) ∙ ap (λ b. if k == n then b else t.bytes k) (bytes_here f (v n) is)))
         (fun_ext (λ k. by_node n (with_file_bytes f (v n)) (bytes_names f (v n)) (bytes_object f (v n)) (bytes_nameless f (v n)) mode_of (bytes_mode f (v n)) k)) refl
 
   mode_object : (bits : ℕ) (o : Option Node) (m : ℕ) → object_of m (with_node_mode bits o) ≡ object_of m o
@@ -293,7 +293,7 @@ module _ (inodes : ℕ) (v : Volume) (volume : IsVolume inodes v) (table : ℕ �
   mode_here bits (Some (file_node mode links bytes)) is = refl
   mode_here bits (Some (link_node text)) is = absurd (false≢true is)
 
-  mode_bytes : (bits : ℕ) (o : Option Node) → bytes_of (with_node_mode bits o) ≡ bytes_of o
+  mode_bytes : (bits : ℕ) (o : Option Node) → bytes_of_node (with_node_mode bits o) ≡ bytes_of_node o
   mode_bytes bits None = refl
   mode_bytes bits (Some (directory_node mode names)) = refl
   mode_bytes bits (Some (file_node mode links bytes)) = refl
@@ -308,7 +308,7 @@ module _ (inodes : ℕ) (v : Volume) (volume : IsVolume inodes v) (table : ℕ �
     modes_tree =
         trees_same (tree_of (with_node n (with_node_mode bits (v n)) v) table) (record t { mode = λ k. if k == n then Some bits else t.mode k })
         (altered_objects n (with_node_mode bits (v n)) (mode_names bits (v n)) (mode_object bits (v n)) (mode_nameless bits (v n)))
-        (fun_ext (λ k. by_node n (with_node_mode bits (v n)) (mode_names bits (v n)) (mode_object bits (v n)) (mode_nameless bits (v n)) bytes_of (mode_bytes bits (v n)) k))
+        (fun_ext (λ k. by_node n (with_node_mode bits (v n)) (mode_names bits (v n)) (mode_object bits (v n)) (mode_nameless bits (v n)) bytes_of_node (mode_bytes bits (v n)) k))
         (fun_ext (λ k. chosen mode_of (k == n) (with_node_mode bits (v n)) (v k) ∙ ap (λ b. if k == n then b else t.mode k) (mode_here bits (v n) is))) refl
 
   -- what a record does to the tree

@@ -8,7 +8,7 @@ use Rattle.std.proofs.lemmas.List.Elements.{All-push, All-append, All-from_recur
 use Rattle.model.specs.declared.limits.TheConstants.{FILE_NAMES, DIRECTORY_NAMES}
 use Rattle.model.specs.Counting.{Counts, CountsUpTo}
 use Rattle.model.specs.Paths.{Name, Path, IsName, behind}
-use Rattle.model.specs.Trees.{Tree, Object, directory, symlink, file, number, is_directory, Stands, IsOpen, IsUsed}
+use Rattle.model.specs.Trees.{Tree, Object, directory, symlink, file, number, is_directory, StandsAtPath, IsOpen, IsUsed}
 use Rattle.model.specs.Edits.{put_at, relocate, relocated, moved, without_object}
 use Rattle.model.proofs.CountLemmas.{same_count, count_along, one_more, one_less}
 use Rattle.model.proofs.ListingLemmas.{names_apart}
@@ -132,21 +132,21 @@ module _ (inodes : ℕ) (t : Tree) (tree : IsLooseTree inodes t) (u w : Path) (a
           let out = outside_q r x is in
           (ap new.objects is_to ∙ is-outside r out at_f ∙ is, ap from is_to ∙ ap (λ c. from_by c r) out)
 
-  stood : (kind : ℕ → Object) (n : ℕ) → Stands new kind n → Stands t kind n
+  stood : (kind : ℕ → Object) (n : ℕ) → StandsAtPath new kind n → StandsAtPath t kind n
   stood kind n (r, is) = (from r, (came r (kind n) is).0)
 
-  stands_now : (kind : ℕ → Object) (n : ℕ) → Stands t kind n → Stands new kind n
+  stands_now : (kind : ℕ → Object) (n : ℕ) → StandsAtPath t kind n → StandsAtPath new kind n
   stands_now kind n (r, is) = (to r, (went r (kind n) is).0)
 
   used_was : (n : ℕ) → IsUsed new n → IsUsed t n
   used_was n (inl (r, x, is, same)) = inl (from r, x, (came r x is).0, same)
   used_was n (inr open_file) = inr open_file
 
-  file_was : (n : ℕ) → Stands new file n ⊎ IsOpen new n → Stands t file n ⊎ IsOpen t n
+  file_was : (n : ℕ) → StandsAtPath new file n ⊎ IsOpen new n → StandsAtPath t file n ⊎ IsOpen t n
   file_was n (inl there) = inl (stood file n there)
   file_was n (inr open_file) = inr open_file
 
-  file_now : (n : ℕ) → Stands t file n ⊎ IsOpen t n → Stands new file n ⊎ IsOpen new n
+  file_now : (n : ℕ) → StandsAtPath t file n ⊎ IsOpen t n → StandsAtPath new file n ⊎ IsOpen new n
   file_now n (inl there) = inl (stands_now file n there)
   file_now n (inr open_file) = inr open_file
 

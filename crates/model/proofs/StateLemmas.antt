@@ -21,7 +21,7 @@ use Rattle.model.specs.Room.{Room, Need}
 use Rattle.model.specs.Outcomes.{Outcome}
 use Rattle.model.specs.States.{State, going, failed, IsState, IsFrozen, IsShortName, with_tree, with_snapshots, as_failed, ForgetsOpenFiles}
 use Rattle.model.specs.Steps.{Step, says, passing, on_tree, calls, is_reading_call, frozen, is_name_byte, take_tests, takes, deletes, views, WouldStep}
-use Rattle.model.specs.Circumstances.{Circumstances, IsDone, IsSure, IsExcused, Settles, IsAnswered, Allowed}
+use Rattle.model.specs.Circumstances.{Circumstances, IsDone, IsSure, IsExcused, CoversWhereOk, IsAnswered, Allowed}
 use Rattle.model.specs.Laws.{IsCommand, IsPathCall, CommandsLeaveStates, AllowedAreStates, MountsFindStates}
 use Rattle.model.proofs.LeadLemmas.{AllPass, all_passed}
 use Rattle.model.proofs.NewTreeLemmas.{root_is_tree, tree_is_state}
@@ -175,7 +175,7 @@ module _ (c : Circumstances) (s new : State) (asked : Command) (answer : Reply) 
 
   answered_is_state : IsAnswered c s asked answer new → IsState new
   answered_is_state =
-      elim c.write_failed as (λ b. MatchBool b ((answer ≡ reply.Refused EIO) × (new ≡ as_failed s)) ((IsDone c s asked answer new × Settles c asked answer) ⊎ (IsExcused c s asked answer × (new ≡ s))) → IsState new) [
+      elim c.write_failed as (λ b. MatchBool b ((answer ≡ reply.Refused EIO) × (new ≡ as_failed s)) ((IsDone c s asked answer new × CoversWhereOk c asked answer) ⊎ (IsExcused c s asked answer × (new ≡ s))) → IsState new) [
         | true ↦ λ is. subst IsState (sym is.1) (failed_is_state s state)
         | false ↦ λ is. elim is [ inl done ↦ done_is_state done.0 | inr same ↦ subst IsState (sym same.1) state ]
       ]

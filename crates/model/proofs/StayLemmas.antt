@@ -9,7 +9,7 @@ use Rattle.model.specs.declared.reply.Reply.{Reply}
 use Rattle.model.specs.declared.reply.Reply.TheVariants as reply
 use Rattle.model.specs.declared.command.Whence.{Whence}
 use Rattle.model.specs.Paths.{Name, Path, Tests, first_refusal, text_tests_then, is_empty}
-use Rattle.model.specs.Trees.{Tree, Object, directory, symlink, file, Description, Stands, IsOpen, IsTree}
+use Rattle.model.specs.Trees.{Tree, Object, directory, symlink, file, Description, StandsAtPath, IsOpen, IsTree}
 use Rattle.model.specs.Edits.{contents, resized, written, read_at, with_mode, with_bytes, with_descriptor}
 use Rattle.model.specs.Resolution.{Resolution, named, missing, refused, resolve}
 use Rattle.model.specs.Room.{Need}
@@ -146,7 +146,7 @@ module _ (inodes : ℕ) (t : Tree) (tree : IsTree inodes t) where
     pub objects : u.objects ≡ t.objects
     pub descriptors : u.descriptors ≡ t.descriptors
 
-  pub cut_is : (n size : ℕ) → Stands t file n ⊎ IsOpen t n → size ≤ GREATEST_FILE → IsCut (changing.cut_to n size t)
+  pub cut_is : (n size : ℕ) → StandsAtPath t file n ⊎ IsOpen t n → size ≤ GREATEST_FILE → IsCut (changing.cut_to n size t)
   cut_is n size stands few =
       cond_both (size == length (contents t n)) t (with_bytes n (resized size (contents t n)) t) IsCut (λ e. record { is = tree; objects = refl; descriptors = refl }) (λ e. record {
         is = bytes_keep inodes t n (resized size (contents t n)) tree stands (subst (λ k. k ≤ GREATEST_FILE) (sym (length-resized size (contents t n))) few);
@@ -154,7 +154,7 @@ module _ (inodes : ℕ) (t : Tree) (tree : IsTree inodes t) where
         descriptors = refl;
       })
 
-  stays_cut : (n size : ℕ) → Stands t file n ⊎ IsOpen t n → size ≤ GREATEST_FILE → LeavesTree inodes (changing.cuts t n size)
+  stays_cut : (n size : ℕ) → StandsAtPath t file n ⊎ IsOpen t n → size ≤ GREATEST_FILE → LeavesTree inodes (changing.cuts t n size)
   stays_cut n size stands few = stays_changed reply.Done (changing.cut_to n size t) (changing.need_of_cut n size t) (cut_is n size stands few).is
 
   pub stays_truncate : (path : List ℕ) (size : ℤ) → LeavesTree inodes (changing.truncates t path size)

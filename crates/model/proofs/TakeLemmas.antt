@@ -4,7 +4,7 @@ use Rattle.std.proofs.lemmas.List.{same_from_push}
 use Rattle.model.specs.declared.limits.TheConstants.{FILE_NAMES, DIRECTORY_NAMES}
 use Rattle.model.specs.Counting.{CountsUpTo}
 use Rattle.model.specs.Paths.{Name, Path}
-use Rattle.model.specs.Trees.{Tree, Object, directory, symlink, file, is_directory, Stands, IsOpen, IsUsed, IsTree}
+use Rattle.model.specs.Trees.{Tree, Object, directory, symlink, file, is_directory, StandsAtPath, IsOpen, IsUsed, IsTree}
 use Rattle.model.specs.Edits.{without_object}
 use Rattle.model.proofs.CountLemmas.{same_count, one_less}
 use Rattle.model.proofs.ListingLemmas.{names_apart}
@@ -53,7 +53,7 @@ module _ (inodes : ℕ) (old : Tree) (tree : IsTree inodes old) (p : Path) (o : 
         | inr e ↦ ap is_directory (stays a e) ∙ tree.above a (x ∷ rest) longer before.1
       ]
 
-  file_was : (n : ℕ) → Stands new file n ⊎ IsOpen new n → Stands old file n ⊎ IsOpen old n
+  file_was : (n : ℕ) → StandsAtPath new file n ⊎ IsOpen new n → StandsAtPath old file n ⊎ IsOpen old n
   file_was n (inl there) = inl (there.0, (found_in there.0 (file n) there.1).1)
   file_was n (inr open_file) = inr open_file
 
@@ -79,7 +79,7 @@ module _ (inodes : ℕ) (old : Tree) (tree : IsTree inodes old) (p : Path) (o : 
         )
       ]
 
-  still : (n : ℕ) → Stands old file n ⊎ IsOpen old n → (Stands new file n ⊎ IsOpen new n) ⊎ (¬ IsUsed new n)
+  still : (n : ℕ) → StandsAtPath old file n ⊎ IsOpen old n → (StandsAtPath new file n ⊎ IsOpen new n) ⊎ (¬ IsUsed new n)
   still n stands = decided new n (links_new n) tree.table (λ q r at_q same. all_files inodes old (tree_is_loose inodes old tree) n stands q r (found_in q r at_q).1 same)
 
   -- the directory that was taken away isn't used any more
@@ -89,7 +89,7 @@ module _ (inodes : ℕ) (old : Tree) (tree : IsTree inodes old) (p : Path) (o : 
       elim (tree.single p q (directory n) r is before.1 (sym same)) [ inl one ↦ before.0 (sym one) | inr both ↦ directory_file both.0 ]
   unused n is (inr open_file) = directory_file (tree.opened n p (directory n) open_file is refl)
 
-  mode_still : (n : ℕ) → Stands old directory n ⊎ Stands old file n ⊎ IsOpen old n → (Stands new directory n ⊎ Stands new file n ⊎ IsOpen new n) ⊎ (¬ IsUsed new n)
+  mode_still : (n : ℕ) → StandsAtPath old directory n ⊎ StandsAtPath old file n ⊎ IsOpen old n → (StandsAtPath new directory n ⊎ StandsAtPath new file n ⊎ IsOpen new n) ⊎ (¬ IsUsed new n)
   mode_still n (inl (q, is)) =
       elim (path_apart q p) [
         | inl e ↦ inr (unused n (ap old.objects (sym e) ∙ is))

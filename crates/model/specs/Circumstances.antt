@@ -46,8 +46,8 @@ IsSettling (command.SnapDelete name) = Unit {0}
 IsSettling c = ⊥
 
 -- behind an `ok` to such a command the settled root covers all that was done
-abbrev pub Settles : Circumstances → Command → Reply → Type 0
-Settles c command reply = IsSettling command → reply ≡ Done → IsTrue c.room.is_covered
+abbrev pub CoversWhereOk : Circumstances → Command → Reply → Type 0
+CoversWhereOk c command reply = IsSettling command → reply ≡ Done → IsTrue c.room.is_covered
 
 -- the command would store something: it logs a record, or has a consistency point store all that changed
 abbrev pub IsStoring : Room → State → Command → Type 0
@@ -73,7 +73,7 @@ IsExcused c s command reply = ⊥
 abbrev pub IsAnswered : Circumstances → State → Command → Reply → State → Type 0
 IsAnswered c s command reply new =
     MatchBool c.write_failed ((reply ≡ Refused EIO) × (new ≡ as_failed s))
-    ((IsDone c s command reply new × Settles c command reply) ⊎ (IsExcused c s command reply × (new ≡ s)))
+    ((IsDone c s command reply new × CoversWhereOk c command reply) ⊎ (IsExcused c s command reply × (new ≡ s)))
 
 -- the reply and the new state that a command may give under these circumstances: a sure one is done, and no write fails
 -- in it, another may fail, and a failed system answers FAILED and stays so

@@ -5,7 +5,7 @@ use Rattle.model.specs.Counting.{Counts}
 use Rattle.model.specs.Paths.{Name, Path, IsName, IsLinkText}
 use Rattle.model.specs.Edits.{written, resized}
 use Rattle.model.specs.Room.{Room, Work, adds_name, removes_name, puts_bytes, changes_size, changes_bits, cost}
-use Rattle.model.specs.Volumes.{Node, directory_node, file_node, link_node, Volume, Entries, entries, enter, bytes_of, with_node, is_file_node, is_directory_node, is_nameless, created, linked, unnamed, renamed, swept_node}
+use Rattle.model.specs.Volumes.{Node, directory_node, file_node, link_node, Volume, Entries, entries, enter, bytes_of_node, with_node, is_file_node, is_directory_node, is_nameless, created, linked, unnamed, renamed, swept_node}
 
 -- what a record makes, with all that a call gives it
 pub data Made : Type 0 where
@@ -151,8 +151,8 @@ work_of v (create number parent made name) = adds_name
 work_of v (link number parent name) = adds_name
 work_of v (unname parent name) = removes_name
 work_of v (rename parent name new_parent new_name) = adds_name
-work_of v (write number offset bytes) = puts_bytes (length (unwrap_or (bytes_of (v number)) [])) offset (length bytes)
-work_of v (cut number size) = changes_size (length (unwrap_or (bytes_of (v number)) [])) size
+work_of v (write number offset bytes) = puts_bytes (length (unwrap_or (bytes_of_node (v number)) [])) offset (length bytes)
+work_of v (cut number size) = changes_size (length (unwrap_or (bytes_of_node (v number)) [])) size
 work_of v (change_mode number mode) = changes_bits
 
 -- what records cost that change a volume one after the other
@@ -171,11 +171,11 @@ abbrev pub pledged_for : ℕ → Volume → List Change → ℕ
 pledged_for inodes settled changes = 4 * count_nameless inodes settled + costs settled changes
 
 -- the settled root has the volume as it is now, and covers every record
-abbrev pub IsCovered : Volume → Volume → List Change → Type 0
-IsCovered settled now changes = (settled ≡ now) × (changes ≡ [])
+abbrev pub CoversAll : Volume → Volume → List Change → Type 0
+CoversAll settled now changes = (settled ≡ now) × (changes ≡ [])
 
 -- the room that a system tells, by the volume of its settled root, the records beside it and its volume now: what is
 -- pledged for these, and that it is covered only where that root has all
 pub record TellsRoom (inodes : ℕ) (settled now : Volume) (changes : List Change) (room : Room) : Type 0 where
   pub pledged : room.pledged ≡ pledged_for inodes settled changes
-  pub covered : IsTrue room.is_covered → IsCovered settled now changes
+  pub covered : IsTrue room.is_covered → CoversAll settled now changes

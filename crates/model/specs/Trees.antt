@@ -37,8 +37,8 @@ pub record Tree : Type 0 where
   pub descriptors : ℕ → Option Description
 
 -- an object of this number and kind stands at a path
-abbrev pub Stands : Tree → (ℕ → Object) → ℕ → Type 0
-Stands t kind n = (p : Path) × (t.objects p ≡ Some (kind n))
+abbrev pub StandsAtPath : Tree → (ℕ → Object) → ℕ → Type 0
+StandsAtPath t kind n = (p : Path) × (t.objects p ≡ Some (kind n))
 
 -- the number stands at a path
 abbrev pub HasPath : Tree → ℕ → Type 0
@@ -59,8 +59,8 @@ pub record IsTree (inodes : ℕ) (t : Tree) : Type 0 where
   pub names : (p : Path) → IsSome (t.objects p) → All IsName p
   -- only a file may stand at several paths
   pub single : (p q : Path) (o r : Object) → t.objects p ≡ Some o → t.objects q ≡ Some r → number o ≡ number r → (p ≡ q) ⊎ ((o ≡ file (number o)) × (r ≡ o))
-  pub bytes : (n : ℕ) → IsSome (t.bytes n) ↔ (Stands t file n ⊎ IsOpen t n)
-  pub mode : (n : ℕ) → IsSome (t.mode n) ↔ (Stands t directory n ⊎ Stands t file n ⊎ IsOpen t n)
+  pub bytes : (n : ℕ) → IsSome (t.bytes n) ↔ (StandsAtPath t file n ⊎ IsOpen t n)
+  pub mode : (n : ℕ) → IsSome (t.mode n) ↔ (StandsAtPath t directory n ⊎ StandsAtPath t file n ⊎ IsOpen t n)
   pub opened : (n : ℕ) (p : Path) (o : Object) → IsOpen t n → t.objects p ≡ Some o → number o ≡ n → o ≡ file n
   -- and the limits
   pub numbers : (n : ℕ) → IsUsed t n → (n ≡ ROOT_NUMBER) ⊎ ((FIRST_NUMBER ≤ n) × (n < inodes))

@@ -51,9 +51,9 @@ object_at v None = None
 object_at v (Some n) = object_of n (v n)
 
 -- a file's bytes; no other object has any
-abbrev pub bytes_of : Option Node → Option (List ℕ)
-bytes_of (Some (file_node mode links bytes)) = Some bytes
-bytes_of _ = None
+abbrev pub bytes_of_node : Option Node → Option (List ℕ)
+bytes_of_node (Some (file_node mode links bytes)) = Some bytes
+bytes_of_node _ = None
 
 -- the mode of a directory or a file; a link has none
 abbrev pub mode_of : Option Node → Option ℕ
@@ -65,7 +65,7 @@ mode_of _ = None
 abbrev pub tree_of : Volume → (ℕ → Option Description) → Tree
 tree_of v table = record {
   objects = λ p. object_at v (number_at (entries v) p);
-  bytes = λ n. bytes_of (v n);
+  bytes = λ n. bytes_of_node (v n);
   mode = λ n. mode_of (v n);
   descriptors = table;
 }
@@ -120,7 +120,7 @@ IsNode (file_node mode links bytes) = (mode ≤ MODE_BITS) × (links ≤ FILE_NA
 IsNode (link_node text) = IsLinkText text
 
 -- the limits that all objects keep, with so many inodes
-pub record KeepsLimits (inodes : ℕ) (v : Volume) : Type 0 where
+pub record KeepsNodeLimits (inodes : ℕ) (v : Volume) : Type 0 where
   pub nodes : (n : ℕ) → IfSome (v n) IsNode
   pub numbers : (n : ℕ) → IsSome (v n) → (n ≡ ROOT_NUMBER) ⊎ ((FIRST_NUMBER ≤ n) × (n < inodes))
   pub children : (d : ℕ) → CountsUpTo DIRECTORY_NAMES (λ x. IsSome (entries v d x))
@@ -129,7 +129,7 @@ pub record KeepsLimits (inodes : ℕ) (v : Volume) : Type 0 where
 -- needed, it is a premise
 pub record IsVolume (inodes : ℕ) (v : Volume) : Type 0 where
   pub graph : IsGraph v
-  pub limits : KeepsLimits inodes v
+  pub limits : KeepsNodeLimits inodes v
 
 -- an object with one name fewer: a file stays, another object is gone with its name
 abbrev pub with_name_less : Option Node → Option Node

@@ -20,7 +20,7 @@ use Rattle.system.specs.declared.error.CallError.{CallError}
 use Rattle.system.specs.declared.error.CallError.TheVariants as failure
 use Rattle.system.specs.declared.system.System.{System}
 use Rattle.system.proofs.CountingLaws.{logged_twice, none_logged, nothing_logged}
-use Rattle.mount.specs.Applying.{Answers, Attempts, IsAppliedAt, KeepsStates, MakesRoom, NeedsPlace}
+use Rattle.mount.specs.Applying.{AnswersCommand, Attempts, IsAppliedAt, KeepsStates, MakesRoom, NeedsPlace}
 use Rattle.mount.specs.Refusals.{errno_of_call, fails_call}
 use Rattle.mount.specs.Systems.{HasPoints, Serves, mounted}
 use Rattle.mount.specs.declared.fs.Fs.{Fs}
@@ -53,7 +53,7 @@ module _ {S : Type 0} {G : Ghosts S} (n : ℕ) (P : State → Type 0) (old new :
 
   -- no device was called
   pub at_once : (reply : Reply) → reply ≢ Refused EIO → behind ≡ before → new.system.log.epoch ≡ old.system.log.epoch
-      → new.system.blocks.station ≡ old.system.blocks.station → AppliedWith reply → Answers n P old new command reply
+      → new.system.blocks.station ≡ old.system.blocks.station → AppliedWith reply → AnswersCommand n P old new command reply
   at_once reply own same epoch station applied = record {
     uses = subst (λ (m : Meaning). Uses before m) (sym same) (uses_none before);
     eio = λ is. absurd (own is);
@@ -65,7 +65,7 @@ module _ {S : Type 0} {G : Ghosts S} (n : ℕ) (P : State → Type 0) (old new :
   }
 
   -- a call was answered
-  pub attempted : (reply : Reply) → Attempts old new command (Ok reply) → Answers n P old new command reply
+  pub attempted : (reply : Reply) → Attempts old new command (Ok reply) → AnswersCommand n P old new command reply
   attempted reply made = record {
     uses = made.counted.uses;
     eio = λ is. absurd (made.no_fault is);
@@ -78,7 +78,7 @@ module _ {S : Type 0} {G : Ghosts S} (n : ℕ) (P : State → Type 0) (old new :
 
   -- one wasn't
   pub not_attempted : (e : CallError) (errno : Errno) → errno ≡ errno_of_call e → Attempts old new command (Err e) → ((s : State) → Serves (mounted old s) → P s → e ≢ failure.LogFull)
-      → Answers n P old new command (Refused errno)
+      → AnswersCommand n P old new command (Refused errno)
   not_attempted e errno is made room = record {
     uses = made.counted.uses;
     eio = λ same. call_eio before behind e made.counted (sym is ∙ refused_same same);
@@ -90,7 +90,7 @@ module _ {S : Type 0} {G : Ghosts S} (n : ℕ) (P : State → Type 0) (old new :
   }
 
   -- a consistency point wasn't made that had to come first
-  pub no_room : (errno : Errno) → 1 ≤ n → MakesRoom old new (Err errno) → ((s : State) → P s → NeedsPlace s command) → Answers n P old new command (Refused errno)
+  pub no_room : (errno : Errno) → 1 ≤ n → MakesRoom old new (Err errno) → ((s : State) → P s → NeedsPlace s command) → AnswersCommand n P old new command (Refused errno)
   no_room errno le made needs = record {
     uses = made.uses;
     eio = λ is. made.eio (ap (λ e. Err e) (refused_same is));
@@ -106,7 +106,7 @@ module _ {S : Type 0} {G : Ghosts S} (n : ℕ) (P : State → Type 0) (old new :
 
 -- a command behind what left each state as it was
 pub behind_that : {S : Type 0} {G : Ghosts S} (n j k : ℕ) (P Q : State → Type 0) (old mid new : Fs S G) (command : Command) (reply : Reply) → j + k ≤ n → IsFalse old.has_failed → KeepsStates j old mid
-    → Answers k Q mid new command reply → ((s : State) → Serves (mounted old s) → P s → Q s) → ((s : State) → Serves (mounted old s) → P s → ¬ IsSure s command) → Answers n P old new command reply
+    → AnswersCommand k Q mid new command reply → ((s : State) → Serves (mounted old s) → P s → Q s) → ((s : State) → Serves (mounted old s) → P s → ¬ IsSure s command) → AnswersCommand n P old new command reply
 behind_that n j k P Q old mid new command reply le runs keeps then leads not_sure =
     let m = systems.meaning_of old.system in
     let i = systems.meaning_of mid.system in
@@ -125,8 +125,8 @@ behind_that n j k P Q old mid new command reply le runs keeps then leads not_sur
     }
 
 -- the same promise for fewer states, and for more points
-pub answers_more : {S : Type 0} {G : Ghosts S} (n k : ℕ) (P Q : State → Type 0) (old new : Fs S G) (command : Command) (reply : Reply) → k ≤ n → Answers k Q old new command reply
-    → ((s : State) → Serves (mounted old s) → P s → Q s) → Answers n P old new command reply
+pub answers_more : {S : Type 0} {G : Ghosts S} (n k : ℕ) (P Q : State → Type 0) (old new : Fs S G) (command : Command) (reply : Reply) → k ≤ n → AnswersCommand k Q old new command reply
+    → ((s : State) → Serves (mounted old s) → P s → Q s) → AnswersCommand n P old new command reply
 answers_more n k P Q old new command reply le then leads = record {
   uses = then.uses;
   eio = then.eio;
@@ -141,8 +141,8 @@ answers_more n k P Q old new command reply le then leads = record {
     fewer a k n le young = omega (arith, le, young)
 
 -- the same, of a command and a reply in other words
-pub answers_so : {S : Type 0} {G : Ghosts S} (n : ℕ) (P : State → Type 0) (old new : Fs S G) (x y : Command) (reply : Reply) → y ≡ x → Answers n P old new x reply → Answers n P old new y reply
-answers_so n P old new x y reply is then = subst (λ (c : Command). Answers n P old new c reply) (sym is) then
+pub answers_so : {S : Type 0} {G : Ghosts S} (n : ℕ) (P : State → Type 0) (old new : Fs S G) (x y : Command) (reply : Reply) → y ≡ x → AnswersCommand n P old new x reply → AnswersCommand n P old new y reply
+answers_so n P old new x y reply is then = subst (λ (c : Command). AnswersCommand n P old new c reply) (sym is) then
 
 -- ---- calls of a system
 

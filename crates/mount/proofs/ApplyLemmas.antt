@@ -18,8 +18,8 @@ use Rattle.model.specs.Circumstances.{Circumstances, IsSure, IsDone, IsAnswered,
 use Rattle.model.specs.Runs.{IsWithin, MayStand, MayRemain}
 use Rattle.system.specs.Images.{OpensTo}
 use Rattle.system.specs.Settling.{IsFilledBy}
-use Rattle.mount.specs.Applying.{Between, GoesOn, HasRoom, IsApplied, Stays, LeftNow, Tells}
-use Rattle.mount.specs.Systems.{Mounted, OpensToSome, mounted, meaning_of, mark_of, Serves, LeavesState, IsCutShort}
+use Rattle.mount.specs.Applying.{Between, TimeGoesOn, HasRoomAtPoint, IsApplied, Stays, LeftNow, TellsOfFault}
+use Rattle.mount.specs.Systems.{Mounted, OpensToSome, mounted, file_system_meaning, mark_of, Serves, LeavesState, IsCutShort}
 use Rattle.mount.specs.declared.fs.Fs.{Fs}
 use Rattle.mount.proofs.SpanLemmas.{cases_mark, stands_before, stands_going, stands_failed, leaves_failed}
 use Rattle.mount.proofs.StationLemmas.{same_moment, on_none, on_twice, moved, left_within, left_now, time_on, at_last, left_after}
@@ -82,24 +82,24 @@ no_room = record { blocks = 0; free = 0; pledged = 0; is_covered = false }
 
 -- what came in the way of a command, but for the history of the station
 pub record Came {S : Type 0} {G : Ghosts S} (old : Mounted S G) (command : Command) (new : Mounted S G) (c : Circumstances) : Type 0 where
-  pub reads : Tells c.read_failed (meaning_of old).failed_reads (meaning_of new).failed_reads
-  pub writes : Tells c.write_failed (meaning_of old).failed_writes (meaning_of new).failed_writes
+  pub reads : TellsOfFault c.read_failed (file_system_meaning old).failed_reads (file_system_meaning new).failed_reads
+  pub writes : TellsOfFault c.write_failed (file_system_meaning old).failed_writes (file_system_meaning new).failed_writes
   pub full : IsTrue c.lacks_place → IsFilledBy command new.fs.system
-  pub room : new.state.mark ≡ going → HasRoom new.fs.system new.state c.room
+  pub room : new.state.mark ≡ going → HasRoomAtPoint new.fs.system new.state c.room
 
-abbrev pub between : {S : Type 0} {G : Ghosts S} (old : Mounted S G) (command : Command) (new : Mounted S G) (c : Circumstances) → GoesOn (meaning_of old) (meaning_of new) → Came old command new c
+abbrev pub between : {S : Type 0} {G : Ghosts S} (old : Mounted S G) (command : Command) (new : Mounted S G) (c : Circumstances) → TimeGoesOn (file_system_meaning old) (file_system_meaning new) → Came old command new c
     → Between old command new c
 between old command new c goes_on came = record { goes_on = goes_on; reads = came.reads; writes = came.writes; full = came.full; room = came.room }
 
 module _ {S : Type 0} {G : Ghosts S} where
   -- a command that led to a going state
-  module _ (old new : Fs S G) (s t : State) (command : Command) (is : s.mark ≡ going) (still : t.mark ≡ going) (same : IsSameStation (meaning_of (mounted old s)) (meaning_of (mounted new t)))
-      (serves : Serves (mounted new t)) (honest : (meaning_of (mounted old s)).is_honest) where
+  module _ (old new : Fs S G) (s t : State) (command : Command) (is : s.mark ≡ going) (still : t.mark ≡ going) (same : IsSameStation (file_system_meaning (mounted old s)) (file_system_meaning (mounted new t)))
+      (serves : Serves (mounted new t)) (honest : (file_system_meaning (mounted old s)).is_honest) where
     abbrev before : Meaning
-    before = meaning_of (mounted old s)
+    before = file_system_meaning (mounted old s)
 
     abbrev behind : Meaning
-    behind = meaning_of (mounted new t)
+    behind = file_system_meaning (mounted new t)
 
     may_stand : (c : Images) → OpensTo before s c ⊎ OpensTo before t c → OpensToSome before (MayStand s command t) c
     may_stand c (inl first) = (s, first, (stands_going s command t s is still).1 (inl refl))
@@ -121,20 +121,20 @@ module _ {S : Type 0} {G : Ghosts S} where
   pub stayed : (old new : Fs S G) (s : State) (command : Command) → Serves (mounted old s) → s.mark ≡ going → Stays old new s → (reply : Reply) (c : Circumstances)
       → Came (mounted old s) command (mounted new s) c → Allowed c s command reply s → IsApplied (mounted old s) (mounted new s) command reply
   stayed old new s command serves is stays reply c came allowed =
-      let m = meaning_of (mounted old s) in
-      let n = meaning_of (mounted new s) in
+      let m = file_system_meaning (mounted old s) in
+      let n = file_system_meaning (mounted new s) in
       done old new s s command is is stays.same stays.serves serves.honest reply c came allowed
       (weaker m n (OpensTo m s) (λ i. OpensTo m s i ⊎ OpensTo m s i) stays.leaves (λ i opens. inl opens))
       (λ honest i left. moved m n s i stays.same.sectors ((stays.leaves serves.honest).each i (n.moment, (stays.leaves serves.honest).later, omega arith, left)))
 
   -- one that failed the system
   module _ (old new : Fs S G) (s : State) (command : Command) (serves : Serves (mounted old s)) (is : s.mark ≡ going) (stopped : IsTrue new.has_failed)
-      (same : IsSameStation (meaning_of (mounted old s)) (meaning_of (mounted new s))) where
+      (same : IsSameStation (file_system_meaning (mounted old s)) (file_system_meaning (mounted new s))) where
     abbrev first : Meaning
-    first = meaning_of (mounted old s)
+    first = file_system_meaning (mounted old s)
 
     abbrev last : Meaning
-    last = meaning_of (mounted new s)
+    last = file_system_meaning (mounted new s)
 
     again : s ≡ record (as_failed s) { mark = going }
     again = λ i. record s { mark = is i }
@@ -166,7 +166,7 @@ module _ {S : Type 0} {G : Ghosts S} where
   -- a command to a system that had failed
   pub failed_applied : (f : Fs S G) (s : State) (command : Command) → Serves (mounted f s) → IsTrue f.has_failed → IsApplied (mounted f s) (mounted f s) command (Refused FAILED)
   failed_applied f s command serves stopped =
-      let m = meaning_of (mounted f s) in
+      let m = file_system_meaning (mounted f s) in
       let is : s.mark ≡ failed = serves.mark ∙ is_failed f.has_failed stopped in
       let opens = λ (c : Images) (t : State). OpensTo m t c in
       let still : (t : ℕ) (c : Images) → m.moment ≤ t → t ≤ m.moment → m.left_at t c → m.left_at m.moment c = λ t c from to left. same_moment m t c from to left in
@@ -184,13 +184,13 @@ module _ {S : Type 0} {G : Ghosts S} where
 
   -- a command behind calls that left the state as it was
   pub applied_after : (old mid new : Fs S G) (s t : State) (command : Command) (reply : Reply) → Serves (mounted old s) → s.mark ≡ going → Stays old mid s
-      → IsSameStation (meaning_of (mounted mid s)) (meaning_of (mounted new t))
-      → (meaning_of (mounted mid s)).failed_reads ≡ (meaning_of (mounted old s)).failed_reads → (meaning_of (mounted mid s)).failed_writes ≡ (meaning_of (mounted old s)).failed_writes
+      → IsSameStation (file_system_meaning (mounted mid s)) (file_system_meaning (mounted new t))
+      → (file_system_meaning (mounted mid s)).failed_reads ≡ (file_system_meaning (mounted old s)).failed_reads → (file_system_meaning (mounted mid s)).failed_writes ≡ (file_system_meaning (mounted old s)).failed_writes
       → IsApplied (mounted mid s) (mounted new t) command reply → IsApplied (mounted old s) (mounted new t) command reply
   applied_after old mid new s t command reply serves is stays same reads writes applied =
-      let m = meaning_of (mounted old s) in
-      let n = meaning_of (mounted mid s) in
-      let l = meaning_of (mounted new t) in
+      let m = file_system_meaning (mounted old s) in
+      let n = file_system_meaning (mounted mid s) in
+      let l = file_system_meaning (mounted new t) in
       let c = applied.leads.circumstances in
       let led = applied.leads.between in
       let stand = weaker m n (OpensTo m s) (OpensToSome m (MayStand s command t)) stays.leaves (λ i opens. (s, opens, stands_before s command t is)) serves.honest in
@@ -200,8 +200,8 @@ module _ {S : Type 0} {G : Ghosts S} where
           circumstances = c;
           between = record {
             goes_on = on_twice m n l (time_on m n _ stand) led.goes_on;
-            reads = subst (λ (k : ℕ). Tells c.read_failed k l.failed_reads) reads led.reads;
-            writes = subst (λ (k : ℕ). Tells c.write_failed k l.failed_writes) writes led.writes;
+            reads = subst (λ (k : ℕ). TellsOfFault c.read_failed k l.failed_reads) reads led.reads;
+            writes = subst (λ (k : ℕ). TellsOfFault c.write_failed k l.failed_writes) writes led.writes;
             full = led.full;
             room = led.room;
           };
@@ -212,9 +212,9 @@ module _ {S : Type 0} {G : Ghosts S} where
       }
 
   -- what a system leaves to a cut
-  module _ (f : Fs S G) (s : State) (serves : Serves (mounted f s)) (opens : s.mark ≡ going → EachCut (meaning_of (mounted f s)) (OpensTo (meaning_of (mounted f s)) s)) where
+  module _ (f : Fs S G) (s : State) (serves : Serves (mounted f s)) (opens : s.mark ≡ going → EachCut (file_system_meaning (mounted f s)) (OpensTo (file_system_meaning (mounted f s)) s)) where
     abbrev here : Meaning
-    here = meaning_of (mounted f s)
+    here = file_system_meaning (mounted f s)
 
     abbrev leaves_as : Mark → Type 0
     leaves_as n = elim n [ going ↦ EachCut here (OpensTo here s) | failed ↦ IsCutShort here s ]

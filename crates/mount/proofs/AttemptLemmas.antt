@@ -27,7 +27,7 @@ use Rattle.system.specs.Images.{OpensTo}
 use Rattle.layout.specs.Places.{blocks_of}
 use Rattle.layout.specs.Record.{change_bytes}
 use Rattle.images.specs.Roots.{whole}
-use Rattle.oplog.specs.LogEnd.{LogEnd, all_of, next_of}
+use Rattle.oplog.specs.LogEnd.{LogEnd, all_bodies, next_of}
 use Rattle.oplog.specs.declared.log.End.TheVariants.{Unopened}
 use Rattle.system.specs.Serving.{HasEmptyLog, ServesState, IsCall, WouldCall, WouldChange, IsCalled, IsBrokenOff}
 use Rattle.system.specs.Points.{IsFilled}
@@ -40,7 +40,7 @@ use Rattle.system.specs.declared.system.System.{System}
 use Rattle.system.specs.declared.error.PointError.{PointError}
 use Rattle.system.specs.declared.error.PointError.TheVariants as point
 use Rattle.system.proofs.CoveredLaws.{none_spelled}
-use Rattle.mount.specs.Applying.{IsAppliedAt, NeedsPlace, Stays, Tells, HasRoom}
+use Rattle.mount.specs.Applying.{IsAppliedAt, NeedsPlace, Stays, TellsOfFault, HasRoomAtPoint}
 use Rattle.mount.specs.Refusals.{errno_of_call, errno_of_point, fails_call, fails_point}
 use Rattle.mount.specs.Systems.{OpensToSome, mounted, HasPoints, Serves}
 use Rattle.mount.specs.declared.fs.TheConstants.{POINTS}
@@ -64,14 +64,14 @@ room_at f s serves covered = record {
 }
 
 has_room : {S : Type 0} {G : Ghosts S} (f : System S G) (s : State) (serves : ServesState f s) (covered : Bool)
-    → (IsTrue covered → records.IsCovered serves.first serves.running serves.replayed.changes) → HasRoom f s (room_at f s serves covered)
+    → (IsTrue covered → records.CoversAll serves.first serves.running serves.replayed.changes) → HasRoomAtPoint f s (room_at f s serves covered)
 has_room f s serves covered all = record { serves = serves; blocks = refl; free = refl; told = record { pledged = refl; covered = all } }
 
 -- all that is done is in the root of a covered system
 all_covered : {S : Type 0} {G : Ghosts S} (f : System S G) (s : State) → (covered : systems.IsCovered f s.tree.descriptors s)
-    → records.IsCovered covered.serves.first covered.serves.running covered.serves.replayed.changes
+    → records.CoversAll covered.serves.first covered.serves.running covered.serves.replayed.changes
 all_covered f s covered =
-    let no_record : [] ≡ map change_bytes covered.serves.replayed.changes = sym (ap all_of covered.no_record) ∙ covered.serves.replayed.spelled in
+    let no_record : [] ≡ map change_bytes covered.serves.replayed.changes = sym (ap all_bodies covered.no_record) ∙ covered.serves.replayed.spelled in
     (covered.held, none_spelled covered.serves.replayed.changes no_record)
 
 -- a refusal isn't what is answered to what is done
@@ -182,7 +182,7 @@ module _ {S : Type 0} {G : Ghosts S} (old new : Fs S G) (s : State) where
           )
 
       -- a command that was refused for a cause
-      pub refused : (command : Command) → ¬ IsSure s command → Stays old new s → (read memory place : Bool) (errno : Errno) → Tells read before.failed_reads behind.failed_reads
+      pub refused : (command : Command) → ¬ IsSure s command → Stays old new s → (read memory place : Bool) (errno : Errno) → TellsOfFault read before.failed_reads behind.failed_reads
           → behind.failed_writes ≡ before.failed_writes → (IsTrue place → IsFilledBy command new.system) → ((room : Room) → IsExcused (came read false memory place room) s command (Refused errno))
           → IsAppliedAt old s new command (Refused errno)
       refused command not_sure stays read memory place errno reads writes full excused =
@@ -285,7 +285,7 @@ module _ {S : Type 0} {G : Ghosts S} (old new : Fs S G) (s : State) where
         )
 
 -- `df` tells the room
-pub told_room : {S : Type 0} {G : Ghosts S} (f : Fs S G) (s : State) → Serves (mounted f s) → IsFalse f.has_failed → (room : Room) → HasRoom f.system s room
+pub told_room : {S : Type 0} {G : Ghosts S} (f : Fs S G) (s : State) → Serves (mounted f s) → IsFalse f.has_failed → (room : Room) → HasRoomAtPoint f.system s room
     → EachCut (systems.meaning_of f.system) (OpensTo (systems.meaning_of f.system) s) → IsAppliedAt f s f Df (Space room.blocks room.free room.pledged)
 told_room f s serves runs room has opens =
     let m = systems.meaning_of f.system in
@@ -299,8 +299,8 @@ told_room f s serves runs room has opens =
     )
 
 -- an image that was opened
-pub opened_serves : {S : Type 0} {G : Ghosts S} (f : Fs S G) (s : State) → IsFalse f.has_failed → systems.Serves f.system (λ d. None) s → Serves (mounted f s)
+pub opened_serves : {S : Type 0} {G : Ghosts S} (f : Fs S G) (s : State) → IsFalse f.has_failed → systems.HasState f.system (λ d. None) s → Serves (mounted f s)
 opened_serves f s runs serves =
     let still : s.mark ≡ going = ap (λ (u : State). u.mark) serves.state in
     let table : s.tree.descriptors ≡ (λ d. None) = ap (λ (u : State). u.tree.descriptors) serves.state in
-    going_serves f f s s serves.honest still runs (subst (λ (t : ℕ → Option Description). systems.Serves f.system t s) (sym table) serves)
+    going_serves f f s s serves.honest still runs (subst (λ (t : ℕ → Option Description). systems.HasState f.system t s) (sym table) serves)

@@ -23,7 +23,7 @@ use Rattle.system.specs.Systems as systems
 use Rattle.system.specs.declared.error.CallError.{CallError}
 use Rattle.system.specs.declared.error.PointError.{PointError}
 use Rattle.system.proofs.CountingLaws.{next_age, nothing_logged, same_age}
-use Rattle.mount.specs.Applying.{Answers, HasSettled, KeepsStates, MakesRoom, Stays}
+use Rattle.mount.specs.Applying.{AnswersCommand, HasSettled, KeepsStates, MakesRoom, Stays}
 use Rattle.mount.specs.Refusals.{errno_of_call, errno_of_point, fails_point}
 use Rattle.mount.specs.Systems.{OpensToSome, Serves, mounted}
 use Rattle.mount.specs.declared.fs.Fs.{Fs}
@@ -93,7 +93,7 @@ module _ {S : Type 0} {G : Ghosts S} (old new : Fs S G) (runs : IsFalse old.has_
       errno_same x y r q left right is = cc
 
 -- behind it all is in the root, as `sync` promises
-pub synced_by : {S : Type 0} {G : Ghosts S} (n : ℕ) (old new : Fs S G) (runs : IsFalse old.has_failed) → 1 ≤ n → HasSettled old new → Answers n (λ s. Unit {0}) old new Sync Done
+pub synced_by : {S : Type 0} {G : Ghosts S} (n : ℕ) (old new : Fs S G) (runs : IsFalse old.has_failed) → 1 ≤ n → HasSettled old new → AnswersCommand n (λ s. Unit {0}) old new Sync Done
 synced_by n old new runs le made = record {
   uses = made.keeps.counted.uses;
   eio = λ is. cc;
@@ -127,7 +127,7 @@ module _ {S : Type 0} {G : Ghosts S} (old new : Fs S G) (runs : IsFalse old.has_
   module _ (n : ℕ) (command : Command) (not_sure : (s : State) → ¬ IsSure s command) where
     -- and refuse the command
     pub glance_refuses : {T : Type 0} (x : T) (errno : Errno) → Glances {T = T} old.system new.system (Ok x) → errno ≢ EIO
-        → ((s : State) → ServesState old.system s → WouldCall s command (Refused errno) s nothing) → Answers n (λ s. Unit {0}) old new command (Refused errno)
+        → ((s : State) → ServesState old.system s → WouldCall s command (Refused errno) s nothing) → AnswersCommand n (λ s. Unit {0}) old new command (Refused errno)
     glance_refuses {T = T} x errno told own step = record {
       uses = told.counted.uses;
       eio = λ is. absurd (own (refused_same is));
@@ -141,7 +141,7 @@ module _ {S : Type 0} {G : Ghosts S} (old new : Fs S G) (runs : IsFalse old.has_
 
     -- or couldn't be
     pub glance_fails : {T : Type 0} (e : CallError) (errno : Errno) → errno ≡ errno_of_call e → Glances {T = T} old.system new.system (Err e) → IsFalse old.system.log.is_stopped
-        → Answers n (λ s. Unit {0}) old new command (Refused errno)
+        → AnswersCommand n (λ s. Unit {0}) old new command (Refused errno)
     glance_fails {T = T} e errno is told not_stopped =
         let m = systems.meaning_of old.system in
         let l = systems.meaning_of new.system in
@@ -180,7 +180,7 @@ module _ {S : Type 0} {G : Ghosts S} (n : ℕ) (P : State → Type 0) (old new :
   one_point a young = omega (arith, le, young)
 
   -- it was done
-  pub settles_done : (r : Result (Unit {0}) Errno) (u : Unit {0}) → r ≡ Ok u → Settles old.system new.system P command (Ok r) → IsFalse new.has_failed → AllOpen new.system → Answers n P old new command Done
+  pub settles_done : (r : Result (Unit {0}) Errno) (u : Unit {0}) → r ≡ Ok u → Settles old.system new.system P command (Ok r) → IsFalse new.has_failed → AllOpen new.system → AnswersCommand n P old new command Done
   settles_done r u is told runs_on now = record {
     uses = told.counted.uses;
     eio = λ same. cc;
@@ -194,7 +194,7 @@ module _ {S : Type 0} {G : Ghosts S} (n : ℕ) (P : State → Type 0) (old new :
   }
 
   -- it was refused by its own tests
-  pub settles_refused : (r : Result (Unit {0}) Errno) (found errno : Errno) → r ≡ Err found → errno ≡ found → Settles old.system new.system P command (Ok r) → IsFalse new.has_failed → Answers n P old new command (Refused errno)
+  pub settles_refused : (r : Result (Unit {0}) Errno) (found errno : Errno) → r ≡ Err found → errno ≡ found → Settles old.system new.system P command (Ok r) → IsFalse new.has_failed → AnswersCommand n P old new command (Refused errno)
   settles_refused r found errno was same told runs_on =
       let is : r ≡ Err errno = was ∙ ap (λ (x : Errno). Err x) (sym same) in
       let own : errno ≢ EIO = subst (λ (x : Result (Unit {0}) Errno). IfErr x (λ e. e ≢ EIO)) is told.own in
@@ -213,7 +213,7 @@ module _ {S : Type 0} {G : Ghosts S} (n : ℕ) (P : State → Type 0) (old new :
       }
 
   -- its point wasn't made
-  pub settles_not : (e : PointError) (errno : Errno) → errno ≡ errno_of_point e → Settles old.system new.system P command (Err e) → new.has_failed ≡ fails_point e → Answers n P old new command (Refused errno)
+  pub settles_not : (e : PointError) (errno : Errno) → errno ≡ errno_of_point e → Settles old.system new.system P command (Err e) → new.has_failed ≡ fails_point e → AnswersCommand n P old new command (Refused errno)
   settles_not e errno is told flag = record {
     uses = told.counted.uses;
     eio = λ same. point_eio start end e told.counted (sym is ∙ refused_same same);

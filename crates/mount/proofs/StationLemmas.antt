@@ -5,7 +5,7 @@ use Rattle.station.specs.Moments.{Meaning, MayLeave, EachCut, IsSameStation, Lef
 use Rattle.model.specs.States.{State, going}
 use Rattle.system.specs.Images.{OpensTo}
 use Rattle.images.specs.States.{Opens}
-use Rattle.mount.specs.Applying.{GoesOn, LeftWithin, LeftNow, Tells}
+use Rattle.mount.specs.Applying.{TimeGoesOn, LeftOnTheWay, LeftNow, TellsOfFault}
 use Rattle.mount.specs.Systems.{OpensToSome}
 use Rattle.mount.proofs.SpanLemmas.{leaves_going}
 
@@ -15,10 +15,10 @@ same_moment m t c low high left =
     let same : t ≡ m.moment = omega arith in
     subst (λ (u : ℕ). m.left_at u c) same left
 
-pub on_none : (m : Meaning) → GoesOn m m
+pub on_none : (m : Meaning) → TimeGoesOn m m
 on_none m = record { later = omega arith; kept = λ t c le. (λ left. left, λ left. left) }
 
-pub on_twice : (old mid new : Meaning) → GoesOn old mid → GoesOn mid new → GoesOn old new
+pub on_twice : (old mid new : Meaning) → TimeGoesOn old mid → TimeGoesOn mid new → TimeGoesOn old new
 on_twice old mid new first second = record {
   later = omega (arith, first.later, second.later);
   kept = λ t c le.
@@ -27,7 +27,7 @@ on_twice old mid new first second = record {
 }
 
 -- a flag tells of a count that may have grown
-pub told : (old new : ℕ) → MayGrow old new → (flag : Bool) × Tells flag old new
+pub told : (old new : ℕ) → MayGrow old new → (flag : Bool) × TellsOfFault flag old new
 told old new (inl same) = (false, same)
 told old new (inr grown) = (true, grown)
 
@@ -39,7 +39,7 @@ moved m new u c sectors opens =
 pub moved_some : (m new : Meaning) (P : State → Type 0) (c : Images) → new.sectors ≡ m.sectors → OpensToSome m P c → OpensToSome new P c
 moved_some m new P c sectors opens = (opens.0, moved m new opens.0 c sectors opens.1, opens.2)
 
-pub left_within : (old new : Meaning) (s : State) (P : State → Type 0) → s.mark ≡ going → new.sectors ≡ old.sectors → LeftOnly old new (OpensToSome old P) → LeftWithin old new s P
+pub left_within : (old new : Meaning) (s : State) (P : State → Type 0) → s.mark ≡ going → new.sectors ≡ old.sectors → LeftOnly old new (OpensToSome old P) → LeftOnTheWay old new s P
 left_within old new s P is sectors leaves =
     (leaves_going new.left_at (λ c t. OpensTo new t c) s old.moment new.moment P is).1
     (λ t c from to left. moved_some old new P c sectors (leaves.each c (t, from, to, left)))
@@ -48,7 +48,7 @@ pub left_now : (m : Meaning) (s : State) (P : State → Type 0) → s.mark ≡ g
 left_now m s P is honest here =
     (leaves_going m.left_at (λ c t. OpensTo m t c) s m.moment m.moment P is).1 (λ t c from to left. here honest c (same_moment m t c from to left))
 
-pub time_on : (old new : Meaning) (P : Images → Type 0) → LeftOnly old new P → GoesOn old new
+pub time_on : (old new : Meaning) (P : Images → Type 0) → LeftOnly old new P → TimeGoesOn old new
 time_on old new P leaves = record { later = leaves.later; kept = leaves.kept }
 
 -- what is left at every moment is left now
@@ -57,7 +57,7 @@ at_last old new P same leaves honest c left = moved_some old new P c same.sector
 
 -- calls behind which a cut left only this state, and then a command
 pub left_after : (old mid new : Meaning) (s : State) (P : State → Type 0) → s.mark ≡ going → IsSameStation old mid → IsSameStation mid new
-    → LeftOnly old mid (OpensToSome old P) → GoesOn mid new → LeftWithin mid new s P → LeftWithin old new s P
+    → LeftOnly old mid (OpensToSome old P) → TimeGoesOn mid new → LeftOnTheWay mid new s P → LeftOnTheWay old new s P
 left_after old mid new s P is first_same second_same first time second =
     (leaves_going new.left_at (λ c t. OpensTo new t c) s old.moment new.moment P is).1
     (λ t c from to left. elim (order t mid.moment) [

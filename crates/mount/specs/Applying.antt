@@ -28,7 +28,7 @@ use Rattle.system.specs.declared.error.CallError.{CallError}
 use Rattle.system.specs.declared.error.CallError.TheVariants.{LogFull, NotWritten}
 use Rattle.system.specs.declared.system.System.{System}
 use Rattle.mount.specs.Refusals.{errno_of_call}
-use Rattle.mount.specs.Systems.{HasPoints, Mounted, mounted, meaning_of, moment_of, shown, Serves}
+use Rattle.mount.specs.Systems.{HasPoints, Mounted, mounted, file_system_meaning, moment_of, shown_state, Serves}
 use Rattle.mount.specs.declared.fs.Fs.{Fs}
 use Rattle.mount.specs.declared.fs.TheConstants.{POINTS}
 
@@ -37,13 +37,13 @@ abbrev pub NoWriteFailed : Meaning → Meaning → Type 0
 NoWriteFailed old new = new.failed_writes ≡ old.failed_writes
 
 -- so the flag tells of a count of failed calls
-abbrev pub Tells : Bool → ℕ → ℕ → Type 0
-Tells true old new = HasGrown old new
-Tells false old new = new ≡ old
+abbrev pub TellsOfFault : Bool → ℕ → ℕ → Type 0
+TellsOfFault true old new = HasGrown old new
+TellsOfFault false old new = new ≡ old
 
 -- The room of a system at a state that it serves: all blocks of its disk, those that are free under its root, and those that a
 -- consistency point may store for what that root doesn't cover.
-pub record HasRoom {S : Type 0} {G : Ghosts S} (f : System S G) (s : State) (room : Room) : Type 0 where
+pub record HasRoomAtPoint {S : Type 0} {G : Ghosts S} (f : System S G) (s : State) (room : Room) : Type 0 where
   pub serves : ServesState f s
   pub blocks : room.blocks ≡ f.root.geometry.blocks
   pub free :
@@ -52,26 +52,26 @@ pub record HasRoom {S : Type 0} {G : Ghosts S} (f : System S G) (s : State) (roo
   pub told : TellsRoom f.root.geometry.inodes serves.first serves.running serves.replayed.changes room
 
 -- time went on, and earlier moments stay as they were
-pub record GoesOn (old new : Meaning) : Type 0 where
+pub record TimeGoesOn (old new : Meaning) : Type 0 where
   pub later : old.moment ≤ new.moment
   pub kept : (t : ℕ) (c : Images) → t ≤ old.moment → new.left_at t c ↔ old.left_at t c
 
 -- What came in the way of a command, from one system to the next, whose station has the same history up to there. Nothing is tied to
 -- memory_refused: of ENOMEM no theorem tells the cause.
 pub record Between {S : Type 0} {G : Ghosts S} (old : Mounted S G) (command : Command) (new : Mounted S G) (c : Circumstances) : Type 0 where
-  pub goes_on : GoesOn (meaning_of old) (meaning_of new)
-  pub reads : Tells c.read_failed (meaning_of old).failed_reads (meaning_of new).failed_reads
-  pub writes : Tells c.write_failed (meaning_of old).failed_writes (meaning_of new).failed_writes
+  pub goes_on : TimeGoesOn (file_system_meaning old) (file_system_meaning new)
+  pub reads : TellsOfFault c.read_failed (file_system_meaning old).failed_reads (file_system_meaning new).failed_reads
+  pub writes : TellsOfFault c.write_failed (file_system_meaning old).failed_writes (file_system_meaning new).failed_writes
   pub full : IsTrue c.lacks_place → IsFilledBy command new.fs.system
-  pub room : new.state.mark ≡ going → HasRoom new.fs.system new.state c.room
+  pub room : new.state.mark ≡ going → HasRoomAtPoint new.fs.system new.state c.room
 
 -- what a cut from moment a to b might have left, of a system at a state
 abbrev pub LeftOf : Meaning → State → ℕ → ℕ → (State → Type 0) → Type 0
 LeftOf m s a b P = LeavesOf m.left_at (λ c t. OpensTo m t c) s a b P
 
 -- what a cut from the one meaning's moment to the other's might have left, and one at the other's
-abbrev pub LeftWithin : Meaning → Meaning → State → (State → Type 0) → Type 0
-LeftWithin old new s P = LeftOf new s old.moment new.moment P
+abbrev pub LeftOnTheWay : Meaning → Meaning → State → (State → Type 0) → Type 0
+LeftOnTheWay old new s P = LeftOf new s old.moment new.moment P
 
 abbrev pub LeftNow : Meaning → State → (State → Type 0) → Type 0
 LeftNow m s P = LeftOf m s m.moment m.moment P
@@ -81,10 +81,10 @@ LeftNow m s P = LeftOf m s m.moment m.moment P
 -- a state within it.
 pub record IsApplied {S : Type 0} {G : Ghosts S} (old new : Mounted S G) (command : Command) (reply : Reply) : Type 0 where
   pub serves : Serves new
-  pub leads : Leads shown Between old (command, reply) new
+  pub leads : Leads shown_state Between old (command, reply) new
   pub any_moment :
-      LeftWithin (meaning_of old) (meaning_of new) old.state (MayStand old.state command new.state)
-  pub at_answer : LeftNow (meaning_of new) old.state (MayRemain old.state command new.state)
+      LeftOnTheWay (file_system_meaning old) (file_system_meaning new) old.state (MayStand old.state command new.state)
+  pub at_answer : LeftNow (file_system_meaning new) old.state (MayRemain old.state command new.state)
 
 -- applied to a system at a state, a command leads to some state
 abbrev pub IsAppliedAt : {S : Type 0} {G : Ghosts S} → Fs S G → State → Fs S G → Command → Reply → Type 0
@@ -93,7 +93,7 @@ IsAppliedAt old s new command reply = (t : State) × IsApplied (mounted old s) (
 -- What a command does to a file system at a state with P, and over any bytes: all that is promised of it. It makes so many
 -- consistency points at most. EIO comes only where a device call failed, and nothing else where a write failed; a refusal for
 -- another cause logged nothing; and a sure command calls no device.
-pub record Answers {S : Type 0} {G : Ghosts S} (points : ℕ) (P : State → Type 0) (old new : Fs S G) (command : Command) (reply : Reply) : Type 0 where
+pub record AnswersCommand {S : Type 0} {G : Ghosts S} (points : ℕ) (P : State → Type 0) (old new : Fs S G) (command : Command) (reply : Reply) : Type 0 where
   pub uses : Uses (systems.meaning_of old.system) (systems.meaning_of new.system)
   pub eio : reply ≡ Refused EIO → HasFailed (systems.meaning_of old.system) (systems.meaning_of new.system)
   pub written : reply ≢ Refused EIO → NoWriteFailed (systems.meaning_of old.system) (systems.meaning_of new.system)
@@ -106,7 +106,7 @@ pub record Answers {S : Type 0} {G : Ghosts S} (points : ℕ) (P : State → Typ
 
 -- the same, whatever the state
 abbrev pub AnswersAlways : {S : Type 0} {G : Ghosts S} → Fs S G → Fs S G → Command → Reply → Type 0
-AnswersAlways old new command reply = Answers POINTS (λ s. Unit {0}) old new command reply
+AnswersAlways old new command reply = AnswersCommand POINTS (λ s. Unit {0}) old new command reply
 
 -- a command that a consistency point may refuse for want of place
 pub record NeedsPlace (s : State) (command : Command) : Type 0 where
@@ -121,10 +121,10 @@ pub record Stays {S : Type 0} {G : Ghosts S} (old new : Fs S G) (s : State) : Ty
 
 -- commands with their replies led from one system to another, each durable at its answer
 pub record HasRun {S : Type 0} {G : Ghosts S} (old new : Mounted S G) (steps : List (Command × Reply)) : Type 0 where
-  pub goes_on : GoesOn (meaning_of old) (meaning_of new)
+  pub goes_on : TimeGoesOn (file_system_meaning old) (file_system_meaning new)
   pub spans :
-      Spans (meaning_of new).left_at (λ c t. OpensTo (meaning_of new) t c) shown moment_of Between
-      old steps new (meaning_of old).moment (meaning_of new).moment
+      Spans (file_system_meaning new).left_at (λ c t. OpensTo (file_system_meaning new) t c) shown_state moment_of Between
+      old steps new (file_system_meaning old).moment (file_system_meaning new).moment
 
 -- a run from a system at a state leads to some state that the system serves then
 pub record RunsAt {S : Type 0} {G : Ghosts S} (old : Fs S G) (s : State) (new : Fs S G) (steps : List (Command × Reply)) : Type 0 where

@@ -35,15 +35,15 @@ abbrev pub mounted : {S : Type 0} {G : Ghosts S} → Fs S G → State → Mounte
 mounted fs s = record { fs = fs; state = s }
 
 -- the meaning of its station
-abbrev pub meaning_of : {S : Type 0} {G : Ghosts S} → Mounted S G → Meaning
-meaning_of m = systems.meaning_of m.fs.system
+abbrev pub file_system_meaning : {S : Type 0} {G : Ghosts S} → Mounted S G → Meaning
+file_system_meaning m = systems.meaning_of m.fs.system
 
 -- its present moment
 abbrev pub moment_of : {S : Type 0} {G : Ghosts S} → Mounted S G → ℕ
-moment_of m = (meaning_of m).moment
+moment_of m = (file_system_meaning m).moment
 
-abbrev pub shown : {S : Type 0} {G : Ghosts S} → Mounted S G → State
-shown m = m.state
+abbrev pub shown_state : {S : Type 0} {G : Ghosts S} → Mounted S G → State
+shown_state m = m.state
 
 -- the mark of a system, by whether it failed
 abbrev pub mark_of : Bool → Mark
@@ -52,10 +52,10 @@ mark_of has_failed = if has_failed then failed else going
 -- A file system serves the state that it shows, over an honest station: a cut leaves just that, or where a write failed,
 -- a state within the command that was under way.
 pub record Serves {S : Type 0} {G : Ghosts S} (m : Mounted S G) : Type 0 where
-  pub honest : (meaning_of m).is_honest
+  pub honest : (file_system_meaning m).is_honest
   pub mark : m.state.mark ≡ mark_of m.fs.has_failed
   pub kept : m.state.mark ≡ going → ServesState m.fs.system m.state
-  pub cut_short : m.state.mark ≡ failed → IsCutShort (meaning_of m) m.state
+  pub cut_short : m.state.mark ≡ failed → IsCutShort (file_system_meaning m) m.state
 
 -- so many further consistency points have a generation
 abbrev pub HasPoints : {S : Type 0} {G : Ghosts S} → ℕ → Fs S G → Type 0

@@ -37,7 +37,7 @@ impl<S: Station> Fs<S> {
     ghost use Rattle.system.specs.Opening.{HasFailed};
     ghost use Rattle.system.specs.Serving.{IsCall};
     ghost use Rattle.system.specs.Systems.{IsCovered, meaning_of};
-    ghost use Rattle.mount.specs.Applying.{Answers, AnswersAlways, Attempts, IsAppliedAt, MakesRoom, NeedsPlace, RunsAt};
+    ghost use Rattle.mount.specs.Applying.{AnswersCommand, AnswersAlways, Attempts, IsAppliedAt, MakesRoom, NeedsPlace, RunsAt};
     ghost use Rattle.mount.specs.Systems.{mounted, Serves, IsYoung, LastsFor, LeavesState};
     ghost use Rattle.mount.specs.declared.fs.Fs.{Fs};
 
@@ -119,7 +119,7 @@ impl<S: Station> Fs<S> {
     fn call_settled(&mut self, call: &Command) -> Reply
         requires going { IsFalse self.old.has_failed }
         requires is_call { IsCall call.now }
-        ensures { Answers 1 (λ s. NeedsPlace s call.now) self.old self.new call.now result }
+        ensures { AnswersCommand 1 (λ s. NeedsPlace s call.now) self.old self.new call.now result }
     {
         if let Err(errno) = self.settle() {
             return Reply::Refused(errno);
@@ -180,7 +180,7 @@ impl<S: Station> Fs<S> {
     /// The same where its tests are passed.
     fn take_tested(&mut self, name: &Text) -> Reply
         requires { IsFalse self.old.has_failed }
-        ensures { Answers POINTS (λ s. NeedsPlace s (Command.SnapTake name.now)) self.old self.new
+        ensures { AnswersCommand POINTS (λ s. NeedsPlace s (Command.SnapTake name.now)) self.old self.new
             (Command.SnapTake name.now) result }
     {
         if self.system.is_covered() {
@@ -195,7 +195,7 @@ impl<S: Station> Fs<S> {
     /// The same where the newest root covers all.
     fn take_covered(&mut self, name: &Text) -> Reply
         requires { IsFalse self.old.has_failed }
-        ensures { Answers 1 (λ s. IsCovered self.old.system s.tree.descriptors s) self.old self.new
+        ensures { AnswersCommand 1 (λ s. IsCovered self.old.system s.tree.descriptors s) self.old self.new
             (Command.SnapTake name.now) result }
     {
         served_states_open(&self.system);

@@ -7,7 +7,7 @@ ghost use Rattle.model.specs.declared.command.Command.{Command};
 ghost use Rattle.model.specs.declared.reply.Reply.{Reply};
 ghost use Rattle.model.specs.States.{going, failed};
 ghost use Rattle.model.specs.Runs.{IsPrefix};
-ghost use Rattle.mount.specs.Systems.{Mounted, OpensToSome, meaning_of, shown};
+ghost use Rattle.mount.specs.Systems.{Mounted, OpensToSome, file_system_meaning, shown_state};
 ghost use Rattle.mount.specs.Applying.{Between, HasRun, ReadsCut};
 
 use station::Station;
@@ -19,10 +19,10 @@ use station::Station;
 pub fn cut_opens_to_prefix<S: Station, T: Station>()
     ensures going { (old new : Mounted S S.Station) (steps : List (Command × Reply)) (other : T)
         → old.state.mark ≡ going → HasRun old new steps
-        → ReadsCut (meaning_of old) (meaning_of new) (T.meaning other)
-        → OpensToSome (T.meaning other) (IsPrefix shown Between old steps) (T.meaning other).seen }
+        → ReadsCut (file_system_meaning old) (file_system_meaning new) (T.meaning other)
+        → OpensToSome (T.meaning other) (IsPrefix shown_state Between old steps) (T.meaning other).seen }
     ensures failed { (old new : Mounted S S.Station) (steps : List (Command × Reply)) (c : Images)
         → old.state.mark ≡ failed → HasRun old new steps
-        → LeftBetween (meaning_of new) (meaning_of old).moment (meaning_of new).moment c
-        → MayLeave (meaning_of old) c }
+        → LeftBetween (file_system_meaning new) (file_system_meaning old).moment (file_system_meaning new).moment c
+        → MayLeave (file_system_meaning old) c }
 {}

@@ -4,7 +4,7 @@ use Rattle.std.proofs.lemmas.List.{take_at, drop_at, drop-take, drop-drop, take-
 use Rattle.byteorder.specs.Endian.{little_bytes}
 use Rattle.layout.specs.Gates.{HeaderIs}
 use Rattle.layout.specs.Log.{half_of, opened, record_of, IsOpenFor, HoldsBodies, EpochHolds, LogHolds}
-use Rattle.oplog.specs.LogEnd.{EndsAt}
+use Rattle.oplog.specs.LogEnd.{EndsBehind}
 use Rattle.oplog.specs.SavedLog.{HoldsLeaving, StandsBehind, TellsLog, end_of}
 use Rattle.oplog.specs.Internal.{TellsHalf, TellsEpoch}
 use Rattle.oplog.specs.declared.log.End.TheVariants.{Unopened, At}
@@ -83,7 +83,7 @@ module _ (epoch : ℕ) (bytes records : List ℕ) (bodies : List (List ℕ)) whe
 module _ (half g : ℕ) (nvram : List ℕ) (size : length nvram ≡ 2 * half) (one two : List ℕ) where
   -- the end of an open half
   ends : (epoch left : ℕ) (records : List ℕ) (bodies : List (List ℕ)) → TellsEpoch epoch (half_of half epoch nvram) true records → HoldsLeaving records bodies left
-      → EndsAt (At (half - left)) epoch (half_of half epoch nvram) bodies
+      → EndsBehind (At (half - left)) epoch (half_of half epoch nvram) bodies
   ends epoch left records bodies tells holds =
       let long : length records + 9 ≡ half =
       omega (arith, ap length (tells.present refl), length-append (opened epoch) records, length-opened epoch, length-half_at half (epoch % 2) nvram size (omega arith)) in

@@ -7,7 +7,7 @@ use Rattle.byteorder.specs.Endian.{little_bytes}
 use Rattle.station.specs.Images.{nvram_with}
 use Rattle.layout.specs.Log.{opened, record_of, records_of, HoldsBodies, IsClosed, EpochHolds}
 use Rattle.layout.proofs.LogLemmas.{closed_unopened}
-use Rattle.oplog.specs.LogEnd.{EndsAt}
+use Rattle.oplog.specs.LogEnd.{EndsBehind}
 use Rattle.oplog.specs.Internal.{IsBehind}
 use Rattle.oplog.specs.declared.log.End.{End}
 use Rattle.oplog.specs.declared.log.End.TheVariants.{Unopened, At}
@@ -61,7 +61,7 @@ none_written at bytes =
     ap (λ (n : ℕ). take at bytes ++ [] ++ drop n bytes) same ∙ ap (λ (l : List ℕ). l ++ drop at bytes) (append-nil (take at bytes)) ∙ take-append-drop at bytes
 
 -- what ends somewhere is held
-pub ends_hold : (end : End) (epoch : ℕ) (bytes : List ℕ) (bodies : List (List ℕ)) → EndsAt end epoch bytes bodies → EpochHolds epoch bytes bodies
+pub ends_hold : (end : End) (epoch : ℕ) (bytes : List ℕ) (bodies : List (List ℕ)) → EndsBehind end epoch bytes bodies → EpochHolds epoch bytes bodies
 ends_hold Unopened epoch bytes bodies ends = inr ends
 ends_hold (At next) epoch bytes bodies ends = inl (ends.0, ends.1, ends.2)
 
@@ -69,7 +69,7 @@ ends_hold (At next) epoch bytes bodies ends = inl (ends.0, ends.1, ends.2)
 abbrev pub front : ℕ → List (List ℕ) → List ℕ
 front epoch bodies = opened epoch ++ records_of bodies
 
-module _ (epoch next : ℕ) (bytes : List ℕ) (bodies : List (List ℕ)) (ends : EndsAt (At next) epoch bytes bodies) where
+module _ (epoch next : ℕ) (bytes : List ℕ) (bodies : List (List ℕ)) (ends : EndsBehind (At next) epoch bytes bodies) where
   place : length (front epoch bodies) ≡ next
   place = omega (arith, length-append (opened epoch) (records_of bodies), length-opened epoch, ends.3)
 
@@ -87,13 +87,13 @@ module _ (epoch next : ℕ) (bytes : List ℕ) (bodies : List (List ℕ)) (ends 
       )
 
   -- whatever stands behind it, the half ends there
-  pub still_ends : (later rest : List ℕ) → later ≡ front epoch bodies ++ 0 ∷ rest → EndsAt (At next) epoch later bodies
+  pub still_ends : (later rest : List ℕ) → later ≡ front epoch bodies ++ 0 ∷ rest → EndsBehind (At next) epoch later bodies
   still_ends later rest is =
       (records_of bodies ++ 0 ∷ rest, is ∙ append_assoc (opened epoch) (records_of bodies) (0 ∷ rest), behind_closed ends.0 bodies rest ends.2, ends.3)
 
   -- the gate of a record that stands behind it is opened
   pub gate_opened : (later body behind rest : List ℕ) → IsBehind body behind → later ≡ front epoch bodies ++ 0 ∷ (behind ++ rest)
-      → EndsAt (At (next + 5 + length body)) epoch (nvram_with next (1 ∷ []) later) (bodies ++ body ∷ [])
+      → EndsBehind (At (next + 5 + length body)) epoch (nvram_with next (1 ∷ []) later) (bodies ++ body ∷ [])
   gate_opened later body behind rest is shape =
       let regroup : 1 ∷ (behind ++ rest) ≡ record_of body ++ 0 ∷ rest =
       ap (λ (l : List ℕ). 1 ∷ (l ++ rest)) is.spelled ∙ append_assoc (record_of body) (0 ∷ []) rest in (
@@ -107,7 +107,7 @@ module _ (epoch next : ℕ) (bytes : List ℕ) (bodies : List (List ℕ)) (ends 
       )
 
 -- a half with a closed gate ends before its first record
-pub closed_ends : (epoch : ℕ) (bytes : List ℕ) → IsClosed bytes → EndsAt Unopened epoch bytes []
+pub closed_ends : (epoch : ℕ) (bytes : List ℕ) → IsClosed bytes → EndsBehind Unopened epoch bytes []
 closed_ends epoch bytes shut = (closed_unopened epoch bytes shut, refl)
 
 -- the header's gate is closed
@@ -119,7 +119,7 @@ pub behind_header : (bytes new : List ℕ) → IsClosed bytes → (rest : List �
 behind_header bytes new shut = (drop (length new) shut.0, ap (λ (l : List ℕ). nvram_with 1 new l) shut.1 ∙ written_behind (0 ∷ []) shut.0 new 1 refl)
 
 -- the header's gate is opened over an epoch with a closed gate behind it
-pub header_opened : (epoch : ℕ) (bytes rest : List ℕ) → bytes ≡ 0 ∷ ((little_bytes 8 epoch ++ 0 ∷ []) ++ rest) → EndsAt (At 9) epoch (nvram_with 0 (1 ∷ []) bytes) []
+pub header_opened : (epoch : ℕ) (bytes rest : List ℕ) → bytes ≡ 0 ∷ ((little_bytes 8 epoch ++ 0 ∷ []) ++ rest) → EndsBehind (At 9) epoch (nvram_with 0 (1 ∷ []) bytes) []
 header_opened epoch bytes rest is = (
   0 ∷ rest,
   ap (λ (l : List ℕ). nvram_with 0 (1 ∷ []) l) is ∙ ap (λ (l : List ℕ). 1 ∷ l) (append_assoc (little_bytes 8 epoch) (0 ∷ []) rest),

@@ -6,7 +6,7 @@ use Rattle.byteorder.specs.Endian.{little_bytes}
 use Rattle.station.specs.Images.{nvram_with}
 use Rattle.station.specs.Moments.{Meaning}
 use Rattle.layout.specs.Log.{half_of, IsClosed, EpochHolds, IsUnopened, LogHolds}
-use Rattle.oplog.specs.LogEnd.{LogEnd, Bodies, all_of, with_body, behind, EndsAt, OtherHolds, StandsAt, LogStands, WithOrWithout}
+use Rattle.oplog.specs.LogEnd.{LogEnd, Bodies, all_bodies, with_body, behind_record, EndsBehind, OtherHolds, StandsAt, LogStands, WithOrWithout}
 use Rattle.oplog.specs.Internal.{start_of, IsBehind}
 use Rattle.oplog.specs.declared.log.End.{End}
 use Rattle.oplog.specs.declared.log.End.TheVariants.{Unopened, At}
@@ -16,7 +16,7 @@ use Rattle.oplog.proofs.Runs.{Step, one_byte, Run, begun}
 
 -- what the half of the log's epoch ends with, and what the other one holds, are what the log holds
 pub stands_by : (log : LogEnd) (g : ℕ) (bodies : Bodies) (nvram : List ℕ) → length nvram ≡ 2 * log.half
-    → EndsAt log.end log.epoch (half_of log.half log.epoch nvram) bodies.newest → OtherHolds log g nvram bodies.older → StandsAt log g bodies nvram
+    → EndsBehind log.end log.epoch (half_of log.half log.epoch nvram) bodies.newest → OtherHolds log g nvram bodies.older → StandsAt log g bodies nvram
 stands_by log g bodies nvram size ends other = record { holds = holds; ends = ends; other = other }
   where
     here : EpochHolds log.epoch (half_of log.half log.epoch nvram) bodies.newest
@@ -25,7 +25,7 @@ stands_by log g bodies nvram size ends other = record { holds = holds; ends = en
     at : (epoch : ℕ) → log.epoch ≡ epoch → EpochHolds epoch (half_of log.half epoch nvram) bodies.newest
     at epoch is = subst (λ (e : ℕ). EpochHolds e (half_of log.half e nvram) bodies.newest) is here
 
-    holds : LogHolds log.half g nvram (all_of bodies)
+    holds : LogHolds log.half g nvram (all_bodies bodies)
     holds = elim other [
       | inl is ↦ record {
         size = size;
@@ -40,7 +40,7 @@ stands_by log g bodies nvram size ends other = record { holds = holds; ends = en
 
 -- a write within the half of the log's epoch, which then ends like this
 pub written : (log : LogEnd) (g : ℕ) (bodies : Bodies) (nvram : List ℕ) → StandsAt log g bodies nvram → (place at : ℕ) (new : List ℕ) (end : End) (newest : List (List ℕ))
-    → place ≡ start_of log + at → at + length new ≤ log.half → EndsAt end log.epoch (nvram_with at new (half_of log.half log.epoch nvram)) newest
+    → place ≡ start_of log + at → at + length new ≤ log.half → EndsBehind end log.epoch (nvram_with at new (half_of log.half log.epoch nvram)) newest
     → StandsAt (record log { end = end }) g (record bodies { newest = newest }) (nvram_with place new nvram)
 written log g bodies nvram stands place at new end newest here fits ends =
     subst (λ (p : ℕ). StandsAt (record log { end = end }) g (record bodies { newest = newest }) (nvram_with p new nvram)) (sym here)
@@ -52,8 +52,8 @@ written log g bodies nvram stands place at new end newest here fits ends =
     later : List ℕ
     later = nvram_with (log.half * (log.epoch % 2) + at) new nvram
 
-    ends_now : EndsAt end log.epoch (half_of log.half log.epoch later) newest
-    ends_now = subst (λ (l : List ℕ). EndsAt end log.epoch l newest) (sym (same_half log.half at (log.epoch % 2) nvram new stands.holds.size fits low)) ends
+    ends_now : EndsBehind end log.epoch (half_of log.half log.epoch later) newest
+    ends_now = subst (λ (l : List ℕ). EndsBehind end log.epoch l newest) (sym (same_half log.half at (log.epoch % 2) nvram new stands.holds.size fits low)) ends
 
     stays : (e : ℕ) → e % 2 ≢ log.epoch % 2 → half_of log.half e later ≡ half_of log.half e nvram
     stays e differ = other_half log.half at (log.epoch % 2) nvram new stands.holds.size fits low (e % 2) (omega arith) differ
@@ -71,7 +71,7 @@ module _ (log : LogEnd) (g next gate : ℕ) (bodies : Bodies) (body bytes : List
   Before = StandsAt (record log { end = At next }) g bodies
 
   abbrev pub With : List ℕ → Type 0
-  With = StandsAt (behind (record log { end = At next }) body) g (with_body bodies body)
+  With = StandsAt (behind_record (record log { end = At next }) body) g (with_body bodies body)
 
   abbrev pub Either : List ℕ → Type 0
   Either = WithOrWithout log.half g bodies body
@@ -132,7 +132,7 @@ module _ (log : LogEnd) (g start : ℕ) (bodies : Bodies) (room : 10 ≤ log.hal
 
   -- the log holds what it held
   abbrev pub Holds : List ℕ → Type 0
-  Holds n = LogHolds log.half g n (all_of bodies)
+  Holds n = LogHolds log.half g n (all_bodies bodies)
 
   -- the header's gate is closed
   pub record Shut (n : List ℕ) : Type 0 where
@@ -154,7 +154,7 @@ module _ (log : LogEnd) (g start : ℕ) (bodies : Bodies) (room : 10 ≤ log.hal
       ∙ same_half log.half at (log.epoch % 2) n new s.holds.size fits (omega arith) in
       record {
         stands = written (record log { end = Unopened }) g bodies n s place at new Unopened bodies.newest is fits
-            (subst (EndsAt Unopened log.epoch (nvram_with at new (half_of log.half log.epoch n))) (sym s.ends.1) (closed_ends log.epoch (nvram_with at new (half_of log.half log.epoch n)) shut));
+            (subst (EndsBehind Unopened log.epoch (nvram_with at new (half_of log.half log.epoch n))) (sym s.ends.1) (closed_ends log.epoch (nvram_with at new (half_of log.half log.epoch n)) shut));
         shut = subst IsClosed (sym same) shut;
       }
 
@@ -189,7 +189,7 @@ module _ (log : LogEnd) (g start : ℕ) (bodies : Bodies) (room : 10 ≤ log.hal
   gate_opened_again =
       one_byte Holds Prepared Opened (start + 0) 1 (λ n s. s.shut.stands.holds) (λ n s. s.holds)
       (λ n s. written (record log { end = Unopened }) g bodies n s.shut.stands (start + 0) 0 (1 ∷ []) (At 9) bodies.newest (omega (arith, here)) (omega (arith, room))
-      (subst (EndsAt (At 9) log.epoch (nvram_with 0 (1 ∷ []) (half_of log.half log.epoch n))) (sym s.shut.stands.ends.1) (header_opened log.epoch (half_of log.half log.epoch n) s.rest s.half_is)))
+      (subst (EndsBehind (At 9) log.epoch (nvram_with 0 (1 ∷ []) (half_of log.half log.epoch n))) (sym s.shut.stands.ends.1) (header_opened log.epoch (half_of log.half log.epoch n) s.rest s.half_is)))
 
   -- what was left before, and the three writes
   pub record OpeningWrites (bytes : List ℕ) (m : Meaning) : Type 0 where

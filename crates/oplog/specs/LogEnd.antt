@@ -26,16 +26,16 @@ next_of Unopened = FIRST_GATE
 next_of (At next) = next
 
 -- a record with a body of this length and a closed gate behind it fit what is left of the half
-abbrev pub HasRoom : LogEnd → ℕ → Type 0
-HasRoom log body_length = next_of log.end + RECORD_HEAD_BYTES + body_length + 1 ≤ log.half
+abbrev pub HasRoomInHalf : LogEnd → ℕ → Type 0
+HasRoomInHalf log body_length = next_of log.end + RECORD_HEAD_BYTES + body_length + 1 ≤ log.half
 
 -- the end behind a record with this body
-abbrev pub behind : LogEnd → List ℕ → LogEnd
-behind log body = record log { end = At (next_of log.end + RECORD_HEAD_BYTES + length body) }
+abbrev pub behind_record : LogEnd → List ℕ → LogEnd
+behind_record log body = record log { end = At (next_of log.end + RECORD_HEAD_BYTES + length body) }
 
 -- the body of a record
-abbrev pub body_of : Change → List ℕ
-body_of change = change_bytes change
+abbrev pub logged_body : Change → List ℕ
+logged_body change = change_bytes change
 
 -- the bodies that the log holds of the epoch that records go to now, and of the one before it
 pub record Bodies : Type 0 where
@@ -46,17 +46,17 @@ abbrev pub no_bodies : Bodies
 no_bodies = record { older = []; newest = [] }
 
 -- all of them in their order
-abbrev pub all_of : Bodies → List (List ℕ)
-all_of bodies = bodies.older ++ bodies.newest
+abbrev pub all_bodies : Bodies → List (List ℕ)
+all_bodies bodies = bodies.older ++ bodies.newest
 
 -- with one more
 abbrev pub with_body : Bodies → List ℕ → Bodies
 with_body bodies body = record bodies { newest = bodies.newest ++ body ∷ [] }
 
 -- the half of this epoch holds these bodies, and ends behind them
-abbrev pub EndsAt : End → ℕ → List ℕ → List (List ℕ) → Type 0
-EndsAt Unopened epoch bytes bodies = IsUnopened epoch bytes × (bodies ≡ [])
-EndsAt (At next) epoch bytes bodies =
+abbrev pub EndsBehind : End → ℕ → List ℕ → List (List ℕ) → Type 0
+EndsBehind Unopened epoch bytes bodies = IsUnopened epoch bytes × (bodies ≡ [])
+EndsBehind (At next) epoch bytes bodies =
     (rest : List ℕ) × IsOpenFor epoch bytes rest × HoldsBodies rest bodies × (next ≡ FIRST_GATE + length (records_of bodies))
 
 -- over a root of generation g, the other half holds these bodies: where records go to epoch g + 1, it isn't open for the
@@ -68,8 +68,8 @@ OtherHolds log g nvram older =
 
 -- An NVRAM holds these bodies over a root of generation g, and the log ends behind them.
 pub record StandsAt (log : LogEnd) (g : ℕ) (bodies : Bodies) (nvram : List ℕ) : Type 0 where
-  pub holds : LogHolds log.half g nvram (all_of bodies)
-  pub ends : EndsAt log.end log.epoch (half_of log.half log.epoch nvram) bodies.newest
+  pub holds : LogHolds log.half g nvram (all_bodies bodies)
+  pub ends : EndsBehind log.end log.epoch (half_of log.half log.epoch nvram) bodies.newest
   pub other : OtherHolds log g nvram bodies.older
 
 -- so does whatever a cut may leave
@@ -79,7 +79,7 @@ LogStands m log g bodies = EachCut m (λ c. StandsAt log g bodies c.nvram)
 -- the log holds these bodies, or one more
 abbrev pub WithOrWithout : ℕ → ℕ → Bodies → List ℕ → List ℕ → Type 0
 WithOrWithout half g bodies body nvram =
-    LogHolds half g nvram (all_of bodies) ⊎ LogHolds half g nvram (all_of (with_body bodies body))
+    LogHolds half g nvram (all_bodies bodies) ⊎ LogHolds half g nvram (all_bodies (with_body bodies body))
 
 -- over an honest station, reads give this disk
 abbrev pub ReadsDisk : Meaning → (ℕ → Sector) → Type 0

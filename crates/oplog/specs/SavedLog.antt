@@ -1,7 +1,7 @@
 -- What was read of the log.
 use Rattle.std.specs.Prelude.{◌≡◌, ℕ, ◌+◌, ◌-◌, Bool, false, List, ◌++◌, length, if◌then◌else◌}
 use Rattle.layout.specs.Log.{records_of, HoldsBodies, LogHolds}
-use Rattle.oplog.specs.LogEnd.{LogEnd, Bodies, all_of, StandsAt}
+use Rattle.oplog.specs.LogEnd.{LogEnd, Bodies, all_bodies, StandsAt}
 use Rattle.oplog.specs.declared.log.End.TheVariants.{Unopened, At}
 
 -- what was read of the half of an epoch: whether it is open for it, and the bytes from the first record's gate on, just a
@@ -33,7 +33,7 @@ pub record HoldsLeaving (records : List ℕ) (bodies : List (List ℕ)) (left : 
 -- the NVRAM holds these bodies over the root, and the log ends behind them
 pub record StandsBehind (log : LogEnd) (g : ℕ) (nvram : List ℕ) (in_order : List (List ℕ)) : Type 0 where
   pub bodies : Bodies
-  pub all : all_of bodies ≡ in_order
+  pub all : all_bodies bodies ≡ in_order
   pub stands : StandsAt log g bodies nvram
 
 -- What was read tells the log over the root: its bytes hold just the records that the log holds, and it ends where they

@@ -3,7 +3,7 @@
 ghost use Rattle.std.specs.Prelude.{◌≡◌, ℕ, ◌+◌, ◌<◌, ◌≤◌, ◌^◌, List, ◌++◌, length, IfOk};
 ghost use Rattle.byteorder.specs.Endian.{little_bytes};
 ghost use Rattle.station.specs.Calls.{OnlyWrites};
-ghost use Rattle.oplog.specs.LogEnd.{LogEnd, next_of, Bodies, body_of, LogStands, ReadsDisk};
+ghost use Rattle.oplog.specs.LogEnd.{LogEnd, next_of, Bodies, logged_body, LogStands, ReadsDisk};
 ghost use Rattle.oplog.specs.Internal.{start_of, IsBehind, IsAnyFault, OpensHalf, Appends};
 ghost use Rattle.layout.specs.Record.{KeepsLimits, change_of};
 ghost use Rattle.layout.specs.declared.geometry.TheConstants.{MOST_HALF};
@@ -96,10 +96,10 @@ fn add_record<S: Station>(station: &mut S, gate: u32, behind: &[u8]) -> Result<(
 /// What stands behind a record's gate: its body's length, its body and the next gate, closed.
 pub fn behind_the_gate(alloc: Global, change: &Record) -> Result<Vec<u8>, AllocError>
     requires fits { KeepsLimits (change_of change.now) }
-    requires short { length (body_of (change_of change.now)) ≤ MOST_HALF }
+    requires short { length (logged_body (change_of change.now)) ≤ MOST_HALF }
     ensures length { IfOk result
-        (λ v. length v.items ≡ length (body_of (change_of change.now)) + RECORD_HEAD_BYTES) }
-    ensures spelled { IfOk result (λ v. IsBehind (body_of (change_of change.now)) v.items) }
+        (λ v. length v.items ≡ length (logged_body (change_of change.now)) + RECORD_HEAD_BYTES) }
+    ensures spelled { IfOk result (λ v. IsBehind (logged_body (change_of change.now)) v.items) }
 {
     let mut bytes = vec![in alloc; CLOSED; LENGTH_BYTES + change.encoded_len()]?;
     put_record(change, &mut bytes);
@@ -110,10 +110,10 @@ pub fn behind_the_gate(alloc: Global, change: &Record) -> Result<Vec<u8>, AllocE
 /// Writes a record's length and body.
 fn put_record(change: &Record, out: &mut [u8])
     requires fits { KeepsLimits (change_of change.now) }
-    requires short { length (body_of (change_of change.now)) ≤ MOST_HALF }
-    requires room { length out.old ≡ LENGTH_BYTES + length (body_of (change_of change.now)) }
-    ensures { out.new ≡ little_bytes LENGTH_BYTES (length (body_of (change_of change.now)))
-        ++ body_of (change_of change.now) }
+    requires short { length (logged_body (change_of change.now)) ≤ MOST_HALF }
+    requires room { length out.old ≡ LENGTH_BYTES + length (logged_body (change_of change.now)) }
+    ensures { out.new ≡ little_bytes LENGTH_BYTES (length (logged_body (change_of change.now)))
+        ++ logged_body (change_of change.now) }
 {
     let (head, body) = out.split_at_mut(LENGTH_BYTES);
     LittleEndian::write_u32(head, change.encoded_len() as u32);

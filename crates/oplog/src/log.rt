@@ -4,7 +4,7 @@ ghost use Rattle.std.specs.Prelude.{◌≡◌, ◌⊎◌, ℕ, ◌+◌, ◌*◌,
 ghost use Rattle.station.specs.Moments.{LeavesOnly, KeepsDisk, EachCut};
 ghost use Rattle.station.specs.Calls.{OnlyWrites};
 ghost use Rattle.oplog.specs.Internal.{start_of, IsBehind};
-ghost use Rattle.oplog.specs.LogEnd.{LogEnd, AreHalfBytes, next_of, HasRoom, behind, Bodies, no_bodies, all_of, with_body, body_of, StandsAt, LogStands, ReadsDisk, WithOrWithout};
+ghost use Rattle.oplog.specs.LogEnd.{LogEnd, AreHalfBytes, next_of, HasRoomInHalf, behind_record, Bodies, no_bodies, all_bodies, with_body, logged_body, StandsAt, LogStands, ReadsDisk, WithOrWithout};
 ghost use Rattle.layout.specs.Record.{KeepsLimits, change_of};
 ghost use Rattle.layout.specs.declared.log.TheConstants.{FIRST_GATE, RECORD_HEAD_BYTES};
 
@@ -77,7 +77,7 @@ impl Log {
         // Over the same root: what the log holds is older now.
         ensures newer { (g : ℕ) (bodies : Bodies) (nvram : List ℕ)
             → self.old.epoch ≡ g + 1 → epoch ≡ g + 2 → StandsAt self.old g bodies nvram
-            → StandsAt self.new g (record { older = all_of bodies; newest = [] }) nvram }
+            → StandsAt self.new g (record { older = all_bodies bodies; newest = [] }) nvram }
         // Under a new root that covers the epoch so far: the log holds nothing.
         ensures covered { (g : ℕ) (bodies : Bodies) (nvram : List ℕ)
             → g < 2 ^ 62 → epoch ≡ self.old.epoch + 1 → StandsAt self.old g bodies nvram
@@ -104,7 +104,7 @@ impl Log {
 
     /// Whether a record with a body of this length fits what is left of the half.
     pub fn room(&self, length: usize) -> bool
-        ensures { IsTrue result ↔ HasRoom self.now length }
+        ensures { IsTrue result ↔ HasRoomInHalf self.now length }
     {
         let left = (self.half - self.next()) as usize;
         left >= RECORD_HEAD_BYTES + 1 && length <= left - (RECORD_HEAD_BYTES + 1)
@@ -130,20 +130,20 @@ impl Log {
         ensures device { IsErrOf result AppendError.Device
             → self.new ≡ record self.old { is_stopped = true } }
         ensures full { IsErrOf result AppendError.LogFull ↔ (IsFalse self.old.is_stopped
-            × ¬ HasRoom self.old (length (body_of (change_of change.now)))) }
+            × ¬ HasRoomInHalf self.old (length (logged_body (change_of change.now)))) }
         ensures refused { IsErrOf result AppendError.LogFull ⊎ IsErrOf result AppendError.NoMemory
             → (station.new ≡ station.old) × (self.new ≡ self.old) }
-        ensures end { OnOk result (self.new ≡ behind self.old (body_of (change_of change.now))) }
+        ensures end { OnOk result (self.new ≡ behind_record self.old (logged_body (change_of change.now))) }
         // A cut at any moment leaves the records that were there, with this one or without it; at the answer, with it.
         ensures any_moment { (g : ℕ) (bodies : Bodies)
             → LogStands (S.meaning station.old) self.old g bodies
             → LeavesOnly (S.meaning station.old) (S.meaning station.new)
             (KeepsDisk (S.meaning station.old)
-            (WithOrWithout self.old.half g bodies (body_of (change_of change.now)))) }
+            (WithOrWithout self.old.half g bodies (logged_body (change_of change.now)))) }
         ensures appended { (g : ℕ) (bodies : Bodies)
             → LogStands (S.meaning station.old) self.old g bodies
             → OnOk result (EachCut (S.meaning station.new) (KeepsDisk (S.meaning station.old)
-            (StandsAt self.new g (with_body bodies (body_of (change_of change.now)))))) }
+            (StandsAt self.new g (with_body bodies (logged_body (change_of change.now)))))) }
     {
         let behind = self.prepare(alloc, change)?;
         let Ok(()) = write_record(station, self.start(), self.epoch, self.end, &behind) else {
@@ -159,12 +159,12 @@ impl Log {
         requires fits { KeepsLimits (change_of change.now) }
         ensures stopped { IsErrOf result AppendError.Device ↔ IsTrue self.now.is_stopped }
         ensures full { IsErrOf result AppendError.LogFull ↔ (IsFalse self.now.is_stopped
-            × ¬ HasRoom self.now (length (body_of (change_of change.now)))) }
+            × ¬ HasRoomInHalf self.now (length (logged_body (change_of change.now)))) }
         ensures goes_on { IsOk result → IsFalse self.now.is_stopped }
-        ensures room { IsOk result → HasRoom self.now (length (body_of (change_of change.now))) }
+        ensures room { IsOk result → HasRoomInHalf self.now (length (logged_body (change_of change.now))) }
         ensures length { IfOk result
-            (λ v. length v.items ≡ length (body_of (change_of change.now)) + RECORD_HEAD_BYTES) }
-        ensures spelled { IfOk result (λ v. IsBehind (body_of (change_of change.now)) v.items) }
+            (λ v. length v.items ≡ length (logged_body (change_of change.now)) + RECORD_HEAD_BYTES) }
+        ensures spelled { IfOk result (λ v. IsBehind (logged_body (change_of change.now)) v.items) }
     {
         if self.is_stopped {
             return Err(AppendError::Device);

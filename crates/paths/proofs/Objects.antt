@@ -2,12 +2,12 @@
 use Rattle.std.proofs.Common.{◌≡◌, ◌≢◌, ℕ, ◌/◌, List, [], Option, Some, None, IsSome, true, false, refl, sym, ap, subst, arith}
 use Rattle.std.specs.List.Sorted.{IsStrictlySortedBy}
 use Rattle.dirs.specs.Directory.{AreDirectoryBlocks}
-use Rattle.dirs.specs.Listings.{IsListing}
+use Rattle.dirs.specs.Listings.{IsListingOfNames}
 use Rattle.layout.specs.DirectoryNames.{NameMap, HoldNames}
 use Rattle.layout.specs.declared.kind.Kind.{Kind}
 use Rattle.layout.specs.declared.kind.Kind.TheVariants as kinds
 use Rattle.layout.specs.declared.inode.Inode.{Inode}
-use Rattle.images.specs.Contents.{Content, StandsAs, bytes_of}
+use Rattle.images.specs.Contents.{Content, StandsAs, content_bytes}
 use Rattle.inode.specs.Files.{file_block}
 use Rattle.inode.specs.declared.object.Object.{Object}
 use Rattle.inofile.specs.Objects.{IsObject, IsObjectKind}
@@ -34,7 +34,7 @@ module _ (disk : ℕ → List ℕ) (inodes : ℕ) (settled : Inode) (o : Object)
       → P (names_in node)
   of_names P is told = let d = names_of is in subst (λ n. P (names_in n)) (sym d.2) (told d.0 d.1)
 
-  pub link_text : o.attributes.kind ≡ kinds.Link → bytes_of (content_of disk o) ≡ text_in node
+  pub link_text : o.attributes.kind ≡ kinds.Link → content_bytes (content_of disk o) ≡ text_in node
   link_text is = sym (ap text_in (stands kinds.Link is))
 
   -- what is no directory has no names
@@ -74,7 +74,7 @@ found_is kinds.InodeMap inodes c node is = sym (ap found_in is)
 found_is kinds.BlockMap inodes c node is = sym (ap found_in is)
 
 -- what has no names
-pub nothing_listed : (names : NameMap) → ((x : Name) → names x ≡ None) → IsListing names []
+pub nothing_listed : (names : NameMap) → ((x : Name) → names x ≡ None) → IsListingOfNames names []
 unfolding IsStrictlySortedBy
 nothing_listed names none = record {
   sorted = tt;

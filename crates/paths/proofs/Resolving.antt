@@ -10,7 +10,7 @@ use Rattle.model.specs.Paths.{Name}
 use Rattle.model.specs.Volumes.{Volume}
 use Rattle.paths.specs.Ends.{EndsWell, IsAtName}
 use Rattle.paths.specs.Loads.{LooksUp}
-use Rattle.paths.specs.Places.{place_of, IsPlaceWithin}
+use Rattle.paths.specs.Places.{model_place_of, IsPlaceWithin}
 use Rattle.paths.specs.Resolves.{Resolves}
 use Rattle.paths.specs.declared.place.Place.{Place}
 use Rattle.paths.proofs.EndLaws.{ends_at_name, ends_well, found_directory}
@@ -18,7 +18,7 @@ use Rattle.paths.proofs.Links.{leads}
 
 -- this place is where they lead
 abbrev pub IsLedTo : List Name → Bool → Volume → Place → Type 0
-IsLedTo path follow v p = place_of p ≡ find_within 8 v follow [] path
+IsLedTo path follow v p = model_place_of p ≡ find_within 8 v follow [] path
 
 pub resolves : {B : Type 0} {G : Ghosts B} {a b : B} {s t : InodeFile} {path : List Name} {follow : Bool} {r : Result Place ReadError} → ResolvesByNumbers
     → LooksUp G a b s t (IsPlaceWithin s.geometry.inodes) (IsLedTo path follow) r → Resolves G a b s t path follow r
@@ -28,7 +28,7 @@ resolves {s = s} {path = path} {follow = follow} {r = r} law up = record {
   within = up.within;
   place = up.found;
   found = λ disk settled v table text stands volume are.
-      IfOk-weaker r (IsLedTo path follow v) _ (λ p is. leads law s.geometry.inodes v table follow text path (place_of p) volume are is) (up.found disk settled v stands);
+      IfOk-weaker r (IsLedTo path follow v) _ (λ p is. leads law s.geometry.inodes v table follow text path (model_place_of p) volume are is) (up.found disk settled v stands);
   ends = λ disk settled v stands volume.
       IfOk-weaker r (IsLedTo path follow v) _ (λ p is. subst (EndsWell v follow) (sym is) (ends_well v (found_directory (v 3) volume.graph.root) follow 8 path)) (up.found disk settled v stands);
   named = λ disk settled v stands not plain.

@@ -4,15 +4,15 @@ use Rattle.std.proofs.lemmas.Bool.{cond-false}
 use Rattle.model.specs.Finding.{find_along, here, Turn, stays_on, finds_nothing, finds_long, turn, turn_at, turn_by}
 use Rattle.model.specs.Paths.{Name, is_dot, is_dot_dot, is_too_long}
 use Rattle.model.specs.Volumes.{Volume, entries}
-use Rattle.paths.specs.Steps.{after, after_turn}
+use Rattle.paths.specs.Steps.{halt_after, after_turn}
 use Rattle.paths.specs.declared.step.Step.{Step}
 
 -- where a walk ends that took this step by its next part
 pub stepped : (v : Volume) (follow : Bool) (first trail : List ℕ) (all parts rest : List Name) (name part : Name) (taken step : Step)
     → find_along v follow first all ≡ find_along v follow trail parts → parts ≡ name ∷ rest → part ≡ name → taken ≡ step
-    → after v follow trail part rest taken ≡ find_along v follow trail (part ∷ rest) → after v follow trail name rest step ≡ find_along v follow first all
+    → halt_after v follow trail part rest taken ≡ find_along v follow trail (part ∷ rest) → halt_after v follow trail name rest step ≡ find_along v follow first all
 stepped v follow first trail all parts rest name part taken step so_far next same is took =
-    ap (λ p. after v follow trail p rest step) (sym same) ∙ ap (after v follow trail part rest) (sym is) ∙ took
+    ap (λ p. halt_after v follow trail p rest step) (sym same) ∙ ap (halt_after v follow trail part rest) (sym is) ∙ took
     ∙ ap (λ p. find_along v follow trail (p ∷ rest)) same ∙ ap (find_along v follow trail) (sym next) ∙ sym so_far
 
 -- a walk that takes a part that may be a name

@@ -2,12 +2,12 @@
 use Rattle.std.specs.Prelude.{ℕ}
 use Rattle.model.specs.Finding as model
 use Rattle.paths.specs.Numbers.{AreNumbers}
-use Rattle.paths.specs.Places.{place_of, IsPlaceWithin}
+use Rattle.paths.specs.Places.{model_place_of, IsPlaceWithin}
 use Rattle.paths.specs.declared.walk.Halt.{Halt}
 use Rattle.paths.specs.declared.walk.Halt.TheVariants.{At, AtLink}
 
 abbrev pub halt_of : Halt → model.Halt
-halt_of (At place) = model.halts (place_of place)
+halt_of (At place) = model.halts (model_place_of place)
 halt_of (AtLink trail text rest) = model.halts_at_link trail text.items rest
 
 -- each number that it tells is one of an object

@@ -7,11 +7,11 @@ use Rattle.paths.specs.Refusals.{is_walk_refusal}
 use Rattle.paths.specs.declared.place.Place.{Place}
 use Rattle.paths.specs.declared.place.Place.TheVariants.{Directory, Entry, Gap, Refusal}
 
-abbrev pub place_of : Place → model.Place
-place_of (Directory trail) = model.at_directory trail
-place_of (Entry trail name number) = model.at_entry trail name.items number
-place_of (Gap trail name) = model.at_gap trail name.items
-place_of (Refusal errno) = model.at_refusal errno
+abbrev pub model_place_of : Place → model.Place
+model_place_of (Directory trail) = model.at_directory trail
+model_place_of (Entry trail name number) = model.at_entry trail name.items number
+model_place_of (Gap trail name) = model.at_gap trail name.items
+model_place_of (Refusal errno) = model.at_refusal errno
 
 -- each number that a place tells is one of an object, and a refusal one of a walk
 abbrev pub IsPlaceWithin : ℕ → Place → Type 0

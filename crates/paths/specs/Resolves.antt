@@ -13,7 +13,7 @@ use Rattle.buffers.specs.declared.blocks.Blocks.{Ghosts}
 use Rattle.inofile.specs.declared.inode_file.InodeFile.{InodeFile}
 use Rattle.paths.specs.Ends.{EndsInName, EndsWell, IsAtName}
 use Rattle.paths.specs.Loads.{OnlyLoads}
-use Rattle.paths.specs.Places.{place_of, IsPlaceWithin}
+use Rattle.paths.specs.Places.{model_place_of, IsPlaceWithin}
 use Rattle.paths.specs.Standing.{Looks, NeverDamaged, OnVolumes, Stands}
 use Rattle.paths.specs.declared.place.Place.{Place}
 
@@ -22,10 +22,10 @@ pub record Resolves {B : Type 0} (G : Ghosts B) (blocks after : B) (s t : InodeF
   pub looks : Looks G IsFault blocks after s t result
   pub loads : OnlyLoads s t
   pub within : IfOk result (IsPlaceWithin s.geometry.inodes)
-  pub place : OnVolumes G blocks s (λ disk settled v. IfOk result (λ p. place_of p ≡ find_within LINKS_FOLLOWED v follow [] path))
+  pub place : OnVolumes G blocks s (λ disk settled v. IfOk result (λ p. model_place_of p ≡ find_within LINKS_FOLLOWED v follow [] path))
   pub found : (disk : ℕ → List ℕ) (settled : ℕ → Inode) (v : Volume) (table : ℕ → Option Description) (text : List ℕ)
       → Stands G disk settled v blocks s → IsVolume s.geometry.inodes v → path ≡ parts text
-      → IfOk result (λ p. IsPlaceOf v (place_of p) (resolve (tree_of v table) follow text))
-  pub ends : OnVolumes G blocks s (λ disk settled v. IsVolume s.geometry.inodes v → IfOk result (λ p. EndsWell v follow (place_of p)))
-  pub named : OnVolumes G blocks s (λ disk settled v. IsFalse follow → EndsInName path → IfOk result (λ p. IsAtName (place_of p)))
+      → IfOk result (λ p. IsPlaceOf v (model_place_of p) (resolve (tree_of v table) follow text))
+  pub ends : OnVolumes G blocks s (λ disk settled v. IsVolume s.geometry.inodes v → IfOk result (λ p. EndsWell v follow (model_place_of p)))
+  pub named : OnVolumes G blocks s (λ disk settled v. IsFalse follow → EndsInName path → IfOk result (λ p. IsAtName (model_place_of p)))
   pub damaged : NeverDamaged G blocks s result

@@ -34,14 +34,14 @@ text_in (Some (link_node text)) = text
 text_in _ = []
 
 -- where a walk ends that takes a step by a part from the end of a trail, with parts left
-abbrev pub after : Volume → Bool → List ℕ → Name → List Name → Step → model.Halt
-after v follow trail part rest step.Stays = find_along v follow trail rest
-after v follow trail part rest step.Rises = find_along v follow (take (length trail - 1) trail) rest
-after v follow trail part rest (step.Enters n) = find_along v follow (trail ++ n ∷ []) rest
-after v follow trail part rest (step.Follows n) = halts_at_link trail (text_in (v n)) rest
-after v follow trail part rest (step.EndsAt n) = halts (at_entry trail part n)
-after v follow trail part rest step.FindsNothing = halts (at_gap trail part)
-after v follow trail part rest (step.Refused errno) = halts (at_refusal errno)
+abbrev pub halt_after : Volume → Bool → List ℕ → Name → List Name → Step → model.Halt
+halt_after v follow trail part rest step.Stays = find_along v follow trail rest
+halt_after v follow trail part rest step.Rises = find_along v follow (take (length trail - 1) trail) rest
+halt_after v follow trail part rest (step.Enters n) = find_along v follow (trail ++ n ∷ []) rest
+halt_after v follow trail part rest (step.Follows n) = halts_at_link trail (text_in (v n)) rest
+halt_after v follow trail part rest (step.EndsAt n) = halts (at_entry trail part n)
+halt_after v follow trail part rest step.FindsNothing = halts (at_gap trail part)
+halt_after v follow trail part rest (step.Refused errno) = halts (at_refusal errno)
 
 -- where the model's walk ends that makes a turn by a part
 abbrev pub after_turn : Volume → Bool → List ℕ → Name → List Name → model.Turn → model.Halt
@@ -59,7 +59,7 @@ after_turn v follow trail part rest model.finds_long = halts (at_refusal ENAMETO
 abbrev pub IsStepBy : ℕ → Name → Bool → Bool → Volume → Step → Type 0
 IsStepBy directory part is_last follow v s =
     (trail : List ℕ) (rest : List Name) → model.here trail ≡ directory → is_empty rest ≡ is_last
-    → after v follow trail part rest s ≡ find_along v follow trail (part ∷ rest)
+    → halt_after v follow trail part rest s ≡ find_along v follow trail (part ∷ rest)
 
 -- each number that a step tells is one of an object, and a refusal one of a walk
 abbrev pub IsStepWithin : ℕ → Step → Type 0

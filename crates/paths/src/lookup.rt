@@ -4,8 +4,8 @@ ghost use Rattle.std.specs.Prelude.{◌≡◌, ℕ, List, IfOk, IfSome, IsErrOf}
 ghost use Rattle.buffers.specs.Reads.{ReadsBlocks};
 ghost use Rattle.blocktree.specs.Errors.{IsFault};
 ghost use Rattle.blocktree.specs.Trees.{IsSoundAt};
-ghost use Rattle.dirs.specs.Listings.{IsListing};
-ghost use Rattle.inode.specs.Files.{bytes_of};
+ghost use Rattle.dirs.specs.Listings.{IsListingOfNames};
+ghost use Rattle.inode.specs.Files.{bytes_of_file};
 ghost use Rattle.model.specs.Volumes.{entries};
 ghost use Rattle.paths.specs.Loads.{IsAny, LooksUp};
 ghost use Rattle.paths.specs.Numbers.{IsNumber};
@@ -104,7 +104,7 @@ pub fn list<B: Blocks>(
 ) -> Result<Names, ReadError>
     requires { IsNumber inodes.old.geometry.inodes directory }
     ensures { LooksUp B.Blocks blocks.old blocks.new inodes.old inodes.new IsAny
-        (λ v names. IsListing (entries v directory) names) result }
+        (λ v names. IsListingOfNames (entries v directory) names) result }
 {
     load(alloc, inodes, blocks, directory)?;
     let count = inodes.geometry().inodes();
@@ -144,7 +144,7 @@ pub fn text_at<B: Blocks>(
 fn all_bytes<B: Blocks>(alloc: Global, blocks: &mut B, file: &File) -> Result<Vec<u8>, ReadError>
     ensures reads { ReadsBlocks B.Blocks IsFault blocks.old blocks.new result }
     ensures bytes { (disk : ℕ → List ℕ) → B.Shows blocks.old disk →
-        IfOk result (λ b. b.items ≡ bytes_of disk file.now) }
+        IfOk result (λ b. b.items ≡ bytes_of_file disk file.now) }
     ensures damaged { (disk : ℕ → List ℕ) → B.Shows blocks.old disk →
         IsErrOf result ReadError.Damaged →
         ((i : ℕ) → IsSoundAt (B.count blocks.old) disk file.now.tree i) → ⊥ }

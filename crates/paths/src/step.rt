@@ -6,7 +6,7 @@ ghost use Rattle.model.specs.Paths.{Name, is_empty};
 ghost use Rattle.model.specs.Volumes.{Volume};
 ghost use Rattle.paths.specs.Loads.{LooksUp};
 ghost use Rattle.paths.specs.Numbers.{IsNumber};
-ghost use Rattle.paths.specs.Steps.{IsStepBy, IsStepWithin, after, after_turn, found_in};
+ghost use Rattle.paths.specs.Steps.{IsStepBy, IsStepWithin, halt_after, after_turn, found_in};
 
 use crate::lookup::{Found, number_at, object_at};
 use crate::text::{ITSELF, PARENT};
@@ -71,7 +71,7 @@ pub(crate) fn step_by<B: Blocks>(
 fn step_to_nothing(is_last: bool) -> Step
     ensures within { (inodes : ℕ) → IsStepWithin inodes result }
     ensures step { (v : Volume) (follow : Bool) (trail : List ℕ) (part : Name) (rest : List Name) →
-        is_empty rest ≡ is_last → after v follow trail part rest result
+        is_empty rest ≡ is_last → halt_after v follow trail part rest result
         ≡ after_turn v follow trail part rest finds_nothing }
 {
     if is_last {
@@ -86,7 +86,7 @@ fn step_to(number: InodeNumber, found: Found, is_last: bool, follow: bool) -> St
     ensures within { (inodes : ℕ) → IsNumber inodes number → IsStepWithin inodes result }
     ensures step { (v : Volume) (trail : List ℕ) (part : Name) (rest : List Name) →
         found ≡ found_in (v number) → is_empty rest ≡ is_last →
-        after v follow trail part rest result
+        halt_after v follow trail part rest result
         ≡ after_turn v follow trail part rest (turn_at number (v number)) }
 {
     match found {

@@ -6,6 +6,8 @@ use Rattle.std.proofs.lemmas.Bool.{cases_eq, cases_lt, cond_above, cond_below}
 use Rattle.std.proofs.lemmas.Bool.Decides.{nat_tests}
 use Rattle.layout.specs.Version.{level_of}
 use Rattle.layout.specs.declared.pointer.Pointer.TheVariants.{Hole}
+use Rattle.images.specs.Sums.{sum_below}
+use Rattle.images.proofs.SumLaws.{is_in_sum, one_more, sum_of_none, sums_rise}
 use Rattle.blocktree.specs.Names.{nodes_at}
 use Rattle.blocktree.specs.PlaceMaps.{EndBefore, place_at}
 use Rattle.blocktree.specs.Places.{block_count, depth_of}
@@ -13,12 +15,12 @@ use Rattle.blocktree.specs.declared.place_map.PlaceMap.{PlaceMap}
 use Rattle.blocktree.specs.Trees.{IsChanged}
 use Rattle.blocktree.specs.declared.tree.BlockTree.{BlockTree}
 use Rattle.conspoint.specs.Groups.{group}
-use Rattle.conspoint.specs.Space.{CountsGroups, StoresNone, block_stores, sum_below}
+use Rattle.conspoint.specs.Space.{CountsGroups, StoresNone, block_stores}
 use Rattle.conspoint.specs.Steps.{Places}
 use Rattle.conspoint.specs.declared.draft.Draft.{Draft}
 use Rattle.conspoint.specs.declared.error.PlanError.{PlanError}
 use Rattle.conspoint.proofs.StepLemmas.{places_then}
-use Rattle.conspoint.proofs.SumLemmas.{block_counts, is_in_sum, one_more, sum_of_none, sums_rise}
+use Rattle.conspoint.proofs.SumLemmas.{block_counts}
 use Rattle.inode.specs.declared.file.File.{File}
 use Rattle.placement.specs.Nodes.{AreCounted, height_of, node, under}
 use Rattle.placement.specs.Space.{height_stores, level_stores, more_over}
@@ -105,6 +107,16 @@ LeavesUncounted f kept settled count blocks =
 under_some : (settled : Nodes) (j i : ℕ) → 1 < height_of settled → under settled 0 j i ≡ node settled 0 (1024 * j + i)
 under_some settled j i some = sym (cond_below 1 (height_of settled) (node settled 0 (1024 * j + i)) Hole some)
 
+-- a group past the blocks that count, of which none is counted, is all holes
+all_holes : (f : ℕ → ℕ) (kept at more : ℕ) (settled : Nodes) (count : ℕ) (blocks : PlaceMap) (j : ℕ) → min kept count ≤ 1024 * j → EndBefore count blocks → LeavesUncounted f kept settled count blocks
+    → weight f count at more j ≡ 0 → StoresNone (under settled 0 j) (group blocks j)
+all_holes f kept at more settled count blocks j past end unchanged none = inr (λ i small. elim (cases_lt (1024 * j + i) count) [
+  | inl low ↦
+      unchanged (1024 * j + i) low (none_counted f count at more j i none small low)
+      ∙ sym (cond_above (1024 * j + i) kept (node settled 0 (1024 * j + i)) Hole Hole (omega (arith, past, low)) refl)
+  | inr high ↦ end (1024 * j + i) high
+])
+
 -- a group that doesn't count stores no indirect block: its blocks are as they were, or holes
 stays : (f : ℕ → ℕ) (kept : ℕ) (settled : Nodes) (count : ℕ) (blocks : PlaceMap) (j : ℕ) → (height_of settled ≤ 1 → kept ≤ 16) → EndBefore count blocks → LeavesUncounted f kept settled count blocks
     → weight f count (min kept count / 1024) 1 j ≡ 0 → StoresNone (under settled 0 j) (group blocks j)
@@ -118,12 +130,7 @@ stays f kept settled count blocks j few end unchanged none = elim (cases_lt j (m
       unchanged (1024 * j + i) low (none_counted f count _ 1 j i none small low) ∙ sym (cond_below (1024 * j + i) kept (node settled 0 (1024 * j + i)) Hole counts) ∙ sym (under_some settled j i some))
   | inr after ↦
       let past : min kept count < 1024 * j = omega (arith, after, not_at f count (min kept count / 1024) j none) in
-      inr (λ i small. elim (cases_lt (1024 * j + i) count) [
-        | inl low ↦
-            unchanged (1024 * j + i) low (none_counted f count _ 1 j i none small low)
-            ∙ sym (cond_above (1024 * j + i) kept (node settled 0 (1024 * j + i)) Hole Hole (omega (arith, past, low)) refl)
-        | inr high ↦ end (1024 * j + i) high
-      ])
+      all_holes f kept (min kept count / 1024) 1 settled count blocks j (omega (arith, past)) end unchanged none
 ]
 
 -- what settled nodes have past their last block
@@ -159,7 +166,8 @@ record IsAsDeep (f : File) : Type 0 where
   long : f.tree.count ≤ block_count f.size
   depth : f.tree.depth ≡ depth_of f.size
 
-more_cases : (f : File) → (more_over f ≡ 1) ⊎ IsAsDeep f
+-- or it has no settled block
+more_cases : (f : File) → (more_over f ≡ 1) ⊎ IsAsDeep f ⊎ (f.tree.count ≡ 0)
 more_cases f = elim (cases_lt (min f.tree.kept (block_count f.size)) f.tree.count) [
   | inl less ↦ (let yes : nat_lt (min f.tree.kept (block_count f.size)) f.tree.count ≡ true = grind (arith, nat_tests, less) in inl (rw yes refl))
   | inr all ↦
@@ -167,8 +175,13 @@ more_cases f = elim (cases_lt (min f.tree.kept (block_count f.size)) f.tree.coun
       elim (cases_eq f.tree.depth (depth_of f.size)) [
         | inl same ↦
             let yes : (f.tree.depth == depth_of f.size) ≡ true = grind (arith, nat_tests, same) in
-            inr (record { none = rw (no, yes) refl; kept = omega (arith, all); long = omega (arith, all); depth = same })
-        | inr other ↦ (let not : (f.tree.depth == depth_of f.size) ≡ false = grind (arith, nat_tests, other) in inl (rw (no, not) refl))
+            inr (inl (record { none = rw (no, yes) refl; kept = omega (arith, all); long = omega (arith, all); depth = same }))
+        | inr other ↦
+            let not : (f.tree.depth == depth_of f.size) ≡ false = grind (arith, nat_tests, other) in
+            elim (cases_eq f.tree.count 0) [
+              | inl none ↦ inr (inr none)
+              | inr some ↦ inl (rw (no, not) (omega (arith, some)))
+            ]
       ]
 ]
 
@@ -187,12 +200,17 @@ pub counts_groups : (f : ℕ → ℕ) (file : File) (settled : Nodes) (blocks : 
 counts_groups f file settled blocks counted end unchanged level j low none = elim (more_cases file) [
   | inl one ↦ stays f file.tree.kept settled (block_count file.size) blocks j (λ flat. few_kept file.tree (omega (arith, flat, counted.heights))) end unchanged
       (subst (λ (m : ℕ). weight f (block_count file.size) (min file.tree.kept (block_count file.size) / 1024) m j ≡ 0) one none)
-  | inr deep ↦
-      let fits = file.tree.fits in
-      let all : file.tree.kept ≡ file.tree.count = omega (arith, fits.1, deep.kept) in
-      unmoved f file.tree.kept (min file.tree.kept (block_count file.size) / 1024) settled (block_count file.size) blocks j
-      (λ i le. counted.end 0 i (omega (arith, first_nodes file.tree.count, le, all))) (omega (arith, all, deep.long)) (omega (arith, counted.heights, deep.depth, level)) end
-      unchanged (subst (λ (m : ℕ). weight f (block_count file.size) (min file.tree.kept (block_count file.size) / 1024) m j ≡ 0) deep.none none)
+  | inr other ↦ elim other [
+    | inl deep ↦
+        let fits = file.tree.fits in
+        let all : file.tree.kept ≡ file.tree.count = omega (arith, fits.1, deep.kept) in
+        unmoved f file.tree.kept (min file.tree.kept (block_count file.size) / 1024) settled (block_count file.size) blocks j
+        (λ i le. counted.end 0 i (omega (arith, first_nodes file.tree.count, le, all))) (omega (arith, all, deep.long)) (omega (arith, counted.heights, deep.depth, level)) end
+        unchanged (subst (λ (m : ℕ). weight f (block_count file.size) (min file.tree.kept (block_count file.size) / 1024) m j ≡ 0) deep.none none)
+    | inr empty ↦
+        let kept : file.tree.kept ≤ file.tree.count = file.tree.fits.1 in
+        all_holes f file.tree.kept (min file.tree.kept (block_count file.size) / 1024) (more_over file) settled (block_count file.size) blocks j (omega (arith, kept, empty)) end unchanged none
+  ]
 ]
 
 -- ---- what a file at a level comes to

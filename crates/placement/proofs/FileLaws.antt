@@ -20,10 +20,10 @@ use Rattle.inode.specs.declared.object.Object.{Object}
 use Rattle.conspoint.specs.declared.draft.Draft.{Draft}
 use Rattle.placement.specs.declared.nodes.Nodes.{Nodes}
 use Rattle.placement.specs.Files.{IsChangeOf, IsPlaced, is_one, content_with, object_block, with_first}
-use Rattle.placement.specs.Layouts.{inode_with, AreSettled, IsLaidOut}
+use Rattle.placement.specs.Layouts.{inode_with, AreSettledNodes, IsLaidOut}
 use Rattle.placement.specs.Nodes.{HasMoved, ArePlacedOver}
 use Rattle.placement.proofs.InlineLaws.{zero_byte}
-use Rattle.placement.proofs.MovedLaws.{comes, named, stays, freed_are, once_after}
+use Rattle.placement.proofs.MovedLaws.{moves, named, stays, freed_are, once_after}
 use Rattle.placement.proofs.StandLaws.{other_first}
 
 nat_equivalence : IsEquivalence nat_eq
@@ -53,7 +53,7 @@ first_ends bytes block size large ends p le =
     ap (λ xs. get_or xs (p % 4096) 0) (sym (other_first (p / 4096) bytes (block (p / 4096)) (λ is. omega (arith, is, le, large)))) ∙ ends p le
 
 module _ (s : Sizes) (old new : Draft) (d e : Blocks) (base : Inode) (o : Object) (body : Body) (block : ℕ → List ℕ) (settled placed : Nodes) (change : IsChangeOf s old d base o)
-    (known : AreSettled d base o.file.tree settled) (laid : IsLaidOut s e block (inode_with o body) placed) (ends : EndsAt o.file.size (byte_in block)) (over : ArePlacedOver old new settled placed)
+    (known : AreSettledNodes d base o.file.tree settled) (laid : IsLaidOut s e block (inode_with o body) placed) (ends : EndsAt o.file.size (byte_in block)) (over : ArePlacedOver old new settled placed)
     (taken freed : List ℕ) (took : (b : ℕ) → Contains taken b ↔ HasMoved placed settled b) (left : (b : ℕ) → Contains freed b ↔ HasMoved settled placed b) where
   pub content_is : content_of (held e (inode_with o body)) ≡ content_with o block
   unfolding held
@@ -72,7 +72,7 @@ module _ (s : Sizes) (old new : Draft) (d e : Blocks) (base : Inode) (o : Object
       let before = held d base in
       let after = held e (inode_with o body) in
       record {
-        comes = λ b names. elim (comes old new before after settled placed known.nodes laid.nodes over change.used change.once b names) [
+        moves = λ m i b is. elim (moves old new before after settled placed known.nodes laid.nodes over change.used change.once m i b is) [
           | inl was ↦ inl was
           | inr moved ↦ inr (one_of taken b ((took b).1 moved))
         ];

@@ -12,15 +12,15 @@ use Rattle.blocktree.specs.Places.{block_count}
 use Rattle.blocktree.specs.Trees.{IsChanged}
 use Rattle.inode.specs.declared.object.Object.{Object}
 use Rattle.placement.specs.Files.{AreAllChanged, IsWholeOver}
-use Rattle.placement.specs.Nodes.{AreNodes, node}
+use Rattle.placement.specs.Nodes.{AreNodesOf, node}
 use Rattle.placement.specs.declared.nodes.Nodes.{Nodes}
 
-settled_stored : (disk : Blocks) (base : Inode) (n : Nodes) (i : ℕ) → HasNoHole (held disk base) → AreNodes n (held disk base) → 1 ≤ level_of base.size → i < block_count base.size
+settled_stored : (disk : Blocks) (base : Inode) (n : Nodes) (i : ℕ) → HasNoHole (held disk base) → AreNodesOf n (held disk base) → 1 ≤ level_of base.size → i < block_count base.size
     → node n 0 i ≡ Hole → ⊥
 unfolding held nodes_at
 settled_stored disk base n i no_hole nodes level lt hole = no_hole i level lt (nodes.places 0 i ∙ hole)
 
-pub no_hole_left : (disk e : Blocks) (base f : Inode) (o : Object) (settled laid : Nodes) → IsWholeOver disk base o → f.size ≡ o.file.size → AreNodes settled (held disk base) → AreNodes laid (held e f)
+pub no_hole_left : (disk e : Blocks) (base f : Inode) (o : Object) (settled laid : Nodes) → IsWholeOver disk base o → f.size ≡ o.file.size → AreNodesOf settled (held disk base) → AreNodesOf laid (held e f)
     → ((i : ℕ) → 1 ≤ level_of o.file.size → i < block_count o.file.size → node laid 0 i ≡ Hole
     → (if nat_lt i o.file.tree.kept then node settled 0 i else Hole) ≡ Hole)
     → HasNoHole (held e f)
@@ -34,7 +34,7 @@ no_hole_left disk e base f o settled laid whole same before after holes i level 
     (cond_below i o.file.tree.kept (node settled 0 i) Hole kept
     ∙ holes i (subst (λ n. 1 ≤ level_of n) same level) (subst (λ n. i < block_count n) same lt) (sym (after.places 0 i) ∙ hole))
 
-pub none_left : (e : Blocks) (f : Inode) (o : Object) (laid : Nodes) → AreAllChanged o → f.size ≡ o.file.size → AreNodes laid (held e f)
+pub none_left : (e : Blocks) (f : Inode) (o : Object) (laid : Nodes) → AreAllChanged o → f.size ≡ o.file.size → AreNodesOf laid (held e f)
     → ((i : ℕ) → 1 ≤ level_of o.file.size → i < block_count o.file.size → IsChanged o.file.tree i → node laid 0 i ≢ Hole)
     → HasNoHole (held e f)
 unfolding held nodes_at

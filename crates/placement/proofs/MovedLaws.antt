@@ -9,7 +9,7 @@ use Rattle.blockmap.specs.Maps.{IsFree}
 use Rattle.conspoint.specs.declared.draft.Draft.{Draft}
 use Rattle.conspoint.specs.Drafts.{WasTaken}
 use Rattle.placement.specs.declared.nodes.Nodes.{Nodes}
-use Rattle.placement.specs.Nodes.{node, AreNodes, HasMoved, ArePlacedOver}
+use Rattle.placement.specs.Nodes.{node, AreNodesOf, HasMoved, ArePlacedOver}
 
 is_at : (p : Pointer) (b : ℕ) → (p ≡ Block b) ⊎ (p ≡ Block b → ⊥)
 is_at Hole b = inr (λ is. hole_block is)
@@ -24,7 +24,7 @@ moved_taken old new settled placed b over moved =
     let at = moved in
     elim (over.from at.0 at.1 b at.2) [ inl same ↦ absurd (at.3 same) | inr taken ↦ taken ]
 
-module _ (old new : Draft) (before after : Held) (settled placed : Nodes) (was : AreNodes settled before) (now : AreNodes placed after) (over : ArePlacedOver old new settled placed)
+module _ (old new : Draft) (before after : Held) (settled placed : Nodes) (was : AreNodesOf settled before) (now : AreNodesOf placed after) (over : ArePlacedOver old new settled placed)
     (used : (b : ℕ) → Names before b → IsFree old.map.parts.items b → ⊥) (once : IsOnce before) where
   named_before : (m i b : ℕ) → node settled m i ≡ Block b → Names before b
   named_before m i b is = record { height = m; index = i; is = was.places m i ∙ is }
@@ -53,14 +53,12 @@ module _ (old new : Draft) (before after : Held) (settled placed : Nodes) (was :
         ]
       ]
 
-  -- a new node stands where it stood, or at a node that moved
-  pub comes : (b : ℕ) → Names after b → Names before b ⊎ HasMoved placed settled b
-  comes b names =
-      let at = sym (now.places names.height names.index) ∙ names.is in
-      elim (is_at (node settled names.height names.index) b) [
-        | inl same ↦ inl (named_before names.height names.index b same)
-        | inr not ↦ inr (names.height, names.index, at, not)
-      ]
+  -- a new node stands where it stood, or moved
+  pub moves : (m i b : ℕ) → after.place m i ≡ Block b → (before.place m i ≡ Block b) ⊎ HasMoved placed settled b
+  moves m i b is = elim (is_at (node settled m i) b) [
+    | inl same ↦ inl (was.places m i ∙ same)
+    | inr not ↦ inr (m, i, sym (now.places m i) ∙ is, not)
+  ]
 
   pub named : (b : ℕ) → HasMoved placed settled b → Names after b
   named b moved = let at = moved in named_after at.0 at.1 b at.2

@@ -7,11 +7,12 @@ use Rattle.layout.specs.Places.{Blocks}
 use Rattle.layout.specs.Pointer.{PointsBelow}
 use Rattle.layout.specs.declared.pointer.Pointer.{Pointer}
 use Rattle.layout.specs.declared.pointer.Pointer.TheVariants.{Hole}
+use Rattle.images.specs.Sums.{sum_below}
 use Rattle.blocktree.specs.Names.{nodes_at}
 use Rattle.blocktree.specs.PlaceMaps.{EndBefore, place_at}
 use Rattle.blocktree.specs.declared.place_map.PlaceMap.{PlaceMap}
 use Rattle.conspoint.specs.Groups.{group, ArePlaced, IsGroup}
-use Rattle.conspoint.specs.Space.{CountsGroups, sum_below}
+use Rattle.conspoint.specs.Space.{CountsGroups}
 use Rattle.conspoint.specs.Steps.{Places, PlacesOver}
 use Rattle.conspoint.specs.declared.draft.Draft.{Draft}
 use Rattle.conspoint.specs.declared.error.PlanError.{PlanError}

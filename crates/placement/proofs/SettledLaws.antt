@@ -16,7 +16,7 @@ use Rattle.blocktree.specs.Places.{block_count, IsPath}
 use Rattle.blocktree.specs.declared.tree.BlockTree.{BlockTree}
 use Rattle.placement.specs.declared.nodes.Nodes.{Nodes}
 use Rattle.placement.specs.Files.{IsBasedOn}
-use Rattle.placement.specs.Layouts.{AreSettled}
+use Rattle.placement.specs.Layouts.{AreSettledNodes}
 use Rattle.placement.specs.Nodes.{node, height_of}
 use Rattle.placement.proofs.HeldLaws.{first_nodes, no_nodes, nodes_same}
 use Rattle.placement.proofs.PlacedLaws.{node_over}
@@ -55,7 +55,7 @@ module _ (laws : NodeLaws) (s : Sizes) (d : Blocks) (base : Inode) (t : BlockTre
       ]
     ]
 
-  pub are_settled : IsBasedOn base t → AreSettled d base t n
+  pub are_settled : IsBasedOn base t → AreSettledNodes d base t n
   are_settled (IsBasedOn.settled body level all) = record { nodes = record { places = node_is body level all }; blocks = lowest; heights = inl (heights ∙ sym level) }
   are_settled (IsBasedOn.none level empty) = record {
     nodes = record { places = λ m i. laws.above d base m i (omega (arith, level)) ∙ sym (end m i (omega (arith, no_nodes t.count m empty))) };

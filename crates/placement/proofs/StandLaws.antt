@@ -25,7 +25,7 @@ use Rattle.conspoint.specs.Blocks.{changed_or}
 use Rattle.conspoint.specs.Groups.{pointer_at, IsGroup}
 use Rattle.placement.specs.declared.nodes.Nodes.{Nodes}
 use Rattle.placement.specs.Files.{object_block, with_first}
-use Rattle.placement.specs.Layouts.{inode_with, StandOver, AreSettled, IsLaidOut, LeadTo}
+use Rattle.placement.specs.Layouts.{inode_with, StandOver, AreSettledNodes, IsLaidOut, LeadToBlocks}
 use Rattle.placement.specs.Nodes.{height_of, node, under}
 use Rattle.placement.proofs.HeldLaws.{node_bytes, used_holes, not_inline}
 use Rattle.placement.proofs.PlacedLaws.{node_height, node_over}
@@ -42,7 +42,7 @@ pointers_fit blocks size top body n level count same within end = (
   used_holes body (pointers_used size) (λ i le. same i ∙ end i (omega (arith, le, used_is size top level))),
 )
 
-module _ (d e : Blocks) (base : Inode) (o : Object) (settled : Nodes) (known : AreSettled d base o.file.tree settled)
+module _ (d e : Blocks) (base : Inode) (o : Object) (settled : Nodes) (known : AreSettledNodes d base o.file.tree settled)
     (same : Agrees (Names (held d base)) d e) where
   -- what stood in a settled node stands there still
   agreed : (m i b : ℕ) → node settled m i ≡ Block b → e b ≡ d b
@@ -81,7 +81,7 @@ other_first k x y some = grind (arith, nat_tests)
 
 -- with other bytes as the first block
 pub first_is : (e : Blocks) (nodes : ℕ → Pointer) (first : ℕ) (block : ℕ → List ℕ) → nodes 0 ≡ Block first → ((i : ℕ) → 1 ≤ i → pointed e (nodes i) ≡ block i)
-    → LeadTo e nodes (with_first (e first) block)
+    → LeadToBlocks e nodes (with_first (e first) block)
 first_is e nodes first block here others i = elim (cases_eq i 0) [
   | inl none ↦
       ap (λ k. pointed e (nodes k)) none ∙ ap (pointed e) here ∙ ap (λ k. with_first (e first) block k) (sym none)
@@ -89,7 +89,7 @@ first_is e nodes first block here others i = elim (cases_eq i 0) [
 ]
 
 -- ---- over settled nodes
-module _ (s : Sizes) (d e : Blocks) (base : Inode) (o : Object) (settled : Nodes) (sound : IsSoundFile s (held d base)) (known : AreSettled d base o.file.tree settled)
+module _ (s : Sizes) (d e : Blocks) (base : Inode) (o : Object) (settled : Nodes) (sound : IsSoundFile s (held d base)) (known : AreSettledNodes d base o.file.tree settled)
     (same : Agrees (Names (held d base)) d e) where
   -- where the settled inode has the bytes itself there is no node
   none_settled : (m i : ℕ) → level_of base.size ≡ 0 → node settled m i ≡ Hole
@@ -153,7 +153,7 @@ module _ (s : Sizes) (d e : Blocks) (base : Inode) (o : Object) (settled : Nodes
 
   module _ (block : ℕ → List ℕ) (body : List Pointer) (n : Nodes) (top : ℕ) (level : level_of o.file.size ≡ suc top) (heights : height_of n ≡ suc top)
       (within : (m i : ℕ) → PointsBelow s.blocks (node n m i)) (end : (m i : ℕ) → nodes_at o.file.size m ≤ i → node n m i ≡ Hole)
-      (size : length body ≡ 16) (own : (i : ℕ) → pointer_at body i ≡ node n top i) (groups : StandOver e settled n) (leads : LeadTo e (node n 0) block) where
+      (size : length body ≡ 16) (own : (i : ℕ) → pointer_at body i ≡ node n top i) (groups : StandOver e settled n) (leads : LeadToBlocks e (node n 0) block) where
     -- from the inode down, depth by depth
     place_down : (k i : ℕ) → k ≤ top → place e body k i ≡ node n (top - k) i
     unfolding place

@@ -9,6 +9,7 @@ use Rattle.layout.specs.Version.{level_of}
 use Rattle.layout.specs.declared.TheConstants.{BLOCK_BYTES}
 use Rattle.layout.specs.declared.inode.Body.TheVariants.{Pointers}
 use Rattle.layout.specs.declared.inode.Inode.{Inode}
+use Rattle.layout.specs.declared.pointer.Pointer.TheVariants.{Block}
 use Rattle.images.specs.Contents.{Content}
 use Rattle.images.specs.Nodes.{Held, held, Names, IsOnce}
 use Rattle.images.specs.Soundness.{HasNoHole, IsSoundFile}
@@ -76,10 +77,10 @@ AreAllChanged o = (i : ℕ) → i < block_count o.file.size → IsChanged o.file
 abbrev pub is_one : List ℕ → ℕ → Bool
 is_one blocks b = list_any (λ x. b == x) blocks
 
--- A file's new inode, on a disk e that has the blocks planned for it. It stands in blocks of the file before and in the taken ones,
--- each for one node; of the blocks before, those are freed that it doesn't name.
+-- A file's new inode, on a disk e that has the blocks planned for it. Each node stands where that of the file before stood or in a taken
+-- block, each in one of its own; of the blocks before, those are freed that it doesn't name.
 pub record IsPlaced (s : Sizes) (e : Blocks) (old : Held) (f : Inode) (taken freed : ℕ → Bool) : Type 0 where
-  pub comes : (b : ℕ) → Names (held e f) b → Names old b ⊎ (taken b ≡ true)
+  pub moves : (m i b : ℕ) → (held e f).place m i ≡ Block b → (old.place m i ≡ Block b) ⊎ (taken b ≡ true)
   pub named : (b : ℕ) → taken b ≡ true → Names (held e f) b
   pub stays : (b : ℕ) → Names old b → Names (held e f) b ⊎ (freed b ≡ true)
   pub freed_are : (b : ℕ) → freed b ≡ true → Names old b × (Names (held e f) b → ⊥)

@@ -18,7 +18,7 @@ use Rattle.conspoint.specs.declared.draft.Draft.{Draft}
 use Rattle.conspoint.specs.Drafts.{OnEach}
 use Rattle.conspoint.specs.Groups.{IsGroup}
 use Rattle.placement.specs.declared.nodes.Nodes.{Nodes}
-use Rattle.placement.specs.Nodes.{AreNodes, height_of, node, under}
+use Rattle.placement.specs.Nodes.{AreNodesOf, height_of, node, under}
 use Rattle.placement.specs.Files.{object_block}
 
 -- an object's inode with this body
@@ -37,29 +37,29 @@ StandOver e settled n = (m j : ℕ) → suc m < height_of n
     → IsGroup e (node settled (suc m) j) (under settled m j) (λ i. node n m (BLOCK_POINTERS * j + i)) (node n (suc m) j)
 
 -- these are the settled nodes under a file's blocks, and those that hang from its settled inode
-pub record AreSettled (disk : Blocks) (base : Inode) (t : BlockTree) (n : Nodes) : Type 0 where
-  pub nodes : AreNodes n (held disk base)
+pub record AreSettledNodes (disk : Blocks) (base : Inode) (t : BlockTree) (n : Nodes) : Type 0 where
+  pub nodes : AreNodesOf n (held disk base)
   pub blocks : (i : ℕ) → i < t.count → node n 0 i ≡ place disk t.pointers t.depth i
   pub heights : (height_of n ≡ level_of base.size) ⊎ (level_of base.size ≡ 0)
 
 -- on a disk e these nodes hang from an inode, whose file has these blocks, and all is in its grammar but what the inode says of
 -- the file
 pub record IsLaidOut (s : Sizes) (e : Blocks) (block : ℕ → List ℕ) (f : Inode) (n : Nodes) : Type 0 where
-  pub nodes : AreNodes n (held e f)
+  pub nodes : AreNodesOf n (held e f)
   pub blocks : (i : ℕ) → file_block (held e f) i ≡ block i
   pub body : FitsBody f.body s.blocks f.size
   pub indirect : (m i b : ℕ) → (held e f).place (suc m) i ≡ Block b
       → IsIndirectBlock s.blocks (nodes_at f.size m - BLOCK_POINTERS * i) ((held e f).bytes (suc m) i)
 
 -- on a disk e these pointers lead to the blocks of a file
-abbrev pub LeadTo : Blocks → (ℕ → Pointer) → (ℕ → List ℕ) → Type 0
-LeadTo e places block = (i : ℕ) → pointed e (places i) ≡ block i
+abbrev pub LeadToBlocks : Blocks → (ℕ → Pointer) → (ℕ → List ℕ) → Type 0
+LeadToBlocks e places block = (i : ℕ) → pointed e (places i) ≡ block i
 
 -- On each disk that has the planned blocks, and those that the settled inode names as this one has them, this inode has a file whose
 -- blocks are those that these pointers lead to, with these nodes.
 abbrev pub Carries : Sizes → Draft → Blocks → Inode → (ℕ → Pointer) → Inode → Nodes → Type 0
 Carries s draft d base places f n =
-    OnEach draft (λ e. Agrees (Names (held d base)) d e → (block : ℕ → List ℕ) → LeadTo e places block → IsLaidOut s e block f n)
+    OnEach draft (λ e. Agrees (Names (held d base)) d e → (block : ℕ → List ℕ) → LeadToBlocks e places block → IsLaidOut s e block f n)
 
 -- and this inode has the object, as memory has it
 abbrev pub StandsIn : Sizes → Draft → Blocks → Inode → Object → Inode → Nodes → Type 0

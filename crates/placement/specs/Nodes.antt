@@ -32,7 +32,7 @@ abbrev pub under : Nodes → ℕ → ℕ → ℕ → Pointer
 under n m j i = if nat_lt (suc m) (height_of n) then node n m (BLOCK_POINTERS * j + i) else Hole
 
 -- these are the nodes of what hangs from an inode
-pub record AreNodes (n : Nodes) (h : Held) : Type 0 where
+pub record AreNodesOf (n : Nodes) (h : Held) : Type 0 where
   pub places : (m i : ℕ) → h.place m i ≡ node n m i
 
 -- all nodes of a file stay on a disk of so many blocks

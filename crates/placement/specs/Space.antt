@@ -1,10 +1,12 @@
 -- How many blocks a file may take of a disk.
-use Rattle.std.specs.Prelude.{ℕ, zero, suc, ◌+◌, ◌==◌, min, nat_lt, if◌then◌else◌}
+use Rattle.std.specs.Prelude.{ℕ, zero, suc, ◌+◌, min}
 use Rattle.layout.specs.Version.{level_of}
+use Rattle.images.specs.Sums.{sum_below}
 use Rattle.blocktree.specs.Names.{nodes_at}
-use Rattle.blocktree.specs.Places.{block_count, depth_of}
+use Rattle.blocktree.specs.Places.{block_count}
+pub use Rattle.inode.specs.Room.{more_over}
 use Rattle.inode.specs.declared.file.File.{File}
-use Rattle.conspoint.specs.Space.{changed_blocks, sum_below}
+use Rattle.conspoint.specs.Space.{changed_blocks}
 
 -- all nodes of a file at a level that has so many blocks, height by height: one that its inode has room for has none
 abbrev pub level_nodes : ℕ → ℕ → ℕ
@@ -24,13 +26,6 @@ height_stores blocks changed more (suc (suc height)) = nodes_at blocks (suc (suc
 -- and of all of them at a level
 abbrev pub level_stores : ℕ → ℕ → ℕ → ℕ → ℕ
 level_stores level blocks changed more = sum_below (height_stores blocks changed more) level
-
--- one indirect block more where settled blocks of the file were cut off, or it has another level than it had
-abbrev pub more_over : File → ℕ
-more_over f =
-    if nat_lt (min f.tree.kept (block_count f.size)) f.tree.count
-    then 1
-    else if f.tree.depth == depth_of f.size then 0 else 1
 
 -- what it stores of a changed file
 abbrev pub file_stores : File → ℕ

@@ -1,12 +1,13 @@
 -- What the steps that place a file promise.
 use Rattle.std.specs.Prelude.{ℕ, zero, suc, ◌≡◌, ◌<◌, ◌≤◌, All, true, Result, OnOk, IfOk, IsErrOf}
 use Rattle.layout.specs.declared.pointer.Pointer.{Pointer}
+use Rattle.images.specs.Sums.{sum_below}
 use Rattle.blocktree.specs.Names.{nodes_at}
 use Rattle.buffers.specs.Reads.{ReadsBlocks}
 use Rattle.buffers.specs.declared.blocks.Blocks.{Ghosts}
 use Rattle.conspoint.specs.Drafts.{Grows, IsReserved, WasTaken}
 use Rattle.conspoint.specs.Errors.{IsReadFault}
-use Rattle.conspoint.specs.Space.{CountsGroups, Lacks, TakesAtMost, sum_below}
+use Rattle.conspoint.specs.Space.{CountsGroups, Lacks, TakesAtMost}
 use Rattle.conspoint.specs.Steps.{Places}
 use Rattle.conspoint.specs.declared.draft.Draft.{Draft}
 use Rattle.conspoint.specs.declared.error.PlanError.{PlanError}

@@ -15,7 +15,7 @@ ghost use Rattle.conspoint.specs.Blocks.{changed_or};
 ghost use Rattle.conspoint.specs.Drafts.{OnEach, IsReserved};
 ghost use Rattle.conspoint.specs.Space.{changed_blocks};
 ghost use Rattle.placement.specs.Files.{IsChangeOf, IsPlaced, content_with, is_one, object_block, with_first};
-ghost use Rattle.placement.specs.Layouts.{AreSettled, IsLaidOut, inode_with};
+ghost use Rattle.placement.specs.Layouts.{AreSettledNodes, IsLaidOut, inode_with};
 ghost use Rattle.placement.specs.Nodes.{AreCounted, ArePlacedAt, ArePlacedOver, AreShort, AreWithin, height_of, node};
 ghost use Rattle.placement.specs.Space.{first_stores};
 ghost use Rattle.conspoint.specs.Steps.{Places};
@@ -76,9 +76,10 @@ fn lay_but_first(
     ensures reserved { IfOk result (λ r. IsReserved draft.new r.1) }
     ensures placed { IfOk result (λ r. ArePlacedOver draft.old draft.new settled.now r.0.nodes) }
     ensures short { IfOk result (λ r. AreShort (block_count object.now.file.size) r.0.nodes) }
+    ensures first { IfOk result (λ r. node r.0.nodes 0 0 ≡ Block r.1) }
     ensures stands { (s : Sizes) (disk : ℕ → List ℕ) (base : Inode)
         → IsChangeOf s draft.old disk base object.now
-        → AreSettled disk base object.now.file.tree settled.now
+        → AreSettledNodes disk base object.now.file.tree settled.now
         → IfOk result (λ r. OnEach draft.new (λ e. Agrees (Names (held disk base)) disk e
         → IsLaidOut s e (with_first (e r.1) (object_block disk object.now))
         (inode_with object.now r.0.body) r.0.nodes)) }
@@ -108,6 +109,10 @@ pub fn place_file_but_first<B: Blocks>(
         → IfOk result (λ r. OnEach draft.new (λ e. Agrees (Names (held disk base)) disk e
         → IsPlaced s e (held disk base) r.0.inode (is_one r.0.taken.items)
         (is_one r.0.freed.items))) }
+    ensures first { (s : Sizes) (disk : ℕ → List ℕ) (base : Inode) → B.Shows blocks.old disk
+        → IsChangeOf s draft.old disk base object.now
+        → IfOk result (λ r. OnEach draft.new (λ e. Agrees (Names (held disk base)) disk e
+        → (held e r.0.inode).place 0 0 ≡ Block r.1)) }
     ensures content { (s : Sizes) (disk : ℕ → List ℕ) (base : Inode) → B.Shows blocks.old disk
         → IsChangeOf s draft.old disk base object.now
         → IfOk result (λ r. OnEach draft.new (λ e. Agrees (Names (held disk base)) disk e

@@ -16,7 +16,7 @@ ghost use Rattle.inode.specs.Files.{IsFile};
 ghost use Rattle.conspoint.specs.Drafts.{OnEach};
 ghost use Rattle.conspoint.specs.Groups.{group};
 ghost use Rattle.placement.specs.Files.{AreAllChanged, IsChangeOf, IsPlaced, IsWholeOver, is_one, object_block, object_content};
-ghost use Rattle.placement.specs.Layouts.{AreSettled, Carries, IsLaidOut, StandsIn, inode_with};
+ghost use Rattle.placement.specs.Layouts.{AreSettledNodes, Carries, IsLaidOut, StandsIn, inode_with};
 ghost use Rattle.placement.specs.Nodes.{AreCounted, ArePlacedIn, ArePlacedOver, AreShort, AreWithin, HasMoved, height_of, node, under};
 ghost use Rattle.placement.specs.Space.{file_stores};
 ghost use Rattle.conspoint.specs.Steps.{Places};
@@ -83,7 +83,7 @@ pub(crate) fn lay_over(
         draft.old draft.new settled.now l.nodes) }
     ensures stands { (s : Sizes) (disk : ℕ → List ℕ) (base : Inode)
         → s.blocks ≡ draft.old.map.count → IsSoundFile s (held disk base)
-        → AreSettled disk base object.now.file.tree settled.now → IfOk result (λ l.
+        → AreSettledNodes disk base object.now.file.tree settled.now → IfOk result (λ l.
         Carries s draft.new disk base (place_at blocks) (inode_with object.now l.body) l.nodes) }
 {
     let level = usize::from(level_of(object.file.size()));
@@ -114,7 +114,7 @@ fn lay_blocks(
     ensures short { IfOk result (λ l. AreShort (block_count object.now.file.size) l.nodes) }
     ensures stands { (s : Sizes) (disk : ℕ → List ℕ) (base : Inode)
         → IsChangeOf s draft.old disk base object.now
-        → AreSettled disk base object.now.file.tree settled.now
+        → AreSettledNodes disk base object.now.file.tree settled.now
         → IfOk result (λ l.
         StandsIn s draft.new disk base object.now (inode_with object.now l.body) l.nodes) }
 {
@@ -167,7 +167,7 @@ fn lay<B: Blocks>(
     ensures short { IfOk result (λ l. AreShort (block_count object.now.file.size) l.nodes) }
     ensures stands { (s : Sizes) (disk : ℕ → List ℕ) (base : Inode) → B.Shows blocks.old disk
         → IsChangeOf s draft.old disk base object.now
-        → AreSettled disk base object.now.file.tree settled.now
+        → AreSettledNodes disk base object.now.file.tree settled.now
         → IfOk result (λ l.
         StandsIn s draft.new disk base object.now (inode_with object.now l.body) l.nodes) }
     ensures damaged { (s : Sizes) (disk : ℕ → List ℕ) (base : Inode) → B.Shows blocks.old disk

@@ -6,7 +6,7 @@ ghost use Rattle.layout.specs.declared.inode.Inode.{Inode};
 ghost use Rattle.images.specs.Nodes.{held};
 ghost use Rattle.images.specs.Soundness.{IsSoundFile};
 ghost use Rattle.placement.specs.Files.{IsBasedOn};
-ghost use Rattle.placement.specs.Layouts.{AreSettled};
+ghost use Rattle.placement.specs.Layouts.{AreSettledNodes};
 ghost use Rattle.placement.specs.Nodes.{AreCounted, AreWithin};
 ghost use Rattle.buffers.specs.Reads.{ReadsBlocks};
 ghost use Rattle.conspoint.specs.Errors.{IsReadFault};
@@ -29,7 +29,7 @@ pub fn settled_nodes<B: Blocks>(
     ensures sizes { IfOk result (AreCounted tree.now) }
     ensures settled { (s : Sizes) (disk : ℕ → List ℕ) (base : Inode) → B.Shows blocks.old disk
         → IsBasedOn base tree.now → IsSoundFile s (held disk base)
-        → IfOk result (AreSettled disk base tree.now) }
+        → IfOk result (AreSettledNodes disk base tree.now) }
     ensures damaged { (s : Sizes) (disk : ℕ → List ℕ) (base : Inode) → B.Shows blocks.old disk
         → IsBasedOn base tree.now → IsSoundFile s (held disk base)
         → s.blocks ≡ B.count blocks.old → IsErrOf result PlanError.Damaged → ⊥ }

@@ -24,10 +24,14 @@ use Rattle.layout.specs.SnapRoot.{Snapshot, IsSnapshot, snapshot_bytes, snapshot
 use Rattle.layout.specs.declared.pointer.Pointer.{Pointer}
 use Rattle.layout.specs.declared.pointer.Pointer.TheVariants.{Hole, Block}
 use Rattle.layout.specs.declared.root.Root.{Root}
-use Rattle.planning.specs.Changes.{ChangesPlane, StepsEntries, StepsSets}
+use Rattle.conspoint.specs.declared.draft.Draft.{Draft}
+use Rattle.images.specs.Room.{IsNewHead}
+use Rattle.planning.specs.declared.change.SnapshotChange.{SnapshotChange}
+use Rattle.planning.specs.declared.change.SnapshotChange.TheVariants.{Delete, Take, Unchanged}
+use Rattle.planning.specs.Changes.{ChangesPlane, HasHeads, IsStepOf, TakesNone, head_nodes, StepsEntries, StepsSets}
 use Rattle.planning.specs.Plans.{IsClean}
 use Rattle.planning.specs.Progress.{KeepsActive}
-use Rattle.layout.proofs.PointerLaws.{no_block, block_same}
+use Rattle.layout.proofs.PointerLaws.{no_block, block_same, hole_block}
 
 -- ---- the sets
 
@@ -181,6 +185,28 @@ module _ (heads : SnapshotsSpelled) (r new : Root) (d e : Blocks) (after : ℕ �
   ]
 
 -- ---- roots with the same slots
+
+pub heads_of : (r a b : Root) (d : Draft) → b.snapshots ≡ a.snapshots → HasHeads r a d → HasHeads r b d
+heads_of r a b d same has k block new = has k block (sym (slot_same a b k same) ∙ new.0, new.1)
+
+-- where none is taken, no root block is new, and none is stored
+pub no_head : (step : SnapshotStep) (r new : Root) → TakesNone step → StepsSlots step r new → (k b : ℕ) → IsNewHead r new k b → ⊥
+no_head unchanged r new none slots k b is = is.1 (sym (slot_same r new k slots) ∙ is.0)
+no_head (taken l s) r new none slots k b is = none
+no_head (deleted l name) r new none slots k b is = elim (cases_eq k l) [
+  | inl same ↦ hole_block (sym slots.there ∙ sym (ap (slot new) same) ∙ is.0)
+  | inr other ↦ is.1 (sym (slots.others k other) ∙ is.0)
+]
+
+pub one_head : (change : SnapshotChange) → head_nodes change ≤ 1
+one_head Unchanged = omega arith
+one_head (Take k order name) = omega arith
+one_head (Delete k) = omega arith
+
+pub none_stored : (change : SnapshotChange) (r : Root) (step : SnapshotStep) → IsStepOf change r step → TakesNone step → head_nodes change ≡ 0
+none_stored Unchanged r step is none = refl
+none_stored (Take k order name) r step is none = absurd (subst TakesNone is none)
+none_stored (Delete k) r step is none = refl
 
 pub slots_of : (step : SnapshotStep) (r a b : Root) → b.snapshots ≡ a.snapshots → StepsSlots step r a → StepsSlots step r b
 slots_of unchanged r a b same slots = same ∙ slots

@@ -21,8 +21,8 @@ use Rattle.inode.specs.declared.file.File.{File}
 use Rattle.placement.specs.Files.{IsPlaced}
 use Rattle.planning.specs.Inodes.{AreSpelled, with_inode_at}
 use Rattle.planning.specs.Plans.{HasInodeMap, IsInodeMapOn, OnEachOver, Progresses}
-use Rattle.planning.specs.Progress.{AreTaken, IsExactPlane, IsMarked, Planned, with_file}
-use Rattle.planning.specs.Steps.{IsUnderWay}
+use Rattle.planning.specs.Progress.{AreTaken, IsExactPlane, IsMarked, PlannedInodes, with_planned_file}
+use Rattle.planning.specs.Steps.{IsPlanUnderWay}
 use Rattle.planning.proofs.ProgressLaws.{more_planned}
 use Rattle.planning.proofs.SpellingLaws.{PutsOneByOne, one_spelled}
 
@@ -30,7 +30,7 @@ use Rattle.planning.proofs.SpellingLaws.{PutsOneByOne, one_spelled}
 pub marked_over : (taken freed : ℕ → Bool) (old mid new : List Part) → mid ≡ old → IsMarked taken freed (entry_at mid) (entry_at new) → IsMarked taken freed (entry_at old) (entry_at new)
 marked_over taken freed old mid new same marked = subst (λ (ps : List Part). IsMarked taken freed (entry_at ps) (entry_at new)) same marked
 
-module _ (old new : Draft) (disk : Blocks) (before : ℕ → ℕ) (s : Sizes) (t : HeldTree) (p : Planned) (n : ℕ) (f : Inode) (taken freed : ℕ → Bool)
+module _ (old new : Draft) (disk : Blocks) (before : ℕ → ℕ) (s : Sizes) (t : HeldTree) (p : PlannedInodes) (n : ℕ) (f : Inode) (taken freed : ℕ → Bool)
     (once : NamesOnce t) (exact : IsExactPlane t before) (settled : (b : ℕ) → settled_at old.map.parts.items b ≡ before b)
     (progress : Progresses old disk before s t p) (fresh : p.changed n ≡ false) (grows : Grows old new) (given : (b : ℕ) → taken b ≡ true → WasTaken old new b)
     (placed : OnEach new (λ e. Agrees (Names (t n)) disk e → IsPlaced s e (t n) f taken freed)) (fits : OnEach new (λ e. Agrees (Names (t n)) disk e → FitsNumber n f.kind))
@@ -45,20 +45,20 @@ module _ (old new : Draft) (disk : Blocks) (before : ℕ → ℕ) (s : Sizes) (t
     below = λ b is. (given b is).to;
   }
 
-  pub progress_more : Progresses new disk before s t (with_file n f taken p)
+  pub progress_more : Progresses new disk before s t (with_planned_file n f taken p)
   progress_more e has same =
       more_planned s t e old.map.next new.map.next before (entry_at old.map.parts.items) (entry_at new.map.parts.items) p n f taken freed once exact
       (progress e (grows.has e has) same) fresh (placed e has (mine e same)) (fits e has (mine e same)) are_taken grows.next marked
 
 module _ (puts : PutsOneByOne) (old new : Draft) (disk : Blocks) (before : ℕ → ℕ) (s : Sizes) (t : HeldTree) (found : ℕ → Content) (file changed : File) (f : Inode) (bytes : List ℕ) (taken freed : ℕ → Bool)
-    (way : IsUnderWay old disk before s t found file) (once : NamesOnce t) (exact : IsExactPlane t before) (fresh : way.plan.changed 1 ≡ false) (high : 1 < s.inodes)
+    (way : IsPlanUnderWay old disk before s t found file) (once : NamesOnce t) (exact : IsExactPlane t before) (fresh : way.plan.changed 1 ≡ false) (high : 1 < s.inodes)
     (grows : Grows old new) (given : (b : ℕ) → taken b ≡ true → WasTaken old new b)
     (placed : OnEach new (λ e. Agrees (Names (t 1)) disk e → IsPlaced s e (t 1) f taken freed)) (fits : OnEach new (λ e. Agrees (Names (t 1)) disk e → FitsNumber 1 f.kind))
     (marked : IsMarked taken freed (entry_at old.map.parts.items) (entry_at new.map.parts.items))
     (map : OnEach new (λ e. Agrees (Names (t 1)) disk e → IsInodeMapOn bytes (held e f)))
     (put : (i : ℕ) → file_block disk changed i ≡ with_inode_at (file_block disk file) 1 f i) (size : length (file_block disk file (1 / 21)) ≡ 4096) (long : length (inode_bytes f) ≡ 192) where
-  abbrev after : Planned
-  after = with_file 1 f taken way.plan
+  abbrev after : PlannedInodes
+  after = with_planned_file 1 f taken way.plan
 
   contents_on : OnEachOver t disk new (λ e. (k : ℕ) → 3 ≤ k → after.changed k ≡ true → content_of (held e (after.inode k)) ≡ found k)
   contents_on e has same k least is =
@@ -66,7 +66,7 @@ module _ (puts : PutsOneByOne) (old new : Draft) (disk : Blocks) (before : ℕ �
       ap (λ (i : Inode). content_of (held e i)) (cond-false (k == 1) f (way.plan.inode k) (ne_eqb k 1 other))
       ∙ way.contents e (grows.has e has) same k least (sym (cond-false (k == 1) true (way.plan.changed k) (ne_eqb k 1 other)) ∙ is)
 
-  pub map_planned : HasInodeMap bytes way.plan.changed new disk before s t found changed
+  pub map_planned : HasInodeMap bytes way.plan.changed way.plan.from new disk before s t found changed
   map_planned = record {
     way = record {
       plan = after;
@@ -76,11 +76,12 @@ module _ (puts : PutsOneByOne) (old new : Draft) (disk : Blocks) (before : ℕ �
       spelled = subst (λ (g : ℕ → List ℕ). AreSpelled s.inodes g after.inode) (sym (fun_ext put))
           (one_spelled puts s.inodes (file_block disk file) way.plan.inode 1 f way.spelled (omega arith) high size long);
     };
+    from_is = refl;
     others = λ k other. cond-false (k == 1) true (way.plan.changed k) (ne_eqb k 1 other);
     map = λ e has same. map e has (λ b names. same b (record { file = 1; names = names }));
   }
 
 -- where the settled file is the map already
-pub map_stays : (d : Draft) (disk : Blocks) (before : ℕ → ℕ) (s : Sizes) (t : HeldTree) (found : ℕ → Content) (file : File) (bytes : List ℕ) (way : IsUnderWay d disk before s t found file)
-    → OnEachOver t disk d (λ e. IsInodeMapOn bytes (held e (way.plan.inode 1))) → HasInodeMap bytes way.plan.changed d disk before s t found file
-map_stays d disk before s t found file bytes way map = record { way = way; others = λ k other. refl; map = map }
+pub map_stays : (d : Draft) (disk : Blocks) (before : ℕ → ℕ) (s : Sizes) (t : HeldTree) (found : ℕ → Content) (file : File) (bytes : List ℕ) (way : IsPlanUnderWay d disk before s t found file)
+    → OnEachOver t disk d (λ e. IsInodeMapOn bytes (held e (way.plan.inode 1))) → HasInodeMap bytes way.plan.changed way.plan.from d disk before s t found file
+map_stays d disk before s t found file bytes way map = record { way = way; from_is = refl; others = λ k other. refl; map = map }

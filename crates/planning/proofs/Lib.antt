@@ -12,6 +12,7 @@ mod OwnLaws
 mod MapFileLaws
 mod WholeLaws
 mod PlanLaws
+mod RoomLaws
 mod StartLaws
 mod SettledLaws
 mod LoopLaws
@@ -20,3 +21,4 @@ mod TopLaws
 mod PromiseLaws
 mod PlacingLaws
 mod TellLaws
+pub mod NeedLaws

@@ -14,7 +14,7 @@ use Rattle.inode.specs.declared.file.File.{File}
 use Rattle.inofile.specs.Inodes.{files_of}
 use Rattle.inofile.specs.declared.inode_file.InodeFile.{InodeFile}
 use Rattle.planning.specs.Numbers.{trimmed}
-use Rattle.planning.specs.Steps.{ArePlanned, GoesOn, IsUnderWay, settled_tree}
+use Rattle.planning.specs.Steps.{ArePlanned, GoesOn, IsPlanUnderWay, settled_tree}
 
 -- no number comes twice
 pub not_before : (xs : List ℕ) (i n : ℕ) → IsStrictlyIncreasing xs → i < length xs → n ≡ slice_index xs i → IsAmong xs i n → ⊥
@@ -25,27 +25,29 @@ not_before xs i n rises within is at =
 pub among_all : (xs : List ℕ) (n : ℕ) → Contains xs n ↔ IsAmong xs (length xs) n
 among_all xs n = (λ at. (at.0, at.1, get_or_default xs at.0 0 n at.1 ∙ at.2), λ at. (at.0, at.1, get_or_default xs at.0 n 0 at.1 ∙ at.2))
 
-module _ (draft : Draft) (disk : Blocks) (settled : ℕ → Inode) (before : ℕ → ℕ) (inodes : InodeFile) (file : File) where
+module _ (from : ℕ) (draft : Draft) (disk : Blocks) (settled : ℕ → Inode) (before : ℕ → ℕ) (inodes : InodeFile) (file : File) where
   -- before the first
-  pub none_before : (xs : List ℕ) → ArePlanned (λ n. ⊥) draft disk settled before inodes file
-      → ArePlanned (IsAmong xs 0) draft disk settled before inodes file
+  pub none_before : (xs : List ℕ) → ArePlanned (λ n. ⊥) from draft disk settled before inodes file
+      → ArePlanned (IsAmong xs 0) from draft disk settled before inodes file
   none_before xs start = record {
     way = start.way;
+    from_is = start.from_is;
     just = λ n. (λ is. absurd ((start.just n).0 is), λ at. absurd (omega (arith, at.1)));
   }
 
   -- after the last
   pub all_planned : (xs : List ℕ) (i : ℕ) (IsOne : ℕ → Type 0) → length xs ≡ i → ((n : ℕ) → Contains xs n ↔ IsOne n)
-      → ArePlanned (IsAmong xs i) draft disk settled before inodes file → ArePlanned IsOne draft disk settled before inodes file
+      → ArePlanned (IsAmong xs i) from draft disk settled before inodes file → ArePlanned IsOne from draft disk settled before inodes file
   all_planned xs i IsOne all members now = record {
     way = now.way;
+    from_is = now.from_is;
     just = λ n. (
       λ is. (members n).0 ((among_all xs n).1 (subst (λ k. IsAmong xs k n) (sym all) ((now.just n).0 is))),
       λ one. (now.just n).1 (subst (λ k. IsAmong xs k n) all ((among_all xs n).0 ((members n).1 one))),
     );
   }
 
-  fresh : (IsOne : ℕ → Type 0) (n : ℕ) → (now : ArePlanned IsOne draft disk settled before inodes file) → (IsOne n → ⊥) → now.way.plan.changed n ≡ false
+  fresh : (IsOne : ℕ → Type 0) (n : ℕ) → (now : ArePlanned IsOne from draft disk settled before inodes file) → (IsOne n → ⊥) → now.way.plan.changed n ≡ false
   fresh IsOne n now none = elim (cases_Bool (now.way.plan.changed n)) [ inl is ↦ absurd (none ((now.just n).0 is)) | inr isnt ↦ isnt ]
 
 -- one more
@@ -71,18 +73,19 @@ more_changed xs i n k was now is more so_far = (there, back)
       | inr other ↦ more ∙ cond-false (k == n) true was (ne_eqb k n other) ∙ so_far.1 (earlier at other)
     ]
 
-module _ (old new : Draft) (disk : Blocks) (settled : ℕ → Inode) (before : ℕ → ℕ) (inodes : InodeFile) (file changed : File) (xs : List ℕ) (i n : ℕ)
+module _ (from : ℕ) (old new : Draft) (disk : Blocks) (settled : ℕ → Inode) (before : ℕ → ℕ) (inodes : InodeFile) (file changed : File) (xs : List ℕ) (i n : ℕ)
     (rises : IsStrictlyIncreasing xs) (within : i < length xs) (is : n ≡ slice_index xs i)
-    (now : ArePlanned (IsAmong xs i) old disk settled before inodes file) where
+    (now : ArePlanned (IsAmong xs i) from old disk settled before inodes file) where
   not_yet : now.way.plan.changed n ≡ false
-  not_yet = fresh old disk settled before inodes file (IsAmong xs i) n now (not_before xs i n rises within is)
+  not_yet = fresh from old disk settled before inodes file (IsAmong xs i) n now (not_before xs i n rises within is)
 
-  pub one_more : ((way : IsUnderWay old disk before inodes.geometry (settled_tree disk settled) (λ k. trimmed (files_of disk settled inodes k)) file) → way.plan.changed n ≡ false
-      → GoesOn n way.plan.changed new disk before inodes.geometry (settled_tree disk settled) (λ k. trimmed (files_of disk settled inodes k)) changed)
-      → ArePlanned (IsAmong xs (i + 1)) new disk settled before inodes changed
+  pub one_more : ((way : IsPlanUnderWay old disk before inodes.geometry (settled_tree disk settled) (λ k. trimmed (files_of disk settled inodes k)) file) → way.plan.changed n ≡ false
+      → GoesOn n way.plan.changed way.plan.from new disk before inodes.geometry (settled_tree disk settled) (λ k. trimmed (files_of disk settled inodes k)) changed)
+      → ArePlanned (IsAmong xs (i + 1)) from new disk settled before inodes changed
   one_more plans =
       let on = plans now.way not_yet in
       record {
         way = on.way;
+        from_is = on.from_is ∙ now.from_is;
         just = λ k. more_changed xs i n k (now.way.plan.changed k) (on.way.plan.changed k) is (on.more k) (now.just k);
       }

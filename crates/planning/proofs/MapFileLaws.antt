@@ -27,7 +27,7 @@ use Rattle.inode.specs.declared.file.File.{File}
 use Rattle.inofile.specs.Settled.{AreSettled}
 use Rattle.placement.specs.Files.{IsPlaced}
 use Rattle.planning.specs.Plans.{HasBlockMap, IsBlockMapOn, Progresses}
-use Rattle.planning.specs.Progress.{IsExactPlane, IsMarked, IsProgress, Planned, with_file}
+use Rattle.planning.specs.Progress.{IsExactPlane, IsMarked, IsProgress, PlannedInodes, with_planned_file}
 use Rattle.planning.specs.Steps.{settled_tree}
 use Rattle.planning.proofs.JoinLaws.{progress_more}
 use Rattle.planning.proofs.OwnLaws.{inode_is, used_block}
@@ -86,7 +86,7 @@ settled_map count draft disk s top settled_of before f nodes are sizes count_is 
 
 map_placed : (s : Sizes) (d e : Blocks) (old new : Inode) (taken freed : ℕ → Bool) (entry_of : ℕ → ℕ) → IsMapOn s d e old new taken freed entry_of → IsPlaced s e (held d old) new taken freed
 map_placed s d e old new taken freed entry_of on = record {
-  comes = on.comes;
+  moves = on.moves;
   named = on.named;
   stays = on.stays;
   freed_are = on.freed_are;
@@ -94,7 +94,7 @@ map_placed s d e old new taken freed entry_of on = record {
   sound = on.sound;
 }
 
-module _ (old new : Draft) (disk : Blocks) (before : ℕ → ℕ) (s : Sizes) (settled_of : ℕ → Inode) (p : Planned) (nodes : List Pointer) (f : Inode) (once : NamesOnce (settled_tree disk settled_of))
+module _ (old new : Draft) (disk : Blocks) (before : ℕ → ℕ) (s : Sizes) (settled_of : ℕ → Inode) (p : PlannedInodes) (nodes : List Pointer) (f : Inode) (once : NamesOnce (settled_tree disk settled_of))
     (exact : IsExactPlane (settled_tree disk settled_of) before) (same : (b : ℕ) → settled_at old.map.parts.items b ≡ before b) (progress : Progresses old disk before s (settled_tree disk settled_of) p)
     (fresh : p.changed 2 ≡ false) (grows : Grows old new) (plan : PlansMap old new nodes f) (settled : IsSettledMap s disk (settled_of 2) old.map nodes) where
   stands : (e : Blocks) → HasAll e new.blocks.items → Agrees (Names (held disk (settled_of 2))) disk e → IsMapOn s disk e (settled_of 2) f plan.taken plan.freed (entry_at new.map.parts.items)
@@ -103,19 +103,21 @@ module _ (old new : Draft) (disk : Blocks) (before : ℕ → ℕ) (s : Sizes) (s
   marked : IsMarked plan.taken plan.freed (entry_at old.map.parts.items) (entry_at new.map.parts.items)
   marked = record { active = plan.active; others = plan.others }
 
-  pub map_file_planned : HasBlockMap p new disk before s (settled_tree disk settled_of) f
+  pub map_file_planned : HasBlockMap old p new disk before s (settled_tree disk settled_of) f
   map_file_planned = record {
     taken = plan.taken;
     progress = progress_more old new disk before s (settled_tree disk settled_of) p 2 f plan.taken plan.freed once exact same progress fresh grows plan.was_taken
         (λ e has agrees. map_placed s disk e (settled_of 2) f plan.taken plan.freed (entry_at new.map.parts.items) (stands e has agrees)) (λ e has agrees. (stands e has agrees).kind) marked;
     map = λ e has agrees.
         let on = stands e has (λ b names. agrees b (record { file = 2; names = names })) in record { entries = on.entries; no_hole = on.no_hole };
+    anew = λ touched e has agrees. plan.anew touched e has s disk (settled_of 2) settled (λ b names. agrees b (record { file = 2; names = names }));
   }
 
 -- the same once a block more is planned
-pub map_file_later : (old new : Draft) (disk : Blocks) (before : ℕ → ℕ) (s : Sizes) (t : HeldTree) (p : Planned) (f : Inode) → Grows old new → new.map ≡ old.map → HasBlockMap p old disk before s t f → HasBlockMap p new disk before s t f
-map_file_later old new disk before s t p f grows same has_map = record {
+pub map_file_later : (start old new : Draft) (disk : Blocks) (before : ℕ → ℕ) (s : Sizes) (t : HeldTree) (p : PlannedInodes) (f : Inode) → Grows old new → new.map ≡ old.map → HasBlockMap start p old disk before s t f → HasBlockMap start p new disk before s t f
+map_file_later start old new disk before s t p f grows same has_map = record {
   taken = has_map.taken;
-  progress = λ e has agrees. subst (λ (m : BlockMap). IsProgress s t e m.next before (entry_at m.parts.items) (with_file 2 f has_map.taken p)) (sym same) (has_map.progress e (grows.has e has) agrees);
+  progress = λ e has agrees. subst (λ (m : BlockMap). IsProgress s t e m.next before (entry_at m.parts.items) (with_planned_file 2 f has_map.taken p)) (sym same) (has_map.progress e (grows.has e has) agrees);
   map = λ e has agrees. subst (λ (m : BlockMap). IsBlockMapOn (entry_at m.parts.items) (held e f)) (sym same) (has_map.map e (grows.has e has) agrees);
+  anew = λ touched e has agrees. has_map.anew touched e (grows.has e has) agrees;
 }

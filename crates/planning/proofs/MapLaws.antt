@@ -6,7 +6,7 @@ use Rattle.layout.specs.Maps.{IsTaken}
 use Rattle.layout.specs.declared.kind.Kind.{Kind}
 use Rattle.layout.specs.declared.kind.Kind.TheVariants as kinds
 use Rattle.model.specs.Volumes.{Node, Volume}
-use Rattle.images.specs.Contents.{Content, StandsAs, bytes_of, content_of}
+use Rattle.images.specs.Contents.{Content, StandsAs, content_bytes, content_of}
 use Rattle.images.specs.Points.{HoldObjects}
 use Rattle.images.specs.Roots.{HeldTree}
 use Rattle.images.specs.Soundness.{IsOrdinary, MapsNumbers}
@@ -26,12 +26,12 @@ pub stands_none : (k : Kind) (inodes : ℕ) (c : Content) (o : Option Node) → 
 stands_none k inodes c o free is some =
     let none : o ≡ None = subst (λ x. StandsAs x inodes c o) free is in let both : IsSome {T = Node} None = subst (λ x. IsSome x) none some in absurd (cc)
 
-module _ (inodes : ℕ) (bytes : List ℕ) (t : HeldTree) (files : ℕ → Content) (v : Volume) (maps : MapsVolume bytes v) (same : bytes_of (content_of (t 1)) ≡ bytes) (holds : HoldObjects inodes files v)
+module _ (inodes : ℕ) (bytes : List ℕ) (t : HeldTree) (files : ℕ → Content) (v : Volume) (maps : MapsVolume bytes v) (same : content_bytes (content_of (t 1)) ≡ bytes) (holds : HoldObjects inodes files v)
     (content : (n : ℕ) → 3 ≤ n → content_of (t n) ≡ files n) (ordinary : (n : ℕ) → 3 ≤ n → IsOrdinary (t n).inode.kind) where
   kind_is : (n : ℕ) → 3 ≤ n → (t n).inode.kind ≡ (files n).kind
   kind_is n low = ap (λ c. c.kind) (content n low)
 
-  taken_then : (n : ℕ) → IsTaken (bytes_of (content_of (t 1))) n → (n < 4) ⊎ ((t n).inode.kind ≢ kinds.Free)
+  taken_then : (n : ℕ) → IsTaken (content_bytes (content_of (t 1))) n → (n < 4) ⊎ ((t n).inode.kind ≢ kinds.Free)
   taken_then n is = elim (cases_lt n 4) [
     | inl low ↦ inl low
     | inr high ↦ elim ((maps n).0 (subst (λ bs. IsTaken bs n) same is)) [
@@ -40,7 +40,7 @@ module _ (inodes : ℕ) (bytes : List ℕ) (t : HeldTree) (files : ℕ → Conte
     ]
   ]
 
-  then_taken : (n : ℕ) → (n < 4) ⊎ ((t n).inode.kind ≢ kinds.Free) → IsTaken (bytes_of (content_of (t 1))) n
+  then_taken : (n : ℕ) → (n < 4) ⊎ ((t n).inode.kind ≢ kinds.Free) → IsTaken (content_bytes (content_of (t 1))) n
   then_taken n which = subst (λ bs. IsTaken bs n) (sym same) ((maps n).1 (elim (cases_lt n 4) [
     | inl low ↦ inl low
     | inr high ↦ elim which [

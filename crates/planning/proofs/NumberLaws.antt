@@ -29,7 +29,7 @@ use Rattle.inode.specs.Bases.{IsBased, HasPointers, StartsFrom}
 use Rattle.inode.specs.Bases.IsBased.{anew, over}
 use Rattle.inode.specs.Files.{file_block as object_file_block}
 use Rattle.inode.specs.declared.object.Object.{Object}
-use Rattle.inofile.specs.Inodes.{files_of, object_at, or_free}
+use Rattle.inofile.specs.Inodes.{files_of, content_at, or_free_content}
 use Rattle.inofile.specs.Objects.{IsObject, IsObjectKind}
 use Rattle.inofile.specs.Settled.{content_of as memory_content}
 use Rattle.inofile.specs.declared.inode_file.InodeFile.{InodeFile}
@@ -80,7 +80,7 @@ same_content a b kind mode links size block = λ i. record { kind = kind i; mode
 pub placed_anew : (s : Sizes) (d e : Blocks) (f new left : Inode) (taken came freed gone : ℕ → Bool) → ((b : ℕ) → taken b ≡ true → Names (held d f) b → ⊥)
     → IsPlaced s e (held d free_inode) new taken gone → IsPlaced s e (held d f) left came freed → ((b : ℕ) → Names (held e left) b → ⊥) → IsPlaced s e (held d f) new taken freed
 placed_anew s d e f new left taken came freed gone apart placed cleared nothing = record {
-  comes = λ b names. inr (from_taken b names);
+  moves = λ m i b is. inr (from_taken b (record { height = m; index = i; is = is }));
   named = placed.named;
   stays = λ b names. inr (elim (cleared.stays b names) [ inl still ↦ absurd (nothing b still) | inr is ↦ is ]);
   freed_are = λ b is. ((cleared.freed_are b is).0, λ names. apart b (from_taken b names) (cleared.freed_are b is).0);
@@ -89,7 +89,10 @@ placed_anew s d e f new left taken came freed gone apart placed cleared nothing 
 }
   where
     from_taken : (b : ℕ) → Names (held e new) b → taken b ≡ true
-    from_taken b names = elim (placed.comes b names) [ inl was ↦ absurd (none_named d free_inode refl b was) | inr is ↦ is ]
+    from_taken b names = elim (placed.moves names.height names.index b names.is) [
+      | inl was ↦ absurd (none_named d free_inode refl b (record { height = names.height; index = names.index; is = was }))
+      | inr is ↦ is
+    ]
 
 -- ---- zeros
 
@@ -188,21 +191,21 @@ file_over count draft d settled_of inodes v n f memory now = subst (λ (x : Inod
 
 -- an object that was placed is the number's file
 pub object_placed : (s : Sizes) (d e : Blocks) (settled_of : ℕ → Inode) (inodes : InodeFile) (n : ℕ) (f new : Inode) (o : Object) (taken freed : ℕ → Bool) → f ≡ settled_of n
-    → IsObjectKind o.attributes.kind → object_at d settled_of inodes n ≡ Some (memory_content d o)
+    → IsObjectKind o.attributes.kind → content_at d settled_of inodes n ≡ Some (memory_content d o)
     → IsPlaced s e (held d f) new taken freed → content_of (held e new) ≡ object_content d o → IsNumberPlaced s e (held d (settled_of n)) (trimmed (files_of d settled_of inodes n)) new taken freed
 object_placed s d e settled_of inodes n f new o taken freed now kind is placed content = record {
   placed = subst (λ (x : Inode). IsPlaced s e (held d x) new taken freed) now placed;
   kind = subst IsOrdinary (sym (ap (λ i. i.kind) (sym (held_inode e new)) ∙ ap (λ (c : Content). c.kind) content)) (ordinary_kind o.attributes.kind kind);
-  content = content ∙ sym (ap (λ (x : Option Content). trimmed (or_free d x)) is);
+  content = content ∙ sym (ap (λ (x : Option Content). trimmed (or_free_content d x)) is);
 }
 
 -- and one that was cleared is, where there is none
-pub none_placed : (s : Sizes) (d e : Blocks) (settled_of : ℕ → Inode) (inodes : InodeFile) (n : ℕ) (f new : Inode) (taken freed : ℕ → Bool) → f ≡ settled_of n → object_at d settled_of inodes n ≡ None
+pub none_placed : (s : Sizes) (d e : Blocks) (settled_of : ℕ → Inode) (inodes : InodeFile) (n : ℕ) (f new : Inode) (taken freed : ℕ → Bool) → f ≡ settled_of n → content_at d settled_of inodes n ≡ None
     → IsCleared s e (held d f) new taken freed → IsNumberPlaced s e (held d (settled_of n)) (trimmed (files_of d settled_of inodes n)) new taken freed
 none_placed s d e settled_of inodes n f new taken freed now is cleared = record {
   placed = subst (λ (x : Inode). IsPlaced s e (held d x) new taken freed) now cleared.placed;
   kind = subst IsOrdinary (sym cleared.kind) tt;
-  content = cleared.content d ∙ sym (ap (λ (x : Option Content). trimmed (or_free d x)) is);
+  content = cleared.content d ∙ sym (ap (λ (x : Option Content). trimmed (or_free_content d x)) is);
 }
 
 -- what two inodes that are the same name

@@ -23,10 +23,10 @@ use Rattle.blocktree.specs.Places.{block_count}
 use Rattle.blocktree.specs.Trees.{SameSettled}
 use Rattle.blocktree.specs.declared.tree.BlockTree.{BlockTree}
 use Rattle.blockmap.specs.Maps.{IsFree, settled_at}
-use Rattle.buffers.specs.Positions.{IsPart, written}
+use Rattle.buffers.specs.Positions.{IsPart, with_bytes_at}
 use Rattle.conspoint.specs.declared.draft.Draft.{Draft}
 use Rattle.images.specs.BlockMap.{NamesOnce}
-use Rattle.images.specs.Contents.{Content, bytes_of, content_of}
+use Rattle.images.specs.Contents.{Content, content_bytes, content_of}
 use Rattle.images.specs.Nodes.{Names, held}
 use Rattle.images.specs.Nodes as nodes
 use Rattle.images.specs.Soundness.{HasNoHole, IsSoundFile}
@@ -93,7 +93,7 @@ block_within : (p size : ℕ) → p < size → p / 4096 < block_count size
 block_within p size lt = omega arith
 
 pub object_bytes : (disk : Blocks) (o : Object) (bytes : List ℕ) → o.file.size ≡ length bytes → ((p : ℕ) → p < length bytes → byte_at disk o.file p ≡ slice_index bytes p)
-    → bytes_of (object_content disk o) ≡ bytes
+    → content_bytes (object_content disk o) ≡ bytes
 object_bytes disk o bytes size each = sym (fill_by_all (byte_in (object_block disk o)) bytes o.file.size 0 (sym size) (λ k lt.
     sym (ap (λ (b : List ℕ). slice_index b (k % 4096)) (sym (cond_below (k / 4096) (block_count o.file.size) (file_block disk o.file (k / 4096)) (zeros 4096) (block_within k o.file.size lt)))
     ∙ each k (omega (arith, size)))))
@@ -102,7 +102,7 @@ object_bytes disk o bytes size each = sym (fill_by_all (byte_in (object_block di
 pub held_bytes : (disk : Blocks) (f : Inode) (file : File) (bytes : List ℕ) → IsAsHeld disk f file → f.size ≡ length bytes → IsPart (byte_at disk file) 0 bytes → HasNoHole (held disk f)
     → IsInodeMapOn bytes (held disk f)
 held_bytes disk f file bytes as_held size part no_hole = record {
-  bytes_are = ap (λ z. bytes_of (record (content_of (held disk f)) { size = z })) (ap (λ (i : Inode). i.size) (held_inode disk f))
+  bytes_are = ap (λ z. content_bytes (record (content_of (held disk f)) { size = z })) (ap (λ (i : Inode). i.size) (held_inode disk f))
       ∙ sym (fill_by_all (byte_in (nodes.file_block (held disk f))) bytes f.size 0 (sym size) (λ k lt.
       part k (omega (arith, size)) ∙ ap (byte_at disk file) (zero-add k) ∙ ap (λ (b : List ℕ). slice_index b (k % 4096)) (as_held (k / 4096))));
   no_hole = no_hole;
@@ -125,19 +125,19 @@ module _ (disk : Blocks) (old new : File) (bytes : List ℕ) (size : new.size �
   ]
 
 -- a part of these bytes in a block of zeros
-pub part_byte : (new block bytes : List ℕ) (k i start end : ℕ) → k < 4096 → slice_index new k ≡ written (slice_index block) 0 (take (end - start) (drop start bytes)) k → block ≡ zeros 4096
+pub part_byte : (new block bytes : List ℕ) (k i start end : ℕ) → k < 4096 → slice_index new k ≡ with_bytes_at (slice_index block) 0 (take (end - start) (drop start bytes)) k → block ≡ zeros 4096
     → start ≡ min (4096 * i) (length bytes) → end ≡ min (start + 4096) (length bytes) → slice_index new k ≡ slice_index bytes (4096 * i + k)
 part_byte new block bytes k i start end lt is zero from to =
     let xs = take (end - start) (drop start bytes) in
     let long : length xs ≡ end - start = simp (length-take, length-drop) (omega arith) in
     elim (cases_lt k (end - start)) [
       | inl within ↦
-          is ∙ (let e : written (slice_index block) 0 xs k ≡ slice_index xs (k - 0) = grind (arith, nat_tests) in e)
+          is ∙ (let e : with_bytes_at (slice_index block) 0 xs k ≡ slice_index xs (k - 0) = grind (arith, nat_tests) in e)
           ∙ ap (slice_index xs) (let e : k - 0 ≡ k = omega arith in e)
           ∙ get_or-take (end - start) (drop start bytes) k 0 within ∙ get_or-drop start bytes k 0
           ∙ ap (slice_index bytes) (let e : start + k ≡ 4096 * i + k = omega arith in e)
       | inr past ↦
-          is ∙ (let e : written (slice_index block) 0 xs k ≡ slice_index block k = grind (arith, nat_tests) in e)
+          is ∙ (let e : with_bytes_at (slice_index block) 0 xs k ≡ slice_index block k = grind (arith, nat_tests) in e)
           ∙ ap (λ (b : List ℕ). slice_index b k) zero ∙ zero_byte k 4096 ∙ sym (get_or_past bytes (4096 * i + k) 0 (omega arith))
     ]
 
@@ -157,7 +157,7 @@ loaded_based s disk f t sound starts = based_start s disk f t t sound starts (re
 pub record IsMapOver (s : Sizes) (draft : Draft) (disk : Blocks) (base : Inode) (o : Object) (bytes : List ℕ) : Type 0 where
   pub change : IsChangeOf s draft disk base o
   pub whole : HasNoHole (held disk base) → IsWholeOver disk base o
-  pub bytes_are : bytes_of (object_content disk o) ≡ bytes
+  pub bytes_are : content_bytes (object_content disk o) ≡ bytes
   pub kind : o.attributes.kind ≡ kinds.InodeMap
 
 -- the inode map's file with its first blocks changed to these bytes

@@ -1,15 +1,16 @@
 -- What was planned is a point.
-use Rattle.std.proofs.Common.{◌≡◌, inl, inr, ℕ, ◌/◌, ◌%◌, ◌<◌, ◌≤◌, false, All, List, length, refl, ap, sym, subst, ◌∙◌, arith}
+use Rattle.std.proofs.Common.{◌≡◌, ◌≢◌, inl, inr, ℕ, ◌+◌, ◌/◌, ◌%◌, ◌<◌, ◌≤◌, false, All, List, length, refl, ap, sym, subst, ◌∙◌, arith}
 use Rattle.std.proofs.lemmas.Bool.{cond-true, cond-false, cases_Bool}
 use Rattle.std.proofs.lemmas.List.Elements.{All-map}
 use Rattle.std.proofs.lemmas.List.{get_or-map, length-map}
 use Rattle.std.specs.Int.{bit_at}
-use Rattle.std.specs.Prelude.{if◌then◌else◌}
+use Rattle.std.specs.Prelude.{if◌then◌else◌, min}
 use Rattle.layout.specs.Inode.{inode_bytes}
 use Rattle.layout.specs.Maps.{map_entry}
 use Rattle.layout.specs.Limits.{Sizes}
 use Rattle.layout.specs.Places.{Blocks, blocks_of}
 use Rattle.layout.specs.Root.{IsRoot}
+use Rattle.layout.specs.Version.{level_of}
 use Rattle.layout.specs.declared.inode.Inode.{Inode}
 use Rattle.layout.specs.declared.root.Root.{Root}
 use Rattle.model.specs.Paths.{Name}
@@ -18,15 +19,17 @@ use Rattle.model.specs.Volumes.{Volume}
 use Rattle.blockmap.specs.Maps.{entry_at, settled_at}
 use Rattle.blockmap.specs.declared.map.BlockMap.{BlockMap}
 use Rattle.conspoint.specs.Drafts.{Grows, HasAll, OnEach}
+use Rattle.conspoint.specs.Space.{TakesAtMost}
 use Rattle.conspoint.specs.Writes.{write_of, writes_of}
 use Rattle.conspoint.specs.declared.draft.Draft.{Draft}
 use Rattle.conspoint.specs.declared.plan.PlannedBlock.{PlannedBlock}
 use Rattle.images.specs.BlockMap.{HasBit, entry}
-use Rattle.images.specs.Contents.{Content, HoldsVolume, StandsAs, content_of, contents}
-use Rattle.images.specs.Cuts.{IsPointWith, PlansOn, Write}
+use Rattle.images.specs.Contents.{Content, HoldsVolume, StandsAs, content_of, tree_contents}
+use Rattle.images.specs.Cuts.{IsPointWith, LeavesFree, PlansOn, Write}
 use Rattle.images.specs.Nodes.{held, Agrees, Names, file_block}
-use Rattle.images.specs.Points.{HoldObjects}
-use Rattle.images.specs.Roots.{HeldTree, Needs, Reach, inode_of, tree, whole}
+use Rattle.images.specs.Points.{HoldObjects, IsPlannedOn, IsSoundPlan}
+use Rattle.images.specs.Room.{IsNewHead, KeepsOwn, StoresOwn, TakesBelow, TakesFirst, free_under}
+use Rattle.images.specs.Roots.{HeldTree, Needs, Reach, inode_under, tree, whole}
 use Rattle.images.specs.Roots.Needs.{active}
 use Rattle.images.specs.SnapshotSteps.{SnapshotStep, CanStep, HasHead, StepsSlots}
 use Rattle.images.specs.Soundness.{IsOrdinary, IsSoundTree, SpellsInodes}
@@ -35,11 +38,12 @@ use Rattle.inofile.specs.Inodes.{IsChanged, files_of}
 use Rattle.inofile.specs.Settled.{held_content}
 use Rattle.inofile.specs.Volumes.{IsVolumeOf, MapsVolume}
 use Rattle.inofile.specs.declared.inode_file.InodeFile.{InodeFile}
-use Rattle.planning.specs.Changes.{StepsEntries}
+use Rattle.planning.specs.Changes.{HasHeads, StepsEntries}
 use Rattle.planning.specs.Numbers.{trimmed}
 use Rattle.planning.specs.Plans.{IsAllPlanned, IsClean, IsPlanStart, IsPlannable, inodes_under}
 use Rattle.planning.specs.Points.{IsComplete, planned_tree}
-use Rattle.planning.specs.Progress.{IsExactPlane, IsProgress, KeepsActive, Planned}
+use Rattle.planning.specs.Progress.{IsExactPlane, IsProgress, KeepsActive, PlannedInodes}
+use Rattle.planning.specs.Space.{CountsBlocks, map_stores, nodes_below, top_nodes}
 use Rattle.planning.specs.Steps.{settled_tree}
 use Rattle.planning.proofs.ChangeLaws.{SnapshotsSpelled}
 use Rattle.planning.proofs.MapLaws.{numbers_mapped}
@@ -55,31 +59,45 @@ unfolding whole tree held
 tree_is d r = refl
 
 pub top_inode : (d : Blocks) (r : Root) → inodes_under d r 0 ≡ r.inode_file
-unfolding whole tree held inode_of
+unfolding whole tree held inode_under
 top_inode d r = refl
 
 -- what images says of disks that agree
 abbrev pub HoldsAgreed : Type 0
 HoldsAgreed = (d e : Blocks) (f : Inode) → Agrees (Names (held d f)) d e → held e f ≡ held d f
 
+-- what images says of the blocks that a point leaves free
+abbrev pub LeavesRoom : Type 0
+LeavesRoom = (d e : Blocks) (r new : Root) (files : ℕ → Content) → IsRoot r → IsRoot new → IsSound r (whole d r) → Agrees (Needs r (whole d r)) d e
+    → (plan : IsPlannedOn (whole d r) (whole d r).active 0 r e new files) → IsSoundPlan r.geometry e plan.inode plan.changed → KeepsOwn r (whole d r)
+    → ((k b : ℕ) → IsNewHead r new k b → ⊥) → (mid : ℕ) → TakesBelow mid (λ n. n ≢ 2) r new plan.taken → TakesFirst (λ n. held e (plan.inode n)) plan.taken
+    → free_under (whole d r).active r.geometry.blocks + level_of r.inode_file.size
+    ≤ free_under (whole e new).active r.geometry.blocks + free_under (whole d r).active (min mid r.geometry.blocks)
+
+-- and where what every point stores may be shared
+abbrev pub LeavesAll : Type 0
+LeavesAll = (d e : Blocks) (r new : Root) (files : ℕ → Content) → IsRoot r → IsRoot new → IsSound r (whole d r) → Agrees (Needs r (whole d r)) d e
+    → (plan : IsPlannedOn (whole d r) (whole d r).active 0 r e new files) → (mid : ℕ) → TakesBelow mid (λ n. Unit {0}) r new plan.taken
+    → free_under (whole d r).active r.geometry.blocks ≤ free_under (whole e new).active r.geometry.blocks + free_under (whole d r).active (min mid r.geometry.blocks)
+
 -- the files after the point: those that are planned, and the others as they are settled
-abbrev pub files_after : Planned → (ℕ → Content) → HeldTree → ℕ → Content
-files_after p found t n = if p.changed n then found n else contents t n
+abbrev pub files_after : PlannedInodes → (ℕ → Content) → HeldTree → ℕ → Content
+files_after p found t n = if p.changed n then found n else tree_contents t n
 
 -- entries of a map in a tree
 entries_of : (t : HeldTree) (b x : ℕ) → map_entry (file_block (t 2) (b / 1024)) (b % 1024) ≡ x → entry t b ≡ x
 unfolding entry
 entries_of t b x is = is
 
-module _ (spelled : ReadsSpelled) (reads_past : ReadsPast) (same_held : HoldsAgreed) (d : Blocks) (r new : Root) (draft : Draft) (before : ℕ → ℕ) (found : ℕ → Content) (inodes : InodeFile) (v : Volume)
-    (all : IsAllPlanned draft d before r.geometry (settled_tree d (inodes_under d r)) found inodes new.inode_file) (root : IsRoot r) (sound : IsSound r (whole d r))
+module _ {start : Draft} (spelled : ReadsSpelled) (reads_past : ReadsPast) (same_held : HoldsAgreed) (d : Blocks) (r new : Root) (draft : Draft) (before : ℕ → ℕ) (found : ℕ → Content) (inodes : InodeFile) (v : Volume)
+    (all : IsAllPlanned start draft d before r.geometry (settled_tree d (inodes_under d r)) found inodes new.inode_file) (root : IsRoot r) (sound : IsSound r (whole d r))
     (before_is : (b : ℕ) → before b ≡ entry (whole d r).active b) (geometry : new.geometry ≡ r.geometry)
     (maps : MapsVolume inodes.numbers.bytes.items v) (objects : HoldObjects r.geometry.inodes (files_after all.plan found (settled_tree d (inodes_under d r))) v)
     (e : Blocks) (has : HasAll e draft.blocks.items) (agrees : Agrees (Needs r (whole d r)) d e) where
   abbrev t : HeldTree
   t = settled_tree d (inodes_under d r)
 
-  abbrev p : Planned
+  abbrev p : PlannedInodes
   p = all.plan
 
   abbrev files : ℕ → Content
@@ -97,8 +115,8 @@ module _ (spelled : ReadsSpelled) (reads_past : ReadsPast) (same_held : HoldsAgr
 
   content_all : (n : ℕ) → 3 ≤ n → content_of (held e (p.inode n)) ≡ files n
   content_all n least = elim (cases_Bool (p.changed n)) [
-    | inl is ↦ all.contents e has reach n least is ∙ sym (cond-true (p.changed n) (found n) (contents t n) is)
-    | inr isnt ↦ ap content_of (unchanged_same n isnt) ∙ sym (cond-false (p.changed n) (found n) (contents t n) isnt)
+    | inl is ↦ all.contents e has reach n least is ∙ sym (cond-true (p.changed n) (found n) (tree_contents t n) is)
+    | inr isnt ↦ ap content_of (unchanged_same n isnt) ∙ sym (cond-false (p.changed n) (found n) (tree_contents t n) isnt)
   ]
 
   tree_sound : IsSoundTree r.geometry t
@@ -123,7 +141,7 @@ module _ (spelled : ReadsSpelled) (reads_past : ReadsPast) (same_held : HoldsAgr
     });
     entries = λ b. entries_of (planned_tree e p) b (entry_at draft.map.parts.items b) ((all.block_map e has reach).entries b);
     content = λ n least is. content_all n least;
-    same = λ n least isnt. cond-false (p.changed n) (found n) (contents t n) isnt;
+    same = λ n least isnt. cond-false (p.changed n) (found n) (tree_contents t n) isnt;
     numbers = numbers_mapped r.geometry.inodes inodes.numbers.bytes.items (planned_tree e p) files v maps (all.inode_map e has reach).bytes_are objects content_all ordinary;
     inode_map = (all.inode_map e has reach).no_hole;
     block_map = (all.block_map e has reach).no_hole;
@@ -135,9 +153,36 @@ module _ (spelled : ReadsSpelled) (reads_past : ReadsPast) (same_held : HoldsAgr
   progress_now : IsProgress r.geometry (whole d r).active e draft.map.next before (entry_at draft.map.parts.items) p
   progress_now = subst (λ (u : HeldTree). IsProgress r.geometry u e draft.map.next before (entry_at draft.map.parts.items) p) (tree_is d r) progress
 
+  own : HasHeads r new start → StoresOwn (planned_tree e p) r new p.taken
+  own has_heads = record {
+    heads = λ n k b new is. let low = (has_heads k b new).0 in omega (arith, low, all.from e has reach n b is);
+    map = λ k block b new. all.anew (has_heads k block new).1 e has reach b;
+    first = λ k block new. all.first_taken e has reach;
+  }
+
   pub plans_on : (step : SnapshotStep) → StepsEntries step r new before before (entry_at draft.map.parts.items) → SnapshotsSpelled → CanStep step r (whole d r) → StepsSlots step r new → HasHead step new e
-      → PlansOn d r e new files
-  plans_on = point_planned spelled reads_past d e r new draft.map.next before (entry_at draft.map.parts.items) p files root sound before_is progress_now complete_now
+      → HasHeads r new start → PlansOn d r e new files
+  plans_on step entries heads can slots head has_heads =
+      point_planned spelled reads_past d e r new draft.map.next before (entry_at draft.map.parts.items) p files root sound before_is progress_now complete_now step entries heads can slots head (own has_heads)
+
+  -- and where no snapshot shares what every point stores, so many blocks stay free
+  pub room_on : LeavesRoom → (step : SnapshotStep) → StepsEntries step r new before before (entry_at draft.map.parts.items) → SnapshotsSpelled → CanStep step r (whole d r) → StepsSlots step r new → HasHead step new e
+      → HasHeads r new start → IsRoot new → KeepsOwn r (whole d r) → ((k b : ℕ) → IsNewHead r new k b → ⊥)
+      → free_under (whole d r).active r.geometry.blocks + level_of r.inode_file.size
+      ≤ free_under (whole e new).active r.geometry.blocks + free_under (whole d r).active (min all.middle.map.next r.geometry.blocks)
+  unfolding plans_on point_planned
+  room_on law step entries heads can slots head has_heads new_root kept none =
+      let plans = plans_on step entries heads can slots head has_heads in
+      law d e r new files root new_root sound agrees plans.plan plans.sound kept none all.middle.map.next
+      (record { files = all.below e has reach; heads = λ k b is. absurd (none k b is) }) (all.first_taken e has reach)
+
+  pub all_on : LeavesAll → (step : SnapshotStep) → StepsEntries step r new before before (entry_at draft.map.parts.items) → SnapshotsSpelled → CanStep step r (whole d r) → StepsSlots step r new → HasHead step new e
+      → HasHeads r new start → IsRoot new
+      → free_under (whole d r).active r.geometry.blocks ≤ free_under (whole e new).active r.geometry.blocks + free_under (whole d r).active (min draft.map.next r.geometry.blocks)
+  unfolding plans_on point_planned
+  all_on law step entries heads can slots head has_heads new_root =
+      law d e r new files root new_root sound agrees (plans_on step entries heads can slots head has_heads).plan draft.map.next
+      (record { files = λ n b any is. progress.below n b is; heads = λ k b is. let low = (has_heads k b is).0 in omega (arith, low, all.begins.next, all.goes_on.next) })
 
   pub entries_on : (b : ℕ) → entry (whole e new).active b ≡ entry_at draft.map.parts.items b
   entries_on = point_entries spelled reads_past d e r new draft.map.next before (entry_at draft.map.parts.items) p files root sound before_is progress_now complete_now
@@ -152,10 +197,10 @@ all_from_map : (P : Write → Type 0) (blocks : List PlannedBlock) → All P (wr
 all_from_map P blocks all k x lt =
     subst P (get_or-map write_of blocks k x (write_of x) lt) (all k (write_of x) (omega (arith, lt, length-map blocks write_of)))
 
-module _ (spelled : ReadsSpelled) (reads_past : ReadsPast) (same_held : HoldsAgreed) (memory : HoldsMemory) (d : ℕ → List ℕ) (r new : Root) (slot generation : ℕ) (m : BlockMap) (inodes : InodeFile) (first v : Volume)
+module _ {start : Draft} (spelled : ReadsSpelled) (reads_past : ReadsPast) (same_held : HoldsAgreed) (memory : HoldsMemory) (d : ℕ → List ℕ) (r new : Root) (slot generation : ℕ) (m : BlockMap) (inodes : InodeFile) (first v : Volume)
     (snapshots : List (Name × Tree)) (draft : Draft) (plannable : IsPlannable r d slot generation m inodes first v snapshots) (root : IsRoot r) (new_root : IsRoot new) (geometry : new.geometry ≡ r.geometry)
     (generation_is : new.generation ≡ generation) (sizes : inodes.geometry ≡ r.geometry)
-    (planned : IsAllPlanned draft (blocks_of d) (settled_at m.parts.items) inodes.geometry (settled_tree (blocks_of d) (inodes_under (blocks_of d) r))
+    (planned : IsAllPlanned start draft (blocks_of d) (settled_at m.parts.items) inodes.geometry (settled_tree (blocks_of d) (inodes_under (blocks_of d) r))
     (λ n. trimmed (files_of (blocks_of d) (inodes_under (blocks_of d) r) inodes n)) inodes new.inode_file)
     (settled : (b : ℕ) → settled_at draft.map.parts.items b ≡ settled_at m.parts.items b) where
   abbrev disk : Blocks
@@ -167,8 +212,8 @@ module _ (spelled : ReadsSpelled) (reads_past : ReadsPast) (same_held : HoldsAgr
   abbrev tree_of : HeldTree
   tree_of = settled_tree disk (inodes_under disk r)
 
-  now_planned : IsAllPlanned draft disk (settled_at m.parts.items) r.geometry tree_of found_of inodes new.inode_file
-  now_planned = subst (λ (s : Sizes). IsAllPlanned draft disk (settled_at m.parts.items) s tree_of found_of inodes new.inode_file) sizes planned
+  now_planned : IsAllPlanned start draft disk (settled_at m.parts.items) r.geometry tree_of found_of inodes new.inode_file
+  now_planned = subst (λ (s : Sizes). IsAllPlanned start draft disk (settled_at m.parts.items) s tree_of found_of inodes new.inode_file) sizes planned
 
   abbrev after : ℕ → Content
   after = files_after now_planned.plan found_of tree_of
@@ -178,16 +223,16 @@ module _ (spelled : ReadsSpelled) (reads_past : ReadsPast) (same_held : HoldsAgr
 
   objects_after : HoldObjects r.geometry.inodes after v
   objects_after n least = elim (cases_Bool (now_planned.plan.changed n)) [
-    | inl is ↦ subst (λ (c : Content). StandsAs c.kind r.geometry.inodes c (v n)) (sym (cond-true (now_planned.plan.changed n) (found_of n) (contents tree_of n) is))
+    | inl is ↦ subst (λ (c : Content). StandsAs c.kind r.geometry.inodes c (v n)) (sym (cond-true (now_planned.plan.changed n) (found_of n) (tree_contents tree_of n) is))
         (trimmed_stands (files_of disk (inodes_under disk r) inodes n).kind r.geometry.inodes (files_of disk (inodes_under disk r) inodes n) (v n) (held_volume n))
-    | inr isnt ↦ subst (λ (c : Content). StandsAs c.kind r.geometry.inodes c (v n)) (sym (cond-false (now_planned.plan.changed n) (found_of n) (contents tree_of n) isnt))
+    | inr isnt ↦ subst (λ (c : Content). StandsAs c.kind r.geometry.inodes c (v n)) (sym (cond-false (now_planned.plan.changed n) (found_of n) (tree_contents tree_of n) isnt))
         (subst (λ (c : Content). StandsAs c.kind r.geometry.inodes c (v n))
         (memory.unchanged r.geometry.blocks disk (inodes_under disk r) inodes v n plannable.memory (λ is. true_false ((now_planned.changed n least).1 is) isnt)) (held_volume n))
   ]
 
   pub point_is : (step : SnapshotStep) → StepsEntries step r new (settled_at m.parts.items) (settled_at m.parts.items) (entry_at draft.map.parts.items) → SnapshotsSpelled → CanStep step r (whole disk r)
-      → StepsSlots step r new → OnEach draft (HasHead step new) → IsPointWith step r d (writes_of draft.blocks.items) slot new v
-  point_is step stepped heads can slots head = record {
+      → StepsSlots step r new → OnEach draft (HasHead step new) → HasHeads r new start → IsPointWith step r d (writes_of draft.blocks.items) slot new v
+  point_is step stepped heads can slots head has_heads = record {
     free = All-map (λ (w : Write). entry (whole disk r).active w.place ≡ 0) write_of draft.blocks.items
         (λ k x lt. sym (plannable.entries _) ∙ sym (settled _) ∙ draft.drafted.free k x lt);
     long = All-map (λ (w : Write). length w.bytes ≡ 4096) write_of draft.blocks.items draft.drafted.planned.sizes;
@@ -202,10 +247,33 @@ module _ (spelled : ReadsSpelled) (reads_past : ReadsPast) (same_held : HoldsAgr
     plans = λ e has agrees.
         let all = all_from_map (λ (w : Write). e w.place ≡ w.bytes) draft.blocks.items has in
         plans_on spelled reads_past same_held disk r new draft (settled_at m.parts.items) found_of inodes v now_planned root plannable.holds.sound plannable.entries geometry plannable.memory.mapped objects_after
-        e all agrees step stepped heads can slots (head e all);
+        e all agrees step stepped heads can slots (head e all) has_heads;
     objects = objects_after;
     volume = plannable.volume;
   }
+
+  -- what it leaves free, where so much is taken before the block map
+  pub room_is : LeavesRoom → (step : SnapshotStep) → StepsEntries step r new (settled_at m.parts.items) (settled_at m.parts.items) (entry_at draft.map.parts.items) → SnapshotsSpelled → CanStep step r (whole disk r)
+      → StepsSlots step r new → OnEach draft (HasHead step new) → HasHeads r new start → KeepsOwn r (whole disk r) → ((k b : ℕ) → IsNewHead r new k b → ⊥) → (spent : ℕ)
+      → ((middle : Draft) → Grows start middle → ((w : ℕ → ℕ) → CountsBlocks w inodes.numbers.bytes.items (file_block (tree_of 1))
+      → TakesAtMost (nodes_below inodes inodes.geometry.inodes + map_stores w inodes + top_nodes inodes (tree_of 0).inode.size) start middle)
+      → free_under (whole disk r).active (min middle.map.next r.geometry.blocks) ≤ spent + level_of r.inode_file.size)
+      → LeavesFree spent r disk (writes_of draft.blocks.items) new
+  room_is law step stepped heads can slots head has_heads kept none spent few e has agrees =
+      let all = all_from_map (λ (w : Write). e w.place ≡ w.bytes) draft.blocks.items has in
+      let room = room_on spelled reads_past same_held disk r new draft (settled_at m.parts.items) found_of inodes v now_planned root plannable.holds.sound plannable.entries geometry plannable.memory.mapped objects_after
+      e all agrees law step stepped heads can slots (head e all) has_heads new_root kept none in
+      omega (arith, room, few now_planned.middle now_planned.begins now_planned.few)
+
+  -- and whatever is done with the snapshots
+  pub all_is : LeavesAll → (step : SnapshotStep) → StepsEntries step r new (settled_at m.parts.items) (settled_at m.parts.items) (entry_at draft.map.parts.items) → SnapshotsSpelled → CanStep step r (whole disk r)
+      → StepsSlots step r new → OnEach draft (HasHead step new) → HasHeads r new start → (spent : ℕ)
+      → free_under (whole disk r).active (min draft.map.next r.geometry.blocks) ≤ spent → LeavesFree spent r disk (writes_of draft.blocks.items) new
+  all_is law step stepped heads can slots head has_heads spent few e has agrees =
+      let all = all_from_map (λ (w : Write). e w.place ≡ w.bytes) draft.blocks.items has in
+      let room = all_on spelled reads_past same_held disk r new draft (settled_at m.parts.items) found_of inodes v now_planned root plannable.holds.sound plannable.entries geometry plannable.memory.mapped objects_after
+      e all agrees law step stepped heads can slots (head e all) has_heads new_root in
+      omega (arith, room, few)
 
   pub entries_are : (e : Blocks) → HasAll e draft.blocks.items → Agrees (Needs r (whole disk r)) disk e → (b : ℕ) → entry (whole e new).active b ≡ entry_at draft.map.parts.items b
   entries_are e has agrees =
@@ -234,7 +302,7 @@ start_is d r slot generation count m draft inodes first v snapshots plannable si
 -- the same once set 0 of the map is as it was, in a draft that grew
 pub start_later : (count : ℕ) (old new : Draft) (disk : Blocks) (r : Root) (settled : ℕ → Inode) (inodes : InodeFile) (v : Volume) (before : ℕ → ℕ) → IsPlanStart count old disk r settled inodes v before
     → Grows old new → KeepsActive (entry_at old.map.parts.items) (entry_at new.map.parts.items) → IsPlanStart count new disk r settled inodes v before
-start_later count old new disk r settled inodes v before start grows keeps = record {
+start_later count old new _ r settled inodes v before start grows keeps = record {
   memory = start.memory;
   sound = start.sound;
   top = start.top;

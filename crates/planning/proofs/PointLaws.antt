@@ -12,15 +12,16 @@ use Rattle.layout.specs.declared.inode.Inode.{Inode}
 use Rattle.layout.specs.declared.root.Root.{Root}
 use Rattle.layout.specs.declared.version.TheConstants.{VERSION}
 use Rattle.images.specs.Nodes.{held, Names, file_block}
-use Rattle.images.specs.Roots.{HeldTree, free_inode, inode_bytes_at, inode_of, tree, whole}
+use Rattle.images.specs.Room.{StoresOwn}
+use Rattle.images.specs.Roots.{HeldTree, free_inode, inode_bytes_at, inode_under, tree, whole}
 use Rattle.images.specs.BlockMap.{HasBit, entry}
 use Rattle.images.specs.Contents.{Content}
 use Rattle.images.specs.Cuts.{PlansOn}
-use Rattle.images.specs.Points.{Marks}
+use Rattle.images.specs.Points.{MarksPlane}
 use Rattle.images.specs.SnapshotSteps.{SnapshotStep, CanStep, HasHead, StepsSlots}
 use Rattle.images.specs.States.{IsSound}
 use Rattle.planning.specs.Changes.{StepsEntries, StepsSets}
-use Rattle.planning.specs.Progress.{IsProgress, Planned}
+use Rattle.planning.specs.Progress.{IsProgress, PlannedInodes}
 use Rattle.planning.specs.Points.{IsComplete, planned_tree}
 use Rattle.planning.proofs.ChangeLaws.{SnapshotsSpelled, slots_are, system_is}
 use Rattle.images.proofs.EmptyLaws.{held_inode}
@@ -33,12 +34,12 @@ ReadsSpelled = (s : Sizes) (d : Blocks) (top i : Inode) (n : ℕ) → AreSizes s
 abbrev pub ReadsPast : Type 0
 ReadsPast = (d : Blocks) (inodes : ℕ) (top : Inode) (n : ℕ) → 1 ≤ n → inodes ≤ n → tree d inodes top n ≡ held d free_inode
 
-tree_inode : (d : Blocks) (inodes : ℕ) (top : Inode) (n : ℕ) → (tree d inodes top n).inode ≡ inode_of (held d top) inodes n
+tree_inode : (d : Blocks) (inodes : ℕ) (top : Inode) (n : ℕ) → (tree d inodes top n).inode ≡ inode_under (held d top) inodes n
 unfolding tree held
 tree_inode d inodes top n = refl
 
-first_inode : (d : Blocks) (inodes : ℕ) (top : Inode) → inode_of (held d top) inodes 0 ≡ top
-unfolding inode_of held
+first_inode : (d : Blocks) (inodes : ℕ) (top : Inode) → inode_under (held d top) inodes 0 ≡ top
+unfolding inode_under held
 first_inode d inodes top = refl
 
 active_is : (d : Blocks) (r : Root) → (whole d r).active ≡ tree d r.geometry.inodes r.inode_file
@@ -49,11 +50,11 @@ entry_same : (t u : HeldTree) (b : ℕ) → t 2 ≡ u 2 → entry t b ≡ entry 
 unfolding entry
 entry_same t u b same = ap (λ h. map_entry (file_block h (b / 1024)) (b % 1024)) same
 
-new_map : (e : Blocks) (new : Root) (i : Inode) → inode_of (held e new.inode_file) new.geometry.inodes 2 ≡ i → (whole e new).active 2 ≡ held e i
+new_map : (e : Blocks) (new : Root) (i : Inode) → inode_under (held e new.inode_file) new.geometry.inodes 2 ≡ i → (whole e new).active 2 ≡ held e i
 unfolding whole tree
 new_map e new i is = ap (held e) is
 
-module _ (spelled : ReadsSpelled) (reads_past : ReadsPast) (d e : Blocks) (r new : Root) (next : ℕ) (before after : ℕ → ℕ) (p : Planned) (files : ℕ → Content)
+module _ (spelled : ReadsSpelled) (reads_past : ReadsPast) (d e : Blocks) (r new : Root) (next : ℕ) (before after : ℕ → ℕ) (p : PlannedInodes) (files : ℕ → Content)
     (root : IsRoot r) (sound : IsSound r (whole d r)) (before_is : (b : ℕ) → before b ≡ entry (whole d r).active b)
     (progress : IsProgress r.geometry (whole d r).active e next before after p) (whole_plan : IsComplete r new (whole d r).active e after p files) where
   each_fits : (n : ℕ) → IsInode VERSION r.geometry (p.inode n)
@@ -63,7 +64,7 @@ module _ (spelled : ReadsSpelled) (reads_past : ReadsPast) (d e : Blocks) (r new
   ]
 
   -- under the new root, by the numbers of before
-  read_inode : (n : ℕ) → inode_of (held e (p.inode 0)) r.geometry.inodes n ≡ p.inode n
+  read_inode : (n : ℕ) → inode_under (held e (p.inode 0)) r.geometry.inodes n ≡ p.inode n
   read_inode zero = first_inode e r.geometry.inodes (p.inode 0)
   read_inode (suc n) = elim (cases_lt (suc n) r.geometry.inodes) [
     | inl low ↦
@@ -80,9 +81,9 @@ module _ (spelled : ReadsSpelled) (reads_past : ReadsPast) (d e : Blocks) (r new
         ∙ sym (progress.stays (suc n) (whole_plan.past (suc n) high) ∙ ap (λ h. h.inode) free ∙ held_inode d free_inode)
   ]
 
-  inodes_are : (n : ℕ) → inode_of (held e new.inode_file) new.geometry.inodes n ≡ p.inode n
-  inodes_are n = ap (λ (top : Inode). inode_of (held e top) new.geometry.inodes n) whole_plan.top
-      ∙ ap (λ (s : Sizes). inode_of (held e (p.inode 0)) s.inodes n) whole_plan.geometry ∙ read_inode n
+  pub inodes_are : (n : ℕ) → inode_under (held e new.inode_file) new.geometry.inodes n ≡ p.inode n
+  inodes_are n = ap (λ (top : Inode). inode_under (held e top) new.geometry.inodes n) whole_plan.top
+      ∙ ap (λ (s : Sizes). inode_under (held e (p.inode 0)) s.inodes n) whole_plan.geometry ∙ read_inode n
 
   -- the other planes are as the step makes them
   abbrev Old : ℕ → ℕ
@@ -91,7 +92,7 @@ module _ (spelled : ReadsSpelled) (reads_past : ReadsPast) (d e : Blocks) (r new
   abbrev New : ℕ → ℕ
   New = entry (planned_tree e p)
 
-  stepped : (step : SnapshotStep) → StepsEntries step r new before before after → StepsEntries step r new Old Old New
+  pub stepped : (step : SnapshotStep) → StepsEntries step r new before before after → StepsEntries step r new Old Old New
   stepped step entries = record {
     between = entries.between;
     sets = subst (λ (f : ℕ → ℕ). StepsSets step r new f f entries.between) (fun_ext before_is) entries.sets;
@@ -101,15 +102,16 @@ module _ (spelled : ReadsSpelled) (reads_past : ReadsPast) (d e : Blocks) (r new
   abbrev Was : ℕ → ℕ → Type 0
   Was b x = (HasBit 0 x × ((n : ℕ) → p.changed n ≡ true → Names ((whole d r).active n) b → ⊥)) ⊎ ((n : ℕ) × (p.changed n ≡ true) × Names (held e (p.inode n)) b)
 
-  marks_are : Marks p.changed (whole d r).active 0 (planned_tree e p) (entry (whole d r).active) (entry (planned_tree e p))
+  pub marks_are : MarksPlane p.changed (whole d r).active 0 (planned_tree e p) (entry (whole d r).active) (entry (planned_tree e p))
   marks_are b = subst (λ x. HasBit 0 x ↔ Was b (entry (whole d r).active b)) (sym (whole_plan.entries b))
       (subst (λ x. HasBit 0 (after b) ↔ Was b x) (before_is b) (progress.marks b))
 
   pub point_entries : (b : ℕ) → entry (whole e new).active b ≡ after b
   point_entries b = entry_same (whole e new).active (planned_tree e p) b (new_map e new (p.inode 2) (inodes_are 2)) ∙ whole_plan.entries b
 
-  pub point_planned : (step : SnapshotStep) → StepsEntries step r new before before after → SnapshotsSpelled → CanStep step r (whole d r) → StepsSlots step r new → HasHead step new e → PlansOn d r e new files
-  point_planned step entries heads can slots head = record {
+  unfoldable pub point_planned : (step : SnapshotStep) → StepsEntries step r new before before after → SnapshotsSpelled → CanStep step r (whole d r) → StepsSlots step r new → HasHead step new e
+      → StoresOwn (planned_tree e p) r new p.taken → PlansOn d r e new files
+  point_planned step entries heads can slots head own = record {
     plan = record {
       inode = p.inode;
       changed = p.changed;
@@ -117,7 +119,7 @@ module _ (spelled : ReadsSpelled) (reads_past : ReadsPast) (d e : Blocks) (r new
       inodes = inodes_are;
       geometry = whole_plan.geometry;
       content = whole_plan.content;
-      comes = progress.comes;
+      moves = progress.moves;
       each = progress.each;
       stays = progress.stays;
       same = whole_plan.same;
@@ -135,4 +137,5 @@ module _ (spelled : ReadsSpelled) (reads_past : ReadsPast) (d e : Blocks) (r new
       inode_map = whole_plan.inode_map;
       block_map = whole_plan.block_map;
     };
+    own = own;
   }

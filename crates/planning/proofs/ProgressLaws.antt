@@ -4,6 +4,7 @@ use Rattle.std.proofs.lemmas.Bool.{cases_eq, cond-true, cond-false, eq-eqb, ne_e
 use Rattle.layout.specs.Limits.{Sizes}
 use Rattle.layout.specs.Places.{Blocks}
 use Rattle.layout.specs.declared.inode.Inode.{Inode}
+use Rattle.layout.specs.declared.pointer.Pointer.TheVariants.{Block}
 use Rattle.images.specs.Nodes.{held, Names, IsOnce}
 use Rattle.images.specs.Roots.{HeldTree, Reach}
 use Rattle.images.specs.BlockMap.{HasBit, NamesOnce}
@@ -11,17 +12,19 @@ use Rattle.images.specs.Soundness.{IsSoundFile, FitsNumber}
 use Rattle.blockmap.specs.Maps.{entry_at}
 use Rattle.blockmap.specs.Parts.{Part}
 use Rattle.placement.specs.Files.{IsPlaced}
-use Rattle.planning.specs.Progress.{AreTaken, IsExactPlane, IsMarked, IsProgress, KeepsActive, KeepsSets, Planned, unplanned, with_file}
+use Rattle.planning.specs.Progress.{AreTaken, IsExactPlane, IsMarked, IsProgress, KeepsActive, KeepsSets, PlannedInodes, unplanned, with_planned_file}
 use Rattle.images.proofs.EmptyLaws.{no_bit}
 
-pub none_planned : (s : Sizes) (t : HeldTree) (e : Blocks) (next : ℕ) (before after : ℕ → ℕ) → KeepsActive before after → IsProgress s t e next before after (unplanned t)
+pub none_planned : (s : Sizes) (t : HeldTree) (e : Blocks) (next : ℕ) (before after : ℕ → ℕ) → KeepsActive before after → IsProgress s t e next before after (unplanned next t)
 none_planned s t e next before after same = record {
-  comes = λ n b is. absurd (cc);
+  moves = λ n m i b is. absurd (cc);
   each = λ n is. absurd (cc);
   sound = λ n is. absurd (cc);
   kinds = λ n is. absurd (cc);
   stays = λ n is. refl;
   free = λ n b is. absurd (cc);
+  starts = omega arith;
+  behind = λ n b is. absurd (cc);
   below = λ n b is. absurd (cc);
   once = λ n m b is. absurd (cc);
   marks = λ b. (λ has. inl (sym (same b) ∙ has, λ n is. absurd (cc)), λ which. elim which [ inl kept ↦ same b ∙ kept.0 | inr new ↦ absurd (cc (new.1)) ]);
@@ -43,11 +46,11 @@ sets_from old mid new same keeps = subst (λ (ps : List Part). KeepsSets (entry_
 pub true_false : {t : Bool} → t ≡ true → t ≡ false → ⊥
 true_false is isnt = absurd (cc)
 
-module _ (s : Sizes) (t : HeldTree) (e : Blocks) (from to : ℕ) (before after last : ℕ → ℕ) (p : Planned) (n : ℕ) (f : Inode) (taken freed : ℕ → Bool)
+module _ (s : Sizes) (t : HeldTree) (e : Blocks) (from to : ℕ) (before after last : ℕ → ℕ) (p : PlannedInodes) (n : ℕ) (f : Inode) (taken freed : ℕ → Bool)
     (names_once : NamesOnce t) (exact : IsExactPlane t before) (progress : IsProgress s t e from before after p) (new : p.changed n ≡ false)
     (placed : IsPlaced s e (t n) f taken freed) (kind : FitsNumber n f.kind) (are_taken : AreTaken from to before taken) (later : from ≤ to) (marked : IsMarked taken freed after last) where
-  abbrev q : Planned
-  q = with_file n f taken p
+  abbrev q : PlannedInodes
+  q = with_planned_file n f taken p
 
   inode_here : (k : ℕ) → k ≡ n → q.inode k ≡ f
   inode_here k is = here k n f (p.inode k) is
@@ -75,13 +78,13 @@ module _ (s : Sizes) (t : HeldTree) (e : Blocks) (from to : ℕ) (before after l
   not_taken : (k m b : ℕ) → Names (t m) b → before b ≡ 0 → ⊥
   not_taken k m b names none = no_bit 0 (before b) none ((exact b).1 (record { file = m; names = names }))
 
-  now_comes : (k b : ℕ) → q.changed k ≡ true → Names (held e (q.inode k)) b → Names (t k) b ⊎ (q.taken k b ≡ true)
-  now_comes k b is names = elim (cases_eq k n) [
-    | inl same ↦ elim (placed.comes b (subst (λ i. Names (held e i) b) (inode_here k same) names)) [
-      | inl was ↦ inl (subst (λ m. Names (t m) b) (sym same) was)
+  now_moves : (k m i b : ℕ) → q.changed k ≡ true → (held e (q.inode k)).place m i ≡ Block b → ((t k).place m i ≡ Block b) ⊎ (q.taken k b ≡ true)
+  now_moves k m i b is at = elim (cases_eq k n) [
+    | inl same ↦ elim (placed.moves m i b (subst (λ (f : Inode). (held e f).place m i ≡ Block b) (inode_here k same) at)) [
+      | inl was ↦ inl (subst (λ (k : ℕ). (t k).place m i ≡ Block b) (sym same) was)
       | inr came ↦ inr (taken_here k b same ∙ came)
     ]
-    | inr other ↦ elim (progress.comes k b (sym (changed_there k other) ∙ is) (subst (λ i. Names (held e i) b) (inode_there k other) names)) [
+    | inr other ↦ elim (progress.moves k m i b (sym (changed_there k other) ∙ is) (subst (λ (f : Inode). (held e f).place m i ≡ Block b) (inode_there k other) at)) [
       | inl was ↦ inl was
       | inr came ↦ inr (taken_there k b other ∙ came)
     ]
@@ -103,6 +106,12 @@ module _ (s : Sizes) (t : HeldTree) (e : Blocks) (from to : ℕ) (before after l
   now_below k b is = elim (cases_eq k n) [
     | inl same ↦ are_taken.below b (sym (taken_here k b same) ∙ is)
     | inr other ↦ let low = progress.below k b (sym (taken_there k b other) ∙ is) in omega arith
+  ]
+
+  now_behind : (k b : ℕ) → q.taken k b ≡ true → p.from ≤ b
+  now_behind k b is = elim (cases_eq k n) [
+    | inl same ↦ (let high = are_taken.behind b (sym (taken_here k b same) ∙ is) in omega (arith, high, progress.starts))
+    | inr other ↦ progress.behind k b (sym (taken_there k b other) ∙ is)
   ]
 
   -- what was taken before lies below what is taken now
@@ -127,8 +136,8 @@ module _ (s : Sizes) (t : HeldTree) (e : Blocks) (from to : ℕ) (before after l
 
   -- nor does a changed file have it now
   not_new : (k b : ℕ) → Names (t n) b → p.changed k ≡ true → Names (held e (p.inode k)) b → ⊥
-  not_new k b mine is names = elim (progress.comes k b is names) [
-    | inl was ↦ mine_only k b mine is was
+  not_new k b mine is names = elim (progress.moves k names.height names.index b is names.is) [
+    | inl was ↦ mine_only k b mine is (record { height = names.height; index = names.index; is = was })
     | inr came ↦ not_taken k n b mine (progress.free k b came)
   ]
 
@@ -177,8 +186,10 @@ module _ (s : Sizes) (t : HeldTree) (e : Blocks) (from to : ℕ) (before after l
   was_marked b (inr found) = elim (cases_eq found.0 n) [
     | inl same ↦
         let names : Names (held e f) b = subst (λ i. Names (held e i) b) (inode_here found.0 same) found.2 in
-        elim (placed.comes b names) [
-          | inl mine ↦ stays_marked b ((progress.marks b).1 (inl ((exact b).1 (record { file = n; names = mine }), λ k is other. mine_only k b mine is other))) (λ again. names)
+        elim (placed.moves names.height names.index b names.is) [
+          | inl was ↦
+              let mine : Names (t n) b = record { height = names.height; index = names.index; is = was } in
+              stays_marked b ((progress.marks b).1 (inl ((exact b).1 (record { file = n; names = mine }), λ k is other. mine_only k b mine is other))) (λ again. names)
           | inr came ↦ (marked.active b).1 (inr came)
         ]
     | inr other ↦
@@ -187,14 +198,16 @@ module _ (s : Sizes) (t : HeldTree) (e : Blocks) (from to : ℕ) (before after l
         stays_marked b ((progress.marks b).1 (inr (found.0, is, names))) (λ mine. absurd (not_new found.0 b mine is names))
   ]
 
-  pub more_planned : IsProgress s t e to before last (with_file n f taken p)
+  pub more_planned : IsProgress s t e to before last (with_planned_file n f taken p)
   more_planned = record {
-    comes = now_comes;
+    moves = now_moves;
     each = each_file (λ k i. IsOnce (held e i)) progress.each placed.once;
     sound = each_file (λ k i. IsSoundFile s (held e i)) progress.sound placed.sound;
     kinds = each_file (λ k i. FitsNumber k i.kind) progress.kinds kind;
     stays = now_stays;
     free = now_free;
+    starts = omega (arith, progress.starts, later);
+    behind = now_behind;
     below = now_below;
     once = now_once;
     marks = λ b. (now_marked b, was_marked b);

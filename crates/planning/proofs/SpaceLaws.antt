@@ -10,10 +10,11 @@ use Rattle.inofile.specs.declared.inode_file.Slot.{Slot}
 use Rattle.inofile.specs.declared.inode_file.Slot.TheVariants.{AsSettled, Loaded, Changed}
 use Rattle.inofile.specs.declared.inode_file.InodeFile.{InodeFile}
 use Rattle.layout.specs.Version.{level_of}
+use Rattle.images.proofs.SumLaws.{sum_of_none, sums_each}
 use Rattle.blocktree.specs.Places.{block_count}
 use Rattle.inode.specs.declared.file.File.{File}
 use Rattle.conspoint.specs.Space.{changed_blocks}
-use Rattle.conspoint.proofs.SumLemmas.{changed_within, sum_of_none, sums_each}
+use Rattle.conspoint.proofs.SumLemmas.{changed_within}
 use Rattle.blocktree.specs.Names.{nodes_at}
 use Rattle.placement.specs.Space.{file_nodes, file_stores, height_stores, level_nodes, level_stores, more_over}
 use Rattle.planning.specs.Space.{nodes_below, number_nodes, slot_nodes}

@@ -6,7 +6,7 @@ use Rattle.std.specs.Prelude.{Some, nat_lt, ◌==◌, if◌then◌else◌}
 use Rattle.layout.specs.Bytes.{zeros}
 use Rattle.layout.specs.Inode.{inode_bytes}
 use Rattle.layout.specs.declared.inode.Inode.{Inode}
-use Rattle.images.specs.InodeFiles.{FitsPlace, with_inode, put_at}
+use Rattle.images.specs.InodeFiles.{FitsPlace, with_inode, spliced_at}
 use Rattle.images.specs.Nodes.{Held, held, file_block}
 use Rattle.images.specs.Overlays.{Overlay, or_else, overlaid_block}
 use Rattle.images.specs.Roots.{inode_bytes_at}
@@ -35,12 +35,12 @@ module _ (puts : PutsOneByOne) (inodes : ℕ) (block : ℕ → List ℕ) (inode 
   new_block : (i : ℕ) → overlaid_block base (with_inode base over n (inode_bytes f)) i ≡ with_inode_at block n f i
   new_block i = elim (cases_eq i (n / 21)) [
     | inl is ↦
-        ap (λ t. or_else (if t then Some (put_at (192 * (n % 21)) (inode_bytes f) (block i)) else Some (block i)) (if nat_lt i 0 then file_block base i else zeros 4096)) (eq-eqb i (n / 21) is)
-        ∙ ap (λ k. put_at (192 * (n % 21)) (inode_bytes f) (block k)) is
-        ∙ sym (cond-true (i == n / 21) (put_at (192 * (n % 21)) (inode_bytes f) (block (n / 21))) (block i) (eq-eqb i (n / 21) is))
+        ap (λ t. or_else (if t then Some (spliced_at (192 * (n % 21)) (inode_bytes f) (block i)) else Some (block i)) (if nat_lt i 0 then file_block base i else zeros 4096)) (eq-eqb i (n / 21) is)
+        ∙ ap (λ k. spliced_at (192 * (n % 21)) (inode_bytes f) (block k)) is
+        ∙ sym (cond-true (i == n / 21) (spliced_at (192 * (n % 21)) (inode_bytes f) (block (n / 21))) (block i) (eq-eqb i (n / 21) is))
     | inr other ↦
-        ap (λ t. or_else (if t then Some (put_at (192 * (n % 21)) (inode_bytes f) (block i)) else Some (block i)) (if nat_lt i 0 then file_block base i else zeros 4096)) (ne_eqb i (n / 21) other)
-        ∙ sym (cond-false (i == n / 21) (put_at (192 * (n % 21)) (inode_bytes f) (block (n / 21))) (block i) (ne_eqb i (n / 21) other))
+        ap (λ t. or_else (if t then Some (spliced_at (192 * (n % 21)) (inode_bytes f) (block i)) else Some (block i)) (if nat_lt i 0 then file_block base i else zeros 4096)) (ne_eqb i (n / 21) other)
+        ∙ sym (cond-false (i == n / 21) (spliced_at (192 * (n % 21)) (inode_bytes f) (block (n / 21))) (block i) (ne_eqb i (n / 21) other))
   ]
 
   blocks_are : overlaid_block base (with_inode base over n (inode_bytes f)) ≡ with_inode_at block n f

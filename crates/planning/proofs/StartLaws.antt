@@ -1,5 +1,5 @@
 -- Where a whole plan starts, and that its root is one.
-use Rattle.std.proofs.Common.{◌≡◌, ◌≢◌, ◌↔◌, inl, inr, ℕ, ◌+◌, ◌-◌, ◌*◌, ◌/◌, ◌%◌, ◌<◌, ◌≤◌, All, Bool, true, false, List, take, drop, ap, sym, subst, ◌∙◌, arith}
+use Rattle.std.proofs.Common.{◌≡◌, ◌≢◌, ◌↔◌, inl, inr, ℕ, ◌+◌, ◌-◌, ◌*◌, ◌/◌, ◌%◌, ◌<◌, ◌≤◌, All, Bool, true, false, List, take, drop, refl, ap, sym, subst, ◌∙◌, arith}
 use Rattle.std.proofs.Math.Path.{fun_ext}
 use Rattle.std.proofs.lemmas.Bool.{cases_lt, cases_Bool}
 use Rattle.std.proofs.lemmas.List.{get_or-take, get_or-drop}
@@ -47,10 +47,10 @@ module _ {count : ℕ} {d : Draft} {disk : Blocks} {root : Root} {settled : ℕ 
   top_sound = subst (λ (x : Inode). IsSoundFile inodes.geometry (held disk x)) start.top (start.memory.volume.inodes.sound 0)
 
   -- nothing is planned, and the inode file is as it is settled
-  pub started : (file : File) → ((i : ℕ) → file_block disk file i ≡ nodes.file_block (held disk root.inode_file) i) → ArePlanned (λ n. ⊥) d disk settled before inodes file
+  pub started : (file : File) → ((i : ℕ) → file_block disk file i ≡ nodes.file_block (held disk root.inode_file) i) → ArePlanned (λ n. ⊥) d.map.next d disk settled before inodes file
   started file as_held = record {
     way = record {
-      plan = unplanned (settled_tree disk settled);
+      plan = unplanned d.map.next (settled_tree disk settled);
       settled = start.same;
       progress = λ e has agrees.
           none_planned inodes.geometry (settled_tree disk settled) e d.map.next before (entry_at d.map.parts.items) start.active;
@@ -63,6 +63,7 @@ module _ {count : ℕ} {d : Draft} {disk : Blocks} {root : Root} {settled : ℕ 
             behind = start.sound.inodes.behind;
           });
     };
+    from_is = refl;
     just = λ n. (λ is. absurd (cc), λ no. absurd no);
   }
 
@@ -105,8 +106,8 @@ pub record WritesAll : Type 0 where
   pub others : (blocks : List PlannedBlock) (disk : Blocks) (n : ℕ) → All (λ b. b.place ≢ n) blocks → disk_with_blocks blocks disk n ≡ disk n
 
 -- the inode of the inode file fits a root
-module _ (writes : WritesAll) (d : Draft) (disk : Blocks) (before : ℕ → ℕ) (s : Sizes) (t : HeldTree) (found : ℕ → Content) (inodes : InodeFile) (top : Inode)
-    (all : IsAllPlanned d disk before s t found inodes top) (exact : IsExactPlane t before) (same : (b : ℕ) → settled_at d.map.parts.items b ≡ before b) where
+module _ {start : Draft} (writes : WritesAll) (d : Draft) (disk : Blocks) (before : ℕ → ℕ) (s : Sizes) (t : HeldTree) (found : ℕ → Content) (inodes : InodeFile) (top : Inode)
+    (all : IsAllPlanned start d disk before s t found inodes top) (exact : IsExactPlane t before) (same : (b : ℕ) → settled_at d.map.parts.items b ≡ before b) where
   e : Blocks
   e = disk_with_blocks d.blocks.items disk
 

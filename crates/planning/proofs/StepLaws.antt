@@ -21,8 +21,8 @@ use Rattle.inode.specs.Files.{file_block}
 use Rattle.inode.specs.declared.file.File.{File}
 use Rattle.planning.specs.Inodes.{AreSpelled, with_inode_at}
 use Rattle.planning.specs.Numbers.{IsNumberPlaced}
-use Rattle.planning.specs.Progress.{AreTaken, IsExactPlane, IsMarked, IsProgress, Planned, with_file}
-use Rattle.planning.specs.Steps.{GoesOn, IsUnderWay}
+use Rattle.planning.specs.Progress.{AreTaken, IsExactPlane, IsMarked, IsProgress, PlannedInodes, with_planned_file}
+use Rattle.planning.specs.Steps.{GoesOn, IsPlanUnderWay}
 use Rattle.planning.proofs.ProgressLaws.{more_planned}
 use Rattle.planning.proofs.SpellingLaws.{PutsOneByOne, one_spelled}
 
@@ -33,13 +33,13 @@ fits_ordinary (suc (suc zero)) k low is = absurd (omega arith)
 fits_ordinary (suc (suc (suc n))) k low is = is
 
 module _ (puts : PutsOneByOne) (old mid new : Draft) (disk : Blocks) (before : ℕ → ℕ) (s : Sizes) (t : HeldTree) (found : ℕ → Content) (file changed : File) (n : ℕ) (f : Inode) (taken freed : ℕ → Bool)
-    (way : IsUnderWay old disk before s t found file) (once : NamesOnce t) (exact : IsExactPlane t before) (fresh : way.plan.changed n ≡ false) (low : 3 ≤ n) (high : n < s.inodes)
+    (way : IsPlanUnderWay old disk before s t found file) (once : NamesOnce t) (exact : IsExactPlane t before) (fresh : way.plan.changed n ≡ false) (low : 3 ≤ n) (high : n < s.inodes)
     (grows : Grows old mid) (parts : mid.map.parts.items ≡ old.map.parts.items) (given : (b : ℕ) → taken b ≡ true → WasTaken old mid b)
     (placed : OnEach mid (λ e. Agrees (Names (t n)) disk e → IsNumberPlaced s e (t n) (found n) f taken freed))
     (goes : Grows mid new) (next : new.map.next ≡ mid.map.next) (marked : IsMarked taken freed (entry_at mid.map.parts.items) (entry_at new.map.parts.items))
     (put : (i : ℕ) → file_block disk changed i ≡ with_inode_at (file_block disk file) n f i) (size : length (file_block disk file (n / 21)) ≡ 4096) (long : length (inode_bytes f) ≡ 192) where
-  abbrev after : Planned
-  after = with_file n f taken way.plan
+  abbrev after : PlannedInodes
+  after = with_planned_file n f taken way.plan
 
   earlier : (e : Blocks) → HasAll e new.blocks.items → HasAll e old.blocks.items
   earlier e has = grows.has e (goes.has e has)
@@ -73,7 +73,7 @@ module _ (puts : PutsOneByOne) (old mid new : Draft) (disk : Blocks) (before : �
   spelled_on = subst (λ (g : ℕ → List ℕ). AreSpelled s.inodes g after.inode) (sym (fun_ext put))
       (one_spelled puts s.inodes (file_block disk file) way.plan.inode n f way.spelled (omega arith) high size long)
 
-  pub goes_on : GoesOn n way.plan.changed new disk before s t found changed
+  pub goes_on : GoesOn n way.plan.changed way.plan.from new disk before s t found changed
   goes_on = record {
     way = record {
       plan = after;
@@ -82,5 +82,6 @@ module _ (puts : PutsOneByOne) (old mid new : Draft) (disk : Blocks) (before : �
       contents = contents_on;
       spelled = spelled_on;
     };
+    from_is = refl;
     more = λ k. refl;
   }

@@ -16,9 +16,8 @@ use Rattle.layout.specs.declared.inode.Body.TheVariants.{Inline, Pointers}
 use Rattle.model.specs.Volumes.{Volume}
 use Rattle.blocktree.specs.Places.{block_count}
 use Rattle.blocktree.specs.Trees.{IsChanged}
-use Rattle.conspoint.specs.Space.{block_stores, changed_blocks, sum_below}
-use Rattle.conspoint.proofs.SumLemmas.{one_more, sum_of_none}
-use Rattle.images.specs.Contents.{HoldsVolume, bytes_of, content_of, contents}
+use Rattle.conspoint.specs.Space.{block_stores, changed_blocks}
+use Rattle.images.specs.Contents.{HoldsVolume, content_bytes, content_of, tree_contents}
 use Rattle.images.specs.Nodes.{file_block}
 use Rattle.images.specs.Roots.{HeldTree}
 use Rattle.images.specs.Soundness.{IsSoundTree}
@@ -32,6 +31,8 @@ use Rattle.planning.proofs.MapLaws.{stands_none, stands_some}
 use Rattle.planning.proofs.TopLaws.{stored_most}
 use Rattle.layout.proofs.SizeLaws.{level_none}
 use Rattle.images.proofs.KindLaws.{ordinary_kind}
+use Rattle.images.specs.Sums.{sum_below}
+use Rattle.images.proofs.SumLaws.{one_more, sum_of_none}
 
 -- ---- bits and bytes
 
@@ -152,23 +153,23 @@ told_at blocks size i k ends small =
     ∙ ap (λ (x : ℕ). bit_at x (k % 8)) (byte_is blocks size ((32768 * i + k) / 8) ends ∙ ap (λ (j : ℕ). slice_index (blocks j) ((32768 * i + k) / 8 % 4096)) block ∙ ap (slice_index (blocks i)) byte)
 
 -- Numbers that count the blocks in which an object came or went count those that tell other than the settled ones.
-pub moves_told : (w : ℕ → ℕ) (s : Sizes) (t : HeldTree) (bytes : List ℕ) (first v : Volume) → IsSoundTree s t → HoldsVolume s.inodes (contents t) first → MapsVolume bytes v → CountsMoves w first v
+pub moves_told : (w : ℕ → ℕ) (s : Sizes) (t : HeldTree) (bytes : List ℕ) (first v : Volume) → IsSoundTree s t → HoldsVolume s.inodes (tree_contents t) first → MapsVolume bytes v → CountsMoves w first v
     → CountsBlocks w bytes (file_block (t 1))
 moves_told w s t bytes first v sound holds maps moves i none k small =
     let n : ℕ = 32768 * i + k in
     let at : n / 32768 ≡ i = omega (arith, small) in
     let unmoved : IsSome (first n) ↔ IsSome (v n) = moves n (ap w at ∙ none) in
-    let told : bit_at (slice_index (bytes_of (content_of (t 1))) (n / 8)) (n % 8) ≡ bit_at (slice_index (file_block (t 1) i) (k / 8)) (k % 8) =
+    let told : bit_at (slice_index (content_bytes (content_of (t 1))) (n / 8)) (n % 8) ≡ bit_at (slice_index (file_block (t 1) i) (k / 8)) (k % 8) =
     told_at (file_block (t 1)) (t 1).inode.size i k (sound.files 1).ends small in (
       λ is. (maps n).1 (elim ((sound.numbers n).0 (told ∙ is)) [
         | inl own ↦ inl own
         | inr kind ↦ elim (cases_lt n 4) [
           | inl own ↦ inl own
-          | inr high ↦ inr (unmoved.0 (stands_some (t n).inode.kind s.inodes (contents t n) (first n) (ordinary_kind n (t n).inode.kind (omega (arith, high)) (sound.kinds n)) kind (holds n)))
+          | inr high ↦ inr (unmoved.0 (stands_some (t n).inode.kind s.inodes (tree_contents t n) (first n) (ordinary_kind n (t n).inode.kind (omega (arith, high)) (sound.kinds n)) kind (holds n)))
         ]
       ]),
       λ is. sym told ∙ (sound.numbers n).1 (elim ((maps n).0 is) [
         | inl own ↦ inl own
-        | inr some ↦ inr (λ free. stands_none (t n).inode.kind s.inodes (contents t n) (first n) free (holds n) (unmoved.1 some))
+        | inr some ↦ inr (λ free. stands_none (t n).inode.kind s.inodes (tree_contents t n) (first n) free (holds n) (unmoved.1 some))
       ]),
     )

@@ -11,21 +11,24 @@ use Rattle.layout.specs.Version.{level_of}
 use Rattle.layout.specs.declared.inode.Body.{Body}
 use Rattle.layout.specs.declared.root.Root.{Root}
 use Rattle.layout.specs.declared.inode.Body.TheVariants.{Inline, Pointers}
+use Rattle.images.specs.Sums.{sum_below}
+use Rattle.images.proofs.SumLaws.{is_in_sum, one_more, sum_of_none, sums_each}
 use Rattle.blocktree.specs.Places.{block_count, depth_of}
 use Rattle.blocktree.specs.Trees.{IsChanged, IsChangedSlot, SameSettled}
 use Rattle.blocktree.specs.declared.tree.BlockTree.{BlockTree}
-use Rattle.blocktree.specs.declared.tree.Slot.TheVariants as slots
+use Rattle.blocktree.proofs.SlotLaws.{slot_is}
 use Rattle.blocktree.specs.declared.tree.Slot.{Slot}
-use Rattle.conspoint.specs.Space.{block_stores, changed_blocks, slot_stores, sum_below}
-use Rattle.conspoint.proofs.SumLemmas.{block_counts, is_in_sum, one_more, sum_of_none, sums_each}
+use Rattle.conspoint.specs.Space.{block_stores, changed_blocks}
+use Rattle.conspoint.proofs.SumLemmas.{block_counts}
 use Rattle.inode.specs.Bases.{StartsFrom, StartsUnchanged}
 use Rattle.inode.specs.declared.file.File.{File}
+use Rattle.inode.proofs.RoomLaws.{none_more}
 use Rattle.inofile.specs.Inodes as numbers
 use Rattle.inofile.specs.Inodes.{is_changed_slot}
 use Rattle.inofile.specs.declared.inode_file.InodeFile.{InodeFile}
 use Rattle.inofile.specs.declared.inode_file.Slot.TheVariants as inode_slots
 use Rattle.inofile.specs.declared.inode_file.Slot as inode_slot
-use Rattle.placement.specs.Space.{first_stores, height_stores, level_stores, more_over}
+use Rattle.placement.specs.Space.{first_stores, height_stores, level_stores}
 use Rattle.planning.specs.Inodes.{ChangesOnly, HasChange}
 use Rattle.planning.specs.Space.{number_changes, top_block, top_nodes}
 use Rattle.planning.proofs.StartLaws.{top_size}
@@ -71,16 +74,11 @@ has_change s i has = elim (cases_eq i 0) [
       rw no all
 ]
 
-stored_or_not : (s : Option Slot) → (slot_stores s ≡ 0) ⊎ IsChangedSlot s
-stored_or_not None = inl refl
-stored_or_not (Some slots.AsSettled) = inl refl
-stored_or_not (Some (slots.Changed block)) = inr tt
-
 -- what is counted of a block is one where it is changed, and else none
 pub stored_most : (t : BlockTree) (first i m : ℕ) → first ≤ i → (IsChanged t i → 1 ≤ m) → block_stores t first i ≤ m
 stored_most t first i m le counts =
     let no : nat_lt i first ≡ false = grind (arith, nat_tests, le) in
-    elim (stored_or_not (tree.get nat_cmp t.slots i)) [
+    elim (slot_is (tree.get nat_cmp t.slots i)) [
       | inl none ↦ (let is : block_stores t first i ≡ 0 = rw no none in omega (arith, is))
       | inr changed ↦ omega (arith, block_counts t first i le changed, counts changed)
     ]
@@ -126,12 +124,6 @@ pub record IsWhole (size : ℕ) (t : BlockTree) : Type 0 where
   count : t.count ≡ block_count size
   depth : t.depth ≡ depth_of size
 
-none_more : (f : File) → IsWhole f.size f.tree → more_over f ≡ 0
-none_more f whole =
-    let no : nat_lt (min f.tree.kept (block_count f.size)) f.tree.count ≡ false = grind (arith, nat_tests, whole.kept, whole.count) in
-    let yes : (f.tree.depth == depth_of f.size) ≡ true = grind (arith, nat_tests, whole.depth) in
-    rw (no, yes) refl
-
 -- of such a file at most these blocks are stored
 pub top_within : (s : InodeFile) (size : ℕ) (f : File) → f.size ≡ size → 4096 ≤ size → IsWhole f.size f.tree → ((i : ℕ) → IsChanged f.tree i → (i ≡ 0) ⊎ HasChange s i) → first_stores f ≤ top_nodes s size
 top_within s size f is large whole only =
@@ -139,7 +131,7 @@ top_within s size f is large whole only =
     let counts = top_counts s f.tree (block_count f.size) only in
     let level = level_rises (level_of f.size) (block_count f.size) (changed_blocks f.tree 1 (block_count f.size) + 1) (sum_below (top_block s) (block_count f.size)) 0 (omega (arith, counts, some)) in
     subst (λ (n : ℕ). first_stores f ≤ top_nodes s n) is
-    (subst (λ (m : ℕ). level_stores (level_of f.size) (block_count f.size) (changed_blocks f.tree 1 (block_count f.size) + 1) m ≤ top_nodes s f.size) (sym (none_more f whole)) level)
+    (subst (λ (m : ℕ). level_stores (level_of f.size) (block_count f.size) (changed_blocks f.tree 1 (block_count f.size) + 1) m ≤ top_nodes s f.size) (sym (none_more f whole.kept whole.count whole.depth)) level)
 
 -- what is loaded of a large inode
 record IsLoaded (size : ℕ) (t : BlockTree) : Type 0 where

@@ -10,7 +10,7 @@ use Rattle.layout.specs.declared.kind.Kind.{Kind}
 use Rattle.layout.specs.declared.kind.Kind.TheVariants as kinds
 use Rattle.model.specs.Volumes.{Node, file_node, link_node}
 use Rattle.blocktree.specs.Places.{block_count}
-use Rattle.images.specs.Contents.{Content, StandsAs, bytes_of}
+use Rattle.images.specs.Contents.{Content, StandsAs, content_bytes}
 use Rattle.planning.specs.Numbers.{trimmed}
 
 same_first : (f g : ℕ → ℕ) (n : ℕ) → ((p : ℕ) → p < n → f p ≡ g p) → first_bytes f n ≡ first_bytes g n
@@ -20,7 +20,7 @@ same_first f g n same = fill_by_all g (first_bytes f n) n 0 (length-map-range_wi
 block_same : (c : Content) (i : ℕ) → i < block_count c.size → (trimmed c).block i ≡ c.block i
 block_same c i lt = sym (cond_below i (block_count c.size) (c.block i) (zeros 4096) lt)
 
-bytes_same : (c : Content) → bytes_of (trimmed c) ≡ bytes_of c
+bytes_same : (c : Content) → content_bytes (trimmed c) ≡ content_bytes c
 bytes_same c = same_first (byte_in (trimmed c).block) (byte_in c.block) c.size
     (λ p lt. ap (λ (b : List ℕ). slice_index b (p % 4096)) (block_same c (p / 4096) (omega arith)))
 

@@ -1,5 +1,5 @@
 -- The parts of a whole plan, put together.
-use Rattle.std.proofs.Common.{◌≡◌, ◌↔◌, inl, inr, ℕ, ◌-◌, ◌*◌, ◌/◌, ◌%◌, ◌<◌, ◌≤◌, Bool, true, false, List, length, drop, refl, ap, sym, subst, ◌∙◌, arith}
+use Rattle.std.proofs.Common.{◌≡◌, ◌≢◌, ◌↔◌, inl, inr, ℕ, ◌+◌, ◌-◌, ◌*◌, ◌/◌, ◌%◌, ◌<◌, ◌≤◌, Bool, true, false, List, length, drop, refl, ap, sym, subst, ◌∙◌, arith}
 use Rattle.std.proofs.Math.Path.{fun_ext}
 use Rattle.std.proofs.lemmas.Bool.{cases_eq, cases_lt, cond-true, cond-false, cond_below, cond_above, eq-eqb, ne_eqb, cases_Bool}
 use Rattle.std.specs.Int.{div_ceil}
@@ -11,9 +11,11 @@ use Rattle.layout.specs.Places.{Blocks}
 use Rattle.layout.specs.declared.inode.Inode.{Inode}
 use Rattle.blocktree.specs.Places.{block_count}
 use Rattle.conspoint.specs.Drafts.{Grows, HasAll, OnEach}
+use Rattle.conspoint.specs.Space.{TakesAtMost}
 use Rattle.conspoint.specs.declared.draft.Draft.{Draft}
+use Rattle.conspoint.proofs.DraftLemmas.{grows_twice}
 use Rattle.images.specs.Contents.{Content, content_of}
-use Rattle.images.specs.InodeFiles.{put_at}
+use Rattle.images.specs.InodeFiles.{spliced_at}
 use Rattle.images.specs.Nodes.{held, Agrees}
 use Rattle.images.specs.Nodes as nodes
 use Rattle.images.specs.Roots.{HeldTree, Reach, inode_bytes_at, inode_part}
@@ -24,7 +26,8 @@ use Rattle.inofile.specs.declared.inode_file.InodeFile.{InodeFile}
 use Rattle.placement.specs.Files.{object_block}
 use Rattle.planning.specs.Inodes.{AreSpelled, with_inode_at, with_number}
 use Rattle.planning.specs.Plans.{HasBlockMap, HasInodeMap, HasTop, IsAllPlanned, OnEachOver}
-use Rattle.planning.specs.Progress.{Planned, with_file}
+use Rattle.planning.specs.Progress.{PlannedInodes, with_planned_file}
+use Rattle.planning.specs.Space.{CountsBlocks, map_stores, nodes_below, top_nodes}
 use Rattle.planning.proofs.SpellingLaws.{PutsOneByOne, one_spelled}
 use Rattle.images.proofs.EmptyLaws.{part_zeros, behind_zeros}
 
@@ -59,17 +62,18 @@ module _ (inodes count : ℕ) (block : ℕ → List ℕ) (inode : ℕ → Inode)
 
 -- ---- all parts
 
-module _ (puts : PutsOneByOne) (low mid last : Draft) (disk : Blocks) (before : ℕ → ℕ) (s : Sizes) (t : HeldTree) (found : ℕ → Content) (inodes : InodeFile) (top : Object) (f map : Inode) (first : ℕ) (block : List ℕ)
+module _ (puts : PutsOneByOne) (start low mid last : Draft) (disk : Blocks) (before : ℕ → ℕ) (s : Sizes) (t : HeldTree) (found : ℕ → Content) (inodes : InodeFile) (top : Object) (f map : Inode) (first : ℕ) (block : List ℕ)
     (changed : ℕ → Bool) (just : (n : ℕ) → (changed n ≡ true) ↔ IsChanged inodes n) (within : (n : ℕ) → IsChanged inodes n → n < s.inodes) (least : 3 ≤ s.inodes)
-    (numbers : HasInodeMap inodes.numbers.bytes.items changed low disk before s t found top.file) (has_top : HasTop numbers.way.plan mid disk before s t top f first)
-    (has_map : HasBlockMap (with_file 0 f has_top.taken numbers.way.plan) last disk before s t map) (size : top.file.size ≡ 4096 * div_ceil s.inodes 21)
-    (one : Grows low mid) (two : Grows mid last) (stored : OnEach last (λ e. e first ≡ block))
-    (put : block ≡ put_at (192 * (2 % 21)) (inode_bytes map) (file_block disk top.file (2 / 21))) (whole : length (file_block disk top.file (2 / 21)) ≡ 4096) (long : length (inode_bytes map) ≡ 192) where
-  abbrev p : Planned
+    (numbers : HasInodeMap inodes.numbers.bytes.items changed start.map.next low disk before s t found top.file) (has_top : HasTop numbers.way.plan mid disk before s t top f first)
+    (has_map : HasBlockMap mid (with_planned_file 0 f has_top.taken numbers.way.plan) last disk before s t map) (size : top.file.size ≡ 4096 * div_ceil s.inodes 21)
+    (begun : Grows start low) (one : Grows low mid) (two : Grows mid last)
+    (few : (w : ℕ → ℕ) → CountsBlocks w inodes.numbers.bytes.items (nodes.file_block (t 1)) → TakesAtMost (nodes_below inodes inodes.geometry.inodes + map_stores w inodes + top_nodes inodes (t 0).inode.size) start mid) (stored : OnEach last (λ e. e first ≡ block))
+    (put : block ≡ spliced_at (192 * (2 % 21)) (inode_bytes map) (file_block disk top.file (2 / 21))) (whole : length (file_block disk top.file (2 / 21)) ≡ 4096) (long : length (inode_bytes map) ≡ 192) where
+  abbrev p : PlannedInodes
   p = numbers.way.plan
 
-  abbrev q : Planned
-  q = with_file 2 map has_map.taken (with_file 0 f has_top.taken p)
+  abbrev q : PlannedInodes
+  q = with_planned_file 2 map has_map.taken (with_planned_file 0 f has_top.taken p)
 
   at_mid : (e : Blocks) → HasAll e last.blocks.items → HasAll e mid.blocks.items
   at_mid e has = two.has e has
@@ -80,7 +84,7 @@ module _ (puts : PutsOneByOne) (low mid last : Draft) (disk : Blocks) (before : 
   -- which are changed
   as_before : (n : ℕ) → 3 ≤ n → q.changed n ≡ changed n
   as_before n least =
-      cond-false (n == 2) true ((with_file 0 f has_top.taken p).changed n) (ne_eqb n 2 (λ is. absurd (omega arith)))
+      cond-false (n == 2) true ((with_planned_file 0 f has_top.taken p).changed n) (ne_eqb n 2 (λ is. absurd (omega arith)))
       ∙ cond-false (n == 0) true (p.changed n) (ne_eqb n 0 (λ is. absurd (omega arith)))
       ∙ numbers.others n (λ is. absurd (omega arith))
 
@@ -92,12 +96,12 @@ module _ (puts : PutsOneByOne) (low mid last : Draft) (disk : Blocks) (before : 
 
   inode_there : (n : ℕ) → 3 ≤ n → q.inode n ≡ p.inode n
   inode_there n least =
-      cond-false (n == 2) map ((with_file 0 f has_top.taken p).inode n) (ne_eqb n 2 (λ is. absurd (omega arith)))
+      cond-false (n == 2) map ((with_planned_file 0 f has_top.taken p).inode n) (ne_eqb n 2 (λ is. absurd (omega arith)))
       ∙ cond-false (n == 0) f (p.inode n) (ne_eqb n 0 (λ is. absurd (omega arith)))
 
   changed_there : (n : ℕ) → 3 ≤ n → q.changed n ≡ p.changed n
   changed_there n least =
-      cond-false (n == 2) true ((with_file 0 f has_top.taken p).changed n) (ne_eqb n 2 (λ is. absurd (omega arith)))
+      cond-false (n == 2) true ((with_planned_file 0 f has_top.taken p).changed n) (ne_eqb n 2 (λ is. absurd (omega arith)))
       ∙ cond-false (n == 0) true (p.changed n) (ne_eqb n 0 (λ is. absurd (omega arith)))
 
   contents_all : OnEachOver t disk last (λ e. (n : ℕ) → 3 ≤ n → q.changed n ≡ true → content_of (held e (q.inode n)) ≡ found n)
@@ -121,11 +125,11 @@ module _ (puts : PutsOneByOne) (low mid last : Draft) (disk : Blocks) (before : 
   blocks_all e has agrees i = elim (cases_eq i 0) [
     | inl is ↦
         has_top.blocks e (at_mid e has) agrees i ∙ cond-true (i == 0) (e first) (kept i) (eq-eqb i 0 is) ∙ stored e has ∙ put
-        ∙ ap (put_at (192 * (2 % 21)) (inode_bytes map)) (sym first_there)
-        ∙ sym (cond-true (i == 2 / 21) (put_at (192 * (2 % 21)) (inode_bytes map) (kept (2 / 21))) (kept i) (eq-eqb i 0 is))
+        ∙ ap (spliced_at (192 * (2 % 21)) (inode_bytes map)) (sym first_there)
+        ∙ sym (cond-true (i == 2 / 21) (spliced_at (192 * (2 % 21)) (inode_bytes map) (kept (2 / 21))) (kept i) (eq-eqb i 0 is))
     | inr other ↦
         has_top.blocks e (at_mid e has) agrees i ∙ cond-false (i == 0) (e first) (kept i) (ne_eqb i 0 other)
-        ∙ sym (cond-false (i == 2 / 21) (put_at (192 * (2 % 21)) (inode_bytes map) (kept (2 / 21))) (kept i) (ne_eqb i 0 other))
+        ∙ sym (cond-false (i == 2 / 21) (spliced_at (192 * (2 % 21)) (inode_bytes map) (kept (2 / 21))) (kept i) (ne_eqb i 0 other))
   ]
 
   with_map : AreSpelled s.inodes (with_inode_at kept 2 map) (with_number p.inode 2 map)
@@ -133,10 +137,10 @@ module _ (puts : PutsOneByOne) (low mid last : Draft) (disk : Blocks) (before : 
 
   number_is : (n : ℕ) → 1 ≤ n → with_number p.inode 2 map n ≡ q.inode n
   number_is n low = elim (cases_eq n 2) [
-    | inl is ↦ cond-true (n == 2) map (p.inode n) (eq-eqb n 2 is) ∙ sym (cond-true (n == 2) map ((with_file 0 f has_top.taken p).inode n) (eq-eqb n 2 is))
+    | inl is ↦ cond-true (n == 2) map (p.inode n) (eq-eqb n 2 is) ∙ sym (cond-true (n == 2) map ((with_planned_file 0 f has_top.taken p).inode n) (eq-eqb n 2 is))
     | inr other ↦
         cond-false (n == 2) map (p.inode n) (ne_eqb n 2 other)
-        ∙ sym (cond-false (n == 2) map ((with_file 0 f has_top.taken p).inode n) (ne_eqb n 2 other) ∙ cond-false (n == 0) f (p.inode n) (ne_eqb n 0 (λ is. absurd (omega arith))))
+        ∙ sym (cond-false (n == 2) map ((with_planned_file 0 f has_top.taken p).inode n) (ne_eqb n 2 other) ∙ cond-false (n == 0) f (p.inode n) (ne_eqb n 0 (λ is. absurd (omega arith))))
   ]
 
   spelled_all : OnEachOver t disk last (λ e. AreSpelled s.inodes (nodes.file_block (held e f)) q.inode)
@@ -148,7 +152,18 @@ module _ (puts : PutsOneByOne) (low mid last : Draft) (disk : Blocks) (before : 
         behind = with_map.behind;
       })
 
-  pub all_planned : IsAllPlanned last disk before s t found inodes f
+  to_mid : Grows start mid
+  to_mid = grows_twice start low mid begun one
+
+  from_all : OnEachOver t disk last (λ e. (n b : ℕ) → q.taken n b ≡ true → start.map.next ≤ b)
+  from_all e has agrees n b is = let high = (has_map.progress e has agrees).behind n b is in omega (arith, high, numbers.from_is)
+
+  below_all : OnEachOver t disk last (λ e. (n b : ℕ) → n ≢ 2 → q.taken n b ≡ true → b < mid.map.next)
+  below_all e has agrees n b other is =
+      (has_top.progress e (at_mid e has) agrees).below n b
+      (sym (ap (λ g. g b) (cond-false (n == 2) has_map.taken ((with_planned_file 0 f has_top.taken p).taken n) (ne_eqb n 2 other))) ∙ is)
+
+  pub all_planned : IsAllPlanned start last disk before s t found inodes f
   all_planned = record {
     plan = q;
     top_is = refl;
@@ -160,4 +175,12 @@ module _ (puts : PutsOneByOne) (low mid last : Draft) (disk : Blocks) (before : 
     spelled = spelled_all;
     inode_map = λ e has agrees. numbers.map e (at_low e has) agrees;
     block_map = has_map.map;
+    middle = mid;
+    begins = to_mid;
+    goes_on = two;
+    few = few;
+    from = from_all;
+    below = below_all;
+    first_taken = λ e has agrees. has_top.first_taken e (at_mid e has) agrees;
+    anew = λ touched. has_map.anew (λ j lt. to_mid.settled.touched j (touched j (omega (arith, lt, to_mid.settled.count))));
   }

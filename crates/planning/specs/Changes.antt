@@ -1,9 +1,11 @@
 -- What a consistency point does with the snapshots, and what that makes of the slots and of the block map's sets.
-use Rattle.std.specs.Prelude.{ℕ, ◌≡◌, ◌≢◌, ◌≤◌, length}
+use Rattle.std.specs.Prelude.{ℕ, ◌≡◌, ◌≢◌, ◌<◌, ◌≤◌, length}
 use Rattle.std.specs.Int.{bit_at}
 use Rattle.blockmap.specs.declared.map.TheConstants.{SYSTEM_SET}
 use Rattle.conspoint.specs.Drafts.{OnEach}
+use Rattle.conspoint.specs.MapFiles.{AreTouched}
 use Rattle.conspoint.specs.declared.draft.Draft.{Draft}
+use Rattle.images.specs.Room.{IsNewHead}
 use Rattle.images.specs.Roots.{slot}
 use Rattle.images.specs.SnapshotSteps.{SnapshotStep, unchanged, taken, deleted, HasHead, IsSlotNumber, StepsSlots}
 use Rattle.layout.specs.declared.pointer.Pointer.{Pointer}
@@ -55,6 +57,16 @@ pub record StepsEntries (step : SnapshotStep) (r new : Root) (settled before aft
 pub record MakesStep (step : SnapshotStep) (r new : Root) (d : Draft) : Type 0 where
   pub slots : StepsSlots step r new
   pub head : OnEach d (HasHead step new)
+
+-- the root block of a new snapshot was given out, and each block of the map is to be stored then
+abbrev pub HasHeads : Root → Root → Draft → Type 0
+HasHeads r new d = (k b : ℕ) → IsNewHead r new k b → (b < d.map.next) × AreTouched d.map.parts.items
+
+-- no snapshot is taken
+abbrev pub TakesNone : SnapshotStep → Type 0
+TakesNone unchanged = Unit {0}
+TakesNone (taken k s) = ⊥
+TakesNone (deleted k name) = Unit {0}
 
 -- how many blocks a change stores by itself
 abbrev pub head_nodes : SnapshotChange → ℕ

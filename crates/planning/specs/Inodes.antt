@@ -6,7 +6,7 @@ use Rattle.layout.specs.declared.TheConstants.{BLOCK_BYTES, INODE_BYTES, INODES_
 use Rattle.layout.specs.declared.inode.Inode.{Inode}
 use Rattle.blocktree.specs.Trees.{IsChanged, KeepsSound, SameSettled}
 use Rattle.blocktree.specs.declared.tree.BlockTree.{BlockTree}
-use Rattle.images.specs.InodeFiles.{put_at}
+use Rattle.images.specs.InodeFiles.{spliced_at}
 use Rattle.images.specs.Roots.{inode_bytes_at}
 use Rattle.inode.specs.declared.file.File.{File}
 use Rattle.inofile.specs.Inodes as numbers
@@ -24,7 +24,7 @@ pub record AreSpelled (inodes : ℕ) (block : ℕ → List ℕ) (inode : ℕ →
 abbrev pub with_inode_at : (ℕ → List ℕ) → ℕ → Inode → ℕ → List ℕ
 with_inode_at block n f i =
     if i == n / INODES_PER_BLOCK
-    then put_at (INODE_BYTES * (n % INODES_PER_BLOCK)) (inode_bytes f) (block (n / INODES_PER_BLOCK))
+    then spliced_at (INODE_BYTES * (n % INODES_PER_BLOCK)) (inode_bytes f) (block (n / INODES_PER_BLOCK))
     else block i
 
 -- these inodes with that of a number

@@ -1,25 +1,29 @@
 -- What a whole plan starts from, and what its parts come to.
-use Rattle.std.specs.Prelude.{ℕ, ◌≡◌, ◌≢◌, ◌↔◌, ◌*◌, ◌/◌, ◌%◌, ◌<◌, ◌≤◌, Bool, true, false, List, length}
+use Rattle.std.specs.Prelude.{ℕ, ◌≡◌, ◌≢◌, ◌↔◌, ◌+◌, ◌*◌, ◌/◌, ◌%◌, ◌<◌, ◌≤◌, Bool, true, false, List, length}
 use Rattle.layout.specs.Inode.{inode_bytes}
 use Rattle.layout.specs.Limits.{Sizes}
 use Rattle.layout.specs.Maps.{map_entry}
 use Rattle.layout.specs.Places.{Blocks, blocks_of}
 use Rattle.layout.specs.declared.TheConstants.{BLOCK_BYTES, INODE_BYTES, INODES_PER_BLOCK}
 use Rattle.layout.specs.declared.inode.Inode.{Inode}
+use Rattle.layout.specs.declared.pointer.Pointer.TheVariants.{Block}
 use Rattle.layout.specs.declared.root.Root.{Root}
 use Rattle.model.specs.Paths.{Name}
 use Rattle.model.specs.Trees.{Tree}
 use Rattle.model.specs.Volumes.{IsVolume, Volume}
 use Rattle.blockmap.specs.Maps.{entry_at, settled_at}
 use Rattle.blockmap.specs.declared.map.BlockMap.{BlockMap}
-use Rattle.conspoint.specs.Drafts.{HasAll, OnEach}
+use Rattle.conspoint.specs.Drafts.{Grows, HasAll, OnEach}
+use Rattle.conspoint.specs.MapFiles.{AreTouched}
 use Rattle.conspoint.specs.Plans as plans
+use Rattle.conspoint.specs.Space.{TakesAtMost}
 use Rattle.conspoint.specs.declared.draft.Draft.{Draft}
 use Rattle.images.specs.BlockMap.{entry}
-use Rattle.images.specs.Contents.{Content, bytes_of, content_of}
+use Rattle.images.specs.Contents.{Content, content_bytes, content_of}
 use Rattle.images.specs.Cuts.{IsOtherSlot}
-use Rattle.images.specs.InodeFiles.{put_at}
-use Rattle.images.specs.Nodes.{Agrees, Held, file_block, held}
+use Rattle.images.specs.InodeFiles.{spliced_at}
+use Rattle.images.specs.Nodes.{Agrees, Held, Names, file_block, held}
+use Rattle.images.specs.Room.{TakesFirst}
 use Rattle.images.specs.Roots.{HeldTree, Needs, Reach, whole}
 use Rattle.images.specs.Soundness.{HasNoHole, IsSoundTree}
 use Rattle.images.specs.States.{Holds}
@@ -30,10 +34,13 @@ use Rattle.inofile.specs.Inodes.{IsChanged, files_of}
 use Rattle.inofile.specs.Volumes.{IsVolumeOf}
 use Rattle.inofile.specs.declared.inode_file.InodeFile.{InodeFile}
 use Rattle.placement.specs.Files.{object_block, with_first}
+use Rattle.planning.specs.Changes.{HasHeads, head_nodes}
 use Rattle.planning.specs.Inodes.{AreSpelled}
 use Rattle.planning.specs.Numbers.{trimmed}
-use Rattle.planning.specs.Progress.{IsProgress, KeepsActive, Planned, with_file}
-use Rattle.planning.specs.Steps.{IsOverTree, IsUnderWay, settled_tree}
+use Rattle.planning.specs.Progress.{IsProgress, KeepsActive, PlannedInodes, with_planned_file}
+use Rattle.planning.specs.Space.{CountsBlocks, map_stores, nodes_below, top_nodes}
+use Rattle.planning.specs.Steps.{IsOverTree, IsPlanUnderWay, settled_tree}
+use Rattle.planning.specs.declared.change.SnapshotChange.{SnapshotChange}
 
 -- no entry of the map is changed since the root
 abbrev pub IsClean : BlockMap → Type 0
@@ -74,26 +81,28 @@ abbrev pub OnEachOver : HeldTree → Blocks → Draft → (Blocks → Type 0) �
 OnEachOver t disk d P = OnEach d (λ e. Agrees (Reach t) disk e → P e)
 
 -- what is planned so far holds on each of these
-abbrev pub Progresses : Draft → Blocks → (ℕ → ℕ) → Sizes → HeldTree → Planned → Type 0
+abbrev pub Progresses : Draft → Blocks → (ℕ → ℕ) → Sizes → HeldTree → PlannedInodes → Type 0
 Progresses d disk before s t p =
     OnEachOver t disk d (λ e. IsProgress s t e d.map.next before (entry_at d.map.parts.items) p)
 
 -- a file that is an inode map with these bytes
 pub record IsInodeMapOn (bytes : List ℕ) (h : Held) : Type 0 where
-  pub bytes_are : bytes_of (content_of h) ≡ bytes
+  pub bytes_are : content_bytes (content_of h) ≡ bytes
   pub no_hole : HasNoHole h
 
 -- The inode map is planned too, with these bytes; which other numbers are changed stays.
-pub record HasInodeMap (bytes : List ℕ) (changed : ℕ → Bool) (d : Draft) (disk : Blocks) (before : ℕ → ℕ) (s : Sizes) (t : HeldTree) (found : ℕ → Content) (file : File) : Type 0 where
-  pub way : IsUnderWay d disk before s t found file
+pub record HasInodeMap (bytes : List ℕ) (changed : ℕ → Bool) (from : ℕ) (d : Draft) (disk : Blocks) (before : ℕ → ℕ) (s : Sizes) (t : HeldTree) (found : ℕ → Content) (file : File) : Type 0 where
+  pub way : IsPlanUnderWay d disk before s t found file
+  pub from_is : way.plan.from ≡ from
   pub others : (k : ℕ) → k ≢ 1 → way.plan.changed k ≡ changed k
   pub map : OnEachOver t disk d (λ e. IsInodeMapOn bytes (held e (way.plan.inode 1)))
 
 -- The inode file is planned with this inode, but for the bytes of its first block: its blocks are those in memory, and first the one
 -- that is put there.
-pub record HasTop (p : Planned) (d : Draft) (disk : Blocks) (before : ℕ → ℕ) (s : Sizes) (t : HeldTree) (top : Object) (f : Inode) (first : ℕ) : Type 0 where
+pub record HasTop (p : PlannedInodes) (d : Draft) (disk : Blocks) (before : ℕ → ℕ) (s : Sizes) (t : HeldTree) (top : Object) (f : Inode) (first : ℕ) : Type 0 where
   pub taken : ℕ → Bool
-  pub progress : Progresses d disk before s t (with_file 0 f taken p)
+  pub progress : Progresses d disk before s t (with_planned_file 0 f taken p)
+  pub first_taken : OnEachOver t disk d (λ e. (b : ℕ) → (held e f).place 0 0 ≡ Block b → taken b ≡ true)
   pub blocks : OnEachOver t disk d (λ e. (i : ℕ)
       → file_block (held e f) i ≡ with_first (e first) (object_block disk top) i)
 
@@ -102,30 +111,32 @@ pub record IsBlockMapOn (entry_of : ℕ → ℕ) (h : Held) : Type 0 where
   pub entries : (b : ℕ) → map_entry (file_block h (b / 1024)) (b % 1024) ≡ entry_of b
   pub no_hole : HasNoHole h
 
--- The block map is planned with this inode.
-pub record HasBlockMap (p : Planned) (d : Draft) (disk : Blocks) (before : ℕ → ℕ) (s : Sizes) (t : HeldTree) (f : Inode) : Type 0 where
+-- The block map is planned with this inode. Where each of its blocks was to be stored before, its whole file is taken.
+pub record HasBlockMap (start : Draft) (p : PlannedInodes) (d : Draft) (disk : Blocks) (before : ℕ → ℕ) (s : Sizes) (t : HeldTree) (f : Inode) : Type 0 where
   pub taken : ℕ → Bool
-  pub progress : Progresses d disk before s t (with_file 2 f taken p)
+  pub progress : Progresses d disk before s t (with_planned_file 2 f taken p)
   pub map : OnEachOver t disk d (λ e. IsBlockMapOn (entry_at d.map.parts.items) (held e f))
+  pub anew : AreTouched start.map.parts.items → OnEachOver t disk d (λ e. (b : ℕ) → Names (held e f) b → taken b ≡ true)
 
 -- The block map is planned, and the inode file's first block: that of memory with the map's inode in its place.
-pub record HasLast (p : Planned) (d : Draft) (disk : Blocks) (before : ℕ → ℕ) (s : Sizes) (t : HeldTree) (file : File) (first : ℕ) : Type 0 where
+pub record HasLast (start : Draft) (p : PlannedInodes) (d : Draft) (disk : Blocks) (before : ℕ → ℕ) (s : Sizes) (t : HeldTree) (file : File) (first : ℕ) : Type 0 where
   pub map : Inode
-  pub planned : HasBlockMap p d disk before s t map
-  pub put : OnEach d (λ e. e first ≡ put_at (INODE_BYTES * (2 % INODES_PER_BLOCK)) (inode_bytes map) (changed_block disk file (2 / INODES_PER_BLOCK)))
+  pub planned : HasBlockMap start p d disk before s t map
+  pub put : OnEach d (λ e. e first ≡ spliced_at (INODE_BYTES * (2 % INODES_PER_BLOCK)) (inode_bytes map) (changed_block disk file (2 / INODES_PER_BLOCK)))
   pub whole : length (changed_block disk file (2 / INODES_PER_BLOCK)) ≡ BLOCK_BYTES
   pub long : length (inode_bytes map) ≡ INODE_BYTES
 
 -- Just the numbers that are changed in memory are planned, and the inode map.
-pub record HasNumbers (d : Draft) (disk : Blocks) (settled : ℕ → Inode) (before : ℕ → ℕ) (inodes : InodeFile) (file : File) : Type 0 where
+pub record PlansNumbers (from : ℕ) (d : Draft) (disk : Blocks) (settled : ℕ → Inode) (before : ℕ → ℕ) (inodes : InodeFile) (file : File) : Type 0 where
   pub changed : ℕ → Bool
   pub just : (n : ℕ) → (changed n ≡ true) ↔ IsChanged inodes n
-  pub map : HasInodeMap inodes.numbers.bytes.items changed d disk before inodes.geometry (settled_tree disk settled)
+  pub map : HasInodeMap inodes.numbers.bytes.items changed from d disk before inodes.geometry (settled_tree disk settled)
       (λ n. trimmed (files_of disk settled inodes n)) file
 
--- All that changed in memory is planned, with this inode of the inode file.
-pub record IsAllPlanned (d : Draft) (disk : Blocks) (before : ℕ → ℕ) (s : Sizes) (t : HeldTree) (found : ℕ → Content) (inodes : InodeFile) (top : Inode) : Type 0 where
-  pub plan : Planned
+-- All that changed in memory is planned, with this inode of the inode file. All blocks but the block map's were taken before a draft in
+-- the middle, and so many at the most.
+pub record IsAllPlanned (start d : Draft) (disk : Blocks) (before : ℕ → ℕ) (s : Sizes) (t : HeldTree) (found : ℕ → Content) (inodes : InodeFile) (top : Inode) : Type 0 where
+  pub plan : PlannedInodes
   pub top_is : plan.inode 0 ≡ top
   pub first : plan.changed 0 ≡ true
   pub progress : Progresses d disk before s t plan
@@ -136,3 +147,22 @@ pub record IsAllPlanned (d : Draft) (disk : Blocks) (before : ℕ → ℕ) (s : 
   pub spelled : OnEachOver t disk d (λ e. AreSpelled s.inodes (file_block (held e top)) plan.inode)
   pub inode_map : OnEachOver t disk d (λ e. IsInodeMapOn inodes.numbers.bytes.items (held e (plan.inode 1)))
   pub block_map : OnEachOver t disk d (λ e. IsBlockMapOn (entry_at d.map.parts.items) (held e (plan.inode 2)))
+  pub middle : Draft
+  pub begins : Grows start middle
+  pub goes_on : Grows middle d
+  pub few : (w : ℕ → ℕ) → CountsBlocks w inodes.numbers.bytes.items (file_block (t 1))
+      → TakesAtMost (nodes_below inodes inodes.geometry.inodes + map_stores w inodes + top_nodes inodes (t 0).inode.size) start middle
+  pub from : OnEachOver t disk d (λ e. (n b : ℕ) → plan.taken n b ≡ true → start.map.next ≤ b)
+  pub below : OnEachOver t disk d (λ e. (n b : ℕ) → n ≢ 2 → plan.taken n b ≡ true → b < middle.map.next)
+  pub first_taken : OnEachOver t disk d (λ e. TakesFirst (λ n. held e (plan.inode n)) plan.taken)
+  pub anew : AreTouched start.map.parts.items
+      → OnEachOver t disk d (λ e. (b : ℕ) → Names (held e (plan.inode 2)) b → plan.taken 2 b ≡ true)
+
+-- The whole plan, of which the part of the snapshots comes first: of a new one the root block lies before all that is taken then, and the
+-- whole block map is to be stored.
+pub record IsRootPlanned (change : SnapshotChange) (root new : Root) (old d : Draft) (disk : Blocks) (before : ℕ → ℕ) (s : Sizes) (t : HeldTree) (found : ℕ → Content) (inodes : InodeFile) : Type 0 where
+  pub start : Draft
+  pub grows : Grows old start
+  pub takes : TakesAtMost (head_nodes change) old start
+  pub heads : HasHeads root new start
+  pub all : IsAllPlanned start d disk before s t found inodes new.inode_file

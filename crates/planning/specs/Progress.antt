@@ -4,29 +4,32 @@ use Rattle.std.specs.Int.{bit_at}
 use Rattle.layout.specs.Limits.{Sizes}
 use Rattle.layout.specs.Places.{Blocks}
 use Rattle.layout.specs.declared.inode.Inode.{Inode}
-use Rattle.images.specs.Nodes.{held, Names, IsOnce}
+use Rattle.layout.specs.declared.pointer.Pointer.TheVariants.{Block}
+use Rattle.images.specs.Nodes.{held, IsOnce}
 use Rattle.images.specs.Roots.{HeldTree, Reach}
 use Rattle.images.specs.BlockMap.{HasBit}
-use Rattle.images.specs.Points.{Marks}
+use Rattle.images.specs.Points.{MarksPlane}
 use Rattle.images.specs.Soundness.{IsSoundFile, FitsNumber}
 
--- the new inode of each number, which of them are changed, and the blocks that were taken for each
-pub record Planned : Type 0 where
+-- the new inode of each number, which of them are changed, and the blocks that were taken for each, none of them before this one
+pub record PlannedInodes : Type 0 where
   pub inode : ℕ → Inode
   pub changed : ℕ → Bool
   pub taken : ℕ → ℕ → Bool
+  pub from : ℕ
 
 -- nothing is planned over a tree
-abbrev pub unplanned : HeldTree → Planned
-unplanned t = record { inode = λ n. (t n).inode; changed = λ n. false; taken = λ n b. false }
+abbrev pub unplanned : ℕ → HeldTree → PlannedInodes
+unplanned from t = record { inode = λ n. (t n).inode; changed = λ n. false; taken = λ n b. false; from = from }
 
 -- one number more, with its new inode and the blocks that were taken for it
-abbrev pub with_file : ℕ → Inode → (ℕ → Bool) → Planned → Planned
-with_file n f taken p =
+abbrev pub with_planned_file : ℕ → Inode → (ℕ → Bool) → PlannedInodes → PlannedInodes
+with_planned_file n f taken p =
     record {
       inode = λ k. if k == n then f else p.inode k;
       changed = λ k. if k == n then true else p.changed k;
       taken = λ k. if k == n then taken else p.taken k;
+      from = p.from;
     }
 
 -- of no block the sets but the active tree's change
@@ -43,17 +46,19 @@ pub record IsMarked (taken freed : ℕ → Bool) (before after : ℕ → ℕ) : 
   pub others : KeepsSets before after
 
 -- What holds of what is planned so far, on a disk e that has the blocks planned for it: of each changed number, of each other
--- one, of the blocks that were taken, below this one, and of set 0 of the map, as it was settled and as it is now.
-pub record IsProgress (s : Sizes) (t : HeldTree) (e : Blocks) (next : ℕ) (before after : ℕ → ℕ) (p : Planned) : Type 0 where
-  pub comes : (n b : ℕ) → p.changed n ≡ true → Names (held e (p.inode n)) b → Names (t n) b ⊎ (p.taken n b ≡ true)
+-- one, of the blocks that were taken, all before this one, and of set 0 of the map, as it was settled and as it is now.
+pub record IsProgress (s : Sizes) (t : HeldTree) (e : Blocks) (next : ℕ) (before after : ℕ → ℕ) (p : PlannedInodes) : Type 0 where
+  pub moves : (n m i b : ℕ) → p.changed n ≡ true → (held e (p.inode n)).place m i ≡ Block b → ((t n).place m i ≡ Block b) ⊎ (p.taken n b ≡ true)
   pub each : (n : ℕ) → p.changed n ≡ true → IsOnce (held e (p.inode n))
   pub sound : (n : ℕ) → p.changed n ≡ true → IsSoundFile s (held e (p.inode n))
   pub kinds : (n : ℕ) → p.changed n ≡ true → FitsNumber n (p.inode n).kind
   pub stays : (n : ℕ) → p.changed n ≡ false → p.inode n ≡ (t n).inode
   pub free : (n b : ℕ) → p.taken n b ≡ true → before b ≡ 0
+  pub starts : p.from ≤ next
+  pub behind : (n b : ℕ) → p.taken n b ≡ true → p.from ≤ b
   pub below : (n b : ℕ) → p.taken n b ≡ true → b < next
   pub once : (n m b : ℕ) → p.taken n b ≡ true → p.taken m b ≡ true → n ≡ m
-  pub marks : Marks p.changed t 0 (λ n. held e (p.inode n)) before after
+  pub marks : MarksPlane p.changed t 0 (λ n. held e (p.inode n)) before after
 
 -- the blocks that are taken for a number were free, and were given out after those before
 pub record AreTaken (low high : ℕ) (before : ℕ → ℕ) (taken : ℕ → Bool) : Type 0 where

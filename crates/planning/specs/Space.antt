@@ -8,9 +8,9 @@ use Rattle.layout.specs.Maps.{IsTaken}
 use Rattle.layout.specs.Version.{level_of}
 use Rattle.model.specs.Volumes.{Volume}
 use Rattle.layout.specs.declared.root.Root.{Root}
+use Rattle.images.specs.Sums.{sum_below}
 use Rattle.blocktree.specs.Places.{block_count}
 use Rattle.conspoint.specs.MapFiles.{map_nodes}
-use Rattle.conspoint.specs.Space.{sum_below}
 use Rattle.inofile.specs.Inodes.{is_changed_slot}
 use Rattle.inofile.specs.declared.inode_file.Slot.{Slot}
 use Rattle.inofile.specs.declared.inode_file.Slot.TheVariants.{AsSettled, Loaded, Changed}

@@ -18,7 +18,7 @@ use Rattle.inofile.specs.Volumes.{IsVolumeOf}
 use Rattle.inofile.specs.declared.inode_file.InodeFile.{InodeFile}
 use Rattle.planning.specs.Inodes.{AreSpelled}
 use Rattle.planning.specs.Numbers.{trimmed}
-use Rattle.planning.specs.Progress.{IsExactPlane, IsProgress, Planned}
+use Rattle.planning.specs.Progress.{IsExactPlane, IsProgress, PlannedInodes}
 
 -- the tree of settled inodes
 abbrev pub settled_tree : Blocks → (ℕ → Inode) → HeldTree
@@ -33,19 +33,21 @@ pub record IsOverTree (count : ℕ) (disk : Blocks) (settled : ℕ → Inode) (i
 
 -- On each disk that has the blocks planned so far, and those of the settled tree: what is planned holds, and the changed files are
 -- these. And the changed inode file spells the new inodes.
-pub record IsUnderWay (d : Draft) (disk : Blocks) (before : ℕ → ℕ) (s : Sizes) (t : HeldTree) (found : ℕ → Content) (file : File) : Type 0 where
-  pub plan : Planned
+pub record IsPlanUnderWay (d : Draft) (disk : Blocks) (before : ℕ → ℕ) (s : Sizes) (t : HeldTree) (found : ℕ → Content) (file : File) : Type 0 where
+  pub plan : PlannedInodes
   pub settled : (b : ℕ) → settled_at d.map.parts.items b ≡ before b
   pub progress : OnEach d (λ e. Agrees (Reach t) disk e → IsProgress s t e d.map.next before (entry_at d.map.parts.items) plan)
   pub contents : OnEach d (λ e. Agrees (Reach t) disk e → (n : ℕ) → 3 ≤ n → plan.changed n ≡ true → content_of (held e (plan.inode n)) ≡ found n)
   pub spelled : AreSpelled s.inodes (file_block disk file) plan.inode
 
 -- the same with one number more
-pub record GoesOn (number : ℕ) (changed : ℕ → Bool) (d : Draft) (disk : Blocks) (before : ℕ → ℕ) (s : Sizes) (t : HeldTree) (found : ℕ → Content) (file : File) : Type 0 where
-  pub way : IsUnderWay d disk before s t found file
+pub record GoesOn (number : ℕ) (changed : ℕ → Bool) (from : ℕ) (d : Draft) (disk : Blocks) (before : ℕ → ℕ) (s : Sizes) (t : HeldTree) (found : ℕ → Content) (file : File) : Type 0 where
+  pub way : IsPlanUnderWay d disk before s t found file
+  pub from_is : way.plan.from ≡ from
   pub more : (k : ℕ) → way.plan.changed k ≡ (if k == number then true else changed k)
 
--- just these numbers are planned
-pub record ArePlanned (IsOne : ℕ → Type 0) (d : Draft) (disk : Blocks) (settled : ℕ → Inode) (before : ℕ → ℕ) (inodes : InodeFile) (file : File) : Type 0 where
-  pub way : IsUnderWay d disk before inodes.geometry (settled_tree disk settled) (λ n. trimmed (files_of disk settled inodes n)) file
+-- just these numbers are planned, and no block before this one is taken
+pub record ArePlanned (IsOne : ℕ → Type 0) (from : ℕ) (d : Draft) (disk : Blocks) (settled : ℕ → Inode) (before : ℕ → ℕ) (inodes : InodeFile) (file : File) : Type 0 where
+  pub way : IsPlanUnderWay d disk before inodes.geometry (settled_tree disk settled) (λ n. trimmed (files_of disk settled inodes n)) file
+  pub from_is : way.plan.from ≡ from
   pub just : (n : ℕ) → (way.plan.changed n ≡ true) ↔ IsOne n

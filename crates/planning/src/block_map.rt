@@ -19,7 +19,7 @@ ghost use Rattle.images.specs.Nodes.{held};
 ghost use Rattle.images.specs.BlockMap.{entry};
 ghost use Rattle.images.specs.Soundness.{IsSoundFile, IsSoundTree};
 ghost use Rattle.planning.specs.Plans.{HasBlockMap, HasLast, Progresses};
-ghost use Rattle.planning.specs.Progress.{Planned};
+ghost use Rattle.planning.specs.Progress.{PlannedInodes};
 ghost use Rattle.planning.specs.Space.{map_file_nodes};
 ghost use Rattle.planning.specs.Steps.{IsOverTree, settled_tree};
 ghost use Rattle.planning.specs.Promises.{PlansFiles};
@@ -75,14 +75,14 @@ pub(crate) fn plan_block_map<B: Blocks>(
         blocks.old blocks.new draft.old draft.new result }
     ensures others { (p : ℕ) → IsReserved draft.old p → IsReserved draft.new p }
     ensures planned { (disk : ℕ → List ℕ) (settled : ℕ → Inode) (v : Volume) (before : ℕ → ℕ)
-        (p : Planned) → B.Shows blocks.old disk
+        (p : PlannedInodes) → B.Shows blocks.old disk
         → IsOverTree (B.count blocks.old) disk settled inodes.now v before
         → IsSoundTree inodes.now.geometry (settled_tree disk settled)
         → ((b : ℕ) → settled_at draft.old.map.parts.items b ≡ before b)
         → ((b : ℕ) → before b ≡ entry (settled_tree disk settled) b)
         → Progresses draft.old disk before inodes.now.geometry (settled_tree disk settled) p
         → p.changed 2 ≡ false
-        → IfOk result (λ f. HasBlockMap p draft.new disk before inodes.now.geometry
+        → IfOk result (λ f. HasBlockMap draft.old p draft.new disk before inodes.now.geometry
         (settled_tree disk settled) f) }
     ensures damaged { (disk : ℕ → List ℕ) (settled : ℕ → Inode) (v : Volume) (before : ℕ → ℕ)
         → B.Shows blocks.old disk
@@ -110,14 +110,14 @@ pub(crate) fn plan_last<B: Blocks>(
     ensures step { PlansFiles B.Blocks (map_file_nodes draft.old.map.count)
         blocks.old blocks.new draft.old draft.new result }
     ensures planned { (disk : ℕ → List ℕ) (settled : ℕ → Inode) (v : Volume) (before : ℕ → ℕ)
-        (p : Planned) → B.Shows blocks.old disk
+        (p : PlannedInodes) → B.Shows blocks.old disk
         → IsOverTree (B.count blocks.old) disk settled inodes.now v before
         → IsSoundTree inodes.now.geometry (settled_tree disk settled)
         → ((b : ℕ) → settled_at draft.old.map.parts.items b ≡ before b)
         → ((b : ℕ) → before b ≡ entry (settled_tree disk settled) b)
         → Progresses draft.old disk before inodes.now.geometry (settled_tree disk settled) p
         → p.changed 2 ≡ false
-        → OnOk result (HasLast p draft.new disk before inodes.now.geometry
+        → OnOk result (HasLast draft.old p draft.new disk before inodes.now.geometry
         (settled_tree disk settled) file.now first) }
     ensures damaged { (disk : ℕ → List ℕ) (settled : ℕ → Inode) (v : Volume) (before : ℕ → ℕ)
         → B.Shows blocks.old disk

@@ -1,6 +1,6 @@
 //! What a consistency point does with the snapshots.
 
-ghost use Rattle.std.specs.Prelude.{ℕ, ◌≡◌, ◌≤◌, IfOk, OnOk, length};
+ghost use Rattle.std.specs.Prelude.{ℕ, ◌≡◌, ◌<◌, ◌≤◌, IfOk, OnOk, length};
 ghost use Rattle.std.specs.Int.{bit_at};
 ghost use Rattle.layout.specs.Pointer.{PointsBelow};
 ghost use Rattle.layout.specs.Root.{IsRoot};
@@ -9,9 +9,10 @@ ghost use Rattle.layout.specs.declared.pointer.Pointer.{Pointer};
 ghost use Rattle.model.specs.declared.limits.TheConstants.{SNAPSHOT_NAME_BYTES};
 ghost use Rattle.blockmap.specs.Maps.{entry_at, settled_at};
 ghost use Rattle.conspoint.specs.Drafts.{OnEach, WasTaken};
+ghost use Rattle.conspoint.specs.MapFiles.{AreTouched};
 ghost use Rattle.images.specs.Roots.{slot};
 ghost use Rattle.images.specs.SnapshotSteps.{IsSlotNumber, SetsSlot, SnapshotStep};
-ghost use Rattle.planning.specs.Changes.{ChangesPlane, FitsSlots, IsStepOf, head_nodes, MakesStep, StepsSets};
+ghost use Rattle.planning.specs.Changes.{ChangesPlane, FitsSlots, HasHeads, IsStepOf, head_nodes, MakesStep, StepsSets};
 ghost use Rattle.planning.specs.Progress.{KeepsActive};
 ghost use Rattle.conspoint.specs.Steps.{Places, Takes};
 
@@ -104,6 +105,8 @@ fn take(
         }))) }
     ensures block { IfOk result (λ p. (b : ℕ) × (p ≡ Pointer.Block b)) }
     ensures points { IfOk result (PointsBelow draft.old.map.count) }
+    ensures given { IfOk result (λ p. (b : ℕ) → p ≡ Pointer.Block b → b < draft.new.map.next) }
+    ensures touched { OnOk result (AreTouched draft.new.map.parts.items) }
     ensures free { IfOk result (λ p. (b : ℕ) → p ≡ Pointer.Block b
         → settled_at draft.old.map.parts.items b ≡ 0) }
     ensures sets { IfOk result (λ p. ChangesPlane slot p 1
@@ -154,6 +157,7 @@ pub(crate) fn change_snapshots(
     ensures geometry { IfOk result (λ r. r.geometry ≡ root.now.geometry) }
     ensures steps { IfOk result (λ r. (step : SnapshotStep) → IsStepOf change.now root.now step
         → MakesStep step root.now r draft.new) }
+    ensures heads { IfOk result (λ r. HasHeads root.now r draft.new) }
     ensures sets { IfOk result (λ r. (step : SnapshotStep) → IsStepOf change.now root.now step
         → StepsSets step root.now r (settled_at draft.old.map.parts.items)
         (entry_at draft.old.map.parts.items) (entry_at draft.new.map.parts.items)) }

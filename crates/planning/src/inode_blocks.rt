@@ -8,7 +8,7 @@ ghost use Rattle.blocktree.specs.Errors.{IsFault};
 ghost use Rattle.blocktree.specs.declared.error.ReadError.TheVariants as read;
 ghost use Rattle.blocktree.specs.Trees.{IsSoundAt};
 ghost use Rattle.inode.specs.Files.{file_block};
-ghost use Rattle.images.specs.InodeFiles.{put_at};
+ghost use Rattle.images.specs.InodeFiles.{spliced_at};
 ghost use Rattle.planning.specs.Inodes.{with_inode_at, ChangesFile};
 
 use blocktree::ReadError;
@@ -27,7 +27,7 @@ pub(crate) fn block_with<B: Blocks>(
 ) -> Result<Block, ReadError>
     ensures reads { ReadsBlocks B.Blocks IsFault blocks.old blocks.new result }
     ensures put { (disk : ℕ → List ℕ) → B.Shows blocks.old disk → IfOk result (λ b. b
-        ≡ put_at (INODE_BYTES * (number % INODES_PER_BLOCK)) (inode_bytes inode.now)
+        ≡ spliced_at (INODE_BYTES * (number % INODES_PER_BLOCK)) (inode_bytes inode.now)
         (file_block disk file.now (number / INODES_PER_BLOCK))) }
     ensures whole { (disk : ℕ → List ℕ) → B.Shows blocks.old disk → OnOk result
         (length (file_block disk file.now (number / INODES_PER_BLOCK)) ≡ BLOCK_BYTES) }

@@ -27,7 +27,7 @@ ghost use Rattle.placement.specs.Space.{file_nodes};
 ghost use Rattle.planning.specs.Inodes.{ChangesFile, KeepsFile};
 ghost use Rattle.planning.specs.Plans.{HasInodeMap};
 ghost use Rattle.planning.specs.Space.{CountsBlocks, TellsSame, map_stores};
-ghost use Rattle.planning.specs.Steps.{IsOverTree, IsUnderWay, settled_tree};
+ghost use Rattle.planning.specs.Steps.{IsOverTree, IsPlanUnderWay, settled_tree};
 ghost use Rattle.planning.specs.Promises.{PlansFiles};
 
 use crate::inode_blocks::put_inode;
@@ -184,10 +184,10 @@ pub(crate) fn plan_inode_map<B: Blocks>(
         (found : ℕ → Content) → B.Shows blocks.old disk
         → IsOverTree (B.count blocks.old) disk settled inodes.now v before
         → HasNoHole (held disk (settled 1))
-        → (way : IsUnderWay draft.old disk before inodes.now.geometry
+        → (way : IsPlanUnderWay draft.old disk before inodes.now.geometry
         (settled_tree disk settled) found file.old)
         → way.plan.changed 1 ≡ false
-        → OnOk result (HasInodeMap inodes.now.numbers.bytes.items way.plan.changed draft.new disk
+        → OnOk result (HasInodeMap inodes.now.numbers.bytes.items way.plan.changed way.plan.from draft.new disk
         before inodes.now.geometry (settled_tree disk settled) found file.new) }
     ensures damaged { (disk : ℕ → List ℕ) (settled : ℕ → Inode) (v : Volume) (before : ℕ → ℕ)
         → B.Shows blocks.old disk

@@ -15,7 +15,7 @@ ghost use Rattle.planning.specs.Inodes.{HasChange, ChangesFile};
 ghost use Rattle.planning.specs.Space.{nodes_below, number_nodes};
 ghost use Rattle.planning.specs.Numbers.{trimmed};
 ghost use Rattle.planning.specs.Progress.{IsMarked};
-ghost use Rattle.planning.specs.Steps.{ArePlanned, GoesOn, IsOverTree, IsUnderWay, settled_tree};
+ghost use Rattle.planning.specs.Steps.{ArePlanned, GoesOn, IsOverTree, IsPlanUnderWay, settled_tree};
 ghost use Rattle.planning.specs.Promises.{PlansFiles};
 
 use crate::inode_blocks::put_inode;
@@ -63,15 +63,15 @@ pub(crate) fn plan_number<B: Blocks>(
     ensures planned { (disk : ℕ → List ℕ) (settled : ℕ → Inode) (v : Volume) (before : ℕ → ℕ)
         → B.Shows blocks.old disk
         → IsOverTree (B.count blocks.old) disk settled inodes.now v before
-        → (way : IsUnderWay draft.old disk before inodes.now.geometry
+        → (way : IsPlanUnderWay draft.old disk before inodes.now.geometry
         (settled_tree disk settled) (λ n. trimmed (files_of disk settled inodes.now n)) file.old)
         → way.plan.changed number ≡ false
-        → OnOk result (GoesOn number way.plan.changed draft.new disk before inodes.now.geometry
+        → OnOk result (GoesOn number way.plan.changed way.plan.from draft.new disk before inodes.now.geometry
         (settled_tree disk settled) (λ n. trimmed (files_of disk settled inodes.now n)) file.new) }
     ensures damaged { (disk : ℕ → List ℕ) (settled : ℕ → Inode) (v : Volume) (before : ℕ → ℕ)
         → B.Shows blocks.old disk
         → IsOverTree (B.count blocks.old) disk settled inodes.now v before
-        → IsUnderWay draft.old disk before inodes.now.geometry (settled_tree disk settled)
+        → IsPlanUnderWay draft.old disk before inodes.now.geometry (settled_tree disk settled)
         (λ n. trimmed (files_of disk settled inodes.now n)) file.old
         → IsSoundAt (B.count blocks.old) disk file.old.tree (number / INODES_PER_BLOCK)
         → IsErrOf result PlanError.Damaged → ⊥ }
@@ -99,13 +99,13 @@ pub(crate) fn plan_numbers<B: Blocks>(
     ensures planned { (disk : ℕ → List ℕ) (settled : ℕ → Inode) (v : Volume) (before : ℕ → ℕ)
         → B.Shows blocks.old disk
         → IsOverTree (B.count blocks.old) disk settled inodes.now v before
-        → ArePlanned (λ n. ⊥) draft.old disk settled before inodes.now file.old
-        → OnOk result (ArePlanned (IsChanged inodes.now) draft.new disk settled before inodes.now
+        → (from : ℕ) → ArePlanned (λ n. ⊥) from draft.old disk settled before inodes.now file.old
+        → OnOk result (ArePlanned (IsChanged inodes.now) from draft.new disk settled before inodes.now
         file.new) }
     ensures damaged { (disk : ℕ → List ℕ) (settled : ℕ → Inode) (v : Volume) (before : ℕ → ℕ)
         → B.Shows blocks.old disk
         → IsOverTree (B.count blocks.old) disk settled inodes.now v before
-        → ArePlanned (λ n. ⊥) draft.old disk settled before inodes.now file.old
+        → (from : ℕ) → ArePlanned (λ n. ⊥) from draft.old disk settled before inodes.now file.old
         → ((i : ℕ) → IsSoundAt (B.count blocks.old) disk file.old.tree i)
         → IsErrOf result PlanError.Damaged → ⊥ }
 {

@@ -9,6 +9,8 @@ ghost use Rattle.layout.specs.declared.inode.Inode.{Inode};
 ghost use Rattle.layout.specs.declared.kind.Kind.TheVariants as kinds;
 ghost use Rattle.layout.specs.declared.version.TheConstants.{VERSION};
 ghost use Rattle.model.specs.Paths.{Name};
+ghost use Rattle.model.specs.Records.{count_nameless};
+ghost use Rattle.model.specs.Room.{fixed_of};
 ghost use Rattle.model.specs.Trees.{Tree};
 ghost use Rattle.model.specs.Volumes.{Volume};
 ghost use Rattle.buffers.specs.Reads.{ReadsBlocks};
@@ -19,16 +21,18 @@ ghost use Rattle.conspoint.specs.Errors.{IsReadFault};
 ghost use Rattle.conspoint.specs.Plans.{FitsDisk, IsSlot};
 ghost use Rattle.conspoint.specs.Space.{Lacks, TakesAtMost};
 ghost use Rattle.conspoint.specs.Writes.{writes_of};
-ghost use Rattle.images.specs.Cuts.{IsPointWith};
+ghost use Rattle.images.specs.Cuts.{IsPointWith, LeavesFree};
 ghost use Rattle.images.specs.Nodes.{file_block, held};
+ghost use Rattle.images.specs.Room.{KeepsOwn};
 ghost use Rattle.images.specs.Roots.{whole};
 ghost use Rattle.images.specs.SnapshotSteps.{CanStep, SnapshotStep};
 ghost use Rattle.images.specs.Soundness.{HasNoHole};
 ghost use Rattle.inofile.specs.Inodes.{files_of};
-ghost use Rattle.planning.specs.Changes.{FitsSlots, IsStepOf, head_nodes, MakesStep, StepsEntries};
+ghost use Rattle.inofile.specs.Room.{memory_room};
+ghost use Rattle.planning.specs.Changes.{FitsSlots, IsStepOf, TakesNone, head_nodes, MakesStep, StepsEntries};
 ghost use Rattle.planning.specs.Inodes.{HasChange, ChangesFile};
 ghost use Rattle.planning.specs.Numbers.{trimmed};
-ghost use Rattle.planning.specs.Plans.{HasNumbers, IsAllPlanned, IsClean, IsPlanStart, IsPlannable, PlansEntries};
+ghost use Rattle.planning.specs.Plans.{PlansNumbers, IsAllPlanned, IsClean, IsPlanStart, IsPlannable, IsRootPlanned, PlansEntries};
 ghost use Rattle.planning.specs.Space.{CountsBlocks, CountsMoves, change_nodes, map_stores, nodes_below, point_nodes, point_stores};
 ghost use Rattle.planning.specs.Steps.{ArePlanned, IsOverTree, settled_tree};
 ghost use Rattle.planning.specs.Promises.{AreOfSizes, PlansFiles, PlansRoot};
@@ -43,7 +47,7 @@ use buffers::Blocks;
 use conspoint::{Draft, Plan, PlanError, written_disks_have_the_blocks};
 use images::{
     disks_that_agree_hold_the_same, inodes_are_put_one_by_one, inodes_are_what_their_bytes_spell,
-    snapshots_are_what_their_bytes_spell,
+    points_leave_room, snapshots_are_what_their_bytes_spell,
 };
 use inode::{File, Object, based_trees_are_sound};
 use inofile::{InodeFile, memory_holds_its_volume};
@@ -74,12 +78,12 @@ fn plan_changes<B: Blocks>(
         → B.Shows blocks.old disk
         → IsOverTree (B.count blocks.old) disk settled inodes.now v before
         → HasNoHole (held disk (settled 1))
-        → ArePlanned (λ n. ⊥) draft.old disk settled before inodes.now file.old
-        → OnOk result (HasNumbers draft.new disk settled before inodes.now file.new) }
+        → (from : ℕ) → ArePlanned (λ n. ⊥) from draft.old disk settled before inodes.now file.old
+        → OnOk result (PlansNumbers from draft.new disk settled before inodes.now file.new) }
     ensures damaged { (disk : ℕ → List ℕ) (settled : ℕ → Inode) (v : Volume) (before : ℕ → ℕ)
         → B.Shows blocks.old disk
         → IsOverTree (B.count blocks.old) disk settled inodes.now v before
-        → ArePlanned (λ n. ⊥) draft.old disk settled before inodes.now file.old
+        → (from : ℕ) → ArePlanned (λ n. ⊥) from draft.old disk settled before inodes.now file.old
         → ((i : ℕ) → IsSoundAt (B.count blocks.old) disk file.old.tree i)
         → IsErrOf result PlanError.Damaged → ⊥ }
     ensures stores { (disk : ℕ → List ℕ) (settled : ℕ → Inode) (v : Volume) (before : ℕ → ℕ)
@@ -114,7 +118,7 @@ fn plan_files<B: Blocks>(
     ensures planned { (disk : ℕ → List ℕ) (settled : ℕ → Inode) (v : Volume) (before : ℕ → ℕ)
         → B.Shows blocks.old disk
         → IsPlanStart (B.count blocks.old) draft.old disk root.now settled inodes.now v before
-        → IfOk result (IsAllPlanned draft.new disk before inodes.now.geometry
+        → IfOk result (IsAllPlanned draft.old draft.new disk before inodes.now.geometry
         (settled_tree disk settled) (λ n. trimmed (files_of disk settled inodes.now n))
         inodes.now) }
     ensures damaged { (disk : ℕ → List ℕ) (settled : ℕ → Inode) (v : Volume) (before : ℕ → ℕ)
@@ -191,9 +195,9 @@ fn plan_root<B: Blocks>(
     ensures planned { (disk : ℕ → List ℕ) (settled : ℕ → Inode) (v : Volume) (before : ℕ → ℕ)
         → B.Shows blocks.old disk
         → IsPlanStart (B.count blocks.old) draft.old disk root.now settled inodes.now v before
-        → IfOk result (λ r. IsAllPlanned draft.new disk before inodes.now.geometry
-        (settled_tree disk settled) (λ n. trimmed (files_of disk settled inodes.now n))
-        inodes.now r.inode_file) }
+        → IfOk result (λ r. IsRootPlanned change.now root.now r draft.old draft.new disk before
+        inodes.now.geometry (settled_tree disk settled)
+        (λ n. trimmed (files_of disk settled inodes.now n)) inodes.now) }
     ensures damaged { (disk : ℕ → List ℕ) (settled : ℕ → Inode) (v : Volume) (before : ℕ → ℕ)
         → B.Shows blocks.old disk
         → IsPlanStart (B.count blocks.old) draft.old disk root.now settled inodes.now v before
@@ -281,16 +285,44 @@ pub fn plan<B: Blocks>(
         → (w : ℕ → ℕ) → CountsMoves w first v → OnOk result.1
         (left map ≤ left result.0 + (point_stores w root.now inodes.now map.count
         + head_nodes change.now)) }
+    // It leaves all blocks free but as many as memory may need; what is kept for files without names isn't among these.
+    ensures leaves { (d : ℕ → List ℕ) (first v : Volume) (snapshots : List (Name × Tree))
+        → B.Shows blocks.old (blocks_of d)
+        → IsPlannable root.now d slot generation map inodes.now first v snapshots → map.next ≡ 2
+        → (step : SnapshotStep) → IsStepOf change.now root.now step
+        → CanStep step root.now (whole (blocks_of d) root.now) → (spent : ℕ)
+        → memory_room first inodes.now v + fixed_of map.count
+        ≤ spent + 4 * count_nameless inodes.now.geometry.inodes v
+        → IfOk result.1 (λ p.
+        LeavesFree spent root.now (blocks_of d) (writes_of p.plan.blocks) p.root) }
+    // Where no snapshot shares what every point stores, and none is taken, that is given back.
+    ensures room { (d : ℕ → List ℕ) (first v : Volume) (snapshots : List (Name × Tree))
+        → B.Shows blocks.old (blocks_of d)
+        → IsPlannable root.now d slot generation map inodes.now first v snapshots
+        → KeepsOwn root.now (whole (blocks_of d) root.now) → map.next ≡ 2
+        → (step : SnapshotStep) → IsStepOf change.now root.now step → TakesNone step
+        → CanStep step root.now (whole (blocks_of d) root.now) → (spent : ℕ)
+        → memory_room first inodes.now v
+        ≤ spent + 4 * count_nameless inodes.now.geometry.inodes v
+        → IfOk result.1 (λ p.
+        LeavesFree spent root.now (blocks_of d) (writes_of p.plan.blocks) p.root) }
     ensures short { (d : ℕ → List ℕ) (first v : Volume) (snapshots : List (Name × Tree))
         → B.Shows blocks.old (blocks_of d)
         → IsPlannable root.now d slot generation map inodes.now first v snapshots
         → (w : ℕ → ℕ) → CountsMoves w first v → IsErrOf result.1 PlanError.NoSpace
         → left map < point_stores w root.now inodes.now map.count + head_nodes change.now }
+    ensures needs { (d : ℕ → List ℕ) (first v : Volume) (snapshots : List (Name × Tree))
+        → B.Shows blocks.old (blocks_of d)
+        → IsPlannable root.now d slot generation map inodes.now first v snapshots
+        → IsErrOf result.1 PlanError.NoSpace
+        → left map + 4 * count_nameless inodes.now.geometry.inodes v
+        < memory_room first inodes.now v + fixed_of map.count }
 {
     inodes_are_what_their_bytes_spell();
     snapshots_are_what_their_bytes_spell();
     disks_that_agree_hold_the_same();
     memory_holds_its_volume();
+    points_leave_room();
     let mut draft = Draft::new(alloc, map);
     match plan_root(alloc, &mut draft, blocks, root, generation, inodes, change) {
         Ok(root) => {

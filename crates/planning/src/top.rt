@@ -11,7 +11,7 @@ ghost use Rattle.images.specs.BlockMap.{NamesOnce};
 ghost use Rattle.placement.specs.Files.{IsChangeOf};
 ghost use Rattle.placement.specs.Space.{first_stores};
 ghost use Rattle.planning.specs.Plans.{HasTop, Progresses};
-ghost use Rattle.planning.specs.Progress.{IsExactPlane, Planned};
+ghost use Rattle.planning.specs.Progress.{IsExactPlane, PlannedInodes};
 ghost use Rattle.planning.specs.Steps.{settled_tree};
 ghost use Rattle.planning.specs.Promises.{PlansFiles};
 
@@ -38,7 +38,7 @@ pub(crate) fn place_top<B: Blocks>(
     ensures others { (p : ℕ) → IsReserved draft.old p → IsReserved draft.new p }
     ensures reserved { IfOk result (λ r. IsReserved draft.new r.1) }
     ensures planned { (s : Sizes) (disk : ℕ → List ℕ) (settled : ℕ → Inode) (before : ℕ → ℕ)
-        (p : Planned) → B.Shows blocks.old disk
+        (p : PlannedInodes) → B.Shows blocks.old disk
         → IsChangeOf s draft.old disk (settled 0) top.now
         → top.now.attributes.kind ≡ kinds.InodeFile
         → NamesOnce (settled_tree disk settled)

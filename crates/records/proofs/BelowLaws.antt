@@ -10,7 +10,7 @@ use Rattle.model.specs.Paths.{Name, Path}
 use Rattle.model.specs.Records.{IsBelow}
 use Rattle.model.specs.Volumes.{Entries, IsGraph, Volume, enter, entries, is_directory_node, is_file_node}
 use Rattle.model.specs.declared.limits.TheConstants.{ROOT_NUMBER}
-use Rattle.records.specs.Below.{IsChild, IsMarked, Marks, Searches, count_unmarked}
+use Rattle.records.specs.Below.{IsChild, IsMarkedNumber, MarksMore, Searches, count_unmarked}
 use Rattle.records.proofs.FileLaws.{same_some}
 use Rattle.model.proofs.OptionLaws.{none_some}
 use Rattle.model.proofs.VolumeLemmas.{alone, directory_no_file, enters_directory}
@@ -65,7 +65,7 @@ module _ (v : Volume) (graph : IsGraph v) where
 
 -- ---- marks
 
-pub marks_more : (a b c : List Bool) (l m r : List ℕ) → Marks a b l m → Marks b c m r → Marks a c l r
+pub marks_more : (a b c : List Bool) (l m r : List ℕ) → MarksMore a b l m → MarksMore b c m r → MarksMore a c l r
 marks_more a b c l m r first last = record {
   same_length = last.same_length ∙ first.same_length;
   fewer = omega (arith, first.fewer, last.fewer);
@@ -82,23 +82,23 @@ module _ (marks : List Bool) (left : List ℕ) (n : ℕ) (within : n < length ma
   abbrev after : List Bool
   after = set marks n true
 
-  marked_now : IsMarked after n
+  marked_now : IsMarkedNumber after n
   marked_now = rw get_or-set_same
 
   -- what is marked then was so, or is this
-  pub marked_one : (k : ℕ) → IsMarked after k → IsMarked marks k ⊎ (k ≡ n)
+  pub marked_one : (k : ℕ) → IsMarkedNumber after k → IsMarkedNumber marks k ⊎ (k ≡ n)
   marked_one k is = elim (cases_eq k n) [
     | inl same ↦ inr same
     | inr other ↦ inl (rw get_or-set_other at is)
   ]
 
-  keeps_mark : (k : ℕ) → IsMarked marks k → IsMarked after k
+  keeps_mark : (k : ℕ) → IsMarkedNumber marks k → IsMarkedNumber after k
   keeps_mark k is = elim (cases_eq k n) [
-    | inl same ↦ subst (IsMarked after) (sym same) marked_now
+    | inl same ↦ subst (IsMarkedNumber after) (sym same) marked_now
     | inr other ↦ rw get_or-set_other is
   ]
 
-  pub marks_one : get_or marks n false ≡ false → Marks marks after left (left ++ n ∷ [])
+  pub marks_one : get_or marks n false ≡ false → MarksMore marks after left (left ++ n ∷ [])
   marks_one not = record {
     same_length = length-set marks n true;
     fewer = count;
@@ -110,7 +110,7 @@ module _ (marks : List Bool) (left : List ℕ) (n : ℕ) (within : n < length ma
     ];
     marked = λ all k is. elim (Contains-push_cases left n k is) [
       | inl before ↦ keeps_mark k (all k before)
-      | inr same ↦ subst (IsMarked after) same marked_now
+      | inr same ↦ subst (IsMarkedNumber after) same marked_now
     ];
   }
     where
@@ -141,12 +141,12 @@ all_false (x ∷ xs) all zero = All-head (λ mark. mark ≡ false) x xs all
 all_false (x ∷ xs) all (suc n) = all_false xs (All-tail (λ mark. mark ≡ false) x xs all) n
 
 -- where no mark is set, no number is marked
-pub unmarked : (count n : ℕ) → IsMarked (replicate count false) n → ⊥
+pub unmarked : (count n : ℕ) → IsMarkedNumber (replicate count false) n → ⊥
 unmarked count n is = false≢true (sym (all_false (replicate count false) (All-replicate (λ mark. mark ≡ false) count false refl) n) ∙ is)
 
 -- an object that is marked, and nothing else
-pub searched_first : (e : Entries) (top : ℕ) (none marks : List Bool) (empty left : List ℕ) → ((n : ℕ) → IsMarked none n → ⊥) → empty ≡ []
-    → Marks none marks empty left → IsMarked marks top → ((n : ℕ) → IsMarked marks n → IsMarked none n ⊎ (n ≡ top)) → Searches e top marks left
+pub searched_first : (e : Entries) (top : ℕ) (none marks : List Bool) (empty left : List ℕ) → ((n : ℕ) → IsMarkedNumber none n → ⊥) → empty ≡ []
+    → MarksMore none marks empty left → IsMarkedNumber marks top → ((n : ℕ) → IsMarkedNumber marks n → IsMarkedNumber none n ⊎ (n ≡ top)) → Searches e top marks left
 searched_first e top none marks empty left none_yet is_empty marking marked only = record {
   itself = marked;
   below = λ n is. elim (only n is) [
@@ -159,8 +159,8 @@ searched_first e top none marks empty left none_yet is_empty marking marked only
 
 module _ (e : Entries) (top here : ℕ) (marks after : List Bool) (left rest more : List ℕ) (children : List ℕ) where
   -- one number less is left to be looked into, and its children are marked
-  pub searched_more : left ≡ rest ++ here ∷ [] → ((n : ℕ) → Contains children n ↔ IsChild e here n) → Marks marks after rest more
-      → ((n : ℕ) → Contains children n → IsMarked after n) → ((n : ℕ) → IsMarked after n → IsMarked marks n ⊎ Contains children n)
+  pub searched_more : left ≡ rest ++ here ∷ [] → ((n : ℕ) → Contains children n ↔ IsChild e here n) → MarksMore marks after rest more
+      → ((n : ℕ) → Contains children n → IsMarkedNumber after n) → ((n : ℕ) → IsMarkedNumber after n → IsMarkedNumber marks n ⊎ Contains children n)
       → Searches e top marks left → Searches e top after more
   searched_more splits are marking all only was = record {
     itself = marking.kept top was.itself;
@@ -181,14 +181,14 @@ module _ (e : Entries) (top here : ℕ) (marks after : List Bool) (left rest mor
     ];
   }
     where
-      here_marked : IsMarked marks here
+      here_marked : IsMarkedNumber marks here
       here_marked = was.marked here (subst (λ (xs : List ℕ). Contains xs here) (sym splits) (Contains-push rest here))
 
 -- a search in which nothing is left has marked what lies below
-pub searched_all : (e : Entries) (top : ℕ) (marks : List Bool) (left : List ℕ) → left ≡ [] → Searches e top marks left → (n : ℕ) → IsMarked marks n ↔ IsBelow e top n
+pub searched_all : (e : Entries) (top : ℕ) (marks : List Bool) (left : List ℕ) → left ≡ [] → Searches e top marks left → (n : ℕ) → IsMarkedNumber marks n ↔ IsBelow e top n
 searched_all e top marks left none was n = (
   was.below n,
-  closed_below e (IsMarked marks) (λ d m is child. elim (was.closed d m is child) [
+  closed_below e (IsMarkedNumber marks) (λ d m is child. elim (was.closed d m is child) [
     | inl marked ↦ marked
     | inr waits ↦ nothing (subst (λ (xs : List ℕ). Contains xs d) none waits)
   ]) top n was.itself,

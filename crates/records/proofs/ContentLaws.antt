@@ -15,13 +15,13 @@ use Rattle.images.specs.Contents as images
 use Rattle.images.specs.Contents.{Content, StandsAs}
 use Rattle.inode.specs.Changes.{changed_block}
 use Rattle.inode.specs.Edges.{filled, written_list}
-use Rattle.inode.specs.Files.{IsCommitted, IsFile, IsSameFile, block_with, byte_with, bytes_of, bytes_with, file_block}
+use Rattle.inode.specs.Files.{IsCommitted, IsFile, IsSameFile, block_with, byte_with, bytes_of_file, bytes_with, file_block}
 use Rattle.inode.specs.declared.change.Change.{Change}
 use Rattle.inode.specs.declared.file.File.{File}
 use Rattle.inode.specs.declared.object.Object.{Object}
 use Rattle.inofile.specs.Objects.{IsObject}
 use Rattle.inofile.specs.Settled.{content_of}
-use Rattle.records.specs.Contents.{KeepsBounds, Rewrites, bytes_after, rewriting}
+use Rattle.records.specs.Contents.{KeepsRewriteBounds, Rewrites, bytes_after, rewriting}
 use Rattle.records.specs.Obstacles.{IsObstacle, tells_obstacle}
 use Rattle.records.specs.declared.contents.Rewrite.{Rewrite}
 use Rattle.records.specs.declared.contents.Rewrite.TheVariants.{Write, Cut}
@@ -41,7 +41,7 @@ resized_is size file = refl
 
 -- it does to the same file what it does to the other
 pub rewrites_same : (disk : ℕ → List ℕ) (f : List ℕ → List ℕ) (old new : File) (change : Change) → IsSameFile old new
-    → EndsAt change.size (byte_with disk old change) → bytes_with disk old change ≡ f (bytes_of disk old) → Rewrites disk f new change
+    → EndsAt change.size (byte_with disk old change) → bytes_with disk old change ≡ f (bytes_of_file disk old) → Rewrites disk f new change
 rewrites_same disk f old new change same ends bytes = record {
   ends = subst (λ (b : ℕ → List ℕ). EndsAt change.size (byte_in (changed_block b change.size change.first change.pieces.items))) was ends;
   bytes = subst (λ (b : ℕ → List ℕ). first_bytes (byte_in (changed_block b change.size change.first change.pieces.items)) change.size ≡ f (first_bytes (byte_in b) new.size)) was
@@ -57,7 +57,7 @@ module _ (disk : ℕ → List ℕ) (old new : File) (change : Change) (done : Is
   blocks_are : file_block disk new ≡ block_with disk old change
   blocks_are = fun_ext {f = file_block disk new} {g = block_with disk old change} (done.blocks disk)
 
-  bytes_are : bytes_of disk new ≡ bytes_with disk old change
+  bytes_are : bytes_of_file disk new ≡ bytes_with disk old change
   bytes_are = ap (first_bytes (byte_in (file_block disk new))) done.size ∙ ap (λ (b : ℕ → List ℕ). first_bytes (byte_in b) change.size) blocks_are
 
   ends_there : EndsAt change.size (byte_with disk old change) → IsFile disk new
@@ -76,7 +76,7 @@ module _ (inodes size : ℕ) (block : ℕ → List ℕ) (f : List ℕ → List �
       let kind = file_kind k inodes c found stands is in
       subst (λ (x : Kind). FitsKind x s c.mode c.links size) (sym kind) (subst (λ (x : Kind). FitsKind x s c.mode c.links c.size) kind fits)
 
-  stands_after : images.bytes_of after ≡ f (images.bytes_of c) → (k : Kind) → StandsAs k inodes c found → StandsAs k inodes after (with_file_bytes f found)
+  stands_after : images.content_bytes after ≡ f (images.content_bytes c) → (k : Kind) → StandsAs k inodes c found → StandsAs k inodes after (with_file_bytes f found)
   stands_after same k stands =
       subst (λ (x : Kind). StandsAs x inodes after (with_file_bytes f found)) (sym (file_kind k inodes c found stands is))
       (ap (with_file_bytes f) (held_file k inodes c found stands is) ∙ ap (λ (b : List ℕ). Some (file_node c.mode c.links b)) (sym same))
@@ -100,7 +100,7 @@ pub file_changed : (inodes : ℕ) (v : Volume) (n : ℕ) (rewrite : Rewrite) →
 file_changed inodes v n (Write offset bytes) can = can.0
 file_changed inodes v n (Cut size) can = can.0
 
-pub rewriting_applies : (inodes : ℕ) (v : Volume) (n : ℕ) (rewrite : Rewrite) → IsTrue (is_file_node (v n)) → KeepsBounds rewrite → Applies inodes v (rewriting n rewrite)
+pub rewriting_applies : (inodes : ℕ) (v : Volume) (n : ℕ) (rewrite : Rewrite) → IsTrue (is_file_node (v n)) → KeepsRewriteBounds rewrite → Applies inodes v (rewriting n rewrite)
 rewriting_applies inodes v n (Write offset bytes) is keeps = (is, keeps.0, keeps.1, keeps.2)
 rewriting_applies inodes v n (Cut size) is keeps = (is, keeps)
 
@@ -108,7 +108,7 @@ pub rewriting_applied : (n : ℕ) (rewrite : Rewrite) (v : Volume) → applied (
 rewriting_applied n (Write offset bytes) v = refl
 rewriting_applied n (Cut size) v = refl
 
-pub bounds_kept : (inodes : ℕ) (v : Volume) (n : ℕ) (rewrite : Rewrite) → Applies inodes v (rewriting n rewrite) → KeepsBounds rewrite
+pub bounds_kept : (inodes : ℕ) (v : Volume) (n : ℕ) (rewrite : Rewrite) → Applies inodes v (rewriting n rewrite) → KeepsRewriteBounds rewrite
 bounds_kept inodes v n (Write offset bytes) can = (can.1, can.2, can.3)
 bounds_kept inodes v n (Cut size) can = can.1
 

@@ -22,7 +22,7 @@ use Rattle.dirs.specs.Directory.{HasCount, with_name}
 use Rattle.dirs.specs.declared.edit.Edit.{Edit}
 use Rattle.records.specs.declared.naming.NameEdit.{NameEdit}
 use Rattle.records.specs.declared.naming.NameEdit.TheVariants as edits
-use Rattle.records.specs.Entering.{Accepts, HasPlace, IsDirectoryObject, PreparesEdit, Takes, TakesEntry, with_names}
+use Rattle.records.specs.Entering.{Accepts, HasPlace, IsDirectoryObject, PreparesEdit, TakesEdit, TakesEntry, with_node_names}
 use Rattle.records.specs.Naming.{EditsNames}
 use Rattle.inode.proofs.BaseLaws.{same_itself}
 use Rattle.model.proofs.ObjectLaws.{node_here, node_other}
@@ -75,7 +75,7 @@ edits_directory disk inodes found o wanted names kind is (Ok (Some edit)) edited
   record { mode = o.attributes.mode; names = names; is = is; takes = edited.0 },
 )
 edits_directory disk inodes found o wanted names kind is (Ok None) never = λ accepts.
-    never (subst (Takes wanted) (same_names accepts.mode o.attributes.mode accepts.names names (sym accepts.is ∙ is)) accepts.takes)
+    never (subst (TakesEdit wanted) (same_names accepts.mode o.attributes.mode accepts.names names (sym accepts.is ∙ is)) accepts.takes)
 edits_directory disk inodes found o wanted names kind is (Err e) edited = tt
 
 -- a directory that takes a name has place for its entry
@@ -199,7 +199,7 @@ module _ (n d : ℕ) (x : Name) (to : Option ℕ) (node : Option Node) (v : Volu
   put_volume = fun_ext {f = with_node n node name_put} {g = with_entry d x to object_put} put_each
 
 -- one name of a directory changed
-pub names_set : (x : Name) (to : Option ℕ) (o : Option Node) → with_names (with_name x to) o ≡ set_name x to o
+pub names_set : (x : Name) (to : Option ℕ) (o : Option Node) → with_node_names (with_name x to) o ≡ set_name x to o
 names_set x to None = refl
 names_set x to (Some (directory_node mode names)) = refl
 names_set x to (Some (file_node mode links bytes)) = refl

@@ -11,16 +11,16 @@ use Rattle.model.specs.Volumes.{Node, Volume, directory_node, file_node, link_no
 use Rattle.images.specs.Contents.{Content, StandsAs}
 use Rattle.layout.specs.DirectoryNames.{NameMap}
 use Rattle.dirs.specs.Directory.{with_name}
-use Rattle.dirs.specs.Listings.{IsListing}
+use Rattle.dirs.specs.Listings.{IsListingOfNames}
 use Rattle.inode.specs.Edges.{written_list}
 use Rattle.layout.specs.Bytes.{zeros}
 use Rattle.inode.specs.declared.object.Object.{Object}
 use Rattle.inofile.specs.Inodes.{loaded}
 use Rattle.inofile.specs.declared.inode_file.InodeFile.{InodeFile}
-use Rattle.records.specs.Entering.{with_names}
+use Rattle.records.specs.Entering.{with_node_names}
 use Rattle.records.specs.Moving.{IsSomeAlone}
 use Rattle.records.specs.Prepared.{IsApartFrom}
-use Rattle.records.specs.Steps.{FitsUpdate, IsAlone, IsApart, IsAtHand, IsFileOf, IsSomeApart, IsSomeAtHand, TakesSome, TakesUpdate, with_links}
+use Rattle.records.specs.Steps.{FitsUpdate, IsAlone, IsApart, IsAtHand, IsFileWithLinks, IsSomeApart, IsSomeAtHand, TakesSome, TakesUpdate, with_node_links}
 use Rattle.records.specs.declared.steps.Step.{Step}
 use Rattle.records.specs.declared.steps.Update.{Update}
 use Rattle.records.specs.declared.steps.Update.TheVariants as updates
@@ -39,17 +39,17 @@ gone_with_name kinds.BlockMap inodes c o stands other = ap with_name_less stands
 
 -- ---- files by their count of names
 
-pub file_is : (links : ℕ) (o : Option Node) → IsFileOf links o → IsTrue (is_file_node o)
+pub file_is : (links : ℕ) (o : Option Node) → IsFileWithLinks links o → IsTrue (is_file_node o)
 file_is links o is = ap is_file_node is.2
 
 pub same_links : (mode old links others : ℕ) (bytes more : List ℕ) → Some (file_node mode links bytes) ≡ Some (file_node old others more) → links ≡ others
 same_links mode old links others bytes more e = cc
 
-pub less_links : (links : ℕ) (o : Option Node) → IsFileOf links o → with_name_less o ≡ with_links (links - 1) o
-less_links links o is = ap with_name_less is.2 ∙ sym (ap (with_links (links - 1)) is.2)
+pub less_links : (links : ℕ) (o : Option Node) → IsFileWithLinks links o → with_name_less o ≡ with_node_links (links - 1) o
+less_links links o is = ap with_name_less is.2 ∙ sym (ap (with_node_links (links - 1)) is.2)
 
-pub more_links : (links : ℕ) (o : Option Node) → IsFileOf links o → with_links (links + 1) o ≡ with_name_more o
-more_links links o is = ap (with_links (links + 1)) is.2 ∙ sym (ap with_name_more is.2)
+pub more_links : (links : ℕ) (o : Option Node) → IsFileWithLinks links o → with_node_links (links + 1) o ≡ with_name_more o
+more_links links o is = ap (with_node_links (links + 1)) is.2 ∙ sym (ap with_name_more is.2)
 
 -- a file's number isn't a directory's
 pub file_apart : (v : Volume) (n d : ℕ) → IsTrue (is_file_node (v n)) → IsTrue (is_directory_node (v d)) → n ≢ d
@@ -93,11 +93,11 @@ empty_apart v n d x empty is same = none_some (sym (subst (λ k. IsEmpty v k) sa
 
 -- the names of a directory changed, and then another object, make what both make at once
 pub both_steps : (n d : ℕ) (x : Name) (to : Option ℕ) (node after : Option Node) (v : Volume) → n ≢ d → after ≡ node
-    → with_entry d x to (with_node n node v) ≡ with_node n after (with_node d (with_names (with_name x to) (v d)) v)
+    → with_entry d x to (with_node n node v) ≡ with_node n after (with_node d (with_node_names (with_name x to) (v d)) v)
 both_steps n d x to node after v apart same =
     sym (put_volume n d x to node v apart)
     ∙ ap (λ o. with_node n node (with_node d o v)) (sym (names_set x to (v d)))
-    ∙ ap (λ o. with_node n o (with_node d (with_names (with_name x to) (v d)) v)) (sym same)
+    ∙ ap (λ o. with_node n o (with_node d (with_node_names (with_name x to) (v d)) v)) (sym same)
 
 -- ---- updates that depend on nothing else
 
@@ -133,7 +133,7 @@ apart_none (Some step) = tt
 
 -- ---- listings
 
-none_listed : (names : NameMap) → IsListing names [] → (x : Name) (o : Option ℕ) → names x ≡ o → o ≡ None
+none_listed : (names : NameMap) → IsListingOfNames names [] → (x : Name) (o : Option ℕ) → names x ≡ o → o ≡ None
 none_listed names listing x None is = refl
 none_listed names listing x (Some n) is =
     let listed = (listing.whole x).1 (subst (λ (o : Option ℕ). IsSome o) (sym is) refl) in
@@ -142,11 +142,11 @@ none_listed names listing x (Some n) is =
 some_listed : (n : ℕ) → (suc n == 0) ≡ false
 some_listed n = grind (arith, nat_tests)
 
-first_listed : (names : NameMap) (a : Name) (rest : List Name) → IsListing names (a ∷ rest) → names a ≡ None → ⊥
+first_listed : (names : NameMap) (a : Name) (rest : List Name) → IsListingOfNames names (a ∷ rest) → names a ≡ None → ⊥
 first_listed names a rest listing none = false≢true (subst (λ (o : Option ℕ). IsSome o) none ((listing.whole a).0 (0, omega arith, refl)))
 
 -- an object has no names just where none are listed
-pub empty_listing : {X : Type 0} (f : X → Name) (raw : List X) (names : NameMap) → IsListing names (map f raw) → ((length raw == 0) ≡ true) ↔ ((x : Name) → names x ≡ None)
+pub empty_listing : {X : Type 0} (f : X → Name) (raw : List X) (names : NameMap) → IsListingOfNames names (map f raw) → ((length raw == 0) ≡ true) ↔ ((x : Name) → names x ≡ None)
 empty_listing f [] names listing = (λ is x. none_listed names listing x (names x) refl, λ none. refl)
 empty_listing f (a ∷ raw) names listing = (
   λ is. absurd (false≢true (sym (some_listed (length raw)) ∙ is)),

@@ -18,7 +18,7 @@ use Rattle.inofile.specs.Inodes.{loaded}
 use Rattle.inofile.specs.declared.inode_file.InodeFile.{InodeFile}
 use Rattle.paths.specs.Steps.{found_in}
 use Rattle.paths.specs.declared.lookup.Found.TheVariants as found
-use Rattle.records.specs.Entering.{Accepts, HasPlace, names_after, with_names}
+use Rattle.records.specs.Entering.{Accepts, HasPlace, names_after, with_node_names}
 use Rattle.records.specs.Moving.{Moves, Replaces, edit_for}
 use Rattle.records.specs.Prepared.{AreBeside}
 use Rattle.records.specs.Steps.{IsBeside, StepsSome, Updates}
@@ -56,7 +56,7 @@ node_twice a o p v = fun_ext {f = with_node a o (with_node a p v)} {g = with_nod
     ]
 
 -- two names of a directory changed
-pub names_set_twice : (x y : Name) (to : Option ℕ) (o : Option Node) → with_names (λ (names : NameMap). with_name y to (with_name x None names)) o ≡ set_name y to (set_name x None o)
+pub names_set_twice : (x y : Name) (to : Option ℕ) (o : Option Node) → with_node_names (λ (names : NameMap). with_name y to (with_name x None names)) o ≡ set_name y to (set_name x None o)
 names_set_twice x y to None = refl
 names_set_twice x y to (Some (directory_node mode names)) = refl
 names_set_twice x y to (Some (file_node mode links bytes)) = refl
@@ -64,7 +64,7 @@ names_set_twice x y to (Some (link_node text)) = refl
 
 -- both names of a move within one directory
 pub moved_within : (d : ℕ) (x y : Name) (to : Option ℕ) (v : Volume)
-    → with_entry d y to (with_entry d x None v) ≡ with_node d (with_names (λ (names : NameMap). with_name y to (with_name x None names)) (v d)) v
+    → with_entry d y to (with_entry d x None v) ≡ with_node d (with_node_names (λ (names : NameMap). with_name y to (with_name x None names)) (v d)) v
 moved_within d x y to v =
     node_twice d (set_name y to (with_entry d x None v d)) (set_name x None (v d)) v
     ∙ ap (λ (o : Option Node). with_node d (set_name y to o) v) (node_here d d (set_name x None (v d)) v refl)
@@ -151,10 +151,10 @@ released_after (Some m) a to v aside =
 
 -- a move within one directory, and what had the new name behind it
 pub moved_inside : (d k : ℕ) (x y : Name) (to target : Option ℕ) (v : Volume) → d ≡ k → IsAside k target
-    → with_entry k y to (with_entry d x None (released target v)) ≡ released target (with_node k (with_names (λ (names : NameMap). with_name y to (with_name x None names)) (v k)) v)
+    → with_entry k y to (with_entry d x None (released target v)) ≡ released target (with_node k (with_node_names (λ (names : NameMap). with_name y to (with_name x None names)) (v k)) v)
 moved_inside d k x y to target v same aside =
     let w = released target v in
-    let both = λ (o : Option Node). with_names (λ (names : NameMap). with_name y to (with_name x None names)) o in
+    let both = λ (o : Option Node). with_node_names (λ (names : NameMap). with_name y to (with_name x None names)) o in
     ap (λ (j : ℕ). with_entry k y to (with_entry j x None w)) same
     ∙ moved_within k x y to w
     ∙ ap (λ (o : Option Node). with_node k (both o) w) (released_same target k v aside)
@@ -163,11 +163,11 @@ moved_inside d k x y to target v same aside =
 -- a move from one directory to another, and what had the new name behind it
 pub moved_across : (d k : ℕ) (x y : Name) (to target : Option ℕ) (v : Volume) → d ≢ k → IsAside k target → IsAside d target
     → with_entry k y to (with_entry d x None (released target v))
-    ≡ released target (with_node d (with_names (with_name x None) (with_node k (with_names (with_name y to) (v k)) v d)) (with_node k (with_names (with_name y to) (v k)) v))
+    ≡ released target (with_node d (with_node_names (with_name x None) (with_node k (with_node_names (with_name y to) (v k)) v d)) (with_node k (with_node_names (with_name y to) (v k)) v))
 moved_across d k x y to target v other aside aside_old =
     let w = released target v in
-    let added = with_names (with_name y to) (v k) in
-    let less = with_names (with_name x None) (v d) in
+    let added = with_node_names (with_name y to) (v k) in
+    let less = with_node_names (with_name x None) (v d) in
     let between = with_node k added v in
     let first : set_name x None (w d) ≡ less = ap (set_name x None) (released_same target d v aside_old) ∙ sym (names_set x None (v d)) in
     let there : with_entry d x None w k ≡ v k = node_other d k (set_name x None (w d)) w (λ same. other (sym same)) ∙ released_same target k v aside in
@@ -177,7 +177,7 @@ moved_across d k x y to target v other aside aside_old =
     ∙ nodes_apart k d added less w (λ same. other (sym same))
     ∙ ap (λ (u : Volume). with_node d less u) (sym (released_after target k added v aside))
     ∙ sym (released_after target d less between aside_old)
-    ∙ ap (λ (o : Option Node). released target (with_node d (with_names (with_name x None) o) between)) (sym (node_other k d added v other))
+    ∙ ap (λ (o : Option Node). released target (with_node d (with_node_names (with_name x None) o) between)) (sym (node_other k d added v other))
 
 -- ---- a step on what had the new name
 

@@ -15,7 +15,7 @@ use Rattle.model.specs.Paths.{is_empty}
 use Rattle.model.specs.Records.{Applies, applied, with_file_bytes}
 use Rattle.model.specs.Room.{nothing, logs, changes_size, puts_bytes}
 use Rattle.model.specs.Trees.{Tree, Description}
-use Rattle.model.specs.Volumes.{Node, directory_node, file_node, link_node, Volume, IsMounted, IsVolume, bytes_of, is_file_node, is_open, swept, swept_node, tree_of, with_node}
+use Rattle.model.specs.Volumes.{Node, directory_node, file_node, link_node, Volume, IsMounted, IsVolume, bytes_of_node, is_file_node, is_open, swept, swept_node, tree_of, with_node}
 use Rattle.model.specs.declared.errno.Errno.TheVariants.{EFBIG}
 use Rattle.model.specs.declared.limits.TheConstants.{GREATEST_FILE, OPEN_FILES}
 use Rattle.model.specs.declared.reply.Reply.TheVariants.{Done, Refused, Wrote}
@@ -129,6 +129,6 @@ pub other_size : (m n : ℕ) → (m ≡ n → ⊥) → (m == n) ≡ false
 other_size m n ne = grind (arith, nat_tests)
 
 -- a file in memory has as many bytes as in the volume
-pub file_size : (k : Kind) (inodes : ℕ) (c : Content) (found : Option Node) → StandsAs k inodes c found → IsTrue (is_file_node found) → c.size ≡ length (unwrap_or (bytes_of found) [])
+pub file_size : (k : Kind) (inodes : ℕ) (c : Content) (found : Option Node) → StandsAs k inodes c found → IsTrue (is_file_node found) → c.size ≡ length (unwrap_or (bytes_of_node found) [])
 file_size k inodes c found stands is =
-    sym (ap (λ (o : Option Node). length (unwrap_or (bytes_of o) [])) (held_file k inodes c found stands is) ∙ length-map-range_with_len (byte_in c.block) 0 c.size)
+    sym (ap (λ (o : Option Node). length (unwrap_or (bytes_of_node o) [])) (held_file k inodes c found stands is) ∙ length-map-range_with_len (byte_in c.block) 0 c.size)

@@ -18,7 +18,7 @@ use Rattle.inofile.specs.declared.inode_file.InodeFile.{InodeFile}
 use Rattle.records.specs.Contents.{FitsFile}
 use Rattle.records.specs.Entering.{FitsObject}
 use Rattle.records.specs.Prepared.{AreBeside, IsApartFrom}
-use Rattle.records.specs.Steps.{Commits, FitsUpdate, IsApart, Steps, StepsSome, TakesSome, Updates, with_links}
+use Rattle.records.specs.Steps.{Commits, FitsUpdate, IsApart, Steps, StepsSome, TakesSome, Updates, with_node_links}
 use Rattle.records.specs.declared.steps.Update.{Update}
 use Rattle.records.specs.declared.steps.Update.TheVariants as updates
 use Rattle.records.specs.declared.steps.Step.{Step}
@@ -86,14 +86,14 @@ module _ (inodes links : ℕ) (c : Content) (found : Option Node) (is : IsTrue (
   fits_counted : (k : Kind) (s : Sizes) → links ≤ 1000 → StandsAs k inodes c found → FitsKind k s c.mode links c.size
   fits_counted k s few stands = subst (λ (x : Kind). FitsKind x s c.mode links c.size) (sym (file_kind k inodes c found stands is)) few
 
-  stands_counted : (k : Kind) → StandsAs k inodes c found → StandsAs k inodes counted (with_links links found)
+  stands_counted : (k : Kind) → StandsAs k inodes c found → StandsAs k inodes counted (with_node_links links found)
   stands_counted k stands =
-      subst (λ (x : Kind). StandsAs x inodes counted (with_links links found)) (sym (file_kind k inodes c found stands is)) (ap (with_links links) (held_file k inodes c found stands is))
+      subst (λ (x : Kind). StandsAs x inodes counted (with_node_links links found)) (sym (file_kind k inodes c found stands is)) (ap (with_node_links links) (held_file k inodes c found stands is))
 
 -- a file in memory with another count of names
 pub links_set : (disk : ℕ → List ℕ) (inodes : ℕ) (settled : Inode) (o : Object) (found : Option Node) (links : ℕ) → links ≤ 1000
     → IsObject disk inodes settled o found → IsTrue (is_file_node found)
-    → IsObject disk inodes settled (record { attributes = record { kind = o.attributes.kind; mode = o.attributes.mode; links = links }; file = o.file }) (with_links links found)
+    → IsObject disk inodes settled (record { attributes = record { kind = o.attributes.kind; mode = o.attributes.mode; links = links }; file = o.file }) (with_node_links links found)
 links_set disk inodes settled o found links few was is = record {
   kind = was.kind;
   mode = was.mode;

@@ -10,8 +10,8 @@ abbrev pub IsChild : Entries → ℕ → ℕ → Type 0
 IsChild e d n = (x : Name) × (e d x ≡ Some n)
 
 -- a number is marked
-abbrev pub IsMarked : List Bool → ℕ → Type 0
-IsMarked marks n = slice_index_or marks n false ≡ true
+abbrev pub IsMarkedNumber : List Bool → ℕ → Type 0
+IsMarkedNumber marks n = slice_index_or marks n false ≡ true
 
 -- how many numbers aren't marked yet
 abbrev pub count_unmarked : List Bool → ℕ
@@ -20,16 +20,16 @@ count_unmarked marks = sum_by (λ mark. if mark then 0 else 1) marks
 -- A search from an object on has marked only what lies below it, and marks what has a name in each marked object that isn't left to
 -- be looked into.
 pub record Searches (e : Entries) (top : ℕ) (marks : List Bool) (left : List ℕ) : Type 0 where
-  pub itself : IsMarked marks top
-  pub below : (n : ℕ) → IsMarked marks n → IsBelow e top n
-  pub marked : (n : ℕ) → Contains left n → IsMarked marks n
-  pub closed : (d n : ℕ) → IsMarked marks d → IsChild e d n → IsMarked marks n ⊎ Contains left d
+  pub itself : IsMarkedNumber marks top
+  pub below : (n : ℕ) → IsMarkedNumber marks n → IsBelow e top n
+  pub marked : (n : ℕ) → Contains left n → IsMarkedNumber marks n
+  pub closed : (d n : ℕ) → IsMarkedNumber marks d → IsChild e d n → IsMarkedNumber marks n ⊎ Contains left d
 
 -- Marks come, and none goes; what is marked then is left to be looked into.
-pub record Marks (marks after : List Bool) (left rest : List ℕ) : Type 0 where
+pub record MarksMore (marks after : List Bool) (left rest : List ℕ) : Type 0 where
   pub same_length : length after ≡ length marks
   pub fewer : count_unmarked after + length rest ≤ count_unmarked marks + length left
-  pub kept : (n : ℕ) → IsMarked marks n → IsMarked after n
+  pub kept : (n : ℕ) → IsMarkedNumber marks n → IsMarkedNumber after n
   pub still_left : (n : ℕ) → Contains left n → Contains rest n
-  pub fresh : (n : ℕ) → IsMarked after n → IsMarked marks n ⊎ Contains rest n
-  pub marked : ((n : ℕ) → Contains left n → IsMarked marks n) → (n : ℕ) → Contains rest n → IsMarked after n
+  pub fresh : (n : ℕ) → IsMarkedNumber after n → IsMarkedNumber marks n ⊎ Contains rest n
+  pub marked : ((n : ℕ) → Contains left n → IsMarkedNumber marks n) → (n : ℕ) → Contains rest n → IsMarkedNumber after n

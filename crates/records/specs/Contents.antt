@@ -10,7 +10,7 @@ use Rattle.blocktree.specs.Errors.{IsFault}
 use Rattle.blocktree.specs.Trees.{IsSoundAt}
 use Rattle.blocktree.specs.declared.error.ReadError.{ReadError}
 use Rattle.blocktree.specs.declared.error.ReadError.TheVariants.{Damaged}
-use Rattle.inode.specs.Files.{Fits, IsFile, IsSameFile, bytes_of, bytes_with, byte_with}
+use Rattle.inode.specs.Files.{Fits, IsFile, IsSameFile, bytes_of_file, bytes_with, byte_with}
 use Rattle.inode.specs.declared.change.Change.{Change}
 use Rattle.inode.specs.declared.file.File.{File}
 use Rattle.inode.specs.declared.object.Object.{Object}
@@ -28,15 +28,15 @@ bytes_after (Write offset bytes) = written offset bytes.now
 bytes_after (Cut size) = resized size
 
 -- it keeps to the limits
-abbrev pub KeepsBounds : Rewrite → Type 0
-KeepsBounds (Write offset bytes) =
+abbrev pub KeepsRewriteBounds : Rewrite → Type 0
+KeepsRewriteBounds (Write offset bytes) =
     (1 ≤ length bytes.now) × (length bytes.now ≤ TRANSFER_BYTES) × (offset + length bytes.now ≤ GREATEST_FILE)
-KeepsBounds (Cut size) = size ≤ GREATEST_FILE
+KeepsRewriteBounds (Cut size) = size ≤ GREATEST_FILE
 
 -- a prepared change makes these bytes of those that a file has
 pub record Rewrites (disk : ℕ → List ℕ) (f : List ℕ → List ℕ) (file : File) (change : Change) : Type 0 where
   pub ends : EndsAt change.size (byte_with disk file change)
-  pub bytes : bytes_with disk file change ≡ f (bytes_of disk file)
+  pub bytes : bytes_with disk file change ≡ f (bytes_of_file disk file)
 
 -- A change of a file's bytes is prepared that makes these of them. The file stays the same until it is put in force.
 pub record PlansFile {B : Type 0} (G : Ghosts B) (blocks after : B) (file new : File) (f : List ℕ → List ℕ) (result : Result Change ReadError) : Type 0 where

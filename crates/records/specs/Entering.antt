@@ -6,7 +6,7 @@ use Rattle.layout.specs.declared.kind.Kind.TheVariants as kinds
 use Rattle.model.specs.Paths.{Name}
 use Rattle.model.specs.Volumes.{Node, directory_node}
 use Rattle.dirs.specs.Directory.{HasCount, with_name}
-use Rattle.dirs.specs.Edits.{HasNames, FitsIn}
+use Rattle.dirs.specs.Edits.{HasEditedNames, FitsIn}
 use Rattle.model.specs.declared.limits.TheConstants.{DIRECTORY_NAMES}
 use Rattle.dirs.specs.declared.edit.Edit.{Edit}
 use Rattle.inode.specs.declared.object.Object.{Object}
@@ -32,11 +32,11 @@ IsNameEdit inodes (edits.Replace entry) = IsEntry inodes (named_of entry)
 IsNameEdit inodes (edits.Move old entry) = IsEntry inodes (named_of entry)
 
 -- a directory with these names can be edited so
-abbrev pub Takes : NameEdit → NameMap → Type 0
-Takes (edits.Add entry) names = TakesEntry names entry.name.now
-Takes (edits.Remove name) names = Unit {0}
-Takes (edits.Replace entry) names = HasPlace (with_name entry.name.now None names)
-Takes (edits.Move old entry) names = HasPlace (with_name old.now None (with_name entry.name.now None names))
+abbrev pub TakesEdit : NameEdit → NameMap → Type 0
+TakesEdit (edits.Add entry) names = TakesEntry names entry.name.now
+TakesEdit (edits.Remove name) names = Unit {0}
+TakesEdit (edits.Replace entry) names = HasPlace (with_name entry.name.now None names)
+TakesEdit (edits.Move old entry) names = HasPlace (with_name old.now None (with_name entry.name.now None names))
 
 -- the names that it has then
 abbrev pub names_after : NameEdit → NameMap → NameMap
@@ -50,19 +50,19 @@ pub record Accepts (wanted : NameEdit) (found : Option Node) : Type 0 where
   pub mode : ℕ
   pub names : NameMap
   pub is : found ≡ Some (directory_node mode names)
-  pub takes : Takes wanted names
+  pub takes : TakesEdit wanted names
 
 -- a directory with its names changed
-abbrev pub with_names : (NameMap → NameMap) → Option Node → Option Node
-with_names f (Some (directory_node mode names)) = Some (directory_node mode (f names))
-with_names f o = o
+abbrev pub with_node_names : (NameMap → NameMap) → Option Node → Option Node
+with_node_names f (Some (directory_node mode names)) = Some (directory_node mode (f names))
+with_node_names f o = o
 
 -- an edit of a directory in memory makes this of its names; before, it stands for this object of a volume
 pub record Edits (disk : ℕ → List ℕ) (inodes : ℕ) (f : NameMap → NameMap) (found : Option Node) (o : Object) (edit : Edit) : Type 0 where
   pub names : NameMap
   pub stands : found ≡ Some (directory_node o.attributes.mode names)
   pub kind : o.attributes.kind ≡ kinds.Directory
-  pub edited : HasNames inodes disk o.file edit (f names)
+  pub edited : HasEditedNames inodes disk o.file edit (f names)
 
 -- there is an object, and an edit does so with it
 abbrev pub EditsIn : (ℕ → List ℕ) → ℕ → (NameMap → NameMap) → Option Node → Option Object → Edit → Type 0

@@ -20,17 +20,17 @@ abbrev pub MayReplace : Volume → ℕ → ℕ → Type 0
 MayReplace v n m = (m ≢ n) × (is_directory_node (v m) ≡ is_directory_node (v n)) × IsEmpty v m
 
 -- an update takes a name of the object m, whatever it is in memory
-abbrev pub TakesName : (ℕ → List ℕ) → (ℕ → Inode) → Volume → ℕ → Update → Type 0
-TakesName disk settled v m update = (count : ℕ) (o : Option Object) → Updates disk count (settled m) (v m) o update (with_name_less (v m))
+abbrev pub UpdateTakesName : (ℕ → List ℕ) → (ℕ → Inode) → Volume → ℕ → Update → Type 0
+UpdateTakesName disk settled v m update = (count : ℕ) (o : Option Object) → Updates disk count (settled m) (v m) o update (with_name_less (v m))
 
 -- what becomes of the object m when it loses a name: an update where it has no names in it, and else none
 abbrev pub Releases : (ℕ → List ℕ) → (ℕ → Inode) → Volume → ℕ → Option Update → Type 0
-Releases disk settled v m (Some update) = TakesName disk settled v m update × IsEmpty v m
+Releases disk settled v m (Some update) = UpdateTakesName disk settled v m update × IsEmpty v m
 Releases disk settled v m None = IsEmpty v m → ⊥
 
 -- a step takes away the name of the object m, which n may take; or what keeps it from it: the object is the same, or else what is told
 abbrev pub ReplacesBy : (ℕ → List ℕ) → (ℕ → Inode) → Volume → ℕ → ℕ → Result Step Errno → Type 0
-ReplacesBy disk settled v n m (Ok step) = (step.number ≡ m) × MayReplace v n m × TakesName disk settled v m step.update
+ReplacesBy disk settled v n m (Ok step) = (step.number ≡ m) × MayReplace v n m × UpdateTakesName disk settled v m step.update
 ReplacesBy disk settled v n m (Err EEXIST) = m ≡ n
 ReplacesBy disk settled v n m (Err errno) = (m ≢ n) × BarsReplacing v n m errno
 
@@ -42,12 +42,12 @@ IsSomeAlone (Some step) = IsAlone step.update
 -- the object n may take the name of what has it, if anything does, which a step takes away
 abbrev pub Replaces : (ℕ → List ℕ) → (ℕ → Inode) → Volume → ℕ → Option ℕ → Option Step → Type 0
 Replaces disk settled v n None None = Unit {0}
-Replaces disk settled v n (Some m) (Some step) = (step.number ≡ m) × MayReplace v n m × TakesName disk settled v m step.update
+Replaces disk settled v n (Some m) (Some step) = (step.number ≡ m) × MayReplace v n m × UpdateTakesName disk settled v m step.update
 Replaces disk settled v n target step = ⊥
 
 -- the directory k doesn't lie below what has the name x in d
-abbrev pub IsOutside : Volume → ℕ → Name → ℕ → Type 0
-IsOutside v d x k = (n : ℕ) → entries v d x ≡ Some n → IsBelow (entries v) n k → ⊥
+abbrev pub LiesOutside : Volume → ℕ → Name → ℕ → Type 0
+LiesOutside v d x k = (n : ℕ) → entries v d x ≡ Some n → IsBelow (entries v) n k → ⊥
 
 -- the object n has the name x in d, may get the name y in k, and a step takes away the name of what has it
 pub record Moves (disk : ℕ → List ℕ) (settled : ℕ → Inode) (v : Volume) (d : ℕ) (x : Name) (n k : ℕ) (y : Name) (step : Option Step) : Type 0 where

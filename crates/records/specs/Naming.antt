@@ -7,17 +7,17 @@ use Rattle.blocktree.specs.Errors.{IsFault}
 use Rattle.blocktree.specs.Trees.{IsSoundAt}
 use Rattle.blocktree.specs.declared.error.ReadError.{ReadError}
 use Rattle.blocktree.specs.declared.error.ReadError.TheVariants.{Damaged}
-use Rattle.dirs.specs.Edits.{FitsIn, HasNames}
+use Rattle.dirs.specs.Edits.{FitsIn, HasEditedNames}
 use Rattle.dirs.specs.declared.edit.Edit.{Edit}
 use Rattle.inode.specs.Files.{IsSameFile}
 use Rattle.inode.specs.declared.file.File.{File}
-use Rattle.records.specs.Entering.{Takes, names_after}
+use Rattle.records.specs.Entering.{TakesEdit, names_after}
 use Rattle.records.specs.declared.naming.NameEdit.{NameEdit}
 
 -- an edit is prepared of names that can be edited so, and else none
 abbrev pub EditsNames : ℕ → (ℕ → List ℕ) → File → NameEdit → NameMap → Option Edit → Type 0
-EditsNames inodes disk file wanted names (Some edit) = Takes wanted names × HasNames inodes disk file edit (names_after wanted names)
-EditsNames inodes disk file wanted names None = Takes wanted names → ⊥
+EditsNames inodes disk file wanted names (Some edit) = TakesEdit wanted names × HasEditedNames inodes disk file edit (names_after wanted names)
+EditsNames inodes disk file wanted names None = TakesEdit wanted names → ⊥
 
 -- Names of a directory's file are edited so, where it has such names before. The file stays the same until the edit is put in
 -- force.

@@ -7,7 +7,7 @@ use Rattle.model.specs.Volumes.{Volume, entries, is_directory_node, is_file_node
 use Rattle.model.specs.declared.errno.Errno.{Errno}
 use Rattle.model.specs.declared.errno.Errno.TheVariants.{DAMAGED, DIRFULL, EEXIST, EFBIG, EINVAL, EISDIR, EMLINK, ENAMETOOLONG, ENOENT, ENOTDIR, ENOTEMPTY, EPERM}
 use Rattle.model.specs.declared.limits.TheConstants.{FILE_NAMES, FIRST_NUMBER}
-use Rattle.records.specs.Steps.{IsFileOf}
+use Rattle.records.specs.Steps.{IsFileWithLinks}
 
 -- what keeps an object n from taking the name of another one, m: only one of them is a directory, or m has names
 abbrev pub BarsReplacing : Volume → ℕ → ℕ → Errno → Type 0
@@ -39,8 +39,8 @@ IsObstacle inodes v (create n d made x) DAMAGED = MayBeMade inodes v n made → 
 IsObstacle inodes v (create n d made x) DIRFULL = MayBeMade inodes v n made × (TakesName v d x → ⊥)
 IsObstacle inodes v (link n d x) ENAMETOOLONG = IsName x → ⊥
 IsObstacle inodes v (link n d x) EPERM = IsFalse (is_file_node (v n))
-IsObstacle inodes v (link n d x) EMLINK = (links : ℕ) × IsFileOf links (v n) × (FILE_NAMES ≤ links)
-IsObstacle inodes v (link n d x) DIRFULL = (links : ℕ) × IsFileOf links (v n) × (links < FILE_NAMES) × (TakesName v d x → ⊥)
+IsObstacle inodes v (link n d x) EMLINK = (links : ℕ) × IsFileWithLinks links (v n) × (FILE_NAMES ≤ links)
+IsObstacle inodes v (link n d x) DIRFULL = (links : ℕ) × IsFileWithLinks links (v n) × (links < FILE_NAMES) × (TakesName v d x → ⊥)
 IsObstacle inodes v (unname d x) ENOENT = entries v d x ≡ None
 IsObstacle inodes v (unname d x) ENOTEMPTY = (n : ℕ) × (entries v d x ≡ Some n) × (IsEmpty v n → ⊥)
 IsObstacle inodes v (rename d x k y) ENAMETOOLONG = IsName y → ⊥

@@ -11,7 +11,7 @@ use Rattle.inofile.specs.Objects.{IsObjectOrNone}
 use Rattle.inofile.specs.Volumes.{IsVolumeOf}
 use Rattle.inofile.specs.declared.inode_file.InodeFile.{InodeFile}
 use Rattle.records.specs.Contents.{FitsFile, RewritesIn}
-use Rattle.records.specs.Entering.{EditsIn, FitsObject, with_names}
+use Rattle.records.specs.Entering.{EditsIn, FitsObject, with_node_names}
 use Rattle.records.specs.declared.steps.Step.{Step}
 use Rattle.records.specs.declared.steps.Update.{Update}
 use Rattle.records.specs.declared.steps.Update.TheVariants as updates
@@ -67,25 +67,25 @@ IsBeside n None = Unit {0}
 IsBeside n (Some step) = step.number ≢ n
 
 -- a file that has so many names
-abbrev pub IsFileOf : ℕ → Option Node → Type 0
-IsFileOf links found = (mode : ℕ) × (bytes : List ℕ) × (found ≡ Some (file_node mode links bytes))
+abbrev pub IsFileWithLinks : ℕ → Option Node → Type 0
+IsFileWithLinks links found = (mode : ℕ) × (bytes : List ℕ) × (found ≡ Some (file_node mode links bytes))
 
 -- a file with so many names
-abbrev pub with_links : ℕ → Option Node → Option Node
-with_links links (Some (file_node mode old bytes)) = Some (file_node mode links bytes)
-with_links links o = o
+abbrev pub with_node_links : ℕ → Option Node → Option Node
+with_node_links links (Some (file_node mode old bytes)) = Some (file_node mode links bytes)
+with_node_links links o = o
 
 -- an update makes one object of a volume of another, or of none; in memory it is this one, or none
 abbrev pub Updates : (ℕ → List ℕ) → ℕ → Inode → Option Node → Option Object → Update → Option Node → Type 0
 Updates disk inodes settled found o (updates.Set object) to = IsObjectOrNone disk inodes settled object to
 Updates disk inodes settled found o (updates.Names edit) to =
-    (f : NameMap → NameMap) × EditsIn disk inodes f found o edit × (to ≡ with_names f found)
+    (f : NameMap → NameMap) × EditsIn disk inodes f found o edit × (to ≡ with_node_names f found)
 Updates disk inodes settled found o (updates.SetMode mode) to =
     IsTrue (is_file_node found || is_directory_node found) × (to ≡ with_node_mode mode found)
 Updates disk inodes settled found o (updates.Bytes change) to =
     (f : List ℕ → List ℕ) × IsTrue (is_file_node found) × RewritesIn disk f o change × (to ≡ with_file_bytes f found)
 Updates disk inodes settled found o (updates.Links links) to =
-    IsTrue (is_file_node found) × (links ≤ FILE_NAMES) × (to ≡ with_links links found)
+    IsTrue (is_file_node found) × (links ≤ FILE_NAMES) × (to ≡ with_node_links links found)
 
 -- a step makes one volume of another
 abbrev pub Steps : (ℕ → List ℕ) → (ℕ → Inode) → InodeFile → Volume → Step → Volume → Type 0

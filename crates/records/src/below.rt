@@ -8,7 +8,7 @@ ghost use Rattle.blocktree.specs.Errors.{IsFault};
 ghost use Rattle.paths.specs.Loads.{OnlyLoads};
 ghost use Rattle.paths.specs.Numbers.{AreNumbers, IsNumber};
 ghost use Rattle.paths.specs.Standing.{Looks};
-ghost use Rattle.records.specs.Below.{IsChild, IsMarked, Marks};
+ghost use Rattle.records.specs.Below.{IsChild, IsMarkedNumber, MarksMore};
 ghost use Rattle.records.specs.Shown.{NeverDamaged, OnVolumes};
 
 use blocktree::ReadError;
@@ -77,10 +77,10 @@ fn mark_all(
     numbers: &[InodeNumber],
 ) -> Result<(), AllocError>
     requires { AreNumbers (length marks.old.items) numbers.now }
-    ensures marks { Marks marks.old.items marks.new.items left.old.items left.new.items }
-    ensures all { OnOk result ((n : ℕ) → Contains numbers.now n → IsMarked marks.new.items n) }
-    ensures only { (n : ℕ) → IsMarked marks.new.items n
-        → IsMarked marks.old.items n ⊎ Contains numbers.now n }
+    ensures marks { MarksMore marks.old.items marks.new.items left.old.items left.new.items }
+    ensures all { OnOk result ((n : ℕ) → Contains numbers.now n → IsMarkedNumber marks.new.items n) }
+    ensures only { (n : ℕ) → IsMarkedNumber marks.new.items n
+        → IsMarkedNumber marks.old.items n ⊎ Contains numbers.now n }
     ensures within { (count : ℕ) → AreNumbers count numbers.now → AreNumbers count left.old.items
         → AreNumbers count left.new.items }
 {
@@ -97,10 +97,10 @@ fn mark(
     number: InodeNumber,
 ) -> Result<(), AllocError>
     requires { number < length marks.old.items }
-    ensures marks { Marks marks.old.items marks.new.items left.old.items left.new.items }
-    ensures marked { OnOk result (IsMarked marks.new.items number) }
-    ensures only { (n : ℕ) → IsMarked marks.new.items n
-        → IsMarked marks.old.items n ⊎ (n ≡ number) }
+    ensures marks { MarksMore marks.old.items marks.new.items left.old.items left.new.items }
+    ensures marked { OnOk result (IsMarkedNumber marks.new.items number) }
+    ensures only { (n : ℕ) → IsMarkedNumber marks.new.items n
+        → IsMarkedNumber marks.old.items n ⊎ (n ≡ number) }
     ensures within { (count : ℕ) → IsNumber count number → AreNumbers count left.old.items
         → AreNumbers count left.new.items }
 {

@@ -14,7 +14,7 @@ ghost use Rattle.inode.specs.declared.object.Object.{Object};
 ghost use Rattle.inofile.specs.Inodes.{loaded};
 ghost use Rattle.inofile.specs.Objects.{IsObject, IsObjectOrNone, IsSameObject, IsSameOrNone};
 ghost use Rattle.paths.specs.Numbers.{IsNumber};
-ghost use Rattle.records.specs.Contents.{FitsFile, KeepsBounds, PlansFile, Rewrites, RewritesIn, bytes_after, rewriting};
+ghost use Rattle.records.specs.Contents.{FitsFile, KeepsRewriteBounds, PlansFile, Rewrites, RewritesIn, bytes_after, rewriting};
 ghost use Rattle.records.specs.Failures.{told};
 ghost use Rattle.records.specs.Looking.{Finds};
 ghost use Rattle.records.specs.Preparing.{DecidesRecord};
@@ -51,7 +51,7 @@ pub(crate) fn prepare_bytes<B: Blocks>(
     ensures decides { DecidesRecord B.Blocks blocks.old blocks.new inodes.old inodes.new
         (rewriting number rewrite.now) result }
     ensures own { IfOk (told result) (λ r. IfErr r (λ e. e ≡ Errno.EFBIG)) }
-    ensures bounds { IfOk result (λ _. KeepsBounds rewrite.now) }
+    ensures bounds { IfOk result (λ _. KeepsRewriteBounds rewrite.now) }
 {
     if !keeps_bounds(rewrite) {
         return Err(Failure::Refused(Errno::EFBIG));
@@ -75,7 +75,7 @@ pub(crate) fn prepare_bytes<B: Blocks>(
 
 // Whether a change of a file's bytes keeps to the limits.
 fn keeps_bounds(rewrite: &Rewrite<'_>) -> bool
-    ensures { IsTrue result ↔ KeepsBounds rewrite.now }
+    ensures { IsTrue result ↔ KeepsRewriteBounds rewrite.now }
 {
     match rewrite {
         Rewrite::Write { offset, bytes } => {
@@ -95,7 +95,7 @@ fn plan_number<B: Blocks>(
     number: InodeNumber,
     rewrite: &Rewrite<'_>,
 ) -> Result<Option<Change>, ReadError>
-    requires bounds { KeepsBounds rewrite.now }
+    requires bounds { KeepsRewriteBounds rewrite.now }
     requires number { IsNumber inodes.old.geometry.inodes number }
     ensures planned { Finds B.Blocks blocks.old blocks.new inodes.old inodes.new (λ disk settled v w.
         (is_some w ≡ is_file_node (v number))
@@ -119,7 +119,7 @@ fn plan_object<B: Blocks>(
     blocks: &mut B,
     rewrite: &Rewrite<'_>,
 ) -> Result<Option<Change>, ReadError>
-    requires { KeepsBounds rewrite.now }
+    requires { KeepsRewriteBounds rewrite.now }
     ensures reads { ReadsBlocks B.Blocks IsFault blocks.old blocks.new result }
     ensures same { IsSameOrNone object.old object.new }
     ensures fits { IfOk result (λ w. IfSome w (FitsFile object.new)) }
@@ -148,7 +148,7 @@ fn plan_taken<B: Blocks>(
     blocks: &mut B,
     rewrite: &Rewrite<'_>,
 ) -> Result<Option<Change>, ReadError>
-    requires { KeepsBounds rewrite.now }
+    requires { KeepsRewriteBounds rewrite.now }
     ensures reads { ReadsBlocks B.Blocks IsFault blocks.old blocks.new result }
     ensures same { IsSameObject object.old object.new }
     ensures fits { IfOk result (λ w. IfSome w (Fits object.new.file.tree)) }
@@ -177,7 +177,7 @@ fn plan<B: Blocks>(
     blocks: &mut B,
     rewrite: &Rewrite<'_>,
 ) -> Result<Change, ReadError>
-    requires { KeepsBounds rewrite.now }
+    requires { KeepsRewriteBounds rewrite.now }
     ensures { PlansFile B.Blocks blocks.old blocks.new file.old file.new
         (bytes_after rewrite.now) result }
 {

@@ -11,7 +11,7 @@ ghost use Rattle.inode.specs.declared.object.Object.{Object};
 ghost use Rattle.inofile.specs.Inodes.{loaded};
 ghost use Rattle.inofile.specs.Objects.{IsObjectOrNone, IsSameOrNone};
 ghost use Rattle.paths.specs.Numbers.{IsNumber};
-ghost use Rattle.records.specs.Entering.{EditsIn, FitsObject, IsDirectoryObject, IsNameEdit, PreparesEdit, with_names};
+ghost use Rattle.records.specs.Entering.{EditsIn, FitsObject, IsDirectoryObject, IsNameEdit, PreparesEdit, with_node_names};
 ghost use Rattle.records.specs.Looking.{Finds};
 ghost use Rattle.records.specs.Steps.{IsAtHand, TakesUpdate};
 ghost use Rattle.records.specs.declared.steps.Update.TheVariants as updates;
@@ -120,7 +120,7 @@ pub(crate) fn commit_edit(object: &mut Option<Object>, edit: Edit)
     ensures { (disk : ℕ → List ℕ) (inodes : ℕ) (settled : Inode) (found : Option Node)
         (f : NameMap → NameMap) → IsObjectOrNone disk inodes settled object.old found
         → EditsIn disk inodes f found object.old edit
-        → IsObjectOrNone disk inodes settled object.new (with_names f found) }
+        → IsObjectOrNone disk inodes settled object.new (with_node_names f found) }
 {
     if let Some(directory) = object {
         edit.commit(&mut directory.file);

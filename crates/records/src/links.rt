@@ -7,7 +7,7 @@ ghost use Rattle.model.specs.Volumes.{Volume, is_file_node};
 ghost use Rattle.inofile.specs.Inodes.{IsKnown};
 ghost use Rattle.inofile.specs.Volumes.{IsVolumeOf};
 ghost use Rattle.records.specs.Preparing.{DecidesRecord};
-ghost use Rattle.records.specs.Steps.{IsFileOf};
+ghost use Rattle.records.specs.Steps.{IsFileWithLinks};
 
 use crate::entering::edit_parent;
 use crate::loading::{is_number, load_to_change};
@@ -72,7 +72,7 @@ fn links_of(inodes: &InodeFile, number: InodeNumber) -> Option<u32>
     requires { IsKnown inodes.now number }
     ensures file { (count : ℕ) (disk : ℕ → List ℕ) (settled : ℕ → Inode) (v : Volume)
         → IsVolumeOf count disk settled inodes.now v
-        → IfSome result (λ links. IsFileOf links (v number)) }
+        → IfSome result (λ links. IsFileWithLinks links (v number)) }
     ensures other { (count : ℕ) (disk : ℕ → List ℕ) (settled : ℕ → Inode) (v : Volume)
         → IsVolumeOf count disk settled inodes.now v
         → IfNone result (is_file_node (v number) ≡ false) }

@@ -8,7 +8,7 @@ ghost use Rattle.blocktree.specs.Errors.{IsFault};
 ghost use Rattle.blocktree.specs.Trees.{IsSoundAt};
 ghost use Rattle.inode.specs.Files.{IsSameFile};
 ghost use Rattle.dirs.specs.Directory.{with_name};
-ghost use Rattle.dirs.specs.Edits.{FitsIn, HasNames, IsDirectory};
+ghost use Rattle.dirs.specs.Edits.{FitsIn, HasEditedNames, IsDirectory};
 ghost use Rattle.records.specs.Entering.{IsNameEdit};
 ghost use Rattle.records.specs.Naming.{EditsFile};
 ghost use Rattle.records.specs.declared.naming.NameEdit.TheVariants as edits;
@@ -66,7 +66,7 @@ fn add_new<B: Blocks>(
 ) -> Result<Option<Edit>, ReadError>
     requires entry { IsEntry inodes (named_of entry.now) }
     requires fits { FitsIn file.old edit }
-    ensures { EditsFile (λ disk. HasNames inodes disk file.old edit) B.Blocks blocks.old blocks.new
+    ensures { EditsFile (λ disk. HasEditedNames inodes disk file.old edit) B.Blocks blocks.old blocks.new
         inodes file.old file.new (NameEdit.Add entry.now) result }
 {
     let found = edit.find(file, blocks, inodes, entry.name)?;
@@ -86,7 +86,7 @@ fn remove_one<B: Blocks>(
     name: &[u8],
 ) -> Result<Option<Edit>, ReadError>
     requires fits { FitsIn file.old edit }
-    ensures { EditsFile (λ disk. HasNames inodes disk file.old edit) B.Blocks blocks.old blocks.new
+    ensures { EditsFile (λ disk. HasEditedNames inodes disk file.old edit) B.Blocks blocks.old blocks.new
         inodes file.old file.new (edits.Remove name.entry) result }
 {
     let edit = remove_in(alloc, file, blocks, inodes, edit, name)?;
@@ -104,7 +104,7 @@ fn replace_in<B: Blocks>(
 ) -> Result<Option<Edit>, ReadError>
     requires entry { IsEntry inodes (named_of entry.now) }
     requires fits { FitsIn file.old edit }
-    ensures { EditsFile (λ disk. HasNames inodes disk file.old edit) B.Blocks blocks.old blocks.new
+    ensures { EditsFile (λ disk. HasEditedNames inodes disk file.old edit) B.Blocks blocks.old blocks.new
         inodes file.old file.new (NameEdit.Replace entry.now) result }
 {
     let edit = remove_in(alloc, file, blocks, inodes, edit, entry.name)?;
@@ -123,7 +123,7 @@ fn move_in<B: Blocks>(
 ) -> Result<Option<Edit>, ReadError>
     requires entry { IsEntry inodes (named_of entry.now) }
     requires fits { FitsIn file.old edit }
-    ensures { EditsFile (λ disk. HasNames inodes disk file.old edit) B.Blocks blocks.old blocks.new
+    ensures { EditsFile (λ disk. HasEditedNames inodes disk file.old edit) B.Blocks blocks.old blocks.new
         inodes file.old file.new (edits.Move old.entry entry.now) result }
 {
     let edit = remove_in(alloc, file, blocks, inodes, edit, old)?;
@@ -142,7 +142,7 @@ fn add_in<B: Blocks>(
 ) -> Result<Option<Edit>, ReadError>
     requires entry { IsEntry inodes (named_of entry.now) }
     requires fits { FitsIn file.old edit }
-    ensures { EditsFile (λ disk names. HasNames inodes disk file.old edit
+    ensures { EditsFile (λ disk names. HasEditedNames inodes disk file.old edit
         (with_name entry.now.name.now None names)) B.Blocks blocks.old blocks.new
         inodes file.old file.new (NameEdit.Replace entry.now) result }
 {
@@ -170,10 +170,10 @@ fn remove_in<B: Blocks>(
     ensures same { IsSameFile file.old file.new }
     ensures fits { IfOk result (FitsIn file.new) }
     ensures edited { (disk : ℕ → List ℕ) (names : NameMap) → B.Shows blocks.old disk
-        → HasNames inodes disk file.old edit names → IfOk result
-        (λ x. HasNames inodes disk file.new x (with_name name.now None names)) }
+        → HasEditedNames inodes disk file.old edit names → IfOk result
+        (λ x. HasEditedNames inodes disk file.new x (with_name name.now None names)) }
     ensures damaged { (disk : ℕ → List ℕ) (names : NameMap) → B.Shows blocks.old disk
-        → IsErrOf result ReadError.Damaged → HasNames inodes disk file.old edit names
+        → IsErrOf result ReadError.Damaged → HasEditedNames inodes disk file.old edit names
         → ((i : ℕ) → IsSoundAt (B.count blocks.old) disk file.old.tree i) → ⊥ }
 {
     let mut edit = edit;

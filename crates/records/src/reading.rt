@@ -5,7 +5,7 @@ ghost use Rattle.model.specs.Edits.{read_at};
 ghost use Rattle.buffers.specs.Reads.{ReadsBlocks};
 ghost use Rattle.blocktree.specs.Errors.{IsFault};
 ghost use Rattle.blocktree.specs.Trees.{IsSoundAt};
-ghost use Rattle.inode.specs.Files.{bytes_of};
+ghost use Rattle.inode.specs.Files.{bytes_of_file};
 ghost use Rattle.paths.specs.Numbers.{IsNumber};
 ghost use Rattle.records.specs.Looking.{Finds};
 ghost use Rattle.records.specs.Reading.{ReadsNumber};
@@ -56,7 +56,7 @@ fn part<B: Blocks>(
 ) -> Result<Vec<u8>, ReadError>
     ensures reads { ReadsBlocks B.Blocks IsFault blocks.old blocks.new result }
     ensures bytes { (disk : ℕ → List ℕ) → B.Shows blocks.old disk
-        → IfOk result (λ b. b.items ≡ read_at offset count (bytes_of disk file.now)) }
+        → IfOk result (λ b. b.items ≡ read_at offset count (bytes_of_file disk file.now)) }
     ensures damaged { (disk : ℕ → List ℕ) → B.Shows blocks.old disk
         → IsErrOf result ReadError.Damaged
         → ((i : ℕ) → IsSoundAt (B.count blocks.old) disk file.now.tree i) → ⊥ }

@@ -12,7 +12,7 @@ ghost use Rattle.paths.specs.Standing.{Stands};
 ghost use Rattle.records.specs.Entering.{Accepts, EditsIn, IsNameEdit, PreparesEdit};
 ghost use Rattle.records.specs.Failures.{told};
 ghost use Rattle.records.specs.Looking.{Finds};
-ghost use Rattle.records.specs.Moving.{IsOutside, IsSomeAlone, Moves, ReplacesBy};
+ghost use Rattle.records.specs.Moving.{LiesOutside, IsSomeAlone, Moves, ReplacesBy};
 ghost use Rattle.records.specs.Preparing.{DecidesOn, DecidesRecord};
 ghost use Rattle.records.specs.Steps.{IsAlone, IsAtHand, IsSomeAtHand, TakesUpdate};
 ghost use Rattle.records.specs.declared.steps.Update.TheVariants as updates;
@@ -84,7 +84,7 @@ pub fn prepare_move<'n, B: Blocks>(
     requires new_parent { IsNumber inodes.old.geometry.inodes new_parent }
     ensures { DecidesOn (λ disk settled v. Stands B.Blocks disk settled v blocks.old inodes.old)
         (λ disk settled v. Stands B.Blocks disk settled v blocks.old inodes.old
-        × IsOutside v parent name.now new_parent) B.Blocks blocks.old blocks.new inodes.old inodes.new
+        × LiesOutside v parent name.now new_parent) B.Blocks blocks.old blocks.new inodes.old inodes.new
         (rename parent name.now new_parent new_name.now) result }
 {
     let found = number_in(alloc, inodes, blocks, parent, name)?;

@@ -2,7 +2,7 @@
 
 ghost use Rattle.std.specs.Prelude.{◌≡◌, ◌+◌, ◌≤◌, IfErr, IfOk, IfSome, IsTrue, length, unwrap_or, []};
 ghost use Rattle.model.specs.Records.{cut, write};
-ghost use Rattle.model.specs.Volumes.{bytes_of, is_file_node};
+ghost use Rattle.model.specs.Volumes.{bytes_of_node, is_file_node};
 ghost use Rattle.model.specs.declared.errno.Errno.TheVariants.{EFBIG};
 ghost use Rattle.model.specs.declared.limits.TheConstants.{GREATEST_FILE, TRANSFER_BYTES};
 ghost use Rattle.blocktree.specs.Errors.{IsFault};
@@ -98,7 +98,7 @@ fn size_at<B: Blocks>(
 ) -> Result<u64, ReadError>
     requires { IsNumber inodes.old.geometry.inodes number }
     ensures { Finds B.Blocks blocks.old blocks.new inodes.old inodes.new (λ disk settled v n.
-        IsTrue (is_file_node (v number)) → n ≡ length (unwrap_or (bytes_of (v number)) [])) result }
+        IsTrue (is_file_node (v number)) → n ≡ length (unwrap_or (bytes_of_node (v number)) [])) result }
 {
     load(alloc, inodes, blocks, number)?;
     match paths::object(inodes, number) {

@@ -6,7 +6,7 @@ ghost use Rattle.model.specs.Records.{with_node_mode};
 ghost use Rattle.model.specs.Volumes.{Node, is_directory_node, is_file_node};
 ghost use Rattle.model.specs.declared.limits.TheConstants.{FILE_NAMES};
 ghost use Rattle.inofile.specs.Objects.{IsObjectOrNone};
-ghost use Rattle.records.specs.Steps.{Commits, FitsUpdate, TakesSome, TakesUpdate, Updates, with_links};
+ghost use Rattle.records.specs.Steps.{Commits, FitsUpdate, TakesSome, TakesUpdate, Updates, with_node_links};
 
 use crate::contents::commit_bytes;
 use crate::entering::commit_edit;
@@ -96,7 +96,7 @@ fn set_links(object: &mut Option<Object>, links: u32)
     ensures { (disk : ℕ → List ℕ) (inodes : ℕ) (settled : Inode) (found : Option Node)
         → IsObjectOrNone disk inodes settled object.old found
         → IsTrue (is_file_node found) → links ≤ FILE_NAMES
-        → IsObjectOrNone disk inodes settled object.new (with_links links found) }
+        → IsObjectOrNone disk inodes settled object.new (with_node_links links found) }
 {
     if let Some(object) = object {
         object.attributes.links = links;

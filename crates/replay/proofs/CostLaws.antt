@@ -7,7 +7,7 @@ use Rattle.layout.specs.declared.log.Gate.TheVariants as gate
 use Rattle.model.specs.Records.{Change, Replays, applied, costs, work_of}
 use Rattle.model.specs.Room.{cost}
 use Rattle.model.specs.Volumes.{Volume}
-use Rattle.replay.specs.Volumes.{LeadTo, Spells}
+use Rattle.replay.specs.Volumes.{LeadTo, SpellsRecord}
 use Rattle.replay.proofs.RecordLaws.{ends, step}
 
 -- What is left to be counted of records that cost so much together, behind some of them.
@@ -23,7 +23,7 @@ none_paid inodes records changes v w leads = record { now = v; more = changes; l
 module _ (inodes so_far : ℕ) (rest : List ℕ) (w : Volume) (all : ℕ) (owed : IsOwed inodes so_far rest w all) where
   -- one record more
   pub one_paid : (body after : List ℕ) → length body < 2 ^ 32 → rest ≡ record_of body ++ after
-      → (c : Change) × Spells body c × ((k : ℕ) → ((v : Volume) → k ≡ cost (work_of v c)) → IsOwed inodes (so_far + k) after w all)
+      → (c : Change) × SpellsRecord body c × ((k : ℕ) → ((v : Volume) → k ≡ cost (work_of v c)) → IsOwed inodes (so_far + k) after w all)
   one_paid body after short is =
       let s = step inodes rest body after owed.more owed.now w short is owed.leads in (
         s.change,

@@ -8,7 +8,7 @@ use Rattle.layout.specs.Record.{Change, IsChange, change_bytes}
 use Rattle.model.specs.Records.{Applies, applied}
 use Rattle.model.specs.Volumes.{Volume}
 use Rattle.oplog.specs.SavedLog.{HoldsLeaving}
-use Rattle.replay.specs.Volumes.{LeadTo, Spells, bodies_of}
+use Rattle.replay.specs.Volumes.{LeadTo, SpellsRecord, bodies_of}
 use Rattle.layout.proofs.OpenLaws.{record_once}
 
 head_length : (n : ℕ) → length (1 ∷ little_bytes 4 n) ≡ 5
@@ -19,7 +19,7 @@ pub record Step (inodes : ℕ) (body after : List ℕ) (changes : List Change) (
   pub change : Change
   pub more : List Change
   pub are : changes ≡ change ∷ more
-  pub spells : Spells body change
+  pub spells : SpellsRecord body change
   pub applies : Applies inodes now change
   pub leads : LeadTo inodes after more (applied change now) w
 

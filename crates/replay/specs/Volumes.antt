@@ -21,7 +21,7 @@ pub record HasVolume (count : ℕ) (disk : ℕ → List ℕ) (settled : ℕ → 
   pub volume : IsVolume s.geometry.inodes v
 
 -- the body of a record of the log
-pub record Spells (body : List ℕ) (change : Change) : Type 0 where
+pub record SpellsRecord (body : List ℕ) (change : Change) : Type 0 where
   pub is : IsChange change
   pub spelled : body ≡ change_bytes change
 

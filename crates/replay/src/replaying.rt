@@ -7,7 +7,7 @@ ghost use Rattle.model.specs.Volumes.{Volume};
 ghost use Rattle.buffers.specs.Reads.{ReadsBlocks};
 ghost use Rattle.blocktree.specs.Errors.{IsFault};
 ghost use Rattle.oplog.specs.SavedLog.{HoldsLeaving};
-ghost use Rattle.replay.specs.Volumes.{ComesTo, HasVolume, LeadTo, Spells, bodies_of};
+ghost use Rattle.replay.specs.Volumes.{ComesTo, HasVolume, LeadTo, SpellsRecord, bodies_of};
 
 use blocktree::ReadError;
 use buffers::Blocks;
@@ -62,7 +62,7 @@ fn replay_one<B: Blocks>(
     ensures replays { (disk : ℕ → List ℕ) (settled : ℕ → Inode) (v : Volume) (change : Change)
         → B.Shows blocks.old disk
         → HasVolume (B.count blocks.old) disk settled inodes.old v
-        → Spells body.now change
+        → SpellsRecord body.now change
         → Applies inodes.old.geometry.inodes v change
         → ComesTo result (λ _. HasVolume (B.count blocks.old) disk settled inodes.new
         (applied change v)) }

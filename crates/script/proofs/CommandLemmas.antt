@@ -4,7 +4,7 @@ use Rattle.model.specs.declared.command.Command.{Command}
 use Rattle.model.specs.declared.command.PathCall.{PathCall}
 use Rattle.model.specs.declared.command.PathCall.TheVariants as call
 use Rattle.script.specs.Forms.{end, form_words, AreValues, Form, Values}
-use Rattle.script.specs.Lines.{line_of, call_fields, call_words, command_words, spelling_of, spelling_words, named, plain, snap, within, IsCall, IsCommand, IsSpelling, Spelling}
+use Rattle.script.specs.Lines.{line_of, call_fields, call_words, command_words, spelling_of, spelling_words, named, plain, snap, within, IsPathCallInForm, IsCommandInForm, IsSpelling, Spelling}
 use Rattle.script.specs.Readings.{ReadsFields, ReadsWords}
 use Rattle.script.specs.Verbs.{call_form, change_form, command_form, file_form, is_call, snap_form, verb_name}
 use Rattle.script.specs.Words.{text_word}
@@ -36,7 +36,7 @@ behind : (form : Verb → Form) (v w : Verb) (words : List (List ℕ)) → HasNo
 behind form v w words none vs good e =
     subst (λ u. HasNone (form u) words) (same_verb v w words (form_words (form w) vs) e) none vs good (same_words (verb_name v) (verb_name w) words (form_words (form w) vs) e)
 
-pub refused_call : (v : Verb) (words : List (List ℕ)) → HasNone (call_form v) words → (c : PathCall) → IsCall c → verb_name v ∷ words ≡ call_words c → ⊥
+pub refused_call : (v : Verb) (words : List (List ℕ)) → HasNone (call_form v) words → (c : PathCall) → IsPathCallInForm c → verb_name v ∷ words ≡ call_words c → ⊥
 refused_call v words none c good e = behind call_form v (call_fields c).0 words none (call_fields c).1 good e
 
 pub call_is_call : (c : PathCall) → is_call (call_fields c).0 ≡ true
@@ -78,7 +78,7 @@ by_path v words is none (within name c) good e =
 by_path v words is none (snap w vs) good e =
     let same = same_verb v verb.Snap words (verb_name w ∷ form_words (snap_form w) vs) e in let no : true ≡ false = sym is ∙ ap is_call same in absurd (cc)
 
-pub refused_path : (v : Verb) (words : List (List ℕ)) → is_call v ≡ true → HasNone (call_form v) words → (c : Command) → IsCommand c → verb_name v ∷ words ≡ command_words c → ⊥
+pub refused_path : (v : Verb) (words : List (List ℕ)) → is_call v ≡ true → HasNone (call_form v) words → (c : Command) → IsCommandInForm c → verb_name v ∷ words ≡ command_words c → ⊥
 refused_path v words is none c good e = by_path v words is none (spelling_of c) good e
 
 by_plain : (v : Verb) (words : List (List ℕ)) → is_call v ≡ false → (v ≡ verb.Snap → ⊥) → (v ≡ verb.In → ⊥) → HasNone (command_form v) words → (s : Spelling) → IsSpelling s → verb_name v ∷ words ≡ spelling_words s → ⊥
@@ -88,7 +88,7 @@ by_plain v words is not_snap not_in none (named c) good e =
 by_plain v words is not_snap not_in none (within name c) good e = not_in (same_verb v verb.In words (text_word name ∷ call_words c) e)
 by_plain v words is not_snap not_in none (snap w vs) good e = not_snap (same_verb v verb.Snap words (verb_name w ∷ form_words (snap_form w) vs) e)
 
-pub refused_plain : (v : Verb) (words : List (List ℕ)) → is_call v ≡ false → (v ≡ verb.Snap → ⊥) → (v ≡ verb.In → ⊥) → HasNone (command_form v) words → (c : Command) → IsCommand c → verb_name v ∷ words ≡ command_words c → ⊥
+pub refused_plain : (v : Verb) (words : List (List ℕ)) → is_call v ≡ false → (v ≡ verb.Snap → ⊥) → (v ≡ verb.In → ⊥) → HasNone (command_form v) words → (c : Command) → IsCommandInForm c → verb_name v ∷ words ≡ command_words c → ⊥
 refused_plain v words is not_snap not_in none c good e = by_plain v words is not_snap not_in none (spelling_of c) good e
 
 by_snap : (words : List (List ℕ)) → ((w : Verb) (vs : Values (snap_form w)) → AreValues (snap_form w) vs → words ≡ verb_name w ∷ form_words (snap_form w) vs → ⊥) → (s : Spelling) → IsSpelling s → verb_name verb.Snap ∷ words ≡ spelling_words s → ⊥
@@ -99,10 +99,10 @@ by_snap words none (within name c) good e = absurd (cc (same_word (verb_name ver
 by_snap words none (snap w vs) good e = none w vs good (same_words (verb_name verb.Snap) (verb_name verb.Snap) words (verb_name w ∷ form_words (snap_form w) vs) e)
 
 -- behind `snap` stands no second word, or one behind which no fields of its form stand
-pub refused_snap : (v : Verb) (words : List (List ℕ)) → HasNone (snap_form v) words → (c : Command) → IsCommand c → verb_name verb.Snap ∷ verb_name v ∷ words ≡ command_words c → ⊥
+pub refused_snap : (v : Verb) (words : List (List ℕ)) → HasNone (snap_form v) words → (c : Command) → IsCommandInForm c → verb_name verb.Snap ∷ verb_name v ∷ words ≡ command_words c → ⊥
 refused_snap v words none c good e = by_snap (verb_name v ∷ words) (λ w vs fine is. behind snap_form v w words none vs fine is) (spelling_of c) good e
 
-pub refused_second : {X : Type 0} (word : X → List ℕ) (xs : List X) (d : X) → 1 ≤ length xs → ((w : Verb) → word (get_or xs 0 d) ≡ verb_name w → ⊥) → (c : Command) → IsCommand c → verb_name verb.Snap ∷ map word xs ≡ command_words c → ⊥
+pub refused_second : {X : Type 0} (word : X → List ℕ) (xs : List X) (d : X) → 1 ≤ length xs → ((w : Verb) → word (get_or xs 0 d) ≡ verb_name w → ⊥) → (c : Command) → IsCommandInForm c → verb_name verb.Snap ∷ map word xs ≡ command_words c → ⊥
 refused_second word [] d some none c good e = absurd (omega (arith, some))
 refused_second word (x ∷ xs) d some none c good e =
     by_snap (word x ∷ map word xs) (λ w vs fine is. none w (same_word (word x) (verb_name w) (map word xs) (form_words (snap_form w) vs) is)) (spelling_of c) good e
@@ -114,7 +114,7 @@ by_first first more none (named c) e = none (call_fields c).0 (same_word first (
 by_first first more none (within name c) e = none verb.In (same_word first (verb_name verb.In) more (text_word name ∷ call_words c) e)
 by_first first more none (snap w vs) e = none verb.Snap (same_word first (verb_name verb.Snap) more (verb_name w ∷ form_words (snap_form w) vs) e)
 
-pub refused_first : {X : Type 0} (word : X → List ℕ) (xs : List X) (d : X) → 1 ≤ length xs → ((w : Verb) → word (get_or xs 0 d) ≡ verb_name w → ⊥) → (c : Command) → IsCommand c → map word xs ≡ command_words c → ⊥
+pub refused_first : {X : Type 0} (word : X → List ℕ) (xs : List X) (d : X) → 1 ≤ length xs → ((w : Verb) → word (get_or xs 0 d) ≡ verb_name w → ⊥) → (c : Command) → IsCommandInForm c → map word xs ≡ command_words c → ⊥
 refused_first word [] d some none c good e = absurd (omega (arith, some))
 refused_first word (x ∷ xs) d some none c good e = by_first (word x) (map word xs) none (spelling_of c) e
 
@@ -164,32 +164,32 @@ not_snapping v a b c vs = vs
 
 -- what is read by the last case of a form is read by the form
 pub change_read : (v : Verb) (words : List (List ℕ)) (r : Result PathCall ScriptError) → v ≢ verb.List → v ≢ verb.Stat → v ≢ verb.Lstat → v ≢ verb.Readlink → v ≢ verb.Get
-    → ReadsFields (change_form v) call_words IsCall (verb_name v ∷ []) words r → ReadsFields (call_form v) call_words IsCall (verb_name v ∷ []) words r
-change_read v words r a b c d e reads = subst (λ f. ReadsFields f call_words IsCall (verb_name v ∷ []) words r) (sym (is_change v a b c d e)) reads
+    → ReadsFields (change_form v) call_words IsPathCallInForm (verb_name v ∷ []) words r → ReadsFields (call_form v) call_words IsPathCallInForm (verb_name v ∷ []) words r
+change_read v words r a b c d e reads = subst (λ f. ReadsFields f call_words IsPathCallInForm (verb_name v ∷ []) words r) (sym (is_change v a b c d e)) reads
 
 pub file_read : (v : Verb) (words : List (List ℕ)) (r : Result Command ScriptError) → v ≢ verb.Open → v ≢ verb.Close → v ≢ verb.Fstat → v ≢ verb.Fsync → v ≢ verb.Sync → v ≢ verb.Df
-    → ReadsFields (file_form v) command_words IsCommand (verb_name v ∷ []) words r → ReadsFields (command_form v) command_words IsCommand (verb_name v ∷ []) words r
-file_read v words r a b c d e f reads = subst (λ u. ReadsFields u command_words IsCommand (verb_name v ∷ []) words r) (sym (is_file v a b c d e f)) reads
+    → ReadsFields (file_form v) command_words IsCommandInForm (verb_name v ∷ []) words r → ReadsFields (command_form v) command_words IsCommandInForm (verb_name v ∷ []) words r
+file_read v words r a b c d e f reads = subst (λ u. ReadsFields u command_words IsCommandInForm (verb_name v ∷ []) words r) (sym (is_file v a b c d e f)) reads
 
 -- what is read behind a verb is read as words
-pub call_read : (v : Verb) (words : List (List ℕ)) (r : Result PathCall ScriptError) → ReadsFields (call_form v) call_words IsCall (verb_name v ∷ []) words r → ReadsWords call_words IsCall (verb_name v ∷ words) r
+pub call_read : (v : Verb) (words : List (List ℕ)) (r : Result PathCall ScriptError) → ReadsFields (call_form v) call_words IsPathCallInForm (verb_name v ∷ []) words r → ReadsWords call_words IsPathCallInForm (verb_name v ∷ words) r
 call_read v words r reads = record { spelled = reads.spelled; good = reads.good; refused = λ e. refused_call v words (reads.refused e) }
 
-pub snap_read : (v : Verb) (words : List (List ℕ)) (r : Result Command ScriptError) → ReadsFields (snap_form v) command_words IsCommand (verb_name verb.Snap ∷ verb_name v ∷ []) words r → ReadsWords command_words IsCommand (verb_name verb.Snap ∷ verb_name v ∷ words) r
+pub snap_read : (v : Verb) (words : List (List ℕ)) (r : Result Command ScriptError) → ReadsFields (snap_form v) command_words IsCommandInForm (verb_name verb.Snap ∷ verb_name v ∷ []) words r → ReadsWords command_words IsCommandInForm (verb_name verb.Snap ∷ verb_name v ∷ words) r
 snap_read v words r reads = record { spelled = reads.spelled; good = reads.good; refused = λ e. refused_snap v words (reads.refused e) }
 
-pub path_read : (v : Verb) (words : List (List ℕ)) (r : Result Command ScriptError) → is_call v ≡ true → ReadsFields (call_form v) command_words IsCommand (verb_name v ∷ []) words r → ReadsWords command_words IsCommand (verb_name v ∷ words) r
+pub path_read : (v : Verb) (words : List (List ℕ)) (r : Result Command ScriptError) → is_call v ≡ true → ReadsFields (call_form v) command_words IsCommandInForm (verb_name v ∷ []) words r → ReadsWords command_words IsCommandInForm (verb_name v ∷ words) r
 path_read v words r is reads = record { spelled = reads.spelled; good = reads.good; refused = λ e. refused_path v words is (reads.refused e) }
 
-pub plain_read : (v : Verb) (words : List (List ℕ)) (r : Result Command ScriptError) → is_call v ≡ false → (v ≡ verb.Snap → ⊥) → (v ≡ verb.In → ⊥) → ReadsFields (command_form v) command_words IsCommand (verb_name v ∷ []) words r
-    → ReadsWords command_words IsCommand (verb_name v ∷ words) r
+pub plain_read : (v : Verb) (words : List (List ℕ)) (r : Result Command ScriptError) → is_call v ≡ false → (v ≡ verb.Snap → ⊥) → (v ≡ verb.In → ⊥) → ReadsFields (command_form v) command_words IsCommandInForm (verb_name v ∷ []) words r
+    → ReadsWords command_words IsCommandInForm (verb_name v ∷ words) r
 plain_read v words r is not_snap not_in reads = record { spelled = reads.spelled; good = reads.good; refused = λ e. refused_plain v words is not_snap not_in (reads.refused e) }
 
 -- a command of one word
-pub alone_read : (head : List (List ℕ)) (c : Command) (words : List (List ℕ)) (r : Result Command ScriptError) → head ++ [] ≡ command_words c → IsCommand c → IfOk r (λ x. (x ≡ c) × (words ≡ [])) → OnErr r (words ≡ [] → ⊥) → ReadsFields end command_words IsCommand head words r
+pub alone_read : (head : List (List ℕ)) (c : Command) (words : List (List ℕ)) (r : Result Command ScriptError) → head ++ [] ≡ command_words c → IsCommandInForm c → IfOk r (λ x. (x ≡ c) × (words ≡ [])) → OnErr r (words ≡ [] → ⊥) → ReadsFields end command_words IsCommandInForm head words r
 alone_read head c words (Ok x) is good same none = record {
   spelled = ap (λ ws. head ++ ws) same.1 ∙ is ∙ ap command_words (sym same.0);
-  good = subst IsCommand (sym same.0) good;
+  good = subst IsCommandInForm (sym same.0) good;
   refused = λ e. absurd (cc);
 }
 alone_read head c words (Err e) is good same none = record { spelled = tt; good = tt; refused = λ _ vs fine empty. none empty }

@@ -6,20 +6,20 @@ use Rattle.hex.specs.Hex as hex
 use Rattle.hex.specs.declared.error.FromHexError.{FromHexError}
 use Rattle.hex.specs.declared.error.FromHexError.TheVariants.{OutOfMemory}
 use Rattle.hex.proofs.HexLemmas.{decode_of-encode_lower}
-use Rattle.script.specs.Words.{data_word, IsBytes}
+use Rattle.script.specs.Words.{data_word, AreByteValues}
 
-hex_bytes : (bs : List ℕ) → IsBytes bs → hex.IsBytes bs
+hex_bytes : (bs : List ℕ) → AreByteValues bs → hex.IsBytes bs
 hex_bytes [] good i = omega arith
 hex_bytes (b ∷ bs) good zero = All-head (λ x. x < 256) b bs good
 hex_bytes (b ∷ bs) good (suc i) = hex_bytes bs (All-tail (λ x. x < 256) b bs good) i
 
 -- what hexadecimal digits decode to
-pub decoded : (word bs : List ℕ) → IsBytes bs → word ≡ encode_lower bs → decode_of word ≡ Ok bs
+pub decoded : (word bs : List ℕ) → AreByteValues bs → word ≡ encode_lower bs → decode_of word ≡ Ok bs
 decoded word bs good e = ap decode_of e ∙ decode_of-encode_lower bs (hex_bytes bs good)
 
 -- a word that isn't that of what it decodes to is the word of no bytes
-pub not_data : (word d : List ℕ) → (word ≡ codes "-" → ⊥) → ((bs : List ℕ) → IsBytes bs → word ≡ encode_lower bs → d ≡ bs) → (word ≡ data_word d → ⊥)
-    → (bs : List ℕ) → IsBytes bs → word ≡ data_word bs → ⊥
+pub not_data : (word d : List ℕ) → (word ≡ codes "-" → ⊥) → ((bs : List ℕ) → AreByteValues bs → word ≡ encode_lower bs → d ≡ bs) → (word ≡ data_word d → ⊥)
+    → (bs : List ℕ) → AreByteValues bs → word ≡ data_word bs → ⊥
 not_data word d none read other [] good e = none e
 not_data word d none read other (b ∷ bs) good e = other (e ∙ sym (ap data_word (read (b ∷ bs) good e)))
 

@@ -15,7 +15,7 @@ use Rattle.model.specs.declared.command.PathCall.{PathCall}
 use Rattle.model.specs.declared.command.Whence.{Whence}
 use Rattle.model.specs.declared.command.Whence.TheVariants.{Set, Cur, End}
 use Rattle.script.specs.Forms.{bytes, count, end, field, flags, form_words, last_mode, mode, none, offset, text, whence, word_of, AreValues, Form, IsValue, Kind, Value, Values}
-use Rattle.script.specs.Lines.{call_fields, call_words, command_line, command_words, line_of, spelling_of, spelling_words, named, plain, snap, within, IsCall, IsCommand, IsSpelling, Spelling}
+use Rattle.script.specs.Lines.{call_fields, call_words, command_line, command_words, line_of, spelling_of, spelling_words, named, plain, snap, within, IsPathCallInForm, IsCommandInForm, IsSpelling, Spelling}
 use Rattle.script.specs.Verbs.{call_form, command_form, snap_form, verb_name}
 use Rattle.script.specs.Words.{access_word, byte_word, data_word, flags_word, hex_digit, is_plain, letter, mode_word, mode_words, text_word, whence_word}
 use Rattle.script.specs.declared.error.ScriptError.{ScriptError}
@@ -172,7 +172,7 @@ verb_is_word verb.Take = letters_are_word (codes "take") refl
 verb_is_word verb.Delete = letters_are_word (codes "delete") refl
 verb_is_word verb.In = letters_are_word (codes "in") refl
 
-call_has_words : (c : PathCall) → IsCall c → AreWords (call_words c)
+call_has_words : (c : PathCall) → IsPathCallInForm c → AreWords (call_words c)
 call_has_words c good = (verb_is_word (call_fields c).0, form_has_words (call_form (call_fields c).0) (call_fields c).1 good)
 
 -- a line is cut at its spaces into its words
@@ -196,7 +196,7 @@ parts_of_spelling (named c) good = split_line _ _ (call_has_words c good)
 parts_of_spelling (within name c) good = split_line _ _ (verb_is_word verb.In, (text_is_word name, call_has_words c good.1))
 parts_of_spelling (snap v vs) good = split_line _ _ (verb_is_word verb.Snap, (verb_is_word v, form_has_words (snap_form v) vs good))
 
-pub parts_of_command : (c : Command) → IsCommand c → slice_split (λ b. eqb b 32) (command_line c) ≡ command_words c
+pub parts_of_command : (c : Command) → IsCommandInForm c → slice_split (λ b. eqb b 32) (command_line c) ≡ command_words c
 parts_of_command c good = parts_of_spelling (spelling_of c) good
 
 -- where the parts of a line are a command's words, the line is its line

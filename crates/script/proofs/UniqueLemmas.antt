@@ -15,10 +15,10 @@ use Rattle.model.specs.declared.command.PathCall.TheVariants as call
 use Rattle.model.specs.declared.command.Whence.{Whence}
 use Rattle.model.specs.declared.command.Whence.TheVariants.{Set, Cur, End}
 use Rattle.script.specs.Forms.{bytes, count, end, field, flags, form_words, last_mode, mode, none, offset, text, whence, word_of, AreValues, Form, IsValue, Kind, Value, Values}
-use Rattle.script.specs.Lines.{call_fields, call_words, command_words, spelling_of, spelling_words, named, plain, snap, within, IsCall, IsCommand, IsSpelling, Spelling}
+use Rattle.script.specs.Lines.{call_fields, call_words, command_words, spelling_of, spelling_words, named, plain, snap, within, IsPathCallInForm, IsCommandInForm, IsSpelling, Spelling}
 use Rattle.script.specs.Readings.{ReadsWords}
 use Rattle.script.specs.Verbs.{call_form, command_form, is_call, snap_form, verb_name}
-use Rattle.script.specs.Words.{access_word, data_word, flags_word, letter, mode_word, mode_words, text_word, whence_word, IsBytes}
+use Rattle.script.specs.Words.{access_word, data_word, flags_word, letter, mode_word, mode_words, text_word, whence_word, AreByteValues}
 use Rattle.script.specs.declared.error.ScriptError.{ScriptError}
 use Rattle.script.specs.declared.error.ScriptError.TheVariants.{NoMemory, NotACommand}
 use Rattle.script.specs.declared.verb.Verb.{Verb}
@@ -47,10 +47,10 @@ mode_words-unique default m n e = by_default (m == default) (n == default) m n r
     by_default false false m n mp nq e = mode_word-unique m n (grind (arith, e))
 
 -- data have one word
-not_none : (b : ℕ) (bs : List ℕ) → IsBytes (b ∷ bs) → codes "-" ≡ encode_lower (b ∷ bs) → ⊥
+not_none : (b : ℕ) (bs : List ℕ) → AreByteValues (b ∷ bs) → codes "-" ≡ encode_lower (b ∷ bs) → ⊥
 not_none b bs good e = let is : decode_of (codes "-") ≡ Ok (b ∷ bs) = decoded (codes "-") (b ∷ bs) good e in let odd : decode_of (codes "-") ≡ Err OddLength = refl in let both : Err OddLength ≡ Ok (b ∷ bs) = sym odd ∙ is in absurd (cc)
 
-data_word-unique : (t u : List ℕ) → IsBytes t → IsBytes u → data_word t ≡ data_word u → t ≡ u
+data_word-unique : (t u : List ℕ) → AreByteValues t → AreByteValues u → data_word t ≡ data_word u → t ≡ u
 data_word-unique [] [] gt gu e = refl
 data_word-unique [] (c ∷ u) gt gu e = absurd (not_none c u gu e)
 data_word-unique (b ∷ t) [] gt gu e = absurd (not_none b t gt (sym e))
@@ -234,7 +234,7 @@ call_of_fields (call.Rename p q) = refl
 call_of_fields (call.Chmod p m) = refl
 call_of_fields (call.Truncate p n) = refl
 
-call_words-unique : (c d : PathCall) → IsCall c → IsCall d → call_words c ≡ call_words d → c ≡ d
+call_words-unique : (c d : PathCall) → IsPathCallInForm c → IsPathCallInForm d → call_words c ≡ call_words d → c ≡ d
 call_words-unique c d gc gd e = sym (call_of_fields c) ∙ same_made call_form call_of (call_fields c).0 (call_fields d).0 (call_fields c).1 (call_fields d).1 gc gd e ∙ call_of_fields d
 
 -- no two ways of spelling give the same words
@@ -250,7 +250,7 @@ plain_only v vs (named c) gv gs e = absurd ((plain_is_other v vs).0 (ap is_call 
 plain_only v vs (within name c) gv gs e = absurd ((plain_is_other v vs).2 (same_verb v verb.In _ _ e))
 plain_only v vs (snap w ws) gv gs e = absurd ((plain_is_other v vs).1 (same_verb v verb.Snap _ _ e))
 
-named_only : (c : PathCall) (s : Spelling) → IsCall c → IsSpelling s → call_words c ≡ spelling_words s → named c ≡ s
+named_only : (c : PathCall) (s : Spelling) → IsPathCallInForm c → IsSpelling s → call_words c ≡ spelling_words s → named c ≡ s
 named_only c (plain w ws) gc gs e = absurd ((plain_is_other w ws).0 (sym (ap is_call (same_verb (call_fields c).0 w _ _ e)) ∙ call_is_call c))
 named_only c (named d) gc gs e = ap named (call_words-unique c d gc gs e)
 named_only c (within name d) gc gs e = absurd (clash verb.In (call_fields c).0 _ _ refl (call_is_call c) (sym e))
@@ -259,7 +259,7 @@ named_only c (snap w ws) gc gs e = absurd (clash verb.Snap (call_fields c).0 _ _
 in_is_not_snap : (xs ys : List (List ℕ)) → verb_name verb.In ∷ xs ≡ verb_name verb.Snap ∷ ys → ⊥
 in_is_not_snap xs ys e = absurd (cc (same_word (verb_name verb.In) (verb_name verb.Snap) xs ys e))
 
-within_only : (name : List ℕ) (c : PathCall) (s : Spelling) → IsBytes name → IsCall c → IsSpelling s → verb_name verb.In ∷ text_word name ∷ call_words c ≡ spelling_words s → within name c ≡ s
+within_only : (name : List ℕ) (c : PathCall) (s : Spelling) → AreByteValues name → IsPathCallInForm c → IsSpelling s → verb_name verb.In ∷ text_word name ∷ call_words c ≡ spelling_words s → within name c ≡ s
 within_only name c (plain w ws) gn gc gs e = absurd ((plain_is_other w ws).2 (sym (same_verb verb.In w _ _ e)))
 within_only name c (named d) gn gc gs e = absurd (clash verb.In (call_fields d).0 _ _ refl (call_is_call d) e)
 within_only name c (within other d) gn gc gs e =
@@ -328,11 +328,11 @@ command_of_spelling command.SnapList = refl
 command_of_spelling (command.Within name c) = refl
 
 -- words are one command's at most
-pub command_words-unique : (c d : Command) → IsCommand c → IsCommand d → command_words c ≡ command_words d → c ≡ d
+pub command_words-unique : (c d : Command) → IsCommandInForm c → IsCommandInForm d → command_words c ≡ command_words d → c ≡ d
 command_words-unique c d gc gd e = sym (command_of_spelling c) ∙ ap command_of (spelling_words-unique (spelling_of c) (spelling_of d) gc gd e) ∙ command_of_spelling d
 
 -- words that are read are read as the command that they spell
-pub reads_command : (words : List (List ℕ)) (r : Result Command ScriptError) → ReadsWords command_words IsCommand words r → (c : Command) → IsCommand c → words ≡ command_words c → (r ≡ Ok c) ⊎ (r ≡ Err NoMemory)
+pub reads_command : (words : List (List ℕ)) (r : Result Command ScriptError) → ReadsWords command_words IsCommandInForm words r → (c : Command) → IsCommandInForm c → words ≡ command_words c → (r ≡ Ok c) ⊎ (r ≡ Err NoMemory)
 reads_command words (Ok d) reads c good e = inl (ap Ok (command_words-unique d c reads.good good (sym reads.spelled ∙ e)))
 reads_command words (Err NoMemory) reads c good e = inr refl
 reads_command words (Err NotACommand) reads c good e = absurd (reads.refused refl c good e)

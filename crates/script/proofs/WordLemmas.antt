@@ -2,12 +2,12 @@
 use Rattle.std.proofs.Common.{◌≡◌, ℕ, ◌/◌, ◌%◌, ◌<◌, Bool, true, false, List, [], ◌∷◌, ◌++◌, codes, cond, arith, refl, sym, ◌∙◌, append_assoc}
 use Rattle.std.specs.List.{flat_map}
 use Rattle.std.proofs.lemmas.List.Elements.{All-head, All-tail}
-use Rattle.script.specs.Words.{is_plain, hex_digit, byte_word, text_word, IsBytes}
+use Rattle.script.specs.Words.{is_plain, hex_digit, byte_word, text_word, AreByteValues}
 
-first_byte : (b : ℕ) (bs : List ℕ) → IsBytes (b ∷ bs) → b < 256
+first_byte : (b : ℕ) (bs : List ℕ) → AreByteValues (b ∷ bs) → b < 256
 first_byte b bs h = All-head (λ x. x < 256) b bs h
 
-other_bytes : (b : ℕ) (bs : List ℕ) → IsBytes (b ∷ bs) → IsBytes bs
+other_bytes : (b : ℕ) (bs : List ℕ) → AreByteValues (b ∷ bs) → AreByteValues bs
 other_bytes b bs h = All-tail (λ x. x < 256) b bs h
 
 hex_digit-unique : (v w : ℕ) → v < 16 → w < 16 → hex_digit v ≡ hex_digit w → v ≡ w
@@ -38,14 +38,14 @@ pub byte_word_not_empty : (b : ℕ) (r : List ℕ) → byte_word b ++ r ≡ [] �
 byte_word_not_empty b r e = grind (arith, e)
 
 -- what follows the words of some bytes in a text's word is a text's word itself
-pub words_behind : (bs : List ℕ) (rest text : List ℕ) → IsBytes bs → IsBytes text → flat_map byte_word bs ++ rest ≡ flat_map byte_word text → (more : List ℕ) × IsBytes more × (rest ≡ flat_map byte_word more)
+pub words_behind : (bs : List ℕ) (rest text : List ℕ) → AreByteValues bs → AreByteValues text → flat_map byte_word bs ++ rest ≡ flat_map byte_word text → (more : List ℕ) × AreByteValues more × (rest ≡ flat_map byte_word more)
 words_behind [] rest text lb lt e = (text, lt, e)
 words_behind (b ∷ bs) rest [] lb lt e = absurd (byte_word_not_empty b (flat_map byte_word bs ++ rest) (sym (append_assoc (byte_word b) (flat_map byte_word bs) rest) ∙ e))
 words_behind (b ∷ bs) rest (c ∷ text) lb lt e =
     let one = byte_word-unique b c (flat_map byte_word bs ++ rest) (flat_map byte_word text) (first_byte b bs lb) (first_byte c text lt) (sym (append_assoc (byte_word b) (flat_map byte_word bs) rest) ∙ e) in
     words_behind bs rest text (other_bytes b bs lb) (other_bytes c text lt) one.1
 
-flat_map_word-unique : (t u : List ℕ) → IsBytes t → IsBytes u → flat_map byte_word t ≡ flat_map byte_word u → t ≡ u
+flat_map_word-unique : (t u : List ℕ) → AreByteValues t → AreByteValues u → flat_map byte_word t ≡ flat_map byte_word u → t ≡ u
 flat_map_word-unique [] [] lt lu e = refl
 flat_map_word-unique [] (c ∷ u) lt lu e = absurd (byte_word_not_empty c (flat_map byte_word u) (sym e))
 flat_map_word-unique (b ∷ t) [] lt lu e = absurd (byte_word_not_empty b (flat_map byte_word t) e)
@@ -58,18 +58,18 @@ byte_word_not_percent : (b : ℕ) (r : List ℕ) → byte_word b ++ r ≡ codes 
 byte_word_not_percent b r e = grind (arith, e)
 
 -- a text has one word
-pub text_word-unique : (t u : List ℕ) → IsBytes t → IsBytes u → text_word t ≡ text_word u → t ≡ u
+pub text_word-unique : (t u : List ℕ) → AreByteValues t → AreByteValues u → text_word t ≡ text_word u → t ≡ u
 text_word-unique [] [] lt lu e = refl
 text_word-unique [] (c ∷ u) lt lu e = absurd (byte_word_not_percent c (flat_map byte_word u) (sym e))
 text_word-unique (b ∷ t) [] lt lu e = absurd (byte_word_not_percent b (flat_map byte_word t) e)
 text_word-unique (b ∷ t) (c ∷ u) lt lu e = flat_map_word-unique (b ∷ t) (c ∷ u) lt lu e
 
 -- a text isn't read where no byte's word begins what is left of a word
-pub not_a_text : (word bytes rest : List ℕ) → (word ≡ codes "%" → ⊥) → IsBytes bytes → flat_map byte_word bytes ++ rest ≡ word → (rest ≡ [] → ⊥) → ((b : ℕ) (more : List ℕ) → b < 256 → byte_word b ++ more ≡ rest → ⊥)
-    → (text : List ℕ) → IsBytes text → word ≡ text_word text → ⊥
+pub not_a_text : (word bytes rest : List ℕ) → (word ≡ codes "%" → ⊥) → AreByteValues bytes → flat_map byte_word bytes ++ rest ≡ word → (rest ≡ [] → ⊥) → ((b : ℕ) (more : List ℕ) → b < 256 → byte_word b ++ more ≡ rest → ⊥)
+    → (text : List ℕ) → AreByteValues text → word ≡ text_word text → ⊥
 not_a_text word bytes rest percent lb split left none [] lt e = percent e
 not_a_text word bytes rest percent lb split left none (t ∷ text) lt e = left_over rest left none (words_behind bytes rest (t ∷ text) lb lt (split ∙ e))
   where
-    left_over : (rest : List ℕ) → (rest ≡ [] → ⊥) → ((b : ℕ) (more : List ℕ) → b < 256 → byte_word b ++ more ≡ rest → ⊥) → (more : List ℕ) × IsBytes more × (rest ≡ flat_map byte_word more) → ⊥
+    left_over : (rest : List ℕ) → (rest ≡ [] → ⊥) → ((b : ℕ) (more : List ℕ) → b < 256 → byte_word b ++ more ≡ rest → ⊥) → (more : List ℕ) × AreByteValues more × (rest ≡ flat_map byte_word more) → ⊥
     left_over rest left none ([], lm, e) = left e
     left_over rest left none (b ∷ more, lm, e) = none b (flat_map byte_word more) (first_byte b more lm) (sym e)

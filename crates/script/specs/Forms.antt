@@ -5,7 +5,7 @@ use Rattle.std.specs.Int.RustNames.{FitsSigned}
 use Rattle.model.specs.declared.limits.TheConstants.{MODE_BITS}
 use Rattle.model.specs.declared.command.Flags.{Flags}
 use Rattle.model.specs.declared.command.Whence.{Whence}
-use Rattle.script.specs.Words.{data_word, flags_word, mode_word, mode_words, text_word, whence_word, IsBytes}
+use Rattle.script.specs.Words.{data_word, flags_word, mode_word, mode_words, text_word, whence_word, AreByteValues}
 use mir.Syntax.{w64}
 
 -- what a word can be
@@ -30,8 +30,8 @@ Value whence = Whence
 
 -- the values that a field can have
 abbrev pub IsValue : (k : Kind) → Value k → Type 0
-IsValue text t = IsBytes t
-IsValue bytes t = IsBytes t
+IsValue text t = AreByteValues t
+IsValue bytes t = AreByteValues t
 IsValue count n = n < 2 ^ 32
 IsValue offset z = FitsSigned w64 z
 IsValue mode m = m ≤ MODE_BITS

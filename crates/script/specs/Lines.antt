@@ -7,7 +7,7 @@ use Rattle.model.specs.declared.command.PathCall.{PathCall}
 use Rattle.model.specs.declared.command.PathCall.TheVariants as call
 use Rattle.script.specs.Forms.{form_words, AreValues, Values}
 use Rattle.script.specs.Verbs.{call_form, command_form, snap_form, verb_name}
-use Rattle.script.specs.Words.{text_word, IsBytes}
+use Rattle.script.specs.Words.{text_word, AreByteValues}
 use Rattle.script.specs.declared.verb.Verb.{Verb}
 use Rattle.script.specs.declared.verb.Verb.TheVariants as verb
 
@@ -40,8 +40,8 @@ abbrev pub call_words : PathCall → List (List ℕ)
 call_words c = verb_name (call_fields c).0 ∷ form_words (call_form (call_fields c).0) (call_fields c).1
 
 -- its texts are bytes, its numbers and its mode fit
-abbrev pub IsCall : PathCall → Type 0
-IsCall c = AreValues (call_form (call_fields c).0) (call_fields c).1
+abbrev pub IsPathCallInForm : PathCall → Type 0
+IsPathCallInForm c = AreValues (call_form (call_fields c).0) (call_fields c).1
 
 -- how a command's words are made: a first word and fields, a call that names a path, `in` and such a call, or `snap`, a second word
 -- and fields
@@ -78,16 +78,16 @@ spelling_words (snap v fields) = verb_name verb.Snap ∷ verb_name v ∷ form_wo
 
 abbrev pub IsSpelling : Spelling → Type 0
 IsSpelling (plain v fields) = AreValues (command_form v) fields
-IsSpelling (named call) = IsCall call
-IsSpelling (within name call) = IsBytes name × IsCall call
+IsSpelling (named call) = IsPathCallInForm call
+IsSpelling (within name call) = AreByteValues name × IsPathCallInForm call
 IsSpelling (snap v fields) = AreValues (snap_form v) fields
 
 abbrev pub command_words : Command → List (List ℕ)
 command_words c = spelling_words (spelling_of c)
 
 -- a command's texts are bytes, its numbers and its mode fit
-abbrev pub IsCommand : Command → Type 0
-IsCommand c = IsSpelling (spelling_of c)
+abbrev pub IsCommandInForm : Command → Type 0
+IsCommandInForm c = IsSpelling (spelling_of c)
 
 -- a command's line
 abbrev pub command_line : Command → List ℕ

@@ -14,12 +14,12 @@ abbrev pub words_of : List ℕ → List (List ℕ)
 words_of line = slice_split (λ b. b == 32) line
 
 -- text was added to a line
-abbrev pub Adds : Vec ℕ → Vec ℕ → List ℕ → Type 0
-Adds old new text = new.items ≡ old.items ++ text
+abbrev pub AddsText : Vec ℕ → Vec ℕ → List ℕ → Type 0
+AddsText old new text = new.items ≡ old.items ++ text
 
 -- these are bytes
-abbrev pub IsBytes : List ℕ → Type 0
-IsBytes bs = All (λ b. b < 256) bs
+abbrev pub AreByteValues : List ℕ → Type 0
+AreByteValues bs = All (λ b. b < 256) bs
 
 -- a byte that stands for itself: '!' to '~', but '%'
 abbrev pub is_plain : ℕ → Bool

@@ -1,7 +1,7 @@
 //! Reading a call that names a path: its first word says which it is, and the others are its fields in order.
 
 ghost use Rattle.std.specs.Prelude.{◌∷◌, [], map};
-ghost use Rattle.script.specs.Lines.{call_words, IsCall};
+ghost use Rattle.script.specs.Lines.{call_words, IsPathCallInForm};
 ghost use Rattle.script.specs.Readings.{ReadsFields, ReadsWords};
 ghost use Rattle.script.specs.Verbs.{call_form, change_form, verb_name};
 
@@ -13,7 +13,7 @@ use std::alloc::Global;
 
 /// The call that words spell.
 pub(crate) fn read_call(alloc: Global, words: &[&[u8]]) -> Result<PathCall, ScriptError>
-    ensures { ReadsWords call_words IsCall (map (λ word. word.now) words.now) result }
+    ensures { ReadsWords call_words IsPathCallInForm (map (λ word. word.now) words.now) result }
 {
     let [first, fields @ ..] = words else {
         return Err(ScriptError::NotACommand);
@@ -26,7 +26,7 @@ pub(crate) fn read_call(alloc: Global, words: &[&[u8]]) -> Result<PathCall, Scri
 
 /// The call that a first word and those behind it spell.
 fn read_call_behind(alloc: Global, verb: Verb, words: &[&[u8]]) -> Result<PathCall, ScriptError>
-    ensures { ReadsWords call_words IsCall
+    ensures { ReadsWords call_words IsPathCallInForm
         (verb_name verb ∷ map (λ word. word.now) words.now) result }
 {
     read_fields(alloc, verb, words)
@@ -38,7 +38,7 @@ pub(crate) fn read_fields(
     verb: Verb,
     words: &[&[u8]],
 ) -> Result<PathCall, ScriptError>
-    ensures { ReadsFields (call_form verb) call_words IsCall (verb_name verb ∷ [])
+    ensures { ReadsFields (call_form verb) call_words IsPathCallInForm (verb_name verb ∷ [])
         (map (λ word. word.now) words.now) result }
 {
     match verb {
@@ -72,7 +72,7 @@ pub(crate) fn read_fields(
 
 /// The changing call that a first word and fields spell.
 fn read_change(alloc: Global, verb: Verb, words: &[&[u8]]) -> Result<PathCall, ScriptError>
-    ensures { ReadsFields (change_form verb) call_words IsCall (verb_name verb ∷ [])
+    ensures { ReadsFields (change_form verb) call_words IsPathCallInForm (verb_name verb ∷ [])
         (map (λ word. word.now) words.now) result }
 {
     match verb {

@@ -1,7 +1,7 @@
 //! Reading a command from its words: the first says which it is, and the others are its fields in order.
 
 ghost use Rattle.std.specs.Prelude.{◌≡◌, ◌≢◌, ◌∷◌, [], map, IfOk, OnErr};
-ghost use Rattle.script.specs.Lines.{command_words, IsCommand};
+ghost use Rattle.script.specs.Lines.{command_words, IsCommandInForm};
 ghost use Rattle.script.specs.Readings.{ReadsFields, ReadsWords};
 ghost use Rattle.script.specs.Verbs.{command_form, file_form, verb_name};
 
@@ -15,7 +15,7 @@ use std::alloc::Global;
 
 /// The command that words spell.
 pub(crate) fn read_words(alloc: Global, words: &[&[u8]]) -> Result<Command, ScriptError>
-    ensures { ReadsWords command_words IsCommand (map (λ word. word.now) words.now) result }
+    ensures { ReadsWords command_words IsCommandInForm (map (λ word. word.now) words.now) result }
 {
     let [first, fields @ ..] = words else {
         return Err(ScriptError::NotACommand);
@@ -28,7 +28,7 @@ pub(crate) fn read_words(alloc: Global, words: &[&[u8]]) -> Result<Command, Scri
 
 /// The command that a first word and those behind it spell.
 fn read_behind(alloc: Global, verb: Verb, words: &[&[u8]]) -> Result<Command, ScriptError>
-    ensures { ReadsWords command_words IsCommand
+    ensures { ReadsWords command_words IsCommandInForm
         (verb_name verb ∷ map (λ word. word.now) words.now) result }
 {
     if verb.is_call() {
@@ -43,7 +43,7 @@ fn read_behind(alloc: Global, verb: Verb, words: &[&[u8]]) -> Result<Command, Sc
 
 /// `in`, a snapshot's name and a call that names a path.
 fn read_within(alloc: Global, words: &[&[u8]]) -> Result<Command, ScriptError>
-    ensures { ReadsWords command_words IsCommand
+    ensures { ReadsWords command_words IsCommandInForm
         (verb_name Verb.In ∷ map (λ word. word.now) words.now) result }
 {
     let [name, call @ ..] = words else {
@@ -57,7 +57,7 @@ fn read_within(alloc: Global, words: &[&[u8]]) -> Result<Command, ScriptError>
 
 /// `snap`, and which of its commands it is.
 fn read_snap(alloc: Global, words: &[&[u8]]) -> Result<Command, ScriptError>
-    ensures { ReadsWords command_words IsCommand
+    ensures { ReadsWords command_words IsCommandInForm
         (verb_name Verb.Snap ∷ map (λ word. word.now) words.now) result }
 {
     let [second, fields @ ..] = words else {
@@ -71,7 +71,7 @@ fn read_snap(alloc: Global, words: &[&[u8]]) -> Result<Command, ScriptError>
 
 /// The command that `snap`, a second word and those behind it spell.
 fn read_snapping(alloc: Global, verb: Verb, words: &[&[u8]]) -> Result<Command, ScriptError>
-    ensures { ReadsWords command_words IsCommand
+    ensures { ReadsWords command_words IsCommandInForm
         (verb_name Verb.Snap ∷ verb_name verb ∷ map (λ word. word.now) words.now) result }
 {
     match verb {
@@ -102,7 +102,7 @@ fn read_alone(command: Command, words: &[&[u8]]) -> Result<Command, ScriptError>
 
 /// The command that a first word and its fields spell.
 fn read_plain(alloc: Global, verb: Verb, words: &[&[u8]]) -> Result<Command, ScriptError>
-    ensures { ReadsFields (command_form verb) command_words IsCommand (verb_name verb ∷ [])
+    ensures { ReadsFields (command_form verb) command_words IsCommandInForm (verb_name verb ∷ [])
         (map (λ word. word.now) words.now) result }
 {
     match verb {
@@ -135,7 +135,7 @@ fn read_plain(alloc: Global, verb: Verb, words: &[&[u8]]) -> Result<Command, Scr
 
 /// The command that a first word and its fields spell, one that moves bytes of an open file, or its offset.
 fn read_file(alloc: Global, verb: Verb, words: &[&[u8]]) -> Result<Command, ScriptError>
-    ensures { ReadsFields (file_form verb) command_words IsCommand (verb_name verb ∷ [])
+    ensures { ReadsFields (file_form verb) command_words IsCommandInForm (verb_name verb ∷ [])
         (map (λ word. word.now) words.now) result }
 {
     match verb {

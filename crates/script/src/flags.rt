@@ -4,7 +4,7 @@ ghost use Rattle.std.specs.Prelude.{◌≡◌, ◌≢◌, true, false, IfOk, OnO
 ghost use Rattle.model.specs.declared.command.Flags.{Flags};
 ghost use Rattle.script.specs.Forms.{flags, whence};
 ghost use Rattle.script.specs.Readings.{ReadsWord};
-ghost use Rattle.script.specs.Words.{access_word, flags_word, letter, whence_word, Adds};
+ghost use Rattle.script.specs.Words.{access_word, flags_word, letter, whence_word, AddsText};
 
 use crate::ScriptError;
 use model::{Access, Flags, Whence};
@@ -57,7 +57,7 @@ fn access_among(word: &[u8]) -> Option<Access>
 
 /// Adds the word of flags to a line: what the file is opened for, then a letter for each flag.
 pub(crate) fn push_flags(line: &mut Vec<u8>, flags: Flags) -> Result<(), AllocError>
-    ensures { OnOk result (Adds line.old line.new (flags_word flags)) }
+    ensures { OnOk result (AddsText line.old line.new (flags_word flags)) }
 {
     line.extend_from_slice(access_word(flags.access))?;
     push_letter(line, b'c', flags.creates)?;
@@ -67,7 +67,7 @@ pub(crate) fn push_flags(line: &mut Vec<u8>, flags: Flags) -> Result<(), AllocEr
 }
 
 fn push_letter(line: &mut Vec<u8>, byte: u8, is_set: bool) -> Result<(), AllocError>
-    ensures { OnOk result (Adds line.old line.new (letter byte is_set)) }
+    ensures { OnOk result (AddsText line.old line.new (letter byte is_set)) }
 {
     if is_set {
         line.push(byte)?;

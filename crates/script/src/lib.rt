@@ -3,7 +3,7 @@
 
 ghost use Rattle.std.specs.Prelude.{◌≡◌, ◌⊎◌, IfOk, IfErr, OnOk};
 ghost use Rattle.model.specs.declared.command.Command.{Command};
-ghost use Rattle.script.specs.Lines.{command_line, IsCommand};
+ghost use Rattle.script.specs.Lines.{command_line, IsCommandInForm};
 ghost use Rattle.script.specs.Replies.{reply_line};
 
 mod calls;
@@ -30,8 +30,8 @@ use writing::push_command;
 /// empty line and one that begins with `#` are. `NoMemory` where a growth was refused.
 pub fn read_command(alloc: Global, line: &[u8]) -> Result<Command, ScriptError>
     ensures spelled { IfOk result (λ command. line.now ≡ command_line command) }
-    ensures bounded { IfOk result IsCommand }
-    ensures read { (command : Command) → IsCommand command → line.now ≡ command_line command
+    ensures bounded { IfOk result IsCommandInForm }
+    ensures read { (command : Command) → IsCommandInForm command → line.now ≡ command_line command
         → (result ≡ Ok command) ⊎ (result ≡ Err ScriptError.NoMemory) }
 {
     let words = split_words(alloc, line)?;

@@ -4,7 +4,7 @@ ghost use Rattle.std.specs.Prelude.{◌≡◌, ◌++◌, OnOk, codes, map};
 ghost use Rattle.std.specs.Fmt.{decimal};
 ghost use Rattle.script.specs.Lines.{line_of, spaced};
 ghost use Rattle.script.specs.Replies.{kind_word, kind_words, reply_line, size_words, stat_words};
-ghost use Rattle.script.specs.Words.{text_word, Adds};
+ghost use Rattle.script.specs.Words.{text_word, AddsText};
 
 use crate::words::{mode_word, push_data, push_text};
 use model::{Kind, Names, Reply, Stat};
@@ -12,7 +12,7 @@ use std::alloc::{AllocError, Global};
 
 /// Adds a reply's line.
 pub(crate) fn push_reply(alloc: Global, line: &mut Vec<u8>, reply: &Reply) -> Result<(), AllocError>
-    ensures { OnOk result (Adds line.old line.new (reply_line reply.now)) }
+    ensures { OnOk result (AddsText line.old line.new (reply_line reply.now)) }
 {
     match reply {
         Reply::Done => line.extend_from_slice(b"ok"),
@@ -59,7 +59,7 @@ fn push_number(
     words: &[u8],
     number: u64,
 ) -> Result<(), AllocError>
-    ensures { OnOk result (Adds line.old line.new (words.now ++ decimal number)) }
+    ensures { OnOk result (AddsText line.old line.new (words.now ++ decimal number)) }
 {
     let text = number.to_string(alloc)?;
     push_word(line, words, text.as_bytes())
@@ -67,7 +67,7 @@ fn push_number(
 
 /// Adds words, and one behind them.
 fn push_word(line: &mut Vec<u8>, words: &[u8], word: &[u8]) -> Result<(), AllocError>
-    ensures { OnOk result (Adds line.old line.new (words.now ++ word.now)) }
+    ensures { OnOk result (AddsText line.old line.new (words.now ++ word.now)) }
 {
     line.extend_from_slice(words)?;
     line.extend_from_slice(word)
@@ -75,7 +75,7 @@ fn push_word(line: &mut Vec<u8>, words: &[u8], word: &[u8]) -> Result<(), AllocE
 
 /// Adds names, each a word.
 fn push_names(line: &mut Vec<u8>, names: &Names) -> Result<(), AllocError>
-    ensures { OnOk result (Adds line.old line.new (spaced (map text_word names.now))) }
+    ensures { OnOk result (AddsText line.old line.new (spaced (map text_word names.now))) }
 {
     for name in names.as_slice() {
         line.extend_from_slice(b" ")?;
@@ -85,21 +85,21 @@ fn push_names(line: &mut Vec<u8>, names: &Names) -> Result<(), AllocError>
 }
 
 fn push_stat(alloc: Global, line: &mut Vec<u8>, stat: &Stat) -> Result<(), AllocError>
-    ensures { OnOk result (Adds line.old line.new (line_of (stat_words stat.now))) }
+    ensures { OnOk result (AddsText line.old line.new (line_of (stat_words stat.now))) }
 {
     push_kind(alloc, line, stat)?;
     push_mode_and_size(alloc, line, stat)
 }
 
 fn push_kind(alloc: Global, line: &mut Vec<u8>, stat: &Stat) -> Result<(), AllocError>
-    ensures { OnOk result (Adds line.old line.new (line_of (kind_words stat.now))) }
+    ensures { OnOk result (AddsText line.old line.new (line_of (kind_words stat.now))) }
 {
     push_number(alloc, line, b"stat number ", u64::from(stat.number))?;
     push_word(line, b" kind ", kind_word(stat.kind))
 }
 
 fn push_mode_and_size(alloc: Global, line: &mut Vec<u8>, stat: &Stat) -> Result<(), AllocError>
-    ensures { OnOk result (Adds line.old line.new (spaced (size_words stat.now))) }
+    ensures { OnOk result (AddsText line.old line.new (spaced (size_words stat.now))) }
 {
     line.extend_from_slice(b" mode ")?;
     line.extend_from_slice(&mode_word(stat.mode))?;

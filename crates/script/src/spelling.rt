@@ -5,7 +5,7 @@ ghost use Rattle.script.specs.Forms.{end, field, form_words, last_mode, word_of,
 ghost use Rattle.script.specs.Forms as form;
 ghost use Rattle.script.specs.Lines.{spaced};
 ghost use Rattle.script.specs.Verbs.{verb_name};
-ghost use Rattle.script.specs.Words.{Adds};
+ghost use Rattle.script.specs.Words.{AddsText};
 
 use crate::fields::{End, ModeOr, Then};
 use crate::flags::{push_flags, whence_word};
@@ -22,7 +22,7 @@ pub(crate) trait Spelled {
 
     /// Adds its word to a line.
     fn push(&self, alloc: Global, line: &mut Vec<u8>) -> Result<(), AllocError>
-        ensures { OnOk result (Adds line.old line.new (word_of kind (value self.now))) };
+        ensures { OnOk result (AddsText line.old line.new (word_of kind (value self.now))) };
 }
 
 /// What all words behind a command's name spell.
@@ -34,7 +34,7 @@ pub(crate) trait SpelledFields {
     /// Adds its words to a line, each behind a space.
     fn push(&self, alloc: Global, line: &mut Vec<u8>) -> Result<(), AllocError>
         ensures { OnOk result
-            (Adds line.old line.new (spaced (form_words form (values self.now)))) };
+            (AddsText line.old line.new (spaced (form_words form (values self.now)))) };
 }
 
 /// Adds a command's name and its fields to a line.
@@ -44,7 +44,7 @@ pub(crate) fn push_fields<F: SpelledFields>(
     verb: Verb,
     fields: &F,
 ) -> Result<(), AllocError>
-    ensures { OnOk result (Adds line.old line.new
+    ensures { OnOk result (AddsText line.old line.new
         (verb_name verb ++ spaced (form_words F.form (F.values fields.now)))) }
 {
     line.extend_from_slice(verb.name())?;

@@ -4,7 +4,7 @@ ghost use Rattle.std.specs.Prelude.{◌≡◌, ◌≢◌, ℕ, List, ◌++◌, �
 ghost use Rattle.hex.specs.Hex.{encode_lower};
 ghost use Rattle.script.specs.Forms.{bytes, mode};
 ghost use Rattle.script.specs.Readings.{ReadsWord};
-ghost use Rattle.script.specs.Words.{data_word, is_plain, hex_digit, byte_word, text_word, mode_word, words_of, Adds, IsBytes, IsSplit};
+ghost use Rattle.script.specs.Words.{data_word, is_plain, hex_digit, byte_word, text_word, mode_word, words_of, AddsText, AreByteValues, IsSplit};
 
 use crate::ScriptError;
 use hex::FromHexError;
@@ -28,7 +28,7 @@ fn is_plain(byte: u8) -> bool
 /// Adds a text's word to a line: each byte that isn't plain is `%` and two lower-case hexadecimal digits, and the empty
 /// text is `%` alone.
 pub(crate) fn push_text(line: &mut Vec<u8>, text: &[u8]) -> Result<(), AllocError>
-    ensures { OnOk result (Adds line.old line.new (text_word text.now)) }
+    ensures { OnOk result (AddsText line.old line.new (text_word text.now)) }
 {
     if text.is_empty() {
         line.push(b'%')?;
@@ -42,7 +42,7 @@ pub(crate) fn push_text(line: &mut Vec<u8>, text: &[u8]) -> Result<(), AllocErro
 
 /// Adds a byte of a text to a line.
 fn push_byte(line: &mut Vec<u8>, byte: u8) -> Result<(), AllocError>
-    ensures { OnOk result (Adds line.old line.new (byte_word byte)) }
+    ensures { OnOk result (AddsText line.old line.new (byte_word byte)) }
 {
     if is_plain(byte) {
         line.push(byte)?;
@@ -78,9 +78,9 @@ fn hex_value(digit: u8) -> Option<u8>
 /// The text that a word spells.
 pub(crate) fn read_text(alloc: Global, word: &[u8]) -> Result<Text, ScriptError>
     ensures value { IfOk result (λ text. word.now ≡ text_word text) }
-    ensures bytes { IfOk result IsBytes }
+    ensures bytes { IfOk result AreByteValues }
     ensures refused { IsErrOf result ScriptError.NotACommand
-        → (text : List ℕ) → IsBytes text → word.now ≢ text_word text }
+        → (text : List ℕ) → AreByteValues text → word.now ≢ text_word text }
 {
     let mut bytes = Vec::new(alloc);
     if word == b"%".as_slice() {
@@ -184,7 +184,7 @@ pub(crate) fn read_data(alloc: Global, word: &[u8]) -> Result<Text, ScriptError>
 
 /// Whether a word is the one of these bytes.
 fn is_data_word(alloc: Global, word: &[u8], bytes: &[u8]) -> Result<bool, AllocError>
-    ensures bytes { IsBytes bytes.now }
+    ensures bytes { AreByteValues bytes.now }
     ensures spelled { IfOk result (λ is. is ≡ true → word.now ≡ data_word bytes.now) }
     ensures other { IfOk result (λ is. is ≡ false → word.now ≢ data_word bytes.now) }
 {
@@ -194,7 +194,7 @@ fn is_data_word(alloc: Global, word: &[u8], bytes: &[u8]) -> Result<bool, AllocE
 }
 
 fn decode(alloc: Global, word: &[u8]) -> Result<Vec<u8>, ScriptError>
-    ensures { (bs : List ℕ) → IsBytes bs → word.now ≡ encode_lower bs
+    ensures { (bs : List ℕ) → AreByteValues bs → word.now ≡ encode_lower bs
         → MatchResult result (λ decoded. decoded.items ≡ bs) (λ e. e ≡ ScriptError.NoMemory) }
 {
     match hex::decode(alloc, word) {
@@ -208,7 +208,7 @@ fn decode(alloc: Global, word: &[u8]) -> Result<Vec<u8>, ScriptError>
 
 /// Adds the word of data to a line.
 pub(crate) fn push_data(alloc: Global, line: &mut Vec<u8>, bytes: &[u8]) -> Result<(), AllocError>
-    ensures { OnOk result (Adds line.old line.new (data_word bytes.now)) }
+    ensures { OnOk result (AddsText line.old line.new (data_word bytes.now)) }
 {
     if bytes.is_empty() {
         return line.extend_from_slice(b"-");

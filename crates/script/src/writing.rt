@@ -4,7 +4,7 @@ ghost use Rattle.std.specs.Prelude.{◌≡◌, ◌∷◌, ◌++◌, OnOk};
 ghost use Rattle.script.specs.Forms.{form_words};
 ghost use Rattle.script.specs.Lines.{call_words, command_line, line_of};
 ghost use Rattle.script.specs.Verbs.{verb_name};
-ghost use Rattle.script.specs.Words.{text_word, Adds};
+ghost use Rattle.script.specs.Words.{text_word, AddsText};
 
 use crate::fields::{End, ModeOr, Then};
 use crate::spelling::{DataOf, SpelledFields, push_fields};
@@ -19,7 +19,7 @@ pub(crate) fn push_command(
     line: &mut Vec<u8>,
     command: &Command,
 ) -> Result<(), AllocError>
-    ensures { OnOk result (Adds line.old line.new (command_line command.now)) }
+    ensures { OnOk result (AddsText line.old line.new (command_line command.now)) }
 {
     match command {
         Command::Path(call) => push_call(alloc, line, call),
@@ -72,7 +72,7 @@ fn push_snap<F: SpelledFields>(
     verb: Verb,
     fields: &F,
 ) -> Result<(), AllocError>
-    ensures { OnOk result (Adds line.old line.new
+    ensures { OnOk result (AddsText line.old line.new
         (line_of (verb_name Verb.Snap ∷ verb_name verb ∷ form_words F.form (F.values fields.now)))) }
 {
     line.extend_from_slice(b"snap ")?;
@@ -86,7 +86,7 @@ fn push_within(
     name: &Text,
     call: &PathCall,
 ) -> Result<(), AllocError>
-    ensures { OnOk result (Adds line.old line.new
+    ensures { OnOk result (AddsText line.old line.new
         (line_of (verb_name Verb.In ∷ text_word name.now ∷ call_words call.now))) }
 {
     line.extend_from_slice(b"in ")?;
@@ -97,7 +97,7 @@ fn push_within(
 
 /// Adds the line of a call that names a path.
 fn push_call(alloc: Global, line: &mut Vec<u8>, call: &PathCall) -> Result<(), AllocError>
-    ensures { OnOk result (Adds line.old line.new (line_of (call_words call.now))) }
+    ensures { OnOk result (AddsText line.old line.new (line_of (call_words call.now))) }
 {
     match call {
         PathCall::List { path } => push_fields(alloc, line, Verb::List, &Then(path, End)),

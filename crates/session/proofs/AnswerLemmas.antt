@@ -13,7 +13,7 @@ use Rattle.mount.specs.Systems.{mounted, Serves}
 use Rattle.mount.specs.declared.fs.Fs.{Fs}
 use Rattle.mount.specs.declared.fs.TheConstants.{POINTS}
 use Rattle.std.specs.Prelude.{Err}
-use Rattle.session.specs.Answers.{cut_line, lines_of_steps, shown, EndsAnswer, EndsCut, EndsReply, HasDone, IsAnswered}
+use Rattle.session.specs.Answers.{cut_line, lines_of_steps, shown, EndsAnswer, EndsCut, EndsReply, HasDone, IsAnsweredBy}
 use Rattle.session.specs.declared.status.Status.{Status}
 use Rattle.session.specs.declared.status.Status.TheVariants.{Done, NotUnderstood, FileFault, Cut, NotMounted, NotACommand, NoMemory, Refused}
 
@@ -75,7 +75,7 @@ module _ {S : Type 0} {G : Ghosts S} where
   done_none fs begins = record { lasts = omega arith; ran = λ s serves lasts. begins s serves }
 
   -- one more
-  pub done_more : (first fs next : Fs S G) (steps : List (Command × Reply)) (command : Command) (reply : Reply) → HasDone first fs steps → IsAnswered fs next command reply → HasDone first next (steps ++ (command, reply) ∷ [])
+  pub done_more : (first fs next : Fs S G) (steps : List (Command × Reply)) (command : Command) (reply : Reply) → HasDone first fs steps → IsAnsweredBy fs next command reply → HasDone first next (steps ++ (command, reply) ∷ [])
   done_more first fs next steps command reply done answered =
       let count : length (steps ++ (command, reply) ∷ []) ≡ length steps + 1 = length-append steps ((command, reply) ∷ []) in
       record {

@@ -7,7 +7,7 @@ use Rattle.model.specs.declared.command.Command.{Command}
 use Rattle.model.specs.declared.reply.Reply.{Reply}
 use Rattle.station.specs.declared.station.Station.{Ghosts}
 use Rattle.mount.specs.declared.fs.Fs.{Fs}
-use Rattle.session.specs.Answers.{cut_line, is_refusal, lines_of_steps, shown, AnswersShowing, EndsAnswer, EndsCut, EndsShort, HasDone, IsShort}
+use Rattle.session.specs.Answers.{cut_line, is_refusal, lines_of_steps, shown, AnswersShowing, EndsAnswer, EndsCut, EndsShort, HasDone, LacksLastReply}
 use Rattle.session.specs.Sessions.{commands_of, AreDone, AreFirstOf, EndsRunning, EndsShowing}
 use Rattle.session.specs.declared.status.Status.{Status}
 use Rattle.session.specs.declared.status.Status.TheVariants.{Done, NotUnderstood, FileFault, Cut, NotMounted, NotACommand, NoMemory, Refused}
@@ -42,7 +42,7 @@ one_more : (commands : List Command) (i : ℕ) (steps : List (Command × Reply))
 one_more commands i steps command reply below is are =
     map-append (λ (step : Command × Reply). step.0) steps ((command, reply) ∷ []) ∙ ap (λ (l : List Command). l ++ command ∷ []) are ∙ sym (take_more commands i command below ∙ ap (λ (x : Command). take i commands ++ x ∷ []) (sym is))
 
-abbrev short_one : (steps : List (Command × Reply)) (command : Command) (reply : Reply) → IsShort (steps ++ (command, reply) ∷ []) steps
+abbrev short_one : (steps : List (Command × Reply)) (command : Command) (reply : Reply) → LacksLastReply (steps ++ (command, reply) ∷ []) steps
 short_one steps command reply = record { rest = (command, reply) ∷ []; is = refl; few = omega arith }
 
 -- a reply that isn't shown whole ends them

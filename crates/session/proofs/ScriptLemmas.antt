@@ -4,7 +4,7 @@ use Rattle.std.proofs.lemmas.List.{append_cancel_right, length-map, take-append-
 use Rattle.std.proofs.lemmas.List.Elements.{All-head, All-tail, filter-append}
 use Rattle.std.specs.List.{drop-map}
 use Rattle.model.specs.declared.command.Command.{Command}
-use Rattle.script.specs.Lines.{command_line, IsCommand}
+use Rattle.script.specs.Lines.{command_line, IsCommandInForm}
 use Rattle.session.specs.Scripts.{is_skipped, lines_kept, AreCommandsOf, IsBadLine, IsFirstBadLine}
 
 got : {X : Type 0} (v : X → List ℕ) (xs : List X) (i : ℕ) (d : X) (e : List ℕ) → i < length xs → get_or (map v xs) i e ≡ v (get_or xs i d)
@@ -13,7 +13,7 @@ got v (x ∷ xs) zero d e within = refl
 got v (x ∷ xs) (suc i) d e within = got v xs i d e (omega (arith, within))
 
 -- where the lines before line i are some commands, and line i is bad
-pub is_first_bad : {X : Type 0} (v : X → List ℕ) (xs : List X) (d : X) (lines : List (List ℕ)) (i : ℕ) (commands : List Command) → map v xs ≡ lines → i < length xs → IsBadLine (v (get_or xs i d)) → All IsCommand commands
+pub is_first_bad : {X : Type 0} (v : X → List ℕ) (xs : List X) (d : X) (lines : List (List ℕ)) (i : ℕ) (commands : List Command) → map v xs ≡ lines → i < length xs → IsBadLine (v (get_or xs i d)) → All IsCommandInForm commands
     → map command_line commands ++ lines_kept (map v (drop i xs)) ≡ lines_kept lines → IsFirstBadLine lines i
 is_first_bad v xs d lines i commands are within bad bounded before = subst (λ ls. IsFirstBadLine ls i) are (record {
   within = omega (arith, within, length-map xs v);
@@ -28,15 +28,15 @@ is_first_bad v xs d lines i commands are within bad bounded before = subst (λ l
 })
 
 -- a line more, where those behind it have no bad one
-one_more : (s : Bool) (l : List ℕ) (ls : List (List ℕ)) (commands : List Command) → is_skipped l ≡ s → All IsCommand commands → map command_line commands ≡ cond (not s) (l ∷ lines_kept ls) (lines_kept ls)
-    → ((cs : List Command) → All IsCommand cs → map command_line cs ≡ lines_kept ls → (j : ℕ) → j < length ls → IsBadLine (get_or ls j []) → ⊥) → (i : ℕ) → i < length (l ∷ ls) → IsBadLine (get_or (l ∷ ls) i []) → ⊥
+one_more : (s : Bool) (l : List ℕ) (ls : List (List ℕ)) (commands : List Command) → is_skipped l ≡ s → All IsCommandInForm commands → map command_line commands ≡ cond (not s) (l ∷ lines_kept ls) (lines_kept ls)
+    → ((cs : List Command) → All IsCommandInForm cs → map command_line cs ≡ lines_kept ls → (j : ℕ) → j < length ls → IsBadLine (get_or ls j []) → ⊥) → (i : ℕ) → i < length (l ∷ ls) → IsBadLine (get_or (l ∷ ls) i []) → ⊥
 one_more true l ls commands e bounded spelled none zero within bad = absurd (grind (arith, e, bad.kept))
 one_more true l ls commands e bounded spelled none (suc i) within bad = none commands bounded spelled i (omega (arith, within)) bad
 one_more false l ls [] e bounded spelled none i within bad = absurd (grind (arith, spelled))
-one_more false l ls (c ∷ cs) e bounded spelled none zero within bad = bad.none c (All-head IsCommand c cs bounded) (grind (arith, spelled))
-one_more false l ls (c ∷ cs) e bounded spelled none (suc i) within bad = none cs (All-tail IsCommand c cs bounded) (grind (arith, spelled)) i (omega (arith, within)) bad
+one_more false l ls (c ∷ cs) e bounded spelled none zero within bad = bad.none c (All-head IsCommandInForm c cs bounded) (grind (arith, spelled))
+one_more false l ls (c ∷ cs) e bounded spelled none (suc i) within bad = none cs (All-tail IsCommandInForm c cs bounded) (grind (arith, spelled)) i (omega (arith, within)) bad
 
-none_bad : (lines : List (List ℕ)) (commands : List Command) → All IsCommand commands → map command_line commands ≡ lines_kept lines → (i : ℕ) → i < length lines → IsBadLine (get_or lines i []) → ⊥
+none_bad : (lines : List (List ℕ)) (commands : List Command) → All IsCommandInForm commands → map command_line commands ≡ lines_kept lines → (i : ℕ) → i < length lines → IsBadLine (get_or lines i []) → ⊥
 none_bad [] commands bounded spelled i within bad = absurd (omega (arith, within))
 none_bad (l ∷ ls) commands bounded spelled i within bad = one_more (is_skipped l) l ls commands refl bounded spelled (λ cs. none_bad ls cs) i within bad
 

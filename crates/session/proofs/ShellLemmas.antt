@@ -10,9 +10,9 @@ use Rattle.model.specs.declared.reply.Reply.{Reply}
 use Rattle.station.specs.declared.station.Station.{Ghosts}
 use Rattle.mount.specs.declared.fs.Fs.{Fs}
 use Rattle.session.specs.Answers.{cut_line, AnswersShowing, EndsAnswer, EndsCut, HasDone}
-use Rattle.session.specs.Reading.{IsReadFault, TakesLine}
+use Rattle.session.specs.Reading.{IsInputFault, TakesLine}
 use Rattle.session.specs.Scripts.{is_skipped, IsBadLine, IsLineOf}
-use Rattle.session.specs.Shells.{bad_line, said, said_of, step_before, steps_of, AnswersLine, ComesTo, Dialog, DoesStep, EndsBad, EndsListening, EndsUnsaid, HasHeard, IsLast, TakesLines}
+use Rattle.session.specs.Shells.{bad_line, said, said_of, step_before, steps_of, AnswersLine, LineComesTo, Dialog, DoesStep, EndsBad, EndsListening, EndsUnsaid, HasHeard, IsLast, TakesLines}
 use Rattle.session.specs.declared.status.Status.{Status}
 use Rattle.session.specs.declared.status.Status.TheVariants.{Done, NotUnderstood, FileFault, Cut, NotMounted, NotACommand, NoMemory, Refused}
 use Rattle.session.proofs.AnswerLemmas.{appends_none, appends_twice, done_more}
@@ -26,7 +26,7 @@ flag_says b line is = ap (λ (x : Bool). if x then [] else bad_line) is
 
 module _ {S : Type 0} {G : Ghosts S} (fs : Fs S G) (line : List ℕ) (cut : Bool → Type 0) (o : Option (List ℕ)) where
   -- it is answered as no command
-  unsaid : (o' : Option (List ℕ)) (b : Bool) (result : Result (Unit {0}) Status) → ComesTo line None → (if b then [] else bad_line) ≡ said_of line None → EndsBad b o o' result → AnswersLine fs fs line cut cut o o' result
+  unsaid : (o' : Option (List ℕ)) (b : Bool) (result : Result (Unit {0}) Status) → LineComesTo line None → (if b then [] else bad_line) ≡ said_of line None → EndsBad b o o' result → AnswersLine fs fs line cut cut o o' result
   unsaid o' b (Ok done) comes is ends = (None, comes, refl, λ on. on, subst (λ (l : List ℕ). Appends o o' l) is ends)
   unsaid o' b (Err FileFault) comes is ends = ([], refl, (bad_line, (ends.0, inr refl, ends.1)))
   unsaid o' b (Err Done) comes is ends = absurd ends
@@ -97,7 +97,7 @@ pub record IsListening {S : Type 0} {G : Ghosts S} (first fs : Fs S G) (input le
 
 module _ {S : Type 0} {G : Ghosts S} (first : Fs S G) where
   heard_none : (input o : Option (List ℕ)) → HasDone first first [] → HasHeard first first input input o o []
-  heard_none input o done = record { comes = All-nil (λ (line : List ℕ × Option (Command × Reply)). ComesTo line.0 line.1); taken = keeps_same input; done = done; shows = appends_none o }
+  heard_none input o done = record { comes = All-nil (λ (line : List ℕ × Option (Command × Reply)). LineComesTo line.0 line.1); taken = keeps_same input; done = done; shows = appends_none o }
 
   pub listening_none : (input o : Option (List ℕ)) (was_cut : Bool → Type 0) → HasDone first first [] → was_cut false → IsListening first first input input o o was_cut
   listening_none input o was_cut done going = record { lines = []; heard = heard_none input o done; going = going }
@@ -116,7 +116,7 @@ module _ {S : Type 0} {G : Ghosts S} (first : Fs S G) where
       record {
         lines = lines ++ (line, step) ∷ [];
         heard = record {
-          comes = All-append (λ (l : List ℕ × Option (Command × Reply)). ComesTo l.0 l.1) lines ((line, step) ∷ []) heard.comes (All-cons (λ (l : List ℕ × Option (Command × Reply)). ComesTo l.0 l.1) (line, step) [] comes (All-nil (λ (l : List ℕ × Option (Command × Reply)). ComesTo l.0 l.1)));
+          comes = All-append (λ (l : List ℕ × Option (Command × Reply)). LineComesTo l.0 l.1) lines ((line, step) ∷ []) heard.comes (All-cons (λ (l : List ℕ × Option (Command × Reply)). LineComesTo l.0 l.1) (line, step) [] comes (All-nil (λ (l : List ℕ × Option (Command × Reply)). LineComesTo l.0 l.1)));
           taken = takes_more input left behind_it lines line step heard.taken takes;
           done = subst (λ (l : List (Command × Reply)). HasDone first next l) (sym (steps_more lines line step)) (done_step fs next (steps_of lines) step heard.done does);
           shows = subst (λ (l : List ℕ). Appends o b l) (sym (said_more lines line step)) (appends_twice o a b (said lines) (said_of line step) heard.shows shows);
@@ -143,7 +143,7 @@ module _ {S : Type 0} {G : Ghosts S} (first : Fs S G) where
       → EndsListening first next cut_now input o b status
   ends_unsaid fs next input left o a b line cut_before cut_now status so_far (rest, last, ends) = ends_behind fs next input left o a b cut_now so_far.lines rest status so_far.heard last ends
 
-  fault_unsaid : (was_cut : Bool → Type 0) (a : Option (List ℕ)) (status : Status) → IsReadFault status → EndsUnsaid was_cut [] a a status
+  fault_unsaid : (was_cut : Bool → Type 0) (a : Option (List ℕ)) (status : Status) → IsInputFault status → EndsUnsaid was_cut [] a a status
   fault_unsaid was_cut a FileFault fault = (cut_line, (0, inl refl, appends_none a))
   fault_unsaid was_cut a NoMemory fault = appends_none a
   fault_unsaid was_cut a Done fault = absurd fault
@@ -153,7 +153,7 @@ module _ {S : Type 0} {G : Ghosts S} (first : Fs S G) where
   fault_unsaid was_cut a NotACommand fault = absurd fault
   fault_unsaid was_cut a Refused fault = absurd fault
 
-  pub ends_unread : (fs : Fs S G) (input left o a : Option (List ℕ)) (was_cut : Bool → Type 0) (status : Status) → IsListening first fs input left o a was_cut → IsReadFault status → EndsListening first fs was_cut input o a status
+  pub ends_unread : (fs : Fs S G) (input left o a : Option (List ℕ)) (was_cut : Bool → Type 0) (status : Status) → IsListening first fs input left o a was_cut → IsInputFault status → EndsListening first fs was_cut input o a status
   ends_unread fs input left o a was_cut status so_far fault = ends_behind fs fs input left o a a was_cut so_far.lines [] status so_far.heard refl (fault_unsaid was_cut a status fault)
 
   cut_unsaid : (was_cut : Bool → Type 0) (o a : Option (List ℕ)) (status : Status) → was_cut true → EndsCut o a status → EndsUnsaid was_cut [] o a status

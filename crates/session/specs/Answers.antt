@@ -33,7 +33,7 @@ abbrev pub lines_of_steps : List (Command × Reply) → List ℕ
 lines_of_steps steps = flat_map (λ step. shown step.1) steps
 
 -- A command was answered so: whatever run led to the file system goes on by it, and its log's epoch rises by no more than one command's points.
-pub record IsAnswered {S : Type 0} {G : Ghosts S} (old new : Fs S G) (command : Command) (reply : Reply) : Type 0 where
+pub record IsAnsweredBy {S : Type 0} {G : Ghosts S} (old new : Fs S G) (command : Command) (reply : Reply) : Type 0 where
   pub lasts : new.system.log.epoch ≤ old.system.log.epoch + POINTS
   pub goes_on : (first : Fs S G) (s : State) (steps : List (Command × Reply)) → RunsAt first s old steps → IsYoung old
       → RunsAt first s new (steps ++ (command, reply) ∷ [])
@@ -73,10 +73,10 @@ EndsAnswer reply was_cut old new (Err status) = ⊥
 
 -- a command was answered, and its reply shown as far as that went
 abbrev pub AnswersShowing : {S : Type 0} {G : Ghosts S} → Fs S G → Fs S G → Command → (Bool → Type 0) → Option (List ℕ) → Option (List ℕ) → Result Reply Status → Type 0
-AnswersShowing old new command was_cut out out' result = (reply : Reply) × IsAnswered old new command reply × EndsAnswer reply was_cut out out' result
+AnswersShowing old new command was_cut out out' result = (reply : Reply) × IsAnsweredBy old new command reply × EndsAnswer reply was_cut out out' result
 
 -- Of these steps all replies are shown but at most the last one's.
-pub record IsShort (steps before : List (Command × Reply)) : Type 0 where
+pub record LacksLastReply (steps before : List (Command × Reply)) : Type 0 where
   pub rest : List (Command × Reply)
   pub is : steps ≡ before ++ rest
   pub few : length rest ≤ 1
@@ -84,8 +84,8 @@ pub record IsShort (steps before : List (Command × Reply)) : Type 0 where
 -- why steps' replies aren't all shown, and what a writer's known bytes gained: all that is before the last one's, and of a line that is
 -- due then a beginning
 abbrev pub EndsShort : (Bool → Type 0) → List (Command × Reply) → Option (List ℕ) → Option (List ℕ) → Status → Type 0
-EndsShort was_cut steps old new Cut = was_cut true × ((before : List (Command × Reply)) × IsShort steps before × Appends old new (lines_of_steps before ++ cut_line))
-EndsShort was_cut steps old new FileFault = (before : List (Command × Reply)) × (short : IsShort steps before)
+EndsShort was_cut steps old new Cut = was_cut true × ((before : List (Command × Reply)) × LacksLastReply steps before × Appends old new (lines_of_steps before ++ cut_line))
+EndsShort was_cut steps old new FileFault = (before : List (Command × Reply)) × (short : LacksLastReply steps before)
     × ((line : List ℕ) × ((k : ℕ) × IsDue short.rest line × Appends old new (lines_of_steps before ++ take k line)))
-EndsShort was_cut steps old new NoMemory = (before : List (Command × Reply)) × IsShort steps before × Appends old new (lines_of_steps before)
+EndsShort was_cut steps old new NoMemory = (before : List (Command × Reply)) × LacksLastReply steps before × Appends old new (lines_of_steps before)
 EndsShort was_cut steps old new status = ⊥

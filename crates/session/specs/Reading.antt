@@ -29,13 +29,13 @@ IsHeardAs line (Line bytes) = (bytes.items ≡ line) × (length line ≤ LINE_BY
 IsHeardAs line (TooLong is_comment) = (LINE_BYTES < length line) × (is_comment ≡ is_skipped line)
 
 -- why no line is read: the input can't be, or there is no memory
-abbrev pub IsReadFault : Status → Type 0
-IsReadFault FileFault = Unit {0}
-IsReadFault NoMemory = Unit {0}
-IsReadFault status = ⊥
+abbrev pub IsInputFault : Status → Type 0
+IsInputFault FileFault = Unit {0}
+IsInputFault NoMemory = Unit {0}
+IsInputFault status = ⊥
 
 -- how the reading of a line from known bytes ends
 abbrev pub EndsReading : Option (List ℕ) → Option (List ℕ) → Result (Option Heard) Status → Type 0
 EndsReading old new (Ok (Some heard)) = (line : List ℕ) × TakesLine old new line × IsHeardAs line heard
 EndsReading old new (Ok None) = IsAtEnd old
-EndsReading old new (Err status) = IsReadFault status
+EndsReading old new (Err status) = IsInputFault status

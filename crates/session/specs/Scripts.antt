@@ -3,7 +3,7 @@ use Rattle.std.specs.Prelude.{◌≡◌, ◌≢◌, ℕ, ◌+◌, ◌<◌, ◌==
 use Rattle.std.specs.Fmt.{decimal}
 use Rattle.std.specs.List.{slice_split}
 use Rattle.model.specs.declared.command.Command.{Command}
-use Rattle.script.specs.Lines.{command_line, IsCommand}
+use Rattle.script.specs.Lines.{command_line, IsCommandInForm}
 use Rattle.session.specs.declared.ending.Fault.{Fault}
 use Rattle.session.specs.declared.ending.Fault.TheVariants.{NoMemory, Line}
 
@@ -23,7 +23,7 @@ lines_kept lines = filter (λ line. not (is_skipped line)) lines
 -- a line is to be a command, and is none
 pub record IsBadLine (line : List ℕ) : Type 0 where
   pub kept : is_skipped line ≡ false
-  pub none : (c : Command) → IsCommand c → line ≢ command_line c
+  pub none : (c : Command) → IsCommandInForm c → line ≢ command_line c
 
 -- line i of these is bad
 abbrev pub IsBadAt : List (List ℕ) → ℕ → Type 0
@@ -36,11 +36,11 @@ HasBadLine script = (i : ℕ) × IsBadAt (lines_of script) i
 -- a line is this command, or is skipped
 abbrev pub IsLineOf : List ℕ → Option Command → Type 0
 IsLineOf line None = is_skipped line ≡ true
-IsLineOf line (Some c) = (is_skipped line ≡ false) × IsCommand c × (line ≡ command_line c)
+IsLineOf line (Some c) = (is_skipped line ≡ false) × IsCommandInForm c × (line ≡ command_line c)
 
 -- these are the commands of some lines, but for those that are skipped
 pub record AreCommandsOf (lines : List (List ℕ)) (commands : List Command) : Type 0 where
-  pub bounded : All IsCommand commands
+  pub bounded : All IsCommandInForm commands
   pub spelled : map command_line commands ≡ lines_kept lines
 
 -- these are the commands of a script

@@ -123,8 +123,8 @@ pub record Written : Type 0 where
   pub out : Option (List ℕ)
   pub err : Option (List ℕ)
 
-abbrev pub written : Option (List ℕ) → Option (List ℕ) → Written
-written out err = record { out = out; err = err }
+abbrev pub written_out : Option (List ℕ) → Option (List ℕ) → Written
+written_out out err = record { out = out; err = err }
 
 -- The script's commands ran, as far as they did, their replies were shown, and nothing was told.
 pub record EndsRan {S : Type 0} (G : Ghosts S) (script : List ℕ) (stops : Bool) (was_cut : Bool → Type 0) (old new : S) (w w' : Written) (status : Status) : Type 0 where

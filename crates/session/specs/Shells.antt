@@ -13,7 +13,7 @@ use Rattle.system.specs.Systems.{meaning_of}
 use Rattle.mount.specs.Systems.{mounted, Serves}
 use Rattle.mount.specs.declared.error.MountError.{MountError}
 use Rattle.mount.specs.declared.fs.Fs.{Fs}
-use Rattle.session.specs.Answers.{cut_line, shown, HasDone, IsAnswered, IsDue}
+use Rattle.session.specs.Answers.{cut_line, shown, HasDone, IsAnsweredBy, IsDue}
 use Rattle.session.specs.Reading.{TakesLine}
 use Rattle.session.specs.Scripts.{is_skipped, IsBadLine, IsLineOf}
 use Rattle.session.specs.Sessions.{EndsTelling, IsRefusal, Written}
@@ -29,9 +29,9 @@ abbrev pub bad_line : List ℕ
 bad_line = codes "err BADLINE\n"
 
 -- what a line comes to: the command that it is, with its reply, or nothing: it is skipped, is no command, or is too long for one
-abbrev pub ComesTo : List ℕ → Option (Command × Reply) → Type 0
-ComesTo line (Some step) = IsLineOf line (Some step.0)
-ComesTo line None = (is_skipped line ≡ true) ⊎ (IsBadLine line ⊎ ((is_skipped line ≡ false) × (LINE_BYTES < length line)))
+abbrev pub LineComesTo : List ℕ → Option (Command × Reply) → Type 0
+LineComesTo line (Some step) = IsLineOf line (Some step.0)
+LineComesTo line None = (is_skipped line ≡ true) ⊎ (IsBadLine line ⊎ ((is_skipped line ≡ false) × (LINE_BYTES < length line)))
 
 -- what is shown of it
 abbrev pub said_of : List ℕ → Option (Command × Reply) → List ℕ
@@ -64,12 +64,12 @@ TakesLines old new (line ∷ lines) = (mid : Option (List ℕ)) × TakesLine old
 -- one line was done on a file system: its command, or nothing
 abbrev pub DoesStep : {S : Type 0} {G : Ghosts S} → Fs S G → Fs S G → Option (Command × Reply) → Type 0
 DoesStep old new None = new ≡ old
-DoesStep old new (Some step) = IsAnswered old new step.0 step.1
+DoesStep old new (Some step) = IsAnsweredBy old new step.0 step.1
 
 -- what wasn't shown whole: at most one command's reply
 abbrev pub IsLast : {S : Type 0} {G : Ghosts S} → Fs S G → Fs S G → List (Command × Reply) → Type 0
 IsLast old new [] = new ≡ old
-IsLast old new (step ∷ []) = IsAnswered old new step.0 step.1
+IsLast old new (step ∷ []) = IsAnsweredBy old new step.0 step.1
 IsLast old new (step ∷ steps) = ⊥
 
 -- how the answers end behind those that are shown whole, and what a writer's known bytes gained by that: of a line that is due a beginning
@@ -88,13 +88,13 @@ EndsBad is_comment old new (Err status) = ⊥
 -- how the answer to a line ends
 abbrev pub AnswersLine : {S : Type 0} {G : Ghosts S} → Fs S G → Fs S G → List ℕ → (Bool → Type 0) → (Bool → Type 0) → Option (List ℕ) → Option (List ℕ) → Result (Unit {0}) Status → Type 0
 AnswersLine old new line cut_before cut_now out out' (Ok done) =
-    (step : Option (Command × Reply)) × ComesTo line step × DoesStep old new step × (cut_before false → cut_now false) × Appends out out' (said_of line step)
+    (step : Option (Command × Reply)) × LineComesTo line step × DoesStep old new step × (cut_before false → cut_now false) × Appends out out' (said_of line step)
 AnswersLine old new line cut_before cut_now out out' (Err status) = (rest : List (Command × Reply)) × IsLast old new rest × EndsUnsaid cut_now rest out out' status
 
 -- Lines were read from known bytes and answered whole: their commands led from one file system to another, and `bytes` is what a writer's known
 -- bytes were then.
 pub record HasHeard {S : Type 0} {G : Ghosts S} (first fs : Fs S G) (input left out bytes : Option (List ℕ)) (lines : Dialog) : Type 0 where
-  pub comes : All (λ line. ComesTo line.0 line.1) lines
+  pub comes : All (λ line. LineComesTo line.0 line.1) lines
   pub taken : TakesLines input left lines
   pub done : HasDone first fs (steps_of lines)
   pub shows : Appends out bytes (said lines)

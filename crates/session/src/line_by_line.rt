@@ -3,7 +3,7 @@
 ghost use Rattle.std.specs.Fn.{FnReturnsAt};
 ghost use Rattle.std.specs.Prelude.{◌≡◌, List, ℕ, false};
 ghost use Rattle.session.specs.Reading.{IsHeardAs};
-ghost use Rattle.session.specs.Sessions.{written};
+ghost use Rattle.session.specs.Sessions.{written_out};
 ghost use Rattle.session.specs.Shells.{AnswersLine, EndsListening, EndsShell, EndsBad};
 
 use crate::answering::{Closed, answer, show_cut, write_whole};
@@ -39,8 +39,8 @@ pub fn shell<S: Station, C: Fn(&S) -> bool, R: Read, O: Write, E: Write>(
     requires { C.IsAlwaysCallable was_cut }
     ensures { EndsShell S.Station prompts (FnReturnsAt C.Fn was_cut result.1) station result.1
         (R.remaining input.old) (R.remaining input.new)
-        (written (O.contents out.old) (E.contents err.old))
-        (written (O.contents out.new) (E.contents err.new)) result.0 }
+        (written_out (O.contents out.old) (E.contents err.old))
+        (written_out (O.contents out.new) (E.contents err.new)) result.0 }
 {
     match mount(alloc, station) {
         Ok(mut fs) => {

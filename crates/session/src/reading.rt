@@ -2,7 +2,7 @@
 
 ghost use Rattle.std.specs.Prelude.{◌≡◌, ◌≢◌, ◌+◌, ◌<◌, ◌∷◌, ◌++◌, [], List, ℕ, Bool, true, false, IfOk, IfErr, IfSome, IsNone, OnOk, MatchOption, drop, length, take};
 ghost use Rattle.std.specs.Io.KnownBytes.{prepend_known, Keeps, IsAtEnd};
-ghost use Rattle.session.specs.Reading.{EndsReading, IsHeardAs, IsPlain, IsReadFault, TakesLine};
+ghost use Rattle.session.specs.Reading.{EndsReading, IsHeardAs, IsPlain, IsInputFault, TakesLine};
 
 use crate::Status;
 use crate::lines::is_skipped;
@@ -78,7 +78,7 @@ fn take_line(pending: &mut Vec<u8>, end: usize) -> Result<Vec<u8>, Status>
     requires { end < length pending.old.items }
     ensures line { IfOk result (λ line. line.items ≡ take end pending.old.items) }
     ensures rest { OnOk result (pending.new.items ≡ drop (end + 1) pending.old.items) }
-    ensures memory { IfErr result IsReadFault }
+    ensures memory { IfErr result IsInputFault }
 {
     let Ok(rest) = pending.split_off(end + 1) else {
         return Err(Status::NoMemory);
@@ -109,7 +109,7 @@ fn skip_line<R: Read>(input: &mut R, pending: &mut Vec<u8>) -> Result<Heard, Sta
     ensures line { IfOk result (λ heard. (line : List ℕ) × TakesLine
         (prepend_known pending.old.items (R.remaining input.old))
         (prepend_known pending.new.items (R.remaining input.new)) line × IsHeardAs line heard) }
-    ensures fault { IfErr result IsReadFault }
+    ensures fault { IfErr result IsInputFault }
 {
     let is_comment = is_skipped(pending);
     for _ in 0..u64::MAX {
@@ -136,7 +136,7 @@ fn read_more<R: Read>(input: &mut R, pending: &mut Vec<u8>) -> Result<bool, Stat
     ensures more { OnOk result ((bytes : List ℕ) × (pending.new.items ≡ pending.old.items ++ bytes)) }
     ensures end { IfOk result (λ more. more ≡ false
         → (pending.new.items ≡ pending.old.items) × IsAtEnd (R.remaining input.new)) }
-    ensures fault { IfErr result IsReadFault }
+    ensures fault { IfErr result IsInputFault }
 {
     let mut chunk = [0_u8; CHUNK_BYTES];
     match input.read(&mut chunk) {

@@ -4,7 +4,7 @@ ghost use Rattle.std.specs.Fn.{FnReturnsAt};
 ghost use Rattle.std.specs.Prelude.{◌≡◌, ◌⊎◌, ◌&&◌};
 ghost use Rattle.session.specs.Answers.{is_refusal};
 ghost use Rattle.session.specs.Scripts.{HasBadLine};
-ghost use Rattle.session.specs.Sessions.{EndsRun, EndsRunning, EndsWith, written};
+ghost use Rattle.session.specs.Sessions.{EndsRun, EndsRunning, EndsWith, written_out};
 ghost use Rattle.session.specs.Statuses.{status_number, status_of};
 
 use crate::answering::{answer, is_refusal, show_cut};
@@ -46,8 +46,8 @@ pub fn session<S: Station, C: Fn(&S) -> bool, O: Write, E: Write>(
         ⊎ (status_number (status_of result.0) ≡ 7)) }
     ensures ends { EndsWith S.Station script.now stops (FnReturnsAt C.Fn was_cut result.1)
         station result.1
-        (written (O.contents out.old) (E.contents err.old))
-        (written (O.contents out.new) (E.contents err.new)) result.0 }
+        (written_out (O.contents out.old) (E.contents err.old))
+        (written_out (O.contents out.new) (E.contents err.new)) result.0 }
 {
     let commands = match read_script(alloc, script) {
         Ok(commands) => commands,

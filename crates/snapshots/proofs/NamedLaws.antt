@@ -13,7 +13,7 @@ use Rattle.model.specs.Volumes.{Volume}
 use Rattle.images.specs.Roots.{slot, whole}
 use Rattle.images.specs.Snapshots.{AreKeptAbove, AreSnapshots, HasSnapshot, IsFrozenTree}
 use Rattle.images.specs.States.{Holds}
-use Rattle.snapshots.specs.Found.{Finds, IsNamed, SpellsSnapshot, named, snapshot_found}
+use Rattle.snapshots.specs.Found.{FindsSnapshot, IsNamedSnapshot, SpellsSnapshot, named, snapshot_found}
 use Rattle.snapshots.specs.declared.finding.Found.{Found}
 use Rattle.snapshots.proofs.SlotLaws.{has, one_snapshot}
 
@@ -61,7 +61,7 @@ module _ (disk : Blocks) (r : Root) (name : Name) where
   none_named v pairs holds none = none_above pairs 0 holds.kept none
 
   pub one_named : (v : Volume) (pairs : List (Name × Tree)) → Holds r (whole disk r) v pairs
-      → (k : ℕ) (s : Snapshot) → HasSnapshot r (whole disk r) k s → s.name ≡ name → IsNamed r disk name pairs k
+      → (k : ℕ) (s : Snapshot) → HasSnapshot r (whole disk r) k s → s.name ≡ name → IsNamedSnapshot r disk name pairs k
   one_named v pairs holds k s has is =
       let each = holds.sound.snapshots.each k has.block has.there in
       let one : each.0 ≡ s = one_snapshot disk r k each.0 s each.1 has in
@@ -72,7 +72,7 @@ module _ (disk : Blocks) (r : Root) (name : Name) where
 -- what a slot's pointer leads to, where it has the name
 pub finds : (disk : Blocks) (r : Root) (name : Name) (v : Volume) (pairs : List (Name × Tree)) → Holds r (whole disk r) v pairs
     → (k : ℕ) (p : Pointer) (found : Option Found) → slot r (suc k) ≡ p → IsSome found → IfSome found (λ f. f.slot ≡ k + 1)
-    → IfSome found (λ f. SpellsSnapshot disk p (snapshot_found name f)) → Finds r disk name pairs found
+    → IfSome found (λ f. SpellsSnapshot disk p (snapshot_found name f)) → FindsSnapshot r disk name pairs found
 finds disk r name v pairs holds k p None there some at spells = absurd (false≢true some)
 finds disk r name v pairs holds k p (Some f) there some at spells =
     let same : suc k ≡ f.slot = omega (arith, at) in

@@ -18,8 +18,8 @@ use Rattle.images.specs.Roots.{slot, whole}
 use Rattle.images.specs.Snapshots.{AreSnapshots, HasSnapshot}
 use Rattle.images.specs.SnapshotSteps.{IsSlotNumber}
 use Rattle.images.specs.States.{Holds}
-use Rattle.snapshots.specs.Found.{Finds, SpellsSnapshot, named}
-use Rattle.snapshots.specs.Taken.{IsNewest, MayTake}
+use Rattle.snapshots.specs.Found.{FindsSnapshot, SpellsSnapshot, named}
+use Rattle.snapshots.specs.Taken.{HasNewestOrder, MayTake}
 use Rattle.snapshots.specs.declared.finding.Found.{Found}
 use Rattle.snapshots.specs.declared.taking.Taking.{Taking}
 use Rattle.snapshots.proofs.CountLaws.{none_free, room_left}
@@ -40,7 +40,7 @@ full s name pairs same good none many =
     let room : nat_le 20 (length s.snapshots) ≡ true = ap (λ (ps : List (Name × Tree)). nat_le 20 (length ps)) same ∙ le-leb 20 (length pairs) many in
     rw (good, absent, room) refl
 
-pub not_found : (disk : Blocks) (r : Root) (name : Name) (pairs : List (Name × Tree)) (found : Option Found) → is_some found ≡ false → Finds r disk name pairs found → named name pairs ≡ None
+pub not_found : (disk : Blocks) (r : Root) (name : Name) (pairs : List (Name × Tree)) (found : Option Found) → is_some found ≡ false → FindsSnapshot r disk name pairs found → named name pairs ≡ None
 not_found disk r name pairs None is finds = finds
 not_found disk r name pairs (Some f) is finds = absurd (cc)
 
@@ -67,7 +67,7 @@ module _ (disk : Blocks) (r : Root) (root : IsRoot r) (name : Name) (v : Volume)
   are : AreSnapshots r (whole disk r)
   are = holds.sound.snapshots
 
-  low_order : (last : ℕ) → IsNewest disk r 20 last → last ≤ r.generation
+  low_order : (last : ℕ) → HasNewestOrder disk r 20 last → last ≤ r.generation
   low_order last newest = elim newest.found [
     | inl none ↦ omega (arith, none)
     | inr (j, s, lt, spelled, is) ↦
@@ -78,7 +78,7 @@ module _ (disk : Blocks) (r : Root) (root : IsRoot r) (name : Name) (v : Volume)
         omega (arith, low, is)
   ]
 
-  pub may_take : (t : Taking) (last : ℕ) → IsSlotNumber t.slot → slot r t.slot ≡ Hole → ((k : ℕ) → 1 ≤ k → k < t.slot → slot r k ≢ Hole) → is_bad_name name ≡ false → named name pairs ≡ None → IsNewest disk r 20 last → t.order ≡ last + 1
+  pub may_take : (t : Taking) (last : ℕ) → IsSlotNumber t.slot → slot r t.slot ≡ Hole → ((k : ℕ) → 1 ≤ k → k < t.slot → slot r k ≢ Hole) → is_bad_name name ≡ false → named name pairs ≡ None → HasNewestOrder disk r 20 last → t.order ≡ last + 1
       → MayTake disk r name t
   may_take t last number free least good none newest order =
       let size = good_length name good in

@@ -25,13 +25,13 @@ abbrev pub named : Name → List (Name × Tree) → Option (Name × Tree)
 named name pairs = find (λ pair. bytes_eq pair.0 name) pairs
 
 -- Of the snapshots under a root, slot k has the one of this name, and its tree is the one that the names lead to.
-pub record IsNamed (r : Root) (disk : Blocks) (name : Name) (pairs : List (Name × Tree)) (k : ℕ) : Type 0 where
+pub record IsNamedSnapshot (r : Root) (disk : Blocks) (name : Name) (pairs : List (Name × Tree)) (k : ℕ) : Type 0 where
   pub tree : Tree
   pub listed : named name pairs ≡ Some (name, tree)
   pub frozen : IsFrozenTree r.geometry.inodes ((whole disk r).frozen k) tree
 
 -- What was found under a root by a name: nothing where no snapshot has it, or else the slot of the one that has it.
-abbrev pub Finds : Root → Blocks → Name → List (Name × Tree) → Option Found → Type 0
-Finds r disk name pairs None = named name pairs ≡ None
-Finds r disk name pairs (Some f) =
-    HasSnapshot r (whole disk r) f.slot (snapshot_found name f) × IsNamed r disk name pairs f.slot
+abbrev pub FindsSnapshot : Root → Blocks → Name → List (Name × Tree) → Option Found → Type 0
+FindsSnapshot r disk name pairs None = named name pairs ≡ None
+FindsSnapshot r disk name pairs (Some f) =
+    HasSnapshot r (whole disk r) f.slot (snapshot_found name f) × IsNamedSnapshot r disk name pairs f.slot

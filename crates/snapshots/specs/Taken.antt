@@ -21,7 +21,7 @@ abbrev pub RefusesTake : State → Name → Errno → Type 0
 RefusesTake s name errno = first_refusal (take_tests s name) ≡ Some errno
 
 -- Of a root's first n slots, this is the greatest order number of a snapshot, or 0 where there is none.
-pub record IsNewest (disk : Blocks) (r : Root) (n last : ℕ) : Type 0 where
+pub record HasNewestOrder (disk : Blocks) (r : Root) (n last : ℕ) : Type 0 where
   pub most : (j : ℕ) (s : Snapshot) → j < n → SpellsSnapshot disk (slice_index_or r.snapshots j Hole) s → s.order ≤ last
   pub found : (last ≡ 0)
       ⊎ ((j : ℕ) × (s : Snapshot) × (j < n) × SpellsSnapshot disk (slice_index_or r.snapshots j Hole) s × (s.order ≡ last))
@@ -32,7 +32,7 @@ pub record MayTake (disk : Blocks) (r : Root) (name : Name) (t : Taking) : Type 
   pub slot_is : IsSlotNumber t.slot
   pub free : slot r t.slot ≡ Hole
   pub least : (k : ℕ) → 1 ≤ k → k < t.slot → slot r k ≢ Hole
-  pub next : (last : ℕ) × IsNewest disk r SNAPSHOT_SLOTS last × (t.order ≡ last + 1)
+  pub next : (last : ℕ) × HasNewestOrder disk r SNAPSHOT_SLOTS last × (t.order ≡ last + 1)
   pub some : 1 ≤ length name
   pub short : length name ≤ SNAPSHOT_NAME_BYTES
   pub names : (k : ℕ) (s : Snapshot) → HasSnapshot r (whole disk r) k s → s.name ≢ name

@@ -15,7 +15,7 @@ ghost use Rattle.blocktree.specs.Errors.{IsFault};
 ghost use Rattle.images.specs.Roots.{whole};
 ghost use Rattle.images.specs.States.{Holds};
 ghost use Rattle.loading.specs.Snapshots.{IsSnapshotAt};
-ghost use Rattle.snapshots.specs.Found.{Finds, SpellsSnapshot, snapshot_found};
+ghost use Rattle.snapshots.specs.Found.{FindsSnapshot, SpellsSnapshot, snapshot_found};
 
 use blocktree::ReadError;
 use buffers::Blocks;
@@ -46,7 +46,7 @@ pub fn find<B: Blocks>(blocks: &mut B, root: &Root, name: &[u8]) -> Result<Optio
         IfSome found (λ f. f.inode_file.size ≤ greatest_size VERSION)) }
     ensures finds { (disk : ℕ → List ℕ) → B.Shows blocks.old disk → (v : Volume)
         (pairs : List (Name × Tree)) → Holds root.now (whole disk root.now) v pairs
-        → IfOk result (Finds root.now disk name.now pairs) }
+        → IfOk result (FindsSnapshot root.now disk name.now pairs) }
     ensures damaged { (disk : ℕ → List ℕ) → B.Shows blocks.old disk → (v : Volume)
         (pairs : List (Name × Tree)) → Holds root.now (whole disk root.now) v pairs
         → IsErrOf result ReadError.Damaged → ⊥ }

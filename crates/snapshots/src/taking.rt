@@ -18,7 +18,7 @@ ghost use Rattle.images.specs.Roots.{slot, whole};
 ghost use Rattle.images.specs.Snapshots.{HasSnapshot};
 ghost use Rattle.images.specs.SnapshotSteps.{IsSlotNumber};
 ghost use Rattle.images.specs.States.{Holds};
-ghost use Rattle.snapshots.specs.Taken.{IsNewest, MayTake, RefusesTake};
+ghost use Rattle.snapshots.specs.Taken.{HasNewestOrder, MayTake, RefusesTake};
 
 use crate::finding::find;
 use crate::listing::above_at;
@@ -81,7 +81,7 @@ fn newest<B: Blocks>(blocks: &mut B, root: &Root) -> Result<u64, ReadError>
     requires size { B.count blocks.old ≡ root.now.geometry.blocks }
     ensures reads { ReadsBlocks B.Blocks IsFault blocks.old blocks.new result }
     ensures is { (disk : ℕ → List ℕ) → B.Shows blocks.old disk
-        → IfOk result (IsNewest disk root.now SNAPSHOT_SLOTS) }
+        → IfOk result (HasNewestOrder disk root.now SNAPSHOT_SLOTS) }
     ensures last { IfOk result (λ n. n < 2 ^ 62) }
     ensures damaged { (disk : ℕ → List ℕ) → B.Shows blocks.old disk → (v : Volume)
         (pairs : List (Name × Tree)) → Holds root.now (whole disk root.now) v pairs

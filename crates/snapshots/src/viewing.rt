@@ -11,7 +11,7 @@ ghost use Rattle.blocktree.specs.Errors.{IsFault};
 ghost use Rattle.images.specs.Roots.{whole};
 ghost use Rattle.images.specs.States.{Holds};
 ghost use Rattle.loading.specs.Images.{AreInodesOf};
-ghost use Rattle.snapshots.specs.Found.{Finds};
+ghost use Rattle.snapshots.specs.Found.{FindsSnapshot};
 
 use crate::finding::Found;
 use blocktree::ReadError;
@@ -36,7 +36,7 @@ pub fn view<B: Blocks>(
     ensures geometry { IfOk result (λ inodes. inodes.geometry ≡ root.now.geometry) }
     ensures views { (disk : ℕ → List ℕ) → B.Shows blocks.old disk → (v : Volume) (name : Name)
         (pairs : List (Name × Tree)) → Holds root.now (whole disk root.now) v pairs
-        → Finds root.now disk name pairs (Some found.now) → MatchResult result
+        → FindsSnapshot root.now disk name pairs (Some found.now) → MatchResult result
         (AreInodesOf disk root.now.geometry ((whole disk root.now).frozen found.now.slot))
         (λ e. (e ≡ ReadError.NoMemory) ⊎ (e ≡ ReadError.Device)) }
 {

@@ -7,8 +7,8 @@ use Rattle.station.specs.Calls.{ReadCall, WriteCall}
 use Rattle.station.specs.Device.{fresh, reads_of, images_of, sectors_of, after, after_all, MayBeLeft}
 use Rattle.station.specs.DeviceLaws.{LeftAt-end, LeftAt-at_end, seen_is_held}
 use Rattle.station.specs.Media.{IsLoadedFrom, HasCalls, Same, Adds, AddsWrite, AddsNvWrite}
-use Rattle.station.specs.Sim.{known, meaning_of, device_of, plan_of, was_cut, FollowsPlan, FollowsRead, FollowsWrite, FollowsNvWrite, FollowsSync, next_read, next_write, next_sync, IsLoaded, IsLeftByCut, HasCountedRead, HasCountedWrite}
-use Rattle.station.specs.FaultPlan.{FaultPlan, planned, fate_of_write, kept_of, is_done, cuts}
+use Rattle.station.specs.Sim.{known, sim_meaning, device_of, plan_of, was_cut, FollowsPlan, FollowsRead, FollowsWrite, FollowsNvWrite, FollowsSync, next_read, next_write, next_sync, IsLoaded, IsLeftByCut, HasCountedRead, HasCountedWrite}
+use Rattle.station.specs.FaultPlan.{FaultPlan, planned, fate_of_write, kept_of, is_done, cuts_power}
 use Rattle.station.specs.declared.faults.Fate.{Fate}
 use Rattle.station.specs.declared.faults.Fate.TheVariants.{Done, Fails, IsCut}
 use Rattle.station.specs.declared.history.Call.{Call}
@@ -54,42 +54,42 @@ module _ (old new : Sim) where
   pub device-adds : (call : Call) → Adds old.media new.media call → device_of new ≡ after (device_of old) call
   device-adds call adds = rw (same_first _ adds, adds.calls) (after_all-push _ old.media.calls.items call)
 
-  pub stays : (step : Images → Images → Type 0) → ((c : Images) → step c c) → Same old.media new.media → Went step (meaning_of old) (meaning_of new)
+  pub stays : (step : Images → Images → Type 0) → ((c : Images) → step c c) → Same old.media new.media → Went step (sim_meaning old) (sim_meaning new)
   stays step reflexive same = goes_stays step _ _ _ _ _ _ _ _ _ _ _ _ (same_first _ same) same.calls reflexive
 
-  pub goes : (step : Images → Images → Type 0) (call : Call) → Adds old.media new.media call → IsStep step (device_of old) call → Went step (meaning_of old) (meaning_of new)
+  pub goes : (step : Images → Images → Type 0) (call : Call) → Adds old.media new.media call → IsStep step (device_of old) call → Went step (sim_meaning old) (sim_meaning new)
   goes step call adds is = goes_call step _ _ _ _ _ _ _ _ _ _ _ _ call (same_first _ adds) adds.calls is
 
-  same-has : (list : List Call) → HasCalls old.media new.media list → IsSameStation (meaning_of old) (meaning_of new)
+  same-has : (list : List Call) → HasCalls old.media new.media list → IsSameStation (sim_meaning old) (sim_meaning new)
   same-has list has = record { sectors = has.sectors; nvram_bytes = has.nvram_bytes; honest = (λ is. is, λ is. is) }
 
-  same-either : (P : Type 0) → (P → (list : List Call) × HasCalls old.media new.media list) → Same old.media new.media ⊎ P → IsSameStation (meaning_of old) (meaning_of new)
+  same-either : (P : Type 0) → (P → (list : List Call) × HasCalls old.media new.media list) → Same old.media new.media ⊎ P → IsSameStation (sim_meaning old) (sim_meaning new)
   same-either P adds (inl same) = same-has _ same
   same-either P adds (inr more) = same-has _ (adds more).1
 
-  pub goes-read : Same old.media new.media ⊎ Adds old.media new.media Read → Went Unchanged (meaning_of old) (meaning_of new)
+  pub goes-read : Same old.media new.media ⊎ Adds old.media new.media Read → Went Unchanged (sim_meaning old) (sim_meaning new)
   goes-read media = elim media [
     | inl same ↦ stays Unchanged (λ c. refl) same
     | inr adds ↦ goes Unchanged Read adds (is_step-read _)
   ]
 
   -- what the call of a read is
-  call-read : {T E : Type 0} (result : Result T E) → Same old.media new.media ⊎ Adds old.media new.media Read → HasCountedRead old new result → ReadCall (meaning_of old) (meaning_of new) result
+  call-read : {T E : Type 0} (result : Result T E) → Same old.media new.media ⊎ Adds old.media new.media Read → HasCountedRead old new result → ReadCall (sim_meaning old) (sim_meaning new) result
   call-read result media counts = record {
     same = same-either (Adds old.media new.media Read) (λ adds. (_, adds)) media;
     counts = counts;
     goes = λ honest. goes-read media;
   }
 
-  goes-sync_of : (done : Bool) → Adds old.media new.media (Sync done) → Went Unchanged (meaning_of old) (meaning_of new)
+  goes-sync_of : (done : Bool) → Adds old.media new.media (Sync done) → Went Unchanged (sim_meaning old) (sim_meaning new)
   goes-sync_of done adds = goes Unchanged (Sync done) adds (is_step-sync _ done (seen_is_held old))
 
-  pub goes-sync : {T E : Type 0} (result : Result T E) → OnOk result (Adds old.media new.media (Sync true)) → OnErr result (Same old.media new.media ⊎ Adds old.media new.media (Sync false)) → Went Unchanged (meaning_of old) (meaning_of new)
+  pub goes-sync : {T E : Type 0} (result : Result T E) → OnOk result (Adds old.media new.media (Sync true)) → OnErr result (Same old.media new.media ⊎ Adds old.media new.media (Sync false)) → Went Unchanged (sim_meaning old) (sim_meaning new)
   goes-sync (Ok x) ok err = goes-sync_of true ok
   goes-sync (Err e) ok err = elim err [ inl same ↦ stays Unchanged (λ c. refl) same | inr adds ↦ goes-sync_of false adds ]
 
   call-sync : {T E : Type 0} (result : Result T E) → OnOk result (Adds old.media new.media (Sync true)) → OnErr result (Same old.media new.media ⊎ Adds old.media new.media (Sync false)) → HasCountedWrite old new result
-      → WriteCall Unchanged (meaning_of old) (meaning_of new) result
+      → WriteCall Unchanged (sim_meaning old) (sim_meaning new) result
   call-sync {T = T} {E = E} (Ok x) ok err counts = record { same = same-has _ ok; counts = counts; goes = λ honest. goes-sync {T = T} {E = E} (Ok x) ok err }
   call-sync {T = T} {E = E} (Err e) ok err counts = record {
     same = same-either (Adds old.media new.media (Sync false)) (λ adds. (_, adds)) err;
@@ -98,13 +98,13 @@ module _ (old new : Sim) where
   }
 
   -- a sync that succeeded
-  settled-sync : Adds old.media new.media (Sync true) → LeavesJust (meaning_of new) (meaning_of old).seen
+  settled-sync : Adds old.media new.media (Sync true) → LeavesJust (sim_meaning new) (sim_meaning old).seen
   settled-sync adds honest c left = left_after_sync (device_of old) c (subst (λ d. MayBeLeft d c) (device-adds (Sync true) adds) (LeftAt-end _ new.media.calls.items c left))
 
-  goes-write_of : (first : ℕ) (bytes : List ℕ) (done : Bool) → AddsWrite old.media new.media first bytes done → Went (SomeSectorsWritten first bytes) (meaning_of old) (meaning_of new)
-  goes-write_of first bytes done adds = subst (λ b. Went (SomeSectorsWritten first b) (meaning_of old) (meaning_of new)) adds.1 (goes (SomeSectorsWritten first adds.0.items) (Write first adds.0 done) adds.2 (is_step-write _ first adds.0 done (seen_is_held old)))
+  goes-write_of : (first : ℕ) (bytes : List ℕ) (done : Bool) → AddsWrite old.media new.media first bytes done → Went (SomeSectorsWritten first bytes) (sim_meaning old) (sim_meaning new)
+  goes-write_of first bytes done adds = subst (λ b. Went (SomeSectorsWritten first b) (sim_meaning old) (sim_meaning new)) adds.1 (goes (SomeSectorsWritten first adds.0.items) (Write first adds.0 done) adds.2 (is_step-write _ first adds.0 done (seen_is_held old)))
 
-  pub goes-write : {T E : Type 0} (first : ℕ) (bytes : List ℕ) (result : Result T E) → OnOk result (AddsWrite old.media new.media first bytes true) → OnErr result (Same old.media new.media ⊎ AddsWrite old.media new.media first bytes false) → Went (SomeSectorsWritten first bytes) (meaning_of old) (meaning_of new)
+  pub goes-write : {T E : Type 0} (first : ℕ) (bytes : List ℕ) (result : Result T E) → OnOk result (AddsWrite old.media new.media first bytes true) → OnErr result (Same old.media new.media ⊎ AddsWrite old.media new.media first bytes false) → Went (SomeSectorsWritten first bytes) (sim_meaning old) (sim_meaning new)
   goes-write first bytes (Ok x) ok err = goes-write_of first bytes true ok
   goes-write first bytes (Err e) ok err = elim err [
     | inl same ↦ stays (SomeSectorsWritten first bytes) (λ c. record { nvram = refl; disk = λ n. inl refl }) same
@@ -112,7 +112,7 @@ module _ (old new : Sim) where
   ]
 
   call-write : {T E : Type 0} (first : ℕ) (bytes : List ℕ) (result : Result T E) → OnOk result (AddsWrite old.media new.media first bytes true) → OnErr result (Same old.media new.media ⊎ AddsWrite old.media new.media first bytes false)
-      → HasCountedWrite old new result → WriteCall (SomeSectorsWritten first bytes) (meaning_of old) (meaning_of new) result
+      → HasCountedWrite old new result → WriteCall (SomeSectorsWritten first bytes) (sim_meaning old) (sim_meaning new) result
   call-write {T = T} {E = E} first bytes (Ok x) ok err counts = record { same = same-has _ ok.2; counts = counts; goes = λ honest. goes-write {T = T} {E = E} first bytes (Ok x) ok err }
   call-write {T = T} {E = E} first bytes (Err e) ok err counts = record {
     same = same-either (AddsWrite old.media new.media first bytes false) (λ adds. (_, adds.2)) err;
@@ -121,19 +121,19 @@ module _ (old new : Sim) where
   }
 
   -- a write that succeeded
-  written-write : (first : ℕ) (bytes : List ℕ) → AddsWrite old.media new.media first bytes true → SeenGoes (SectorsWritten first bytes) (meaning_of old) (meaning_of new)
+  written-write : (first : ℕ) (bytes : List ℕ) → AddsWrite old.media new.media first bytes true → SeenGoes (SectorsWritten first bytes) (sim_meaning old) (sim_meaning new)
   unfolding after
   written-write first bytes adds honest = ap reads_of (device-adds (Write first adds.0 true) adds.2) ∙ ap (λ b. reads_of record { seen = disk_with first b (device_of old).seen; held = (device_of old).held; nvram = (device_of old).nvram }) adds.1
 
-  goes-nv_write_of : (at : ℕ) (bytes : List ℕ) (kept : ℕ) → kept ≤ length bytes → AddsNvWrite old.media new.media at bytes kept → Went (NvramPrefixWritten at bytes) (meaning_of old) (meaning_of new)
-  goes-nv_write_of at bytes kept within adds = subst (λ b. Went (NvramPrefixWritten at b) (meaning_of old) (meaning_of new)) adds.1 (goes (NvramPrefixWritten at adds.0.items) (NvWrite at adds.0 kept) adds.2 (is_step-nv_write _ at adds.0 kept (rw adds.1 within)))
+  goes-nv_write_of : (at : ℕ) (bytes : List ℕ) (kept : ℕ) → kept ≤ length bytes → AddsNvWrite old.media new.media at bytes kept → Went (NvramPrefixWritten at bytes) (sim_meaning old) (sim_meaning new)
+  goes-nv_write_of at bytes kept within adds = subst (λ b. Went (NvramPrefixWritten at b) (sim_meaning old) (sim_meaning new)) adds.1 (goes (NvramPrefixWritten at adds.0.items) (NvWrite at adds.0 kept) adds.2 (is_step-nv_write _ at adds.0 kept (rw adds.1 within)))
 
   may_write_nothing : (at : ℕ) (bytes : List ℕ) (c : Images) → NvramPrefixWritten at bytes c c
   may_write_nothing at bytes c =
       let same : nvram_with at [] c.nvram ≡ c.nvram = rw (append-nil, add-zero) (take-append-drop at c.nvram) in
       record { kept = 0; within = omega arith; writes = λ i. record { disk = c.disk; nvram = sym same i } }
 
-  pub goes-nv_write : {T E : Type 0} (at : ℕ) (bytes : List ℕ) (kept : ℕ) (result : Result T E) → kept ≤ length bytes → OnOk result (AddsNvWrite old.media new.media at bytes (length bytes)) → OnErr result (Same old.media new.media ⊎ AddsNvWrite old.media new.media at bytes kept) → Went (NvramPrefixWritten at bytes) (meaning_of old) (meaning_of new)
+  pub goes-nv_write : {T E : Type 0} (at : ℕ) (bytes : List ℕ) (kept : ℕ) (result : Result T E) → kept ≤ length bytes → OnOk result (AddsNvWrite old.media new.media at bytes (length bytes)) → OnErr result (Same old.media new.media ⊎ AddsNvWrite old.media new.media at bytes kept) → Went (NvramPrefixWritten at bytes) (sim_meaning old) (sim_meaning new)
   goes-nv_write at bytes kept (Ok x) within ok err = goes-nv_write_of at bytes (length bytes) (omega arith) ok
   goes-nv_write at bytes kept (Err e) within ok err = elim err [
     | inl same ↦ stays (NvramPrefixWritten at bytes) (may_write_nothing at bytes) same
@@ -141,7 +141,7 @@ module _ (old new : Sim) where
   ]
 
   call-nv_write : {T E : Type 0} (at : ℕ) (bytes : List ℕ) (kept : ℕ) (result : Result T E) → kept ≤ length bytes → OnOk result (AddsNvWrite old.media new.media at bytes (length bytes)) → OnErr result (Same old.media new.media ⊎ AddsNvWrite old.media new.media at bytes kept)
-      → HasCountedWrite old new result → WriteCall (NvramPrefixWritten at bytes) (meaning_of old) (meaning_of new) result
+      → HasCountedWrite old new result → WriteCall (NvramPrefixWritten at bytes) (sim_meaning old) (sim_meaning new) result
   call-nv_write {T = T} {E = E} at bytes kept (Ok x) within ok err counts = record { same = same-has _ ok.2; counts = counts; goes = λ honest. goes-nv_write {T = T} {E = E} at bytes kept (Ok x) within ok err }
   call-nv_write {T = T} {E = E} at bytes kept (Err e) within ok err counts = record {
     same = same-either (AddsNvWrite old.media new.media at bytes kept) (λ adds. (_, adds.2)) err;
@@ -154,11 +154,11 @@ module _ (old new : Sim) where
     whole : take (length bytes) adds.0.items ≡ bytes
     whole = rw adds.1 (take_all (length bytes) bytes (omega arith))
 
-    written-nv_write : SeenGoes (NvramWritten at bytes) (meaning_of old) (meaning_of new)
+    written-nv_write : SeenGoes (NvramWritten at bytes) (sim_meaning old) (sim_meaning new)
     unfolding after
     written-nv_write honest = ap reads_of (device-adds (NvWrite at adds.0 (length bytes)) adds.2) ∙ ap (λ b. reads_of record (device_of old) { nvram = nvram_with at b (device_of old).nvram }) whole
 
-    kept-nv_write : LeftGoes (NvramWritten at bytes) (meaning_of old) (meaning_of new)
+    kept-nv_write : LeftGoes (NvramWritten at bytes) (sim_meaning old) (sim_meaning new)
     unfolding after
     kept-nv_write honest c left =
         let now : MayBeLeft (after (device_of old) (NvWrite at adds.0 (length bytes))) c = subst (λ d. MayBeLeft d c) (device-adds (NvWrite at adds.0 (length bytes)) adds.2) (LeftAt-end _ new.media.calls.items c left) in (
@@ -168,14 +168,14 @@ module _ (old new : Sim) where
         )
 
 -- a read that succeeded, before a cut
-pub sector-read : (old new : Sim) (n from size : ℕ) (disk : List ℕ) → Same old.media new.media ⊎ Adds old.media new.media Read → new.media.is_cut ≡ false → disk ≡ new.media.disk.items → from ≡ 512 * n → size ≡ 512 → take size (drop from disk) ≡ (meaning_of old).seen.disk n
+pub sector-read : (old new : Sim) (n from size : ℕ) (disk : List ℕ) → Same old.media new.media ⊎ Adds old.media new.media Read → new.media.is_cut ≡ false → disk ≡ new.media.disk.items → from ≡ 512 * n → size ≡ 512 → take size (drop from disk) ≡ (sim_meaning old).seen.disk n
 sector-read old new n from size disk media power is start whole = rw (is, start, whole) (new.media.tied.seen power n ∙ ap (λ c. c.disk n) ((goes-read old new media).seen))
 
-pub nvram-read : (old new : Sim) → Same old.media new.media ⊎ Adds old.media new.media Read → new.media.nvram.items ≡ (meaning_of old).seen.nvram
+pub nvram-read : (old new : Sim) → Same old.media new.media ⊎ Adds old.media new.media Read → new.media.nvram.items ≡ (sim_meaning old).seen.nvram
 nvram-read old new media = sym new.media.tied.nvram_is ∙ ap (λ c. c.nvram) ((goes-read old new media).seen)
 
 -- what a cut may leave now
-pub may_leave-images : (s : Sim) (disk nvram : List ℕ) → disk ≡ s.media.disk.items → nvram ≡ s.media.nvram.items → MayLeave (meaning_of s) (images_of disk nvram)
+pub may_leave-images : (s : Sim) (disk nvram : List ℕ) → disk ≡ s.media.disk.items → nvram ≡ s.media.nvram.items → MayLeave (sim_meaning s) (images_of disk nvram)
 may_leave-images s disk nvram d n = rw (d, n) (LeftAt-at_end _ s.media.calls.items _ (tied-may_be_left (device_of s) _ _ _ _ _ s.media.is_cut (seen_is_held s) s.media.tied))
 
 -- right after the load
@@ -217,15 +217,15 @@ next_write_is s fate is = same_fate (plan_of s) _ _ _ _ s.numbered.all s.numbere
     same_fate : (p : FaultPlan) (a b m n : ℕ) → a ≡ b → m ≡ n → (f : Fate) → f ≡ fate_of_write p a m → f ≡ fate_of_write p b n
     same_fate p a b m n e g f of = of ∙ rw (e, g) refl
 
-pub write_follows : {T E : Type 0} (old new : Sim) (fate : Fate) (P : Type 0) (result : Result T E) → old.media.is_cut ≡ false → fate ≡ next_write old → is_ok result ≡ is_done fate → new.media.is_cut ≡ cuts fate
-    → (cuts fate ≡ true → new.media.keep ≡ (plan_of old).keep) → (cuts fate ≡ false → plan_of new ≡ plan_of old) → P → FollowsPlan (next_write old) P old new result
+pub write_follows : {T E : Type 0} (old new : Sim) (fate : Fate) (P : Type 0) (result : Result T E) → old.media.is_cut ≡ false → fate ≡ next_write old → is_ok result ≡ is_done fate → new.media.is_cut ≡ cuts_power fate
+    → (cuts_power fate ≡ true → new.media.keep ≡ (plan_of old).keep) → (cuts_power fate ≡ false → plan_of new ≡ plan_of old) → P → FollowsPlan (next_write old) P old new result
 write_follows old new fate P result on is answer power keep plan kept = record {
   call = inr (record { was_on = on; answer = rw (← is) answer; power = rw (← is) power; kept = λ cut. keep (rw is cut) }, kept);
   plan = λ off. plan (sym power ∙ off);
 }
 
 -- what succeeds doesn't cut the power
-done_stays : (fate : Fate) → is_done fate ≡ true → cuts fate ≡ false
+done_stays : (fate : Fate) → is_done fate ≡ true → cuts_power fate ≡ false
 done_stays Done done = refl
 done_stays Fails done = refl
 done_stays IsCut done = cc
@@ -234,27 +234,27 @@ module _ {T E : Type 0} (old new : Sim) (result : Result T E) where
   pub read_media : FollowsRead old new result → Same old.media new.media ⊎ Adds old.media new.media Read
   read_media follows = elim follows.call [ inl none ↦ inl none.same | inr it ↦ inr it.1 ]
 
-  pub does-read : FollowsRead old new result → HasCountedRead old new result → ReadCall (meaning_of old) (meaning_of new) result
+  pub does-read : FollowsRead old new result → HasCountedRead old new result → ReadCall (sim_meaning old) (sim_meaning new) result
   does-read follows counts = call-read old new result (read_media follows) counts
 
   module _ (first : ℕ) (bytes : List ℕ) (follows : FollowsWrite first bytes old new result) where
     wrote : OnOk result (AddsWrite old.media new.media first bytes true)
     wrote = follows_ok old new (next_write old) (λ done. AddsWrite old.media new.media first bytes done) result follows
 
-    pub does-write : HasCountedWrite old new result → WriteCall (SomeSectorsWritten first bytes) (meaning_of old) (meaning_of new) result
+    pub does-write : HasCountedWrite old new result → WriteCall (SomeSectorsWritten first bytes) (sim_meaning old) (sim_meaning new) result
     does-write counts = call-write old new first bytes result wrote (follows_err old new (next_write old) (λ done. AddsWrite old.media new.media first bytes done) result follows) counts
 
-    pub done-write : OnOk result (SeenGoes (SectorsWritten first bytes) (meaning_of old) (meaning_of new))
+    pub done-write : OnOk result (SeenGoes (SectorsWritten first bytes) (sim_meaning old) (sim_meaning new))
     done-write = on_ok result (written-write old new first bytes) wrote
 
   module _ (follows : FollowsSync old new result) where
     synced : OnOk result (Adds old.media new.media (Sync true))
     synced = follows_ok old new (next_sync old) (λ done. Adds old.media new.media (Sync done)) result follows
 
-    pub does-sync : HasCountedWrite old new result → WriteCall Unchanged (meaning_of old) (meaning_of new) result
+    pub does-sync : HasCountedWrite old new result → WriteCall Unchanged (sim_meaning old) (sim_meaning new) result
     does-sync counts = call-sync old new result synced (follows_err old new (next_sync old) (λ done. Adds old.media new.media (Sync done)) result follows) counts
 
-    pub done-sync : OnOk result (LeavesJust (meaning_of new) (meaning_of old).seen)
+    pub done-sync : OnOk result (LeavesJust (sim_meaning new) (sim_meaning old).seen)
     done-sync = on_ok result (settled-sync old new) synced
 
 -- a read that succeeded
@@ -273,14 +273,14 @@ module _ (old new : Sim) (at : ℕ) (bytes : List ℕ) where
   failed_nvram (Ok x) follows = tt
   failed_nvram (Err e) follows = elim follows.call [ inl none ↦ inl none.same | inr it ↦ inr it.1 ]
 
-  pub does-nv_write : {T E : Type 0} (result : Result T E) → FollowsNvWrite at bytes old new result → HasCountedWrite old new result → WriteCall (NvramPrefixWritten at bytes) (meaning_of old) (meaning_of new) result
+  pub does-nv_write : {T E : Type 0} (result : Result T E) → FollowsNvWrite at bytes old new result → HasCountedWrite old new result → WriteCall (NvramPrefixWritten at bytes) (sim_meaning old) (sim_meaning new) result
   does-nv_write result follows counts =
       call-nv_write old new at bytes (kept_of (plan_of old) (next_write old) (length bytes)) result (kept_of-le (plan_of old) (next_write old) (length bytes)) (wrote_nvram result follows) (failed_nvram result follows) counts
 
-  pub done-nv_write : {T E : Type 0} (result : Result T E) → FollowsNvWrite at bytes old new result → OnOk result (SeenGoes (NvramWritten at bytes) (meaning_of old) (meaning_of new))
+  pub done-nv_write : {T E : Type 0} (result : Result T E) → FollowsNvWrite at bytes old new result → OnOk result (SeenGoes (NvramWritten at bytes) (sim_meaning old) (sim_meaning new))
   done-nv_write result follows = on_ok result (written-nv_write old new at bytes) (wrote_nvram result follows)
 
-  pub left-nv_write : {T E : Type 0} (result : Result T E) → FollowsNvWrite at bytes old new result → OnOk result (LeftGoes (NvramWritten at bytes) (meaning_of old) (meaning_of new))
+  pub left-nv_write : {T E : Type 0} (result : Result T E) → FollowsNvWrite at bytes old new result → OnOk result (LeftGoes (NvramWritten at bytes) (sim_meaning old) (sim_meaning new))
   left-nv_write result follows = on_ok result (kept-nv_write old new at bytes) (wrote_nvram result follows)
 
 -- what a cut left of the disk

@@ -4,7 +4,7 @@ use Rattle.std.proofs.Common.{inl, inr, ap, subst, ◌∙◌, arith, length-take
 use Rattle.std.proofs.lemmas.List.Elements.{All-head, All-tail}
 use Rattle.station.specs.Images.{Images, Sector, sector_bytes, sector_with, part_of, reaches}
 use Rattle.station.specs.Device.{Device, sectors_of, fresh, after, after_all, IsOneOf, MayBeLeft, LeftAt}
-use Rattle.station.specs.Sim.{meaning_of}
+use Rattle.station.specs.Sim.{sim_meaning}
 use Rattle.station.specs.Moments.{MayLeave, EachCut, HasSizes}
 use Rattle.station.specs.Unsynced.{written_to, IsInRange}
 use Rattle.station.specs.declared.history.Call.{Call}
@@ -82,10 +82,10 @@ IsOneOf-whole size n x v (w ∷ ws) whole each one =
     ] one
 
 -- the laws
-pub seen_may_be_left : (s : Sim) → MayLeave (meaning_of s) (meaning_of s).seen
+pub seen_may_be_left : (s : Sim) → MayLeave (sim_meaning s) (sim_meaning s).seen
 seen_may_be_left s = LeftAt-at_end _ s.media.calls.items _ record { disk = seen_is_held s; nvram = refl }
 
-pub sized : (s : Sim) → EachCut (meaning_of s) (HasSizes (meaning_of s))
+pub sized : (s : Sim) → EachCut (sim_meaning s) (HasSizes (sim_meaning s))
 sized s honest c left =
     let now = LeftAt-end _ s.media.calls.items c left in
     record {

@@ -58,10 +58,10 @@ is_done Done = true
 is_done Fails = false
 is_done IsCut = false
 
-abbrev pub cuts : Fate → Bool
-cuts Done = false
-cuts Fails = false
-cuts IsCut = true
+abbrev pub cuts_power : Fate → Bool
+cuts_power Done = false
+cuts_power Fails = false
+cuts_power IsCut = true
 
 -- how many of so many bytes an NVRAM write keeps
 abbrev pub kept_of : FaultPlan → Fate → ℕ → ℕ

@@ -1,7 +1,7 @@
 -- What changes in the media of a station in memory.
 use Rattle.std.specs.Prelude.{◌≡◌, ℕ, ◌*◌, Bool, true, false, length, List, [], ◌∷◌, ◌++◌, Result, OnOk, is_ok}
 use Rattle.std.specs.Global.{Vec}
-use Rattle.station.specs.FaultPlan.{is_done, cuts}
+use Rattle.station.specs.FaultPlan.{is_done, cuts_power}
 use Rattle.station.specs.declared.faults.Fate.{Fate}
 use Rattle.station.specs.declared.history.Call.{Call}
 use Rattle.station.specs.declared.history.Call.TheVariants.{Write, NvWrite}
@@ -55,5 +55,5 @@ pub record CameTo {T E : Type 0} (fate : Fate) (keep : Keep) (old new : Media)
     (result : Result T E) : Type 0 where
   pub was_on : old.is_cut ≡ false
   pub answer : is_ok result ≡ is_done fate
-  pub power : new.is_cut ≡ cuts fate
-  pub kept : cuts fate ≡ true → new.keep ≡ keep
+  pub power : new.is_cut ≡ cuts_power fate
+  pub kept : cuts_power fate ≡ true → new.keep ≡ keep

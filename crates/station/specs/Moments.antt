@@ -98,12 +98,12 @@ pub record IsSameStation (old new : Meaning) : Type 0 where
   pub honest : old.is_honest ↔ new.is_honest
 
 -- a count that goes up by one, and stays at its last value
-abbrev pub counted : ℕ → ℕ
-counted n = min (n + 1) (2 ^ 64 - 1)
+abbrev pub counted_up : ℕ → ℕ
+counted_up n = min (n + 1) (2 ^ 64 - 1)
 
 -- a count has gone up, or is at its last value
 abbrev pub HasGrown : ℕ → ℕ → Type 0
-HasGrown old new = counted old ≤ new
+HasGrown old new = counted_up old ≤ new
 
 -- a count is as it was, or has grown
 abbrev pub MayGrow : ℕ → ℕ → Type 0
@@ -113,10 +113,10 @@ MayGrow old new = (new ≡ old) ⊎ HasGrown old new
 pub record CountsRead {T E : Type 0} (old new : Meaning) (result : Result T E) : Type 0 where
   pub writes : new.failed_writes ≡ old.failed_writes
   pub ok : OnOk result (new.failed_reads ≡ old.failed_reads)
-  pub err : OnErr result (new.failed_reads ≡ counted old.failed_reads)
+  pub err : OnErr result (new.failed_reads ≡ counted_up old.failed_reads)
 
 -- a write or a sync failed, or no call did
 pub record CountsWrite {T E : Type 0} (old new : Meaning) (result : Result T E) : Type 0 where
   pub reads : new.failed_reads ≡ old.failed_reads
   pub ok : OnOk result (new.failed_writes ≡ old.failed_writes)
-  pub err : OnErr result (new.failed_writes ≡ counted old.failed_writes)
+  pub err : OnErr result (new.failed_writes ≡ counted_up old.failed_writes)

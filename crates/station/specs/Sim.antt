@@ -29,8 +29,8 @@ known sectors nvram_bytes failed_reads failed_writes first calls = record {
 abbrev pub device_of : Sim → Device
 device_of s = after_all (fresh s.media.first_disk.items s.media.first_nvram.items) s.media.calls.items
 
-abbrev pub meaning_of : Sim → Meaning
-meaning_of s = known s.media.sectors s.media.nvram_bytes s.failed_reads s.failed_writes
+abbrev pub sim_meaning : Sim → Meaning
+sim_meaning s = known s.media.sectors s.media.nvram_bytes s.failed_reads s.failed_writes
     (fresh s.media.first_disk.items s.media.first_nvram.items) s.media.calls.items
 
 -- its power was cut
@@ -108,11 +108,11 @@ pub record SameCounts (old new : Sim) : Type 0 where
 
 -- a read was counted if it failed
 abbrev pub HasCountedRead : {T E : Type 0} → Sim → Sim → Result T E → Type 0
-HasCountedRead old new result = CountsRead (meaning_of old) (meaning_of new) result
+HasCountedRead old new result = CountsRead (sim_meaning old) (sim_meaning new) result
 
 -- a write or a sync was counted if it failed
 abbrev pub HasCountedWrite : {T E : Type 0} → Sim → Sim → Result T E → Type 0
-HasCountedWrite old new result = CountsWrite (meaning_of old) (meaning_of new) result
+HasCountedWrite old new result = CountsWrite (sim_meaning old) (sim_meaning new) result
 
 -- nothing of what is known changes
 pub record KnowsSame (old new : Meaning) : Type 0 where

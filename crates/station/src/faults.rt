@@ -2,8 +2,8 @@
 
 ghost use Rattle.std.specs.Prelude.{◌≡◌, ◌≤◌, Some, is_ok};
 ghost use Rattle.station.specs.declared.keep.Keep.TheVariants.{Nothing};
-ghost use Rattle.station.specs.Moments.{counted};
-ghost use Rattle.station.specs.FaultPlan.{planned, no_plan, is_next, fate_of_read, fate_of_write, fate_of_sync, kept_of, is_done, cuts};
+ghost use Rattle.station.specs.Moments.{counted_up};
+ghost use Rattle.station.specs.FaultPlan.{planned, no_plan, is_next, fate_of_read, fate_of_write, fate_of_sync, kept_of, is_done, cuts_power};
 
 use crate::{DeviceFault, Keep};
 use std::mem;
@@ -31,8 +31,8 @@ impl Fate {
     }
 
     /// Whether the power is cut within it.
-    pub(crate) fn cuts(self) -> bool
-        ensures { result ≡ cuts self }
+    pub(crate) fn cuts_power(self) -> bool
+        ensures { result ≡ cuts_power self }
     {
         match self {
             Fate::IsCut => true,
@@ -163,7 +163,7 @@ impl Faults {
 
     /// There was a read.
     pub(crate) fn count_read(&mut self)
-        ensures { self.new ≡ record self.old { calls = counted self.old.calls } }
+        ensures { self.new ≡ record self.old { calls = counted_up self.old.calls } }
     {
         self.calls = self.calls.saturating_add(1);
     }
@@ -171,7 +171,7 @@ impl Faults {
     /// There was a device write.
     pub(crate) fn count_write(&mut self)
         ensures { self.new
-            ≡ record self.old { calls = counted self.old.calls; writes = counted self.old.writes } }
+            ≡ record self.old { calls = counted_up self.old.calls; writes = counted_up self.old.writes } }
     {
         self.calls = self.calls.saturating_add(1);
         self.writes = self.writes.saturating_add(1);
@@ -180,7 +180,7 @@ impl Faults {
     /// There was a sync.
     pub(crate) fn count_sync(&mut self)
         ensures { self.new
-            ≡ record self.old { calls = counted self.old.calls; syncs = counted self.old.syncs } }
+            ≡ record self.old { calls = counted_up self.old.calls; syncs = counted_up self.old.syncs } }
     {
         self.calls = self.calls.saturating_add(1);
         self.syncs = self.syncs.saturating_add(1);

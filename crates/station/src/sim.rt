@@ -46,15 +46,15 @@ pub struct Sim {
 }
 
 impl Sim {
-    ghost use Rattle.station.specs.FaultPlan.{no_plan, cuts};
+    ghost use Rattle.station.specs.FaultPlan.{no_plan, cuts_power};
     ghost use Rattle.station.specs.Media.{Same};
-    ghost use Rattle.station.specs.Sim.{meaning_of, plan_of, calls_of, was_cut, IsLeftByCut, IsLoaded, KnowsSame, SameCounts};
+    ghost use Rattle.station.specs.Sim.{sim_meaning, plan_of, calls_of, was_cut, IsLeftByCut, IsLoaded, KnowsSame, SameCounts};
     ghost use Rattle.station.specs.Sim.{FollowsRead, FollowsWrite, FollowsNvWrite, FollowsSync, HasCountedRead, HasCountedWrite};
 
     /// A station with these images, all settled. BadSize exactly where the disk is no whole number of sectors, or a
     /// count (of sectors, of NVRAM bytes) is past `u32::MAX`; NoMemory where a growth was refused.
     pub fn load(alloc: Global, disk: Vec<u8>, nvram: Vec<u8>) -> Result<Sim, LoadError>
-        ensures loaded { IfOk result (λ s. IsLoaded disk.items nvram.items (meaning_of s)) }
+        ensures loaded { IfOk result (λ s. IsLoaded disk.items nvram.items (sim_meaning s)) }
         ensures power { IfOk result (λ s. was_cut s ≡ false) }
         ensures plan { IfOk result (λ s. plan_of s ≡ no_plan) }
         ensures bad_size { IsErrOf result LoadError.BadSize ↔ IsBadSize disk.items nvram.items }
@@ -72,7 +72,7 @@ impl Sim {
     pub fn cut_at(&mut self, write: u32, keep: Keep, bytes: u32)
         ensures plan { plan_of self.new
             ≡ record (plan_of self.old) { cut_write = Some write; keep = keep; kept_bytes = bytes } }
-        ensures same { KnowsSame (meaning_of self.old) (meaning_of self.new) }
+        ensures same { KnowsSame (sim_meaning self.old) (sim_meaning self.new) }
         ensures calls { calls_of self.new ≡ calls_of self.old }
         ensures power { was_cut self.new ≡ was_cut self.old }
     {
@@ -83,7 +83,7 @@ impl Sim {
     /// unsynced and is in no read; an NVRAM write that fails keeps none of its bytes.
     pub fn fail_at(&mut self, call: u32)
         ensures plan { plan_of self.new ≡ record (plan_of self.old) { failing_call = Some call } }
-        ensures same { KnowsSame (meaning_of self.old) (meaning_of self.new) }
+        ensures same { KnowsSame (sim_meaning self.old) (sim_meaning self.new) }
         ensures calls { calls_of self.new ≡ calls_of self.old }
         ensures power { was_cut self.new ≡ was_cut self.old }
     {
@@ -93,7 +93,7 @@ impl Sim {
     /// Sync number `sync`, counted from 1 since the load, is to fail.
     pub fn fail_sync_at(&mut self, sync: u32)
         ensures plan { plan_of self.new ≡ record (plan_of self.old) { failing_sync = Some sync } }
-        ensures same { KnowsSame (meaning_of self.old) (meaning_of self.new) }
+        ensures same { KnowsSame (sim_meaning self.old) (sim_meaning self.new) }
         ensures calls { calls_of self.new ≡ calls_of self.old }
         ensures power { was_cut self.new ≡ was_cut self.old }
     {
@@ -109,11 +109,11 @@ impl Sim {
 
     /// The disk and the NVRAM: what reads give, or after the cut what it left.
     pub fn images(&self) -> (&[u8], &[u8])
-        ensures disk_size { length result.0.now ≡ 512 * (meaning_of self.now).sectors }
-        ensures nvram_size { length result.1.now ≡ (meaning_of self.now).nvram_bytes }
+        ensures disk_size { length result.0.now ≡ 512 * (sim_meaning self.now).sectors }
+        ensures nvram_size { length result.1.now ≡ (sim_meaning self.now).nvram_bytes }
         ensures seen { was_cut self.now ≡ false
-            → images_of result.0.now result.1.now ≡ (meaning_of self.now).seen }
-        ensures left { MayLeave (meaning_of self.now) (images_of result.0.now result.1.now) }
+            → images_of result.0.now result.1.now ≡ (sim_meaning self.now).seen }
+        ensures left { MayLeave (sim_meaning self.now) (images_of result.0.now result.1.now) }
         ensures kept { was_cut self.now ≡ true
             → IsLeftByCut self.now (images_of result.0.now result.1.now) }
     {
@@ -201,12 +201,12 @@ impl Sim {
     fn end_write(&mut self, fate: Fate)
         requires { self.old.media.is_cut ≡ false }
         ensures media { Same self.old.media self.new.media }
-        ensures power { self.new.media.is_cut ≡ cuts fate }
-        ensures cut { cuts fate ≡ true → self.new.media.keep ≡ self.old.faults.keep }
-        ensures plan { cuts fate ≡ false → plan_of self.new ≡ plan_of self.old }
+        ensures power { self.new.media.is_cut ≡ cuts_power fate }
+        ensures cut { cuts_power fate ≡ true → self.new.media.keep ≡ self.old.faults.keep }
+        ensures plan { cuts_power fate ≡ false → plan_of self.new ≡ plan_of self.old }
         ensures counts { SameCounts self.old self.new }
     {
-        if fate.cuts() {
+        if fate.cuts_power() {
             self.media.cut(self.faults.take_keep());
         }
     }
@@ -248,10 +248,10 @@ impl Station for Sim {
     ghost use Rattle.station.specs.Images.{Unchanged, SectorsWritten, SomeSectorsWritten, NvramWritten, NvramPrefixWritten, sector_bytes};
     ghost use Rattle.station.specs.Moments.{Shows, LeavesJust, SeenGoes, LeftGoes};
     ghost use Rattle.station.specs.Calls.{ReadCall, WriteCall};
-    ghost use Rattle.station.specs.Sim.{meaning_of, FollowsRead, FollowsWrite, FollowsNvWrite, FollowsSync};
+    ghost use Rattle.station.specs.Sim.{sim_meaning, FollowsRead, FollowsWrite, FollowsNvWrite, FollowsSync};
     ghost use Rattle.station.specs.DeviceLaws as laws;
 
-    ghost meaning = { meaning_of };
+    ghost meaning = { sim_meaning };
 
     ghost sizes_fit = { λ s. record { sectors = s.media.fits; nvram = s.media.nvram_fits } };
 
@@ -268,10 +268,10 @@ impl Station for Sim {
     }
 
     fn read_sector(&mut self, n: u32, out: &mut [u8; 512]) -> Result<(), DeviceFault>
-        requires { n < (meaning_of self.old).sectors }
-        ensures call { ReadCall (meaning_of self.old) (meaning_of self.new) result }
+        requires { n < (sim_meaning self.old).sectors }
+        ensures call { ReadCall (sim_meaning self.old) (sim_meaning self.new) result }
         ensures bytes { OnOk result
-            (Shows (meaning_of self.old) (λ c. out.new ≡ sector_bytes (c.disk n))) }
+            (Shows (sim_meaning self.old) (λ c. out.new ≡ sector_bytes (c.disk n))) }
         ensures planned { FollowsRead self.old self.new result }
     {
         self.begin_read()?;
@@ -281,31 +281,31 @@ impl Station for Sim {
     }
 
     fn write_sector(&mut self, n: u32, bytes: &[u8; 512]) -> Result<(), DeviceFault>
-        requires { n < (meaning_of self.old).sectors }
+        requires { n < (sim_meaning self.old).sectors }
         ensures call { WriteCall (SomeSectorsWritten n bytes.now)
-            (meaning_of self.old) (meaning_of self.new) result }
+            (sim_meaning self.old) (sim_meaning self.new) result }
         ensures written { OnOk result
-            (SeenGoes (SectorsWritten n bytes.now) (meaning_of self.old) (meaning_of self.new)) }
+            (SeenGoes (SectorsWritten n bytes.now) (sim_meaning self.old) (sim_meaning self.new)) }
         ensures planned { FollowsWrite n bytes.now self.old self.new result }
     {
         self.write_sectors(n, bytes)
     }
 
     fn write_block(&mut self, b: u32, bytes: &[u8; 4096]) -> Result<(), DeviceFault>
-        requires { 8 * b + 8 ≤ (meaning_of self.old).sectors }
+        requires { 8 * b + 8 ≤ (sim_meaning self.old).sectors }
         ensures call { WriteCall (SomeSectorsWritten (8 * b) bytes.now)
-            (meaning_of self.old) (meaning_of self.new) result }
+            (sim_meaning self.old) (sim_meaning self.new) result }
         ensures written { OnOk result (SeenGoes (SectorsWritten (8 * b) bytes.now)
-            (meaning_of self.old) (meaning_of self.new)) }
+            (sim_meaning self.old) (sim_meaning self.new)) }
         ensures planned { FollowsWrite (8 * b) bytes.now self.old self.new result }
     {
         self.write_sectors(8 * b, bytes)
     }
 
     fn sync(&mut self) -> Result<(), DeviceFault>
-        ensures call { WriteCall Unchanged (meaning_of self.old) (meaning_of self.new) result }
+        ensures call { WriteCall Unchanged (sim_meaning self.old) (sim_meaning self.new) result }
         ensures settled { OnOk result
-            (LeavesJust (meaning_of self.new) (meaning_of self.old).seen) }
+            (LeavesJust (sim_meaning self.new) (sim_meaning self.old).seen) }
         ensures planned { FollowsSync self.old self.new result }
     {
         let answer = self.try_sync();
@@ -313,10 +313,10 @@ impl Station for Sim {
     }
 
     fn nv_read(&mut self, at: u32, out: &mut [u8]) -> Result<(), DeviceFault>
-        requires { at + length out.old ≤ (meaning_of self.old).nvram_bytes }
-        ensures call { ReadCall (meaning_of self.old) (meaning_of self.new) result }
+        requires { at + length out.old ≤ (sim_meaning self.old).nvram_bytes }
+        ensures call { ReadCall (sim_meaning self.old) (sim_meaning self.new) result }
         ensures bytes { OnOk result
-            (Shows (meaning_of self.old) (λ c. out.new ≡ take (length out.old) (drop at c.nvram))) }
+            (Shows (sim_meaning self.old) (λ c. out.new ≡ take (length out.old) (drop at c.nvram))) }
         ensures planned { FollowsRead self.old self.new result }
     {
         self.begin_read()?;
@@ -326,13 +326,13 @@ impl Station for Sim {
     }
 
     fn nv_write(&mut self, at: u32, bytes: &[u8]) -> Result<(), DeviceFault>
-        requires { at + length bytes.now ≤ (meaning_of self.old).nvram_bytes }
+        requires { at + length bytes.now ≤ (sim_meaning self.old).nvram_bytes }
         ensures call { WriteCall (NvramPrefixWritten at bytes.now)
-            (meaning_of self.old) (meaning_of self.new) result }
+            (sim_meaning self.old) (sim_meaning self.new) result }
         ensures written { OnOk result
-            (SeenGoes (NvramWritten at bytes.now) (meaning_of self.old) (meaning_of self.new)) }
+            (SeenGoes (NvramWritten at bytes.now) (sim_meaning self.old) (sim_meaning self.new)) }
         ensures kept { OnOk result
-            (LeftGoes (NvramWritten at bytes.now) (meaning_of self.old) (meaning_of self.new)) }
+            (LeftGoes (NvramWritten at bytes.now) (sim_meaning self.old) (sim_meaning self.new)) }
         ensures planned { FollowsNvWrite at bytes.now self.old self.new result }
     {
         let answer = self.try_nv_write(at, bytes);

@@ -26,7 +26,7 @@ use Rattle.files.specs.Closing.{IsOpenNameless}
 use Rattle.files.specs.Opened.{tree_with}
 use Rattle.system.specs.Laws.{RecordLaws}
 use Rattle.system.specs.Serving.{IsSureOn, ServesState}
-use Rattle.system.specs.Systems.{IsServing, meaning_of, parts_of, state_with}
+use Rattle.system.specs.Systems.{IsServing, meaning_of, system_parts, state_with}
 use Rattle.system.specs.declared.system.System.{System}
 use Rattle.system.proofs.MovedLaws.{dropped}
 use Rattle.system.proofs.ServingLaws.{LeadsTo}
@@ -72,7 +72,7 @@ module _ {S : Type 0} {G : Ghosts S} (law : NamedHavePaths) (f : System S G) (s 
 
 -- what the system serves once it is freed
 pub close_leads : {S : Type 0} {G : Ghosts S} (records : RecordLaws) (new : System S G) (s : State) (fd : ℕ) (reply : Reply) (inodes : InodeFile) (files : Descriptors)
-    (now : IsServing (meaning_of new) (record (parts_of new) { inodes = inodes; files = files }) s.tree.descriptors s)
+    (now : IsServing (meaning_of new) (record (system_parts new) { inodes = inodes; files = files }) s.tree.descriptors s)
     → IsVolumeOf new.root.geometry.blocks (blocks_of (meaning_of new).seen.disk) (inodes_of (whole (blocks_of (meaning_of new).seen.disk) new.root).active) new.inodes (swept (table_of new.files) now.running)
     → FitsVolume new.files (swept (table_of new.files) now.running) → IsMounted (swept (table_of new.files) now.running) (table_of new.files)
     → closes (tree_with files now.running) fd reply (tree_with new.files (swept (table_of new.files) now.running)) nothing → LeadsTo new s (command.Close fd) reply now.replayed.changes

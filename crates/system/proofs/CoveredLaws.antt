@@ -19,7 +19,7 @@ use Rattle.inofile.specs.Settled.{held_content}
 use Rattle.inofile.specs.Volumes.{IsVolumeOf}
 use Rattle.inofile.specs.declared.inode_file.InodeFile.{InodeFile}
 use Rattle.loading.specs.Images.{inodes_of}
-use Rattle.oplog.specs.LogEnd.{EndsAt, all_of, next_of, no_bodies}
+use Rattle.oplog.specs.LogEnd.{EndsBehind, all_bodies, next_of, no_bodies}
 use Rattle.oplog.specs.declared.log.End.{End}
 use Rattle.oplog.specs.declared.log.End.TheVariants.{Unopened, At}
 use Rattle.system.specs.Laws.{RootLaws}
@@ -32,7 +32,7 @@ none_spelled [] is = refl
 none_spelled (c ∷ changes) is = absurd (cc)
 
 -- a log that ends at its first gate has no record of its epoch
-none_newest : (end : End) (epoch : ℕ) (bytes : List ℕ) (bodies : List (List ℕ)) → next_of end ≡ FIRST_GATE → EndsAt end epoch bytes bodies → bodies ≡ []
+none_newest : (end : End) (epoch : ℕ) (bytes : List ℕ) (bodies : List (List ℕ)) → next_of end ≡ FIRST_GATE → EndsBehind end epoch bytes bodies → bodies ≡ []
 none_newest Unopened epoch bytes bodies first ends = ends.1
 none_newest (At next) epoch bytes [] first ends = refl
 none_newest (At next) epoch bytes (body ∷ bodies) first ends = absurd (omega (arith, first, ends.3))
@@ -51,7 +51,7 @@ module _ {m : Meaning} {k : Parts} {table : ℕ → Option Description} {s : Sta
       λ i. record { older = older i; newest = newest i }
 
   pub no_change : serves.bodies ≡ no_bodies → serves.replayed.changes ≡ []
-  no_change none = none_spelled serves.replayed.changes (sym (ap all_of none) ∙ serves.replayed.spelled)
+  no_change none = none_spelled serves.replayed.changes (sym (ap all_bodies none) ∙ serves.replayed.spelled)
 
   -- what memory stands for is settled
   pub settled : RootLaws → k.inodes.geometry ≡ k.root.geometry

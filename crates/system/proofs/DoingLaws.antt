@@ -24,9 +24,9 @@ use Rattle.calls.specs.declared.changed.Changing.{Changing}
 use Rattle.descriptors.specs.Tables.{table_of}
 use Rattle.descriptors.specs.declared.table.Descriptors.{Descriptors}
 use Rattle.files.specs.Opened.{tree_with}
-use Rattle.files.specs.Opening.{OpensOver}
+use Rattle.files.specs.Opening.{OpensDescriptorOver}
 use Rattle.files.specs.Preparing.{Changes, PreparesOpen}
-use Rattle.files.specs.Writing.{Writes}
+use Rattle.files.specs.Writing.{WritesFile}
 use Rattle.files.specs.declared.opening.Opening.{Opening}
 use Rattle.files.specs.declared.written.Writing.{Writing}
 use Rattle.files.proofs.Preparing.{grants}
@@ -60,8 +60,8 @@ module _ {B T : Type 0} {changes : Changes T} {W : T → Type 0} {G : Ghosts B} 
 
 -- what a write at an offset comes to
 pub writes_at : (n : ℕ) (v : Volume) (files : Descriptors) (fd : ℕ) (bytes : List ℕ) (r : Result (Option Writing) Errno) {offset place : ℤ} → offset ≡ place
-    → Writes (writes_to (tree_with files v) fd offset bytes) n v files bytes (λ w. table_of files) r → Writes (writes_to (tree_with files v) fd place bytes) n v files bytes (λ w. table_of files) r
-writes_at n v files fd bytes r is told = subst (λ (z : ℤ). Writes (writes_to (tree_with files v) fd z bytes) n v files bytes (λ w. table_of files) r) is told
+    → WritesFile (writes_to (tree_with files v) fd offset bytes) n v files bytes (λ w. table_of files) r → WritesFile (writes_to (tree_with files v) fd place bytes) n v files bytes (λ w. table_of files) r
+writes_at n v files fd bytes r is told = subst (λ (z : ℤ). WritesFile (writes_to (tree_with files v) fd z bytes) n v files bytes (λ w. table_of files) r) is told
 
 -- ---- a change whose record says what it does
 
@@ -79,6 +79,6 @@ cuts_so n v table fd size None told = (tt, λ snapshots room. (told, refl))
 cuts_so n v table fd size (Some c) told = (told.0, told.1, tt, λ snapshots room. (told.2, refl))
 
 pub opens_so : (n : ℕ) (v : Volume) (files : Descriptors) (path : List ℕ) (flags : Flags) (mode : ℕ) (o : Opening) (c : Option Changing)
-    → OpensOver (opens n (tree_with files v) path flags mode) n v files o c → DoesBeside n v (table_of files) (command.Open path flags mode) (Fd o.fd) (Opens o.fd o.file) (said_change c)
+    → OpensDescriptorOver (opens n (tree_with files v) path flags mode) n v files o c → DoesBeside n v (table_of files) (command.Open path flags mode) (Fd o.fd) (Opens o.fd o.file) (said_change c)
 opens_so n v files path flags mode o None told = (told.0, λ snapshots room. (told.1, refl))
 opens_so n v files path flags mode o (Some c) told = (told.0, told.1, told.2, λ snapshots room. (told.3, refl))

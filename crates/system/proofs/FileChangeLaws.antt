@@ -9,7 +9,7 @@ use Rattle.descriptors.specs.Fits.{FitsVolume}
 use Rattle.descriptors.specs.Tables.{table_of}
 use Rattle.descriptors.specs.declared.table.Descriptors.{Descriptors}
 use Rattle.system.specs.OpenFiles.{FitsMove, moved_table}
-use Rattle.system.specs.Systems.{IsServingWith, ServesWith, meaning_of, parts_of, state_with}
+use Rattle.system.specs.Systems.{IsServingWith, ServesWith, meaning_of, system_parts, state_with}
 use Rattle.system.specs.declared.system.System.{System}
 use Rattle.system.specs.declared.table_move.TableMove.{TableMove}
 use Rattle.system.proofs.OpenFileLaws.{moved_on}
@@ -23,7 +23,7 @@ pub record Moves (old new : Descriptors) (move : TableMove) : Type 0 where
 -- behind the record of a call that does this to the table
 pub logged_moves : {S : Type 0} {G : Ghosts S} (mid : System S G) (now_files : Descriptors) (move : TableMove) (table : ℕ → Option Description) (n : ℕ) (v : Volume) (snapshots : List (Name × Tree))
     (changes : List Change) → ServesWith mid table (state_with n v table snapshots) v changes → IsMounted v table → FitsMove v move → Moves mid.files now_files move
-    → IsServingWith (meaning_of mid) (record (parts_of mid) { files = now_files }) (moved_table move table) (state_with n v (moved_table move table) snapshots) v changes
+    → IsServingWith (meaning_of mid) (record (system_parts mid) { files = now_files }) (moved_table move table) (state_with n v (moved_table move table) snapshots) v changes
 logged_moves mid now_files move table n v snapshots changes behind mounted fits moves =
     let serves = behind.serves in
     let opened : moved_table move table ≡ table_of now_files = ap (moved_table move) serves.opened ∙ sym moves.table in

@@ -19,14 +19,14 @@ use Rattle.buffers.specs.Disks.{ReadsOn}
 use Rattle.buffers.specs.declared.cache.Buffers.{Buffers}
 use Rattle.inofile.specs.declared.inode_file.InodeFile.{InodeFile}
 use Rattle.images.specs.States.{Opens}
-use Rattle.oplog.specs.LogEnd.{LogEnd, HasRoom, body_of}
+use Rattle.oplog.specs.LogEnd.{LogEnd, HasRoomInHalf, logged_body}
 use Rattle.oplog.specs.declared.log.AppendError.{AppendError}
 use Rattle.oplog.specs.declared.log.AppendError.TheVariants as append
 use Rattle.system.specs.Counting.{a_write, no_call, perhaps_any}
 use Rattle.system.specs.Errors.{log_error}
 use Rattle.system.specs.Images.{OpensTo}
 use Rattle.system.specs.Serving.{Handles, HasEmptyLog, LeavesEither, ServesState, TellsNoFault, WouldCall, WouldChange}
-use Rattle.system.specs.Systems.{Parts, IsServing, meaning_of, parts_of}
+use Rattle.system.specs.Systems.{Parts, IsServing, meaning_of, system_parts}
 use Rattle.system.specs.declared.error.CallError.{CallError}
 use Rattle.system.specs.declared.system.System.{System}
 use Rattle.system.proofs.CountingLaws.{all_read, all_written, counted_after, not_written_yet, perhaps_read}
@@ -50,20 +50,20 @@ either_after m mid new s t reads opens leaves =
 
 -- a system that has the same serves the same
 pub serves_same : {S : Type 0} {G : Ghosts S} (f g : System S G) (blocks : Buffers S) (inodes : InodeFile) (s : State) → g.blocks ≡ blocks
-    → parts_of g ≡ record (parts_of f) { kept = blocks.kept; inodes = inodes; log = g.log } → g.log ≡ f.log → ServesOver f blocks inodes s → ServesState g s
+    → system_parts g ≡ record (system_parts f) { kept = blocks.kept; inodes = inodes; log = g.log } → g.log ≡ f.log → ServesOver f blocks inodes s → ServesState g s
 serves_same {S} {G} f g blocks inodes s same_blocks parts log serves =
-    let all : parts_of g ≡ record (parts_of f) { kept = blocks.kept; inodes = inodes } = parts ∙ (λ i. record (parts_of f) { kept = blocks.kept; inodes = inodes; log = log i }) in
+    let all : system_parts g ≡ record (system_parts f) { kept = blocks.kept; inodes = inodes } = parts ∙ (λ i. record (system_parts f) { kept = blocks.kept; inodes = inodes; log = log i }) in
     subst (λ (k : Parts). IsServing (G.meaning g.blocks.station) k s.tree.descriptors s) (sym all)
-    (subst (λ (b : Buffers S). IsServing (G.meaning b.station) (record (parts_of f) { kept = blocks.kept; inodes = inodes }) s.tree.descriptors s) (sym same_blocks) serves)
+    (subst (λ (b : Buffers S). IsServing (G.meaning b.station) (record (system_parts f) { kept = blocks.kept; inodes = inodes }) s.tree.descriptors s) (sym same_blocks) serves)
 
 -- a short record fits an empty log
-pub short_fits : {S : Type 0} {G : Ghosts S} (f : System S G) (change : Change) → HasEmptyLog f → length (body_of change) ≤ 1300
-    → (f.log.epoch ≢ f.root.generation + 1) ⊎ (HasRoom f.log (length (body_of change)) → ⊥) → ⊥
+pub short_fits : {S : Type 0} {G : Ghosts S} (f : System S G) (change : Change) → HasEmptyLog f → length (logged_body change) ≤ 1300
+    → (f.log.epoch ≢ f.root.generation + 1) ⊎ (HasRoomInHalf f.log (length (logged_body change)) → ⊥) → ⊥
 short_fits f change empty short (inl not) = not empty.epoch
 short_fits f change empty short (inr full) =
     let half : 131072 ≤ f.log.half = omega (arith, f.half, f.is_root.head.sizes.least_half) in
-    let room : 9 + 5 + length (body_of change) + 1 ≤ f.log.half = omega (arith, half, short) in
-    full (subst (λ (n : ℕ). n + 5 + length (body_of change) + 1 ≤ f.log.half) (sym empty.end) room)
+    let room : 9 + 5 + length (logged_body change) + 1 ≤ f.log.half = omega (arith, half, short) in
+    full (subst (λ (n : ℕ). n + 5 + length (logged_body change) + 1 ≤ f.log.half) (sym empty.end) room)
 
 -- What a call's record comes to on a system in which objects came into memory.
 pub record LeadsOn {S : Type 0} {G : Ghosts S} (old new : System S G) (mid : Meaning) (s : State) (call : Command) (reply : Reply) : Type 0 where

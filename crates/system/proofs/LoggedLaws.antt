@@ -23,7 +23,7 @@ use Rattle.inofile.specs.declared.inode_file.InodeFile.{InodeFile}
 use Rattle.images.specs.Roots.{whole}
 use Rattle.images.specs.States.{SameButFree}
 use Rattle.loading.specs.Images.{inodes_of}
-use Rattle.oplog.specs.LogEnd.{LogEnd, LogStands, ReadsDisk, StandsAt, WithOrWithout, all_of, with_body}
+use Rattle.oplog.specs.LogEnd.{LogEnd, LogStands, ReadsDisk, StandsAt, WithOrWithout, all_bodies, with_body}
 use Rattle.system.specs.Images.{IsLeft, IsReplayed, IsUnder, OpensTo}
 use Rattle.system.specs.Laws.{CutLaws, RecordLaws}
 use Rattle.system.specs.Memory.{IsInMemory}
@@ -39,7 +39,7 @@ replays_more inodes v (d ∷ ds) w c rest applies = (rest.0, replays_more inodes
 
 module _ (laws : CutLaws) (records : RecordLaws) {m : Meaning} {k : Parts} {table : ℕ → Option Description} {s : State} (serves : IsServing m k table s) (change : Change)
     (advances : Advances k.root.geometry.inodes serves.running table change) where
-  spelled : all_of (with_body serves.bodies (change_bytes change)) ≡ map change_bytes (serves.replayed.changes ++ change ∷ [])
+  spelled : all_bodies (with_body serves.bodies (change_bytes change)) ≡ map change_bytes (serves.replayed.changes ++ change ∷ [])
   spelled =
       sym (append_assoc serves.bodies.older serves.bodies.newest (change_bytes change ∷ []))
       ∙ ap (λ (l : List (List ℕ)). l ++ change_bytes change ∷ []) serves.replayed.spelled
@@ -85,9 +85,9 @@ module _ (laws : CutLaws) (records : RecordLaws) {m : Meaning} {k : Parts} {tabl
     at_any_moment now leaves =
         weaker m now (KeepsDisk m (WithOrWithout k.log.half k.root.generation serves.bodies (change_bytes change))) (λ c. OpensTo m s c ⊎ OpensTo m state_after c) leaves (λ c keeps. elim keeps.3 [
           | inl without ↦ inl (same_open laws m m.seen.disk k.root k.slot serves.first serves.snapshots serves.under size serves.bodies serves.running serves.memory.volume serves.replayed table s serves.state
-              c (same_disk c keeps.0 keeps.1 keeps.2) (subst (λ (h : ℕ). LogHolds h k.root.generation c.nvram (all_of serves.bodies)) half without))
+              c (same_disk c keeps.0 keeps.1 keeps.2) (subst (λ (h : ℕ). LogHolds h k.root.generation c.nvram (all_bodies serves.bodies)) half without))
           | inr with_it ↦ inr (same_open laws m m.seen.disk k.root k.slot serves.first serves.snapshots serves.under size (with_body serves.bodies (change_bytes change)) volume_after volume replayed
-              table state_after refl c (same_disk c keeps.0 keeps.1 keeps.2) (subst (λ (h : ℕ). LogHolds h k.root.generation c.nvram (all_of (with_body serves.bodies (change_bytes change)))) half with_it))
+              table state_after refl c (same_disk c keeps.0 keeps.1 keeps.2) (subst (λ (h : ℕ). LogHolds h k.root.generation c.nvram (all_bodies (with_body serves.bodies (change_bytes change)))) half with_it))
         ])
 
   -- once it is there, and memory follows

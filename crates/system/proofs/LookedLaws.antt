@@ -27,7 +27,7 @@ use Rattle.descriptors.specs.Tables.{table_of}
 use Rattle.calls.specs.Seeing.{OnTrees}
 use Rattle.files.specs.Opened.{OnOpen}
 use Rattle.system.specs.Serving.{ServesState}
-use Rattle.system.specs.Systems.{IsServing, meaning_of, parts_of}
+use Rattle.system.specs.Systems.{IsServing, meaning_of, system_parts}
 use Rattle.system.specs.declared.system.System.{System}
 use Rattle.system.proofs.SystemLaws.{read_into}
 
@@ -43,7 +43,7 @@ blocks_with G = record {
 
 -- a system serves a state that has these blocks and these inodes in memory, and all else as another
 abbrev pub ServesOver : {S : Type 0} {G : Ghosts S} → System S G → Buffers S → InodeFile → State → Type 0
-ServesOver {S} {G} f kept inodes s = IsServing (G.meaning kept.station) (record (parts_of f) { kept = kept.kept; inodes = inodes }) s.tree.descriptors s
+ServesOver {S} {G} f kept inodes s = IsServing (G.meaning kept.station) (record (system_parts f) { kept = kept.kept; inodes = inodes }) s.tree.descriptors s
 
 pub eighth : (n b : ℕ) → n ≡ 8 * b → n / 8 ≡ b
 eighth n b is = omega arith

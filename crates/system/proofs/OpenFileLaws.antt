@@ -23,11 +23,11 @@ use Rattle.records.specs.declared.failure.Failure.{Failure}
 use Rattle.descriptors.specs.Fits.{FitsVolume}
 use Rattle.descriptors.specs.Tables.{table_of}
 use Rattle.descriptors.specs.declared.table.Descriptors.{Descriptors}
-use Rattle.oplog.specs.LogEnd.{HasRoom, body_of}
+use Rattle.oplog.specs.LogEnd.{HasRoomInHalf, logged_body}
 use Rattle.system.specs.Logging.{Advances}
 use Rattle.system.specs.OpenFiles.{DoesBeside, DoesCall, DoesRecord, FitsMove, PreparesDoing, WouldLead, is_logging_call, is_looking_call, is_table_call, moved_table, recorded}
 use Rattle.system.specs.Serving.{HasEmptyLog, ServesState, WouldCall}
-use Rattle.system.specs.Systems.{Parts, IsServing, IsServingWith, meaning_of, parts_of, state_with}
+use Rattle.system.specs.Systems.{Parts, IsServing, IsServingWith, meaning_of, system_parts, state_with}
 use Rattle.system.specs.declared.file_change.Doing.{Doing}
 use Rattle.system.specs.declared.file_change.FileChange.{FileChange}
 use Rattle.system.specs.declared.system.System.{System}
@@ -68,7 +68,7 @@ led_to {k = k} now call reply after told =
 
 -- a call that leaves the image as it is, and perhaps another table of open files
 pub table_leads : {S : Type 0} {G : Ghosts S} (new : System S G) (s : State) (call : Command) (reply : Reply) (files : Descriptors)
-    (now : IsServing (meaning_of new) (record (parts_of new) { files = files }) s.tree.descriptors s) (after : ℕ → Option Description)
+    (now : IsServing (meaning_of new) (record (system_parts new) { files = files }) s.tree.descriptors s) (after : ℕ → Option Description)
     → after ≡ table_of new.files → FitsVolume new.files now.running → IsMounted now.running after
     → WouldLead new.root.geometry.inodes now.running (table_of files) call reply now.running after nothing → LeadsTo new s call reply now.replayed.changes
 table_leads new s call reply files now after opened fits mounted told = record {
@@ -139,13 +139,13 @@ moved_on {m} {k} {table} n {v} snapshots {changes} behind now_files after opened
     })
 
 -- the record of a call on descriptors fits an empty log
-pub record_fits : {S : Type 0} {G : Ghosts S} (f : System S G) (change : Change) → HasEmptyLog f → length (body_of change) ≤ 65553
-    → (f.log.epoch ≢ f.root.generation + 1) ⊎ (HasRoom f.log (length (body_of change)) → ⊥) → ⊥
+pub record_fits : {S : Type 0} {G : Ghosts S} (f : System S G) (change : Change) → HasEmptyLog f → length (logged_body change) ≤ 65553
+    → (f.log.epoch ≢ f.root.generation + 1) ⊎ (HasRoomInHalf f.log (length (logged_body change)) → ⊥) → ⊥
 record_fits f change empty short (inl not) = not empty.epoch
 record_fits f change empty short (inr full) =
     let half : 131072 ≤ f.log.half = omega (arith, f.half, f.is_root.head.sizes.least_half) in
-    let room : 9 + 5 + length (body_of change) + 1 ≤ f.log.half = omega (arith, half, short) in
-    full (subst (λ (n : ℕ). n + 5 + length (body_of change) + 1 ≤ f.log.half) (sym empty.end) room)
+    let room : 9 + 5 + length (logged_body change) + 1 ≤ f.log.half = omega (arith, half, short) in
+    full (subst (λ (n : ℕ). n + 5 + length (logged_body change) + 1 ≤ f.log.half) (sym empty.end) room)
 
 -- ---- what the calls over memory and the table promise
 

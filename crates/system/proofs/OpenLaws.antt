@@ -29,7 +29,7 @@ use Rattle.descriptors.specs.declared.table.Descriptors.{Descriptors}
 use Rattle.images.specs.Roots.{whole}
 use Rattle.inofile.specs.Volumes.{IsVolumeOf}
 use Rattle.inofile.specs.declared.inode_file.InodeFile.{InodeFile}
-use Rattle.loading.specs.Images.{IsLoaded, inodes_of}
+use Rattle.loading.specs.Images.{IsLoadedUnder, inodes_of}
 use Rattle.replay.specs.Volumes.{HasVolume, SavesRecords, bodies_of}
 use Rattle.oplog.specs.declared.saved.SavedLogError.{SavedLogError}
 use Rattle.oplog.specs.declared.saved.SavedLogError.TheVariants as log
@@ -38,7 +38,7 @@ use Rattle.blocktree.specs.declared.error.ReadError.TheVariants as read
 use Rattle.loading.specs.declared.error.RootError.{RootError}
 use Rattle.loading.specs.declared.error.RootError.TheVariants as root
 use Rattle.system.specs.Opening.{HasImage, HoldsRecords, IsOf}
-use Rattle.system.specs.Refusals.{IsOutside, refusal_of_log, refusal_of_read, refusal_of_root}
+use Rattle.system.specs.Refusals.{SaysNothing, refusal_of_log, refusal_of_read, refusal_of_root}
 use Rattle.system.specs.Systems.{Parts, IsServing, state_with}
 use Rattle.system.specs.declared.open_error.OpenError.{OpenError}
 use Rattle.system.specs.declared.opening.Found.{Found}
@@ -46,26 +46,26 @@ use Rattle.system.specs.declared.opening.Mounted.{Mounted}
 
 -- ---- refusals
 
-pub root_refused : {T : Type 0} (P : T → Type 0) (r : Result T OpenError) (e : RootError) → IsErrAnd r (λ x. x ≡ refusal_of_root e) → e ≡ root.Device → MatchResult r P IsOutside
+pub root_refused : {T : Type 0} (P : T → Type 0) (r : Result T OpenError) (e : RootError) → IsErrAnd r (λ x. x ≡ refusal_of_root e) → e ≡ root.Device → MatchResult r P SaysNothing
 root_refused P (Ok x) e is device = absurd is
 root_refused P (Err x) root.Device is device = inr is
 root_refused P (Err x) root.NoRoot is device = cc
 root_refused P (Err x) root.Damaged is device = cc
 
-pub log_refused : {T U : Type 0} (P : T → Type 0) (r : Result T OpenError) (e : SavedLogError) → IsErrAnd r (λ x. x ≡ refusal_of_log e) → (IsErrOf {T = U} (Err e) log.Damaged → ⊥) → MatchResult r P IsOutside
+pub log_refused : {T U : Type 0} (P : T → Type 0) (r : Result T OpenError) (e : SavedLogError) → IsErrAnd r (λ x. x ≡ refusal_of_log e) → (IsErrOf {T = U} (Err e) log.Damaged → ⊥) → MatchResult r P SaysNothing
 log_refused P (Ok x) e is undamaged = absurd is
 log_refused P (Err x) log.NoMemory is undamaged = inl is
 log_refused P (Err x) log.Device is undamaged = inr is
 log_refused P (Err x) log.Damaged is undamaged = absurd (undamaged refl)
 
-pub read_refused : {T : Type 0} (P : T → Type 0) (r : Result T OpenError) (e : ReadError) → IsErrAnd r (λ x. x ≡ refusal_of_read e) → (e ≡ read.NoMemory) ⊎ (e ≡ read.Device) → MatchResult r P IsOutside
+pub read_refused : {T : Type 0} (P : T → Type 0) (r : Result T OpenError) (e : ReadError) → IsErrAnd r (λ x. x ≡ refusal_of_read e) → (e ≡ read.NoMemory) ⊎ (e ≡ read.Device) → MatchResult r P SaysNothing
 read_refused P (Ok x) e is why = absurd is
 read_refused P (Err x) read.NoMemory is why = inl is
 read_refused P (Err x) read.Device is why = inr is
 read_refused P (Err x) read.Damaged is (inl none) = cc
 read_refused P (Err x) read.Damaged is (inr device) = cc
 
-pub not_damaged : {T U : Type 0} (P : T → Type 0) (r : Result T OpenError) (e : ReadError) → IsErrAnd r (λ x. x ≡ refusal_of_read e) → (IsErrOf {T = U} (Err e) read.Damaged → ⊥) → MatchResult r P IsOutside
+pub not_damaged : {T U : Type 0} (P : T → Type 0) (r : Result T OpenError) (e : ReadError) → IsErrAnd r (λ x. x ≡ refusal_of_read e) → (IsErrOf {T = U} (Err e) read.Damaged → ⊥) → MatchResult r P SaysNothing
 not_damaged P (Ok x) e is undamaged = absurd is
 not_damaged P (Err x) read.NoMemory is undamaged = inl is
 not_damaged P (Err x) read.Device is undamaged = inr is
@@ -149,14 +149,14 @@ module _ (disk : Blocks) (r : Root) (nvram : List ℕ) (first last : Volume) (sn
     replays = subst (λ (s : Sizes). Replays s.inodes first changes last) (sym geometry) holds.replays;
   }
 
-  pub has_volume : (inodes : InodeFile) (map : BlockMap) (count : ℕ) → inodes.geometry ≡ r.geometry → count ≡ r.geometry.blocks → IsLoaded disk r map inodes
+  pub has_volume : (inodes : InodeFile) (map : BlockMap) (count : ℕ) → inodes.geometry ≡ r.geometry → count ≡ r.geometry.blocks → IsLoadedUnder disk r map inodes
       → HasVolume count disk (inodes_of (whole disk r).active) inodes first
   has_volume inodes map count geometry is loaded = record {
     memory = subst (λ (n : ℕ). IsVolumeOf n disk (inodes_of (whole disk r).active) inodes first) (sym is) (loaded.inodes.volume first holds.holds.holds);
     volume = subst (λ (s : Sizes). IsVolume s.inodes first) (sym geometry) holds.holds.volume;
   }
 
-  pub has_image : (old : InodeFile) (p : Mounted) (count : ℕ) → p.inodes.geometry ≡ r.geometry → count ≡ r.geometry.blocks → IsLoaded disk r p.map old
+  pub has_image : (old : InodeFile) (p : Mounted) (count : ℕ) → p.inodes.geometry ≡ r.geometry → count ≡ r.geometry.blocks → IsLoadedUnder disk r p.map old
       → StandsBehind p.log saved.generation nvram (bodies_of changes) → HasVolume count disk (inodes_of (whole disk r).active) p.inodes (without_nameless last)
       → p.pledged ≡ pledged_for old.geometry.inodes first changes → old.geometry ≡ r.geometry → HasImage disk r nvram first last changes p
   has_image old p count geometry is loaded stands has pledges sizes = record {

@@ -17,7 +17,7 @@ use Rattle.images.specs.Cuts.{Write, AreFree}
 use Rattle.images.specs.Roots.{whole}
 use Rattle.images.specs.SnapshotSteps.{SnapshotStep}
 use Rattle.images.specs.States.{Opens, OpensBy}
-use Rattle.oplog.specs.LogEnd.{LogEnd, Bodies, all_of, StandsAt}
+use Rattle.oplog.specs.LogEnd.{LogEnd, Bodies, all_bodies, StandsAt}
 use Rattle.conspoint.specs.Cuts.{StaysOutside, HasNewRoot}
 use Rattle.conspoint.specs.Plans.{Planned, FitsDisk}
 use Rattle.conspoint.specs.Writes.{AreWhole, writes_of}
@@ -45,8 +45,8 @@ covered laws log g bodies nvram small stands = elim stands.other [
       subst (λ (e : ℕ). LogHolds log.half e nvram []) (sym first.0)
       (subst (LogHolds log.half (g + 1) nvram)
       (second_is (g + 2) (half_of log.half (g + 2) nvram) stands.holds.second first.1 stands.holds.second_held)
-      (laws.one log.half g nvram (all_of bodies) (omega (arith, small)) stands.holds))
-  | inr second ↦ subst (λ (e : ℕ). LogHolds log.half e nvram []) (sym second.0) (laws.both log.half g nvram (all_of bodies) small stands.holds)
+      (laws.one log.half g nvram (all_bodies bodies) (omega (arith, small)) stands.holds))
+  | inr second ↦ subst (λ (e : ℕ). LogHolds log.half e nvram []) (sym second.0) (laws.both log.half g nvram (all_bodies bodies) small stands.holds)
 ]
 
 -- its generation is later
@@ -61,7 +61,7 @@ other_is r d slot other newest is = elim newest.is_slot [
   | inr b ↦ inr (is ∙ ap other_slot b, subst (λ (n : ℕ). HoldsRoot (d n) r) b newest.there)
 ]
 
-pub outside : (r : Root) (d : ℕ → List ℕ) (writes : List Write) (n : ℕ) → AreFree r d writes → entry (whole (blocks_of d) r).active (n / 8) ≢ 0 → points.IsOutside writes n
+pub outside : (r : Root) (d : ℕ → List ℕ) (writes : List Write) (n : ℕ) → AreFree r d writes → entry (whole (blocks_of d) r).active (n / 8) ≢ 0 → points.IsOutsideWrites writes n
 outside r d writes n free some = λ k w lt same. some (ap (entry (whole (blocks_of d) r).active) (sym same) ∙ free k w lt)
 
 -- what a system serves may be planned
@@ -93,9 +93,9 @@ module _ (laws : CutLaws) {m : Meaning} {k : Parts} {table : ℕ → Option Desc
 
   module _ (here : MayLeave m m.seen) (sizes : AreWhole m.sectors m.seen.disk) where
     -- a disk with the new root
-    pub with_root : (c : Images) → HasNewRoot p m.seen c → points.HasNewRoot (writes_of p.blocks) p.slot (root_bytes new) m.seen.disk c.disk
+    pub with_root : (c : Images) → HasNewRoot p m.seen c → points.HasRootWritten (writes_of p.blocks) p.slot (root_bytes new) m.seen.disk c.disk
     with_root c has =
-        subst (λ (bytes : List ℕ). points.HasNewRoot (writes_of p.blocks) p.slot bytes m.seen.disk c.disk) planned.bytes
+        subst (λ (bytes : List ℕ). points.HasRootWritten (writes_of p.blocks) p.slot bytes m.seen.disk c.disk) planned.bytes
         (laws.finished m.sectors p m.seen c (subst (λ (n : ℕ). FitsDisk n p) (sym size) planned.fits) sizes has)
 
     -- what the system reads

@@ -8,7 +8,7 @@ use Rattle.model.specs.Volumes.{Volume}
 use Rattle.blockmap.specs.Maps.{free_below}
 use Rattle.blockmap.specs.declared.map.BlockMap.{BlockMap}
 use Rattle.images.specs.Roots.{HeldTree}
-use Rattle.oplog.specs.LogEnd.{LogEnd, HasRoom, next_of}
+use Rattle.oplog.specs.LogEnd.{LogEnd, HasRoomInHalf, next_of}
 use Rattle.system.specs.Memory.{HasEntries}
 use Rattle.system.specs.Room.{free_under}
 
@@ -32,7 +32,7 @@ false_is true not_true = absurd (not_true refl)
 false_is false not_true = refl
 
 -- a record that was logged had room
-pub had_room : (log : LogEnd) (n : ℕ) → (IsFalse log.is_stopped × (HasRoom log n → ⊥) → ⊥) → (IsTrue log.is_stopped → ⊥) → HasRoom log n
+pub had_room : (log : LogEnd) (n : ℕ) → (IsFalse log.is_stopped × (HasRoomInHalf log n → ⊥) → ⊥) → (IsTrue log.is_stopped → ⊥) → HasRoomInHalf log n
 had_room log n not_full not_stopped = elim (cases_lt log.half (next_of log.end + 5 + n + 1)) [
   | inl lt ↦ absurd (not_full (false_is log.is_stopped not_stopped, λ fits. absurd (omega (arith, lt, fits))))
   | inr ge ↦ ge

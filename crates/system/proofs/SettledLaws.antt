@@ -32,7 +32,7 @@ use Rattle.images.specs.Nodes.{Agrees}
 use Rattle.images.specs.Roots.{whole, Needs}
 use Rattle.images.specs.SnapshotSteps.{SnapshotStep, kept_after}
 use Rattle.images.specs.States.{Holds}
-use Rattle.loading.specs.Images.{IsFileOf, inodes_of}
+use Rattle.loading.specs.Images.{IsFileOfInode, inodes_of}
 use Rattle.oplog.specs.LogEnd.{LogEnd, no_bodies, StandsAt}
 use Rattle.conspoint.specs.Cuts.{HasNewRoot, disk_with_blocks}
 use Rattle.conspoint.specs.Drafts.{HasAll}
@@ -70,7 +70,7 @@ module _ (laws : RootLaws) {m : Meaning} {k : Parts} {table : ℕ → Option Des
     (serves : IsServing m k table s) (size : m.sectors ≡ 8 * k.root.geometry.blocks)
     (p : Planned) (new : Root) (step : SnapshotStep) (planned : IsPlannedOver step m.seen.disk k.root k.slot k.log.epoch p new serves.running)
     (now : Meaning) (sizes : AreWhole m.sectors now.seen.disk) (has : HasNewRoot p m.seen now.seen)
-    (images : points.HasNewRoot (writes_of p.blocks) p.slot (root_bytes new) m.seen.disk now.seen.disk) where
+    (images : points.HasRootWritten (writes_of p.blocks) p.slot (root_bytes new) m.seen.disk now.seen.disk) where
   -- ---- the blocks of the new disk
 
   fits : All (λ x. 8 * x.place + 8 ≤ m.sectors) p.blocks
@@ -129,7 +129,7 @@ module _ (laws : RootLaws) {m : Meaning} {k : Parts} {table : ℕ → Option Des
   kept_then = kept_after step serves.first serves.snapshots
 
   module _ (holds : Holds new (whole (blocks_of now.seen.disk) new) serves.running kept_then) where
-    pub memory : (file : File) (now_inodes : InodeFile) (now_map : BlockMap) → k.inodes.geometry ≡ k.root.geometry → IsFileOf new.inode_file file
+    pub memory : (file : File) (now_inodes : InodeFile) (now_map : BlockMap) → k.inodes.geometry ≡ k.root.geometry → IsFileOfInode new.inode_file file
         → ((count : ℕ) (disk : ℕ → List ℕ) (settled : ℕ → Inode) (v : Volume) → AreSettled count disk k.inodes.geometry file settled → MapsVolume k.inodes.numbers.bytes.items v
         → HoldsVolume k.inodes.geometry.inodes (λ n. held_content disk (settled n)) v → IsVolumeOf count disk settled now_inodes v)
         → ((b : ℕ) → settled_at now_map.parts.items b ≡ entry (whole (blocks_of now.seen.disk) new).active b)

@@ -33,7 +33,7 @@ use Rattle.oplog.specs.declared.log.End.TheVariants.{Unopened}
 use Rattle.conspoint.specs.Errors.{plan_error}
 use Rattle.conspoint.specs.declared.error.PlanError.{PlanError}
 use Rattle.conspoint.specs.declared.error.PlanError.TheVariants as plan
-use Rattle.snapshots.specs.Found.{Finds, named, snapshot_found}
+use Rattle.snapshots.specs.Found.{FindsSnapshot, named, snapshot_found}
 use Rattle.snapshots.specs.Taken.{MayTake}
 use Rattle.snapshots.specs.declared.finding.Found.{Found}
 use Rattle.snapshots.specs.declared.taking.Taking.{Taking}
@@ -257,7 +257,7 @@ can_take r disk other name t root same may low =
       order = may.order;
     })
 
-pub can_delete : (r : Root) (disk other : Blocks) (name : Name) (pairs : List (Name × Tree)) (f : Found) → disk ≡ other → Finds r disk name pairs (Some f) → (1 ≤ f.slot) × (f.slot ≤ SNAPSHOT_SLOTS)
+pub can_delete : (r : Root) (disk other : Blocks) (name : Name) (pairs : List (Name × Tree)) (f : Found) → disk ≡ other → FindsSnapshot r disk name pairs (Some f) → (1 ≤ f.slot) × (f.slot ≤ SNAPSHOT_SLOTS)
     → CanDelete r (whole other r) f.slot name
 can_delete r disk other name pairs f same finds number =
     subst (λ (d : Blocks). CanDelete r (whole d r) f.slot name) same

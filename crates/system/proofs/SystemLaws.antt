@@ -21,7 +21,7 @@ use Rattle.inofile.specs.declared.inode_file.InodeFile.{InodeFile}
 use Rattle.images.specs.Roots.{whole}
 use Rattle.images.specs.States.{Opens, SameButFree}
 use Rattle.loading.specs.Images.{inodes_of}
-use Rattle.oplog.specs.LogEnd.{Bodies, all_of}
+use Rattle.oplog.specs.LogEnd.{Bodies, all_bodies}
 use Rattle.system.specs.Images.{OpensTo, IsLeft, IsReplayed, IsUnder}
 use Rattle.system.specs.Laws.{CutLaws}
 use Rattle.system.specs.Memory.{IsInMemory}
@@ -88,7 +88,7 @@ module _ (laws : CutLaws) (m : Meaning) (disk : ℕ → List ℕ) (root : Root) 
     rest = refl;
   })
 
-  abbrev pub held_open : (nvram : List ℕ) → LogHolds root.geometry.half root.generation nvram (all_of bodies) → Opens m.sectors disk nvram s
+  abbrev pub held_open : (nvram : List ℕ) → LogHolds root.geometry.half root.generation nvram (all_bodies bodies) → Opens m.sectors disk nvram s
   held_open nvram holds = record {
     root = root;
     newest = under.newest.newest;
@@ -104,21 +104,21 @@ module _ (laws : CutLaws) (m : Meaning) (disk : ℕ → List ℕ) (root : Root) 
   }
 
   -- and so does one that is the same but for free blocks
-  pub same_open : (c : Images) → SameButFree root disk c.disk → LogHolds root.geometry.half root.generation c.nvram (all_of bodies) → OpensTo m s c
+  pub same_open : (c : Images) → SameButFree root disk c.disk → LogHolds root.geometry.half root.generation c.nvram (all_bodies bodies) → OpensTo m s c
   same_open c same holds = record { opens = (laws.free m.sectors disk c.disk c.nvram s (held_open c.nvram holds) same).opens }
 
 module _ (laws : CutLaws) {m : Meaning} {k : Parts} {table : ℕ → Option Description} {s : State}
     (serves : IsServing m k table s) (size : m.sectors ≡ 8 * k.root.geometry.blocks) (half : k.log.half ≡ k.root.geometry.half) where
   -- what the system reads, with any NVRAM that has its records
-  abbrev pub reads_open : (nvram : List ℕ) → LogHolds k.log.half k.root.generation nvram (all_of serves.bodies) → Opens m.sectors m.seen.disk nvram s
+  abbrev pub reads_open : (nvram : List ℕ) → LogHolds k.log.half k.root.generation nvram (all_bodies serves.bodies) → Opens m.sectors m.seen.disk nvram s
   reads_open nvram holds =
       held_open laws m m.seen.disk k.root k.slot serves.first serves.snapshots serves.under size serves.bodies serves.running serves.memory.volume serves.replayed table s serves.state nvram
-      (subst (λ (h : ℕ). LogHolds h k.root.generation nvram (all_of serves.bodies)) half holds)
+      (subst (λ (h : ℕ). LogHolds h k.root.generation nvram (all_bodies serves.bodies)) half holds)
 
   pub one_opens : (c : Images) → IsLeft k.root k.log serves.bodies m.seen.disk c → OpensTo m s c
   one_opens c left =
       same_open laws m m.seen.disk k.root k.slot serves.first serves.snapshots serves.under size serves.bodies serves.running serves.memory.volume serves.replayed table s serves.state c left.same
-      (subst (λ (h : ℕ). LogHolds h k.root.generation c.nvram (all_of serves.bodies)) half left.log_stands.holds)
+      (subst (λ (h : ℕ). LogHolds h k.root.generation c.nvram (all_bodies serves.bodies)) half left.log_stands.holds)
 
   pub all_open : EachCut m (OpensTo m s)
   all_open honest c left = one_opens c (serves.left honest c left)

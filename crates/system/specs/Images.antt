@@ -13,7 +13,7 @@ use Rattle.model.specs.Volumes.{Volume}
 use Rattle.images.specs.Roots.{whole}
 use Rattle.images.specs.States as images
 use Rattle.images.specs.States.{Holds, SameButFree}
-use Rattle.oplog.specs.LogEnd.{LogEnd, Bodies, all_of, StandsAt}
+use Rattle.oplog.specs.LogEnd.{LogEnd, Bodies, all_bodies, StandsAt}
 use Rattle.system.specs.Slots.{IsNewestAt}
 
 -- Images of a station of this meaning open to a state.
@@ -38,7 +38,7 @@ pub record IsLeft (root : Root) (log : LogEnd) (bodies : Bodies) (disk : ℕ →
 pub record IsReplayed (inodes : ℕ) (bodies : Bodies) (first running : Volume) : Type 0 where
   pub changes : List Change
   pub are : All IsChange changes
-  pub spelled : all_of bodies ≡ map change_bytes changes
+  pub spelled : all_bodies bodies ≡ map change_bytes changes
   pub last : Volume
   pub replays : Replays inodes first changes last
   pub extends : Extends running last

@@ -18,7 +18,7 @@ use Rattle.buffers.specs.Disks.{IsBlock}
 use Rattle.inode.specs.declared.file.File.{File}
 use Rattle.inofile.specs.Settled.{AreSettled, held_content}
 use Rattle.images.specs.BlockMap.{IsExact, entry}
-use Rattle.images.specs.Contents.{HoldsVolume, contents}
+use Rattle.images.specs.Contents.{HoldsVolume, tree_contents}
 use Rattle.images.specs.Cuts as points
 use Rattle.images.specs.Cuts.{IsOfDisk, IsPointWith, Write}
 use Rattle.images.specs.Roots.{whole, Needs}
@@ -28,7 +28,7 @@ use Rattle.conspoint.specs.Cuts.{HasNewRoot, StaysOutside, disk_with_blocks}
 use Rattle.conspoint.specs.Plans.{FitsDisk, Planned}
 use Rattle.conspoint.specs.Writes.{AreWhole, writes_of}
 use Rattle.conspoint.specs.declared.plan.PlannedBlock.{PlannedBlock}
-use Rattle.loading.specs.Images.{IsFileOf, IsReadable, inodes_of}
+use Rattle.loading.specs.Images.{IsFileOfInode, IsReadable, inodes_of}
 
 -- on the images that a cut leaves
 pub record CutLaws : Type 0 where
@@ -37,15 +37,15 @@ pub record CutLaws : Type 0 where
   pub free : (sectors : ℕ) (d e : ℕ → List ℕ) (nvram : List ℕ) (s : State)
       → (o : Opens sectors d nvram s) → SameButFree o.root d e → OpensBy sectors e nvram s o.changes
   pub unfinished : (blocks : List PlannedBlock) (old new : Images) → StaysOutside blocks old new
-      → points.StaysOutside (writes_of blocks) old.disk new.disk
+      → points.StaysOutsideWrites (writes_of blocks) old.disk new.disk
   pub finished : (sectors : ℕ) (p : Planned) (old new : Images) → FitsDisk sectors p
       → AreWhole sectors old.disk → HasNewRoot p old new
-      → points.HasNewRoot (writes_of p.blocks) p.slot p.root old.disk new.disk
+      → points.HasRootWritten (writes_of p.blocks) p.slot p.root old.disk new.disk
   pub opens : (sectors : ℕ) (d e : ℕ → List ℕ) (nvram : List ℕ) (s : State) (writes : List Write)
       (sector : ℕ) (new : Root) (v : Volume) (step : SnapshotStep) (rest : List Change)
       (last : Volume) → (o : Opens sectors d nvram s)
       → IsPointWith step o.root d writes sector new v
-      → points.HasNewRoot writes sector (root_bytes new) d e → LogHoldsChanges new nvram rest
+      → points.HasRootWritten writes sector (root_bytes new) d e → LogHoldsChanges new nvram rest
       → Replays o.root.geometry.inodes v rest last → without_nameless last ≡ without_nameless o.last
       → OpensBy sectors e nvram (with_snapshots (kept_after step o.first o.snapshots) s) rest
   pub one : (half g : ℕ) (nvram : List ℕ) (bodies : List (List ℕ)) → g + 3 < 2 ^ 64
@@ -58,11 +58,11 @@ pub record RootLaws : Type 0 where
   pub newest : (sectors : ℕ) (d e : ℕ → List ℕ) (nvram : List ℕ) (s : State)
       (writes : List Write) (sector : ℕ) (new : Root) (v : Volume) (step : SnapshotStep)
       → (o : Opens sectors d nvram s) → IsPointWith step o.root d writes sector new v
-      → points.HasNewRoot writes sector (root_bytes new) d e → IsNewest new (e SLOT_A) (e SLOT_B)
+      → points.HasRootWritten writes sector (root_bytes new) d e → IsNewest new (e SLOT_A) (e SLOT_B)
   pub holds : (sectors : ℕ) (d e : ℕ → List ℕ) (nvram : List ℕ) (s : State)
       (writes : List Write) (sector : ℕ) (new : Root) (v : Volume) (step : SnapshotStep)
       → (o : Opens sectors d nvram s) → IsPointWith step o.root d writes sector new v
-      → points.HasNewRoot writes sector (root_bytes new) d e
+      → points.HasRootWritten writes sector (root_bytes new) d e
       → Holds new (whole (blocks_of e) new) v (kept_after step o.first o.snapshots)
   pub of_disk : (d : Blocks) (r : Root) (b : ℕ) → IsRoot r → IsSound r (whole d r)
       → Needs r (whole d r) b → IsOfDisk r.geometry.blocks b
@@ -71,10 +71,10 @@ pub record RootLaws : Type 0 where
   pub readable : (d : Blocks) (r : Root) (first : Volume) (snapshots : List (Name × Tree))
       → Holds r (whole d r) first snapshots → IsReadable d r
   pub settled : (d : Blocks) (r : Root) (file : File) → IsRoot r → IsReadable d r
-      → IsFileOf r.inode_file file
+      → IsFileOfInode r.inode_file file
       → AreSettled r.geometry.blocks d r.geometry file (inodes_of (whole d r).active)
   pub held : (d : Blocks) (r : Root) (v : Volume) → IsRoot r → IsReadable d r
-      → HoldsVolume r.geometry.inodes (contents (whole d r).active) v
+      → HoldsVolume r.geometry.inodes (tree_contents (whole d r).active) v
       → HoldsVolume r.geometry.inodes (λ n. held_content d (inodes_of (whole d r).active n)) v
   pub block_is : (sectors : ℕ) (disk : ℕ → Sector) (b : ℕ) (bytes : List ℕ)
       → AreWhole sectors disk → 8 * b + 8 ≤ sectors → IsBlock disk b bytes

@@ -16,7 +16,7 @@ use Rattle.inofile.specs.Volumes.{IsVolumeOf}
 use Rattle.inofile.specs.declared.inode_file.InodeFile.{InodeFile}
 use Rattle.images.specs.Roots.{whole}
 use Rattle.loading.specs.Images.{inodes_of}
-use Rattle.system.specs.Systems.{IsServingWith, meaning_of, parts_of}
+use Rattle.system.specs.Systems.{IsServingWith, meaning_of, system_parts}
 use Rattle.system.specs.declared.system.System.{System}
 
 -- a record applies to a volume of so many inodes, and leads to one that these descriptors fit once the
@@ -37,7 +37,7 @@ WouldServe old new running changes table s =
     (inodes : InodeFile) (files : Descriptors)
     → IsVolumeOf old.root.geometry.blocks disk settled inodes running
     → table ≡ table_of files → FitsVolume files running
-    → IsServingWith (meaning_of new) (record (parts_of new) { inodes = inodes; files = files }) table s
+    → IsServingWith (meaning_of new) (record (system_parts new) { inodes = inodes; files = files }) table s
     running changes
 
 -- put in force on a system with this running volume, a prepared change does what the record says

@@ -72,10 +72,10 @@ CanMove table (Moves fd place) = IsSome (table fd) × (place ≤ GREATEST_OFFSET
 CanMove table (Opens fd file) = (fd < OPEN_FILES) × (table fd ≡ None) × KeepsBounds file
 
 -- what is opened has a number of an object, in an image of so many inodes
-abbrev pub IsNumbered : ℕ → TableMove → Type 0
-IsNumbered inodes Stays = Unit {0}
-IsNumbered inodes (Moves fd place) = Unit {0}
-IsNumbered inodes (Opens fd file) = IsNumber inodes file.number
+abbrev pub OpensNumber : ℕ → TableMove → Type 0
+OpensNumber inodes Stays = Unit {0}
+OpensNumber inodes (Moves fd place) = Unit {0}
+OpensNumber inodes (Opens fd file) = IsNumber inodes file.number
 
 -- what is opened is a file of the volume
 abbrev pub FitsMove : Volume → TableMove → Type 0
@@ -130,7 +130,7 @@ of_doing d P = IfSome d.change (λ c. P c.prepared (recorded c.record))
 pub record MayDo (inodes : ℕ) (files : Descriptors) (d : Doing) : Type 0 where
   pub accepted : IsAccepted d.reply
   pub moves : CanMove (table_of files) d.table
-  pub numbered : IsNumbered inodes d.table
+  pub numbered : OpensNumber inodes d.table
   pub limits : IfSome d.change (λ c. KeepsRecord c.record)
 
 -- What a call is to do is prepared on the image in memory, as far as nothing of it is seen yet; or why it is refused.

@@ -49,7 +49,7 @@ pub record HasNewest (m : Meaning) (slot : ℕ) (root : Root) (log : LogEnd) : T
   pub held : HoldsSome log root.generation m.seen.nvram
 
 -- what memory has fits a root
-pub record FitsRoot (r : Root) (p : Mounted) : Type 0 where
+pub record MemoryFitsRoot (r : Root) (p : Mounted) : Type 0 where
   pub half : p.log.half ≡ r.geometry.half
   pub sizes : p.inodes.geometry ≡ r.geometry
   pub count : p.map.count ≡ r.geometry.blocks

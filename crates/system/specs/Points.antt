@@ -27,7 +27,7 @@ use Rattle.system.specs.Counting.{Counted, LogsNothing, point_failed}
 use Rattle.system.specs.Errors.{IsRefused}
 use Rattle.system.specs.Images.{OpensTo}
 use Rattle.system.specs.Slots.{other_slot}
-use Rattle.system.specs.Systems.{IsCovered, Serves, meaning_of}
+use Rattle.system.specs.Systems.{IsCovered, HasState, meaning_of}
 use Rattle.system.specs.declared.error.PointError.{PointError}
 use Rattle.system.specs.declared.error.PointError.TheVariants.{NoGeneration, NotPlanned}
 use Rattle.system.specs.declared.system.System.{System}
@@ -64,31 +64,31 @@ stepped step first snapshots s = with_snapshots (kept_after step first snapshots
 
 -- so a state may be the one that a system serves behind a point that does this with the snapshots
 abbrev pub StepsTo : {S : Type 0} {G : Ghosts S} → SnapshotChange → (f : System S G) → (table : ℕ → Option Description) (s : State)
-    → Serves f table s → State → Type 0
+    → HasState f table s → State → Type 0
 StepsTo change f table s serves t =
     (step : SnapshotStep) × IsStepFor change f step × (t ≡ stepped step serves.first serves.snapshots s)
 
 -- it is the same
 abbrev pub StaysAt : {S : Type 0} {G : Ghosts S} → (f : System S G) → (table : ℕ → Option Description) (s : State)
-    → Serves f table s → State → Type 0
+    → HasState f table s → State → Type 0
 StaysAt f table s serves t = t ≡ s
 
 -- What a consistency point does to a system, behind which it serves such a state; it is refused for want of place only where the
 -- system was too full.
 pub record MakesPoint {S : Type 0} {G : Ghosts S}
-    (Leads : (f : System S G) → (table : ℕ → Option Description) (s : State) → Serves f table s → State → Type 0)
+    (Leads : (f : System S G) → (table : ℕ → Option Description) (s : State) → HasState f table s → State → Type 0)
     (IsFull : System S G → Type 0) (old new : System S G) (result : Result (Unit {0}) PointError) : Type 0 where
   pub counted : Counted (meaning_of old) (meaning_of new) (point_failed result)
-  pub any_moment : (table : ℕ → Option Description) (s : State) → (serves : Serves old table s) → (t : State) → Leads old table s serves t
+  pub any_moment : (table : ℕ → Option Description) (s : State) → (serves : HasState old table s) → (t : State) → Leads old table s serves t
       → LeavesOnly (meaning_of old) (meaning_of new) (λ c. OpensTo (meaning_of old) s c ⊎ OpensTo (meaning_of old) t c)
-  pub covered : (table : ℕ → Option Description) (s : State) → (serves : Serves old table s) → (t : State) → Leads old table s serves t
+  pub covered : (table : ℕ → Option Description) (s : State) → (serves : HasState old table s) → (t : State) → Leads old table s serves t
       → OnOk result (IsCovered new table t)
-  pub refused : (table : ℕ → Option Description) (s : State) → Serves old table s → IfErr result (λ e. IsRefused e → Serves new table s)
+  pub refused : (table : ℕ → Option Description) (s : State) → HasState old table s → IfErr result (λ e. IsRefused e → HasState new table s)
   pub kept : IfErr result (λ e. IsRefused e → Goes Unchanged (meaning_of old) (meaning_of new))
   pub unlogged : LogsNothing (meaning_of old) (meaning_of new)
   pub generation : OnOk result (new.root.generation ≡ old.log.epoch)
   pub log : MatchResult result (λ _. new.log ≡ record old.log { epoch = old.log.epoch + 1; end = Unopened }) (λ _. new.log ≡ old.log)
   pub unchanged : OnOk result ((n : ℕ) → IsChanged new.inodes n → ⊥)
   pub full : IsErrOf result (NotPlanned NoSpace) → IsFull old × IsFull new
-  pub damaged : (table : ℕ → Option Description) (s : State) → Serves old table s → IsErrOf result (NotPlanned Damaged) → ⊥
-  pub last : (table : ℕ → Option Description) (s : State) → Serves old table s → IsErrOf result NoGeneration → 2 ^ 62 ≤ old.log.epoch
+  pub damaged : (table : ℕ → Option Description) (s : State) → HasState old table s → IsErrOf result (NotPlanned Damaged) → ⊥
+  pub last : (table : ℕ → Option Description) (s : State) → HasState old table s → IsErrOf result NoGeneration → 2 ^ 62 ≤ old.log.epoch

@@ -29,5 +29,5 @@ abbrev pub IsDevice : OpenError → Type 0
 IsDevice e = e ≡ Device
 
 -- it says nothing against the image
-abbrev pub IsOutside : OpenError → Type 0
-IsOutside e = (e ≡ NoMemory) ⊎ (e ≡ Device)
+abbrev pub SaysNothing : OpenError → Type 0
+SaysNothing e = (e ≡ NoMemory) ⊎ (e ≡ Device)

@@ -19,14 +19,14 @@ use Rattle.model.specs.Volumes.{Volume}
 use Rattle.oplog.specs.LogEnd.{next_of}
 use Rattle.system.specs.Counting.{Counted, call_failed}
 use Rattle.system.specs.Images.{OpensTo}
-use Rattle.system.specs.Systems.{Serves, meaning_of}
+use Rattle.system.specs.Systems.{HasState, meaning_of}
 use Rattle.system.specs.declared.error.CallError.{CallError}
 use Rattle.system.specs.declared.error.CallError.TheVariants.{Damaged, LogFull, NotWritten}
 use Rattle.system.specs.declared.system.System.{System}
 
 -- a system serves a state, with the descriptors that this has
 abbrev pub ServesState : {S : Type 0} {G : Ghosts S} → System S G → State → Type 0
-ServesState f s = Serves f s.tree.descriptors s
+ServesState f s = HasState f s.tree.descriptors s
 
 -- the command is a call on the tree, on a descriptor or on the tree of a snapshot, or lists the snapshots
 abbrev pub IsCall : Command → Type 0

@@ -44,8 +44,8 @@ pub record Parts : Type 0 where
   pub files : Descriptors
 
 -- those of a system
-abbrev pub parts_of : {S : Type 0} {G : Ghosts S} → System S G → Parts
-parts_of f = record {
+abbrev pub system_parts : {S : Type 0} {G : Ghosts S} → System S G → Parts
+system_parts f = record {
   kept = f.blocks.kept;
   root = f.root;
   slot = f.slot;
@@ -79,9 +79,9 @@ pub record IsServing (m : Meaning) (k : Parts) (table : ℕ → Option Descripti
   pub state : s ≡ state_with k.root.geometry.inodes running table snapshots
 
 -- a system serves a state
-abbrev pub Serves : {S : Type 0} {G : Ghosts S} → System S G → (ℕ → Option Description) → State
+abbrev pub HasState : {S : Type 0} {G : Ghosts S} → System S G → (ℕ → Option Description) → State
     → Type 0
-Serves f table s = IsServing (meaning_of f) (parts_of f) table s
+HasState f table s = IsServing (meaning_of f) (system_parts f) table s
 
 -- the same, with this running volume, and with these records beside the root
 pub record IsServingWith (m : Meaning) (k : Parts) (table : ℕ → Option Description) (s : State)
@@ -93,11 +93,11 @@ pub record IsServingWith (m : Meaning) (k : Parts) (table : ℕ → Option Descr
 abbrev pub ServesWith : {S : Type 0} {G : Ghosts S} → System S G → (ℕ → Option Description) → State
     → Volume → List Change → Type 0
 ServesWith f table s running changes =
-    IsServingWith (meaning_of f) (parts_of f) table s running changes
+    IsServingWith (meaning_of f) (system_parts f) table s running changes
 
 -- a system is covered: its root holds the running volume, and no record stands that this root doesn't cover
 pub record IsCovered {S : Type 0} {G : Ghosts S} (f : System S G) (table : ℕ → Option Description)
     (s : State) : Type 0 where
-  pub serves : Serves f table s
+  pub serves : HasState f table s
   pub no_record : serves.bodies ≡ no_bodies
   pub held : serves.first ≡ serves.running

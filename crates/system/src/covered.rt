@@ -6,7 +6,7 @@ ghost use Rattle.model.specs.States.{State};
 ghost use Rattle.model.specs.Trees.{Description};
 ghost use Rattle.system.specs.Room.{HasNothingNew};
 ghost use Rattle.system.specs.Serving.{HasEmptyLog};
-ghost use Rattle.system.specs.Systems.{Serves, IsCovered};
+ghost use Rattle.system.specs.Systems.{HasState, IsCovered};
 
 use crate::System;
 use crate::laws::new_roots_hold;
@@ -18,11 +18,11 @@ impl<S: Station> System<S> {
     /// is changed, and no record stands in the log that the root doesn't cover. It says so after each point.
     pub fn is_covered(&self) -> bool
         ensures told { IsTrue result ↔ HasNothingNew self.now }
-        ensures covers { (table : ℕ → Option Description) (s : State) → Serves self.now table s
+        ensures covers { (table : ℕ → Option Description) (s : State) → HasState self.now table s
             → IsTrue result → IsCovered self.now table s }
         ensures all { (table : ℕ → Option Description) (s : State)
-            → (serves : Serves self.now table s) → IsTrue result
-            → records.IsCovered serves.first serves.running serves.replayed.changes }
+            → (serves : HasState self.now table s) → IsTrue result
+            → records.CoversAll serves.first serves.running serves.replayed.changes }
     {
         new_roots_hold();
         unchanged_memory_is_settled();

@@ -6,7 +6,7 @@ ghost use Rattle.model.specs.States.{State};
 ghost use Rattle.model.specs.Trees.{Description};
 ghost use Rattle.system.specs.Images.{OpensTo};
 ghost use Rattle.system.specs.Laws.{CutLaws, RecordLaws, RootLaws};
-ghost use Rattle.system.specs.Systems.{Serves, meaning_of};
+ghost use Rattle.system.specs.Systems.{HasState, meaning_of};
 
 use crate::System;
 use conspoint::{
@@ -25,7 +25,7 @@ use station::Station;
 
 /// Whatever a cut may leave of a system opens to the state that it serves. It does nothing.
 pub fn served_states_open<S: Station>(system: &System<S>)
-    ensures { (table : ℕ → Option Description) (s : State) → Serves system.now table s
+    ensures { (table : ℕ → Option Description) (s : State) → HasState system.now table s
         → EachCut (meaning_of system.now) (OpensTo (meaning_of system.now) s) }
 {
     cuts_open();

@@ -9,12 +9,12 @@ ghost use Rattle.model.specs.States.{State};
 ghost use Rattle.model.specs.Trees.{Description};
 ghost use Rattle.model.specs.Volumes.{swept};
 ghost use Rattle.descriptors.specs.Tables.{table_of};
-ghost use Rattle.oplog.specs.LogEnd.{HasRoom, behind, body_of};
+ghost use Rattle.oplog.specs.LogEnd.{HasRoomInHalf, behind_record, logged_body};
 ghost use Rattle.system.specs.Images.{OpensTo};
 ghost use Rattle.records.specs.Prepared.{IsReady};
 ghost use Rattle.system.specs.Logging.{Advances, DoesOver, WouldServe};
 ghost use Rattle.system.specs.Serving.{LeavesEither};
-ghost use Rattle.system.specs.Systems.{Serves, ServesWith, meaning_of, parts_of, state_with};
+ghost use Rattle.system.specs.Systems.{HasState, ServesWith, meaning_of, system_parts, state_with};
 
 use crate::System;
 use crate::laws::{cuts_open, records_lead_on, served_states_open};
@@ -36,23 +36,23 @@ impl<S: Station> System<S> {
         ensures refused { IfErr result (λ e. e ≢ AppendError.Device
             → (self.new.blocks ≡ self.old.blocks) × (self.new.log ≡ self.old.log)) }
         ensures full { IsErrOf result AppendError.LogFull
-            → HasRoom self.old.log (length (body_of (change_of change.now))) → ⊥ }
+            → HasRoomInHalf self.old.log (length (logged_body (change_of change.now))) → ⊥ }
         ensures stopped { IsErrOf result AppendError.Device
             → self.new.log ≡ record self.old.log { is_stopped = true } }
         ensures end { OnOk result
-            (self.new.log ≡ behind self.old.log (body_of (change_of change.now))) }
-        ensures stays { (parts_of self.new
-            ≡ record (parts_of self.old) { log = self.new.log; pledged = self.new.pledged })
+            (self.new.log ≡ behind_record self.old.log (logged_body (change_of change.now))) }
+        ensures stays { (system_parts self.new
+            ≡ record (system_parts self.old) { log = self.new.log; pledged = self.new.pledged })
             × OnErr result (self.new.pledged ≡ self.old.pledged) }
         ensures any_moment { (table : ℕ → Option Description) (s : State)
-            → (serves : Serves self.old table s)
+            → (serves : HasState self.old table s)
             → Advances self.old.root.geometry.inodes serves.running table (change_of change.now)
             → LeavesOnly (meaning_of self.old) (meaning_of self.new)
             (λ c. OpensTo (meaning_of self.old) s c ⊎ OpensTo (meaning_of self.old)
             (state_with self.old.root.geometry.inodes
             (swept table (applied (change_of change.now) serves.running)) table serves.snapshots) c) }
         ensures logged { (table : ℕ → Option Description) (s : State)
-            → (serves : Serves self.old table s)
+            → (serves : HasState self.old table s)
             → Advances self.old.root.geometry.inodes serves.running table (change_of change.now)
             → OnOk result (WouldServe self.old self.new
             (swept table (applied (change_of change.now) serves.running))
@@ -85,24 +85,24 @@ impl<S: Station> System<S> {
             (λ e. (e ≡ AppendError.Device) × IsFalse self.old.log.is_stopped)
             (meaning_of self.old) (meaning_of self.new) result }
         ensures refused { IfErr result (λ e.
-            (parts_of self.new ≡ record (parts_of self.old) { log = self.new.log })
+            (system_parts self.new ≡ record (system_parts self.old) { log = self.new.log })
             × (e ≢ AppendError.Device
             → (self.new.blocks ≡ self.old.blocks) × (self.new.log ≡ self.old.log))) }
         ensures opened { (self.new.root ≡ self.old.root)
             × (table_of self.new.files ≡ table_of self.old.files) }
         ensures full { IsErrOf result AppendError.LogFull
             → (self.old.log.epoch ≢ self.old.root.generation + 1)
-            ⊎ (HasRoom self.old.log (length (body_of (change_of change.now))) → ⊥) }
+            ⊎ (HasRoomInHalf self.old.log (length (logged_body (change_of change.now))) → ⊥) }
         ensures log { (self.new.log.epoch ≡ self.old.log.epoch)
             × OnOk result (self.new.log.is_stopped ≡ self.old.log.is_stopped) }
         ensures any_moment { (table : ℕ → Option Description) (s : State)
-            → (serves : Serves self.old table s)
+            → (serves : HasState self.old table s)
             → Advances self.old.root.geometry.inodes serves.running table (change_of change.now)
             → LeavesEither (meaning_of self.old) (meaning_of self.new) s
             (state_with self.old.root.geometry.inodes
             (swept table (applied (change_of change.now) serves.running)) table serves.snapshots) }
         ensures done { (table : ℕ → Option Description) (s : State)
-            → (serves : Serves self.old table s)
+            → (serves : HasState self.old table s)
             → Advances self.old.root.geometry.inodes serves.running table (change_of change.now)
             → DoesOver self.old serves.running prepared (change_of change.now)
             → let after = swept table (applied (change_of change.now) serves.running) in

@@ -19,9 +19,9 @@ ghost use Rattle.buffers.specs.Reads.{ReadsBlocks};
 ghost use Rattle.loading.specs.Slots.{FitsStation, HasNoRoot};
 ghost use Rattle.oplog.specs.SavedLog.{TellsLog};
 ghost use Rattle.system.specs.Images.{OpensTo};
-ghost use Rattle.system.specs.Opening.{FitsRoot, HasFailed, HasImage, HasNewest, HoldsRecords, HoldsSome, IsFound, IsOf};
-ghost use Rattle.system.specs.Refusals.{IsDevice, IsOutside};
-ghost use Rattle.system.specs.Systems.{Serves, meaning_of, state_with};
+ghost use Rattle.system.specs.Opening.{MemoryFitsRoot, HasFailed, HasImage, HasNewest, HoldsRecords, HoldsSome, IsFound, IsOf};
+ghost use Rattle.system.specs.Refusals.{IsDevice, SaysNothing};
+ghost use Rattle.system.specs.Systems.{HasState, meaning_of, state_with};
 
 use crate::{OpenError, System};
 use blockmap::BlockMap;
@@ -73,7 +73,7 @@ fn find<S: Station>(alloc: Global, station: &mut S) -> Result<Found, OpenError>
         ((S.meaning station.old).seen.disk SLOT_B)
         → FitsStation r (S.meaning station.old)
         → LogHolds r.geometry.half r.generation (S.meaning station.old).seen.nvram bodies
-        → MatchResult result (λ f. f.newest.root ≡ r) IsOutside }
+        → MatchResult result (λ f. f.newest.root ≡ r) SaysNothing }
 {
     station.sync()?;
     let newest = newest_root(station)?;
@@ -94,14 +94,14 @@ fn read_image<B: Blocks>(
     requires half { saved.half ≡ root.now.geometry.half }
     requires generation { saved.generation ≡ root.now.generation }
     ensures reads { ReadsBlocks B.Blocks IsDevice blocks.old blocks.new result }
-    ensures fits { IfOk result (FitsRoot root.now) }
+    ensures fits { IfOk result (MemoryFitsRoot root.now) }
     ensures rooted { IsErrOf result OpenError.NoRoot → ⊥ }
     ensures log { (nvram : List ℕ) → TellsLog nvram saved
         → IfOk result (λ p. HoldsSome p.log root.now.generation nvram) }
     ensures has { (disk : Blocks) (nvram : List ℕ) (first last : Volume)
         (snapshots : List (Name × Tree)) (changes : List Change) → B.Shows blocks.old disk
         → TellsLog nvram saved → HoldsRecords disk root.now nvram first last snapshots changes
-        → MatchResult result (HasImage disk root.now nvram first last changes) IsOutside }
+        → MatchResult result (HasImage disk root.now nvram first last changes) SaysNothing }
 {
     volumes_are_readable();
     check_snapshots(blocks, root)?;
@@ -143,10 +143,10 @@ fn open_found<S: Station>(
         → (first last : Volume) (snapshots : List (Name × Tree)) (changes : List Change)
         → HoldsRecords (blocks_of (S.meaning station).seen.disk) found.newest.root
         (S.meaning station).seen.nvram first last snapshots changes
-        → MatchResult result (λ f. Serves f (λ d. None)
+        → MatchResult result (λ f. HasState f (λ d. None)
         (state_with found.newest.root.geometry.inodes (without_nameless last) (λ d. None)
         snapshots))
-        (λ e. IsOutside e.0) }
+        (λ e. SaysNothing e.0) }
 {
     mounts_find_volumes();
     replays_keep_volumes();
@@ -201,8 +201,8 @@ impl<S: Station> System<S> {
             (λ e. (e.0 ≡ OpenError.NoRoot) ⊎ (e.0 ≡ OpenError.Device)) }
         ensures opens { (S.meaning station).is_honest → (s : State)
             → OpensTo (S.meaning station) s (S.meaning station).seen
-            → MatchResult result (λ f. (t : State) × Forgets s t × Serves f (λ d. None) t)
-            (λ e. IsOutside e.0) }
+            → MatchResult result (λ f. (t : State) × Forgets s t × HasState f (λ d. None) t)
+            (λ e. SaysNothing e.0) }
     {
         match find(alloc, &mut station) {
             Ok(found) => open_found(alloc, station, found),

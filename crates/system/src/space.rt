@@ -8,7 +8,7 @@ ghost use Rattle.model.specs.States.{State};
 ghost use Rattle.model.specs.Trees.{Description};
 ghost use Rattle.images.specs.Roots.{whole};
 ghost use Rattle.system.specs.Room.{free_under};
-ghost use Rattle.system.specs.Systems.{Serves, meaning_of};
+ghost use Rattle.system.specs.Systems.{HasState, meaning_of};
 
 use crate::System;
 use station::Station;
@@ -28,14 +28,14 @@ impl<S: Station> System<S> {
     /// The room of the disk, with no device call.
     pub fn space(&self) -> Space
         ensures blocks { result.blocks ≡ self.now.root.geometry.blocks }
-        ensures free { (table : ℕ → Option Description) (s : State) → Serves self.now table s
+        ensures free { (table : ℕ → Option Description) (s : State) → HasState self.now table s
             → let disk = blocks_of (meaning_of self.now).seen.disk in
             result.free
             ≡ free_under (whole disk self.now.root).active self.now.root.geometry.blocks }
         ensures told { (table : ℕ → Option Description) (s : State)
-            → (serves : Serves self.now table s) → (covered : Bool)
+            → (serves : HasState self.now table s) → (covered : Bool)
             → (IsTrue covered
-            → records.IsCovered serves.first serves.running serves.replayed.changes)
+            → records.CoversAll serves.first serves.running serves.replayed.changes)
             → TellsRoom self.now.root.geometry.inodes serves.first serves.running
             serves.replayed.changes (record {
               blocks = result.blocks;

@@ -5,7 +5,7 @@ ghost use Rattle.model.specs.Volumes.{IsMounted, Volume};
 ghost use Rattle.descriptors.specs.Fits.{FitsVolume};
 ghost use Rattle.descriptors.specs.Tables.{table_of};
 ghost use Rattle.records.specs.Opened.{HasNumbers};
-ghost use Rattle.system.specs.OpenFiles.{CanMove, FitsMove, IsNumbered, moved_table};
+ghost use Rattle.system.specs.OpenFiles.{CanMove, FitsMove, OpensNumber, moved_table};
 
 use descriptors::{Descriptors, OpenFile, tables_follow_volumes};
 
@@ -29,7 +29,7 @@ impl TableMove {
             → FitsVolume files.new v }
         ensures mounted { (v : Volume) → FitsVolume files.old v → IsMounted v (table_of files.old)
             → FitsMove v self → IsMounted v (table_of files.new) }
-        ensures numbers { (n : ℕ) → HasNumbers n files.old → IsNumbered n self
+        ensures numbers { (n : ℕ) → HasNumbers n files.old → OpensNumber n self
             → HasNumbers n files.new }
     {
         match self {

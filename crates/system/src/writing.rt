@@ -5,7 +5,7 @@ ghost use Rattle.station.specs.Moments.{After, EachCut, LeavesJust, LeavesOnly};
 ghost use Rattle.station.specs.Calls.{OnlyWrites};
 ghost use Rattle.layout.specs.Root.{IsRoot};
 ghost use Rattle.buffers.specs.Disks.{ShowsDisk, disk_with_sector};
-ghost use Rattle.loading.specs.Images.{IsFileOf};
+ghost use Rattle.loading.specs.Images.{IsFileOfInode};
 ghost use Rattle.conspoint.specs.Plans.{FitsDisk};
 ghost use Rattle.conspoint.specs.Cuts.{StaysOutside, HasNewRoot, disk_with_blocks};
 ghost use Rattle.system.specs.Errors.{IsNotWritten, IsRefused};
@@ -44,7 +44,7 @@ pub(crate) fn carry_out<S: Station>(
         → OnOk result (ShowsDisk (S.meaning buffers.new.station) buffers.new.kept
         (disk_with_sector point.plan.slot point.plan.root
         (disk_with_blocks point.plan.blocks disk))) }
-    ensures root { IfOk result (λ r. (r.0 ≡ point.root) × IsFileOf point.root.inode_file r.1) }
+    ensures root { IfOk result (λ r. (r.0 ≡ point.root) × IsFileOfInode point.root.inode_file r.1) }
 {
     let Point { plan, root } = point;
     let Ok(file) = File::load(alloc, root.inode_file) else {

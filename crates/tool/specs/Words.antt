@@ -9,16 +9,16 @@ use Rattle.command_line.specs.declared.line.Kept.TheVariants as kept
 use Rattle.command_line.specs.declared.line.RunFaults.{RunFaults}
 
 -- what a cut keeps is what its word says: of a text of 0 and 1, a write where its character is 1 (49)
-abbrev pub Keeps : Kept → Keep → Type 0
-Keeps kept.Nothing keep.Nothing = Unit {0}
-Keeps kept.Everything keep.Everything = Unit {0}
-Keeps (kept.Bits text) (keep.Bits bits) = bits.items ≡ map (λ byte. byte == 49) text.now
-Keeps _ _ = ⊥
+abbrev pub KeepsAsTold : Kept → Keep → Type 0
+KeepsAsTold kept.Nothing keep.Nothing = Unit {0}
+KeepsAsTold kept.Everything keep.Everything = Unit {0}
+KeepsAsTold (kept.Bits text) (keep.Bits bits) = bits.items ≡ map (λ byte. byte == 49) text.now
+KeepsAsTold _ _ = ⊥
 
 -- the power of a station is to be cut within this write, as the program's words say
 pub record IsCutAt (write : ℕ) (f : RunFaults) (sim : Sim) : Type 0 where
   pub write_is : (plan_of sim).cut_write ≡ Some write
-  pub keep : Keeps f.keep (plan_of sim).keep
+  pub keep : KeepsAsTold f.keep (plan_of sim).keep
   pub bytes_are : (plan_of sim).kept_bytes ≡ f.bytes
 
 -- so it is where the words name a write, and else it isn't to be cut

@@ -12,14 +12,13 @@ ghost use Rattle.calls.specs.Changing.{Comes, Decides};
 ghost use Rattle.calls.specs.Leading.{LeadsTo};
 ghost use Rattle.calls.specs.Preparing.{Prepares};
 
-use crate::finding::find;
 use crate::leading::find_object;
 use crate::{Changing, EntryName, OwnedChange};
 use buffers::Blocks;
 use inofile::InodeFile;
 use layout::InodeNumber;
 use model::{Errno, records_change_trees, volumes_are_trees, volumes_tell_links};
-use paths::{Found, Parts, Place, refusal_of_new_text, refusal_of_text};
+use paths::{Found, Parts, Place, refusal_of_new_text, refusal_of_text, resolve};
 use records::{Failure, kind_at, prepare_link};
 use std::alloc::Global;
 
@@ -92,7 +91,7 @@ fn link_file<B: Blocks>(
     volumes_are_trees();
     volumes_tell_links();
     records_change_trees();
-    let place = find(alloc, inodes, blocks, parts, false)?;
+    let place = resolve(alloc, inodes, blocks, parts, false)?;
     match place {
         Place::Gap { trail, name } => {
             return link_in(alloc, inodes, blocks, trail.here(), name, number);

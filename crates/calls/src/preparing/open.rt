@@ -8,10 +8,9 @@ ghost use Rattle.model.specs.Volumes.{object_of, tree_of};
 ghost use Rattle.paths.specs.Numbers.{IsNumber};
 ghost use Rattle.paths.specs.Steps.{found_in};
 ghost use Rattle.paths.specs.declared.lookup.Found.TheVariants as found;
-ghost use Rattle.calls.specs.Open.{KeepsBounds, OpensAt, OpensNew, opens_along};
+ghost use Rattle.calls.specs.Open.{KeepsOpenedBounds, OpensAt, OpensNew, opens_along};
 ghost use Rattle.calls.specs.Preparing.{PreparesOpening};
 
-use crate::finding::find;
 use crate::making::make_in;
 use crate::{Changing, OwnedObject, cut_file, stat_number};
 use buffers::Blocks;
@@ -20,7 +19,7 @@ use layout::InodeNumber;
 use model::{
     Errno, Flags, Kind, Mode, records_change_trees, volumes_are_trees, volumes_tell_fresh_numbers,
 };
-use paths::{Parts, Place};
+use paths::{Parts, Place, resolve};
 use records::Failure;
 use std::alloc::Global;
 
@@ -52,7 +51,7 @@ pub fn open_along<B: Blocks>(
 ) -> Result<Opened, Failure>
     requires parts { parts ≡ parts_of path.now }
     requires passed { first_refusal (text_tests path.now) ≡ None }
-    ensures within { IfOk result (KeepsBounds inodes.old.geometry.inodes) }
+    ensures within { IfOk result (KeepsOpenedBounds inodes.old.geometry.inodes) }
     ensures opens { PreparesOpening B.Blocks blocks.old blocks.new inodes.old inodes.new
         (λ inodes v table. OpensAt (opens_along inodes (tree_of v table) path.now flags mode) inodes
         flags v table) result }
@@ -60,7 +59,7 @@ pub fn open_along<B: Blocks>(
     volumes_are_trees();
     volumes_tell_fresh_numbers();
     records_change_trees();
-    let place = find(alloc, inodes, blocks, parts, !wants_new(flags))?;
+    let place = resolve(alloc, inodes, blocks, parts, !wants_new(flags))?;
     match place {
         Place::Gap { trail, name } => {
             open_new(alloc, inodes, blocks, trail.here(), name, flags, mode)
@@ -91,7 +90,7 @@ fn open_object<B: Blocks>(
     flags: Flags,
 ) -> Result<Opened, Failure>
     requires number { IsNumber inodes.old.geometry.inodes number }
-    ensures within { IfOk result (KeepsBounds inodes.old.geometry.inodes) }
+    ensures within { IfOk result (KeepsOpenedBounds inodes.old.geometry.inodes) }
     ensures opens { PreparesOpening B.Blocks blocks.old blocks.new inodes.old inodes.new
         (λ inodes v table r. (o : trees.Object) → object_of number (v number) ≡ Some o → (IsTrue
         (not (flags.creates && flags.exclusive)) → found_in (v number) ≢ found.Link) → OpensAt
@@ -131,7 +130,7 @@ fn open_new<B: Blocks>(
     flags: Flags,
     mode: Mode,
 ) -> Result<Opened, Failure>
-    ensures within { IfOk result (KeepsBounds inodes.old.geometry.inodes) }
+    ensures within { IfOk result (KeepsOpenedBounds inodes.old.geometry.inodes) }
     ensures opens { PreparesOpening B.Blocks blocks.old blocks.new inodes.old inodes.new
         (λ inodes v table. OpensNew inodes v flags mode parent name.items) result }
 {

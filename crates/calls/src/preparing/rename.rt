@@ -9,10 +9,10 @@ ghost use Rattle.model.specs.Volumes.{tree_of};
 ghost use Rattle.paths.specs.Numbers.{AreNumbers, IsNumber};
 ghost use Rattle.calls.specs.Changing.{ComesOrStays};
 ghost use Rattle.calls.specs.Rename.{MovesAlong, MovesName, PassTests};
-ghost use Rattle.records.specs.Moving.{IsOutside};
+ghost use Rattle.records.specs.Moving.{LiesOutside};
 ghost use Rattle.calls.specs.Preparing.{PreparesAny};
 
-use crate::finding::{find, is_root};
+use crate::root::is_root;
 use crate::{Changing, EntryName, OwnedChange};
 use buffers::Blocks;
 use inofile::InodeFile;
@@ -21,7 +21,7 @@ use model::{
     Errno, numbers_tell_what_lies_below, records_change_trees, trails_tell_what_lies_below,
     volumes_are_trees,
 };
-use paths::{Parts, Place, Trail, refusal_of_new_text};
+use paths::{Parts, Place, Trail, refusal_of_new_text, resolve};
 use records::{Failure, prepare_move};
 use std::alloc::Global;
 
@@ -74,7 +74,7 @@ fn rename_along<B: Blocks>(
         result }
 {
     volumes_are_trees();
-    let place = find(alloc, inodes, blocks, from, false)?;
+    let place = resolve(alloc, inodes, blocks, from, false)?;
     match place {
         Place::Entry {
             trail,
@@ -118,7 +118,7 @@ fn rename_found<B: Blocks>(
     numbers_tell_what_lies_below();
     trails_tell_what_lies_below();
     let parent = trail.here();
-    let place = find(alloc, inodes, blocks, to, false)?;
+    let place = resolve(alloc, inodes, blocks, to, false)?;
     match place {
         Place::Entry {
             trail: above,
@@ -182,7 +182,7 @@ fn record_move<B: Blocks>(
     requires parent { IsNumber inodes.old.geometry.inodes parent }
     requires new_parent { IsNumber inodes.old.geometry.inodes new_parent }
     ensures { PreparesAny B.Blocks blocks.old blocks.new inodes.old inodes.new
-        (λ inodes v table r. IsOutside v parent name.items new_parent → MovesName inodes v parent
+        (λ inodes v table r. LiesOutside v parent name.items new_parent → MovesName inodes v parent
         name.items new_parent new_name.items r) result }
 {
     let Some(name) = EntryName::new(name) else {

@@ -8,13 +8,13 @@ ghost use Rattle.calls.specs.Preparing.{Prepares};
 ghost use Rattle.calls.specs.Rmdir.{RemovesDirectory};
 
 use crate::Changing;
-use crate::finding::{find, is_root};
 use crate::preparing::unlink::remove_name;
+use crate::root::is_root;
 use buffers::Blocks;
 use inofile::InodeFile;
 use layout::InodeNumber;
 use model::{Errno, records_change_trees, volumes_are_trees};
-use paths::{Found, Parts, Place, refusal_of_new_text};
+use paths::{Found, Parts, Place, refusal_of_new_text, resolve};
 use records::{Failure, kind_at};
 use std::alloc::Global;
 
@@ -38,7 +38,7 @@ pub fn remove_directory<B: Blocks>(
     if is_root(path) {
         return Err(Failure::Refused(Errno::EBUSY));
     }
-    let place = find(alloc, inodes, blocks, parts, false)?;
+    let place = resolve(alloc, inodes, blocks, parts, false)?;
     match place {
         Place::Entry {
             trail,

@@ -82,7 +82,7 @@ fn truncate_along<B: Blocks>(
 }
 
 /// Gives a size to the file with a number, as far as nothing of it is seen yet: prepares its record; none where the file has the
-/// size. NoMemory; Device where a read failed; Damaged where a block on the way is outside its format.
+/// size; EFBIG where it is no file. NoMemory; Device where a read failed; Damaged where a block on the way is outside its format.
 pub fn cut_file<B: Blocks>(
     alloc: Global,
     inodes: &mut InodeFile,

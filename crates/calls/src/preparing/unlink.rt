@@ -8,13 +8,12 @@ ghost use Rattle.calls.specs.Changing.{ComesSwept, Decides};
 ghost use Rattle.calls.specs.Preparing.{Prepares};
 ghost use Rattle.calls.specs.Unlink.{UnlinksEntry};
 
-use crate::finding::find;
 use crate::{Changing, EntryName, OwnedChange};
 use buffers::Blocks;
 use inofile::InodeFile;
 use layout::InodeNumber;
 use model::{Errno, records_change_trees, volumes_are_trees};
-use paths::{Found, Parts, Place, refusal_of_new_text};
+use paths::{Found, Parts, Place, refusal_of_new_text, resolve};
 use records::{Failure, kind_at, prepare_unname};
 use std::alloc::Global;
 
@@ -36,7 +35,7 @@ pub fn unlink<B: Blocks>(
     if let Some(errno) = refusal_of_new_text(path, &parts) {
         return Err(Failure::Refused(errno));
     }
-    let place = find(alloc, inodes, blocks, parts, false)?;
+    let place = resolve(alloc, inodes, blocks, parts, false)?;
     match place {
         Place::Entry {
             trail,

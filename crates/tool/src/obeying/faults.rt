@@ -1,7 +1,7 @@
 //! What is to go wrong in a run.
 
 ghost use Rattle.std.specs.Prelude.{◌≡◌, IfOk};
-ghost use Rattle.tool.specs.Words.{IsToFail, Keeps};
+ghost use Rattle.tool.specs.Words.{IsToFail, KeepsAsTold};
 
 use super::Image;
 use command_line::{Kept, RunFaults};
@@ -29,7 +29,7 @@ pub(super) fn failing_station<'a>(
 
 /// Which writes a cut keeps, by the word for it.
 fn keep_of(alloc: Global, kept: Kept<'_>) -> Result<Keep, AllocError>
-    ensures { IfOk result (Keeps kept.entry) }
+    ensures { IfOk result (KeepsAsTold kept.entry) }
 {
     match kept {
         Kept::Nothing => Ok(Keep::Nothing),

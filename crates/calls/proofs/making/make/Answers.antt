@@ -9,7 +9,7 @@ use Rattle.calls.proofs.RefusalLaws.{new_text_own, walk_refusal}
 use Rattle.model.specs.Finding.{IsPlaceOf}
 use Rattle.model.specs.Resolution.{resolve}
 use Rattle.model.specs.Volumes.{tree_of}
-use Rattle.paths.specs.Places.{place_of, IsPlaceWithin}
+use Rattle.paths.specs.Places.{model_place_of, IsPlaceWithin}
 use Rattle.calls.specs.Making.{MakesIn}
 use Rattle.calls.proofs.making.make.Goals as goal
 
@@ -27,21 +27,21 @@ returns-in-Refusal g c = refuses c.in_ok-place.ensures.looks
     (walk_refusal c.in-Refusal.errno (subst (IsPlaceWithin c.args.inodes.now.geometry.inodes) c.in-Refusal.is c.in_ok-place.ensures.within)) (λ disk settled v table stands volume mounted.
     let passed : first_refusal (new_text_tests c.args.path.now) ≡ None = search rules in
     let inodes = c.args.inodes.now.geometry.inodes in
-    let at = subst (λ p. IsPlaceOf v (place_of p) (resolve (tree_of v table) false c.args.path.now)) c.in-Refusal.is (c.in_ok-place.ensures.found disk settled v table c.args.path.now stands volume (search rules)) in
+    let at = subst (λ p. IsPlaceOf v (model_place_of p) (resolve (tree_of v table) false c.args.path.now)) c.in-Refusal.is (c.in_ok-place.ensures.found disk settled v table c.args.path.now stands volume (search rules)) in
     path_refused inodes v table volume mounted (c.volumes_are_trees.ensures inodes v table volume mounted) c.args.path.now (made_by c.args.object) passed c.in-Refusal.errno at)
 
 pub returns-in-Directory : goal.returns-in-Directory
 returns-in-Directory g c = refuses c.in_ok-place.ensures.looks refl (λ disk settled v table stands volume mounted.
     let passed : first_refusal (new_text_tests c.args.path.now) ≡ None = search rules in
     let inodes = c.args.inodes.now.geometry.inodes in
-    let at = subst (λ p. IsPlaceOf v (place_of p) (resolve (tree_of v table) false c.args.path.now)) c.in-Directory.is (c.in_ok-place.ensures.found disk settled v table c.args.path.now stands volume (search rules)) in
+    let at = subst (λ p. IsPlaceOf v (model_place_of p) (resolve (tree_of v table) false c.args.path.now)) c.in-Directory.is (c.in_ok-place.ensures.found disk settled v table c.args.path.now stands volume (search rules)) in
     directory_there inodes v table volume mounted (c.volumes_are_trees.ensures inodes v table volume mounted) c.args.path.now (made_by c.args.object) passed c.in-Directory._trail at)
 
 pub returns-in-Entry : goal.returns-in-Entry
 returns-in-Entry g c = refuses c.in_ok-place.ensures.looks refl (λ disk settled v table stands volume mounted.
     let passed : first_refusal (new_text_tests c.args.path.now) ≡ None = search rules in
     let inodes = c.args.inodes.now.geometry.inodes in
-    let at = subst (λ p. IsPlaceOf v (place_of p) (resolve (tree_of v table) false c.args.path.now)) c.in-Entry.is (c.in_ok-place.ensures.found disk settled v table c.args.path.now stands volume (search rules)) in
+    let at = subst (λ p. IsPlaceOf v (model_place_of p) (resolve (tree_of v table) false c.args.path.now)) c.in-Entry.is (c.in_ok-place.ensures.found disk settled v table c.args.path.now stands volume (search rules)) in
     entry_there inodes v table volume mounted (c.volumes_are_trees.ensures inodes v table volume mounted) c.args.path.now (made_by c.args.object) passed
     c.in-Entry._trail c.in-Entry._name.items c.in-Entry._number at)
 
@@ -51,6 +51,6 @@ returns g c = follows c.in_ok-place.ensures.looks c.make_in.ensures.prepares (λ
     let inodes = c.args.inodes.now.geometry.inodes in
     let made = made_by c.args.object in
     let name = c.in-Gap.name.items in
-    let at = subst (λ p. IsPlaceOf v (place_of p) (resolve (tree_of v table) false c.args.path.now)) c.in-Gap.is (c.in_ok-place.ensures.found disk settled v table c.args.path.now stands volume (search rules)) in
+    let at = subst (λ p. IsPlaceOf v (model_place_of p) (resolve (tree_of v table) false c.args.path.now)) c.in-Gap.is (c.in_ok-place.ensures.found disk settled v table c.args.path.now stands volume (search rules)) in
     gap_comes inodes v table volume mounted (c.volumes_are_trees.ensures inodes v table volume mounted) c.args.path.now made passed c.in-Gap.trail name at
     c.volumes_tell_fresh_numbers.ensures c.records_change_trees.ensures r (subst (λ (d : ℕ). MakesIn inodes v d name made r) c.here.ensures makes))

@@ -1,4 +1,4 @@
-use Rattle.std.proofs.Common.{rules, ◌≡◌, ◌∙◌, ℕ, List, Some, Err, IfErr, IfOk, inl, refl, sym, ap, subst}
+use Rattle.std.proofs.Common.{rules, ◌∙◌, ℕ, List, Some, Err, IfErr, IfOk, inl, refl, sym, ap, subst}
 use Rattle.std.proofs.lemmas.Bool.{false≢true}
 use Rattle.layout.specs.Limits.{Sizes}
 use Rattle.model.specs.Records.{Made, IsMade, TakesName, create, is_vacant, node_of}

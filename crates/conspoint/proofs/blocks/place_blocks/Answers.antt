@@ -1,19 +1,18 @@
-use Rattle.std.proofs.Common.{◌≡◌, ◌≢◌, inl, inr, ℕ, ◌+◌, ◌<◌, ◌≤◌, Ok, ap, sym, subst, ◌∙◌, arith, rules}
+use Rattle.std.proofs.Common.{◌≡◌, ◌≢◌, inl, inr, ◌+◌, ◌<◌, ◌≤◌, ap, sym, ◌∙◌, arith, rules}
 use Rattle.std.specs.Prelude.{min}
 use Rattle.std.proofs.lemmas.Bool.{cases_lt}
 use Rattle.layout.specs.Places.{pointed}
-use Rattle.layout.specs.declared.pointer.Pointer.{Pointer}
 use Rattle.layout.specs.declared.pointer.Pointer.TheVariants.{Hole, Block}
 use Rattle.layout.proofs.PointerLaws.{hole_block}
+use Rattle.images.proofs.SumLaws.{sums_rise}
 use Rattle.blocktree.specs.PlaceMaps.{place_at}
 use Rattle.blocktree.specs.Trees.{IsChanged}
 use Rattle.conspoint.specs.Blocks.{changed_or}
 use Rattle.conspoint.specs.Space.{block_stores, changed_blocks}
-use Rattle.conspoint.specs.Steps.{Places}
 use Rattle.conspoint.proofs.BlockLemmas.{changed_block, unchanged_block}
 use Rattle.conspoint.proofs.StepLemmas.{places_err, places_none, places_ok, places_out, places_rise, places_then}
 use Rattle.conspoint.proofs.GroupLemmas.{placed_more, placed_same}
-use Rattle.conspoint.proofs.SumLemmas.{is_in_sum, one_more, sums_rise, added_one}
+use Rattle.conspoint.proofs.SumLemmas.{added_one}
 use Rattle.blocktree.proofs.PlaceMapLaws.{changed_all}
 use Rattle.conspoint.proofs.blocks.place_blocks.Goals as goal
 

@@ -1,7 +1,7 @@
 use Rattle.std.proofs.Common.{◌≡◌, ℕ, ◌+◌, ◌-◌, ◌≤◌, length}
 use Rattle.conspoint.specs.Drafts.{Grows, IsReserved, WasTaken}
 use Rattle.blockmap.specs.Maps.{entry_at}
-use Rattle.conspoint.specs.Closures.{IsClosed}
+use Rattle.conspoint.specs.Closures.{IsClosedOver}
 use Rattle.layout.specs.declared.pointer.Pointer.TheVariants.{Block}
 use Rattle.conspoint.specs.Groups.{pointer_at}
 use Rattle.blockmap.specs.Space.{left}
@@ -16,7 +16,7 @@ invariant-loop-k l = record {
   entries : (b : ℕ) → entry_at l.draft.map.parts.items b ≡ entry_at l.fn.draft.map.parts.items b;
   others : (p : ℕ) → IsReserved l.fn.draft p → IsReserved l.draft p;
   taken : (k b : ℕ) → pointer_at l.places k ≡ Block b → WasTaken l.fn.draft l.draft b;
-  closed : IsClosed l.draft l.settled l.places;
+  closed : IsClosedOver l.draft l.settled l.places;
 }
 
 abbrev pub decreases-loop-k : goal.decreases-loop-k

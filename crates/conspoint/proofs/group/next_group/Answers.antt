@@ -1,4 +1,4 @@
-use Rattle.std.proofs.Common.{ℕ, ◌+◌, ◌*◌, ◌/◌, ◌<◌, arith, rules}
+use Rattle.std.proofs.Common.{◌+◌, ◌*◌, arith}
 use Rattle.conspoint.proofs.group.next_group.Goals as goal
 
 pub returns-in-Some-clause-found : goal.returns-in-Some-clause-found

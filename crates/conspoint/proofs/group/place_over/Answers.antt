@@ -1,16 +1,16 @@
-use Rattle.std.proofs.Common.{◌≡◌, inl, inr, ℕ, ◌+◌, ◌<◌, ◌≤◌, List, length, refl, sym, subst, ◌∙◌, arith, rules}
+use Rattle.std.proofs.Common.{◌≡◌, inl, inr, ◌+◌, ◌≤◌, sym, subst, arith}
 use Rattle.std.proofs.lemmas.Bool.{cases_lt}
 use Rattle.std.proofs.lemmas.List.Elements.{All-from_get_or}
 use Rattle.layout.specs.Pointer.{PointsBelow}
 use Rattle.layout.specs.declared.geometry.TheConstants.{MOST_BLOCKS}
 use Rattle.layout.specs.declared.pointer.Pointer.{Pointer}
 use Rattle.layout.specs.declared.pointer.Pointer.TheVariants.{Hole}
+use Rattle.images.proofs.SumLaws.{sums_rise}
 use Rattle.blocktree.specs.PlaceMaps.{place_at}
 use Rattle.blocktree.proofs.PlaceMapLaws.{changed_all}
 use Rattle.conspoint.specs.Groups.{pointer_at, group, IsGroup, ComesFrom}
 use Rattle.conspoint.proofs.StepLemmas.{group_more, over_of, places_err, places_none, places_ok, places_out, places_rise}
 use Rattle.conspoint.proofs.GroupLemmas.{groups_more, placed_more, placed_none, same_group, same_none}
-use Rattle.conspoint.proofs.SumLemmas.{sums_rise}
 use Rattle.conspoint.proofs.group.place_over.Goals as goal
 
 pub place_group-requires : goal.place_group-requires

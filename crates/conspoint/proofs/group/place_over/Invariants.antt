@@ -1,8 +1,9 @@
 use Rattle.std.proofs.Common.{ℕ, ◌-◌, ◌<◌, ◌≤◌, Ok}
+use Rattle.images.specs.Sums.{sum_below}
 use Rattle.blocktree.specs.PlaceMaps.{EndBefore, place_at}
 use Rattle.conspoint.specs.Drafts.{OnEach}
 use Rattle.conspoint.specs.Groups.{group, IsGroup, ArePlaced}
-use Rattle.conspoint.specs.Space.{CountsGroups, sum_below}
+use Rattle.conspoint.specs.Space.{CountsGroups}
 use Rattle.conspoint.specs.Steps.{Places}
 use Rattle.conspoint.proofs.group.place_over.Given as goal
 

@@ -4,7 +4,7 @@ use Rattle.layout.specs.Directory.{HoldsEntries}
 use Rattle.inode.specs.Files.{file_block}
 use Rattle.layout.specs.DirectoryNames.{number_of}
 use Rattle.dirs.specs.Directory.{first_entries}
-use Rattle.dirs.specs.Listings.{lists}
+use Rattle.dirs.specs.Listings.{lists_name}
 use Rattle.dirs.proofs.ListingLaws.{stands-append, or_comm, listing}
 use Rattle.dirs.proofs.directory.list.Goals as goal
 
@@ -37,7 +37,7 @@ loop-i-preserved g c =
           let now = so_far.read.same disk shows in
           let bytes = c.bytes.ensures disk (located.reads.same disk now) (located.found disk now) in
           let here = c.in_ok-add_names.ensures.names (entries i) (subst (λ b. HoldsEntries c.args.inodes b (entries i)) (sym bytes) (holds i below)) name in
-          subst (λ k. lists (map (λ n. n.items) c.add_names.new.names.keys) name ≡ is_some (number_of name (first_entries entries k))) (sym (add-one i))
+          subst (λ k. lists_name (map (λ n. n.items) c.add_names.new.names.keys) name ≡ is_some (number_of name (first_entries entries k))) (sym (add-one i))
           (here ∙ ap (λ l. l || is_some (number_of name (entries i))) (so_far.lists disk entries shows holds name)
           ∙ or_comm (is_some (number_of name (first_entries entries i))) (is_some (number_of name (entries i)))
           ∙ sym (stands-append name (entries i) (first_entries entries i)));
@@ -48,5 +48,5 @@ returns-clause-listed g c = λ disk names shows is.
     let end : c.size.result / 4096 ≡ c.args.file.now.size / 4096 = ap (λ s. s / 4096) c.size.ensures.value in
     let all : c.loop-i.i ≡ c.args.file.now.size / 4096 = omega (arith, end) in
     listing c.args.inodes (c.args.file.now.size / 4096) (file_block disk c.args.file.now) names c.in_ok-in_order.field-0 is c.in_ok-in_order.ensures.sorted
-    (λ name. ap (λ l. lists l name) c.in_ok-in_order.ensures.same ∙ c.loop-i.invariant.lists disk is.entries shows is.holds name
+    (λ name. ap (λ l. lists_name l name) c.in_ok-in_order.ensures.same ∙ c.loop-i.invariant.lists disk is.entries shows is.holds name
     ∙ ap (λ k. is_some (number_of name (first_entries is.entries k))) all)

@@ -5,7 +5,7 @@ use Rattle.inode.specs.Files.{file_block}
 use Rattle.model.specs.Paths.{Name}
 use Rattle.layout.specs.DirectoryNames.{number_of, AllHold}
 use Rattle.dirs.specs.Directory.{first_entries}
-use Rattle.dirs.specs.Listings.{lists}
+use Rattle.dirs.specs.Listings.{lists_name}
 use Rattle.dirs.proofs.directory.list.Given as goal
 
 abbrev pub invariant-loop-i : goal.invariant-loop-i
@@ -14,5 +14,5 @@ invariant-loop-i g l = record {
   sound : (disk : ℕ → List ℕ) → g.B.Blocks.Shows l.initial.blocks disk → (j : ℕ) → j < l.i → (entries : List Named) × HoldsEntries l.inodes (file_block disk l.file j) entries;
   lists : (disk : ℕ → List ℕ) (entries : ℕ → List Named) → g.B.Blocks.Shows l.initial.blocks disk
       → AllHold l.inodes (l.file.size / 4096) (file_block disk l.file) entries → (name : Name)
-      → lists (map (λ n. n.items) l.names.keys) name ≡ is_some (number_of name (first_entries entries l.i));
+      → lists_name (map (λ n. n.items) l.names.keys) name ≡ is_some (number_of name (first_entries entries l.i));
 }

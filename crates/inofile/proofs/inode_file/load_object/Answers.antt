@@ -1,4 +1,8 @@
 use Rattle.std.proofs.Common.{sym}
+use Rattle.layout.specs.Inode.{IsInode}
+use Rattle.layout.specs.Limits.{Sizes}
+use Rattle.layout.specs.declared.version.TheConstants.{VERSION}
+use Rattle.inofile.specs.Objects.{IsUntouched}
 use Rattle.inofile.proofs.ObjectLaws.{IsLoaded, free_is, free_stands, free_content, held_inode, loaded_content, loaded_object, loaded_settled, loaded_untouched}
 use Rattle.inofile.proofs.inode_file.load_object.Goals as goal
 
@@ -19,16 +23,21 @@ loaded c = record {
   used = c.in_default.not-Free;
 }
 
+untouched : (c : goal.In_ok-object-in_default) (s : Sizes) → IsInode VERSION s c.args.inode → IsUntouched c.in_ok-object-in_default.object
+untouched c s is = loaded_untouched s c.args.inode c.in_ok-object-in_default.object is c.in_ok-object-in_default.ensures.size c.in_ok-object-in_default.ensures.settled c.in_ok-object-in_default.ensures.unchanged
+
 pub returns-in_ok-object-in_default-clause-content : goal.returns-in_ok-object-in_default-clause-content
 returns-in_ok-object-in_default-clause-content c = λ s disk sound. loaded_settled disk c.args.inode c.in_ok-object-in_default.object (loaded c) (c.in_ok-object-in_default.ensures.held s disk sound)
 
 pub returns-in_ok-object-in_default-clause-as_settled : goal.returns-in_ok-object-in_default-clause-as_settled
-returns-in_ok-object-in_default-clause-as_settled c = λ s disk sound. loaded_content disk c.args.inode c.in_ok-object-in_default.object (loaded c) (c.in_ok-object-in_default.ensures.held s disk sound)
+returns-in_ok-object-in_default-clause-as_settled c = λ s disk sound. (
+  loaded_content disk c.args.inode c.in_ok-object-in_default.object (loaded c) (c.in_ok-object-in_default.ensures.held s disk sound),
+  untouched c s (held_inode s disk c.args.inode sound),
+)
 
 pub returns-in_ok-object-in_default-clause-stands : goal.returns-in_ok-object-in_default-clause-stands
 returns-in_ok-object-in_default-clause-stands c = λ s disk inodes found sound ordinary stands.
     loaded_object disk inodes s c.args.inode c.in_ok-object-in_default.object found (held_inode s disk c.args.inode sound) (loaded c) (c.in_ok-object-in_default.ensures.held s disk sound) (c.in_ok-object-in_default.ensures.ends s disk sound) ordinary stands
 
 pub returns-in_ok-object-in_default-clause-untouched : goal.returns-in_ok-object-in_default-clause-untouched
-returns-in_ok-object-in_default-clause-untouched c = λ s is.
-    loaded_untouched s c.args.inode c.in_ok-object-in_default.object is c.in_ok-object-in_default.ensures.size c.in_ok-object-in_default.ensures.settled c.in_ok-object-in_default.ensures.unchanged
+returns-in_ok-object-in_default-clause-untouched c = untouched c

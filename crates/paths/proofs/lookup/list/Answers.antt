@@ -1,6 +1,6 @@
 use Rattle.std.proofs.Common.{rules, ◌≡◌, ◌≢◌, ◌∙◌, ◌/◌, IfOk, sym, ap, subst}
 use Rattle.dirs.specs.Directory.{AreDirectoryBlocks}
-use Rattle.dirs.specs.Listings.{IsListing}
+use Rattle.dirs.specs.Listings.{IsListingOfNames}
 use Rattle.inode.specs.Files.{file_block}
 use Rattle.inofile.specs.Objects.{IsObject}
 use Rattle.layout.specs.declared.kind.Kind.TheVariants as kinds
@@ -40,7 +40,7 @@ returns g c =
           let now = c.load.ensures.looks.kept disk settled v stands in
           let is_object = c.in-Some.ensures.stands _ disk settled v now.volume in
           let counted = subst (λ n. IsObject disk n (settled c.args.directory) o (v c.args.directory)) same is_object in
-          of_names disk c.inodes-count.result (settled c.args.directory) o (v c.args.directory) counted (λ names. IfOk c.list.result (IsListing names)) kind (λ names are. c.list.ensures.listed disk names now.shows are);
+          of_names disk c.inodes-count.result (settled c.args.directory) o (v c.args.directory) counted (λ names. IfOk c.list.result (IsListingOfNames names)) kind (λ names are. c.list.ensures.listed disk names now.shows are);
       damaged = λ disk settled v stands is.
           let o = c.in-Some.object.now in
           let now = c.load.ensures.looks.kept disk settled v stands in

@@ -5,7 +5,7 @@ use Rattle.model.specs.Paths.{parts as parts_of, starts_with_slash as slashes}
 use Rattle.paths.specs.Following.{find_left}
 use Rattle.paths.specs.Halts.{halt_of, IsHaltWithin}
 use Rattle.paths.specs.Numbers.{IsNumber, AreNumbers}
-use Rattle.paths.specs.Places.{place_of, IsPlaceWithin}
+use Rattle.paths.specs.Places.{model_place_of, IsPlaceWithin}
 use Rattle.paths.proofs.Links.{ends, follows_link}
 use Rattle.paths.proofs.LookingUp.{at_end, gives_up, looked_up, then_fails, then_finds}
 use Rattle.paths.proofs.Resolving.{resolves}
@@ -26,7 +26,7 @@ returns-in-At g c = resolves c.resolution_is_by_numbers.ensures
     let halt = ap halt_of (sym c.in-At.is) ∙ c.in_ok-place.ensures.found disk settled v (so_far.looked.kept disk settled v stands) in
     let one : 9 - c.loop-link._link ≡ suc left = omega (arith, c.loop-link-test.true) in
     sym (so_far.walked disk settled v stands ∙ ap (λ n. find_left n v c.args.follow c.loop-link.trail c.loop-link.parts) one
-    ∙ ends v c.args.follow c.loop-link.trail c.loop-link.parts left (place_of c.in-At.place) halt)))
+    ∙ ends v c.args.follow c.loop-link.trail c.loop-link.parts left (model_place_of c.in-At.place) halt)))
 
 pub returns-in_err-of-in-AtLink : goal.returns-in_err-of-in-AtLink
 returns-in_err-of-in-AtLink g c = resolves c.resolution_is_by_numbers.ensures

@@ -47,6 +47,9 @@ returns-clause-placed c =
     (placed_both a b c.lay_over.new.draft settled n 0 1 (level_of size) c.in_ok-placed.ensures.step.grows over.grows
     (one_placed a b settled n 0 c.in_ok-placed.placed.0 c.in_ok-placed.ensures.placed c.in_ok-laid.ensures.blocks) c.in_ok-laid.ensures.placed)
 
+pub returns-clause-first : goal.returns-clause-first
+returns-clause-first c = c.in_ok-laid.ensures.blocks 0 ∙ c.in_ok-placed.ensures.first
+
 pub returns-clause-short : goal.returns-clause-short
 returns-clause-short c = λ m i past. c.in_ok-laid.ensures.end m i (omega (arith, past, nodes_fall (block_count c.args.object.now.file.size) m))
 

@@ -1,8 +1,9 @@
-use Rattle.std.proofs.Common.{rules, sym, subst, ◌≡◌}
+use Rattle.std.proofs.Common.{rules, sym, subst, ◌≡◌, ◌∙◌}
+use Rattle.layout.specs.declared.pointer.Pointer.TheVariants.{Block}
 use Rattle.images.specs.Contents.{content_of}
 use Rattle.images.specs.Nodes.{held}
 use Rattle.placement.specs.Files.{IsBasedOn, IsPlaced, content_with, is_one, object_block, with_first}
-use Rattle.placement.specs.Layouts.{AreSettled}
+use Rattle.placement.specs.Layouts.{AreSettledNodes}
 use Rattle.placement.proofs.FileLaws.{content_is, file_placed, object_ends, of_one, first_ends}
 use Rattle.placement.proofs.MovedLaws.{moved_taken}
 use Rattle.buffers.proofs.ReadLaws.{reads_ok}
@@ -45,7 +46,7 @@ returns-clause-placed g c = λ s disk base shows change e has same.
     let settled = c.in_ok-settled.settled in
     let laid = c.in_ok-all.all.0 in
     let placed = c.in_ok-placed.placed in
-    let known = subst (λ t. AreSettled disk base t settled) c.tree.ensures (c.in_ok-settled.ensures.settled s disk base shows (subst (IsBasedOn base) (sym c.tree.ensures) change.based) change.sound) in
+    let known = subst (λ t. AreSettledNodes disk base t settled) c.tree.ensures (c.in_ok-settled.ensures.settled s disk base shows (subst (IsBasedOn base) (sym c.tree.ensures) change.based) change.sound) in
     let stands = c.in_ok-all.ensures.stands s disk base change known e has same in
     let block = with_first (e c.in_ok-all.all.1) (object_block disk o) in
     let ends = first_ends (e c.in_ok-all.all.1) (object_block disk o) o.file.size c.requires.some (object_ends disk o change.ends) in
@@ -53,13 +54,21 @@ returns-clause-placed g c = λ s disk base shows change e has same.
     (file_placed s c.args.draft.now c.lay_but_first.new.draft disk e base o laid.body block settled laid.nodes change known stands ends c.in_ok-all.ensures.placed
     placed.taken.items placed.freed.items c.in_ok-placed.ensures.taken c.in_ok-placed.ensures.freed)
 
+pub returns-clause-first : goal.returns-clause-first
+returns-clause-first g c = λ s disk base shows change e has same.
+    let o = c.args.object.now in
+    let settled = c.in_ok-settled.settled in
+    let known = subst (λ t. AreSettledNodes disk base t settled) c.tree.ensures (c.in_ok-settled.ensures.settled s disk base shows (subst (IsBasedOn base) (sym c.tree.ensures) change.based) change.sound) in
+    let stands = c.in_ok-all.ensures.stands s disk base change known e has same in
+    subst (λ f. (held e f).place 0 0 ≡ Block c.in_ok-all.all.1) (sym c.in_ok-placed.ensures.inode) (stands.nodes.places 0 0 ∙ c.in_ok-all.ensures.first)
+
 pub returns-clause-content : goal.returns-clause-content
 returns-clause-content g c = λ s disk base shows change e has same.
     let o = c.args.object.now in
     let settled = c.in_ok-settled.settled in
     let laid = c.in_ok-all.all.0 in
     let placed = c.in_ok-placed.placed in
-    let known = subst (λ t. AreSettled disk base t settled) c.tree.ensures (c.in_ok-settled.ensures.settled s disk base shows (subst (IsBasedOn base) (sym c.tree.ensures) change.based) change.sound) in
+    let known = subst (λ t. AreSettledNodes disk base t settled) c.tree.ensures (c.in_ok-settled.ensures.settled s disk base shows (subst (IsBasedOn base) (sym c.tree.ensures) change.based) change.sound) in
     let stands = c.in_ok-all.ensures.stands s disk base change known e has same in
     let block = with_first (e c.in_ok-all.all.1) (object_block disk o) in
     let ends = first_ends (e c.in_ok-all.all.1) (object_block disk o) o.file.size c.requires.some (object_ends disk o change.ends) in

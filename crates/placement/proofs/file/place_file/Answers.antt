@@ -3,7 +3,7 @@ use Rattle.images.specs.Contents.{content_of}
 use Rattle.images.specs.Nodes.{held}
 use Rattle.images.specs.Soundness.{HasNoHole}
 use Rattle.placement.specs.Files.{IsBasedOn, IsPlaced, content_with, is_one, object_block}
-use Rattle.placement.specs.Layouts.{AreSettled, inode_with}
+use Rattle.placement.specs.Layouts.{AreSettledNodes, inode_with}
 use Rattle.placement.proofs.HoleLaws.{no_hole_left, none_left}
 use Rattle.placement.proofs.FileLaws.{content_is, file_placed, object_ends, of_one}
 use Rattle.placement.proofs.MovedLaws.{moved_taken}
@@ -47,7 +47,7 @@ returns-clause-placed g c = λ s disk base shows change e has same.
     let settled = c.in_ok-settled.settled in
     let laid = c.in_ok-laid.laid in
     let placed = c.in_ok-placed.placed in
-    let known = subst (λ t. AreSettled disk base t settled) c.tree.ensures (c.in_ok-settled.ensures.settled s disk base shows (subst (IsBasedOn base) (sym c.tree.ensures) change.based) change.sound) in
+    let known = subst (λ t. AreSettledNodes disk base t settled) c.tree.ensures (c.in_ok-settled.ensures.settled s disk base shows (subst (IsBasedOn base) (sym c.tree.ensures) change.based) change.sound) in
     let stands = c.in_ok-laid.ensures.stands s disk base (c.in_ok-settled.ensures.reads.same disk shows) change known e has same in
     subst (λ f. IsPlaced s e (held disk base) f (is_one placed.taken.items) (is_one placed.freed.items)) (sym c.in_ok-placed.ensures.inode)
     (file_placed s c.args.draft.now c.lay.new.draft disk e base o laid.body (object_block disk o) settled laid.nodes change known stands (object_ends disk o change.ends) c.in_ok-laid.ensures.placed
@@ -59,7 +59,7 @@ returns-clause-content g c = λ s disk base shows change e has same.
     let settled = c.in_ok-settled.settled in
     let laid = c.in_ok-laid.laid in
     let placed = c.in_ok-placed.placed in
-    let known = subst (λ t. AreSettled disk base t settled) c.tree.ensures (c.in_ok-settled.ensures.settled s disk base shows (subst (IsBasedOn base) (sym c.tree.ensures) change.based) change.sound) in
+    let known = subst (λ t. AreSettledNodes disk base t settled) c.tree.ensures (c.in_ok-settled.ensures.settled s disk base shows (subst (IsBasedOn base) (sym c.tree.ensures) change.based) change.sound) in
     let stands = c.in_ok-laid.ensures.stands s disk base (c.in_ok-settled.ensures.reads.same disk shows) change known e has same in
     subst (λ f. content_of (held e f) ≡ content_with o (object_block disk o)) (sym c.in_ok-placed.ensures.inode)
     (content_is s c.args.draft.now c.lay.new.draft disk e base o laid.body (object_block disk o) settled laid.nodes change known stands (object_ends disk o change.ends) c.in_ok-laid.ensures.placed
@@ -70,7 +70,7 @@ returns-clause-no_hole g c = λ s disk base shows change whole e has same.
     let o = c.args.object.now in
     let settled = c.in_ok-settled.settled in
     let laid = c.in_ok-laid.laid in
-    let known = subst (λ t. AreSettled disk base t settled) c.tree.ensures (c.in_ok-settled.ensures.settled s disk base shows (subst (IsBasedOn base) (sym c.tree.ensures) change.based) change.sound) in
+    let known = subst (λ t. AreSettledNodes disk base t settled) c.tree.ensures (c.in_ok-settled.ensures.settled s disk base shows (subst (IsBasedOn base) (sym c.tree.ensures) change.based) change.sound) in
     let stands = c.in_ok-laid.ensures.stands s disk base (c.in_ok-settled.ensures.reads.same disk shows) change known e has same in
     subst (λ f. HasNoHole (held e f)) (sym c.in_ok-placed.ensures.inode)
     (no_hole_left disk e base (inode_with o laid.body) o settled laid.nodes whole refl known.nodes stands.nodes c.in_ok-laid.ensures.holes)
@@ -80,7 +80,7 @@ returns-clause-whole g c = λ s disk base shows change all e has same.
     let o = c.args.object.now in
     let settled = c.in_ok-settled.settled in
     let laid = c.in_ok-laid.laid in
-    let known = subst (λ t. AreSettled disk base t settled) c.tree.ensures (c.in_ok-settled.ensures.settled s disk base shows (subst (IsBasedOn base) (sym c.tree.ensures) change.based) change.sound) in
+    let known = subst (λ t. AreSettledNodes disk base t settled) c.tree.ensures (c.in_ok-settled.ensures.settled s disk base shows (subst (IsBasedOn base) (sym c.tree.ensures) change.based) change.sound) in
     let stands = c.in_ok-laid.ensures.stands s disk base (c.in_ok-settled.ensures.reads.same disk shows) change known e has same in
     subst (λ f. HasNoHole (held e f)) (sym c.in_ok-placed.ensures.inode)
     (none_left e (inode_with o laid.body) o laid.nodes all refl stands.nodes c.in_ok-laid.ensures.stored)

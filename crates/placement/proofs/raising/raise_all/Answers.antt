@@ -1,16 +1,16 @@
 use Rattle.std.proofs.Common.{◌≡◌, ℕ, suc, ◌+◌, ◌-◌, ◌*◌, ◌<◌, ◌≤◌, List, length, Ok, Result, refl, ap, sym, subst, ◌∙◌, arith}
 use Rattle.layout.specs.Pointer.{PointsBelow}
+use Rattle.images.specs.Sums.{sum_below}
+use Rattle.images.proofs.SumLaws.{is_in_sum}
 use Rattle.blocktree.specs.Names.{nodes_at}
 use Rattle.blocktree.specs.PlaceMaps.{place_at}
 use Rattle.blocktree.specs.declared.place_map.PlaceMap.{PlaceMap}
 use Rattle.conspoint.specs.Groups.{group}
-use Rattle.conspoint.specs.Space.{sum_below}
 use Rattle.conspoint.specs.Steps.{Places, PlacesOver}
 use Rattle.conspoint.specs.declared.draft.Draft.{Draft}
 use Rattle.conspoint.specs.declared.error.PlanError.{PlanError}
 use Rattle.conspoint.proofs.GroupLemmas.{same_group}
 use Rattle.conspoint.proofs.StepLemmas.{places_err, places_none, places_ok, places_out, places_then}
-use Rattle.conspoint.proofs.SumLemmas.{is_in_sum}
 use Rattle.placement.specs.declared.nodes.Nodes.{Nodes}
 use Rattle.placement.specs.Nodes.{ArePlacedAt, AreWithin, height_of, node, under}
 use Rattle.placement.specs.Steps.{PlacesHeights, raise_stores}

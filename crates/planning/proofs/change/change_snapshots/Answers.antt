@@ -1,4 +1,7 @@
-use Rattle.std.proofs.Common.{Ok, rules, ap, sym, subst, ◌∙◌}
+use Rattle.std.proofs.Common.{Ok, inl, inr, rules, ap, sym, subst, ◌∙◌}
+use Rattle.std.proofs.lemmas.Bool.{cases_eq}
+use Rattle.images.specs.Roots.{slot}
+use Rattle.layout.proofs.PointerLaws.{hole_block}
 use Rattle.images.specs.SnapshotSteps.{HasHead, SnapshotStep}
 use Rattle.layout.specs.Places.{pointed}
 use Rattle.planning.specs.Changes.{IsStepOf, head_nodes}
@@ -27,6 +30,24 @@ returns-in_err-delete-in-Delete-clause-step c =
 pub returns-in_ok-delete-in-Delete-clause-step : goal.returns-in_ok-delete-in-Delete-clause-step
 returns-in_ok-delete-in-Delete-clause-step c =
     subst (λ n. Takes {T = Root} n c.args.draft.now c.delete.new.draft (Ok c.with_pointer-in-Delete.result)) (sym (ap head_nodes c.in-Delete.is)) (takes_ok c.in_ok-delete-in-Delete.ensures.step)
+
+pub returns-in-Unchanged-clause-heads : goal.returns-in-Unchanged-clause-heads
+returns-in-Unchanged-clause-heads c = λ k b new. absurd (new.1 new.0)
+
+pub returns-in_ok-pointer-in-Take-clause-heads : goal.returns-in_ok-pointer-in-Take-clause-heads
+returns-in_ok-pointer-in-Take-clause-heads c = λ k b new. elim (cases_eq k c.in-Take.slot) [
+  | inl is ↦ (
+    c.in_ok-pointer-in-Take.ensures.given b (sym c.with_pointer.ensures.sets.there ∙ sym (ap (slot c.with_pointer.result) is) ∙ new.0),
+    c.in_ok-pointer-in-Take.ensures.touched,
+  )
+  | inr other ↦ absurd (new.1 (sym (c.with_pointer.ensures.sets.others k other) ∙ new.0))
+]
+
+pub returns-in_ok-delete-in-Delete-clause-heads : goal.returns-in_ok-delete-in-Delete-clause-heads
+returns-in_ok-delete-in-Delete-clause-heads c = λ k b new. elim (cases_eq k c.in-Delete.slot) [
+  | inl is ↦ hole_block (sym c.with_pointer-in-Delete.ensures.sets.there ∙ sym (ap (slot c.with_pointer-in-Delete.result) is) ∙ new.0)
+  | inr other ↦ absurd (new.1 (sym (c.with_pointer-in-Delete.ensures.sets.others k other) ∙ new.0))
+]
 
 pub returns-in-Unchanged-clause-steps : goal.returns-in-Unchanged-clause-steps
 returns-in-Unchanged-clause-steps c = λ step is. record {

@@ -22,6 +22,16 @@ returns-clause-active c =
     plane_active c.args.slot 1 (Block c.in_ok-place.place) (λ b. bit_at (settled_at c.args.draft.now.map.parts.items b) 0) (entry_at c.args.draft.now.map.parts.items)
     (entry_at c.mark_system.new.self.map.parts.items) c.requires.slot (changed c)
 
+pub returns-clause-given : goal.returns-clause-given
+returns-clause-given c = λ b is.
+    let low = c.in_ok-place.ensures.taken.to in
+    omega (arith, low, c.take_plane.ensures.step.next, c.mark_system.ensures.step.next, block_same c.in_ok-place.place b is)
+
+pub returns-clause-touched : goal.returns-clause-touched
+returns-clause-touched c = λ j lt.
+    c.mark_system.ensures.step.grows.settled.touched j
+    (c.in_ok-take_plane.ensures.touched j (omega (arith, lt, c.mark_system.ensures.step.grows.settled.count, c.take_plane.ensures.step.grows.settled.count)))
+
 pub returns-clause-sets : goal.returns-clause-sets
 returns-clause-sets c = changed c
 

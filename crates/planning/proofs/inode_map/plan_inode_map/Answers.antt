@@ -3,8 +3,7 @@ use Rattle.blocktree.specs.Places.{block_count}
 use Rattle.blocktree.specs.Trees.{IsSoundAt}
 use Rattle.blockmap.specs.Maps.{settled_at}
 use Rattle.buffers.specs.Positions.{IsPart}
-use Rattle.conspoint.specs.Space.{sum_below}
-use Rattle.images.specs.Contents.{Content, bytes_of}
+use Rattle.images.specs.Contents.{Content, content_bytes}
 use Rattle.images.specs.Nodes.{held}
 use Rattle.images.specs.Nodes as nodes
 use Rattle.images.specs.Soundness.{IsSoundFile}
@@ -28,6 +27,7 @@ use Rattle.planning.proofs.inode_map.plan_inode_map.Goals.{In_ok-put_parts}
 use Rattle.images.proofs.EmptyLaws.{held_inode}
 use Rattle.planning.proofs.PromiseLaws.{plans_after, plans_err, plans_file, plans_marks, plans_out, plans_read, plans_reads, plans_rise, plans_then, plans_unread, read_of}
 use Rattle.std.specs.Int.{div_ceil}
+use Rattle.images.specs.Sums.{sum_below}
 
 pub returns-in_err-settled-clause-damaged : goal.returns-in_err-settled-clause-damaged
 returns-in_err-settled-clause-damaged g c = λ disk settled v before shows memory same below bad. c.in_err-settled.ensures.damaged disk settled shows memory.volume.inodes (search rules)
@@ -111,7 +111,7 @@ returns-clause-planned g c = λ disk settled v before found shows memory no_hole
     (λ e has agrees. kind_of e placed.inode _ _ (c.in_ok-placed.ensures.content s disk (settled 1) shown map.change e (goes.has e has) agrees) map.kind)
     (marked_over taken freed old.map.parts.items mid.map.parts.items new.map.parts.items c.place_file.ensures.step.parts c.in_ok-mark_placed.ensures.marked)
     (λ e has agrees. record {
-      bytes_are = ap (λ (x : Content). bytes_of x) (c.in_ok-placed.ensures.content s disk (settled 1) shown map.change e (goes.has e has) agrees) ∙ map.bytes_are;
+      bytes_are = ap (λ (x : Content). content_bytes x) (c.in_ok-placed.ensures.content s disk (settled 1) shown map.change e (goes.has e has) agrees) ∙ map.bytes_are;
       no_hole = c.in_ok-placed.ensures.no_hole s disk (settled 1) shown map.change (map.whole no_hole) e (goes.has e has) agrees;
     })
     (c.in_ok-put_inode.ensures.put disk shown_last) (c.in_ok-put_inode.ensures.whole disk shown_last) c.in_ok-put_inode.ensures.long

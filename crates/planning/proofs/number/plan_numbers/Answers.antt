@@ -21,7 +21,7 @@ loop-i-init g c = record {
   sets = λ b i other. refl;
   counted = λ m below. omega arith;
   file = file_none c.args.file.now;
-  planned = λ disk settled v before shows over start. none_before c.args.draft.now disk settled before c.args.inodes.now c.args.file.now c.in_ok-numbers.numbers.items start;
+  planned = λ disk settled v before shows over from start. none_before from c.args.draft.now disk settled before c.args.inodes.now c.args.file.now c.in_ok-numbers.numbers.items start;
 }
 
 is_number : (g : Over) (c : After-index g) → (3 ≤ c.index.result.now) × (c.index.result.now < c.args.inodes.now.geometry.inodes)
@@ -50,18 +50,18 @@ loop-i-preserved g c =
           let here : c.index.result.now < m = omega (arith, is, below c.loop-i.i (omega arith)) in
           omega (arith, before, c.in_ok-plan_number.ensures.step.takes, is_counted c.args.inodes.now c.index.result.now m here);
       file = file_then (λ i at. (c.index.result.now, sym at, one_changed)) so_far.file c.plan_number.ensures.file;
-      planned = λ disk settled v before shows over start.
-          let now = so_far.planned disk settled v before shows over start in
+      planned = λ disk settled v before shows over from start.
+          let now = so_far.planned disk settled v before shows over from start in
           let over_now = subst (λ (n : ℕ). IsOverTree n disk settled c.args.inodes.now v before) (sym so_far.read.count) over in
-          one_more c.loop-i.draft c.plan_number.new.draft disk settled before c.args.inodes.now c.loop-i.file c.plan_number.new.file
+          one_more from c.loop-i.draft c.plan_number.new.draft disk settled before c.args.inodes.now c.loop-i.file c.plan_number.new.file
           xs c.loop-i.i c.index.result.now c.in_ok-numbers.ensures.sorted within is now
           (c.in_ok-plan_number.ensures.planned disk settled v before (so_far.read.same disk shows) over_now);
     }
 
 pub returns-in_err-plan_number-clause-damaged : goal.returns-in_err-plan_number-clause-damaged
-returns-in_err-plan_number-clause-damaged g c = λ disk settled v before shows over start sound bad.
+returns-in_err-plan_number-clause-damaged g c = λ disk settled v before shows over from start sound bad.
     let so_far = c.loop-i.invariant in
-    let now = so_far.planned disk settled v before shows over start in
+    let now = so_far.planned disk settled v before shows over from start in
     let at = c.index.result.now / 21 in
     let over_now = subst (λ (n : ℕ). IsOverTree n disk settled c.args.inodes.now v before) (sym so_far.read.count) over in
     let sound_now = so_far.file.sound (g.B.Blocks.count c.args.blocks.now) disk at (sound at) in
@@ -70,9 +70,9 @@ returns-in_err-plan_number-clause-damaged g c = λ disk settled v before shows o
     (search rules)
 
 pub returns-clause-planned : goal.returns-clause-planned
-returns-clause-planned g c = λ disk settled v before shows over start.
-    all_planned c.loop-i.draft disk settled before c.args.inodes.now c.loop-i.file c.in_ok-numbers.numbers.items c.loop-i.i (IsChanged c.args.inodes.now) (omega arith)
-    c.in_ok-numbers.ensures.members (c.loop-i.invariant.planned disk settled v before shows over start)
+returns-clause-planned g c = λ disk settled v before shows over from start.
+    all_planned from c.loop-i.draft disk settled before c.args.inodes.now c.loop-i.file c.in_ok-numbers.numbers.items c.loop-i.i (IsChanged c.args.inodes.now) (omega arith)
+    c.in_ok-numbers.ensures.members (c.loop-i.invariant.planned disk settled v before shows over from start)
 
 pub plan_number-requires-clause-changed : goal.plan_number-requires-clause-changed
 plan_number-requires-clause-changed g c = (c.in_ok-numbers.ensures.members c.index.result.now).0 (c.loop-i.i, omega arith, sym c.index.ensures)

@@ -22,6 +22,6 @@ invariant-loop-i g l = record {
   file : ChangesFile (HasChange l.inodes) l.fn.file l.file;
   planned : (disk : ℕ → List ℕ) (settled : ℕ → Inode) (v : Volume) (before : ℕ → ℕ) → g.B.Blocks.Shows l.initial.blocks disk
       → IsOverTree (g.B.Blocks.count l.initial.blocks) disk settled l.inodes v before
-      → ArePlanned (λ n. ⊥) l.fn.draft disk settled before l.inodes l.fn.file
-      → ArePlanned (IsAmong l.numbers.items l.i) l.draft disk settled before l.inodes l.file;
+      → (from : ℕ) → ArePlanned (λ n. ⊥) from l.fn.draft disk settled before l.inodes l.fn.file
+      → ArePlanned (IsAmong l.numbers.items l.i) from l.draft disk settled before l.inodes l.file;
 }

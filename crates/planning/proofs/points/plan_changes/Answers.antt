@@ -1,17 +1,18 @@
-use Rattle.std.proofs.Common.{◌≡◌, inl, inr, sym, subst, ◌∙◌, rules, arith}
+use Rattle.std.proofs.Common.{◌≡◌, ℕ, inl, inr, sym, subst, ◌∙◌, rules, arith}
 use Rattle.blocktree.specs.Trees.{IsSoundAt}
 use Rattle.inofile.specs.Inodes.{files_of}
 use Rattle.planning.specs.Numbers.{trimmed}
-use Rattle.planning.specs.Steps.{IsOverTree}
+use Rattle.planning.specs.Plans.{HasInodeMap}
+use Rattle.planning.specs.Steps.{IsOverTree, settled_tree}
 use Rattle.planning.proofs.StartLaws.{not_own}
 use Rattle.planning.proofs.points.plan_changes.Goals as goal
 use Rattle.planning.proofs.PromiseLaws.{file_some, file_then, plans_err, plans_rise, plans_then}
 
 pub returns-in_err-plan_numbers-clause-damaged : goal.returns-in_err-plan_numbers-clause-damaged
-returns-in_err-plan_numbers-clause-damaged g c = λ disk settled v before shows memory start sound bad. c.in_err-plan_numbers.ensures.damaged disk settled v before shows memory start sound (search rules)
+returns-in_err-plan_numbers-clause-damaged g c = λ disk settled v before shows memory from start sound bad. c.in_err-plan_numbers.ensures.damaged disk settled v before shows memory from start sound (search rules)
 
 pub returns-in_err-plan_inode_map-clause-damaged : goal.returns-in_err-plan_inode_map-clause-damaged
-returns-in_err-plan_inode_map-clause-damaged g c = λ disk settled v before shows memory start sound bad.
+returns-in_err-plan_inode_map-clause-damaged g c = λ disk settled v before shows memory from start sound bad.
     let count : g.B.Blocks.count c.args.blocks.now ≡ g.B.Blocks.count c.plan_numbers.new.blocks = sym c.plan_numbers.ensures.step.reads.count in
     c.in_err-plan_inode_map.ensures.damaged disk settled v before (c.plan_numbers.ensures.step.reads.same disk shows)
     (subst (λ n. IsOverTree n disk settled c.args.inodes.now v before) count memory)
@@ -20,15 +21,16 @@ returns-in_err-plan_inode_map-clause-damaged g c = λ disk settled v before show
     (search rules)
 
 pub returns-clause-planned : goal.returns-clause-planned
-returns-clause-planned g c = λ disk settled v before shows memory no_hole start.
+returns-clause-planned g c = λ disk settled v before shows memory no_hole from start.
     let count : g.B.Blocks.count c.args.blocks.now ≡ g.B.Blocks.count c.plan_numbers.new.blocks = sym c.plan_numbers.ensures.step.reads.count in
-    let done = c.in_ok-plan_numbers.ensures.planned disk settled v before shows memory start in
+    let done = c.in_ok-plan_numbers.ensures.planned disk settled v before shows memory from start in
     record {
       changed = done.way.plan.changed;
       just = done.just;
-      map = c.in_ok-plan_inode_map.ensures.planned disk settled v before (λ n. trimmed (files_of disk settled c.args.inodes.now n)) (c.plan_numbers.ensures.step.reads.same disk shows)
+      map = subst (λ (k : ℕ). HasInodeMap c.args.inodes.now.numbers.bytes.items done.way.plan.changed k c.plan_inode_map.new.draft disk before c.args.inodes.now.geometry (settled_tree disk settled)
+          (λ n. trimmed (files_of disk settled c.args.inodes.now n)) c.plan_inode_map.new.file) done.from_is (c.in_ok-plan_inode_map.ensures.planned disk settled v before (λ n. trimmed (files_of disk settled c.args.inodes.now n)) (c.plan_numbers.ensures.step.reads.same disk shows)
           (subst (λ n. IsOverTree n disk settled c.args.inodes.now v before) count memory) no_hole done.way
-          (not_own c.args.inodes.now done.way.plan.changed done.just c.args.inodes.now.changes 1 (omega arith));
+          (not_own c.args.inodes.now done.way.plan.changed done.just c.args.inodes.now.changes 1 (omega arith)));
     }
 
 pub returns-in_err-plan_inode_map-clause-short : goal.returns-in_err-plan_inode_map-clause-short

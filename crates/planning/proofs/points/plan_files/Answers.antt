@@ -6,17 +6,18 @@ use Rattle.layout.specs.declared.inode.Inode.{Inode}
 use Rattle.layout.specs.declared.kind.Kind.TheVariants as kinds
 use Rattle.model.specs.Volumes.{Volume}
 use Rattle.blocktree.specs.Trees.{IsSoundAt}
-use Rattle.images.specs.InodeFiles.{put_at}
+use Rattle.images.specs.InodeFiles.{spliced_at}
 use Rattle.inode.specs.Files.{file_block}
 use Rattle.inode.specs.declared.object.Attributes.{Attributes}
 use Rattle.inofile.specs.Inodes.{files_of}
 use Rattle.placement.specs.Files.{IsChangeOf}
 use Rattle.placement.specs.Space.{first_stores}
 use Rattle.planning.specs.Numbers.{trimmed}
-use Rattle.planning.specs.Plans.{HasNumbers, IsPlanStart}
-use Rattle.planning.specs.Progress.{with_file}
+use Rattle.planning.specs.Plans.{PlansNumbers, IsPlanStart}
+use Rattle.planning.specs.Progress.{with_planned_file}
 use Rattle.planning.specs.Space.{map_file_nodes, change_nodes, top_nodes}
 use Rattle.planning.specs.Steps.{IsOverTree, settled_tree}
+use Rattle.images.proofs.EmptyLaws.{held_inode}
 use Rattle.planning.proofs.OwnLaws.{own_change}
 use Rattle.planning.proofs.StartLaws.{not_own, spelled_ends, started, top_size, top_sound}
 use Rattle.planning.proofs.TopLaws.{top_few}
@@ -29,7 +30,7 @@ use Rattle.planning.proofs.PromiseLaws.{plans_err, plans_ok, plans_out, plans_ri
 -- what the inode file is when the numbers are planned
 top_change : (g : Over) (c : In_ok-plan_changes g) (disk : ℕ → List ℕ) (settled : ℕ → Inode) (v : Volume) (before : ℕ → ℕ)
     → IsPlanStart (g.B.Blocks.count c.args.blocks.now) c.args.draft.now disk c.args.root.now settled c.args.inodes.now v before
-    → HasNumbers c.plan_changes.new.draft disk settled before c.args.inodes.now c.plan_changes.new.file
+    → PlansNumbers c.args.draft.now.map.next c.plan_changes.new.draft disk settled before c.args.inodes.now c.plan_changes.new.file
     → IsChangeOf c.args.inodes.now.geometry c.plan_changes.new.draft disk (settled 0) (record c.in_ok-top.top { file = c.plan_changes.new.file })
 top_change g c disk settled v before start numbers =
     let s = c.args.inodes.now.geometry in
@@ -50,14 +51,14 @@ returns-in_err-plan_changes-clause-damaged g c = λ disk settled v before shows 
     let s = c.args.inodes.now.geometry in
     let first_file = c.in_ok-top.top.file in
     let sound = top_sound start in
-    c.in_err-plan_changes.ensures.damaged disk settled v before shows start.memory (started start first_file (c.in_ok-top.ensures.held s disk sound))
+    c.in_err-plan_changes.ensures.damaged disk settled v before shows start.memory c.args.draft.now.map.next (started start first_file (c.in_ok-top.ensures.held s disk sound))
     (λ i. subst (λ n. IsSoundAt n disk first_file.tree i) start.memory.volume.inodes.count (c.based_trees_are_sound.ensures.at s disk c.args.root.now.inode_file first_file.tree i sound c.in_ok-top.ensures.base)) (search rules)
 
 pub returns-in_err-placed-clause-damaged : goal.returns-in_err-placed-clause-damaged
 returns-in_err-placed-clause-damaged g c = λ disk settled v before shows start bad.
     let s = c.args.inodes.now.geometry in
     let begin = started start c.in_ok-top.top.file (c.in_ok-top.ensures.held s disk (top_sound start)) in
-    let numbers = c.in_ok-plan_changes.ensures.planned disk settled v before shows start.memory start.sound.inode_map begin in
+    let numbers = c.in_ok-plan_changes.ensures.planned disk settled v before shows start.memory start.sound.inode_map c.args.draft.now.map.next begin in
     let change = top_change g (goal.at.returns-in_err-placed-clause-damaged g c).In_ok-plan_changes disk settled v before start numbers in
     c.in_err-placed.ensures.damaged s disk (settled 0) (c.plan_changes.ensures.step.reads.same disk shows) change (search rules)
 
@@ -77,7 +78,7 @@ returns-clause-planned g c = λ disk settled v before shows start.
     let root = c.args.root.now in
     let begin = started start c.in_ok-top.top.file (c.in_ok-top.ensures.held s disk (top_sound start)) in
     let o = record c.in_ok-top.top { file = c.plan_changes.new.file } in
-    let numbers = c.in_ok-plan_changes.ensures.planned disk settled v before shows start.memory start.sound.inode_map begin in
+    let numbers = c.in_ok-plan_changes.ensures.planned disk settled v before shows start.memory start.sound.inode_map c.args.draft.now.map.next begin in
     let p = numbers.map.way.plan in
     let same_now = λ (b : ℕ). c.plan_changes.ensures.step.grows.settled.settled b ∙ start.same b in
     let large : o.file.size ≡ 4096 * div_ceil s.inodes 21 = c.plan_changes.ensures.file.size ∙ c.in_ok-top.ensures.size ∙ top_size s root c.requires.root_is c.requires.sizes in
@@ -90,13 +91,16 @@ returns-clause-planned g c = λ disk settled v before shows start.
     let f = c.in_ok-placed.placed.0 in
     let first = c.in_ok-placed.placed.1 in
     let top = c.in_ok-placed.ensures.planned s disk settled before p shown change kind start.memory.once start.memory.exact same_now numbers.map.way.progress fresh in
-    let last = c.in_ok-plan_last.ensures.planned disk settled v before (with_file 0 f top.taken p) (c.place_top.ensures.step.reads.same disk shown)
+    let last = c.in_ok-plan_last.ensures.planned disk settled v before (with_planned_file 0 f top.taken p) (c.place_top.ensures.step.reads.same disk shown)
     (subst (λ n. IsOverTree n disk settled c.args.inodes.now v before) count start.memory) start.sound (λ b. c.place_top.ensures.step.grows.settled.settled b ∙ same_now b) start.entries top.progress fresh_map in
     let said = c.inodes_are_put_one_by_one.ensures in
     let least : AreSizes s = subst AreSizes (sym c.requires.sizes) c.requires.root_is.head.sizes in
-    all_planned (record { there = said.there; others = said.others; behind = said.behind }) c.plan_changes.new.draft c.place_top.new.draft c.plan_last.new.draft disk before s (settled_tree disk settled)
-    (λ n. trimmed (files_of disk settled c.args.inodes.now n)) c.args.inodes.now o f last.map first (put_at (192 * (2 % 21)) (inode_bytes last.map) (file_block disk o.file (2 / 21))) numbers.changed numbers.just
-    (λ n is. (c.args.inodes.now.changes n is).1) (omega (arith, least.least_inodes)) numbers.map top last.planned large c.place_top.ensures.step.grows c.plan_last.ensures.step.grows last.put refl last.whole last.long
+    let most = top_within g (goal.at.returns-clause-planned g c).After-plan_changes in
+    let old_size : ((settled_tree disk settled) 0).inode.size ≡ root.inode_file.size = ap (λ (i : Inode). i.size) (held_inode disk (settled 0) ∙ start.top) in
+    all_planned (record { there = said.there; others = said.others; behind = said.behind }) c.args.draft.now c.plan_changes.new.draft c.place_top.new.draft c.plan_last.new.draft disk before s (settled_tree disk settled)
+    (λ n. trimmed (files_of disk settled c.args.inodes.now n)) c.args.inodes.now o f last.map first (spliced_at (192 * (2 % 21)) (inode_bytes last.map) (file_block disk o.file (2 / 21))) numbers.changed numbers.just
+    (λ n is. (c.args.inodes.now.changes n is).1) (omega (arith, least.least_inodes)) numbers.map top last.planned large c.plan_changes.ensures.step.grows c.place_top.ensures.step.grows c.plan_last.ensures.step.grows
+    (λ w counts. let stores = c.in_ok-plan_changes.ensures.stores disk settled v before shows start.memory w counts in omega (arith, stores, c.in_ok-placed.ensures.step.takes, most, ap (top_nodes c.args.inodes.now) old_size)) last.put refl last.whole last.long
 
 pub returns-in_err-plan_changes-clause-short : goal.returns-in_err-plan_changes-clause-short
 returns-in_err-plan_changes-clause-short g c = λ disk settled v before shows memory w counts bad.

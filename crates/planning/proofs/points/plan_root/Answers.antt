@@ -9,7 +9,7 @@ use Rattle.planning.specs.Numbers.{trimmed}
 use Rattle.planning.specs.Plans.{IsAllPlanned}
 use Rattle.planning.specs.Space.{point_nodes, point_stores}
 use Rattle.planning.specs.Steps.{settled_tree}
-use Rattle.planning.proofs.ChangeLaws.{head_of, sets_of, slots_of}
+use Rattle.planning.proofs.ChangeLaws.{head_of, heads_of, sets_of, slots_of}
 use Rattle.conspoint.proofs.DraftLemmas.{grows_twice}
 use Rattle.planning.proofs.PlanLaws.{start_later}
 use Rattle.planning.proofs.StartLaws.{WritesAll, top_fits, top_kind}
@@ -20,10 +20,16 @@ use Rattle.conspoint.proofs.StepLemmas.{no_error}
 use Rattle.conspoint.specs.declared.error.PlanError.TheVariants.{NoSpace}
 
 pub returns-clause-planned : goal.returns-clause-planned
-returns-clause-planned g c = λ disk settled v before shows start.
-    subst (λ (f : Inode). IsAllPlanned c.plan_files.new.draft disk before c.args.inodes.now.geometry (settled_tree disk settled) (λ n. trimmed (files_of disk settled c.args.inodes.now n)) c.args.inodes.now f)
-    (sym c.in_ok-next.ensures.inode_file) (c.in_ok-inode_file.ensures.planned disk settled v before shows
-    (start_later (g.B.Blocks.count c.args.blocks.now) c.args.draft.now c.change_snapshots.new.draft disk c.args.root.now settled c.args.inodes.now v before start c.change_snapshots.ensures.step.grows c.in_ok-slots.ensures.active))
+returns-clause-planned g c = λ disk settled v before shows start. record {
+  start = c.change_snapshots.new.draft;
+  grows = c.change_snapshots.ensures.step.grows;
+  takes = c.in_ok-slots.ensures.step.takes;
+  heads = heads_of c.args.root.now c.in_ok-slots.slots c.in_ok-next.next c.change_snapshots.new.draft c.in_ok-next.ensures.snapshots c.in_ok-slots.ensures.heads;
+  all =
+      subst (λ (f : Inode). IsAllPlanned c.change_snapshots.new.draft c.plan_files.new.draft disk before c.args.inodes.now.geometry (settled_tree disk settled) (λ n. trimmed (files_of disk settled c.args.inodes.now n)) c.args.inodes.now f)
+      (sym c.in_ok-next.ensures.inode_file) (c.in_ok-inode_file.ensures.planned disk settled v before shows
+      (start_later (g.B.Blocks.count c.args.blocks.now) c.args.draft.now c.change_snapshots.new.draft disk c.args.root.now settled c.args.inodes.now v before start c.change_snapshots.ensures.step.grows c.in_ok-slots.ensures.active));
+}
 
 pub returns-in_err-inode_file-clause-damaged : goal.returns-in_err-inode_file-clause-damaged
 returns-in_err-inode_file-clause-damaged g c = λ disk settled v before shows start bad.

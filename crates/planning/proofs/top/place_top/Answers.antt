@@ -1,6 +1,9 @@
-use Rattle.std.proofs.Common.{arith, sym, ap, ◌∙◌}
+use Rattle.std.proofs.Common.{arith, inl, inr, sym, ap, ◌∙◌}
+use Rattle.blockmap.specs.Maps.{settled_at}
+use Rattle.layout.proofs.PointerLaws.{block_same}
 use Rattle.layout.specs.declared.inode.Inode.{Inode}
 use Rattle.images.specs.Contents.{Content}
+use Rattle.images.specs.Nodes.{Agrees, Names, held}
 use Rattle.placement.specs.Files.{is_one}
 use Rattle.planning.specs.Steps.{settled_tree}
 use Rattle.planning.proofs.JoinLaws.{marked_over, progress_more}
@@ -25,6 +28,15 @@ returns-clause-planned g c = λ s disk settled before p shows change kind once e
           (λ e has agrees. sym (ap (λ (i : Inode). i.kind) (held_inode e placed.inode))
           ∙ ap (λ (x : Content). x.kind) (c.in_ok-all.ensures.content s disk (settled 0) shows change e (goes.has e has) agrees) ∙ kind)
           (marked_over (is_one placed.taken.items) (is_one placed.freed.items) old.map.parts.items mid.map.parts.items new.map.parts.items c.place_file_but_first.ensures.step.parts c.in_ok-mark_placed.ensures.marked);
+      first_taken = λ e has agrees b is.
+          let mine : Agrees (Names (held disk (settled 0))) disk e = λ b names. agrees b (record { file = 0; names = names }) in
+          elim ((c.in_ok-all.ensures.placed s disk (settled 0) shows change e (goes.has e has) mine).moves 0 0 b is) [
+            | inr came ↦ came
+            | inl was ↦
+                let at = block_same b c.in_ok-all.all.1 (sym is ∙ c.in_ok-all.ensures.first s disk (settled 0) shows change e (goes.has e has) mine) in
+                absurd (change.used b (record { height = 0; index = 0; is = was })
+                (ap (settled_at old.map.parts.items) at ∙ sym (c.place_file_but_first.ensures.step.grows.settled.settled c.in_ok-all.all.1) ∙ c.in_ok-all.ensures.reserved.free))
+          ];
       blocks = λ e has agrees i.
           ap (λ (x : Content). x.block i) (c.in_ok-all.ensures.content s disk (settled 0) shows change e (goes.has e has) (λ b names. agrees b (record { file = 0; names = names })));
     }

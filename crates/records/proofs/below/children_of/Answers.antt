@@ -4,7 +4,7 @@ use Rattle.std.proofs.lemmas.List.Elements.{All-contains, All-map, All-more, All
 use Rattle.std.specs.List.{Contains}
 use Rattle.model.specs.Paths.{Name}
 use Rattle.model.specs.Volumes.{entries}
-use Rattle.dirs.specs.Listings.{IsListing}
+use Rattle.dirs.specs.Listings.{IsListingOfNames}
 use Rattle.paths.specs.Numbers.{IsNumber}
 use Rattle.paths.proofs.Looks.{has_looked, looked_more, looks_err, looks_then, then_failed}
 use Rattle.records.proofs.BelowLaws.{has_more}
@@ -83,7 +83,7 @@ returns-clause-children g c = λ disk settled v stands n.
     let items = c.as_slice-name-items.result.now in (
       so_far.only disk settled v stands n,
       λ child.
-          let names = subst (λ (xs : List Name). IsListing (entries v d) xs) (sym c.as_slice-name-items.ensures) (c.in_ok-names.ensures.found disk settled v stands) in
+          let names = subst (λ (xs : List Name). IsListingOfNames (entries v d) xs) (sym c.as_slice-name-items.ensures) (c.in_ok-names.ensures.found disk settled v stands) in
           let listed = (names.whole child.0).1 (subst (λ o. IsSome o) (sym child.1) refl) in
           let whole = All-same (λ y. IfSome (entries v d y.items) (Contains children)) items _ (sym (take_all c.loop-name.name-index items (omega arith))) (so_far.all disk settled v stands) in
           let has = All-contains (λ (x : Name). IfSome (entries v d x) (Contains children)) (map (λ y. y.items) items) child.0 (All-map (λ (x : Name). IfSome (entries v d x) (Contains children)) (λ y. y.items) items whole) listed in

@@ -8,7 +8,7 @@ use Rattle.layout.specs.Limits.{Sizes}
 use Rattle.model.specs.Volumes.{entries}
 use Rattle.paths.specs.Numbers.{AreNumbers, IsNumber}
 use Rattle.paths.proofs.Looks.{has_looked, looked_more, looks_err, looks_then, then_failed}
-use Rattle.records.specs.Below.{IsChild, IsMarked}
+use Rattle.records.specs.Below.{IsChild, IsMarkedNumber}
 use Rattle.records.proofs.BelowLaws.{searched_all, searched_first, searched_more, unmarked}
 use Rattle.records.proofs.below.is_below.Goals as goal
 
@@ -27,7 +27,7 @@ loop-here-init g c =
       whole = c.mark.ensures.marks.same_length ∙ ap length none ∙ length-replicate c.inodes-count.result false ∙ c.inodes-count.ensures.value ∙ ap (λ (s : Sizes). s.inodes) c.geometry.ensures;
       searched = λ disk settled v stands.
           searched_first (entries v) c.args.top c.in_ok-marks.marks.items c.mark.new.marks.items c.new-left.result.items c.mark.new.left.items
-          (λ n is. unmarked c.inodes-count.result n (subst (λ (marks : List Bool). IsMarked marks n) none is))
+          (λ n is. unmarked c.inodes-count.result n (subst (λ (marks : List Bool). IsMarkedNumber marks n) none is))
           c.new-left.ensures.items c.mark.ensures.marks c.in_ok-mark.ensures.marked c.mark.ensures.only;
     }
 

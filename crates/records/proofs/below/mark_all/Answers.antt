@@ -3,7 +3,7 @@ use Rattle.std.proofs.lemmas.List.{take_all, take_more}
 use Rattle.std.proofs.lemmas.List.Elements.{Contains-get_or, Contains-push_cases}
 use Rattle.std.specs.List.{Contains}
 use Rattle.paths.specs.Numbers.{IsNumber}
-use Rattle.records.specs.Below.{IsMarked}
+use Rattle.records.specs.Below.{IsMarkedNumber}
 use Rattle.records.proofs.BelowLaws.{marks_more}
 use Rattle.records.proofs.below.mark_all.Goals as goal
 
@@ -37,7 +37,7 @@ loop-number-preserved c =
       marking = marks_more _ _ _ _ _ _ so_far.marking c.mark.ensures.marks;
       all = λ n is. elim (Contains-push_cases (take at numbers) (get_or numbers at item) n (subst (λ (xs : List ℕ). Contains xs n) (take_more numbers at item here) is)) [
         | inl before ↦ c.mark.ensures.marks.kept n (so_far.all n before)
-        | inr same ↦ subst (IsMarked c.mark.new.marks.items) (c.number-item.is ∙ same) c.in_ok-mark.ensures.marked
+        | inr same ↦ subst (IsMarkedNumber c.mark.new.marks.items) (c.number-item.is ∙ same) c.in_ok-mark.ensures.marked
       ];
       only = λ n is. elim (c.mark.ensures.only n is) [
         | inl before ↦ so_far.only n before

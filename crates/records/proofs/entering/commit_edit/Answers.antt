@@ -5,7 +5,7 @@ use Rattle.images.specs.Contents.{StandsAs}
 use Rattle.inode.specs.declared.object.Object.{Object}
 use Rattle.inofile.specs.Objects.{IsObjectOrNone}
 use Rattle.inofile.specs.Settled.{content_of}
-use Rattle.records.specs.Entering.{EditsIn, with_names}
+use Rattle.records.specs.Entering.{EditsIn, with_node_names}
 use Rattle.records.proofs.entering.commit_edit.Goals as goal
 
 whole : (n : ℕ) → (4096 * n) % 4096 ≡ 0
@@ -24,8 +24,8 @@ returns-in-Some c = λ disk inodes settled found f stands edits.
           let was = subst (λ (k : Kind). FitsKind k s c.in-Some.directory.attributes.mode c.in-Some.directory.attributes.links c.in-Some.directory.file.size) e.kind (o.fits s) in
           subst (λ (k : Kind). FitsKind k s c.in-Some.directory.attributes.mode c.in-Some.directory.attributes.links c.commit.new.file.size) (sym e.kind)
           (was.0, ap (λ (n : ℕ). n % 4096) c.commit.ensures.size ∙ whole c.args.edit.count);
-      stands = subst (λ (k : Kind). StandsAs k inodes (content_of disk after) (with_names f found)) (sym e.kind)
-          (names, c.commit.ensures.names inodes disk names e.edited, ap (with_names f) e.stands);
+      stands = subst (λ (k : Kind). StandsAs k inodes (content_of disk after) (with_node_names f found)) (sym e.kind)
+          (names, c.commit.ensures.names inodes disk names e.edited, ap (with_node_names f) e.stands);
       ends = c.commit.ensures.ends disk;
       base = c.commit.ensures.base settled o.base;
     }

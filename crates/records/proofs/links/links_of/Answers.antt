@@ -1,5 +1,5 @@
 use Rattle.std.proofs.Common.{ap, subst}
-use Rattle.images.specs.Contents.{StandsAs, bytes_of}
+use Rattle.images.specs.Contents.{StandsAs, content_bytes}
 use Rattle.model.specs.Volumes.{is_file_node}
 use Rattle.inofile.specs.Settled.{content_of}
 use Rattle.records.proofs.KindLaws.{not_file}
@@ -12,7 +12,7 @@ pub returns-in-File-clause-file : goal.returns-in-File-clause-file
 returns-in-File-clause-file c = λ count disk settled v volume.
     let o = c.in-Some.ensures.stands count disk settled v volume in
     let content = content_of disk c.in-Some.object.now in
-    (content.mode, bytes_of content, subst (λ k. StandsAs k c.args.inodes.now.geometry.inodes content (v c.args.number)) c.in-File.is o.stands)
+    (content.mode, content_bytes content, subst (λ k. StandsAs k c.args.inodes.now.geometry.inodes content (v c.args.number)) c.in-File.is o.stands)
 
 pub returns-in_default-kind-clause-other : goal.returns-in_default-kind-clause-other
 returns-in_default-kind-clause-other c = λ count disk settled v volume.

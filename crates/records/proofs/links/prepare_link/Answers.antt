@@ -6,8 +6,8 @@ use Rattle.layout.specs.declared.entry.Entry.{Entry}
 use Rattle.model.specs.Volumes.{IsVolume, Node, with_name_more, with_node, is_directory_node, is_file_node}
 use Rattle.inofile.specs.Inodes.{loaded}
 use Rattle.paths.proofs.Looks.{looks_more}
-use Rattle.records.specs.Entering.{PreparesEdit, names_after, with_names}
-use Rattle.records.specs.Steps.{TakesUpdate, with_links}
+use Rattle.records.specs.Entering.{PreparesEdit, names_after, with_node_names}
+use Rattle.records.specs.Steps.{TakesUpdate, with_node_links}
 use Rattle.records.specs.declared.naming.NameEdit.TheVariants as edits
 use Rattle.records.specs.declared.steps.Update.TheVariants as updates
 use Rattle.records.proofs.EnterLaws.{accepts_entry, found_directory, takes_accepted}
@@ -99,15 +99,15 @@ returns g c =
     let file = c.in-Some.ensures.file _ disk settled v now.volume in
     let edit = subst (PreparesEdit disk s.geometry.inodes (edits.Add entry) (v d) (loaded s d)) c.in-Some-planned.is (planned.edit.found disk settled v now) in
     let apart = file_apart v n d (file_is links (v n) file) (found_directory (v d) edit.1.mode edit.1.names edit.1.is) in
-    let between = with_node d (with_names f (v d)) v in
-    let stays = node_other d n (with_names f (v d)) v apart in
-    let to = with_links (links + 1) (between n) in
+    let between = with_node d (with_node_names f (v d)) v in
+    let stays = node_other d n (with_node_names f (v d)) v apart in
+    let to = with_node_links (links + 1) (between n) in
     record {
       between = between;
       second = with_node n to between;
-      first = (with_names f (v d), (f, edit.0, refl), refl);
+      first = (with_node_names f (v d), (f, edit.0, refl), refl);
       next = (to, (subst (λ o. IsTrue (is_file_node o)) (sym stays) (file_is links (v n) file), few, refl), refl);
-      last = both_steps n d x (Some n) (with_name_more (v n)) to v apart (ap (with_links (links + 1)) stays ∙ more_links links (v n) file);
+      last = both_steps n d x (Some n) (with_name_more (v n)) to v apart (ap (with_node_links (links + 1)) stays ∙ more_links links (v n) file);
       next_beside = apart;
       last_beside = tt;
       beside = tt;

@@ -1,6 +1,6 @@
 use Rattle.std.proofs.Common.{rules, None, Some, subst}
 use Rattle.dirs.specs.Directory.{with_name}
-use Rattle.dirs.specs.Edits.{HasNames}
+use Rattle.dirs.specs.Edits.{HasEditedNames}
 use Rattle.records.proofs.EnterLaws.{full_has_no_place}
 use Rattle.records.proofs.NamingLaws.{name_gone, name_replaced}
 use Rattle.records.proofs.naming.add_in.Goals as goal
@@ -17,7 +17,7 @@ returns-in-Ok g c =
           let less = with_name y None names in
           let room = c.in-Ok.ensures.room disk less shows had in (
             record { count = room.0; counts = room.1; room = room.2 },
-            subst (HasNames c.args.inodes disk c.prepare_add.new.file c.prepare_add.new.self) (name_replaced y to names) (c.in-Ok.ensures.added disk less shows had (name_gone y names)),
+            subst (HasEditedNames c.args.inodes disk c.prepare_add.new.file c.prepare_add.new.self) (name_replaced y to names) (c.in-Ok.ensures.added disk less shows had (name_gone y names)),
           );
       damaged = search rules;
     }

@@ -1,6 +1,6 @@
 use Rattle.std.proofs.Common.{◌≡◌, None, is_some, ap, sym, subst, ◌∙◌}
 use Rattle.std.proofs.lemmas.Bool.{false≢true}
-use Rattle.dirs.specs.Edits.{HasNames}
+use Rattle.dirs.specs.Edits.{HasEditedNames}
 use Rattle.records.proofs.EnterLaws.{not_some}
 use Rattle.records.proofs.NamingLaws.{added_names, edit_follows, edit_stops, none_gone}
 use Rattle.inode.proofs.BaseLaws.{same_itself}
@@ -28,5 +28,5 @@ returns g c =
     let file = c.args.file.now in
     let none = not_some c.in_ok-found.found (sym c.is_some.ensures ∙ c.if-is_some.false) in
     edit_follows c.in_ok-found.ensures.reads (same_itself file) c.add_in.ensures (λ names. names)
-    (λ disk names shows had. subst (HasNames c.args.inodes disk file c.args.edit) (sym (none_gone y names (sym (c.in_ok-found.ensures.found disk names shows had) ∙ none))) had)
+    (λ disk names shows had. subst (HasEditedNames c.args.inodes disk file c.args.edit) (sym (none_gone y names (sym (c.in_ok-found.ensures.found disk names shows had) ∙ none))) had)
     (λ disk names shows had o is. added_names c.args.inodes disk c.add_in.new.file c.args.entry.now names (sym (c.in_ok-found.ensures.found disk names shows had) ∙ none) o is)

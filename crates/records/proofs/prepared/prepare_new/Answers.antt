@@ -5,7 +5,7 @@ use Rattle.model.specs.Records.{node_of}
 use Rattle.model.specs.Volumes.{Node, is_directory_node, with_node}
 use Rattle.inofile.specs.Inodes.{loaded}
 use Rattle.paths.proofs.Looks.{looks_more, looks_ok}
-use Rattle.records.specs.Entering.{PreparesEdit, names_after, with_names}
+use Rattle.records.specs.Entering.{PreparesEdit, names_after, with_node_names}
 use Rattle.records.specs.Steps.{TakesUpdate}
 use Rattle.records.specs.declared.naming.NameEdit.TheVariants as edits
 use Rattle.records.specs.declared.steps.Update.TheVariants as updates
@@ -73,7 +73,7 @@ returns-clause-does g c = λ disk settled v made stands is_free is_object.
     let edit = subst (PreparesEdit disk s.geometry.inodes (edits.Add entry) (v d) (loaded s d)) c.in-Some.is (c.in_ok-planned.ensures.edit.found disk settled v now) in
     let node = node_of made in
     let apart = vacant_apart v number d is_free (found_directory (v d) edit.1.mode edit.1.names edit.1.is) in
-    let to = with_names f (v d) in
+    let to = with_node_names f (v d) in
     let between = with_node d to v in
     record {
       between = between;

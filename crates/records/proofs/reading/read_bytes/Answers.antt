@@ -1,7 +1,7 @@
 use Rattle.std.proofs.Common.{◌≡◌, ◌∙◌, [], unwrap_or, ap, sym}
 use Rattle.model.specs.Edits.{read_at}
-use Rattle.model.specs.Volumes.{bytes_of as node_bytes, is_file_node}
-use Rattle.inode.specs.Files.{bytes_of}
+use Rattle.model.specs.Volumes.{bytes_of_node, is_file_node}
+use Rattle.inode.specs.Files.{bytes_of_file}
 use Rattle.inofile.specs.Settled.{content_of}
 use Rattle.records.proofs.KindLaws.{file_stands, not_file}
 use Rattle.records.proofs.Looking.{brought, fails, read_on, tells}
@@ -30,9 +30,9 @@ returns-in_err-bytes g c =
 pub returns : goal.returns
 returns g c =
     let object = c.in-Some.object.now in
-    tells (read_on {P = λ disk settled v bytes. bytes.items ≡ read_at c.args.offset c.args.count (bytes_of disk object.file)} (brought c.in_ok-load.ensures) c.in_ok-bytes.ensures.reads
+    tells (read_on {P = λ disk settled v bytes. bytes.items ≡ read_at c.args.offset c.args.count (bytes_of_file disk object.file)} (brought c.in_ok-load.ensures) c.in_ok-bytes.ensures.reads
     (λ disk settled v now. c.in_ok-bytes.ensures.bytes disk now.shows) (λ disk settled v now is. cc))
     (λ disk settled v now read.
     let o = c.in-Some.ensures.stands _ disk settled v now.volume in
     let is = file_stands object.attributes.kind c.load.new.inodes.geometry.inodes (content_of disk object) (v c.args.number) o.stands c.in-File.is in
-    (ap is_file_node is, c.new.ensures ∙ read ∙ ap (λ node. read_at c.args.offset c.args.count (unwrap_or (node_bytes node) [])) (sym is)))
+    (ap is_file_node is, c.new.ensures ∙ read ∙ ap (λ node. read_at c.args.offset c.args.count (unwrap_or (bytes_of_node node) [])) (sym is)))

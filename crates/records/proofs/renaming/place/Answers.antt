@@ -3,7 +3,7 @@ use Rattle.layout.specs.declared.entry.Entry.{Entry}
 use Rattle.model.specs.Volumes.{Node, Volume, entries, is_directory_node, released, with_entry, with_node}
 use Rattle.dirs.specs.Directory.{with_name}
 use Rattle.inofile.specs.Inodes.{loaded}
-use Rattle.records.specs.Entering.{Accepts, EditsIn, PreparesEdit, names_after, with_names}
+use Rattle.records.specs.Entering.{Accepts, EditsIn, PreparesEdit, names_after, with_node_names}
 use Rattle.records.specs.Moving.{edit_for}
 use Rattle.records.specs.Steps.{StepsSome, TakesUpdate}
 use Rattle.records.specs.declared.naming.NameEdit.{NameEdit}
@@ -55,13 +55,13 @@ returns-then-is_same g c =
     (λ disk settled v known.
     let moves = known.1 in
     let edit = subst (PreparesEdit disk s.geometry.inodes (edits.Move c.args.name entry) (v k) (loaded s k)) c.in-Some.is (planned.edit.found disk settled v known.0) in
-    let between = with_node k (with_names f (v k)) v in
+    let between = with_node k (with_node_names f (v k)) v in
     let target = entries v k y in
     record {
       between = between;
       second = released target between;
-      first = (with_names f (v k), (f, edit.0, refl), refl);
-      next = steps_on disk settled v d x n k y step moves s between (λ m other apart. node_other k m (with_names f (v k)) v apart);
+      first = (with_node_names f (v k), (f, edit.0, refl), refl);
+      next = steps_on disk settled v d x n k y step moves s between (λ m other apart. node_other k m (with_node_names f (v k)) v apart);
       last =
           ap (λ (to : Option ℕ). with_entry k y to (with_entry d x None (released target v))) moves.there
           ∙ moved_inside d k x y (Some n) target v (c.is_same.ensures.yes c.if-is_same.true) (aside_new disk settled v d x n k y step moves);
@@ -125,22 +125,22 @@ returns g c =
     let edits_are = subst (λ o. IfSome o (λ e. PreparesEdit disk s.geometry.inodes c.if-is_some.wanted (v k) (loaded s k) (Some e.0) × EditsIn disk s.geometry.inodes h (v d) (loaded s d) e.1)) c.in-Some-both.is
     (both.both.found disk settled v known.0).0 in
     let added = subst (λ j. EditsIn disk s.geometry.inodes j (v k) (loaded s k) c.in-Some-both.added) (ap names_after wanted ∙ names_for entry step) edits_are.0.0 in
-    let between = with_node k (with_names f (v k)) v in
-    let stays : between d ≡ v d = node_other k d (with_names f (v k)) v other in
-    let second = with_node d (with_names h (between d)) between in
+    let between = with_node k (with_node_names f (v k)) v in
+    let stays : between d ≡ v d = node_other k d (with_node_names f (v k)) v other in
+    let second = with_node d (with_node_names h (between d)) between in
     let target = entries v k y in
     record {
       between = between;
       second = second;
-      first = (with_names f (v k), (f, added, refl), refl);
-      next = (with_names h (between d), (h, subst (λ (o : Option Node). EditsIn disk s.geometry.inodes h o (loaded s d) c.in-Some-both.removed) (sym stays) edits_are.1, refl), refl);
+      first = (with_node_names f (v k), (f, added, refl), refl);
+      next = (with_node_names h (between d), (h, subst (λ (o : Option Node). EditsIn disk s.geometry.inodes h o (loaded s d) c.in-Some-both.removed) (sym stays) edits_are.1, refl), refl);
       last =
           subst (λ (u : Volume). StepsSome disk settled s second step u)
           (sym (
           ap (λ (to : Option ℕ). with_entry k y to (with_entry d x None (released target v))) moves.there
           ∙ moved_across d k x y (Some n) target v other (aside_new disk settled v d x n k y step moves) (aside_old disk settled v d x n k y step moves)
           ))
-          (steps_on disk settled v d x n k y step moves s second (λ m not_old not_new. node_other d m (with_names h (between d)) between not_old ∙ node_other k m (with_names f (v k)) v not_new));
+          (steps_on disk settled v d x n k y step moves s second (λ m not_old not_new. node_other d m (with_node_names h (between d)) between not_old ∙ node_other k m (with_node_names f (v k)) v not_new));
       next_beside = other;
       last_beside = beside_new disk settled v d x n k y step moves;
       beside = beside_old disk settled v d x n k y step moves;

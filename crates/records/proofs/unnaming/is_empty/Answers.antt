@@ -1,7 +1,7 @@
 use Rattle.std.proofs.Common.{List, sym, subst, ◌∙◌}
 use Rattle.model.specs.Paths.{Name}
 use Rattle.model.specs.Volumes.{entries}
-use Rattle.dirs.specs.Listings.{IsListing}
+use Rattle.dirs.specs.Listings.{IsListingOfNames}
 use Rattle.records.proofs.FileLaws.{empty_listing}
 use Rattle.records.proofs.Looking.{fails, seen, tells}
 use Rattle.records.proofs.unnaming.is_empty.Goals as goal
@@ -13,7 +13,7 @@ returns-in_err-names g c =
 
 pub returns : goal.returns
 returns g c =
-    tells (seen {P = λ disk settled v names. IsListing (entries v c.args.number) names} c.in_ok-names.ensures.looks c.list.ensures.loads c.in_ok-names.ensures.found c.in_ok-names.ensures.damaged)
+    tells (seen {P = λ disk settled v names. IsListingOfNames (entries v c.args.number) names} c.in_ok-names.ensures.looks c.list.ensures.loads c.in_ok-names.ensures.found c.in_ok-names.ensures.damaged)
     (λ disk settled v now listed.
-    let told = empty_listing _ c.as_slice.result.now (entries v c.args.number) (subst (λ (l : List Name). IsListing (entries v c.args.number) l) (sym c.as_slice.ensures) listed) in
+    let told = empty_listing _ c.as_slice.result.now (entries v c.args.number) (subst (λ (l : List Name). IsListingOfNames (entries v c.args.number) l) (sym c.as_slice.ensures) listed) in
     (λ is. told.0 (sym c.is_empty.ensures ∙ is), λ none. c.is_empty.ensures ∙ told.1 none))

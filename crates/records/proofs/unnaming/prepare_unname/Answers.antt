@@ -2,7 +2,7 @@ use Rattle.std.proofs.Common.{◌≡◌, ℕ, Option, None, Some, IfSome, refl, 
 use Rattle.model.specs.Volumes.{Node, entries, names_in, released, with_entry, with_name_less, with_node}
 use Rattle.inofile.specs.Inodes.{loaded}
 use Rattle.paths.proofs.Looks.{looks_more}
-use Rattle.records.specs.Entering.{PreparesEdit, names_after, with_names}
+use Rattle.records.specs.Entering.{PreparesEdit, names_after, with_node_names}
 use Rattle.records.specs.Moving.{Releases}
 use Rattle.records.specs.Steps.{IsAlone, IsAtHand, TakesUpdate, Updates}
 use Rattle.records.specs.declared.naming.NameEdit.TheVariants as edits
@@ -88,13 +88,13 @@ returns g c =
     let edit = subst (PreparesEdit disk s.geometry.inodes (edits.Remove c.args.name) (v d) (loaded s d)) c.in-Some-planned.is
     (planned.edit.found disk settled v (told.released.looks.kept disk settled v now)) in
     let apart = empty_apart v n d x goes.1 there in
-    let between = with_node d (with_names f (v d)) v in
-    let stays = node_other d n (with_names f (v d)) v apart in
+    let between = with_node d (with_node_names f (v d)) v in
+    let stays = node_other d n (with_node_names f (v d)) v apart in
     let to = with_name_less (v n) in
     record {
       between = between;
       second = with_node n to between;
-      first = (with_names f (v d), (f, edit.0, refl), refl);
+      first = (with_node_names f (v d), (f, edit.0, refl), refl);
       next = (to, subst (λ (o : Option Node). Updates disk s.geometry.inodes (settled n) o (loaded s n) update to) (sym stays) (goes.0 s.geometry.inodes (loaded s n)), refl);
       last = ap (λ (o : Option ℕ). with_entry d x None (released o v)) there ∙ both_steps n d x None to to v apart refl;
       next_beside = apart;

@@ -1,10 +1,10 @@
 use Rattle.std.proofs.Common.{◌≡◌, ◌≤◌, ◌-◌, ℕ, ap, sym, subst, ◌∙◌, arith}
 use Rattle.layout.specs.Inode.{FitsKind}
 use Rattle.layout.specs.declared.kind.Kind.{Kind}
-use Rattle.images.specs.Contents.{StandsAs, bytes_of}
+use Rattle.images.specs.Contents.{StandsAs, content_bytes}
 use Rattle.model.specs.Volumes.{with_name_less}
 use Rattle.inofile.specs.Settled.{content_of}
-use Rattle.records.specs.Steps.{IsFileOf, with_links}
+use Rattle.records.specs.Steps.{IsFileWithLinks, with_node_links}
 use Rattle.records.proofs.FileLaws.{file_is, gone_with_name, less_links}
 use Rattle.records.proofs.unnaming.released.Goals as goal
 
@@ -18,12 +18,12 @@ returns-in-File-clause-updates c = λ count disk settled v volume many o.
     let content = content_of disk object in
     let sizes = c.args.inodes.now.geometry in
     let links = object.attributes.links in
-    let file : IsFileOf links (v c.args.number) = (content.mode, bytes_of content, subst (λ k. StandsAs k sizes.inodes content (v c.args.number)) c.in-File.is is.stands) in
+    let file : IsFileWithLinks links (v c.args.number) = (content.mode, content_bytes content, subst (λ k. StandsAs k sizes.inodes content (v c.args.number)) c.in-File.is is.stands) in
     let most : links ≤ 1000 = subst (λ (k : Kind). FitsKind k sizes object.attributes.mode links object.file.size) c.in-File.is (is.fits sizes) in
     let less : c.saturating_sub.result ≡ links - 1 = c.saturating_sub.ensures in (
       file_is links (v c.args.number) file,
       omega arith,
-      less_links links (v c.args.number) file ∙ ap (λ (n : ℕ). with_links n (v c.args.number)) (sym less),
+      less_links links (v c.args.number) file ∙ ap (λ (n : ℕ). with_node_links n (v c.args.number)) (sym less),
     )
 
 pub returns-in_default-kind-clause-updates : goal.returns-in_default-kind-clause-updates

@@ -1,7 +1,7 @@
 use Rattle.std.proofs.Common.{rules, ◌≡◌, ◌+◌, ℕ, ◌/◌, ◌%◌, List, length, max, Some, slice_index, refl, ap, sym, ◌∙◌, arith}
 use Rattle.layout.specs.FileBytes.{EndsAt, first_bytes}
 use Rattle.model.specs.Volumes.{link_node}
-use Rattle.buffers.specs.Positions.{written}
+use Rattle.buffers.specs.Positions.{with_bytes_at}
 use Rattle.inode.specs.Edges.{written_list}
 use Rattle.inode.specs.Files.{byte_at}
 use Rattle.inode.proofs.BytePositions.{slice_index-zeros}
@@ -19,7 +19,7 @@ returns-clause-object g c = λ disk shows inodes settled.
     let size : new.size ≡ max old.size (0 + length text) = c.commit.ensures.size ∙ c.in-Ok.ensures.size in
     let none : old.size ≡ 0 = c.empty-file.ensures.size in
     let many : new.size ≡ length text = omega (arith, size, none) in
-    let byte = committed_byte disk old c.prepare_write.new.self new c.in-Ok.change (written (byte_at disk old) 0 text) c.prepare_write.ensures.same c.commit.ensures (c.in-Ok.ensures.bytes disk shows ends) in
+    let byte = committed_byte disk old c.prepare_write.new.self new c.in-Ok.change (with_bytes_at (byte_at disk old) 0 text) c.prepare_write.ensures.same c.commit.ensures (c.in-Ok.ensures.bytes disk shows ends) in
     let all = list_of_write (byte_at disk old) (byte_at disk new) old.size new.size 0 text size ends byte in
     let bytes : first_bytes (byte_at disk new) new.size ≡ text = all ∙ ap (λ (n : ℕ). written_list (first_bytes (byte_at disk old) n) 0 text) none ∙ written_first text in
     let is = c.requires in

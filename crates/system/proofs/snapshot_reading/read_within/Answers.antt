@@ -10,7 +10,7 @@ use Rattle.model.specs.Trees.{Tree}
 use Rattle.model.specs.Volumes.{IsVolume}
 use Rattle.paths.specs.Standing.{Stands}
 use Rattle.records.specs.Failures.{told}
-use Rattle.snapshots.specs.Found.{Finds, named}
+use Rattle.snapshots.specs.Found.{FindsSnapshot, named}
 use Rattle.snapshots.specs.declared.finding.Found.{Found}
 use Rattle.system.specs.Answering.{reply_of}
 use Rattle.system.proofs.ViewLaws.{closed, frozen_told, reading_viewed}
@@ -21,7 +21,7 @@ returns-clause-views g c = λ disk shows v pairs holds s same.
     let r = c.args.root.now in
     let name = c.args.name.now in
     let call = c.args.call.now in
-    let finds = subst (λ (o : Option Found). Finds r disk name pairs o) c.in-Some.is (c.in_ok-found.ensures.finds disk shows v pairs holds) in
+    let finds = subst (λ (o : Option Found). FindsSnapshot r disk name pairs o) c.in-Some.is (c.in_ok-found.ensures.finds disk shows v pairs holds) in
     let (kept, hold, volume, is) = finds.1.frozen in
     let t = (whole disk r).frozen c.in-Some.found.slot in
     let next = c.find.ensures.reads.same disk shows in
@@ -41,7 +41,7 @@ pub returns-clause-damaged : goal.returns-clause-damaged
 returns-clause-damaged g c = λ disk shows v pairs holds is.
     let r = c.args.root.now in
     let name = c.args.name.now in
-    let finds = subst (λ (o : Option Found). Finds r disk name pairs o) c.in-Some.is (c.in_ok-found.ensures.finds disk shows v pairs holds) in
+    let finds = subst (λ (o : Option Found). FindsSnapshot r disk name pairs o) c.in-Some.is (c.in_ok-found.ensures.finds disk shows v pairs holds) in
     let (kept, hold, volume, tree) = finds.1.frozen in
     let t = (whole disk r).frozen c.in-Some.found.slot in
     let next = c.find.ensures.reads.same disk shows in

@@ -3,7 +3,7 @@ use Rattle.model.specs.Finding.{IsPlaceOf}
 use Rattle.model.specs.Records.{link}
 use Rattle.model.specs.Resolution.{resolve}
 use Rattle.model.specs.Volumes.{tree_of}
-use Rattle.paths.specs.Places.{place_of, IsPlaceWithin}
+use Rattle.paths.specs.Places.{model_place_of, IsPlaceWithin}
 use Rattle.calls.specs.Changing.{Decides}
 use Rattle.calls.proofs.GapLaws.{finds_gap}
 use Rattle.calls.proofs.LeadLaws.{leads_directory, leads_entry}
@@ -24,7 +24,7 @@ returns-in-Gap g c = follows c.in_ok-place.ensures.looks c.link_in.ensures (λ d
     let n = c.args.number in
     let r = resolve (tree_of v table) false path in
     let tree = c.volumes_are_trees.ensures inodes v table volume mounted in
-    let at = subst (λ p. IsPlaceOf v (place_of p) r) c.in-Gap.is (c.in_ok-place.ensures.found disk settled v table path stands volume c.requires.parts) in
+    let at = subst (λ p. IsPlaceOf v (model_place_of p) r) c.in-Gap.is (c.in_ok-place.ensures.found disk settled v table path stands volume c.requires.parts) in
     let name = c.in-Gap.name.items in
     let gap = finds_gap inodes v table volume mounted tree c.in-Gap.trail name r (target_well inodes v table volume mounted tree old path c.requires.passed) at in
     link_comes inodes v table volume mounted tree old path c.requires.passed n file.0 count file.1 file.2 leads c.records_change_trees.ensures c.volumes_tell_links.ensures _ name gap told
@@ -36,7 +36,7 @@ returns-in-Refusal g c = refuses c.in_ok-place.ensures.looks
     let (count, file) = file_found (v c.args.number) is in
     let inodes = c.args.inodes.now.geometry.inodes in
     let path = c.args.path.now in
-    let at = subst (λ p. IsPlaceOf v (place_of p) (resolve (tree_of v table) false path)) c.in-Refusal.is (c.in_ok-place.ensures.found disk settled v table path stands volume c.requires.parts) in
+    let at = subst (λ p. IsPlaceOf v (model_place_of p) (resolve (tree_of v table) false path)) c.in-Refusal.is (c.in_ok-place.ensures.found disk settled v table path stands volume c.requires.parts) in
     link_target_refused inodes v table volume mounted (c.volumes_are_trees.ensures inodes v table volume mounted) c.args.old.now path c.requires.passed
     c.args.number file.0 count file.1 file.2 leads c.in-Refusal.errno at)
 
@@ -46,7 +46,7 @@ returns-in-Directory g c = refuses c.in_ok-place.ensures.looks refl (λ disk set
     let inodes = c.args.inodes.now.geometry.inodes in
     let path = c.args.path.now in
     let r = resolve (tree_of v table) false path in
-    let at = subst (λ p. IsPlaceOf v (place_of p) r) c.in-Directory.is (c.in_ok-place.ensures.found disk settled v table path stands volume c.requires.parts) in
+    let at = subst (λ p. IsPlaceOf v (model_place_of p) r) c.in-Directory.is (c.in_ok-place.ensures.found disk settled v table path stands volume c.requires.parts) in
     link_exists inodes v table volume mounted (c.volumes_are_trees.ensures inodes v table volume mounted) c.args.old.now path c.requires.passed
     c.args.number file.0 count file.1 file.2 leads _ (leads_directory inodes v volume c.in-Directory._trail r at))
 
@@ -56,6 +56,6 @@ returns-in-Entry g c = refuses c.in_ok-place.ensures.looks refl (λ disk settled
     let inodes = c.args.inodes.now.geometry.inodes in
     let path = c.args.path.now in
     let r = resolve (tree_of v table) false path in
-    let at = subst (λ p. IsPlaceOf v (place_of p) r) c.in-Entry.is (c.in_ok-place.ensures.found disk settled v table path stands volume c.requires.parts) in
+    let at = subst (λ p. IsPlaceOf v (model_place_of p) r) c.in-Entry.is (c.in_ok-place.ensures.found disk settled v table path stands volume c.requires.parts) in
     link_exists inodes v table volume mounted (c.volumes_are_trees.ensures inodes v table volume mounted) c.args.old.now path c.requires.passed
     c.args.number file.0 count file.1 file.2 leads c.in-Entry._number (leads_entry inodes v volume c.in-Entry._trail c.in-Entry._name.items c.in-Entry._number r at))

@@ -4,7 +4,7 @@ use Rattle.model.specs.Resolution.{resolve}
 use Rattle.model.specs.Volumes.{tree_of}
 use Rattle.model.proofs.LeadLemmas.{resolves_well}
 use Rattle.paths.specs.Ends.{EndsWell}
-use Rattle.paths.specs.Places.{place_of, IsPlaceWithin}
+use Rattle.paths.specs.Places.{model_place_of, IsPlaceWithin}
 use Rattle.paths.specs.Steps.{found_in}
 use Rattle.calls.specs.Leading.{LeadsTo}
 use Rattle.calls.specs.Open.{OpensNew}
@@ -28,8 +28,8 @@ returns-in-Gap-clause-opens g c = follows c.in_ok-place.ensures.looks c.open_new
     let follow = not (flags.creates && flags.exclusive) in
     let r = resolve t follow text in
     let tree = c.volumes_are_trees.ensures inodes v table volume mounted in
-    let at = subst (λ (b : Bool). IsPlaceOf v (place_of c.in_ok-place.place) (resolve t (not b) text)) c.wants_new.ensures (c.in_ok-place.ensures.found disk settled v table text stands volume c.requires.parts) in
-    let place = subst (λ p. IsPlaceOf v (place_of p) r) c.in-Gap.is at in
+    let at = subst (λ (b : Bool). IsPlaceOf v (model_place_of c.in_ok-place.place) (resolve t (not b) text)) c.wants_new.ensures (c.in_ok-place.ensures.found disk settled v table text stands volume c.requires.parts) in
+    let place = subst (λ p. IsPlaceOf v (model_place_of p) r) c.in-Gap.is at in
     let well = resolves_well inodes t tree [] follow text c.requires.passed in
     let gap = finds_gap inodes v table volume mounted tree c.in-Gap.trail x r well place in
     along_gap inodes v table volume mounted tree (here c.in-Gap.trail) x r gap (c.volumes_tell_fresh_numbers.ensures) (c.records_change_trees.ensures) flags c.args.mode text refl told
@@ -42,8 +42,8 @@ returns-in-Refusal-clause-opens g c = refuses c.in_ok-place.ensures.looks
     let flags = c.args.flags in
     let t = tree_of v table in
     let r = resolve t (not (flags.creates && flags.exclusive)) text in
-    let at = subst (λ (b : Bool). IsPlaceOf v (place_of c.in_ok-place.place) (resolve t (not b) text)) c.wants_new.ensures (c.in_ok-place.ensures.found disk settled v table text stands volume c.requires.parts) in
-    leads_nowhere v table _ _ c.in-Refusal.errno r (subst (λ p. IsPlaceOf v (place_of p) r) c.in-Refusal.is at))
+    let at = subst (λ (b : Bool). IsPlaceOf v (model_place_of c.in_ok-place.place) (resolve t (not b) text)) c.wants_new.ensures (c.in_ok-place.ensures.found disk settled v table text stands volume c.requires.parts) in
+    leads_nowhere v table _ _ c.in-Refusal.errno r (subst (λ p. IsPlaceOf v (model_place_of p) r) c.in-Refusal.is at))
 
 pub returns-in-Directory-clause-opens : goal.returns-in-Directory-clause-opens
 returns-in-Directory-clause-opens g c = follows c.in_ok-place.ensures.looks c.open_object.ensures.opens (λ disk settled v table stands volume mounted told opens.
@@ -53,10 +53,10 @@ returns-in-Directory-clause-opens g c = follows c.in_ok-place.ensures.looks c.op
     let t = tree_of v table in
     let n = c.here-in-Directory.result in
     let r = resolve t (not (flags.creates && flags.exclusive)) text in
-    let at = subst (λ (b : Bool). IsPlaceOf v (place_of c.in_ok-place.place) (resolve t (not b) text)) c.wants_new.ensures (c.in_ok-place.ensures.found disk settled v table text stands volume c.requires.parts) in
-    let place = subst (λ p. IsPlaceOf v (place_of p) r) c.in-Directory.is at in
+    let at = subst (λ (b : Bool). IsPlaceOf v (model_place_of c.in_ok-place.place) (resolve t (not b) text)) c.wants_new.ensures (c.in_ok-place.ensures.found disk settled v table text stands volume c.requires.parts) in
+    let place = subst (λ p. IsPlaceOf v (model_place_of p) r) c.in-Directory.is at in
     let led = subst (λ (k : ℕ). LeadsTo v r (Ok k)) (sym c.here-in-Directory.ensures) (leads_directory inodes v volume c.in-Directory.trail r place) in
-    let ends = subst (λ p. EndsWell v (not c.wants_new.result) (place_of p)) c.in-Directory.is (c.in_ok-place.ensures.ends disk settled v stands volume) in
+    let ends = subst (λ p. EndsWell v (not c.wants_new.result) (model_place_of p)) c.in-Directory.is (c.in_ok-place.ensures.ends disk settled v stands volume) in
     let plain = directory_no_link (found_in (v n)) (ap (λ (k : ℕ). found_in (v k)) c.here-in-Directory.ensures ∙ ends) in
     let there = object_there v r n led in
     along_object inodes v table text flags c.args.mode n led there.0 there.1 told (opens there.0 there.1 (λ follow. plain)))
@@ -69,10 +69,10 @@ returns-in-Entry-clause-opens g c = follows c.in_ok-place.ensures.looks c.open_o
     let t = tree_of v table in
     let n = c.in-Entry.number in
     let r = resolve t (not (flags.creates && flags.exclusive)) text in
-    let at = subst (λ (b : Bool). IsPlaceOf v (place_of c.in_ok-place.place) (resolve t (not b) text)) c.wants_new.ensures (c.in_ok-place.ensures.found disk settled v table text stands volume c.requires.parts) in
-    let place = subst (λ p. IsPlaceOf v (place_of p) r) c.in-Entry.is at in
+    let at = subst (λ (b : Bool). IsPlaceOf v (model_place_of c.in_ok-place.place) (resolve t (not b) text)) c.wants_new.ensures (c.in_ok-place.ensures.found disk settled v table text stands volume c.requires.parts) in
+    let place = subst (λ p. IsPlaceOf v (model_place_of p) r) c.in-Entry.is at in
     let led = leads_entry inodes v volume c.in-Entry._trail c.in-Entry._name.items n r place in
-    let ends = subst (λ (b : Bool). EndsWell v (not b) (place_of c.in_ok-place.place)) c.wants_new.ensures (c.in_ok-place.ensures.ends disk settled v stands volume) in
-    let plain = subst (λ p. EndsWell v (not (flags.creates && flags.exclusive)) (place_of p)) c.in-Entry.is ends in
+    let ends = subst (λ (b : Bool). EndsWell v (not b) (model_place_of c.in_ok-place.place)) c.wants_new.ensures (c.in_ok-place.ensures.ends disk settled v stands volume) in
+    let plain = subst (λ p. EndsWell v (not (flags.creates && flags.exclusive)) (model_place_of p)) c.in-Entry.is ends in
     let there = object_there v r n led in
     along_object inodes v table text flags c.args.mode n led there.0 there.1 told (opens there.0 there.1 plain))

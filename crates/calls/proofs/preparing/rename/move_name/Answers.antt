@@ -1,5 +1,5 @@
 use Rattle.std.proofs.Common.{ℕ, refl, sym, subst}
-use Rattle.records.specs.Moving.{IsOutside}
+use Rattle.records.specs.Moving.{LiesOutside}
 use Rattle.records.proofs.StandLaws.{no_look}
 use Rattle.calls.specs.Rename.{MovesName}
 use Rattle.calls.proofs.PrepareSteps.{leaves, refuses}
@@ -24,4 +24,4 @@ returns g c = leaves c.record_move.ensures (λ disk settled v table stands volum
     let y = c.args.new_name.items in
     let is = c.here-new_parent.ensures in
     let apart = lies_outside v d x c.args.number c.args.trail y moves c.passes.result c.passes.ensures c.if-passes.false in
-    subst (λ (k : ℕ). MovesName inodes v d x k y told) is (records (subst (IsOutside v d x) (sym is) apart)))
+    subst (λ (k : ℕ). MovesName inodes v d x k y told) is (records (subst (LiesOutside v d x) (sym is) apart)))

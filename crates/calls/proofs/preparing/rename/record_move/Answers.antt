@@ -2,7 +2,7 @@ use Rattle.std.proofs.Common.{◌≡◌, ◌∙◌, ℕ, List, inl, inr, ap, ref
 use Rattle.model.specs.Records.{Applies, Change, rename}
 use Rattle.model.specs.Volumes.{entries}
 use Rattle.model.proofs.OptionLaws.{some_or_none}
-use Rattle.records.specs.Moving.{IsOutside}
+use Rattle.records.specs.Moving.{LiesOutside}
 use Rattle.records.specs.Obstacles.{IsObstacle}
 use Rattle.records.proofs.StandLaws.{no_look}
 use Rattle.calls.proofs.PrepareSteps.{granted, hindered, refuses}
@@ -26,7 +26,7 @@ returns-in_err-prepared g c =
     let same : rename d c.deref.result.now k c.deref-2.result.now ≡ rename d c.args.name.items k c.args.new_name.items =
     ap (λ (z : List ℕ). rename d z k c.deref-2.result.now) x ∙ ap (rename d c.args.name.items k) (c.deref-2.ensures.value ∙ c.in-Some-new.ensures.some) in
     hindered _ c.from_residual.result c.from_residual.ensures.1 c.in_err-prepared.ensures (λ disk settled v table stands volume errno first apart.
-    subst (λ (h : Change). IsObstacle c.args.inodes.now.geometry.inodes v h errno) same (first (stands, subst (λ (z : List ℕ). IsOutside v d z k) (sym x) apart)))
+    subst (λ (h : Change). IsObstacle c.args.inodes.now.geometry.inodes v h errno) same (first (stands, subst (λ (z : List ℕ). LiesOutside v d z k) (sym x) apart)))
 
 pub returns : goal.returns
 returns g c =
@@ -41,5 +41,5 @@ returns g c =
     granted c.in_ok-prepared.ensures refl says (λ disk settled v stands. stands)
     (λ disk settled v table stands volume applies apart. (
       says ∙ same,
-      subst (Applies c.args.inodes.now.geometry.inodes v) same (applies (stands, subst (λ (z : List ℕ). IsOutside v d z k) (sym x) apart)),
+      subst (Applies c.args.inodes.now.geometry.inodes v) same (applies (stands, subst (λ (z : List ℕ). LiesOutside v d z k) (sym x) apart)),
     ))

@@ -3,7 +3,7 @@ use Rattle.model.specs.Finding.{IsPlaceOf}
 use Rattle.model.specs.Resolution.{resolve}
 use Rattle.model.specs.Volumes.{tree_of}
 use Rattle.paths.specs.Ends.{EndsInName, IsAtName}
-use Rattle.paths.specs.Places.{place_of}
+use Rattle.paths.specs.Places.{model_place_of}
 use Rattle.calls.proofs.NameLaws.{ends_in_name}
 use Rattle.calls.proofs.PrepareSteps.{follows, refuses, stops}
 use Rattle.calls.proofs.RenameComes.{rename_nowhere}
@@ -16,13 +16,13 @@ returns-in_err-place g c = stops c.from_residual.result c.from_residual.ensures.
 pub returns-in-Entry : goal.returns-in-Entry
 returns-in-Entry g c = follows c.in_ok-place.ensures.looks c.rename_found.ensures (λ disk settled v table stands volume mounted y told.
     let old = c.args.old.now in
-    told (subst (λ p. IsPlaceOf v (place_of p) (resolve (tree_of v table) false old)) c.in-Entry.is (c.in_ok-place.ensures.found disk settled v table old stands volume c.requires.from)))
+    told (subst (λ p. IsPlaceOf v (model_place_of p) (resolve (tree_of v table) false old)) c.in-Entry.is (c.in_ok-place.ensures.found disk settled v table old stands volume c.requires.from)))
 
 pub returns-in-Directory : goal.returns-in-Directory
 returns-in-Directory g c = refuses c.in_ok-place.ensures.looks refl (λ disk settled v table stands volume mounted.
     let passed = c.requires.passed in
     let plain = subst EndsInName (sym c.requires.from) (ends_in_name c.args.old.now passed.old_passed passed.old_below) in
-    absurd (subst (λ p. IsAtName (place_of p)) c.in-Directory.is (c.in_ok-place.ensures.named disk settled v stands refl plain)))
+    absurd (subst (λ p. IsAtName (model_place_of p)) c.in-Directory.is (c.in_ok-place.ensures.named disk settled v stands refl plain)))
 
 pub returns-in-Refusal : goal.returns-in-Refusal
 returns-in-Refusal g c = finds_none c.in_ok-place.ensures (ap led_of c.in-Refusal.is) c.args.old.now c.requires.from (λ disk settled v table stands volume mounted.

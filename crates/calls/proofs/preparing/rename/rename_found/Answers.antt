@@ -5,7 +5,7 @@ use Rattle.model.specs.Resolution.{resolve}
 use Rattle.model.specs.Volumes.{tree_of}
 use Rattle.paths.specs.Ends.{EndsInName, IsAtName}
 use Rattle.paths.specs.Numbers.{IsNumber}
-use Rattle.paths.specs.Places.{place_of, IsPlaceWithin}
+use Rattle.paths.specs.Places.{model_place_of, IsPlaceWithin}
 use Rattle.calls.specs.Rename.{MovesAlong, MovesName}
 use Rattle.calls.proofs.NameLaws.{ends_in_name}
 use Rattle.calls.proofs.PrepareSteps.{follows, grants, refuses, stops}
@@ -17,14 +17,14 @@ use Rattle.calls.proofs.preparing.rename.rename_found.Goals as goal
 
 pub move_name-requires-clause-parent : goal.move_name-requires-clause-parent
 move_name-requires-clause-parent g c =
-    subst (IsNumber c.find.new.inodes.geometry.inodes) (sym c.here-parent.ensures)
-    (subst (λ (z : Sizes). IsNumber z.inodes (here c.args.trail)) (sym c.find.ensures.looks.geometry)
+    subst (IsNumber c.resolve.new.inodes.geometry.inodes) (sym c.here-parent.ensures)
+    (subst (λ (z : Sizes). IsNumber z.inodes (here c.args.trail)) (sym c.resolve.ensures.looks.geometry)
     (here_number c.args.inodes.now.geometry.inodes c.args.trail c.args.number c.requires.number c.requires.within))
 
 pub move_name-requires-in-Gap-clause-parent : goal.move_name-requires-in-Gap-clause-parent
 move_name-requires-in-Gap-clause-parent g c =
-    subst (IsNumber c.find.new.inodes.geometry.inodes) (sym c.here-parent.ensures)
-    (subst (λ (z : Sizes). IsNumber z.inodes (here c.args.trail)) (sym c.find.ensures.looks.geometry)
+    subst (IsNumber c.resolve.new.inodes.geometry.inodes) (sym c.here-parent.ensures)
+    (subst (λ (z : Sizes). IsNumber z.inodes (here c.args.trail)) (sym c.resolve.ensures.looks.geometry)
     (here_number c.args.inodes.now.geometry.inodes c.args.trail c.args.number c.requires.number c.requires.within))
 
 pub returns-in_err-place : goal.returns-in_err-place
@@ -39,7 +39,7 @@ returns-then-get g c = grants c.in_ok-place.ensures.looks tt (λ disk settled v 
     let r = resolve (tree_of v table) false path in
     let tree = c.volumes_are_trees.ensures inodes v table volume mounted in
     let finds = finds_entry v c.args.trail c.args.name.items c.args.number (resolve (tree_of v table) false old) place in
-    let at = subst (λ p. IsPlaceOf v (place_of p) r) c.in-Entry.is (c.in_ok-place.ensures.found disk settled v table path stands volume c.requires.to) in
+    let at = subst (λ p. IsPlaceOf v (model_place_of p) r) c.in-Entry.is (c.in_ok-place.ensures.found disk settled v table path stands volume c.requires.to) in
     let above = c.in-Entry.above in
     let y = c.in-Entry.new_name.items in
     let m = c.in-Entry.other in
@@ -57,7 +57,7 @@ returns-in-Entry g c = follows c.in_ok-place.ensures.looks c.move_name.ensures (
     let r = resolve (tree_of v table) false path in
     let tree = c.volumes_are_trees.ensures inodes v table volume mounted in
     let finds = finds_entry v c.args.trail x n (resolve (tree_of v table) false old) place in
-    let at = subst (λ p. IsPlaceOf v (place_of p) r) c.in-Entry.is (c.in_ok-place.ensures.found disk settled v table path stands volume c.requires.to) in
+    let at = subst (λ p. IsPlaceOf v (model_place_of p) r) c.in-Entry.is (c.in_ok-place.ensures.found disk settled v table path stands volume c.requires.to) in
     let above = c.in-Entry.above in
     let y = c.in-Entry.new_name.items in
     let m = c.in-Entry.other in
@@ -78,7 +78,7 @@ returns-in-Gap g c = follows c.in_ok-place.ensures.looks c.move_name-in-Gap.ensu
     let r = resolve (tree_of v table) false path in
     let tree = c.volumes_are_trees.ensures inodes v table volume mounted in
     let finds = finds_entry v c.args.trail x n (resolve (tree_of v table) false old) place in
-    let at = subst (λ p. IsPlaceOf v (place_of p) r) c.in-Gap.is (c.in_ok-place.ensures.found disk settled v table path stands volume c.requires.to) in
+    let at = subst (λ p. IsPlaceOf v (model_place_of p) r) c.in-Gap.is (c.in_ok-place.ensures.found disk settled v table path stands volume c.requires.to) in
     let above = c.in-Gap.above in
     let y = c.in-Gap.new_name.items in
     let well = target_well inodes v table volume mounted tree old path c.requires.passed in
@@ -93,7 +93,7 @@ pub returns-in-Directory : goal.returns-in-Directory
 returns-in-Directory g c = refuses c.in_ok-place.ensures.looks refl (λ disk settled v table stands volume mounted place.
     let passed = c.requires.passed in
     let plain = subst EndsInName (sym c.requires.to) (ends_in_name c.args.path.now passed.passed passed.below) in
-    absurd (subst (λ p. IsAtName (place_of p)) c.in-Directory.is (c.in_ok-place.ensures.named disk settled v stands refl plain)))
+    absurd (subst (λ p. IsAtName (model_place_of p)) c.in-Directory.is (c.in_ok-place.ensures.named disk settled v stands refl plain)))
 
 pub returns-in-Refusal : goal.returns-in-Refusal
 returns-in-Refusal g c = refuses c.in_ok-place.ensures.looks
@@ -102,6 +102,6 @@ returns-in-Refusal g c = refuses c.in_ok-place.ensures.looks
     let old = c.args.old.now in
     let path = c.args.path.now in
     let finds = finds_entry v c.args.trail c.args.name.items c.args.number (resolve (tree_of v table) false old) place in
-    let at = subst (λ p. IsPlaceOf v (place_of p) (resolve (tree_of v table) false path)) c.in-Refusal.is (c.in_ok-place.ensures.found disk settled v table path stands volume c.requires.to) in
+    let at = subst (λ p. IsPlaceOf v (model_place_of p) (resolve (tree_of v table) false path)) c.in-Refusal.is (c.in_ok-place.ensures.found disk settled v table path stands volume c.requires.to) in
     target_refused inodes v table volume mounted (c.volumes_are_trees.ensures inodes v table volume mounted) old path c.requires.passed c.records_change_trees.ensures
     (here c.args.trail) c.args.name.items c.args.number finds c.in-Refusal.errno at)

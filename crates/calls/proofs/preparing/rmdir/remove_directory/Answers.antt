@@ -8,7 +8,7 @@ use Rattle.model.specs.Finding.{IsPlaceOf}
 use Rattle.model.specs.Resolution.{resolve}
 use Rattle.model.specs.Volumes.{tree_of}
 use Rattle.paths.specs.Ends.{EndsInName, IsAtName}
-use Rattle.paths.specs.Places.{place_of}
+use Rattle.paths.specs.Places.{model_place_of}
 use Rattle.calls.specs.Rmdir.{RemovesDirectory}
 use Rattle.calls.proofs.NameLaws.{ends_in_name}
 use Rattle.calls.proofs.WhereSteps.{finds_none, led_of}
@@ -36,7 +36,7 @@ returns-in-Entry g c = follows c.in_ok-place.ensures.looks c.remove_entry.ensure
     let inodes = c.args.inodes.now.geometry.inodes in
     let text = c.args.path.now in
     let r = resolve (tree_of v table) false text in
-    let at = subst (λ p. IsPlaceOf v (place_of p) r) c.in-Entry.is (c.in_ok-place.ensures.found disk settled v table text stands volume (search rules)) in
+    let at = subst (λ p. IsPlaceOf v (model_place_of p) r) c.in-Entry.is (c.in_ok-place.ensures.found disk settled v table text stands volume (search rules)) in
     let name = c.in-Entry.name.items in
     let n = c.in-Entry.number in
     remove_comes inodes v table volume mounted (c.volumes_are_trees.ensures inodes v table volume mounted) c.records_change_trees.ensures text passed not_root _ name n
@@ -48,7 +48,7 @@ returns-in-Directory g c = refuses c.in_ok-place.ensures.looks refl (λ disk set
     let not_root : IsFalse (is_root_text c.args.path.now) = search rules in
     let same : c.in_ok-parts.parts ≡ parts c.args.path.now = search rules in
     let plain = subst EndsInName (sym same) (ends_in_name c.args.path.now passed not_root) in
-    absurd (subst (λ p. IsAtName (place_of p)) c.in-Directory.is (c.in_ok-place.ensures.named disk settled v stands refl plain)))
+    absurd (subst (λ p. IsAtName (model_place_of p)) c.in-Directory.is (c.in_ok-place.ensures.named disk settled v stands refl plain)))
 
 pub returns-in-Refusal : goal.returns-in-Refusal
 returns-in-Refusal g c = finds_none c.in_ok-place.ensures (ap led_of c.in-Refusal.is) c.args.path.now (search rules) (λ disk settled v table stands volume mounted.

@@ -2,9 +2,8 @@ use Rattle.std.proofs.Common.{◌≡◌, ◌∙◌, ℕ, nat_abs, w64, inr, Err,
 use Rattle.std.proofs.lemmas.Int.{to_z-of_z}
 use Rattle.model.specs.declared.errno.Errno.TheVariants.{EISDIR}
 use Rattle.paths.proofs.Looks.{looks_more}
-use Rattle.calls.specs.Truncate.{CutsNumber}
 use Rattle.calls.proofs.PrepareSteps.{follows, passes, refuses, stops_later}
-use Rattle.calls.proofs.TruncateLaws.{cuts_found, found_file, found_other, truncate_comes, truncate_nowhere}
+use Rattle.calls.proofs.TruncateLaws.{CutsNumber, cuts_found, found_file, found_other, truncate_comes, truncate_nowhere}
 use Rattle.calls.proofs.preparing.truncate.truncate_along.Goals as goal
 
 pub returns-in_err-number : goal.returns-in_err-number

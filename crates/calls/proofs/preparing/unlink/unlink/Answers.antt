@@ -8,7 +8,7 @@ use Rattle.model.specs.Finding.{IsPlaceOf}
 use Rattle.model.specs.Resolution.{resolve}
 use Rattle.model.specs.Volumes.{tree_of}
 use Rattle.paths.specs.Ends.{EndsWell}
-use Rattle.paths.specs.Places.{place_of}
+use Rattle.paths.specs.Places.{model_place_of}
 use Rattle.calls.specs.Unlink.{UnlinksEntry}
 use Rattle.calls.proofs.LeadLaws.{leads_directory}
 use Rattle.calls.proofs.WhereSteps.{finds_none, led_of}
@@ -29,7 +29,7 @@ returns-in-Entry g c = follows c.in_ok-place.ensures.looks c.unlink_entry.ensure
     let inodes = c.args.inodes.now.geometry.inodes in
     let text = c.args.path.now in
     let r = resolve (tree_of v table) false text in
-    let at = subst (λ p. IsPlaceOf v (place_of p) r) c.in-Entry.is (c.in_ok-place.ensures.found disk settled v table text stands volume (search rules)) in
+    let at = subst (λ p. IsPlaceOf v (model_place_of p) r) c.in-Entry.is (c.in_ok-place.ensures.found disk settled v table text stands volume (search rules)) in
     let name = c.in-Entry.name.items in
     let n = c.in-Entry.number in
     unlink_comes inodes v table volume mounted (c.volumes_are_trees.ensures inodes v table volume mounted) c.records_change_trees.ensures text passed _ name n
@@ -41,8 +41,8 @@ returns-in-Directory g c = refuses c.in_ok-place.ensures.looks refl (λ disk set
     let inodes = c.args.inodes.now.geometry.inodes in
     let text = c.args.path.now in
     let r = resolve (tree_of v table) false text in
-    let at = subst (λ p. IsPlaceOf v (place_of p) r) c.in-Directory.is (c.in_ok-place.ensures.found disk settled v table text stands volume (search rules)) in
-    let ends = subst (λ p. EndsWell v false (place_of p)) c.in-Directory.is (c.in_ok-place.ensures.ends disk settled v stands volume) in
+    let at = subst (λ p. IsPlaceOf v (model_place_of p) r) c.in-Directory.is (c.in_ok-place.ensures.found disk settled v table text stands volume (search rules)) in
+    let ends = subst (λ p. EndsWell v false (model_place_of p)) c.in-Directory.is (c.in_ok-place.ensures.ends disk settled v stands volume) in
     unlink_directory inodes v table volume mounted (c.volumes_are_trees.ensures inodes v table volume mounted) c.records_change_trees.ensures text passed _
     (leads_directory inodes v volume c.in-Directory._trail r at) ends)
 

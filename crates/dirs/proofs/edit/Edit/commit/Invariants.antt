@@ -1,9 +1,10 @@
-use Rattle.std.proofs.Common.{◌≡◌, ℕ, List, unwrap_or}
+use Rattle.std.proofs.Common.{◌≡◌, ◌≤◌, ◌+◌, ℕ, List, unwrap_or}
 use Rattle.std.specs.Ordering.{nat_cmp}
 use Rattle.std.specs.BTreeMap as tree
 use Rattle.blocktree.specs.Trees.{HasRoom, KeepsSound}
 use Rattle.inode.specs.Bases.{KeepsBase}
 use Rattle.inode.specs.Files.{file_block}
+use Rattle.inode.specs.Room.{changed_below}
 use Rattle.dirs.proofs.edit.Edit.commit.Given as goal
 
 abbrev pub decreases-loop-i : goal.decreases-loop-i
@@ -16,4 +17,6 @@ invariant-loop-i l = record {
       ≡ unwrap_or (tree.get nat_cmp l.initial.changed i) (file_block disk l.initial.file i);
   base : KeepsBase l.initial.file.tree l.file.tree;
   sound : KeepsSound l.initial.file.tree l.file.tree;
+  few : (n : ℕ) → changed_below l.file.tree n + tree.btree_map_len l.changed
+      ≤ changed_below l.initial.file.tree n + tree.btree_map_len l.initial.changed;
 }

@@ -1,6 +1,6 @@
 use Rattle.std.proofs.Common.{rules, length, inl, inr, arith, ◌∙◌, ap, sym, slice_index, List, ℕ, refl, ◌+◌, ◌-◌, ◌*◌, ◌≡◌, ◌≢◌}
 use Rattle.inode.specs.Edges.{IsPartlyWritten}
-use Rattle.buffers.specs.Positions.{written}
+use Rattle.buffers.specs.Positions.{with_bytes_at}
 use Rattle.inode.specs.Files.{file_block, byte_at}
 use Rattle.inode.proofs.BytePositions.{written_piece, byte_in_block}
 use Rattle.inode.proofs.file.File.new_block.Goals as goal
@@ -27,4 +27,4 @@ returns-clause-bytes g c = λ disk shows r lt.
     c.put.ensures.bytes r
     ∙ written_piece (byte_at disk c.args.self.now) (slice_index c.in_ok-block.block) c.args.offset c.args.bytes.now _ (4096 * c.from-start.result) c.max-from.result c.min-to.result r (search rules) (search rules) (omega arith) (omega arith) refl lt
     (λ part. ap (λ (b : List ℕ). slice_index b r) (block part) ∙ sym (byte_in_block (file_block disk c.args.self.now) c.args.i r lt) ∙ ap (λ (n : ℕ). byte_at disk c.args.self.now (n + r)) (sym start))
-    ∙ ap (λ (n : ℕ). written (byte_at disk c.args.self.now) c.args.offset c.args.bytes.now (n + r)) start
+    ∙ ap (λ (n : ℕ). with_bytes_at (byte_at disk c.args.self.now) c.args.offset c.args.bytes.now (n + r)) start

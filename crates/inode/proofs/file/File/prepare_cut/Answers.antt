@@ -1,8 +1,11 @@
-use Rattle.std.proofs.Common.{rules, ◌∙◌, ap, slice_index, List, ℕ, refl, subst, sym, ◌/◌, ◌%◌}
+use Rattle.std.proofs.Common.{rules, arith, length, ◌≡◌, ◌≤◌, ◌⊎◌, ◌+◌, ◌∙◌, ap, slice_index, List, ℕ, refl, subst, sym, ◌/◌, ◌%◌}
 use Rattle.blocktree.specs.Trees.{IsSoundAt}
 use Rattle.inode.specs.Files.{file_block, byte_at}
 use Rattle.inode.proofs.BytePositions.{cut_laid_hole, cut_laid_none, cut_laid_one, cut_same}
+use Rattle.std.proofs.lemmas.List.{length_push}
+use Rattle.layout.specs.Version.{level_of}
 use Rattle.inode.proofs.EdgeLaws.{list_of_cut}
+use Rattle.inode.proofs.RoomLaws.{stores_pieces, stores_kept, keeps_level}
 use Rattle.inode.proofs.file.File.prepare_cut.Goals as goal
 
 pub returns-then-keeps_last_block-clause-bytes : goal.returns-then-keeps_last_block-clause-bytes
@@ -40,3 +43,21 @@ returns-clause-bytes g c = λ disk shows whole p.
 pub returns-clause-list : goal.returns-clause-list
 returns-clause-list g c = λ disk shows whole.
     list_of_cut (byte_at disk c.args.self.now) _ c.args.self.now.size c.args.size whole (returns-clause-bytes g c disk shows whole)
+
+pub returns-then-keeps_last_block-clause-stores : goal.returns-then-keeps_last_block-clause-stores
+returns-then-keeps_last_block-clause-stores g c =
+    let none : length c.new-pieces.result.items ≡ 0 = ap length c.new-pieces.ensures.items in
+    stores_pieces c.args.self.now _ 3 (omega (arith, none))
+
+pub returns-then-in_hole-clause-stores : goal.returns-then-in_hole-clause-stores
+returns-then-in_hole-clause-stores g c =
+    let none : length c.new-pieces.result.items ≡ 0 = ap length c.new-pieces.ensures.items in
+    stores_pieces c.args.self.now _ 3 (omega (arith, none))
+
+pub returns-clause-stores : goal.returns-clause-stores
+returns-clause-stores g c =
+    let none : length c.new-pieces.result.items ≡ 0 = ap length c.new-pieces.ensures.items in
+    let one : length c.push.new.self.items ≡ length c.new-pieces.result.items + 1 = ap length c.in_ok-push.ensures.items ∙ length_push c.new-pieces.result.items c.cut.new.self in
+    stores_kept c.make_room.new.self _ 3 (omega (arith, none, one))
+    (subst (λ (n : ℕ). (1 ≤ level_of n) ⊎ (level_of c.args.size ≡ 0)) (sym c.make_room.ensures.same.size)
+    (keeps_level c.args.self.now.size c.args.size (c.keeps_last_block.ensures.level c.if-keeps_last_block.false)))

@@ -1,5 +1,5 @@
 use Rattle.std.proofs.Common.{rules, subst, arith, length, ◌∙◌, ap, slice_index, List, ℕ, refl, ◌/◌, ◌+◌, ◌*◌, ◌%◌, ◌≡◌}
-use Rattle.buffers.specs.Positions.{written}
+use Rattle.buffers.specs.Positions.{with_bytes_at}
 use Rattle.std.proofs.lemmas.List.{length_push}
 use Rattle.blocktree.specs.Trees.{HasRoom, IsSoundAt}
 use Rattle.inode.specs.Edges.{IsPartlyWritten}
@@ -7,6 +7,7 @@ use Rattle.inode.specs.Files.{file_block, byte_at}
 use Rattle.inode.proofs.BaseLaws.{same_itself, still_same}
 use Rattle.inode.proofs.BytePositions.{write_laid, piece_more, each_more, at_edge, written_same}
 use Rattle.inode.proofs.EdgeLaws.{list_of_write}
+use Rattle.inode.proofs.RoomLaws.{stores_pieces, touches}
 use Rattle.inode.proofs.file.File.prepare_write.Given.{Over}
 use Rattle.inode.proofs.file.File.prepare_write.Goals as goal
 
@@ -49,7 +50,7 @@ loop-i-preserved g c = record {
       (c.in_ok-block.ensures.read disk (c.loop-i.invariant.read.same disk shows) part)));
   room = each_more (HasRoom c.new_block.new.self.tree) (c.args.offset / 4096) (length c.loop-i.pieces.items) (length c.push.new.self.items) c.loop-i.i (more g c) c.loop-i.invariant.count
       (λ j lt. c.in_ok-block.ensures.keeps (c.args.offset / 4096 + j) (c.loop-i.invariant.room j lt)) c.in_ok-block.ensures.room;
-  bytes = λ disk shows. piece_more c.loop-i.pieces.items c.push.new.self.items c.in_ok-block.block (c.args.offset / 4096) c.loop-i.i (written (byte_at disk c.args.self.now) c.args.offset c.args.bytes.now) c.in_ok-push.ensures.items c.loop-i.invariant.count (c.loop-i.invariant.bytes disk shows)
+  bytes = λ disk shows. piece_more c.loop-i.pieces.items c.push.new.self.items c.in_ok-block.block (c.args.offset / 4096) c.loop-i.i (with_bytes_at (byte_at disk c.args.self.now) c.args.offset c.args.bytes.now) c.in_ok-push.ensures.items c.loop-i.invariant.count (c.loop-i.invariant.bytes disk shows)
       (λ r lt. c.in_ok-block.ensures.bytes disk (c.loop-i.invariant.read.same disk shows) r lt
       ∙ written_same (byte_at disk c.loop-i.self) (byte_at disk c.args.self.now) c.args.offset c.args.bytes.now (4096 * c.loop-i.i + r)
       (ap (λ (b : List ℕ). slice_index b ((4096 * c.loop-i.i + r) % 4096)) (c.loop-i.invariant.same.blocks disk ((4096 * c.loop-i.i + r) / 4096))));
@@ -60,3 +61,7 @@ returns-in_err-block-clause-same g c = still_same c.args.self.now c.loop-i.self 
 
 pub returns-in_err-push-clause-same : goal.returns-in_err-push-clause-same
 returns-in_err-push-clause-same g c = still_same c.args.self.now c.loop-i.self c.new_block.new.self c.loop-i.invariant.same c.in_ok-block.ensures.unchanged
+
+pub returns-clause-stores : goal.returns-clause-stores
+returns-clause-stores g c =
+    stores_pieces c.loop-i.self _ _ (touches c.args.self.now.size c.args.offset (length c.args.bytes.now) (length c.loop-i.pieces.items) (search rules))

@@ -1,5 +1,5 @@
 use Rattle.std.proofs.Common.{◌≡◌, ℕ, ◌+◌, ◌*◌, ◌<◌, List, [], length, slice_index, slice_index_or}
-use Rattle.buffers.specs.Positions.{written}
+use Rattle.buffers.specs.Positions.{with_bytes_at}
 use Rattle.buffers.specs.Reads.{HasOnlyRead}
 use Rattle.blocktree.specs.Trees.{HasRoom, IsSoundAt}
 use Rattle.inode.specs.Edges.{IsPartlyWritten}
@@ -14,5 +14,5 @@ invariant-loop-i g l = record {
   sound : (disk : ℕ → List ℕ) → g.B.Blocks.Shows l.initial.blocks disk → (j : ℕ) → j < length l.pieces.items
       → IsPartlyWritten l.offset (length l.bytes) (l.first + j) → IsSoundAt (g.B.Blocks.count l.initial.blocks) disk l.fn.self.tree (l.first + j);
   room : (j : ℕ) → j < length l.pieces.items → HasRoom l.self.tree (l.first + j);
-  bytes : (disk : ℕ → List ℕ) → g.B.Blocks.Shows l.initial.blocks disk → (j : ℕ) → j < length l.pieces.items → (r : ℕ) → r < 4096 → slice_index (slice_index_or l.pieces.items j []) r ≡ written (byte_at disk l.fn.self) l.offset l.bytes (4096 * (l.first + j) + r);
+  bytes : (disk : ℕ → List ℕ) → g.B.Blocks.Shows l.initial.blocks disk → (j : ℕ) → j < length l.pieces.items → (r : ℕ) → r < 4096 → slice_index (slice_index_or l.pieces.items j []) r ≡ with_bytes_at (byte_at disk l.fn.self) l.offset l.bytes (4096 * (l.first + j) + r);
 }

@@ -1,11 +1,18 @@
-use Rattle.std.proofs.Common.{refl, ap, sym, subst, Some, IsSome, Bool}
+use Rattle.std.proofs.Common.{refl, ap, sym, subst, ◌≡◌, ◌+◌, ◌∙◌, ℕ, Some, IsSome, Bool}
+use Rattle.std.specs.Ordering.{nat_cmp}
+use Rattle.std.specs.BTreeMap.{get}
 use Rattle.std.specs.Option.{option_map}
+use Rattle.layout.specs.Limits.{Sizes}
+use Rattle.model.specs.Volumes.{with_node}
+use Rattle.images.specs.Sums.{sum_below}
 use Rattle.inofile.specs.Settled.{content_of}
+use Rattle.inofile.specs.Room.{number_room, room_of}
 use Rattle.inofile.specs.Inodes.{IsKnownSlot, slot_object}
 use Rattle.inofile.specs.Slots.{IsChangedSlot}
 use Rattle.inofile.specs.declared.inode_file.Slot.TheVariants.{Changed}
 use Rattle.inofile.proofs.SlotLaws.{contents_with, each_slot, other_changes, other_objects, puts}
-use Rattle.inofile.proofs.VolumeLaws.{Notes, note_maps, set_stands, own_stay}
+use Rattle.inofile.proofs.VolumeLaws.{Notes, note_maps, other_slot, own_stay, set_stands}
+use Rattle.inofile.proofs.RoomLaws.{given_room}
 use Rattle.inofile.proofs.inode_file.InodeFile.commit_set.Goals as goal
 
 pub returns : goal.returns
@@ -40,4 +47,11 @@ returns c =
       rest = other_objects old new number (Some (Changed object)) up;
       changed = subst IsChangedSlot (sym up.1) tt;
       others = other_changes old new number (Some (Changed object)) up;
+      slot = up.1;
+      slots = λ n ne. other_slot old new number n (Some (Changed object)) up ne;
+      room = λ before base v node sizes same.
+          let sum = given_room base v before.slots new c.args.self.now.geometry.inodes number (Some (Changed object)) node c.requires.high up.1
+          (λ n ne. other_slot old new number n (Some (Changed object)) up ne ∙ same n ne) in
+          subst (λ (g : Sizes). sum_below (λ n. room_of (get nat_cmp new n) (base n) (with_node number node v n)) c.args.self.now.geometry.inodes + number_room base before v number
+          ≡ sum_below (number_room base before v) g.inodes + room_of (Some (Changed object)) (base number) node) sizes sum;
     }

@@ -7,6 +7,7 @@ use Rattle.inofile.specs.Objects.{StandsFor}
 use Rattle.inofile.specs.Settled.{held_content, settled_content}
 use Rattle.inofile.specs.declared.inode_file.Slot.TheVariants.{Loaded}
 use Rattle.inofile.proofs.VolumeLaws.{all_stand, load_stands, load_same, unknown_stands}
+use Rattle.inofile.proofs.RoomLaws.{set_needs}
 use Rattle.inofile.proofs.inode_file.InodeFile.load.Goals as goal
 use Rattle.images.proofs.KindLaws.{ordinary_kind}
 
@@ -43,3 +44,6 @@ returns-in-Ok-clause-same g c = λ disk settled shows are.
 
 pub returns-in_err-inode-clause-damaged : goal.returns-in_err-inode-clause-damaged
 returns-in_err-inode-clause-damaged g c = λ disk settled shows bad are. c.in_err-inode.ensures.damaged disk settled shows (search rules) are
+
+pub returns-in-Ok-clause-needs : goal.returns-in-Ok-clause-needs
+returns-in-Ok-clause-needs g c = set_needs c.args.self.now.slots c.insert.new.self c.args.number (Some (Loaded c.in_ok-object.object)) refl c.in-Ok.ensures.updates

@@ -3,7 +3,7 @@ use Rattle.std.specs.Prelude.{OnOk}
 use Rattle.station.specs.declared.station.DeviceFault.{DeviceFault}
 use Rattle.station.specs.Moments.{EachCut, KeepsDisk}
 use Rattle.layout.specs.Record.{change_of}
-use Rattle.oplog.specs.LogEnd.{LogEnd, Bodies, HasRoom, body_of, behind, next_of, with_body, LogStands, StandsAt}
+use Rattle.oplog.specs.LogEnd.{LogEnd, Bodies, HasRoomInHalf, logged_body, behind_record, next_of, with_body, LogStands, StandsAt}
 use Rattle.oplog.specs.Internal.{IsBehind, Appends}
 use Rattle.oplog.specs.declared.log.End.{End}
 use Rattle.oplog.specs.declared.log.End.TheVariants.{At}
@@ -16,13 +16,13 @@ next_place : (got long next body items : ℕ) → got ≡ next → long ≡ item
 next_place got long next body items here same is = omega arith
 
 appends : (g : Over) (c : After-write_record g) (gen : ℕ) (bodies : Bodies) → LogStands (g.S.Station.meaning c.args.station.now) c.args.self.now gen bodies
-    → Appends (g.S.Station.meaning c.args.station.now) (g.S.Station.meaning c.write_record.new.station) (record c.args.self.now { end = c.self.inside.end }) gen bodies (body_of (change_of c.args.change.now)) c.write_record.result
+    → Appends (g.S.Station.meaning c.args.station.now) (g.S.Station.meaning c.write_record.new.station) (record c.args.self.now { end = c.self.inside.end }) gen bodies (logged_body (change_of c.args.change.now)) c.write_record.result
 appends g c gen bodies stands =
     let log = c.args.self.now in
-    let body = body_of (change_of c.args.change.now) in
+    let body = logged_body (change_of c.args.change.now) in
     let end : c.self.inside.end ≡ log.end = ap (λ (l : LogEnd). l.end) c.self.view_is in
     let half : c.self.inside.half ≡ log.half = ap (λ (l : LogEnd). l.half) c.self.view_is in
-    let room : HasRoom log (length body) = c.prepare.ensures.room (search rules) in
+    let room : HasRoomInHalf log (length body) = c.prepare.ensures.room (search rules) in
     let room_here : next_of c.self.inside.end + 5 + length body + 1 ≤ log.half = subst (λ (e : End). next_of e + 5 + length body + 1 ≤ log.half) (sym end) room in
     let long : length c.deref.result.now ≡ length body + 5 = ap (λ (l : List ℕ). length l) c.deref.ensures.value ∙ c.in_ok-behind.ensures.length in
     c.write_record.ensures.appends log gen bodies body
@@ -42,9 +42,9 @@ returns-clause-any_moment g c gen bodies stands = (appends g (goal.at.returns-cl
 pub returns-clause-appended : goal.returns-clause-appended
 returns-clause-appended g c gen bodies stands =
     let log = c.args.self.now in
-    let body = body_of (change_of c.args.change.now) in
+    let body = logged_body (change_of c.args.change.now) in
     let with_it : LogEnd → Type 0 = λ (l : LogEnd). EachCut (g.S.Station.meaning c.write_record.new.station) (KeepsDisk (g.S.Station.meaning c.args.station.now) (StandsAt l gen (with_body bodies body))) in
-    let done = subst (λ (r : Result (Unit {0}) DeviceFault). OnOk r (with_it (behind (record log { end = c.self.inside.end }) body))) c.in-Ok.is
+    let done = subst (λ (r : Result (Unit {0}) DeviceFault). OnOk r (with_it (behind_record (record log { end = c.self.inside.end }) body))) c.in-Ok.is
     (appends g (goal.at.returns-clause-appended g c).After-write_record gen bodies stands).appended in
     let place : next_of c.self.inside.end + 5 + length body ≡ c.next.result + c.len.result =
     next_place c.next.result c.len.result (next_of c.self.inside.end) (length body) (length c.in_ok-behind.behind.items) (c.next.ensures.place ∙ ap (λ (l : LogEnd). next_of l.end) (sym c.self.view_is)) (search rules) c.in_ok-behind.ensures.length in

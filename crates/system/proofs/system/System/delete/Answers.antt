@@ -14,7 +14,7 @@ use Rattle.model.specs.Trees.{Tree}
 use Rattle.model.specs.declared.command.Command.TheVariants as command
 use Rattle.model.specs.declared.errno.Errno.TheVariants.{NOSNAP}
 use Rattle.model.specs.declared.reply.Reply.TheVariants.{Done, Refused}
-use Rattle.snapshots.specs.Found.{Finds, named}
+use Rattle.snapshots.specs.Found.{FindsSnapshot, named}
 use Rattle.snapshots.specs.declared.finding.Found.{Found}
 use Rattle.system.specs.Serving.{ServesState}
 use Rattle.system.specs.Systems.{meaning_of}
@@ -27,17 +27,17 @@ use Rattle.system.proofs.system.System.delete.Goals.{In-Some}
 
 -- what was found of a state that the system serves
 finds : (g : Over) (c : In-Some g) (s : State) → (served : ServesState {G = g.S.Station} c.args.self.now s)
-    → Finds c.args.self.now.root (blocks_of (meaning_of {G = g.S.Station} c.args.self.now).seen.disk) c.as_bytes.result.now served.snapshots (Some c.in-Some.found)
+    → FindsSnapshot c.args.self.now.root (blocks_of (meaning_of {G = g.S.Station} c.args.self.now).seen.disk) c.as_bytes.result.now served.snapshots (Some c.in-Some.found)
 finds g c s served =
     let fs = c.args.self.now in
     let d = blocks_of (meaning_of {G = g.S.Station} fs).seen.disk in
-    subst (λ (o : Option Found). Finds fs.root d c.as_bytes.result.now served.snapshots o) c.in-Some.is (c.in-Ok.ensures.finds d served.shows served.first served.snapshots served.under.holds)
+    subst (λ (o : Option Found). FindsSnapshot fs.root d c.as_bytes.result.now served.snapshots o) c.in-Some.is (c.in-Ok.ensures.finds d served.shows served.first served.snapshots served.under.holds)
 
 number : (g : Over) (c : In-Some g) → (1 ≤ c.in-Some.found.slot) × (c.in-Some.found.slot ≤ SNAPSHOT_SLOTS)
 number g c = subst (λ (o : Option Found). IfSome o (λ f. (1 ≤ f.slot) × (f.slot ≤ SNAPSHOT_SLOTS))) c.in-Some.is c.in-Ok.ensures.slot
 
 -- what isn't some is nothing
-not_found : (r : Root) (disk : Blocks) (name : Name) (pairs : List (Name × Tree)) (o : Option Found) → ((f : Found) → o ≡ Some f → ⊥) → Finds r disk name pairs o → named name pairs ≡ None
+not_found : (r : Root) (disk : Blocks) (name : Name) (pairs : List (Name × Tree)) (o : Option Found) → ((f : Found) → o ≡ Some f → ⊥) → FindsSnapshot r disk name pairs o → named name pairs ≡ None
 not_found r disk name pairs None none finds = finds
 not_found r disk name pairs (Some f) none finds = absurd (none f refl)
 

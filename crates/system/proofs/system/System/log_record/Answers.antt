@@ -1,7 +1,7 @@
 use Rattle.std.proofs.Common.{Ok, Err, ◌≡◌, ◌+◌, length, ap, arith, sym, subst, ◌⊎◌, ◌≢◌, inl, inr, refl}
 use Rattle.std.specs.Prelude.{IsFalse, IsErrOf}
 use Rattle.layout.specs.Record.{change_of}
-use Rattle.oplog.specs.LogEnd.{HasRoom, LogEnd, body_of, next_of}
+use Rattle.oplog.specs.LogEnd.{HasRoomInHalf, LogEnd, logged_body, next_of}
 use Rattle.oplog.specs.declared.log.AppendError.{AppendError}
 use Rattle.oplog.specs.declared.log.AppendError.TheVariants.{Device, LogFull, NoMemory}
 use Rattle.system.proofs.LoggedLaws as laws
@@ -14,13 +14,13 @@ no_error x is = cc
 pub overflow_add-self : goal.overflow_add-self
 overflow_add-self g c =
     let f = c.args.self.now in
-    let room : HasRoom f.log (length (body_of (change_of c.args.change.now))) = had_room f.log _ (λ why. no_error c.in-Ok.field-0 (c.in-Ok.ensures.full.1 why)) (λ is. no_error c.in-Ok.field-0 (c.in-Ok.ensures.stopped is).0) in
+    let room : HasRoomInHalf f.log (length (logged_body (change_of c.args.change.now))) = had_room f.log _ (λ why. no_error c.in-Ok.field-0 (c.in-Ok.ensures.full.1 why)) (λ is. no_error c.in-Ok.field-0 (c.in-Ok.ensures.stopped is).0) in
     omega (arith, f.few, c.cost_of-cost.ensures.few, room, f.half, f.is_root.head.sizes.most_half)
 
 pub invariant_of-self-clause-few : goal.invariant_of-self-clause-few
 invariant_of-self-clause-few g c =
     let f = c.args.self.now in
-    let end : next_of c.append.new.self.end ≡ next_of f.log.end + 5 + length (body_of (change_of c.args.change.now)) = ap (λ (l : LogEnd). next_of l.end) c.in-Ok.ensures.end in
+    let end : next_of c.append.new.self.end ≡ next_of f.log.end + 5 + length (logged_body (change_of c.args.change.now)) = ap (λ (l : LogEnd). next_of l.end) c.in-Ok.ensures.end in
     omega (arith, f.few, c.cost_of-cost.ensures.few, end)
 
 -- an error that isn't the device's

@@ -5,7 +5,7 @@ use Rattle.model.specs.Volumes.{IsMounted}
 use Rattle.descriptors.specs.Tables.{table_of}
 use Rattle.descriptors.specs.declared.table.Descriptors.{Descriptors}
 use Rattle.records.specs.Failures.{told}
-use Rattle.system.specs.Systems.{IsServing, parts_of}
+use Rattle.system.specs.Systems.{IsServing, system_parts}
 use Rattle.system.proofs.LookedLaws.{looked_on, never_damaged, on_open, reads_on}
 use Rattle.system.proofs.OpenFileLaws.{looking_not_sure, table_leads}
 use Rattle.system.proofs.ServingLaws.{came_to}
@@ -24,7 +24,7 @@ returns g c =
     (λ s served. c.served_states_open.ensures s.tree.descriptors s served) looks.reads.counted looks.reads.device seen.own c.read_open_file-outcome.ensures.no_fault
     (on_err_weaker result
     (λ same s served. subst (λ (x : Descriptors). (serves : IsServing (g.S.Station.meaning blocks.station)
-    (record (parts_of {G = g.S.Station} fs) { kept = blocks.kept; inodes = inodes; files = x }) s.tree.descriptors s) × (serves.replayed.changes ≡ served.replayed.changes)) (sym same)
+    (record (system_parts {G = g.S.Station} fs) { kept = blocks.kept; inodes = inodes; files = x }) s.tree.descriptors s) × (serves.replayed.changes ≡ served.replayed.changes)) (sym same)
     (looked_on {G = g.S.Station} fs blocks inodes looks s served, refl)) seen.refused)
     (λ s served.
     let mounted = subst (λ (t : ℕ → Option Description). IsMounted served.running t) served.opened served.mounted in

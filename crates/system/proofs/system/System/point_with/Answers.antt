@@ -34,7 +34,7 @@ use Rattle.system.specs.Memory.{IsClean}
 use Rattle.system.specs.Counting.{no_call}
 use Rattle.system.specs.Errors.{IsRefused}
 use Rattle.system.specs.Points.{IsPlannedOver, IsStepFor, stepped}
-use Rattle.system.specs.Systems.{Parts, IsServing, Serves, parts_of}
+use Rattle.system.specs.Systems.{Parts, IsServing, HasState, system_parts}
 use Rattle.planning.specs.declared.points.Point.{Point}
 use Rattle.system.proofs.CountingLaws.{all_read, counted_after, none_logged, not_carried_out, not_planned, nothing_logged, perhaps_read}
 use Rattle.system.proofs.CoveredLaws.{covered_at}
@@ -69,7 +69,7 @@ fits g c =
     of_ok c.plan-map.result.1 c.in-Ok.point (λ (q : Point). FitsDisk (8 * f.root.geometry.blocks) q.plan) c.in-Ok.is
     (c.plan-map.ensures.fits (8 * f.root.geometry.blocks) (omega (arith, f.is_root.head.sizes)) (omega (arith, count)))
 
-planned : (g : Over) (c : In-Ok g) (table : ℕ → Option Description) (s : State) → (serves : Serves c.args.self.now table s) → (step : SnapshotStep) → IsStepFor c.args.change.now c.args.self.now step
+planned : (g : Over) (c : In-Ok g) (table : ℕ → Option Description) (s : State) → (serves : HasState c.args.self.now table s) → (step : SnapshotStep) → IsStepFor c.args.change.now c.args.self.now step
     → IsPlannedOver step (g.S.Station.meaning c.args.self.now.blocks.station).seen.disk c.args.self.now.root c.args.self.now.slot c.args.self.now.log.epoch c.in-Ok.point.plan c.in-Ok.point.root serves.running
 planned g c table s serves step made =
     let f = c.args.self.now in
@@ -229,7 +229,7 @@ returns-in-Err-carry_out g c =
           mid now reads.goes c.carry_out.ensures.any_moment);
       covered = λ table s serves t leads. tt;
       refused = λ table s serves refused.
-          subst (λ (b : Buffers g.row.S.Denot). IsServing (g.S.Station.meaning b.station) (record (parts_of {G = g.S.Station} f) { kept = b.kept; map = c.give_up.new.self }) table s) (same refused)
+          subst (λ (b : Buffers g.row.S.Denot). IsServing (g.S.Station.meaning b.station) (record (system_parts {G = g.S.Station} f) { kept = b.kept; map = c.give_up.new.self }) table s) (same refused)
           (served.read_on serves mid c.plan-map.new.blocks.kept c.give_up.new.self reads c.plan-map.ensures.reads.same
           (λ b. c.give_up.ensures.settled b ∙ c.plan-map.ensures.settled b ∙ ap (λ (x : BlockMap). settled_at x.parts.items b) c.replace-map.ensures.value));
       kept = λ refused. subst (λ (b : Buffers g.row.S.Denot). Goes Unchanged m (g.S.Station.meaning b.station)) (same refused) reads.goes;
@@ -324,7 +324,7 @@ returns-in-Ok-carry_out g c =
           let counted : c.from.result ≡ count_nameless new.geometry.inodes serves.running =
           c.from.ensures ∙ c.nameless_files.ensures.counted new.geometry.inodes serves.running memory.volume
           (subst (λ (t : ℕ → Option Description). IsMounted serves.running t) serves.opened serves.mounted) serves.fits in
-          let at = λ (r : Root) (n : ℕ). OnceCovered now (record (parts_of {G = g.S.Station} f) {
+          let at = λ (r : Root) (n : ℕ). OnceCovered now (record (system_parts {G = g.S.Station} f) {
             kept = kept;
             root = r;
             slot = n;

@@ -1,0 +1,95 @@
+-- Which nodes a file in its grammar has.
+use Rattle.std.proofs.Common.{◌≡◌, ◌≢◌, inl, inr, ℕ, zero, suc, ◌*◌, ◌/◌, ◌%◌, ◌<◌, ◌≤◌, List, drop, All, refl, ap, sym, subst, ◌∙◌, ◌-◌, arith}
+use Rattle.std.proofs.lemmas.Bool.{cases_lt, cond_above}
+use Rattle.layout.specs.Inode.{FitsBody, pointers_used}
+use Rattle.layout.specs.Limits.{Sizes}
+use Rattle.layout.specs.Places.{Blocks, follow, place}
+use Rattle.layout.specs.Version.{level_of}
+use Rattle.layout.specs.declared.inode.Body.{Body}
+use Rattle.layout.specs.declared.inode.Body.TheVariants.{Inline, Pointers}
+use Rattle.layout.specs.declared.inode.Inode.{Inode}
+use Rattle.layout.specs.declared.pointer.Pointer.{Pointer}
+use Rattle.layout.specs.declared.pointer.Pointer.TheVariants.{Hole, Block}
+use Rattle.layout.proofs.PointerLaws.{no_block}
+use Rattle.layout.proofs.SizeLaws.{level_none, level_one, level_two, used_two}
+use Rattle.images.specs.Nodes.{held, pointers_of}
+use Rattle.images.specs.Soundness.{HasNoHole, IsSoundFile, nodes_at}
+use Rattle.images.proofs.OverlayLaws.{held_up}
+use Rattle.images.proofs.ReadingLaws.{highest, hole_behind, hole_past, fits}
+
+block_of : (p : Pointer) → p ≢ Hole → (b : ℕ) × (p ≡ Block b)
+block_of Hole some = absurd (some refl)
+block_of (Block b) some = (b, refl)
+
+pointers_in : (blocks size : ℕ) (body : Body) → FitsBody body blocks size → 1 ≤ level_of size → (pointers : List Pointer) × (body ≡ Pointers pointers)
+pointers_in blocks size (Inline bytes) fits level = absurd (omega (arith, level, level_none size fits.0))
+pointers_in blocks size (Pointers pointers) fits level = (pointers, refl)
+
+-- no node stands above the highest
+pub none_above : (d : Blocks) (f : Inode) (m i : ℕ) → level_of f.size ≤ m → (held d f).place m i ≡ Hole
+unfolding held
+none_above d f m i ge = sym (cond_above m (level_of f.size) (place d (pointers_of f.body) (level_of f.size - suc m) i) Hole Hole ge refl)
+
+-- where a node is a hole, so are those under it
+under_hole : (d : Blocks) (f : Inode) (m i : ℕ) → suc m < level_of f.size → (held d f).place (suc m) (i / 1024) ≡ Hole → (held d f).place m i ≡ Hole
+under_hole d f m i lt hole = held_up d f m i lt ∙ ap (λ p. follow d p (i % 1024)) hole
+
+module _ (s : Sizes) (d : Blocks) (f : Inode) (sound : IsSoundFile s (held d f)) where
+  pub body_of : 1 ≤ level_of f.size → (pointers : List Pointer) × (f.body ≡ Pointers pointers)
+  unfolding held
+  body_of level = pointers_in s.blocks f.size f.body sound.inode.body level
+
+  -- no node stands past the file's end
+  none_past : (m i : ℕ) → m < level_of f.size → nodes_at f.size m ≤ i → (held d f).place m i ≡ Hole
+  unfolding nodes_at
+  none_past zero i lt past = let body = body_of (omega (arith, lt)) in hole_behind s d f body.0 sound body.1 i past
+  none_past (suc zero) i lt past = elim (cases_lt 65536 f.size) [
+    | inr low ↦ elim (cases_lt 128 f.size) [
+      | inl some ↦ absurd (omega (arith, lt, level_one f.size some low))
+      | inr none ↦ absurd (omega (arith, lt, level_none f.size none))
+    ]
+    | inl large ↦
+        let level = level_two f.size large in
+        let body = body_of (omega (arith, lt)) in
+        highest d f 1 i level
+        ∙ hole_past (pointers_of f.body) (pointers_used f.size) i
+        (subst (λ (b : Body). All (λ p. p ≡ Hole) (drop (pointers_used f.size) (pointers_of b))) (sym body.1) (fits s d f body.0 sound body.1).3)
+        (omega (arith, used_two f.size large, past))
+  ]
+  none_past (suc (suc m)) i lt past = elim (cases_lt 65536 f.size) [
+    | inl large ↦ absurd (omega (arith, lt, level_two f.size large))
+    | inr low ↦ elim (cases_lt 128 f.size) [
+      | inl some ↦ absurd (omega (arith, lt, level_one f.size some low))
+      | inr none ↦ absurd (omega (arith, lt, level_none f.size none))
+    ]
+  ]
+
+  -- a node of a file stands where its size says
+  pub within_span : (m i b : ℕ) → (held d f).place m i ≡ Block b → (m < level_of f.size) × (i < nodes_at f.size m)
+  within_span m i b is = elim (cases_lt m (level_of f.size)) [
+    | inr above ↦ absurd (no_block ((held d f).place m i) b (none_above d f m i above) is)
+    | inl lt ↦ elim (cases_lt i (nodes_at f.size m)) [
+      | inl before ↦ (lt, before)
+      | inr past ↦ absurd (no_block ((held d f).place m i) b (none_past m i lt past) is)
+    ]
+  ]
+
+  -- where no block is a hole, no node over them is
+  none_hole : HasNoHole (held d f) → (m i : ℕ) → m < level_of f.size → i < nodes_at f.size m → (held d f).place m i ≢ Hole
+  unfolding held nodes_at
+  none_hole whole zero i lt before = whole i (omega (arith, lt)) before
+  none_hole whole (suc m) i lt before = λ hole.
+      let at : 1024 * i / 1024 ≡ i = omega arith in
+      none_hole whole m (1024 * i) (omega (arith, lt)) (omega (arith, before))
+      (under_hole d f m (1024 * i) lt (ap ((held d f).place (suc m)) at ∙ hole))
+
+  pub stands_whole : HasNoHole (held d f) → (m i : ℕ) → m < level_of f.size → i < nodes_at f.size m → (b : ℕ) × ((held d f).place m i ≡ Block b)
+  stands_whole whole m i lt before = block_of ((held d f).place m i) (none_hole whole m i lt before)
+
+-- over a file's first block, where that isn't a hole, no node is
+first_hole : (d : Blocks) (f : Inode) (m : ℕ) → m < level_of f.size → (held d f).place m 0 ≡ Hole → (held d f).place 0 0 ≡ Hole
+first_hole d f zero lt hole = hole
+first_hole d f (suc m) lt hole = first_hole d f m (omega (arith, lt)) (under_hole d f m 0 lt hole)
+
+pub stands_first : (d : Blocks) (f : Inode) (m : ℕ) → m < level_of f.size → (held d f).place 0 0 ≢ Hole → (b : ℕ) × ((held d f).place m 0 ≡ Block b)
+stands_first d f m lt some = block_of ((held d f).place m 0) (λ hole. some (first_hole d f m lt hole))

@@ -1,0 +1,50 @@
+-- What a consistency point may store of a file in memory: a bound that no change raises by more than the change costs.
+use Rattle.std.specs.Prelude.{ℕ, zero, suc, ◌+◌, ◌-◌, ◌*◌, ◌≤◌, ◌==◌, min, nat_lt, if◌then◌else◌}
+use Rattle.std.specs.Ordering.{nat_cmp}
+use Rattle.std.specs.BTreeMap as tree
+use Rattle.layout.specs.Version.{greatest_size, level_of}
+use Rattle.layout.specs.declared.version.TheConstants.{VERSION}
+use Rattle.model.specs.Room.{touched}
+use Rattle.blocktree.specs.Places.{block_count, depth_of}
+use Rattle.blocktree.specs.Trees.{slot_stores}
+use Rattle.blocktree.specs.declared.tree.BlockTree.{BlockTree}
+use Rattle.images.specs.Sums.{sum_below}
+use Rattle.inode.specs.Files.{IsCommitted}
+use Rattle.inode.specs.declared.change.Change.{Change}
+use Rattle.inode.specs.declared.file.File.{File}
+
+-- how many of the first n blocks are changed
+abbrev pub changed_below : BlockTree → ℕ → ℕ
+changed_below t n = sum_below (λ i. slot_stores (tree.get nat_cmp t.slots i)) n
+
+-- how many of all that a file may have
+abbrev pub changed_count : BlockTree → ℕ
+changed_count t = changed_below t (block_count (greatest_size VERSION))
+
+-- One indirect block more where settled blocks were cut off, or the file has another level than it had: of a file that has settled blocks.
+abbrev pub more_over : File → ℕ
+more_over f =
+    if nat_lt (min f.tree.kept (block_count f.size)) f.tree.count
+    then 1
+    else if f.tree.depth == depth_of f.size then 0 else min 1 f.tree.count
+
+-- The bound at a level: each changed block may bring an indirect block with it. Bytes that stand in the inode are one changed block,
+-- which isn't stored.
+abbrev pub level_room : ℕ → ℕ → ℕ → ℕ
+level_room zero changed more = 2 * (changed - 1)
+level_room (suc level) changed more = 2 * changed + more
+
+abbrev pub file_room : File → ℕ
+file_room f = level_room (level_of f.size) (changed_count f.tree) (more_over f)
+
+-- put in force on a file, a change raises the bound by so much at the most
+abbrev pub StoresMore : File → Change → ℕ → Type 0
+StoresMore f w k = (new : File) → IsCommitted f w new → file_room new ≤ file_room f + k
+
+-- by so much a write into a file of this size: twice the blocks that it touches, and three where the file leaves its inode
+abbrev pub write_room : ℕ → ℕ → ℕ → ℕ
+write_room size offset count = 2 * touched offset count + 3
+
+-- and so much another size
+abbrev pub size_room : ℕ → ℕ → ℕ
+size_room size to = 3
