@@ -11,7 +11,7 @@ use Rattle.std.specs.BTreeMap.{BTreeMap, get, Updates}
 use Rattle.station.specs.Images.{Images, Sector, Unchanged, sector_bytes, reaches}
 use Rattle.station.specs.Images as images
 use Rattle.station.specs.Moments.{Meaning, IsSameStation, Goes}
-use Rattle.buffers.specs.Disks.{IsBlock, IsDisk, ShowsDisk, ReadsOn, disk_with, sector_put, disk_with_sector}
+use Rattle.buffers.specs.Disks.{IsBlock, IsDisk, ShowsDisk, ReadsOn, disk_with_block, sector_put, disk_with_sector}
 use Rattle.buffers.specs.declared.block.Block.{Block}
 use Rattle.layout.proofs.PartLaws.{slice_index-between}
 
@@ -67,13 +67,13 @@ block_elsewhere sectors place b bytes block len ne is = record {
   bytes_are = λ r lt. is.bytes_are r lt ∙ sym (rw (miss b place r (length bytes) ne len lt) refl);
 }
 
-other_block : (disk : ℕ → List ℕ) (place b : ℕ) (bytes : List ℕ) → (b ≡ place → ⊥) → disk b ≡ disk_with place bytes disk b
+other_block : (disk : ℕ → List ℕ) (place b : ℕ) (bytes : List ℕ) → (b ≡ place → ⊥) → disk b ≡ disk_with_block place bytes disk b
 other_block disk place b bytes ne = rw (apart b place ne) refl
   where
     apart : (b place : ℕ) → (b ≡ place → ⊥) → eqb b place ≡ false
     apart b place ne = grind (arith, nat_tests)
 
-this_block : (disk : ℕ → List ℕ) (place b : ℕ) (bytes : List ℕ) → b ≡ place → bytes ≡ disk_with place bytes disk b
+this_block : (disk : ℕ → List ℕ) (place b : ℕ) (bytes : List ℕ) → b ≡ place → bytes ≡ disk_with_block place bytes disk b
 this_block disk place b bytes e = rw (same b place e) refl
   where
     same : (b place : ℕ) → b ≡ place → eqb b place ≡ true
@@ -82,10 +82,10 @@ this_block disk place b bytes e = rw (same b place e) refl
 -- a block that was stored reads so, and what was kept of it is let go
 pub stored : (m n : Meaning) (old new : BTreeMap ℕ Block) (place : ℕ) (bytes : List ℕ) (disk : ℕ → List ℕ) → length bytes ≡ 4096 → IsSameStation m n
     → (m.is_honest → n.seen ≡ record { disk = images.disk_with (8 * place) bytes m.seen.disk; nvram = m.seen.nvram })
-    → Updates nat_cmp old new place None → ShowsDisk m old disk → ShowsDisk n new (disk_with place bytes disk)
+    → Updates nat_cmp old new place None → ShowsDisk m old disk → ShowsDisk n new (disk_with_block place bytes disk)
 stored m n old new place bytes disk len same written u shows = record {
   honest = same.honest.0 shows.honest;
-  reads = λ b within. subst (λ (i : Images). IsBlock i.disk b (disk_with place bytes disk b)) (sym (written shows.honest)) (elim (cases_eq b place) [
+  reads = λ b within. subst (λ (i : Images). IsBlock i.disk b (disk_with_block place bytes disk b)) (sym (written shows.honest)) (elim (cases_eq b place) [
     | inl e ↦
         subst (λ (x : List ℕ). IsBlock (images.disk_with (8 * place) bytes m.seen.disk) b x) (this_block disk place b bytes e)
         (subst (λ (q : ℕ). IsBlock (images.disk_with (8 * place) bytes m.seen.disk) q bytes) (sym e) (block_written m.seen.disk place bytes len))
@@ -190,7 +190,7 @@ sector_stored m n old new sector bytes disk size same written u shows =
       honest = same.honest.0 shows.honest;
       reads = λ b within.
           let within_old : 8 * b + 8 ≤ m.sectors = subst (λ (s : ℕ). 8 * b + 8 ≤ s) same.sectors within in
-          subst (λ (i : Images). IsBlock i.disk b (disk_with q block disk b)) (sym (written shows.honest)) (elim (cases_eq b q) [
+          subst (λ (i : Images). IsBlock i.disk b (disk_with_block q block disk b)) (sym (written shows.honest)) (elim (cases_eq b q) [
             | inl e ↦
                 subst (λ (x : List ℕ). IsBlock (images.disk_with sector bytes m.seen.disk) b x) (this_block disk q b block e)
                 (subst (λ (p : ℕ). IsBlock (images.disk_with sector bytes m.seen.disk) p block) (sym e)

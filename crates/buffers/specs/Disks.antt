@@ -22,8 +22,8 @@ pub record ShowsDisk (m : Meaning) (kept : BTreeMap ℕ Block) (disk : ℕ → L
   pub kept_is : (place : ℕ) (block : Block) → get nat_cmp kept place ≡ Some block → block ≡ disk place
 
 -- the disk with a block written anew
-abbrev pub disk_with : ℕ → List ℕ → (ℕ → List ℕ) → ℕ → List ℕ
-disk_with place bytes disk b = if b == place then bytes else disk b
+abbrev pub disk_with_block : ℕ → List ℕ → (ℕ → List ℕ) → ℕ → List ℕ
+disk_with_block place bytes disk b = if b == place then bytes else disk b
 
 -- a block with its sector k written anew
 abbrev pub sector_put : ℕ → List ℕ → List ℕ → List ℕ
@@ -32,7 +32,7 @@ sector_put k bytes block = take (512 * k) block ++ (bytes ++ drop (512 * k + 512
 -- the disk with a sector written anew
 abbrev pub disk_with_sector : ℕ → List ℕ → (ℕ → List ℕ) → ℕ → List ℕ
 disk_with_sector sector bytes disk =
-    disk_with (sector / 8) (sector_put (sector % 8) bytes (disk (sector / 8))) disk
+    disk_with_block (sector / 8) (sector_put (sector % 8) bytes (disk (sector / 8))) disk
 
 -- from one moment to another nothing was done but reading
 pub record ReadsOn (old new : Meaning) : Type 0 where

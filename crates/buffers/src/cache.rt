@@ -6,7 +6,7 @@ ghost use Rattle.std.specs.BTreeMap as tree;
 ghost use Rattle.station.specs.Images.{SomeSectorsWritten, SectorsWritten, Unchanged};
 ghost use Rattle.station.specs.Moments.{HasGrown, LeavesJust, SeenGoes};
 ghost use Rattle.station.specs.Calls.{WriteCall};
-ghost use Rattle.buffers.specs.Disks.{IsBlock, IsDisk, ShowsDisk, ReadsOn, disk_with, disk_with_sector};
+ghost use Rattle.buffers.specs.Disks.{IsBlock, IsDisk, ShowsDisk, ReadsOn, disk_with_block, disk_with_sector};
 
 use crate::{Block, Blocks, BufferError};
 use layout::{BLOCK_BYTES, BlockNumber, SECTOR_BYTES};
@@ -117,7 +117,7 @@ impl<S: Station> Buffers<S> {
             → ShowsDisk (S.meaning self.old.station) self.old.kept disk
             → OnOk result
             (ShowsDisk (S.meaning self.new.station) self.new.kept
-            (disk_with place bytes.now disk)) }
+            (disk_with_block place bytes.now disk)) }
     {
         let place = place.get();
         let _ = self.kept.remove(&place);

@@ -16,7 +16,7 @@ use Rattle.model.specs.declared.reply.Reply.TheVariants.{Names, Refused}
 use Rattle.model.proofs.LooseLemmas.{some_same}
 use Rattle.dirs.specs.Listings.{IsListingOfNames}
 use Rattle.calls.specs.Leading.{IsLed}
-use Rattle.calls.specs.List.{reply_of}
+use Rattle.calls.specs.List.{names_reply}
 use Rattle.calls.proofs.LeadLaws.{led_refused, led_there}
 use Rattle.calls.proofs.MakeLaws.{child_some}
 use Rattle.model.proofs.OptionLaws.{none_some}
@@ -39,7 +39,7 @@ module _ (inodes : ℕ) (v : Volume) (table : ℕ → Option Description) (volum
 
   module _ (n : ℕ) where
     in_directory : (p : Path) → number_at (entries v) p ≡ Some n → (r : Result (List Name) Errno) → IsTrue (is_directory_node (v n)) → ListsNumber v n r
-        → with_names t p (λ names. answers t (Names names)) (reply_of r) t nothing
+        → with_names t p (λ names. answers t (Names names)) (names_reply r) t nothing
     in_directory p at (Ok list) directory told = (
       list,
       record {
@@ -53,24 +53,24 @@ module _ (inodes : ℕ) (v : Volume) (table : ℕ → Option Description) (volum
     )
     in_directory p at (Err errno) directory told = absurd (false≢true (sym told.0 ∙ directory))
 
-    in_other : (r : Result (List Name) Errno) → IsFalse (is_directory_node (v n)) → ListsNumber v n r → refuses t ENOTDIR (reply_of r) t nothing
+    in_other : (r : Result (List Name) Errno) → IsFalse (is_directory_node (v n)) → ListsNumber v n r → refuses t ENOTDIR (names_reply r) t nothing
     in_other (Ok list) other told = absurd (false≢true (sym other ∙ told.0))
     in_other (Err errno) other told = (ap Refused told.1, refl, refl)
 
     comes : (p : Path) → number_at (entries v) p ≡ Some n → (r : Result (List Name) Errno) → ListsNumber v n r → (node : Option Node) → v n ≡ node
-        → (o : Object) → object_of n node ≡ Some o → there p o (reply_of r) t nothing
+        → (o : Object) → object_of n node ≡ Some o → there p o (names_reply r) t nothing
     comes p at r told None is o made = none_some made
     comes p at r told (Some (directory_node mode names)) is o made =
-        subst (λ (x : Object). there p x (reply_of r) t nothing) (some_same made) (in_directory p at r (ap is_directory_node is) told)
+        subst (λ (x : Object). there p x (names_reply r) t nothing) (some_same made) (in_directory p at r (ap is_directory_node is) told)
     comes p at r told (Some (file_node mode links bytes)) is o made =
-        subst (λ (x : Object). there p x (reply_of r) t nothing) (some_same made) (in_other r (ap is_directory_node is) told)
+        subst (λ (x : Object). there p x (names_reply r) t nothing) (some_same made) (in_other r (ap is_directory_node is) told)
     comes p at r told (Some (link_node link)) is o made =
-        subst (λ (x : Object). there p x (reply_of r) t nothing) (some_same made) (in_other r (ap is_directory_node is) told)
+        subst (λ (x : Object). there p x (names_reply r) t nothing) (some_same made) (in_other r (ap is_directory_node is) told)
 
     pub list_answers : (text : List ℕ) (r : Result (List Name) Errno) → IsLed (text_tests text) v (resolve t true text) (Ok n) → ListsNumber v n r
-        → lists t text (reply_of r) t nothing
+        → lists t text (names_reply r) t nothing
     list_answers text r led told =
-        led_there v table there n (reply_of r) t nothing (λ p o at made. comes p at r told (v n) refl o made) (text_tests text) (resolve t true text) led
+        led_there v table there n (names_reply r) t nothing (λ p o at made. comes p at r told (v n) refl o made) (text_tests text) (resolve t true text) led
 
   pub list_refused : (text : List ℕ) (errno : Errno) → IsLed (text_tests text) v (resolve t true text) (Err errno)
       → lists t text (Refused errno) t nothing

@@ -20,7 +20,7 @@ use Rattle.model.specs.Volumes.{IsMounted, IsVolume, Node, directory_node, file_
 use Rattle.model.specs.declared.command.Flags.{Flags}
 use Rattle.model.specs.declared.errno.Errno.{Errno}
 use Rattle.model.specs.declared.errno.Errno.TheVariants.{DIRFULL, EEXIST, EISDIR, ENOENT, NONUMBER}
-use Rattle.model.specs.declared.reply.Kind.TheVariants.{File, Dir, Link}
+use Rattle.model.specs.declared.reply.FileType.TheVariants.{File, Dir, Link}
 use Rattle.model.specs.declared.reply.Reply.{Reply}
 use Rattle.model.specs.declared.reply.Reply.TheVariants.{Fd, Refused}
 use Rattle.model.specs.declared.reply.Stat.{Stat}

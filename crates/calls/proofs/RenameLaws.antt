@@ -14,7 +14,7 @@ use Rattle.model.specs.Paths.{Name, Path, Tests, behind, begins_with, first_refu
 use Rattle.model.specs.Records.{CanRename, CanReplace, IsBelow, TakesName, applied, rename}
 use Rattle.model.specs.Resolution.{parent}
 use Rattle.model.specs.Room.{Need, adds_name, logs, nothing}
-use Rattle.model.specs.Trees.{Tree, Object, Description, IsTree, is_directory, number}
+use Rattle.model.specs.Trees.{Tree, Object, Description, IsTree, is_directory, number_of_object}
 use Rattle.model.specs.Trees as trees
 use Rattle.model.specs.Volumes.{Node, directory_node, file_node, link_node, Volume, enter, entries, is_directory_node, number_at, object_at, object_of, swept, tree_of, IsMounted, IsVolume}
 use Rattle.model.specs.declared.errno.Errno.{Errno}
@@ -39,7 +39,7 @@ eqb_same : (n : ℕ) → (n == n) ≡ true
 eqb_same n = grind (arith, nat_tests)
 
 -- files of two numbers are two
-not_same_file : (o : Object) (m : ℕ) (node : Option Node) → m ≢ number o → is_same_file o (object_of m node) ≡ false
+not_same_file : (o : Object) (m : ℕ) (node : Option Node) → m ≢ number_of_object o → is_same_file o (object_of m node) ≡ false
 not_same_file (trees.directory n) m found other = refl
 not_same_file (trees.symlink n text) m found other = refl
 not_same_file (trees.file n) m None other = refl
@@ -112,7 +112,7 @@ module _ (inodes : ℕ) (v : Volume) (table : ℕ → Option Description) (volum
     pub stands_q : t.objects q ≡ object_at v target
     stands_q = ap (object_at v) at_q
 
-    number_is : number o ≡ n
+    number_is : number_of_object o ≡ n
     number_is = object_number n (v n) o object
 
     -- nothing changes where the object has the name already, or another one of the same file
@@ -122,7 +122,7 @@ module _ (inodes : ℕ) (v : Volume) (table : ℕ → Option Description) (volum
         elim (tree.single p q o o stands_p there refl) [
           | inl same ↦ either_first (path_eq p q) (is_same_file o (t.objects q)) (ap (path_eq p) (sym same) ∙ path_eq-same p)
           | inr file ↦ either_last (path_eq p q) (is_same_file o (t.objects q))
-              (ap (is_same_file o) there ∙ ap (λ (a : Object). is_same_file a (Some a)) file.0 ∙ eqb_same (number o))
+              (ap (is_same_file o) there ∙ ap (λ (a : Object). is_same_file a (Some a)) file.0 ∙ eqb_same (number_of_object o))
         ]
       where
         either_first : (a b : Bool) → a ≡ true → (a || b) ≡ true

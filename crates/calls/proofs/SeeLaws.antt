@@ -16,7 +16,7 @@ use Rattle.model.specs.declared.errno.Errno.TheVariants.{EINVAL, EISDIR, ELOOP, 
 use Rattle.model.specs.declared.limits.TheConstants.{LINKS_FOLLOWED}
 use Rattle.model.specs.declared.reply.Reply.{Reply}
 use Rattle.model.specs.declared.reply.Reply.TheVariants.{Data, Names, Stat, Text}
-use Rattle.model.specs.declared.reply.Kind.TheVariants.{Dir, File}
+use Rattle.model.specs.declared.reply.FileType.TheVariants.{Dir, File}
 use Rattle.calls.specs.Seeing.{ReadingForgets}
 
 -- ---- where a path leads is told by what stands at paths

@@ -13,7 +13,7 @@ use Rattle.layout.specs.declared.kind.Kind.TheVariants as kinds
 use Rattle.images.specs.Contents.{StandsAs, content_bytes}
 use Rattle.inode.specs.declared.object.Object.{Object as MemoryObject}
 use Rattle.inofile.specs.Objects.{IsObject, IsObjectKind}
-use Rattle.inofile.specs.Settled.{content_of}
+use Rattle.inofile.specs.Settled.{content_of_object}
 use Rattle.model.specs.Laws.{VolumesTellLinks}
 use Rattle.model.specs.Outcomes.{Outcome, answers, refuses}
 use Rattle.model.specs.Paths.{Path, text_tests}
@@ -26,7 +26,7 @@ use Rattle.model.specs.Volumes.{Node, directory_node, file_node, link_node, Volu
 use Rattle.model.specs.declared.errno.Errno.{Errno}
 use Rattle.model.specs.declared.errno.Errno.TheVariants.{EINVAL}
 use Rattle.model.specs.declared.limits.TheConstants.{LINK_MODE}
-use Rattle.model.specs.declared.reply.Kind.TheVariants.{File, Dir, Link}
+use Rattle.model.specs.declared.reply.FileType.TheVariants.{File, Dir, Link}
 use Rattle.model.specs.declared.reply.Reply.TheVariants as replies
 use Rattle.model.specs.declared.reply.Stat.{Stat}
 use Rattle.model.proofs.LooseLemmas.{some_same}
@@ -144,8 +144,8 @@ link_text (Some (link_node link)) f text are is told = ap (λ (t : List ℕ). So
 -- ---- an object in memory
 
 module _ (disk : ℕ → List ℕ) (inodes : ℕ) (settled : Inode) (o : MemoryObject) (node : Option Node) (is_object : IsObject disk inodes settled o node) (n : ℕ) where
-  stands : (kind : LayoutKind) → o.attributes.kind ≡ kind → StandsAs kind inodes (content_of disk o) node
-  stands kind is = subst (λ (k : LayoutKind). StandsAs k inodes (content_of disk o) node) is is_object.stands
+  stands : (kind : LayoutKind) → o.attributes.kind ≡ kind → StandsAs kind inodes (content_of_object disk o) node
+  stands kind is = subst (λ (k : LayoutKind). StandsAs k inodes (content_of_object disk o) node) is is_object.stands
 
   pub stat_directory : o.attributes.kind ≡ kinds.Directory → IsStatOf n node (record { number = n; kind = Dir; mode = o.attributes.mode; links = 1; size = 0 })
   stat_directory is =
@@ -155,10 +155,10 @@ module _ (disk : ℕ → List ℕ) (inodes : ℕ) (settled : Inode) (o : MemoryO
   pub stat_file : (size : ℕ) → size ≡ o.file.size → o.attributes.kind ≡ kinds.File
       → IsStatOf n node (record { number = n; kind = File; mode = o.attributes.mode; links = o.attributes.links; size = size })
   stat_file size same is = (
-    file_node o.attributes.mode o.attributes.links (content_bytes (content_of disk o)),
+    file_node o.attributes.mode o.attributes.links (content_bytes (content_of_object disk o)),
     stands kinds.File is,
     ap (λ (s : ℕ). record { number = n; kind = File; mode = o.attributes.mode; links = o.attributes.links; size = s })
-        (same ∙ sym (length-map-range_with_len (byte_in (content_of disk o).block) 0 o.file.size)),
+        (same ∙ sym (length-map-range_with_len (byte_in (content_of_object disk o).block) 0 o.file.size)),
   )
 
   pub stat_link : (size : ℕ) → size ≡ o.file.size → o.attributes.kind ≡ kinds.Link
@@ -166,11 +166,11 @@ module _ (disk : ℕ → List ℕ) (inodes : ℕ) (settled : Inode) (o : MemoryO
   stat_link size same is =
       let some : Sizes = record { blocks = LEAST_BLOCKS; inodes = LEAST_INODES; half = LEAST_HALF } in
       let fits = subst (λ (k : LayoutKind). FitsKind k some o.attributes.mode o.attributes.links o.file.size) is (is_object.fits some) in (
-        link_node (content_bytes (content_of disk o)),
+        link_node (content_bytes (content_of_object disk o)),
         stands kinds.Link is,
         ap (λ (m : ℕ). record { number = n; kind = Link; mode = m; links = 1; size = size }) fits.0
             ∙ ap (λ (s : ℕ). record { number = n; kind = Link; mode = LINK_MODE; links = 1; size = s })
-            (same ∙ sym (length-map-range_with_len (byte_in (content_of disk o).block) 0 o.file.size)),
+            (same ∙ sym (length-map-range_with_len (byte_in (content_of_object disk o).block) 0 o.file.size)),
       )
 
   pub stat_none : (kind : LayoutKind) → IsObjectKind kind → (kind ≡ kinds.Directory → ⊥) → (kind ≡ kinds.File → ⊥) → (kind ≡ kinds.Link → ⊥) → ⊥

@@ -6,6 +6,6 @@ use Rattle.model.specs.declared.reply.Reply.{Reply}
 use Rattle.model.specs.declared.reply.Reply.TheVariants.{Names, Refused}
 
 -- names, or a refusal, as they are answered
-abbrev pub reply_of : Result (List Name) Errno → Reply
-reply_of (Ok names) = Names names
-reply_of (Err errno) = Refused errno
+abbrev pub names_reply : Result (List Name) Errno → Reply
+names_reply (Ok names) = Names names
+names_reply (Err errno) = Refused errno

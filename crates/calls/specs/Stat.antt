@@ -3,7 +3,7 @@ use Rattle.std.specs.Prelude.{ℕ, ◌≡◌, length, Option, Some, Result, Ok, 
 use Rattle.model.specs.Volumes.{Node, directory_node, file_node, link_node, Volume}
 use Rattle.model.specs.declared.errno.Errno.{Errno}
 use Rattle.model.specs.declared.limits.TheConstants.{LINK_MODE}
-use Rattle.model.specs.declared.reply.Kind.TheVariants.{File, Dir, Link}
+use Rattle.model.specs.declared.reply.FileType.TheVariants.{File, Dir, Link}
 use Rattle.model.specs.declared.reply.Reply.{Reply}
 use Rattle.model.specs.declared.reply.Reply.TheVariants as replies
 use Rattle.model.specs.declared.reply.Stat.{Stat}

@@ -1,8 +1,11 @@
 //! The command and its subcommands, with what help says of them.
 
-use crate::options::{
-    command_words, count, cut, disk, explain, flag, keep, number, nvram, place, size, snapshot,
-};
+ghost use Rattle.std.specs.Prelude.{[]};
+ghost use Rattle.clap.specs.Words.{App, Rule, new_app, with_rule, with_subcommand};
+ghost use Rattle.command_line.specs.Arguments as spec;
+ghost use Rattle.command_line.specs.Arguments.{GrowsTo, IsArg, IsCommand};
+
+use crate::options::{bytes, command_words, count, explain, flag, keep, option, place, size};
 use clap::{Arg, Command};
 use std::alloc::{AllocError, Global};
 
@@ -67,22 +70,29 @@ Examples:
   wafl do disk nvram stat /d/f";
 
 /// `wafl` with its subcommands.
-pub fn wafl_command<'a>(alloc: Global) -> Result<Command<'a>, AllocError> {
-    Growing::of(
-        Command::new(alloc, "wafl")
-            .version("0.1.0")
-            .about("A copy-on-write file system on a disk image and an NVRAM image")
-            .after_help(FIRST_STEPS)
-            .subcommand_required(true),
-    )
-    .subcommand(make_command(alloc))
-    .subcommand(run_command(alloc))
-    .subcommand(shell_command(alloc))
-    .subcommand(do_command(alloc))
-    .subcommand(df_command(alloc))
-    .subcommand(put_command(alloc))
-    .subcommand(get_command(alloc))
-    .command
+pub fn wafl_command<'a>(alloc: Global) -> Result<Command<'a>, AllocError>
+    ensures { GrowsTo spec.wafl_app result }
+{
+    Growing::of(program(alloc))
+        .subcommand(make_command(alloc))
+        .subcommand(run_command(alloc))
+        .subcommand(shell_command(alloc))
+        .subcommand(do_command(alloc))
+        .subcommand(df_command(alloc))
+        .subcommand(put_command(alloc))
+        .subcommand(get_command(alloc))
+        .command
+}
+
+/// `wafl` itself.
+fn program<'a>(alloc: Global) -> Command<'a>
+    ensures { IsCommand spec.program result }
+{
+    Command::new(alloc, "wafl")
+        .version("0.1.0")
+        .about("A copy-on-write file system on a disk image and an NVRAM image")
+        .after_help(FIRST_STEPS)
+        .subcommand_required(true)
 }
 
 /// A command to which arguments are added, or the want of memory that ended this.
@@ -92,19 +102,28 @@ struct Growing<'a> {
 }
 
 impl<'a> Growing<'a> {
-    fn of(command: Command<'a>) -> Growing<'a> {
+    fn of(command: Command<'a>) -> Growing<'a>
+        ensures { (a : App) → IsCommand a command.entry → GrowsTo a result.command }
+    {
         Growing {
             command: Ok(command),
         }
     }
 
-    fn arg(self, arg: Arg<'a>) -> Growing<'a> {
+    fn arg(self, arg: Arg<'a>) -> Growing<'a>
+        ensures { (a : App) (r : Rule) → GrowsTo a self.entry.command → IsArg r arg.entry
+            → GrowsTo (with_rule a r) result.command }
+    {
         Growing {
             command: with_arg(self.command, arg),
         }
     }
 
-    fn subcommand(self, subcommand: Growing<'a>) -> Growing<'a> {
+    fn subcommand(self, subcommand: Growing<'a>) -> Growing<'a>
+        ensures { (a b : App) → GrowsTo a self.entry.command
+            → GrowsTo b subcommand.entry.command
+            → GrowsTo (with_subcommand a b.top) result.command }
+    {
         Growing {
             command: with_subcommand(self.command, subcommand.command),
         }
@@ -114,123 +133,188 @@ impl<'a> Growing<'a> {
 fn with_arg<'a>(
     command: Result<Command<'a>, AllocError>,
     arg: Arg<'a>,
-) -> Result<Command<'a>, AllocError> {
+) -> Result<Command<'a>, AllocError>
+    ensures { (a : App) (r : Rule) → GrowsTo a command.entry → IsArg r arg.entry
+        → GrowsTo (with_rule a r) result }
+{
     command?.arg(arg)
 }
 
 fn with_subcommand<'a>(
     command: Result<Command<'a>, AllocError>,
     subcommand: Result<Command<'a>, AllocError>,
-) -> Result<Command<'a>, AllocError> {
+) -> Result<Command<'a>, AllocError>
+    ensures { (a b : App) → GrowsTo a command.entry → GrowsTo b subcommand.entry
+        → GrowsTo (with_subcommand a b.top) result }
+{
     command?.subcommand(subcommand?)
 }
 
 /// A command that begins with the two files of an image.
-fn on_image<'a>(alloc: Global, command: Command<'a>) -> Growing<'a> {
-    Growing::of(command).arg(disk(alloc)).arg(nvram(alloc))
+fn on_image<'a>(alloc: Global, name: &'a str, about: &'a str, after: &'a str) -> Growing<'a>
+    ensures { GrowsTo (spec.on_image name.entry.now []) result.command }
+{
+    Growing::of(named(alloc, name, about, after))
+        .arg(place(alloc, "disk", "DISK", "The disk's file"))
+        .arg(place(alloc, "nvram", "NVRAM", "The NVRAM's file"))
 }
 
-fn make_command<'a>(alloc: Global) -> Growing<'a> {
+/// A command without arguments, with what help says of it.
+fn named<'a>(alloc: Global, name: &'a str, about: &'a str, after: &'a str) -> Command<'a>
+    ensures { IsCommand (new_app name.entry.now) result }
+{
+    Command::new(alloc, name).about(about).after_help(after)
+}
+
+fn make_command<'a>(alloc: Global) -> Growing<'a>
+    ensures { GrowsTo spec.make_app result.command }
+{
     on_image(
         alloc,
-        Command::new(alloc, "make")
-            .about("Make an empty image")
-            .after_help(
-                "N is a decimal number. With k, M or G behind it, it is as many times 1024, 1024 k or 1024 M; --blocks then is the disk's size in bytes, whole blocks of 4096. Files that are there are replaced, once the new ones are whole; with --new they aren't. Nothing is printed.\n\nExamples:\n  wafl make disk nvram --new --blocks 64 --inodes 32 --half 131072\n  wafl make disk nvram --new --blocks 4G --inodes 64k --half 1M",
-            ),
+        "make",
+        "Make an empty image",
+        "N is a decimal number. With k, M or G behind it, it is as many times 1024, 1024 k or 1024 M; --blocks then is the disk's size in bytes, whole blocks of 4096. Files that are there are replaced, once the new ones are whole; with --new they aren't. Nothing is printed.\n\nExamples:\n  wafl make disk nvram --new --blocks 64 --inodes 32 --half 131072\n  wafl make disk nvram --new --blocks 4G --inodes 64k --half 1M",
     )
-    .arg(size(alloc, "blocks").help(
+    .arg(size(
+        alloc,
+        "blocks",
         "Blocks of the disk: 64 to 1048576, as in --blocks 64 or --blocks 256k",
     ))
-    .arg(size(alloc, "inodes").help(
+    .arg(size(
+        alloc,
+        "inodes",
         "Inodes, four of them the system's own: 32 to 65536, as in --inodes 32",
     ))
-    .arg(size(alloc, "half").help(
+    .arg(size(
+        alloc,
+        "half",
         "Bytes of each half of the NVRAM: 131072 to 8388608, as in --half 128k",
     ))
-    .arg(flag(alloc, "new").help("Replace no file that is there and has a byte"))
+    .arg(flag(alloc, "new", "Replace no file that is there and has a byte"))
 }
 
-fn run_command<'a>(alloc: Global) -> Growing<'a> {
+fn run_command<'a>(alloc: Global) -> Growing<'a>
+    ensures { GrowsTo spec.run_app result.command }
+{
     on_image(
         alloc,
-        Command::new(alloc, "run")
-            .about("Mount an image and run a script: one command a line, one reply a line")
-            .after_help(COMMAND_NOTES),
+        "run",
+        "Mount an image and run a script: one command a line, one reply a line",
+        COMMAND_NOTES,
     )
-    .arg(place(alloc, "script", "SCRIPT").help("The script's file; - is standard input"))
-    .arg(flag(alloc, "stop").help("End at the first command that is refused, with status 8"))
-    .arg(cut(alloc))
+    .arg(place(
+        alloc,
+        "script",
+        "SCRIPT",
+        "The script's file; - is standard input",
+    ))
+    .arg(flag(
+        alloc,
+        "stop",
+        "End at the first command that is refused, with status 8",
+    ))
+    .arg(count(
+        alloc,
+        "cut",
+        "Cut the power within device write N of this run, from 1, as in --cut 5",
+    ))
     .arg(keep(alloc))
-    .arg(
-        number(alloc, "bytes").default_value("0").help(
-            "Bytes that an NVRAM write keeps when it is cut, as in --bytes 1",
-        ),
-    )
-    .arg(count(alloc, "fail-sync").help(
+    .arg(bytes(alloc))
+    .arg(count(
+        alloc,
+        "fail-sync",
         "Let sync N of this run fail, from 1, which mounting makes, as in --fail-sync 2",
     ))
     .arg(explain(alloc))
 }
 
-fn shell_command<'a>(alloc: Global) -> Growing<'a> {
+fn shell_command<'a>(alloc: Global) -> Growing<'a>
+    ensures { GrowsTo spec.shell_app result.command }
+{
     on_image(
         alloc,
-        Command::new(alloc, "shell")
-            .about("Mount an image and answer each line of standard input at once")
-            .after_help(COMMAND_NOTES),
+        "shell",
+        "Mount an image and answer each line of standard input at once",
+        COMMAND_NOTES,
     )
     .arg(explain(alloc))
 }
 
-fn do_command<'a>(alloc: Global) -> Growing<'a> {
+fn do_command<'a>(alloc: Global) -> Growing<'a>
+    ensures { GrowsTo spec.do_app result.command }
+{
     on_image(
         alloc,
-        Command::new(alloc, "do")
-            .about("Mount an image and do one command; status 8 where it is refused")
-            .after_help(COMMAND_NOTES),
+        "do",
+        "Mount an image and do one command; status 8 where it is refused",
+        COMMAND_NOTES,
     )
     .arg(command_words(alloc))
     .arg(explain(alloc))
 }
 
-fn df_command<'a>(alloc: Global) -> Growing<'a> {
+fn df_command<'a>(alloc: Global) -> Growing<'a>
+    ensures { GrowsTo spec.df_app result.command }
+{
     on_image(
         alloc,
-        Command::new(alloc, "df")
-            .about("Mount an image and tell the room of its disk")
-            .after_help(
-                "Prints the disk's blocks, those that are free, and those that are pledged for what the newest root doesn't hold. The image stays as it is.\n\nExample:\n  wafl df disk nvram",
-            ),
+        "df",
+        "Mount an image and tell the room of its disk",
+        "Prints the disk's blocks, those that are free, and those that are pledged for what the newest root doesn't hold. The image stays as it is.\n\nExample:\n  wafl df disk nvram",
     )
     .arg(explain(alloc))
 }
 
-fn put_command<'a>(alloc: Global) -> Growing<'a> {
+fn put_command<'a>(alloc: Global) -> Growing<'a>
+    ensures { GrowsTo spec.put_app result.command }
+{
     on_image(
         alloc,
-        Command::new(alloc, "put")
-            .about("Store a file of the host's in a file of the image, whole or not at all")
-            .after_help(
-                "A file that PATH leads to loses its bytes and gets these in their place; where nothing is there, one is made, of mode 0644. Where a call is refused that file stays as it was, and standard error tells the path, the refusal and the byte at which it came. On a terminal it tells how many MiB were written.\n\nExamples:\n  wafl put disk nvram notes.txt /notes\n  wafl put disk nvram - /notes < notes.txt",
-            ),
+        "put",
+        "Store a file of the host's in a file of the image, whole or not at all",
+        "A file that PATH leads to loses its bytes and gets these in their place; where nothing is there, one is made, of mode 0644. Where a call is refused that file stays as it was, and standard error tells the path, the refusal and the byte at which it came. On a terminal it tells how many MiB were written.\n\nExamples:\n  wafl put disk nvram notes.txt /notes\n  wafl put disk nvram - /notes < notes.txt",
     )
-    .arg(place(alloc, "file", "FILE").help("The host's file; - is standard input"))
-    .arg(place(alloc, "path", "PATH").help("The path in the image, as in /d/notes"))
+    .arg(place(
+        alloc,
+        "file",
+        "FILE",
+        "The host's file; - is standard input",
+    ))
+    .arg(place(
+        alloc,
+        "path",
+        "PATH",
+        "The path in the image, as in /d/notes",
+    ))
     .arg(explain(alloc))
 }
 
-fn get_command<'a>(alloc: Global) -> Growing<'a> {
+fn get_command<'a>(alloc: Global) -> Growing<'a>
+    ensures { GrowsTo spec.get_app result.command }
+{
     on_image(
         alloc,
-        Command::new(alloc, "get")
-            .about("Bring a file of the image back, whole or not at all")
-            .after_help(
-                "A file FILE that is there is replaced once the new one is whole; where a call is refused it stays as it was, or none is made, and standard error tells the path, the refusal and the byte at which it came. The image stays as it is. On a terminal it tells how many MiB were read.\n\nExamples:\n  wafl get disk nvram /notes notes.txt\n  wafl get disk nvram /notes - --in monday | wc -c",
-            ),
+        "get",
+        "Bring a file of the image back, whole or not at all",
+        "A file FILE that is there is replaced once the new one is whole; where a call is refused it stays as it was, or none is made, and standard error tells the path, the refusal and the byte at which it came. The image stays as it is. On a terminal it tells how many MiB were read.\n\nExamples:\n  wafl get disk nvram /notes notes.txt\n  wafl get disk nvram /notes - --in monday | wc -c",
     )
-    .arg(place(alloc, "path", "PATH").help("The path in the image, as in /d/notes"))
-    .arg(place(alloc, "file", "FILE").help("The host's file; - is standard output"))
-    .arg(snapshot(alloc))
+    .arg(place(
+        alloc,
+        "path",
+        "PATH",
+        "The path in the image, as in /d/notes",
+    ))
+    .arg(place(
+        alloc,
+        "file",
+        "FILE",
+        "The host's file; - is standard output",
+    ))
+    .arg(option(
+        alloc,
+        "in",
+        "SNAPSHOT",
+        "Read the file as this snapshot has it, as in --in monday",
+    ))
     .arg(explain(alloc))
 }

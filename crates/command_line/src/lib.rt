@@ -3,12 +3,14 @@
 #![tactic(auto)]
 
 mod arguments;
+mod commands;
 mod line;
 mod numbers;
 mod options;
 mod script_lines;
 mod script_words;
 mod spelled_line;
+mod values;
 
 pub use line::{Asked, Kept, Line, LineError, RunFaults, read_line};
 pub use script_lines::explain_line;

@@ -1,10 +1,15 @@
 //! The program's command line, which `clap` reads.
 
-ghost use Rattle.std.specs.Prelude.{◌≡◌};
+ghost use Rattle.std.specs.Prelude.{◌≡◌, ◌⊎◌, IfOk, IfErr, [], map};
+ghost use Rattle.clap.specs.Words.{IsAmong, kind_of, subcommand_rows_of};
+ghost use Rattle.clap.specs.declared.error.kind.ErrorKind.TheVariants as kind;
+ghost use Rattle.command_line.specs.Lines.{AskForHelp, IsMisunderstood, Refuses, asked_of, asked_value, command_of};
+ghost use Rattle.command_line.specs.Lines.{faults_of, help, line_value};
 ghost use Rattle.command_line.specs.declared.line.LineError.TheVariants.{NoMemory};
 
 use crate::arguments::wafl_command;
-use crate::numbers::{BLOCKS, HALF, INODES, make_number};
+use crate::commands::line_of_command;
+use crate::values::is_set;
 use clap::ArgMatches;
 use clap::error::ErrorKind;
 use std::alloc::{AllocError, AllocFailed, Global};
@@ -131,8 +136,14 @@ impl From<AllocError> for LineError {
 }
 
 /// What the words ask for. The first is the program's name, as in `env::args`.
-pub fn read_line<'a, S: AsStr>(alloc: Global, words: &'a [S]) -> Result<Asked<'a>, LineError> {
-    let matches = match wafl_command(alloc)?.try_get_matches_from(words) {
+pub fn read_line<'a, S: AsStr>(alloc: Global, words: &'a [S]) -> Result<Asked<'a>, LineError>
+    ensures line { IfOk result (λ asked. (asked_of (map S.text words.entry.now)
+        ≡ Ok (asked_value asked)) ⊎ (line_value asked.line ≡ help)) }
+    ensures help { IfOk result (λ asked. line_value asked.line ≡ help
+        → AskForHelp (map S.text words.entry.now)) }
+    ensures refusal { IfErr result (Refuses (asked_of (map S.text words.entry.now))) }
+{
+    let matches = match matches_of(alloc, words) {
         Ok(matches) => matches,
         Err(error) => return answer_without_matches(alloc, &error),
     };
@@ -140,13 +151,29 @@ pub fn read_line<'a, S: AsStr>(alloc: Global, words: &'a [S]) -> Result<Asked<'a
         return Err(not_understood(alloc, "error: no command\n"));
     };
     Ok(Asked {
-        line: subcommand_line(alloc, name, matches)?,
-        explains: matches.get_flag("explain"),
+        line: line_of_command(alloc, name, matches)?,
+        explains: is_set(matches, "explain"),
     })
 }
 
+/// What clap finds in the words.
+fn matches_of<'a, S: AsStr>(alloc: Global, words: &'a [S]) -> Result<ArgMatches<'a>, clap::Error>
+    ensures fit { IfOk result (λ m. (faults_of (map S.text words.entry.now) ≡ [])
+        × (subcommand_rows_of m ≡ command_of (map S.text words.entry.now))) }
+    ensures fault { IfErr result (λ e. (kind_of e ≡ kind.OutOfMemory)
+        ⊎ IsAmong (kind_of e) (faults_of (map S.text words.entry.now))) }
+{
+    wafl_command(alloc)?.try_get_matches_from(words)
+}
+
 /// Help where it was asked for, and else why the words aren't understood.
-fn answer_without_matches<'a>(alloc: Global, error: &clap::Error) -> Result<Asked<'a>, LineError> {
+fn answer_without_matches<'a>(alloc: Global, error: &clap::Error) -> Result<Asked<'a>, LineError>
+    ensures help { IfOk result (λ asked. (line_value asked.line ≡ help)
+        × ((kind_of error.now ≡ kind.DisplayHelp) ⊎ (kind_of error.now ≡ kind.DisplayVersion))) }
+    ensures memory { kind_of error.now ≡ kind.OutOfMemory
+        → IfErr result (λ e. e ≡ NoMemory) }
+    ensures refusal { IfErr result IsMisunderstood }
+{
     match error.kind() {
         ErrorKind::OutOfMemory => Err(LineError::NoMemory),
         ErrorKind::DisplayHelp | ErrorKind::DisplayVersion => Ok(Asked {
@@ -157,128 +184,12 @@ fn answer_without_matches<'a>(alloc: Global, error: &clap::Error) -> Result<Aske
     }
 }
 
-fn not_understood(alloc: Global, text: &str) -> LineError {
+/// That words aren't understood, for this reason.
+pub fn not_understood(alloc: Global, text: &str) -> LineError
+    ensures { IsMisunderstood result }
+{
     match String::from_str(alloc, text) {
         Ok(text) => LineError::NotUnderstood(text),
         Err(AllocError) => LineError::NoMemory,
-    }
-}
-
-/// What a subcommand of this name asks for.
-fn subcommand_line<'a>(
-    alloc: Global,
-    name: &str,
-    matches: &ArgMatches<'a>,
-) -> Result<Line<'a>, LineError> {
-    if name == "make" {
-        return make_line(alloc, matches);
-    }
-    let line = match name {
-        "run" => run_line(matches),
-        "shell" => shell_line(matches),
-        "do" => return do_line(alloc, matches),
-        "df" => df_line(matches),
-        "put" => put_line(matches),
-        "get" => get_line(matches),
-        _ => None,
-    };
-    match line {
-        Some(line) => Ok(line),
-        None => Err(not_understood(
-            alloc,
-            "error: invalid value for '--keep': none, all or a text of 0 and 1\n",
-        )),
-    }
-}
-
-fn make_line<'a>(alloc: Global, matches: &ArgMatches<'a>) -> Result<Line<'a>, LineError> {
-    let (disk, nvram) = image_words(alloc, matches)?;
-    Ok(Line::Make {
-        disk,
-        nvram,
-        blocks: make_number(alloc, matches, BLOCKS)?,
-        inodes: make_number(alloc, matches, INODES)?,
-        half: make_number(alloc, matches, HALF)?,
-        is_new: matches.get_flag("new"),
-    })
-}
-
-/// The files of the image, which each command requires.
-fn image_words<'a>(
-    alloc: Global,
-    matches: &ArgMatches<'a>,
-) -> Result<(&'a str, &'a str), LineError> {
-    match (matches.get_str("disk"), matches.get_str("nvram")) {
-        (Some(disk), Some(nvram)) => Ok((disk, nvram)),
-        _ => Err(not_understood(alloc, "error: no DISK and NVRAM\n")),
-    }
-}
-
-/// None where `--keep` isn't `none`, `all` or a text of 0 and 1.
-fn run_line<'a>(matches: &ArgMatches<'a>) -> Option<Line<'a>> {
-    Some(Line::Run {
-        disk: matches.get_str("disk")?,
-        nvram: matches.get_str("nvram")?,
-        script: matches.get_str("script")?,
-        stops: matches.get_flag("stop"),
-        faults: RunFaults {
-            cut: matches.get_one::<u32>("cut"),
-            keep: read_kept(matches.get_str("keep")?)?,
-            bytes: matches.get_one::<u32>("bytes")?,
-            fail_sync: matches.get_one::<u32>("fail-sync"),
-        },
-    })
-}
-
-fn shell_line<'a>(matches: &ArgMatches<'a>) -> Option<Line<'a>> {
-    Some(Line::Shell {
-        disk: matches.get_str("disk")?,
-        nvram: matches.get_str("nvram")?,
-    })
-}
-
-fn do_line<'a>(alloc: Global, matches: &ArgMatches<'a>) -> Result<Line<'a>, LineError> {
-    let (disk, nvram) = image_words(alloc, matches)?;
-    let words = matches.get_strs("words").unwrap_or(&[]);
-    Ok(Line::Do {
-        disk,
-        nvram,
-        words: Vec::from_slice(alloc, words)?,
-    })
-}
-
-fn df_line<'a>(matches: &ArgMatches<'a>) -> Option<Line<'a>> {
-    Some(Line::Df {
-        disk: matches.get_str("disk")?,
-        nvram: matches.get_str("nvram")?,
-    })
-}
-
-fn put_line<'a>(matches: &ArgMatches<'a>) -> Option<Line<'a>> {
-    Some(Line::Put {
-        disk: matches.get_str("disk")?,
-        nvram: matches.get_str("nvram")?,
-        file: matches.get_str("file")?,
-        path: matches.get_str("path")?,
-    })
-}
-
-fn get_line<'a>(matches: &ArgMatches<'a>) -> Option<Line<'a>> {
-    Some(Line::Get {
-        disk: matches.get_str("disk")?,
-        nvram: matches.get_str("nvram")?,
-        path: matches.get_str("path")?,
-        file: matches.get_str("file")?,
-        snapshot: matches.get_str("in"),
-    })
-}
-
-fn read_kept(word: &str) -> Option<Kept<'_>> {
-    match word {
-        "none" => Some(Kept::Nothing),
-        "all" => Some(Kept::Everything),
-        "" => None,
-        bits if bits.bytes().all(|byte| byte == b'0' || byte == b'1') => Some(Kept::Bits(bits)),
-        _ => None,
     }
 }

@@ -1,11 +1,16 @@
 //! The numbers of `make`: decimal, or with a suffix that multiplies, each within the range that images have.
 
-use crate::line::LineError;
+ghost use Rattle.std.specs.Prelude.{◌≡◌, ◌<◌, ◌*◌, ◌==◌, if◌then◌else◌, IfOk};
+ghost use Rattle.command_line.specs.Lines.{IsMisunderstood, Yields};
+ghost use Rattle.command_line.specs.Values.{amount_at, amount_of, digits_in, given, number_of, rows_in, unit_in, unit_of, whole, within};
+
+use crate::line::{LineError, not_understood};
+use crate::values::text;
 use clap::ArgMatches;
 use layout::{
     BLOCK_BYTES, LEAST_BLOCKS, LEAST_HALF, LEAST_INODES, MOST_BLOCKS, MOST_HALF, MOST_INODES,
 };
-use std::alloc::Global;
+use std::alloc::{AllocError, Global};
 
 /// What a number of `make` may be.
 #[derive(Clone, Copy)]
@@ -47,59 +52,102 @@ pub fn make_number<'a>(
     alloc: Global,
     matches: &ArgMatches<'a>,
     limits: Limits,
-) -> Result<u32, LineError> {
-    let word = matches.get_str(limits.option).unwrap_or("");
-    let Some((number, unit)) = read_number(word) else {
-        return Err(LineError::NotUnderstood(format!(in alloc;
-            "error: invalid value '{word}' for '--{} <N>': a number, as 131072 or 128k\n\nFor more information, try '--help'.\n",
-            limits.option
-        )?));
+) -> Result<u32, LineError>
+    requires { 0 < limits.unit }
+    ensures { Yields (λ n. n) (amount_at limits.option.now limits.unit
+        limits.least limits.most (rows_in matches.now)) result }
+{
+    let Some(word) = text(matches, limits.option) else {
+        return Err(not_understood(alloc, "error: an argument is missing\n"));
     };
-    let divisor = if unit > 1 { limits.unit } else { 1 };
-    in_range(alloc, word, number.saturating_mul(unit), divisor, limits)
+    let Some(number) = read_number(word) else {
+        return Err(no_number(alloc, word, limits.option)?);
+    };
+    let unit = suffix_unit(word);
+    let size = if unit == 1 { 1 } else { limits.unit };
+    in_range(alloc, word, u64::from(number) * unit, size, limits)
 }
 
-/// A word's number, where the option counts as many of it as a range has.
+/// That a word of an option is no number.
+fn no_number(alloc: Global, word: &str, option: &str) -> Result<LineError, AllocError>
+    ensures { IfOk result IsMisunderstood }
+{
+    Ok(LineError::NotUnderstood(format!(in alloc;
+        "error: invalid value '{word}' for '--{option} <N>': a number, as 131072 or 128k\n\nFor more information, try '--help'.\n"
+    )?))
+}
+
+/// How many of a size a word's number is, where that is whole and in the option's range.
 fn in_range(
     alloc: Global,
     word: &str,
     number: u64,
-    divisor: u64,
+    size: u64,
     limits: Limits,
-) -> Result<u32, LineError> {
+) -> Result<u32, LineError>
+    requires { 0 < size }
+    ensures { Yields (λ n. n)
+        (given (whole size number) (within limits.least limits.most)) result }
+{
     let option = limits.option;
-    if number.checked_rem(divisor) != Some(0) {
+    if number % size != 0 {
         return Err(LineError::OutOfRange(format!(in alloc;
-            "wafl: --{option} {word}: not in whole blocks of {divisor} bytes\n"
+            "wafl: --{option} {word}: not in whole blocks of {size} bytes\n"
         )?));
     }
-    let count = u32::try_from(number.checked_div(divisor).unwrap_or(0)).unwrap_or(u32::MAX);
-    if count < limits.least || count > limits.most {
+    let count = number / size;
+    if count < u64::from(limits.least) || count > u64::from(limits.most) {
         return Err(LineError::OutOfRange(format!(in alloc;
             "wafl: --{option} {word}: from {} to {}\n",
             limits.least, limits.most
         )?));
     }
-    Ok(count)
+    Ok(count as u32)
 }
 
-/// A word's number, and what its suffix multiplies it by: 1 where it has none. None where it is no number of 32 bits.
-fn read_number(word: &str) -> Option<(u64, u64)> {
-    let (digits, unit) = split_suffix(word);
-    let number: u32 = digits.parse().ok()?;
-    Some((u64::from(number), unit))
+/// A word's number without its suffix. None where it is no number of 32 bits.
+fn read_number(word: &str) -> Option<u32>
+    ensures { result ≡ number_of (digits_in word.now) }
+{
+    digits(word).parse().ok()
 }
 
-/// What stands before a suffix, and what that multiplies by.
-fn split_suffix(word: &str) -> (&str, u64) {
-    if let Some(digits) = word.strip_suffix('k').or_else(|| word.strip_suffix('K')) {
-        return (digits, 1 << 10);
+/// What stands before a suffix.
+fn digits(word: &str) -> &str
+    ensures { result.now ≡ digits_in word.now }
+{
+    if let Some(digits) = word.strip_suffix('k') {
+        return digits;
+    }
+    if let Some(digits) = word.strip_suffix('K') {
+        return digits;
     }
     if let Some(digits) = word.strip_suffix('M') {
-        return (digits, 1 << 20);
+        return digits;
     }
     if let Some(digits) = word.strip_suffix('G') {
-        return (digits, 1 << 30);
+        return digits;
     }
-    (word, 1)
+    word
+}
+
+/// What the last character of a word multiplies by.
+fn suffix_unit(word: &str) -> u64
+    ensures { result ≡ unit_in word.now }
+{
+    match word.as_bytes().last() {
+        Some(last) => unit(*last),
+        None => 1,
+    }
+}
+
+fn unit(last: u8) -> u64
+    ensures { result ≡ unit_of last }
+{
+    match last {
+        b'k' | b'K' => 1 << 10,
+        b'M' => 1 << 20,
+        b'G' => 1 << 30,
+        _ => 1,
+    }
 }

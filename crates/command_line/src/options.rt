@@ -1,84 +1,107 @@
 //! The arguments that commands have, with what help says of them.
 
+ghost use Rattle.std.specs.Prelude.{codes};
+ghost use Rattle.command_line.specs.Arguments as spec;
+ghost use Rattle.command_line.specs.Arguments.{IsArg};
+
 use clap::{Arg, ArgAction, value_parser};
 use std::alloc::Global;
 
 /// An argument known by its place.
-pub fn place<'a>(alloc: Global, id: &'a str, name: &'a str) -> Arg<'a> {
-    Arg::new(alloc, id).value_name(name).required(true)
-}
-
-pub fn disk<'a>(alloc: Global) -> Arg<'a> {
-    place(alloc, "disk", "DISK").help("The disk's file")
-}
-
-pub fn nvram<'a>(alloc: Global) -> Arg<'a> {
-    place(alloc, "nvram", "NVRAM").help("The NVRAM's file")
+pub fn place<'a>(alloc: Global, id: &'a str, name: &'a str, help: &'a str) -> Arg<'a>
+    ensures { IsArg (spec.place id.entry.now) result }
+{
+    Arg::new(alloc, id)
+        .value_name(name)
+        .required(true)
+        .help(help)
 }
 
 /// An option without a value.
-pub fn flag<'a>(alloc: Global, name: &'a str) -> Arg<'a> {
-    Arg::new(alloc, name).long(name).action(ArgAction::SetTrue)
+pub fn flag<'a>(alloc: Global, name: &'a str, help: &'a str) -> Arg<'a>
+    ensures { IsArg (spec.flag name.entry.now) result }
+{
+    Arg::new(alloc, name)
+        .long(name)
+        .action(ArgAction::SetTrue)
+        .help(help)
 }
 
-pub fn explain<'a>(alloc: Global) -> Arg<'a> {
-    flag(alloc, "explain").help(
+pub fn explain<'a>(alloc: Global) -> Arg<'a>
+    ensures { IsArg spec.explain result }
+{
+    flag(
+        alloc,
+        "explain",
         "Tell what is wrong with a line or an image in a second line, as on a terminal",
     )
 }
 
-/// An option of `make`, whose value is a number, with a suffix or without.
-pub fn size<'a>(alloc: Global, name: &'a str) -> Arg<'a> {
+/// An option with a value.
+pub fn option<'a>(alloc: Global, name: &'a str, value: &'a str, help: &'a str) -> Arg<'a>
+    ensures { IsArg (spec.option name.entry.now) result }
+{
     Arg::new(alloc, name)
         .long(name)
-        .value_name("N")
-        .required(true)
+        .value_name(value)
+        .help(help)
+}
+
+/// An option of `make`, whose value is a number, with a suffix or without.
+pub fn size<'a>(alloc: Global, name: &'a str, help: &'a str) -> Arg<'a>
+    ensures { IsArg (spec.size name.entry.now) result }
+{
+    option(alloc, name, "N", help).required(true)
 }
 
 /// An option whose value is a number.
-pub fn number<'a>(alloc: Global, name: &'a str) -> Arg<'a> {
-    Arg::new(alloc, name)
-        .long(name)
-        .value_name("N")
-        .value_parser(value_parser!(u32))
+pub fn number<'a>(alloc: Global, name: &'a str, help: &'a str) -> Arg<'a>
+    ensures { IsArg (spec.number_from 0 name.entry.now) result }
+{
+    option(alloc, name, "N", help).value_parser(value_parser!(u32))
 }
 
 /// An option whose value is a number from 1 on.
-pub fn count<'a>(alloc: Global, name: &'a str) -> Arg<'a> {
-    Arg::new(alloc, name)
-        .long(name)
-        .value_name("N")
-        .value_parser(value_parser!(u32).range(1..))
+pub fn count<'a>(alloc: Global, name: &'a str, help: &'a str) -> Arg<'a>
+    ensures { IsArg (spec.number_from 1 name.entry.now) result }
+{
+    option(alloc, name, "N", help).value_parser(value_parser!(u32).range(1..))
 }
 
-pub fn cut<'a>(alloc: Global) -> Arg<'a> {
-    count(alloc, "cut").help(
-        "Cut the power within device write N of this run, from 1, as in --cut 5",
+/// How many bytes an NVRAM write keeps.
+pub fn bytes<'a>(alloc: Global) -> Arg<'a>
+    ensures { IsArg (spec.or_else (codes "0") (spec.number_from 0 (codes "bytes"))) result }
+{
+    number(
+        alloc,
+        "bytes",
+        "Bytes that an NVRAM write keeps when it is cut, as in --bytes 1",
     )
+    .default_value("0")
 }
 
-pub fn keep<'a>(alloc: Global) -> Arg<'a> {
-    Arg::new(alloc, "keep")
-        .long("keep")
-        .value_name("none|all|BITS")
-        .default_value("none")
-        .help(
-            "Which sector writes since the last sync a cut keeps; with BITS those at a 1, as in --keep 10",
-        )
+pub fn keep<'a>(alloc: Global) -> Arg<'a>
+    ensures { IsArg (spec.or_else (codes "none") (spec.option (codes "keep"))) result }
+{
+    option(
+        alloc,
+        "keep",
+        "none|all|BITS",
+        "Which sector writes since the last sync a cut keeps; with BITS those at a 1, as in --keep 10",
+    )
+    .default_value("none")
 }
 
 /// The words of a command, which are all that follow, those that begin with `-` too.
-pub fn command_words<'a>(alloc: Global) -> Arg<'a> {
-    place(alloc, "words", "WORDS")
-        .num_args(1..)
-        .trailing_var_arg(true)
-        .allow_hyphen_values(true)
-        .help("The command's words, spelled as in a script, as in mkdir /a 0700")
-}
-
-pub fn snapshot<'a>(alloc: Global) -> Arg<'a> {
-    Arg::new(alloc, "in")
-        .long("in")
-        .value_name("SNAPSHOT")
-        .help("Read the file as this snapshot has it, as in --in monday")
+pub fn command_words<'a>(alloc: Global) -> Arg<'a>
+    ensures { IsArg (spec.all_others (codes "words")) result }
+{
+    place(
+        alloc,
+        "words",
+        "WORDS",
+        "The command's words, spelled as in a script, as in mkdir /a 0700",
+    )
+    .num_args(1..)
+    .trailing_var_arg(true)
 }

@@ -16,7 +16,7 @@ use Rattle.layout.specs.declared.pointer.Pointer.{Pointer}
 use Rattle.layout.specs.declared.pointer.Pointer.TheVariants.{Hole, Block}
 use Rattle.layout.specs.declared.version.TheConstants.{VERSION}
 use Rattle.images.specs.Nodes.{held, Names, Agrees, IsOnce, body_block, file_block, place_at_height}
-use Rattle.images.specs.Soundness.{IsSoundFile, HasNoHole, nodes_at}
+use Rattle.images.specs.Soundness.{IsSoundFile, HasNoHole, nodes_of_size}
 use Rattle.images.proofs.ReadingLaws.{used_one, used_two}
 use Rattle.blockmap.specs.Parts.{Part}
 use Rattle.blockmap.specs.Maps.{IsTouched, no_part, entry_at, settled_at}
@@ -147,8 +147,8 @@ module _ {s : Sizes} {d e : Blocks} {old : Inode} {before after : Draft} {settle
         ap length (same_block w is agrees n x there ∙ sym (ap (pointed d) stood)) ∙ (is.sound.indirect 0 0 x stood).size
   ]
 
-  over_is : (x : ℕ) → node_at settled places n ≡ Block x → IsIndirectBlock s.blocks (nodes_at (4 * before.map.count) 0 - 1024 * 0) (e x)
-  unfolding nodes_at
+  over_is : (x : ℕ) → node_at settled places n ≡ Block x → IsIndirectBlock s.blocks (nodes_of_size (4 * before.map.count) 0 - 1024 * 0) (e x)
+  unfolding nodes_of_size
   over_is x at = elim (cases_lt 16 n) [
     | inr less ↦ absurd (no_block (node_at settled places n) x (node_past w is agrees n (omega (arith, ends w is agrees less))) at)
     | inl many ↦ record {
@@ -166,9 +166,9 @@ module _ {s : Sizes} {d e : Blocks} {old : Inode} {before after : Draft} {settle
   ]
 
   over_sound : (m i x : ℕ) → (held e (own_inode tops before.map.count)).place (suc m) i ≡ Block x
-      → IsIndirectBlock s.blocks (nodes_at (4 * before.map.count) m - 1024 * i) ((held e (own_inode tops before.map.count)).bytes (suc m) i)
+      → IsIndirectBlock s.blocks (nodes_of_size (4 * before.map.count) m - 1024 * i) ((held e (own_inode tops before.map.count)).bytes (suc m) i)
   unfolding held
-  over_sound zero zero x at = subst (IsIndirectBlock s.blocks (nodes_at (4 * before.map.count) 0 - 1024 * 0)) (sym (ap (pointed e) at)) (over_is x (sym (new_stands w is agrees).top ∙ at))
+  over_sound zero zero x at = subst (IsIndirectBlock s.blocks (nodes_of_size (4 * before.map.count) 0 - 1024 * 0)) (sym (ap (pointed e) at)) (over_is x (sym (new_stands w is agrees).top ∙ at))
   over_sound zero (suc i) x at = absurd (no_block _ x ((new_stands w is agrees).beside i) at)
   over_sound (suc m) i x at = absurd (no_block _ x ((new_stands w is agrees).above m i) at)
 
@@ -177,7 +177,7 @@ module _ {s : Sizes} {d e : Blocks} {old : Inode} {before after : Draft} {settle
   sound_is = record { inode = inode_is; indirect = over_sound; ends = ends_at }
 
   no_hole : HasNoHole (held e (own_inode tops before.map.count))
-  unfolding held nodes_at
+  unfolding held nodes_of_size
   no_hole i level lt none = let low : i < n = omega (arith, w.count, lt) in new_block w is agrees i low (sym ((new_stands w is agrees).low i low) ∙ none)
 
   -- ---- what it names

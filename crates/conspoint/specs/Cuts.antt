@@ -2,7 +2,7 @@
 use Rattle.std.specs.Prelude.{ℕ, ◌≡◌, ◌≢◌, ◌+◌, ◌*◌, ◌/◌, ◌≤◌, List, [], ◌∷◌, length, take, All}
 use Rattle.station.specs.Images.{Images, Sector, sector_with}
 use Rattle.layout.specs.declared.TheConstants.{SECTOR_BYTES}
-use Rattle.buffers.specs.Disks.{IsBlock, disk_with}
+use Rattle.buffers.specs.Disks.{IsBlock, disk_with_block}
 use Rattle.buffers.specs.declared.error.BufferError.{BufferError}
 use Rattle.buffers.specs.declared.error.BufferError.TheVariants.{Device}
 use Rattle.conspoint.specs.declared.plan.PlannedBlock.{PlannedBlock}
@@ -29,7 +29,7 @@ HoldsWritten p c = HoldsBlocks (take p.written p.blocks) c.disk
 -- a disk with these blocks written, one after the other
 unfoldable pub disk_with_blocks : List PlannedBlock → (ℕ → List ℕ) → ℕ → List ℕ
 disk_with_blocks [] disk = disk
-disk_with_blocks (b ∷ blocks) disk = disk_with_blocks blocks (disk_with b.place b.bytes disk)
+disk_with_blocks (b ∷ blocks) disk = disk_with_blocks blocks (disk_with_block b.place b.bytes disk)
 
 -- the disk with those that are written
 abbrev pub disk_so_far : Planned → (ℕ → List ℕ) → ℕ → List ℕ

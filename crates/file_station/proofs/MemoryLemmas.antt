@@ -3,7 +3,7 @@ use Rattle.std.proofs.Common.{◌≡◌, inl, inr, ℕ, List, [], ◌∷◌, ◌
 use Rattle.std.proofs.lemmas.List.{take-append-le}
 use Rattle.std.proofs.lemmas.List.Sums.{fold-append}
 use Rattle.file_station.specs.Files.{FileWent, FilesGo, disk_step, nvram_step, file_with}
-use Rattle.file_station.specs.Memory.{written_file, file_after, contents, IsAdded}
+use Rattle.file_station.specs.Memory.{written_file, file_after, contents_after, IsAdded}
 use Rattle.file_station.specs.MemoryMeaning.{file_known, known_files}
 use Rattle.file_station.specs.declared.image_files.Part.{Part}
 use Rattle.file_station.specs.declared.image_files.Part.TheVariants.{Disk, Nvram}
@@ -26,8 +26,8 @@ goes_none disk nvram ws on_disk on_nvram d n honest = record {
       seen = same _;
     }
 
-contents-push : (part : Part) (first : List ℕ) (ws : List FileWrite) (w : FileWrite) → contents part first (ws ++ w ∷ []) ≡ file_after part (contents part first ws) w
-unfolding contents
+contents-push : (part : Part) (first : List ℕ) (ws : List FileWrite) (w : FileWrite) → contents_after part first (ws ++ w ∷ []) ≡ file_after part (contents_after part first ws) w
+unfolding contents_after
 contents-push part first ws w = fold-append (file_after part) first ws (w ∷ [])
 
 -- one write more: what it does to a file
@@ -36,21 +36,21 @@ file_goes : (step : List ℕ → List ℕ → Type 0) (part : Part) (first : Lis
 file_goes step part first ws w does = record {
   kept = λ t f early.
       let same : take t (ws ++ w ∷ []) ≡ take t ws = take-append-le t ws (w ∷ []) early in
-      (λ left. left ∙ ap (contents part first) same, λ left. left ∙ ap (contents part first) (sym same));
+      (λ left. left ∙ ap (contents_after part first) same, λ left. left ∙ ap (contents_after part first) (sym same));
   added = λ t f late soon left.
       let all : take t (ws ++ w ∷ []) ≡ ws ++ w ∷ [] = take_all t (ws ++ w ∷ []) (omega (arith, late, length-append ws (w ∷ []))) in
-      after f (left ∙ ap (contents part first) all);
+      after f (left ∙ ap (contents_after part first) all);
   now = λ f left.
       let all : take (length (ws ++ w ∷ [])) (ws ++ w ∷ []) ≡ ws ++ w ∷ [] = take_all (length (ws ++ w ∷ [])) (ws ++ w ∷ []) (omega arith) in
-      after f (left ∙ ap (contents part first) all);
-  seen = subst (step (contents part first ws)) (sym (contents-push part first ws w)) (does (contents part first ws));
+      after f (left ∙ ap (contents_after part first) all);
+  seen = subst (step (contents_after part first ws)) (sym (contents-push part first ws w)) (does (contents_after part first ws));
 }
   where
-    after : (f : List ℕ) → f ≡ contents part first (ws ++ w ∷ []) → (e : List ℕ) × (e ≡ contents part first (take (length ws) ws)) × step e f
+    after : (f : List ℕ) → f ≡ contents_after part first (ws ++ w ∷ []) → (e : List ℕ) × (e ≡ contents_after part first (take (length ws) ws)) × step e f
     after f is = (
-      contents part first ws,
-      ap (contents part first) (sym (take_all (length ws) ws (omega arith))),
-      subst (step (contents part first ws)) (sym (is ∙ contents-push part first ws w)) (does (contents part first ws)),
+      contents_after part first ws,
+      ap (contents_after part first) (sym (take_all (length ws) ws (omega arith))),
+      subst (step (contents_after part first ws)) (sym (is ∙ contents-push part first ws w)) (does (contents_after part first ws)),
     )
 
 module _ (disk nvram : List ℕ) (ws ws' : List FileWrite) (part : Part) (at : ℕ) (bytes : List ℕ) where
@@ -87,5 +87,5 @@ module _ (disk nvram : List ℕ) (ws ws' : List FileWrite) (part : Part) (at : �
         on_nvram Nvram f = record { kept = length bytes; within = omega arith; is = rw (adds.1, take_all (length bytes) bytes (omega arith)) refl }
 
     -- the files are what the writes make of them
-    pub contents_written : (p q : Part) (first file : List ℕ) → part ≡ q → file ≡ contents p first ws → written_file p file q at bytes ≡ contents p first ws'
+    pub contents_written : (p q : Part) (first file : List ℕ) → part ≡ q → file ≡ contents_after p first ws → written_file p file q at bytes ≡ contents_after p first ws'
     contents_written p q first file e is = rw (← e, adds.2, contents-push p first ws (record { part = part; at = at; bytes = adds.0 }), ← is, adds.1) refl

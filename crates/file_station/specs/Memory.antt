@@ -17,8 +17,8 @@ abbrev pub file_after : Part → List ℕ → FileWrite → List ℕ
 file_after part file w = written_file part file w.part w.at w.bytes.items
 
 -- a file that held this first, after these writes
-unfoldable pub contents : Part → List ℕ → List FileWrite → List ℕ
-contents part first writes = fold (file_after part) first writes
+unfoldable pub contents_after : Part → List ℕ → List FileWrite → List ℕ
+contents_after part first writes = fold (file_after part) first writes
 
 -- a write of these bytes was added to the list
 abbrev pub IsAdded : List FileWrite → List FileWrite → Part → ℕ → List ℕ → Type 0

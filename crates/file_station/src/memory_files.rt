@@ -2,7 +2,7 @@
 
 ghost use Rattle.std.specs.Prelude.{◌≡◌, ◌+◌, ◌≤◌, length, OnOk, OnErr};
 ghost use Rattle.file_station.specs.Files.{file_with};
-ghost use Rattle.file_station.specs.Memory.{contents, IsAdded};
+ghost use Rattle.file_station.specs.Memory.{contents_after, IsAdded};
 ghost use Rattle.file_station.specs.declared.image_files.Part.TheVariants.{Disk, Nvram};
 
 use crate::{ImageFiles, Part};
@@ -29,8 +29,8 @@ pub struct MemoryFiles {
     first_disk: Vec<u8>,
     first_nvram: Vec<u8>,
     writes: Vec<FileWrite>,
-    ghost disk_is: { disk.items ≡ contents Disk first_disk.items writes.items },
-    ghost nvram_is: { nvram.items ≡ contents Nvram first_nvram.items writes.items },
+    ghost disk_is: { disk.items ≡ contents_after Disk first_disk.items writes.items },
+    ghost nvram_is: { nvram.items ≡ contents_after Nvram first_nvram.items writes.items },
     ghost disk_size: { length disk.items ≡ length first_disk.items },
     ghost nvram_size: { length nvram.items ≡ length first_nvram.items },
 }

@@ -37,7 +37,7 @@ use Rattle.descriptors.specs.declared.table.Descriptors.{Descriptors}
 use Rattle.files.specs.Opened.{OnOpen, tree_with}
 use Rattle.files.specs.Preparing.{PreparesOpen, PreparesTold}
 use Rattle.files.specs.Reading.{PassesOpen}
-use Rattle.files.specs.Writing.{IsTransfer, IsWrite, IsBehindWritten, PutsFile, WritesFile, of_writing, write_of, write_place, write_tests}
+use Rattle.files.specs.Writing.{IsTransfer, IsWrite, IsBehindWritten, PutsFile, WritesFile, of_writing, change_of_write, write_place, write_tests}
 use Rattle.files.specs.declared.written.Written.{Written}
 use Rattle.files.specs.declared.written.Writing.{Writing}
 use Rattle.files.proofs.OpenLaws.{at_file}
@@ -61,14 +61,14 @@ module _ (inodes : ℕ) (v : Volume) (table : Descriptors) (fd : ℕ) (f : OpenF
     pub behind_is : w.behind ≡ offset + length bytes
     behind_is = is.behind_is
 
-    pub same_change : write_of w bytes ≡ write f.number offset bytes
+    pub same_change : change_of_write w bytes ≡ write f.number offset bytes
     same_change = ap (λ (k : ℕ). write k w.offset bytes) is.number_is ∙ ap (λ (k : ℕ). write f.number k bytes) is.offset_is
 
     -- all that a write comes to, said of the file's number and the place
     pub written_all : (outcome : Outcome) (after : ℕ → Option Description) → IsMounted (applied (write f.number offset bytes) v) after
         → outcome (Wrote (length bytes)) (tree_of (applied (write f.number offset bytes) v) after) (logs (work_of v (write f.number offset bytes)))
-        → GoesOver inodes v (table_of table) (write_of w bytes) × IsMounted (applied (write_of w bytes) v) after
-        × outcome (Wrote (length bytes)) (tree_of (applied (write_of w bytes) v) after) (logs (work_of v (write_of w bytes)))
+        → GoesOver inodes v (table_of table) (change_of_write w bytes) × IsMounted (applied (change_of_write w bytes) v) after
+        × outcome (Wrote (length bytes)) (tree_of (applied (change_of_write w bytes) v) after) (logs (work_of v (change_of_write w bytes)))
     written_all outcome after mounted done =
         subst
         (λ (x : Change).

@@ -1,5 +1,5 @@
 -- What freeing a descriptor comes to.
-use Rattle.std.specs.Prelude.{ℕ, ◌≡◌, List, IfErr, IsTrue, OnErr, OnOk, Option, Some, Result}
+use Rattle.std.specs.Prelude.{ℕ, ◌≡◌, ◌≤◌, List, IfErr, IsTrue, OnErr, OnOk, Option, Some, Result}
 use Rattle.layout.specs.declared.inode.Inode.{Inode}
 use Rattle.model.specs.Descriptors.{closes}
 use Rattle.model.specs.Room.{nothing}
@@ -10,6 +10,7 @@ use Rattle.model.specs.declared.limits.TheConstants.{OPEN_FILES}
 use Rattle.blocktree.specs.Errors.{IsFault}
 use Rattle.blocktree.specs.declared.error.ReadError.{ReadError}
 use Rattle.buffers.specs.declared.blocks.Blocks.{Ghosts}
+use Rattle.inofile.specs.Room.{memory_room}
 use Rattle.inofile.specs.Volumes.{IsVolumeOf}
 use Rattle.inofile.specs.declared.inode_file.InodeFile.{InodeFile}
 use Rattle.paths.specs.Standing.{Looks}
@@ -51,6 +52,9 @@ pub record Closes {T : Type 0} (s t : InodeFile) (table after : Descriptors) (fd
       → closes (tree_with table v) fd (done_reply result) (tree_with after (swept (table_of after) v)) nothing
   pub volume : (count : ℕ) (disk : ℕ → List ℕ) (settled : ℕ → Inode) (v : Volume) → IsVolumeOf count disk settled s v
       → IsMounted v (table_of table) → FitsVolume table v → IsVolumeOf count disk settled t (swept (table_of after) v)
+  pub room : (base : Volume) (count : ℕ) (disk : ℕ → List ℕ) (settled : ℕ → Inode) (v : Volume)
+      → IsVolumeOf count disk settled s v → IsMounted v (table_of table) → FitsVolume table v
+      → memory_room base t (swept (table_of after) v) ≤ memory_room base s v
   pub mounted : (v : Volume) → IsMounted v (table_of table) → IsMounted (swept (table_of after) v) (table_of after)
   pub fits : (v : Volume) → FitsVolume table v → FitsVolume after (swept (table_of after) v)
   pub numbers : (n : ℕ) → HasNumbers n table → HasNumbers n after

@@ -29,12 +29,12 @@ abbrev pub write_place : OpenFile → ℕ
 write_place f = if f.appends then f.size else f.offset
 
 -- the record of bytes that go to a file
-abbrev pub write_of : Written → List ℕ → Change
-write_of w bytes = write w.number w.offset bytes
+abbrev pub change_of_write : Written → List ℕ → Change
+change_of_write w bytes = write w.number w.offset bytes
 
 -- what is prepared of a write of these bytes, if there are any
 abbrev pub of_writing : List ℕ → Changes (Option Writing)
-of_writing bytes o P = IfSome o (λ w. P w.prepared (write_of w.written bytes))
+of_writing bytes o P = IfSome o (λ w. P w.prepared (change_of_write w.written bytes))
 
 -- where something is written, there are bytes, and no more than one call writes
 abbrev pub IsTransfer : List ℕ → Option Writing → Type 0
@@ -62,6 +62,6 @@ abbrev pub WritesFile : Outcome → ℕ → Volume → Descriptors → List ℕ 
 WritesFile outcome inodes v table bytes after (Err errno) = outcome (Refused errno) (tree_with table v) nothing
 WritesFile outcome inodes v table bytes after (Ok None) = outcome (Wrote 0) (tree_with table v) nothing
 WritesFile outcome inodes v table bytes after (Ok (Some w)) =
-    GoesOver inodes v (table_of table) (write_of w.written bytes)
-    × IsMounted (applied (write_of w.written bytes) v) (after w.written)
-    × outcome (Wrote (length bytes)) (tree_of (applied (write_of w.written bytes) v) (after w.written)) (logs (work_of v (write_of w.written bytes)))
+    GoesOver inodes v (table_of table) (change_of_write w.written bytes)
+    × IsMounted (applied (change_of_write w.written bytes) v) (after w.written)
+    × outcome (Wrote (length bytes)) (tree_of (applied (change_of_write w.written bytes) v) (after w.written)) (logs (work_of v (change_of_write w.written bytes)))

@@ -1,8 +1,9 @@
 //! Closing a descriptor, by which a file that has no name may go.
 
-ghost use Rattle.std.specs.Prelude.{ℕ, ◌≡◌, List};
+ghost use Rattle.std.specs.Prelude.{ℕ, ◌≡◌, ◌≤◌, List};
 ghost use Rattle.layout.specs.declared.inode.Inode.{Inode};
 ghost use Rattle.model.specs.Volumes.{Volume};
+ghost use Rattle.inofile.specs.Room.{memory_room};
 ghost use Rattle.inofile.specs.Volumes.{IsVolumeOf};
 ghost use Rattle.records.specs.Opened.{HasNumbers};
 ghost use Rattle.records.specs.Steps.{IsAtHand};
@@ -68,6 +69,10 @@ fn drop_unused(inodes: &mut InodeFile, table: &Descriptors, file: &OpenFile)
         → IsVolumeOf count disk settled inodes.old v → IsFileOf v file.now
         → IsVolumeOf count disk settled inodes.new
         (swept_at (table_of table.now) file.now.number v) }
+    ensures room { (base : Volume) (count : ℕ) (disk : ℕ → List ℕ) (settled : ℕ → Inode) (v : Volume)
+        → IsVolumeOf count disk settled inodes.old v → IsFileOf v file.now
+        → memory_room base inodes.new (swept_at (table_of table.now) file.now.number v)
+        ≤ memory_room base inodes.old v }
 {
     if file.links == 0 && !table.is_open(file.number) {
         drop_nameless(inodes, InodeNumber::new(file.number));

@@ -22,7 +22,7 @@ use Rattle.images.specs.BlockMap.{HasBit, IsExact, IsSystem, NamesOnce, entry, r
 use Rattle.images.specs.Contents.{Content, HoldsVolume, StandsAs, tree_contents}
 use Rattle.images.specs.FirstRoots.{IsFirst, empty_directory, first_inodes, first_tree, root_alone_volume}
 use Rattle.images.specs.Soundness.{FitsNumber, IsSoundFile, IsSoundTree, MapsNumbers}
-use Rattle.images.specs.States.{Holds, OpensBy}
+use Rattle.images.specs.States.{Holds, OpensBy, HasReserve}
 use Rattle.images.proofs.Frames.{frozen_none}
 use Rattle.images.proofs.SlotLaws.{no_snapshots, none_kept}
 use Rattle.images.proofs.AloneLaws.{alone_forgets, alone_volume, no_names}
@@ -163,6 +163,10 @@ module _ (r : Root) (e : Blocks) (numbers map : Inode) (is : IsFirst r e numbers
       frozen = λ k block there. absurd (no_block (slot r k) block (is.slots k) there);
       snapshots = no_snapshots r (whole e r) is.slots;
       exact = exact;
+      own = record {
+        frozen = λ k b own reach. no_frozen k b reach;
+        head = λ k b own there. absurd (no_block (slot r k) b (is.slots k) there);
+      };
     };
     holds = subst (λ (u : HeldTree). HoldsVolume r.geometry.inodes (tree_contents u) root_alone_volume) (sym active_is) objects;
     volume = alone_volume r.geometry.inodes;
@@ -172,8 +176,8 @@ module _ (r : Root) (e : Blocks) (numbers map : Inode) (is : IsFirst r e numbers
 -- ---- the state
 
 pub first_opens : (sectors : ℕ) (disk : ℕ → List ℕ) (nvram : List ℕ) (r : Root) → IsNewest r (disk SLOT_A) (disk SLOT_B) → sectors ≡ 8 * r.geometry.blocks
-    → Holds r (whole (blocks_of disk) r) root_alone_volume [] → LogHolds r.geometry.half r.generation nvram [] → OpensBy sectors disk nvram (empty r.geometry.inodes) []
-first_opens sectors disk nvram r newest size holds log = record {
+    → Holds r (whole (blocks_of disk) r) root_alone_volume [] → HasReserve r (whole (blocks_of disk) r) root_alone_volume [] → LogHolds r.geometry.half r.generation nvram [] → OpensBy sectors disk nvram (empty r.geometry.inodes) []
+first_opens sectors disk nvram r newest size holds room log = record {
   opens = record {
     root = r;
     newest = newest;
@@ -183,6 +187,7 @@ first_opens sectors disk nvram r newest size holds log = record {
     holds = holds;
     changes = [];
     log = record { are = All-nil IsChange; log = log };
+    room = room;
     last = root_alone_volume;
     replays = refl;
     state = record { tree = alone_forgets r.geometry.inodes; rest = refl };

@@ -9,7 +9,7 @@ use Rattle.model.specs.States.{State}
 use Rattle.images.specs.Nodes.{Agrees}
 use Rattle.images.specs.Roots.{whole, Needs}
 use Rattle.images.specs.BlockMap.{entry, IsExact, roots}
-use Rattle.images.specs.States.{Holds, Opens, OpensBy, SameButFree}
+use Rattle.images.specs.States.{Holds, Opens, OpensBy, SameButFree, HasReserve}
 use Rattle.images.proofs.Frames.{whole_same}
 use Rattle.images.proofs.PointLaws.{free_is_free}
 use Rattle.images.proofs.StateLaws.{newest_is_root}
@@ -45,6 +45,7 @@ open_alike sectors d e nvram s o same =
         holds = subst (λ w. Holds r w o.first o.snapshots) (sym whole_is) o.holds;
         changes = o.changes;
         log = o.log;
+        room = subst (λ w. HasReserve r w o.first o.changes) (sym whole_is) o.room;
         last = o.last;
         replays = o.replays;
         state = o.state;

@@ -20,6 +20,7 @@ use Rattle.images.specs.Contents.{Content, StandsAs, HoldsVolume, tree_contents}
 use Rattle.images.specs.Soundness.{IsSoundFile, IsSoundTree, FitsNumber}
 use Rattle.images.specs.Snapshots.{HasSnapshot, AreSnapshots, IsFrozenTree, AreKept, AreKeptAbove}
 use Rattle.images.specs.States.{IsSound, Holds}
+use Rattle.images.specs.Room.{KeepsOwn}
 use Rattle.images.specs.Points.{IsPlannedOn, IsSoundPlan, HoldObjects}
 use Rattle.images.proofs.PointLaws.{point_stands, active_base, frozen_stays, tree_is, stays_held}
 use Rattle.model.proofs.OptionLaws.{some_or_none}
@@ -128,11 +129,11 @@ objects_held s t files v sound content objects volume n = elim (cases_lt n 3) [
 pub point_with : (d e : Blocks) (r new : Root) (files : ℕ → Content) (first v : Volume) (snapshots : List (Name × Tree))
     → IsRoot r → Holds r (whole d r) first snapshots
     → Agrees (Needs r (whole d r)) d e → (plan : IsPlannedOn (whole d r) (whole d r).active 0 r e new files)
-    → IsSoundPlan r.geometry e plan.inode plan.changed
+    → IsSoundPlan r.geometry e plan.inode plan.changed → KeepsOwn new (whole e new)
     → HoldObjects r.geometry.inodes files v → IsVolume r.geometry.inodes v
     → ((k block : ℕ) → slot new k ≡ Block block → IsSoundTree r.geometry ((whole e new).frozen k))
     → AreSnapshots new (whole e new) → (pairs : List (Name × Tree)) → AreKept new (whole e new) pairs → Holds new (whole e new) v pairs
-point_with d e r new files first v snapshots root holds same plan good objects volume frozen are pairs kept =
+point_with d e r new files first v snapshots root holds same plan good own objects volume frozen are pairs kept =
     let sound = holds.sound in
     let base = active_base d r sound.exact sound.active.once in
     let settled = point_stands d e r new (whole d r).active 0 files root sound.exact base same plan in
@@ -143,6 +144,7 @@ point_with d e r new files first v snapshots root holds same plan good objects v
         frozen = λ k block there. subst (λ (g : Sizes). IsSoundTree g ((whole e new).frozen k)) (sym plan.geometry) (frozen k block there);
         snapshots = are;
         exact = settled.exact;
+        own = own;
       };
       holds = subst (λ (g : Sizes). HoldsVolume g.inodes (tree_contents (whole e new).active) v) (sym plan.geometry)
           (objects_held r.geometry (whole e new).active files v tree settled.content objects volume);
@@ -153,15 +155,15 @@ point_with d e r new files first v snapshots root holds same plan good objects v
 pub point_holds : (d e : Blocks) (r new : Root) (files : ℕ → Content) (first v : Volume) (snapshots : List (Name × Tree))
     → IsRoot r → Holds r (whole d r) first snapshots
     → Agrees (Needs r (whole d r)) d e → (plan : IsPlannedOn (whole d r) (whole d r).active 0 r e new files)
-    → IsSoundPlan r.geometry e plan.inode plan.changed → r.generation < new.generation → new.snapshots ≡ r.snapshots
+    → IsSoundPlan r.geometry e plan.inode plan.changed → KeepsOwn new (whole e new) → r.generation < new.generation → new.snapshots ≡ r.snapshots
     → HoldObjects r.geometry.inodes files v → IsVolume r.geometry.inodes v
     → Holds new (whole e new) v snapshots
-point_holds d e r new files first v snapshots root holds same plan good later slots_stay objects volume =
+point_holds d e r new files first v snapshots root holds same plan good own later slots_stay objects volume =
     let sound = holds.sound in
     let slots = slot_same r new slots_stay in
     let heads : (k : ℕ) → (whole e new).head k ≡ (whole d r).head k = λ k. (frozen_stays d e r new k same plan.geometry (slots k)).1 in
     let trees : (k : ℕ) → (whole e new).frozen k ≡ (whole d r).frozen k = λ k. (frozen_stays d e r new k same plan.geometry (slots k)).0 in
-    point_with d e r new files first v snapshots root holds same plan good objects volume
+    point_with d e r new files first v snapshots root holds same plan good own objects volume
     (λ k block there. subst (IsSoundTree r.geometry) (sym (trees k)) (sound.frozen k block (sym (slots k) ∙ there)))
     (snapshots_stay r new (whole d r) (whole e new) slots heads plan.geometry (omega (arith, later)) sound.snapshots)
     snapshots (kept_stay r new (whole d r) (whole e new) slots heads plan.geometry trees 0 snapshots holds.kept)

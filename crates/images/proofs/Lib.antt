@@ -16,8 +16,9 @@ mod SlotLaws
 pub mod FirstLaws
 mod SettlingLaws
 pub mod ReadingLaws
-mod CutLaws
 mod SpanLaws
+mod BehindLaws
 mod OwnLaws
 mod RoomLaws
+mod CutLaws
 mod IdleLaws

@@ -23,7 +23,7 @@ use Rattle.images.specs.Nodes.{Held, body_block, file_block, held, place_at_heig
 use Rattle.images.specs.Roots.{HeldTree, Reach, free_inode, inode_bytes_at, inode_under, inode_part, tree, whole}
 use Rattle.images.specs.BlockMap.{HasBit, NamesOnce, entry}
 use Rattle.images.specs.Room.{free_at}
-use Rattle.images.specs.Soundness.{HasNoHole, IsSoundFile, IsSoundTree, nodes_at}
+use Rattle.images.specs.Soundness.{HasNoHole, IsSoundFile, IsSoundTree, nodes_of_size}
 use Rattle.images.proofs.EmptyLaws.{free_bytes, free_fits, part_zeros}
 use Rattle.images.proofs.SpanLaws.{body_of, stands_whole, within_span}
 
@@ -95,7 +95,7 @@ pub map_whole : (s : Sizes) (d e : Blocks) (f g : Inode) → IsSoundFile s (held
 unfolding held
 map_whole s d e f g old new f_is g_is whole m i b is =
     let size : g.size ≡ f.size = map_size g.kind s g.mode g.links g.size g_is new.inode.kind ∙ sym (map_size f.kind s f.mode f.links f.size f_is old.inode.kind) in
-    let span = subst (λ (n : ℕ). (m < level_of n) × (i < nodes_at n m)) size (within_span s e g new m i b is) in
+    let span = subst (λ (n : ℕ). (m < level_of n) × (i < nodes_of_size n m)) size (within_span s e g new m i b is) in
     stands_whole s d f old whole m i span.0 span.1
 
 -- ---- what leads to a block that is free after

@@ -22,7 +22,7 @@ use Rattle.layout.proofs.InodeLaws.{inode_again}
 use Rattle.layout.proofs.SnapshotLaws.{snapshot_again}
 use Rattle.images.specs.Nodes.{held, body_block, file_block, place_at_height, pointers_of}
 use Rattle.images.specs.Roots.{free_inode, or_free, inode_from, inode_bytes_at, inode_under, tree, frozen_inode_file, inode_file_or_free}
-use Rattle.images.specs.Soundness.{nodes_at, IsSoundFile}
+use Rattle.images.specs.Soundness.{nodes_of_size, IsSoundFile}
 use Rattle.images.proofs.OverlayLaws.{held_up}
 pub use Rattle.layout.proofs.SizeLaws.{level_one, level_two, used_one, used_two}
 
@@ -77,7 +77,7 @@ module _ (s : Sizes) (d : Blocks) (f : Inode) (pointers : List Pointer) (sound :
 
   -- under an indirect block in its grammar
   under : (i : ℕ) (p : Pointer) → (held d f).place 1 (i / 1024) ≡ p → div_ceil f.size 4096 ≤ i → follow d p (i % 1024) ≡ Hole
-  unfolding held nodes_at
+  unfolding held nodes_of_size
   under i Hole is past = refl
   under i (Block b) is past =
       let block = sound.indirect 0 (i / 1024) b is in

@@ -1,35 +1,29 @@
 -- What a consistency point leaves free.
-use Rattle.std.proofs.Common.{◌≡◌, ◌≢◌, ◌⊎◌, inl, inr, ℕ, zero, suc, true, List, ◌+◌, ◌<◌, ◌≤◌, refl, ap, sym, subst, ◌∙◌, arith}
+use Rattle.std.proofs.Common.{◌≡◌, ◌≢◌, ◌⊎◌, inl, inr, ℕ, zero, suc, true, ◌+◌, ◌<◌, ◌≤◌, refl, ap, sym, subst, ◌∙◌, arith}
 use Rattle.std.specs.Prelude.{min}
 use Rattle.std.specs.Int.{bit_at}
 use Rattle.std.proofs.lemmas.Bool.{cases_eq, cases_lt}
-use Rattle.layout.specs.Places.{Blocks, blocks_of, follow}
-use Rattle.layout.specs.Root.{IsRoot, root_bytes}
+use Rattle.layout.specs.Places.{Blocks, follow}
+use Rattle.layout.specs.Root.{IsRoot}
 use Rattle.layout.specs.Version.{level_of}
-use Rattle.layout.specs.declared.TheConstants.{SLOT_A, SLOT_B}
 use Rattle.layout.specs.declared.pointer.Pointer.TheVariants.{Block}
 use Rattle.layout.specs.declared.root.Root.{Root}
 use Rattle.layout.proofs.PointerLaws.{block_same, follow_same, hole_block}
 use Rattle.images.specs.Nodes.{Agrees, Held, Names, held}
 use Rattle.images.specs.Roots.{Needs, Reach, active, frozen, head, slot, whole}
 use Rattle.images.specs.BlockMap.{HasBit, IsSystem, entry, roots, head as system_head}
-use Rattle.model.specs.States.{State}
-use Rattle.model.specs.Volumes.{Volume}
 use Rattle.images.specs.Contents.{Content}
-use Rattle.images.specs.Cuts.{HasRootWritten, IsPointWith, Write}
 use Rattle.images.specs.Points.{IsPlannedOn, IsUnderNewRoot, IsSoundPlan, Slot}
 use Rattle.images.specs.Points as point
 use Rattle.images.specs.Room.{IsNewHead, IsOwn, KeepsOwn, StoresOwn, TakesBelow, TakesFirst, first, free_at, free_under, map}
 use Rattle.images.specs.Soundness.{HasNoHole, IsSoundFile}
-use Rattle.images.specs.SnapshotSteps.{SnapshotStep}
-use Rattle.images.specs.States.{IsSound, Opens}
-use Rattle.images.proofs.CutLaws.{needed_behind, needs_stay, written}
+use Rattle.images.specs.States.{IsSound}
+use Rattle.images.proofs.BehindLaws.{needed_behind}
 use Rattle.images.proofs.EmptyLaws.{no_bit}
 use Rattle.images.proofs.HoldLaws.{active_tree, sound_tree}
 use Rattle.images.proofs.OverlayLaws.{held_up}
 use Rattle.images.proofs.PointLaws.{active_base, free_is_free, frozen_drops, frozen_stays, frozen_takes, moved, no_slot, point_stands}
 use Rattle.images.proofs.SpanLaws.{none_above, stands_first}
-use Rattle.images.proofs.StateLaws.{newest_is_root}
 use Rattle.images.proofs.SumLaws.{leads_back}
 use Rattle.images.proofs.OwnLaws.{Leads, bits_zero, first_stored, free_is, free_one, is_free, leads_alone, map_whole, top_is, top_size, node, over, stays}
 
@@ -181,154 +175,144 @@ module _ (d e : Blocks) (r new : Root) (files : ℕ → Content) (root : IsRoot 
       ]
     ]
 
-  module _ (kept : KeepsOwn r (whole d r)) where
-    own_was : (b : ℕ) → IsOwn (λ n. held e (plan.inode n)) b → IsOwn (whole d r).active b ⊎ ((n : ℕ) × (plan.taken n b ≡ true))
-    own_was b (map names) = elim (moves 2 names.height names.index b names.is) [
-      | inl was ↦ inl (map (record { height = names.height; index = names.index; is = was }))
-      | inr is ↦ inr (2, is)
-    ]
-    own_was b (first height there) = elim (moves 0 height 0 b there) [
-      | inl was ↦ inl (first height was)
-      | inr is ↦ inr (0, is)
-    ]
+  own_was : (b : ℕ) → IsOwn (λ n. held e (plan.inode n)) b → IsOwn (whole d r).active b ⊎ ((n : ℕ) × (plan.taken n b ≡ true))
+  own_was b (map names) = elim (moves 2 names.height names.index b names.is) [
+    | inl was ↦ inl (map (record { height = names.height; index = names.index; is = was }))
+    | inr is ↦ inr (2, is)
+  ]
+  own_was b (first height there) = elim (moves 0 height 0 b there) [
+    | inl was ↦ inl (first height was)
+    | inr is ↦ inr (0, is)
+  ]
 
-    own_needed : (b : ℕ) → IsOwn (whole d r).active b → Needs r (whole d r) b
-    own_needed b (map names) = active (record { file = 2; names = names })
-    own_needed b (first height there) = active (record { file = 0; names = record { height = height; index = 0; is = there } })
+  own_needed : (b : ℕ) → IsOwn (whole d r).active b → Needs r (whole d r) b
+  own_needed b (map names) = active (record { file = 2; names = names })
+  own_needed b (first height there) = active (record { file = 0; names = record { height = height; index = 0; is = there } })
 
-    -- no snapshot shares what the point stores of them
-    pub keeps_own : IsSoundPlan r.geometry e plan.inode plan.changed → StoresOwn (λ n. held e (plan.inode n)) r new plan.taken → KeepsOwn new (whole e new)
-    keeps_own good stores = record {
-      frozen = λ k b own reach. elim (frozen_was k b reach) [
-        | inl was ↦ elim (own_was b (own_now b own)) [
-          | inl own_old ↦ kept.frozen k b own_old was
-          | inr is ↦ was_free is.0 b is.1 (frozen k was)
+  -- no snapshot shares what the point stores of them
+  pub keeps_own : IsSoundPlan r.geometry e plan.inode plan.changed → StoresOwn (λ n. held e (plan.inode n)) r new plan.taken → KeepsOwn new (whole e new)
+  keeps_own good stores = record {
+    frozen = λ k b own reach. elim (frozen_was k b reach) [
+      | inl was ↦ elim (own_was b (own_now b own)) [
+        | inl own_old ↦ sound.own.frozen k b own_old was
+        | inr is ↦ was_free is.0 b is.1 (frozen k was)
+      ]
+      | inr takes ↦ (let is = anew k takes.0 b takes.1 (own_now b own) in was_free is.0 b is.1 (active takes.2))
+    ];
+    head = λ k b own is. elim (head_was k b is) [
+      | inl was ↦ elim (own_was b (own_now b own)) [
+        | inl own_old ↦ sound.own.head k b own_old was
+        | inr taken ↦ was_free taken.0 b taken.1 (head k was)
+      ]
+      | inr takes ↦ elim (own_was b (own_now b own)) [
+        | inl own_old ↦ free_is_free d r b root sound.exact takes.1 (own_needed b own_old)
+        | inr taken ↦ stores.heads taken.0 k b takes.0 taken.1
+      ]
+    ];
+  }
+    where
+      anew : (k block b : ℕ) → IsNewHead r new k block → IsOwn (λ n. held e (plan.inode n)) b → (n : ℕ) × (plan.taken n b ≡ true)
+      anew k block b takes (map names) = (2, stores.map k block b takes names)
+      anew k block b takes (first height there) = (0, first_taken good (stores.first k block takes) height b there)
+
+      own_now : (b : ℕ) → IsOwn (whole e new).active b → IsOwn (λ n. held e (plan.inode n)) b
+      own_now b own = subst (λ t. IsOwn t b) new_tree own
+
+  module _ (none : (k b : ℕ) → IsNewHead r new k b → ⊥) where
+    -- what it doesn't name any more of them is free
+    gone : (b : ℕ) → IsOwn (whole d r).active b → (Reach (whole e new).active b → ⊥) → Needs new (whole e new) b → ⊥
+    gone b own not (active names) = not names
+    gone b own not (frozen k names) = elim (frozen_was k b names) [ inl was ↦ sound.own.frozen k b own was | inr takes ↦ none k takes.0 takes.1 ]
+    gone b own not (head k is) = elim (head_was k b is) [ inl was ↦ sound.own.head k b own was | inr takes ↦ none k b takes.0 ]
+
+    gone_node : (n m i o : ℕ) → ((whole d r).active n).place m i ≡ Block o → ((held e (plan.inode n)).place m i ≡ Block o → ⊥)
+        → Reach (whole e new).active o → ⊥
+    gone_node n m i o is not reach =
+        let now = subst (λ t. Reach t o) new_tree reach in
+        let here : Names ((whole d r).active n) o = record { height = m; index = i; is = is } in
+        let needs : Needs r (whole d r) o = active (record { file = n; names = here }) in
+        elim (comes now.file o now.names) [
+          | inr taken ↦ was_free now.file o taken needs
+          | inl was ↦
+              let names = subst (λ (k : ℕ). Names (held e (plan.inode k)) o) (sound.active.once.apart now.file n o was here) now.names in
+              elim (moves n names.height names.index o names.is) [
+                | inr taken ↦ was_free n o taken needs
+                | inl there ↦
+                    let one = sound.active.once.each n m i names.height names.index o is there in
+                    not (ap (λ h. (held e (plan.inode n)).place h i) one.0 ∙ ap ((held e (plan.inode n)).place names.height) one.1 ∙ names.is)
+              ]
         ]
-        | inr takes ↦ (let is = anew k takes.0 b takes.1 (own_now b own) in was_free is.0 b is.1 (active takes.2))
-      ];
-      head = λ k b own is. elim (head_was k b is) [
-        | inl was ↦ elim (own_was b (own_now b own)) [
-          | inl own_old ↦ kept.head k b own_old was
-          | inr taken ↦ was_free taken.0 b taken.1 (head k was)
-        ]
-        | inr takes ↦ elim (own_was b (own_now b own)) [
-          | inl own_old ↦ free_is_free d r b root sound.exact takes.1 (own_needed b own_old)
-          | inr taken ↦ stores.heads taken.0 k b takes.0 taken.1
-        ]
-      ];
-    }
-      where
-        anew : (k block b : ℕ) → IsNewHead r new k block → IsOwn (λ n. held e (plan.inode n)) b → (n : ℕ) × (plan.taken n b ≡ true)
-        anew k block b takes (map names) = (2, stores.map k block b takes names)
-        anew k block b takes (first height there) = (0, first_taken good (stores.first k block takes) height b there)
 
-        own_now : (b : ℕ) → IsOwn (whole e new).active b → IsOwn (λ n. held e (plan.inode n)) b
-        own_now b own = subst (λ t. IsOwn t b) new_tree own
+    -- such a block is one that leads to nothing else
+    gives : (n m i o : ℕ) → IsOwn (whole d r).active o → ((whole d r).active n).place m i ≡ Block o → ((held e (plan.inode n)).place m i ≡ Block o → ⊥)
+        → (o < r.geometry.blocks) × (free_at (whole e new).active o ≡ 1)
+    gives n m i o own is not =
+        let at = needed_behind d r root sound o (own_needed o own) in
+        (at.1, is_free (whole e new).active o (unneeded_free o at.0 (gone o own (gone_node n m i o is not))))
 
-    module _ (none : (k b : ℕ) → IsNewHead r new k b → ⊥) where
-      -- what it doesn't name any more of them is free
-      gone : (b : ℕ) → IsOwn (whole d r).active b → (Reach (whole e new).active b → ⊥) → Needs new (whole e new) b → ⊥
-      gone b own not (active names) = not names
-      gone b own not (frozen k names) = elim (frozen_was k b names) [ inl was ↦ kept.frozen k b own was | inr takes ↦ none k takes.0 takes.1 ]
-      gone b own not (head k is) = elim (head_was k b is) [ inl was ↦ kept.head k b own was | inr takes ↦ none k b takes.0 ]
+    module _ (good : IsSoundPlan r.geometry e plan.inode plan.changed) (mid : ℕ) (below : TakesBelow mid (λ n. n ≢ 2) r new plan.taken) (firsts : TakesFirst (λ n. held e (plan.inode n)) plan.taken) where
+      abbrev Target : ℕ → Type 0
+      Target x = (y : ℕ) × (y < r.geometry.blocks) × (free_at (whole e new).active y ≡ 1) × Leads (whole d r).active (λ n. held e (plan.inode n)) r.geometry.blocks x y
 
-      gone_node : (n m i o : ℕ) → ((whole d r).active n).place m i ≡ Block o → ((held e (plan.inode n)).place m i ≡ Block o → ⊥)
-          → Reach (whole e new).active o → ⊥
-      gone_node n m i o is not reach =
-          let now = subst (λ t. Reach t o) new_tree reach in
-          let here : Names ((whole d r).active n) o = record { height = m; index = i; is = is } in
-          let needs : Needs r (whole d r) o = active (record { file = n; names = here }) in
-          elim (comes now.file o now.names) [
-            | inr taken ↦ was_free now.file o taken needs
-            | inl was ↦
-                let names = subst (λ (k : ℕ). Names (held e (plan.inode k)) o) (sound.active.once.apart now.file n o was here) now.names in
-                elim (moves n names.height names.index o names.is) [
-                  | inr taken ↦ was_free n o taken needs
-                  | inl there ↦
-                      let one = sound.active.once.each n m i names.height names.index o is there in
-                      not (ap (λ h. (held e (plan.inode n)).place h i) one.0 ∙ ap ((held e (plan.inode n)).place names.height) one.1 ∙ names.is)
+      -- a block that stays free leads to itself
+      itself : (x : ℕ) → x < r.geometry.blocks → entry (whole d r).active x ≡ 0 → (Reach (whole e new).active x → ⊥) → Target x
+      itself x lt free not = (x, lt, is_free (whole e new).active x (unneeded_free x (free_behind x free) still), stays refl free)
+        where
+          still : Needs new (whole e new) x → ⊥
+          still (active names) = not names
+          still (frozen k names) = elim (frozen_was k x names) [
+            | inl was ↦ free_is_free d r x root sound.exact free (frozen k was)
+            | inr takes ↦ none k takes.0 takes.1
+          ]
+          still (head k is) = elim (head_was k x is) [
+            | inl was ↦ free_is_free d r x root sound.exact free (head k was)
+            | inr takes ↦ none k x takes.0
+          ]
+
+      -- one that a node of the map has now leads to where the node stood
+      back : (x m i : ℕ) → entry (whole d r).active x ≡ 0 → (held e (plan.inode 2)).place m i ≡ Block x → Target x
+      unfolding held
+      back x m i free is =
+          let read = (active_base d r sound.exact sound.active.once).read 2 in
+          let now = sound_tree d e r new files root sound same plan good in
+          let found = map_whole r.geometry d e ((whole d r).active 2).inode (plan.inode 2) (subst (IsSoundFile r.geometry) read (sound.active.files 2)) (now.files 2)
+          (sound.active.kinds 2) (now.kinds 2) (subst HasNoHole read sound.active.block_map) m i x is in
+          let there : ((whole d r).active 2).place m i ≡ Block found.0 = ap (λ (h : Held). h.place m i) read ∙ found.1 in
+          let own : IsOwn (whole d r).active found.0 = map (record { height = m; index = i; is = there }) in
+          let given = gives 2 m i found.0 own there (λ at.
+          let one : found.0 ≡ x = block_same found.0 x (sym at ∙ is) in
+          free_is_free d r x root sound.exact free (subst (Needs r (whole d r)) one (own_needed found.0 own))) in
+          (found.0, given.0, given.1, node m i is there)
+
+      leads : (x : ℕ) → x < r.geometry.blocks → min mid r.geometry.blocks ≤ x → free_at (whole d r).active x ≡ 1 → Target x
+      leads x lt late one =
+          let free = free_is (whole d r).active x one in
+          elim (cases_eq (bit_at (entry (whole e new).active x) 0) 1) [
+            | inr no_bit_there ↦ itself x lt free (λ reach. no_bit_there ((settled.exact.active x).1 reach))
+            | inl has ↦
+                let reach = subst (λ t. Reach t x) new_tree ((settled.exact.active x).0 has) in
+                elim (comes reach.file x reach.names) [
+                  | inl was ↦ absurd (free_is_free d r x root sound.exact free (active (record { file = reach.file; names = was })))
+                  | inr taken ↦ elim (cases_eq reach.file 2) [
+                    | inr other ↦ absurd (omega (arith, late, lt, below.files reach.file x other taken))
+                    | inl is ↦ (let names = subst (λ (k : ℕ). Names (held e (plan.inode k)) x) is reach.names in back x names.height names.index free names.is)
+                  ]
                 ]
           ]
 
-      -- such a block is one that leads to nothing else
-      gives : (n m i o : ℕ) → IsOwn (whole d r).active o → ((whole d r).active n).place m i ≡ Block o → ((held e (plan.inode n)).place m i ≡ Block o → ⊥)
-          → (o < r.geometry.blocks) × (free_at (whole e new).active o ≡ 1)
-      gives n m i o own is not =
-          let at = needed_behind d r root sound o (own_needed o own) in
-          (at.1, is_free (whole e new).active o (unneeded_free o at.0 (gone o own (gone_node n m i o is not))))
+      beyond : (k : ℕ) → k < level_of r.inode_file.size → Target (r.geometry.blocks + k)
+      beyond k lt =
+          let top = top_is d r in
+          let some = first_stored d r.geometry (whole d r).active r.inode_file root.head.sizes top sound.active (omega (arith, lt)) in
+          let found = stands_first d r.inode_file k lt some in
+          let there : ((whole d r).active 0).place k 0 ≡ Block found.0 = ap (λ (h : Held). h.place k 0) top ∙ found.1 in
+          let own : IsOwn (whole d r).active found.0 = first k there in
+          let given = gives 0 k 0 found.0 own there (λ at. was_free 0 found.0 (first_taken good firsts k found.0 at) (own_needed found.0 own)) in
+          (found.0, given.0, given.1, over k refl there)
 
-      module _ (good : IsSoundPlan r.geometry e plan.inode plan.changed) (mid : ℕ) (below : TakesBelow mid (λ n. n ≢ 2) r new plan.taken) (firsts : TakesFirst (λ n. held e (plan.inode n)) plan.taken) where
-        abbrev Target : ℕ → Type 0
-        Target x = (y : ℕ) × (y < r.geometry.blocks) × (free_at (whole e new).active y ≡ 1) × Leads (whole d r).active (λ n. held e (plan.inode n)) r.geometry.blocks x y
-
-        -- a block that stays free leads to itself
-        itself : (x : ℕ) → x < r.geometry.blocks → entry (whole d r).active x ≡ 0 → (Reach (whole e new).active x → ⊥) → Target x
-        itself x lt free not = (x, lt, is_free (whole e new).active x (unneeded_free x (free_behind x free) still), stays refl free)
-          where
-            still : Needs new (whole e new) x → ⊥
-            still (active names) = not names
-            still (frozen k names) = elim (frozen_was k x names) [
-              | inl was ↦ free_is_free d r x root sound.exact free (frozen k was)
-              | inr takes ↦ none k takes.0 takes.1
-            ]
-            still (head k is) = elim (head_was k x is) [
-              | inl was ↦ free_is_free d r x root sound.exact free (head k was)
-              | inr takes ↦ none k x takes.0
-            ]
-
-        -- one that a node of the map has now leads to where the node stood
-        back : (x m i : ℕ) → entry (whole d r).active x ≡ 0 → (held e (plan.inode 2)).place m i ≡ Block x → Target x
-        unfolding held
-        back x m i free is =
-            let read = (active_base d r sound.exact sound.active.once).read 2 in
-            let now = sound_tree d e r new files root sound same plan good in
-            let found = map_whole r.geometry d e ((whole d r).active 2).inode (plan.inode 2) (subst (IsSoundFile r.geometry) read (sound.active.files 2)) (now.files 2)
-            (sound.active.kinds 2) (now.kinds 2) (subst HasNoHole read sound.active.block_map) m i x is in
-            let there : ((whole d r).active 2).place m i ≡ Block found.0 = ap (λ (h : Held). h.place m i) read ∙ found.1 in
-            let own : IsOwn (whole d r).active found.0 = map (record { height = m; index = i; is = there }) in
-            let given = gives 2 m i found.0 own there (λ at.
-            let one : found.0 ≡ x = block_same found.0 x (sym at ∙ is) in
-            free_is_free d r x root sound.exact free (subst (Needs r (whole d r)) one (own_needed found.0 own))) in
-            (found.0, given.0, given.1, node m i is there)
-
-        leads : (x : ℕ) → x < r.geometry.blocks → min mid r.geometry.blocks ≤ x → free_at (whole d r).active x ≡ 1 → Target x
-        leads x lt late one =
-            let free = free_is (whole d r).active x one in
-            elim (cases_eq (bit_at (entry (whole e new).active x) 0) 1) [
-              | inr no_bit_there ↦ itself x lt free (λ reach. no_bit_there ((settled.exact.active x).1 reach))
-              | inl has ↦
-                  let reach = subst (λ t. Reach t x) new_tree ((settled.exact.active x).0 has) in
-                  elim (comes reach.file x reach.names) [
-                    | inl was ↦ absurd (free_is_free d r x root sound.exact free (active (record { file = reach.file; names = was })))
-                    | inr taken ↦ elim (cases_eq reach.file 2) [
-                      | inr other ↦ absurd (omega (arith, late, lt, below.files reach.file x other taken))
-                      | inl is ↦ (let names = subst (λ (k : ℕ). Names (held e (plan.inode k)) x) is reach.names in back x names.height names.index free names.is)
-                    ]
-                  ]
-            ]
-
-        beyond : (k : ℕ) → k < level_of r.inode_file.size → Target (r.geometry.blocks + k)
-        beyond k lt =
-            let top = top_is d r in
-            let some = first_stored d r.geometry (whole d r).active r.inode_file root.head.sizes top sound.active (omega (arith, lt)) in
-            let found = stands_first d r.inode_file k lt some in
-            let there : ((whole d r).active 0).place k 0 ≡ Block found.0 = ap (λ (h : Held). h.place k 0) top ∙ found.1 in
-            let own : IsOwn (whole d r).active found.0 = first k there in
-            let given = gives 0 k 0 found.0 own there (λ at. was_free 0 found.0 (first_taken good firsts k found.0 at) (own_needed found.0 own)) in
-            (found.0, given.0, given.1, over k refl there)
-
-        pub but_own : free_under (whole d r).active r.geometry.blocks + level_of r.inode_file.size
-            ≤ free_under (whole e new).active r.geometry.blocks + free_under (whole d r).active (min mid r.geometry.blocks)
-        but_own = leads_back (free_at (whole d r).active) (free_at (whole e new).active) (min mid r.geometry.blocks) r.geometry.blocks (level_of r.inode_file.size)
-            (Leads (whole d r).active (λ n. held e (plan.inode n)) r.geometry.blocks) (free_one (whole d r).active)
-            (leads_alone (whole d r).active (λ n. held e (plan.inode n)) r.geometry.blocks sound.active.once (λ b reach free. free_is_free d r b root sound.exact free (active reach)))
-            leads beyond
-
--- once the point is finished
-pub new_own : (sectors : ℕ) (d e : ℕ → List ℕ) (nvram : List ℕ) (s : State) (writes : List Write) (sector : ℕ) (new : Root) (v : Volume) (step : SnapshotStep)
-    → (o : Opens sectors d nvram s) → IsPointWith step o.root d writes sector new v → HasRootWritten writes sector (root_bytes new) d e
-    → KeepsOwn o.root (whole (blocks_of d) o.root) → KeepsOwn new (whole (blocks_of e) new)
-new_own sectors d e nvram s writes sector new v step o point has kept =
-    let stays = needs_stay sectors d e nvram s writes sector new v step o point has in
-    let plans = point.plans (blocks_of e) (written sectors d e nvram s writes sector new v step o point has) stays in
-    keeps_own (blocks_of d) (blocks_of e) o.root new point.files (newest_is_root o.root (d SLOT_A) (d SLOT_B) o.newest) point.root o.holds.sound stays plans.plan kept plans.sound plans.own
+      pub but_own : free_under (whole d r).active r.geometry.blocks + level_of r.inode_file.size
+          ≤ free_under (whole e new).active r.geometry.blocks + free_under (whole d r).active (min mid r.geometry.blocks)
+      but_own = leads_back (free_at (whole d r).active) (free_at (whole e new).active) (min mid r.geometry.blocks) r.geometry.blocks (level_of r.inode_file.size)
+          (Leads (whole d r).active (λ n. held e (plan.inode n)) r.geometry.blocks) (free_one (whole d r).active)
+          (leads_alone (whole d r).active (λ n. held e (plan.inode n)) r.geometry.blocks sound.active.once (λ b reach free. free_is_free d r b root sound.exact free (active reach)))
+          leads beyond

@@ -13,13 +13,13 @@ use Rattle.layout.specs.declared.pointer.Pointer.TheVariants.{Hole, Block}
 use Rattle.layout.proofs.PointerLaws.{no_block}
 use Rattle.layout.proofs.SizeLaws.{level_none, level_one, level_two, used_two}
 use Rattle.images.specs.Nodes.{held, pointers_of}
-use Rattle.images.specs.Soundness.{HasNoHole, IsSoundFile, nodes_at}
+use Rattle.images.specs.Soundness.{HasNoHole, IsSoundFile, nodes_of_size}
 use Rattle.images.proofs.OverlayLaws.{held_up}
 use Rattle.images.proofs.ReadingLaws.{highest, hole_behind, hole_past, fits}
 
-block_of : (p : Pointer) → p ≢ Hole → (b : ℕ) × (p ≡ Block b)
-block_of Hole some = absurd (some refl)
-block_of (Block b) some = (b, refl)
+pub some_block : (p : Pointer) → p ≢ Hole → (b : ℕ) × (p ≡ Block b)
+some_block Hole some = absurd (some refl)
+some_block (Block b) some = (b, refl)
 
 pointers_in : (blocks size : ℕ) (body : Body) → FitsBody body blocks size → 1 ≤ level_of size → (pointers : List Pointer) × (body ≡ Pointers pointers)
 pointers_in blocks size (Inline bytes) fits level = absurd (omega (arith, level, level_none size fits.0))
@@ -40,8 +40,8 @@ module _ (s : Sizes) (d : Blocks) (f : Inode) (sound : IsSoundFile s (held d f))
   body_of level = pointers_in s.blocks f.size f.body sound.inode.body level
 
   -- no node stands past the file's end
-  none_past : (m i : ℕ) → m < level_of f.size → nodes_at f.size m ≤ i → (held d f).place m i ≡ Hole
-  unfolding nodes_at
+  none_past : (m i : ℕ) → m < level_of f.size → nodes_of_size f.size m ≤ i → (held d f).place m i ≡ Hole
+  unfolding nodes_of_size
   none_past zero i lt past = let body = body_of (omega (arith, lt)) in hole_behind s d f body.0 sound body.1 i past
   none_past (suc zero) i lt past = elim (cases_lt 65536 f.size) [
     | inr low ↦ elim (cases_lt 128 f.size) [
@@ -65,26 +65,26 @@ module _ (s : Sizes) (d : Blocks) (f : Inode) (sound : IsSoundFile s (held d f))
   ]
 
   -- a node of a file stands where its size says
-  pub within_span : (m i b : ℕ) → (held d f).place m i ≡ Block b → (m < level_of f.size) × (i < nodes_at f.size m)
+  pub within_span : (m i b : ℕ) → (held d f).place m i ≡ Block b → (m < level_of f.size) × (i < nodes_of_size f.size m)
   within_span m i b is = elim (cases_lt m (level_of f.size)) [
     | inr above ↦ absurd (no_block ((held d f).place m i) b (none_above d f m i above) is)
-    | inl lt ↦ elim (cases_lt i (nodes_at f.size m)) [
+    | inl lt ↦ elim (cases_lt i (nodes_of_size f.size m)) [
       | inl before ↦ (lt, before)
       | inr past ↦ absurd (no_block ((held d f).place m i) b (none_past m i lt past) is)
     ]
   ]
 
   -- where no block is a hole, no node over them is
-  none_hole : HasNoHole (held d f) → (m i : ℕ) → m < level_of f.size → i < nodes_at f.size m → (held d f).place m i ≢ Hole
-  unfolding held nodes_at
+  none_hole : HasNoHole (held d f) → (m i : ℕ) → m < level_of f.size → i < nodes_of_size f.size m → (held d f).place m i ≢ Hole
+  unfolding held nodes_of_size
   none_hole whole zero i lt before = whole i (omega (arith, lt)) before
   none_hole whole (suc m) i lt before = λ hole.
       let at : 1024 * i / 1024 ≡ i = omega arith in
       none_hole whole m (1024 * i) (omega (arith, lt)) (omega (arith, before))
       (under_hole d f m (1024 * i) lt (ap ((held d f).place (suc m)) at ∙ hole))
 
-  pub stands_whole : HasNoHole (held d f) → (m i : ℕ) → m < level_of f.size → i < nodes_at f.size m → (b : ℕ) × ((held d f).place m i ≡ Block b)
-  stands_whole whole m i lt before = block_of ((held d f).place m i) (none_hole whole m i lt before)
+  pub stands_whole : HasNoHole (held d f) → (m i : ℕ) → m < level_of f.size → i < nodes_of_size f.size m → (b : ℕ) × ((held d f).place m i ≡ Block b)
+  stands_whole whole m i lt before = some_block ((held d f).place m i) (none_hole whole m i lt before)
 
 -- over a file's first block, where that isn't a hole, no node is
 first_hole : (d : Blocks) (f : Inode) (m : ℕ) → m < level_of f.size → (held d f).place m 0 ≡ Hole → (held d f).place 0 0 ≡ Hole
@@ -92,4 +92,4 @@ first_hole d f zero lt hole = hole
 first_hole d f (suc m) lt hole = first_hole d f m (omega (arith, lt)) (under_hole d f m 0 lt hole)
 
 pub stands_first : (d : Blocks) (f : Inode) (m : ℕ) → m < level_of f.size → (held d f).place 0 0 ≢ Hole → (b : ℕ) × ((held d f).place m 0 ≡ Block b)
-stands_first d f m lt some = block_of ((held d f).place m 0) (λ hole. some (first_hole d f m lt hole))
+stands_first d f m lt some = some_block ((held d f).place m 0) (λ hole. some (first_hole d f m lt hole))

@@ -22,6 +22,7 @@ use Rattle.images.specs.Roots.{HeldTree, Needs, Whole, frozen_inode_file, slot, 
 use Rattle.images.specs.Snapshots.{HasSnapshot, FitsRoot, AreSnapshots, IsFrozenTree, AreKeptAbove}
 use Rattle.images.specs.SnapshotSteps.{SnapshotStep, unchanged, taken, deleted, CanStep, CanTake, CanDelete, StepsSlots, SetsSlot, HasHead, kept_after}
 use Rattle.images.specs.Soundness.{IsSoundTree}
+use Rattle.images.specs.Room.{KeepsOwn}
 use Rattle.images.specs.States.{Holds}
 use Rattle.images.proofs.HoldLaws.{point_holds, point_with}
 use Rattle.images.proofs.PointLaws.{frozen_stays, frozen_takes}
@@ -222,7 +223,7 @@ head_is e new k bytes is = is
 module _ (d e : Blocks) (r new : Root) (files : ℕ → Content) (first v : Volume) (snapshots : List (Name × Tree))
     (root : IsRoot r) (holds : Holds r (whole d r) first snapshots) (same : Agrees (Needs r (whole d r)) d e)
     (plan : IsPlannedOn (whole d r) (whole d r).active 0 r e new files) (good : IsSoundPlan r.geometry e plan.inode plan.changed)
-    (later : r.generation < new.generation) (objects : HoldObjects r.geometry.inodes files v) (volume : IsVolume r.geometry.inodes v) where
+    (own : KeepsOwn new (whole e new)) (later : r.generation < new.generation) (objects : HoldObjects r.geometry.inodes files v) (volume : IsVolume r.geometry.inodes v) where
   module _ (k : ℕ) (slots : (l : ℕ) → l ≢ k → slot new l ≡ slot r l) where
     heads : (l : ℕ) → l ≢ k → (whole e new).head l ≡ (whole d r).head l
     heads l other = (frozen_stays d e r new l same plan.geometry (slots l other)).1
@@ -243,7 +244,7 @@ module _ (d e : Blocks) (r new : Root) (files : ℕ → Content) (first v : Volu
       frozen_takes d e r new k block same plan.geometry sets.there (ap frozen_inode_file bytes ∙ spelled.1 ∙ can.tree) in
       let has : HasSnapshot new (whole e new) k s = record { block = block; there = sets.there; read = ap snapshot_in head_bytes ∙ spelled.0 } in
       let heads_stay = heads k sets.others in
-      point_with d e r new files first v snapshots root holds same plan good objects volume
+      point_with d e r new files first v snapshots root holds same plan good own objects volume
       (λ l other there. elim (cases_eq l k) [
         | inl is ↦ subst (IsSoundTree r.geometry) (sym (ap (whole e new).frozen is ∙ tree_is)) holds.sound.active
         | inr not_it ↦ others_sound k sets.others l other not_it there
@@ -270,7 +271,7 @@ module _ (d e : Blocks) (r new : Root) (files : ℕ → Content) (first v : Volu
       → Holds new (whole e new) v (filter (λ pair. not (bytes_eq pair.0 name)) snapshots)
   deleted_holds k name can sets =
       let heads_stay = heads k sets.others in
-      point_with d e r new files first v snapshots root holds same plan good objects volume
+      point_with d e r new files first v snapshots root holds same plan good own objects volume
       (λ l block there. elim (cases_eq l k) [
         | inl is ↦ absurd (no_block (slot new l) block (ap (slot new) is ∙ sets.there) there)
         | inr other ↦ others_sound k sets.others l block other there
@@ -281,6 +282,6 @@ module _ (d e : Blocks) (r new : Root) (files : ℕ → Content) (first v : Volu
 
   pub step_holds : (step : SnapshotStep) → CanStep step r (whole d r) → StepsSlots step r new → HasHead step new e → Holds new (whole e new) v (kept_after step first snapshots)
   step_holds unchanged can slots head =
-      point_holds d e r new files first v snapshots root holds same plan good later slots objects volume
+      point_holds d e r new files first v snapshots root holds same plan good own later slots objects volume
   step_holds (taken k s) can slots head = taken_holds k s can slots.0 slots.1 head
   step_holds (deleted k name) can slots head = deleted_holds k name can slots

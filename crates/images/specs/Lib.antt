@@ -2,6 +2,7 @@ pub mod Sums
 pub mod Nodes
 pub mod Roots
 pub mod BlockMap
+pub mod Room
 pub mod Contents
 pub mod Soundness
 pub mod Snapshots
@@ -10,6 +11,5 @@ pub mod Overlays
 pub mod InodeFiles
 pub mod Points
 pub mod SnapshotSteps
-pub mod Room
 pub mod Cuts
 pub mod FirstRoots

@@ -19,15 +19,15 @@ use Rattle.images.specs.BlockMap.{NamesOnce}
 use Rattle.images.specs.Contents.{content_of, content_bytes}
 
 -- how many nodes a file of so many bytes has at a height
-unfoldable pub nodes_at : ℕ → ℕ → ℕ
-nodes_at size zero = div_ceil size BLOCK_BYTES
-nodes_at size (suc height) = div_ceil (nodes_at size height) BLOCK_POINTERS
+unfoldable pub nodes_of_size : ℕ → ℕ → ℕ
+nodes_of_size size zero = div_ceil size BLOCK_BYTES
+nodes_of_size size (suc height) = div_ceil (nodes_of_size size height) BLOCK_POINTERS
 
 -- a file in its grammar, in an image of these sizes: its inode, each indirect block that is stored, and zeros past its end
 pub record IsSoundFile (s : Sizes) (h : Held) : Type 0 where
   pub inode : IsInode VERSION s h.inode
   pub indirect : (m i b : ℕ) → h.place (suc m) i ≡ Block b
-      → IsIndirectBlock s.blocks (nodes_at h.inode.size m - BLOCK_POINTERS * i) (h.bytes (suc m) i)
+      → IsIndirectBlock s.blocks (nodes_of_size h.inode.size m - BLOCK_POINTERS * i) (h.bytes (suc m) i)
   pub ends : EndsAt h.inode.size (byte_in (file_block h))
 
 -- kinds of ordinary numbers, and of the root directory's
@@ -49,7 +49,7 @@ FitsNumber (suc (suc (suc n))) kind = IsOrdinary kind
 
 -- the file has no hole: of a map all blocks are stored
 abbrev pub HasNoHole : Held → Type 0
-HasNoHole h = (i : ℕ) → 1 ≤ level_of h.inode.size → i < nodes_at h.inode.size 0 → h.place 0 i ≢ Hole
+HasNoHole h = (i : ℕ) → 1 ≤ level_of h.inode.size → i < nodes_of_size h.inode.size 0 → h.place 0 i ≢ Hole
 
 -- The blocks of the inode file spell the inodes of a tree, and zeros elsewhere: for number 0, past the last number, and behind
 -- the last inode of each block.

@@ -1,5 +1,5 @@
 -- Which state a disk and an NVRAM open to.
-use Rattle.std.specs.Prelude.{ℕ, ◌≡◌, ◌≢◌, ◌*◌, ◌/◌, List, map, All, None}
+use Rattle.std.specs.Prelude.{ℕ, ◌≡◌, ◌≢◌, ◌+◌, ◌*◌, ◌/◌, ◌≤◌, List, map, All, None}
 use Rattle.layout.specs.Log.{LogHolds}
 use Rattle.layout.specs.Opens.{IsNewest}
 use Rattle.layout.specs.Places.{blocks_of}
@@ -8,22 +8,25 @@ use Rattle.layout.specs.declared.TheConstants.{SLOT_A, SLOT_B}
 use Rattle.layout.specs.declared.pointer.Pointer.TheVariants.{Block}
 use Rattle.layout.specs.declared.root.Root.{Root}
 use Rattle.model.specs.Paths.{Name}
-use Rattle.model.specs.Records.{Replays, without_nameless}
+use Rattle.model.specs.Records.{Replays, pledged_for, without_nameless}
+use Rattle.model.specs.Room.{fixed_of}
 use Rattle.model.specs.States.{State, Forgets, going}
 use Rattle.model.specs.Trees.{Tree}
 use Rattle.model.specs.Volumes.{Volume, IsVolume, tree_of}
 use Rattle.images.specs.Roots.{Whole, whole, slot}
 use Rattle.images.specs.BlockMap.{IsExact, entry}
 use Rattle.images.specs.Contents.{HoldsVolume, tree_contents}
+use Rattle.images.specs.Room.{KeepsOwn, free_under}
 use Rattle.images.specs.Snapshots.{AreSnapshots, AreKept}
 use Rattle.images.specs.Soundness.{IsSoundTree}
 
--- all that a root holds is in its grammar
+-- all that a root holds is in its grammar, and no snapshot shares what every point stores
 pub record IsSound (r : Root) (w : Whole) : Type 0 where
   pub active : IsSoundTree r.geometry w.active
   pub frozen : (k block : ℕ) → slot r k ≡ Block block → IsSoundTree r.geometry (w.frozen k)
   pub snapshots : AreSnapshots r w
   pub exact : IsExact r w
+  pub own : KeepsOwn r w
 
 -- What a root holds, all of it in its grammar: the objects of its active tree, its files without names among them, and the
 -- names and trees of its snapshots, oldest first.
@@ -38,6 +41,12 @@ pub record LogHoldsChanges (r : Root) (nvram : List ℕ) (changes : List Change)
   pub are : All IsChange changes
   pub log : LogHolds r.geometry.half r.generation nvram (map change_bytes changes)
 
+-- as many blocks are free under a root as may be stored for these records over its volume, and what every point stores
+abbrev pub HasReserve : Root → Whole → Volume → List Change → Type 0
+HasReserve r w first changes =
+    pledged_for r.geometry.inodes first changes + fixed_of r.geometry.blocks
+    ≤ free_under w.active r.geometry.blocks
+
 -- The disk and the NVRAM stand for this state with its open files forgotten: the objects that the newest root holds, changed
 -- by the records that it doesn't cover, without the files that have no name then.
 pub record Opens (sectors : ℕ) (disk : ℕ → List ℕ) (nvram : List ℕ) (s : State) : Type 0 where
@@ -49,6 +58,7 @@ pub record Opens (sectors : ℕ) (disk : ℕ → List ℕ) (nvram : List ℕ) (s
   pub holds : Holds root (whole (blocks_of disk) root) first snapshots
   pub changes : List Change
   pub log : LogHoldsChanges root nvram changes
+  pub room : HasReserve root (whole (blocks_of disk) root) first changes
   pub last : Volume
   pub replays : Replays root.geometry.inodes first changes last
   pub state : Forgets s (record {

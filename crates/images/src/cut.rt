@@ -6,12 +6,13 @@ ghost use Rattle.layout.specs.Places.{Blocks, blocks_of};
 ghost use Rattle.layout.specs.Root.{IsRoot, root_bytes};
 ghost use Rattle.layout.specs.declared.TheConstants.{SLOT_A, SLOT_B};
 ghost use Rattle.layout.specs.declared.root.Root.{Root};
-ghost use Rattle.model.specs.Records.{Change, Replays, without_nameless};
+ghost use Rattle.model.specs.Records.{Change, Replays, pledged_for, without_nameless};
+ghost use Rattle.model.specs.Room.{fixed_of};
 ghost use Rattle.model.specs.States.{State, with_snapshots};
 ghost use Rattle.model.specs.Volumes.{Volume};
 ghost use Rattle.images.specs.Cuts.{AreFree, HasRootWritten, IsOfDisk, IsPointWith, LeavesFree, PlansOn, StaysOutsideWrites, Write};
 ghost use Rattle.images.specs.Contents.{tree_contents};
-ghost use Rattle.images.specs.Room.{KeepsOwn, free_under};
+ghost use Rattle.images.specs.Room.{free_under};
 ghost use Rattle.images.specs.Roots.{Needs, whole};
 ghost use Rattle.images.specs.SnapshotSteps.{SnapshotStep, kept_after};
 ghost use Rattle.images.specs.States.{Holds, IsSound, LogHoldsChanges, Opens, OpensBy};
@@ -31,8 +32,7 @@ pub fn unfinished_points_open_as_before()
 {}
 
 /// Once its root is written, that is the newest one, and it holds the planned volume and the same snapshots, but for one that
-/// it takes or deletes. These share nothing that every point stores, and as many blocks are free as was planned. It does
-/// nothing.
+/// it takes or deletes. As many blocks are free as was planned. It does nothing.
 pub fn finished_points_hold()
     ensures newest { (sectors : ℕ) (d e : ℕ → List ℕ) (nvram : List ℕ) (s : State)
         (writes : List Write) (sector : ℕ) (new : Root) (v : Volume) (step : SnapshotStep)
@@ -43,12 +43,6 @@ pub fn finished_points_hold()
         → (o : Opens sectors d nvram s) → IsPointWith step o.root d writes sector new v
         → HasRootWritten writes sector (root_bytes new) d e
         → Holds new (whole (blocks_of e) new) v (kept_after step o.first o.snapshots) }
-    ensures own { (sectors : ℕ) (d e : ℕ → List ℕ) (nvram : List ℕ) (s : State)
-        (writes : List Write) (sector : ℕ) (new : Root) (v : Volume) (step : SnapshotStep)
-        → (o : Opens sectors d nvram s) → IsPointWith step o.root d writes sector new v
-        → HasRootWritten writes sector (root_bytes new) d e
-        → KeepsOwn o.root (whole (blocks_of d) o.root)
-        → KeepsOwn new (whole (blocks_of e) new) }
     ensures free { (sectors : ℕ) (d e : ℕ → List ℕ) (nvram : List ℕ) (s : State)
         (writes : List Write) (sector : ℕ) (new : Root) (v : Volume) (step : SnapshotStep)
         (spent : ℕ) → (o : Opens sectors d nvram s)
@@ -60,8 +54,8 @@ pub fn finished_points_hold()
 {}
 
 /// And where the records that the new root doesn't cover lead from the planned volume to what the old images came to, files
-/// without names aside, the images open as before by those records, but for the snapshot that it takes or deletes. It does
-/// nothing.
+/// without names aside, and the point leaves room for those, the images open as before by them, but for the snapshot that it
+/// takes or deletes. It does nothing.
 pub fn finished_points_open()
     ensures { (sectors : ℕ) (d e : ℕ → List ℕ) (nvram : List ℕ) (s : State)
         (writes : List Write) (sector : ℕ) (new : Root) (v : Volume) (step : SnapshotStep)
@@ -69,7 +63,10 @@ pub fn finished_points_open()
         → (o : Opens sectors d nvram s) → IsPointWith step o.root d writes sector new v
         → HasRootWritten writes sector (root_bytes new) d e → LogHoldsChanges new nvram rest
         → Replays o.root.geometry.inodes v rest last
-        → without_nameless last ≡ without_nameless o.last
+        → without_nameless last ≡ without_nameless o.last → (spent : ℕ)
+        → LeavesFree spent o.root (blocks_of d) writes new
+        → pledged_for o.root.geometry.inodes v rest + fixed_of o.root.geometry.blocks + spent
+        ≤ free_under (whole (blocks_of d) o.root).active o.root.geometry.blocks
         → OpensBy sectors e nvram (with_snapshots (kept_after step o.first o.snapshots) s) rest }
 {}
 

@@ -12,7 +12,7 @@ ghost use Rattle.images.specs.FirstRoots.{IsFirst, root_alone_volume};
 ghost use Rattle.images.specs.Nodes.{Names, held};
 ghost use Rattle.images.specs.Roots.{free_inode, whole};
 ghost use Rattle.images.specs.Soundness.{IsSoundFile};
-ghost use Rattle.images.specs.States.{Holds, OpensBy};
+ghost use Rattle.images.specs.States.{HasReserve, Holds, OpensBy};
 ghost use Rattle.model.specs.States.{empty};
 
 /// A root whose image has nothing but an empty root directory holds that, and no snapshots. It does nothing.
@@ -33,6 +33,7 @@ pub fn first_images_open_to_the_empty_state()
     ensures { (sectors : ℕ) (disk : ℕ → List ℕ) (nvram : List ℕ) (r : Root)
         → IsNewest r (disk SLOT_A) (disk SLOT_B) → sectors ≡ 8 * r.geometry.blocks
         → Holds r (whole (blocks_of disk) r) root_alone_volume []
+        → HasReserve r (whole (blocks_of disk) r) root_alone_volume []
         → LogHolds r.geometry.half r.generation nvram []
         → OpensBy sectors disk nvram (empty r.geometry.inodes) [] }
 {}

@@ -27,6 +27,6 @@ pub use reading::{
     blocks_are_where_pointers_lead, eight_sectors_are_a_block, inline_bytes_are_the_first_block,
     inodes_are_what_their_bytes_spell, snapshots_are_what_their_bytes_spell,
 };
-pub use room::{points_keep_their_own, points_leave_room};
+pub use room::points_leave_room;
 pub use settling::{later_roots_are_newest, roots_cover_epochs};
 pub use states::{files_hold_one_volume, free_blocks_are_no_matter, images_open_to_one_state};

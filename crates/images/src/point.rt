@@ -15,6 +15,7 @@ ghost use Rattle.images.specs.Contents.{Content, content_of};
 ghost use Rattle.images.specs.Overlays.{IsInline, LaysOut, Overlay, overlaid_content};
 ghost use Rattle.images.specs.Points.{HoldObjects, IsBase, IsPlannedOn, IsUnderNewRoot};
 ghost use Rattle.images.specs.Points.{IsSoundPlan};
+ghost use Rattle.images.specs.Room.{StoresOwn};
 ghost use Rattle.images.specs.SnapshotSteps.{CanStep, HasHead, SnapshotStep, StepsSlots, kept_after};
 ghost use Rattle.images.specs.States.{Holds};
 
@@ -67,10 +68,11 @@ pub fn planned_points_settle()
 pub fn planned_points_hold()
     ensures { (d e : Blocks) (r new : Root) (files : ℕ → Content) (first v : Volume)
         (snapshots : List (Name × Tree))
-        → IsRoot r → Holds r (whole d r) first snapshots
+        → IsRoot r → IsRoot new → Holds r (whole d r) first snapshots
         → Agrees (Needs r (whole d r)) d e
         → (plan : IsPlannedOn (whole d r) (whole d r).active 0 r e new files)
-        → IsSoundPlan r.geometry e plan.inode plan.changed → r.generation < new.generation
+        → IsSoundPlan r.geometry e plan.inode plan.changed
+        → StoresOwn (λ n. held e (plan.inode n)) r new plan.taken → r.generation < new.generation
         → HoldObjects r.geometry.inodes files v → IsVolume r.geometry.inodes v
         → (step : SnapshotStep) → CanStep step r (whole d r) → StepsSlots step r new
         → HasHead step new e → Holds new (whole e new) v (kept_after step first snapshots) }

@@ -9,12 +9,12 @@ ghost use Rattle.images.specs.Contents.{Content};
 ghost use Rattle.images.specs.Nodes.{Agrees, held};
 ghost use Rattle.images.specs.Points.{IsPlannedOn, IsSoundPlan};
 ghost use Rattle.images.specs.Roots.{Needs, whole};
-ghost use Rattle.images.specs.Room.{IsNewHead, KeepsOwn, StoresOwn, TakesBelow, TakesFirst, free_under};
+ghost use Rattle.images.specs.Room.{IsNewHead, TakesBelow, TakesFirst, free_under};
 ghost use Rattle.images.specs.States.{IsSound};
 
 /// A consistency point leaves as many blocks free as there were, but for those that were free before the last block that it
 /// takes for files and snapshots. Of the block map's file none counts, and the nodes over the inode
-/// file's first block are given back, where no snapshot shares them and none is taken. It does nothing.
+/// file's first block are given back, where no snapshot is taken. It does nothing.
 pub fn points_leave_room()
     ensures all { (d e : Blocks) (r new : Root) (files : ℕ → Content) → IsRoot r → IsRoot new
         → IsSound r (whole d r) → Agrees (Needs r (whole d r)) d e
@@ -26,21 +26,11 @@ pub fn points_leave_room()
     ensures own { (d e : Blocks) (r new : Root) (files : ℕ → Content) → IsRoot r → IsRoot new
         → IsSound r (whole d r) → Agrees (Needs r (whole d r)) d e
         → (plan : IsPlannedOn (whole d r) (whole d r).active 0 r e new files)
-        → IsSoundPlan r.geometry e plan.inode plan.changed → KeepsOwn r (whole d r)
+        → IsSoundPlan r.geometry e plan.inode plan.changed
         → ((k b : ℕ) → IsNewHead r new k b → ⊥) → (mid : ℕ)
         → TakesBelow mid (λ n. n ≢ 2) r new plan.taken
         → TakesFirst (λ n. held e (plan.inode n)) plan.taken
         → free_under (whole d r).active r.geometry.blocks + level_of r.inode_file.size
         ≤ free_under (whole e new).active r.geometry.blocks
         + free_under (whole d r).active (min mid r.geometry.blocks) }
-{}
-
-/// Over a consistency point no snapshot comes to share what every point stores. It does nothing.
-pub fn points_keep_their_own()
-    ensures { (d e : Blocks) (r new : Root) (files : ℕ → Content) → IsRoot r → IsRoot new
-        → IsSound r (whole d r) → Agrees (Needs r (whole d r)) d e
-        → (plan : IsPlannedOn (whole d r) (whole d r).active 0 r e new files)
-        → IsSoundPlan r.geometry e plan.inode plan.changed
-        → StoresOwn (λ n. held e (plan.inode n)) r new plan.taken
-        → KeepsOwn r (whole d r) → KeepsOwn new (whole e new) }
 {}

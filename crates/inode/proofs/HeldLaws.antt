@@ -1,11 +1,10 @@
 -- Settled inodes in their grammar.
-use Rattle.std.proofs.Common.{◌≡◌, inl, inr, ℕ, zero, suc, ◌+◌, ◌-◌, ◌*◌, ◌/◌, ◌%◌, ◌<◌, ◌≤◌, List, ◌++◌, length, take, drop, get_or, get_or-drop, length-drop, refl, sym, ap, subst, ◌∙◌, arith, ◌==◌, if◌then◌else◌}
+use Rattle.std.proofs.Common.{◌≡◌, inl, inr, ℕ, zero, suc, ◌+◌, ◌-◌, ◌*◌, ◌/◌, ◌%◌, ◌<◌, ◌≤◌, List, ◌++◌, length, take, refl, sym, ap, subst, ◌∙◌, arith, ◌==◌, if◌then◌else◌}
 use Rattle.std.proofs.lemmas.Bool.Decides.{nat_tests}
-use Rattle.std.specs.Prelude.{nat_lt, slice_index, All}
+use Rattle.std.specs.Prelude.{nat_lt, slice_index}
 use Rattle.std.specs.Int.{div_ceil}
 use Rattle.std.proofs.lemmas.Bool.{cases_lt, cond_above, cond_below}
-use Rattle.std.proofs.lemmas.List.{get_or_past, length-take}
-use Rattle.std.proofs.lemmas.List.Elements.{All-get_or}
+use Rattle.std.proofs.lemmas.List.{length-take}
 use Rattle.layout.specs.Bytes.{zeros}
 use Rattle.layout.specs.FileBytes.{byte_in, EndsAt}
 use Rattle.layout.specs.Inode.{IsInode, FitsBody, FitsPointers, pointers_used}
@@ -23,7 +22,8 @@ use Rattle.blocktree.specs.Places.{depth_of, IsStoredNode, IsPath}
 use Rattle.blocktree.specs.Trees.{settled_block, AreSound}
 use Rattle.blocktree.specs.declared.tree.BlockTree.{BlockTree}
 use Rattle.images.specs.Nodes.{held, file_block, pointers_of, place_at_height}
-use Rattle.images.specs.Soundness.{nodes_at, IsSoundFile}
+use Rattle.images.specs.Soundness.{nodes_of_size, IsSoundFile}
+use Rattle.images.proofs.ReadingLaws.{hole_past}
 use Rattle.inode.specs.Bases.{IsBased, anew, over, StartsFrom}
 use Rattle.inode.specs.Bodies.{body_block, inode_block}
 use Rattle.inode.specs.Edges.{filled}
@@ -92,21 +92,11 @@ unfolding held
 node_above disk f m i le = sym (cond_above m (level_of f.size) (place disk (pointers_of f.body) (level_of f.size - suc m) i) Hole Hole le refl)
 
 -- the inode's pointers lead to the highest nodes
-pub used_is : (size top : ℕ) → level_of size ≡ suc top → pointers_used size ≡ nodes_at size top
-unfolding nodes_at
+pub used_is : (size top : ℕ) → level_of size ≡ suc top → pointers_used size ≡ nodes_of_size size top
+unfolding nodes_of_size
 used_is size zero level = grind (arith, nat_tests, level)
 used_is size (suc zero) level = grind (arith, nat_tests, level)
 used_is size (suc (suc top)) level = absurd (let most : level_of size ≤ 2 = grind (arith, nat_tests) in omega (arith, most, level))
-
--- pointers of which those from one on are holes
-past_used : (ps : List Pointer) (n i : ℕ) → All (λ p. p ≡ Hole) (drop n ps) → n ≤ i → get_or ps i Hole ≡ Hole
-past_used ps n i holes le = elim (cases_lt i (length ps)) [
-  | inl lt ↦
-      let at : n + (i - n) ≡ i = omega arith in
-      let low : i - n < length (drop n ps) = omega (arith, length-drop n ps) in
-      ap (λ k. get_or ps k Hole) (sym at) ∙ sym (get_or-drop n ps (i - n) Hole) ∙ All-get_or (λ p. p ≡ Hole) (drop n ps) (i - n) Hole low holes
-  | inr ge ↦ get_or_past ps i Hole ge
-]
 
 module _ (s : Sizes) (disk : ℕ → List ℕ) (f : Inode) (ps : List Pointer) (sound : IsSoundFile s (held disk f)) (body : f.body ≡ Pointers ps) where
   pub fits : FitsPointers ps s.blocks f.size
@@ -114,34 +104,34 @@ module _ (s : Sizes) (disk : ℕ → List ℕ) (f : Inode) (ps : List Pointer) (
   fits = subst (λ (b : Body). FitsBody b s.blocks f.size) body sound.inode.body
 
   -- an indirect block that is stored
-  node_is : (m j : ℕ) (p : Pointer) → (held disk f).place (suc m) j ≡ p → IsStoredNode s.blocks disk (nodes_at f.size m - 1024 * j) p
+  node_is : (m j : ℕ) (p : Pointer) → (held disk f).place (suc m) j ≡ p → IsStoredNode s.blocks disk (nodes_of_size f.size m - 1024 * j) p
   unfolding held
   node_is m j Hole is = tt
   node_is m j (Block b) is =
       let at : pointed disk (place_at_height disk f (suc m) j) ≡ disk b = ap (pointed disk) is in
-      subst (λ bytes. IsIndirectBlock s.blocks (nodes_at f.size m - 1024 * j) bytes) at (sound.indirect m j b is)
+      subst (λ bytes. IsIndirectBlock s.blocks (nodes_of_size f.size m - 1024 * j) bytes) at (sound.indirect m j b is)
 
-  over_is : (depth m i : ℕ) → level_of f.size ≡ suc (suc depth + m) → IsStoredNode s.blocks disk (nodes_at f.size m - 1024 * (i / 1024)) (place disk ps depth (i / 1024))
+  over_is : (depth m i : ℕ) → level_of f.size ≡ suc (suc depth + m) → IsStoredNode s.blocks disk (nodes_of_size f.size m - 1024 * (i / 1024)) (place disk ps depth (i / 1024))
   over_is depth m i level = node_is m (i / 1024) (place disk ps depth (i / 1024)) (node_place disk f ps depth (suc m) (i / 1024) body (omega (arith, level)))
 
-  pub path_is : (depth m i : ℕ) → level_of f.size ≡ suc (depth + m) → IsPath s.blocks disk ps depth (nodes_at f.size m) i
-  unfolding IsPath nodes_at
+  pub path_is : (depth m i : ℕ) → level_of f.size ≡ suc (depth + m) → IsPath s.blocks disk ps depth (nodes_of_size f.size m) i
+  unfolding IsPath nodes_of_size
   path_is zero m i level = points_below s.blocks ps i fits.2
   path_is (suc depth) m i level = (path_is depth (suc m) (i / 1024) (omega (arith, level)), over_is depth m i level)
 
   -- under an indirect block in its grammar
-  under : (m i : ℕ) (p : Pointer) → IsStoredNode s.blocks disk (nodes_at f.size m - 1024 * (i / 1024)) p → nodes_at f.size m ≤ i → follow disk p (i % 1024) ≡ Hole
+  under : (m i : ℕ) (p : Pointer) → IsStoredNode s.blocks disk (nodes_of_size f.size m - 1024 * (i / 1024)) p → nodes_of_size f.size m ≤ i → follow disk p (i % 1024) ≡ Hole
   under m i Hole node past = refl
   under m i (Block b) node past = (node.within (i % 1024) (omega arith)).1 (omega (arith, past))
 
-  past_depth : (depth m i : ℕ) → level_of f.size ≡ suc (depth + m) → nodes_at f.size m ≤ i → place disk ps depth i ≡ Hole
+  past_depth : (depth m i : ℕ) → level_of f.size ≡ suc (depth + m) → nodes_of_size f.size m ≤ i → place disk ps depth i ≡ Hole
   unfolding place
   past_depth zero m i level past =
       let top : level_of f.size ≡ suc m = omega (arith, level) in
-      past_used ps (pointers_used f.size) i fits.3 (omega (arith, past, used_is f.size m top))
+      hole_past ps (pointers_used f.size) i fits.3 (omega (arith, past, used_is f.size m top))
   past_depth (suc depth) m i level past = under m i (place disk ps depth (i / 1024)) (over_is depth m i level) past
 
-  past_node : (m i : ℕ) → nodes_at f.size m ≤ i → (held disk f).place m i ≡ Hole
+  past_node : (m i : ℕ) → nodes_of_size f.size m ≤ i → (held disk f).place m i ≡ Hole
   past_node m i past = elim (cases_lt m (level_of f.size)) [
     | inl low ↦
         let level : level_of f.size ≡ suc (level_of f.size - suc m + m) = omega (arith, low) in
@@ -153,7 +143,7 @@ module _ (s : Sizes) (disk : ℕ → List ℕ) (f : Inode) (ps : List Pointer) (
 inline_level : (size : ℕ) → size ≤ 128 → level_of size ≡ 0
 inline_level size low = grind (arith, nat_tests, low)
 
-past_of : (s : Sizes) (disk : ℕ → List ℕ) (f : Inode) (m i : ℕ) (body : Body) → f.body ≡ body → IsSoundFile s (held disk f) → nodes_at f.size m ≤ i → (held disk f).place m i ≡ Hole
+past_of : (s : Sizes) (disk : ℕ → List ℕ) (f : Inode) (m i : ℕ) (body : Body) → f.body ≡ body → IsSoundFile s (held disk f) → nodes_of_size f.size m ≤ i → (held disk f).place m i ≡ Hole
 unfolding held
 past_of s disk f m i (Pointers ps) is sound past = past_node s disk f ps sound is m i past
 past_of s disk f m i (Inline bytes) is sound past =
@@ -161,7 +151,7 @@ past_of s disk f m i (Inline bytes) is sound past =
     node_above disk f m i (omega (arith, inline_level f.size fits.0))
 
 -- past the nodes at a height all are holes
-pub node_past : (s : Sizes) (disk : ℕ → List ℕ) (f : Inode) (m i : ℕ) → IsSoundFile s (held disk f) → nodes_at f.size m ≤ i → (held disk f).place m i ≡ Hole
+pub node_past : (s : Sizes) (disk : ℕ → List ℕ) (f : Inode) (m i : ℕ) → IsSoundFile s (held disk f) → nodes_of_size f.size m ≤ i → (held disk f).place m i ≡ Hole
 node_past s disk f m i sound past = past_of s disk f m i f.body refl sound past
 
 -- a file whose inode has pointers has a level
@@ -169,7 +159,7 @@ some_level : (size : ℕ) → 128 < size → level_of size ≡ suc (depth_of siz
 some_level size large = grind (arith, nat_tests, large)
 
 pub based_sound : (s : Sizes) (disk : ℕ → List ℕ) (f : Inode) (t : BlockTree) → IsSoundFile s (held disk f) → IsBased f t → AreSound s.blocks disk t
-unfolding nodes_at
+unfolding nodes_of_size
 based_sound s disk f t sound (anew none) i lt = absurd (omega (arith, none, lt))
 based_sound s disk f t sound (over ps body has) i lt =
     let large = fits s disk f ps sound body in

@@ -12,7 +12,7 @@ ghost use Rattle.blocktree.specs.Places.{IsPath};
 ghost use Rattle.blocktree.specs.Trees.{AreSound, IsSoundAt};
 ghost use Rattle.blocktree.specs.declared.tree.BlockTree.{BlockTree};
 ghost use Rattle.images.specs.Nodes.{file_block, held};
-ghost use Rattle.images.specs.Soundness.{IsSoundFile, nodes_at};
+ghost use Rattle.images.specs.Soundness.{IsSoundFile, nodes_of_size};
 ghost use Rattle.inode.specs.Bases.{IsBased};
 ghost use Rattle.inode.specs.Bodies.{inode_block};
 
@@ -36,9 +36,9 @@ pub fn nodes_are_where_pointers_lead()
     ensures paths { (s : Sizes) (disk : ℕ → List ℕ) (f : Inode) (pointers : List Pointer)
         (depth height i : ℕ) → IsSoundFile s (held disk f) → f.body ≡ Pointers pointers
         → level_of f.size ≡ suc (depth + height)
-        → IsPath s.blocks disk pointers depth (nodes_at f.size height) i }
+        → IsPath s.blocks disk pointers depth (nodes_of_size f.size height) i }
     ensures past { (s : Sizes) (disk : ℕ → List ℕ) (f : Inode) (height i : ℕ)
-        → IsSoundFile s (held disk f) → nodes_at f.size height ≤ i
+        → IsSoundFile s (held disk f) → nodes_of_size f.size height ≤ i
         → (held disk f).place height i ≡ Hole }
     ensures above { (disk : ℕ → List ℕ) (f : Inode) (height i : ℕ) → level_of f.size ≤ height
         → (held disk f).place height i ≡ Hole }

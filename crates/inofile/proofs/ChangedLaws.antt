@@ -12,8 +12,8 @@ use Rattle.std.proofs.lemmas.List.Elements.{All-contains, filter_passes, Contain
 use Rattle.std.proofs.lemmas.Map.Lookups.{exact_unsigned}
 use Rattle.std.proofs.lemmas.Map.Views.{btree_map_contains_key_iff}
 use Rattle.inofile.specs.Inodes.{is_changed_slot, IsChangedSlot, IsKnownSlot}
-use Rattle.inofile.specs.declared.inode_file.Slot.{Slot}
-use Rattle.inofile.specs.declared.inode_file.Slot.TheVariants.{AsSettled, Loaded, Changed}
+use Rattle.inofile.specs.declared.inode_file.ObjectSlot.{ObjectSlot}
+use Rattle.inofile.specs.declared.inode_file.ObjectSlot.TheVariants.{AsSettled, Loaded, Changed}
 
 module _ (p : ℕ → Bool) (y : ℕ) (yes : p y ≡ true) where
   keep_rest : (x : ℕ) (b : Bool) (xs : List ℕ) → Contains xs y → Contains (cond b (x ∷ xs) xs) y
@@ -26,29 +26,29 @@ module _ (p : ℕ → Bool) (y : ℕ) (yes : p y ≡ true) where
       subst (λ b. Contains (cond b (x ∷ filter p xs) (filter p xs)) y) (sym (ap p is ∙ yes)) (zero, omega arith, is)
   kept (x ∷ xs) (suc k, lt, is) = keep_rest x (p x) (filter p xs) (kept xs (k, omega (arith, lt), is))
 
-pub changed_is : (slot : Option Slot) → is_changed_slot slot ≡ true → IsChangedSlot slot
+pub changed_is : (slot : Option ObjectSlot) → is_changed_slot slot ≡ true → IsChangedSlot slot
 changed_is (Some AsSettled) is = absurd (false≢true is)
 changed_is (Some (Loaded object)) is = absurd (false≢true is)
 changed_is (Some (Changed object)) is = tt
 changed_is None is = absurd (false≢true is)
 
-is_changed : (slot : Option Slot) → IsChangedSlot slot → is_changed_slot slot ≡ true
+is_changed : (slot : Option ObjectSlot) → IsChangedSlot slot → is_changed_slot slot ≡ true
 is_changed (Some AsSettled) is = absurd is
 is_changed (Some (Loaded object)) is = absurd is
 is_changed (Some (Changed object)) is = refl
 is_changed None is = absurd is
 
-pub changed_known : (slot : Option Slot) → IsChangedSlot slot → IsKnownSlot slot
+pub changed_known : (slot : Option ObjectSlot) → IsChangedSlot slot → IsKnownSlot slot
 changed_known (Some AsSettled) is = is
 changed_known (Some (Loaded object)) is = absurd is
 changed_known (Some (Changed object)) is = tt
 changed_known None is = is
 
-some_changed : (slot : Option Slot) → IsChangedSlot slot → IsSome slot
+some_changed : (slot : Option ObjectSlot) → IsChangedSlot slot → IsSome slot
 some_changed (Some slot) is = refl
 some_changed None is = absurd is
 
-pub changed_members : (m : BTreeMap ℕ Slot) (n : ℕ) → Contains (filter (λ k. is_changed_slot (tree.get nat_cmp m k)) (tree.keys m)) n ↔ IsChangedSlot (tree.get nat_cmp m n)
+pub changed_members : (m : BTreeMap ℕ ObjectSlot) (n : ℕ) → Contains (filter (λ k. is_changed_slot (tree.get nat_cmp m k)) (tree.keys m)) n ↔ IsChangedSlot (tree.get nat_cmp m n)
 changed_members m n =
     let p : ℕ → Bool = λ k. is_changed_slot (tree.get nat_cmp m k) in (
       (λ there. changed_is (tree.get nat_cmp m n) (All-contains (λ x. p x ≡ true) (filter p (tree.keys m)) n (filter_passes p (tree.keys m)) there)),
@@ -68,7 +68,7 @@ module _ (p : ℕ → Bool) (y : ℕ) (yes : p y ≡ true) where
   any_is (x ∷ xs) (zero, lt, is) = ap (λ (b : Bool). b || list_any p xs) (ap p is ∙ yes)
   any_is (x ∷ xs) (suc k, lt, is) = any_rest (p x) (list_any p xs) (any_is xs (k, omega (arith, lt), is))
 
-none_is : (slot : Option Slot) → (IsChangedSlot slot → ⊥) → is_changed_slot slot ≡ false
+none_is : (slot : Option ObjectSlot) → (IsChangedSlot slot → ⊥) → is_changed_slot slot ≡ false
 none_is (Some AsSettled) not_changed = refl
 none_is (Some (Loaded object)) not_changed = refl
 none_is (Some (Changed object)) not_changed = absurd (not_changed tt)
@@ -78,7 +78,7 @@ is_none : (b : Bool) → IsTrue (not b) → b ≡ true → ⊥
 is_none true none is = absurd (false≢true none)
 is_none false none is = false≢true is
 
-pub none_changed : (m : BTreeMap ℕ Slot) (has : Bool) → has ≡ list_any (λ k. is_changed_slot (tree.get nat_cmp m k)) (tree.keys m)
+pub none_changed : (m : BTreeMap ℕ ObjectSlot) (has : Bool) → has ≡ list_any (λ k. is_changed_slot (tree.get nat_cmp m k)) (tree.keys m)
     → IsTrue (not has) ↔ ((n : ℕ) → IsChangedSlot (tree.get nat_cmp m n) → ⊥)
 none_changed m has is =
     let p : ℕ → Bool = λ k. is_changed_slot (tree.get nat_cmp m k) in (

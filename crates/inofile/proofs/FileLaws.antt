@@ -20,8 +20,8 @@ use Rattle.inofile.specs.Objects.{StandsFor, IsAsSettled, IsObjectOrNone}
 use Rattle.inofile.specs.Settled.{held_content, settled_content}
 use Rattle.inofile.specs.Volumes.{SlotStandsFor, IsVolumeOf, HasNoOwn}
 use Rattle.inofile.specs.declared.inode_file.InodeFile.{InodeFile}
-use Rattle.inofile.specs.declared.inode_file.Slot.{Slot}
-use Rattle.inofile.specs.declared.inode_file.Slot.TheVariants.{AsSettled, Loaded, Changed}
+use Rattle.inofile.specs.declared.inode_file.ObjectSlot.{ObjectSlot}
+use Rattle.inofile.specs.declared.inode_file.ObjectSlot.TheVariants.{AsSettled, Loaded, Changed}
 use Rattle.inofile.proofs.ObjectLaws.{free_is, free_content, held_inode, unless}
 
 free_or_not : (k : Kind) → (k ≡ kinds.Free) ⊎ (k ≡ kinds.Free → ⊥)
@@ -48,7 +48,7 @@ object_stands : (disk : ℕ → List ℕ) (inodes : ℕ) (settled : Inode) (obje
 object_stands disk inodes settled (Some o) below found is = is.stands
 object_stands disk inodes settled None below found is = none_stands disk inodes found is
 
-slot_stands : (disk : ℕ → List ℕ) (s : Sizes) (inodes : ℕ) (settled : Inode) (slot : Option Slot) (found : Option Node) → IsInode VERSION s settled
+slot_stands : (disk : ℕ → List ℕ) (s : Sizes) (inodes : ℕ) (settled : Inode) (slot : Option ObjectSlot) (found : Option Node) → IsInode VERSION s settled
     → SlotStandsFor disk inodes settled slot found → StandsFor inodes (or_free_content disk (slot_content disk slot (settled_content disk settled))) found
 slot_stands disk s inodes settled (Some AsSettled) found is stands = subst (λ (c : Content). StandsFor inodes c found) (sym (settled_file disk s settled is)) stands
 slot_stands disk s inodes settled (Some (Loaded object)) found is stands = object_stands disk inodes settled object (settled_content disk settled) found stands.1
@@ -60,7 +60,7 @@ loaded_file : (disk : ℕ → List ℕ) (settled : Inode) (object : Option Objec
 loaded_file disk settled (Some o) below is = is.0
 loaded_file disk settled None below is = ap (held_content disk) (sym is)
 
-slot_file : (disk : ℕ → List ℕ) (s : Sizes) (inodes : ℕ) (settled : Inode) (slot : Option Slot) (found : Option Node) → IsInode VERSION s settled → (IsChangedSlot slot → ⊥)
+slot_file : (disk : ℕ → List ℕ) (s : Sizes) (inodes : ℕ) (settled : Inode) (slot : Option ObjectSlot) (found : Option Node) → IsInode VERSION s settled → (IsChangedSlot slot → ⊥)
     → SlotStandsFor disk inodes settled slot found → or_free_content disk (slot_content disk slot (settled_content disk settled)) ≡ held_content disk settled
 slot_file disk s inodes settled (Some AsSettled) found is not stands = settled_file disk s settled is
 slot_file disk s inodes settled (Some (Loaded object)) found is not stands = loaded_file disk settled object (settled_content disk settled) stands.0
@@ -92,10 +92,10 @@ holds_no_own disk inodes settled v fits holds n lt = own_kind n (settled n).kind
 
 -- ---- all settled
 
-pub none_in : (m : BTreeMap ℕ Slot) → IsEmpty m → (n : ℕ) → get nat_cmp m n ≡ None
+pub none_in : (m : BTreeMap ℕ ObjectSlot) → IsEmpty m → (n : ℕ) → get nat_cmp m n ≡ None
 none_in m empty n = ap (λ es. lookup (is_at (nat_cmp n)) es) empty
 
 -- nothing is in memory, and the settled inodes hold the volume
-pub held_stand : (disk : ℕ → List ℕ) (inodes : ℕ) (settled : ℕ → Inode) (m : BTreeMap ℕ Slot) (v : Volume) → IsEmpty m → HoldsVolume inodes (λ n. held_content disk (settled n)) v
+pub held_stand : (disk : ℕ → List ℕ) (inodes : ℕ) (settled : ℕ → Inode) (m : BTreeMap ℕ ObjectSlot) (v : Volume) → IsEmpty m → HoldsVolume inodes (λ n. held_content disk (settled n)) v
     → (n : ℕ) → SlotStandsFor disk inodes (settled n) (get nat_cmp m n) (v n)
-held_stand disk inodes settled m v empty holds n = subst (λ (x : Option Slot). SlotStandsFor disk inodes (settled n) x (v n)) (sym (none_in m empty n)) (holds n)
+held_stand disk inodes settled m v empty holds n = subst (λ (x : Option ObjectSlot). SlotStandsFor disk inodes (settled n) x (v n)) (sym (none_in m empty n)) (holds n)

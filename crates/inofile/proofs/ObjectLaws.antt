@@ -23,7 +23,7 @@ use Rattle.inode.specs.declared.file.File.{File}
 use Rattle.inode.specs.declared.object.Attributes.{Attributes}
 use Rattle.inode.specs.declared.object.Object.{Object}
 use Rattle.inofile.specs.Objects.{StandsFor, IsObjectKind, IsObject, IsObjectOrNone, IsAsSettled, IsSameObject, IsSameOrNone, IsUntouched}
-use Rattle.inofile.specs.Settled.{content_of, held_content, unless_free, settled_content}
+use Rattle.inofile.specs.Settled.{content_of_object, held_content, unless_free, settled_content}
 use Rattle.std.proofs.lemmas.Bool.{false≢true}
 use Rattle.std.proofs.Math.Path.{fun_ext}
 use Rattle.layout.proofs.SizeLaws.{level_none}
@@ -89,12 +89,12 @@ pub record IsLoaded (i : Inode) (o : Object) : Type 0 where
   pub base : IsBased i o.file.tree
   pub used : i.kind ≡ kinds.Free → ⊥
 
-pub loaded_content : (disk : ℕ → List ℕ) (i : Inode) (o : Object) → IsLoaded i o → IsAsHeld disk i o.file → content_of disk o ≡ held_content disk i
+pub loaded_content : (disk : ℕ → List ℕ) (i : Inode) (o : Object) → IsLoaded i o → IsAsHeld disk i o.file → content_of_object disk o ≡ held_content disk i
 unfolding held
 loaded_content disk i o is same =
     λ j. record { kind = (is.attributes j).kind; mode = (is.attributes j).mode; links = (is.attributes j).links; size = is.size j; block = λ n. same n j }
 
-pub loaded_settled : (disk : ℕ → List ℕ) (i : Inode) (o : Object) → IsLoaded i o → IsAsHeld disk i o.file → Some (content_of disk o) ≡ settled_content disk i
+pub loaded_settled : (disk : ℕ → List ℕ) (i : Inode) (o : Object) → IsLoaded i o → IsAsHeld disk i o.file → Some (content_of_object disk o) ≡ settled_content disk i
 loaded_settled disk i o is same = ap Some (loaded_content disk i o is same) ∙ sym (unless i.kind (held_content disk i) is.used)
 
 pub loaded_object : (disk : ℕ → List ℕ) (inodes : ℕ) (s : Sizes) (i : Inode) (o : Object) (found : Option Node) → IsInode VERSION s i → IsLoaded i o → IsAsHeld disk i o.file
@@ -112,7 +112,7 @@ loaded_object disk inodes s i o found inode is same ends ordinary stands = recor
 
 -- ---- objects in place of others
 
-pub same_content : (disk : ℕ → List ℕ) (old new : Object) → IsSameObject old new → content_of disk new ≡ content_of disk old
+pub same_content : (disk : ℕ → List ℕ) (old new : Object) → IsSameObject old new → content_of_object disk new ≡ content_of_object disk old
 same_content disk old new same =
     λ j. record { kind = (same.attributes j).kind; mode = (same.attributes j).mode; links = (same.attributes j).links; size = same.file.size j; block = λ n. same.file.blocks disk n j }
 
@@ -167,7 +167,7 @@ kind_some kinds.BlockMap inodes c found is stands = absurd is
 
 pub object_some : (disk : ℕ → List ℕ) (inodes : ℕ) (settled : Inode) (object : Option Object) (found : Option Node) → IsObjectOrNone disk inodes settled object found
     → IsTrue (is_some object) ↔ IsSome found
-object_some disk inodes settled (Some o) found is = ((λ yes. kind_some o.attributes.kind inodes (content_of disk o) found is.kind is.stands), (λ some. refl))
+object_some disk inodes settled (Some o) found is = ((λ yes. kind_some o.attributes.kind inodes (content_of_object disk o) found is.kind is.stands), (λ some. refl))
 object_some disk inodes settled None found is = ((λ yes. absurd (false≢true yes)), (λ some. absurd (false≢true (subst IsSome is some))))
 
 -- ---- objects as they are loaded

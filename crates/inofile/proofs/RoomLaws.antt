@@ -17,14 +17,14 @@ use Rattle.inofile.specs.Inodes.{loaded, slot_object, HasNoChange, IsChangedSlot
 use Rattle.inofile.specs.Objects.{IsSameOrNone, IsUntouched}
 use Rattle.inofile.specs.Room.{has_moved, memory_room, nameless_room, number_room, room_of, slot_room, NeedsNoMore}
 use Rattle.inofile.specs.Volumes.{IsVolumeOf, SlotStandsFor, slot_with}
-use Rattle.inofile.specs.declared.inode_file.Slot.{Slot}
-use Rattle.inofile.specs.declared.inode_file.Slot.TheVariants.{AsSettled, Loaded, Changed}
+use Rattle.inofile.specs.declared.inode_file.ObjectSlot.{ObjectSlot}
+use Rattle.inofile.specs.declared.inode_file.ObjectSlot.TheVariants.{AsSettled, Loaded, Changed}
 use Rattle.inofile.specs.declared.inode_file.InodeFile.{InodeFile}
 use Rattle.inofile.proofs.VolumeLaws.{other_slot}
 
 -- ---- one number that is set
 
-pub given_room : (base v : Volume) (before after : BTreeMap ℕ Slot) (inodes number : ℕ) (slot : Option Slot) (node : Option Node) → number < inodes
+pub given_room : (base v : Volume) (before after : BTreeMap ℕ ObjectSlot) (inodes number : ℕ) (slot : Option ObjectSlot) (node : Option Node) → number < inodes
     → get nat_cmp after number ≡ slot → ((n : ℕ) → n ≢ number → get nat_cmp after n ≡ get nat_cmp before n)
     → sum_below (λ n. room_of (get nat_cmp after n) (base n) (with_node number node v n)) inodes + room_of (get nat_cmp before number) (base number) (v number)
     ≡ sum_below (λ n. room_of (get nat_cmp before n) (base n) (v n)) inodes + room_of slot (base number) node
@@ -32,25 +32,25 @@ given_room base v before after inodes number slot node high there rest =
     let f : ℕ → ℕ = λ n. room_of (get nat_cmp after n) (base n) (with_node number node v n) in
     let g : ℕ → ℕ = λ n. room_of (get nat_cmp before n) (base n) (v n) in
     let others : (k : ℕ) → k ≢ number → f k ≡ g k = λ k ne.
-    ap (λ (x : Option Slot). room_of x (base k) (with_node number node v k)) (rest k ne)
+    ap (λ (x : Option ObjectSlot). room_of x (base k) (with_node number node v k)) (rest k ne)
     ∙ ap (λ (o : Option Node). room_of (get nat_cmp before k) (base k) o) (node_other number k node v ne) in
     let here : f number ≡ room_of slot (base number) node =
-    ap (λ (x : Option Slot). room_of x (base number) (with_node number node v number)) there
+    ap (λ (x : Option ObjectSlot). room_of x (base number) (with_node number node v number)) there
     ∙ ap (λ (o : Option Node). room_of slot (base number) o) (node_here number number node v refl) in
     let sums = change_at f g number inodes high others in
     omega (arith, sums, here)
 
 -- a number that needs nothing is set
-pub set_needs : (old new : BTreeMap ℕ Slot) (number : ℕ) (slot : Option Slot) → slot_room slot ≡ 0 → Updates nat_cmp old new number slot
+pub set_needs : (old new : BTreeMap ℕ ObjectSlot) (number : ℕ) (slot : Option ObjectSlot) → slot_room slot ≡ 0 → Updates nat_cmp old new number slot
     → (n k : ℕ) → slot_room (get nat_cmp old n) ≤ k → slot_room (get nat_cmp new n) ≤ k
 set_needs old new number slot none up n k le = elim (cases_eq n number) [
   | inl e ↦
       let here : slot_room (get nat_cmp new n) ≡ 0 = ap (λ (m : ℕ). slot_room (get nat_cmp new m)) e ∙ ap slot_room up.1 ∙ none in
       omega (arith, here)
-  | inr ne ↦ subst (λ (x : Option Slot). slot_room x ≤ k) (sym (other_slot old new number n slot up ne)) le
+  | inr ne ↦ subst (λ (x : Option ObjectSlot). slot_room x ≤ k) (sym (other_slot old new number n slot up ne)) le
 ]
 
-same_slot : (slot : Option Slot) (was now : Option Object) → IsSameOrNone was now → slot_room (slot_with now slot) ≤ slot_room (slot_with was slot)
+same_slot : (slot : Option ObjectSlot) (was now : Option Object) → IsSameOrNone was now → slot_room (slot_with now slot) ≤ slot_room (slot_with was slot)
 same_slot None was now same = omega arith
 same_slot (Some AsSettled) was now same = omega arith
 same_slot (Some (Loaded out)) was now same = omega arith
@@ -65,7 +65,7 @@ pub back_needs : (before taken after : InodeFile) (number : ℕ) (was now : Opti
     → ((n : ℕ) → n ≢ number → get nat_cmp after.slots n ≡ get nat_cmp taken.slots n) → get nat_cmp after.slots number ≡ slot_with now (get nat_cmp taken.slots number)
     → NeedsNoMore before after
 back_needs before taken after number was now same out back others here n k le = elim (cases_eq n number) [
-  | inr ne ↦ subst (λ (x : Option Slot). slot_room x ≤ k) (sym (others n ne ∙ out n ne)) le
+  | inr ne ↦ subst (λ (x : Option ObjectSlot). slot_room x ≤ k) (sym (others n ne ∙ out n ne)) le
   | inl e ↦
       let needed : slot_room (get nat_cmp before.slots number) ≤ k = subst (λ (m : ℕ). slot_room (get nat_cmp before.slots m) ≤ k) e le in
       let first : slot_room (slot_with was (get nat_cmp taken.slots number)) ≡ slot_room (get nat_cmp before.slots number) = ap slot_room back in
@@ -86,7 +86,7 @@ needs_room base v old new sizes needs =
 pub untouched_room : (o : Object) → IsUntouched o → file_room o.file ≡ 0
 untouched_room o is = loaded_none o.file is.kept is.count is.depth is.none is.few
 
-slot_has : (disk : ℕ → List ℕ) (inodes : ℕ) (settled : Inode) (slot : Option Slot) (found : Option Node) (o : Object) → SlotStandsFor disk inodes settled slot found
+slot_has : (disk : ℕ → List ℕ) (inodes : ℕ) (settled : Inode) (slot : Option ObjectSlot) (found : Option Node) (o : Object) → SlotStandsFor disk inodes settled slot found
     → slot_object slot ≡ Some o → file_room o.file ≤ slot_room slot
 slot_has disk inodes settled None found o stands is = absurd cc
 slot_has disk inodes settled (Some AsSettled) found o stands is = absurd cc
@@ -115,33 +115,33 @@ moved_once (Some a) None = omega arith
 moved_once (Some a) (Some b) = omega arith
 
 -- a file or directory is changed, and needs so many blocks more; it has a name if it had one
-pub changed_room : (slot : Option Slot) (settled : Option Node) (old new : Node) (o p : Object) (k : ℕ) → file_room o.file ≤ slot_room slot → file_room p.file ≤ file_room o.file + k
+pub changed_room : (slot : Option ObjectSlot) (settled : Option Node) (old new : Node) (o p : Object) (k : ℕ) → file_room o.file ≤ slot_room slot → file_room p.file ≤ file_room o.file + k
     → nameless_room (Some new) ≤ nameless_room (Some old) → room_of (Some (Changed (Some p))) settled (Some new) ≤ room_of slot settled (Some old) + (k + 2)
 changed_room slot None old new o p k had needs names = omega (arith, had, needs, names)
 changed_room slot (Some was) old new o p k had needs names = omega (arith, had, needs, names)
 
 -- the same where it may lose its last name
-pub unnamed_room : (slot : Option Slot) (settled : Option Node) (old new : Node) (o p : Object) (k : ℕ) → file_room o.file ≤ slot_room slot → file_room p.file ≤ file_room o.file + k
+pub unnamed_room : (slot : Option ObjectSlot) (settled : Option Node) (old new : Node) (o p : Object) (k : ℕ) → file_room o.file ≤ slot_room slot → file_room p.file ≤ file_room o.file + k
     → nameless_room (Some new) ≤ 4 → room_of (Some (Changed (Some p))) settled (Some new) ≤ room_of slot settled (Some old) + (k + 6)
 unnamed_room slot None old new o p k had needs names = omega (arith, had, needs, names)
 unnamed_room slot (Some was) old new o p k had needs names = omega (arith, had, needs, names)
 
 -- an object is made
-pub made_room : (slot : Option Slot) (settled now : Option Node) (new : Node) (p : Object) → nameless_room (Some new) ≡ 0
+pub made_room : (slot : Option ObjectSlot) (settled now : Option Node) (new : Node) (p : Object) → nameless_room (Some new) ≡ 0
     → room_of (Some (Changed (Some p))) settled (Some new) ≤ room_of slot settled now + (3 + file_room p.file)
 made_room slot settled now new p named = omega (arith, moved_once settled (Some new), named)
 
 -- one goes
-pub gone_room : (slot : Option Slot) (settled now : Option Node) → room_of (Some (Changed None)) settled None ≤ room_of slot settled now + 3
+pub gone_room : (slot : Option ObjectSlot) (settled now : Option Node) → room_of (Some (Changed None)) settled None ≤ room_of slot settled now + 3
 gone_room slot settled now = omega (arith, moved_once settled None)
 
 -- a file without a name goes, and nothing more is needed
-pub dropped_room : (slot : Option Slot) (settled now : Option Node) → nameless_room now ≡ 4 → room_of (Some (Changed None)) settled None ≤ room_of slot settled now
+pub dropped_room : (slot : Option ObjectSlot) (settled now : Option Node) → nameless_room now ≡ 4 → room_of (Some (Changed None)) settled None ≤ room_of slot settled now
 dropped_room slot settled now nameless = omega (arith, moved_once settled None, nameless)
 
 -- ---- memory without a change
 
-no_change : (slot : Option Slot) → (IsChangedSlot slot → ⊥) → slot_room slot ≡ 0
+no_change : (slot : Option ObjectSlot) → (IsChangedSlot slot → ⊥) → slot_room slot ≡ 0
 no_change None not = refl
 no_change (Some AsSettled) not = refl
 no_change (Some (Loaded object)) not = refl

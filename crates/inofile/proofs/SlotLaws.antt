@@ -9,7 +9,7 @@ use Rattle.images.specs.Contents.{Content}
 use Rattle.inofile.specs.Inodes.{slot_content, slot_object}
 use Rattle.inofile.specs.Settled.{settled_content}
 use Rattle.inofile.specs.Slots.{IsChangedSlot}
-use Rattle.inofile.specs.declared.inode_file.Slot.{Slot}
+use Rattle.inofile.specs.declared.inode_file.ObjectSlot.{ObjectSlot}
 use Rattle.inofile.proofs.VolumeLaws.{inserted, other_slot, present_some}
 
 picks_here : {A : Type 0} (n k : ℕ) (x y : A) → n ≡ k → (if n == k then x else y) ≡ x
@@ -18,9 +18,9 @@ picks_here n k x y e = grind (arith, nat_tests)
 picks_other : {A : Type 0} (n k : ℕ) (x y : A) → n ≢ k → (if n == k then x else y) ≡ y
 picks_other n k x y ne = grind (arith, nat_tests)
 
-module _ (old new : BTreeMap ℕ Slot) (number : ℕ) (slot : Option Slot) (up : Updates nat_cmp old new number slot) where
+module _ (old new : BTreeMap ℕ ObjectSlot) (number : ℕ) (slot : Option ObjectSlot) (up : Updates nat_cmp old new number slot) where
   -- what this slot has, and what stays, hold of each number
-  pub each_slot : (P : Option Slot → Type 0) → P slot → (n : ℕ) → P (get nat_cmp old n) → P (get nat_cmp new n)
+  pub each_slot : (P : Option ObjectSlot → Type 0) → P slot → (n : ℕ) → P (get nat_cmp old n) → P (get nat_cmp new n)
   each_slot P here n was = elim (cases_eq n number) [
     | inl e ↦ subst (λ (k : ℕ). P (get nat_cmp new k)) (sym e) (subst P (sym up.1) here)
     | inr ne ↦ subst P (sym (other_slot old new number n slot up ne)) was
@@ -40,15 +40,15 @@ module _ (old new : BTreeMap ℕ Slot) (number : ℕ) (slot : Option Slot) (up :
   contents_with disk settled here is n = elim (cases_eq n number) [
     | inl e ↦
         ap (λ (k : ℕ). slot_content disk (get nat_cmp new k) (settled_content disk (settled k))) e
-        ∙ ap (λ (x : Option Slot). slot_content disk x (settled_content disk (settled number))) up.1 ∙ is
+        ∙ ap (λ (x : Option ObjectSlot). slot_content disk x (settled_content disk (settled number))) up.1 ∙ is
         ∙ sym (picks_here n number here (slot_content disk (get nat_cmp old n) (settled_content disk (settled n))) e)
     | inr ne ↦
-        ap (λ (x : Option Slot). slot_content disk x (settled_content disk (settled n))) (other_slot old new number n slot up ne)
+        ap (λ (x : Option ObjectSlot). slot_content disk x (settled_content disk (settled n))) (other_slot old new number n slot up ne)
         ∙ sym (picks_other n number here (slot_content disk (get nat_cmp old n) (settled_content disk (settled n))) ne)
   ]
 
 -- a change that is put in where there is room for it
-pub puts : {A E : Type 0} (old new : BTreeMap ℕ Slot) (number : ℕ) (slot : Slot) (r : Result A E) → OnOk r (Updates nat_cmp old new number (Some slot))
+pub puts : {A E : Type 0} (old new : BTreeMap ℕ ObjectSlot) (number : ℕ) (slot : ObjectSlot) (r : Result A E) → OnOk r (Updates nat_cmp old new number (Some slot))
     → OnErr r (get nat_cmp old number ≡ None) → IsSome (get nat_cmp old number) → Updates nat_cmp old new number (Some slot)
 puts old new number slot r updates absent room =
     inserted r (Updates nat_cmp old new number (Some slot)) (get nat_cmp old number) updates absent (present_some (get nat_cmp old number) room)

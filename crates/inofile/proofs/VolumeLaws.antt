@@ -12,10 +12,10 @@ use Rattle.images.specs.Contents.{Content}
 use Rattle.inode.specs.declared.object.Object.{Object}
 use Rattle.inofile.specs.Inodes.{IsKnownSlot, slot_content}
 use Rattle.inofile.specs.Objects.{StandsFor, IsAsSettled, IsObjectOrNone, IsSameOrNone}
-use Rattle.inofile.specs.Settled.{content_of, held_content, settled_content}
+use Rattle.inofile.specs.Settled.{content_of_object, held_content, settled_content}
 use Rattle.inofile.specs.Volumes.{SlotStandsFor, MapsVolume, HasNoOwn, slot_with}
-use Rattle.inofile.specs.declared.inode_file.Slot.{Slot}
-use Rattle.inofile.specs.declared.inode_file.Slot.TheVariants.{AsSettled, Loaded, Changed}
+use Rattle.inofile.specs.declared.inode_file.ObjectSlot.{ObjectSlot}
+use Rattle.inofile.specs.declared.inode_file.ObjectSlot.TheVariants.{AsSettled, Loaded, Changed}
 use Rattle.inofile.proofs.ObjectLaws.{same_object, same_settled, object_some}
 use Rattle.model.proofs.ObjectLaws.{node_here, node_other}
 
@@ -24,10 +24,10 @@ use Rattle.model.proofs.ObjectLaws.{node_here, node_other}
 other_number : (k n : ℕ) → n ≢ k → is_eq (nat_cmp k n) ≡ false
 other_number k n ne = grind (arith, nat_tests)
 
-pub other_slot : (old new : BTreeMap ℕ Slot) (number n : ℕ) (slot : Option Slot) → Updates nat_cmp old new number slot → n ≢ number → get nat_cmp new n ≡ get nat_cmp old n
+pub other_slot : (old new : BTreeMap ℕ ObjectSlot) (number n : ℕ) (slot : Option ObjectSlot) → Updates nat_cmp old new number slot → n ≢ number → get nat_cmp new n ≡ get nat_cmp old n
 other_slot old new number n slot up ne = up.2 n (other_number number n ne)
 
-module _ (disk : ℕ → List ℕ) (inodes : ℕ) (settled : ℕ → Inode) (old new : BTreeMap ℕ Slot) (number : ℕ) (slot : Option Slot) (up : Updates nat_cmp old new number slot) where
+module _ (disk : ℕ → List ℕ) (inodes : ℕ) (settled : ℕ → Inode) (old new : BTreeMap ℕ ObjectSlot) (number : ℕ) (slot : Option ObjectSlot) (up : Updates nat_cmp old new number slot) where
   -- all numbers stand for what they did, and one for this
   pub all_stand : (v w : Volume) → ((n : ℕ) → n ≢ number → w n ≡ v n)
       → ((n : ℕ) → n ≢ number → SlotStandsFor disk inodes (settled n) (get nat_cmp old n) (v n))
@@ -36,15 +36,15 @@ module _ (disk : ℕ → List ℕ) (inodes : ℕ) (settled : ℕ → Inode) (old
   all_stand v w same others here n = elim (cases_eq n number) [
     | inl e ↦
         subst (λ (k : ℕ). SlotStandsFor disk inodes (settled k) (get nat_cmp new k) (w k)) (sym e)
-        (subst (λ (x : Option Slot). SlotStandsFor disk inodes (settled number) x (w number)) (sym up.1) here)
+        (subst (λ (x : Option ObjectSlot). SlotStandsFor disk inodes (settled number) x (w number)) (sym up.1) here)
     | inr ne ↦
-        subst (λ (x : Option Slot). SlotStandsFor disk inodes (settled n) x (w n)) (sym (other_slot old new number n slot up ne))
+        subst (λ (x : Option ObjectSlot). SlotStandsFor disk inodes (settled n) x (w n)) (sym (other_slot old new number n slot up ne))
         (subst (λ (x : Option Node). SlotStandsFor disk inodes (settled n) (get nat_cmp old n) x) (sym (same n ne)) (others n ne))
   ]
 
   pub others_stand : (v : Volume) → ((n : ℕ) → n ≢ number → SlotStandsFor disk inodes (settled n) (get nat_cmp old n) (v n))
       → (n : ℕ) → n ≢ number → SlotStandsFor disk inodes (settled n) (get nat_cmp new n) (v n)
-  others_stand v others n ne = subst (λ (x : Option Slot). SlotStandsFor disk inodes (settled n) x (v n)) (sym (other_slot old new number n slot up ne)) (others n ne)
+  others_stand v others n ne = subst (λ (x : Option ObjectSlot). SlotStandsFor disk inodes (settled n) x (v n)) (sym (other_slot old new number n slot up ne)) (others n ne)
 
   pub set_stands : (v : Volume) (object : Option Object) (node : Option Node) → slot ≡ Some (Changed object)
       → ((n : ℕ) → n ≢ number → SlotStandsFor disk inodes (settled n) (get nat_cmp old n) (v n))
@@ -52,11 +52,11 @@ module _ (disk : ℕ → List ℕ) (inodes : ℕ) (settled : ℕ → Inode) (old
       → (n : ℕ) → SlotStandsFor disk inodes (settled n) (get nat_cmp new n) (with_node number node v n)
   set_stands v object node is others stands =
       all_stand v (with_node number node v) (λ n ne. node_other number n node v ne) others
-      (subst (λ (x : Option Slot). SlotStandsFor disk inodes (settled number) x (with_node number node v number)) (sym is)
+      (subst (λ (x : Option ObjectSlot). SlotStandsFor disk inodes (settled number) x (with_node number node v number)) (sym is)
       (subst (IsObjectOrNone disk inodes (settled number) object) (sym (node_here number number node v refl)) stands))
 
 -- a value that is put in at a key that is there
-pub inserted : {A E : Type 0} (r : Result A E) (U : Type 0) (slot : Option Slot) → OnOk r U → OnErr r (slot ≡ None) → (slot ≡ None → ⊥) → U
+pub inserted : {A E : Type 0} (r : Result A E) (U : Type 0) (slot : Option ObjectSlot) → OnOk r U → OnErr r (slot ≡ None) → (slot ≡ None → ⊥) → U
 inserted (Ok x) U slot updates absent there = updates
 inserted (Err e) U slot updates absent there = absurd (there absent)
 
@@ -68,15 +68,15 @@ of_error (Ok x) e P is told = absurd (ok_err x e is)
     ok_err x e is = cc
 of_error (Err d) e P is told = told
 
-pub known_some : (slot : Option Slot) → IsKnownSlot slot → slot ≡ None → ⊥
+pub known_some : (slot : Option ObjectSlot) → IsKnownSlot slot → slot ≡ None → ⊥
 known_some slot known none = subst IsKnownSlot none known
 
-pub present_some : (slot : Option Slot) → IsSome slot → slot ≡ None → ⊥
+pub present_some : (slot : Option ObjectSlot) → IsSome slot → slot ≡ None → ⊥
 present_some slot some none = false≢true (subst IsSome none some)
 
 -- ---- one number
 
-pub unknown_stands : (disk : ℕ → List ℕ) (inodes : ℕ) (settled : Inode) (slot : Option Slot) (found : Option Node) → (IsKnownSlot slot → ⊥)
+pub unknown_stands : (disk : ℕ → List ℕ) (inodes : ℕ) (settled : Inode) (slot : Option ObjectSlot) (found : Option Node) → (IsKnownSlot slot → ⊥)
     → SlotStandsFor disk inodes settled slot found → StandsFor inodes (held_content disk settled) found
 unknown_stands disk inodes settled (Some AsSettled) found not stands = stands
 unknown_stands disk inodes settled (Some (Loaded object)) found not stands = absurd (not tt)
@@ -89,24 +89,24 @@ pub load_stands : (disk : ℕ → List ℕ) (inodes : ℕ) (settled inode : Inod
 load_stands disk inodes settled inode object found same settled_is stands =
     subst (λ (i : Inode). IsAsSettled disk i object × IsObjectOrNone disk inodes i object found) same (settled_is, stands)
 
-unknown_content : (disk : ℕ → List ℕ) (slot : Option Slot) (below : Option Content) → (IsKnownSlot slot → ⊥) → slot_content disk slot below ≡ below
+unknown_content : (disk : ℕ → List ℕ) (slot : Option ObjectSlot) (below : Option Content) → (IsKnownSlot slot → ⊥) → slot_content disk slot below ≡ below
 unknown_content disk (Some AsSettled) below not = refl
 unknown_content disk (Some (Loaded object)) below not = absurd (not tt)
 unknown_content disk (Some (Changed object)) below not = absurd (not tt)
 unknown_content disk None below not = refl
 
-pub load_same : (disk : ℕ → List ℕ) (settled : ℕ → Inode) (old new : BTreeMap ℕ Slot) (number : ℕ) (object : Option Object) → Updates nat_cmp old new number (Some (Loaded object))
-    → (IsKnownSlot (get nat_cmp old number) → ⊥) → option_map (content_of disk) object ≡ settled_content disk (settled number)
+pub load_same : (disk : ℕ → List ℕ) (settled : ℕ → Inode) (old new : BTreeMap ℕ ObjectSlot) (number : ℕ) (object : Option Object) → Updates nat_cmp old new number (Some (Loaded object))
+    → (IsKnownSlot (get nat_cmp old number) → ⊥) → option_map (content_of_object disk) object ≡ settled_content disk (settled number)
     → (n : ℕ) → slot_content disk (get nat_cmp new n) (settled_content disk (settled n)) ≡ slot_content disk (get nat_cmp old n) (settled_content disk (settled n))
 load_same disk settled old new number object up not same n = elim (cases_eq n number) [
   | inl e ↦
       subst (λ (k : ℕ). slot_content disk (get nat_cmp new k) (settled_content disk (settled k)) ≡ slot_content disk (get nat_cmp old k) (settled_content disk (settled k))) (sym e)
-      (ap (λ (x : Option Slot). slot_content disk x (settled_content disk (settled number))) up.1 ∙ same ∙ sym (unknown_content disk (get nat_cmp old number) (settled_content disk (settled number)) not))
-  | inr ne ↦ ap (λ (x : Option Slot). slot_content disk x (settled_content disk (settled n))) (other_slot old new number n (Some (Loaded object)) up ne)
+      (ap (λ (x : Option ObjectSlot). slot_content disk x (settled_content disk (settled number))) up.1 ∙ same ∙ sym (unknown_content disk (get nat_cmp old number) (settled_content disk (settled number)) not))
+  | inr ne ↦ ap (λ (x : Option ObjectSlot). slot_content disk x (settled_content disk (settled n))) (other_slot old new number n (Some (Loaded object)) up ne)
 ]
 
 -- an object that is put back into what memory has of a number
-pub back_stands : (disk : ℕ → List ℕ) (inodes : ℕ) (settled : Inode) (slot : Option Slot) (was now : Option Object) (found : Option Node) → IsKnownSlot slot → IsSameOrNone was now
+pub back_stands : (disk : ℕ → List ℕ) (inodes : ℕ) (settled : Inode) (slot : Option ObjectSlot) (was now : Option Object) (found : Option Node) → IsKnownSlot slot → IsSameOrNone was now
     → SlotStandsFor disk inodes settled (slot_with was slot) found → SlotStandsFor disk inodes settled (slot_with now slot) found
 back_stands disk inodes settled (Some AsSettled) was now found known same stands = absurd known
 back_stands disk inodes settled (Some (Loaded out)) was now found known same stands =

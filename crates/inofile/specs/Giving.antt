@@ -10,10 +10,10 @@ use Rattle.inofile.specs.Inodes as inodes
 use Rattle.inofile.specs.Inodes.{content_at, IsKnown, HasRoomFor, IsChanged}
 use Rattle.inofile.specs.Objects.{IsObjectOrNone}
 use Rattle.inofile.specs.Room.{memory_room, number_room, room_of}
-use Rattle.inofile.specs.Settled.{content_of}
+use Rattle.inofile.specs.Settled.{content_of_object}
 use Rattle.inofile.specs.Volumes.{IsVolumeOf, IsVolumeWithout}
 use Rattle.inofile.specs.declared.inode_file.InodeFile.{InodeFile}
-use Rattle.inofile.specs.declared.inode_file.Slot.TheVariants.{Changed}
+use Rattle.inofile.specs.declared.inode_file.ObjectSlot.TheVariants.{Changed}
 
 -- The number has this object, or none, and the next consistency point stores it. All others are as they were. What a point may store
 -- changes for this number alone, over memory as it was, or as it was before an object was taken out of the number.
@@ -23,7 +23,7 @@ pub record IsGiven (number : ℕ) (object : Option Object) (old new : InodeFile)
   pub stays : (n : ℕ) → IsKnown old n → IsKnown new n
   pub keeps : (n : ℕ) → HasRoomFor old n → HasRoomFor new n
   pub set : (disk : ℕ → List ℕ) (settled : ℕ → Inode) (n : ℕ)
-      → content_at disk settled new n ≡ (if n == number then option_map (content_of disk) object else content_at disk settled old n)
+      → content_at disk settled new n ≡ (if n == number then option_map (content_of_object disk) object else content_at disk settled old n)
   pub volume : (count : ℕ) (disk : ℕ → List ℕ) (settled : ℕ → Inode) (v : Volume) (node : Option Node)
       → IsVolumeOf count disk settled old v → IsObjectOrNone disk old.geometry.inodes (settled number) object node
       → IsVolumeOf count disk settled new (with_node number node v)

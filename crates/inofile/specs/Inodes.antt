@@ -7,17 +7,17 @@ use Rattle.layout.specs.declared.inode.Inode.{Inode}
 use Rattle.images.specs.Contents.{Content}
 use Rattle.images.specs.Roots.{free_inode}
 use Rattle.inode.specs.declared.object.Object.{Object}
-use Rattle.inofile.specs.Settled.{content_of, held_content, settled_content}
+use Rattle.inofile.specs.Settled.{content_of_object, held_content, settled_content}
 pub use Rattle.inofile.specs.Slots.{IsChangedSlot}
-use Rattle.inofile.specs.declared.inode_file.Slot.{Slot}
-use Rattle.inofile.specs.declared.inode_file.Slot.TheVariants.{AsSettled, Loaded, Changed}
+use Rattle.inofile.specs.declared.inode_file.ObjectSlot.{ObjectSlot}
+use Rattle.inofile.specs.declared.inode_file.ObjectSlot.TheVariants.{AsSettled, Loaded, Changed}
 use Rattle.inofile.specs.declared.inode_file.InodeFile.{InodeFile}
 
 -- an object with what is in memory of it over what is settled
-abbrev pub slot_content : (ℕ → List ℕ) → Option Slot → Option Content → Option Content
+abbrev pub slot_content : (ℕ → List ℕ) → Option ObjectSlot → Option Content → Option Content
 slot_content disk (Some AsSettled) below = below
-slot_content disk (Some (Loaded object)) below = option_map (content_of disk) object
-slot_content disk (Some (Changed object)) below = option_map (content_of disk) object
+slot_content disk (Some (Loaded object)) below = option_map (content_of_object disk) object
+slot_content disk (Some (Changed object)) below = option_map (content_of_object disk) object
 slot_content disk None below = below
 
 -- the map from numbers to objects
@@ -39,7 +39,7 @@ abbrev pub SameObjects : (ℕ → List ℕ) → (ℕ → Inode) → InodeFile �
 SameObjects disk settled old new =
     (n : ℕ) → content_at disk settled new n ≡ content_at disk settled old n
 
-abbrev pub slot_object : Option Slot → Option Object
+abbrev pub slot_object : Option ObjectSlot → Option Object
 slot_object (Some AsSettled) = None
 slot_object (Some (Loaded object)) = object
 slot_object (Some (Changed object)) = object
@@ -49,7 +49,7 @@ slot_object None = None
 abbrev pub loaded : InodeFile → ℕ → Option Object
 loaded s n = slot_object (tree.get nat_cmp s.slots n)
 
-abbrev pub IsKnownSlot : Option Slot → Type 0
+abbrev pub IsKnownSlot : Option ObjectSlot → Type 0
 IsKnownSlot (Some AsSettled) = ⊥
 IsKnownSlot (Some (Loaded object)) = Unit {0}
 IsKnownSlot (Some (Changed object)) = Unit {0}
@@ -63,7 +63,7 @@ IsKnown s n = IsKnownSlot (tree.get nat_cmp s.slots n)
 abbrev pub HasRoomFor : InodeFile → ℕ → Type 0
 HasRoomFor s n = tree.ContainsKey nat_cmp s.slots n
 
-abbrev pub is_changed_slot : Option Slot → Bool
+abbrev pub is_changed_slot : Option ObjectSlot → Bool
 is_changed_slot (Some AsSettled) = false
 is_changed_slot (Some (Loaded object)) = false
 is_changed_slot (Some (Changed object)) = true

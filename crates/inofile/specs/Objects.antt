@@ -15,7 +15,7 @@ use Rattle.images.specs.Roots.{free_inode}
 use Rattle.inode.specs.Bases.{IsBased}
 use Rattle.inode.specs.Files.{IsFile, IsSameFile}
 use Rattle.inode.specs.declared.object.Object.{Object}
-use Rattle.inofile.specs.Settled.{content_of, held_content}
+use Rattle.inofile.specs.Settled.{content_of_object, held_content}
 
 -- a content stands for this object of a volume of so many inodes, or for none
 abbrev pub StandsFor : ℕ → Content → Option Node → Type 0
@@ -38,7 +38,7 @@ pub record IsObject (disk : ℕ → List ℕ) (inodes : ℕ) (settled : Inode) (
   pub mode : o.attributes.mode ≤ MODE_BITS
   pub fits : (s : Sizes)
       → FitsKind o.attributes.kind s o.attributes.mode o.attributes.links o.file.size
-  pub stands : StandsFor inodes (content_of disk o) found
+  pub stands : StandsFor inodes (content_of_object disk o) found
   pub ends : IsFile disk o.file
   pub base : IsBased settled o.file.tree
 
@@ -58,7 +58,7 @@ pub record IsUntouched (o : Object) : Type 0 where
 
 -- what was loaded is as it is settled, and wasn't touched since
 abbrev pub IsAsSettled : (ℕ → List ℕ) → Inode → Option Object → Type 0
-IsAsSettled disk settled (Some o) = (content_of disk o ≡ held_content disk settled) × IsUntouched o
+IsAsSettled disk settled (Some o) = (content_of_object disk o ≡ held_content disk settled) × IsUntouched o
 IsAsSettled disk settled None = settled ≡ free_inode
 
 -- the same object, whatever the disk

@@ -6,12 +6,12 @@ use Rattle.model.specs.Volumes.{Node, Volume, is_nameless}
 use Rattle.images.specs.Sums.{sum_below}
 use Rattle.inode.specs.Room.{file_room}
 use Rattle.inode.specs.declared.object.Object.{Object}
-use Rattle.inofile.specs.declared.inode_file.Slot.{Slot}
-use Rattle.inofile.specs.declared.inode_file.Slot.TheVariants.{AsSettled, Loaded, Changed}
+use Rattle.inofile.specs.declared.inode_file.ObjectSlot.{ObjectSlot}
+use Rattle.inofile.specs.declared.inode_file.ObjectSlot.TheVariants.{AsSettled, Loaded, Changed}
 use Rattle.inofile.specs.declared.inode_file.InodeFile.{InodeFile}
 
 -- the block of the inode and the indirect one over it, and what is stored of the file
-abbrev pub slot_room : Option Slot → ℕ
+abbrev pub slot_room : Option ObjectSlot → ℕ
 slot_room None = 0
 slot_room (Some AsSettled) = 0
 slot_room (Some (Loaded object)) = 0
@@ -35,7 +35,7 @@ abbrev pub nameless_room : Option Node → ℕ
 nameless_room o = if is_nameless o then 4 else 0
 
 -- what memory has of a number, over a settled tree that has the one object, and standing for the other
-abbrev pub room_of : Option Slot → Option Node → Option Node → ℕ
+abbrev pub room_of : Option ObjectSlot → Option Node → Option Node → ℕ
 room_of slot settled now = slot_room slot + has_moved settled now + nameless_room now
 
 abbrev pub number_room : Volume → InodeFile → Volume → ℕ → ℕ

@@ -16,8 +16,8 @@ use Rattle.inode.specs.declared.object.Object.{Object}
 use Rattle.inode.specs.Files.{file_block}
 
 -- an object in memory: what it is, and its bytes block by block
-abbrev pub content_of : (ℕ → List ℕ) → Object → Content
-content_of disk o = record {
+abbrev pub content_of_object : (ℕ → List ℕ) → Object → Content
+content_of_object disk o = record {
   kind = o.attributes.kind;
   mode = o.attributes.mode;
   links = o.attributes.links;

@@ -9,12 +9,12 @@ use Rattle.model.specs.Volumes.{Node, Volume}
 use Rattle.inode.specs.declared.object.Object.{Object}
 use Rattle.inofile.specs.Objects.{StandsFor, IsAsSettled, IsObjectOrNone}
 use Rattle.inofile.specs.Settled.{held_content, AreSettled}
-use Rattle.inofile.specs.declared.inode_file.Slot.{Slot}
-use Rattle.inofile.specs.declared.inode_file.Slot.TheVariants.{AsSettled, Loaded, Changed}
+use Rattle.inofile.specs.declared.inode_file.ObjectSlot.{ObjectSlot}
+use Rattle.inofile.specs.declared.inode_file.ObjectSlot.TheVariants.{AsSettled, Loaded, Changed}
 use Rattle.inofile.specs.declared.inode_file.InodeFile.{InodeFile}
 
 -- what memory has of a number, over its settled inode, stands for this object, or for none
-abbrev pub SlotStandsFor : (ℕ → List ℕ) → ℕ → Inode → Option Slot → Option Node → Type 0
+abbrev pub SlotStandsFor : (ℕ → List ℕ) → ℕ → Inode → Option ObjectSlot → Option Node → Type 0
 SlotStandsFor disk inodes settled (Some AsSettled) found =
     StandsFor inodes (held_content disk settled) found
 SlotStandsFor disk inodes settled (Some (Loaded object)) found =
@@ -40,7 +40,7 @@ pub record IsVolumeOf (blocks : ℕ) (disk : ℕ → List ℕ) (settled : ℕ �
       → SlotStandsFor disk s.geometry.inodes (settled n) (tree.get nat_cmp s.slots n) (v n)
 
 -- what memory has of a number, with this object in it
-abbrev pub slot_with : Option Object → Option Slot → Option Slot
+abbrev pub slot_with : Option Object → Option ObjectSlot → Option ObjectSlot
 slot_with object (Some AsSettled) = Some AsSettled
 slot_with object (Some (Loaded out)) = Some (Loaded object)
 slot_with object (Some (Changed out)) = Some (Changed object)

@@ -10,9 +10,9 @@ ghost use Rattle.model.specs.Volumes.{Volume};
 ghost use Rattle.images.specs.Contents.{HoldsVolume};
 ghost use Rattle.inode.specs.declared.object.Object.{Object};
 ghost use Rattle.inofile.specs.Objects.{IsObject, IsSameOrNone};
-ghost use Rattle.inofile.specs.Settled.{AreSettled, content_of, held_content, settled_content};
+ghost use Rattle.inofile.specs.Settled.{AreSettled, content_of_object, held_content, settled_content};
 
-use crate::{InodeFile, Slot};
+use crate::{InodeFile, ObjectSlot};
 use inode::{File, Object};
 use std::alloc::{AllocError, Global};
 
@@ -41,7 +41,7 @@ impl InodeFile {
         if self.slots.contains_key(&number) {
             return Ok(());
         }
-        match self.slots.insert(number, Slot::AsSettled) {
+        match self.slots.insert(number, ObjectSlot::AsSettled) {
             Ok(_) => Ok(()),
             Err(_) => Err(AllocError),
         }
@@ -55,7 +55,7 @@ impl InodeFile {
         ensures { IsGiven number object self.old self.new }
     {
         self.numbers.note(number, object.is_some());
-        let _ = self.slots.insert(number, Slot::Changed(object));
+        let _ = self.slots.insert(number, ObjectSlot::Changed(object));
     }
 
     /// Takes an object out, to be prepared or changed, until it is put back or set. Till then its number has none.
@@ -73,7 +73,7 @@ impl InodeFile {
         ensures loaded { result ≡ loaded self.old number }
         ensures rest { (n : ℕ) → (n ≢ number) → loaded self.new n ≡ loaded self.old n }
         ensures taken { (disk : ℕ → List ℕ) (settled : ℕ → Inode)
-            → option_map (content_of disk) result ≡ content_at disk settled self.old number }
+            → option_map (content_of_object disk) result ≡ content_at disk settled self.old number }
         ensures others { (disk : ℕ → List ℕ) (settled : ℕ → Inode) (n : ℕ) → (n ≢ number)
             → content_at disk settled self.new n ≡ content_at disk settled self.old n }
         ensures changed { (n : ℕ) → IsChanged self.new n ↔ IsChanged self.old n }
@@ -86,10 +86,10 @@ impl InodeFile {
             → IsVolumeOf count disk settled self.old v
             → IsVolumeWithout number result count disk settled self.new v }
     {
-        match self.slots.insert(number, Slot::Loaded(None)) {
-            Ok(Some(Slot::Loaded(object))) => object,
-            Ok(Some(Slot::Changed(object))) => {
-                let _ = self.slots.insert(number, Slot::Changed(None));
+        match self.slots.insert(number, ObjectSlot::Loaded(None)) {
+            Ok(Some(ObjectSlot::Loaded(object))) => object,
+            Ok(Some(ObjectSlot::Changed(object))) => {
+                let _ = self.slots.insert(number, ObjectSlot::Changed(None));
                 object
             }
             _ => None,
@@ -106,7 +106,7 @@ impl InodeFile {
         ensures keeps { (n : ℕ) → HasRoomFor self.old n → HasRoomFor self.new n }
         ensures set { (disk : ℕ → List ℕ) (settled : ℕ → Inode) (n : ℕ)
             → content_at disk settled self.new n
-            ≡ (if n == number then option_map (content_of disk) object
+            ≡ (if n == number then option_map (content_of_object disk) object
             else content_at disk settled self.old n) }
         ensures slots { (n : ℕ) → (n ≢ number)
             → tree.get nat_cmp self.new.slots n ≡ tree.get nat_cmp self.old.slots n }
@@ -125,13 +125,13 @@ impl InodeFile {
     }
 
     // What memory has of a number, with this object in it.
-    fn slot_with(&self, number: u32, object: Option<Object>) -> Slot
+    fn slot_with(&self, number: u32, object: Option<Object>) -> ObjectSlot
         requires { IsKnown self.now number }
         ensures { Some result ≡ slot_with object (tree.get nat_cmp self.now.slots number) }
     {
         match self.slots.get(&number) {
-            Some(Slot::Changed(_)) => Slot::Changed(object),
-            _ => Slot::Loaded(object),
+            Some(ObjectSlot::Changed(_)) => ObjectSlot::Changed(object),
+            _ => ObjectSlot::Loaded(object),
         }
     }
 

@@ -11,7 +11,7 @@ use std::collections::BTreeMap;
 
 /// What memory has of an inode. Without an object the inode is free.
 #[derive(Debug, Drop)]
-pub enum Slot {
+pub enum ObjectSlot {
     /// Room for a change; the inode is as the settled file has it.
     AsSettled,
     /// In memory, and as the settled file has it.
@@ -26,7 +26,7 @@ pub struct InodeFile {
     pub(crate) geometry: Geometry,
     /// The settled inode file.
     pub(crate) file: File,
-    pub(crate) slots: BTreeMap<u32, Slot>,
+    pub(crate) slots: BTreeMap<u32, ObjectSlot>,
     pub(crate) numbers: Numbers,
     ghost same: { numbers.inodes ≡ geometry.inodes },
     ghost changes: { ChangesObjects geometry.inodes slots },
@@ -52,7 +52,7 @@ ghost use Rattle.images.specs.Contents.{HoldsVolume};
 ghost use Rattle.images.specs.Nodes.{held};
 ghost use Rattle.images.specs.Soundness.{IsOrdinary, IsSoundFile};
 ghost use Rattle.inofile.specs.Objects.{IsAsSettled, IsObject, IsObjectOrNone, IsUntouched, StandsFor};
-ghost use Rattle.inofile.specs.Settled.{AreSettled, content_of, held_content, settled_content};
+ghost use Rattle.inofile.specs.Settled.{AreSettled, content_of_object, held_content, settled_content};
 ghost use Rattle.inofile.specs.Slots.{ChangesObjects};
 
 impl InodeFile {
@@ -144,7 +144,7 @@ impl InodeFile {
         }
         let inode = self.settled_inode(blocks, number)?;
         let object = load_object(alloc, inode)?;
-        match self.slots.insert(number, Slot::Loaded(object)) {
+        match self.slots.insert(number, ObjectSlot::Loaded(object)) {
             Ok(_) => Ok(()),
             Err(_) => Err(ReadError::NoMemory),
         }
@@ -155,9 +155,9 @@ impl InodeFile {
         ensures { IsTrue result ↔ IsKnown self.now number }
     {
         match self.slots.get(&number) {
-            Some(Slot::AsSettled) => false,
-            Some(Slot::Loaded(_)) => true,
-            Some(Slot::Changed(_)) => true,
+            Some(ObjectSlot::AsSettled) => false,
+            Some(ObjectSlot::Loaded(_)) => true,
+            Some(ObjectSlot::Changed(_)) => true,
             None => false,
         }
     }
@@ -166,7 +166,7 @@ impl InodeFile {
     pub fn is_changed(&self, number: u32) -> bool
         ensures { result ≡ is_changed_slot (tree.get nat_cmp self.now.slots number) }
     {
-        matches!(self.slots.get(&number), Some(Slot::Changed(_)))
+        matches!(self.slots.get(&number), Some(ObjectSlot::Changed(_)))
     }
 
     /// The numbers whose objects the next consistency point stores, in their order.
@@ -225,7 +225,7 @@ impl InodeFile {
         requires { IsKnown self.now number }
         ensures some { (disk : ℕ → List ℕ) (settled : ℕ → Inode)
             → IfSome result (λ o. content_at disk settled self.now number
-            ≡ Some (content_of disk o.now)) }
+            ≡ Some (content_of_object disk o.now)) }
         ensures none { (disk : ℕ → List ℕ) (settled : ℕ → Inode)
             → IfNone result (content_at disk settled self.now number ≡ None) }
         ensures loaded { IfSome result (λ o. loaded self.now number ≡ Some o.now) }
@@ -236,9 +236,9 @@ impl InodeFile {
             → IsVolumeOf count disk settled self.now v → IfNone result (v number ≡ None) }
     {
         match self.slots.get(&number) {
-            Some(Slot::AsSettled) => None,
-            Some(Slot::Loaded(object)) => object.as_ref(),
-            Some(Slot::Changed(object)) => object.as_ref(),
+            Some(ObjectSlot::AsSettled) => None,
+            Some(ObjectSlot::Loaded(object)) => object.as_ref(),
+            Some(ObjectSlot::Changed(object)) => object.as_ref(),
             None => None,
         }
     }
@@ -266,7 +266,7 @@ impl InodeFile {
     }
 
     /// What memory has of a number: a consistency point stores the changed ones.
-    pub fn slot(&self, number: u32) -> Option<&Slot>
+    pub fn slot(&self, number: u32) -> Option<&ObjectSlot>
         ensures { option_copied result ≡ tree.get nat_cmp self.now.slots number }
     {
         self.slots.get(&number)
@@ -277,7 +277,7 @@ impl InodeFile {
 fn load_object(alloc: Global, inode: Inode) -> Result<Option<Object>, AllocError>
     requires { inode.size ≤ greatest_size VERSION }
     ensures content { (s : Sizes) (disk : ℕ → List ℕ) → IsSoundFile s (held disk inode)
-        → IfOk result (λ o. option_map (content_of disk) o ≡ settled_content disk inode) }
+        → IfOk result (λ o. option_map (content_of_object disk) o ≡ settled_content disk inode) }
     ensures as_settled { (s : Sizes) (disk : ℕ → List ℕ) → IsSoundFile s (held disk inode)
         → IfOk result (IsAsSettled disk inode) }
     ensures untouched { (s : Sizes) → IsInode VERSION s inode

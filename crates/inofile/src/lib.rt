@@ -8,7 +8,7 @@ mod laws;
 mod numbers;
 mod settled;
 
-pub use inode_file::{InodeFile, Slot};
+pub use inode_file::{InodeFile, ObjectSlot};
 pub use laws::{
     memory_holds_its_volume, objects_stand_in_their_grammar, unchanged_memory_is_settled,
 };

@@ -12,7 +12,7 @@ use Rattle.layout.specs.declared.inode.Inode.{Inode}
 use Rattle.layout.specs.declared.pointer.Pointer.{Pointer}
 use Rattle.blocktree.specs.Places.{depth_of, IsPath}
 use Rattle.images.specs.Nodes.{held}
-use Rattle.images.specs.Soundness.{nodes_at, IsSoundFile, HasNoHole}
+use Rattle.images.specs.Soundness.{nodes_of_size, IsSoundFile, HasNoHole}
 use Rattle.loading.specs.Readings.{IsBodyPath, IsMapFile, IsStored}
 use Rattle.loading.specs.Laws.{ReadAsHeld}
 
@@ -21,13 +21,13 @@ pub record NodeLaws : Type 0 where
   pub places : (disk : Blocks) (f : Inode) (pointers : List Pointer) (depth height i : ℕ) → f.body ≡ Pointers pointers → level_of f.size ≡ suc (depth + height)
       → (held disk f).place height i ≡ place disk pointers depth i
   pub paths : (s : Sizes) (disk : Blocks) (f : Inode) (pointers : List Pointer) (depth height i : ℕ) → IsSoundFile s (held disk f) → f.body ≡ Pointers pointers → level_of f.size ≡ suc (depth + height)
-      → IsPath s.blocks disk pointers depth (nodes_at f.size height) i
+      → IsPath s.blocks disk pointers depth (nodes_of_size f.size height) i
 
 some_level : (size : ℕ) → 128 < size → level_of size ≡ suc (depth_of size + 0)
 some_level size large = grind (arith, nat_tests, large)
 
 pub body_path : (laws : NodeLaws) (s : Sizes) (disk : Blocks) (f : Inode) (i : ℕ) (body : Body) → f.body ≡ body → IsSoundFile s (held disk f) → IsBodyPath s.blocks disk body f.size i
-unfolding held nodes_at
+unfolding held nodes_of_size
 body_path laws s disk f i (Inline bytes) is sound = tt
 body_path laws s disk f i (Pointers pointers) is sound = λ lt.
     let fits = subst (λ (b : Body). FitsBody b s.blocks f.size) is sound.inode.body in
@@ -37,7 +37,7 @@ body_path laws s disk f i (Pointers pointers) is sound = λ lt.
 
 pub body_stored : (laws : NodeLaws) (s : Sizes) (disk : Blocks) (f : Inode) (body : Body) → f.body ≡ body → IsSoundFile s (held disk f) → HasNoHole (held disk f)
     → IsStored disk body f.size
-unfolding held nodes_at
+unfolding held nodes_of_size
 body_stored laws s disk f (Inline bytes) is sound whole = tt
 body_stored laws s disk f (Pointers pointers) is sound whole = λ i lt hole.
     let fits = subst (λ (b : Body). FitsBody b s.blocks f.size) is sound.inode.body in

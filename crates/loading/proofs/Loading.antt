@@ -25,6 +25,7 @@ not_loaded (Err f) is reads loads = record {
   unchanged = tt;
   next = tt;
   geometry = tt;
+  clean = tt;
   numbers = tt;
   inodes = λ disk shows. tt;
   loads = loads;

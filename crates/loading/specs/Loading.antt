@@ -10,6 +10,7 @@ use Rattle.blocktree.specs.Errors.{IsFault}
 use Rattle.blocktree.specs.declared.error.ReadError.{ReadError}
 use Rattle.blocktree.specs.declared.error.ReadError.TheVariants.{Device, NoMemory}
 use Rattle.inode.specs.Files.{file_block}
+use Rattle.inofile.specs.Inodes.{HasNoChange}
 use Rattle.loading.specs.Images.{IsLoadedUnder, IsReadable}
 use Rattle.loading.specs.InodeBlocks.{AreInodeBlocks}
 use Rattle.loading.specs.Readings.{AreUnchanged}
@@ -24,6 +25,7 @@ pub record LoadsUnder {B : Type 0} (G : Ghosts B) (old after : B) (root : Root) 
   pub unchanged : IfOk result (λ l. AreUnchanged l.map.parts.items)
   pub next : IfOk result (λ l. l.map.next ≡ 2)
   pub geometry : IfOk result (λ l. l.inodes.geometry ≡ root.geometry)
+  pub clean : IfOk result (λ l. HasNoChange l.inodes)
   pub numbers : IfOk result (λ l. IsInodeMap 0 root.geometry.inodes l.inodes.numbers.bytes.items)
   pub inodes : (disk : ℕ → List ℕ) → G.Shows old disk → IfOk result (λ l. AreInodeBlocks root.geometry (file_block disk l.inodes.file))
   pub loads : (disk : ℕ → List ℕ) → G.Shows old disk → IsReadable disk root

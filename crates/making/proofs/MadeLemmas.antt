@@ -14,7 +14,7 @@ use Rattle.layout.specs.declared.root.Root.{Root}
 use Rattle.buffers.specs.Disks.{IsBlock}
 use Rattle.images.specs.FirstRoots.{root_alone_volume}
 use Rattle.images.specs.Roots.{whole}
-use Rattle.images.specs.States.{Holds, OpensBy}
+use Rattle.images.specs.States.{HasReserve, Holds, OpensBy}
 use Rattle.conspoint.specs.Cuts.{IsOutside}
 use Rattle.conspoint.specs.Drafts.{HasAll}
 use Rattle.conspoint.specs.Plans.{FitsDisk, Planned}
@@ -55,6 +55,7 @@ pub record IsFirstPlan (s : Sizes) (p : Planned) (r : Root) : Type 0 where
   pub generation : r.generation ≡ FIRST_GENERATION
   pub geometry : r.geometry ≡ s
   pub holds : (e : Blocks) → HasAll e p.blocks → Holds r (whole e r) root_alone_volume []
+  pub room : (e : Blocks) → HasAll e p.blocks → HasReserve r (whole e r) root_alone_volume []
 
 module _ (s : Sizes) (p : Planned) (r : Root) (is : IsFirstPlan s p r) (c : Images) (w : IsWritten s.half p c) where
   in_a : c.disk SLOT_A ≡ root_bytes r
@@ -89,9 +90,9 @@ module _ (s : Sizes) (p : Planned) (r : Root) (is : IsFirstPlan s p r) (c : Imag
 
     pub opens : sectors ≡ 8 * s.blocks → length c.nvram ≡ 2 * s.half
         → ((n : ℕ) (disk : ℕ → List ℕ) (nvram : List ℕ) (q : Root) → IsNewest q (disk SLOT_A) (disk SLOT_B) → n ≡ 8 * q.geometry.blocks → Holds q (whole (blocks_of disk) q) root_alone_volume []
-        → LogHolds q.geometry.half q.generation nvram [] → OpensBy n disk nvram (empty q.geometry.inodes) [])
+        → HasReserve q (whole (blocks_of disk) q) root_alone_volume [] → LogHolds q.geometry.half q.generation nvram [] → OpensBy n disk nvram (empty q.geometry.inodes) [])
         → OpensBy sectors c.disk c.nvram (empty s.inodes) []
     opens size nvram law =
         subst (λ (t : Sizes). OpensBy sectors c.disk c.nvram (empty t.inodes) []) is.geometry
-        (law sectors c.disk c.nvram r newest (size ∙ ap (λ (t : Sizes). 8 * t.blocks) (sym is.geometry)) (is.holds (blocks_of c.disk) has_all)
+        (law sectors c.disk c.nvram r newest (size ∙ ap (λ (t : Sizes). 8 * t.blocks) (sym is.geometry)) (is.holds (blocks_of c.disk) has_all) (is.room (blocks_of c.disk) has_all)
         (subst (λ (t : Sizes). LogHolds t.half r.generation c.nvram []) (sym is.geometry) (empty_log s.half r.generation c.nvram is.generation nvram closed)))

@@ -1,5 +1,5 @@
 -- A new image's files against the blocks of an empty disk.
-use Rattle.std.proofs.Common.{◌≡◌, inl, inr, ℕ, zero, suc, ◌+◌, ◌-◌, ◌*◌, ◌≤◌, Bool, true, false, Option, Some, None, List, refl, sym, subst, ◌∙◌, arith}
+use Rattle.std.proofs.Common.{◌≡◌, inl, inr, ℕ, zero, suc, ◌+◌, ◌-◌, ◌*◌, ◌≤◌, Bool, true, false, Option, List, refl, sym, subst, ◌∙◌, arith}
 use Rattle.std.proofs.lemmas.Bool.{cases_lt}
 use Rattle.std.proofs.lemmas.Bool.Decides.{nat_tests}
 use Rattle.std.specs.Prelude.{if◌then◌else◌, ◌==◌, nat_lt}
@@ -8,6 +8,7 @@ use Rattle.std.specs.Int.{div_ceil}
 use Rattle.std.specs.Ordering.{nat_cmp}
 use Rattle.std.specs.BTreeMap as tree
 use Rattle.layout.specs.Version.{level_of}
+use Rattle.model.specs.Room.{fixed_of}
 use Rattle.images.specs.Sums.{sum_below}
 use Rattle.images.proofs.SumLaws.{gap_counts, sum_of_none}
 use Rattle.blocktree.specs.Places.{block_count}
@@ -19,11 +20,12 @@ use Rattle.blockmap.specs.Maps.{free_below, settled_at}
 use Rattle.blockmap.specs.Parts.{Part}
 use Rattle.blockmap.specs.Space.{left}
 use Rattle.blockmap.specs.declared.map.BlockMap.{BlockMap}
-use Rattle.conspoint.specs.Drafts.{IsShortage}
+use Rattle.conspoint.specs.Drafts.{Grows, IsShortage}
+use Rattle.conspoint.specs.declared.draft.Draft.{Draft}
 use Rattle.conspoint.specs.declared.error.PlanError.{PlanError}
 use Rattle.conspoint.specs.declared.error.PlanError.TheVariants.{NoMemory, Device, NoSpace, Damaged}
 use Rattle.conspoint.specs.MapFiles.{map_nodes}
-use Rattle.conspoint.specs.Space.{block_stores, changed_blocks}
+use Rattle.conspoint.specs.Space.{TakesAtMost, block_stores, changed_blocks}
 use Rattle.conspoint.proofs.SumLemmas.{changed_within}
 use Rattle.inode.specs.declared.file.File.{File}
 use Rattle.inode.proofs.RoomLaws.{more_at_most}
@@ -32,7 +34,11 @@ use Rattle.making.specs.Space.{NUMBERS_STORES, TOP_STORES}
 use Rattle.making.specs.Starts.{IsEmptyMap, system_entry}
 use Rattle.making.proofs.EmptyMapLaws.{system_low, system_past}
 
-one_free : (x : ℕ) → x ≡ 0 → ◌≡◌ {A = ℕ} (if x == 0 then 1 else 0) 1
+-- the block map has one indirect block at the most
+pub map_few : (n : ℕ) → map_nodes n ≤ n + 1
+map_few n = grind (arith, nat_tests)
+
+pub one_free : (x : ℕ) → x ≡ 0 → ◌≡◌ {A = ℕ} (if x == 0 then 1 else 0) 1
 one_free x is = rw is refl
 
 none_free : (x : ℕ) → x ≡ 2147483648 → ◌≡◌ {A = ℕ} (if x == 0 then 1 else 0) 0
@@ -49,11 +55,21 @@ free_of_empty parts settled (suc n) =
       | inr ge ↦ (let one = one_free (settled_at parts n) (settled n ∙ system_past n ge) in omega (arith, below, one, ge))
     ]
 
--- on an empty disk all blocks are left but two
-pub empty_left : (blocks : ℕ) (m : BlockMap) → IsEmptyMap blocks m → left m ≡ blocks - 2
+-- on an empty disk all blocks are left but two and those that were given out
+left_of : (m : BlockMap) → ((b : ℕ) → settled_at m.parts.items b ≡ system_entry b) → left m ≡ (m.count - 2) - (m.next - 2)
 unfolding left
-empty_left blocks m empty =
-    rw (empty.count, empty.next) (omega (arith, free_of_empty m.parts.items empty.settled blocks, free_of_empty m.parts.items empty.settled 2))
+left_of m settled = omega (arith, free_of_empty m.parts.items settled m.count, free_of_empty m.parts.items settled m.next)
+
+pub empty_left : (blocks : ℕ) (m : BlockMap) → IsEmptyMap blocks m → left m ≡ blocks - 2
+empty_left blocks m empty = omega (arith, left_of m empty.settled, empty.count, empty.next)
+
+-- so what the files of a new image take leaves what each point stores
+pub few_given_out : (blocks : ℕ) (old new : Draft) → 64 ≤ blocks → IsEmptyMap blocks old.map → Grows old new → TakesAtMost (NUMBERS_STORES + TOP_STORES + map_nodes (div_ceil blocks 1024)) old new
+    → fixed_of blocks + new.map.next ≤ blocks
+few_given_out blocks old new least empty grows takes =
+    let all = empty_left blocks old.map empty in
+    let rest = left_of new.map (λ b. grows.settled.settled b ∙ empty.settled b) in
+    omega (arith, least, all, rest, takes, grows.count, empty.count, map_few (div_ceil blocks 1024))
 
 -- not many more blocks are stored of a file than are changed
 stores_few : (level blocks changed more : ℕ) → level ≤ 2 → more ≤ 1 → level_stores level blocks changed more ≤ 2 * changed + 1
@@ -92,10 +108,6 @@ top_few f not =
     let few = stores_few (level_of f.size) (block_count f.size) (changed_blocks f.tree 1 (block_count f.size) + 1) (more_over f) (level_low f.size) (more_at_most f) in
     let none = none_changed f.tree 1 (block_count f.size) not in
     omega (arith, few, none)
-
--- the block map has one indirect block at the most
-pub map_few : (n : ℕ) → map_nodes n ≤ n + 1
-map_few n = grind (arith, nat_tests)
 
 -- a shortage that isn't one of space
 pub memory_alone : {T : Type 0} (e : PlanError) → IsShortage e → (IsErrOf {T = T} (Err e) NoSpace → ⊥) → e ≡ NoMemory

@@ -1,7 +1,7 @@
 -- All files of a new image are planned.
 use Rattle.std.proofs.Common.{◌≡◌, ◌≢◌, inl, inr, ◌↔◌, ℕ, zero, suc, ◌<◌, ◌≤◌, true, List, length, refl, ap, sym, subst, ◌∙◌, arith}
-use Rattle.std.proofs.lemmas.Bool.{cases_lt}
-use Rattle.std.proofs.lemmas.Nat.Bits.{bit_at-pow_other, bit_at-pow_same, bit_at-zero}
+use Rattle.std.proofs.lemmas.Bool.{cases_eq, cases_lt}
+use Rattle.std.proofs.lemmas.Nat.Bits.{bit_at-lt, bit_at-pow_other, bit_at-pow_same, bit_at-zero, same_from_bits}
 use Rattle.std.specs.Int.{bit_at}
 use Rattle.std.specs.Prelude.{◌==◌, if◌then◌else◌}
 use Rattle.layout.specs.Bytes.{zeros}
@@ -47,7 +47,7 @@ start_system b = (
 
 module _ (puts : PutsOneByOne) (s : Sizes) (are : AreSizes s) (d0 d1 d2 d3 d4 : Draft) (numbers top map : Inode) (first : ℕ)
     (has1 : HasFile s d0 d1 numbers) (on1 : OnEach d1 (λ e. IsNumbersOn e numbers)) (has0 : HasFile s d1 d2 top) (on0 : OnEach d2 (λ e. IsTopOn e first top))
-    (has2 : HasFile s d2 d3 map) (on2 : OnEach d3 (λ e. IsDraftMapOn e d3 map)) (grows2 : Grows d1 d2) (grows3 : Grows d2 d3) (grows4 : Grows d3 d4)
+    (has2 : HasFile s d2 d3 map) (on2 : OnEach d3 (λ e. IsDraftMapOn e d3 map)) (grows1 : Grows d0 d1) (grows2 : Grows d1 d2) (grows3 : Grows d2 d3) (grows4 : Grows d3 d4)
     (start : IsEmptyMap s.blocks d0.map) (stored : OnEach d4 (λ e. e first ≡ inodes_block numbers map))
     (long_numbers : length (inode_bytes numbers) ≡ 192) (long_map : length (inode_bytes map) ≡ 192) (long_directory : length (inode_bytes empty_directory) ≡ 192) where
   module _ (e : Blocks) (has : HasAll e d4.blocks.items) where
@@ -113,6 +113,29 @@ module _ (puts : PutsOneByOne) (s : Sizes) (are : AreSizes s) (d0 d1 d2 d3 d4 : 
       ]
     ]
 
+    given_out : (b : ℕ) → HasBit 0 (entry_at d3.map.parts.items b) → b < d4.map.next
+    given_out b has = elim ((has2.active b).0 has) [
+      | inr is ↦ omega (arith, (has2.given b is).to, grows4.next)
+      | inl before ↦ elim ((has0.active b).0 before) [
+        | inr is ↦ omega (arith, (has0.given b is).to, grows3.next, grows4.next)
+        | inl earlier ↦ elim ((has1.active b).0 earlier) [
+          | inr is ↦ omega (arith, (has1.given b is).to, grows2.next, grows3.next, grows4.next)
+          | inl was ↦ absurd (start_zero b was)
+        ]
+      ]
+    ]
+
+    no_bit : (b k : ℕ) → d4.map.next ≤ b → bit_at (entry_at d3.map.parts.items b) k ≡ 0
+    no_bit b zero past = elim (cases_eq (bit_at (entry_at d3.map.parts.items b) 0) 1) [
+      | inl has ↦ (let low = given_out b has in absurd (omega (arith, past, low)))
+      | inr not ↦ omega (arith, not, bit_at-lt (entry_at d3.map.parts.items b) 0)
+    ]
+    no_bit b (suc k) past =
+        others_are b (suc k) (λ is. absurd (omega (arith, is))) ∙ start_past b (suc k) (omega (arith, past, start.next, grows1.next, grows2.next, grows3.next, grows4.next))
+
+    pub entry_free : (b : ℕ) → d4.map.next ≤ b → entry (first_tree e top numbers map) b ≡ 0
+    entry_free b past = entry_is b ∙ same_from_bits (entry_at d3.map.parts.items b) 0 (λ k. no_bit b k past ∙ sym (bit_at-zero k))
+
     marked : (n b : ℕ) → Names (first_tree e top numbers map n) b → HasBit 0 (entry_at d3.map.parts.items b)
     marked zero b names = (has2.active b).1 (inl ((has0.active b).1 (inr ((in0.named b).0 names))))
     marked (suc zero) b names = (has2.active b).1 (inl ((has0.active b).1 (inl ((has1.active b).1 (inr ((in1.named b).0 names))))))
@@ -147,4 +170,4 @@ module _ (puts : PutsOneByOne) (s : Sizes) (are : AreSizes s) (d0 d1 d2 d3 d4 : 
     }
 
   pub all_planned : (e : Blocks) → HasAll e d4.blocks.items → HasTree s d4 top
-  all_planned some has_some = record { numbers = numbers; map = map; tree = first_tree_is; kind = (on0 some (at2 some has_some)).kind }
+  all_planned some has_some = record { numbers = numbers; map = map; tree = first_tree_is; free = entry_free; kind = (on0 some (at2 some has_some)).kind }

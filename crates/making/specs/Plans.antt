@@ -1,5 +1,5 @@
 -- The files of a new image, planned.
-use Rattle.std.specs.Prelude.{ℕ, ◌≡◌, ◌≢◌, ◌⊎◌, ◌↔◌, ◌/◌, ◌%◌, ◌<◌, length, Bool, true, ◌==◌, if◌then◌else◌}
+use Rattle.std.specs.Prelude.{ℕ, ◌≡◌, ◌≢◌, ◌⊎◌, ◌↔◌, ◌/◌, ◌%◌, ◌<◌, ◌≤◌, length, Bool, true, ◌==◌, if◌then◌else◌}
 use Rattle.std.specs.Int.{bit_at, div_ceil}
 use Rattle.layout.specs.Bytes.{zeros}
 use Rattle.layout.specs.Limits.{Sizes}
@@ -12,9 +12,9 @@ use Rattle.model.specs.declared.limits.TheConstants.{FIRST_NUMBER}
 use Rattle.blockmap.specs.Maps.{IsTouched, entry_at, settled_at}
 use Rattle.conspoint.specs.Drafts.{OnEach, WasTaken}
 use Rattle.conspoint.specs.declared.draft.Draft.{Draft}
-use Rattle.images.specs.BlockMap.{HasBit}
+use Rattle.images.specs.BlockMap.{HasBit, entry}
 use Rattle.images.specs.Contents.{content_bytes, content_of}
-use Rattle.images.specs.FirstRoots.{IsFirstTree}
+use Rattle.images.specs.FirstRoots.{IsFirstTree, first_tree}
 use Rattle.images.specs.Nodes.{held, Names, IsOnce, file_block}
 use Rattle.images.specs.Soundness.{HasNoHole, IsSoundFile}
 use Rattle.making.specs.Starts.{system_entry}
@@ -61,9 +61,10 @@ pub record IsPlacedOver (blocks : ℕ) (d : Draft) : Type 0 where
   pub settled : (b : ℕ) → settled_at d.map.parts.items b ≡ system_entry b
   pub touched : (j : ℕ) → j < length d.map.parts.items → IsTouched d.map.parts.items j
 
--- all files are planned
+-- all files are planned, and the map has no bit of a block that wasn't given out
 pub record HasTree (s : Sizes) (d : Draft) (top : Inode) : Type 0 where
   pub numbers : Inode
   pub map : Inode
   pub tree : OnEach d (λ e. IsFirstTree s e top numbers map)
+  pub free : OnEach d (λ e. (b : ℕ) → d.map.next ≤ b → entry (first_tree e top numbers map) b ≡ 0)
   pub kind : top.kind ≡ kinds.InodeFile

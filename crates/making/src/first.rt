@@ -1,6 +1,6 @@
 //! The first consistency point, planned.
 
-ghost use Rattle.std.specs.Prelude.{◌≡◌, ℕ, ◌*◌, ◌<◌, ◌≤◌, All, IfErr, IfOk, IsErrOf, [], length};
+ghost use Rattle.std.specs.Prelude.{◌≡◌, ℕ, ◌+◌, ◌*◌, ◌<◌, ◌≤◌, All, IfErr, IfOk, IsErrOf, OnOk, [], length};
 ghost use Rattle.std.specs.Int.{div_ceil};
 ghost use Rattle.layout.specs.Places.{Blocks};
 ghost use Rattle.layout.specs.Root.{IsRoot, root_bytes};
@@ -11,10 +11,10 @@ ghost use Rattle.conspoint.specs.Drafts.{Grows, HasAll, IsReserved, IsShortage, 
 ghost use Rattle.conspoint.specs.Groups.{pointer_at};
 ghost use Rattle.conspoint.specs.MapFiles.{map_nodes};
 ghost use Rattle.conspoint.specs.Plans.{FitsDisk};
-ghost use Rattle.conspoint.specs.Space.{Lacks};
+ghost use Rattle.conspoint.specs.Space.{Lacks, TakesAtMost};
 ghost use Rattle.images.specs.FirstRoots.{root_alone_volume};
 ghost use Rattle.images.specs.Roots.{whole};
-ghost use Rattle.images.specs.States.{Holds};
+ghost use Rattle.images.specs.States.{HasReserve, Holds};
 ghost use Rattle.making.specs.Space.{NUMBERS_STORES, TOP_STORES};
 ghost use Rattle.making.specs.Plans.{HasFile, HasTree, IsDraftMapOn, IsNumbersOn, IsPlacedOver, IsTopOn};
 ghost use Rattle.making.specs.Starts.{IsEmptyMap};
@@ -110,6 +110,8 @@ fn place_map(alloc: Global, draft: &mut Draft, geometry: Geometry) -> Result<Ino
     ensures others { (p : ℕ) → IsReserved draft.old p → IsReserved draft.new p }
     ensures file { IfOk result (HasFile geometry draft.old draft.new) }
     ensures map { IfOk result (λ f. OnEach draft.new (λ e. IsDraftMapOn e draft.new f)) }
+    ensures takes { OnOk result (TakesAtMost
+        (map_nodes (div_ceil geometry.blocks BLOCK_POINTERS)) draft.old draft.new) }
     ensures lacks { IsErrOf result PlanError.NoSpace
         → Lacks (map_nodes (div_ceil geometry.blocks BLOCK_POINTERS)) draft.old }
     ensures shortage { IfErr result IsShortage }
@@ -126,6 +128,8 @@ fn plan_files(alloc: Global, draft: &mut Draft, geometry: Geometry) -> Result<In
     requires map { IsEmptyMap geometry.blocks draft.old.map }
     ensures grows { Grows draft.old draft.new }
     ensures tree { IfOk result (HasTree geometry draft.new) }
+    ensures takes { OnOk result (TakesAtMost (NUMBERS_STORES + TOP_STORES
+        + map_nodes (div_ceil geometry.blocks BLOCK_POINTERS)) draft.old draft.new) }
     ensures room { IsErrOf result PlanError.NoSpace → ⊥ }
     ensures shortage { IfErr result IsShortage }
 {
@@ -155,6 +159,8 @@ pub fn plan_first(alloc: Global, geometry: Geometry) -> Result<FirstPoint, PlanE
     ensures geometry { IfOk result (λ p. p.root.geometry ≡ geometry) }
     ensures holds { IfOk result (λ p. (e : Blocks) → HasAll e p.plan.blocks
         → Holds p.root (whole e p.root) root_alone_volume []) }
+    ensures room { IfOk result (λ p. (e : Blocks) → HasAll e p.plan.blocks
+        → HasReserve p.root (whole e p.root) root_alone_volume []) }
     ensures memory { IfErr result (λ e. e ≡ PlanError.NoMemory) }
 {
     first_roots_hold();

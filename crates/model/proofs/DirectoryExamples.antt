@@ -3,7 +3,7 @@ use Rattle.std.proofs.Common.{ℕ, zero, suc, ◌+◌, List, [], ◌∷◌, ◌+
 use Rattle.std.specs.Prelude.{codes, ◌/◌, ◌%◌}
 use Rattle.model.specs.declared.errno.Errno.TheVariants.{ENOENT, EEXIST, ENOTEMPTY, NONUMBER}
 use Rattle.model.specs.declared.reply.Reply.TheVariants as reply
-use Rattle.model.specs.declared.reply.Kind.TheVariants as kind
+use Rattle.model.specs.declared.reply.FileType.TheVariants as kind
 use Rattle.model.specs.declared.command.Access.TheVariants as access
 use Rattle.model.specs.declared.command.Flags.{Flags}
 use Rattle.model.specs.Paths.{Name, Path}

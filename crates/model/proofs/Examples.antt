@@ -14,7 +14,7 @@ use Rattle.model.specs.declared.command.Whence.TheVariants as whence
 use Rattle.model.specs.declared.command.Access.TheVariants as access
 use Rattle.model.specs.declared.command.Flags.{Flags}
 use Rattle.model.specs.Paths.{Name, Path, path_eq}
-use Rattle.model.specs.Trees.{Tree, Object, number, Description, IsUsed, directory, symlink, file, root_alone}
+use Rattle.model.specs.Trees.{Tree, Object, number_of_object, Description, IsUsed, directory, symlink, file, root_alone}
 use Rattle.model.specs.Edits.{resized, written, read_at, with_object, with_directory, with_file, with_bytes, with_descriptor, without_object, moved}
 use Rattle.model.specs.Resolution.{resolve, named, refused}
 use Rattle.model.specs.Room.{Room, nothing, logs, removes_name, puts_bytes, changes_size}
@@ -155,7 +155,7 @@ opens_and_cuts : opens 32 small (codes "/f") (record plainly { truncates = true 
 opens_and_cuts = (refl, refl, refl)
 
 abbrev full : Room
-full = record { blocks = 64; free = 60; pledged = 0; is_covered = true }
+full = record { blocks = 64; free = 60; pledged = 0; is_covered = true; nameless_of = λ name. 0 }
 
 -- states
 no_snapshot : WouldStep full (empty 32) (command.Within (codes "t") (call.Mkdir (codes "/x") 0o755)) (reply.Refused NOSNAP) (empty 32) nothing
@@ -240,7 +240,7 @@ unlink_open = (
 )
 
 used_number : (n : ℕ) → IsUsed nameless n → (n ≡ 3) ⊎ (n ≡ 4)
-used_number n (inl (p, o, is, same)) = inl (sym same ∙ ap number (only_root p o is))
+used_number n (inl (p, o, is, same)) = inl (sym same ∙ ap number_of_object (only_root p o is))
 used_number n (inr (d, g, is, same)) = inr (sym same ∙ open_is d g is)
 
 -- its number isn't given again while it is open
@@ -253,7 +253,7 @@ next_number = record {
 }
 
 closed_used : (n : ℕ) → IsUsed (with_descriptor 0 None nameless) n → n ≡ 3
-closed_used n (inl (p, o, is, same)) = sym same ∙ ap number (only_root p o is)
+closed_used n (inl (p, o, is, same)) = sym same ∙ ap number_of_object (only_root p o is)
 closed_used n (inr (d, g, is, same)) =
     cond_both (d == 0) None _ (λ (r : Option Description). r ≡ Some g → n ≡ 3) (λ e is. cc) (λ e. cond_both (d == 0) (Some (record (opened 0) { number = 4 })) None (λ (r : Option Description). r ≡ Some g → n ≡ 3) (λ f is. absurd (false≢true (sym e ∙ f))) (λ f is. cc)) is
 

@@ -3,7 +3,7 @@ use Rattle.std.proofs.Common.{◌≡◌, ℕ, ◌+◌, List, [], ◌∷◌, ◌+
 use Rattle.std.specs.Prelude.{codes, pos}
 use Rattle.model.specs.declared.errno.Errno.TheVariants.{EFBIG}
 use Rattle.model.specs.declared.reply.Reply.TheVariants as reply
-use Rattle.model.specs.declared.reply.Kind.TheVariants as kind
+use Rattle.model.specs.declared.reply.FileType.TheVariants as kind
 use Rattle.model.specs.declared.command.Command.TheVariants as command
 use Rattle.model.specs.declared.command.PathCall.TheVariants as call
 use Rattle.model.specs.Paths.{Path}
@@ -80,7 +80,7 @@ past_the_greatest_file = (refl, refl, refl)
 -- room on a disk of 64 blocks: a file of 65,536 bytes, and a directory that finds none until the file is gone
 
 abbrev room_of : ℕ → ℕ → Room
-room_of free pledged = record { blocks = 64; free = free; pledged = pledged; is_covered = true }
+room_of free pledged = record { blocks = 64; free = free; pledged = pledged; is_covered = true; nameless_of = λ name. 0 }
 
 first_test_is_short : IsShort (room_of 60 24) (logs (puts_bytes 0 0 65536))
 first_test_is_short = (refl, lit≤ tt)

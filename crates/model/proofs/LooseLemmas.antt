@@ -4,7 +4,7 @@ use Rattle.std.proofs.lemmas.Bool.{cases_Bool, cases_eq, cases_lt, cond_both, co
 use Rattle.model.specs.declared.limits.TheConstants.{ROOT_NUMBER, FIRST_NUMBER, MODE_BITS, GREATEST_FILE, GREATEST_OFFSET, OPEN_FILES, FILE_NAMES, DIRECTORY_NAMES}
 use Rattle.model.specs.Counting.{Counts, CountsUpTo}
 use Rattle.model.specs.Paths.{Path, IsName, IsLinkText}
-use Rattle.model.specs.Trees.{Tree, Object, directory, symlink, file, number, is_directory, Description, StandsAtPath, IsOpen, IsUsed, IsTree}
+use Rattle.model.specs.Trees.{Tree, Object, directory, symlink, file, number_of_object, is_directory, Description, StandsAtPath, IsOpen, IsUsed, IsTree}
 use Rattle.model.specs.Edits.{with_mode, with_bytes, with_descriptor, IsSwept}
 use Rattle.model.specs.Volumes.{is_open}
 use Rattle.model.proofs.SweepLemmas.{found_open, opened_by}
@@ -16,12 +16,12 @@ pub record IsLooseTree (inodes : ℕ) (t : Tree) : Type 0 where
   pub root : t.objects [] ≡ Some (directory ROOT_NUMBER)
   pub above : (p q : Path) → q ≢ [] → IsSome (t.objects (p ++ q)) → is_directory (t.objects p) ≡ true
   pub names : (p : Path) → IsSome (t.objects p) → All IsName p
-  pub single : (p q : Path) (o r : Object) → t.objects p ≡ Some o → t.objects q ≡ Some r → number o ≡ number r → (p ≡ q) ⊎ ((o ≡ file (number o)) × (r ≡ o))
+  pub single : (p q : Path) (o r : Object) → t.objects p ≡ Some o → t.objects q ≡ Some r → number_of_object o ≡ number_of_object r → (p ≡ q) ⊎ ((o ≡ file (number_of_object o)) × (r ≡ o))
   pub bytes : (n : ℕ) → (StandsAtPath t file n ⊎ IsOpen t n) → IsSome (t.bytes n)
   pub mode : (n : ℕ) → (StandsAtPath t directory n ⊎ StandsAtPath t file n ⊎ IsOpen t n) → IsSome (t.mode n)
   pub loose_bytes : (n : ℕ) → IsSome (t.bytes n) → (StandsAtPath t file n ⊎ IsOpen t n) ⊎ (¬ IsUsed t n)
   pub loose_mode : (n : ℕ) → IsSome (t.mode n) → (StandsAtPath t directory n ⊎ StandsAtPath t file n ⊎ IsOpen t n) ⊎ (¬ IsUsed t n)
-  pub opened : (n : ℕ) (p : Path) (o : Object) → IsOpen t n → t.objects p ≡ Some o → number o ≡ n → o ≡ file n
+  pub opened : (n : ℕ) (p : Path) (o : Object) → IsOpen t n → t.objects p ≡ Some o → number_of_object o ≡ n → o ≡ file n
   pub numbers : (n : ℕ) → IsUsed t n → (n ≡ ROOT_NUMBER) ⊎ ((FIRST_NUMBER ≤ n) × (n < inodes))
   pub texts : (p : Path) (n : ℕ) (text : List ℕ) → t.objects p ≡ Some (symlink n text) → IsLinkText text
   pub children : (p : Path) → is_directory (t.objects p) ≡ true → CountsUpTo DIRECTORY_NAMES (λ name. IsSome (t.objects (p ++ name ∷ [])))
@@ -131,7 +131,7 @@ find_file : (t : Tree) (n count : ℕ) → Counts (λ p. t.objects p ≡ Some (f
 find_file t n zero none = inr none
 find_file t n (suc count) (p, is, rest) = inl (p, is)
 
-pub decided : (t : Tree) (n : ℕ) → CountsUpTo FILE_NAMES (λ p. t.objects p ≡ Some (file n)) → ((d : ℕ) → OPEN_FILES ≤ d → t.descriptors d ≡ None) → ((p : Path) (o : Object) → t.objects p ≡ Some o → number o ≡ n → o ≡ file n) → (StandsAtPath t file n ⊎ IsOpen t n) ⊎ (¬ IsUsed t n)
+pub decided : (t : Tree) (n : ℕ) → CountsUpTo FILE_NAMES (λ p. t.objects p ≡ Some (file n)) → ((d : ℕ) → OPEN_FILES ≤ d → t.descriptors d ≡ None) → ((p : Path) (o : Object) → t.objects p ≡ Some o → number_of_object o ≡ n → o ≡ file n) → (StandsAtPath t file n ⊎ IsOpen t n) ⊎ (¬ IsUsed t n)
 decided t n counts past files =
     elim (find_file t n counts.0 counts.1) [
       | inl stands ↦ inl (inl stands)
@@ -145,7 +145,7 @@ decided t n counts past files =
     ]
 
 -- of a file or an open file, all that has its number is that file
-pub all_files : (inodes : ℕ) (t : Tree) → IsLooseTree inodes t → (n : ℕ) → StandsAtPath t file n ⊎ IsOpen t n → (p : Path) (o : Object) → t.objects p ≡ Some o → number o ≡ n → o ≡ file n
+pub all_files : (inodes : ℕ) (t : Tree) → IsLooseTree inodes t → (n : ℕ) → StandsAtPath t file n ⊎ IsOpen t n → (p : Path) (o : Object) → t.objects p ≡ Some o → number_of_object o ≡ n → o ≡ file n
 all_files inodes t loose n (inl (q, is)) p o at_p same =
     elim (loose.single q p (file n) o is at_p (sym same)) [
       | inl one ↦ some_same (sym at_p ∙ ap t.objects (sym one) ∙ is)

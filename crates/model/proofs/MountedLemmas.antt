@@ -6,7 +6,7 @@ use Rattle.std.proofs.lemmas.List.Elements.{All-nil, All-push}
 use Rattle.model.specs.declared.limits.TheConstants.{ROOT_NUMBER, FILE_NAMES, DIRECTORY_NAMES, GREATEST_FILE, MODE_BITS}
 use Rattle.model.specs.Counting.{CountsUpTo}
 use Rattle.model.specs.Paths.{Name, Path, IsName, IsLinkText}
-use Rattle.model.specs.Trees.{Tree, Object, directory, symlink, file, number, is_directory, Description, StandsAtPath, IsOpen, IsUsed, IsTree}
+use Rattle.model.specs.Trees.{Tree, Object, directory, symlink, file, number_of_object, is_directory, Description, StandsAtPath, IsOpen, IsUsed, IsTree}
 use Rattle.model.specs.Volumes.{Node, directory_node, file_node, link_node, Volume, Entries, entries, enter, number_at, object_of, object_at, bytes_of_node, mode_of, tree_of, is_file_node, is_directory_node, IsNode, IsVolume, IsMounted}
 use Rattle.model.proofs.CountLemmas.{same_count}
 use Rattle.model.proofs.WalkLemmas.{number_at-push}
@@ -103,8 +103,8 @@ module _ (inodes : ℕ) (v : Volume) (volume : IsVolume inodes v) (table : ℕ �
   t = tree_of v table
 
   -- what stands at a path, by its number
-  at_path : (p : Path) (o : Object) → t.objects p ≡ Some o → number_at (entries v) p ≡ Some (number o)
-  at_path p o is = found_number v (number_at (entries v) p) o (number o) is refl
+  at_path : (p : Path) (o : Object) → t.objects p ≡ Some o → number_at (entries v) p ≡ Some (number_of_object o)
+  at_path p o is = found_number v (number_at (entries v) p) o (number_of_object o) is refl
 
   object_is : (p : Path) (n : ℕ) → number_at (entries v) p ≡ Some n → t.objects p ≡ object_of n (v n)
   object_is p n at_p = ap (object_at v) at_p
@@ -141,9 +141,9 @@ module _ (inodes : ℕ) (v : Volume) (volume : IsVolume inodes v) (table : ℕ �
   names_are : (p : Path) → IsSome (t.objects p) → All IsName p
   names_are p some = let n = numbered (number_at (entries v) p) some in names_upto (length p) p n.0 (omega arith) n.1
 
-  single_is : (p q : Path) (o r : Object) → t.objects p ≡ Some o → t.objects q ≡ Some r → number o ≡ number r → (p ≡ q) ⊎ ((o ≡ file (number o)) × (r ≡ o))
+  single_is : (p q : Path) (o r : Object) → t.objects p ≡ Some o → t.objects q ≡ Some r → number_of_object o ≡ number_of_object r → (p ≡ q) ⊎ ((o ≡ file (number_of_object o)) × (r ≡ o))
   single_is p q o r at_p at_q same =
-      let n : ℕ = number o in
+      let n : ℕ = number_of_object o in
       let p_is : number_at (entries v) p ≡ Some n = at_path p o at_p in
       let q_is : number_at (entries v) q ≡ Some n = at_path q r at_q ∙ ap (λ m. Some m) (sym same) in
       elim (cases_Bool (is_file_node (v n))) [
@@ -184,7 +184,7 @@ module _ (inodes : ℕ) (v : Volume) (volume : IsVolume inodes v) (table : ℕ �
     ],
   )
 
-  opened_is : (n : ℕ) (p : Path) (o : Object) → IsOpen t n → t.objects p ≡ Some o → number o ≡ n → o ≡ file n
+  opened_is : (n : ℕ) (p : Path) (o : Object) → IsOpen t n → t.objects p ≡ Some o → number_of_object o ≡ n → o ≡ file n
   opened_is n p o open_file at_p same =
       some_same (sym at_p ∙ object_is p n (at_path p o at_p ∙ ap (λ m. Some m) same) ∙ node_file n (v n) (used_file n (inr open_file)))
 

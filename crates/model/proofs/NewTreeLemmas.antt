@@ -1,10 +1,10 @@
 -- The tree of a new file system, and a tree with no snapshots beside it.
-use Rattle.std.proofs.Common.{◌≡◌, inl, inr, ℕ, ◌==◌, ◌≤◌, List, [], ◌∷◌, ◌++◌, false, arith, Some, None, IsSome, is_some, IfSome, All, refl, sym, ap, subst, ◌∙◌, lit≤}
+use Rattle.std.proofs.Common.{◌≡◌, inl, inr, ℕ, ◌==◌, ◌≤◌, List, [], ◌∷◌, ◌++◌, arith, Some, None, IsSome, is_some, IfSome, All, refl, sym, ap, subst, ◌∙◌, lit≤}
 use Rattle.std.proofs.lemmas.Bool.{cases_Bool, cond_both, cond-true, cond-false, false≢true, eq-eqb, eqb-true}
 use Rattle.std.proofs.lemmas.List.Elements.{All-nil}
 use Rattle.model.specs.declared.limits.TheConstants.{MODE_BITS}
 use Rattle.model.specs.Paths.{Name, Path, IsName, path_eq}
-use Rattle.model.specs.Trees.{Tree, Object, directory, symlink, file, number, IsTree, root_alone}
+use Rattle.model.specs.Trees.{Tree, Object, directory, symlink, file, number_of_object, IsTree, root_alone}
 use Rattle.model.specs.States.{Mark, IsState, IsFrozen, IsShortName}
 use Rattle.model.proofs.WalkLemmas.{same_path}
 use Rattle.model.proofs.OptionLaws.{none_some, some_same}
@@ -49,12 +49,12 @@ root_is_tree inodes = record {
       | inr e ↦ absurd (false≢true (sym (ap is_some (cond-false (n == 3) (Some 0o755) None e)) ∙ some))
     ],
     λ stands. elim stands [
-      | inl there ↦ ap is_some (cond-true (n == 3) (Some 0o755) None (eq-eqb n 3 (ap number (root_at 0o755 there.0 (directory n) there.1).1)))
+      | inl there ↦ ap is_some (cond-true (n == 3) (Some 0o755) None (eq-eqb n 3 (ap number_of_object (root_at 0o755 there.0 (directory n) there.1).1)))
       | inr others ↦ elim others [ inl there ↦ directory_file (sym (root_at 0o755 there.0 (file n) there.1).1) | inr open_file ↦ none_some open_file.2 ]
     ],
   );
   opened = λ n p o open_file at_p same. none_some open_file.2;
-  numbers = λ n used. elim used [ inl there ↦ inl (sym there.3 ∙ ap number (root_at 0o755 there.0 there.1 there.2).1) | inr open_file ↦ none_some open_file.2 ];
+  numbers = λ n used. elim used [ inl there ↦ inl (sym there.3 ∙ ap number_of_object (root_at 0o755 there.0 there.1 there.2).1) | inr open_file ↦ none_some open_file.2 ];
   texts = λ p n text is. directory_symlink (sym (root_at 0o755 p (symlink n text) is).1);
   children = λ p is. (0, (λ name some. last_some name [] (append_empty p (name ∷ []) (root_some 0o755 (p ++ name ∷ []) some))), lit≤ tt);
   links = λ n. (0, (λ p is. directory_file (sym (root_at 0o755 p (file n) is).1)), lit≤ tt);

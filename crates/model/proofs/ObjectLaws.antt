@@ -1,7 +1,7 @@
 -- Objects, and the nodes that stand for them.
 use Rattle.std.proofs.Common.{◌≡◌, ◌≢◌, ℕ, ◌==◌, true, Option, Some, None, IsSome, refl, sym, ap}
 use Rattle.std.proofs.lemmas.Bool.{cond-true, cond-false, eq-eqb, false≢true, ne_eqb}
-use Rattle.model.specs.Trees.{Object, directory, file, number, is_directory}
+use Rattle.model.specs.Trees.{Object, directory, file, number_of_object, is_directory}
 use Rattle.model.specs.Volumes.{Node, directory_node, file_node, link_node, Volume, with_node, object_of, is_directory_node}
 use Rattle.model.proofs.OptionLaws.{none_some, some_same}
 
@@ -9,11 +9,11 @@ use Rattle.model.proofs.OptionLaws.{none_some, some_same}
 pub directory_file : {Y : Type 0} {m n : ℕ} → directory m ≡ file n → Y
 directory_file e = cc
 
-pub object_number : (n : ℕ) (o : Option Node) (x : Object) → object_of n o ≡ Some x → number x ≡ n
+pub object_number : (n : ℕ) (o : Option Node) (x : Object) → object_of n o ≡ Some x → number_of_object x ≡ n
 object_number n None x is = none_some is
-object_number n (Some (directory_node mode names)) x is = ap number (sym (some_same is))
-object_number n (Some (file_node mode links bytes)) x is = ap number (sym (some_same is))
-object_number n (Some (link_node text)) x is = ap number (sym (some_same is))
+object_number n (Some (directory_node mode names)) x is = ap number_of_object (sym (some_same is))
+object_number n (Some (file_node mode links bytes)) x is = ap number_of_object (sym (some_same is))
+object_number n (Some (link_node text)) x is = ap number_of_object (sym (some_same is))
 
 pub directory_of : (n : ℕ) (o : Option Node) → is_directory (object_of n o) ≡ is_directory_node o
 directory_of n None = refl

@@ -7,7 +7,7 @@ use Rattle.std.proofs.lemmas.List.Elements.{All-push}
 use Rattle.model.specs.declared.limits.TheConstants.{ROOT_NUMBER, FIRST_NUMBER, MODE_BITS, GREATEST_FILE, FILE_NAMES, DIRECTORY_NAMES}
 use Rattle.model.specs.Counting.{Counts, CountsUpTo}
 use Rattle.model.specs.Paths.{Name, Path, IsName, IsLinkText, path_eq}
-use Rattle.model.specs.Trees.{Tree, Object, directory, symlink, file, number, is_directory, StandsAtPath, IsOpen, IsUsed, IsTree}
+use Rattle.model.specs.Trees.{Tree, Object, directory, symlink, file, number_of_object, is_directory, StandsAtPath, IsOpen, IsUsed, IsTree}
 use Rattle.model.specs.Edits.{put_at, with_mode, with_bytes}
 use Rattle.model.specs.Outcomes.{IsListing}
 use Rattle.model.proofs.CountLemmas.{same_count, one_more}
@@ -46,21 +46,21 @@ below_leaf inodes t tree p leaf x (y ∷ rest) some =
 pub file_or_not : (r : Object) (n : ℕ) → (r ≡ file n) ⊎ (r ≢ file n)
 file_or_not (directory k) n = inr (λ e. cc)
 file_or_not (symlink k text) n = inr (λ e. cc)
-file_or_not (file k) n = elim (cases_eq k n) [ inl e ↦ inl (ap file e) | inr e ↦ inr (λ f. e (ap number f)) ]
+file_or_not (file k) n = elim (cases_eq k n) [ inl e ↦ inl (ap file e) | inr e ↦ inr (λ f. e (ap number_of_object f)) ]
 
 -- an object with its bytes and its mode fits a tree
 pub record Joins (inodes : ℕ) (t : Tree) (o : Object) (bytes : ℕ → Option (List ℕ)) (mode : ℕ → Option ℕ) : Type 0 where
-  pub free : (q : Path) (r : Object) → t.objects q ≡ Some r → number r ≡ number o → (r ≡ o) × (o ≡ file (number o))
-  pub opened : IsOpen t (number o) → o ≡ file (number o)
-  pub numbers : (number o ≡ ROOT_NUMBER) ⊎ ((FIRST_NUMBER ≤ number o) × (number o < inodes))
+  pub free : (q : Path) (r : Object) → t.objects q ≡ Some r → number_of_object r ≡ number_of_object o → (r ≡ o) × (o ≡ file (number_of_object o))
+  pub opened : IsOpen t (number_of_object o) → o ≡ file (number_of_object o)
+  pub numbers : (number_of_object o ≡ ROOT_NUMBER) ⊎ ((FIRST_NUMBER ≤ number_of_object o) × (number_of_object o < inodes))
   pub text : (n : ℕ) (text : List ℕ) → o ≡ symlink n text → IsLinkText text
   pub links : (n : ℕ) → o ≡ file n → (count : ℕ) × Counts (λ p. t.objects p ≡ Some (file n)) count × (count < FILE_NAMES)
-  pub other_bytes : (n : ℕ) → n ≢ number o → bytes n ≡ t.bytes n
-  pub other_mode : (n : ℕ) → n ≢ number o → mode n ≡ t.mode n
-  pub has_bytes : o ≡ file (number o) → IsSome (bytes (number o))
-  pub of_bytes : IsSome (bytes (number o)) → o ≡ file (number o)
-  pub has_mode : (o ≡ directory (number o)) ⊎ (o ≡ file (number o)) → IsSome (mode (number o))
-  pub of_mode : IsSome (mode (number o)) → (o ≡ directory (number o)) ⊎ (o ≡ file (number o))
+  pub other_bytes : (n : ℕ) → n ≢ number_of_object o → bytes n ≡ t.bytes n
+  pub other_mode : (n : ℕ) → n ≢ number_of_object o → mode n ≡ t.mode n
+  pub has_bytes : o ≡ file (number_of_object o) → IsSome (bytes (number_of_object o))
+  pub of_bytes : IsSome (bytes (number_of_object o)) → o ≡ file (number_of_object o)
+  pub has_mode : (o ≡ directory (number_of_object o)) ⊎ (o ≡ file (number_of_object o)) → IsSome (mode (number_of_object o))
+  pub of_mode : IsSome (mode (number_of_object o)) → (o ≡ directory (number_of_object o)) ⊎ (o ≡ file (number_of_object o))
   pub sizes : (n : ℕ) → IfSome (bytes n) (λ given. length given ≤ GREATEST_FILE)
   pub bits : (n : ℕ) → IfSome (mode n) (λ given. given ≤ MODE_BITS)
 
@@ -104,7 +104,7 @@ module _ (inodes : ℕ) (t : Tree) (tree : IsTree inodes t) (n : ℕ) (low : FIR
     opened = λ open_file. refl;
     numbers = inr (low, high);
     text = λ k text e. cc;
-    links = λ k e. (0, (λ p is. free (inl (p, file k, is, ap number (sym e)))), lit≤ tt);
+    links = λ k e. (0, (λ p is. free (inl (p, file k, is, ap number_of_object (sym e)))), lit≤ tt);
     other_bytes = λ k apart. set_other k [] t.bytes apart;
     other_mode = λ k apart. set_other k mode t.mode apart;
     has_bytes = λ e. ap is_some (set_here {X = List ℕ} [] t.bytes);
@@ -206,19 +206,19 @@ module _ (inodes : ℕ) (old : Tree) (tree : IsTree inodes old) (path : Path) (n
         | inr e ↦ tree.names p (sym (ap is_some (put-other place p (Some o) old.objects e)) ∙ some)
       ]
 
-  single_new : (p q : Path) (r s : Object) → new.objects p ≡ Some r → new.objects q ≡ Some s → number r ≡ number s → (p ≡ q) ⊎ ((r ≡ file (number r)) × (s ≡ r))
+  single_new : (p q : Path) (r s : Object) → new.objects p ≡ Some r → new.objects q ≡ Some s → number_of_object r ≡ number_of_object s → (p ≡ q) ⊎ ((r ≡ file (number_of_object r)) × (s ≡ r))
   single_new p q r s at_p at_q same =
       elim (found_in p r at_p) [
         | inl one ↦ elim (found_in q s at_q) [
           | inl other ↦ inl (one.0 ∙ sym other.0)
           | inr other ↦
-              let both = joins.free q s other (sym same ∙ ap number one.1) in
-              inr (one.1 ∙ both.1 ∙ ap (λ x. file (number x)) (sym one.1), both.0 ∙ sym one.1)
+              let both = joins.free q s other (sym same ∙ ap number_of_object one.1) in
+              inr (one.1 ∙ both.1 ∙ ap (λ x. file (number_of_object x)) (sym one.1), both.0 ∙ sym one.1)
         ]
         | inr one ↦ elim (found_in q s at_q) [
           | inl other ↦
-              let both = joins.free p r one (same ∙ ap number other.1) in
-              inr (both.0 ∙ both.1 ∙ ap (λ x. file (number x)) (sym both.0), other.1 ∙ sym both.0)
+              let both = joins.free p r one (same ∙ ap number_of_object other.1) in
+              inr (both.0 ∙ both.1 ∙ ap (λ x. file (number_of_object x)) (sym both.0), other.1 ∙ sym both.0)
           | inr other ↦ tree.single p q r s one other same
         ]
       ]
@@ -227,13 +227,13 @@ module _ (inodes : ℕ) (old : Tree) (tree : IsTree inodes old) (path : Path) (n
   stands_on kind n there = (there.0, stays there.0 (kind n) there.1)
 
   -- a file or an open file of the object's number is the object
-  is_file : StandsAtPath new file (number o) ⊎ IsOpen new (number o) → o ≡ file (number o)
-  is_file (inl (p, is)) = elim (found_in p (file (number o)) is) [ inl one ↦ sym one.1 | inr one ↦ (joins.free p (file (number o)) one refl).1 ]
+  is_file : StandsAtPath new file (number_of_object o) ⊎ IsOpen new (number_of_object o) → o ≡ file (number_of_object o)
+  is_file (inl (p, is)) = elim (found_in p (file (number_of_object o)) is) [ inl one ↦ sym one.1 | inr one ↦ (joins.free p (file (number_of_object o)) one refl).1 ]
   is_file (inr open_file) = joins.opened open_file
 
   bytes_new : (n : ℕ) → IsSome (bytes n) ↔ (StandsAtPath new file n ⊎ IsOpen new n)
   bytes_new n =
-      elim (cases_eq n (number o)) [
+      elim (cases_eq n (number_of_object o)) [
         | inl is ↦ subst (λ k. IsSome (bytes k) ↔ (StandsAtPath new file k ⊎ IsOpen new k)) (sym is) (
           λ some. inl (place, here ∙ ap (λ x. Some x) (joins.of_bytes some)),
           λ there. joins.has_bytes (is_file there),
@@ -244,19 +244,19 @@ module _ (inodes : ℕ) (old : Tree) (tree : IsTree inodes old) (path : Path) (n
         )
       ]
     where
-      file_stood : (n : ℕ) → n ≢ number o → StandsAtPath new file n → StandsAtPath old file n
-      file_stood n other (p, is) = elim (found_in p (file n) is) [ inl one ↦ absurd (other (ap number one.1)) | inr one ↦ (p, one) ]
+      file_stood : (n : ℕ) → n ≢ number_of_object o → StandsAtPath new file n → StandsAtPath old file n
+      file_stood n other (p, is) = elim (found_in p (file n) is) [ inl one ↦ absurd (other (ap number_of_object one.1)) | inr one ↦ (p, one) ]
 
   mode_new : (n : ℕ) → IsSome (mode n) ↔ (StandsAtPath new directory n ⊎ StandsAtPath new file n ⊎ IsOpen new n)
   mode_new n =
-      elim (cases_eq n (number o)) [
+      elim (cases_eq n (number_of_object o)) [
         | inl is ↦ subst (λ k. IsSome (mode k) ↔ (StandsAtPath new directory k ⊎ StandsAtPath new file k ⊎ IsOpen new k)) (sym is) (
           λ some. elim (joins.of_mode some) [
             | inl kind ↦ inl (place, here ∙ ap (λ x. Some x) kind)
             | inr kind ↦ inr (inl (place, here ∙ ap (λ x. Some x) kind))
           ],
           λ there. joins.has_mode (elim there [
-            | inl one ↦ elim (found_in one.0 (directory (number o)) one.1) [ inl at_place ↦ inl (sym at_place.1) | inr before ↦ inr (joins.free one.0 (directory (number o)) before refl).1 ]
+            | inl one ↦ elim (found_in one.0 (directory (number_of_object o)) one.1) [ inl at_place ↦ inl (sym at_place.1) | inr before ↦ inr (joins.free one.0 (directory (number_of_object o)) before refl).1 ]
             | inr others ↦ inr (is_file others)
           ]),
         )
@@ -272,14 +272,14 @@ module _ (inodes : ℕ) (old : Tree) (tree : IsTree inodes old) (path : Path) (n
         )
       ]
     where
-      stood : (kind : ℕ → Object) (n : ℕ) → number o ≢ number (kind n) → StandsAtPath new kind n → StandsAtPath old kind n
-      stood kind n other (p, is) = elim (found_in p (kind n) is) [ inl one ↦ absurd (other (ap number (sym one.1))) | inr one ↦ (p, one) ]
+      stood : (kind : ℕ → Object) (n : ℕ) → number_of_object o ≢ number_of_object (kind n) → StandsAtPath new kind n → StandsAtPath old kind n
+      stood kind n other (p, is) = elim (found_in p (kind n) is) [ inl one ↦ absurd (other (ap number_of_object (sym one.1))) | inr one ↦ (p, one) ]
 
-  opened_new : (n : ℕ) (p : Path) (r : Object) → IsOpen new n → new.objects p ≡ Some r → number r ≡ n → r ≡ file n
+  opened_new : (n : ℕ) (p : Path) (r : Object) → IsOpen new n → new.objects p ≡ Some r → number_of_object r ≡ n → r ≡ file n
   opened_new n p r open_file at_p same =
       elim (found_in p r at_p) [
         | inl one ↦
-            let is : number o ≡ n = sym (ap number one.1) ∙ same in
+            let is : number_of_object o ≡ n = sym (ap number_of_object one.1) ∙ same in
             one.1 ∙ joins.opened (subst (IsOpen old) (sym is) open_file) ∙ ap file is
         | inr one ↦ tree.opened n p r open_file one same
       ]
@@ -287,7 +287,7 @@ module _ (inodes : ℕ) (old : Tree) (tree : IsTree inodes old) (path : Path) (n
   numbers_new : (n : ℕ) → IsUsed new n → (n ≡ ROOT_NUMBER) ⊎ ((FIRST_NUMBER ≤ n) × (n < inodes))
   numbers_new n (inl there) =
       elim (found_in there.0 there.1 there.2) [
-        | inl one ↦ subst (λ k. (k ≡ ROOT_NUMBER) ⊎ ((FIRST_NUMBER ≤ k) × (k < inodes))) (sym (ap number one.1) ∙ there.3) joins.numbers
+        | inl one ↦ subst (λ k. (k ≡ ROOT_NUMBER) ⊎ ((FIRST_NUMBER ≤ k) × (k < inodes))) (sym (ap number_of_object one.1) ∙ there.3) joins.numbers
         | inr one ↦ tree.numbers n (inl (there.0, there.1, one, there.3))
       ]
   numbers_new n (inr open_file) = tree.numbers n (inr open_file)

@@ -5,7 +5,7 @@ use Rattle.std.proofs.Math.Path.{fun_ext}
 use Rattle.std.proofs.lemmas.Bool.{cases_eq, cases_lt, cond_both, eqb-true, false≢true}
 use Rattle.model.specs.Paths.{Name, Path}
 use Rattle.model.specs.Trees as trees
-use Rattle.model.specs.Trees.{Tree, number, Description}
+use Rattle.model.specs.Trees.{Tree, Description}
 use Rattle.model.specs.Edits.{contents, resized, written, put_at, without_object}
 use Rattle.model.specs.Volumes.{Node, directory_node, file_node, link_node, Volume, names_in, entries, number_at, object_of, object_at, bytes_of_node, mode_of, tree_of, with_node, set_name, with_entry, is_file_node, is_directory_node, is_nameless, IsGraph, IsVolume, with_name_more, released, created, linked, unnamed, is_open, swept_node, swept, IsMounted}
 use Rattle.model.specs.Records.{Made, file, directory, symbolic_link, Change, create, link, unname, rename, write, cut, change_mode, node_of, with_file_bytes, with_node_mode, applied, CanCreate, CanLink, Applies}

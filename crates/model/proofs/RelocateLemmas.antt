@@ -8,7 +8,7 @@ use Rattle.std.proofs.lemmas.List.Elements.{All-push, All-append, All-from_recur
 use Rattle.model.specs.declared.limits.TheConstants.{FILE_NAMES, DIRECTORY_NAMES}
 use Rattle.model.specs.Counting.{Counts, CountsUpTo}
 use Rattle.model.specs.Paths.{Name, Path, IsName, behind}
-use Rattle.model.specs.Trees.{Tree, Object, directory, symlink, file, number, is_directory, StandsAtPath, IsOpen, IsUsed}
+use Rattle.model.specs.Trees.{Tree, Object, directory, symlink, file, number_of_object, is_directory, StandsAtPath, IsOpen, IsUsed}
 use Rattle.model.specs.Edits.{put_at, relocate, relocated, moved, without_object}
 use Rattle.model.proofs.CountLemmas.{same_count, count_along, one_more, one_less}
 use Rattle.model.proofs.ListingLemmas.{names_apart}
@@ -177,7 +177,7 @@ module _ (inodes : ℕ) (t : Tree) (tree : IsLooseTree inodes t) (u w : Path) (a
       by None (Some s) at_e at_f = absent (new.objects r) (is-left r s at_e at_f) some
       by None None at_e at_f = tree.names r (ap is_some (sym (is-outside r at_e at_f)) ∙ some)
 
-  single_new : (r s : Path) (x y : Object) → new.objects r ≡ Some x → new.objects s ≡ Some y → number x ≡ number y → (r ≡ s) ⊎ ((x ≡ file (number x)) × (y ≡ x))
+  single_new : (r s : Path) (x y : Object) → new.objects r ≡ Some x → new.objects s ≡ Some y → number_of_object x ≡ number_of_object y → (r ≡ s) ⊎ ((x ≡ file (number_of_object x)) × (y ≡ x))
   single_new r s x y at_r at_s same =
       let one = came r x at_r in
       let other = came s y at_s in

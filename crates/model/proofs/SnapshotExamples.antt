@@ -3,7 +3,7 @@ use Rattle.std.proofs.Common.{ℕ, zero, suc, ◌+◌, List, [], ◌∷◌, ◌+
 use Rattle.std.specs.Prelude.{codes, pos, ◌/◌, ◌%◌, nat_lt, if◌then◌else◌}
 use Rattle.model.specs.declared.errno.Errno.TheVariants.{EROFS, NOSNAP, SNAPEXISTS, SNAPFULL}
 use Rattle.model.specs.declared.reply.Reply.TheVariants as reply
-use Rattle.model.specs.declared.reply.Kind.TheVariants as kind
+use Rattle.model.specs.declared.reply.FileType.TheVariants as kind
 use Rattle.model.specs.declared.command.Command.TheVariants as command
 use Rattle.model.specs.declared.command.PathCall.TheVariants as call
 use Rattle.model.specs.Paths.{Name, Path}
@@ -15,7 +15,7 @@ use Rattle.model.specs.Steps.{WouldStep}
 use Rattle.model.proofs.ToldLemmas.{Told, told_root, told_object, told_bytes, told_directory, told_file, told_dropped, dropped, listing_told, swept_told, links_told, forgets_told}
 
 abbrev room : Room
-room = record { blocks = 64; free = 60; pledged = 0; is_covered = true }
+room = record { blocks = 64; free = 60; pledged = 0; is_covered = true; nameless_of = λ name. 0 }
 
 abbrev at_a : Path
 at_a = codes "a" ∷ []

@@ -3,7 +3,7 @@ use Rattle.std.proofs.Common.{◌≡◌, ◌≢◌, inl, inr, ℕ, zero, suc, �
 use Rattle.std.proofs.Math.Path.{fun_ext}
 use Rattle.std.proofs.lemmas.Bool.{cases_Bool, cases_eq, cases_lt, or_left, or_right, eq-eqb, eqb-true, false≢true, cond-false}
 use Rattle.model.specs.Paths.{Name, Path}
-use Rattle.model.specs.Trees.{Tree, Object, number, Description, IsUsed}
+use Rattle.model.specs.Trees.{Tree, Object, number_of_object, Description, IsUsed}
 use Rattle.model.specs.Edits.{IsSwept}
 use Rattle.model.specs.Volumes.{Node, directory_node, file_node, link_node, Volume, Entries, names_in, entries, enter, number_at, object_of, object_at, bytes_of_node, mode_of, tree_of, is_file_node, is_directory_node, IsGraph, HasNames, is_numbered, is_open, swept_node, swept}
 use Rattle.model.proofs.WalkLemmas.{number_at-push}
@@ -50,13 +50,13 @@ opened_by table (suc bound) n e =
       | inr f ↦ opened_by table bound n (ap (λ b. b || is_open table bound n) (sym f) ∙ e)
     ]
 
-named_object : (n : ℕ) (o : Option Node) → IsSome o → (r : Object) × (object_of n o ≡ Some r) × (number r ≡ n)
+named_object : (n : ℕ) (o : Option Node) → IsSome o → (r : Object) × (object_of n o ≡ Some r) × (number_of_object r ≡ n)
 named_object n None some = absurd (false≢true some)
 named_object n (Some (directory_node mode names)) some = (_, refl, refl)
 named_object n (Some (file_node mode links bytes)) some = (_, refl, refl)
 named_object n (Some (link_node text)) some = (_, refl, refl)
 
-pub found_number : (v : Volume) (o : Option ℕ) (r : Object) (n : ℕ) → object_at v o ≡ Some r → number r ≡ n → o ≡ Some n
+pub found_number : (v : Volume) (o : Option ℕ) (r : Object) (n : ℕ) → object_at v o ≡ Some r → number_of_object r ≡ n → o ≡ Some n
 found_number v None r n e same = cc
 found_number v (Some k) r n e same = ap (λ i. Some i) (sym (object_number k (v k) r e) ∙ same)
 

@@ -13,7 +13,7 @@ use Rattle.std.proofs.lemmas.Slice.Eq.{bytes_eq-Decides}
 use Rattle.std.proofs.lemmas.Cmp.{nat_list_eq_equiv}
 use Rattle.std.proofs.lemmas.Map.Views.{list_any-from_Contains, Contains-from_any}
 use Rattle.model.specs.Paths.{Name, Path, path_eq, behind}
-use Rattle.model.specs.Trees.{Tree, Object, directory, symlink, file, number, Description, HasPath, IsUsed, root_alone}
+use Rattle.model.specs.Trees.{Tree, Object, directory, symlink, file, number_of_object, Description, HasPath, IsUsed, root_alone}
 use Rattle.model.specs.Edits.{with_directory, with_file, put_at, relocate, moved, IsSwept}
 use Rattle.model.specs.Counting.{Counts}
 use Rattle.model.specs.Outcomes.{IsListing, IsFresh}
@@ -202,7 +202,7 @@ name_there test name (x ∷ names) there all =
 -- the number stands at one of the paths or in one of the descriptors
 abbrev pub is_numbered_at : Option Object → ℕ → Bool
 is_numbered_at None n = false
-is_numbered_at (Some o) n = number o == n
+is_numbered_at (Some o) n = number_of_object o == n
 
 abbrev pub is_used : Tree → List Path → List ℕ → ℕ → Bool
 is_used t paths open_ones n = list_any (λ p. is_numbered_at (t.objects p) n) paths || list_any (λ d. is_numbered (t.descriptors d) n) open_ones
@@ -219,9 +219,9 @@ path_told t n (p ∷ paths) is = elim (or_cases (is_numbered_at (t.objects p) n)
   | inr later ↦ path_told t n paths later
 ]
   where
-    found_object : (o : Option Object) → t.objects p ≡ o → is_numbered_at o n ≡ true → (q : Path) × (r : Object) × (t.objects q ≡ Some r) × (number r ≡ n)
+    found_object : (o : Option Object) → t.objects p ≡ o → is_numbered_at o n ≡ true → (q : Path) × (r : Object) × (t.objects q ≡ Some r) × (number_of_object r ≡ n)
     found_object None at e = nothing_there e
-    found_object (Some o) at e = (p, o, at, eqb-true (number o) n e)
+    found_object (Some o) at e = (p, o, at, eqb-true (number_of_object o) n e)
 
 open_from : (t : Tree) (n : ℕ) (open_ones : List ℕ) → list_any (λ d. is_numbered (t.descriptors d) n) open_ones ≡ true → IsUsed t n
 open_from t n [] is = nothing_there is
@@ -276,7 +276,7 @@ module _ {t : Tree} {paths : List Path} {open_ones numbers : List ℕ} (told : T
       }
 
   used_told : (n : ℕ) → IsUsed t n → is_used t paths open_ones n ≡ true
-  used_told n (inl (p, o, is, same)) = or_left (list_any (λ q. is_numbered_at (t.objects q) n) paths) _ (found_among (λ q. is_numbered_at (t.objects q) n) p paths (told.objects p (ap is_some is)) (subst (λ (r : Option Object). is_numbered_at r n ≡ true) (sym is) (eq-eqb (number o) n same)))
+  used_told n (inl (p, o, is, same)) = or_left (list_any (λ q. is_numbered_at (t.objects q) n) paths) _ (found_among (λ q. is_numbered_at (t.objects q) n) p paths (told.objects p (ap is_some is)) (subst (λ (r : Option Object). is_numbered_at r n ≡ true) (sym is) (eq-eqb (number_of_object o) n same)))
   used_told n (inr (d, f, is, same)) = or_right (list_any (λ q. is_numbered_at (t.objects q) n) paths) _ (found_within (λ c. is_numbered (t.descriptors c) n) d open_ones (told.descriptors d (ap is_some is)) (subst (λ (r : Option Description). is_numbered r n ≡ true) (sym is) (eq-eqb f.number n same)))
 
   -- the least number that isn't used

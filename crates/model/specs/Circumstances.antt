@@ -1,5 +1,5 @@
 -- Which reply and which new state a command may give, under what may come in its way.
-use Rattle.std.specs.Prelude.{◌≡◌, ◌⊎◌, ◌≢◌, Bool, false, MatchBool, IsTrue, IsFalse, Some, None}
+use Rattle.std.specs.Prelude.{◌≡◌, ◌⊎◌, Bool, false, MatchBool, IsTrue, IsFalse, Some, None}
 use Rattle.model.specs.declared.errno.Errno.TheVariants.{ENOSPC, ENOMEM, EIO, FAILED}
 use Rattle.model.specs.declared.reply.Reply.{Reply}
 use Rattle.model.specs.declared.reply.Reply.TheVariants.{Done, Refused}
@@ -7,23 +7,20 @@ use Rattle.model.specs.declared.command.Command.{Command}
 use Rattle.model.specs.declared.command.Command.TheVariants as command
 use Rattle.model.specs.Trees.{HasPath}
 use Rattle.model.specs.States.{State, going, failed, as_failed}
-use Rattle.model.specs.Room.{Room, Need, nothing, IsShort}
+use Rattle.model.specs.Room.{Room, Need, IsShort}
 use Rattle.model.specs.Steps.{WouldStep}
 
--- what came in the way of a command: device calls that failed, memory that was refused, want of place, and the disk's
--- room
+-- what came in the way of a command: device calls that failed, memory that was refused, and the disk's room
 pub record Circumstances : Type 0 where
   pub read_failed : Bool
   pub write_failed : Bool  -- or a sync
   -- no cause is told: of the answers ENOMEM and NoMemory no theorem says that a growth was refused
   pub memory_refused : Bool
-  -- until room is reckoned: a record doesn't fit what is left of the log, or a consistency point found too few blocks
-  pub lacks_place : Bool
   pub room : Room
 
 -- nothing came in the way, and this is the room
 abbrev pub clear : Room → Circumstances
-clear room = record { read_failed = false; write_failed = false; memory_refused = false; lacks_place = false; room = room }
+clear room = record { read_failed = false; write_failed = false; memory_refused = false; room = room }
 
 -- the command is done: reply and new state are those that it gives where nothing comes in its way
 abbrev pub IsDone : Circumstances → State → Command → Reply → State → Type 0
@@ -49,23 +46,17 @@ IsSettling c = ⊥
 abbrev pub CoversWhereOk : Circumstances → Command → Reply → Type 0
 CoversWhereOk c command reply = IsSettling command → reply ≡ Done → IsTrue c.room.is_covered
 
--- the command would store something: it logs a record, or has a consistency point store all that changed
-abbrev pub IsStoring : Room → State → Command → Type 0
-IsStoring room s command =
-    (reply : Reply) × (new : State) × (need : Need) × WouldStep room s command reply new need
-    × ((need ≢ nothing) ⊎ (IsSettling command × (reply ≡ Done)))
-
 -- the room isn't enough for what the command would do
 abbrev pub IsShortFor : Room → State → Command → Type 0
 IsShortFor room s command =
     (reply : Reply) × (new : State) × (need : Need) × WouldStep room s command reply new need × IsShort room need
 
 -- a refusal stands in place of the command's own reply, for a cause that came: EIO for a failed read, ENOMEM for
--- refused memory, ENOSPC for want of room or place
+-- refused memory, ENOSPC for want of room
 abbrev pub IsExcused : Circumstances → State → Command → Reply → Type 0
 IsExcused c s command (Refused EIO) = IsTrue c.read_failed
 IsExcused c s command (Refused ENOMEM) = IsTrue c.memory_refused
-IsExcused c s command (Refused ENOSPC) = IsShortFor c.room s command ⊎ (IsTrue c.lacks_place × IsStoring c.room s command)
+IsExcused c s command (Refused ENOSPC) = IsShortFor c.room s command
 IsExcused c s command reply = ⊥
 
 -- what a command that may fail comes to: after a failed write EIO and a failed system; else it is done, or it is

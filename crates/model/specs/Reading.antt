@@ -4,9 +4,9 @@ use Rattle.model.specs.declared.limits.TheConstants.{LINK_MODE, TRANSFER_BYTES}
 use Rattle.model.specs.declared.errno.Errno.TheVariants.{ENOTDIR, EISDIR, EINVAL}
 use Rattle.model.specs.declared.reply.Reply.TheVariants as reply
 use Rattle.model.specs.declared.reply.Stat.{Stat}
-use Rattle.model.specs.declared.reply.Kind.TheVariants as kind
+use Rattle.model.specs.declared.reply.FileType.TheVariants as kind
 use Rattle.model.specs.Paths.{text_tests, text_tests_then}
-use Rattle.model.specs.Trees.{Tree, Object, directory, symlink, file, number}
+use Rattle.model.specs.Trees.{Tree, Object, directory, symlink, file, number_of_object}
 use Rattle.model.specs.Edits.{contents, read_at}
 use Rattle.model.specs.Resolution.{resolve}
 use Rattle.model.specs.Outcomes.{Outcome, answers, refuses, tested, leads_to, with_names, with_links}
@@ -23,7 +23,7 @@ is_too_many count = nat_lt TRANSFER_BYTES count
 -- the mode that an object shows: a link shows 0777, another object its own
 abbrev pub shown_mode : Tree → Object → ℕ
 shown_mode t (symlink n text) = LINK_MODE
-shown_mode t o = unwrap_or (t.mode (number o)) 0
+shown_mode t o = unwrap_or (t.mode (number_of_object o)) 0
 
 -- what `stat` tells of an object: number, kind, mode, links and size, which is 0 for a directory and the length of its
 -- text for a link

@@ -145,14 +145,18 @@ pub record Extends (running replayed : Volume) : Type 0 where
   pub kept : (n : ℕ) → IsSome (running n) → replayed n ≡ running n
   pub rest : (n : ℕ) → running n ≡ None → IsTrue (is_vacant (replayed n))
 
+-- how many bytes the object of a number has
+abbrev pub size_before : Volume → ℕ → ℕ
+size_before v number = length (unwrap_or (bytes_of_node (v number)) [])
+
 -- the work that a record makes for a consistency point, by the volume that it changes
 abbrev pub work_of : Volume → Change → Work
 work_of v (create number parent made name) = adds_name
 work_of v (link number parent name) = adds_name
 work_of v (unname parent name) = removes_name
 work_of v (rename parent name new_parent new_name) = adds_name
-work_of v (write number offset bytes) = puts_bytes (length (unwrap_or (bytes_of_node (v number)) [])) offset (length bytes)
-work_of v (cut number size) = changes_size (length (unwrap_or (bytes_of_node (v number)) [])) size
+work_of v (write number offset bytes) = puts_bytes (size_before v number) offset (length bytes)
+work_of v (cut number size) = changes_size (size_before v number) size
 work_of v (change_mode number mode) = changes_bits
 
 -- what records cost that change a volume one after the other

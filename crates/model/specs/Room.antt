@@ -1,5 +1,5 @@
 -- The room of the disk: what a call asks of the blocks that are left.
-use Rattle.std.specs.Prelude.{ℕ, ◌+◌, ◌-◌, ◌*◌, ◌/◌, ◌<◌, nat_lt, if◌then◌else◌, Bool, IsTrue}
+use Rattle.std.specs.Prelude.{ℕ, List, ◌+◌, ◌-◌, ◌*◌, ◌/◌, ◌<◌, nat_lt, if◌then◌else◌, Bool, IsTrue}
 
 -- the kind of work that a record of the log makes for a consistency point
 pub data Work : Type 0 where
@@ -45,6 +45,7 @@ pub record Room : Type 0 where
   pub free : ℕ  -- the zero entries of the settled root's block map
   pub pledged : ℕ  -- blocks that a consistency point may store for what the settled root doesn't cover
   pub is_covered : Bool  -- the settled root has the tree as it is now, and no record stands beside it
+  pub nameless_of : List ℕ → ℕ  -- files without names that the image keeps under the snapshot of a name
 
 -- the room isn't enough for a need, although the settled root covers all that was done
 abbrev pub IsShort : Room → Need → Type 0

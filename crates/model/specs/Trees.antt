@@ -11,10 +11,10 @@ pub data Object : Type 0 where
   file : ℕ → Object
 
 -- an object's inode number
-abbrev pub number : Object → ℕ
-number (directory n) = n
-number (symlink n text) = n
-number (file n) = n
+abbrev pub number_of_object : Object → ℕ
+number_of_object (directory n) = n
+number_of_object (symlink n text) = n
+number_of_object (file n) = n
 
 -- a directory stands there
 abbrev pub is_directory : Option Object → Bool
@@ -42,7 +42,7 @@ StandsAtPath t kind n = (p : Path) × (t.objects p ≡ Some (kind n))
 
 -- the number stands at a path
 abbrev pub HasPath : Tree → ℕ → Type 0
-HasPath t n = (p : Path) × (o : Object) × (t.objects p ≡ Some o) × (number o ≡ n)
+HasPath t n = (p : Path) × (o : Object) × (t.objects p ≡ Some o) × (number_of_object o ≡ n)
 
 -- the number stands in a descriptor
 abbrev pub IsOpen : Tree → ℕ → Type 0
@@ -58,10 +58,10 @@ pub record IsTree (inodes : ℕ) (t : Tree) : Type 0 where
   pub above : (p q : Path) → q ≢ [] → IsSome (t.objects (p ++ q)) → IsTrue (is_directory (t.objects p))
   pub names : (p : Path) → IsSome (t.objects p) → All IsName p
   -- only a file may stand at several paths
-  pub single : (p q : Path) (o r : Object) → t.objects p ≡ Some o → t.objects q ≡ Some r → number o ≡ number r → (p ≡ q) ⊎ ((o ≡ file (number o)) × (r ≡ o))
+  pub single : (p q : Path) (o r : Object) → t.objects p ≡ Some o → t.objects q ≡ Some r → number_of_object o ≡ number_of_object r → (p ≡ q) ⊎ ((o ≡ file (number_of_object o)) × (r ≡ o))
   pub bytes : (n : ℕ) → IsSome (t.bytes n) ↔ (StandsAtPath t file n ⊎ IsOpen t n)
   pub mode : (n : ℕ) → IsSome (t.mode n) ↔ (StandsAtPath t directory n ⊎ StandsAtPath t file n ⊎ IsOpen t n)
-  pub opened : (n : ℕ) (p : Path) (o : Object) → IsOpen t n → t.objects p ≡ Some o → number o ≡ n → o ≡ file n
+  pub opened : (n : ℕ) (p : Path) (o : Object) → IsOpen t n → t.objects p ≡ Some o → number_of_object o ≡ n → o ≡ file n
   -- and the limits
   pub numbers : (n : ℕ) → IsUsed t n → (n ≡ ROOT_NUMBER) ⊎ ((FIRST_NUMBER ≤ n) × (n < inodes))
   pub texts : (p : Path) (n : ℕ) (text : List ℕ) → t.objects p ≡ Some (symlink n text) → IsLinkText text

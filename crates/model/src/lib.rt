@@ -26,5 +26,5 @@ pub use limits::{
     SNAPSHOT_NAME_BYTES, SNAPSHOTS, TRANSFER_BYTES,
 };
 pub use mode::Mode;
-pub use reply::{Kind, Reply, Stat};
+pub use reply::{FileType, Reply, Stat};
 pub use text::{Names, Text};

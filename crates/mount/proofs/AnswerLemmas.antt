@@ -1,30 +1,37 @@
 -- What a file system promises of a command, by the way that it is answered.
-use Rattle.std.proofs.Common.{◌≡◌, ◌≢◌, inl, inr, ℕ, ◌+◌, ◌≤◌, ◌^◌, Bool, false, Result, Ok, Err, refl, ap, sym, subst, ◌∙◌, arith}
-use Rattle.std.specs.Prelude.{IsFalse}
+use Rattle.std.proofs.Common.{◌≡◌, ◌≢◌, ◌⊎◌, inl, inr, ℕ, ◌+◌, ◌*◌, ◌≤◌, ◌^◌, List, Option, Some, None, Bool, false, Ok, Err, refl, ap, sym, subst, ◌∙◌, arith}
+use Rattle.std.specs.Prelude.{IsFalse, IsTrue}
+use Rattle.std.proofs.lemmas.Bool.{cases_lt}
 use Rattle.station.specs.Calls.{Uses}
 use Rattle.station.specs.Moments.{EachCut, Meaning}
 use Rattle.station.specs.declared.station.Station.{Ghosts}
 use Rattle.station.proofs.Calls.{uses_none, uses_twice}
-use Rattle.model.specs.Circumstances.{IsSure}
+use Rattle.station.proofs.Moments.{same_none, unchanged_none}
+use Rattle.model.specs.Circumstances.{IsShortFor, IsSure}
+use Rattle.model.specs.Paths.{Name, first_refusal}
+use Rattle.model.specs.Room.{Need, Room, a_snapshot, fixed_of, logs, nothing}
+use Rattle.model.specs.Steps.{Step, passing, says, take_tests, takes}
+use Rattle.model.specs.declared.command.Command.TheVariants as commands
 use Rattle.model.specs.States.{State}
 use Rattle.model.specs.declared.command.Command.{Command}
 use Rattle.model.specs.declared.errno.Errno.{Errno}
-use Rattle.model.specs.declared.errno.Errno.TheVariants.{EIO}
+use Rattle.model.specs.declared.errno.Errno.TheVariants.{EIO, ENOSPC}
 use Rattle.model.specs.declared.reply.Reply.{Reply}
 use Rattle.model.specs.declared.reply.Reply.TheVariants.{Refused}
-use Rattle.system.specs.Counting.{AgesBy, Counted, LogsNothing, call_error_failed}
+use Rattle.system.specs.Counting.{AgesBy, Counted, Failed, LogsNothing, call_error_failed, no_call}
 use Rattle.system.specs.Images.{OpensTo}
-use Rattle.system.specs.Serving.{Handles, IsCall, ServesState}
+use Rattle.system.specs.Room.{HasRoomToTake}
+use Rattle.system.specs.Serving.{Handles, HasEmptyLog, IsCall, LacksRoom, ServesState, WouldChange}
 use Rattle.system.specs.Systems as systems
 use Rattle.system.specs.declared.error.CallError.{CallError}
 use Rattle.system.specs.declared.error.CallError.TheVariants as failure
 use Rattle.system.specs.declared.system.System.{System}
 use Rattle.system.proofs.CountingLaws.{logged_twice, none_logged, nothing_logged}
-use Rattle.mount.specs.Applying.{AnswersCommand, Attempts, IsAppliedAt, KeepsStates, MakesRoom, NeedsPlace}
+use Rattle.mount.specs.Applying.{AnswersCommand, Attempts, IsAppliedAt, KeepsStates, MakesRoom}
 use Rattle.mount.specs.Refusals.{errno_of_call, fails_call}
 use Rattle.mount.specs.Systems.{HasPoints, Serves, mounted}
 use Rattle.mount.specs.declared.fs.Fs.{Fs}
-use Rattle.mount.proofs.AttemptLemmas.{after_stay, answered_as, called, change_needs, not_answered, stays_read, still_going}
+use Rattle.mount.proofs.AttemptLemmas.{after_stay, answered_as, called, not_answered, short, stays_read, still_going}
 use Rattle.mount.proofs.CountLemmas.{call_eio, call_refuses, call_written, failed_after, refused_same}
 
 -- an epoch that stays, and one behind the next
@@ -77,32 +84,92 @@ module _ {S : Type 0} {G : Ghosts S} (n : ℕ) (P : State → Type 0) (old new :
   }
 
   -- one wasn't
-  pub not_attempted : (e : CallError) (errno : Errno) → errno ≡ errno_of_call e → Attempts old new command (Err e) → ((s : State) → Serves (mounted old s) → P s → e ≢ failure.LogFull)
+  pub not_attempted : (e : CallError) (errno : Errno) → errno ≡ errno_of_call e → Attempts old new command (Err e) → ((s : State) → Serves (mounted old s) → P s → IsAppliedAt old s new command (Refused (errno_of_call e)))
       → AnswersCommand n P old new command (Refused errno)
-  not_attempted e errno is made room = record {
+  not_attempted e errno is made applied = record {
     uses = made.counted.uses;
     eio = λ same. call_eio before behind e made.counted (sym is ∙ refused_same same);
     written = λ other. call_written before behind e made.counted (λ fault. other (ap Refused (is ∙ fault)));
     unlogged = λ x same other. nothing_logged before behind (made.kept (call_refuses e (λ fault. other (sym (refused_same same) ∙ is ∙ fault))));
     epoch = ages_same n old.system.log.epoch new.system.log.epoch made.epoch;
     still = λ s serves p sure. absurd (made.sure s serves sure);
-    applied = λ s serves young p. answered_as old new s command (errno_of_call e) errno is (made.applied s serves (room s serves p));
+    applied = λ s serves young p. answered_as old new s command (errno_of_call e) errno is (applied s serves p);
   }
 
   -- a consistency point wasn't made that had to come first
-  pub no_room : (errno : Errno) → 1 ≤ n → MakesRoom old new (Err errno) → ((s : State) → P s → NeedsPlace s command) → AnswersCommand n P old new command (Refused errno)
+  pub no_room : (errno : Errno) → 1 ≤ n → MakesRoom old new (Err errno) → ((s : State) → P s → ¬ IsSure s command) → AnswersCommand n P old new command (Refused errno)
   no_room errno le made needs = record {
     uses = made.uses;
     eio = λ is. made.eio (ap (λ e. Err e) (refused_same is));
     written = λ other. made.written (λ is. other (ap Refused is));
     unlogged = λ x is other. made.unlogged;
     epoch = ages_within n 1 old.system.log.epoch new.system.log.epoch le made.epoch;
-    still = λ s serves p sure. absurd ((needs s p).not_sure sure);
+    still = λ s serves p sure. absurd (needs s p sure);
     applied = λ s serves young p. made.applied command s serves (points_one n old.system.log.epoch le young) (needs s p);
   }
     where
       points_one : (n a : ℕ) → 1 ≤ n → a + n ≤ 2 ^ 62 → a + 1 ≤ 2 ^ 62
       points_one n a le young = omega (arith, le, young)
+
+-- what a system has no room for it is short for, where its root covers all
+pub short_by : {S : Type 0} {G : Ghosts S} (f : System S G) (s : State) (command : Command) → LacksRoom f s command
+    → (room : Room) → IsTrue room.is_covered → room.free ≡ f.free → room.blocks ≡ f.root.geometry.blocks → room.pledged ≡ f.pledged → IsShortFor room s command
+short_by f s command lacks room covered free blocks pledged =
+    (lacks.reply, lacks.after, logs lacks.work, lacks.step room, (covered, omega (arith, lacks.short, free, pledged, ap fixed_of blocks)))
+
+-- `snap take` that isn't refused by its tests takes a snapshot
+takes_one : (s : State) (tests : List (Bool × Errno)) (reply : Reply) (after : State) (need : Need) (done : Step) → ((reply : Reply) (after : State) (need : Need) → done reply after need → need ≡ a_snapshot)
+    → passing s tests done reply after need → need ≢ nothing → need ≡ a_snapshot
+takes_one s tests reply after need done is step needs = by_first (first_refusal tests) step
+  where
+    by_first : (first : Option Errno) → (elim first as (λ _. Step) [ Some errno ↦ says s (Refused errno) | None ↦ done ]) reply after need → need ≡ a_snapshot
+    by_first (Some errno) said = absurd (needs said.2)
+    by_first None step = is reply after need step
+
+-- and is short for one where the disk has no room
+pub short_to_take : {S : Type 0} {G : Ghosts S} (f : System S G) (s : State) (name : Name) → WouldChange s (commands.SnapTake name) → (HasRoomToTake f → ⊥)
+    → (room : Room) → IsTrue room.is_covered → room.free ≡ f.free → room.blocks ≡ f.root.geometry.blocks → room.pledged ≡ f.pledged → IsShortFor room s (commands.SnapTake name)
+short_to_take f s name would lacks room covered free blocks pledged =
+    let need = takes_one s (take_tests s name) would.reply would.after would.need _ (λ reply after need step. step.2) (would.step room) would.needs in (
+      would.reply,
+      would.after,
+      a_snapshot,
+      subst (λ (n : Need). takes s name would.reply would.after n) need (would.step room),
+      (
+        covered,
+        elim (cases_lt f.free (f.pledged + 2 * fixed_of f.root.geometry.blocks + 1)) [
+          | inl lt ↦ omega (arith, lt, free, pledged, ap fixed_of blocks)
+          | inr ge ↦ absurd (lacks ge)
+        ],
+      ),
+    )
+
+-- a call on a covered system that wasn't answered
+pub settled_applied : {S : Type 0} {G : Ghosts S} (old new : Fs S G) (call : Command) (e : CallError) → Attempts old new call (Err e) → IsFalse old.has_failed → HasEmptyLog old.system
+    → (s : State) → Serves (mounted old s) → systems.IsCovered old.system s.tree.descriptors s → IsAppliedAt old s new call (Refused (errno_of_call e))
+settled_applied old new call failure.NoRoom made runs empty s serves covered =
+    let waits = made.waits s serves (inl refl) in
+    let lacks = made.short s serves refl in
+    short old new s serves runs call waits.1.not_sure waits.0 (lacks.1 covered) made.counted.reads made.counted.writes (short_by new.system s call lacks.0)
+settled_applied old new call failure.LogFull made runs empty s serves covered = absurd (made.fits s serves refl empty)
+settled_applied old new call failure.NoMemory made runs empty s serves covered = made.applied s serves (λ is. cc) (λ is. cc)
+settled_applied old new call failure.NotRead made runs empty s serves covered = made.applied s serves (λ is. cc) (λ is. cc)
+settled_applied old new call failure.Damaged made runs empty s serves covered = made.applied s serves (λ is. cc) (λ is. cc)
+settled_applied old new call failure.NotWritten made runs empty s serves covered = made.applied s serves (λ is. cc) (λ is. cc)
+
+-- a covered system has no room for a command, and no device is called
+pub no_room_left : {S : Type 0} {G : Ghosts S} (n : ℕ) (P : State → Type 0) (f : Fs S G) (command : Command) → IsFalse f.has_failed
+    → ((s : State) → ServesState f.system s → EachCut (systems.meaning_of f.system) (OpensTo (systems.meaning_of f.system) s))
+    → ((s : State) → Serves (mounted f s) → P s → ¬ IsSure s command)
+    → ((s : State) → Serves (mounted f s) → P s → systems.IsCovered f.system s.tree.descriptors s)
+    → ((s : State) → Serves (mounted f s) → P s
+    → (room : Room) → IsTrue room.is_covered → room.free ≡ f.system.free → room.blocks ≡ f.system.root.geometry.blocks → room.pledged ≡ f.system.pledged → IsShortFor room s command)
+    → AnswersCommand n P f f command (Refused ENOSPC)
+no_room_left n P f command runs opens not_sure covered is_short =
+    at_once n P f f command (Refused ENOSPC) (λ is. cc) refl refl refl (λ s serves young p.
+    let here = serves.kept (still_going f s serves runs) in
+    short f f s serves runs command (not_sure s serves p)
+    (stays_read f f s serves runs (same_none (systems.meaning_of f.system)) runs here (unchanged_none (systems.meaning_of f.system)) (opens s here)) (covered s serves p) refl refl (is_short s serves p))
 
 -- a command behind what left each state as it was
 pub behind_that : {S : Type 0} {G : Ghosts S} (n j k : ℕ) (P Q : State → Type 0) (old mid new : Fs S G) (command : Command) (reply : Reply) → j + k ≤ n → IsFalse old.has_failed → KeepsStates j old mid
@@ -149,6 +216,25 @@ answers_so n P old new x y reply is then = subst (λ (c : Command). AnswersComma
 abbrev pub AllOpen : {S : Type 0} {G : Ghosts S} → System S G → Type 0
 AllOpen f = (t : State) → ServesState f t → EachCut (systems.meaning_of f) (OpensTo (systems.meaning_of f) t)
 
+-- an error that isn't of a write fails no system
+fails_none : (e : CallError) → e ≢ failure.NotWritten → fails_call e ≡ false
+fails_none failure.NoMemory other = refl
+fails_none failure.NotRead other = refl
+fails_none failure.Damaged other = refl
+fails_none failure.NoRoom other = refl
+fails_none failure.LogFull other = refl
+fails_none failure.NotWritten other = absurd (other refl)
+
+-- a call that waits wrote nothing
+waits_written : (e : CallError) → (e ≡ failure.NoRoom) ⊎ (e ≡ failure.LogFull) → e ≢ failure.NotWritten
+waits_written e (inl room) fault = cc
+waits_written e (inr full) fault = cc
+
+-- and no device call of it failed
+waits_uncounted : (e : CallError) → (e ≡ failure.NoRoom) ⊎ (e ≡ failure.LogFull) → call_error_failed false e ≡ no_call
+waits_uncounted e (inl room) = ap (call_error_failed false) room
+waits_uncounted e (inr full) = ap (call_error_failed false) full
+
 module _ {S : Type 0} {G : Ghosts S} (old new : Fs S G) (call : Command) (runs : IsFalse old.has_failed) where
   abbrev served : (s : State) → Serves (mounted old s) → ServesState old.system s
   served s serves = serves.kept (still_going old s serves runs)
@@ -165,12 +251,11 @@ module _ {S : Type 0} {G : Ghosts S} (old new : Fs S G) (call : Command) (runs :
     applied = λ s serves.
         called old new s serves runs told.counted.uses.same call reply is_call (elim (told.sure s (served s serves)) [ inl on ↦ inl on.sure | inr not ↦ inr not ]) runs_on
         told.counted.reads told.counted.writes (told.done s (served s serves)) opens;
-    going = λ is. cc;
-    full = λ s serves is. cc;
+    going = tt;
+    waits = λ s serves. tt;
+    fits = λ s serves is. cc;
+    short = λ s serves is. cc;
   }
-
-  error_same : (x y : CallError) (r q : Result Reply CallError) → r ≡ Err x → q ≡ Err y → r ≡ q → x ≡ y
-  error_same x y r q first second is = cc
 
   -- one that wasn't
   pub attempts_not : (e : CallError) → Handles old.system new.system call (Err e) → IsFalse old.system.log.is_stopped → new.has_failed ≡ fails_call e → AllOpen old.system → Attempts old new call (Err e)
@@ -183,25 +268,28 @@ module _ {S : Type 0} {G : Ghosts S} (old new : Fs S G) (call : Command) (runs :
         kept = told.kept;
         epoch = told.epoch;
         sure = λ s serves sure. told.sure s (served s serves) sure;
-        applied = λ s serves room.
-            not_answered old new s serves runs call e (told.sure s (served s serves)) room flag counted (λ is. told.damaged s (served s serves) (ap (λ x. Err x) is)) told.kept
+        applied = λ s serves room full.
+            not_answered old new s serves runs call e (told.sure s (served s serves)) room full flag counted (λ is. told.damaged s (served s serves) (ap (λ x. Err x) is)) told.kept
             (told.serves s (served s serves)) (λ is. told.broken s (served s serves) (ap (λ x. Err x) is)) (opens s (served s serves));
-        going = λ is. flag ∙ ap fails_call (error_same e failure.LogFull (Err e) (Err failure.LogFull) refl refl is);
-        full = λ s serves is.
-            let full = told.full s (served s serves) is in
-            let same : e ≡ failure.LogFull = error_same e failure.LogFull (Err e) (Err failure.LogFull) refl refl is in
-            let other : e ≢ failure.NotWritten = λ fault. cc in (
-              stays_read old new s serves runs counted.uses.same (flag ∙ ap fails_call same) (told.serves s (served s serves) other) (told.kept other) (opens s (served s serves)),
-              change_needs s call (told.sure s (served s serves)) full.0,
-              full.1,
+        going = λ other. flag ∙ fails_none e other;
+        waits = λ s serves is.
+            let here = served s serves in
+            let other = waits_written e is in (
+              stays_read old new s serves runs counted.uses.same (flag ∙ fails_none e other) (told.serves s here other) (told.kept other) (opens s here),
+              record {
+                not_sure = told.sure s here;
+                waits = elim is [ inl room ↦ inl (told.short s here (ap (λ x. Err x) room)).0 | inr full ↦ inr (told.full s here (ap (λ x. Err x) full)).2 ];
+              },
             );
+        fits = λ s serves is. (told.full s (served s serves) is).1;
+        short = λ s serves is. told.short s (served s serves) is;
       }
 
--- a call that has no place in the log left each state as it was
-pub full_keeps : {S : Type 0} {G : Ghosts S} (old new : Fs S G) (call : Command) (e : CallError) → e ≡ failure.LogFull → Attempts old new call (Err e) → KeepsStates 0 old new
-full_keeps old new call e is made = record {
-  counted = subst (λ (x : CallError). Counted (systems.meaning_of old.system) (systems.meaning_of new.system) (call_error_failed false x)) is made.counted;
-  unlogged = nothing_logged (systems.meaning_of old.system) (systems.meaning_of new.system) (made.kept (λ fault. cc));
+-- a call that waits for a consistency point left each state as it was
+pub waiting_keeps : {S : Type 0} {G : Ghosts S} (old new : Fs S G) (call : Command) (e : CallError) → (e ≡ failure.NoRoom) ⊎ (e ≡ failure.LogFull) → Attempts old new call (Err e) → KeepsStates 0 old new
+waiting_keeps old new call e is made = record {
+  counted = subst (λ (why : Failed). Counted (systems.meaning_of old.system) (systems.meaning_of new.system) why) (waits_uncounted e is) made.counted;
+  unlogged = nothing_logged (systems.meaning_of old.system) (systems.meaning_of new.system) (made.kept (waits_written e is));
   epoch = ages_same 0 old.system.log.epoch new.system.log.epoch made.epoch;
-  stays = λ s serves. (made.full s serves (ap (λ x. Err x) is)).0;
+  stays = λ s serves. (made.waits s serves is).0;
 }

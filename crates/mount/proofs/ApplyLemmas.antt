@@ -17,7 +17,6 @@ use Rattle.model.specs.Room.{Room}
 use Rattle.model.specs.Circumstances.{Circumstances, IsSure, IsDone, IsAnswered, Allowed}
 use Rattle.model.specs.Runs.{IsWithin, MayStand, MayRemain}
 use Rattle.system.specs.Images.{OpensTo}
-use Rattle.system.specs.Settling.{IsFilledBy}
 use Rattle.mount.specs.Applying.{Between, TimeGoesOn, HasRoomAtPoint, IsApplied, Stays, LeftNow, TellsOfFault}
 use Rattle.mount.specs.Systems.{Mounted, OpensToSome, mounted, file_system_meaning, mark_of, Serves, LeavesState, IsCutShort}
 use Rattle.mount.specs.declared.fs.Fs.{Fs}
@@ -78,18 +77,17 @@ module _ (s : State) (command : Command) (new t : State) where
 
 -- no room is reckoned
 abbrev pub no_room : Room
-no_room = record { blocks = 0; free = 0; pledged = 0; is_covered = false }
+no_room = record { blocks = 0; free = 0; pledged = 0; is_covered = false; nameless_of = λ name. 0 }
 
 -- what came in the way of a command, but for the history of the station
 pub record Came {S : Type 0} {G : Ghosts S} (old : Mounted S G) (command : Command) (new : Mounted S G) (c : Circumstances) : Type 0 where
   pub reads : TellsOfFault c.read_failed (file_system_meaning old).failed_reads (file_system_meaning new).failed_reads
   pub writes : TellsOfFault c.write_failed (file_system_meaning old).failed_writes (file_system_meaning new).failed_writes
-  pub full : IsTrue c.lacks_place → IsFilledBy command new.fs.system
   pub room : new.state.mark ≡ going → HasRoomAtPoint new.fs.system new.state c.room
 
 abbrev pub between : {S : Type 0} {G : Ghosts S} (old : Mounted S G) (command : Command) (new : Mounted S G) (c : Circumstances) → TimeGoesOn (file_system_meaning old) (file_system_meaning new) → Came old command new c
     → Between old command new c
-between old command new c goes_on came = record { goes_on = goes_on; reads = came.reads; writes = came.writes; full = came.full; room = came.room }
+between old command new c goes_on came = record { goes_on = goes_on; reads = came.reads; writes = came.writes; room = came.room }
 
 module _ {S : Type 0} {G : Ghosts S} where
   -- a command that led to a going state
@@ -170,12 +168,12 @@ module _ {S : Type 0} {G : Ghosts S} where
       let is : s.mark ≡ failed = serves.mark ∙ is_failed f.has_failed stopped in
       let opens = λ (c : Images) (t : State). OpensTo m t c in
       let still : (t : ℕ) (c : Images) → m.moment ≤ t → t ≤ m.moment → m.left_at t c → m.left_at m.moment c = λ t c from to left. same_moment m t c from to left in
-      let quiet : Circumstances = record { read_failed = false; write_failed = false; memory_refused = false; lacks_place = false; room = no_room } in
+      let quiet : Circumstances = record { read_failed = false; write_failed = false; memory_refused = false; room = no_room } in
       record {
         serves = serves;
         leads = record {
           circumstances = quiet;
-          between = record { goes_on = on_none m; reads = refl; writes = refl; full = λ e. absurd (false≢true e); room = λ still. not_both s.mark still is };
+          between = record { goes_on = on_none m; reads = refl; writes = refl; room = λ still. not_both s.mark still is };
           allowed = refused_failed command s.inodes s.tree s.snapshots quiet s.mark is;
         };
         any_moment = (leaves_failed m.left_at opens s m.moment m.moment (MayStand s command s) is).1 still;
@@ -202,7 +200,6 @@ module _ {S : Type 0} {G : Ghosts S} where
             goes_on = on_twice m n l (time_on m n _ stand) led.goes_on;
             reads = subst (λ (k : ℕ). TellsOfFault c.read_failed k l.failed_reads) reads led.reads;
             writes = subst (λ (k : ℕ). TellsOfFault c.write_failed k l.failed_writes) writes led.writes;
-            full = led.full;
             room = led.room;
           };
           allowed = applied.leads.allowed;

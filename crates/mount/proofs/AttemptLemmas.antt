@@ -16,7 +16,7 @@ use Rattle.model.specs.declared.command.Command.{Command}
 use Rattle.model.specs.declared.command.Command.TheVariants.{Sync, Df}
 use Rattle.model.specs.States.{State, going, failed, as_failed}
 use Rattle.model.specs.Trees.{Description}
-use Rattle.model.specs.Circumstances.{Circumstances, IsSure, IsDone, IsExcused, Allowed, clear}
+use Rattle.model.specs.Circumstances.{Circumstances, IsSure, IsDone, IsExcused, IsShortFor, Allowed, clear}
 use Rattle.model.specs.Room.{Room, nothing}
 use Rattle.model.specs.Records as records
 use Rattle.model.specs.Records.{pledged_for}
@@ -29,10 +29,9 @@ use Rattle.layout.specs.Record.{change_bytes}
 use Rattle.images.specs.Roots.{whole}
 use Rattle.oplog.specs.LogEnd.{LogEnd, all_bodies, next_of}
 use Rattle.oplog.specs.declared.log.End.TheVariants.{Unopened}
-use Rattle.system.specs.Serving.{HasEmptyLog, ServesState, IsCall, WouldCall, WouldChange, IsCalled, IsBrokenOff}
-use Rattle.system.specs.Points.{IsFilled}
-use Rattle.system.specs.Settling.{IsFilledBy, IsSettled, WouldSettle}
-use Rattle.system.specs.Room.{free_under}
+use Rattle.system.specs.Serving.{HasEmptyLog, ServesState, IsCall, WouldCall, IsCalled, IsBrokenOff}
+use Rattle.system.specs.Settling.{IsSettled}
+use Rattle.images.specs.Room.{free_under}
 use Rattle.system.specs.Systems as systems
 use Rattle.system.specs.declared.error.CallError.{CallError}
 use Rattle.system.specs.declared.error.CallError.TheVariants as call
@@ -40,19 +39,21 @@ use Rattle.system.specs.declared.system.System.{System}
 use Rattle.system.specs.declared.error.PointError.{PointError}
 use Rattle.system.specs.declared.error.PointError.TheVariants as point
 use Rattle.system.proofs.CoveredLaws.{none_spelled}
-use Rattle.mount.specs.Applying.{IsAppliedAt, NeedsPlace, Stays, TellsOfFault, HasRoomAtPoint}
+use Rattle.system.proofs.RoomLaws.{free_is}
+use Rattle.mount.specs.Applying.{IsAppliedAt, Stays, TellsOfFault, HasRoomAtPoint}
 use Rattle.mount.specs.Refusals.{errno_of_call, errno_of_point, fails_call, fails_point}
 use Rattle.mount.specs.Systems.{OpensToSome, mounted, HasPoints, Serves}
 use Rattle.mount.specs.declared.fs.TheConstants.{POINTS}
 use Rattle.mount.specs.declared.fs.Fs.{Fs}
 use Rattle.mount.proofs.ApplyLemmas.{is_going, not_both, allowed_by, allowed_surely, no_room, done, stayed, broken, applied_after}
 use Rattle.mount.proofs.CallLemmas.{not_settling}
+use Rattle.mount.proofs.NamelessLemmas.{nameless_of, nameless_told}
 use Rattle.mount.proofs.StationLemmas.{told}
 
 -- what came in the way
-abbrev came : Bool → Bool → Bool → Bool → Room → Circumstances
-came read write memory place room =
-    record { read_failed = read; write_failed = write; memory_refused = memory; lacks_place = place; room = room }
+abbrev came : Bool → Bool → Bool → Room → Circumstances
+came read write memory room =
+    record { read_failed = read; write_failed = write; memory_refused = memory; room = room }
 
 -- the room of a system at a state that it serves
 abbrev room_at : {S : Type 0} {G : Ghosts S} (f : System S G) (s : State) → ServesState f s → Bool → Room
@@ -61,11 +62,12 @@ room_at f s serves covered = record {
   free = free_under (whole (blocks_of (systems.meaning_of f).seen.disk) f.root).active f.root.geometry.blocks;
   pledged = pledged_for f.root.geometry.inodes serves.first serves.replayed.changes;
   is_covered = covered;
+  nameless_of = nameless_of f s serves;
 }
 
 has_room : {S : Type 0} {G : Ghosts S} (f : System S G) (s : State) (serves : ServesState f s) (covered : Bool)
     → (IsTrue covered → records.CoversAll serves.first serves.running serves.replayed.changes) → HasRoomAtPoint f s (room_at f s serves covered)
-has_room f s serves covered all = record { serves = serves; blocks = refl; free = refl; told = record { pledged = refl; covered = all } }
+has_room f s serves covered all = record { serves = serves; blocks = refl; free = refl; told = record { pledged = refl; covered = all }; nameless = nameless_told f s serves }
 
 -- all that is done is in the root of a covered system
 all_covered : {S : Type 0} {G : Ghosts S} (f : System S G) (s : State) → (covered : systems.IsCovered f s.tree.descriptors s)
@@ -77,15 +79,6 @@ all_covered f s covered =
 -- a refusal isn't what is answered to what is done
 not_done : {X : Type 0} (errno : Errno) → Refused errno ≡ Done → X
 not_done errno is = cc
-
--- a call that may be refused and would change something needs place
-pub change_needs : (s : State) (c : Command) → ¬ IsSure s c → WouldChange s c → NeedsPlace s c
-change_needs s c not_sure would =
-    record { not_sure = not_sure; stores = λ room. (would.reply, would.after, would.need, would.step room, inl would.needs) }
-
--- and so does `sync`
-pub sync_needs : (s : State) → NeedsPlace s Sync
-sync_needs s = record { not_sure = λ no. no; stores = λ room. (Done, s, nothing, (refl, refl, refl), inr (tt, refl)) }
 
 -- a call that was done, be it sure or not
 allowed_call : (s : State) (c : Command) (room : Room) (reply : Reply) (t : State) → s.mark ≡ going → IsCall c → IsSure s c ⊎ ¬ IsSure s c
@@ -107,10 +100,6 @@ answered_as old new s command x y is applied = subst (λ (z : Errno). IsAppliedA
 pub young_at : (a b i n : ℕ) → b ≤ a + POINTS * i → i < n → a + POINTS * n < 2 ^ 62 → b + POINTS ≤ 2 ^ 62
 young_at a b i n le below lasts = omega arith
 
--- where a point of the tree alone has no place, none of a command has
-pub filled_by : {S : Type 0} {G : Ghosts S} (command : Command) (f : System S G) → IsFilled f → IsFilledBy command f
-filled_by command f filled = omega (arith, filled)
-
 -- behind a consistency point the log has no record
 pub log_emptied : {S : Type 0} {G : Ghosts S} (f : System S G) (log : LogEnd) (epoch : ℕ) → f.log ≡ record log { epoch = epoch + 1; end = Unopened } → f.root.generation ≡ epoch → HasEmptyLog f
 log_emptied f log epoch is generation = record {
@@ -123,6 +112,7 @@ pub reads_fail_nothing : (e : CallError) (flag : Bool) → e ≢ call.NotWritten
 reads_fail_nothing call.NoMemory flag other runs = runs
 reads_fail_nothing call.NotRead flag other runs = runs
 reads_fail_nothing call.Damaged flag other runs = runs
+reads_fail_nothing call.NoRoom flag other runs = runs
 reads_fail_nothing call.LogFull flag other runs = runs
 reads_fail_nothing call.NotWritten flag other runs = absurd (other refl)
 
@@ -176,22 +166,22 @@ module _ {S : Type 0} {G : Ghosts S} (old new : Fs S G) (s : State) where
           let room = room_at new.system t is.serves false in (
             t,
             done old new s t c is_still still same (going_serves t (same.honest.0 serves.honest) still runs_on is.serves) serves.honest reply (clear room)
-                (record { reads = reads; writes = writes; full = λ e. absurd (false≢true e); room = λ _. has_room new.system t is.serves false (λ e. absurd (false≢true e)) })
+                (record { reads = reads; writes = writes; room = λ _. has_room new.system t is.serves false (λ e. absurd (false≢true e)) })
                 (allowed_call s c room reply t is_still is_call sure (is.need, is.step room))
                 is.leaves (opens t is.serves),
           )
 
       -- a command that was refused for a cause
-      pub refused : (command : Command) → ¬ IsSure s command → Stays old new s → (read memory place : Bool) (errno : Errno) → TellsOfFault read before.failed_reads behind.failed_reads
-          → behind.failed_writes ≡ before.failed_writes → (IsTrue place → IsFilledBy command new.system) → ((room : Room) → IsExcused (came read false memory place room) s command (Refused errno))
+      pub refused : (command : Command) → ¬ IsSure s command → Stays old new s → (read memory : Bool) (errno : Errno) → TellsOfFault read before.failed_reads behind.failed_reads
+          → behind.failed_writes ≡ before.failed_writes → ((room : Room) → IsExcused (came read false memory room) s command (Refused errno))
           → IsAppliedAt old s new command (Refused errno)
-      refused command not_sure stays read memory place errno reads writes full excused =
+      refused command not_sure stays read memory errno reads writes excused =
           let served = stays.serves.kept is_still in
           let room = room_at new.system s served false in
-          let c = came read false memory place room in (
+          let c = came read false memory room in (
             s,
             stayed old new s command serves is_still stays (Refused errno) c
-                (record { reads = reads; writes = writes; full = full; room = λ _. has_room new.system s served false (λ e. absurd (false≢true e)) })
+                (record { reads = reads; writes = writes; room = λ _. has_room new.system s served false (λ e. absurd (false≢true e)) })
                 (allowed_by s command c (Refused errno) s is_still not_sure (inr (excused room, refl))),
           )
 
@@ -200,10 +190,10 @@ module _ {S : Type 0} {G : Ghosts S} (old new : Fs S G) (s : State) where
           → LeavesOnly before behind (OpensToSome before (IsWithin s command)) → IsAppliedAt old s new command (Refused EIO)
       cut_short command not_sure stopped reads writes leaves =
           let flag = told before.failed_reads behind.failed_reads reads in
-          let c = came flag.0 true false false no_room in (
+          let c = came flag.0 true false no_room in (
             as_failed s,
             broken old new s command serves is_still stopped same c
-                (record { reads = flag.1; writes = writes; full = λ e. absurd (false≢true e); room = λ still. not_both failed still refl })
+                (record { reads = flag.1; writes = writes; room = λ still. not_both failed still refl })
                 (allowed_by s command c (Refused EIO) (as_failed s) is_still not_sure (refl, refl)) leaves,
           )
 
@@ -213,34 +203,46 @@ module _ {S : Type 0} {G : Ghosts S} (old new : Fs S G) (s : State) where
       broken_off c not_sure stopped reads writes is = cut_short c not_sure stopped reads writes (cut_within old.system new.system s c is)
 
     -- a call that wasn't answered
-    pub not_answered : (c : Command) (e : CallError) → ¬ IsSure s c → e ≢ call.LogFull → new.has_failed ≡ fails_call e → Counted before behind (call_error_failed false e)
+    pub not_answered : (c : Command) (e : CallError) → ¬ IsSure s c → e ≢ call.NoRoom → e ≢ call.LogFull → new.has_failed ≡ fails_call e → Counted before behind (call_error_failed false e)
         → (e ≡ call.Damaged → ⊥) → (e ≢ call.NotWritten → Goes Unchanged before behind) → (e ≢ call.NotWritten → ServesState new.system s)
         → (e ≡ call.NotWritten → IsBrokenOff old.system new.system s c) → EachCut before (OpensTo before s) → IsAppliedAt old s new c (Refused (errno_of_call e))
-    not_answered c call.NoMemory not_sure room flag counted damaged goes served off opens =
+    not_answered c call.NoMemory not_sure room full flag counted damaged goes served off opens =
         let other : call.NoMemory ≢ call.NotWritten = λ e. cc in
         let count = told before.failed_reads behind.failed_reads counted.uses.reads in
-        refused counted.uses.same c not_sure (stays_read counted.uses.same flag (served other) (goes other) opens) count.0 true false ENOMEM count.1 counted.writes (λ e. absurd (false≢true e)) (λ _. refl)
-    not_answered c call.NotRead not_sure room flag counted damaged goes served off opens =
+        refused counted.uses.same c not_sure (stays_read counted.uses.same flag (served other) (goes other) opens) count.0 true ENOMEM count.1 counted.writes (λ _. refl)
+    not_answered c call.NotRead not_sure room full flag counted damaged goes served off opens =
         let other : call.NotRead ≢ call.NotWritten = λ e. cc in
-        refused counted.uses.same c not_sure (stays_read counted.uses.same flag (served other) (goes other) opens) true false false EIO counted.reads counted.writes (λ e. absurd (false≢true e)) (λ _. refl)
-    not_answered c call.Damaged not_sure room flag counted damaged goes served off opens = absurd (damaged refl)
-    not_answered c call.LogFull not_sure room flag counted damaged goes served off opens = absurd (room refl)
-    not_answered c call.NotWritten not_sure room flag counted damaged goes served off opens = broken_off counted.uses.same c not_sure flag counted.uses.reads counted.writes (off refl)
+        refused counted.uses.same c not_sure (stays_read counted.uses.same flag (served other) (goes other) opens) true false EIO counted.reads counted.writes (λ _. refl)
+    not_answered c call.Damaged not_sure room full flag counted damaged goes served off opens = absurd (damaged refl)
+    not_answered c call.NoRoom not_sure room full flag counted damaged goes served off opens = absurd (room refl)
+    not_answered c call.LogFull not_sure room full flag counted damaged goes served off opens = absurd (full refl)
+    not_answered c call.NotWritten not_sure room full flag counted damaged goes served off opens = broken_off counted.uses.same c not_sure flag counted.uses.reads counted.writes (off refl)
+
+    -- a command that a covered system has no room for
+    pub short : (command : Command) → ¬ IsSure s command → Stays old new s → systems.IsCovered new.system s.tree.descriptors s → behind.failed_reads ≡ before.failed_reads → behind.failed_writes ≡ before.failed_writes
+        → ((room : Room) → IsTrue room.is_covered → room.free ≡ new.system.free → room.blocks ≡ new.system.root.geometry.blocks → room.pledged ≡ new.system.pledged → IsShortFor room s command)
+        → IsAppliedAt old s new command (Refused ENOSPC)
+    short command not_sure stays covered reads writes is_short =
+        let room = room_at new.system s covered.serves true in
+        let c = clear room in (
+          s,
+          stayed old new s command serves is_still stays (Refused ENOSPC) c
+              (record { reads = reads; writes = writes; room = λ _. has_room new.system s covered.serves true (λ _. all_covered new.system s covered) })
+              (allowed_by s command c (Refused ENOSPC) s is_still not_sure
+              (inr (is_short room refl (sym (free_is new.system s.tree.descriptors s covered.serves)) refl (sym covered.serves.pledges), refl))),
+        )
 
     -- a command whose consistency point wasn't made
     pub no_point : (command : Command) (e : PointError) → ¬ IsSure s command → HasPoints 1 old → Counted before behind (point_error_failed e)
-        → (e ≡ point.NotPlanned plan.NoSpace → IsFilledBy command new.system × WouldSettle s command) → (e ≡ point.NoGeneration → 2 ^ 62 ≤ old.system.log.epoch)
+        → (e ≡ point.NotPlanned plan.NoSpace → ⊥) → (e ≡ point.NoGeneration → 2 ^ 62 ≤ old.system.log.epoch)
         → (e ≡ point.NotPlanned plan.Damaged → ⊥) → new.has_failed ≡ fails_point e → (IsRefused e → IsFalse new.has_failed → Stays old new s)
         → (e ≡ point.NotWritten → LeavesOnly before behind (OpensToSome before (IsWithin s command))) → IsAppliedAt old s new command (Refused (errno_of_point e))
     no_point command (point.NotPlanned plan.NoMemory) not_sure next counted full aged damaged flag stays off =
         let count = told before.failed_reads behind.failed_reads counted.uses.reads in
-        refused counted.uses.same command not_sure (stays tt flag) count.0 true false ENOMEM count.1 counted.writes (λ e. absurd (false≢true e)) (λ _. refl)
+        refused counted.uses.same command not_sure (stays tt flag) count.0 true ENOMEM count.1 counted.writes (λ _. refl)
     no_point command (point.NotPlanned plan.Device) not_sure next counted full aged damaged flag stays off =
-        refused counted.uses.same command not_sure (stays tt flag) true false false EIO counted.reads counted.writes (λ e. absurd (false≢true e)) (λ _. refl)
-    no_point command (point.NotPlanned plan.NoSpace) not_sure next counted full aged damaged flag stays off =
-        let count = told before.failed_reads behind.failed_reads counted.uses.reads in
-        refused counted.uses.same command not_sure (stays tt flag) count.0 false true ENOSPC count.1 counted.writes
-        (λ _. (full refl).0) (λ room. inr (refl, (full refl).1 room))
+        refused counted.uses.same command not_sure (stays tt flag) true false EIO counted.reads counted.writes (λ _. refl)
+    no_point command (point.NotPlanned plan.NoSpace) not_sure next counted full aged damaged flag stays off = absurd (full refl)
     no_point command (point.NotPlanned plan.Damaged) not_sure next counted full aged damaged flag stays off = absurd (damaged refl)
     no_point command point.NotWritten not_sure next counted full aged damaged flag stays off =
         cut_short counted.uses.same command not_sure flag counted.uses.reads counted.writes (off refl)
@@ -255,7 +257,7 @@ module _ {S : Type 0} {G : Ghosts S} (old new : Fs S G) (s : State) where
         let c = clear room in (
           s,
           stayed old new s command serves is_still stays (Refused errno) c
-              (record { reads = reads; writes = writes; full = λ e. absurd (false≢true e); room = λ _. has_room new.system s served false (λ e. absurd (false≢true e)) })
+              (record { reads = reads; writes = writes; room = λ _. has_room new.system s served false (λ e. absurd (false≢true e)) })
               (allowed_by s command c (Refused errno) s is_still not_sure (inl ((nothing, step room), λ settling done. not_done errno done))),
         )
 
@@ -269,7 +271,7 @@ module _ {S : Type 0} {G : Ghosts S} (old new : Fs S G) (s : State) where
         let c = clear (room_at new.system t covered.serves true) in (
           t,
           done old new s t command is_still still same (going_serves t (same.honest.0 serves.honest) still runs_on covered.serves) serves.honest Done c
-              (record { reads = reads; writes = writes; full = λ e. absurd (false≢true e); room = λ _. has_room new.system t covered.serves true (λ _. all_covered new.system t covered) })
+              (record { reads = reads; writes = writes; room = λ _. has_room new.system t covered.serves true (λ _. all_covered new.system t covered) })
               (allowed_by s command c Done t is_still not_sure (inl ((is.need, is.step c.room), λ _ _. refl)))
               is.leaves (opens t covered.serves),
         )
@@ -280,7 +282,7 @@ module _ {S : Type 0} {G : Ghosts S} (old new : Fs S G) (s : State) where
         let c = clear (room_at new.system s covered.serves true) in (
           s,
           stayed old new s Sync serves is_still stays Done c
-              (record { reads = reads; writes = writes; full = λ e. absurd (false≢true e); room = λ _. has_room new.system s covered.serves true (λ _. all_covered new.system s covered) })
+              (record { reads = reads; writes = writes; room = λ _. has_room new.system s covered.serves true (λ _. all_covered new.system s covered) })
               (allowed_by s Sync c Done s is_still (λ no. no) (inl ((nothing, (refl, refl, refl)), λ _ _. refl))),
         )
 
@@ -294,7 +296,7 @@ told_room f s serves runs room has opens =
     let reply = Space room.blocks room.free room.pledged in
     let stays = stays_by f f s serves runs (same_none m) runs (serves.kept is) (started m (OpensTo m s) opens) in (
       s,
-      stayed f f s Df serves is stays reply c (record { reads = refl; writes = refl; full = λ e. absurd (false≢true e); room = λ _. has })
+      stayed f f s Df serves is stays reply c (record { reads = refl; writes = refl; room = λ _. has })
           (allowed_surely s Df c reply s is tt refl (nothing, (refl, refl, refl))),
     )
 

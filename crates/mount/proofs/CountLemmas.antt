@@ -38,6 +38,7 @@ module _ (m new : Meaning) where
   call_eio call.NotRead counted is = inl counted.reads
   call_eio call.Damaged counted is = cc
   call_eio call.LogFull counted is = cc
+  call_eio call.NoRoom counted is = cc
   call_eio call.NotWritten counted is = inr counted.writes
 
   pub call_written : (e : CallError) → Counted m new (call_error_failed false e) → errno_of_call e ≢ EIO → NoWriteFailed m new
@@ -45,6 +46,7 @@ module _ (m new : Meaning) where
   call_written call.NotRead counted other = counted.writes
   call_written call.Damaged counted other = counted.writes
   call_written call.LogFull counted other = counted.writes
+  call_written call.NoRoom counted other = counted.writes
   call_written call.NotWritten counted other = absurd (other refl)
 
   pub point_eio : (e : PointError) → Counted m new (point_error_failed e) → errno_of_point e ≡ EIO → HasFailed m new
@@ -70,3 +72,4 @@ call_refuses call.NoMemory other is = cc
 call_refuses call.NotRead other is = cc
 call_refuses call.Damaged other is = cc
 call_refuses call.LogFull other is = cc
+call_refuses call.NoRoom other is = cc

@@ -2,6 +2,7 @@ mod StationLemmas
 mod SpanLemmas
 mod ApplyLemmas
 mod CallLemmas
+mod NamelessLemmas
 mod AttemptLemmas
 mod CountLemmas
 mod AnswerLemmas

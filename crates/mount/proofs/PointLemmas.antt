@@ -16,7 +16,7 @@ use Rattle.model.specs.declared.reply.Reply.TheVariants.{Done, Refused}
 use Rattle.oplog.specs.LogEnd.{LogEnd}
 use Rattle.system.specs.Counting.{Counted, call_error_failed}
 use Rattle.system.specs.Images.{OpensTo}
-use Rattle.system.specs.Points.{IsFilled, MakesPoint, StaysAt}
+use Rattle.system.specs.Points.{MakesPoint, StaysAt}
 use Rattle.system.specs.Serving.{ServesState, WouldCall}
 use Rattle.system.specs.Settling.{Glances, IsRefusedBy, IsSettled, Settles}
 use Rattle.system.specs.Systems as systems
@@ -27,7 +27,7 @@ use Rattle.mount.specs.Applying.{AnswersCommand, HasSettled, KeepsStates, MakesR
 use Rattle.mount.specs.Refusals.{errno_of_call, errno_of_point, fails_point}
 use Rattle.mount.specs.Systems.{OpensToSome, Serves, mounted}
 use Rattle.mount.specs.declared.fs.Fs.{Fs}
-use Rattle.mount.proofs.AttemptLemmas.{answered_as, cut_within, filled_by, log_emptied, no_point, not_answered, own_refusal, reads_fail_nothing, settled, stays_by, stays_read, still_going, synced}
+use Rattle.mount.proofs.AttemptLemmas.{answered_as, cut_within, log_emptied, no_point, not_answered, own_refusal, reads_fail_nothing, settled, stays_by, stays_read, still_going, synced}
 use Rattle.mount.proofs.CountLemmas.{call_eio, call_written, point_eio, point_written, refused_same}
 use Rattle.mount.proofs.AnswerLemmas.{AllOpen, ages_same, ages_within}
 
@@ -47,7 +47,7 @@ module _ {S : Type 0} {G : Ghosts S} (old new : Fs S G) (runs : IsFalse old.has_
   one_of s leaves = weaker first last (λ c. OpensTo first s c ⊎ OpensTo first s c) (OpensTo first s) leaves (λ c either. elim either [ inl one ↦ one | inr other ↦ other ])
 
   -- one was made
-  pub makes_room : (u : Unit {0}) → MakesPoint StaysAt IsFilled old.system new.system (Ok u) → IsFalse new.has_failed → MakesRoom old new (Ok u)
+  pub makes_room : (u : Unit {0}) → MakesPoint StaysAt (λ _. Unit {0}) old.system new.system (Ok u) → IsFalse new.has_failed → MakesRoom old new (Ok u)
   makes_room u told runs_on = record {
     uses = told.counted.uses;
     eio = λ is. cc;
@@ -60,18 +60,18 @@ module _ {S : Type 0} {G : Ghosts S} (old new : Fs S G) (runs : IsFalse old.has_
         unlogged = told.unlogged;
         epoch = next_age old.system.log.epoch new.system.log.epoch (ap (λ (l : LogEnd). l.epoch) told.log);
         stays = λ s serves.
-            stays_by old new s serves runs told.counted.uses.same runs_on (told.covered s.tree.descriptors s (held s serves) s refl).serves
-            (one_of s (told.any_moment s.tree.descriptors s (held s serves) s refl));
+            stays_by old new s serves runs told.counted.uses.same runs_on (told.covered s.tree.descriptors s (held s serves) s refl tt).serves
+            (one_of s (told.any_moment s.tree.descriptors s (held s serves) s refl tt));
       };
       going = runs_on;
       empty = log_emptied new.system old.system.log old.system.log.epoch told.log told.generation;
-      covered = λ s serves. told.covered s.tree.descriptors s (held s serves) s refl;
+      covered = λ s serves. told.covered s.tree.descriptors s (held s serves) s refl tt;
     };
     applied = λ command s serves next needs. tt;
   }
 
   -- none was
-  pub makes_none : (e : PointError) (errno : Errno) → errno ≡ errno_of_point e → MakesPoint StaysAt IsFilled old.system new.system (Err e) → new.has_failed ≡ fails_point e → MakesRoom old new (Err errno)
+  pub makes_none : (e : PointError) (errno : Errno) → errno ≡ errno_of_point e → MakesPoint StaysAt (λ _. Unit {0}) old.system new.system (Err e) → new.has_failed ≡ fails_point e → MakesRoom old new (Err errno)
   makes_none e errno is told flag = record {
     uses = told.counted.uses;
     eio = λ same. point_eio first last e told.counted (sym is ∙ errno_same errno EIO (Err errno) (Err EIO) refl refl same);
@@ -81,9 +81,9 @@ module _ {S : Type 0} {G : Ghosts S} (old new : Fs S G) (runs : IsFalse old.has_
     made = tt;
     applied = λ command s serves next needs.
         let here = held s serves in
-        let leaves = one_of s (told.any_moment s.tree.descriptors s here s refl) in
+        let leaves = one_of s (told.any_moment s.tree.descriptors s here s refl tt) in
         answered_as old new s command (errno_of_point e) errno is
-        (no_point old new s serves runs command e needs.not_sure next told.counted (λ x. (filled_by command new.system (told.full (ap (λ y. Err y) x)).1, needs.stores))
+        (no_point old new s serves runs command e needs next told.counted (λ x. told.roomy s.tree.descriptors s here tt (ap (λ y. Err y) x))
         (λ x. told.last s.tree.descriptors s here (ap (λ y. Err y) x)) (λ x. told.damaged s.tree.descriptors s here (ap (λ y. Err y) x)) flag
         (λ refused runs_on. stays_by old new s serves runs told.counted.uses.same runs_on (told.refused s.tree.descriptors s here refused) leaves)
         (λ x. weaker first last (OpensTo first s) (OpensToSome first (IsWithin s command)) leaves (λ i opens. (s, opens, inl refl))));
@@ -156,8 +156,8 @@ module _ {S : Type 0} {G : Ghosts S} (old new : Fs S G) (runs : IsFalse old.has_
           applied = λ s serves young p.
               let here = serves.kept (still_going old s serves runs) in
               answered_as old new s command (errno_of_call e) errno is
-              (not_answered old new s serves runs command e (not_sure s) told.refuses.0 (reads_fail_nothing e new.has_failed told.refuses.1 runs_on) counted
-              (λ x. told.damaged s here (ap (λ y. Err y) x)) (λ _. told.reads.goes) (λ _. told.serves s here) (λ x. absurd (told.refuses.1 x)) (opens s here));
+              (not_answered old new s serves runs command e (not_sure s) told.refuses.0 told.refuses.1 (reads_fail_nothing e new.has_failed told.refuses.2 runs_on) counted
+              (λ x. told.damaged s here (ap (λ y. Err y) x)) (λ _. told.reads.goes) (λ _. told.serves s here) (λ x. absurd (told.refuses.2 x)) (opens s here));
         }
 
 -- ---- commands that end behind a consistency point of their own
@@ -224,7 +224,7 @@ module _ {S : Type 0} {G : Ghosts S} (n : ℕ) (P : State → Type 0) (old new :
     applied = λ s serves young p.
         let here = going_state s serves in
         answered_as old new s command (errno_of_point e) errno is
-        (no_point old new s serves runs command e (not_sure s) (one_point old.system.log.epoch young) told.counted (λ x. told.full s here (ap (λ y. Err y) x))
+        (no_point old new s serves runs command e (not_sure s) (one_point old.system.log.epoch young) told.counted (λ x. told.roomy s here p (ap (λ y. Err y) x))
         (λ x. told.last s here (ap (λ y. Err y) x)) (λ x. told.damaged s here (ap (λ y. Err y) x)) flag
         (λ refused runs_on. stays_read old new s serves runs told.counted.uses.same runs_on (told.serves s here refused) (told.kept refused) (opens s here))
         (λ x. cut_within old.system new.system s command (told.broken s here p (ap (λ y. Err y) x))));

@@ -1,5 +1,5 @@
 -- What applying commands comes to.
-use Rattle.std.specs.Prelude.{ℕ, ◌≡◌, ◌≢◌, ◌↔◌, ◌≤◌, List, Bool, true, false, IsFalse, IsTrue, Result, Ok, IfErr, IfOk, IsErrOf, MatchResult, OnOk}
+use Rattle.std.specs.Prelude.{ℕ, ◌≡◌, ◌≢◌, ◌⊎◌, ◌↔◌, ◌≤◌, List, Bool, true, false, IsFalse, Result, Ok, IfErr, IfOk, IsErrOf, MatchResult, OnOk}
 use Rattle.station.specs.Calls.{Uses}
 use Rattle.station.specs.Images.{Images, Unchanged}
 use Rattle.station.specs.Moments.{Goes, Meaning, LeftBetween, HasGrown, IsSameStation, LeavesOnly}
@@ -11,21 +11,24 @@ use Rattle.model.specs.declared.reply.Reply.{Reply}
 use Rattle.model.specs.declared.reply.Reply.TheVariants.{Refused}
 use Rattle.model.specs.States.{State, going}
 use Rattle.model.specs.Room.{Room}
-use Rattle.model.specs.Records.{TellsRoom}
-use Rattle.model.specs.Circumstances.{Circumstances, IsSure, IsStoring}
+use Rattle.model.specs.Records.{TellsRoom, count_nameless}
+use Rattle.model.specs.Volumes.{Volume}
+use Rattle.model.specs.Circumstances.{Circumstances, IsSure}
 use Rattle.model.specs.Runs.{MayStand, MayRemain, Leads, LeavesOf, Spans}
 use Rattle.layout.specs.Places.{blocks_of}
+use Rattle.images.specs.Contents.{HoldsVolume, tree_contents}
 use Rattle.images.specs.Roots.{whole}
+use Rattle.images.specs.Snapshots.{HasSnapshot}
+use Rattle.layout.specs.SnapRoot.{Snapshot}
 use Rattle.system.specs.Counting.{AgesBy, Counted, LogsNothing, call_failed, no_call}
 use Rattle.system.specs.Images.{OpensTo}
 use Rattle.system.specs.Opening.{HasFailed}
-use Rattle.system.specs.Room.{free_under}
-use Rattle.system.specs.Serving.{HasEmptyLog, ServesState, TellsNoFault}
-use Rattle.system.specs.Settling.{IsFilledBy}
+use Rattle.images.specs.Room.{free_under}
+use Rattle.system.specs.Serving.{HasEmptyLog, LacksRoom, ServesState, TellsNoFault}
 use Rattle.system.specs.Systems as systems
 use Rattle.system.specs.Systems.{IsCovered}
 use Rattle.system.specs.declared.error.CallError.{CallError}
-use Rattle.system.specs.declared.error.CallError.TheVariants.{LogFull, NotWritten}
+use Rattle.system.specs.declared.error.CallError.TheVariants.{LogFull, NoRoom, NotWritten}
 use Rattle.system.specs.declared.system.System.{System}
 use Rattle.mount.specs.Refusals.{errno_of_call}
 use Rattle.mount.specs.Systems.{HasPoints, Mounted, mounted, file_system_meaning, moment_of, shown_state, Serves}
@@ -50,6 +53,11 @@ pub record HasRoomAtPoint {S : Type 0} {G : Ghosts S} (f : System S G) (s : Stat
       let disk = blocks_of (systems.meaning_of f).seen.disk in
       room.free ≡ free_under (whole disk f.root).active f.root.geometry.blocks
   pub told : TellsRoom f.root.geometry.inodes serves.first serves.running serves.replayed.changes room
+  pub nameless : (k : ℕ) (head : Snapshot) (v : Volume)
+      → let disk = blocks_of (systems.meaning_of f).seen.disk in
+      HasSnapshot f.root (whole disk f.root) k head
+      → HoldsVolume f.root.geometry.inodes (tree_contents ((whole disk f.root).frozen k)) v
+      → room.nameless_of head.name ≡ count_nameless f.root.geometry.inodes v
 
 -- time went on, and earlier moments stay as they were
 pub record TimeGoesOn (old new : Meaning) : Type 0 where
@@ -62,7 +70,6 @@ pub record Between {S : Type 0} {G : Ghosts S} (old : Mounted S G) (command : Co
   pub goes_on : TimeGoesOn (file_system_meaning old) (file_system_meaning new)
   pub reads : TellsOfFault c.read_failed (file_system_meaning old).failed_reads (file_system_meaning new).failed_reads
   pub writes : TellsOfFault c.write_failed (file_system_meaning old).failed_writes (file_system_meaning new).failed_writes
-  pub full : IsTrue c.lacks_place → IsFilledBy command new.fs.system
   pub room : new.state.mark ≡ going → HasRoomAtPoint new.fs.system new.state c.room
 
 -- what a cut from moment a to b might have left, of a system at a state
@@ -108,10 +115,10 @@ pub record AnswersCommand {S : Type 0} {G : Ghosts S} (points : ℕ) (P : State 
 abbrev pub AnswersAlways : {S : Type 0} {G : Ghosts S} → Fs S G → Fs S G → Command → Reply → Type 0
 AnswersAlways old new command reply = AnswersCommand POINTS (λ s. Unit {0}) old new command reply
 
--- a command that a consistency point may refuse for want of place
-pub record NeedsPlace (s : State) (command : Command) : Type 0 where
+-- a command that waits for a consistency point: the disk has no room for it, or the log isn't empty
+pub record WaitsForPoint {S : Type 0} {G : Ghosts S} (f : Fs S G) (s : State) (command : Command) : Type 0 where
   pub not_sure : ¬ IsSure s command
-  pub stores : (room : Room) → IsStoring room s command
+  pub waits : LacksRoom f.system s command ⊎ (HasEmptyLog f.system → ⊥)
 
 -- The state that a system serves stays, and is all that a cut at any moment leaves.
 pub record Stays {S : Type 0} {G : Ghosts S} (old new : Fs S G) (s : State) : Type 0 where
@@ -155,9 +162,13 @@ pub record Attempts {S : Type 0} {G : Ghosts S} (old new : Fs S G) (call : Comma
   pub sure : (s : State) → Serves (mounted old s) → IsSure s call
       → MatchResult result (λ _. new.system.blocks.station ≡ old.system.blocks.station) (λ _. ⊥)
   pub applied : (s : State) → Serves (mounted old s) → MatchResult result (IsAppliedAt old s new call)
-      (λ e. e ≢ LogFull → IsAppliedAt old s new call (Refused (errno_of_call e)))
-  pub going : IsErrOf result LogFull → IsFalse new.has_failed
-  pub full : (s : State) → Serves (mounted old s) → IsErrOf result LogFull → Stays old new s × NeedsPlace s call × (HasEmptyLog old.system → ⊥)
+      (λ e. e ≢ NoRoom → e ≢ LogFull → IsAppliedAt old s new call (Refused (errno_of_call e)))
+  pub going : IfErr result (λ e. e ≢ NotWritten → IsFalse new.has_failed)
+  pub waits : (s : State) → Serves (mounted old s)
+      → IfErr result (λ e. (e ≡ NoRoom) ⊎ (e ≡ LogFull) → Stays old new s × WaitsForPoint new s call)
+  pub fits : (s : State) → Serves (mounted old s) → IsErrOf result LogFull → HasEmptyLog old.system → ⊥
+  pub short : (s : State) → Serves (mounted old s) → IsErrOf result NoRoom
+      → LacksRoom new.system s call × (IsCovered old.system s.tree.descriptors s → IsCovered new.system s.tree.descriptors s)
 
 -- A consistency point was made: all is in the root.
 pub record HasSettled {S : Type 0} {G : Ghosts S} (old new : Fs S G) : Type 0 where
@@ -174,5 +185,5 @@ pub record MakesRoom {S : Type 0} {G : Ghosts S} (old new : Fs S G) (result : Re
   pub unlogged : LogsNothing (systems.meaning_of old.system) (systems.meaning_of new.system)
   pub epoch : AgesBy 1 old.system.log.epoch new.system.log.epoch
   pub made : OnOk result (HasSettled old new)
-  pub applied : (command : Command) (s : State) → Serves (mounted old s) → HasPoints 1 old → NeedsPlace s command
+  pub applied : (command : Command) (s : State) → Serves (mounted old s) → HasPoints 1 old → ¬ IsSure s command
       → IfErr result (λ errno. IsAppliedAt old s new command (Refused errno))

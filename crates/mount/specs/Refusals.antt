@@ -17,14 +17,15 @@ abbrev pub errno_of_call : CallError → Errno
 errno_of_call call.NoMemory = ENOMEM
 errno_of_call call.NotRead = EIO
 errno_of_call call.Damaged = DAMAGED
-errno_of_call call.LogFull = ENOSPC
+errno_of_call call.NoRoom = ENOSPC
+errno_of_call call.LogFull = DAMAGED
 errno_of_call call.NotWritten = EIO
 
 -- of a consistency point
 abbrev pub errno_of_point : PointError → Errno
 errno_of_point (point.NotPlanned plan.NoMemory) = ENOMEM
 errno_of_point (point.NotPlanned plan.Device) = EIO
-errno_of_point (point.NotPlanned plan.NoSpace) = ENOSPC
+errno_of_point (point.NotPlanned plan.NoSpace) = DAMAGED
 errno_of_point (point.NotPlanned plan.Damaged) = DAMAGED
 errno_of_point point.NotWritten = EIO
 errno_of_point point.NoGeneration = FAILED

@@ -35,16 +35,16 @@ impl<S: Station> Fs<S> {
     ghost use Rattle.model.specs.States.{State};
     ghost use Rattle.system.specs.Counting.{AgesBy};
     ghost use Rattle.system.specs.Opening.{HasFailed};
-    ghost use Rattle.system.specs.Serving.{IsCall};
+    ghost use Rattle.system.specs.Serving.{IsCall, WouldChange};
     ghost use Rattle.system.specs.Systems.{IsCovered, meaning_of};
-    ghost use Rattle.mount.specs.Applying.{AnswersCommand, AnswersAlways, Attempts, IsAppliedAt, MakesRoom, NeedsPlace, RunsAt};
+    ghost use Rattle.mount.specs.Applying.{AnswersCommand, AnswersAlways, Attempts, IsAppliedAt, MakesRoom, RunsAt, WaitsForPoint};
     ghost use Rattle.mount.specs.Systems.{mounted, Serves, IsYoung, LastsFor, LeavesState};
     ghost use Rattle.mount.specs.declared.fs.Fs.{Fs};
 
     /// Applies a command and answers it. A command that changes the image is logged before it is answered; a refused one
     /// is not logged. EIO comes only where a device call failed, and where a write or a sync failed nothing else comes; after
-    /// that every command answers FAILED, with no device call. ENOMEM comes where there was no memory, ENOSPC where a
-    /// consistency point found too few free blocks, and then nothing changed; none of these comes to `lseek`, `fsync`, `df`,
+    /// that every command answers FAILED, with no device call. ENOMEM comes where there was no memory, ENOSPC where
+    /// the disk has no room although its newest root covers all, and then nothing changed; none of these comes to `lseek`, `fsync`, `df`,
     /// or `close` but of a file that has no name: they call no device.
     pub fn apply(&mut self, command: &Command) -> Reply
         ensures answers { AnswersAlways self.old self.new command.now result }
@@ -99,8 +99,8 @@ impl<S: Station> Fs<S> {
         }
     }
 
-    /// The same of a call on the tree, on a descriptor or on a snapshot's tree, or of `snap list`. Where its record doesn't
-    /// go into the log, a consistency point runs first.
+    /// The same of a call on the tree, on a descriptor or on a snapshot's tree, or of `snap list`. Where the disk has no room for
+    /// it, or its record doesn't go into the log, a consistency point runs first.
     fn call(&mut self, call: &Command) -> Reply
         requires going { IsFalse self.old.has_failed }
         requires is_call { IsCall call.now }
@@ -109,18 +109,23 @@ impl<S: Station> Fs<S> {
         match self.attempt(call) {
             Ok(reply) => reply,
             Err(error) => match error {
-                CallError::LogFull => self.call_settled(call),
+                CallError::NoRoom | CallError::LogFull => self.call_settled(call),
                 _ => Reply::Refused(errno_of_call(error)),
             },
         }
     }
 
-    /// Runs a consistency point, and then a call that would change something.
+    /// Runs a consistency point where something is uncovered, and then a call that would change something.
     fn call_settled(&mut self, call: &Command) -> Reply
         requires going { IsFalse self.old.has_failed }
         requires is_call { IsCall call.now }
-        ensures { AnswersCommand 1 (λ s. NeedsPlace s call.now) self.old self.new call.now result }
+        ensures { AnswersCommand 1 (λ s. WaitsForPoint self.old s call.now) self.old self.new call.now result }
     {
+        served_states_open(&self.system);
+        if self.system.is_covered() {
+            // Its log is empty, so what lacked was room.
+            return Reply::Refused(Errno::ENOSPC);
+        }
         if let Err(errno) = self.settle() {
             return Reply::Refused(errno);
         }
@@ -180,7 +185,7 @@ impl<S: Station> Fs<S> {
     /// The same where its tests are passed.
     fn take_tested(&mut self, name: &Text) -> Reply
         requires { IsFalse self.old.has_failed }
-        ensures { AnswersCommand POINTS (λ s. NeedsPlace s (Command.SnapTake name.now)) self.old self.new
+        ensures { AnswersCommand POINTS (λ s. WouldChange s (Command.SnapTake name.now)) self.old self.new
             (Command.SnapTake name.now) result }
     {
         if self.system.is_covered() {
@@ -195,10 +200,13 @@ impl<S: Station> Fs<S> {
     /// The same where the newest root covers all.
     fn take_covered(&mut self, name: &Text) -> Reply
         requires { IsFalse self.old.has_failed }
-        ensures { AnswersCommand 1 (λ s. IsCovered self.old.system s.tree.descriptors s) self.old self.new
-            (Command.SnapTake name.now) result }
+        ensures { AnswersCommand 1 (λ s. IsCovered self.old.system s.tree.descriptors s
+            × WouldChange s (Command.SnapTake name.now)) self.old self.new (Command.SnapTake name.now) result }
     {
         served_states_open(&self.system);
+        if !self.system.has_room_to_take() {
+            return Reply::Refused(Errno::ENOSPC);
+        }
         match self.system.take(name) {
             Ok(Ok(())) => {
                 served_states_open(&self.system);

@@ -7,26 +7,26 @@ use conspoint::PlanError;
 use model::Errno;
 use system::{CallError, PointError};
 
-/// Of a call.
+/// Of a call. Behind a consistency point the log is empty and a record fits, so `LogFull` comes then only over images that open to no
+/// state.
 pub(crate) fn errno_of_call(error: CallError) -> Errno
     ensures { result ≡ refusals.errno_of_call error }
 {
     match error {
         CallError::NoMemory => Errno::ENOMEM,
         CallError::NotRead | CallError::NotWritten => Errno::EIO,
-        CallError::Damaged => Errno::DAMAGED,
-        CallError::LogFull => Errno::ENOSPC,
+        CallError::NoRoom => Errno::ENOSPC,
+        CallError::Damaged | CallError::LogFull => Errno::DAMAGED,
     }
 }
 
-/// Of a consistency point.
+/// Of a consistency point. Over a served state it has room, so `NoSpace` comes only over images that open to no state.
 pub(crate) fn errno_of_point(error: PointError) -> Errno
     ensures { result ≡ refusals.errno_of_point error }
 {
     match error {
         PointError::NotPlanned(PlanError::NoMemory) => Errno::ENOMEM,
-        PointError::NotPlanned(PlanError::NoSpace) => Errno::ENOSPC,
-        PointError::NotPlanned(PlanError::Damaged) => Errno::DAMAGED,
+        PointError::NotPlanned(PlanError::NoSpace | PlanError::Damaged) => Errno::DAMAGED,
         PointError::NotPlanned(PlanError::Device) | PointError::NotWritten => Errno::EIO,
         PointError::NoGeneration => Errno::FAILED,
     }

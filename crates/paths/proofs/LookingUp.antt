@@ -21,6 +21,7 @@ pub not_looked : {B : Type 0} {G : Ghosts B} {a : B} {s : InodeFile} → HasLook
 not_looked = record {
   read = record { count = refl; counted = refl; reads = λ start so. so; same = λ disk shows. shows };
   geometry = refl;
+  needs = λ n k le. le;
   loads = record { known = λ n is. is; room = λ n is. is; changed = λ n. (λ is. is, λ is. is) };
   kept = λ disk settled v stands. stands;
 }

@@ -6,6 +6,7 @@ use Rattle.model.specs.Volumes.{Volume}
 use Rattle.buffers.specs.Failures.{HasGrown}
 use Rattle.buffers.specs.Reads.{ReadsBlocks, HasOnlyRead}
 use Rattle.buffers.specs.declared.blocks.Blocks.{Ghosts}
+use Rattle.inofile.specs.Room.{NeedsNoMore}
 use Rattle.inofile.specs.Volumes.{IsVolumeOf}
 use Rattle.inofile.specs.declared.inode_file.InodeFile.{InodeFile}
 use Rattle.paths.specs.Loads.{OnlyLoads}
@@ -23,6 +24,7 @@ stands_over {disk = disk} {settled = settled} {v = v} blocks after t same shows 
 pub record HasLooked {B : Type 0} (G : Ghosts B) (blocks after : B) (s t : InodeFile) : Type 0 where
   pub read : HasOnlyRead G blocks after
   pub geometry : t.geometry ≡ s.geometry
+  pub needs : NeedsNoMore s t
   pub loads : OnlyLoads s t
   pub kept : (disk : ℕ → List ℕ) (settled : ℕ → Inode) (v : Volume) → Stands G disk settled v blocks s → Stands G disk settled v after t
 
@@ -57,6 +59,7 @@ module _ {B T U E : Type 0} {G : Ghosts B} {F : E → Type 0} {a b : B} {s t : I
   looks_ok look = record {
     reads = record { count = look.reads.count; counted = look.reads.counted; device = tt; reads = look.reads.reads; same = look.reads.same };
     geometry = look.geometry;
+    needs = look.needs;
     kept = look.kept;
   }
 
@@ -66,6 +69,7 @@ module _ {B T U E : Type 0} {G : Ghosts B} {F : E → Type 0} {a b : B} {s t : I
   looks_err (Err f) is look = record {
     reads = record { count = look.reads.count; counted = tt; device = λ fault. look.reads.device (subst F is fault); reads = look.reads.reads; same = look.reads.same };
     geometry = look.geometry;
+    needs = look.needs;
     kept = look.kept;
   }
 
@@ -75,6 +79,7 @@ module _ {B T E : Type 0} {G : Ghosts B} {F : E → Type 0} {a b c : B} {s t : I
   looks_reads {r = r} look read = record {
     reads = reads_more r look.reads read;
     geometry = look.geometry;
+    needs = look.needs;
     kept = λ disk settled v stands.
         let now = look.kept disk settled v stands in
         stands_over b c t read.count (read.same disk now.shows) now.volume;
@@ -85,6 +90,7 @@ module _ {B T E : Type 0} {G : Ghosts B} {F : E → Type 0} {a b c : B} {s t : I
   looks_more {r = r} first last = record {
     reads = reads_more r first.reads last.reads;
     geometry = last.geometry ∙ first.geometry;
+    needs = λ n k le. last.needs n k (first.needs n k le);
     kept = λ disk settled v stands. last.kept disk settled v (first.kept disk settled v stands);
   }
 
@@ -94,6 +100,7 @@ module _ {B T E : Type 0} {G : Ghosts B} {F : E → Type 0} {a b : B} {s t : Ino
   has_looked look loads = record {
     read = record { count = look.reads.count; counted = look.reads.counted; reads = look.reads.reads; same = look.reads.same };
     geometry = look.geometry;
+    needs = look.needs;
     loads = loads;
     kept = look.kept;
   }
@@ -103,6 +110,7 @@ module _ {B T E : Type 0} {G : Ghosts B} {F : E → Type 0} {a b : B} {s t : Ino
   as_look looked = record {
     reads = record { count = looked.read.count; counted = looked.read.counted; device = tt; reads = looked.read.reads; same = looked.read.same };
     geometry = looked.geometry;
+    needs = looked.needs;
     kept = looked.kept;
   }
 
@@ -112,6 +120,7 @@ module _ {B T E : Type 0} {G : Ghosts B} {F : E → Type 0} {a b : B} {s t : Ino
   then_failed e (Err f) is other looked = record {
     reads = record { count = looked.read.count; counted = tt; device = λ fault. absurd (other (subst F is fault)); reads = looked.read.reads; same = looked.read.same };
     geometry = looked.geometry;
+    needs = looked.needs;
     kept = looked.kept;
   }
 
@@ -124,6 +133,7 @@ looked_more {s = s} {t = t} {u = u} first last = record {
     same = λ disk shows. last.read.same disk (first.read.same disk shows);
   };
   geometry = last.geometry ∙ first.geometry;
+  needs = λ n k le. last.needs n k (first.needs n k le);
   loads = loads_more s t u first.loads last.loads;
   kept = λ disk settled v stands. last.kept disk settled v (first.kept disk settled v stands);
 }

@@ -11,15 +11,15 @@ use Rattle.images.specs.Contents.{Content, StandsAs, content_bytes}
 use Rattle.inode.specs.Files.{file_block}
 use Rattle.inode.specs.declared.object.Object.{Object}
 use Rattle.inofile.specs.Objects.{IsObject, IsObjectKind}
-use Rattle.inofile.specs.Settled.{content_of}
+use Rattle.inofile.specs.Settled.{content_of_object}
 use Rattle.model.specs.Paths.{Name}
 use Rattle.model.specs.Volumes.{Node, directory_node, names_in}
 use Rattle.paths.specs.Steps.{found_as, found_in, text_in}
 
 module _ (disk : ℕ → List ℕ) (inodes : ℕ) (settled : Inode) (o : Object) (node : Option Node) (object : IsObject disk inodes settled o node) where
   -- it stands for what its kind says
-  stands : (kind : Kind) → o.attributes.kind ≡ kind → StandsAs kind inodes (content_of disk o) node
-  stands kind is = subst (λ k. StandsAs k inodes (content_of disk o) node) is object.stands
+  stands : (kind : Kind) → o.attributes.kind ≡ kind → StandsAs kind inodes (content_of_object disk o) node
+  stands kind is = subst (λ k. StandsAs k inodes (content_of_object disk o) node) is object.stands
 
   -- a directory's names
   pub names_of : o.attributes.kind ≡ kinds.Directory → (names : NameMap) × HoldNames inodes (o.file.size / 4096) (file_block disk o.file) names × (node ≡ Some (directory_node o.attributes.mode names))
@@ -34,11 +34,11 @@ module _ (disk : ℕ → List ℕ) (inodes : ℕ) (settled : Inode) (o : Object)
       → P (names_in node)
   of_names P is told = let d = names_of is in subst (λ n. P (names_in n)) (sym d.2) (told d.0 d.1)
 
-  pub link_text : o.attributes.kind ≡ kinds.Link → content_bytes (content_of disk o) ≡ text_in node
+  pub link_text : o.attributes.kind ≡ kinds.Link → content_bytes (content_of_object disk o) ≡ text_in node
   link_text is = sym (ap text_in (stands kinds.Link is))
 
   -- what is no directory has no names
-  no_names : (kind : Kind) → (kind ≢ kinds.Directory) → IsObjectKind kind → StandsAs kind inodes (content_of disk o) node → (x : Name) → names_in node x ≡ None
+  no_names : (kind : Kind) → (kind ≢ kinds.Directory) → IsObjectKind kind → StandsAs kind inodes (content_of_object disk o) node → (x : Name) → names_in node x ≡ None
   no_names kinds.Free other kind is x = absurd kind
   no_names kinds.File other kind is x = ap (λ n. names_in n x) is
   no_names kinds.Directory other kind is x = absurd (other refl)
@@ -51,7 +51,7 @@ module _ (disk : ℕ → List ℕ) (inodes : ℕ) (settled : Inode) (o : Object)
   without_names other x = no_names o.attributes.kind other object.kind object.stands x
 
   -- what is no link has no text
-  no_text : (kind : Kind) → (kind ≢ kinds.Link) → IsObjectKind kind → StandsAs kind inodes (content_of disk o) node → text_in node ≡ []
+  no_text : (kind : Kind) → (kind ≢ kinds.Link) → IsObjectKind kind → StandsAs kind inodes (content_of_object disk o) node → text_in node ≡ []
   no_text kinds.Free other kind is = absurd kind
   no_text kinds.File other kind is = ap text_in is
   no_text kinds.Directory other kind is = ap text_in is.2

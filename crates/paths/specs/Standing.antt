@@ -6,6 +6,7 @@ use Rattle.blocktree.specs.declared.error.ReadError.{ReadError}
 use Rattle.blocktree.specs.declared.error.ReadError.TheVariants.{Damaged}
 use Rattle.buffers.specs.Reads.{ReadsBlocks}
 use Rattle.buffers.specs.declared.blocks.Blocks.{Ghosts}
+use Rattle.inofile.specs.Room.{NeedsNoMore}
 use Rattle.inofile.specs.Volumes.{IsVolumeOf}
 use Rattle.inofile.specs.declared.inode_file.InodeFile.{InodeFile}
 
@@ -14,11 +15,12 @@ pub record Stands {B : Type 0} (G : Ghosts B) (disk : ℕ → List ℕ) (settled
   pub shows : G.Shows blocks disk
   pub volume : IsVolumeOf (G.count blocks) disk settled s v
 
--- Blocks are read, and objects come into memory. What memory stands for stays. IsFault tells which errors say that a device call
+-- Blocks are read, and objects come into memory. What memory stands for stays, and a consistency point stores no more of it. IsFault tells which errors say that a device call
 -- failed.
 pub record Looks {B T E : Type 0} (G : Ghosts B) (IsFault : E → Type 0) (blocks after : B) (s t : InodeFile) (result : Result T E) : Type 0 where
   pub reads : ReadsBlocks G IsFault blocks after result
   pub geometry : t.geometry ≡ s.geometry
+  pub needs : NeedsNoMore s t
   pub kept : (disk : ℕ → List ℕ) (settled : ℕ → Inode) (v : Volume) → Stands G disk settled v blocks s → Stands G disk settled v after t
 
 -- this holds of whatever memory stands for

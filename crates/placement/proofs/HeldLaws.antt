@@ -29,8 +29,8 @@ pub used_holes : (xs : List Pointer) (n : ℕ) → ((i : ℕ) → n ≤ i → po
 used_holes xs n holes = All-from_get_or (λ p. p ≡ Hole) (drop n xs) Hole (λ i lt. get_or-drop n xs i Hole ∙ holes (n + i) (omega arith))
 
 -- as many nodes by the size of a file as by its blocks
-pub nodes_same : (size m : ℕ) → images.nodes_at size m ≡ nodes_at (block_count size) m
-unfolding nodes_at images.nodes_at
+pub nodes_same : (size m : ℕ) → images.nodes_of_size size m ≡ nodes_at (block_count size) m
+unfolding nodes_at images.nodes_of_size
 nodes_same size zero = refl
 nodes_same size (suc m) = ap (λ (n : ℕ). div_ceil n 1024) (nodes_same size m)
 

@@ -7,7 +7,7 @@ use Rattle.layout.specs.Version.{level_of}
 use Rattle.layout.specs.declared.inode.Inode.{Inode}
 use Rattle.layout.specs.declared.pointer.Pointer.TheVariants.{Hole}
 use Rattle.images.specs.Nodes.{held}
-use Rattle.images.specs.Soundness.{HasNoHole, nodes_at}
+use Rattle.images.specs.Soundness.{HasNoHole, nodes_of_size}
 use Rattle.blocktree.specs.Places.{block_count}
 use Rattle.blocktree.specs.Trees.{IsChanged}
 use Rattle.inode.specs.declared.object.Object.{Object}
@@ -17,14 +17,14 @@ use Rattle.placement.specs.declared.nodes.Nodes.{Nodes}
 
 settled_stored : (disk : Blocks) (base : Inode) (n : Nodes) (i : ℕ) → HasNoHole (held disk base) → AreNodesOf n (held disk base) → 1 ≤ level_of base.size → i < block_count base.size
     → node n 0 i ≡ Hole → ⊥
-unfolding held nodes_at
+unfolding held nodes_of_size
 settled_stored disk base n i no_hole nodes level lt hole = no_hole i level lt (nodes.places 0 i ∙ hole)
 
 pub no_hole_left : (disk e : Blocks) (base f : Inode) (o : Object) (settled laid : Nodes) → IsWholeOver disk base o → f.size ≡ o.file.size → AreNodesOf settled (held disk base) → AreNodesOf laid (held e f)
     → ((i : ℕ) → 1 ≤ level_of o.file.size → i < block_count o.file.size → node laid 0 i ≡ Hole
     → (if nat_lt i o.file.tree.kept then node settled 0 i else Hole) ≡ Hole)
     → HasNoHole (held e f)
-unfolding held nodes_at
+unfolding held nodes_of_size
 no_hole_left disk e base f o settled laid whole same before after holes i level lt hole =
     let size : f.size ≡ base.size = same ∙ whole.size in
     let high : 1 ≤ level_of base.size = subst (λ n. 1 ≤ level_of n) size level in
@@ -37,7 +37,7 @@ no_hole_left disk e base f o settled laid whole same before after holes i level 
 pub none_left : (e : Blocks) (f : Inode) (o : Object) (laid : Nodes) → AreAllChanged o → f.size ≡ o.file.size → AreNodesOf laid (held e f)
     → ((i : ℕ) → 1 ≤ level_of o.file.size → i < block_count o.file.size → IsChanged o.file.tree i → node laid 0 i ≢ Hole)
     → HasNoHole (held e f)
-unfolding held nodes_at
+unfolding held nodes_of_size
 none_left e f o laid all same after stored i level lt hole =
     let at : i < block_count o.file.size = subst (λ n. i < block_count n) same lt in
     stored i (subst (λ n. 1 ≤ level_of n) same level) at (all i at) (sym (after.places 0 i) ∙ hole)

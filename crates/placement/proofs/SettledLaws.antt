@@ -26,13 +26,13 @@ pub record NodeLaws : Type 0 where
   pub places : (disk : Blocks) (f : Inode) (pointers : List Pointer) (depth height i : ℕ) → f.body ≡ Pointers pointers → level_of f.size ≡ suc (depth + height)
       → (held disk f).place height i ≡ place disk pointers depth i
   pub paths : (s : Sizes) (disk : Blocks) (f : Inode) (pointers : List Pointer) (depth height i : ℕ) → IsSoundFile s (held disk f) → f.body ≡ Pointers pointers → level_of f.size ≡ suc (depth + height)
-      → IsPath s.blocks disk pointers depth (images.nodes_at f.size height) i
-  pub past : (s : Sizes) (disk : Blocks) (f : Inode) (height i : ℕ) → IsSoundFile s (held disk f) → images.nodes_at f.size height ≤ i → (held disk f).place height i ≡ Hole
+      → IsPath s.blocks disk pointers depth (images.nodes_of_size f.size height) i
+  pub past : (s : Sizes) (disk : Blocks) (f : Inode) (height i : ℕ) → IsSoundFile s (held disk f) → images.nodes_of_size f.size height ≤ i → (held disk f).place height i ≡ Hole
   pub above : (disk : Blocks) (f : Inode) (height i : ℕ) → level_of f.size ≤ height → (held disk f).place height i ≡ Hole
 
 pub paths_sound : (laws : NodeLaws) (s : Sizes) (d : Blocks) (base : Inode) (t : BlockTree) → IsBasedOn base t → IsSoundFile s (held d base) → (i : ℕ) → i < t.count → IsPath s.blocks d t.pointers t.depth t.count i
 paths_sound laws s d base t (IsBasedOn.settled body level count) sound i lt =
-    let all : images.nodes_at base.size 0 ≡ t.count = nodes_same base.size 0 ∙ first_nodes (block_count base.size) ∙ sym count in
+    let all : images.nodes_of_size base.size 0 ≡ t.count = nodes_same base.size 0 ∙ first_nodes (block_count base.size) ∙ sym count in
     subst (λ (n : ℕ). IsPath s.blocks d t.pointers t.depth n i) all (laws.paths s d base t.pointers t.depth 0 i sound body (omega (arith, level)))
 paths_sound laws s d base t (IsBasedOn.none level count) sound i lt = absurd (omega (arith, lt, count))
 
@@ -50,7 +50,7 @@ module _ (laws : NodeLaws) (s : Sizes) (d : Blocks) (base : Inode) (t : BlockTre
       | inr low ↦ elim (cases_lt i (nodes_at t.count m)) [
         | inl lt ↦ laws.places d base t.pointers (t.depth - m) m i body (omega (arith, level, low)) ∙ sym (nodes m i low lt)
         | inr ge ↦
-            let count : images.nodes_at base.size m ≡ nodes_at t.count m = nodes_same base.size m ∙ ap (λ (k : ℕ). nodes_at k m) (sym all) in
+            let count : images.nodes_of_size base.size m ≡ nodes_at t.count m = nodes_same base.size m ∙ ap (λ (k : ℕ). nodes_at k m) (sym all) in
             laws.past s d base m i sound (omega (arith, ge, count)) ∙ sym (end m i ge)
       ]
     ]

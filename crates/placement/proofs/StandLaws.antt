@@ -16,7 +16,7 @@ use Rattle.layout.specs.declared.inode.Inode.{Inode}
 use Rattle.layout.specs.declared.pointer.Pointer.{Pointer}
 use Rattle.layout.specs.declared.pointer.Pointer.TheVariants.{Hole, Block}
 use Rattle.images.specs.Nodes.{held, Names, Agrees}
-use Rattle.images.specs.Soundness.{nodes_at, IsSoundFile}
+use Rattle.images.specs.Soundness.{nodes_of_size, IsSoundFile}
 use Rattle.blocktree.specs.Places.{block_count}
 use Rattle.blocktree.specs.Trees.{settled_block}
 use Rattle.inode.specs.declared.object.Object.{Object}
@@ -34,7 +34,7 @@ use Rattle.images.proofs.OverlayLaws.{held_up}
 
 -- an inode's pointers fit, where so many are used and the others are holes
 pub pointers_fit : (blocks size top : ℕ) (body : List Pointer) (n : ℕ → Pointer) → level_of size ≡ suc top → length body ≡ 16 → ((i : ℕ) → pointer_at body i ≡ n i) → ((i : ℕ) → PointsBelow blocks (n i))
-    → ((i : ℕ) → nodes_at size top ≤ i → n i ≡ Hole) → FitsPointers body blocks size
+    → ((i : ℕ) → nodes_of_size size top ≤ i → n i ≡ Hole) → FitsPointers body blocks size
 pointers_fit blocks size top body n level count same within end = (
   not_inline size top level,
   count,
@@ -152,7 +152,7 @@ module _ (s : Sizes) (d e : Blocks) (base : Inode) (o : Object) (settled : Nodes
   }
 
   module _ (block : ℕ → List ℕ) (body : List Pointer) (n : Nodes) (top : ℕ) (level : level_of o.file.size ≡ suc top) (heights : height_of n ≡ suc top)
-      (within : (m i : ℕ) → PointsBelow s.blocks (node n m i)) (end : (m i : ℕ) → nodes_at o.file.size m ≤ i → node n m i ≡ Hole)
+      (within : (m i : ℕ) → PointsBelow s.blocks (node n m i)) (end : (m i : ℕ) → nodes_of_size o.file.size m ≤ i → node n m i ≡ Hole)
       (size : length body ≡ 16) (own : (i : ℕ) → pointer_at body i ≡ node n top i) (groups : StandOver e settled n) (leads : LeadToBlocks e (node n 0) block) where
     -- from the inode down, depth by depth
     place_down : (k i : ℕ) → k ≤ top → place e body k i ≡ node n (top - k) i
@@ -176,11 +176,11 @@ module _ (s : Sizes) (d e : Blocks) (base : Inode) (o : Object) (settled : Nodes
     ]
 
     over_sound : (m i b : ℕ) → (held e (inode_with o (Pointers body))).place (suc m) i ≡ Block b
-        → IsIndirectBlock s.blocks (nodes_at o.file.size m - 1024 * i) ((held e (inode_with o (Pointers body))).bytes (suc m) i)
+        → IsIndirectBlock s.blocks (nodes_of_size o.file.size m - 1024 * i) ((held e (inode_with o (Pointers body))).bytes (suc m) i)
     over_sound m i b is =
         let at = sym (laid_place (suc m) i) ∙ is in
-        subst (λ bytes. IsIndirectBlock s.blocks (nodes_at o.file.size m - 1024 * i) bytes) (sym (node_bytes e (inode_with o (Pointers body)) (suc m) i b is))
-        (node_sound m (node n (suc m) i) (λ r. node n m (1024 * i + r)) i b (nodes_at o.file.size m - 1024 * i) at (λ r. within m (1024 * i + r)) (λ r past. end m (1024 * i + r) (omega (arith, past)))
+        subst (λ bytes. IsIndirectBlock s.blocks (nodes_of_size o.file.size m - 1024 * i) bytes) (sym (node_bytes e (inode_with o (Pointers body)) (suc m) i b is))
+        (node_sound m (node n (suc m) i) (λ r. node n m (1024 * i + r)) i b (nodes_of_size o.file.size m - 1024 * i) at (λ r. within m (1024 * i + r)) (λ r past. end m (1024 * i + r) (omega (arith, past)))
         (groups m i (node_height n (suc m) i b at)))
 
     pub laid_stands : IsLaidOut s e block (inode_with o (Pointers body)) n

@@ -11,7 +11,7 @@ use Rattle.layout.specs.declared.inode.Inode.{Inode}
 use Rattle.layout.specs.declared.pointer.Pointer.{Pointer}
 use Rattle.layout.specs.declared.pointer.Pointer.TheVariants.{Block}
 use Rattle.images.specs.Nodes.{held, Names, Agrees, file_block}
-use Rattle.images.specs.Soundness.{nodes_at}
+use Rattle.images.specs.Soundness.{nodes_of_size}
 use Rattle.blocktree.specs.declared.tree.BlockTree.{BlockTree}
 use Rattle.inode.specs.declared.object.Object.{Object}
 use Rattle.conspoint.specs.declared.draft.Draft.{Draft}
@@ -49,7 +49,7 @@ pub record IsLaidOut (s : Sizes) (e : Blocks) (block : ℕ → List ℕ) (f : In
   pub blocks : (i : ℕ) → file_block (held e f) i ≡ block i
   pub body : FitsBody f.body s.blocks f.size
   pub indirect : (m i b : ℕ) → (held e f).place (suc m) i ≡ Block b
-      → IsIndirectBlock s.blocks (nodes_at f.size m - BLOCK_POINTERS * i) ((held e f).bytes (suc m) i)
+      → IsIndirectBlock s.blocks (nodes_of_size f.size m - BLOCK_POINTERS * i) ((held e f).bytes (suc m) i)
 
 -- on a disk e these pointers lead to the blocks of a file
 abbrev pub LeadToBlocks : Blocks → (ℕ → Pointer) → (ℕ → List ℕ) → Type 0

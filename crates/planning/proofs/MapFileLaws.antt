@@ -21,7 +21,7 @@ use Rattle.conspoint.specs.declared.draft.Draft.{Draft}
 use Rattle.images.specs.BlockMap.{NamesOnce, entry}
 use Rattle.images.specs.Nodes.{Agrees, Names, file_block, held}
 use Rattle.images.specs.Roots.{HeldTree}
-use Rattle.images.specs.Soundness.{HasNoHole, nodes_at}
+use Rattle.images.specs.Soundness.{HasNoHole, nodes_of_size}
 use Rattle.images.proofs.ReadingLaws as reading
 use Rattle.inode.specs.declared.file.File.{File}
 use Rattle.inofile.specs.Settled.{AreSettled}
@@ -55,7 +55,7 @@ has_over count parts disk s top settled_of are is level =
 -- no block of a settled map is a hole
 stored_block : (s : Sizes) (disk : Blocks) (f : Inode) (parts k : ℕ) → HasNoHole (held disk f) → f.size ≡ 4 * s.blocks → 64 ≤ s.blocks → parts ≡ div_ceil s.blocks 1024 → k < parts
     → (held disk f).place 0 k ≢ Hole
-unfolding held nodes_at
+unfolding held nodes_of_size
 stored_block s disk f parts k no_hole size most parts_are lt = no_hole k (some (cases_lt 65536 f.size)) (omega (arith, size, parts_are, lt))
   where
     some : (65536 < f.size) ⊎ (f.size ≤ 65536) → 1 ≤ level_of f.size

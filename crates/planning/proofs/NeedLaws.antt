@@ -1,5 +1,5 @@
 -- What a plan takes is no more than what memory may need of a point, number by number, and what every point stores.
-use Rattle.std.proofs.Common.{◌≡◌, ◌∙◌, ℕ, zero, suc, ◌+◌, ◌*◌, ◌/◌, ◌%◌, ◌<◌, ◌≤◌, ◌↔◌, Option, Some, None, IsSome, inl, inr, refl, ap, arith, true, false}
+use Rattle.std.proofs.Common.{◌≡◌, ℕ, zero, suc, ◌+◌, ◌*◌, ◌/◌, ◌%◌, ◌<◌, ◌≤◌, ◌↔◌, Option, Some, None, IsSome, inl, inr, refl, ap, arith, true, false}
 use Rattle.std.specs.Prelude.{min, nat_le, nat_lt, ◌==◌, if◌then◌else◌, Bool}
 use Rattle.std.specs.Int.{div_ceil}
 use Rattle.std.specs.Ordering.{nat_cmp}
@@ -26,10 +26,10 @@ use Rattle.inofile.specs.Inodes.{is_changed_slot}
 use Rattle.inofile.specs.Slots.{IsChangedSlot}
 use Rattle.inofile.specs.Room.{has_moved, memory_room, number_room, slot_room}
 use Rattle.inofile.specs.declared.inode_file.InodeFile.{InodeFile}
-use Rattle.inofile.specs.declared.inode_file.Slot.{Slot}
-use Rattle.inofile.specs.declared.inode_file.Slot.TheVariants.{AsSettled, Loaded, Changed}
+use Rattle.inofile.specs.declared.inode_file.ObjectSlot.{ObjectSlot}
+use Rattle.inofile.specs.declared.inode_file.ObjectSlot.TheVariants.{AsSettled, Loaded, Changed}
 use Rattle.placement.specs.Space.{file_stores, height_stores, level_stores, more_over}
-use Rattle.planning.specs.Space.{CountsMoves, map_file_nodes, map_stores, nodes_below, number_changes, point_stores, slot_nodes, top_block, top_nodes, MAP_NUMBERS}
+use Rattle.planning.specs.Space.{map_file_nodes, map_stores, nodes_below, number_changes, point_stores, slot_nodes, top_block, top_nodes, MAP_NUMBERS}
 
 -- ---- a file
 
@@ -60,7 +60,7 @@ stores_room f =
 
 -- ---- a number: its blocks, and twice for the number that is changed
 
-slot_needs : (slot : Option Slot) → slot_nodes slot + 2 * (if is_changed_slot slot then 1 else 0) ≤ slot_room slot
+slot_needs : (slot : Option ObjectSlot) → slot_nodes slot + 2 * (if is_changed_slot slot then 1 else 0) ≤ slot_room slot
 slot_needs None = omega arith
 slot_needs (Some AsSettled) = omega arith
 slot_needs (Some (Loaded object)) = omega arith
@@ -95,7 +95,7 @@ map_moves base v i = min 1 (sum_below (λ k. moves base v (MAP_NUMBERS * i + k))
 
 -- ---- the inode file
 
-unchanged_past : (slot : Option Slot) → (IsChangedSlot slot → ⊥) → ◌≡◌ {A = ℕ} (if is_changed_slot slot then 1 else 0) 0
+unchanged_past : (slot : Option ObjectSlot) → (IsChangedSlot slot → ⊥) → ◌≡◌ {A = ℕ} (if is_changed_slot slot then 1 else 0) 0
 unchanged_past None not = refl
 unchanged_past (Some AsSettled) not = refl
 unchanged_past (Some (Loaded object)) not = refl
@@ -173,7 +173,7 @@ moved_not (Some old) None none = absurd (omega (arith, none))
 moved_not (Some old) (Some new) none = ((λ is. refl), (λ is. refl))
 
 -- these numbers count each block that a plan stores of the inode map
-pub moves_count : (base v : Volume) → CountsMoves (map_moves base v) base v
+pub moves_count : (base v : Volume) (n : ℕ) → map_moves base v (n / MAP_NUMBERS) ≡ 0 → IsSome (base n) ↔ IsSome (v n)
 moves_count base v n none =
     let f : ℕ → ℕ = λ k. moves base v (MAP_NUMBERS * (n / MAP_NUMBERS) + k) in
     let counted = is_in_sum f (n % MAP_NUMBERS) MAP_NUMBERS (omega arith) in

@@ -31,7 +31,7 @@ use Rattle.inode.specs.Files.{file_block as object_file_block}
 use Rattle.inode.specs.declared.object.Object.{Object}
 use Rattle.inofile.specs.Inodes.{files_of, content_at, or_free_content}
 use Rattle.inofile.specs.Objects.{IsObject, IsObjectKind}
-use Rattle.inofile.specs.Settled.{content_of as memory_content}
+use Rattle.inofile.specs.Settled.{content_of_object as memory_content}
 use Rattle.inofile.specs.declared.inode_file.InodeFile.{InodeFile}
 use Rattle.model.specs.Volumes.{Node, Volume}
 use Rattle.placement.specs.Files.{IsBasedOn, IsPlaced, IsChangeOf, object_content}

@@ -28,7 +28,7 @@ use Rattle.images.specs.Contents.{Content, HoldsVolume, StandsAs, content_of, tr
 use Rattle.images.specs.Cuts.{IsPointWith, LeavesFree, PlansOn, Write}
 use Rattle.images.specs.Nodes.{held, Agrees, Names, file_block}
 use Rattle.images.specs.Points.{HoldObjects, IsPlannedOn, IsSoundPlan}
-use Rattle.images.specs.Room.{IsNewHead, KeepsOwn, StoresOwn, TakesBelow, TakesFirst, free_under}
+use Rattle.images.specs.Room.{IsNewHead, StoresOwn, TakesBelow, TakesFirst, free_under}
 use Rattle.images.specs.Roots.{HeldTree, Needs, Reach, inode_under, tree, whole}
 use Rattle.images.specs.Roots.Needs.{active}
 use Rattle.images.specs.SnapshotSteps.{SnapshotStep, CanStep, HasHead, StepsSlots}
@@ -69,7 +69,7 @@ HoldsAgreed = (d e : Blocks) (f : Inode) → Agrees (Names (held d f)) d e → h
 -- what images says of the blocks that a point leaves free
 abbrev pub LeavesRoom : Type 0
 LeavesRoom = (d e : Blocks) (r new : Root) (files : ℕ → Content) → IsRoot r → IsRoot new → IsSound r (whole d r) → Agrees (Needs r (whole d r)) d e
-    → (plan : IsPlannedOn (whole d r) (whole d r).active 0 r e new files) → IsSoundPlan r.geometry e plan.inode plan.changed → KeepsOwn r (whole d r)
+    → (plan : IsPlannedOn (whole d r) (whole d r).active 0 r e new files) → IsSoundPlan r.geometry e plan.inode plan.changed
     → ((k b : ℕ) → IsNewHead r new k b → ⊥) → (mid : ℕ) → TakesBelow mid (λ n. n ≢ 2) r new plan.taken → TakesFirst (λ n. held e (plan.inode n)) plan.taken
     → free_under (whole d r).active r.geometry.blocks + level_of r.inode_file.size
     ≤ free_under (whole e new).active r.geometry.blocks + free_under (whole d r).active (min mid r.geometry.blocks)
@@ -167,13 +167,13 @@ module _ {start : Draft} (spelled : ReadsSpelled) (reads_past : ReadsPast) (same
 
   -- and where no snapshot shares what every point stores, so many blocks stay free
   pub room_on : LeavesRoom → (step : SnapshotStep) → StepsEntries step r new before before (entry_at draft.map.parts.items) → SnapshotsSpelled → CanStep step r (whole d r) → StepsSlots step r new → HasHead step new e
-      → HasHeads r new start → IsRoot new → KeepsOwn r (whole d r) → ((k b : ℕ) → IsNewHead r new k b → ⊥)
+      → HasHeads r new start → IsRoot new → ((k b : ℕ) → IsNewHead r new k b → ⊥)
       → free_under (whole d r).active r.geometry.blocks + level_of r.inode_file.size
       ≤ free_under (whole e new).active r.geometry.blocks + free_under (whole d r).active (min all.middle.map.next r.geometry.blocks)
   unfolding plans_on point_planned
-  room_on law step entries heads can slots head has_heads new_root kept none =
+  room_on law step entries heads can slots head has_heads new_root none =
       let plans = plans_on step entries heads can slots head has_heads in
-      law d e r new files root new_root sound agrees plans.plan plans.sound kept none all.middle.map.next
+      law d e r new files root new_root sound agrees plans.plan plans.sound none all.middle.map.next
       (record { files = all.below e has reach; heads = λ k b is. absurd (none k b is) }) (all.first_taken e has reach)
 
   pub all_on : LeavesAll → (step : SnapshotStep) → StepsEntries step r new before before (entry_at draft.map.parts.items) → SnapshotsSpelled → CanStep step r (whole d r) → StepsSlots step r new → HasHead step new e
@@ -254,15 +254,15 @@ module _ {start : Draft} (spelled : ReadsSpelled) (reads_past : ReadsPast) (same
 
   -- what it leaves free, where so much is taken before the block map
   pub room_is : LeavesRoom → (step : SnapshotStep) → StepsEntries step r new (settled_at m.parts.items) (settled_at m.parts.items) (entry_at draft.map.parts.items) → SnapshotsSpelled → CanStep step r (whole disk r)
-      → StepsSlots step r new → OnEach draft (HasHead step new) → HasHeads r new start → KeepsOwn r (whole disk r) → ((k b : ℕ) → IsNewHead r new k b → ⊥) → (spent : ℕ)
+      → StepsSlots step r new → OnEach draft (HasHead step new) → HasHeads r new start → ((k b : ℕ) → IsNewHead r new k b → ⊥) → (spent : ℕ)
       → ((middle : Draft) → Grows start middle → ((w : ℕ → ℕ) → CountsBlocks w inodes.numbers.bytes.items (file_block (tree_of 1))
       → TakesAtMost (nodes_below inodes inodes.geometry.inodes + map_stores w inodes + top_nodes inodes (tree_of 0).inode.size) start middle)
       → free_under (whole disk r).active (min middle.map.next r.geometry.blocks) ≤ spent + level_of r.inode_file.size)
       → LeavesFree spent r disk (writes_of draft.blocks.items) new
-  room_is law step stepped heads can slots head has_heads kept none spent few e has agrees =
+  room_is law step stepped heads can slots head has_heads none spent few e has agrees =
       let all = all_from_map (λ (w : Write). e w.place ≡ w.bytes) draft.blocks.items has in
       let room = room_on spelled reads_past same_held disk r new draft (settled_at m.parts.items) found_of inodes v now_planned root plannable.holds.sound plannable.entries geometry plannable.memory.mapped objects_after
-      e all agrees law step stepped heads can slots (head e all) has_heads new_root kept none in
+      e all agrees law step stepped heads can slots (head e all) has_heads new_root none in
       omega (arith, room, few now_planned.middle now_planned.begins now_planned.few)
 
   -- and whatever is done with the snapshots

@@ -13,7 +13,7 @@ use Rattle.blockmap.specs.Maps.{entry_at}
 use Rattle.blockmap.specs.declared.map.BlockMap.{BlockMap}
 use Rattle.conspoint.specs.Drafts.{Grows, IsShortage}
 use Rattle.conspoint.specs.Errors.{IsReadFault, plan_error}
-use Rattle.conspoint.specs.Space.{Lacks, TakesAtMost}
+use Rattle.conspoint.specs.Space.{TakesAtMost}
 use Rattle.conspoint.specs.Steps.{Marks, Puts, Takes}
 use Rattle.conspoint.specs.declared.draft.Draft.{Draft}
 use Rattle.conspoint.specs.declared.error.PlanError.{PlanError}
@@ -27,7 +27,7 @@ use Rattle.placement.specs.declared.file.PlacedFile.{PlacedFile}
 use Rattle.placement.proofs.StepLaws.{read_ended}
 use Rattle.planning.specs.Inodes.{ChangesFile, KeepsFile}
 use Rattle.planning.specs.Progress.{KeepsSets}
-use Rattle.planning.specs.Promises.{PlansFiles, PlansRoot}
+use Rattle.planning.specs.Promises.{PlansFiles, PlansParts, PlansRoot}
 use Rattle.planning.proofs.ProgressLaws.{sets_from, sets_twice}
 use Rattle.planning.proofs.TopLaws.{changes_none, changes_twice}
 
@@ -167,15 +167,28 @@ pub plans_so_far : {B T : Type 0} {G : Ghosts B} {n : ℕ} {x y : B} {a b : Draf
     → PlansFiles G n x y a b (Ok w)
 plans_so_far read grows sets takes = record { reads = only_ok read; grows = grows; sets = sets; takes = takes; lacks = λ bad. no_error NoSpace bad }
 
+-- ---- parts whose blocks are counted apart
+
+module _ {B T : Type 0} {G : Ghosts B} {x y : B} {a b : Draft} where
+  pub parts_of : {n : ℕ} {r : Result T PlanError} → PlansFiles G n x y a b r → PlansParts G x y a b r
+  parts_of part = record { reads = part.reads; grows = part.grows; sets = part.sets }
+
+  -- one of them failed
+  pub parts_err : {U : Type 0} {e : PlanError} (q : Result U PlanError) → IsErrAnd q (λ f. f ≡ e) → PlansParts {T = T} G x y a b (Err e) → PlansParts G x y a b q
+  parts_err (Ok w) is part = absurd is
+  parts_err (Err f) is part = record { reads = reads_err (Err f) is part.reads; grows = part.grows; sets = tt }
+
+  -- one after the other
+  pub parts_then : {U : Type 0} {z : B} {c : Draft} {v : T} {r : Result U PlanError} → PlansParts G x y a b (Ok v) → PlansParts G y z b c r → PlansParts G x z a c r
+  parts_then {c = c} {r = r} first then = record { reads = reads_more r first.reads then.reads; grows = grows_twice a b c first.grows then.grows; sets = sets_then a b c r first.sets then.sets }
+
 -- no root is planned, as a part failed
-pub root_stops : {B T : Type 0} {G : Ghosts B} {n g : ℕ} {root : Root} {x y : B} {a b : Draft} {e : PlanError} (q : Result Root PlanError) → IsErrAnd q (λ f. f ≡ e) → ReadsBlocks {T = T} G IsReadFault x y (Err e) → Grows a b
-    → (e ≡ NoSpace → Lacks n a) → PlansRoot G n g root x y a b q
-root_stops (Ok r) is reads grows lacks = absurd is
-root_stops (Err f) is reads grows lacks = record {
+pub root_stops : {B T : Type 0} {G : Ghosts B} {g : ℕ} {root : Root} {x y : B} {a b : Draft} {e : PlanError} (q : Result Root PlanError) → IsErrAnd q (λ f. f ≡ e) → ReadsBlocks {T = T} G IsReadFault x y (Err e) → Grows a b
+    → PlansRoot G g root x y a b q
+root_stops (Ok r) is reads grows = absurd is
+root_stops (Err f) is reads grows = record {
   reads = reads_err (Err f) is reads;
   grows = grows;
-  takes = tt;
-  lacks = λ bad. lacks (sym is ∙ error_is f NoSpace bad);
   root = tt;
   generation = tt;
   geometry = tt;

@@ -6,17 +6,16 @@ use Rattle.std.specs.List.Sorted.{IsStrictlyIncreasing}
 use Rattle.std.specs.Prelude.{List, slice_index}
 use Rattle.inode.specs.declared.object.Object.{Object}
 use Rattle.inofile.specs.Inodes.{IsChangedSlot, slot_object}
-use Rattle.inofile.specs.declared.inode_file.Slot.{Slot}
-use Rattle.inofile.specs.declared.inode_file.Slot.TheVariants.{AsSettled, Loaded, Changed}
+use Rattle.inofile.specs.declared.inode_file.ObjectSlot.{ObjectSlot}
+use Rattle.inofile.specs.declared.inode_file.ObjectSlot.TheVariants.{AsSettled, Loaded, Changed}
 use Rattle.inofile.specs.declared.inode_file.InodeFile.{InodeFile}
 use Rattle.layout.specs.Version.{level_of}
-use Rattle.images.proofs.SumLaws.{sum_of_none, sums_each}
+use Rattle.images.specs.Sums.{sum_below}
+use Rattle.images.proofs.SumLaws.{sum_of_none}
 use Rattle.blocktree.specs.Places.{block_count}
 use Rattle.inode.specs.declared.file.File.{File}
 use Rattle.conspoint.specs.Space.{changed_blocks}
-use Rattle.conspoint.proofs.SumLemmas.{changed_within}
-use Rattle.blocktree.specs.Names.{nodes_at}
-use Rattle.placement.specs.Space.{file_nodes, file_stores, height_stores, level_nodes, level_stores, more_over}
+use Rattle.placement.specs.Space.{file_stores, height_stores, more_over}
 use Rattle.planning.specs.Space.{nodes_below, number_nodes, slot_nodes}
 
 -- below a later number as many are counted, or more
@@ -36,7 +35,7 @@ unfolding nodes_below
 is_counted s n m lt = counts_rise s (suc n) m (omega arith)
 
 -- what is changed is counted as the object that it is
-pub counts_object : (slot : Option Slot) (o : Object) → IsChangedSlot slot → slot_object slot ≡ Some o → slot_nodes slot ≡ file_stores o.file
+pub counts_object : (slot : Option ObjectSlot) (o : Object) → IsChangedSlot slot → slot_object slot ≡ Some o → slot_nodes slot ≡ file_stores o.file
 counts_object None o changed is = absurd changed
 counts_object (Some AsSettled) o changed is = absurd changed
 counts_object (Some (Loaded object)) o changed is = absurd changed
@@ -51,20 +50,9 @@ is_behind xs i n k rises within is lt =
     let below : slice_index xs k < slice_index xs i = AllPairs-from_increasing xs rises k i 0 lt within in
     omega (arith, below, is)
 
--- ---- no more is stored of a file than it has
-
-height_within : (blocks changed more h : ℕ) → changed ≤ blocks → height_stores blocks changed more h ≤ nodes_at blocks h
-unfolding height_stores nodes_at
-height_within blocks changed more zero le = le
-height_within blocks changed more (suc zero) le = omega arith
-height_within blocks changed more (suc (suc h)) le = omega arith
-
-level_within : (level blocks changed more : ℕ) → changed ≤ blocks → level_stores level blocks changed more ≤ level_nodes level blocks
-level_within level blocks changed more le = sums_each (height_stores blocks changed more) (nodes_at blocks) level (λ h. height_within blocks changed more h le)
-
-pub stores_within : (f : File) → file_stores f ≤ file_nodes f.size
-stores_within f = level_within (level_of f.size) (block_count f.size) (changed_blocks f.tree 0 (block_count f.size)) (more_over f) (omega (arith, changed_within f.tree 0 (block_count f.size)))
-
--- of an empty file nothing
+-- of an empty file nothing is stored
 pub none_stored : (f : File) → f.size ≡ 0 → file_stores f ≤ 0
-none_stored f empty = (let none = ap file_nodes empty ∙ sum_of_none (nodes_at 0) in omega (arith, none, stores_within f))
+none_stored f empty =
+    let stores = height_stores (block_count f.size) (changed_blocks f.tree 0 (block_count f.size)) (more_over f) in
+    let none = ap (λ (n : ℕ). sum_below stores (level_of n)) empty ∙ sum_of_none stores in
+    omega (arith, none)

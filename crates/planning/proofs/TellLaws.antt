@@ -26,7 +26,7 @@ use Rattle.inode.specs.Files.{file_block as blocks_of}
 use Rattle.inode.specs.declared.file.File.{File}
 use Rattle.inofile.specs.Volumes.{MapsVolume}
 use Rattle.placement.specs.Space.{file_stores, height_stores, level_stores, more_over}
-use Rattle.planning.specs.Space.{CountsBlocks, CountsMoves, TellsSame}
+use Rattle.planning.specs.Space.{CountsBlocks, TellsSame}
 use Rattle.planning.proofs.MapLaws.{stands_none, stands_some}
 use Rattle.planning.proofs.TopLaws.{stored_most}
 use Rattle.layout.proofs.SizeLaws.{level_none}
@@ -153,7 +153,7 @@ told_at blocks size i k ends small =
     ∙ ap (λ (x : ℕ). bit_at x (k % 8)) (byte_is blocks size ((32768 * i + k) / 8) ends ∙ ap (λ (j : ℕ). slice_index (blocks j) ((32768 * i + k) / 8 % 4096)) block ∙ ap (slice_index (blocks i)) byte)
 
 -- Numbers that count the blocks in which an object came or went count those that tell other than the settled ones.
-pub moves_told : (w : ℕ → ℕ) (s : Sizes) (t : HeldTree) (bytes : List ℕ) (first v : Volume) → IsSoundTree s t → HoldsVolume s.inodes (tree_contents t) first → MapsVolume bytes v → CountsMoves w first v
+pub moves_told : (w : ℕ → ℕ) (s : Sizes) (t : HeldTree) (bytes : List ℕ) (first v : Volume) → IsSoundTree s t → HoldsVolume s.inodes (tree_contents t) first → MapsVolume bytes v → ((n : ℕ) → w (n / 32768) ≡ 0 → IsSome (first n) ↔ IsSome (v n))
     → CountsBlocks w bytes (file_block (t 1))
 moves_told w s t bytes first v sound holds maps moves i none k small =
     let n : ℕ = 32768 * i + k in

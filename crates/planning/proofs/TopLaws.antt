@@ -14,10 +14,9 @@ use Rattle.layout.specs.declared.inode.Body.TheVariants.{Inline, Pointers}
 use Rattle.images.specs.Sums.{sum_below}
 use Rattle.images.proofs.SumLaws.{is_in_sum, one_more, sum_of_none, sums_each}
 use Rattle.blocktree.specs.Places.{block_count, depth_of}
-use Rattle.blocktree.specs.Trees.{IsChanged, IsChangedSlot, SameSettled}
+use Rattle.blocktree.specs.Trees.{IsChanged, SameSettled}
 use Rattle.blocktree.specs.declared.tree.BlockTree.{BlockTree}
 use Rattle.blocktree.proofs.SlotLaws.{slot_is}
-use Rattle.blocktree.specs.declared.tree.Slot.{Slot}
 use Rattle.conspoint.specs.Space.{block_stores, changed_blocks}
 use Rattle.conspoint.proofs.SumLemmas.{block_counts}
 use Rattle.inode.specs.Bases.{StartsFrom, StartsUnchanged}
@@ -26,8 +25,8 @@ use Rattle.inode.proofs.RoomLaws.{none_more}
 use Rattle.inofile.specs.Inodes as numbers
 use Rattle.inofile.specs.Inodes.{is_changed_slot}
 use Rattle.inofile.specs.declared.inode_file.InodeFile.{InodeFile}
-use Rattle.inofile.specs.declared.inode_file.Slot.TheVariants as inode_slots
-use Rattle.inofile.specs.declared.inode_file.Slot as inode_slot
+use Rattle.inofile.specs.declared.inode_file.ObjectSlot.TheVariants as inode_slots
+use Rattle.inofile.specs.declared.inode_file.ObjectSlot as inode_slot
 use Rattle.placement.specs.Space.{first_stores, height_stores, level_stores}
 use Rattle.planning.specs.Inodes.{ChangesOnly, HasChange}
 use Rattle.planning.specs.Space.{number_changes, top_block, top_nodes}
@@ -51,7 +50,7 @@ changes_twice IsOne IsOther a b c are first second = record {
 
 -- ---- how many they are
 
-changed_counts : (slot : Option inode_slot.Slot) → numbers.IsChangedSlot slot → ◌≡◌ {A = ℕ} (if is_changed_slot slot then 1 else 0) 1
+changed_counts : (slot : Option inode_slot.ObjectSlot) → numbers.IsChangedSlot slot → ◌≡◌ {A = ℕ} (if is_changed_slot slot then 1 else 0) 1
 changed_counts None is = absurd is
 changed_counts (Some inode_slots.AsSettled) is = absurd is
 changed_counts (Some (inode_slots.Loaded object)) is = absurd is

@@ -23,13 +23,17 @@ pub record PlansFiles {B T : Type 0} (G : Ghosts B) (n : ℕ) (blocks after : B)
   pub takes : OnOk result (TakesAtMost n old new)
   pub lacks : IsErrOf result NoSpace → Lacks n old
 
--- The whole, which changes the snapshots' sets too. The answer is the root that comes into force then: of this generation, and of the
--- sizes of the root before.
-pub record PlansRoot {B : Type 0} (G : Ghosts B) (n number : ℕ) (before : Root) (blocks after : B) (old new : Draft) (result : Result Root PlanError) : Type 0 where
+-- the same of parts whose blocks are counted apart
+pub record PlansParts {B T : Type 0} (G : Ghosts B) (blocks after : B) (old new : Draft) (result : Result T PlanError) : Type 0 where
   pub reads : ReadsBlocks G IsReadFault blocks after result
   pub grows : Grows old new
-  pub takes : OnOk result (TakesAtMost n old new)
-  pub lacks : IsErrOf result NoSpace → Lacks n old
+  pub sets : OnOk result (KeepsSets (entry_at old.map.parts.items) (entry_at new.map.parts.items))
+
+-- The whole, which changes the snapshots' sets too. The answer is the root that comes into force then: of this generation, and of the
+-- sizes of the root before.
+pub record PlansRoot {B : Type 0} (G : Ghosts B) (number : ℕ) (before : Root) (blocks after : B) (old new : Draft) (result : Result Root PlanError) : Type 0 where
+  pub reads : ReadsBlocks G IsReadFault blocks after result
+  pub grows : Grows old new
   pub root : IfOk result IsRoot
   pub generation : IfOk result (λ r. r.generation ≡ number)
   pub geometry : IfOk result (λ r. r.geometry ≡ before.geometry)

@@ -1,24 +1,23 @@
--- How many blocks a consistency point may take: of each changed file, and of the inode file, what is changed of it; of the two maps all.
-use Rattle.std.specs.Prelude.{ℕ, zero, suc, ◌≡◌, ◌↔◌, ◌+◌, ◌*◌, ◌/◌, ◌<◌, ◌==◌, min, List, Option, Some, None, IsSome, if◌then◌else◌}
+-- How many blocks a consistency point may take: of each changed file, and of the inode file, what is changed of it; of the block map all.
+use Rattle.std.specs.Prelude.{ℕ, zero, suc, ◌≡◌, ◌↔◌, ◌+◌, ◌*◌, ◌<◌, ◌==◌, min, List, Option, Some, None, if◌then◌else◌}
 use Rattle.std.specs.Int.{div_ceil}
 use Rattle.std.specs.Ordering.{nat_cmp}
 use Rattle.std.specs.BTreeMap as tree
 use Rattle.layout.specs.declared.TheConstants.{BLOCK_BYTES, BLOCK_POINTERS, INODES_PER_BLOCK}
 use Rattle.layout.specs.Maps.{IsTaken}
 use Rattle.layout.specs.Version.{level_of}
-use Rattle.model.specs.Volumes.{Volume}
 use Rattle.layout.specs.declared.root.Root.{Root}
 use Rattle.images.specs.Sums.{sum_below}
 use Rattle.blocktree.specs.Places.{block_count}
 use Rattle.conspoint.specs.MapFiles.{map_nodes}
 use Rattle.inofile.specs.Inodes.{is_changed_slot}
-use Rattle.inofile.specs.declared.inode_file.Slot.{Slot}
-use Rattle.inofile.specs.declared.inode_file.Slot.TheVariants.{AsSettled, Loaded, Changed}
+use Rattle.inofile.specs.declared.inode_file.ObjectSlot.{ObjectSlot}
+use Rattle.inofile.specs.declared.inode_file.ObjectSlot.TheVariants.{AsSettled, Loaded, Changed}
 use Rattle.inofile.specs.declared.inode_file.InodeFile.{InodeFile}
-use Rattle.placement.specs.Space.{file_nodes, file_stores, level_stores}
+use Rattle.placement.specs.Space.{file_stores, level_stores}
 
 -- the blocks that a point stores of what memory has of a number
-abbrev pub slot_nodes : Option Slot → ℕ
+abbrev pub slot_nodes : Option ObjectSlot → ℕ
 slot_nodes None = 0
 slot_nodes (Some AsSettled) = 0
 slot_nodes (Some (Loaded object)) = 0
@@ -34,10 +33,6 @@ unfoldable pub nodes_below : InodeFile → ℕ → ℕ
 nodes_below s zero = 0
 nodes_below s (suc n) = nodes_below s n + number_nodes s n
 
--- the blocks of the changed numbers, and of the inode map, a bit for each number
-abbrev pub change_nodes : InodeFile → ℕ
-change_nodes s = nodes_below s s.geometry.inodes + file_nodes (div_ceil s.geometry.inodes 8)
-
 -- so many numbers one block of the inode map tells of
 abbrev pub MAP_NUMBERS : ℕ
 MAP_NUMBERS = 8 * BLOCK_BYTES
@@ -49,10 +44,6 @@ TellsSame bytes block i = (k : ℕ) → k < MAP_NUMBERS → IsTaken block k ↔ 
 -- these numbers count each block of the inode map that tells other than the settled one of its numbers
 abbrev pub CountsBlocks : (ℕ → ℕ) → List ℕ → (ℕ → List ℕ) → Type 0
 CountsBlocks w bytes settled = (i : ℕ) → w i ≡ 0 → TellsSame bytes (settled i) i
-
--- these numbers count each block of the inode map of whose numbers an object came or went between two volumes
-abbrev pub CountsMoves : (ℕ → ℕ) → Volume → Volume → Type 0
-CountsMoves w old new = (n : ℕ) → w (n / MAP_NUMBERS) ≡ 0 → IsSome (old n) ↔ IsSome (new n)
 
 -- the blocks of the inode map that these numbers count
 abbrev pub map_stores : (ℕ → ℕ) → InodeFile → ℕ
@@ -78,11 +69,7 @@ abbrev pub map_file_nodes : ℕ → ℕ
 map_file_nodes blocks = map_nodes (div_ceil blocks BLOCK_POINTERS)
 
 -- The blocks that a point of this memory over this root may take, on a disk of so many: those of the changed numbers, of the inode
--- map, of the inode file, and of the block map.
-abbrev pub point_nodes : Root → InodeFile → ℕ → ℕ
-point_nodes r s blocks = change_nodes s + top_nodes s r.inode_file.size + map_file_nodes blocks
-
--- the same where of the inode map only the blocks that are counted so are stored
+-- map the ones that are counted so, those of the inode file, and of the block map.
 abbrev pub point_stores : (ℕ → ℕ) → Root → InodeFile → ℕ → ℕ
 point_stores w r s blocks =
     nodes_below s s.geometry.inodes + map_stores w s + top_nodes s r.inode_file.size + map_file_nodes blocks

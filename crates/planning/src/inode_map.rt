@@ -23,12 +23,11 @@ ghost use Rattle.images.specs.Nodes as nodes;
 ghost use Rattle.images.specs.Soundness.{HasNoHole};
 ghost use Rattle.inode.specs.Files.{byte_at, file_block};
 ghost use Rattle.inofile.specs.Settled.{AreSettled};
-ghost use Rattle.placement.specs.Space.{file_nodes};
 ghost use Rattle.planning.specs.Inodes.{ChangesFile, KeepsFile};
 ghost use Rattle.planning.specs.Plans.{HasInodeMap};
 ghost use Rattle.planning.specs.Space.{CountsBlocks, TellsSame, map_stores};
 ghost use Rattle.planning.specs.Steps.{IsOverTree, IsPlanUnderWay, settled_tree};
-ghost use Rattle.planning.specs.Promises.{PlansFiles};
+ghost use Rattle.planning.specs.Promises.{PlansParts};
 
 use crate::inode_blocks::put_inode;
 use crate::number::mark_placed;
@@ -176,8 +175,7 @@ pub(crate) fn plan_inode_map<B: Blocks>(
 ) -> Result<(), PlanError>
     requires disk { B.count blocks.old ≡ draft.old.map.count }
     requires sizes { AreSizes inodes.now.geometry }
-    ensures step { PlansFiles B.Blocks (file_nodes (div_ceil inodes.now.geometry.inodes 8))
-        blocks.old blocks.new draft.old draft.new result }
+    ensures step { PlansParts B.Blocks blocks.old blocks.new draft.old draft.new result }
     ensures others { (p : ℕ) → IsReserved draft.old p → IsReserved draft.new p }
     ensures file { ChangesFile (λ i. i ≡ 0) file.old file.new }
     ensures planned { (disk : ℕ → List ℕ) (settled : ℕ → Inode) (v : Volume) (before : ℕ → ℕ)

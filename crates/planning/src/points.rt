@@ -23,7 +23,6 @@ ghost use Rattle.conspoint.specs.Space.{Lacks, TakesAtMost};
 ghost use Rattle.conspoint.specs.Writes.{writes_of};
 ghost use Rattle.images.specs.Cuts.{IsPointWith, LeavesFree};
 ghost use Rattle.images.specs.Nodes.{file_block, held};
-ghost use Rattle.images.specs.Room.{KeepsOwn};
 ghost use Rattle.images.specs.Roots.{whole};
 ghost use Rattle.images.specs.SnapshotSteps.{CanStep, SnapshotStep};
 ghost use Rattle.images.specs.Soundness.{HasNoHole};
@@ -33,9 +32,9 @@ ghost use Rattle.planning.specs.Changes.{FitsSlots, IsStepOf, TakesNone, head_no
 ghost use Rattle.planning.specs.Inodes.{HasChange, ChangesFile};
 ghost use Rattle.planning.specs.Numbers.{trimmed};
 ghost use Rattle.planning.specs.Plans.{PlansNumbers, IsAllPlanned, IsClean, IsPlanStart, IsPlannable, IsRootPlanned, PlansEntries};
-ghost use Rattle.planning.specs.Space.{CountsBlocks, CountsMoves, change_nodes, map_stores, nodes_below, point_nodes, point_stores};
+ghost use Rattle.planning.specs.Space.{CountsBlocks, map_stores, nodes_below, point_stores};
 ghost use Rattle.planning.specs.Steps.{ArePlanned, IsOverTree, settled_tree};
-ghost use Rattle.planning.specs.Promises.{AreOfSizes, PlansFiles, PlansRoot};
+ghost use Rattle.planning.specs.Promises.{AreOfSizes, PlansParts, PlansRoot};
 
 use crate::block_map::plan_last;
 use crate::change::{SnapshotChange, change_snapshots};
@@ -71,8 +70,7 @@ fn plan_changes<B: Blocks>(
 ) -> Result<(), PlanError>
     requires disk { B.count blocks.old ≡ draft.old.map.count }
     requires sizes { AreSizes inodes.now.geometry }
-    ensures step { PlansFiles B.Blocks (change_nodes inodes.now)
-        blocks.old blocks.new draft.old draft.new result }
+    ensures step { PlansParts B.Blocks blocks.old blocks.new draft.old draft.new result }
     ensures file { ChangesFile (λ i. (i ≡ 0) ⊎ HasChange inodes.now i) file.old file.new }
     ensures planned { (disk : ℕ → List ℕ) (settled : ℕ → Inode) (v : Volume) (before : ℕ → ℕ)
         → B.Shows blocks.old disk
@@ -113,8 +111,7 @@ fn plan_files<B: Blocks>(
     inodes: &InodeFile,
 ) -> Result<Inode, PlanError>
     requires { AreOfSizes root.now inodes.now (B.count blocks.old) draft.old }
-    ensures step { PlansFiles B.Blocks (point_nodes root.now inodes.now draft.old.map.count)
-        blocks.old blocks.new draft.old draft.new result }
+    ensures step { PlansParts B.Blocks blocks.old blocks.new draft.old draft.new result }
     ensures planned { (disk : ℕ → List ℕ) (settled : ℕ → Inode) (v : Volume) (before : ℕ → ℕ)
         → B.Shows blocks.old disk
         → IsPlanStart (B.count blocks.old) draft.old disk root.now settled inodes.now v before
@@ -183,9 +180,8 @@ fn plan_root<B: Blocks>(
 ) -> Result<Root, PlanError>
     requires start { AreOfSizes root.now inodes.now (B.count blocks.old) draft.old }
     requires fits { FitsSlots change.now }
-    ensures step { PlansRoot B.Blocks
-        (point_nodes root.now inodes.now draft.old.map.count + head_nodes change.now)
-        generation root.now blocks.old blocks.new draft.old draft.new result }
+    ensures step { PlansRoot B.Blocks generation root.now
+        blocks.old blocks.new draft.old draft.new result }
     ensures steps { IfOk result (λ r. (step : SnapshotStep) → IsStepOf change.now root.now step
         → MakesStep step root.now r draft.new) }
     // The map's entries once the snapshots' sets are changed, and those in the end.
@@ -225,8 +221,8 @@ fn plan_root<B: Blocks>(
 
 /// Plans a consistency point that settles all that memory has changed, and does with the snapshots what is asked for: every place
 /// and every byte of it, and its root. Nothing is written. Where it fails, the map has no change. A snapshot that is taken has the
-/// tree of the root that is there, so its blocks stay in use. The point gives out no more blocks than are counted for what changed
-/// (`point_nodes`), and one for a snapshot that is taken; for want of space it fails only where fewer are left.
+/// tree of the root that is there, so its blocks stay in use. For want of space it fails only where fewer blocks are left than memory
+/// may need of a point.
 pub fn plan<B: Blocks>(
     alloc: Global,
     blocks: &mut B,
@@ -273,18 +269,6 @@ pub fn plan<B: Blocks>(
         → B.Shows blocks.old (blocks_of d)
         → IsPlannable root.now d slot generation map inodes.now first v snapshots
         → IsErrOf result.1 PlanError.Damaged → ⊥ }
-    ensures takes { OnOk result.1
-        (left map ≤ left result.0 + (point_nodes root.now inodes.now map.count
-        + head_nodes change.now)) }
-    ensures full { IsErrOf result.1 PlanError.NoSpace
-        → left map < point_nodes root.now inodes.now map.count + head_nodes change.now }
-    // Over a disk that holds a volume the inode map's blocks are counted as objects came or went in it.
-    ensures stores { (d : ℕ → List ℕ) (first v : Volume) (snapshots : List (Name × Tree))
-        → B.Shows blocks.old (blocks_of d)
-        → IsPlannable root.now d slot generation map inodes.now first v snapshots
-        → (w : ℕ → ℕ) → CountsMoves w first v → OnOk result.1
-        (left map ≤ left result.0 + (point_stores w root.now inodes.now map.count
-        + head_nodes change.now)) }
     // It leaves all blocks free but as many as memory may need; what is kept for files without names isn't among these.
     ensures leaves { (d : ℕ → List ℕ) (first v : Volume) (snapshots : List (Name × Tree))
         → B.Shows blocks.old (blocks_of d)
@@ -295,22 +279,16 @@ pub fn plan<B: Blocks>(
         ≤ spent + 4 * count_nameless inodes.now.geometry.inodes v
         → IfOk result.1 (λ p.
         LeavesFree spent root.now (blocks_of d) (writes_of p.plan.blocks) p.root) }
-    // Where no snapshot shares what every point stores, and none is taken, that is given back.
+    // Where no snapshot is taken, what every point stores is given back.
     ensures room { (d : ℕ → List ℕ) (first v : Volume) (snapshots : List (Name × Tree))
         → B.Shows blocks.old (blocks_of d)
         → IsPlannable root.now d slot generation map inodes.now first v snapshots
-        → KeepsOwn root.now (whole (blocks_of d) root.now) → map.next ≡ 2
-        → (step : SnapshotStep) → IsStepOf change.now root.now step → TakesNone step
+        → map.next ≡ 2 → (step : SnapshotStep) → IsStepOf change.now root.now step → TakesNone step
         → CanStep step root.now (whole (blocks_of d) root.now) → (spent : ℕ)
         → memory_room first inodes.now v
         ≤ spent + 4 * count_nameless inodes.now.geometry.inodes v
         → IfOk result.1 (λ p.
         LeavesFree spent root.now (blocks_of d) (writes_of p.plan.blocks) p.root) }
-    ensures short { (d : ℕ → List ℕ) (first v : Volume) (snapshots : List (Name × Tree))
-        → B.Shows blocks.old (blocks_of d)
-        → IsPlannable root.now d slot generation map inodes.now first v snapshots
-        → (w : ℕ → ℕ) → CountsMoves w first v → IsErrOf result.1 PlanError.NoSpace
-        → left map < point_stores w root.now inodes.now map.count + head_nodes change.now }
     ensures needs { (d : ℕ → List ℕ) (first v : Volume) (snapshots : List (Name × Tree))
         → B.Shows blocks.old (blocks_of d)
         → IsPlannable root.now d slot generation map inodes.now first v snapshots

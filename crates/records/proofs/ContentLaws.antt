@@ -1,5 +1,5 @@
 -- Bytes that a file in memory gets.
-use Rattle.std.proofs.Common.{◌≡◌, ◌+◌, ◌-◌, ◌++◌, ℕ, List, length, take, drop, Option, Some, Result, Ok, Err, IfOk, IsTrue, refl, sym, ap, subst, ◌∙◌, append_assoc}
+use Rattle.std.proofs.Common.{◌≡◌, ◌+◌, ◌-◌, ◌++◌, ◌≤◌, ℕ, List, length, take, drop, Option, Some, None, Result, Ok, Err, IfOk, IsTrue, refl, sym, ap, subst, ◌∙◌, append_assoc, arith}
 use Rattle.std.proofs.Math.Path.{fun_ext}
 use Rattle.layout.specs.Bytes.{zeros}
 use Rattle.layout.specs.FileBytes.{byte_in, first_bytes, EndsAt}
@@ -8,7 +8,8 @@ use Rattle.layout.specs.Limits.{Sizes}
 use Rattle.layout.specs.declared.inode.Inode.{Inode}
 use Rattle.layout.specs.declared.kind.Kind.{Kind}
 use Rattle.model.specs.Edits.{resized, written}
-use Rattle.model.specs.Records.{Applies, applied, with_file_bytes}
+use Rattle.model.specs.Records.{Applies, applied, with_file_bytes, work_of}
+use Rattle.model.specs.Room.{cost}
 use Rattle.model.specs.Volumes.{Node, Volume, file_node, is_file_node, with_node}
 use Rattle.model.specs.declared.errno.Errno.TheVariants.{EFBIG}
 use Rattle.images.specs.Contents as images
@@ -16,13 +17,18 @@ use Rattle.images.specs.Contents.{Content, StandsAs}
 use Rattle.inode.specs.Changes.{changed_block}
 use Rattle.inode.specs.Edges.{filled, written_list}
 use Rattle.inode.specs.Files.{IsCommitted, IsFile, IsSameFile, block_with, byte_with, bytes_of_file, bytes_with, file_block}
+use Rattle.inode.specs.Room.{size_room, write_room}
 use Rattle.inode.specs.declared.change.Change.{Change}
 use Rattle.inode.specs.declared.file.File.{File}
 use Rattle.inode.specs.declared.object.Object.{Object}
+use Rattle.inofile.specs.Inodes.{IsKnown}
 use Rattle.inofile.specs.Objects.{IsObject}
-use Rattle.inofile.specs.Settled.{content_of}
-use Rattle.records.specs.Contents.{KeepsRewriteBounds, Rewrites, bytes_after, rewriting}
+use Rattle.inofile.specs.Settled.{content_of_object}
+use Rattle.inofile.specs.declared.inode_file.InodeFile.{InodeFile}
+use Rattle.records.specs.Contents.{KeepsRewriteBounds, RewriteRoom, Rewrites, bytes_after, rewriting}
 use Rattle.records.specs.Obstacles.{IsObstacle, tells_obstacle}
+use Rattle.records.specs.Prepared.{KnowsFile}
+use Rattle.records.specs.Room.{StoresIn}
 use Rattle.records.specs.declared.contents.Rewrite.{Rewrite}
 use Rattle.records.specs.declared.contents.Rewrite.TheVariants.{Write, Cut}
 use Rattle.records.proofs.KindLaws.{held_file, file_kind}
@@ -88,8 +94,8 @@ pub bytes_put : (disk : ℕ → List ℕ) (inodes : ℕ) (settled : Inode) (o : 
 bytes_put disk inodes settled o found f change new was is rewrites done = record {
   kind = was.kind;
   mode = was.mode;
-  fits = λ s. fits_after inodes new.size (file_block disk new) f (content_of disk o) found is o.attributes.kind s was.stands (was.fits s);
-  stands = stands_after inodes new.size (file_block disk new) f (content_of disk o) found is (bytes_are disk o.file new change done ∙ rewrites.bytes) o.attributes.kind was.stands;
+  fits = λ s. fits_after inodes new.size (file_block disk new) f (content_of_object disk o) found is o.attributes.kind s was.stands (was.fits s);
+  stands = stands_after inodes new.size (file_block disk new) f (content_of_object disk o) found is (bytes_are disk o.file new change done ∙ rewrites.bytes) o.attributes.kind was.stands;
   ends = ends_there disk o.file new change done rewrites.ends;
   base = done.base settled was.base;
 }
@@ -107,6 +113,10 @@ rewriting_applies inodes v n (Cut size) is keeps = (is, keeps)
 pub rewriting_applied : (n : ℕ) (rewrite : Rewrite) (v : Volume) → applied (rewriting n rewrite) v ≡ with_node n (with_file_bytes (bytes_after rewrite) (v n)) v
 rewriting_applied n (Write offset bytes) v = refl
 rewriting_applied n (Cut size) v = refl
+
+pub rewriting_knows : (n : ℕ) (rewrite : Rewrite) (s : InodeFile) → IsKnown s n → KnowsFile s (rewriting n rewrite)
+rewriting_knows n (Write offset bytes) s known = known
+rewriting_knows n (Cut size) s known = known
 
 pub bounds_kept : (inodes : ℕ) (v : Volume) (n : ℕ) (rewrite : Rewrite) → Applies inodes v (rewriting n rewrite) → KeepsRewriteBounds rewrite
 bounds_kept inodes v n (Write offset bytes) can = (can.1, can.2, can.3)
@@ -126,3 +136,13 @@ tells_rewriting n (Cut size) = refl
 pub bars_rewriting : (inodes : ℕ) (v : Volume) (n : ℕ) (rewrite : Rewrite) → (Applies inodes v (rewriting n rewrite) → ⊥) → IsObstacle inodes v (rewriting n rewrite) EFBIG
 bars_rewriting inodes v n (Write offset bytes) never = never
 bars_rewriting inodes v n (Cut size) never = never
+
+-- ---- what it may store
+
+-- a change stores so many blocks more at the most, and two are left of what its record costs
+pub rewrite_within : (n : ℕ) (rewrite : Rewrite) (o : Option Object) (change : Change) → RewriteRoom rewrite o change
+    → (more : ℕ) × StoresIn o change more × ((v : Volume) → more + 2 ≤ cost (work_of v (rewriting n rewrite)))
+rewrite_within n (Write offset bytes) None change room = (0, tt, λ v. omega arith)
+rewrite_within n (Write offset bytes) (Some o) change room = (write_room o.file.size offset (length bytes.now), room, λ v. omega arith)
+rewrite_within n (Cut size) None change room = (0, tt, λ v. omega arith)
+rewrite_within n (Cut size) (Some o) change room = (size_room o.file.size size, room, λ v. omega arith)

@@ -15,14 +15,15 @@ use Rattle.model.proofs.CountLemmas.{counts_once}
 use Rattle.images.specs.Contents.{Content, StandsAs, IsDirectoryOf}
 use Rattle.inode.specs.declared.object.Object.{Object}
 use Rattle.inofile.specs.Objects.{IsObject, IsObjectKind, IsObjectOrNone, IsSameOrNone}
-use Rattle.inofile.specs.Settled.{content_of}
+use Rattle.inofile.specs.Settled.{content_of_object}
 use Rattle.layout.specs.declared.entry.Entry.{Entry}
 use Rattle.blocktree.specs.declared.error.ReadError.{ReadError}
 use Rattle.dirs.specs.Directory.{HasCount, with_name}
+use Rattle.dirs.specs.Room.{piece_count}
 use Rattle.dirs.specs.declared.edit.Edit.{Edit}
 use Rattle.records.specs.declared.naming.NameEdit.{NameEdit}
 use Rattle.records.specs.declared.naming.NameEdit.TheVariants as edits
-use Rattle.records.specs.Entering.{Accepts, HasPlace, IsDirectoryObject, PreparesEdit, TakesEdit, TakesEntry, with_node_names}
+use Rattle.records.specs.Entering.{Accepts, HasPlace, IsDirectoryObject, PreparesEdit, TakesEdit, TakesEntry, pieces_of, with_node_names}
 use Rattle.records.specs.Naming.{EditsNames}
 use Rattle.inode.proofs.BaseLaws.{same_itself}
 use Rattle.model.proofs.ObjectLaws.{node_here, node_other}
@@ -69,14 +70,15 @@ same_names mode old names others e = cc
 -- what an edit of a directory's file makes of the directory
 pub edits_directory : (disk : ℕ → List ℕ) (inodes : ℕ) (found : Option Node) (o : Object) (wanted : NameEdit) (names : NameMap) → o.attributes.kind ≡ kinds.Directory
     → found ≡ Some (directory_node o.attributes.mode names) → (r : Result (Option Edit) ReadError) → IfOk r (EditsNames inodes disk o.file wanted names)
-    → IfOk r (PreparesEdit disk inodes wanted found (Some o))
-edits_directory disk inodes found o wanted names kind is (Ok (Some edit)) edited = (
+    → IfOk r (λ e. IfSome e (λ x. piece_count x ≤ pieces_of wanted)) → IfOk r (PreparesEdit disk inodes wanted found (Some o))
+edits_directory disk inodes found o wanted names kind is (Ok (Some edit)) edited few = (
   record { names = names; stands = is; kind = kind; edited = edited.1 },
   record { mode = o.attributes.mode; names = names; is = is; takes = edited.0 },
+  few,
 )
-edits_directory disk inodes found o wanted names kind is (Ok None) never = λ accepts.
+edits_directory disk inodes found o wanted names kind is (Ok None) never few = λ accepts.
     never (subst (TakesEdit wanted) (same_names accepts.mode o.attributes.mode accepts.names names (sym accepts.is ∙ is)) accepts.takes)
-edits_directory disk inodes found o wanted names kind is (Err e) edited = tt
+edits_directory disk inodes found o wanted names kind is (Err e) edited few = tt
 
 -- a directory that takes a name has place for its entry
 pub accepts_entry : (v : Volume) (d : ℕ) (entry : Entry) → TakesName v d entry.name.now → Accepts (edits.Add entry) (v d)
@@ -115,7 +117,7 @@ not_directory k inodes c o stands other =
 -- what stands for a directory is one in memory
 pub is_directory_object : (disk : ℕ → List ℕ) (inodes : ℕ) (settled : Inode) (x : Option Object) (found : Option Node) → IsObjectOrNone disk inodes settled x found
     → IsTrue (is_directory_node found) → IsDirectoryObject x
-is_directory_object disk inodes settled (Some o) found stands is = directory_kind o.attributes.kind inodes (content_of disk o) found stands.stands is
+is_directory_object disk inodes settled (Some o) found stands is = directory_kind o.attributes.kind inodes (content_of_object disk o) found stands.stands is
 is_directory_object disk inodes settled None found stands is = absurd (none_directory found stands is)
 
 nameless_file : (mode links : ℕ) (bytes : List ℕ) → (links == 0) ≡ is_vacant (Some (file_node mode links bytes))

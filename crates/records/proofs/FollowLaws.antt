@@ -11,7 +11,7 @@ use Rattle.model.specs.Volumes.{Node, directory_node, file_node, link_node, Volu
 use Rattle.model.proofs.SweepLemmas.{opened_by, stays_open}
 use Rattle.inode.specs.declared.object.Object.{Object}
 use Rattle.inofile.specs.Objects.{IsObject}
-use Rattle.inofile.specs.Settled.{content_of}
+use Rattle.inofile.specs.Settled.{content_of_object}
 use Rattle.inofile.specs.declared.inode_file.InodeFile.{InodeFile}
 use Rattle.descriptors.specs.Files.{Figures, description_of, figures_of, node_figures, relinked_file, resized_file}
 use Rattle.descriptors.specs.Fits.{FitsVolume}
@@ -34,8 +34,8 @@ use Rattle.model.proofs.ObjectLaws.{node_here, node_other}
 pub object_figures : (disk : ℕ → List ℕ) (inodes : ℕ) (settled : Inode) (o : Object) (found : Option Node) → IsObject disk inodes settled o found → IsTrue (is_file_node found)
     → node_figures found ≡ Some (record { links = o.attributes.links; size = o.file.size })
 object_figures disk inodes settled o found stands is =
-    ap node_figures (held_file o.attributes.kind inodes (content_of disk o) found stands.stands is)
-    ∙ ap (λ (s : ℕ). Some (record { links = o.attributes.links; size = s })) (length-map-range_with_len (byte_in (content_of disk o).block) 0 o.file.size)
+    ap node_figures (held_file o.attributes.kind inodes (content_of_object disk o) found stands.stands is)
+    ∙ ap (λ (s : ℕ). Some (record { links = o.attributes.links; size = s })) (length-map-range_with_len (byte_in (content_of_object disk o).block) 0 o.file.size)
 
 -- ---- open files with the figures noted that a number has
 

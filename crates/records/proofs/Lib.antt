@@ -6,6 +6,7 @@ pub mod ObstacleLaws
 pub mod Failures
 pub mod Deciding
 pub mod StepLaws
+pub mod RoomLaws
 pub mod ContentLaws
 pub mod RewriteLaws
 pub mod NamingLaws

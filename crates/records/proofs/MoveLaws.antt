@@ -18,9 +18,10 @@ use Rattle.inofile.specs.Inodes.{loaded}
 use Rattle.inofile.specs.declared.inode_file.InodeFile.{InodeFile}
 use Rattle.paths.specs.Steps.{found_in}
 use Rattle.paths.specs.declared.lookup.Found.TheVariants as found
-use Rattle.records.specs.Entering.{Accepts, HasPlace, names_after, with_node_names}
+use Rattle.records.specs.Entering.{Accepts, HasPlace, names_after, pieces_of, with_node_names}
 use Rattle.records.specs.Moving.{Moves, Replaces, edit_for}
 use Rattle.records.specs.Prepared.{AreBeside}
+use Rattle.records.specs.Room.{SomeRoom}
 use Rattle.records.specs.Steps.{IsBeside, StepsSome, Updates}
 use Rattle.records.specs.declared.naming.NameEdit.TheVariants as edits
 use Rattle.records.specs.declared.steps.Step.{Step}
@@ -204,11 +205,21 @@ module _ (disk : ℕ → List ℕ) (settled : ℕ → Inode) (v : Volume) (n : �
       let o = loaded s step.number in (
         to,
         subst (λ (k : ℕ). Updates disk s.geometry.inodes (settled k) (w k) o step.update to) (sym number)
-            (subst (λ (x : Option Node). Updates disk s.geometry.inodes (settled m) x o step.update (with_name_less x)) (sym (same m refl)) (takes s.geometry.inodes o)),
+            (subst (λ (x : Option Node). Updates disk s.geometry.inodes (settled m) x o step.update (with_name_less x)) (sym (same m refl)) (takes s.geometry.inodes o).0),
         ap (λ (k : ℕ). with_node k to w) (sym number),
       )
 
+  pub replaced_room : (s : InodeFile) (target : Option ℕ) (step : Option Step) → Replaces disk settled v n target step → SomeRoom s step 6
+  replaced_room s target None replaces = tt
+  replaced_room s None (Some step) replaces = absurd replaces
+  replaced_room s (Some m) (Some step) (number, may, takes) = (takes s.geometry.inodes (loaded s step.number)).1
+
 -- ---- what a move does
+
+-- a name from another directory changes two blocks at the most
+pub few_pieces : (entry : Entry) (step : Option Step) → pieces_of (edit_for entry step) ≤ 2
+few_pieces entry None = omega arith
+few_pieces entry (Some step) = omega arith
 
 module _ (disk : ℕ → List ℕ) (settled : ℕ → Inode) (v : Volume) (d : ℕ) (x : Name) (n k : ℕ) (y : Name) (step : Option Step) (moves : Moves disk settled v d x n k y step) where
   abbrev target : Option ℕ
@@ -236,6 +247,9 @@ module _ (disk : ℕ → List ℕ) (settled : ℕ → Inode) (v : Volume) (d : �
 
   pub steps_on : (s : InodeFile) (w : Volume) → ((m : ℕ) → m ≢ d → m ≢ k → w m ≡ v m) → StepsSome disk settled s w step (released target w)
   steps_on s w same = replaced_steps disk settled v n s w target step moves.replaces (same_target w same)
+
+  pub room_on : (s : InodeFile) → SomeRoom s step 6
+  room_on s = replaced_room disk settled v n s target step moves.replaces
 
   -- ---- when it applies
 

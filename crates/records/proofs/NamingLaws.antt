@@ -1,5 +1,5 @@
 -- Names of a directory, changed one after the other.
-use Rattle.std.proofs.Common.{◌≡◌, ℕ, List, Option, Some, None, Result, Ok, Err, Bool, true, false, inl, inr, bytes_eq, if◌then◌else◌, refl, sym, ap, subst, ◌∙◌}
+use Rattle.std.proofs.Common.{◌≡◌, ◌≤◌, ℕ, List, IfOk, IfSome, Option, Some, None, Result, Ok, Err, Bool, true, false, inl, inr, bytes_eq, if◌then◌else◌, refl, sym, ap, subst, ◌∙◌, arith}
 use Rattle.std.specs.Result.{IsErrAnd, IsErrOf}
 use Rattle.std.proofs.Math.Path.{fun_ext}
 use Rattle.std.proofs.lemmas.Bool.{cases_Bool, cond-false, cond-true}
@@ -7,6 +7,7 @@ use Rattle.std.proofs.lemmas.Slice.Eq.{bytes_eq-Decides}
 use Rattle.layout.specs.DirectoryNames.{NameMap}
 use Rattle.model.specs.Paths.{Name}
 use Rattle.dirs.specs.Directory.{with_name}
+use Rattle.dirs.specs.Room.{piece_count}
 use Rattle.dirs.specs.declared.edit.Edit.{Edit}
 use Rattle.buffers.specs.Reads.{ReadsBlocks}
 use Rattle.buffers.specs.declared.blocks.Blocks.{Ghosts}
@@ -63,30 +64,38 @@ names_gone x y names = fun_ext {f = with_name y None (with_name x None names)} {
 
 -- ---- edits, step by step
 
-module _ {B : Type 0} {Had : (ℕ → List ℕ) → NameMap → Type 0} {G : Ghosts B} {a b : B} {inodes : ℕ} {file new : File} {wanted : NameEdit} where
+-- more blocks may be changed
+few_more : {low most : ℕ} → low ≤ most → (r : Result (Option Edit) ReadError) → IfOk r (λ e. IfSome e (λ x. piece_count x ≤ low)) → IfOk r (λ e. IfSome e (λ x. piece_count x ≤ most))
+few_more few (Ok (Some edit)) is = omega (arith, few, is)
+few_more few (Ok None) is = tt
+few_more few (Err e) is = tt
+
+module _ {B : Type 0} {Had : (ℕ → List ℕ) → NameMap → Type 0} {G : Ghosts B} {a b : B} {inodes : ℕ} {file new : File} {wanted : NameEdit} {most : ℕ} where
   -- a step before has failed
   pub edit_stops : {T : Type 0} {e : ReadError} (q : Result (Option Edit) ReadError) → IsErrAnd q (λ f. f ≡ e) → ReadsBlocks {T = T} G IsFault a b (Err e) → IsSameFile file new
       → ((disk : ℕ → List ℕ) (names : NameMap) → G.Shows a disk → IsErrOf {T = T} {E = ReadError} (Err e) Damaged → Had disk names → ((i : ℕ) → IsSoundAt (G.count a) disk file.tree i) → ⊥)
-      → EditsFile Had G a b inodes file new wanted q
+      → EditsFile Had most G a b inodes file new wanted q
   edit_stops (Ok edit) is reads same sound = absurd is
   edit_stops {e = e} (Err f) is reads same sound = record {
     reads = reads_err (Err f) is reads;
     same = same;
     fits = tt;
+    pieces = tt;
     edited = λ disk names shows had. tt;
     damaged = λ disk names shows bad had grammar. sound disk names shows (same_error f e Damaged is bad) had grammar;
   }
 
-module _ {B T : Type 0} {Had Then : (ℕ → List ℕ) → NameMap → Type 0} {G : Ghosts B} {a b c : B} {inodes : ℕ} {file mid new : File} {wanted more : NameEdit} {x : T} {r : Result (Option Edit) ReadError} where
+module _ {B T : Type 0} {Had Then : (ℕ → List ℕ) → NameMap → Type 0} {G : Ghosts B} {a b c : B} {inodes : ℕ} {file mid new : File} {wanted more : NameEdit} {x : T} {r : Result (Option Edit) ReadError} {low most : ℕ} where
   -- another function goes on, with other names, behind blocks that were read
-  pub edit_follows : ReadsBlocks {E = ReadError} G IsFault a b (Ok x) → IsSameFile file mid → EditsFile Then G b c inodes mid new more r → (f : NameMap → NameMap)
+  pub edit_follows : ReadsBlocks {E = ReadError} G IsFault a b (Ok x) → IsSameFile file mid → EditsFile Then low G b c inodes mid new more r → low ≤ most → (f : NameMap → NameMap)
       → ((disk : ℕ → List ℕ) (names : NameMap) → G.Shows a disk → Had disk names → Then disk (f names))
       → ((disk : ℕ → List ℕ) (names : NameMap) → G.Shows a disk → Had disk names → (o : Option Edit) → EditsNames inodes disk new more (f names) o → EditsNames inodes disk new wanted names o)
-      → EditsFile Had G a c inodes file new wanted r
-  edit_follows reads same last f so turns = record {
+      → EditsFile Had most G a c inodes file new wanted r
+  edit_follows reads same last few f so turns = record {
     reads = reads_more r reads last.reads;
     same = still_same file mid new same last.same;
     fits = last.fits;
+    pieces = few_more few r last.pieces;
     edited = λ disk names shows had.
         ok_so r (EditsNames inodes disk new more (f names)) (EditsNames inodes disk new wanted names) (turns disk names shows had)
         (last.edited disk (f names) (reads.same disk shows) (so disk names shows had));
@@ -96,12 +105,13 @@ module _ {B T : Type 0} {Had Then : (ℕ → List ℕ) → NameMap → Type 0} {
   }
 
 -- the same edit of names that are had in another way
-pub edit_had : {B : Type 0} {Had Then : (ℕ → List ℕ) → NameMap → Type 0} {G : Ghosts B} {a b : B} {inodes : ℕ} {file new : File} {wanted more : NameEdit} {r : Result (Option Edit) ReadError}
-    → wanted ≡ more → EditsFile Then G a b inodes file new more r → ((disk : ℕ → List ℕ) (names : NameMap) → Had disk names → Then disk names) → EditsFile Had G a b inodes file new wanted r
-edit_had {inodes = inodes} {new = new} {r = r} same edits so = record {
+pub edit_had : {B : Type 0} {Had Then : (ℕ → List ℕ) → NameMap → Type 0} {G : Ghosts B} {a b : B} {inodes : ℕ} {file new : File} {wanted more : NameEdit} {r : Result (Option Edit) ReadError} {low most : ℕ}
+    → wanted ≡ more → EditsFile Then low G a b inodes file new more r → low ≤ most → ((disk : ℕ → List ℕ) (names : NameMap) → Had disk names → Then disk names) → EditsFile Had most G a b inodes file new wanted r
+edit_had {inodes = inodes} {new = new} {r = r} same edits few so = record {
   reads = edits.reads;
   same = edits.same;
   fits = edits.fits;
+  pieces = few_more few r edits.pieces;
   edited = λ disk names shows had. rw same (edits.edited disk names shows (so disk names had));
   damaged = λ disk names shows is had grammar. edits.damaged disk names shows is (so disk names had) grammar;
 }

@@ -1,5 +1,7 @@
 -- Memory that stands for a volume, from one moment to the next.
-use Rattle.std.proofs.Common.{◌≡◌, ◌∙◌, ◌<◌, ℕ, List, Option, Some, None, Result, Ok, Err, refl, sym, subst}
+use Rattle.std.proofs.Common.{◌≡◌, ◌∙◌, ◌<◌, ◌≤◌, ℕ, List, Option, Some, None, Result, Ok, Err, refl, sym, subst}
+use Rattle.std.specs.Ordering.{nat_cmp}
+use Rattle.std.specs.BTreeMap.{BTreeMap, get}
 use Rattle.std.specs.Result.{IsErrAnd}
 use Rattle.layout.specs.Limits.{Sizes}
 use Rattle.layout.specs.declared.inode.Inode.{Inode}
@@ -7,7 +9,9 @@ use Rattle.model.specs.Volumes.{Volume}
 use Rattle.buffers.specs.Reads.{ReadsBlocks}
 use Rattle.buffers.specs.declared.blocks.Blocks.{Ghosts}
 use Rattle.inofile.specs.Inodes.{HasRoomFor, IsKnown}
+use Rattle.inofile.specs.Room.{NeedsNoMore, slot_room}
 use Rattle.inofile.specs.Volumes.{IsVolumeOf}
+use Rattle.inofile.specs.declared.inode_file.ObjectSlot.{ObjectSlot}
 use Rattle.inofile.specs.declared.inode_file.InodeFile.{InodeFile}
 use Rattle.paths.specs.Standing.{Looks, Stands}
 use Rattle.records.specs.Steps.{IsAtHand, IsSomeAtHand}
@@ -40,11 +44,16 @@ reads_err {F = F} (Err f) is reads =
 pub reads_ok : {B T U E : Type 0} {G : Ghosts B} {F : E → Type 0} {a b : B} {x : T} {y : U} → ReadsBlocks {E = E} G F a b (Ok x) → ReadsBlocks {E = E} G F a b (Ok y)
 reads_ok reads = record { count = reads.count; counted = reads.counted; device = tt; reads = reads.reads; same = reads.same }
 
+-- memory that has the same of each number needs no more
+same_needs : (s t : InodeFile) → t.slots ≡ s.slots → NeedsNoMore s t
+same_needs s t same n k le = subst (λ (x : BTreeMap ℕ ObjectSlot). slot_room (get nat_cmp x n) ≤ k) (sym same) le
+
 -- a look at nothing
 pub no_look : {B E : Type 0} {G : Ghosts B} {F : E → Type 0} {a : B} {s : InodeFile} → Looks {T = ℕ} G F a a s s (Ok 0)
 no_look = record {
   reads = record { count = refl; counted = refl; device = tt; reads = λ start so. so; same = λ disk shows. shows };
   geometry = refl;
+  needs = λ n k le. le;
   kept = λ disk settled v stands. stands;
 }
 
@@ -54,16 +63,22 @@ module _ {B T E : Type 0} {G : Ghosts B} {F : E → Type 0} where
   looks_of_reads {a = a} {b = b} {s = s} read = record {
     reads = read;
     geometry = refl;
+    needs = λ n k le. le;
     kept = λ disk settled v stands. stands_over a b s read.count (read.same disk stands.shows) stands.volume;
   }
 
   -- a look behind which memory changes, and what it stands for stays
-  pub looks_stays : {a b : B} {s t u : InodeFile} {r : Result T E} → Looks G F a b s t r → u.geometry ≡ t.geometry → StaysVolume t u → Looks G F a b s u r
-  looks_stays {b = b} {t = t} {u = u} look same stays = record {
+  pub looks_stays : {a b : B} {s t u : InodeFile} {r : Result T E} → Looks G F a b s t r → u.geometry ≡ t.geometry → NeedsNoMore t u → StaysVolume t u → Looks G F a b s u r
+  looks_stays {b = b} {t = t} {u = u} look same needs stays = record {
     reads = look.reads;
     geometry = same ∙ look.geometry;
+    needs = λ n k le. needs n k (look.needs n k le);
     kept = λ disk settled v stands. stands_with b t u stays (look.kept disk settled v stands);
   }
+
+  -- blocks are read, and memory has the same of each number then
+  pub looks_beside : {a b : B} {s u : InodeFile} {r : Result T E} → ReadsBlocks G F a b r → u.geometry ≡ s.geometry → u.slots ≡ s.slots → StaysVolume s u → Looks G F a b s u r
+  looks_beside {s = s} {u = u} read same slots stays = looks_stays (looks_of_reads read) same (same_needs s u slots) stays
 
 -- what is at hand stays so
 module _ (s t : InodeFile) (same : t.geometry ≡ s.geometry) (keeps : (k : ℕ) → HasRoomFor s k → HasRoomFor t k) (stays : (k : ℕ) → IsKnown s k → IsKnown t k) where

@@ -1,5 +1,5 @@
 -- Steps of prepared changes.
-use Rattle.std.proofs.Common.{◌≡◌, ◌≢◌, ◌≤◌, ℕ, List, Option, Some, None, IsTrue, ◌||◌, false, refl, sym, ap, subst}
+use Rattle.std.proofs.Common.{◌≡◌, ◌≢◌, ◌+◌, ◌≤◌, ℕ, List, Option, Some, None, IsTrue, ◌||◌, false, refl, sym, ap, subst, arith}
 use Rattle.std.proofs.lemmas.Bool.{both_ways}
 use Rattle.layout.specs.Inode.{FitsKind}
 use Rattle.layout.specs.Limits.{Sizes}
@@ -12,7 +12,8 @@ use Rattle.images.specs.Contents.{Content, StandsAs}
 use Rattle.inode.specs.declared.object.Object.{Object}
 use Rattle.inofile.specs.Inodes.{loaded}
 use Rattle.inofile.specs.Objects.{IsObject}
-use Rattle.inofile.specs.Settled.{content_of}
+use Rattle.inofile.specs.Room.{memory_room}
+use Rattle.inofile.specs.Settled.{content_of_object}
 use Rattle.inofile.specs.Volumes.{IsVolumeOf}
 use Rattle.inofile.specs.declared.inode_file.InodeFile.{InodeFile}
 use Rattle.records.specs.Contents.{FitsFile}
@@ -61,8 +62,8 @@ pub mode_set : (disk : ℕ → List ℕ) (inodes : ℕ) (settled : Inode) (o : O
 mode_set disk inodes settled o found mode good was is = record {
   kind = was.kind;
   mode = good;
-  fits = λ s. fits_after inodes mode (content_of disk o) found is o.attributes.kind s was.stands (was.fits s);
-  stands = stands_after inodes mode (content_of disk o) found is o.attributes.kind was.stands;
+  fits = λ s. fits_after inodes mode (content_of_object disk o) found is o.attributes.kind s was.stands (was.fits s);
+  stands = stands_after inodes mode (content_of_object disk o) found is o.attributes.kind was.stands;
   ends = was.ends;
   base = was.base;
 }
@@ -97,8 +98,8 @@ pub links_set : (disk : ℕ → List ℕ) (inodes : ℕ) (settled : Inode) (o : 
 links_set disk inodes settled o found links few was is = record {
   kind = was.kind;
   mode = was.mode;
-  fits = λ s. fits_counted inodes links (content_of disk o) found is o.attributes.kind s few was.stands;
-  stands = stands_counted inodes links (content_of disk o) found is o.attributes.kind was.stands;
+  fits = λ s. fits_counted inodes links (content_of_object disk o) found is o.attributes.kind s few was.stands;
+  stands = stands_counted inodes links (content_of_object disk o) found is o.attributes.kind was.stands;
   ends = was.ends;
   base = was.base;
 }
@@ -122,6 +123,7 @@ commits_none s = record {
   at_hand = tt;
   rest = λ n beside. refl;
   volume = λ count disk settled v w volume same. subst (λ (x : Volume). IsVolumeOf count disk settled s x) (sym same) volume;
+  room = λ base count disk settled v w k volume same room. subst (λ (x : Volume). memory_room base s x ≤ memory_room base s v + k) (sym same) (omega arith);
 }
 
 module _ {s t : InodeFile} where

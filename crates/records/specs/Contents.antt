@@ -1,5 +1,5 @@
 -- What becomes of a file's bytes.
-use Rattle.std.specs.Prelude.{ℕ, ◌≡◌, ◌+◌, ◌≤◌, List, length, Option, Some, None, Result, IfOk, IsErrOf}
+use Rattle.std.specs.Prelude.{ℕ, ◌≡◌, ◌+◌, ◌≤◌, List, length, Option, Some, None, Result, IfOk, IfSome, IsErrOf}
 use Rattle.layout.specs.FileBytes.{EndsAt}
 use Rattle.model.specs.Edits.{resized, written}
 use Rattle.model.specs.Records as records
@@ -11,6 +11,7 @@ use Rattle.blocktree.specs.Trees.{IsSoundAt}
 use Rattle.blocktree.specs.declared.error.ReadError.{ReadError}
 use Rattle.blocktree.specs.declared.error.ReadError.TheVariants.{Damaged}
 use Rattle.inode.specs.Files.{Fits, IsFile, IsSameFile, bytes_of_file, bytes_with, byte_with}
+use Rattle.inode.specs.Room.{StoresMore, size_room, write_room}
 use Rattle.inode.specs.declared.change.Change.{Change}
 use Rattle.inode.specs.declared.file.File.{File}
 use Rattle.inode.specs.declared.object.Object.{Object}
@@ -27,6 +28,11 @@ abbrev pub bytes_after : Rewrite → List ℕ → List ℕ
 bytes_after (Write offset bytes) = written offset bytes.now
 bytes_after (Cut size) = resized size
 
+-- so many blocks more it stores at the most, of a file of this size
+abbrev pub rewrite_room : ℕ → Rewrite → ℕ
+rewrite_room size (Write offset bytes) = write_room size offset (length bytes.now)
+rewrite_room size (Cut to) = size_room size to
+
 -- it keeps to the limits
 abbrev pub KeepsRewriteBounds : Rewrite → Type 0
 KeepsRewriteBounds (Write offset bytes) =
@@ -38,11 +44,12 @@ pub record Rewrites (disk : ℕ → List ℕ) (f : List ℕ → List ℕ) (file 
   pub ends : EndsAt change.size (byte_with disk file change)
   pub bytes : bytes_with disk file change ≡ f (bytes_of_file disk file)
 
--- A change of a file's bytes is prepared that makes these of them. The file stays the same until it is put in force.
-pub record PlansFile {B : Type 0} (G : Ghosts B) (blocks after : B) (file new : File) (f : List ℕ → List ℕ) (result : Result Change ReadError) : Type 0 where
+-- A change of a file's bytes is prepared that makes these of them, and stores so many blocks more at the most. The file stays the same until it is put in force.
+pub record PlansFile {B : Type 0} (G : Ghosts B) (blocks after : B) (file new : File) (f : List ℕ → List ℕ) (more : ℕ) (result : Result Change ReadError) : Type 0 where
   pub reads : ReadsBlocks G IsFault blocks after result
   pub same : IsSameFile file new
   pub fits : IfOk result (Fits new.tree)
+  pub stores : IfOk result (λ w. StoresMore new w more)
   pub rewrites : (disk : ℕ → List ℕ) → G.Shows blocks disk → IsFile disk file → IfOk result (Rewrites disk f new)
   pub damaged : (disk : ℕ → List ℕ) → G.Shows blocks disk → IsErrOf result Damaged
       → ((i : ℕ) → IsSoundAt (G.count blocks) disk file.tree i) → ⊥
@@ -51,6 +58,10 @@ pub record PlansFile {B : Type 0} (G : Ghosts B) (blocks after : B) (file new : 
 abbrev pub RewritesIn : (ℕ → List ℕ) → (List ℕ → List ℕ) → Option Object → Change → Type 0
 RewritesIn disk f (Some o) change = Rewrites disk f o.file change
 RewritesIn disk f None change = ⊥
+
+-- a change of an object's bytes stores no more than such a one
+abbrev pub RewriteRoom : Rewrite → Option Object → Change → Type 0
+RewriteRoom rewrite o change = IfSome o (λ x. StoresMore x.file change (rewrite_room x.file.size rewrite))
 
 -- there is an object, and it has room for a change of its bytes
 abbrev pub FitsFile : Option Object → Change → Type 0

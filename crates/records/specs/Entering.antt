@@ -1,5 +1,5 @@
 -- Names that directories get and lose.
-use Rattle.std.specs.Prelude.{ℕ, ◌≡◌, ◌<◌, List, Option, Some, None}
+use Rattle.std.specs.Prelude.{ℕ, ◌≡◌, ◌<◌, ◌≤◌, List, Option, Some, None}
 use Rattle.layout.specs.Directory.{IsEntry, named_of}
 use Rattle.layout.specs.DirectoryNames.{NameMap}
 use Rattle.layout.specs.declared.kind.Kind.TheVariants as kinds
@@ -7,6 +7,7 @@ use Rattle.model.specs.Paths.{Name}
 use Rattle.model.specs.Volumes.{Node, directory_node}
 use Rattle.dirs.specs.Directory.{HasCount, with_name}
 use Rattle.dirs.specs.Edits.{HasEditedNames, FitsIn}
+use Rattle.dirs.specs.Room.{piece_count}
 use Rattle.model.specs.declared.limits.TheConstants.{DIRECTORY_NAMES}
 use Rattle.dirs.specs.declared.edit.Edit.{Edit}
 use Rattle.inode.specs.declared.object.Object.{Object}
@@ -52,6 +53,13 @@ pub record Accepts (wanted : NameEdit) (found : Option Node) : Type 0 where
   pub is : found ≡ Some (directory_node mode names)
   pub takes : TakesEdit wanted names
 
+-- so many blocks of the directory it changes at the most
+abbrev pub pieces_of : NameEdit → ℕ
+pieces_of (edits.Add entry) = 1
+pieces_of (edits.Remove name) = 1
+pieces_of (edits.Replace entry) = 2
+pieces_of (edits.Move old entry) = 3
+
 -- a directory with its names changed
 abbrev pub with_node_names : (NameMap → NameMap) → Option Node → Option Node
 with_node_names f (Some (directory_node mode names)) = Some (directory_node mode (f names))
@@ -76,7 +84,8 @@ IsDirectoryObject None = ⊥
 
 -- an edit is prepared of what can be edited so, where this object of memory stands for it, and else none
 abbrev pub PreparesEdit : (ℕ → List ℕ) → ℕ → NameEdit → Option Node → Option Object → Option Edit → Type 0
-PreparesEdit disk inodes wanted found o (Some edit) = EditsIn disk inodes (names_after wanted) found o edit × Accepts wanted found
+PreparesEdit disk inodes wanted found o (Some edit) =
+    EditsIn disk inodes (names_after wanted) found o edit × Accepts wanted found × (piece_count edit ≤ pieces_of wanted)
 PreparesEdit disk inodes wanted found o None = Accepts wanted found → ⊥
 
 -- there is an object, and it has room for an edit

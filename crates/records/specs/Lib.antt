@@ -1,6 +1,7 @@
 pub use Rattle.paths.specs.Standing
 pub mod Entering
 pub mod Contents
+pub mod Room
 pub mod Steps
 pub mod Prepared
 pub mod Shown

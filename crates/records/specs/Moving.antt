@@ -9,6 +9,7 @@ use Rattle.model.specs.declared.errno.Errno.{Errno}
 use Rattle.model.specs.declared.errno.Errno.TheVariants.{EEXIST}
 use Rattle.inode.specs.declared.object.Object.{Object}
 use Rattle.records.specs.Obstacles.{BarsReplacing}
+use Rattle.records.specs.Room.{UpdateRoom}
 use Rattle.records.specs.Steps.{IsAlone, Updates}
 use Rattle.records.specs.declared.naming.NameEdit.{NameEdit}
 use Rattle.records.specs.declared.naming.NameEdit.TheVariants as edits
@@ -19,9 +20,9 @@ use Rattle.records.specs.declared.steps.Update.{Update}
 abbrev pub MayReplace : Volume → ℕ → ℕ → Type 0
 MayReplace v n m = (m ≢ n) × (is_directory_node (v m) ≡ is_directory_node (v n)) × IsEmpty v m
 
--- an update takes a name of the object m, whatever it is in memory
+-- an update takes a name of the object m, whatever it is in memory, and raises what its number needs by six at the most
 abbrev pub UpdateTakesName : (ℕ → List ℕ) → (ℕ → Inode) → Volume → ℕ → Update → Type 0
-UpdateTakesName disk settled v m update = (count : ℕ) (o : Option Object) → Updates disk count (settled m) (v m) o update (with_name_less (v m))
+UpdateTakesName disk settled v m update = (count : ℕ) (o : Option Object) → Updates disk count (settled m) (v m) o update (with_name_less (v m)) × UpdateRoom o update 6
 
 -- what becomes of the object m when it loses a name: an update where it has no names in it, and else none
 abbrev pub Releases : (ℕ → List ℕ) → (ℕ → Inode) → Volume → ℕ → Option Update → Type 0

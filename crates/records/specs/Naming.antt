@@ -1,5 +1,5 @@
 -- Edits of the names in a directory's file.
-use Rattle.std.specs.Prelude.{ℕ, List, Option, Some, None, Result, IfOk, IfSome, IsErrOf}
+use Rattle.std.specs.Prelude.{ℕ, ◌≤◌, List, Option, Some, None, Result, IfOk, IfSome, IsErrOf}
 use Rattle.layout.specs.DirectoryNames.{NameMap}
 use Rattle.buffers.specs.Reads.{ReadsBlocks}
 use Rattle.buffers.specs.declared.blocks.Blocks.{Ghosts}
@@ -8,6 +8,7 @@ use Rattle.blocktree.specs.Trees.{IsSoundAt}
 use Rattle.blocktree.specs.declared.error.ReadError.{ReadError}
 use Rattle.blocktree.specs.declared.error.ReadError.TheVariants.{Damaged}
 use Rattle.dirs.specs.Edits.{FitsIn, HasEditedNames}
+use Rattle.dirs.specs.Room.{piece_count}
 use Rattle.dirs.specs.declared.edit.Edit.{Edit}
 use Rattle.inode.specs.Files.{IsSameFile}
 use Rattle.inode.specs.declared.file.File.{File}
@@ -19,12 +20,13 @@ abbrev pub EditsNames : ℕ → (ℕ → List ℕ) → File → NameEdit → Nam
 EditsNames inodes disk file wanted names (Some edit) = TakesEdit wanted names × HasEditedNames inodes disk file edit (names_after wanted names)
 EditsNames inodes disk file wanted names None = TakesEdit wanted names → ⊥
 
--- Names of a directory's file are edited so, where it has such names before. The file stays the same until the edit is put in
+-- Names of a directory's file are edited so, where it has such names before, and so many of its blocks are changed at the most. The file stays the same until the edit is put in
 -- force.
-pub record EditsFile {B : Type 0} (Had : (ℕ → List ℕ) → NameMap → Type 0) (G : Ghosts B) (blocks after : B) (inodes : ℕ) (file new : File) (wanted : NameEdit) (result : Result (Option Edit) ReadError) : Type 0 where
+pub record EditsFile {B : Type 0} (Had : (ℕ → List ℕ) → NameMap → Type 0) (most : ℕ) (G : Ghosts B) (blocks after : B) (inodes : ℕ) (file new : File) (wanted : NameEdit) (result : Result (Option Edit) ReadError) : Type 0 where
   pub reads : ReadsBlocks G IsFault blocks after result
   pub same : IsSameFile file new
   pub fits : IfOk result (λ e. IfSome e (FitsIn new))
+  pub pieces : IfOk result (λ e. IfSome e (λ x. piece_count x ≤ most))
   pub edited : (disk : ℕ → List ℕ) (names : NameMap) → G.Shows blocks disk → Had disk names
       → IfOk result (EditsNames inodes disk new wanted names)
   pub damaged : (disk : ℕ → List ℕ) (names : NameMap) → G.Shows blocks disk → IsErrOf result Damaged → Had disk names

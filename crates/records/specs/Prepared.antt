@@ -1,9 +1,12 @@
 -- Prepared changes of the image in memory.
-use Rattle.std.specs.Prelude.{ℕ, List, Option, Some, None}
+use Rattle.std.specs.Prelude.{ℕ, ◌+◌, ◌≤◌, List, Option, Some, None}
 use Rattle.layout.specs.declared.inode.Inode.{Inode}
-use Rattle.model.specs.Records.{Change, applied}
+use Rattle.model.specs.Records.{Change, applied, cut, work_of, write}
+use Rattle.model.specs.Room.{cost}
 use Rattle.model.specs.Volumes.{Volume}
+use Rattle.inofile.specs.Inodes.{IsKnown}
 use Rattle.inofile.specs.declared.inode_file.InodeFile.{InodeFile}
+use Rattle.records.specs.Room.{SomeRoom, StepRoom}
 use Rattle.records.specs.Steps.{IsAtHand, IsBeside, IsSomeApart, IsSomeAtHand, Steps, StepsSome, TakesSome, TakesUpdate}
 use Rattle.records.specs.declared.prepared.Prepared.{Prepared}
 use Rattle.records.specs.declared.steps.Step.{Step}
@@ -33,8 +36,15 @@ pub record AreAtHand (s : InodeFile) (p : Prepared) : Type 0 where
   pub next : IsSomeAtHand s p.next
   pub last : IsSomeAtHand s p.last
 
+-- the file that a record writes to or cuts is in memory
+abbrev pub KnowsFile : InodeFile → Change → Type 0
+KnowsFile s (write number offset bytes) = IsKnown s number
+KnowsFile s (cut number size) = IsKnown s number
+KnowsFile s change = Unit {0}
+
 -- Put in force on this memory, which stands for this volume, a prepared change does to it what the record says: each of its
--- steps is on an object of its own.
+-- steps is on an object of its own. Each raises by so much at the most what a consistency point may store, and all of them by no more
+-- than the record costs.
 pub record Does (disk : ℕ → List ℕ) (settled : ℕ → Inode) (s : InodeFile) (v : Volume) (p : Prepared) (change : Change) : Type 0 where
   pub between : Volume
   pub second : Volume
@@ -44,3 +54,11 @@ pub record Does (disk : ℕ → List ℕ) (settled : ℕ → Inode) (s : InodeFi
   pub next_beside : IsBeside p.first.number p.next
   pub last_beside : IsBeside p.first.number p.last
   pub beside : AreBeside p.next p.last
+  pub firsts : ℕ
+  pub nexts : ℕ
+  pub lasts : ℕ
+  pub first_room : StepRoom s p.first firsts
+  pub next_room : SomeRoom s p.next nexts
+  pub last_room : SomeRoom s p.last lasts
+  pub within : firsts + nexts + lasts ≤ cost (work_of v change)
+  pub knows : KnowsFile s change

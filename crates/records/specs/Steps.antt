@@ -1,5 +1,5 @@
 -- Steps of a prepared change: each changes one object in memory.
-use Rattle.std.specs.Prelude.{ℕ, ◌≡◌, ◌≢◌, ◌≤◌, ◌<◌, ◌||◌, IsTrue, List, Option, Some, None}
+use Rattle.std.specs.Prelude.{ℕ, ◌≡◌, ◌≢◌, ◌+◌, ◌≤◌, ◌<◌, ◌||◌, IsTrue, List, Option, Some, None}
 use Rattle.layout.specs.declared.inode.Inode.{Inode}
 use Rattle.layout.specs.DirectoryNames.{NameMap}
 use Rattle.model.specs.declared.limits.TheConstants.{FILE_NAMES, ROOT_NUMBER}
@@ -8,10 +8,12 @@ use Rattle.model.specs.Volumes.{Node, Volume, file_node, is_directory_node, is_f
 use Rattle.inode.specs.declared.object.Object.{Object}
 use Rattle.inofile.specs.Inodes.{HasRoomFor, IsKnown, loaded}
 use Rattle.inofile.specs.Objects.{IsObjectOrNone}
+use Rattle.inofile.specs.Room.{memory_room}
 use Rattle.inofile.specs.Volumes.{IsVolumeOf}
 use Rattle.inofile.specs.declared.inode_file.InodeFile.{InodeFile}
 use Rattle.records.specs.Contents.{FitsFile, RewritesIn}
 use Rattle.records.specs.Entering.{EditsIn, FitsObject, with_node_names}
+use Rattle.records.specs.Room.{SomeRoom}
 use Rattle.records.specs.declared.steps.Step.{Step}
 use Rattle.records.specs.declared.steps.Update.{Update}
 use Rattle.records.specs.declared.steps.Update.TheVariants as updates
@@ -108,3 +110,5 @@ pub record Commits (s t : InodeFile) (step : Option Step) : Type 0 where
   pub rest : (n : ℕ) → IsBeside n step → loaded t n ≡ loaded s n
   pub volume : (count : ℕ) (disk : ℕ → List ℕ) (settled : ℕ → Inode) (v w : Volume) → IsVolumeOf count disk settled s v
       → StepsSome disk settled s v step w → IsVolumeOf count disk settled t w
+  pub room : (base : Volume) (count : ℕ) (disk : ℕ → List ℕ) (settled : ℕ → Inode) (v w : Volume) (k : ℕ) → IsVolumeOf count disk settled s v
+      → StepsSome disk settled s v step w → SomeRoom s step k → memory_room base t w ≤ memory_room base s v + k

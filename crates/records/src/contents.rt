@@ -10,14 +10,16 @@ ghost use Rattle.buffers.specs.Reads.{ReadsBlocks};
 ghost use Rattle.blocktree.specs.Errors.{IsFault};
 ghost use Rattle.blocktree.specs.Trees.{IsSoundAt};
 ghost use Rattle.inode.specs.Files.{Fits, IsFile};
+ghost use Rattle.inode.specs.Room.{StoresMore, size_room, write_room};
 ghost use Rattle.inode.specs.declared.object.Object.{Object};
 ghost use Rattle.inofile.specs.Inodes.{loaded};
 ghost use Rattle.inofile.specs.Objects.{IsObject, IsObjectOrNone, IsSameObject, IsSameOrNone};
 ghost use Rattle.paths.specs.Numbers.{IsNumber};
-ghost use Rattle.records.specs.Contents.{FitsFile, KeepsRewriteBounds, PlansFile, Rewrites, RewritesIn, bytes_after, rewriting};
+ghost use Rattle.records.specs.Contents.{FitsFile, KeepsRewriteBounds, PlansFile, RewriteRoom, Rewrites, RewritesIn, bytes_after, rewrite_room, rewriting};
 ghost use Rattle.records.specs.Failures.{told};
 ghost use Rattle.records.specs.Looking.{Finds};
 ghost use Rattle.records.specs.Preparing.{DecidesRecord};
+ghost use Rattle.records.specs.Room.{RaisesFile, StoresIn};
 ghost use Rattle.records.specs.Steps.{TakesUpdate};
 
 use crate::loading::{is_number, load_to_change};
@@ -102,6 +104,8 @@ fn plan_number<B: Blocks>(
         × IfSome w (RewritesIn disk (bytes_after rewrite.now) (loaded inodes.new number))) result }
     ensures ready { IfOk result
         (λ w. IfSome w (λ x. TakesUpdate inodes.new number (Update.Bytes x))) }
+    ensures stores { IfOk result
+        (λ w. IfSome w (RewriteRoom rewrite.now (loaded inodes.new number))) }
 {
     objects_stand_in_their_grammar();
     load_to_change(alloc, inodes, blocks, number)?;
@@ -123,6 +127,7 @@ fn plan_object<B: Blocks>(
     ensures reads { ReadsBlocks B.Blocks IsFault blocks.old blocks.new result }
     ensures same { IsSameOrNone object.old object.new }
     ensures fits { IfOk result (λ w. IfSome w (FitsFile object.new)) }
+    ensures stores { IfOk result (λ w. IfSome w (RewriteRoom rewrite.now object.new)) }
     ensures told { (disk : ℕ → List ℕ) (inodes : ℕ) (settled : Inode) (found : Option Node)
         → IsObjectOrNone disk inodes settled object.old found
         → IfOk result (λ w. is_some w ≡ is_file_node found) }
@@ -152,6 +157,8 @@ fn plan_taken<B: Blocks>(
     ensures reads { ReadsBlocks B.Blocks IsFault blocks.old blocks.new result }
     ensures same { IsSameObject object.old object.new }
     ensures fits { IfOk result (λ w. IfSome w (Fits object.new.file.tree)) }
+    ensures stores { IfOk result (λ w. IfSome w
+        (λ x. StoresMore object.new.file x (rewrite_room object.new.file.size rewrite.now))) }
     ensures told { (disk : ℕ → List ℕ) (inodes : ℕ) (settled : Inode) (found : Option Node)
         → IsObject disk inodes settled object.old found
         → IfOk result (λ w. is_some w ≡ is_file_node found) }
@@ -179,7 +186,7 @@ fn plan<B: Blocks>(
 ) -> Result<Change, ReadError>
     requires { KeepsRewriteBounds rewrite.now }
     ensures { PlansFile B.Blocks blocks.old blocks.new file.old file.new
-        (bytes_after rewrite.now) result }
+        (bytes_after rewrite.now) (rewrite_room file.old.size rewrite.now) result }
 {
     match rewrite {
         Rewrite::Write { offset, bytes } => plan_write(alloc, file, blocks, *offset, bytes),
@@ -198,7 +205,7 @@ fn plan_write<B: Blocks>(
     requires some { 1 ≤ length bytes.now }
     requires within { offset + length bytes.now ≤ GREATEST_FILE }
     ensures { PlansFile B.Blocks blocks.old blocks.new file.old file.new
-        (written offset bytes.now) result }
+        (written offset bytes.now) (write_room file.old.size offset (length bytes.now)) result }
 {
     match file.prepare_write(alloc, blocks, offset, bytes) {
         Ok(change) => Ok(change),
@@ -218,7 +225,7 @@ fn plan_cut<B: Blocks>(
 ) -> Result<Change, ReadError>
     requires { size ≤ GREATEST_FILE }
     ensures { PlansFile B.Blocks blocks.old blocks.new file.old file.new
-        (resized size) result }
+        (resized size) (size_room file.old.size size) result }
 {
     match file.prepare_cut(alloc, blocks, size) {
         Ok(change) => Ok(change),
@@ -232,7 +239,8 @@ fn plan_cut<B: Blocks>(
 /// Puts a change of a file's bytes in force.
 pub(crate) fn commit_bytes(object: &mut Option<Object>, change: Change)
     requires { FitsFile object.old change }
-    ensures { (disk : ℕ → List ℕ) (inodes : ℕ) (settled : Inode) (found : Option Node)
+    ensures room { (k : ℕ) → StoresIn object.old change k → RaisesFile object.old object.new k }
+    ensures rewrites { (disk : ℕ → List ℕ) (inodes : ℕ) (settled : Inode) (found : Option Node)
         (f : List ℕ → List ℕ) → IsObjectOrNone disk inodes settled object.old found
         → IsTrue (is_file_node found) → RewritesIn disk f object.old change
         → IsObjectOrNone disk inodes settled object.new (with_file_bytes f found) }

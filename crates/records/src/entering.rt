@@ -1,18 +1,20 @@
 //! Names that directories get and lose.
 
-ghost use Rattle.std.specs.Prelude.{◌≡◌, ◌≢◌, ◌↔◌, ℕ, List, Option, Some, IsTrue, IfOk, IfSome, IsErrOf};
+ghost use Rattle.std.specs.Prelude.{◌≡◌, ◌≢◌, ◌+◌, ◌*◌, ◌↔◌, ℕ, List, Option, Some, IsTrue, IfOk, IfSome, IsErrOf};
 ghost use Rattle.layout.specs.DirectoryNames.{NameMap};
 ghost use Rattle.layout.specs.declared.inode.Inode.{Inode};
 ghost use Rattle.model.specs.Volumes.{Node};
 ghost use Rattle.buffers.specs.Reads.{ReadsBlocks};
 ghost use Rattle.blocktree.specs.Errors.{IsFault};
 ghost use Rattle.blocktree.specs.Trees.{IsSoundAt};
+ghost use Rattle.dirs.specs.Room.{piece_count};
 ghost use Rattle.inode.specs.declared.object.Object.{Object};
 ghost use Rattle.inofile.specs.Inodes.{loaded};
 ghost use Rattle.inofile.specs.Objects.{IsObjectOrNone, IsSameOrNone};
 ghost use Rattle.paths.specs.Numbers.{IsNumber};
 ghost use Rattle.records.specs.Entering.{EditsIn, FitsObject, IsDirectoryObject, IsNameEdit, PreparesEdit, with_node_names};
 ghost use Rattle.records.specs.Looking.{Finds};
+ghost use Rattle.records.specs.Room.{RaisesFile};
 ghost use Rattle.records.specs.Steps.{IsAtHand, TakesUpdate};
 ghost use Rattle.records.specs.declared.steps.Update.TheVariants as updates;
 
@@ -117,7 +119,8 @@ fn is_directory(object: &Option<Object>) -> bool
 /// Puts an edit of a directory in force.
 pub(crate) fn commit_edit(object: &mut Option<Object>, edit: Edit)
     requires { FitsObject object.old edit }
-    ensures { (disk : ℕ → List ℕ) (inodes : ℕ) (settled : Inode) (found : Option Node)
+    ensures room { RaisesFile object.old object.new (2 * piece_count edit + 3) }
+    ensures edits { (disk : ℕ → List ℕ) (inodes : ℕ) (settled : Inode) (found : Option Node)
         (f : NameMap → NameMap) → IsObjectOrNone disk inodes settled object.old found
         → EditsIn disk inodes f found object.old edit
         → IsObjectOrNone disk inodes settled object.new (with_node_names f found) }

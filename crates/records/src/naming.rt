@@ -1,6 +1,6 @@
 //! Edits of the names in a directory's file.
 
-ghost use Rattle.std.specs.Prelude.{ℕ, List, None, IfOk, IsErrOf};
+ghost use Rattle.std.specs.Prelude.{ℕ, ◌+◌, ◌≤◌, List, None, IfOk, IsErrOf};
 ghost use Rattle.layout.specs.Directory.{IsEntry, named_of};
 ghost use Rattle.layout.specs.DirectoryNames.{NameMap};
 ghost use Rattle.buffers.specs.Reads.{ReadsBlocks};
@@ -9,7 +9,8 @@ ghost use Rattle.blocktree.specs.Trees.{IsSoundAt};
 ghost use Rattle.inode.specs.Files.{IsSameFile};
 ghost use Rattle.dirs.specs.Directory.{with_name};
 ghost use Rattle.dirs.specs.Edits.{FitsIn, HasEditedNames, IsDirectory};
-ghost use Rattle.records.specs.Entering.{IsNameEdit};
+ghost use Rattle.dirs.specs.Room.{piece_count};
+ghost use Rattle.records.specs.Entering.{IsNameEdit, pieces_of};
 ghost use Rattle.records.specs.Naming.{EditsFile};
 ghost use Rattle.records.specs.declared.naming.NameEdit.TheVariants as edits;
 
@@ -43,7 +44,7 @@ pub(crate) fn edit_file<B: Blocks>(
     wanted: &NameEdit<'_>,
 ) -> Result<Option<Edit>, ReadError>
     requires { IsNameEdit inodes wanted.now }
-    ensures { EditsFile (λ disk. IsDirectory inodes disk file.old) B.Blocks blocks.old blocks.new
+    ensures { EditsFile (λ disk. IsDirectory inodes disk file.old) (pieces_of wanted.now) B.Blocks blocks.old blocks.new
         inodes file.old file.new wanted.now result }
 {
     let edit = Edit::of(alloc, file);
@@ -66,7 +67,7 @@ fn add_new<B: Blocks>(
 ) -> Result<Option<Edit>, ReadError>
     requires entry { IsEntry inodes (named_of entry.now) }
     requires fits { FitsIn file.old edit }
-    ensures { EditsFile (λ disk. HasEditedNames inodes disk file.old edit) B.Blocks blocks.old blocks.new
+    ensures { EditsFile (λ disk. HasEditedNames inodes disk file.old edit) (piece_count edit + 1) B.Blocks blocks.old blocks.new
         inodes file.old file.new (NameEdit.Add entry.now) result }
 {
     let found = edit.find(file, blocks, inodes, entry.name)?;
@@ -86,7 +87,7 @@ fn remove_one<B: Blocks>(
     name: &[u8],
 ) -> Result<Option<Edit>, ReadError>
     requires fits { FitsIn file.old edit }
-    ensures { EditsFile (λ disk. HasEditedNames inodes disk file.old edit) B.Blocks blocks.old blocks.new
+    ensures { EditsFile (λ disk. HasEditedNames inodes disk file.old edit) (piece_count edit + 1) B.Blocks blocks.old blocks.new
         inodes file.old file.new (edits.Remove name.entry) result }
 {
     let edit = remove_in(alloc, file, blocks, inodes, edit, name)?;
@@ -104,7 +105,7 @@ fn replace_in<B: Blocks>(
 ) -> Result<Option<Edit>, ReadError>
     requires entry { IsEntry inodes (named_of entry.now) }
     requires fits { FitsIn file.old edit }
-    ensures { EditsFile (λ disk. HasEditedNames inodes disk file.old edit) B.Blocks blocks.old blocks.new
+    ensures { EditsFile (λ disk. HasEditedNames inodes disk file.old edit) (piece_count edit + 2) B.Blocks blocks.old blocks.new
         inodes file.old file.new (NameEdit.Replace entry.now) result }
 {
     let edit = remove_in(alloc, file, blocks, inodes, edit, entry.name)?;
@@ -123,7 +124,7 @@ fn move_in<B: Blocks>(
 ) -> Result<Option<Edit>, ReadError>
     requires entry { IsEntry inodes (named_of entry.now) }
     requires fits { FitsIn file.old edit }
-    ensures { EditsFile (λ disk. HasEditedNames inodes disk file.old edit) B.Blocks blocks.old blocks.new
+    ensures { EditsFile (λ disk. HasEditedNames inodes disk file.old edit) (piece_count edit + 3) B.Blocks blocks.old blocks.new
         inodes file.old file.new (edits.Move old.entry entry.now) result }
 {
     let edit = remove_in(alloc, file, blocks, inodes, edit, old)?;
@@ -143,7 +144,7 @@ fn add_in<B: Blocks>(
     requires entry { IsEntry inodes (named_of entry.now) }
     requires fits { FitsIn file.old edit }
     ensures { EditsFile (λ disk names. HasEditedNames inodes disk file.old edit
-        (with_name entry.now.name.now None names)) B.Blocks blocks.old blocks.new
+        (with_name entry.now.name.now None names)) (piece_count edit + 1) B.Blocks blocks.old blocks.new
         inodes file.old file.new (NameEdit.Replace entry.now) result }
 {
     let mut edit = edit;
@@ -169,6 +170,7 @@ fn remove_in<B: Blocks>(
     ensures reads { ReadsBlocks B.Blocks IsFault blocks.old blocks.new result }
     ensures same { IsSameFile file.old file.new }
     ensures fits { IfOk result (FitsIn file.new) }
+    ensures pieces { IfOk result (λ x. piece_count x ≤ piece_count edit + 1) }
     ensures edited { (disk : ℕ → List ℕ) (names : NameMap) → B.Shows blocks.old disk
         → HasEditedNames inodes disk file.old edit names → IfOk result
         (λ x. HasEditedNames inodes disk file.new x (with_name name.now None names)) }

@@ -1,13 +1,16 @@
 //! Records, prepared and committed.
 
-ghost use Rattle.std.specs.Prelude.{◌≡◌, ◌≤◌, ◌<◌, ℕ, List, Some, IfErr, IfOk, IsTrue};
+ghost use Rattle.std.specs.Prelude.{◌≡◌, ◌+◌, ◌≤◌, ◌<◌, ℕ, List, Some, IfErr, IfOk, IsTrue};
 ghost use Rattle.layout.specs.Record.{change_of, made_of};
 ghost use Rattle.layout.specs.declared.inode.Inode.{Inode};
 ghost use Rattle.model.specs.Paths.{IsName};
-ghost use Rattle.model.specs.Records.{Change, Made, TakesName, applied, create, is_vacant, node_of};
+ghost use Rattle.model.specs.Records.{Change, Made, TakesName, applied, create, is_vacant, node_of, work_of};
+ghost use Rattle.model.specs.Room.{cost};
 ghost use Rattle.model.specs.Volumes.{Volume, IsVolume};
 ghost use Rattle.blocktree.specs.Errors.{IsFault};
+ghost use Rattle.inode.specs.Room.{file_room};
 ghost use Rattle.inofile.specs.Objects.{IsObject};
+ghost use Rattle.inofile.specs.Room.{memory_room};
 ghost use Rattle.inofile.specs.Volumes.{IsVolumeOf};
 ghost use Rattle.paths.specs.Standing.{Looks, Stands};
 ghost use Rattle.records.specs.Failures.{told};
@@ -140,6 +143,7 @@ pub fn prepare_new<B: Blocks>(
     ensures does { (disk : ℕ → List ℕ) (settled : ℕ → Inode) (v : Volume) (made : Made)
         → Stands B.Blocks disk settled v blocks.old inodes.old → IsTrue (is_vacant (v number))
         → ((k : ℕ) → IsObject disk k (settled number) object (Some (node_of made)))
+        → file_room object.file ≤ 5
         → IfOk result (λ x. Does disk settled inodes.new v x (create number parent made name.now)) }
     ensures named { IfOk result (λ _. IsName name.now) }
     ensures takes { OnVolumes B.Blocks blocks.old inodes.old (λ disk settled v.
@@ -174,7 +178,7 @@ pub fn prepare_new<B: Blocks>(
     })
 }
 
-/// Puts a prepared change in force. It takes no memory and can't fail.
+/// Puts a prepared change in force. It takes no memory and can't fail. A consistency point stores no more for it than it costs.
 pub fn commit(inodes: &mut InodeFile, prepared: Prepared)
     requires { IsReady inodes.old prepared }
     ensures geometry { inodes.new.geometry ≡ inodes.old.geometry }
@@ -183,6 +187,11 @@ pub fn commit(inodes: &mut InodeFile, prepared: Prepared)
         (change : Change) → IsVolumeOf count disk settled inodes.old v
         → Does disk settled inodes.old v prepared change
         → IsVolumeOf count disk settled inodes.new (applied change v) }
+    ensures room { (base : Volume) (count : ℕ) (disk : ℕ → List ℕ) (settled : ℕ → Inode) (v : Volume)
+        (change : Change) → IsVolumeOf count disk settled inodes.old v
+        → Does disk settled inodes.old v prepared change
+        → memory_room base inodes.new (applied change v)
+        ≤ memory_room base inodes.old v + cost (work_of v change) }
 {
     let Prepared { first, next, last } = prepared;
     commit_step(inodes, first);

@@ -1,11 +1,12 @@
 //! Records that move a name.
 
-ghost use Rattle.std.specs.Prelude.{◌≡◌, ◌≢◌, ℕ, List, Option, None, Some, IsTrue, IfErr, IfOk, IfSome, IfNone};
+ghost use Rattle.std.specs.Prelude.{◌≡◌, ◌≢◌, ◌≤◌, ℕ, List, Option, None, Some, IsTrue, IfErr, IfOk, IfSome, IfNone};
 ghost use Rattle.layout.specs.Directory.{IsEntry, named_of};
 ghost use Rattle.model.specs.Laws.{is_own};
 ghost use Rattle.model.specs.Records.{IsBelow, rename};
 ghost use Rattle.model.specs.Volumes.{entries, is_directory_node};
 ghost use Rattle.dirs.specs.Directory.{with_name};
+ghost use Rattle.dirs.specs.Room.{piece_count};
 ghost use Rattle.inofile.specs.Inodes.{loaded};
 ghost use Rattle.paths.specs.Numbers.{IsNumber};
 ghost use Rattle.paths.specs.Standing.{Stands};
@@ -298,7 +299,8 @@ fn edit_both<B: Blocks>(
         PreparesEdit disk inodes.new.geometry.inodes wanted.now (v new_parent)
         (loaded inodes.new new_parent) (Some x.0)
         × EditsIn disk inodes.new.geometry.inodes (with_name name.now None) (v parent)
-        (loaded inodes.new parent) x.1)
+        (loaded inodes.new parent) x.1
+        × (piece_count x.1 ≤ 1))
         × IfNone e (Accepts wanted.now (v new_parent)
         → IsTrue (is_directory_node (v parent)) → ⊥)) result }
     ensures ready { IfOk result (λ e. IfSome e (λ x.

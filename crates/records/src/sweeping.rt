@@ -1,11 +1,13 @@
 //! Files that a change leaves with neither name nor descriptor, and the table of open files behind a change.
 
-ghost use Rattle.std.specs.Prelude.{◌≡◌, ℕ, List, Option, None, IfSome, IsTrue, false};
+ghost use Rattle.std.specs.Prelude.{◌≡◌, ◌+◌, ◌≤◌, ℕ, List, Option, None, IfSome, IsTrue, false};
 ghost use Rattle.std.specs.Option.{option_map};
 ghost use Rattle.layout.specs.declared.inode.Inode.{Inode};
-ghost use Rattle.model.specs.Records.{Change, applied};
+ghost use Rattle.model.specs.Records.{Change, applied, work_of};
+ghost use Rattle.model.specs.Room.{cost};
 ghost use Rattle.model.specs.Volumes.{Volume, IsMounted, is_file_node, is_nameless, swept, swept_node, with_node};
 ghost use Rattle.inofile.specs.Inodes.{HasRoomFor, IsKnown};
+ghost use Rattle.inofile.specs.Room.{memory_room};
 ghost use Rattle.inofile.specs.Volumes.{IsVolumeOf};
 ghost use Rattle.descriptors.specs.Fits.{FitsVolume};
 ghost use Rattle.descriptors.specs.Tables.{table_of};
@@ -32,6 +34,11 @@ pub fn commit_swept(inodes: &mut InodeFile, files: &mut Descriptors, prepared: P
         → Does disk settled inodes.old v prepared change → IsMounted v (table_of files.old)
         → IsVolumeOf count disk settled inodes.new
         (swept (table_of files.old) (applied change v)) }
+    ensures room { (base : Volume) (count : ℕ) (disk : ℕ → List ℕ) (settled : ℕ → Inode) (v : Volume)
+        (change : Change) → IsVolumeOf count disk settled inodes.old v
+        → Does disk settled inodes.old v prepared change → IsMounted v (table_of files.old)
+        → memory_room base inodes.new (swept (table_of files.old) (applied change v))
+        ≤ memory_room base inodes.old v + cost (work_of v change) }
     ensures fits { (count : ℕ) (disk : ℕ → List ℕ) (settled : ℕ → Inode) (v : Volume)
         (change : Change) → IsVolumeOf count disk settled inodes.old v
         → Does disk settled inodes.old v prepared change → IsMounted v (table_of files.old)
@@ -75,6 +82,10 @@ pub fn drop_nameless(inodes: &mut InodeFile, number: InodeNumber)
         → IsVolumeOf count disk settled inodes.old v
         → IsVolumeOf count disk settled inodes.new
         (with_node number (swept_node false (v number)) v) }
+    ensures room { (base : Volume) (count : ℕ) (disk : ℕ → List ℕ) (settled : ℕ → Inode) (v : Volume)
+        → IsVolumeOf count disk settled inodes.old v
+        → memory_room base inodes.new (with_node number (swept_node false (v number)) v)
+        ≤ memory_room base inodes.old v }
 {
     if is_nameless(inodes, number) {
         inodes.commit_set(number.get(), None);
@@ -94,6 +105,10 @@ fn settle(inodes: &mut InodeFile, files: &mut Descriptors, number: Option<InodeN
         → IsVolumeOf count disk settled inodes.old v
         → IsVolumeOf count disk settled inodes.new
         (without_file (table_of files.old) number v) }
+    ensures room { (base : Volume) (count : ℕ) (disk : ℕ → List ℕ) (settled : ℕ → Inode) (v : Volume)
+        → IsVolumeOf count disk settled inodes.old v
+        → memory_room base inodes.new (without_file (table_of files.old) number v)
+        ≤ memory_room base inodes.old v }
     ensures fits { (count : ℕ) (disk : ℕ → List ℕ) (settled : ℕ → Inode) (v w : Volume)
         → IsVolumeOf count disk settled inodes.old w → OpensFiles (table_of files.old) w
         → FitsVolume files.old v → FitsVolume files.new (with_object_of w number v) }

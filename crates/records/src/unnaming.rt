@@ -11,6 +11,7 @@ ghost use Rattle.paths.specs.Numbers.{IsNumber};
 ghost use Rattle.records.specs.Looking.{Finds};
 ghost use Rattle.records.specs.Moving.{Releases};
 ghost use Rattle.records.specs.Preparing.{DecidesRecord};
+ghost use Rattle.records.specs.Room.{UpdateRoom};
 ghost use Rattle.records.specs.Steps.{IsAlone, IsAtHand, Updates};
 
 use crate::entering::edit_parent;
@@ -120,7 +121,8 @@ fn released(inodes: &InodeFile, number: InodeNumber) -> Update
     ensures alone { IsAlone result }
     ensures updates { (count : ℕ) (disk : ℕ → List ℕ) (settled : ℕ → Inode) (v : Volume)
         → IsVolumeOf count disk settled inodes.now v → (many : ℕ) (o : Option Object)
-        → Updates disk many (settled number) (v number) o result (with_name_less (v number)) }
+        → Updates disk many (settled number) (v number) o result (with_name_less (v number))
+        × UpdateRoom o result 6 }
 {
     let Some(object) = paths::object(inodes, number) else {
         return Update::Set(None);

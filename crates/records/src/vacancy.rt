@@ -12,6 +12,7 @@ ghost use Rattle.blocktree.specs.Errors.{IsFault};
 ghost use Rattle.blocktree.specs.Trees.{IsSoundAt};
 ghost use Rattle.blocktree.specs.declared.tree.BlockTree.{BlockTree};
 ghost use Rattle.inode.specs.Bases.{IsBased};
+ghost use Rattle.inode.specs.Room.{file_room};
 ghost use Rattle.inofile.specs.Objects.{IsObject};
 ghost use Rattle.records.specs.Looking.{Finds};
 
@@ -68,6 +69,7 @@ pub fn new_object<B: Blocks>(
     ensures object { (disk : ℕ → List ℕ) → B.Shows blocks.old disk → IfOk result
         (λ o. (inodes : ℕ) (settled : Inode)
         → IsObject disk inodes settled o (Some (node_of (made_of object.now)))) }
+    ensures room { IfOk result (λ o. file_room o.file ≤ 5) }
     ensures damaged { (disk : ℕ → List ℕ) → B.Shows blocks.old disk
         → IsErrOf result ReadError.Damaged
         → ((t : BlockTree) (i : ℕ) → ((settled : Inode) → IsBased settled t)
@@ -87,6 +89,7 @@ fn new_link<B: Blocks>(alloc: Global, blocks: &mut B, text: &[u8]) -> Result<Obj
     ensures object { (disk : ℕ → List ℕ) → B.Shows blocks.old disk → IfOk result
         (λ o. (inodes : ℕ) (settled : Inode)
         → IsObject disk inodes settled o (Some (link_node text.now))) }
+    ensures room { IfOk result (λ o. file_room o.file ≤ 5) }
     ensures damaged { (disk : ℕ → List ℕ) → B.Shows blocks.old disk
         → IsErrOf result ReadError.Damaged
         → ((t : BlockTree) (i : ℕ) → ((settled : Inode) → IsBased settled t)
@@ -118,6 +121,7 @@ fn new_link<B: Blocks>(alloc: Global, blocks: &mut B, text: &[u8]) -> Result<Obj
 fn new_file(alloc: Global, mode: Mode) -> Object
     ensures object { (disk : ℕ → List ℕ) (inodes : ℕ) (settled : Inode)
         → IsObject disk inodes settled result (Some (file_node mode 1 [])) }
+    ensures room { file_room result.file ≡ 0 }
     ensures good { mode ≤ MODE_BITS }
 {
     // The type of a mode holds it to its bits.
@@ -136,6 +140,7 @@ fn new_file(alloc: Global, mode: Mode) -> Object
 pub(crate) fn new_directory(alloc: Global, mode: Mode) -> Object
     ensures object { (disk : ℕ → List ℕ) (inodes : ℕ) (settled : Inode)
         → IsObject disk inodes settled result (Some (directory_node mode (λ name. None))) }
+    ensures room { file_room result.file ≡ 0 }
     ensures good { mode ≤ MODE_BITS }
 {
     // The type of a mode holds it to its bits.

@@ -1,5 +1,5 @@
 mod Errors
 mod RecordLaws
+mod SizeLaws
 mod SavedLaws
 mod SweepLaws
-mod CostLaws

@@ -58,7 +58,7 @@ none_done inodes records changes v w leads = record { more = changes; leads = le
 module _ (inodes : ℕ) (records rest : List ℕ) (changes : List Change) (now w : Volume) (left : IsLeft inodes records rest changes now w) where
   -- one record more
   pub one_more : (body after : List ℕ) → length body < 2 ^ 32 → rest ≡ record_of body ++ after
-      → (s : Step inodes body after left.more now w) × IsLeft inodes records after changes (applied s.change now) w
+      → (s : Step inodes body after left.more now w) × (on : IsLeft inodes records after changes (applied s.change now) w) × (on.more ≡ s.more)
   one_more body after short is =
       let s = step inodes rest body after left.more now w short is left.leads in
       let body_is : change_bytes s.change ≡ body = sym s.spells.spelled in (
@@ -76,13 +76,14 @@ module _ (inodes : ℕ) (records rest : List ℕ) (changes : List Change) (now w
             ap (λ b. length (record_of b)) body_is,
           );
         },
+        refl,
       )
 
   -- all of them
-  pub all_done : HoldsBodies records (bodies_of changes) → IsClosed rest → HoldsLeaving records (bodies_of changes) (length rest) × (w ≡ now)
+  pub all_done : HoldsBodies records (bodies_of changes) → IsClosed rest → HoldsLeaving records (bodies_of changes) (length rest) × (w ≡ now) × (left.more ≡ [])
   all_done held shut =
       let e = ends inodes rest left.more now w shut left.leads in
-      (record { held = held; left_is = omega (arith, left.length_is, ap (λ cs. length (records_of (bodies_of cs))) e.0) }, e.1)
+      (record { held = held; left_is = omega (arith, left.length_is, ap (λ cs. length (records_of (bodies_of cs))) e.0) }, e.1, e.0)
 
 -- ---- any records
 

@@ -1,11 +1,11 @@
 -- The records of two epochs, one after the other.
-use Rattle.std.proofs.Common.{◌≡◌, ℕ, List, [], ◌∷◌, ◌++◌, drop, refl, sym, ap, subst, ◌∙◌}
+use Rattle.std.proofs.Common.{◌≡◌, ℕ, List, [], ◌+◌, ◌∷◌, ◌++◌, arith, drop, refl, sym, ap, subst, ◌∙◌}
 use Rattle.std.specs.Prelude.{All}
 use Rattle.std.proofs.lemmas.List.{map-append}
 use Rattle.std.proofs.lemmas.List.Elements.{All-nil, All-cons, All-head, All-tail}
 use Rattle.layout.specs.Log.{HoldsBodies}
 use Rattle.layout.specs.Record.{Change, IsChange, change_bytes}
-use Rattle.model.specs.Records.{Replays, applied}
+use Rattle.model.specs.Records.{Replays, applied, costs}
 use Rattle.model.specs.Volumes.{Volume}
 use Rattle.oplog.specs.SavedLog.{Saved, TellsLog}
 use Rattle.replay.specs.Volumes.{LeadTo, SavesRecords, bodies_of}
@@ -81,3 +81,8 @@ lead_on inodes nvram saved changes old new tells saves =
 
 pub joined_bodies : (changes one two : List Change) → changes ≡ one ++ two → bodies_of changes ≡ bodies_of one ++ bodies_of two
 joined_bodies changes one two is = ap bodies_of is ∙ map-append change_bytes one two
+
+-- records one after the other cost what each part does
+pub costs_joined : (inodes : ℕ) (one two : List Change) (v mid : Volume) → Replays inodes v one mid → costs v (one ++ two) ≡ costs v one + costs mid two
+costs_joined inodes [] two v mid is = ap (λ (u : Volume). costs u two) (sym is) ∙ omega arith
+costs_joined inodes (c ∷ one) two v mid replays = omega (arith, costs_joined inodes one two (applied c v) mid replays.1)

@@ -1,15 +1,17 @@
 -- The volume that memory stands for, and records that lead from one to another.
-use Rattle.std.specs.Prelude.{ℕ, ◌≡◌, ◌⊎◌, List, All, Result, MatchResult, map}
+use Rattle.std.specs.Prelude.{ℕ, ◌≡◌, ◌⊎◌, ◌+◌, ◌≤◌, List, All, Result, MatchResult, map}
 use Rattle.layout.specs.Log.{HoldsBodies, LogHolds}
 use Rattle.layout.specs.Record.{Change, IsChange, change_bytes}
 use Rattle.layout.specs.declared.inode.Inode.{Inode}
-use Rattle.model.specs.Records.{Replays}
+use Rattle.model.specs.Records.{Replays, costs}
 use Rattle.model.specs.Volumes.{Volume, IsVolume}
 use Rattle.blocktree.specs.declared.error.ReadError.{ReadError}
 use Rattle.blocktree.specs.declared.error.ReadError.TheVariants.{NoMemory, Device}
+use Rattle.inofile.specs.Room.{memory_room}
 use Rattle.inofile.specs.Volumes.{IsVolumeOf}
 use Rattle.inofile.specs.declared.inode_file.InodeFile.{InodeFile}
-use Rattle.oplog.specs.SavedLog.{Saved}
+use Rattle.oplog.specs.SavedLog.{HoldsLeaving, Saved}
+use Rattle.replay.specs.declared.replaying.ReplayedHalf.{ReplayedHalf}
 
 -- an answer of which this is true, but where memory ran out or a device call failed
 abbrev pub ComesTo : {T : Type 0} → Result T ReadError → (T → Type 0) → Type 0
@@ -19,6 +21,10 @@ ComesTo result P = MatchResult result P (λ e. (e ≡ NoMemory) ⊎ (e ≡ Devic
 pub record HasVolume (count : ℕ) (disk : ℕ → List ℕ) (settled : ℕ → Inode) (s : InodeFile) (v : Volume) : Type 0 where
   pub memory : IsVolumeOf count disk settled s v
   pub volume : IsVolume s.geometry.inodes v
+
+-- what a consistency point may store, over any base, rises by so much at the most from this memory of a volume to that
+abbrev pub RaisesRoom : InodeFile → Volume → InodeFile → Volume → ℕ → Type 0
+RaisesRoom s v t w k = (base : Volume) → memory_room base t w ≤ memory_room base s v + k
 
 -- the body of a record of the log
 pub record SpellsRecord (body : List ℕ) (change : Change) : Type 0 where
@@ -34,6 +40,11 @@ pub record LeadTo (inodes : ℕ) (records : List ℕ) (changes : List Change) (o
   pub are : All IsChange changes
   pub held : HoldsBodies records (bodies_of changes)
   pub replays : Replays inodes old changes new
+
+-- What is left behind the records from a gate on, and what these cost.
+pub record HasReplayed (records : List ℕ) (changes : List Change) (v : Volume) (r : ReplayedHalf) : Type 0 where
+  pub held : HoldsLeaving records (bodies_of changes) r.left
+  pub cost : r.cost ≡ costs v changes
 
 -- the log that was saved over a root holds these records, which lead from one volume to another
 pub record SavesRecords (inodes : ℕ) (nvram : List ℕ) (saved : Saved) (changes : List Change) (old new : Volume) : Type 0 where

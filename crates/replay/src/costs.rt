@@ -1,16 +1,19 @@
 //! What the records of the log cost a consistency point.
 
-ghost use Rattle.std.specs.Prelude.{◌≡◌, ◌*◌, ◌≤◌, ℕ, List, length};
+ghost use Rattle.std.specs.Prelude.{◌≡◌, ◌≤◌, ℕ, List};
 ghost use Rattle.layout.specs.Record.{KeepsLimits, change_of};
-ghost use Rattle.layout.specs.declared.geometry.TheConstants.{MOST_HALF};
+ghost use Rattle.layout.specs.declared.inode.Inode.{Inode};
 ghost use Rattle.model.specs.declared.limits.TheConstants.{TRANSFER_BYTES};
-ghost use Rattle.model.specs.Records.{Change, costs, work_of};
+ghost use Rattle.model.specs.Records.{size_before, work_of};
 ghost use Rattle.model.specs.Room as room;
 ghost use Rattle.model.specs.Volumes.{Volume};
-ghost use Rattle.replay.specs.Volumes.{LeadTo};
+ghost use Rattle.inofile.specs.Inodes.{IsKnown};
+ghost use Rattle.inofile.specs.Volumes.{IsVolumeOf};
+ghost use Rattle.replay.specs.Costs.{IsSizeBefore, KnowsFile};
 ghost use Rattle.replay.specs.declared.costs.TheConstants.{MOST_COST};
 
-use layout::{BLOCK_BYTES, Gate, Record, read_gate};
+use inofile::InodeFile;
+use layout::{BLOCK_BYTES, Kind, Record};
 
 /// Blocks that a consistency point may store for a record that changes names.
 const NAMES_COST: u64 = 24;
@@ -18,13 +21,53 @@ const NAMES_COST: u64 = 24;
 const FILE_COST: u64 = 6;
 /// For one that changes a mode.
 const MODE_COST: u64 = 2;
+/// Blocks that stay free behind a record that adds to the tree.
+const KEPT: u64 = 16;
 /// The most that it may store for one record: for 65,536 bytes, which touch 17 blocks of a file.
 pub const MOST_COST: u64 = 40;
 
-/// The most blocks that a consistency point stores for a record, whatever the volume that it changes.
-pub fn cost_of(logged: &Record<'_>) -> u64
+/// How many bytes the file has that a record writes to or cuts, before it is put in force: the file is in memory then. Of any other
+/// record 0.
+pub fn size_before(inodes: &InodeFile, logged: &Record<'_>) -> u64
+    ensures { (count : ℕ) (disk : ℕ → List ℕ) (settled : ℕ → Inode) (v : Volume)
+        → IsVolumeOf count disk settled inodes.now v → KnowsFile inodes.now (change_of logged.now)
+        → IsSizeBefore v (change_of logged.now) result }
+{
+    match logged {
+        Record::Write { number, .. } => file_size(inodes, number.get()),
+        Record::Cut { number, .. } => file_size(inodes, number.get()),
+        Record::Create { .. }
+        | Record::Link { .. }
+        | Record::Unname { .. }
+        | Record::Rename { .. }
+        | Record::ChangeMode { .. } => 0,
+    }
+}
+
+/// How many bytes the file with a number has, which is in memory; 0 where no file has it.
+fn file_size(inodes: &InodeFile, number: u32) -> u64
+    ensures { (count : ℕ) (disk : ℕ → List ℕ) (settled : ℕ → Inode) (v : Volume)
+        → IsVolumeOf count disk settled inodes.now v → IsKnown inodes.now number
+        → result ≡ size_before v number }
+{
+    if !inodes.is_known(number) {
+        return 0;
+    }
+    let object = match inodes.get(number) {
+        Some(object) => object,
+        None => return 0,
+    };
+    match object.attributes.kind {
+        Kind::File => object.file.size(),
+        _ => 0,
+    }
+}
+
+/// The most blocks that a consistency point stores for a record, over a file of this size.
+pub fn cost_of(logged: &Record<'_>, _size: u64) -> u64
     requires { KeepsLimits (change_of logged.now) }
-    ensures cost { (v : Volume) → result ≡ room.cost (work_of v (change_of logged.now)) }
+    ensures cost { (v : Volume) → IsSizeBefore v (change_of logged.now) _size
+        → result ≡ room.cost (work_of v (change_of logged.now)) }
     ensures few { result ≤ MOST_COST }
 {
     match logged {
@@ -48,23 +91,15 @@ fn touched(offset: u64, count: usize) -> u64
     (before + count as u64).div_ceil(BLOCK_BYTES as u64)
 }
 
-/// What the records from a gate on cost, one after the other.
-pub(crate) fn costs_of(records: &[u8]) -> u64
-    requires { length records.now ≤ MOST_HALF }
-    ensures costs { (inodes : ℕ) (v w : Volume) (changes : List Change)
-        → LeadTo inodes records.now changes v w → result ≡ costs v changes }
-    ensures few { result ≤ MOST_COST * length records.now }
+/// The blocks that stay free behind a record, over a file of this size, so that files can still be taken away.
+pub fn keep_of(logged: &Record<'_>, size: u64) -> u64
+    ensures keep { (v : Volume) → IsSizeBefore v (change_of logged.now) size
+        → result ≡ room.keep (work_of v (change_of logged.now)) }
+    ensures few { result ≤ 16 }
 {
-    let mut rest = records;
-    let mut costs = 0;
-    loop {
-        let Gate::Open { body, rest: after } = read_gate(rest) else {
-            return costs;
-        };
-        let Some(logged) = Record::read(body) else {
-            return costs;
-        };
-        costs += cost_of(&logged);
-        rest = after;
+    match logged {
+        Record::Unname { .. } | Record::ChangeMode { .. } => 0,
+        Record::Cut { size: new, .. } => { if size < *new { KEPT } else { 0 } }
+        _ => KEPT,
     }
 }

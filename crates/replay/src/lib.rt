@@ -7,5 +7,5 @@ mod replaying;
 mod saved;
 mod sweeping;
 
-pub use costs::{MOST_COST, cost_of};
+pub use costs::{MOST_COST, cost_of, keep_of, size_before};
 pub use saved::{Replayed, replay};

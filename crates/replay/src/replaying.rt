@@ -1,14 +1,18 @@
 //! The records of the log, one after the other.
 
-ghost use Rattle.std.specs.Prelude.{◌≡◌, ◌≤◌, List, ℕ, IfOk, length};
+ghost use Rattle.std.specs.Prelude.{◌≡◌, ◌≤◌, ◌*◌, List, ℕ, IfOk, length};
+ghost use Rattle.layout.specs.declared.geometry.TheConstants.{MOST_HALF};
 ghost use Rattle.layout.specs.declared.inode.Inode.{Inode};
-ghost use Rattle.model.specs.Records.{Applies, Change, applied};
+ghost use Rattle.model.specs.Records.{Applies, Change, applied, work_of};
+ghost use Rattle.model.specs.Room as room;
 ghost use Rattle.model.specs.Volumes.{Volume};
 ghost use Rattle.buffers.specs.Reads.{ReadsBlocks};
 ghost use Rattle.blocktree.specs.Errors.{IsFault};
 ghost use Rattle.oplog.specs.SavedLog.{HoldsLeaving};
-ghost use Rattle.replay.specs.Volumes.{ComesTo, HasVolume, LeadTo, SpellsRecord, bodies_of};
+ghost use Rattle.replay.specs.Volumes.{ComesTo, HasReplayed, HasVolume, LeadTo, RaisesRoom, SpellsRecord};
+ghost use Rattle.replay.specs.declared.costs.TheConstants.{MOST_COST};
 
+use crate::costs::{cost_of, size_before};
 use blocktree::ReadError;
 use buffers::Blocks;
 use inofile::InodeFile;
@@ -17,55 +21,75 @@ use model::records_keep_volumes;
 use records::{Failure, commit, prepare};
 use std::alloc::Global;
 
-/// Replays the records from a gate on over the inodes in memory, and answers how many bytes stand from the closed gate on.
+/// What replaying the records of a half comes to.
+#[derive(Clone, Copy)]
+pub(crate) struct ReplayedHalf {
+    /// Bytes from the closed gate on.
+    pub(crate) left: usize,
+    /// What the records cost a consistency point.
+    pub(crate) cost: u64,
+}
+
+/// Replays the records from a gate on over the inodes in memory, and answers what is left behind them and what they cost.
 /// `Damaged` where the bytes hold no records, and where one doesn't apply. After an error it isn't known what memory stands for.
 pub(crate) fn replay_all<B: Blocks>(
     alloc: Global,
     inodes: &mut InodeFile,
     blocks: &mut B,
     records: &[u8],
-) -> Result<usize, ReadError>
+) -> Result<ReplayedHalf, ReadError>
+    requires { length records.now ≤ MOST_HALF }
     ensures reads { ReadsBlocks B.Blocks IsFault blocks.old blocks.new result }
     ensures geometry { inodes.new.geometry ≡ inodes.old.geometry }
-    ensures some { IfOk result (λ left. (1 ≤ left) × (left ≤ length records.now)) }
+    ensures some { IfOk result (λ r. (1 ≤ r.left) × (r.left ≤ length records.now)) }
+    ensures few { IfOk result (λ r. r.cost ≤ MOST_COST * length records.now) }
     ensures replays { (disk : ℕ → List ℕ) (settled : ℕ → Inode) (v w : Volume)
         (changes : List Change) → B.Shows blocks.old disk
         → HasVolume (B.count blocks.old) disk settled inodes.old v
         → LeadTo inodes.old.geometry.inodes records.now changes v w
-        → ComesTo result (λ left. HoldsLeaving records.now (bodies_of changes) left
-        × HasVolume (B.count blocks.old) disk settled inodes.new w) }
+        → ComesTo result (λ r. HasReplayed records.now changes v r
+        × HasVolume (B.count blocks.old) disk settled inodes.new w
+        × RaisesRoom inodes.old v inodes.new w r.cost) }
     ensures holds { IfOk result
-        (λ left. (bodies : List (List ℕ)) × HoldsLeaving records.now bodies left) }
+        (λ r. (bodies : List (List ℕ)) × HoldsLeaving records.now bodies r.left) }
 {
     let mut rest = records;
+    let mut cost = 0;
     loop {
         match read_gate(rest) {
-            Gate::Closed => return Ok(rest.len()),
+            Gate::Closed => {
+                return Ok(ReplayedHalf {
+                    left: rest.len(),
+                    cost,
+                });
+            }
             Gate::Malformed => return Err(ReadError::Damaged),
             Gate::Open { body, rest: after } => {
-                replay_one(alloc, inodes, blocks, body)?;
+                cost += replay_one(alloc, inodes, blocks, body)?;
                 rest = after;
             }
         }
     }
 }
 
-/// Does to the inodes in memory what the record with this body says.
+/// Does to the inodes in memory what the record with this body says, and answers what it costs a consistency point.
 fn replay_one<B: Blocks>(
     alloc: Global,
     inodes: &mut InodeFile,
     blocks: &mut B,
     body: &[u8],
-) -> Result<(), ReadError>
+) -> Result<u64, ReadError>
     ensures reads { ReadsBlocks B.Blocks IsFault blocks.old blocks.new result }
     ensures geometry { inodes.new.geometry ≡ inodes.old.geometry }
+    ensures few { IfOk result (λ cost. cost ≤ MOST_COST) }
     ensures replays { (disk : ℕ → List ℕ) (settled : ℕ → Inode) (v : Volume) (change : Change)
         → B.Shows blocks.old disk
         → HasVolume (B.count blocks.old) disk settled inodes.old v
         → SpellsRecord body.now change
         → Applies inodes.old.geometry.inodes v change
-        → ComesTo result (λ _. HasVolume (B.count blocks.old) disk settled inodes.new
-        (applied change v)) }
+        → ComesTo result (λ cost. (cost ≡ room.cost (work_of v change))
+        × HasVolume (B.count blocks.old) disk settled inodes.new (applied change v)
+        × RaisesRoom inodes.old v inodes.new (applied change v) cost) }
 {
     records_keep_volumes();
     let Some(logged) = Record::read(body) else {
@@ -76,6 +100,7 @@ fn replay_one<B: Blocks>(
         Err(Failure::Refused(_errno)) => return Err(ReadError::Damaged),
         Err(Failure::Read(error)) => return Err(error),
     };
+    let cost = cost_of(&logged, size_before(inodes, &logged));
     commit(inodes, prepared);
-    Ok(())
+    Ok(cost)
 }

@@ -1,15 +1,16 @@
 //! All that was saved in the log.
 
-ghost use Rattle.std.specs.Prelude.{◌≡◌, ◌<◌, ◌^◌, List, ℕ, IfOk, IsFalse};
+ghost use Rattle.std.specs.Prelude.{◌≡◌, ◌<◌, ◌≤◌, ◌^◌, List, ℕ, IfOk, IsFalse};
 ghost use Rattle.layout.specs.declared.inode.Inode.{Inode};
-ghost use Rattle.model.specs.Records.{Change, pledged_for, without_nameless};
+ghost use Rattle.model.specs.Records.{Change, costs, pledged_for, without_nameless};
 ghost use Rattle.model.specs.Volumes.{Volume};
 ghost use Rattle.buffers.specs.Reads.{ReadsBlocks};
 ghost use Rattle.blocktree.specs.Errors.{IsFault};
+ghost use Rattle.inofile.specs.Inodes.{HasNoChange};
+ghost use Rattle.inofile.specs.Room.{memory_room};
 ghost use Rattle.oplog.specs.SavedLog.{StandsBehind, TellsLog};
-ghost use Rattle.replay.specs.Volumes.{ComesTo, HasVolume, SavesRecords, bodies_of};
+ghost use Rattle.replay.specs.Volumes.{ComesTo, HasVolume, RaisesRoom, SavesRecords, bodies_of};
 
-use crate::costs::costs_of;
 use crate::replaying::replay_all;
 use crate::sweeping::{count_nameless, drop_nameless};
 use blocktree::ReadError;
@@ -52,61 +53,57 @@ pub fn replay<B: Blocks>(
         → ComesTo result (λ r. StandsBehind r.log saved.generation nvram (bodies_of changes)
         × HasVolume (B.count blocks.old) disk settled inodes.new (without_nameless w)
         × (r.pledged ≡ pledged_for inodes.old.geometry.inodes v changes)) }
+    ensures room { (disk : ℕ → List ℕ) (settled : ℕ → Inode) (v w : Volume)
+        (changes : List Change) (nvram : List ℕ) → B.Shows blocks.old disk
+        → HasVolume (B.count blocks.old) disk settled inodes.old v → TellsLog nvram saved
+        → SavesRecords inodes.old.geometry.inodes nvram saved changes v w
+        → HasNoChange inodes.old → IfOk result
+        (λ r. memory_room v inodes.new (without_nameless w) ≤ r.pledged) }
     ensures holds { (nvram : List ℕ) → TellsLog nvram saved → IfOk result
         (λ r. (bodies : List (List ℕ)) × StandsBehind r.log saved.generation nvram bodies) }
 {
-    let pledged = pledged_by(alloc, inodes, blocks, &saved)?;
-    let log = replay_records(alloc, inodes, blocks, saved)?;
-    Ok(Replayed { log, pledged })
-}
-
-/// What a consistency point may store for the files without names under the root and for the saved records. What memory stands
-/// for stays. `Damaged` where an inode isn't in its grammar.
-fn pledged_by<B: Blocks>(
-    alloc: Global,
-    inodes: &mut InodeFile,
-    blocks: &mut B,
-    saved: &SavedLog,
-) -> Result<u64, ReadError>
-    ensures reads { ReadsBlocks B.Blocks IsFault blocks.old blocks.new result }
-    ensures geometry { inodes.new.geometry ≡ inodes.old.geometry }
-    ensures few { IfOk result (λ pledged. pledged < 2 ^ 32) }
-    ensures pledges { (disk : ℕ → List ℕ) (settled : ℕ → Inode) (v w : Volume)
-        (changes : List Change) (nvram : List ℕ) → B.Shows blocks.old disk
-        → HasVolume (B.count blocks.old) disk settled inodes.old v → TellsLog nvram saved.now
-        → SavesRecords inodes.old.geometry.inodes nvram saved.now changes v w
-        → ComesTo result
-        (λ pledged. (pledged ≡ pledged_for inodes.old.geometry.inodes v changes)
-        × HasVolume (B.count blocks.old) disk settled inodes.new v) }
-{
     let nameless = count_nameless(alloc, inodes, blocks)?;
-    let first = costs_of(saved.first_records());
-    let second = costs_of(saved.second_records());
-    Ok(NAMELESS_COST * u64::from(nameless) + first + second)
+    let ReplayedLog { log, cost } = replay_records(alloc, inodes, blocks, saved)?;
+    Ok(Replayed {
+        log,
+        pledged: NAMELESS_COST * u64::from(nameless) + cost,
+    })
 }
 
-/// The replay itself: it answers the log's end.
+/// The log's end behind a replay, and what its records cost a consistency point.
+struct ReplayedLog {
+    log: Log,
+    cost: u64,
+}
+
+/// The replay itself.
 fn replay_records<B: Blocks>(
     alloc: Global,
     inodes: &mut InodeFile,
     blocks: &mut B,
     saved: SavedLog,
-) -> Result<Log, ReadError>
+) -> Result<ReplayedLog, ReadError>
     ensures reads { ReadsBlocks B.Blocks IsFault blocks.old blocks.new result }
     ensures geometry { inodes.new.geometry ≡ inodes.old.geometry }
-    ensures half { IfOk result (λ log. log.half ≡ saved.half) }
-    ensures runs { IfOk result (λ log. IsFalse log.is_stopped) }
+    ensures half { IfOk result (λ r. r.log.half ≡ saved.half) }
+    ensures runs { IfOk result (λ r. IsFalse r.log.is_stopped) }
+    ensures few { IfOk result (λ r. r.cost < 2 ^ 31) }
     ensures replays { (disk : ℕ → List ℕ) (settled : ℕ → Inode) (v w : Volume)
         (changes : List Change) (nvram : List ℕ) → B.Shows blocks.old disk
         → HasVolume (B.count blocks.old) disk settled inodes.old v → TellsLog nvram saved
         → SavesRecords inodes.old.geometry.inodes nvram saved changes v w
-        → ComesTo result (λ log. StandsBehind log saved.generation nvram (bodies_of changes)
-        × HasVolume (B.count blocks.old) disk settled inodes.new (without_nameless w)) }
+        → ComesTo result (λ r. StandsBehind r.log saved.generation nvram (bodies_of changes)
+        × HasVolume (B.count blocks.old) disk settled inodes.new (without_nameless w)
+        × (r.cost ≡ costs v changes)
+        × RaisesRoom inodes.old v inodes.new (without_nameless w) r.cost) }
     ensures holds { (nvram : List ℕ) → TellsLog nvram saved → IfOk result
-        (λ log. (bodies : List (List ℕ)) × StandsBehind log saved.generation nvram bodies) }
+        (λ r. (bodies : List (List ℕ)) × StandsBehind r.log saved.generation nvram bodies) }
 {
-    let first_left = replay_all(alloc, inodes, blocks, saved.first_records())?;
-    let second_left = replay_all(alloc, inodes, blocks, saved.second_records())?;
+    let first = replay_all(alloc, inodes, blocks, saved.first_records())?;
+    let second = replay_all(alloc, inodes, blocks, saved.second_records())?;
     drop_nameless(alloc, inodes, blocks)?;
-    Ok(saved.into_log(first_left, second_left))
+    Ok(ReplayedLog {
+        log: saved.into_log(first.left, second.left),
+        cost: first.cost + second.cost,
+    })
 }

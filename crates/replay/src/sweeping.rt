@@ -8,6 +8,7 @@ ghost use Rattle.model.specs.Records.{count_nameless, without_nameless};
 ghost use Rattle.model.specs.Volumes.{Volume, is_nameless, swept_node, with_node};
 ghost use Rattle.buffers.specs.Reads.{ReadsBlocks};
 ghost use Rattle.blocktree.specs.Errors.{IsFault};
+ghost use Rattle.inofile.specs.Room.{NeedsNoMore, memory_room};
 ghost use Rattle.inofile.specs.Volumes.{IsVolumeOf};
 ghost use Rattle.replay.specs.Volumes.{ComesTo, HasVolume};
 
@@ -27,6 +28,7 @@ pub(crate) fn count_nameless<B: Blocks>(
 ) -> Result<u32, ReadError>
     ensures reads { ReadsBlocks B.Blocks IsFault blocks.old blocks.new result }
     ensures geometry { inodes.new.geometry ≡ inodes.old.geometry }
+    ensures needs { NeedsNoMore inodes.old inodes.new }
     ensures few { IfOk result (λ count. count ≤ MOST_INODES) }
     ensures counts { (disk : ℕ → List ℕ) (settled : ℕ → Inode) (v : Volume)
         → B.Shows blocks.old disk
@@ -56,6 +58,11 @@ pub(crate) fn drop_nameless<B: Blocks>(
         → HasVolume (B.count blocks.old) disk settled inodes.old v
         → ComesTo result (λ _. HasVolume (B.count blocks.old) disk settled inodes.new
         (without_nameless v)) }
+    ensures room { (base : Volume) (disk : ℕ → List ℕ) (settled : ℕ → Inode) (v : Volume)
+        → B.Shows blocks.old disk
+        → HasVolume (B.count blocks.old) disk settled inodes.old v
+        → IfOk result (λ _. memory_room base inodes.new (without_nameless v)
+        ≤ memory_room base inodes.old v) }
 {
     mounts_find_volumes();
     for number in FIRST_NUMBER..inodes.geometry().inodes() {
@@ -80,6 +87,11 @@ fn drop_if_nameless<B: Blocks>(
         → IsVolumeOf (B.count blocks.old) disk settled inodes.old v
         → ComesTo result (λ _. IsVolumeOf (B.count blocks.old) disk settled inodes.new
         (with_node number (swept_node false (v number)) v)) }
+    ensures room { (base : Volume) (disk : ℕ → List ℕ) (settled : ℕ → Inode) (v : Volume)
+        → B.Shows blocks.old disk
+        → IsVolumeOf (B.count blocks.old) disk settled inodes.old v
+        → IfOk result (λ _. memory_room base inodes.new
+        (with_node number (swept_node false (v number)) v) ≤ memory_room base inodes.old v) }
 {
     if !inodes.is_taken(number) {
         return Ok(());
@@ -101,6 +113,7 @@ fn has_nameless<B: Blocks>(
     requires high { number < inodes.old.geometry.inodes }
     ensures reads { ReadsBlocks B.Blocks IsFault blocks.old blocks.new result }
     ensures geometry { inodes.new.geometry ≡ inodes.old.geometry }
+    ensures needs { NeedsNoMore inodes.old inodes.new }
     ensures tells { (disk : ℕ → List ℕ) (settled : ℕ → Inode) (v : Volume)
         → B.Shows blocks.old disk
         → IsVolumeOf (B.count blocks.old) disk settled inodes.old v

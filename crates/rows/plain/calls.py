@@ -100,7 +100,7 @@ def create(system, place, thing, length):
     """Makes an object where nothing is; `length` is what its record has behind the name."""
     test_room_for_name(system, place.directory)
     number = system.fresh_number()
-    system.log(13 + len(place.name) + length, 24)
+    system.log(13 + len(place.name) + length, 24, 16)
     system.volume[number] = thing
     system.volume[place.directory].add(place.name, number)
     system.touch(number, place.directory)
@@ -157,7 +157,7 @@ def unlink(system, words):
 
 def take_name(system, place):
     """Takes a name away, and what it leads to where nothing else holds it."""
-    system.log(6 + len(place.name), 24)
+    system.log(6 + len(place.name), 24, 0)
     system.volume[place.directory].remove(place.name)
     system.touch(place.number, place.directory)
     system.lose_name(place.number)
@@ -174,7 +174,7 @@ def link(system, words):
     if system.links(number) >= MOST_LINKS:
         refuse('EMLINK')
     test_room_for_name(system, place.directory)
-    system.log(10 + len(place.name), 24)
+    system.log(10 + len(place.name), 24, 16)
     system.volume[place.directory].add(place.name, number)
     system.touch(place.directory, number)
     return b'ok'
@@ -191,7 +191,7 @@ def rename(system, words):
     if target.number == source.number:
         return b'ok'
     test_rename(system, source, target)
-    system.log(11 + len(source.name) + len(target.name), 24)
+    system.log(11 + len(source.name) + len(target.name), 24, 16)
     if target.number is not None:
         system.volume[target.directory].remove(target.name)
         system.touch(target.number)
@@ -234,7 +234,7 @@ def chmod(system, words):
     text = text_of(words[1])
     test_text(text)
     number = find(system, text, True).number
-    system.log(7, 2)
+    system.log(7, 2, 0)
     system.volume[number].mode = int(words[2], 8)
     system.touch(number)
     return b'ok'
@@ -262,6 +262,6 @@ def test_size(size):
 def resize(system, number, size):
     """Gives a file a size, where it has another."""
     if system.volume[number].size != size:
-        system.log(13, 6)
+        system.log(13, 6, 16 if size > system.volume[number].size else 0)
         system.volume[number].resize(size)
         system.touch(number)

@@ -116,7 +116,7 @@ def put(system, number, offset, data):
     if end > GREATEST_FILE:
         refuse('EFBIG')
     touched = (end - 1) // BLOCK - offset // BLOCK + 1
-    system.log(17 + len(data), 2 * touched + 6)
+    system.log(17 + len(data), 2 * touched + 6, 16)
     system.volume[number].write(offset, data)
     system.touch(number)
 

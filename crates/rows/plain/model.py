@@ -181,7 +181,7 @@ class System:
 
     def point(self):
         """Stores what isn't under the newest root, if anything, and empties the log."""
-        if self.is_changed or self.costs or self.log_end > LOG_START:
+        if not self.is_covered():
             self.store(0, self.snapshots)
 
     def take(self, name):
@@ -198,8 +198,7 @@ class System:
     def store(self, heads, snapshots):
         """Stores all that changed, and so many root blocks of snapshots, of which then these stand."""
         changed = self.changed_blocks()
-        if len(changed) + heads > self.free:
-            refuse('ENOSPC')
+        assert len(changed) + heads <= self.free, 'a point has no room'
         self.writes += len(changed) + heads + 1
         before = self.copy()
         self.snapshots = snapshots
@@ -213,8 +212,31 @@ class System:
         self.log_end, self.is_log_open = LOG_START, False
         self.steps.append(Step('root', self.writes, before, self.copy()))
 
-    def log(self, length, cost):
-        """Appends a record whose body has this length, behind a point where it doesn't fit."""
+    def fixed(self):
+        """Blocks that every point may store, whatever changed."""
+        return rounded_up(self.block_count, 1024) + 4
+
+    def has_room(self, asked):
+        """Whether so many blocks are free beside all that a point may store."""
+        return self.pledged() + self.fixed() + asked <= self.free
+
+    def is_covered(self):
+        """Whether the newest root has all that is."""
+        return not (self.is_changed or self.costs or self.log_end > LOG_START)
+
+    def make_room(self, asked):
+        """Makes a point where so many blocks aren't left, and refuses where they aren't then."""
+        if not self.has_room(asked):
+            self.point()
+            if not self.has_room(asked):
+                refuse('ENOSPC')
+
+    def log(self, length, cost, keep):
+        """Appends a record whose body has this length, behind a point where it doesn't fit.
+
+        It may cost a point so many blocks, and so many stay free behind it.
+        """
+        self.make_room(cost + keep)
         if self.log_end + 5 + length + 1 > self.half:
             self.point()
         if not self.is_log_open:

@@ -30,6 +30,10 @@ def take(system, name):
         refuse('SNAPEXISTS')
     if len(system.snapshots) >= MOST_SNAPSHOTS:
         refuse('SNAPFULL')
+    if not system.has_room(system.fixed() + 1):
+        system.point()
+        if not system.has_room(system.fixed() + 1):
+            refuse('ENOSPC')
     system.point()
     system.take(name)
 

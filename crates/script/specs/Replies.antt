@@ -4,14 +4,14 @@ use Rattle.std.specs.Fmt.{decimal}
 use Rattle.model.specs.Errnos.{errno_name}
 use Rattle.model.specs.declared.reply.Reply.{Reply}
 use Rattle.model.specs.declared.reply.Reply.TheVariants as reply
-use Rattle.model.specs.declared.reply.Kind.{Kind}
-use Rattle.model.specs.declared.reply.Kind.TheVariants as kind
+use Rattle.model.specs.declared.reply.FileType.{FileType}
+use Rattle.model.specs.declared.reply.FileType.TheVariants as kind
 use Rattle.model.specs.declared.reply.Stat.{Stat}
 use Rattle.script.specs.Lines.{line_of}
 use Rattle.script.specs.Words.{data_word, mode_word, text_word}
 
 -- a kind's word
-abbrev pub kind_word : Kind → List ℕ
+abbrev pub kind_word : FileType → List ℕ
 kind_word kind.File = codes "file"
 kind_word kind.Dir = codes "dir"
 kind_word kind.Link = codes "link"

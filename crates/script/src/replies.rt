@@ -7,7 +7,7 @@ ghost use Rattle.script.specs.Replies.{kind_word, kind_words, reply_line, size_w
 ghost use Rattle.script.specs.Words.{text_word, AddsText};
 
 use crate::words::{mode_word, push_data, push_text};
-use model::{Kind, Names, Reply, Stat};
+use model::{FileType, Names, Reply, Stat};
 use std::alloc::{AllocError, Global};
 
 /// Adds a reply's line.
@@ -107,12 +107,12 @@ fn push_mode_and_size(alloc: Global, line: &mut Vec<u8>, stat: &Stat) -> Result<
     push_number(alloc, line, b" size ", stat.size)
 }
 
-fn kind_word(kind: Kind) -> &'static [u8]
+fn kind_word(kind: FileType) -> &'static [u8]
     ensures { result.now ≡ kind_word kind }
 {
     match kind {
-        Kind::File => b"file",
-        Kind::Dir => b"dir",
-        Kind::Link => b"link",
+        FileType::File => b"file",
+        FileType::Dir => b"dir",
+        FileType::Link => b"link",
     }
 }

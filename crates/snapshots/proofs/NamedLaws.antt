@@ -14,7 +14,7 @@ use Rattle.images.specs.Roots.{slot, whole}
 use Rattle.images.specs.Snapshots.{AreKeptAbove, AreSnapshots, HasSnapshot, IsFrozenTree}
 use Rattle.images.specs.States.{Holds}
 use Rattle.snapshots.specs.Found.{FindsSnapshot, IsNamedSnapshot, SpellsSnapshot, named, snapshot_found}
-use Rattle.snapshots.specs.declared.finding.Found.{Found}
+use Rattle.snapshots.specs.declared.finding.FoundSnapshot.{FoundSnapshot}
 use Rattle.snapshots.proofs.SlotLaws.{has, one_snapshot}
 
 here : (name : Name) (pair : Name × Tree) (pairs : List (Name × Tree)) → bytes_eq pair.0 name ≡ true → named name (pair ∷ pairs) ≡ Some pair
@@ -71,7 +71,7 @@ module _ (disk : Blocks) (r : Root) (name : Name) where
 
 -- what a slot's pointer leads to, where it has the name
 pub finds : (disk : Blocks) (r : Root) (name : Name) (v : Volume) (pairs : List (Name × Tree)) → Holds r (whole disk r) v pairs
-    → (k : ℕ) (p : Pointer) (found : Option Found) → slot r (suc k) ≡ p → IsSome found → IfSome found (λ f. f.slot ≡ k + 1)
+    → (k : ℕ) (p : Pointer) (found : Option FoundSnapshot) → slot r (suc k) ≡ p → IsSome found → IfSome found (λ f. f.slot ≡ k + 1)
     → IfSome found (λ f. SpellsSnapshot disk p (snapshot_found name f)) → FindsSnapshot r disk name pairs found
 finds disk r name v pairs holds k p None there some at spells = absurd (false≢true some)
 finds disk r name v pairs holds k p (Some f) there some at spells =

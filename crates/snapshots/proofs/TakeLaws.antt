@@ -20,7 +20,7 @@ use Rattle.images.specs.SnapshotSteps.{IsSlotNumber}
 use Rattle.images.specs.States.{Holds}
 use Rattle.snapshots.specs.Found.{FindsSnapshot, SpellsSnapshot, named}
 use Rattle.snapshots.specs.Taken.{HasNewestOrder, MayTake}
-use Rattle.snapshots.specs.declared.finding.Found.{Found}
+use Rattle.snapshots.specs.declared.finding.FoundSnapshot.{FoundSnapshot}
 use Rattle.snapshots.specs.declared.taking.Taking.{Taking}
 use Rattle.snapshots.proofs.CountLaws.{none_free, room_left}
 use Rattle.snapshots.proofs.NamedLaws.{one_named}
@@ -40,7 +40,7 @@ full s name pairs same good none many =
     let room : nat_le 20 (length s.snapshots) ≡ true = ap (λ (ps : List (Name × Tree)). nat_le 20 (length ps)) same ∙ le-leb 20 (length pairs) many in
     rw (good, absent, room) refl
 
-pub not_found : (disk : Blocks) (r : Root) (name : Name) (pairs : List (Name × Tree)) (found : Option Found) → is_some found ≡ false → FindsSnapshot r disk name pairs found → named name pairs ≡ None
+pub not_found : (disk : Blocks) (r : Root) (name : Name) (pairs : List (Name × Tree)) (found : Option FoundSnapshot) → is_some found ≡ false → FindsSnapshot r disk name pairs found → named name pairs ≡ None
 not_found disk r name pairs None is finds = finds
 not_found disk r name pairs (Some f) is finds = absurd (cc)
 

@@ -9,7 +9,7 @@ use Rattle.model.specs.Paths.{Name}
 use Rattle.model.specs.Trees.{Tree}
 use Rattle.images.specs.Roots.{whole}
 use Rattle.images.specs.Snapshots.{HasSnapshot, IsFrozenTree}
-use Rattle.snapshots.specs.declared.finding.Found.{Found}
+use Rattle.snapshots.specs.declared.finding.FoundSnapshot.{FoundSnapshot}
 
 -- the block at a pointer spells this snapshot
 abbrev pub SpellsSnapshot : Blocks → Pointer → Snapshot → Type 0
@@ -17,7 +17,7 @@ SpellsSnapshot disk Hole s = ⊥
 SpellsSnapshot disk (Block b) s = snapshot_in (disk b) ≡ Some s
 
 -- the snapshot of this name that was found
-abbrev pub snapshot_found : Name → Found → Snapshot
+abbrev pub snapshot_found : Name → FoundSnapshot → Snapshot
 snapshot_found name f = record { order = f.order; name = name; inode_file = f.inode_file }
 
 -- the snapshot of this name among those with their names and trees
@@ -31,7 +31,7 @@ pub record IsNamedSnapshot (r : Root) (disk : Blocks) (name : Name) (pairs : Lis
   pub frozen : IsFrozenTree r.geometry.inodes ((whole disk r).frozen k) tree
 
 -- What was found under a root by a name: nothing where no snapshot has it, or else the slot of the one that has it.
-abbrev pub FindsSnapshot : Root → Blocks → Name → List (Name × Tree) → Option Found → Type 0
+abbrev pub FindsSnapshot : Root → Blocks → Name → List (Name × Tree) → Option FoundSnapshot → Type 0
 FindsSnapshot r disk name pairs None = named name pairs ≡ None
 FindsSnapshot r disk name pairs (Some f) =
     HasSnapshot r (whole disk r) f.slot (snapshot_found name f) × IsNamedSnapshot r disk name pairs f.slot

@@ -24,7 +24,7 @@ use layout::{Inode, Pointer, Root, SNAPSHOT_SLOTS, SnapRoot};
 
 /// A snapshot that has the name that was asked for.
 #[derive(Clone, Copy, Debug)]
-pub struct Found {
+pub struct FoundSnapshot {
     /// Its slot in the root, and its plane of the block map: 1 to 20.
     pub slot: u32,
     /// Its place among the snapshots by age, from 1 on.
@@ -36,7 +36,11 @@ pub struct Found {
 /// Finds the snapshot of a name under a root: None where no snapshot has it. It reads the root blocks of the snapshots, and
 /// nothing else. `Damaged` comes where one of these is no snapshot's root, and else an error only for want of memory and where a
 /// device call failed.
-pub fn find<B: Blocks>(blocks: &mut B, root: &Root, name: &[u8]) -> Result<Option<Found>, ReadError>
+pub fn find<B: Blocks>(
+    blocks: &mut B,
+    root: &Root,
+    name: &[u8],
+) -> Result<Option<FoundSnapshot>, ReadError>
     requires root { IsRoot root.now }
     requires size { B.count blocks.old ≡ root.now.geometry.blocks }
     ensures reads { ReadsBlocks B.Blocks IsFault blocks.old blocks.new result }
@@ -66,7 +70,7 @@ fn named_at<B: Blocks>(
     pointer: Pointer,
     slot: u32,
     name: &[u8],
-) -> Result<Option<Found>, ReadError>
+) -> Result<Option<FoundSnapshot>, ReadError>
     requires { PointsBelow (B.count blocks.old) pointer }
     ensures reads { ReadsBlocks B.Blocks IsFault blocks.old blocks.new result }
     ensures slot { IfOk result (λ found. IfSome found (λ f. f.slot ≡ slot)) }
@@ -90,7 +94,7 @@ fn named_at<B: Blocks>(
     if snapshot.name != name {
         return Ok(None);
     }
-    Ok(Some(Found {
+    Ok(Some(FoundSnapshot {
         slot,
         order: snapshot.order,
         inode_file: snapshot.inode_file,

@@ -7,7 +7,7 @@ mod listing;
 mod taking;
 mod viewing;
 
-pub use finding::{Found, find};
+pub use finding::{FoundSnapshot, find};
 pub use listing::names;
 pub use taking::{Taking, prepare_take};
 pub use viewing::view;

@@ -13,7 +13,7 @@ ghost use Rattle.images.specs.States.{Holds};
 ghost use Rattle.loading.specs.Images.{AreInodesOf};
 ghost use Rattle.snapshots.specs.Found.{FindsSnapshot};
 
-use crate::finding::Found;
+use crate::finding::FoundSnapshot;
 use blocktree::ReadError;
 use buffers::Blocks;
 use inofile::InodeFile;
@@ -28,7 +28,7 @@ pub fn view<B: Blocks>(
     alloc: Global,
     blocks: &mut B,
     root: &Root,
-    found: &Found,
+    found: &FoundSnapshot,
 ) -> Result<InodeFile, ReadError>
     requires count { B.count blocks.old ≡ root.now.geometry.blocks }
     requires size { found.now.inode_file.size ≤ greatest_size VERSION }

@@ -18,7 +18,7 @@ use Rattle.calls.specs.Seeing.{Answers}
 use Rattle.calls.proofs.PrepareSteps.{carried, never_damaged}
 use Rattle.descriptors.specs.declared.table.Descriptors.{Descriptors}
 use Rattle.files.specs.Reading.{AnswersMoving}
-use Rattle.system.specs.Answering.{asks, reply_of}
+use Rattle.system.specs.Answering.{asks, answered_reply}
 
 -- ---- a call by a path that was asked in these words
 
@@ -29,7 +29,7 @@ gets_at {G = G} {a = a} {b = b} {s = s} {t = t} {reply = reply} {r = r} path cou
 
 module _ {B T : Type 0} {G : Ghosts B} {a b : B} {s t : InodeFile} {reply : Result T Errno → Reply} (call words : PathCall) (is : call ≡ words) where
   -- it is answered
-  pub gives : {x : T} → ((n : ℕ) → Answers G a b s t (λ u. calls n u words) reply (Ok x)) → Answers G a b s t (asks call) reply_of (Ok (reply (Ok x)))
+  pub gives : {x : T} → ((n : ℕ) → Answers G a b s t (λ u. calls n u words) reply (Ok x)) → Answers G a b s t (asks call) answered_reply (Ok (reply (Ok x)))
   gives {x} all = record {
     looks = looks_ok (all 0).looks;
     own = tt;
@@ -40,8 +40,8 @@ module _ {B T : Type 0} {G : Ghosts B} {a b : B} {s t : InodeFile} {reply : Resu
 
   -- it isn't
   pub fails : (f : Failure) (q : Result Reply Failure) → IsErrAnd q (λ g. g ≡ f) → ((errno : Errno) → reply (Err errno) ≡ replies.Refused errno)
-      → ((n : ℕ) → Answers G a b s t (λ u. calls n u words) reply (Err f)) → Answers G a b s t (asks call) reply_of q
-  fails (Refused errno) q so same all = carried (Answers G a b s t (asks call) reply_of) q so (record {
+      → ((n : ℕ) → Answers G a b s t (λ u. calls n u words) reply (Err f)) → Answers G a b s t (asks call) answered_reply q
+  fails (Refused errno) q so same all = carried (Answers G a b s t (asks call) answered_reply) q so (record {
     looks = looks_ok (all 0).looks;
     own = (all 0).own;
     answers = λ disk settled v table stands volume n.
@@ -49,7 +49,7 @@ module _ {B T : Type 0} {G : Ghosts B} {a b : B} {s t : InodeFile} {reply : Resu
         subst (λ (k : PathCall). calls n (tree_of v table) k (replies.Refused errno) (tree_of v table) nothing) (sym is) here;
     damaged = λ disk settled v stands bad. cc;
   })
-  fails (Read e) q so same all = carried (Answers G a b s t (asks call) reply_of) q so (record {
+  fails (Read e) q so same all = carried (Answers G a b s t (asks call) answered_reply) q so (record {
     looks = looks_err (Err e) refl (all 0).looks;
     own = tt;
     answers = λ disk settled v table stands volume. tt;

@@ -1,5 +1,5 @@
 -- A descriptor that is freed, on a system that serves a state.
-use Rattle.std.proofs.Common.{◌≡◌, ◌⊎◌, inl, inr, ℕ, Option, Some, None, refl, ap, sym, subst, ◌∙◌}
+use Rattle.std.proofs.Common.{◌≡◌, ◌⊎◌, inl, inr, ℕ, ◌≤◌, Option, Some, None, refl, ap, sym, subst, ◌∙◌}
 use Rattle.std.specs.Prelude.{IsFalse, IsTrue, ◌↔◌}
 use Rattle.std.specs.Option.{option_map}
 use Rattle.std.proofs.lemmas.Bool.{cases_Bool, false≢true}
@@ -13,6 +13,7 @@ use Rattle.model.specs.Trees.{Description, HasPath, Tree}
 use Rattle.model.specs.Volumes.{IsMounted, IsVolume, Volume, is_file_node, is_nameless, swept, tree_of}
 use Rattle.model.specs.declared.command.Command.TheVariants as command
 use Rattle.model.specs.declared.reply.Reply.{Reply}
+use Rattle.inofile.specs.Room.{memory_room}
 use Rattle.inofile.specs.Volumes.{IsVolumeOf}
 use Rattle.inofile.specs.declared.inode_file.InodeFile.{InodeFile}
 use Rattle.images.specs.Roots.{whole}
@@ -74,9 +75,10 @@ module _ {S : Type 0} {G : Ghosts S} (law : NamedHavePaths) (f : System S G) (s 
 pub close_leads : {S : Type 0} {G : Ghosts S} (records : RecordLaws) (new : System S G) (s : State) (fd : ℕ) (reply : Reply) (inodes : InodeFile) (files : Descriptors)
     (now : IsServing (meaning_of new) (record (system_parts new) { inodes = inodes; files = files }) s.tree.descriptors s)
     → IsVolumeOf new.root.geometry.blocks (blocks_of (meaning_of new).seen.disk) (inodes_of (whole (blocks_of (meaning_of new).seen.disk) new.root).active) new.inodes (swept (table_of new.files) now.running)
+    → memory_room now.first new.inodes (swept (table_of new.files) now.running) ≤ memory_room now.first inodes now.running
     → FitsVolume new.files (swept (table_of new.files) now.running) → IsMounted (swept (table_of new.files) now.running) (table_of new.files)
     → closes (tree_with files now.running) fd reply (tree_with new.files (swept (table_of new.files) now.running)) nothing → LeadsTo new s (command.Close fd) reply now.replayed.changes
-close_leads {S} {G} records new s fd reply inodes files now stands fits mounted told =
+close_leads {S} {G} records new s fd reply inodes files now stands stores fits mounted told =
     let n = new.root.geometry.inodes in
     let v = now.running in
     let after = table_of new.files in
@@ -85,6 +87,6 @@ close_leads {S} {G} records new s fd reply inodes files now stands fits mounted 
     record {
       after = state_with n (swept after v) after now.snapshots;
       step = λ room. (subst (λ (t : Tree). closes t fd reply left nothing) (sym tree) told, ap (λ (u : State). record u { tree = left }) (sym now.state));
-      serves = dropped now new.files after refl records new.inodes stands fits mounted;
+      serves = dropped now new.files after refl records new.inodes stands stores fits mounted;
       records = refl;
     }

@@ -1,6 +1,7 @@
 -- What a call comes to that a record is logged for, once objects came into memory.
-use Rattle.std.proofs.Common.{◌≡◌, ◌≢◌, ◌⊎◌, inl, inr, ℕ, ◌+◌, ◌≤◌, [], ◌∷◌, ◌++◌, length, Result, Ok, Err, refl, ap, sym, subst, ◌∙◌, if◌then◌else◌, arith}
-use Rattle.std.specs.Prelude.{IsFalse, IsErrOf}
+use Rattle.std.proofs.Common.{◌≡◌, ◌≢◌, ◌⊎◌, inl, inr, ℕ, ◌+◌, ◌<◌, ◌≤◌, [], ◌∷◌, ◌++◌, length, Result, Ok, Err, refl, ap, sym, subst, ◌∙◌, if◌then◌else◌, arith}
+use Rattle.std.specs.Prelude.{IsFalse}
+use Rattle.std.proofs.lemmas.Bool.{cases_lt}
 use Rattle.station.specs.Calls.{OnlyWrites}
 use Rattle.station.specs.Images.{Images}
 use Rattle.station.specs.Moments.{Meaning, EachCut}
@@ -19,15 +20,15 @@ use Rattle.buffers.specs.Disks.{ReadsOn}
 use Rattle.buffers.specs.declared.cache.Buffers.{Buffers}
 use Rattle.inofile.specs.declared.inode_file.InodeFile.{InodeFile}
 use Rattle.images.specs.States.{Opens}
-use Rattle.oplog.specs.LogEnd.{LogEnd, HasRoomInHalf, logged_body}
-use Rattle.oplog.specs.declared.log.AppendError.{AppendError}
-use Rattle.oplog.specs.declared.log.AppendError.TheVariants as append
-use Rattle.system.specs.Counting.{a_write, no_call, perhaps_any}
-use Rattle.system.specs.Errors.{log_error}
+use Rattle.layout.specs.declared.root.Root.{Root}
+use Rattle.oplog.specs.LogEnd.{LogEnd, HasRoomInHalf, logged_body, next_of}
+use Rattle.system.specs.Counting.{Counted, a_write, call_error_failed, no_call, perhaps_any}
 use Rattle.system.specs.Images.{OpensTo}
+use Rattle.system.specs.Room.{HasRoomForWork}
 use Rattle.system.specs.Serving.{Handles, HasEmptyLog, LeavesEither, ServesState, TellsNoFault, WouldCall, WouldChange}
-use Rattle.system.specs.Systems.{Parts, IsServing, meaning_of, system_parts}
+use Rattle.system.specs.Systems.{IsCovered, Parts, IsServing, meaning_of, system_parts}
 use Rattle.system.specs.declared.error.CallError.{CallError}
+use Rattle.system.specs.declared.error.CallError.TheVariants as call_errors
 use Rattle.system.specs.declared.system.System.{System}
 use Rattle.system.proofs.CountingLaws.{all_read, all_written, counted_after, not_written_yet, perhaps_read}
 use Rattle.system.proofs.LookedLaws.{ServesOver}
@@ -50,11 +51,30 @@ either_after m mid new s t reads opens leaves =
 
 -- a system that has the same serves the same
 pub serves_same : {S : Type 0} {G : Ghosts S} (f g : System S G) (blocks : Buffers S) (inodes : InodeFile) (s : State) → g.blocks ≡ blocks
-    → system_parts g ≡ record (system_parts f) { kept = blocks.kept; inodes = inodes; log = g.log } → g.log ≡ f.log → ServesOver f blocks inodes s → ServesState g s
-serves_same {S} {G} f g blocks inodes s same_blocks parts log serves =
+    → system_parts g ≡ record (system_parts f) { kept = blocks.kept; inodes = inodes; log = g.log } → g.log ≡ f.log → (over : ServesOver f blocks inodes s)
+    → (serves : ServesState g s) × (serves.bodies ≡ over.bodies) × ((over.first ≡ over.running) → serves.first ≡ serves.running)
+serves_same {S} {G} f g blocks inodes s same_blocks parts log over =
     let all : system_parts g ≡ record (system_parts f) { kept = blocks.kept; inodes = inodes } = parts ∙ (λ i. record (system_parts f) { kept = blocks.kept; inodes = inodes; log = log i }) in
-    subst (λ (k : Parts). IsServing (G.meaning g.blocks.station) k s.tree.descriptors s) (sym all)
-    (subst (λ (b : Buffers S). IsServing (G.meaning b.station) (record (system_parts f) { kept = blocks.kept; inodes = inodes }) s.tree.descriptors s) (sym same_blocks) serves)
+    let Same = λ (m : Meaning) (k : Parts). (serves : IsServing m k s.tree.descriptors s) × (serves.bodies ≡ over.bodies) × ((over.first ≡ over.running) → serves.first ≡ serves.running) in
+    subst (λ (k : Parts). Same (G.meaning g.blocks.station) k) (sym all)
+    (subst (λ (b : Buffers S). Same (G.meaning b.station) (record (system_parts f) { kept = blocks.kept; inodes = inodes })) (sym same_blocks) (over, refl, λ held. held))
+
+-- a system serves what another one served, by the same records, and where its root held the running volume, it does so still
+abbrev pub KeepsServing : {S : Type 0} {G : Ghosts S} → System S G → System S G → Type 0
+KeepsServing old new =
+    (s : State) (served : ServesState old s) → (serves : ServesState new s) × (serves.bodies ≡ served.bodies) × ((served.first ≡ served.running) → serves.first ≡ serves.running)
+
+-- a covered one is covered still
+covered_same : {S : Type 0} {G : Ghosts S} {old : System S G} (new : System S G) (s : State) (covered : IsCovered old s.tree.descriptors s)
+    → ((serves : ServesState new s) × (serves.bodies ≡ covered.serves.bodies) × ((covered.serves.first ≡ covered.serves.running) → serves.first ≡ serves.running)) → IsCovered new s.tree.descriptors s
+covered_same new s covered kept = record { serves = kept.0; no_record = kept.1 ∙ covered.no_record; held = kept.2 covered.held }
+
+-- one with the same log over the same root has an empty log where the other has one
+was_empty : {S : Type 0} {G : Ghosts S} (old new : System S G) → new.log ≡ old.log → new.root ≡ old.root → HasEmptyLog new → HasEmptyLog old
+was_empty old new log root empty = record {
+  epoch = ap (λ (l : LogEnd). l.epoch) (sym log) ∙ empty.epoch ∙ ap (λ (r : Root). r.generation + 1) root;
+  end = ap (λ (l : LogEnd). next_of l.end) (sym log) ∙ empty.end;
+}
 
 -- a short record fits an empty log
 pub short_fits : {S : Type 0} {G : Ghosts S} (f : System S G) (change : Change) → HasEmptyLog f → length (logged_body change) ≤ 1300
@@ -73,8 +93,15 @@ pub record LeadsOn {S : Type 0} {G : Ghosts S} (old new : System S G) (mid : Mea
   pub leaves : LeavesEither mid (meaning_of new) s after
 
 -- no write failed before this one
-abbrev pub IsFirstFault : LogEnd → AppendError → Type 0
-IsFirstFault log e = (e ≡ append.Device) × IsFalse log.is_stopped
+abbrev pub IsFirstFault : LogEnd → CallError → Type 0
+IsFirstFault log e = (e ≡ call_errors.NotWritten) × IsFalse log.is_stopped
+
+error_is : (x y : CallError) (r q : Result Reply CallError) → r ≡ Err x → q ≡ Err y → r ≡ q → x ≡ y
+error_is x y r q first second is = cc
+
+-- what isn't enough is less
+more_than : (a b : ℕ) → (a ≤ b → ⊥) → b < a
+more_than a b not = elim (cases_lt b a) [ inl lt ↦ lt | inr ge ↦ absurd (not ge) ]
 
 module _ {S : Type 0} {G : Ghosts S} (old new : System S G) (mid : Meaning) (call : Command) (reply : Reply) (reads : ReadsOn (meaning_of old) mid)
     (counted : mid.failed_reads ≡ (meaning_of old).failed_reads) (epoch : new.log.epoch ≡ old.log.epoch) (opens : AllOpen old)
@@ -94,14 +121,15 @@ module _ {S : Type 0} {G : Ghosts S} (old new : System S G) (mid : Meaning) (cal
   }
 
   -- the record is logged, and its change is in force
-  pub logged : {T : Type 0} (u : T) (change : Change) → ((s : State) (served : ServesState old s) → (leads s served).work ≡ work_of served.running change) → TellsNoFault reply → ((errno : Errno) → reply ≡ Refused errno → ⊥) → OnlyWrites {T = T} {E = AppendError} (IsFirstFault old.log) mid (meaning_of new) (Ok u)
+  pub logged : {T : Type 0} (u : T) (change : Change) → ((s : State) (served : ServesState old s) → (leads s served).work ≡ work_of served.running change) → TellsNoFault reply → ((errno : Errno) → reply ≡ Refused errno → ⊥) → OnlyWrites {T = T} {E = CallError} (IsFirstFault old.log) mid (meaning_of new) (Ok u)
       → new.log.is_stopped ≡ old.log.is_stopped
+      → ((s : State) (served : ServesState old s) → HasRoomForWork old (leads s served).work)
       → ((s : State) (served : ServesState old s) → (serves : ServesState new (leads s served).after) × (serves.replayed.changes ≡ served.replayed.changes ++ change ∷ []))
       → Handles old new call (Ok reply)
-  logged {T} u change works own accepted writes stopped serves =
+  logged {T} u change works own accepted writes stopped room serves =
       let m = meaning_of old in
       record {
-        counted = counted_after m mid (meaning_of new) no_call (all_read m mid reads counted) (all_written {T = T} {E = AppendError} (IsFirstFault old.log) mid (meaning_of new) u writes);
+        counted = counted_after m mid (meaning_of new) no_call (all_read m mid reads counted) (all_written {T = T} {E = CallError} (IsFirstFault old.log) mid (meaning_of new) u writes);
         no_fault = own;
         epoch = epoch;
         runs = λ runs. stopped ∙ runs;
@@ -112,6 +140,7 @@ module _ {S : Type 0} {G : Ghosts S} (old new : System S G) (mid : Meaning) (cal
           after = (leads s served).after;
           need = logs (leads s served).work;
           step = (leads s served).step;
+          room = room s served;
           serves = (serves s served).0;
           logs = (change, works s served, (serves s served).1);
           leaves = leaves_either s served;
@@ -119,81 +148,94 @@ module _ {S : Type 0} {G : Ghosts S} (old new : System S G) (mid : Meaning) (cal
         broken = λ s served is. cc;
         sure = λ s served. inr (not_sure s served);
         full = λ s served is. cc;
+        short = λ s served is. cc;
         damaged = λ s served is. cc;
       }
     where
       ok_is : (x y : Reply) (r q : Result Reply CallError) → r ≡ Ok x → q ≡ Ok y → r ≡ q → x ≡ y
       ok_is x y r q first second is = cc
 
-  -- the record isn't logged
-  pub not_logged : {T : Type 0} (error : AppendError) (e : CallError) → e ≡ log_error error
-      → OnlyWrites {T = T} {E = AppendError} (IsFirstFault old.log) mid (meaning_of new) (Err error)
-      → (error ≢ append.Device → (mid ≡ meaning_of new) × (new.log ≡ old.log) × ((s : State) → ServesState old s → ServesState new s))
-      → (IsErrOf {T = T} {E = AppendError} (Err error) append.LogFull → HasEmptyLog old → ⊥) → Handles old new call (Err e)
-  not_logged {T} error e is writes kept fits = subst (λ (x : CallError). Handles old new call (Err x)) (sym is) (by_case error writes kept fits)
-    where
-      m : Meaning
-      m = meaning_of old
+  -- the record isn't logged, and nothing is changed
+  module _ (same : mid ≡ meaning_of new) (log : new.log ≡ old.log) (root : new.root ≡ old.root) (keeps : KeepsServing old new) where
+    on_now : ReadsOn (meaning_of old) (meaning_of new)
+    on_now = subst (λ (n : Meaning). ReadsOn (meaning_of old) n) same reads
 
-      same_runs : new.log ≡ old.log → IsFalse old.log.is_stopped → IsFalse new.log.is_stopped
-      same_runs log runs = ap (λ (l : LogEnd). l.is_stopped) log ∙ runs
+    counted_now : (meaning_of new).failed_reads ≡ (meaning_of old).failed_reads
+    counted_now = subst (λ (n : Meaning). n.failed_reads ≡ (meaning_of old).failed_reads) same counted
 
-      on_now : mid ≡ meaning_of new → ReadsOn m (meaning_of new)
-      on_now same = subst (λ (n : Meaning). ReadsOn m n) same reads
+    -- with such an error
+    unlogged : (e : CallError) → (e ≢ call_errors.NotWritten) → (e ≢ call_errors.Damaged) → Counted (meaning_of old) (meaning_of new) (call_error_failed old.log.is_stopped e)
+        → (e ≡ call_errors.LogFull → HasEmptyLog old → ⊥) → (e ≡ call_errors.NoRoom → (s : State) (served : ServesState old s) → HasRoomForWork new (leads s served).work → ⊥) → Handles old new call (Err e)
+    unlogged e other own counts fits lacks = record {
+      counted = counts;
+      no_fault = tt;
+      epoch = epoch;
+      runs = λ runs _. ap (λ (l : LogEnd). l.is_stopped) log ∙ runs;
+      refused = λ errno is. cc;
+      kept = λ _. on_now.goes;
+      serves = λ s served _. (keeps s served).0;
+      done = λ s served. tt;
+      broken = λ s served is. absurd (other (error_is e call_errors.NotWritten (Err e) (Err call_errors.NotWritten) refl refl is));
+      sure = not_sure;
+      full = λ s served is.
+          let full = error_is e call_errors.LogFull (Err e) (Err call_errors.LogFull) refl refl is in
+          (would_change s served, fits full, λ empty. fits full (was_empty old new log root empty));
+      short = λ s served is.
+          let room = error_is e call_errors.NoRoom (Err e) (Err call_errors.NoRoom) refl refl is in (
+            record {
+              reply = reply;
+              after = (leads s served).after;
+              work = (leads s served).work;
+              step = (leads s served).step;
+              short = more_than _ _ (lacks room s served);
+            },
+            λ covered. covered_same new s covered (keeps s covered.serves),
+          );
+      damaged = λ s served is. own (error_is e call_errors.Damaged (Err e) (Err call_errors.Damaged) refl refl is);
+    }
 
-      by_case : (error : AppendError) → OnlyWrites {T = T} {E = AppendError} (IsFirstFault old.log) mid (meaning_of new) (Err error)
-          → (error ≢ append.Device → (mid ≡ meaning_of new) × (new.log ≡ old.log) × ((s : State) → ServesState old s → ServesState new s))
-          → (IsErrOf {T = T} {E = AppendError} (Err error) append.LogFull → HasEmptyLog old → ⊥) → Handles old new call (Err (log_error error))
-      by_case append.NoMemory writes kept fits =
-          let same = kept (λ is. cc) in
-          record {
-            counted = perhaps_read m (meaning_of new) (on_now same.0);
-            no_fault = tt;
-            epoch = epoch;
-            runs = λ runs _. same_runs same.1 runs;
-            refused = λ errno is. cc;
-            kept = λ _. (on_now same.0).goes;
-            serves = λ s served _. same.2 s served;
-            done = λ s served. tt;
-            broken = λ s served is. cc;
-            sure = not_sure;
-            full = λ s served is. cc;
-            damaged = λ s served is. cc;
-          }
-      by_case append.Device writes kept fits = record {
-        counted = counted_after m mid (meaning_of new) (if old.log.is_stopped then perhaps_any else a_write) (all_read m mid reads counted)
-            (not_written_yet {T = T} {E = AppendError} (IsFirstFault old.log) mid (meaning_of new) append.Device old.log.is_stopped writes (λ runs. (refl, runs)));
-        no_fault = tt;
-        epoch = epoch;
-        runs = λ runs is. absurd (is refl);
-        refused = λ errno is. cc;
-        kept = λ is. absurd (is refl);
-        serves = λ s served is. absurd (is refl);
-        done = λ s served. tt;
-        broken = λ s served is. record {
-          reply = reply;
-          after = (leads s served).after;
-          need = logs (leads s served).work;
-          step = (leads s served).step;
-          leaves = leaves_either s served;
-        };
-        sure = not_sure;
-        full = λ s served is. cc;
-        damaged = λ s served is. cc;
-      }
-      by_case append.LogFull writes kept fits =
-          let same = kept (λ is. cc) in
-          record {
-            counted = all_read m (meaning_of new) (on_now same.0) (subst (λ (n : Meaning). n.failed_reads ≡ m.failed_reads) same.0 counted);
-            no_fault = tt;
-            epoch = epoch;
-            runs = λ runs _. same_runs same.1 runs;
-            refused = λ errno is. cc;
-            kept = λ _. (on_now same.0).goes;
-            serves = λ s served _. same.2 s served;
-            done = λ s served. tt;
-            broken = λ s served is. cc;
-            sure = not_sure;
-            full = λ s served is. (would_change s served, fits refl);
-            damaged = λ s served is. cc;
-          }
+  -- its write failed
+  half_logged : {T : Type 0} → OnlyWrites {T = T} {E = CallError} (IsFirstFault old.log) mid (meaning_of new) (Err call_errors.NotWritten) → Handles old new call (Err call_errors.NotWritten)
+  half_logged {T} writes = record {
+    counted = counted_after (meaning_of old) mid (meaning_of new) (if old.log.is_stopped then perhaps_any else a_write) (all_read (meaning_of old) mid reads counted)
+        (not_written_yet {T = T} {E = CallError} (IsFirstFault old.log) mid (meaning_of new) call_errors.NotWritten old.log.is_stopped writes (λ runs. (refl, runs)));
+    no_fault = tt;
+    epoch = epoch;
+    runs = λ runs is. absurd (is refl);
+    refused = λ errno is. cc;
+    kept = λ is. absurd (is refl);
+    serves = λ s served is. absurd (is refl);
+    done = λ s served. tt;
+    broken = λ s served is. record {
+      reply = reply;
+      after = (leads s served).after;
+      need = logs (leads s served).work;
+      step = (leads s served).step;
+      leaves = leaves_either s served;
+    };
+    sure = not_sure;
+    full = λ s served is. cc;
+    short = λ s served is. cc;
+    damaged = λ s served is. cc;
+  }
+
+  -- it isn't logged
+  pub not_logged : {T : Type 0} (e : CallError) → (e ≢ call_errors.NotRead) × (e ≢ call_errors.Damaged)
+      → OnlyWrites {T = T} {E = CallError} (IsFirstFault old.log) mid (meaning_of new) (Err e)
+      → (e ≢ call_errors.NotWritten → (mid ≡ meaning_of new) × (new.log ≡ old.log) × (new.root ≡ old.root) × (KeepsServing old new))
+      → (e ≡ call_errors.LogFull → HasEmptyLog old → ⊥)
+      → (e ≡ call_errors.NoRoom → (s : State) (served : ServesState old s) → HasRoomForWork new (leads s served).work → ⊥) → Handles old new call (Err e)
+  not_logged call_errors.NotRead own writes kept fits lacks = absurd (own.0 refl)
+  not_logged call_errors.Damaged own writes kept fits lacks = absurd (own.1 refl)
+  not_logged {T} call_errors.NotWritten own writes kept fits lacks = half_logged {T = T} writes
+  not_logged call_errors.NoMemory own writes kept fits lacks =
+      let now = kept (λ is. cc) in
+      unlogged now.0 now.1 now.2 now.3 call_errors.NoMemory (λ is. cc) own.1 (perhaps_read (meaning_of old) (meaning_of new) (on_now now.0 now.1 now.2 now.3)) fits lacks
+  not_logged call_errors.LogFull own writes kept fits lacks =
+      let now = kept (λ is. cc) in
+      unlogged now.0 now.1 now.2 now.3 call_errors.LogFull (λ is. cc) own.1
+      (all_read (meaning_of old) (meaning_of new) (on_now now.0 now.1 now.2 now.3) (counted_now now.0 now.1 now.2 now.3)) fits lacks
+  not_logged call_errors.NoRoom own writes kept fits lacks =
+      let now = kept (λ is. cc) in
+      unlogged now.0 now.1 now.2 now.3 call_errors.NoRoom (λ is. cc) own.1
+      (all_read (meaning_of old) (meaning_of new) (on_now now.0 now.1 now.2 now.3) (counted_now now.0 now.1 now.2 now.3)) fits lacks

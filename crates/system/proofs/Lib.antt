@@ -9,9 +9,8 @@ mod ServingLaws
 mod AskingLaws
 mod HandlingLaws
 mod ChangingLaws
-mod RoomLaws
+pub mod RoomLaws
 pub mod CoveredLaws
-mod SpaceLaws
 mod TableLaws
 mod MovedLaws
 mod OpenFileLaws

@@ -98,4 +98,4 @@ module _ {S : Type 0} {G : Ghosts S} (f : System S G) where
         subst (λ (n : ℕ). IsVolumeOf n disk_under inodes_under inodes v) after (looks.kept disk_under inodes_under v (record {
           shows = served.shows;
           volume = subst (λ (n : ℕ). IsVolumeOf n disk_under inodes_under f.inodes v) (sym before) over;
-        })).volume) (λ b. refl)
+        })).volume) looks.geometry looks.needs (λ b. refl)

@@ -1,5 +1,5 @@
 -- A system whose open files change, while its log and its disk stay as they are.
-use Rattle.std.proofs.Common.{◌≡◌, ◌⊎◌, inl, inr, ℕ, zero, suc, List, Option, Some, None, Bool, true, false, refl, sym, subst, ◌∙◌}
+use Rattle.std.proofs.Common.{◌≡◌, ◌⊎◌, inl, inr, ℕ, zero, suc, ◌≤◌, List, Option, Some, None, Bool, true, false, refl, sym, subst, ◌∙◌, arith}
 use Rattle.std.specs.Prelude.{IsSome, IsTrue}
 use Rattle.station.specs.Images.{Images}
 use Rattle.station.specs.Moments.{Meaning}
@@ -11,6 +11,7 @@ use Rattle.model.specs.States.{State}
 use Rattle.model.specs.Trees.{Description, Tree}
 use Rattle.model.specs.Volumes.{IsMounted, Node, Volume, directory_node, file_node, is_open, link_node, swept, swept_node}
 use Rattle.images.specs.Roots.{whole}
+use Rattle.inofile.specs.Room.{memory_room}
 use Rattle.inofile.specs.Volumes.{IsVolumeOf}
 use Rattle.inofile.specs.declared.inode_file.InodeFile.{InodeFile}
 use Rattle.loading.specs.Images.{inodes_of}
@@ -37,6 +38,7 @@ opens_moved m n v table after snapshots c to =
         holds = o.holds;
         changes = o.changes;
         log = o.log;
+        room = o.room;
         last = o.last;
         replays = o.replays;
         state = record {
@@ -109,6 +111,8 @@ module _ {m : Meaning} {k : Parts} {table : ℕ → Option Description} {s : Sta
     memory = serves.memory;
     goes = serves.goes;
     pledges = serves.pledges;
+    stored = serves.stored;
+    reserved = serves.reserved;
     opened = opened;
     fits = fits;
     state = refl;
@@ -117,9 +121,10 @@ module _ {m : Meaning} {k : Parts} {table : ℕ → Option Description} {s : Sta
   -- with other open files, and without the files that then have neither name nor descriptor
   abbrev pub dropped : (records : RecordLaws) (now_inodes : InodeFile)
       → IsVolumeOf k.root.geometry.blocks (blocks_of m.seen.disk) (inodes_of (whole (blocks_of m.seen.disk) k.root).active) now_inodes (swept after serves.running)
+      → memory_room serves.first now_inodes (swept after serves.running) ≤ memory_room serves.first k.inodes serves.running
       → FitsVolume now_files (swept after serves.running) → IsMounted (swept after serves.running) after
       → IsServing m (record k { inodes = now_inodes; files = now_files }) after (state_with k.root.geometry.inodes (swept after serves.running) after serves.snapshots)
-  dropped records now_inodes stands fits mounted = record {
+  dropped records now_inodes stands stores fits mounted = record {
     honest = serves.honest;
     shows = serves.shows;
     first = serves.first;
@@ -144,6 +149,8 @@ module _ {m : Meaning} {k : Parts} {table : ℕ → Option Description} {s : Sta
     };
     goes = serves.goes;
     pledges = serves.pledges;
+    stored = omega (arith, stores, serves.stored);
+    reserved = serves.reserved;
     opened = opened;
     fits = fits;
     state = refl;

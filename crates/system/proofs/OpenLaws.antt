@@ -27,6 +27,7 @@ use Rattle.descriptors.specs.Fits.{FitsVolume}
 use Rattle.descriptors.specs.Tables.{open_at}
 use Rattle.descriptors.specs.declared.table.Descriptors.{Descriptors}
 use Rattle.images.specs.Roots.{whole}
+use Rattle.inofile.specs.Room.{memory_room}
 use Rattle.inofile.specs.Volumes.{IsVolumeOf}
 use Rattle.inofile.specs.declared.inode_file.InodeFile.{InodeFile}
 use Rattle.loading.specs.Images.{IsLoadedUnder, inodes_of}
@@ -41,7 +42,7 @@ use Rattle.system.specs.Opening.{HasImage, HoldsRecords, IsOf}
 use Rattle.system.specs.Refusals.{SaysNothing, refusal_of_log, refusal_of_read, refusal_of_root}
 use Rattle.system.specs.Systems.{Parts, IsServing, state_with}
 use Rattle.system.specs.declared.open_error.OpenError.{OpenError}
-use Rattle.system.specs.declared.opening.Found.{Found}
+use Rattle.system.specs.declared.opening.FoundImages.{FoundImages}
 use Rattle.system.specs.declared.opening.Mounted.{Mounted}
 
 -- ---- refusals
@@ -158,8 +159,8 @@ module _ (disk : Blocks) (r : Root) (nvram : List ℕ) (first last : Volume) (sn
 
   pub has_image : (old : InodeFile) (p : Mounted) (count : ℕ) → p.inodes.geometry ≡ r.geometry → count ≡ r.geometry.blocks → IsLoadedUnder disk r p.map old
       → StandsBehind p.log saved.generation nvram (bodies_of changes) → HasVolume count disk (inodes_of (whole disk r).active) p.inodes (without_nameless last)
-      → p.pledged ≡ pledged_for old.geometry.inodes first changes → old.geometry ≡ r.geometry → HasImage disk r nvram first last changes p
-  has_image old p count geometry is loaded stands has pledges sizes = record {
+      → p.pledged ≡ pledged_for old.geometry.inodes first changes → memory_room first p.inodes (without_nameless last) ≤ p.pledged → old.geometry ≡ r.geometry → HasImage disk r nvram first last changes p
+  has_image old p count geometry is loaded stands has pledges stored sizes = record {
     log = subst (λ (n : ℕ). StandsBehind p.log n nvram (bodies_of changes)) generation stands;
     memory = record {
       stands = subst (λ (n : ℕ). IsVolumeOf n disk (inodes_of (whole disk r).active) p.inodes (without_nameless last)) is has.memory;
@@ -167,6 +168,7 @@ module _ (disk : Blocks) (r : Root) (nvram : List ℕ) (first last : Volume) (sn
       entries = loaded.map.settled;
     };
     pledges = pledges ∙ ap (λ (s : Sizes). pledged_for s.inodes first changes) sizes;
+    stored = stored;
   }
 
 -- ---- files without names
@@ -191,7 +193,7 @@ extends v = record { kept = λ n some. kept_nodes (v n) some; rest = λ n none. 
 
 -- ---- the system
 
-module _ (m : Meaning) (kept : BTreeMap ℕ Block) (found : Found) (p : Mounted) (first last : Volume) (snapshots : List (Name × Tree)) (changes : List Change)
+module _ (m : Meaning) (kept : BTreeMap ℕ Block) (found : FoundImages) (p : Mounted) (first last : Volume) (snapshots : List (Name × Tree)) (changes : List Change)
     (files : Descriptors) (none : (d : ℕ) → open_at files d ≡ None) (fits : (v : Volume) → FitsVolume files v) where
   -- memory over what was found, where reads give these images
   pub record IsOver (i : Images) : Type 0 where
@@ -243,6 +245,8 @@ module _ (m : Meaning) (kept : BTreeMap ℕ Block) (found : Found) (p : Mounted)
     memory = over.has.memory;
     goes = runs;
     pledges = over.has.pledges;
+    stored = over.has.stored;
+    reserved = over.holds.room;
     opened = λ i d. option_map description_of (sym (none d) i);
     fits = fits (without_nameless last);
     state = refl;

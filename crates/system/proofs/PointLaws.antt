@@ -1,5 +1,6 @@
 -- What a cut leaves of a point that is planned for a system.
-use Rattle.std.proofs.Common.{◌≡◌, ◌≢◌, ◌⊎◌, inl, inr, ℕ, ◌+◌, ◌*◌, ◌/◌, ◌<◌, ◌^◌, List, [], Option, refl, ap, sym, subst, ◌∙◌, arith}
+use Rattle.std.proofs.Common.{◌≡◌, ◌≢◌, ◌⊎◌, inl, inr, ℕ, ◌+◌, ◌*◌, ◌/◌, ◌<◌, ◌^◌, List, [], Option, Result, Ok, Err, refl, ap, sym, subst, ◌∙◌, arith}
+use Rattle.std.specs.Prelude.{IfErr, IfOk, OnOk}
 use Rattle.station.specs.Images.{Images, Unchanged}
 use Rattle.station.specs.Moments.{Meaning, MayLeave, After, Goes, LeavesOnly}
 use Rattle.station.proofs.Moments.{joined, leaves_unchanged, weaker}
@@ -31,6 +32,17 @@ use Rattle.system.specs.Slots.{IsNewestAt, other_slot}
 use Rattle.system.specs.Systems.{Parts, IsServing}
 use Rattle.system.proofs.CountingLaws.{logged_twice, nothing_logged}
 use Rattle.system.proofs.SystemLaws.{all_open, one_opens, reads_open}
+
+-- what holds of an answer that is Ok
+pub of_ok : {X E : Type 0} (r : Result X E) (x : X) (P : X → Type 0) → r ≡ Ok x → IfOk r P → P x
+of_ok {X = X} {E = E} r x P is h = subst (λ (q : Result X E). IfOk q P) is h
+
+pub on_ok : {X E : Type 0} {A : Type 0} (r : Result X E) (x : X) → r ≡ Ok x → OnOk r A → A
+on_ok {X = X} {E = E} {A = A} r x is h = subst (λ (q : Result X E). OnOk q A) is h
+
+-- what holds of an error
+pub of_err : {X E : Type 0} (r : Result X E) (e : E) (P : E → Type 0) → r ≡ Err e → IfErr r P → P e
+of_err {X = X} {E = E} r e P is h = subst (λ (q : Result X E). IfErr q P) is h
 
 -- ---- the log under the new root
 
@@ -115,7 +127,8 @@ module _ (laws : CutLaws) {m : Meaning} {k : Parts} {table : ℕ → Option Desc
                 log = subst (λ (h : ℕ). LogHolds h new.generation m.seen.nvram []) (half ∙ ap (λ s. s.half) (sym planned.point.geometry))
                     (subst (λ (g : ℕ). LogHolds k.log.half g m.seen.nvram []) (sym planned.covers) holds);
               })
-              refl (sym (laws.ends serves.running serves.replayed.last serves.replayed.extends)))).opens;
+              refl (sym (laws.ends serves.running serves.replayed.last serves.replayed.extends)) planned.room.spent planned.room.leaves
+              (omega (arith, planned.room.enough)))).opens;
         }
 
     -- while it is planned and written

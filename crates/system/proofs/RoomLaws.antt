@@ -1,16 +1,32 @@
 -- What is pledged of the disk's blocks, and what of them is free.
-use Rattle.std.proofs.Common.{◌≡◌, inl, inr, ℕ, zero, suc, ◌+◌, ◌*◌, List, [], ◌∷◌, ◌++◌, Bool, true, false, refl, arith}
+use Rattle.std.proofs.Common.{◌≡◌, ◌∙◌, inl, inr, ℕ, zero, suc, ◌+◌, ◌*◌, ◌<◌, ◌≤◌, List, [], ◌∷◌, ◌++◌, Option, Some, Bool, true, false, refl, replicate, ap, sym, arith}
 use Rattle.std.specs.Prelude.{IsTrue, IsFalse, if◌then◌else◌, ◌==◌}
-use Rattle.std.proofs.lemmas.Bool.{cases_lt}
-use Rattle.model.specs.Records.{Change, applied, costs, count_nameless, pledged_for, work_of}
+use Rattle.std.proofs.lemmas.Bool.{cases_lt, cond-false, ne_eqb}
+use Rattle.std.proofs.lemmas.List.{length-replicate}
+use Rattle.layout.specs.Places.{blocks_of}
+use Rattle.model.specs.Records.{Change, applied, costs, count_nameless, pledged_for, work_of, create, link, unname, rename, write, cut, change_mode}
 use Rattle.model.specs.Room.{cost}
-use Rattle.model.specs.Volumes.{Volume}
-use Rattle.blockmap.specs.Maps.{free_below}
+use Rattle.model.specs.States.{State}
+use Rattle.model.specs.Trees.{Description}
+use Rattle.model.specs.Volumes.{Volume, file_node}
+use Rattle.blockmap.specs.Maps.{free_below, settled_at}
+use Rattle.blockmap.specs.Space.{left}
 use Rattle.blockmap.specs.declared.map.BlockMap.{BlockMap}
-use Rattle.images.specs.Roots.{HeldTree}
+use Rattle.layout.specs.declared.root.Root.{Root}
+use Rattle.images.specs.BlockMap.{IsExact, entry, roots}
+use Rattle.images.specs.Roots.{HeldTree, Whole, whole}
+use Rattle.images.specs.Room.{free_at, free_under}
+use Rattle.images.proofs.EmptyLaws.{no_bit}
+use Rattle.images.specs.Sums.{sum_below}
+use Rattle.inofile.specs.Room.{number_room}
+use Rattle.inofile.specs.declared.inode_file.InodeFile.{InodeFile}
+use Rattle.inofile.proofs.RoomLaws.{nameless_four}
 use Rattle.oplog.specs.LogEnd.{LogEnd, HasRoomInHalf, next_of}
+use Rattle.replay.specs.Costs.{IsSizeBefore}
+use Rattle.station.specs.declared.station.Station.{Ghosts}
 use Rattle.system.specs.Memory.{HasEntries}
-use Rattle.system.specs.Room.{free_under}
+use Rattle.system.specs.Systems.{HasState, meaning_of}
+use Rattle.system.specs.declared.system.System.{System}
 
 -- ---- what is pledged
 
@@ -41,6 +57,64 @@ had_room log n not_full not_stopped = elim (cases_lt log.half (next_of log.end +
 -- ---- what is free
 
 pub free_same : (t : HeldTree) (map : BlockMap) → HasEntries t map → (n : ℕ) → free_below map.parts.items n ≡ free_under t n
-unfolding free_below
+unfolding free_below sum_below
 free_same t map has zero = refl
 free_same t map has (suc b) = λ i. free_same t map has b i + (if has b i == 0 then 1 else 0)
+
+-- what a system keeps of it
+pub free_is : {S : Type 0} {G : Ghosts S} (f : System S G) (table : ℕ → Option Description) (s : State) → HasState f table s
+    → f.free ≡ free_under (whole (blocks_of (meaning_of f).seen.disk) f.root).active f.root.geometry.blocks
+free_is f table s serves =
+    f.counted ∙ ap (free_below f.map.parts.items) f.count
+    ∙ free_same (whole (blocks_of (meaning_of f).seen.disk) f.root).active f.map serves.memory.entries f.root.geometry.blocks
+
+free_settled : (given m : BlockMap) → ((b : ℕ) → settled_at given.parts.items b ≡ settled_at m.parts.items b) → (n : ℕ) → free_below given.parts.items n ≡ free_below m.parts.items n
+unfolding free_below
+free_settled given m settled zero = refl
+free_settled given m settled (suc b) = λ i. free_settled given m settled b i + (if settled b i == 0 then 1 else 0)
+
+-- with a map of the same settled entries it is the same
+pub still_counted : {S : Type 0} {G : Ghosts S} (f : System S G) (given : BlockMap) → given.count ≡ f.map.count → ((b : ℕ) → settled_at given.parts.items b ≡ settled_at f.map.parts.items b)
+    → f.free ≡ free_below given.parts.items given.count
+still_counted f given count settled = f.counted ∙ sym (ap (free_below given.parts.items) count ∙ free_settled given f.map settled f.map.count)
+
+-- the first two blocks aren't
+system_kept : (r : Root) (w : Whole) → IsExact r w → free_under w.active 2 ≡ 0
+unfolding sum_below
+system_kept r w exact = omega (arith, kept 0 (omega arith), kept 1 (omega arith))
+  where
+    kept : (b : ℕ) → b < 2 → free_at w.active b ≡ 0
+    kept b low = cond-false (entry w.active b == 0) 1 0 (ne_eqb (entry w.active b) 0 (λ free. no_bit 31 _ free ((exact.system b).1 (roots low))))
+
+-- what is left of its map is all that
+pub all_left : {S : Type 0} {G : Ghosts S} (f : System S G) (table : ℕ → Option Description) (s : State) → HasState f table s → left f.map ≡ f.free
+unfolding left
+all_left f table s serves =
+    let w = whole (blocks_of (meaning_of f).seen.disk) f.root in
+    let low : free_below f.map.parts.items f.map.next ≡ 0 =
+    ap (free_below f.map.parts.items) f.fresh ∙ free_same w.active f.map serves.memory.entries 2 ∙ system_kept f.root w serves.under.holds.sound.exact in
+    omega (arith, f.counted, low)
+
+-- ---- what a record costs
+
+-- a volume whose files all have so many bytes
+abbrev files_of : ℕ → Volume
+files_of size n = Some (file_node 0 1 (replicate size 0))
+
+-- what it costs over the volumes where its file has one size it costs over all
+pub same_cost : (change : Change) (size k : ℕ) → ((v : Volume) → IsSizeBefore v change size → k ≡ cost (work_of v change)) → (v : Volume) → k ≡ cost (work_of v change)
+same_cost (create number parent made name) size k told v = told v tt
+same_cost (link number parent name) size k told v = told v tt
+same_cost (unname parent name) size k told v = told v tt
+same_cost (rename parent name new_parent new_name) size k told v = told v tt
+same_cost (write number offset bytes) size k told v = told (files_of size) (sym (length-replicate size 0))
+same_cost (cut number new) size k told v = told (files_of size) (sym (length-replicate size 0))
+same_cost (change_mode number mode) size k told v = told v tt
+
+-- ---- files without names
+
+-- 4 blocks of what memory needs are for each
+pub nameless_least : (base : Volume) (s : InodeFile) (v : Volume) (n : ℕ) → 4 * count_nameless n v ≤ sum_below (number_room base s v) n
+unfolding sum_below
+nameless_least base s v zero = omega arith
+nameless_least base s v (suc n) = omega (arith, nameless_least base s v n, nameless_four (v n))

@@ -28,7 +28,7 @@ use Rattle.blocktree.specs.declared.error.ReadError.TheVariants as read_errors
 use Rattle.records.specs.Failures.{told}
 use Rattle.records.specs.declared.failure.Failure.{Failure}
 use Rattle.records.specs.declared.failure.Failure.TheVariants as failures
-use Rattle.system.specs.Answering.{answer_to, reply_of}
+use Rattle.system.specs.Answering.{answer_to, answered_reply}
 use Rattle.system.specs.Counting.{Counted, call_error_failed}
 use Rattle.system.specs.Errors.{call_error}
 use Rattle.system.specs.Images.{OpensTo}
@@ -101,6 +101,7 @@ module _ {S : Type 0} {G : Ghosts S} (old new : System S G) (call : Command) (re
           after = (leads s served).after;
           need = nothing;
           step = (leads s served).step;
+          room = tt;
           serves = (leads s served).serves;
           logs = (leads s served).records;
           leaves = weaker m n (OpensTo m s) (λ c. OpensTo m s c ⊎ OpensTo m (leads s served).after c) (leaves_unchanged m n (OpensTo m s) (opens s served) reads.goes) (λ c here. inl here);
@@ -108,6 +109,7 @@ module _ {S : Type 0} {G : Ghosts S} (old new : System S G) (call : Command) (re
         broken = λ s served is. cc;
         sure = sure;
         full = λ s served is. cc;
+        short = λ s served is. cc;
         damaged = λ s served is. cc;
       }
 
@@ -133,7 +135,8 @@ module _ {S : Type 0} {G : Ghosts S} (old new : System S G) (call : Command) (re
     broken = λ s served bad. absurd ((told_by error).0 bad);
     sure = not_sure;
     full = λ s served bad. absurd ((told_by error).1 bad);
-    damaged = λ s served bad. damaged s served ((told_by error).2 bad);
+    short = λ s served bad. absurd ((told_by error).2 bad);
+    damaged = λ s served bad. damaged s served ((told_by error).3 bad);
   })
     where
       counted : (error : ReadError) → (error ≡ read_errors.Device → HasGrown (meaning_of old).failed_reads (meaning_of new).failed_reads)
@@ -143,10 +146,10 @@ module _ {S : Type 0} {G : Ghosts S} (old new : System S G) (call : Command) (re
       counted read_errors.Damaged fault = perhaps_read (meaning_of old) (meaning_of new) reads
 
       told_by : (error : ReadError) → let r : Result Reply CallError = Err (call_error error) in
-          (IsErrOf r call_errors.NotWritten → ⊥) × (IsErrOf r call_errors.LogFull → ⊥) × (IsErrOf r call_errors.Damaged → error ≡ read_errors.Damaged)
-      told_by read_errors.NoMemory = (λ is. cc, λ is. cc, λ is. cc)
-      told_by read_errors.Device = (λ is. cc, λ is. cc, λ is. cc)
-      told_by read_errors.Damaged = (λ is. cc, λ is. cc, λ is. refl)
+          (IsErrOf r call_errors.NotWritten → ⊥) × (IsErrOf r call_errors.LogFull → ⊥) × (IsErrOf r call_errors.NoRoom → ⊥) × (IsErrOf r call_errors.Damaged → error ≡ read_errors.Damaged)
+      told_by read_errors.NoMemory = (λ is. cc, λ is. cc, λ is. cc, λ is. cc)
+      told_by read_errors.Device = (λ is. cc, λ is. cc, λ is. cc, λ is. cc)
+      told_by read_errors.Damaged = (λ is. cc, λ is. cc, λ is. cc, λ is. refl)
 
   -- a call failed: it is refused, or a block wasn't read
   pub failed_by : {T : Type 0} (f : Failure) (q : Result Reply CallError) → q ≡ answer_to (Err f) → ((s : State) → ServesState old s → ¬ IsSure s call) → AllOpen old
@@ -168,7 +171,7 @@ module _ {S : Type 0} {G : Ghosts S} (old new : System S G) (call : Command) (re
       → OnOk (told r) ((meaning_of new).failed_reads ≡ (meaning_of old).failed_reads)
       → IfErr (told r) (λ e. IsFault e → HasGrown (meaning_of old).failed_reads (meaning_of new).failed_reads)
       → IfOk (told r) (λ x. IfErr x (λ e. IsTrue (is_path_refusal e))) → IfOk r TellsNoFault → OnErr r (ServesOn old new)
-      → ((s : State) → (served : ServesState old s) → IfOk (told r) (λ x. LeadsTo new s call (reply_of x) served.replayed.changes))
+      → ((s : State) → (served : ServesState old s) → IfOk (told r) (λ x. LeadsTo new s call (answered_reply x) served.replayed.changes))
       → ((s : State) → ServesState old s → IsErrOf (told r) read_errors.Damaged → ⊥) → Handles old new call q
   came_to (Ok reply) q is not_sure opens counted device own no_fault stays leads damaged =
       subst (Handles old new call) (sym is) (answered_leading (λ s served. inr (not_sure s served)) reply counted no_fault opens leads)
@@ -183,7 +186,7 @@ module _ {S : Type 0} {G : Ghosts S} (old new : System S G) (call : Command) (re
       → OnOk (told r) ((meaning_of new).failed_reads ≡ (meaning_of old).failed_reads)
       → IfErr (told r) (λ e. IsFault e → HasGrown (meaning_of old).failed_reads (meaning_of new).failed_reads)
       → IfOk (told r) (λ x. IfErr x (λ e. IsTrue (is_path_refusal e))) → IfOk r TellsNoFault → ServesOn old new
-      → ((s : State) → ServesState old s → IfOk (told r) (λ x. WouldCall s call (reply_of x) s nothing))
+      → ((s : State) → ServesState old s → IfOk (told r) (λ x. WouldCall s call (answered_reply x) s nothing))
       → ((s : State) → ServesState old s → IsErrOf (told r) read_errors.Damaged → ⊥) → Handles old new call q
   looked_up r q is not_sure opens counted device own no_fault stays steps damaged =
       came_to r q is not_sure opens counted device own no_fault (on_err r)

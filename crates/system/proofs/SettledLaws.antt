@@ -13,6 +13,7 @@ use Rattle.layout.specs.declared.TheConstants.{SLOT_A, SLOT_B}
 use Rattle.layout.specs.declared.inode.Inode.{Inode}
 use Rattle.layout.specs.declared.root.Root.{Root}
 use Rattle.model.specs.Records.{count_nameless}
+use Rattle.model.specs.Room.{fixed_of}
 use Rattle.model.specs.Paths.{Name}
 use Rattle.model.specs.States.{State, with_snapshots}
 use Rattle.model.specs.Trees.{Description, Tree}
@@ -21,6 +22,8 @@ use Rattle.buffers.specs.Disks.{ShowsDisk, IsBlock, disk_with_sector, sector_put
 use Rattle.buffers.specs.declared.block.Block.{Block}
 use Rattle.blockmap.specs.Maps.{settled_at}
 use Rattle.blockmap.specs.declared.map.BlockMap.{BlockMap}
+use Rattle.inofile.specs.Inodes.{HasNoChange}
+use Rattle.inofile.proofs.RoomLaws.{clean_room}
 use Rattle.inofile.specs.Settled.{AreSettled, held_content}
 use Rattle.inofile.specs.Volumes.{IsVolumeOf, MapsVolume}
 use Rattle.inofile.specs.declared.inode_file.InodeFile.{InodeFile}
@@ -29,6 +32,7 @@ use Rattle.images.specs.BlockMap.{entry}
 use Rattle.images.specs.Contents.{HoldsVolume}
 use Rattle.images.specs.Cuts as points
 use Rattle.images.specs.Nodes.{Agrees}
+use Rattle.images.specs.Room.{free_under}
 use Rattle.images.specs.Roots.{whole, Needs}
 use Rattle.images.specs.SnapshotSteps.{SnapshotStep, kept_after}
 use Rattle.images.specs.States.{Holds}
@@ -155,10 +159,11 @@ module _ (laws : RootLaws) {m : Meaning} {k : Parts} {table : ℕ → Option Des
         → now.is_honest → LeavesJust now now.seen → ShowsDisk now now_kept (blocks_of now.seen.disk) → IsNewest new (now.seen.disk SLOT_A) (now.seen.disk SLOT_B)
         → StandsAt now_log k.log.epoch no_bodies m.seen.nvram → IsFalse now_log.is_stopped
         → IsInMemory (blocks_of now.seen.disk) new now_inodes now_map serves.running
-        → (nameless : ℕ) → nameless ≡ count_nameless new.geometry.inodes serves.running
+        → (nameless : ℕ) → nameless ≡ count_nameless new.geometry.inodes serves.running → HasNoChange now_inodes → now_inodes.geometry ≡ new.geometry
+        → free_under (whole (blocks_of m.seen.disk) k.root).active k.root.geometry.blocks ≤ free_under (whole (blocks_of now.seen.disk) new).active k.root.geometry.blocks + planned.room.spent
         → IsServing now (record k { kept = now_kept; root = new; slot = p.slot; inodes = now_inodes; map = now_map; log = now_log; pledged = 4 * nameless }) table
         (stepped step serves.first serves.snapshots s)
-    settled now_kept now_inodes now_map now_log honest just shown newest stands goes here nameless counted = record {
+    settled now_kept now_inodes now_map now_log honest just shown newest stands goes here nameless counted none same left = record {
       honest = honest;
       shows = shown;
       first = serves.running;
@@ -178,6 +183,9 @@ module _ (laws : RootLaws) {m : Meaning} {k : Parts} {table : ℕ → Option Des
       memory = here;
       goes = goes;
       pledges = nameless_pledged new.geometry.inodes nameless serves.running counted;
+      stored = omega (arith, clean_room now_inodes serves.running none now_inodes.geometry.inodes, ap (λ (g : Sizes). count_nameless g.inodes serves.running) same, counted);
+      reserved = subst (λ (g : Sizes). 4 * count_nameless g.inodes serves.running + 0 + fixed_of g.blocks ≤ free_under (whole (blocks_of now.seen.disk) new).active g.blocks) (sym planned.point.geometry)
+          (omega (arith, left, planned.room.enough));
       opened = serves.opened;
       fits = serves.fits;
       state = ap (with_snapshots kept_then) serves.state ∙ ap (λ (g : Sizes). state_with g.inodes serves.running table kept_then) (sym planned.point.geometry);

@@ -35,12 +35,12 @@ use Rattle.conspoint.specs.declared.error.PlanError.{PlanError}
 use Rattle.conspoint.specs.declared.error.PlanError.TheVariants as plan
 use Rattle.snapshots.specs.Found.{FindsSnapshot, named, snapshot_found}
 use Rattle.snapshots.specs.Taken.{MayTake}
-use Rattle.snapshots.specs.declared.finding.Found.{Found}
+use Rattle.snapshots.specs.declared.finding.FoundSnapshot.{FoundSnapshot}
 use Rattle.snapshots.specs.declared.taking.Taking.{Taking}
 use Rattle.system.specs.Counting.{Counted, Failed, LogsNothing, no_call, point_error_failed}
 use Rattle.system.specs.Errors.{IsRefused, call_error}
 use Rattle.system.specs.Serving.{IsBrokenOff, ServesState, WouldCall, WouldChange}
-use Rattle.system.specs.Settling.{Glances, IsFilledBy, IsSettled, Settles, WouldSettle}
+use Rattle.system.specs.Settling.{Glances, IsSettled, Settles}
 use Rattle.system.specs.Systems.{meaning_of}
 use Rattle.system.specs.declared.error.CallError.{CallError}
 use Rattle.system.specs.declared.error.PointError.{PointError}
@@ -76,7 +76,7 @@ module _ {S : Type 0} {G : Ghosts S} (old new : System S G) (reads : ReadsOn (me
         reads = reads;
         counted = perhaps_read (meaning_of old) (meaning_of new) reads;
         log = log;
-        refuses = (λ is. cc, λ is. cc);
+        refuses = (λ is. cc, λ is. cc, λ is. cc);
         serves = serves;
         damaged = λ s served is. cc;
       }
@@ -84,7 +84,7 @@ module _ {S : Type 0} {G : Ghosts S} (old new : System S G) (reads : ReadsOn (me
         reads = reads;
         counted = not_read (meaning_of old) (meaning_of new) reads (fault refl);
         log = log;
-        refuses = (λ is. cc, λ is. cc);
+        refuses = (λ is. cc, λ is. cc, λ is. cc);
         serves = serves;
         damaged = λ s served is. cc;
       }
@@ -92,7 +92,7 @@ module _ {S : Type 0} {G : Ghosts S} (old new : System S G) (reads : ReadsOn (me
         reads = reads;
         counted = perhaps_read (meaning_of old) (meaning_of new) reads;
         log = log;
-        refuses = (λ is. cc, λ is. cc);
+        refuses = (λ is. cc, λ is. cc, λ is. cc);
         serves = serves;
         damaged = λ s served is. damaged s served refl;
       }
@@ -114,7 +114,7 @@ module _ {S : Type 0} {G : Ghosts S} (old new : System S G) (P : State → Type 
     serves = λ s served. tt;
     done = λ s served covered. record { step = step s served; serves = serves s served; goes = reads.goes };
     broken = λ s served covered is. cc;
-    full = λ s served is. cc;
+    roomy = λ s served covered is. cc;
     damaged = λ s served is. cc;
     last = λ s served is. cc;
   }
@@ -132,7 +132,7 @@ module _ {S : Type 0} {G : Ghosts S} (old new : System S G) (P : State → Type 
     serves = λ s served _. serves s served;
     done = λ s served covered. tt;
     broken = λ s served covered is. absurd (wrote (error_is e _ (Err e) (Err point.NotWritten) refl refl is));
-    full = λ s served is. absurd (full (error_is e _ (Err e) (Err (point.NotPlanned plan.NoSpace)) refl refl is));
+    roomy = λ s served covered is. absurd (full (error_is e _ (Err e) (Err (point.NotPlanned plan.NoSpace)) refl refl is));
     damaged = λ s served is. damaged s served (error_is e _ (Err e) (Err (point.NotPlanned plan.Damaged)) refl refl is);
     last = λ s served is. last s served (error_is e _ (Err e) (Err point.NoGeneration) refl refl is);
   }
@@ -178,7 +178,7 @@ module _ {S : Type 0} {G : Ghosts S} (old new : System S G) (mid : Meaning) (P :
     serves = λ s served. tt;
     done = done;
     broken = λ s served covered is. cc;
-    full = λ s served is. cc;
+    roomy = λ s served covered is. cc;
     damaged = λ s served is. cc;
     last = λ s served is. cc;
   }
@@ -186,9 +186,9 @@ module _ {S : Type 0} {G : Ghosts S} (old new : System S G) (mid : Meaning) (P :
   -- it wasn't
   pub not_settled : (e : PointError) → Counted mid (meaning_of new) (point_error_failed e) → new.log ≡ old.log → (IsRefused e → Goes Unchanged mid (meaning_of new))
       → ((s : State) → ServesState old s → IsRefused e → ServesState new s) → ((s : State) → ServesState old s → P s → e ≡ point.NotWritten → IsBrokenOff old new s c)
-      → (e ≡ point.NotPlanned plan.NoSpace → IsFilledBy c new) → ((s : State) → ServesState old s → WouldSettle s c)
+      → ((s : State) → ServesState old s → P s → e ≡ point.NotPlanned plan.NoSpace → ⊥)
       → ((s : State) → ServesState old s → e ≡ point.NotPlanned plan.Damaged → ⊥) → ((s : State) → ServesState old s → e ≡ point.NoGeneration → 2 ^ 62 ≤ old.log.epoch) → Settles old new P c (Err e)
-  not_settled e made log kept serves broken full would damaged last = record {
+  not_settled e made log kept serves broken roomy damaged last = record {
     counted = both_counted (point_error_failed e) made;
     own = tt;
     unlogged = nothing_written;
@@ -198,7 +198,7 @@ module _ {S : Type 0} {G : Ghosts S} (old new : System S G) (mid : Meaning) (P :
     serves = serves;
     done = λ s served covered. tt;
     broken = λ s served covered is. broken s served covered (error_is e _ (Err e) (Err point.NotWritten) refl refl is);
-    full = λ s served is. (full (error_is e _ (Err e) (Err (point.NotPlanned plan.NoSpace)) refl refl is), would s served);
+    roomy = λ s served covered is. roomy s served covered (error_is e _ (Err e) (Err (point.NotPlanned plan.NoSpace)) refl refl is);
     damaged = λ s served is. damaged s served (error_is e _ (Err e) (Err (point.NotPlanned plan.Damaged)) refl refl is);
     last = λ s served is. last s served (error_is e _ (Err e) (Err point.NoGeneration) refl refl is);
   }
@@ -257,7 +257,7 @@ can_take r disk other name t root same may low =
       order = may.order;
     })
 
-pub can_delete : (r : Root) (disk other : Blocks) (name : Name) (pairs : List (Name × Tree)) (f : Found) → disk ≡ other → FindsSnapshot r disk name pairs (Some f) → (1 ≤ f.slot) × (f.slot ≤ SNAPSHOT_SLOTS)
+pub can_delete : (r : Root) (disk other : Blocks) (name : Name) (pairs : List (Name × Tree)) (f : FoundSnapshot) → disk ≡ other → FindsSnapshot r disk name pairs (Some f) → (1 ≤ f.slot) × (f.slot ≤ SNAPSHOT_SLOTS)
     → CanDelete r (whole other r) f.slot name
 can_delete r disk other name pairs f same finds number =
     subst (λ (d : Blocks). CanDelete r (whole d r) f.slot name) same

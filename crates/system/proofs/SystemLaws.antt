@@ -1,5 +1,5 @@
 -- The images of a system that serves a state open to it.
-use Rattle.std.proofs.Common.{◌≡◌, ℕ, ◌*◌, List, Option, None, refl, ap, sym, subst, ◌∙◌}
+use Rattle.std.proofs.Common.{◌≡◌, ℕ, ◌*◌, ◌≤◌, List, Option, None, refl, ap, sym, subst, ◌∙◌, arith}
 use Rattle.std.specs.BTreeMap.{BTreeMap}
 use Rattle.station.specs.Images.{Images}
 use Rattle.station.specs.Moments.{Meaning, EachCut}
@@ -19,7 +19,9 @@ use Rattle.blockmap.specs.declared.map.BlockMap.{BlockMap}
 use Rattle.inofile.specs.Volumes.{IsVolumeOf}
 use Rattle.inofile.specs.declared.inode_file.InodeFile.{InodeFile}
 use Rattle.images.specs.Roots.{whole}
-use Rattle.images.specs.States.{Opens, SameButFree}
+use Rattle.images.specs.States.{HasReserve, Opens, SameButFree}
+use Rattle.inofile.specs.Room.{NeedsNoMore}
+use Rattle.inofile.proofs.RoomLaws.{needs_room}
 use Rattle.loading.specs.Images.{inodes_of}
 use Rattle.oplog.specs.LogEnd.{Bodies, all_bodies}
 use Rattle.system.specs.Images.{OpensTo, IsLeft, IsReplayed, IsUnder}
@@ -36,8 +38,9 @@ module _ {m : Meaning} {k : Parts} {table : ℕ → Option Description} {s : Sta
   abbrev pub read_into : (new : Meaning) (now_kept : BTreeMap ℕ Block) (now_inodes : InodeFile) (now_map : BlockMap) → ReadsOn m new
       → ((disk : ℕ → List ℕ) → ShowsDisk m k.kept disk → ShowsDisk new now_kept disk)
       → ((v : Volume) → OverRoot (blocks_of m.seen.disk) k.root k.inodes v → OverRoot (blocks_of m.seen.disk) k.root now_inodes v)
+      → now_inodes.geometry ≡ k.inodes.geometry → NeedsNoMore k.inodes now_inodes
       → ((b : ℕ) → settled_at now_map.parts.items b ≡ settled_at k.map.parts.items b) → IsServing new (record k { kept = now_kept; inodes = now_inodes; map = now_map }) table s
-  read_into new now_kept now_inodes now_map reads shows stays entries =
+  read_into new now_kept now_inodes now_map reads shows stays sizes needs entries =
       let went = reads.goes serves.honest in
       let disk : m.seen.disk ≡ new.seen.disk = sym (ap (λ (i : Images). i.disk) went.seen) in
       record {
@@ -59,6 +62,8 @@ module _ {m : Meaning} {k : Parts} {table : ℕ → Option Description} {s : Sta
         });
         goes = serves.goes;
         pledges = serves.pledges;
+        stored = omega (arith, serves.stored, needs_room serves.first serves.running k.inodes now_inodes sizes needs);
+        reserved = subst (λ (d : ℕ → List ℕ). HasReserve k.root (whole (blocks_of d) k.root) serves.first serves.replayed.changes) disk serves.reserved;
         opened = serves.opened;
         fits = serves.fits;
         state = serves.state;
@@ -68,12 +73,12 @@ module _ {m : Meaning} {k : Parts} {table : ℕ → Option Description} {s : Sta
   abbrev pub read_on : (new : Meaning) (now_kept : BTreeMap ℕ Block) (now_map : BlockMap) → ReadsOn m new
       → ((disk : ℕ → List ℕ) → ShowsDisk m k.kept disk → ShowsDisk new now_kept disk)
       → ((b : ℕ) → settled_at now_map.parts.items b ≡ settled_at k.map.parts.items b) → IsServing new (record k { kept = now_kept; map = now_map }) table s
-  read_on new now_kept now_map reads shows entries = read_into new now_kept k.inodes now_map reads shows (λ v over. over) entries
+  read_on new now_kept now_map reads shows entries = read_into new now_kept k.inodes now_map reads shows (λ v over. over) refl (λ n k least. least) entries
 
 -- A disk that holds a volume under its newest root, with records that lead to the running one, opens to its state.
 module _ (laws : CutLaws) (m : Meaning) (disk : ℕ → List ℕ) (root : Root) (slot : ℕ) (first : Volume) (snapshots : List (Name × Tree)) (under : IsUnder slot root first snapshots disk)
     (size : m.sectors ≡ 8 * root.geometry.blocks) (bodies : Bodies) (running : Volume) (volume : IsVolume root.geometry.inodes running)
-    (replayed : IsReplayed root.geometry.inodes bodies first running) (table : ℕ → Option Description) (s : State) (is : s ≡ state_with root.geometry.inodes running table snapshots) where
+    (replayed : IsReplayed root.geometry.inodes bodies first running) (reserve : HasReserve root (whole (blocks_of disk) root) first replayed.changes) (table : ℕ → Option Description) (s : State) (is : s ≡ state_with root.geometry.inodes running table snapshots) where
   abbrev pub found : State
   found = record {
     inodes = root.geometry.inodes;
@@ -98,6 +103,7 @@ module _ (laws : CutLaws) (m : Meaning) (disk : ℕ → List ℕ) (root : Root) 
     holds = under.holds;
     changes = replayed.changes;
     log = record { are = replayed.are; log = subst (LogHolds root.geometry.half root.generation nvram) replayed.spelled holds };
+    room = reserve;
     last = replayed.last;
     replays = replayed.replays;
     state = finds;
@@ -112,12 +118,12 @@ module _ (laws : CutLaws) {m : Meaning} {k : Parts} {table : ℕ → Option Desc
   -- what the system reads, with any NVRAM that has its records
   abbrev pub reads_open : (nvram : List ℕ) → LogHolds k.log.half k.root.generation nvram (all_bodies serves.bodies) → Opens m.sectors m.seen.disk nvram s
   reads_open nvram holds =
-      held_open laws m m.seen.disk k.root k.slot serves.first serves.snapshots serves.under size serves.bodies serves.running serves.memory.volume serves.replayed table s serves.state nvram
+      held_open laws m m.seen.disk k.root k.slot serves.first serves.snapshots serves.under size serves.bodies serves.running serves.memory.volume serves.replayed serves.reserved table s serves.state nvram
       (subst (λ (h : ℕ). LogHolds h k.root.generation nvram (all_bodies serves.bodies)) half holds)
 
   pub one_opens : (c : Images) → IsLeft k.root k.log serves.bodies m.seen.disk c → OpensTo m s c
   one_opens c left =
-      same_open laws m m.seen.disk k.root k.slot serves.first serves.snapshots serves.under size serves.bodies serves.running serves.memory.volume serves.replayed table s serves.state c left.same
+      same_open laws m m.seen.disk k.root k.slot serves.first serves.snapshots serves.under size serves.bodies serves.running serves.memory.volume serves.replayed serves.reserved table s serves.state c left.same
       (subst (λ (h : ℕ). LogHolds h k.root.generation c.nvram (all_bodies serves.bodies)) half left.log_stands.holds)
 
   pub all_open : EachCut m (OpensTo m s)

@@ -17,9 +17,9 @@ abbrev pub asks : PathCall → Tree → Outcome
 asks call t reply new need = (inodes : ℕ) → calls inodes t call reply new need
 
 -- a reply, or a refusal, as it is answered
-abbrev pub reply_of : Result Reply Errno → Reply
-reply_of (Ok it) = it
-reply_of (Err errno) = reply.Refused errno
+abbrev pub answered_reply : Result Reply Errno → Reply
+answered_reply (Ok it) = it
+answered_reply (Err errno) = reply.Refused errno
 
 -- what is answered to who gave a call that came to this
 abbrev pub answer_to : Result Reply Failure → Result Reply CallError

@@ -40,6 +40,7 @@ abbrev pub call_error_failed : Bool → CallError → Failed
 call_error_failed had_stopped call.NoMemory = perhaps_reads
 call_error_failed had_stopped call.NotRead = a_read
 call_error_failed had_stopped call.Damaged = perhaps_reads
+call_error_failed had_stopped call.NoRoom = no_call
 call_error_failed had_stopped call.LogFull = no_call
 call_error_failed had_stopped call.NotWritten = if had_stopped then perhaps_any else a_write
 

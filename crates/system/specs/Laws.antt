@@ -10,7 +10,8 @@ use Rattle.layout.specs.declared.TheConstants.{SLOT_A, SLOT_B}
 use Rattle.layout.specs.declared.root.Root.{Root}
 use Rattle.model.specs.Laws.{MountsForget, RecordsKeepVolumes, ReplayEndsSame, ReplayFollows, SweepsKeepVolumes}
 use Rattle.model.specs.Paths.{Name}
-use Rattle.model.specs.Records.{Replays, without_nameless}
+use Rattle.model.specs.Records.{Replays, pledged_for, without_nameless}
+use Rattle.model.specs.Room.{fixed_of}
 use Rattle.model.specs.States.{State, with_snapshots}
 use Rattle.model.specs.Trees.{Tree}
 use Rattle.model.specs.Volumes.{Volume}
@@ -20,7 +21,8 @@ use Rattle.inofile.specs.Settled.{AreSettled, held_content}
 use Rattle.images.specs.BlockMap.{IsExact, entry}
 use Rattle.images.specs.Contents.{HoldsVolume, tree_contents}
 use Rattle.images.specs.Cuts as points
-use Rattle.images.specs.Cuts.{IsOfDisk, IsPointWith, Write}
+use Rattle.images.specs.Cuts.{IsOfDisk, IsPointWith, LeavesFree, Write}
+use Rattle.images.specs.Room.{free_under}
 use Rattle.images.specs.Roots.{whole, Needs}
 use Rattle.images.specs.SnapshotSteps.{SnapshotStep, kept_after}
 use Rattle.images.specs.States.{Holds, IsSound, LogHoldsChanges, Opens, OpensBy, SameButFree}
@@ -47,6 +49,9 @@ pub record CutLaws : Type 0 where
       → IsPointWith step o.root d writes sector new v
       → points.HasRootWritten writes sector (root_bytes new) d e → LogHoldsChanges new nvram rest
       → Replays o.root.geometry.inodes v rest last → without_nameless last ≡ without_nameless o.last
+      → (spent : ℕ) → LeavesFree spent o.root (blocks_of d) writes new
+      → pledged_for o.root.geometry.inodes v rest + fixed_of o.root.geometry.blocks + spent
+      ≤ free_under (whole (blocks_of d) o.root).active o.root.geometry.blocks
       → OpensBy sectors e nvram (with_snapshots (kept_after step o.first o.snapshots) s) rest
   pub one : (half g : ℕ) (nvram : List ℕ) (bodies : List (List ℕ)) → g + 3 < 2 ^ 64
       → (log : LogHolds half g nvram bodies) → LogHolds half (g + 1) nvram log.second
@@ -64,6 +69,13 @@ pub record RootLaws : Type 0 where
       → (o : Opens sectors d nvram s) → IsPointWith step o.root d writes sector new v
       → points.HasRootWritten writes sector (root_bytes new) d e
       → Holds new (whole (blocks_of e) new) v (kept_after step o.first o.snapshots)
+  pub free : (sectors : ℕ) (d e : ℕ → List ℕ) (nvram : List ℕ) (s : State)
+      (writes : List Write) (sector : ℕ) (new : Root) (v : Volume) (step : SnapshotStep) (spent : ℕ)
+      → (o : Opens sectors d nvram s) → IsPointWith step o.root d writes sector new v
+      → points.HasRootWritten writes sector (root_bytes new) d e
+      → LeavesFree spent o.root (blocks_of d) writes new
+      → free_under (whole (blocks_of d) o.root).active o.root.geometry.blocks
+      ≤ free_under (whole (blocks_of e) new).active o.root.geometry.blocks + spent
   pub of_disk : (d : Blocks) (r : Root) (b : ℕ) → IsRoot r → IsSound r (whole d r)
       → Needs r (whole d r) b → IsOfDisk r.geometry.blocks b
   pub unneeded : (d : Blocks) (r : Root) (b : ℕ) → IsRoot r → IsExact r (whole d r)

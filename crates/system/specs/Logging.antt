@@ -1,5 +1,5 @@
 -- What a record does that a system logs.
-use Rattle.std.specs.Prelude.{ℕ, ◌≡◌, List, Option}
+use Rattle.std.specs.Prelude.{ℕ, ◌≡◌, ◌≤◌, List, Option}
 use Rattle.station.specs.declared.station.Station.{Ghosts}
 use Rattle.layout.specs.Places.{blocks_of}
 use Rattle.layout.specs.Record.{IsChange}
@@ -12,6 +12,7 @@ use Rattle.records.specs.declared.prepared.Prepared.{Prepared}
 use Rattle.descriptors.specs.Fits.{FitsVolume}
 use Rattle.descriptors.specs.Tables.{table_of}
 use Rattle.descriptors.specs.declared.table.Descriptors.{Descriptors}
+use Rattle.inofile.specs.Room.{memory_room}
 use Rattle.inofile.specs.Volumes.{IsVolumeOf}
 use Rattle.inofile.specs.declared.inode_file.InodeFile.{InodeFile}
 use Rattle.images.specs.Roots.{whole}
@@ -27,15 +28,16 @@ pub record Advances (inodes : ℕ) (running : Volume) (table : ℕ → Option De
   pub applies : Applies inodes running change
   pub mounted : IsMounted (swept table (applied change running)) table
 
--- once memory stands for a volume, over the disk that a system read, and the open files fit it, the system serves a state by it,
--- with these records beside the root
-abbrev pub WouldServe : {S : Type 0} {G : Ghosts S} → System S G → System S G → Volume
+-- once memory stands for a volume, over the disk that a system read, and needs no more than is pledged, and the open files fit it, the
+-- system serves a state by it, with these records beside the root, which holds the first volume
+abbrev pub WouldServe : {S : Type 0} {G : Ghosts S} → System S G → System S G → Volume → Volume
     → List Change → (ℕ → Option Description) → State → Type 0
-WouldServe old new running changes table s =
+WouldServe old new first running changes table s =
     let disk = blocks_of (meaning_of old).seen.disk in
     let settled = inodes_of (whole disk old.root).active in
     (inodes : InodeFile) (files : Descriptors)
     → IsVolumeOf old.root.geometry.blocks disk settled inodes running
+    → memory_room first inodes running ≤ new.pledged
     → table ≡ table_of files → FitsVolume files running
     → IsServingWith (meaning_of new) (record (system_parts new) { inodes = inodes; files = files }) table s
     running changes

@@ -5,20 +5,21 @@ use Rattle.station.specs.Moments.{Goes, LeavesOnly}
 use Rattle.station.specs.declared.station.Station.{Ghosts}
 use Rattle.layout.specs.Root.{root_bytes}
 use Rattle.layout.specs.declared.root.Root.{Root}
+use Rattle.model.specs.Records.{count_nameless}
+use Rattle.model.specs.Room.{fixed_of}
 use Rattle.model.specs.Volumes.{Volume}
-use Rattle.images.specs.Cuts.{IsPointWith}
+use Rattle.images.specs.Cuts.{IsPointWith, LeavesFree, Write}
+use Rattle.images.specs.Room.{free_under}
 use Rattle.images.specs.Roots.{whole}
 use Rattle.images.specs.SnapshotSteps.{SnapshotStep, CanStep, kept_after}
-use Rattle.blockmap.specs.Maps.{free_below}
-use Rattle.blockmap.specs.declared.map.BlockMap.{BlockMap}
 use Rattle.inofile.specs.Inodes.{IsChanged}
 use Rattle.oplog.specs.declared.log.End.TheVariants.{Unopened}
 use Rattle.conspoint.specs.Plans.{Planned, FitsDisk}
 use Rattle.conspoint.specs.Writes.{writes_of}
 use Rattle.conspoint.specs.declared.error.PlanError.TheVariants.{Damaged, NoSpace}
-use Rattle.planning.specs.Changes.{IsStepOf, head_nodes}
-use Rattle.planning.specs.Space.{point_nodes}
+use Rattle.planning.specs.Changes.{IsStepOf}
 use Rattle.planning.specs.declared.change.SnapshotChange.{SnapshotChange}
+use Rattle.planning.specs.declared.change.SnapshotChange.TheVariants.{Take}
 use Rattle.model.specs.Paths.{Name}
 use Rattle.model.specs.States.{State, with_snapshots}
 use Rattle.model.specs.Trees.{Description, Tree}
@@ -26,32 +27,35 @@ use Rattle.layout.specs.Places.{blocks_of}
 use Rattle.system.specs.Counting.{Counted, LogsNothing, point_failed}
 use Rattle.system.specs.Errors.{IsRefused}
 use Rattle.system.specs.Images.{OpensTo}
+use Rattle.system.specs.Room.{HasRoomToTake}
 use Rattle.system.specs.Slots.{other_slot}
 use Rattle.system.specs.Systems.{IsCovered, HasState, meaning_of}
 use Rattle.system.specs.declared.error.PointError.{PointError}
 use Rattle.system.specs.declared.error.PointError.TheVariants.{NoGeneration, NotPlanned}
 use Rattle.system.specs.declared.system.System.{System}
 
+-- A new root that holds this volume leaves as many blocks free as the next point may store, on each disk that has what is written.
+pub record LeavesRoom (disk : ℕ → List ℕ) (root : Root) (running : Volume) (writes : List Write) (new : Root) : Type 0 where
+  pub spent : ℕ
+  pub leaves : LeavesFree spent root (blocks_of disk) writes new
+  pub enough : 4 * count_nameless root.geometry.inodes running + fixed_of root.geometry.blocks + spent
+      ≤ free_under (whole (blocks_of disk) root).active root.geometry.blocks
+
 -- A point is planned over a disk with this root in this slot, and none of it is written: its root covers this epoch, comes into the
--- other slot, and leads to the running volume; and this is done with the snapshots.
+-- other slot, and leads to the running volume; and this is done with the snapshots. It leaves as many blocks free as the next one may
+-- store.
 pub record IsPlannedOver (step : SnapshotStep) (disk : ℕ → List ℕ) (root : Root) (slot epoch : ℕ) (p : Planned) (new : Root) (running : Volume) : Type 0 where
   pub bytes : p.root ≡ root_bytes new
   pub other : p.slot ≡ other_slot slot
   pub covers : new.generation ≡ epoch
   pub fits : FitsDisk (8 * root.geometry.blocks) p
   pub point : IsPointWith step root disk (writes_of p.blocks) p.slot new running
+  pub room : LeavesRoom disk root running (writes_of p.blocks) new
 
--- how many blocks are free under the settled root, behind the two that hold the roots
-abbrev pub free_blocks : BlockMap → ℕ
-free_blocks m = free_below m.parts.items m.count - free_below m.parts.items 2
-
--- A system is filled: its root leaves fewer blocks free than a consistency point of what memory has may take.
-abbrev pub IsFilled : {S : Type 0} {G : Ghosts S} → System S G → Type 0
-IsFilled f = free_blocks f.map < point_nodes f.root f.inodes f.map.count
-
--- the same where a change of the snapshots stores blocks, too
-abbrev pub IsFilledFor : {S : Type 0} {G : Ghosts S} → SnapshotChange → System S G → Type 0
-IsFilledFor change f = free_blocks f.map < point_nodes f.root f.inodes f.map.count + head_nodes change
+-- The disk has room for a point that does this with the snapshots: always, but where one is taken only if it has room for that.
+abbrev pub HasRoomToStep : {S : Type 0} {G : Ghosts S} → SnapshotChange → System S G → Type 0
+HasRoomToStep (Take slot order name) f = HasRoomToTake f
+HasRoomToStep change f = Unit {0}
 
 -- what is asked of the snapshots is this step, and the disk that a system reads allows it
 pub record IsStepFor {S : Type 0} {G : Ghosts S} (change : SnapshotChange) (f : System S G) (step : SnapshotStep) : Type 0 where
@@ -73,22 +77,21 @@ abbrev pub StaysAt : {S : Type 0} {G : Ghosts S} → (f : System S G) → (table
     → HasState f table s → State → Type 0
 StaysAt f table s serves t = t ≡ s
 
--- What a consistency point does to a system, behind which it serves such a state; it is refused for want of place only where the
--- system was too full.
+-- What a consistency point does to a system, behind which it serves such a state; over a disk with room it is never refused for space.
 pub record MakesPoint {S : Type 0} {G : Ghosts S}
     (Leads : (f : System S G) → (table : ℕ → Option Description) (s : State) → HasState f table s → State → Type 0)
-    (IsFull : System S G → Type 0) (old new : System S G) (result : Result (Unit {0}) PointError) : Type 0 where
+    (IsRoomy : System S G → Type 0) (old new : System S G) (result : Result (Unit {0}) PointError) : Type 0 where
   pub counted : Counted (meaning_of old) (meaning_of new) (point_failed result)
   pub any_moment : (table : ℕ → Option Description) (s : State) → (serves : HasState old table s) → (t : State) → Leads old table s serves t
-      → LeavesOnly (meaning_of old) (meaning_of new) (λ c. OpensTo (meaning_of old) s c ⊎ OpensTo (meaning_of old) t c)
+      → IsRoomy old → LeavesOnly (meaning_of old) (meaning_of new) (λ c. OpensTo (meaning_of old) s c ⊎ OpensTo (meaning_of old) t c)
   pub covered : (table : ℕ → Option Description) (s : State) → (serves : HasState old table s) → (t : State) → Leads old table s serves t
-      → OnOk result (IsCovered new table t)
+      → IsRoomy old → OnOk result (IsCovered new table t)
   pub refused : (table : ℕ → Option Description) (s : State) → HasState old table s → IfErr result (λ e. IsRefused e → HasState new table s)
   pub kept : IfErr result (λ e. IsRefused e → Goes Unchanged (meaning_of old) (meaning_of new))
   pub unlogged : LogsNothing (meaning_of old) (meaning_of new)
   pub generation : OnOk result (new.root.generation ≡ old.log.epoch)
   pub log : MatchResult result (λ _. new.log ≡ record old.log { epoch = old.log.epoch + 1; end = Unopened }) (λ _. new.log ≡ old.log)
   pub unchanged : OnOk result ((n : ℕ) → IsChanged new.inodes n → ⊥)
-  pub full : IsErrOf result (NotPlanned NoSpace) → IsFull old × IsFull new
+  pub roomy : (table : ℕ → Option Description) (s : State) → HasState old table s → IsRoomy old → IsErrOf result (NotPlanned NoSpace) → ⊥
   pub damaged : (table : ℕ → Option Description) (s : State) → HasState old table s → IsErrOf result (NotPlanned Damaged) → ⊥
   pub last : (table : ℕ → Option Description) (s : State) → HasState old table s → IsErrOf result NoGeneration → 2 ^ 62 ≤ old.log.epoch

@@ -1,18 +1,25 @@
--- What a mounted system has beside its newest root, and the room of its disk.
-use Rattle.std.specs.Prelude.{ℕ, zero, suc, ◌+◌, ◌==◌, if◌then◌else◌}
+-- The room of a mounted system's disk.
+use Rattle.std.specs.Prelude.{◌+◌, ◌*◌, ◌≤◌}
 use Rattle.station.specs.declared.station.Station.{Ghosts}
-use Rattle.images.specs.BlockMap.{entry}
-use Rattle.images.specs.Roots.{HeldTree}
-use Rattle.inofile.specs.Inodes.{HasNoChange}
-use Rattle.system.specs.Serving.{HasEmptyLog}
+use Rattle.model.specs.Records.{Change, work_of}
+use Rattle.model.specs.Room.{Need, Work, nothing, logs, a_snapshot, cost, keep, fixed_of}
+use Rattle.model.specs.Volumes.{Volume}
 use Rattle.system.specs.declared.system.System.{System}
 
--- a system has nothing that its root doesn't hold: no record of its own in the log, and no object in memory that is changed
-pub record HasNothingNew {S : Type 0} {G : Ghosts S} (f : System S G) : Type 0 where
-  pub log : HasEmptyLog f
-  pub settled : HasNoChange f.inodes
+-- the disk has room for this work, beside all that a consistency point may store already and what stays free behind it
+abbrev pub HasRoomForWork : {S : Type 0} {G : Ghosts S} → System S G → Work → Type 0
+HasRoomForWork f work = f.pledged + cost work + fixed_of f.root.geometry.blocks + keep work ≤ f.free
 
--- how many of the first so many blocks are free in the map of a tree: their entries are 0
-abbrev pub free_under : HeldTree → ℕ → ℕ
-free_under t zero = 0
-free_under t (suc b) = free_under t b + (if entry t b == 0 then 1 else 0)
+-- the disk has room for a record, beside all that a consistency point may store already, whatever stays free behind it
+abbrev pub HasRoomToLog : {S : Type 0} {G : Ghosts S} → System S G → Change → Type 0
+HasRoomToLog f change = (v : Volume) → f.pledged + cost (work_of v change) + fixed_of f.root.geometry.blocks ≤ f.free
+
+-- the disk has room for a snapshot: for a consistency point, and for the one that takes it
+abbrev pub HasRoomToTake : {S : Type 0} {G : Ghosts S} → System S G → Type 0
+HasRoomToTake f = f.pledged + 2 * fixed_of f.root.geometry.blocks + 1 ≤ f.free
+
+-- the disk has room for what a call needs
+abbrev pub HasRoomForNeed : {S : Type 0} {G : Ghosts S} → System S G → Need → Type 0
+HasRoomForNeed f nothing = Unit {0}
+HasRoomForNeed f (logs work) = HasRoomForWork f work
+HasRoomForNeed f a_snapshot = HasRoomToTake f

@@ -1,5 +1,5 @@
 -- What calls do to a system.
-use Rattle.std.specs.Prelude.{◌≡◌, ◌⊎◌, ◌+◌, ◌≢◌, ◌∷◌, ◌++◌, List, [], IsFalse, Result, Ok, IfOk, IfErr, IsErrOf, MatchResult}
+use Rattle.std.specs.Prelude.{◌≡◌, ◌⊎◌, ◌+◌, ◌<◌, ◌≢◌, ◌∷◌, ◌++◌, List, [], IsFalse, Result, Ok, IfOk, IfErr, IsErrOf, MatchResult}
 use Rattle.station.specs.Images.{Unchanged}
 use Rattle.station.specs.Moments.{Meaning, Goes, LeavesOnly}
 use Rattle.station.specs.declared.station.Station.{Ghosts}
@@ -12,16 +12,18 @@ use Rattle.model.specs.declared.reply.Reply.{Reply}
 use Rattle.model.specs.declared.reply.Reply.TheVariants.{Refused}
 use Rattle.model.specs.Circumstances.{IsSure}
 use Rattle.model.specs.Records.{Change, work_of}
-use Rattle.model.specs.Room.{Need, Room, nothing, logs, a_snapshot}
+use Rattle.model.specs.Room.{Need, Room, Work, nothing, logs, a_snapshot, cost, keep, fixed_of}
 use Rattle.model.specs.States.{State}
 use Rattle.model.specs.Steps.{WouldStep}
 use Rattle.model.specs.Volumes.{Volume}
+use Rattle.inofile.specs.Inodes.{HasNoChange}
 use Rattle.oplog.specs.LogEnd.{next_of}
 use Rattle.system.specs.Counting.{Counted, call_failed}
 use Rattle.system.specs.Images.{OpensTo}
-use Rattle.system.specs.Systems.{HasState, meaning_of}
+use Rattle.system.specs.Room.{HasRoomForNeed}
+use Rattle.system.specs.Systems.{HasState, IsCovered, meaning_of}
 use Rattle.system.specs.declared.error.CallError.{CallError}
-use Rattle.system.specs.declared.error.CallError.TheVariants.{Damaged, LogFull, NotWritten}
+use Rattle.system.specs.declared.error.CallError.TheVariants.{Damaged, LogFull, NoRoom, NotWritten}
 use Rattle.system.specs.declared.system.System.{System}
 
 -- a system serves a state, with the descriptors that this has
@@ -73,13 +75,14 @@ HasLogged nothing v before after = after ≡ before
 HasLogged (logs work) v before after = (change : Change) × (work ≡ work_of v change) × (after ≡ before ++ change ∷ [])
 HasLogged a_snapshot v before after = ⊥
 
--- A call was done on a system that serves a state: it is answered so, the system serves the state that it leaves, and the log has
--- what the call needed, and nothing else.
+-- A call was done on a system that serves a state: it is answered so, the disk had room for what it needed, the system serves the state
+-- that it leaves, and the log has what the call needed, and nothing else.
 pub record IsCalled {S : Type 0} {G : Ghosts S} (old new : System S G) (s : State) (served : ServesState old s)
     (call : Command) (reply : Reply) : Type 0 where
   pub after : State
   pub need : Need
   pub step : WouldCall s call reply after need
+  pub room : HasRoomForNeed old need
   pub serves : ServesState new after
   pub logs : HasLogged need served.running served.replayed.changes serves.replayed.changes
   pub leaves : LeavesEither (meaning_of old) (meaning_of new) s after
@@ -93,10 +96,23 @@ pub record IsBrokenOff {S : Type 0} {G : Ghosts S} (old new : System S G) (s : S
   pub step : WouldCall s call reply after need
   pub leaves : LeavesEither (meaning_of old) (meaning_of new) s after
 
+-- A call on a system at a state would change something, and the disk has no room for its work.
+pub record LacksRoom {S : Type 0} {G : Ghosts S} (f : System S G) (s : State) (call : Command) : Type 0 where
+  pub reply : Reply
+  pub after : State
+  pub work : Work
+  pub step : WouldCall s call reply after (logs work)
+  pub short : f.free < f.pledged + cost work + fixed_of f.root.geometry.blocks + keep work
+
 -- the log has no record that the root doesn't cover
 pub record HasEmptyLog {S : Type 0} {G : Ghosts S} (f : System S G) : Type 0 where
   pub epoch : f.log.epoch ≡ f.root.generation + 1
   pub end : next_of f.log.end ≡ FIRST_GATE
+
+-- a system has nothing that its root doesn't hold: no record of its own in the log, and no object in memory that is changed
+pub record HasNothingNew {S : Type 0} {G : Ghosts S} (f : System S G) : Type 0 where
+  pub log : HasEmptyLog f
+  pub settled : HasNoChange f.inodes
 
 -- a sure call may be done, and calls no device
 pub record IsSureOn {S : Type 0} {G : Ghosts S} (old new : System S G) (s : State) (call : Command) : Type 0 where
@@ -123,5 +139,7 @@ pub record Handles {S : Type 0} {G : Ghosts S} (old new : System S G) (call : Co
   pub sure : (s : State) → ServesState old s → MatchResult result
       (λ _. IsSureOn old new s call ⊎ ¬ IsSure s call) (λ _. ¬ IsSure s call)
   pub full : (s : State) → ServesState old s → IsErrOf result LogFull
-      → WouldChange s call × (HasEmptyLog old → ⊥)
+      → WouldChange s call × (HasEmptyLog old → ⊥) × (HasEmptyLog new → ⊥)
+  pub short : (s : State) → ServesState old s → IsErrOf result NoRoom
+      → LacksRoom new s call × (IsCovered old s.tree.descriptors s → IsCovered new s.tree.descriptors s)
   pub damaged : (s : State) → ServesState old s → IsErrOf result Damaged → ⊥

@@ -3,7 +3,6 @@ use Rattle.std.specs.Prelude.{ℕ, ◌≡◌, ◌≢◌, ◌+◌, ◌<◌, ◌�
 use Rattle.station.specs.Images.{Unchanged}
 use Rattle.station.specs.Moments.{Goes}
 use Rattle.station.specs.declared.station.Station.{Ghosts}
-use Rattle.model.specs.Circumstances.{IsStoring}
 use Rattle.model.specs.Paths.{Name}
 use Rattle.model.specs.Room.{Need, Room, nothing}
 use Rattle.model.specs.States.{State}
@@ -14,14 +13,12 @@ use Rattle.model.specs.declared.errno.Errno.TheVariants.{EIO}
 use Rattle.model.specs.declared.reply.Reply.TheVariants.{Done, Refused}
 use Rattle.buffers.specs.Disks.{ReadsOn}
 use Rattle.conspoint.specs.declared.error.PlanError.TheVariants as plan
-use Rattle.planning.specs.Space.{point_nodes}
 use Rattle.system.specs.Counting.{AgesBy, Counted, LogsNothing, call_failed, point_failed}
 use Rattle.system.specs.Errors.{IsRefused}
-use Rattle.system.specs.Points.{free_blocks}
 use Rattle.system.specs.Serving.{IsBrokenOff, LeavesEither, ServesState, WouldCall, WouldChange}
 use Rattle.system.specs.Systems.{IsCovered, meaning_of}
 use Rattle.system.specs.declared.error.CallError.{CallError}
-use Rattle.system.specs.declared.error.CallError.TheVariants.{Damaged, LogFull, NotWritten}
+use Rattle.system.specs.declared.error.CallError.TheVariants.{Damaged, LogFull, NoRoom, NotWritten}
 use Rattle.system.specs.declared.error.PointError.{PointError}
 use Rattle.system.specs.declared.error.PointError.TheVariants as point
 use Rattle.system.specs.declared.system.System.{System}
@@ -31,7 +28,7 @@ pub record Glances {S : Type 0} {G : Ghosts S} {T : Type 0} (old new : System S 
   pub reads : ReadsOn (meaning_of old) (meaning_of new)
   pub counted : Counted (meaning_of old) (meaning_of new) (call_failed old.log.is_stopped result)
   pub log : new.log ≡ old.log
-  pub refuses : IfErr result (λ e. (e ≢ LogFull) × (e ≢ NotWritten))
+  pub refuses : IfErr result (λ e. (e ≢ NoRoom) × (e ≢ LogFull) × (e ≢ NotWritten))
   pub serves : (s : State) → ServesState old s → ServesState new s
   pub damaged : (s : State) → ServesState old s → IsErrOf result Damaged → ⊥
 
@@ -39,15 +36,6 @@ pub record Glances {S : Type 0} {G : Ghosts S} {T : Type 0} (old new : System S 
 abbrev pub TestsTake : State → Name → Option Errno → Type 0
 TestsTake s name (Some errno) = WouldCall s (command.SnapTake name) (Refused errno) s nothing
 TestsTake s name None = WouldChange s (command.SnapTake name)
-
--- how many blocks a command's consistency point stores beside those of the tree
-abbrev pub heads_of : Command → ℕ
-heads_of (command.SnapTake name) = 1
-heads_of c = 0
-
--- A system is too full for a command: its root leaves fewer blocks free than the command's consistency point may take.
-abbrev pub IsFilledBy : {S : Type 0} {G : Ghosts S} → Command → System S G → Type 0
-IsFilledBy c f = free_blocks f.map < point_nodes f.root f.inodes f.map.count + heads_of c
 
 -- A command was done on a system at a state, and its root holds all of the state that it leaves.
 pub record IsSettled {S : Type 0} {G : Ghosts S} (old new : System S G) (s : State) (c : Command) : Type 0 where
@@ -63,10 +51,6 @@ pub record IsRefusedBy {S : Type 0} {G : Ghosts S} (old new : System S G) (s : S
   pub serves : ServesState new s
   pub goes : Goes Unchanged (meaning_of old) (meaning_of new)
 
--- a command would be done
-abbrev pub WouldSettle : State → Command → Type 0
-WouldSettle s c = (room : Room) → IsStoring room s c
-
 -- What a command that ends behind a consistency point does to a system at a state with P: all that is promised of it. It logs nothing.
 pub record Settles {S : Type 0} {G : Ghosts S} (old new : System S G) (P : State → Type 0) (c : Command) (result : Result (Result (Unit {0}) Errno) PointError) : Type 0 where
   pub counted : Counted (meaning_of old) (meaning_of new) (point_failed result)
@@ -78,6 +62,6 @@ pub record Settles {S : Type 0} {G : Ghosts S} (old new : System S G) (P : State
   pub serves : (s : State) → ServesState old s → IfErr result (λ e. IsRefused e → ServesState new s)
   pub done : (s : State) → ServesState old s → P s → IfOk result (λ r. MatchResult r (λ _. IsSettled old new s c) (IsRefusedBy old new s c))
   pub broken : (s : State) → ServesState old s → P s → IsErrOf result point.NotWritten → IsBrokenOff old new s c
-  pub full : (s : State) → ServesState old s → IsErrOf result (point.NotPlanned plan.NoSpace) → IsFilledBy c new × WouldSettle s c
+  pub roomy : (s : State) → ServesState old s → P s → IsErrOf result (point.NotPlanned plan.NoSpace) → ⊥
   pub damaged : (s : State) → ServesState old s → IsErrOf result (point.NotPlanned plan.Damaged) → ⊥
   pub last : (s : State) → ServesState old s → IsErrOf result point.NoGeneration → 2 ^ 62 ≤ old.log.epoch

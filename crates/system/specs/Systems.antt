@@ -1,5 +1,5 @@
 -- What a mounted system stands for.
-use Rattle.std.specs.Prelude.{ℕ, ◌≡◌, List, Option, IsFalse}
+use Rattle.std.specs.Prelude.{ℕ, ◌≡◌, ◌≤◌, List, Option, IsFalse}
 use Rattle.std.specs.BTreeMap.{BTreeMap}
 use Rattle.station.specs.Moments.{Meaning, EachCut}
 use Rattle.station.specs.declared.station.Station.{Ghosts}
@@ -13,6 +13,9 @@ use Rattle.model.specs.Volumes.{Volume, IsMounted, tree_of}
 use Rattle.buffers.specs.Disks.{ShowsDisk}
 use Rattle.buffers.specs.declared.block.Block.{Block}
 use Rattle.blockmap.specs.declared.map.BlockMap.{BlockMap}
+use Rattle.images.specs.Roots.{whole}
+use Rattle.images.specs.States.{HasReserve}
+use Rattle.inofile.specs.Room.{memory_room}
 use Rattle.inofile.specs.declared.inode_file.InodeFile.{InodeFile}
 use Rattle.descriptors.specs.Fits.{FitsVolume}
 use Rattle.descriptors.specs.Tables.{table_of}
@@ -58,8 +61,8 @@ system_parts f = record {
 
 -- What a system has serves a state, over an honest station: the disk that it reads holds a volume under the newest root, the records
 -- that this root doesn't cover lead to the running volume, which memory stands for and which is the state's tree; and
--- whatever a cut may leave has that disk and those records. What these may cost a consistency point is pledged. The open files
--- are the state's, each with its size and its links.
+-- whatever a cut may leave has that disk and those records. What these may cost a consistency point is pledged: memory needs no more, and
+-- as many blocks are free, with those that every point stores. The open files are the state's, each with its size and its links.
 pub record IsServing (m : Meaning) (k : Parts) (table : ℕ → Option Description) (s : State) : Type 0 where
   pub honest : m.is_honest
   pub shows : ShowsDisk m k.kept (blocks_of m.seen.disk)
@@ -74,6 +77,8 @@ pub record IsServing (m : Meaning) (k : Parts) (table : ℕ → Option Descripti
   pub memory : IsInMemory (blocks_of m.seen.disk) k.root k.inodes k.map running
   pub goes : IsFalse k.log.is_stopped
   pub pledges : k.pledged ≡ pledged_for k.root.geometry.inodes first replayed.changes
+  pub stored : memory_room first k.inodes running ≤ k.pledged
+  pub reserved : HasReserve k.root (whole (blocks_of m.seen.disk) k.root) first replayed.changes
   pub opened : table ≡ table_of k.files
   pub fits : FitsVolume k.files running
   pub state : s ≡ state_with k.root.geometry.inodes running table snapshots

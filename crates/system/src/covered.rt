@@ -4,8 +4,7 @@ ghost use Rattle.std.specs.Prelude.{◌≡◌, ◌↔◌, ℕ, Option, IsTrue};
 ghost use Rattle.model.specs.Records as records;
 ghost use Rattle.model.specs.States.{State};
 ghost use Rattle.model.specs.Trees.{Description};
-ghost use Rattle.system.specs.Room.{HasNothingNew};
-ghost use Rattle.system.specs.Serving.{HasEmptyLog};
+ghost use Rattle.system.specs.Serving.{HasEmptyLog, HasNothingNew};
 ghost use Rattle.system.specs.Systems.{HasState, IsCovered};
 
 use crate::System;

@@ -28,6 +28,9 @@ pub enum CallError {
     /// A block that had to be read is outside its format.
     #[error("a block is outside the format")]
     Damaged,
+    /// The disk has no room for the call beside what a consistency point may store.
+    #[error("no room")]
+    NoRoom,
     /// The call's record doesn't go into the log before a consistency point.
     #[error("the log is full")]
     LogFull,

@@ -14,6 +14,7 @@ mod open_files;
 mod opening;
 mod point;
 mod reading;
+mod room;
 mod serving;
 mod settling;
 mod snapshot_reading;

@@ -4,24 +4,28 @@ ghost use Rattle.std.specs.Prelude.{◌≡◌, ◌≢◌, ◌⊎◌, ◌+◌, �
 ghost use Rattle.station.specs.Calls.{OnlyWrites};
 ghost use Rattle.station.specs.Moments.{LeavesOnly};
 ghost use Rattle.layout.specs.Record.{KeepsLimits, change_of};
-ghost use Rattle.model.specs.Records.{applied};
+ghost use Rattle.model.specs.Records.{applied, work_of};
+ghost use Rattle.model.specs.Room.{cost};
 ghost use Rattle.model.specs.States.{State};
 ghost use Rattle.model.specs.Trees.{Description};
-ghost use Rattle.model.specs.Volumes.{swept};
+ghost use Rattle.model.specs.Volumes.{Volume, swept};
 ghost use Rattle.descriptors.specs.Tables.{table_of};
 ghost use Rattle.oplog.specs.LogEnd.{HasRoomInHalf, behind_record, logged_body};
 ghost use Rattle.system.specs.Images.{OpensTo};
 ghost use Rattle.records.specs.Prepared.{IsReady};
 ghost use Rattle.system.specs.Logging.{Advances, DoesOver, WouldServe};
+ghost use Rattle.replay.specs.Costs.{KnowsFile};
+ghost use Rattle.system.specs.Room.{HasRoomForWork, HasRoomToLog};
 ghost use Rattle.system.specs.Serving.{LeavesEither};
 ghost use Rattle.system.specs.Systems.{HasState, ServesWith, meaning_of, system_parts, state_with};
 
-use crate::System;
 use crate::laws::{cuts_open, records_lead_on, served_states_open};
+use crate::serving::log_error;
+use crate::{CallError, System};
 use layout::Record;
 use oplog::AppendError;
 use records::{Prepared, commit_swept};
-use replay::cost_of;
+use replay::{cost_of, size_before};
 use station::Station;
 
 impl<S: Station> System<S> {
@@ -29,7 +33,8 @@ impl<S: Station> System<S> {
     /// it. `LogFull`, where it doesn't fit what is left of the log's half, and `NoMemory` change nothing; after `Device` the log has
     /// stopped, and whether the record counts is known at the next mount.
     pub(crate) fn log_record(&mut self, change: &Record) -> Result<(), AppendError>
-        requires { KeepsLimits (change_of change.now) }
+        requires fits { KeepsLimits (change_of change.now) }
+        requires room { HasRoomToLog self.old (change_of change.now) }
         ensures writes { OnlyWrites
             (λ e. (e ≡ AppendError.Device) × IsFalse self.old.log.is_stopped)
             (meaning_of self.old) (meaning_of self.new) result }
@@ -44,6 +49,8 @@ impl<S: Station> System<S> {
         ensures stays { (system_parts self.new
             ≡ record (system_parts self.old) { log = self.new.log; pledged = self.new.pledged })
             × OnErr result (self.new.pledged ≡ self.old.pledged) }
+        ensures pledges { (v : Volume) → OnOk result (self.new.pledged
+            ≡ self.old.pledged + cost (work_of v (change_of change.now))) }
         ensures any_moment { (table : ℕ → Option Description) (s : State)
             → (serves : HasState self.old table s)
             → Advances self.old.root.geometry.inodes serves.running table (change_of change.now)
@@ -54,7 +61,7 @@ impl<S: Station> System<S> {
         ensures logged { (table : ℕ → Option Description) (s : State)
             → (serves : HasState self.old table s)
             → Advances self.old.root.geometry.inodes serves.running table (change_of change.now)
-            → OnOk result (WouldServe self.old self.new
+            → OnOk result (WouldServe self.old self.new serves.first
             (swept table (applied (change_of change.now) serves.running))
             (serves.replayed.changes ++ change_of change.now ∷ []) table
             (state_with self.old.root.geometry.inodes
@@ -62,7 +69,7 @@ impl<S: Station> System<S> {
     {
         cuts_open();
         records_lead_on();
-        let cost = cost_of(change);
+        let cost = cost_of(change, size_before(&self.inodes, change));
         match self
             .log
             .append(self.alloc, &mut self.blocks.station, change)
@@ -76,23 +83,33 @@ impl<S: Station> System<S> {
     }
 
     /// Logs the record of a prepared change, and puts the change in force. `LogFull` where the log is in its second epoch over the
-    /// root, and a point has to come first, or where the record doesn't fit what is left of the half; that and `NoMemory` change
-    /// nothing. After `Device` the log has stopped.
-    pub(crate) fn log(&mut self, change: &Record, prepared: Prepared) -> Result<(), AppendError>
+    /// root, and a point has to come first, or where the record doesn't fit what is left of the half, and before that `NoRoom` where
+    /// the disk has no room for it; these and `NoMemory` change nothing. After `NotWritten` the log has stopped.
+    pub(crate) fn log(&mut self, change: &Record, prepared: Prepared) -> Result<(), CallError>
         requires fits { KeepsLimits (change_of change.now) }
         requires ready { IsReady self.old.inodes prepared }
         ensures writes { OnlyWrites
-            (λ e. (e ≡ AppendError.Device) × IsFalse self.old.log.is_stopped)
+            (λ e. (e ≡ CallError.NotWritten) × IsFalse self.old.log.is_stopped)
             (meaning_of self.old) (meaning_of self.new) result }
         ensures refused { IfErr result (λ e.
             (system_parts self.new ≡ record (system_parts self.old) { log = self.new.log })
-            × (e ≢ AppendError.Device
+            × (e ≢ CallError.NotWritten
             → (self.new.blocks ≡ self.old.blocks) × (self.new.log ≡ self.old.log))) }
+        ensures own { IfErr result
+            (λ e. (e ≢ CallError.NotRead) × (e ≢ CallError.Damaged)) }
         ensures opened { (self.new.root ≡ self.old.root)
             × (table_of self.new.files ≡ table_of self.old.files) }
-        ensures full { IsErrOf result AppendError.LogFull
+        ensures full { IsErrOf result CallError.LogFull
             → (self.old.log.epoch ≢ self.old.root.generation + 1)
             ⊎ (HasRoomInHalf self.old.log (length (logged_body (change_of change.now))) → ⊥) }
+        ensures short { (table : ℕ → Option Description) (s : State)
+            → (serves : HasState self.old table s)
+            → KnowsFile self.old.inodes (change_of change.now) → IsErrOf result CallError.NoRoom
+            → HasRoomForWork self.new (work_of serves.running (change_of change.now)) → ⊥ }
+        ensures room { (table : ℕ → Option Description) (s : State)
+            → (serves : HasState self.old table s)
+            → KnowsFile self.old.inodes (change_of change.now)
+            → OnOk result (HasRoomForWork self.old (work_of serves.running (change_of change.now))) }
         ensures log { (self.new.log.epoch ≡ self.old.log.epoch)
             × OnOk result (self.new.log.is_stopped ≡ self.old.log.is_stopped) }
         ensures any_moment { (table : ℕ → Option Description) (s : State)
@@ -111,10 +128,15 @@ impl<S: Station> System<S> {
             (serves.replayed.changes ++ change_of change.now ∷ [])) }
     {
         served_states_open(self);
-        if self.log.epoch() != self.root.generation.epoch_after(1) {
-            return Err(AppendError::LogFull);
+        if !self.has_room(change) {
+            return Err(CallError::NoRoom);
         }
-        self.log_record(change)?;
+        if self.log.epoch() != self.root.generation.epoch_after(1) {
+            return Err(CallError::LogFull);
+        }
+        if let Err(error) = self.log_record(change) {
+            return Err(log_error(error));
+        }
         commit_swept(&mut self.inodes, &mut self.files, prepared);
         Ok(())
     }

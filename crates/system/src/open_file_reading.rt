@@ -7,7 +7,7 @@ ghost use Rattle.records.specs.Opened.{HasNumbers};
 ghost use Rattle.descriptors.specs.Fits.{FitsVolume};
 ghost use Rattle.descriptors.specs.Tables.{table_of};
 ghost use Rattle.files.specs.Reading.{AnswersMoving};
-ghost use Rattle.system.specs.Answering.{reply_of};
+ghost use Rattle.system.specs.Answering.{answered_reply};
 ghost use Rattle.system.specs.OpenFiles.{WouldLead, is_looking_call, is_table_call};
 ghost use Rattle.system.specs.Serving.{TellsNoFault};
 
@@ -58,7 +58,7 @@ pub(crate) fn read_open_file<B: Blocks>(
     requires numbers { HasNumbers inodes.old.geometry.inodes files.old }
     ensures no_fault { IfOk result TellsNoFault }
     ensures tells { AnswersMoving B.Blocks blocks.old blocks.new inodes.old inodes.new files.old
-        files.new (λ v r. (n : ℕ) → WouldLead n v (table_of files.old) call.now (reply_of r) v
+        files.new (λ v r. (n : ℕ) → WouldLead n v (table_of files.old) call.now (answered_reply r) v
         (table_of files.new) nothing) result }
 {
     match call {

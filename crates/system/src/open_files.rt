@@ -8,7 +8,7 @@ use crate::file_change::{Doing, FileChange};
 use crate::laws::{records_lead_on, served_states_open};
 use crate::open_file_change::prepare_open_file;
 use crate::open_file_reading::{answer_from_table, read_open_file};
-use crate::serving::{answer, call_error, log_error};
+use crate::serving::{answer, call_error};
 use crate::{CallError, System};
 use files::{close, named_files_have_paths, prepare_close};
 use model::{Command, Reply};
@@ -105,7 +105,7 @@ impl<S: Station> System<S> {
                                 table.put_into(&mut self.files);
                                 Ok(reply)
                             }
-                            Err(error) => Err(log_error(error)),
+                            Err(error) => Err(error),
                         }
                     }
                     None => {

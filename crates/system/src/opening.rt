@@ -37,7 +37,7 @@ use station::Station;
 use std::alloc::Global;
 
 /// What a station has beside the blocks of its disk.
-struct Found {
+struct FoundImages {
     newest: Newest,
     saved: SavedLog,
 }
@@ -52,7 +52,7 @@ struct Mounted {
 
 /// Settles what reads give, since a cut may have left writes that a later one could take back; then finds the newest root, and
 /// reads the log over it.
-fn find<S: Station>(alloc: Global, station: &mut S) -> Result<Found, OpenError>
+fn find<S: Station>(alloc: Global, station: &mut S) -> Result<FoundImages, OpenError>
     ensures same { IsSameStation (S.meaning station.old) (S.meaning station.new) }
     ensures goes { Goes Unchanged (S.meaning station.old) (S.meaning station.new) }
     ensures device { IsErrOf result OpenError.Device
@@ -79,7 +79,7 @@ fn find<S: Station>(alloc: Global, station: &mut S) -> Result<Found, OpenError>
     let newest = newest_root(station)?;
     let root = newest.root;
     let saved = SavedLog::load(alloc, station, root.geometry, root.generation)?;
-    Ok(Found { newest, saved })
+    Ok(FoundImages { newest, saved })
 }
 
 /// Reads what memory is to have of an image, with its snapshots' roots, and replays its log.
@@ -119,7 +119,7 @@ fn read_image<B: Blocks>(
 fn open_found<S: Station>(
     alloc: Global,
     station: S,
-    found: Found,
+    found: FoundImages,
 ) -> Result<System<S>, (OpenError, S)>
     requires { IsFound found (S.meaning station) }
     ensures same { MatchResult result
@@ -150,7 +150,7 @@ fn open_found<S: Station>(
 {
     mounts_find_volumes();
     replays_keep_volumes();
-    let Found { newest, saved } = found;
+    let FoundImages { newest, saved } = found;
     let mut blocks = Buffers::new(alloc, station);
     match read_image(alloc, &mut blocks, &newest.root, saved) {
         Ok(
@@ -160,17 +160,21 @@ fn open_found<S: Station>(
                 log,
                 pledged,
             },
-        ) => Ok(System {
-            alloc,
-            blocks,
-            root: newest.root,
-            slot: newest.slot,
-            inodes,
-            map,
-            log,
-            pledged,
-            files: Descriptors::new(),
-        }),
+        ) => {
+            let free = map.free_count();
+            Ok(System {
+                alloc,
+                blocks,
+                root: newest.root,
+                slot: newest.slot,
+                inodes,
+                map,
+                log,
+                pledged,
+                free,
+                files: Descriptors::new(),
+            })
+        }
         Err(error) => Err((error, blocks.into_station())),
     }
 }

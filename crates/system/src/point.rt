@@ -2,7 +2,7 @@
 
 ghost use Rattle.std.specs.Prelude.{◌≡◌};
 ghost use Rattle.planning.specs.Changes.{FitsSlots};
-ghost use Rattle.system.specs.Points.{IsFilled, IsFilledFor, MakesPoint, StaysAt, StepsTo};
+ghost use Rattle.system.specs.Points.{HasRoomToStep, MakesPoint, StaysAt, StepsTo};
 ghost use Rattle.system.specs.Slots as slots;
 
 use crate::laws::{cuts_open, new_roots_hold};
@@ -25,10 +25,9 @@ fn other_slot(slot: u32) -> u32
 impl<S: Station> System<S> {
     /// Makes a consistency point: a new root holds the running volume and covers all records. What the system serves stays
     /// the same, also at a cut at any moment. Where it is refused, nothing changed; after `NotWritten` the system serves
-    /// nothing any more, but a cut leaves what it served. `NotPlanned(NoSpace)` comes only where the root leaves fewer blocks free
-    /// than what is stored has, each changed file counted as a whole.
+    /// nothing any more, but a cut leaves what it served. `NotPlanned(NoSpace)` doesn't come over a state that it serves.
     pub fn point(&mut self) -> Result<(), PointError>
-        ensures { MakesPoint StaysAt IsFilled self.old self.new result }
+        ensures { MakesPoint StaysAt (λ _. Unit {0}) self.old self.new result }
     {
         self.point_with(&SnapshotChange::Unchanged)
     }
@@ -37,7 +36,7 @@ impl<S: Station> System<S> {
     /// served, or that with the snapshot taken or deleted; else as `point`. A snapshot that is taken has the tree that the root holds.
     pub(crate) fn point_with(&mut self, change: &SnapshotChange<'_>) -> Result<(), PointError>
         requires { FitsSlots change.now }
-        ensures { MakesPoint (StepsTo change.now) (IsFilledFor change.now) self.old self.new result }
+        ensures { MakesPoint (StepsTo change.now) (HasRoomToStep change.now) self.old self.new result }
     {
         cuts_open();
         new_roots_hold();
@@ -64,6 +63,7 @@ impl<S: Station> System<S> {
         match carry_out(self.alloc, point, &mut self.blocks) {
             Ok((root, file)) => {
                 self.map.settle();
+                self.free = self.map.free_count();
                 self.inodes.settle(file);
                 self.root = root;
                 self.slot = slot;

@@ -3,7 +3,7 @@
 ghost use Rattle.std.specs.Prelude.{◌≡◌, IfOk, IsTrue};
 ghost use Rattle.model.specs.Steps.{is_reading_call};
 ghost use Rattle.calls.specs.Seeing.{Answers};
-ghost use Rattle.system.specs.Answering.{asks, reply_of};
+ghost use Rattle.system.specs.Answering.{asks, answered_reply};
 ghost use Rattle.system.specs.Serving.{TellsNoFault};
 
 use buffers::Blocks;
@@ -37,7 +37,7 @@ pub(crate) fn read<B: Blocks>(
     requires { IsTrue (is_reading_call call.now) }
     ensures no_fault { IfOk result TellsNoFault }
     ensures tells { Answers B.Blocks blocks.old blocks.new inodes.old inodes.new (asks call.now)
-        reply_of result }
+        answered_reply result }
 {
     match call {
         PathCall::List { path } => {

@@ -52,9 +52,9 @@ pub(crate) fn log_error(error: AppendError) -> CallError
 
 impl<S: Station> System<S> {
     /// Serves a call on the tree, on a descriptor or on a snapshot's tree, or lists the snapshots: answers it where the image
-    /// doesn't change by it, or else logs its record and puts it in force. `LogFull` only for a call that would change
-    /// something, where a consistency point has to come first. After an error nothing has changed, but for `NotWritten`: then
-    /// a cut leaves the state before the call or the one after it. A sure call is always answered.
+    /// doesn't change by it, or else logs its record and puts it in force. `NoRoom` and `LogFull` only for a call that would change
+    /// something: where the disk has no room for it, and where a consistency point has to come first. After an error nothing has
+    /// changed, but for `NotWritten`: then a cut leaves the state before the call or the one after it. A sure call is always answered.
     pub fn call(&mut self, call: &Command) -> Result<Reply, CallError>
         requires { IsCall call.now }
         ensures { Handles self.old self.new call.now result }
@@ -98,7 +98,7 @@ impl<S: Station> System<S> {
                 let Changing { change, prepared } = changing;
                 match self.log(&change.record(), prepared) {
                     Ok(()) => Ok(Reply::Done),
-                    Err(error) => Err(log_error(error)),
+                    Err(error) => Err(error),
                 }
             }
             Ok(None) => Ok(Reply::Done),

@@ -3,6 +3,7 @@
 ghost use Rattle.std.specs.Prelude.{IfOk, IfSome, ◌≢◌};
 ghost use Rattle.model.specs.States.{State};
 ghost use Rattle.model.specs.declared.command.Command.{Command};
+ghost use Rattle.system.specs.Room.{HasRoomToTake};
 ghost use Rattle.system.specs.Serving.{ServesState};
 ghost use Rattle.system.specs.Settling.{Glances, Settles, TestsTake};
 ghost use Rattle.system.specs.Systems.{IsCovered};
@@ -34,12 +35,12 @@ impl<S: Station> System<S> {
         }
     }
 
-    /// Takes a snapshot of what a covered system has, by a consistency point: Ok behind its second sync, or a refusal as of
-    /// `refuses_take`. The snapshot has the tree without open files. After an error nothing has changed, but for `NotWritten`:
-    /// then a cut leaves the state before it, or the one with the snapshot.
+    /// Takes a snapshot of what a covered system has whose disk has room for it, by a consistency point: Ok behind its second sync,
+    /// or a refusal as of `refuses_take`. The snapshot has the tree without open files. After an error nothing has changed, but for
+    /// `NotWritten`: then a cut leaves the state before it, or the one with the snapshot.
     pub fn take(&mut self, name: &Text) -> Result<Result<(), Errno>, PointError>
-        ensures { Settles self.old self.new (λ s. IsCovered self.old s.tree.descriptors s)
-            (Command.SnapTake name.now) result }
+        ensures { Settles self.old self.new (λ s. IsCovered self.old s.tree.descriptors s
+            × HasRoomToTake self.old) (Command.SnapTake name.now) result }
     {
         cuts_open();
         served_states_open(self);

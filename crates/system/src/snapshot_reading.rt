@@ -15,7 +15,7 @@ ghost use Rattle.records.specs.Failures.{told};
 ghost use Rattle.calls.specs.Refusals.{is_path_refusal};
 ghost use Rattle.images.specs.Roots.{whole};
 ghost use Rattle.images.specs.States.{Holds};
-ghost use Rattle.system.specs.Answering.{reply_of};
+ghost use Rattle.system.specs.Answering.{answered_reply};
 ghost use Rattle.system.specs.Serving.{Handles, TellsNoFault};
 
 use crate::laws::served_states_open;
@@ -50,7 +50,7 @@ fn read_within<B: Blocks>(
     ensures views { (disk : ℕ → List ℕ) → B.Shows blocks.old disk → (v : Volume)
         (pairs : List (Name × Tree)) → Holds root.now (whole disk root.now) v pairs → (s : State)
         → s.snapshots ≡ pairs → IfOk (told result) (λ r.
-        views s name.now call.now (reply_of r) s nothing) }
+        views s name.now call.now (answered_reply r) s nothing) }
     ensures damaged { (disk : ℕ → List ℕ) → B.Shows blocks.old disk → (v : Volume)
         (pairs : List (Name × Tree)) → Holds root.now (whole disk root.now) v pairs
         → IsErrOf (told result) ReadError.Damaged → ⊥ }

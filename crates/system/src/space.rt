@@ -2,12 +2,13 @@
 
 ghost use Rattle.std.specs.Prelude.{◌≡◌, ℕ, Bool, Option, IsTrue};
 ghost use Rattle.layout.specs.Places.{blocks_of};
+ghost use Rattle.model.specs.Paths.{Name};
 ghost use Rattle.model.specs.Records as records;
 ghost use Rattle.model.specs.Records.{TellsRoom};
 ghost use Rattle.model.specs.States.{State};
 ghost use Rattle.model.specs.Trees.{Description};
 ghost use Rattle.images.specs.Roots.{whole};
-ghost use Rattle.system.specs.Room.{free_under};
+ghost use Rattle.images.specs.Room.{free_under};
 ghost use Rattle.system.specs.Systems.{HasState, meaning_of};
 
 use crate::System;
@@ -33,7 +34,7 @@ impl<S: Station> System<S> {
             result.free
             ≡ free_under (whole disk self.now.root).active self.now.root.geometry.blocks }
         ensures told { (table : ℕ → Option Description) (s : State)
-            → (serves : HasState self.now table s) → (covered : Bool)
+            → (serves : HasState self.now table s) → (nameless : Name → ℕ) → (covered : Bool)
             → (IsTrue covered
             → records.CoversAll serves.first serves.running serves.replayed.changes)
             → TellsRoom self.now.root.geometry.inodes serves.first serves.running
@@ -42,11 +43,12 @@ impl<S: Station> System<S> {
               free = result.free;
               pledged = result.pledged;
               is_covered = covered;
+              nameless_of = nameless;
             }) }
     {
         Space {
             blocks: self.map.count(),
-            free: self.map.free_count(),
+            free: self.free,
             pledged: self.pledged,
         }
     }

@@ -2,6 +2,7 @@
 
 ghost use Rattle.std.specs.Prelude.{◌≡◌, ◌+◌, ◌*◌, ◌≤◌, ◌^◌};
 ghost use Rattle.layout.specs.Root.{IsRoot};
+ghost use Rattle.blockmap.specs.Maps.{free_below};
 ghost use Rattle.oplog.specs.LogEnd.{next_of};
 ghost use Rattle.records.specs.Opened.{HasNumbers};
 ghost use Rattle.replay.specs.declared.costs.TheConstants.{MOST_COST};
@@ -31,6 +32,8 @@ pub struct System<S: Station> {
     pub(crate) log: Log,
     /// Blocks that a consistency point may store for what the root doesn't cover.
     pub(crate) pledged: u64,
+    /// Blocks that are free under the root.
+    pub(crate) free: u32,
     /// The files that are open.
     pub(crate) files: Descriptors,
     ghost sectors: { (S.meaning blocks.station).sectors ≡ 8 * root.geometry.blocks },
@@ -40,6 +43,7 @@ pub struct System<S: Station> {
     ghost count: { map.count ≡ root.geometry.blocks },
     ghost clean: { IsClean map },
     ghost fresh: { map.next ≡ 2 },
+    ghost counted: { free ≡ free_below map.parts.items map.count },
     ghost few: { pledged ≤ 2 ^ 32 + MOST_COST * next_of log.end },
     ghost numbers: { HasNumbers inodes.geometry.inodes files },
     ghost is_root: { IsRoot root } by { IsRoot-prop root },

@@ -22,6 +22,14 @@ pub enum TransferError<'a> {
     IsImage {
         file: &'a str,
     },
+    /// The image has no room for the file from this byte on: so many blocks are free, and so many would be needed at the least.
+    #[error("{path}: ENOSPC at byte {offset}: {free} blocks are free and {needed} are needed")]
+    NoRoom {
+        path: &'a str,
+        offset: u64,
+        free: u64,
+        needed: u64,
+    },
     /// A call on a file in the image was refused, which begins at this byte of it.
     #[error("{path}: {errno} at byte {offset}")]
     Refused {

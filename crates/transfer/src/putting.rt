@@ -2,10 +2,14 @@
 
 use crate::error::{TransferError, at};
 use crate::progress::Progress;
-use crate::steps::{check_room, close, make_file, mount_station, remove, rename, write_part};
+use crate::steps::{
+    NAMING_COST, Shortage, close, find_shortage, make_file, mount_station, remove, rename,
+    write_part, writing_cost,
+};
 use crate::target::{Target, find_target};
 use crate::what::Transfer;
 use host_files::{FileError, on, open_station};
+use layout::INLINE_BYTES;
 use model::{Errno, GREATEST_FILE, TRANSFER_BYTES};
 use mount::Fs;
 use station::{BLOCK_BYTES, Station};
@@ -59,11 +63,9 @@ fn put_from<'a, R: Files<File = File> + AllocGlobal, I: Read, E: Write>(
     let left = remove(rt.alloc(), &mut fs, target.unfinished.as_slice());
     at(what.path, 0, left)?;
     if let Some(size) = size {
-        at(
-            what.path,
-            0,
-            check_room(&mut fs, size.div_ceil(BLOCK_BYTES as u64)),
-        )?;
+        // Its name comes behind its blocks. What tells where these are, and the writes, may need more.
+        let call = blocks_of(size).saturating_add(NAMING_COST);
+        check_room(&mut fs, what.path, 0, call)?;
     }
     let stored = store(rt.alloc(), &mut fs, &target, what, reader, progress);
     if stored.is_err() {
@@ -81,6 +83,47 @@ fn check_size<'a>(path: &'a str, size: Option<u64>) -> Result<(), TransferError<
     }
 }
 
+/// The blocks that a file's bytes take: none where they stand in its inode.
+fn blocks_of(size: u64) -> u64 {
+    if size <= INLINE_BYTES as u64 {
+        0
+    } else {
+        size.div_ceil(BLOCK_BYTES as u64)
+    }
+}
+
+/// Refuses what has no room from this byte on, where a call needs so many blocks beside what is pledged.
+fn check_room<'a, S: Station>(
+    fs: &mut Fs<S>,
+    path: &'a str,
+    offset: u64,
+    call: u64,
+) -> Result<(), TransferError<'a>> {
+    match at(path, offset, find_shortage(fs, call))? {
+        Some(Shortage { free, needed }) => Err(TransferError::NoRoom {
+            path,
+            offset,
+            free,
+            needed,
+        }),
+        None => Ok(()),
+    }
+}
+
+/// Names the place of a call that was refused, and where that is for want of room, how much this call needs.
+fn with_room<'a, S: Station, T>(
+    fs: &mut Fs<S>,
+    path: &'a str,
+    offset: u64,
+    call: u64,
+    answer: Result<T, Errno>,
+) -> Result<T, TransferError<'a>> {
+    if let Err(Errno::ENOSPC) = answer {
+        check_room(fs, path, offset, call)?;
+    }
+    at(path, offset, answer)
+}
+
 /// Collects what a reader gives in a new file, and gives that its name.
 fn store<'a, S: Station, I: Read, E: Write>(
     alloc: Global,
@@ -92,13 +135,13 @@ fn store<'a, S: Station, I: Read, E: Write>(
 ) -> Result<(), TransferError<'a>> {
     let unfinished = target.unfinished.as_slice();
     let made = make_file(alloc, fs, unfinished, target.mode);
-    let fd = at(what.path, 0, made)?;
+    let fd = with_room(fs, what.path, 0, NAMING_COST, made)?;
     let written = write_all(alloc, fs, fd, what, reader, progress);
     let closed = close(fs, fd);
     let bytes = written?;
     at(what.path, bytes, closed)?;
     let named = rename(alloc, fs, unfinished, target.path.as_slice());
-    at(what.path, bytes, named)
+    with_room(fs, what.path, bytes, NAMING_COST, named)
 }
 
 /// Writes what a reader gives, in parts as large as one call writes, and tells how many bytes these are.
@@ -116,9 +159,10 @@ fn write_all<'a, S: Station, I: Read, E: Write>(
         if part.is_empty() {
             break;
         }
-        let behind = offset.saturating_add(part.len() as u64);
-        at(what.path, offset, write_part(fs, fd, part))?;
-        offset = behind;
+        let count = part.len();
+        let written = write_part(fs, fd, part);
+        with_room(fs, what.path, offset, writing_cost(count), written)?;
+        offset = offset.saturating_add(count as u64);
         progress.note(offset);
     }
     Ok(offset)

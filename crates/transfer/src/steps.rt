@@ -3,7 +3,7 @@
 use crate::error::TransferError;
 use model::{Access, Command, Errno, Flags, Mode, PathCall, Reply, Stat, TRANSFER_BYTES, Text};
 use mount::{Fs, mount};
-use station::Station;
+use station::{BLOCK_BYTES, Station};
 use std::alloc::Global;
 
 /// The mode of a file that is made in an empty place, as in a script: 0644.
@@ -26,6 +26,15 @@ const NEW_BYTES: Flags = Flags {
     truncates: false,
     appends: false,
 };
+
+/// Blocks that have to be free to make a file, and to give it its name: what the record may cost, and what stays free behind it.
+pub const NAMING_COST: u64 = 24 + 16;
+
+/// The same of a write of so many bytes, which begins with a block.
+pub fn writing_cost(bytes: usize) -> u64 {
+    let touched = bytes.div_ceil(BLOCK_BYTES) as u64;
+    touched.saturating_mul(2).saturating_add(6 + 16)
+}
 
 /// Mounts a station, which is let go where that fails.
 pub fn mount_station<'a, S: Station + Drop>(
@@ -184,12 +193,12 @@ pub fn rename<S: Station>(
     done(answer(fs, Command::Path(rename)))
 }
 
-/// Takes a name of a file away, where it is there. For want of room it is tried once more behind a consistency point.
+/// Takes a name of a file away, where it is there. For want of room its blocks are given back first.
 pub fn remove<S: Station>(alloc: Global, fs: &mut Fs<S>, path: &[u8]) -> Result<(), Errno> {
     match unlink(alloc, fs, path) {
         Err(Errno::ENOENT) => Ok(()),
         Err(Errno::ENOSPC) => {
-            settle(fs)?;
+            truncate(alloc, fs, path)?;
             unlink(alloc, fs, path)
         }
         answer => answer,
@@ -201,27 +210,47 @@ fn unlink<S: Station>(alloc: Global, fs: &mut Fs<S>, path: &[u8]) -> Result<(), 
     done(answer(fs, Command::Path(PathCall::Unlink { path })))
 }
 
+/// Cuts a file to no bytes.
+fn truncate<S: Station>(alloc: Global, fs: &mut Fs<S>, path: &[u8]) -> Result<(), Errno> {
+    let path = text_of(alloc, path)?;
+    done(answer(fs, Command::Path(PathCall::Truncate { path, size: 0 })))
+}
+
 /// Makes a consistency point, behind which the blocks are free that were given up before.
 fn settle<S: Station>(fs: &mut Fs<S>) -> Result<(), Errno> {
     done(answer(fs, Command::Sync))
 }
 
-/// Refuses where so many blocks aren't free, not even behind a consistency point. Where they are, more may be needed yet: for
-/// what tells a file's blocks, and for the consistency points on the way.
-pub fn check_room<S: Station>(fs: &mut Fs<S>, blocks: u64) -> Result<(), Errno> {
-    if blocks <= free_blocks(fs)? {
-        return Ok(());
-    }
-    settle(fs)?;
-    if blocks <= free_blocks(fs)? {
-        return Ok(());
-    }
-    Err(Errno::ENOSPC)
+/// What the room of a disk is short of.
+#[derive(Drop)]
+pub struct Shortage {
+    /// Blocks that are free.
+    pub free: u64,
+    /// Blocks that are needed at the least.
+    pub needed: u64,
 }
 
-fn free_blocks<S: Station>(fs: &mut Fs<S>) -> Result<u64, Errno> {
+/// Tells where so many blocks aren't free for a call beside what is pledged, not even behind a consistency point.
+pub fn find_shortage<S: Station>(fs: &mut Fs<S>, call: u64) -> Result<Option<Shortage>, Errno> {
+    if lack_of(fs, call)?.is_none() {
+        return Ok(None);
+    }
+    settle(fs)?;
+    lack_of(fs, call)
+}
+
+fn lack_of<S: Station>(fs: &mut Fs<S>, call: u64) -> Result<Option<Shortage>, Errno> {
     match answer(fs, Command::Df) {
-        Reply::Space { free, .. } => Ok(u64::from(free)),
+        Reply::Space {
+            blocks: all,
+            free,
+            pledged,
+        } => {
+            let fixed = u64::from(all.div_ceil(1024)) + 4;
+            let needed = call.saturating_add(pledged).saturating_add(fixed);
+            let free = u64::from(free);
+            Ok((free < needed).then_some(Shortage { free, needed }))
+        }
         reply => Err(refusal(&reply)),
     }
 }

@@ -2,7 +2,7 @@
 
 use crate::steps::{NEW_FILE, link_text, look_at};
 use md5::{Digest, Md5};
-use model::{Errno, Kind, LINKS_FOLLOWED, Mode, PATH_BYTES};
+use model::{Errno, FileType, LINKS_FOLLOWED, Mode, PATH_BYTES};
 use mount::Fs;
 use station::Station;
 use std::alloc::{AllocError, Global};
@@ -27,9 +27,9 @@ pub fn find_target<S: Station>(alloc: Global, fs: &mut Fs<S>, path: &str) -> Res
             return in_memory(target_at(alloc, path, Mode::new(NEW_FILE).unwrap()));
         };
         match there.kind {
-            Kind::File => return in_memory(target_at(alloc, path, there.mode)),
-            Kind::Dir => return Err(Errno::EISDIR),
-            Kind::Link => {
+            FileType::File => return in_memory(target_at(alloc, path, there.mode)),
+            FileType::Dir => return Err(Errno::EISDIR),
+            FileType::Link => {
                 let text = link_text(alloc, fs, path.as_slice())?;
                 path = in_memory(from_link(alloc, path.as_slice(), text.as_bytes()))?;
             }

@@ -17,7 +17,8 @@ use buffers::Blocks;
 use inofile::InodeFile;
 use layout::InodeNumber;
 use model::{
-    Errno, Flags, Kind, Mode, records_change_trees, volumes_are_trees, volumes_tell_fresh_numbers,
+    Errno, FileType, Flags, Mode, records_change_trees, volumes_are_trees,
+    volumes_tell_fresh_numbers,
 };
 use paths::{Parts, Place, resolve};
 use records::Failure;
@@ -100,7 +101,7 @@ fn open_object<B: Blocks>(
         return Err(Failure::Refused(Errno::EEXIST));
     }
     let stat = stat_number(alloc, inodes, blocks, number)?;
-    let Kind::File = stat.kind else {
+    let FileType::File = stat.kind else {
         return Err(Failure::Refused(Errno::EISDIR));
     };
     if !flags.truncates {

@@ -1,7 +1,7 @@
 //! Listing a directory over a path.
 
 ghost use Rattle.model.specs.Reading.{lists};
-ghost use Rattle.calls.specs.List.{reply_of};
+ghost use Rattle.calls.specs.List.{names_reply};
 ghost use Rattle.calls.specs.Seeing.{Answers};
 
 use crate::leading::lead;
@@ -20,7 +20,7 @@ pub fn list<B: Blocks>(
     path: &[u8],
 ) -> Result<Names, Failure>
     ensures { Answers B.Blocks blocks.old blocks.new inodes.old inodes.new
-        (λ t. lists t path.now) reply_of result }
+        (λ t. lists t path.now) names_reply result }
 {
     let number = lead(alloc, inodes, blocks, path, true)?;
     let found = is_directory_at(alloc, inodes, blocks, number)?;

@@ -97,21 +97,21 @@ fn stat_of(number: u32, object: &Object) -> Option<Stat>
     match object.attributes.kind {
         Kind::Directory => Some(Stat {
             number,
-            kind: model::Kind::Dir,
+            kind: model::FileType::Dir,
             mode,
             links: 1,
             size: 0,
         }),
         Kind::File => Some(Stat {
             number,
-            kind: model::Kind::File,
+            kind: model::FileType::File,
             mode,
             links: object.attributes.links,
             size: object.file.size(),
         }),
         Kind::Link => Some(Stat {
             number,
-            kind: model::Kind::Link,
+            kind: model::FileType::Link,
             mode,
             links: 1,
             size: object.file.size(),

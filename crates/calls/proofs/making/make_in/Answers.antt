@@ -11,7 +11,7 @@ use Rattle.records.specs.Failures.{told}
 use Rattle.records.specs.Prepared.{Does}
 use Rattle.records.specs.declared.failure.Failure.{Failure}
 use Rattle.records.specs.declared.prepared.Prepared.{Prepared}
-use Rattle.records.proofs.StandLaws.{looks_of_reads, looks_stays, stands_over, stands_with}
+use Rattle.records.proofs.StandLaws.{looks_beside, looks_of_reads, stands_over, stands_with}
 use Rattle.calls.specs.Changing.{made_by}
 use Rattle.calls.specs.Making.{CreatesObject, IsLeastFree, MakesIn}
 use Rattle.calls.proofs.PrepareSteps.{fails_by, follows, grants, refuses, stops, stops_later}
@@ -26,7 +26,7 @@ returns-in_err-new-clause-prepares g c = stops c.from_residual.result c.from_res
 
 pub returns-in_default-clause-prepares : goal.returns-in_default-clause-prepares
 returns-in_default-clause-prepares g c =
-    follows (looks_stays (looks_of_reads c.in_ok-new.ensures.reads) c.least_free.ensures.geometry c.least_free.ensures.volume) c.refuse_in.ensures.prepares (λ disk settled v table stands volume mounted r makes.
+    follows (looks_beside c.in_ok-new.ensures.reads c.least_free.ensures.geometry c.least_free.ensures.slots c.least_free.ensures.volume) c.refuse_in.ensures.prepares (λ disk settled v table stands volume mounted r makes.
     let inodes = c.args.inodes.now.geometry.inodes in
     let made = made_by c.args.object in
     let read = stands_over {G = g.B.Blocks} c.args.blocks.now c.new_object.new.blocks c.args.inodes.now c.new_object.ensures.reads.count (c.new_object.ensures.reads.same disk stands.shows) stands.volume in
@@ -35,34 +35,37 @@ returns-in_default-clause-prepares g c =
 pub returns-in_err-vacant-clause-prepares : goal.returns-in_err-vacant-clause-prepares
 returns-in_err-vacant-clause-prepares g c =
     stops_later c.from_residual-in_err-vacant.result c.from_residual-in_err-vacant.ensures.1
-    (looks_stays (looks_of_reads c.in_ok-new.ensures.reads) c.least_free.ensures.geometry c.least_free.ensures.volume) c.in_err-vacant.ensures.looks c.in_err-vacant.ensures.damaged
+    (looks_beside c.in_ok-new.ensures.reads c.least_free.ensures.geometry c.least_free.ensures.slots c.least_free.ensures.volume) c.in_err-vacant.ensures.looks c.in_err-vacant.ensures.damaged
 
 pub returns-then-not-vacant-clause-prepares : goal.returns-then-not-vacant-clause-prepares
-returns-then-not-vacant-clause-prepares g c = record {
-  looks = record {
-    reads = search rules;
-    geometry = c.is_vacant.ensures.looks.geometry ∙ c.least_free.ensures.geometry;
-    kept = (looks_more (looks_stays (looks_of_reads c.in_ok-new.ensures.reads) c.least_free.ensures.geometry c.least_free.ensures.volume) c.in_ok-vacant.ensures.looks).kept;
-  };
-  own = tt;
-  ready = tt;
-  does = λ disk settled v stands. tt;
-  answers = λ disk settled v table stands volume mounted. tt;
-  damaged = λ disk settled v stands is.
-      let read = stands_over c.args.blocks.now c.new_object.new.blocks c.args.inodes.now c.new_object.ensures.reads.count (c.new_object.ensures.reads.same disk stands.shows) stands.volume in
-      let now = stands_with c.new_object.new.blocks c.args.inodes.now c.least_free.new.self c.least_free.ensures.volume read in
-      let free = c.in-Some.ensures.free _ disk settled v read.volume in
-      absurd (false≢true (sym c.if-not-vacant.true ∙ c.in_ok-vacant.ensures.found disk settled v now ∙ ap (λ n. is_vacant (v n)) c.new-number.ensures ∙ ap is_vacant free));
-}
+returns-then-not-vacant-clause-prepares g c =
+    let before = looks_more (looks_beside c.in_ok-new.ensures.reads c.least_free.ensures.geometry c.least_free.ensures.slots c.least_free.ensures.volume) c.in_ok-vacant.ensures.looks in
+    record {
+      looks = record {
+        reads = search rules;
+        geometry = before.geometry;
+        needs = before.needs;
+        kept = before.kept;
+      };
+      own = tt;
+      ready = tt;
+      does = λ disk settled v stands. tt;
+      answers = λ disk settled v table stands volume mounted. tt;
+      damaged = λ disk settled v stands is.
+          let read = stands_over c.args.blocks.now c.new_object.new.blocks c.args.inodes.now c.new_object.ensures.reads.count (c.new_object.ensures.reads.same disk stands.shows) stands.volume in
+          let now = stands_with c.new_object.new.blocks c.args.inodes.now c.least_free.new.self c.least_free.ensures.volume read in
+          let free = c.in-Some.ensures.free _ disk settled v read.volume in
+          absurd (false≢true (sym c.if-not-vacant.true ∙ c.in_ok-vacant.ensures.found disk settled v now ∙ ap (λ n. is_vacant (v n)) c.new-number.ensures ∙ ap is_vacant free));
+    }
 
 pub returns-in_default-new-clause-prepares : goal.returns-in_default-new-clause-prepares
 returns-in_default-new-clause-prepares g c =
-    refuses (looks_more (looks_stays (looks_of_reads c.in_ok-new.ensures.reads) c.least_free.ensures.geometry c.least_free.ensures.volume) c.in_ok-vacant.ensures.looks) refl
+    refuses (looks_more (looks_beside c.in_ok-new.ensures.reads c.least_free.ensures.geometry c.least_free.ensures.slots c.least_free.ensures.volume) c.in_ok-vacant.ensures.looks) refl
     (λ disk settled v table stands volume mounted. inl (refl, λ takes. c.in_default-new.ensures.none takes.name))
 
 pub returns-in_err-prepared-clause-prepares : goal.returns-in_err-prepared-clause-prepares
 returns-in_err-prepared-clause-prepares g c =
-    let before = looks_more (looks_stays (looks_of_reads c.in_ok-new.ensures.reads) c.least_free.ensures.geometry c.least_free.ensures.volume) c.in_ok-vacant.ensures.looks in
+    let before = looks_more (looks_beside c.in_ok-new.ensures.reads c.least_free.ensures.geometry c.least_free.ensures.slots c.least_free.ensures.volume) c.in_ok-vacant.ensures.looks in
     let all = c.in_err-prepared.ensures in
     fails_by {X = Prepared} DIRFULL refl _ c.from_residual-in_err-prepared.result c.from_residual-in_err-prepared.ensures.1 (looks_more before all.looks) all.full
     (λ disk settled v stands is. all.damaged disk settled v (before.kept disk settled v stands) is)
@@ -73,7 +76,7 @@ returns-in_err-prepared-clause-prepares g c =
 
 pub returns-clause-prepares : goal.returns-clause-prepares
 returns-clause-prepares g c =
-    let before = looks_more (looks_stays (looks_of_reads c.in_ok-new.ensures.reads) c.least_free.ensures.geometry c.least_free.ensures.volume) c.in_ok-vacant.ensures.looks in
+    let before = looks_more (looks_beside c.in_ok-new.ensures.reads c.least_free.ensures.geometry c.least_free.ensures.slots c.least_free.ensures.volume) c.in_ok-vacant.ensures.looks in
     let made = made_by c.args.object in
     let name = c.in-Some-new.name.bytes.items in
     let n = c.new-number.result in
@@ -83,7 +86,7 @@ returns-clause-prepares g c =
     let free = ap v c.new-number.ensures ∙ c.in-Some.ensures.free _ disk settled v read.volume in
     let there = λ (k : ℕ). subst (λ (m : Made). IsObject disk k (settled n) c.in_ok-new.new (Some (node_of m))) c.as_new.ensures.says (c.in_ok-new.ensures.object disk stands.shows k (settled n)) in
     subst (λ (x : List ℕ). Does disk settled c.prepare_new.new.inodes v c.in_ok-prepared.prepared (create n c.args.parent made x)) c.deref.ensures.value
-    (c.in_ok-prepared.ensures.does disk settled v made (before.kept disk settled v stands) (ap is_vacant free) there))
+    (c.in_ok-prepared.ensures.does disk settled v made (before.kept disk settled v stands) (ap is_vacant free) there c.in_ok-new.ensures.room))
     (λ disk settled v table stands volume mounted.
     let read = stands_over {G = g.B.Blocks} c.args.blocks.now c.new_object.new.blocks c.args.inodes.now c.new_object.ensures.reads.count (c.new_object.ensures.reads.same disk stands.shows) stands.volume in
     let least : IsLeastFree c.args.inodes.now.geometry.inodes v c.in-Some.free = record {

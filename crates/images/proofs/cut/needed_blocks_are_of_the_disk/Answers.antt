@@ -1,4 +1,4 @@
-use Rattle.images.proofs.CutLaws as laws
+use Rattle.images.proofs.BehindLaws as laws
 use Rattle.images.proofs.cut.needed_blocks_are_of_the_disk.Goals as goal
 
 pub returns : goal.returns

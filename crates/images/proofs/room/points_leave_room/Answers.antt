@@ -5,5 +5,5 @@ pub returns-clause-all : goal.returns-clause-all
 returns-clause-all c = λ d e r new files root new_root sound same plan. laws.all_below d e r new files root new_root sound same plan
 
 pub returns-clause-own : goal.returns-clause-own
-returns-clause-own c = λ d e r new files root new_root sound same plan good kept none mid below firsts.
-    laws.but_own d e r new files root new_root sound same plan kept none good mid below firsts
+returns-clause-own c = λ d e r new files root new_root sound same plan good none mid below firsts.
+    laws.but_own d e r new files root new_root sound same plan none good mid below firsts

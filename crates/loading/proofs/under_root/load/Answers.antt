@@ -66,6 +66,7 @@ returns g c = record {
   unchanged = search rules;
   next = search rules;
   geometry = search rules;
+  clean = c.new-inodes.ensures.unchanged;
   numbers = search rules;
   inodes = search rules;
   loads = λ disk shows ready.

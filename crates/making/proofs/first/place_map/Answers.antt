@@ -4,6 +4,7 @@ use Rattle.conspoint.specs.Cuts.{disk_with_blocks}
 use Rattle.conspoint.specs.MapFiles.{PlansMap}
 use Rattle.blockmap.specs.Space.{left}
 use Rattle.conspoint.specs.MapFiles.{map_nodes}
+use Rattle.conspoint.specs.Space.{TakesAtMost}
 use Rattle.making.specs.Starts.{nothing}
 use Rattle.making.proofs.EmptyMapLaws.{map_file, map_on}
 use Rattle.making.proofs.first.place_map.Goals as goal
@@ -28,3 +29,8 @@ pub returns-in_err-map-clause-lacks : goal.returns-in_err-map-clause-lacks
 returns-in_err-map-clause-lacks c = λ bad.
     subst (λ (n : ℕ). left c.args.draft.now.map < n) (ap (λ (ns : List Pointer). length ns) c.deref.ensures.value ∙ c.in_ok-none.ensures.count ∙ ap map_nodes (c.map_blocks.ensures ∙ c.requires.start.parts))
     (c.in_err-map.ensures.step.lacks (search rules))
+
+pub returns-clause-takes : goal.returns-clause-takes
+returns-clause-takes c =
+    subst (λ (n : ℕ). TakesAtMost n c.args.draft.now c.store_own_map.new.draft) (ap (λ (ns : List Pointer). length ns) c.deref.ensures.value ∙ c.in_ok-none.ensures.count ∙ ap map_nodes (c.map_blocks.ensures ∙ c.requires.start.parts))
+    c.in_ok-map.ensures.step.takes

@@ -1,5 +1,6 @@
-use Rattle.std.proofs.Common.{◌∙◌, rules, arith}
+use Rattle.std.proofs.Common.{◌∙◌, ap, rules, arith}
 use Rattle.std.specs.Int.{div_ceil}
+use Rattle.blockmap.specs.Space.{left}
 use Rattle.conspoint.specs.Cuts.{disk_with_blocks}
 use Rattle.making.specs.Starts.{nothing}
 use Rattle.conspoint.proofs.DraftLemmas.{grows_twice}
@@ -36,7 +37,7 @@ returns-clause-tree c =
     let d4 = c.put.new.self in
     all_planned (record { there = said.there; others = said.others; behind = said.behind }) c.args.geometry c.blocks-2.ensures.within c.args.draft.now c.place_numbers.new.draft c.place_top.new.draft c.place_map.new.draft d4
     c.in_ok-numbers.numbers c.in_ok-top.top.0 c.in_ok-map.map first c.in_ok-numbers.ensures.file c.in_ok-numbers.ensures.numbers c.in_ok-top.ensures.file c.in_ok-top.ensures.top
-    c.in_ok-map.ensures.file c.in_ok-map.ensures.map c.place_top.ensures.step.grows c.place_map.ensures.grows c.put.ensures.step.grows c.requires.map
+    c.in_ok-map.ensures.file c.in_ok-map.ensures.map c.place_numbers.ensures.step.grows c.place_top.ensures.step.grows c.place_map.ensures.grows c.put.ensures.step.grows c.requires.map
     (λ e has. c.in_ok-put.ensures.stored e has ∙ c.in_ok-first_block.ensures.bytes)
     c.in_ok-first_block.ensures.numbers c.in_ok-first_block.ensures.map c.in_ok-first_block.ensures.directory
     (disk_with_blocks d4.blocks.items nothing) (c.written_disks_have_the_blocks.ensures.has d4.blocks.items nothing d4.drafted.planned.apart)
@@ -59,3 +60,6 @@ returns-in_err-map-clause-room c = λ bad.
     let all = empty_left blocks c.args.draft.now.map c.requires.map in
     let lacks = c.in_err-map.ensures.lacks (search rules) in
     omega (arith, all, c.in_ok-numbers.ensures.step.takes, c.in_ok-top.ensures.step.takes, lacks, map_few (div_ceil blocks 1024), c.blocks-2.ensures.within.least_blocks)
+
+pub returns-clause-takes : goal.returns-clause-takes
+returns-clause-takes c = omega (arith, c.in_ok-numbers.ensures.step.takes, c.in_ok-top.ensures.step.takes, c.in_ok-map.ensures.takes, ap left c.put.ensures.step.map)

@@ -1,11 +1,11 @@
-use Rattle.std.proofs.Common.{◌≤◌, refl, subst, sym, rules}
+use Rattle.std.proofs.Common.{ℕ, ◌≤◌, refl, subst, sym, rules}
 use Rattle.std.specs.Prelude.{All}
 use Rattle.conspoint.specs.Cuts.{disk_with_blocks}
 use Rattle.conspoint.specs.Drafts.{HasAll}
 use Rattle.conspoint.specs.Plans.{Planned}
-use Rattle.making.specs.Starts.{nothing}
-use Rattle.making.proofs.RoomLaws.{memory_alone, refused_so}
-use Rattle.making.proofs.RootLaws.{first_is, root_is}
+use Rattle.making.specs.Starts.{IsEmptyMap, nothing}
+use Rattle.making.proofs.RoomLaws.{few_given_out, memory_alone, refused_so}
+use Rattle.making.proofs.RootLaws.{first_is, reserve_is, root_is}
 use Rattle.making.proofs.first.plan_first.Goals as goal
 
 pub returns-clause-root : goal.returns-clause-root
@@ -19,6 +19,13 @@ returns-clause-holds c = λ e all.
     let d = c.plan_files.new.draft in
     let has = c.in_ok-inode_file.ensures.tree in
     c.first_roots_hold.ensures _ e has.numbers has.map (first_is _ d refl c.blocks-2.ensures.within refl has e (subst (λ (p : Planned). HasAll e p.blocks) c.into_plan-map.ensures.plan all))
+
+pub returns-clause-room : goal.returns-clause-room
+returns-clause-room c = λ e all.
+    let d = c.plan_files.new.draft in
+    let start = subst (λ (n : ℕ). IsEmptyMap n c.new-draft.result.map) c.blocks-2.ensures.value (subst (IsEmptyMap c.blocks-2.result) (sym c.new-draft.ensures.map) c.in_ok-empty_map.ensures) in
+    reserve_is _ d refl c.blocks-2.ensures.within refl c.in_ok-inode_file.ensures.tree e (subst (λ (p : Planned). HasAll e p.blocks) c.into_plan-map.ensures.plan all)
+    (few_given_out c.args.geometry.blocks c.new-draft.result d c.blocks-2.ensures.within.least_blocks start c.plan_files.ensures.grows c.in_ok-inode_file.ensures.takes)
 
 pub returns-clause-behind : goal.returns-clause-behind
 returns-clause-behind c =

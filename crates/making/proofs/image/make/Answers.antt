@@ -17,6 +17,7 @@ first g c = record {
   generation = c.in-Ok.ensures.generation;
   geometry = c.in-Ok.ensures.geometry;
   holds = c.in-Ok.ensures.holds;
+  room = c.in-Ok.ensures.room;
 }
 
 pub returns-in-Ok-write_image-clause-made : goal.returns-in-Ok-write_image-clause-made

@@ -9,6 +9,7 @@ returns g c = record {
   looks = record {
     reads = c.load.ensures.reads;
     geometry = c.load.ensures.geometry;
+    needs = c.load.ensures.needs;
     kept = λ disk settled v stands.
         stands_over c.args.blocks.now c.load.new.blocks c.load.new.self c.load.ensures.reads.count (c.load.ensures.reads.same disk stands.shows)
         (c.load.ensures.volume disk settled v stands.shows stands.volume);

@@ -1,5 +1,5 @@
 use Rattle.std.proofs.Common.{◌∙◌, sym, ap}
-use Rattle.inofile.specs.Settled.{content_of}
+use Rattle.inofile.specs.Settled.{content_of_object}
 use Rattle.paths.specs.Steps.{found_in}
 use Rattle.paths.proofs.LookingUp.{fails, finds}
 use Rattle.paths.proofs.Objects.{found_is}
@@ -17,4 +17,4 @@ returns g c = finds c.in_ok-load.ensures.looks c.load.ensures.loads tt (λ disk 
     let o = c.in-Some.object.now in
     let now = c.load.ensures.looks.kept disk settled v stands in
     let is_object = c.in-Some.ensures.stands _ disk settled v now.volume in
-    c.found_by.ensures ∙ found_is o.attributes.kind c.load.new.inodes.geometry.inodes (content_of disk o) (v c.args.number) is_object.stands)
+    c.found_by.ensures ∙ found_is o.attributes.kind c.load.new.inodes.geometry.inodes (content_of_object disk o) (v c.args.number) is_object.stands)

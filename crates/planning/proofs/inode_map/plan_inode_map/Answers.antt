@@ -11,12 +11,11 @@ use Rattle.inode.specs.Files.{IsAsHeld, byte_at, file_block}
 use Rattle.layout.specs.declared.inode.Inode.{Inode}
 use Rattle.model.specs.Volumes.{Volume}
 use Rattle.placement.specs.Files.{is_one}
-use Rattle.placement.specs.Space.{file_nodes, file_stores}
+use Rattle.placement.specs.Space.{file_stores}
 use Rattle.planning.specs.Plans.{IsInodeMapOn}
 use Rattle.planning.specs.Space.{CountsBlocks, map_stores}
 use Rattle.planning.specs.Steps.{IsOverTree, settled_tree}
 use Rattle.conspoint.proofs.SpaceLemmas.{same_left}
-use Rattle.planning.proofs.SpaceLaws.{stores_within}
 use Rattle.planning.proofs.JoinLaws.{map_planned, map_stays, marked_over}
 use Rattle.conspoint.proofs.DraftLemmas.{grows_twice, taken_later}
 use Rattle.planning.proofs.OwnLaws.{IsMapOver, held_bytes, inode_is, kind_of, map_over, map_size_is}
@@ -25,8 +24,7 @@ use Rattle.planning.proofs.inode_map.plan_inode_map.Given.{Over}
 use Rattle.planning.proofs.inode_map.plan_inode_map.Goals as goal
 use Rattle.planning.proofs.inode_map.plan_inode_map.Goals.{In_ok-put_parts}
 use Rattle.images.proofs.EmptyLaws.{held_inode}
-use Rattle.planning.proofs.PromiseLaws.{plans_after, plans_err, plans_file, plans_marks, plans_out, plans_read, plans_reads, plans_rise, plans_then, plans_unread, read_of}
-use Rattle.std.specs.Int.{div_ceil}
+use Rattle.planning.proofs.PromiseLaws.{parts_of, plans_after, plans_err, plans_file, plans_marks, plans_out, plans_read, plans_reads, plans_then, plans_unread, read_of}
 use Rattle.images.specs.Sums.{sum_below}
 
 pub returns-in_err-settled-clause-damaged : goal.returns-in_err-settled-clause-damaged
@@ -116,13 +114,7 @@ returns-clause-planned g c = λ disk settled v before found shows memory no_hole
     })
     (c.in_ok-put_inode.ensures.put disk shown_last) (c.in_ok-put_inode.ensures.whole disk shown_last) c.in_ok-put_inode.ensures.long
 
--- no more of the file is stored than there is of it
-few_nodes : (g : Over) (c : In_ok-put_parts g) → file_stores c.put_parts.new.file ≤ file_nodes (div_ceil c.args.inodes.now.geometry.inodes 8)
-few_nodes g c =
-    let size = ap file_nodes (c.put_parts.ensures.file.size ∙ c.in_ok-object.ensures.size ∙ c.in_ok-settled.ensures.size) in
-    omega (arith, size, stores_within c.put_parts.new.file)
-
--- and no more than counts
+-- no more of the file is stored than counts
 few_counted : (g : Over) (c : In_ok-put_parts g) (disk : ℕ → List ℕ) (settled : ℕ → Inode) (v : Volume) (before : ℕ → ℕ) → g.B.Blocks.Shows c.args.blocks.now disk
     → IsOverTree (g.B.Blocks.count c.args.blocks.now) disk settled c.args.inodes.now v before → (w : ℕ → ℕ) → CountsBlocks w c.args.inodes.now.numbers.bytes.items (nodes.file_block (held disk (settled 1)))
     → file_stores c.put_parts.new.file ≤ map_stores w c.args.inodes.now
@@ -156,42 +148,39 @@ returns-clause-stores g c = λ disk settled v before shows memory w counts.
 
 pub returns-in_err-settled-clause-step : goal.returns-in_err-settled-clause-step
 returns-in_err-settled-clause-step g c =
-    plans_err c.from_residual.result c.from_residual.ensures.1 (plans_read c.in_err-settled.ensures.reads c.in_err-settled.ensures.why)
+    parts_of {n = 0} (plans_err c.from_residual.result c.from_residual.ensures.1 (plans_read c.in_err-settled.ensures.reads c.in_err-settled.ensures.why))
 
 pub returns-in_err-object-clause-step : goal.returns-in_err-object-clause-step
 returns-in_err-object-clause-step g c =
-    plans_after c.in_ok-settled.ensures.reads (plans_out c.from_residual-in_err-object.result c.from_residual-in_err-object.ensures.1)
+    parts_of {n = 0} (plans_after c.in_ok-settled.ensures.reads (plans_out c.from_residual-in_err-object.result c.from_residual-in_err-object.ensures.1))
 
 pub returns-in_err-is_there-clause-step : goal.returns-in_err-is_there-clause-step
 returns-in_err-is_there-clause-step g c =
-    plans_after c.in_ok-settled.ensures.reads (plans_unread c.from_residual-in_err-is_there.result c.from_residual-in_err-is_there.ensures.1 c.in_err-is_there.ensures.reads)
+    parts_of {n = 0} (plans_after c.in_ok-settled.ensures.reads (plans_unread c.from_residual-in_err-is_there.result c.from_residual-in_err-is_there.ensures.1 c.in_err-is_there.ensures.reads))
 
 pub returns-then-is_there-clause-step : goal.returns-then-is_there-clause-step
-returns-then-is_there-clause-step g c = plans_after c.in_ok-settled.ensures.reads (plans_reads c.in_ok-is_there.ensures.reads)
+returns-then-is_there-clause-step g c =
+    parts_of {n = 0} (plans_after c.in_ok-settled.ensures.reads (plans_reads c.in_ok-is_there.ensures.reads))
 
 pub returns-in_err-put_parts-clause-step : goal.returns-in_err-put_parts-clause-step
 returns-in_err-put_parts-clause-step g c =
-    plans_after c.in_ok-settled.ensures.reads (plans_after (read_of c.in_ok-is_there.ensures.reads) (plans_unread c.from_residual-in_err-put_parts.result c.from_residual-in_err-put_parts.ensures.1 c.in_err-put_parts.ensures.reads))
+    parts_of {n = 0} (plans_after c.in_ok-settled.ensures.reads (plans_after (read_of c.in_ok-is_there.ensures.reads) (plans_unread c.from_residual-in_err-put_parts.result c.from_residual-in_err-put_parts.ensures.1 c.in_err-put_parts.ensures.reads)))
 
 pub returns-in_err-placed-clause-step : goal.returns-in_err-placed-clause-step
 returns-in_err-placed-clause-step g c =
-    let few = few_nodes g (goal.at.returns-in_err-placed-clause-step g c).In_ok-put_parts in
-    plans_after c.in_ok-settled.ensures.reads (plans_after (read_of c.in_ok-is_there.ensures.reads) (plans_after (read_of c.in_ok-put_parts.ensures.reads) (plans_err c.from_residual-in_err-placed.result c.from_residual-in_err-placed.ensures.1 (plans_rise (plans_file c.in_err-placed.ensures.step) few))))
+    parts_of (plans_after c.in_ok-settled.ensures.reads (plans_after (read_of c.in_ok-is_there.ensures.reads) (plans_after (read_of c.in_ok-put_parts.ensures.reads) (plans_err c.from_residual-in_err-placed.result c.from_residual-in_err-placed.ensures.1 (plans_file c.in_err-placed.ensures.step)))))
 
 pub returns-in_err-mark_placed-clause-step : goal.returns-in_err-mark_placed-clause-step
 returns-in_err-mark_placed-clause-step g c =
-    let few = few_nodes g (goal.at.returns-in_err-mark_placed-clause-step g c).In_ok-put_parts in
-    plans_after c.in_ok-settled.ensures.reads (plans_after (read_of c.in_ok-is_there.ensures.reads) (plans_after (read_of c.in_ok-put_parts.ensures.reads) (plans_err c.from_residual-in_err-mark_placed.result c.from_residual-in_err-mark_placed.ensures.1 (plans_then (plans_rise (plans_file c.in_ok-placed.ensures.step) few) (plans_marks c.in_err-mark_placed.ensures.step tt) (omega arith)))))
+    parts_of {n = file_stores c.put_parts.new.file} (plans_after c.in_ok-settled.ensures.reads (plans_after (read_of c.in_ok-is_there.ensures.reads) (plans_after (read_of c.in_ok-put_parts.ensures.reads) (plans_err c.from_residual-in_err-mark_placed.result c.from_residual-in_err-mark_placed.ensures.1 (plans_then (plans_file c.in_ok-placed.ensures.step) (plans_marks c.in_err-mark_placed.ensures.step tt) (omega arith))))))
 
 pub returns-in_err-put_inode-clause-step : goal.returns-in_err-put_inode-clause-step
 returns-in_err-put_inode-clause-step g c =
-    let few = few_nodes g (goal.at.returns-in_err-put_inode-clause-step g c).In_ok-put_parts in
-    plans_after c.in_ok-settled.ensures.reads (plans_after (read_of c.in_ok-is_there.ensures.reads) (plans_after (read_of c.in_ok-put_parts.ensures.reads) (plans_then {n = file_nodes (div_ceil c.args.inodes.now.geometry.inodes 8)} (plans_then (plans_rise (plans_file c.in_ok-placed.ensures.step) few) (plans_marks c.in_ok-mark_placed.ensures.step c.in_ok-mark_placed.ensures.marked.others) (omega arith)) (plans_unread {n = 0} c.from_residual-in_err-put_inode.result c.from_residual-in_err-put_inode.ensures.1 c.in_err-put_inode.ensures.reads) (omega arith))))
+    parts_of {n = file_stores c.put_parts.new.file} (plans_after c.in_ok-settled.ensures.reads (plans_after (read_of c.in_ok-is_there.ensures.reads) (plans_after (read_of c.in_ok-put_parts.ensures.reads) (plans_then {n = file_stores c.put_parts.new.file} (plans_then (plans_file c.in_ok-placed.ensures.step) (plans_marks c.in_ok-mark_placed.ensures.step c.in_ok-mark_placed.ensures.marked.others) (omega arith)) (plans_unread {n = 0} c.from_residual-in_err-put_inode.result c.from_residual-in_err-put_inode.ensures.1 c.in_err-put_inode.ensures.reads) (omega arith)))))
 
 pub returns-clause-step : goal.returns-clause-step
 returns-clause-step g c =
-    let few = few_nodes g (goal.at.returns-clause-step g c).In_ok-put_parts in
-    plans_after c.in_ok-settled.ensures.reads (plans_after (read_of c.in_ok-is_there.ensures.reads) (plans_after (read_of c.in_ok-put_parts.ensures.reads) (plans_then {n = file_nodes (div_ceil c.args.inodes.now.geometry.inodes 8)} (plans_then (plans_rise (plans_file c.in_ok-placed.ensures.step) few) (plans_marks c.in_ok-mark_placed.ensures.step c.in_ok-mark_placed.ensures.marked.others) (omega arith)) (plans_reads {n = 0} c.in_ok-put_inode.ensures.reads) (omega arith))))
+    parts_of {n = file_stores c.put_parts.new.file} (plans_after c.in_ok-settled.ensures.reads (plans_after (read_of c.in_ok-is_there.ensures.reads) (plans_after (read_of c.in_ok-put_parts.ensures.reads) (plans_then {n = file_stores c.put_parts.new.file} (plans_then (plans_file c.in_ok-placed.ensures.step) (plans_marks c.in_ok-mark_placed.ensures.step c.in_ok-mark_placed.ensures.marked.others) (omega arith)) (plans_reads {n = 0} c.in_ok-put_inode.ensures.reads) (omega arith)))))
 
 pub returns-in_err-put_inode-clause-file : goal.returns-in_err-put_inode-clause-file
 returns-in_err-put_inode-clause-file g c = c.put_inode.ensures.file

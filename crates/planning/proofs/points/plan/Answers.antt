@@ -19,12 +19,11 @@ use Rattle.conspoint.specs.Plans.{Planned}
 use Rattle.conspoint.specs.Space.{TakesAtMost}
 use Rattle.conspoint.specs.Writes.{writes_of}
 use Rattle.conspoint.specs.declared.draft.Draft.{Draft}
-use Rattle.conspoint.specs.declared.error.PlanError.TheVariants.{NoSpace}
 use Rattle.conspoint.proofs.DraftLemmas.{grows_twice}
 use Rattle.images.specs.Cuts.{IsPointWith, LeavesFree}
 use Rattle.images.specs.BlockMap.{entry}
 use Rattle.images.specs.Nodes.{Agrees, file_block, held}
-use Rattle.images.specs.Room.{KeepsOwn, free_under}
+use Rattle.images.specs.Room.{free_under}
 use Rattle.images.specs.Roots.{HeldTree, Needs, whole}
 use Rattle.images.specs.SnapshotSteps.{CanStep, SnapshotStep}
 use Rattle.images.proofs.EmptyLaws.{held_inode}
@@ -34,7 +33,7 @@ use Rattle.inofile.specs.declared.inode_file.InodeFile.{InodeFile}
 use Rattle.planning.specs.Changes.{IsStepOf, StepsEntries, TakesNone, head_nodes}
 use Rattle.planning.specs.Numbers.{trimmed}
 use Rattle.planning.specs.Plans.{IsPlanStart, IsPlannable, IsRootPlanned, inodes_under}
-use Rattle.planning.specs.Space.{CountsBlocks, CountsMoves, map_file_nodes, point_stores, top_nodes}
+use Rattle.planning.specs.Space.{CountsBlocks, map_file_nodes, point_stores, top_nodes}
 use Rattle.planning.specs.Steps.{settled_tree}
 use Rattle.planning.proofs.ChangeLaws.{entries_of, no_head, none_stored, one_head}
 use Rattle.planning.proofs.NeedLaws.{fixed_needs, map_moves, moves_count, point_needs}
@@ -46,10 +45,10 @@ use Rattle.planning.proofs.points.plan.Goals as goal
 use Rattle.planning.proofs.points.plan.Goals.{In-Err, In-Ok}
 
 module _ (d : ℕ → List ℕ) (r : Root) (slot generation : ℕ) (m : BlockMap) (inodes : InodeFile) (first v : Volume) (snapshots : List (Name × Tree)) (plannable : IsPlannable r d slot generation m inodes first v snapshots) where
-  -- the blocks of the inode map that the numbers count
-  told : (w : ℕ → ℕ) → CountsMoves w first v → CountsBlocks w inodes.numbers.bytes.items (file_block (held (blocks_of d) (inodes_under (blocks_of d) r 1)))
-  told w moves = subst (λ (t : HeldTree). CountsBlocks w inodes.numbers.bytes.items (file_block (t 1))) (sym (tree_is (blocks_of d) r))
-      (moves_told w r.geometry (whole (blocks_of d) r).active inodes.numbers.bytes.items first v plannable.holds.sound.active plannable.holds.holds plannable.memory.mapped moves)
+  -- the blocks of the inode map of whose numbers an object came or went
+  told : CountsBlocks (map_moves first v) inodes.numbers.bytes.items (file_block (held (blocks_of d) (inodes_under (blocks_of d) r 1)))
+  told = subst (λ (t : HeldTree). CountsBlocks (map_moves first v) inodes.numbers.bytes.items (file_block (t 1))) (sym (tree_is (blocks_of d) r))
+      (moves_told (map_moves first v) r.geometry (whole (blocks_of d) r).active inodes.numbers.bytes.items first v plannable.holds.sound.active plannable.holds.holds plannable.memory.mapped (moves_count first v))
 
   -- what a plan takes, for what memory has
   needed : inodes.geometry ≡ r.geometry → IsRoot r → point_stores (map_moves first v) r inodes m.count + 4 * count_nameless inodes.geometry.inodes v ≤ memory_room first inodes v + level_of r.inode_file.size + map_file_nodes m.count
@@ -119,7 +118,7 @@ module _ (g : Over) (c : In-Ok g) (d : ℕ → List ℕ) (first v : Volume) (sna
   need = needed d r c.args.slot c.args.generation c.args.map inodes first v snapshots plannable c.requires.sizes c.requires.root
 
   counted : CountsBlocks (map_moves first v) inodes.numbers.bytes.items (file_block (held disk (inodes_under disk r 1)))
-  counted = told d r c.args.slot c.args.generation c.args.map inodes first v snapshots plannable (map_moves first v) (moves_count first v)
+  counted = told d r c.args.slot c.args.generation c.args.map inodes first v snapshots plannable
 
   leaves_here : c.args.map.next ≡ 2 → (step : SnapshotStep) → IsStepOf c.args.change.now r step → CanStep step r (whole disk r) → (spent : ℕ)
       → memory_room first inodes v + fixed_of c.args.map.count ≤ spent + 4 * count_nameless inodes.geometry.inodes v
@@ -133,15 +132,15 @@ module _ (g : Over) (c : In-Ok g) (d : ℕ → List ℕ) (first v : Volume) (sna
       c.points_leave_room.ensures.all step (stepped step is) c.snapshots_are_what_their_bytes_spell.ensures can made.slots made.head planned.heads spent
       (taken_few draft spent fresh c.plan_root.ensures.step.grows (omega (arith, stores, number, need, most, fixed_needs r.inode_file.size c.args.map.count, one_head c.args.change.now)))
 
-  room_here : KeepsOwn r (whole disk r) → c.args.map.next ≡ 2 → (step : SnapshotStep) → IsStepOf c.args.change.now r step → TakesNone step → CanStep step r (whole disk r) → (spent : ℕ)
+  room_here : c.args.map.next ≡ 2 → (step : SnapshotStep) → IsStepOf c.args.change.now r step → TakesNone step → CanStep step r (whole disk r) → (spent : ℕ)
       → memory_room first inodes v ≤ spent + 4 * count_nameless inodes.geometry.inodes v → LeavesFree spent r disk (writes_of draft.blocks.items) c.in-Ok.root
-  room_here kept fresh step is none can spent most =
+  room_here fresh step is none can spent most =
       let made = c.in-Ok.ensures.steps step is in
       let no_block = none_stored c.args.change.now r step is none in
       let size : (held disk (inodes_under disk r 0)).inode.size ≡ r.inode_file.size = ap (λ (i : Inode). i.size) (held_inode disk (inodes_under disk r 0) ∙ start.top) in
       room_is c.inodes_are_what_their_bytes_spell.ensures.spelled c.inodes_are_what_their_bytes_spell.ensures.past c.disks_that_agree_hold_the_same.ensures.file memory d r c.in-Ok.root c.args.slot c.args.generation c.args.map
       inodes first v snapshots draft plannable c.requires.root c.in-Ok.ensures.step.root c.in-Ok.ensures.step.geometry c.in-Ok.ensures.step.generation c.requires.sizes planned.all settled
-      c.points_leave_room.ensures.own step (stepped step is) c.snapshots_are_what_their_bytes_spell.ensures can made.slots made.head planned.heads kept (no_head step r c.in-Ok.root none made.slots) spent
+      c.points_leave_room.ensures.own step (stepped step is) c.snapshots_are_what_their_bytes_spell.ensures can made.slots made.head planned.heads (no_head step r c.in-Ok.root none made.slots) spent
       (λ middle grows tells.
       taken_few middle (spent + level_of r.inode_file.size) fresh (grows_twice old planned.start middle planned.grows grows)
       (omega (arith, tells (map_moves first v) counted, planned.takes, no_block, need, most, ap (top_nodes inodes) size)))
@@ -156,24 +155,15 @@ returns-in-Ok-clause-entries g c = λ d first v snapshots shows plannable e has 
     entries_here g (goal.at.returns-in-Ok-clause-entries g c).In-Ok d first v snapshots shows plannable e (subst (λ (x : Planned). HasAll e x.blocks) c.into_plan-map.ensures.plan has) agrees b
     ∙ ap (λ (x : BlockMap). entry_at x.parts.items b) (sym c.into_plan-map.ensures.map)
 
-pub returns-in-Ok-clause-stores : goal.returns-in-Ok-clause-stores
-returns-in-Ok-clause-stores g c = λ d first v snapshots shows plannable w moves.
-    let r = c.args.root.now in
-    let m = c.args.map in
-    let s = c.args.inodes.now in
-    let begins = start g (goal.at.returns-in-Ok-clause-stores g c).In-Ok d first v snapshots shows plannable in
-    let stores = c.in-Ok.ensures.stores (blocks_of d) (inodes_under (blocks_of d) r) v (settled_at m.parts.items) shows begins.memory w (told d r c.args.slot c.args.generation m s first v snapshots plannable w moves) in
-    omega (arith, stores, ap left c.new-draft.ensures.map, ap (λ (x : BlockMap). point_stores w r s x.count) c.new-draft.ensures.map, ap left c.into_plan-map.ensures.map)
-
 pub returns-in-Ok-clause-leaves : goal.returns-in-Ok-clause-leaves
 returns-in-Ok-clause-leaves g c = λ d first v snapshots shows plannable fresh step is can spent most.
     subst (λ (x : Planned). LeavesFree spent c.args.root.now (blocks_of d) (writes_of x.blocks) c.in-Ok.root) (sym c.into_plan-map.ensures.plan)
     (leaves_here g (goal.at.returns-in-Ok-clause-leaves g c).In-Ok d first v snapshots shows plannable fresh step is can spent most)
 
 pub returns-in-Ok-clause-room : goal.returns-in-Ok-clause-room
-returns-in-Ok-clause-room g c = λ d first v snapshots shows plannable kept fresh step is none can spent most.
+returns-in-Ok-clause-room g c = λ d first v snapshots shows plannable fresh step is none can spent most.
     subst (λ (x : Planned). LeavesFree spent c.args.root.now (blocks_of d) (writes_of x.blocks) c.in-Ok.root) (sym c.into_plan-map.ensures.plan)
-    (room_here g (goal.at.returns-in-Ok-clause-room g c).In-Ok d first v snapshots shows plannable kept fresh step is none can spent most)
+    (room_here g (goal.at.returns-in-Ok-clause-room g c).In-Ok d first v snapshots shows plannable fresh step is none can spent most)
 
 -- where it fails
 module _ (g : Over) (c : In-Err g) (d : ℕ → List ℕ) (first v : Volume) (snapshots : List (Name × Tree)) (shows : g.B.Blocks.Shows c.args.blocks.now (blocks_of d))
@@ -181,27 +171,21 @@ module _ (g : Over) (c : In-Err g) (d : ℕ → List ℕ) (first v : Volume) (sn
   begins : IsPlanStart (g.B.Blocks.count c.args.blocks.now) c.new-draft.result (blocks_of d) c.args.root.now (inodes_under (blocks_of d) c.args.root.now) c.args.inodes.now v (settled_at c.args.map.parts.items)
   begins = start_is d c.args.root.now c.args.slot c.args.generation (g.B.Blocks.count c.args.blocks.now) c.args.map c.new-draft.result c.args.inodes.now first v snapshots plannable c.requires.sizes c.requires.disk c.new-draft.ensures.map c.requires.clean
 
-  short_of : (w : ℕ → ℕ) → CountsMoves w first v → c.in-Err.error ≡ NoSpace → left c.args.map < point_stores w c.args.root.now c.args.inodes.now c.args.map.count + head_nodes c.args.change.now
-  short_of w moves bad =
-      let r = c.args.root.now in
-      let m = c.args.map in
-      let s = c.args.inodes.now in
-      let short = c.in-Err.ensures.short (blocks_of d) (inodes_under (blocks_of d) r) v (settled_at m.parts.items) shows begins.memory w (told d r c.args.slot c.args.generation m s first v snapshots plannable w moves) (search rules) in
-      omega (arith, short, ap left c.new-draft.ensures.map, ap (λ (x : BlockMap). point_stores w r s x.count) c.new-draft.ensures.map)
-
 pub returns-in-Err-clause-damaged : goal.returns-in-Err-clause-damaged
 returns-in-Err-clause-damaged g c = λ d first v snapshots shows plannable bad.
     c.in-Err.ensures.damaged (blocks_of d) (inodes_under (blocks_of d) c.args.root.now) v (settled_at c.args.map.parts.items) shows
     (begins g (goal.at.returns-in-Err-clause-damaged g c).In-Err d first v snapshots shows plannable) (search rules)
 
-pub returns-in-Err-clause-short : goal.returns-in-Err-clause-short
-returns-in-Err-clause-short g c = λ d first v snapshots shows plannable w moves bad.
-    short_of g (goal.at.returns-in-Err-clause-short g c).In-Err d first v snapshots shows plannable w moves (search rules)
-
 pub returns-in-Err-clause-needs : goal.returns-in-Err-clause-needs
 returns-in-Err-clause-needs g c = λ d first v snapshots shows plannable bad.
-    let short = short_of g (goal.at.returns-in-Err-clause-needs g c).In-Err d first v snapshots shows plannable (map_moves first v) (moves_count first v) (search rules) in
-    omega (arith, short, one_head c.args.change.now, fixed_needs c.args.root.now.inode_file.size c.args.map.count, needed d c.args.root.now c.args.slot c.args.generation c.args.map c.args.inodes.now first v snapshots plannable c.requires.sizes c.requires.root)
+    let r = c.args.root.now in
+    let m = c.args.map in
+    let s = c.args.inodes.now in
+    let w = map_moves first v in
+    let start = begins g (goal.at.returns-in-Err-clause-needs g c).In-Err d first v snapshots shows plannable in
+    let short = c.in-Err.ensures.short (blocks_of d) (inodes_under (blocks_of d) r) v (settled_at m.parts.items) shows start.memory w (told d r c.args.slot c.args.generation m s first v snapshots plannable) (search rules) in
+    let few : left m < point_stores w r s m.count + head_nodes c.args.change.now = omega (arith, short, ap left c.new-draft.ensures.map, ap (λ (x : BlockMap). point_stores w r s x.count) c.new-draft.ensures.map) in
+    omega (arith, few, one_head c.args.change.now, fixed_needs r.inode_file.size m.count, needed d r c.args.slot c.args.generation m s first v snapshots plannable c.requires.sizes c.requires.root)
 
 pub plan_root-requires-clause-start : goal.plan_root-requires-clause-start
 plan_root-requires-clause-start g c = record {

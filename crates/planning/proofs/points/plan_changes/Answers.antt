@@ -6,7 +6,7 @@ use Rattle.planning.specs.Plans.{HasInodeMap}
 use Rattle.planning.specs.Steps.{IsOverTree, settled_tree}
 use Rattle.planning.proofs.StartLaws.{not_own}
 use Rattle.planning.proofs.points.plan_changes.Goals as goal
-use Rattle.planning.proofs.PromiseLaws.{file_some, file_then, plans_err, plans_rise, plans_then}
+use Rattle.planning.proofs.PromiseLaws.{file_some, file_then, parts_err, parts_of, parts_then, plans_err}
 
 pub returns-in_err-plan_numbers-clause-damaged : goal.returns-in_err-plan_numbers-clause-damaged
 returns-in_err-plan_numbers-clause-damaged g c = λ disk settled v before shows memory from start sound bad. c.in_err-plan_numbers.ensures.damaged disk settled v before shows memory from start sound (search rules)
@@ -49,14 +49,14 @@ returns-clause-stores g c = λ disk settled v before shows memory w counts.
 
 pub returns-in_err-plan_numbers-clause-step : goal.returns-in_err-plan_numbers-clause-step
 returns-in_err-plan_numbers-clause-step g c =
-    plans_err c.from_residual.result c.from_residual.ensures.1 (plans_rise c.in_err-plan_numbers.ensures.step (omega arith))
+    parts_of (plans_err c.from_residual.result c.from_residual.ensures.1 c.in_err-plan_numbers.ensures.step)
 
 pub returns-in_err-plan_inode_map-clause-step : goal.returns-in_err-plan_inode_map-clause-step
 returns-in_err-plan_inode_map-clause-step g c =
-    plans_err c.from_residual-in_err-plan_inode_map.result c.from_residual-in_err-plan_inode_map.ensures.1 (plans_then c.in_ok-plan_numbers.ensures.step c.in_err-plan_inode_map.ensures.step (omega arith))
+    parts_err c.from_residual-in_err-plan_inode_map.result c.from_residual-in_err-plan_inode_map.ensures.1 (parts_then (parts_of c.in_ok-plan_numbers.ensures.step) c.in_err-plan_inode_map.ensures.step)
 
 pub returns-clause-step : goal.returns-clause-step
-returns-clause-step g c = plans_then c.in_ok-plan_numbers.ensures.step c.in_ok-plan_inode_map.ensures.step (omega arith)
+returns-clause-step g c = parts_then (parts_of c.in_ok-plan_numbers.ensures.step) c.in_ok-plan_inode_map.ensures.step
 
 pub returns-in_err-plan_numbers-clause-file : goal.returns-in_err-plan_numbers-clause-file
 returns-in_err-plan_numbers-clause-file g c = file_some (λ i is. inr is) c.plan_numbers.ensures.file

@@ -1,4 +1,4 @@
-use Rattle.std.proofs.Common.{◌≡◌, ℕ, ◌+◌, ◌*◌, ◌/◌, ◌%◌, ◌≤◌, List, refl, ap, sym, subst, ◌∙◌, rules, arith}
+use Rattle.std.proofs.Common.{◌≡◌, ℕ, ◌*◌, ◌/◌, ◌%◌, ◌≤◌, List, refl, ap, sym, subst, ◌∙◌, rules, arith}
 use Rattle.std.specs.Int.{div_ceil}
 use Rattle.layout.specs.Inode.{inode_bytes}
 use Rattle.layout.specs.Limits.{AreSizes}
@@ -15,7 +15,7 @@ use Rattle.placement.specs.Space.{first_stores}
 use Rattle.planning.specs.Numbers.{trimmed}
 use Rattle.planning.specs.Plans.{PlansNumbers, IsPlanStart}
 use Rattle.planning.specs.Progress.{with_planned_file}
-use Rattle.planning.specs.Space.{map_file_nodes, change_nodes, top_nodes}
+use Rattle.planning.specs.Space.{map_file_nodes, top_nodes}
 use Rattle.planning.specs.Steps.{IsOverTree, settled_tree}
 use Rattle.images.proofs.EmptyLaws.{held_inode}
 use Rattle.planning.proofs.OwnLaws.{own_change}
@@ -25,7 +25,7 @@ use Rattle.planning.proofs.WholeLaws.{all_planned}
 use Rattle.planning.proofs.points.plan_files.Given.{Over}
 use Rattle.planning.proofs.points.plan_files.Goals as goal
 use Rattle.planning.proofs.points.plan_files.Goals.{After-plan_changes, In_ok-plan_changes}
-use Rattle.planning.proofs.PromiseLaws.{plans_err, plans_ok, plans_out, plans_rise, plans_then}
+use Rattle.planning.proofs.PromiseLaws.{parts_err, parts_of, parts_then, plans_err, plans_ok, plans_out}
 
 -- what the inode file is when the numbers are planned
 top_change : (g : Over) (c : In_ok-plan_changes g) (disk : ℕ → List ℕ) (settled : ℕ → Inode) (v : Volume) (before : ℕ → ℕ)
@@ -128,25 +128,19 @@ returns-clause-stores g c = λ disk settled v before shows memory w counts.
     omega (arith, stores, c.in_ok-placed.ensures.step.takes, c.in_ok-plan_last.ensures.step.takes, top, count)
 
 pub returns-in_err-top-clause-step : goal.returns-in_err-top-clause-step
-returns-in_err-top-clause-step g c = plans_out c.from_residual.result c.from_residual.ensures.1
+returns-in_err-top-clause-step g c = parts_of {n = 0} (plans_out c.from_residual.result c.from_residual.ensures.1)
 
 pub returns-in_err-plan_changes-clause-step : goal.returns-in_err-plan_changes-clause-step
-returns-in_err-plan_changes-clause-step g c =
-    plans_err c.from_residual-in_err-plan_changes.result c.from_residual-in_err-plan_changes.ensures.1 (plans_rise c.in_err-plan_changes.ensures.step (omega arith))
+returns-in_err-plan_changes-clause-step g c = parts_err c.from_residual-in_err-plan_changes.result c.from_residual-in_err-plan_changes.ensures.1 c.in_err-plan_changes.ensures.step
 
 pub returns-in_err-placed-clause-step : goal.returns-in_err-placed-clause-step
 returns-in_err-placed-clause-step g c =
-    let top = top_within g (goal.at.returns-in_err-placed-clause-step g c).After-plan_changes in
-    plans_err c.from_residual-in_err-placed.result c.from_residual-in_err-placed.ensures.1 (plans_then c.in_ok-plan_changes.ensures.step c.in_err-placed.ensures.step (omega (arith, top)))
+    parts_then c.in_ok-plan_changes.ensures.step (parts_of (plans_err c.from_residual-in_err-placed.result c.from_residual-in_err-placed.ensures.1 c.in_err-placed.ensures.step))
 
 pub returns-in_err-plan_last-clause-step : goal.returns-in_err-plan_last-clause-step
 returns-in_err-plan_last-clause-step g c =
-    let top = top_within g (goal.at.returns-in_err-plan_last-clause-step g c).After-plan_changes in
-    let count = ap map_file_nodes (c.place_top.ensures.step.grows.count ∙ c.plan_changes.ensures.step.grows.count) in
-    plans_err c.from_residual-in_err-plan_last.result c.from_residual-in_err-plan_last.ensures.1 (plans_then (plans_then {k = change_nodes c.args.inodes.now + top_nodes c.args.inodes.now c.args.root.now.inode_file.size} c.in_ok-plan_changes.ensures.step c.in_ok-placed.ensures.step (omega (arith, top))) c.in_err-plan_last.ensures.step (omega (arith, count)))
+    parts_then c.in_ok-plan_changes.ensures.step (parts_then (parts_of c.in_ok-placed.ensures.step)
+    (parts_of (plans_err c.from_residual-in_err-plan_last.result c.from_residual-in_err-plan_last.ensures.1 c.in_err-plan_last.ensures.step)))
 
 pub returns-clause-step : goal.returns-clause-step
-returns-clause-step g c =
-    let top = top_within g (goal.at.returns-clause-step g c).After-plan_changes in
-    let count = ap map_file_nodes (c.place_top.ensures.step.grows.count ∙ c.plan_changes.ensures.step.grows.count) in
-    plans_ok (plans_then (plans_then {k = change_nodes c.args.inodes.now + top_nodes c.args.inodes.now c.args.root.now.inode_file.size} c.in_ok-plan_changes.ensures.step c.in_ok-placed.ensures.step (omega (arith, top))) c.in_ok-plan_last.ensures.step (omega (arith, count)))
+returns-clause-step g c = parts_then c.in_ok-plan_changes.ensures.step (parts_then (parts_of c.in_ok-placed.ensures.step) (parts_of (plans_ok c.in_ok-plan_last.ensures.step)))

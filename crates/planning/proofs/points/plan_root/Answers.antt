@@ -7,7 +7,7 @@ use Rattle.blockmap.specs.Maps.{entry_at, settled_at}
 use Rattle.inofile.specs.Inodes.{files_of}
 use Rattle.planning.specs.Numbers.{trimmed}
 use Rattle.planning.specs.Plans.{IsAllPlanned}
-use Rattle.planning.specs.Space.{point_nodes, point_stores}
+use Rattle.planning.specs.Space.{point_stores}
 use Rattle.planning.specs.Steps.{settled_tree}
 use Rattle.planning.proofs.ChangeLaws.{head_of, heads_of, sets_of, slots_of}
 use Rattle.conspoint.proofs.DraftLemmas.{grows_twice}
@@ -16,8 +16,6 @@ use Rattle.planning.proofs.StartLaws.{WritesAll, top_fits, top_kind}
 use Rattle.planning.proofs.points.plan_root.Goals as goal
 use Rattle.planning.proofs.PromiseLaws.{read_damaged, root_stops, shortage_reads}
 use Rattle.buffers.proofs.ReadLaws.{reads_ok}
-use Rattle.conspoint.proofs.StepLemmas.{no_error}
-use Rattle.conspoint.specs.declared.error.PlanError.TheVariants.{NoSpace}
 
 pub returns-clause-planned : goal.returns-clause-planned
 returns-clause-planned g c = λ disk settled v before shows start. record {
@@ -68,27 +66,20 @@ returns-clause-stores g c = λ disk settled v before shows memory w counts.
 pub returns-in_err-slots-clause-step : goal.returns-in_err-slots-clause-step
 returns-in_err-slots-clause-step g c =
     root_stops c.from_residual.result c.from_residual.ensures.1 (shortage_reads c.in_err-slots.ensures.step.shortage) c.change_snapshots.ensures.step.grows
-    (λ full. let few = c.in_err-slots.ensures.step.lacks (search rules) in omega (arith, few))
 
 pub returns-in_err-inode_file-clause-step : goal.returns-in_err-inode_file-clause-step
 returns-in_err-inode_file-clause-step g c =
-    let count = ap (λ n. point_nodes c.args.root.now c.args.inodes.now n) c.change_snapshots.ensures.step.grows.count in
     root_stops c.from_residual-in_err-inode_file.result c.from_residual-in_err-inode_file.ensures.1 c.in_err-inode_file.ensures.step.reads (grows_twice c.args.draft.now c.change_snapshots.new.draft c.plan_files.new.draft c.change_snapshots.ensures.step.grows c.plan_files.ensures.step.grows)
-    (λ full. let few = c.in_err-inode_file.ensures.step.lacks (search rules) in omega (arith, few, c.in_ok-slots.ensures.step.takes, count))
 
 pub returns-in_err-next-clause-step : goal.returns-in_err-next-clause-step
 returns-in_err-next-clause-step g c =
     root_stops c.from_residual-in_err-next.result c.from_residual-in_err-next.ensures.1 (read_damaged c.in_err-next.ensures.why c.in_ok-inode_file.ensures.step.reads) (grows_twice c.args.draft.now c.change_snapshots.new.draft c.plan_files.new.draft c.change_snapshots.ensures.step.grows c.plan_files.ensures.step.grows)
-    (λ full. let no : ⊥ = (let why = c.in_err-next.ensures.why in cc) in absurd no)
 
 pub returns-clause-step : goal.returns-clause-step
 returns-clause-step g c =
-    let count = ap (λ n. point_nodes c.args.root.now c.args.inodes.now n) c.change_snapshots.ensures.step.grows.count in
     record {
       reads = reads_ok c.in_ok-inode_file.ensures.step.reads;
       grows = grows_twice c.args.draft.now c.change_snapshots.new.draft c.plan_files.new.draft c.change_snapshots.ensures.step.grows c.plan_files.ensures.step.grows;
-      takes = omega (arith, c.in_ok-slots.ensures.step.takes, c.in_ok-inode_file.ensures.step.takes, count);
-      lacks = λ bad. no_error NoSpace bad;
       root = c.in_ok-next.ensures.root;
       generation = c.in_ok-next.ensures.generation;
       geometry = c.in_ok-next.ensures.geometry ∙ c.in_ok-slots.ensures.geometry;

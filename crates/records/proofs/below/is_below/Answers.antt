@@ -20,6 +20,7 @@ loop-here-init g c =
       looked = record {
         read = record { count = refl; counted = refl; reads = λ start so. so; same = λ disk shows. shows };
         geometry = refl;
+        needs = λ n k le. le;
         loads = record { known = λ n is. is; room = λ n is. is; changed = λ n. (λ is. is, λ is. is) };
         kept = λ disk settled v stands. stands;
       };

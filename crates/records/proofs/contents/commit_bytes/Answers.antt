@@ -2,11 +2,18 @@ use Rattle.std.proofs.Common.{Option, subst}
 use Rattle.inode.specs.declared.object.Object.{Object}
 use Rattle.inofile.specs.Objects.{IsObjectOrNone}
 use Rattle.records.specs.Contents.{RewritesIn}
+use Rattle.records.specs.Room.{StoresIn}
 use Rattle.records.proofs.ContentLaws.{bytes_put}
+use Rattle.records.proofs.RoomLaws.{raises_to}
 use Rattle.records.proofs.contents.commit_bytes.Goals as goal
 
-pub returns-in-Some : goal.returns-in-Some
-returns-in-Some c = λ disk inodes settled found f stands is rewrites.
+pub returns-in-Some-clause-rewrites : goal.returns-in-Some-clause-rewrites
+returns-in-Some-clause-rewrites c = λ disk inodes settled found f stands is rewrites.
     let o = subst (λ (x : Option Object). IsObjectOrNone disk inodes settled x found) c.in-Some.is stands in
     let gives = subst (λ (x : Option Object). RewritesIn disk f x c.args.change) c.in-Some.is rewrites in
     bytes_put disk inodes settled c.in-Some.object found f c.args.change c.commit.new.self o is gives c.commit.ensures
+
+pub returns-in-Some-clause-room : goal.returns-in-Some-clause-room
+returns-in-Some-clause-room c = λ k stores.
+    raises_to (record { attributes = c.in-Some.object.attributes; file = c.commit.new.self }) k c.in-Some.is
+    (subst (λ (x : Option Object). StoresIn x c.args.change k) c.in-Some.is stores c.commit.new.self c.commit.ensures)

@@ -15,6 +15,7 @@ returns-in-Ok g c =
       reads = search rules;
       same = search rules;
       fits = search rules;
+      stores = told.stores;
       rewrites = λ disk shows whole.
           rewrites_same disk (resized c.args.size) old c.prepare_cut.new.self change told.same
           (subst (λ (n : ℕ). EndsAt n (byte_with disk old change)) (sym told.size) (cut_ends (byte_at disk old) (byte_with disk old change) c.args.size (told.bytes disk shows whole)))

@@ -1,7 +1,8 @@
 use Rattle.std.proofs.Common.{Option, IfOk, IfSome, sym, subst, ◌∙◌}
 use Rattle.inode.specs.declared.object.Object.{Object}
 use Rattle.inofile.specs.Objects.{IsObjectOrNone}
-use Rattle.records.specs.Contents.{RewritesIn, bytes_after}
+use Rattle.inofile.proofs.RoomLaws.{back_needs}
+use Rattle.records.specs.Contents.{RewriteRoom, RewritesIn, bytes_after}
 use Rattle.records.proofs.ContentLaws.{told_both}
 use Rattle.records.proofs.EnterLaws.{object_or_none}
 use Rattle.records.proofs.Looking.{behind, brought, fails}
@@ -23,6 +24,7 @@ returns-clause-planned g c =
       looks = record {
         reads = plan.reads;
         geometry = c.put_back.ensures.geometry ∙ take.geometry;
+        needs = back_needs s c.take-object.new.self c.put_back.new.self n c.take-object.result c.plan_object-planned.new.object plan.same take.slots take.back c.put_back.ensures.slots c.put_back.ensures.here;
         kept = λ disk settled v now.
             stands_over c.load_to_change.new.blocks c.plan_object-planned.new.blocks c.put_back.new.self plan.reads.count (plan.reads.same disk now.shows)
             (c.put_back.ensures.volume c.take-object.result count disk settled v (take.without count disk settled v now.volume) plan.same);
@@ -40,3 +42,7 @@ returns-clause-planned g c =
           (λ object some i. c.objects_stand_in_their_grammar.ensures count disk settled s v n i object (v n) now.volume
           (subst (λ (x : Option Object). IsObjectOrNone disk s.geometry.inodes (settled n) x (v n)) some o));
     }))
+
+pub returns-clause-stores : goal.returns-clause-stores
+returns-clause-stores g c =
+    rw (sym c.get-n.ensures) (subst (λ (x : Option Object). IfOk c.plan_object-planned.result (λ w. IfSome w (RewriteRoom c.args.rewrite.now x))) (sym c.put_back.ensures.loaded) c.plan_object-planned.ensures.stores)

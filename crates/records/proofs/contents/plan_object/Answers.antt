@@ -7,3 +7,6 @@ pub returns-clause-told : goal.returns-clause-told
 returns-clause-told g c = λ disk inodes settled found stands.
     let was : c.args.object.now ≡ Some c.in-Some.taken = sym c.take.ensures.value ∙ c.in-Some.is in
     c.plan_taken-planned.ensures.told disk inodes settled found (subst (λ (x : Option Object). IsObjectOrNone disk inodes settled x found) was stands)
+
+pub returns-clause-stores : goal.returns-clause-stores
+returns-clause-stores g c = c.plan_taken-planned.ensures.stores

@@ -1,12 +1,12 @@
-use Rattle.std.proofs.Common.{Option, IfSome, is_some, IsTrue, refl, ap, sym, subst, ◌∙◌}
+use Rattle.std.proofs.Common.{◌+◌, Option, IfSome, is_some, IsTrue, refl, ap, sym, subst, ◌∙◌, arith}
 use Rattle.std.proofs.lemmas.Bool.{both_ways, false≢true}
 use Rattle.model.specs.Records.{with_file_bytes}
 use Rattle.model.specs.Volumes.{Node, is_file_node, with_node}
 use Rattle.inofile.specs.Inodes.{loaded}
-use Rattle.records.specs.Contents.{RewritesIn, bytes_after}
+use Rattle.records.specs.Contents.{RewriteRoom, RewritesIn, bytes_after}
 use Rattle.records.specs.Steps.{TakesUpdate}
 use Rattle.records.specs.declared.steps.Update.TheVariants as updates
-use Rattle.records.proofs.ContentLaws.{bars_rewriting, bounds_kept, file_changed, rewriting_applied, rewriting_applies, tells_rewriting}
+use Rattle.records.proofs.ContentLaws.{bars_rewriting, bounds_kept, file_changed, rewrite_within, rewriting_applied, rewriting_applies, rewriting_knows, tells_rewriting}
 use Rattle.records.proofs.Deciding.{decides, obstructs, stops}
 use Rattle.records.proofs.StandLaws.{no_look}
 use Rattle.records.proofs.contents.prepare_bytes.Goals as goal
@@ -48,7 +48,25 @@ returns-clause-decides g c =
     let is : IsTrue (is_file_node (v n)) = sym told.0 ∙ ap is_some c.in-Some.is in
     let gives = subst (λ o. IfSome o (RewritesIn disk f (loaded s n))) c.in-Some.is told.1 in
     let w = with_node n (with_file_bytes f (v n)) v in
-    record { between = w; second = w; first = (with_file_bytes f (v n), (f, is, gives, refl), refl); next = refl; last = rewriting_applied n c.args.rewrite.now v; next_beside = tt; last_beside = tt; beside = tt })
+    let room = rewrite_within n c.args.rewrite.now (loaded s n) c.in-Some.change (subst (λ o. IfSome o (RewriteRoom c.args.rewrite.now (loaded s n))) c.in-Some.is planned.stores) in
+    record {
+      between = w;
+      second = w;
+      first = (with_file_bytes f (v n), (f, is, gives, refl), refl);
+      next = refl;
+      last = rewriting_applied n c.args.rewrite.now v;
+      next_beside = tt;
+      last_beside = tt;
+      beside = tt;
+      firsts = room.0 + 2;
+      nexts = 0;
+      lasts = 0;
+      first_room = (room.0, omega arith, room.1);
+      next_room = tt;
+      last_room = tt;
+      within = omega (arith, room.2 v);
+      knows = rewriting_knows n c.args.rewrite.now s (subst (λ o. IfSome o (λ x. TakesUpdate s n (updates.Bytes x))) c.in-Some.is planned.ready).at_hand.known;
+    })
     (λ disk settled v stands.
     rewriting_applies c.args.inodes.now.geometry.inodes v n c.args.rewrite.now (sym (planned.planned.found disk settled v stands).0 ∙ ap is_some c.in-Some.is)
     (c.keeps_bounds.ensures.0 c.if-not-keeps_bounds.false))

@@ -1,18 +1,20 @@
-use Rattle.std.proofs.Common.{◌≡◌, ℕ, ◌*◌, ◌%◌, Option, ap, sym, subst, ◌∙◌, arith}
+use Rattle.std.proofs.Common.{◌≡◌, ℕ, ◌+◌, ◌*◌, ◌%◌, Option, ap, sym, subst, ◌∙◌, arith}
 use Rattle.layout.specs.Inode.{FitsKind}
 use Rattle.layout.specs.declared.kind.Kind.{Kind}
 use Rattle.images.specs.Contents.{StandsAs}
+use Rattle.dirs.specs.Room.{piece_count}
 use Rattle.inode.specs.declared.object.Object.{Object}
 use Rattle.inofile.specs.Objects.{IsObjectOrNone}
-use Rattle.inofile.specs.Settled.{content_of}
+use Rattle.inofile.specs.Settled.{content_of_object}
 use Rattle.records.specs.Entering.{EditsIn, with_node_names}
+use Rattle.records.proofs.RoomLaws.{raises_to}
 use Rattle.records.proofs.entering.commit_edit.Goals as goal
 
 whole : (n : ℕ) → (4096 * n) % 4096 ≡ 0
 whole n = omega arith
 
-pub returns-in-Some : goal.returns-in-Some
-returns-in-Some c = λ disk inodes settled found f stands edits.
+pub returns-in-Some-clause-edits : goal.returns-in-Some-clause-edits
+returns-in-Some-clause-edits c = λ disk inodes settled found f stands edits.
     let o = subst (λ (x : Option Object). IsObjectOrNone disk inodes settled x found) c.in-Some.is stands in
     let e = subst (λ (x : Option Object). EditsIn disk inodes f found x c.args.edit) c.in-Some.is edits in
     let names = f e.names in
@@ -24,8 +26,12 @@ returns-in-Some c = λ disk inodes settled found f stands edits.
           let was = subst (λ (k : Kind). FitsKind k s c.in-Some.directory.attributes.mode c.in-Some.directory.attributes.links c.in-Some.directory.file.size) e.kind (o.fits s) in
           subst (λ (k : Kind). FitsKind k s c.in-Some.directory.attributes.mode c.in-Some.directory.attributes.links c.commit.new.file.size) (sym e.kind)
           (was.0, ap (λ (n : ℕ). n % 4096) c.commit.ensures.size ∙ whole c.args.edit.count);
-      stands = subst (λ (k : Kind). StandsAs k inodes (content_of disk after) (with_node_names f found)) (sym e.kind)
+      stands = subst (λ (k : Kind). StandsAs k inodes (content_of_object disk after) (with_node_names f found)) (sym e.kind)
           (names, c.commit.ensures.names inodes disk names e.edited, ap (with_node_names f) e.stands);
       ends = c.commit.ensures.ends disk;
       base = c.commit.ensures.base settled o.base;
     }
+
+pub returns-in-Some-clause-room : goal.returns-in-Some-clause-room
+returns-in-Some-clause-room c =
+    raises_to (record { attributes = c.in-Some.directory.attributes; file = c.commit.new.file }) (2 * piece_count c.args.edit + 3) c.in-Some.is c.commit.ensures.few.room

@@ -2,6 +2,7 @@ use Rattle.std.proofs.Common.{◌≡◌, ℕ, Option, IfOk, ap, sym, subst, ◌�
 use Rattle.layout.specs.Limits.{Sizes}
 use Rattle.inode.specs.declared.object.Object.{Object}
 use Rattle.inofile.specs.Objects.{IsObjectOrNone}
+use Rattle.inofile.proofs.RoomLaws.{back_needs}
 use Rattle.records.specs.Entering.{PreparesEdit}
 use Rattle.records.proofs.EnterLaws.{object_or_none}
 use Rattle.records.proofs.StandLaws.{stands_over}
@@ -19,6 +20,7 @@ returns-clause-edit g c =
       looks = record {
         reads = edit.reads;
         geometry = c.put_back.ensures.geometry ∙ take.geometry;
+        needs = back_needs c.args.inodes.now c.take-object.new.self c.put_back.new.self n c.take-object.result c.edit_object-edit.new.object edit.same take.slots take.back c.put_back.ensures.slots c.put_back.ensures.here;
         kept = λ disk settled v stands.
             stands_over c.args.blocks.now c.edit_object-edit.new.blocks c.put_back.new.self edit.reads.count (edit.reads.same disk stands.shows)
             (c.put_back.ensures.volume c.take-object.result count disk settled v (take.without count disk settled v stands.volume) edit.same);

@@ -2,7 +2,7 @@ use Rattle.std.proofs.Common.{◌≡◌, Option, Some, refl, sym, subst, ◌∙�
 use Rattle.std.proofs.lemmas.Bool.{both_ways}
 use Rattle.inode.specs.declared.object.Object.{Object}
 use Rattle.inofile.specs.Objects.{IsObjectOrNone, IsSameOrNone}
-use Rattle.inofile.specs.Settled.{content_of}
+use Rattle.inofile.specs.Settled.{content_of_object}
 use Rattle.records.specs.Entering.{IsDirectoryObject}
 use Rattle.records.proofs.EnterLaws.{directory_stands, edits_directory, found_directory, is_directory_object, same_object}
 use Rattle.records.proofs.entering.edit_object.Goals as goal
@@ -21,16 +21,16 @@ returns-clause-edits g c = λ disk settled found shows stands.
     let was : c.args.object.now ≡ Some c.in-Some.directory = sym c.take.ensures.value ∙ c.in-Some.is in
     let o = subst (λ (x : Option Object). IsObjectOrNone disk c.args.inodes settled x found) was stands in
     let kind = subst IsDirectoryObject was (c.is_directory.ensures.0 c.if-not-is_directory.false) in
-    let d = directory_stands c.in-Some.directory.attributes.kind c.args.inodes (content_of disk c.in-Some.directory) found kind o.stands in
+    let d = directory_stands c.in-Some.directory.attributes.kind c.args.inodes (content_of_object disk c.in-Some.directory) found kind o.stands in
     edits_directory disk c.args.inodes found (record { attributes = c.in-Some.directory.attributes; file = c.edit_file-edit.new.file }) c.args.wanted.now d.0 kind d.2 c.edit_file-edit.result
-    (c.edit_file-edit.ensures.edited disk d.0 shows d.1)
+    (c.edit_file-edit.ensures.edited disk d.0 shows d.1) c.edit_file-edit.ensures.pieces
 
 pub returns-clause-damaged : goal.returns-clause-damaged
 returns-clause-damaged g c = λ disk settled found shows is stands sound.
     let was : c.args.object.now ≡ Some c.in-Some.directory = sym c.take.ensures.value ∙ c.in-Some.is in
     let o = subst (λ (x : Option Object). IsObjectOrNone disk c.args.inodes settled x found) was stands in
     let kind = subst IsDirectoryObject was (c.is_directory.ensures.0 c.if-not-is_directory.false) in
-    let d = directory_stands c.in-Some.directory.attributes.kind c.args.inodes (content_of disk c.in-Some.directory) found kind o.stands in
+    let d = directory_stands c.in-Some.directory.attributes.kind c.args.inodes (content_of_object disk c.in-Some.directory) found kind o.stands in
     c.edit_file-edit.ensures.damaged disk d.0 shows is d.1 (λ i. sound c.in-Some.directory was i)
 
 pub returns-then-not-is_directory-clause-same : goal.returns-then-not-is_directory-clause-same

@@ -1,7 +1,7 @@
 use Rattle.std.proofs.Common.{ap, subst}
 use Rattle.images.specs.Contents.{StandsAs, content_bytes}
 use Rattle.model.specs.Volumes.{is_file_node}
-use Rattle.inofile.specs.Settled.{content_of}
+use Rattle.inofile.specs.Settled.{content_of_object}
 use Rattle.records.proofs.KindLaws.{not_file}
 use Rattle.records.proofs.links.links_of.Goals as goal
 
@@ -11,10 +11,10 @@ returns-in_default-clause-other c = λ count disk settled v volume. ap is_file_n
 pub returns-in-File-clause-file : goal.returns-in-File-clause-file
 returns-in-File-clause-file c = λ count disk settled v volume.
     let o = c.in-Some.ensures.stands count disk settled v volume in
-    let content = content_of disk c.in-Some.object.now in
+    let content = content_of_object disk c.in-Some.object.now in
     (content.mode, content_bytes content, subst (λ k. StandsAs k c.args.inodes.now.geometry.inodes content (v c.args.number)) c.in-File.is o.stands)
 
 pub returns-in_default-kind-clause-other : goal.returns-in_default-kind-clause-other
 returns-in_default-kind-clause-other c = λ count disk settled v volume.
     let o = c.in-Some.ensures.stands count disk settled v volume in
-    not_file c.in-Some.object.now.attributes.kind c.args.inodes.now.geometry.inodes (content_of disk c.in-Some.object.now) (v c.args.number) o.stands c.in_default-kind.not-File
+    not_file c.in-Some.object.now.attributes.kind c.args.inodes.now.geometry.inodes (content_of_object disk c.in-Some.object.now) (v c.args.number) o.stands c.in_default-kind.not-File

@@ -111,6 +111,14 @@ returns g c =
       next_beside = apart;
       last_beside = tt;
       beside = tt;
+      firsts = 7;
+      nexts = 6;
+      lasts = 0;
+      first_room = omega (arith, edit.2);
+      next_room = omega arith;
+      last_room = tt;
+      within = omega arith;
+      knows = tt;
     })
     (λ disk settled v stands.
     let now = loads.looks.kept disk settled v stands in

@@ -19,6 +19,7 @@ returns-in_err-prepare_set g c = record {
   looks = record {
     reads = search rules;
     geometry = search rules;
+    needs = λ n k le. c.prepare_set.ensures.needs n k (c.load.ensures.looks.needs n k le);
     kept = λ disk settled v stands. stands_with c.load.new.blocks c.load.new.inodes c.prepare_set.new.self c.prepare_set.ensures.volume (c.load.ensures.looks.kept disk settled v stands);
   };
   stays = search rules;
@@ -31,7 +32,7 @@ pub returns : goal.returns
 returns g c =
     let load = c.in_ok-load.ensures in
     record {
-      looks = looks_ok (looks_stays load.looks c.prepare_set.ensures.geometry c.prepare_set.ensures.volume);
+      looks = looks_ok (looks_stays load.looks c.prepare_set.ensures.geometry c.prepare_set.ensures.needs c.prepare_set.ensures.volume);
       stays = search rules;
       keeps = search rules;
       known = search rules;

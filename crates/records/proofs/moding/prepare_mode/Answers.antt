@@ -1,4 +1,4 @@
-use Rattle.std.proofs.Common.{◌≤◌, ◌||◌, ℕ, Option, refl, ap, sym, subst, ◌∙◌}
+use Rattle.std.proofs.Common.{◌≤◌, ◌||◌, ℕ, Option, refl, ap, sym, subst, ◌∙◌, arith}
 use Rattle.model.specs.Records.{with_node_mode}
 use Rattle.model.specs.Volumes.{Node, is_directory_node, is_file_node, with_node}
 use Rattle.records.proofs.Deciding.{decides, obstructs, stops}
@@ -33,6 +33,14 @@ returns g c =
       next_beside = tt;
       last_beside = tt;
       beside = tt;
+      firsts = 2;
+      nexts = 0;
+      lasts = 0;
+      first_room = omega arith;
+      next_room = tt;
+      last_room = tt;
+      within = omega arith;
+      knows = tt;
     })
     (λ disk settled v stands. (
       sym (c.has_mode.ensures _ disk settled v (loads.looks.kept disk settled v stands).volume) ∙ c.if-not-has_mode.false,

@@ -10,6 +10,7 @@ returns g c = record {
   reads = reads_ok c.in_ok-edit.ensures.reads;
   same = c.remove_in.ensures.same;
   fits = c.in_ok-edit.ensures.fits;
+  pieces = c.in_ok-edit.ensures.pieces;
   edited = λ disk names shows had. (tt, c.in_ok-edit.ensures.edited disk names shows had);
   damaged = λ disk names shows is had grammar. cc;
 }

@@ -1,5 +1,6 @@
-use Rattle.std.proofs.Common.{Some}
+use Rattle.std.proofs.Common.{Some, arith}
 use Rattle.model.specs.Records.{applied}
+use Rattle.records.proofs.RoomLaws.{room_behind}
 use Rattle.records.proofs.StandLaws.{some_stays_at_hand, stays_at_hand}
 use Rattle.records.proofs.StepLaws.{steps_behind, takes_behind}
 use Rattle.records.proofs.prepared.commit.Goals as goal
@@ -36,3 +37,18 @@ returns-clause-at_hand c =
       next = some_stays_at_hand u new last.geometry last.keeps last.stays p.next next.at_hand;
       last = last.at_hand;
     }
+
+pub returns-clause-room : goal.returns-clause-room
+returns-clause-room c = λ base count disk settled v change volume does.
+    let first = c.commit_step.ensures in
+    let next = c.commit_some.ensures in
+    let p = c.args.prepared in
+    let w = applied change v in
+    let then = first.volume count disk settled v does.between volume does.first in
+    let on = steps_behind disk settled does.between does.second (Some p.first) p.next first does.next_beside does.next in
+    let one = first.room base count disk settled v does.between does.firsts volume does.first does.first_room in
+    let two = next.room base count disk settled does.between does.second does.nexts then on (room_behind (Some p.first) p.next does.nexts first does.next_beside does.next_room) in
+    let three = c.commit_some-2.ensures.room base count disk settled does.second w does.lasts (next.volume count disk settled does.between does.second then on)
+    (steps_behind disk settled does.second w p.next p.last next does.beside (steps_behind disk settled does.second w (Some p.first) p.last first does.last_beside does.last))
+    (room_behind p.next p.last does.lasts next does.beside (room_behind (Some p.first) p.last does.lasts first does.last_beside does.last_room)) in
+    omega (arith, one, two, three, does.within)

@@ -52,7 +52,7 @@ returns g c =
       ready = new.ready;
       does = λ disk settled v stands.
           new.does disk settled v (made_of c.args.object.now) (before.kept disk settled v stands) (is_free disk settled v stands)
-          (λ k. made.object disk (vacant.looks.kept disk settled v stands).shows k (settled c.args.number));
+          (λ k. made.object disk (vacant.looks.kept disk settled v stands).shows k (settled c.args.number)) made.room;
       applies = λ disk settled v stands.
           ok_so c.prepare_new.result _ _ (λ p taken. record { low = low; high = high; vacant = is_free disk settled v stands; takes = taken; good = good })
           (new.takes disk settled v (before.kept disk settled v stands));

@@ -1,4 +1,4 @@
-use Rattle.std.proofs.Common.{Option, Some, IfSome, IsTrue, refl, ap, sym, subst, ◌∙◌}
+use Rattle.std.proofs.Common.{Option, Some, IfSome, IsTrue, refl, ap, sym, subst, ◌∙◌, arith}
 use Rattle.std.proofs.lemmas.Bool.{false≢true}
 use Rattle.layout.specs.declared.entry.Entry.{Entry}
 use Rattle.model.specs.Records.{node_of}
@@ -62,7 +62,7 @@ returns-clause-ready g c =
     }
 
 pub returns-clause-does : goal.returns-clause-does
-returns-clause-does g c = λ disk settled v made stands is_free is_object.
+returns-clause-does g c = λ disk settled v made stands is_free is_object small.
     let now = c.in_ok-load_to_change.ensures.looks.kept disk settled v stands in
     let name = c.args.name.now in
     let number = c.args.number in
@@ -86,6 +86,14 @@ returns-clause-does g c = λ disk settled v made stands is_free is_object.
       next_beside = apart;
       last_beside = tt;
       beside = tt;
+      firsts = 7;
+      nexts = 12;
+      lasts = 0;
+      first_room = omega (arith, edit.2);
+      next_room = omega (arith, small);
+      last_room = tt;
+      within = omega arith;
+      knows = tt;
     }
 
 pub returns-clause-takes : goal.returns-clause-takes

@@ -2,7 +2,7 @@ use Rattle.std.proofs.Common.{◌≡◌, ◌∙◌, [], unwrap_or, ap, sym}
 use Rattle.model.specs.Edits.{read_at}
 use Rattle.model.specs.Volumes.{bytes_of_node, is_file_node}
 use Rattle.inode.specs.Files.{bytes_of_file}
-use Rattle.inofile.specs.Settled.{content_of}
+use Rattle.inofile.specs.Settled.{content_of_object}
 use Rattle.records.proofs.KindLaws.{file_stands, not_file}
 use Rattle.records.proofs.Looking.{brought, fails, read_on, tells}
 use Rattle.records.proofs.reading.read_bytes.Goals as goal
@@ -17,7 +17,7 @@ pub returns-in_default-kind : goal.returns-in_default-kind
 returns-in_default-kind g c = tells (brought c.in_ok-load.ensures) (λ disk settled v now any.
     let o = c.in-Some.ensures.stands _ disk settled v now.volume in
     let object = c.in-Some.object.now in
-    not_file object.attributes.kind c.load.new.inodes.geometry.inodes (content_of disk object) (v c.args.number) o.stands c.in_default-kind.not-File)
+    not_file object.attributes.kind c.load.new.inodes.geometry.inodes (content_of_object disk object) (v c.args.number) o.stands c.in_default-kind.not-File)
 
 pub returns-in_err-bytes : goal.returns-in_err-bytes
 returns-in_err-bytes g c =
@@ -34,5 +34,5 @@ returns g c =
     (λ disk settled v now. c.in_ok-bytes.ensures.bytes disk now.shows) (λ disk settled v now is. cc))
     (λ disk settled v now read.
     let o = c.in-Some.ensures.stands _ disk settled v now.volume in
-    let is = file_stands object.attributes.kind c.load.new.inodes.geometry.inodes (content_of disk object) (v c.args.number) o.stands c.in-File.is in
+    let is = file_stands object.attributes.kind c.load.new.inodes.geometry.inodes (content_of_object disk object) (v c.args.number) o.stands c.in-File.is in
     (ap is_file_node is, c.new.ensures ∙ read ∙ ap (λ node. read_at c.args.offset c.args.count (unwrap_or (bytes_of_node node) [])) (sym is)))

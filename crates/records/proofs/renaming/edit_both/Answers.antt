@@ -66,6 +66,7 @@ returns-clause-both g c =
         subst (λ (z : Sizes). PreparesEdit disk z.inodes wanted (v k) (loaded t k) (Some c.in-Some.added)) (sym c.edit_known-2.ensures.edit.looks.geometry)
             (subst (λ (o : Option Object). PreparesEdit disk s.geometry.inodes wanted (v k) o (Some c.in-Some.added)) (sym same) added),
         removed.0,
+        removed.2,
       ),
       tt,
     ))

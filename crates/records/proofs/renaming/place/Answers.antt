@@ -1,9 +1,10 @@
-use Rattle.std.proofs.Common.{◌≡◌, ◌∙◌, inl, inr, ℕ, Option, None, Some, IfSome, IfNone, IsTrue, refl, ap, sym, subst}
+use Rattle.std.proofs.Common.{◌≡◌, ◌∙◌, ◌≤◌, inl, inr, ℕ, Option, None, Some, IfSome, IfNone, IsTrue, refl, ap, sym, subst, arith}
 use Rattle.layout.specs.declared.entry.Entry.{Entry}
 use Rattle.model.specs.Volumes.{Node, Volume, entries, is_directory_node, released, with_entry, with_node}
 use Rattle.dirs.specs.Directory.{with_name}
+use Rattle.dirs.specs.Room.{piece_count}
 use Rattle.inofile.specs.Inodes.{loaded}
-use Rattle.records.specs.Entering.{Accepts, EditsIn, PreparesEdit, names_after, with_node_names}
+use Rattle.records.specs.Entering.{Accepts, EditsIn, PreparesEdit, names_after, pieces_of, with_node_names}
 use Rattle.records.specs.Moving.{edit_for}
 use Rattle.records.specs.Steps.{StepsSome, TakesUpdate}
 use Rattle.records.specs.declared.naming.NameEdit.{NameEdit}
@@ -12,7 +13,7 @@ use Rattle.records.specs.declared.steps.Update.TheVariants as updates
 use Rattle.records.proofs.EnterLaws.{found_directory, takes_accepted}
 use Rattle.records.proofs.FileLaws.{alone_some, alone_some_apart, apart_none, named_directory}
 use Rattle.records.proofs.Looking.{some_at_hand_behind}
-use Rattle.records.proofs.MoveLaws.{accepts_move, accepts_other, aside_new, aside_old, beside_new, beside_none, beside_old, can_rename, moved_across, moved_inside, names_for, steps_on, wanted_none, wanted_some}
+use Rattle.records.proofs.MoveLaws.{accepts_move, accepts_other, aside_new, aside_old, beside_new, beside_none, beside_old, can_rename, few_pieces, moved_across, moved_inside, names_for, room_on, steps_on, wanted_none, wanted_some}
 use Rattle.records.proofs.Deciding.{decides, obstructs, stops}
 use Rattle.records.proofs.ObstacleLaws.{no_place}
 use Rattle.records.proofs.renaming.place.Goals.{then-is_some, else-is_some}
@@ -68,6 +69,14 @@ returns-then-is_same g c =
       next_beside = beside_new disk settled v d x n k y step moves;
       last_beside = tt;
       beside = beside_none step;
+      firsts = 11;
+      nexts = 6;
+      lasts = 0;
+      first_room = omega (arith, edit.2);
+      next_room = room_on disk settled v d x n k y step moves s;
+      last_room = tt;
+      within = omega arith;
+      knows = tt;
     })
     (λ disk settled v known.
     let edit = subst (PreparesEdit disk s.geometry.inodes (edits.Move c.args.name entry) (v k) (loaded s k)) c.in-Some.is (planned.edit.found disk settled v known.0) in
@@ -122,7 +131,7 @@ returns g c =
     })
     (λ disk settled v known.
     let moves = known.1 in
-    let edits_are = subst (λ o. IfSome o (λ e. PreparesEdit disk s.geometry.inodes c.if-is_some.wanted (v k) (loaded s k) (Some e.0) × EditsIn disk s.geometry.inodes h (v d) (loaded s d) e.1)) c.in-Some-both.is
+    let edits_are = subst (λ o. IfSome o (λ e. PreparesEdit disk s.geometry.inodes c.if-is_some.wanted (v k) (loaded s k) (Some e.0) × EditsIn disk s.geometry.inodes h (v d) (loaded s d) e.1 × (piece_count e.1 ≤ 1))) c.in-Some-both.is
     (both.both.found disk settled v known.0).0 in
     let added = subst (λ j. EditsIn disk s.geometry.inodes j (v k) (loaded s k) c.in-Some-both.added) (ap names_after wanted ∙ names_for entry step) edits_are.0.0 in
     let between = with_node k (with_node_names f (v k)) v in
@@ -144,9 +153,17 @@ returns g c =
       next_beside = other;
       last_beside = beside_new disk settled v d x n k y step moves;
       beside = beside_old disk settled v d x n k y step moves;
+      firsts = 9;
+      nexts = 7;
+      lasts = 6;
+      first_room = omega (arith, edits_are.0.2, ap pieces_of wanted, few_pieces entry step);
+      next_room = omega (arith, edits_are.2);
+      last_room = room_on disk settled v d x n k y step moves s;
+      within = omega arith;
+      knows = tt;
     })
     (λ disk settled v known.
-    let edits_are = subst (λ o. IfSome o (λ e. PreparesEdit disk s.geometry.inodes c.if-is_some.wanted (v k) (loaded s k) (Some e.0) × EditsIn disk s.geometry.inodes h (v d) (loaded s d) e.1)) c.in-Some-both.is
+    let edits_are = subst (λ o. IfSome o (λ e. PreparesEdit disk s.geometry.inodes c.if-is_some.wanted (v k) (loaded s k) (Some e.0) × EditsIn disk s.geometry.inodes h (v d) (loaded s d) e.1 × (piece_count e.1 ≤ 1))) c.in-Some-both.is
     (both.both.found disk settled v known.0).0 in
     let accepts = edits_are.0.1 in
     can_rename disk settled v d x n k y step known.1 (found_directory (v k) accepts.mode accepts.names accepts.is) c.requires.entry.name known.2

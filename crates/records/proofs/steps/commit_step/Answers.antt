@@ -1,12 +1,17 @@
-use Rattle.std.proofs.Common.{◌≡◌, ℕ, Option, ap, sym, subst, ◌∙◌}
+use Rattle.std.proofs.Common.{◌≡◌, ◌+◌, ◌≤◌, ℕ, Option, ap, sym, subst, ◌∙◌, arith}
+use Rattle.std.specs.Ordering.{nat_cmp}
+use Rattle.std.specs.BTreeMap.{get}
 use Rattle.layout.specs.Limits.{Sizes}
 use Rattle.inode.specs.declared.object.Object.{Object}
 use Rattle.inofile.specs.Inodes.{loaded}
 use Rattle.inofile.specs.Objects.{IsObjectOrNone}
+use Rattle.inofile.specs.Room.{memory_room}
 use Rattle.inofile.specs.Volumes.{IsVolumeOf}
 use Rattle.model.specs.Volumes.{Node, Volume, with_node}
+use Rattle.records.specs.Room.{UpdateRoom}
 use Rattle.records.specs.Steps.{FitsUpdate, Updates}
 use Rattle.records.proofs.EnterLaws.{object_or_none}
+use Rattle.records.proofs.RoomLaws.{counts_object}
 use Rattle.records.proofs.StandLaws.{stays_at_hand}
 use Rattle.records.proofs.steps.commit_step.Goals as goal
 
@@ -34,5 +39,14 @@ returns c =
           subst (λ (x : Volume). IsVolumeOf count disk settled c.commit_set.new.self x) (sym steps.2)
           (set.back c.take-object.result count disk settled v steps.0 (take.without count disk settled v volume)
           (subst (λ (z : Sizes). IsObjectOrNone disk z.inodes (settled n) c.update_object.new.object steps.0) (sym take.geometry)
-          (c.update_object.ensures disk s.geometry.inodes (settled n) (v n) steps.0 o up)));
+          (c.update_object.ensures.updates disk s.geometry.inodes (settled n) (v n) steps.0 o up)));
+      room = λ base count disk settled v w k volume on room.
+          let steps = subst (λ (k : ℕ). (to : Option Node) × Updates disk s.geometry.inodes (settled k) (v k) (loaded s k) c.args.step.update to × (w ≡ with_node k to v)) (sym c.get-n.ensures) on in
+          let o = object_or_none disk s.geometry.inodes (settled n) c.take-object.result (v n) (take.stands count disk settled v volume) (take.stands_for_none count disk settled v volume) in
+          let up = subst (λ (x : Option Object). Updates disk s.geometry.inodes (settled n) (v n) x c.args.step.update steps.0) (sym take.loaded) steps.1 in
+          let few = subst (λ (x : Option Object). UpdateRoom x c.args.step.update k) (ap (loaded s) (sym c.get-n.ensures) ∙ sym take.loaded) room in
+          let raised = c.update_object.ensures.room disk s.geometry.inodes (settled n) (base n) (v n) steps.0 (get nat_cmp s.slots n) k o up
+          (counts_object count disk settled s v n c.take-object.result volume take.loaded) few in
+          let sums = set.room s base v steps.0 take.geometry take.slots in
+          subst (λ (x : Volume). memory_room base c.commit_set.new.self x ≤ memory_room base s v + k) (sym steps.2) (omega (arith, sums, raised));
     }

@@ -1,7 +1,9 @@
-use Rattle.std.proofs.Common.{ℕ, Option, Some, IfSome, subst, sym, ◌∙◌}
-use Rattle.model.specs.Records.{applied}
+use Rattle.std.proofs.Common.{◌+◌, ◌≤◌, ℕ, Option, Some, IfSome, subst, sym, ◌∙◌, arith}
+use Rattle.model.specs.Records.{applied, work_of}
+use Rattle.model.specs.Room.{cost}
 use Rattle.model.specs.Trees.{Description}
 use Rattle.model.specs.Volumes.{Volume}
+use Rattle.inofile.specs.Room.{memory_room}
 use Rattle.inofile.specs.Volumes.{IsVolumeOf}
 use Rattle.descriptors.specs.Fits.{FitsVolume}
 use Rattle.descriptors.specs.Tables.{table_of}
@@ -72,3 +74,27 @@ returns-clause-fits c = λ count disk settled v change stands does mounted fits 
     let two = c.settle-2.ensures.fits count disk settled _ x is_x (subst (λ (t : ℕ → Option Description). OpensFiles t x) (sym c.settle.ensures.opened) opens_x) one in
     let three = c.settle-3.ensures.fits count disk settled _ y is_y (subst (λ (t : ℕ → Option Description). OpensFiles t y) (sym back) opens_y) two in
     fits_all disk settled c.args.inodes.now v p change does old next last c.settle-3.new.files c.number_of-next.ensures c.number_of-last.ensures (c.settle-3.ensures.opened ∙ back) three
+
+pub returns-clause-room : goal.returns-clause-room
+returns-clause-room c = λ base count disk settled v change stands does mounted.
+    let p = c.args.prepared in
+    let table = table_of c.args.files.now in
+    let next = c.number_of-next.result in
+    let last = c.number_of-last.result in
+    let w : Volume = applied change v in
+    let x : Volume = without_file table (Some p.first.number) w in
+    let y : Volume = without_file table next x in
+    let s = c.commit.new.inodes in
+    let t = c.settle.new.inodes in
+    let u = c.settle-2.new.inodes in
+    let new = c.settle-3.new.inodes in
+    let is_w = c.commit.ensures.volume count disk settled v change stands does in
+    let is_x = subst (λ (k : ℕ). IsVolumeOf count disk settled t (without_file table (Some k) w)) c.first_number-first.ensures (c.settle.ensures.volume count disk settled w is_w) in
+    let is_y = subst (λ (t : ℕ → Option Description). IsVolumeOf count disk settled u (without_file t next x)) c.settle.ensures.opened (c.settle-2.ensures.volume count disk settled x is_x) in
+    let one = c.commit.ensures.room base count disk settled v change stands does in
+    let two = subst (λ (k : ℕ). memory_room base t (without_file table (Some k) w) ≤ memory_room base s w) c.first_number-first.ensures (c.settle.ensures.room base count disk settled w is_w) in
+    let three = subst (λ (f : ℕ → Option Description). memory_room base u (without_file f next x) ≤ memory_room base t x) c.settle.ensures.opened (c.settle-2.ensures.room base count disk settled x is_x) in
+    let four = subst (λ (f : ℕ → Option Description). memory_room base new (without_file f last y) ≤ memory_room base u y) (c.settle-2.ensures.opened ∙ c.settle.ensures.opened)
+    (c.settle-3.ensures.room base count disk settled y is_y) in
+    subst (λ (k : Volume). memory_room base new k ≤ memory_room base c.args.inodes.now v + cost (work_of v change))
+    (all_swept disk settled c.args.inodes.now v p change does table mounted next last c.number_of-next.ensures c.number_of-last.ensures) (omega (arith, one, two, three, four))

@@ -1,4 +1,4 @@
-use Rattle.std.proofs.Common.{◌≡◌, ℕ, Option, None, Some, IfSome, refl, ap, sym, subst, ◌∙◌}
+use Rattle.std.proofs.Common.{◌≡◌, ℕ, Option, None, Some, IfSome, refl, ap, sym, subst, ◌∙◌, arith}
 use Rattle.model.specs.Volumes.{Node, entries, names_in, released, with_entry, with_name_less, with_node}
 use Rattle.inofile.specs.Inodes.{loaded}
 use Rattle.paths.proofs.Looks.{looks_more}
@@ -95,11 +95,19 @@ returns g c =
       between = between;
       second = with_node n to between;
       first = (with_node_names f (v d), (f, edit.0, refl), refl);
-      next = (to, subst (λ (o : Option Node). Updates disk s.geometry.inodes (settled n) o (loaded s n) update to) (sym stays) (goes.0 s.geometry.inodes (loaded s n)), refl);
+      next = (to, subst (λ (o : Option Node). Updates disk s.geometry.inodes (settled n) o (loaded s n) update to) (sym stays) (goes.0 s.geometry.inodes (loaded s n)).0, refl);
       last = ap (λ (o : Option ℕ). with_entry d x None (released o v)) there ∙ both_steps n d x None to to v apart refl;
       next_beside = apart;
       last_beside = tt;
       beside = tt;
+      firsts = 7;
+      nexts = 6;
+      lasts = 0;
+      first_room = omega (arith, edit.2);
+      next_room = (goes.0 s.geometry.inodes (loaded s n)).1;
+      last_room = tt;
+      within = omega arith;
+      knows = tt;
     })
     (λ disk settled v stands. record {
       number = n;

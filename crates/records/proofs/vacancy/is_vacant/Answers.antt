@@ -1,7 +1,7 @@
 use Rattle.std.proofs.Common.{ap, sym, subst}
 use Rattle.images.specs.Contents.{StandsAs}
 use Rattle.model.specs.Records.{is_vacant}
-use Rattle.inofile.specs.Settled.{content_of}
+use Rattle.inofile.specs.Settled.{content_of_object}
 use Rattle.records.proofs.EnterLaws.{file_vacancy, other_vacancy}
 use Rattle.records.proofs.Looking.{brought, fails, tells}
 use Rattle.records.proofs.vacancy.is_vacant.Goals as goal
@@ -15,11 +15,11 @@ returns-in_default g c = tells (brought c.in_ok-load.ensures) (λ disk settled v
 pub returns-in-File : goal.returns-in-File
 returns-in-File g c = tells (brought c.in_ok-load.ensures) (λ disk settled v now any.
     let o = c.in-Some.ensures.stands _ disk settled v now.volume in
-    let content = content_of disk c.in-Some.object.now in
+    let content = content_of_object disk c.in-Some.object.now in
     file_vacancy c.load.new.inodes.geometry.inodes content (v c.args.number)
     (subst (λ k. StandsAs k c.load.new.inodes.geometry.inodes content (v c.args.number)) c.in-File.is o.stands))
 
 pub returns-in_default-kind : goal.returns-in_default-kind
 returns-in_default-kind g c = tells (brought c.in_ok-load.ensures) (λ disk settled v now any.
     let o = c.in-Some.ensures.stands _ disk settled v now.volume in
-    other_vacancy c.in-Some.object.now.attributes.kind c.load.new.inodes.geometry.inodes (content_of disk c.in-Some.object.now) (v c.args.number) c.in_default-kind.not-File o.kind o.stands)
+    other_vacancy c.in-Some.object.now.attributes.kind c.load.new.inodes.geometry.inodes (content_of_object disk c.in-Some.object.now) (v c.args.number) c.in_default-kind.not-File o.kind o.stands)

@@ -1,5 +1,6 @@
 use Rattle.std.proofs.Common.{◌≡◌, ℕ, ◌/◌, ◌%◌, List, [], None, Some, ◌≤◌, slice_index, refl, ap, subst, arith, ◌∙◌}
 use Rattle.inode.proofs.BytePositions.{slice_index-zeros}
+use Rattle.inode.proofs.RoomLaws.{empty_room}
 use Rattle.records.proofs.vacancy.new_directory.Goals as goal
 
 none_some : {X : Type 0} {n : ℕ} → None ≡ Some n → X
@@ -33,3 +34,6 @@ returns-clause-object c = λ disk inodes settled.
 
 pub returns-clause-good : goal.returns-clause-good
 returns-clause-good c = subst (λ (m : ℕ). m ≤ 4095) c.bits.ensures.same c.bits.ensures.fits
+
+pub returns-clause-room : goal.returns-clause-room
+returns-clause-room c = empty_room c.empty.result c.empty.ensures.size c.empty.ensures.unchanged

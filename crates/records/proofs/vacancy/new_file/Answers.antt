@@ -3,6 +3,7 @@ use Rattle.layout.specs.FileBytes.{byte_in, first_bytes}
 use Rattle.model.specs.Volumes.{file_node}
 use Rattle.inode.specs.Files.{file_block}
 use Rattle.inode.proofs.BytePositions.{slice_index-zeros}
+use Rattle.inode.proofs.RoomLaws.{empty_room}
 use Rattle.records.proofs.vacancy.new_file.Goals as goal
 
 pub returns-clause-object : goal.returns-clause-object
@@ -17,3 +18,6 @@ returns-clause-object c = λ disk inodes settled. record {
 
 pub returns-clause-good : goal.returns-clause-good
 returns-clause-good c = subst (λ (m : ℕ). m ≤ 4095) c.bits.ensures.same c.bits.ensures.fits
+
+pub returns-clause-room : goal.returns-clause-room
+returns-clause-room c = empty_room c.empty.result c.empty.ensures.size c.empty.ensures.unchanged

@@ -1,5 +1,6 @@
-use Rattle.std.proofs.Common.{rules, ◌≡◌, ◌+◌, ℕ, ◌/◌, ◌%◌, List, length, max, Some, slice_index, refl, ap, sym, ◌∙◌, arith}
+use Rattle.std.proofs.Common.{rules, ◌≡◌, ◌+◌, ◌≤◌, ℕ, ◌/◌, ◌%◌, List, length, max, Some, slice_index, refl, ap, sym, ◌∙◌, arith}
 use Rattle.layout.specs.FileBytes.{EndsAt, first_bytes}
+use Rattle.model.specs.Room.{touched}
 use Rattle.model.specs.Volumes.{link_node}
 use Rattle.buffers.specs.Positions.{with_bytes_at}
 use Rattle.inode.specs.Edges.{written_list}
@@ -7,6 +8,7 @@ use Rattle.inode.specs.Files.{byte_at}
 use Rattle.inode.proofs.BytePositions.{slice_index-zeros}
 use Rattle.inode.proofs.ComposingLaws.{committed_byte, written_ends}
 use Rattle.inode.proofs.EdgeLaws.{list_of_write}
+use Rattle.inode.proofs.RoomLaws.{empty_room, same_room}
 use Rattle.records.proofs.FileLaws.{written_first}
 use Rattle.records.proofs.vacancy.new_link.Goals as goal
 
@@ -33,6 +35,15 @@ returns-clause-object g c = λ disk shows inodes settled.
       ends = written_ends (byte_at disk old) (byte_at disk new) old.size new.size 0 text size ends byte;
       base = c.commit.ensures.base settled (c.prepare_write.ensures.same.base settled (c.empty-file.ensures.base settled));
     }
+
+pub returns-clause-room : goal.returns-clause-room
+returns-clause-room g c =
+    let old = c.empty-file.result in
+    let none = empty_room old c.empty-file.ensures.size c.empty-file.ensures.unchanged in
+    let same = same_room old c.prepare_write.new.self c.prepare_write.ensures.same in
+    let stores = c.in-Ok.ensures.stores c.commit.new.self c.commit.ensures in
+    let one : touched 0 (length c.args.text.now) ≤ 1 = omega (arith, c.requires.short) in
+    omega (arith, none, same, stores, one)
 
 pub returns-in-Err-Damaged-clause-damaged : goal.returns-in-Err-Damaged-clause-damaged
 returns-in-Err-Damaged-clause-damaged g c = λ disk shows is sound.

@@ -1,4 +1,4 @@
-use Rattle.std.proofs.Common.{Some, ℕ, IfOk, sym, subst}
+use Rattle.std.proofs.Common.{Some, ℕ, IfOk, sym, subst, arith}
 use Rattle.layout.specs.Record.{made_of}
 use Rattle.layout.specs.declared.inode.Inode.{Inode}
 use Rattle.layout.specs.declared.record.NewObject.{NewObject}
@@ -21,3 +21,9 @@ pub returns-in-Link-clause-object : goal.returns-in-Link-clause-object
 returns-in-Link-clause-object g c = λ disk shows.
     subst (λ (o : NewObject). IfOk c.new_link.result (λ x. (inodes : ℕ) (settled : Inode) → IsObject disk inodes settled x (Some (node_of (made_of o))))) (sym c.in-Link.is)
     (c.new_link.ensures.object disk shows)
+
+pub returns-in-Directory-clause-room : goal.returns-in-Directory-clause-room
+returns-in-Directory-clause-room g c = omega (arith, c.new_directory.ensures.room)
+
+pub returns-in-File-clause-room : goal.returns-in-File-clause-room
+returns-in-File-clause-room g c = omega (arith, c.new_file.ensures.room)

@@ -1,11 +1,11 @@
 use Rattle.std.proofs.Common.{◌∙◌, ◌∷◌, [], ℕ, length, refl, rules, arith, length-append, sym, subst, ap}
 use Rattle.layout.specs.Log.{record_of}
 use Rattle.layout.specs.Limits.{Sizes}
-use Rattle.model.specs.Records.{Applies, applied}
+use Rattle.model.specs.Records.{Applies, applied, costs}
 use Rattle.model.specs.Volumes.{Volume}
-use Rattle.replay.specs.Volumes.{HasVolume, bodies_of}
+use Rattle.replay.specs.Volumes.{HasVolume, RaisesRoom, bodies_of}
 use Rattle.replay.proofs.Errors.{passed}
-use Rattle.replay.proofs.RecordLaws.{all_done, none_behind, none_done, one_in_front, one_more}
+use Rattle.replay.proofs.RecordLaws.{all_done, none_behind, one_in_front, one_more}
 use Rattle.replay.proofs.replaying.replay_all.Goals as goal
 
 pub loop-body-init : goal.loop-body-init
@@ -13,15 +13,17 @@ loop-body-init g c = record {
   read = search rules;
   geometry = refl;
   shorter = search rules;
-  leads = λ disk settled v w changes shows has leads. (v, has, none_done c.args.inodes.now.geometry.inodes c.args.records.now changes v w leads);
+  few = omega arith;
+  leads = λ disk settled v w changes shows has leads. (v, has, record { more = changes; leads = leads; length_is = omega arith }, omega arith, λ base. omega arith);
   held = λ bodies left holds. (bodies, holds);
 }
 
 pub loop-body-preserved : goal.loop-body-preserved
 loop-body-preserved g c = record {
   read = search rules;
-  geometry = c.in_ok-replay_one-in-Open.ensures.geometry ∙ c.loop-body.invariant.geometry;
+  geometry = c.in_ok-cost-in-Open.ensures.geometry ∙ c.loop-body.invariant.geometry;
   shorter = omega (arith, c.loop-body.invariant.shorter, ap length c.in-Open.ensures.1, length-append (record_of c.in-Open.body.now) c.in-Open.after.now);
+  few = omega (arith, c.loop-body.invariant.few, c.in_ok-cost-in-Open.ensures.few, ap length c.in-Open.ensures.1, length-append (record_of c.in-Open.body.now) c.in-Open.after.now);
   leads = λ disk settled v w changes shows has leads.
       let read = c.loop-body.invariant.read in
       let count = g.B.Blocks.count c.args.blocks.now in
@@ -29,10 +31,15 @@ loop-body-preserved g c = record {
       let sizes = c.loop-body.invariant.geometry in
       let back = c.loop-body.invariant.leads disk settled v w changes shows has leads in
       let next = one_more inodes c.args.records.now c.loop-body.rest.now changes back.0 w back.2 c.in-Open.body.now c.in-Open.after.now c.in-Open.ensures.0 c.in-Open.ensures.1 in
-      let did = c.in_ok-replay_one-in-Open.ensures.replays disk settled back.0 next.0.change (read.same disk shows)
+      let did = c.in_ok-cost-in-Open.ensures.replays disk settled back.0 next.0.change (read.same disk shows)
       (subst (λ (n : ℕ). HasVolume n disk settled c.loop-body.inodes back.0) (sym read.count) back.1) next.0.spells
-      (subst (λ (s : Sizes). Applies s.inodes back.0 next.0.change) (sym sizes) next.0.applies) in
-      (applied next.0.change back.0, subst (λ (n : ℕ). HasVolume n disk settled c.replay_one.new.inodes (applied next.0.change back.0)) read.count did, next.1);
+      (subst (λ (s : Sizes). Applies s.inodes back.0 next.0.change) (sym sizes) next.0.applies) in (
+        applied next.0.change back.0,
+        subst (λ (n : ℕ). HasVolume n disk settled c.replay_one.new.inodes (applied next.0.change back.0)) read.count did.1,
+        next.1,
+        omega (arith, did.0, back.3, ap (costs back.0) next.0.are, ap (costs (applied next.0.change back.0)) next.2),
+        λ base. omega (arith, back.4 base, did.2 base),
+      );
   held = λ bodies left holds.
       c.loop-body.invariant.held (c.in-Open.body.now ∷ bodies) left
       (one_in_front c.in-Open.body.now c.loop-body.rest.now c.in-Open.after.now bodies left c.in-Open.ensures.0 c.in-Open.ensures.1 holds);
@@ -41,8 +48,11 @@ loop-body-preserved g c = record {
 pub returns-in-Closed-clause-replays : goal.returns-in-Closed-clause-replays
 returns-in-Closed-clause-replays g c disk settled v w changes shows has leads =
     let back = c.loop-body.invariant.leads disk settled v w changes shows has leads in
-    let done = all_done c.args.inodes.now.geometry.inodes c.args.records.now c.loop-body.rest.now changes back.0 w back.2 leads.held c.in-Closed.ensures in
-    (done.0, subst (λ (u : Volume). HasVolume (g.B.Blocks.count c.args.blocks.now) disk settled c.loop-body.inodes u) (sym done.1) back.1)
+    let done = all_done c.args.inodes.now.geometry.inodes c.args.records.now c.loop-body.rest.now changes back.0 w back.2 leads.held c.in-Closed.ensures in (
+      record { held = done.0; cost = omega (arith, back.3, ap (costs back.0) done.2) },
+      subst (λ (u : Volume). HasVolume (g.B.Blocks.count c.args.blocks.now) disk settled c.loop-body.inodes u) (sym done.1) back.1,
+      subst (λ (u : Volume). RaisesRoom c.args.inodes.now v c.loop-body.inodes u c.loop-body.cost) (sym done.1) back.4,
+    )
 
 pub returns-in-Closed-clause-holds : goal.returns-in-Closed-clause-holds
 returns-in-Closed-clause-holds g c = c.loop-body.invariant.held [] (length c.loop-body.rest.now) (none_behind c.loop-body.rest.now c.in-Closed.ensures)
@@ -52,13 +62,13 @@ returns-in-Malformed-clause-replays g c disk settled v w changes shows has leads
     let back = c.loop-body.invariant.leads disk settled v w changes shows has leads in
     absurd (c.in-Malformed.ensures (bodies_of back.2.more) back.2.leads.held)
 
-pub returns-in_err-replay_one-in-Open-clause-replays : goal.returns-in_err-replay_one-in-Open-clause-replays
-returns-in_err-replay_one-in-Open-clause-replays g c disk settled v w changes shows has leads =
+pub returns-in_err-cost-in-Open-clause-replays : goal.returns-in_err-cost-in-Open-clause-replays
+returns-in_err-cost-in-Open-clause-replays g c disk settled v w changes shows has leads =
     let read = c.loop-body.invariant.read in
     let inodes = c.args.inodes.now.geometry.inodes in
     let back = c.loop-body.invariant.leads disk settled v w changes shows has leads in
     let next = one_more inodes c.args.records.now c.loop-body.rest.now changes back.0 w back.2 c.in-Open.body.now c.in-Open.after.now c.in-Open.ensures.0 c.in-Open.ensures.1 in
-    let why = c.in_err-replay_one-in-Open.ensures.replays disk settled back.0 next.0.change (read.same disk shows)
+    let why = c.in_err-cost-in-Open.ensures.replays disk settled back.0 next.0.change (read.same disk shows)
     (subst (λ (n : ℕ). HasVolume n disk settled c.loop-body.inodes back.0) (sym read.count) back.1) next.0.spells
     (subst (λ (s : Sizes). Applies s.inodes back.0 next.0.change) (sym c.loop-body.invariant.geometry) next.0.applies) in
-    passed _ c.from_residual.result c.in_err-replay_one-in-Open.field-0.0 (search rules) why
+    passed _ c.from_residual.result c.in_err-cost-in-Open.field-0.0 (search rules) why

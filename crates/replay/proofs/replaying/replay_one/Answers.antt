@@ -1,12 +1,15 @@
-use Rattle.std.proofs.Common.{◌≡◌, ◌∙◌, ℕ, Err, IfErr, IfOk, Result, ap, refl, sym, subst}
+use Rattle.std.proofs.Common.{◌≡◌, ◌⊎◌, ◌∙◌, ℕ, Err, IfErr, IfOk, Result, ap, refl, sym, subst, arith}
 use Rattle.std.specs.Result.{IsErrOf}
 use Rattle.layout.specs.Limits.{Sizes}
 use Rattle.layout.specs.Record.{Change, change_of}
-use Rattle.model.specs.Records.{Applies, applied}
+use Rattle.model.specs.Records.{Applies, applied, work_of}
+use Rattle.model.specs.Room.{cost}
 use Rattle.model.specs.Volumes.{IsVolume}
 use Rattle.model.specs.declared.errno.Errno.{Errno}
-use Rattle.blocktree.specs.declared.error.ReadError.TheVariants.{Damaged}
+use Rattle.blocktree.specs.declared.error.ReadError.{ReadError}
+use Rattle.blocktree.specs.declared.error.ReadError.TheVariants.{Damaged, Device, NoMemory}
 use Rattle.inofile.specs.Volumes.{IsVolumeOf}
+use Rattle.inofile.proofs.RoomLaws.{needs_room}
 use Rattle.records.specs.Failures.{told}
 use Rattle.records.specs.Obstacles.{IsObstacle}
 use Rattle.records.specs.Prepared.{Does}
@@ -30,9 +33,9 @@ returns-in-Err-Refused-clause-replays g c disk settled v change shows has spells
 pub returns-in-Err-Read-clause-replays : goal.returns-in-Err-Read-clause-replays
 returns-in-Err-Read-clause-replays g c disk settled v change shows has spells applies =
     let failed = c.in-Err-Read.is ∙ ap (λ (f : Failure). Err f) c.in-Err-Read.field-0-is in
-    undamaged (λ (_ : Result Prepared Errno). Unit {0}) (Err c.in-Err-Read.error) refl (λ is.
+    subst (λ (e : ReadError). (e ≡ NoMemory) ⊎ (e ≡ Device)) (cc) (undamaged (λ (_ : Result Prepared Errno). Unit {0}) (Err c.in-Err-Read.error) refl (λ is.
     c.prepare.ensures.damaged disk settled v (record { shows = shows; volume = has.memory })
-    (subst (λ (r : Result Prepared Failure). IsErrOf (told r) Damaged) (sym failed) is))
+    (subst (λ (r : Result Prepared Failure). IsErrOf (told r) Damaged) (sym failed) is)))
 
 pub returns-clause-replays : goal.returns-clause-replays
 returns-clause-replays g c disk settled v change shows has spells applies =
@@ -43,10 +46,16 @@ returns-clause-replays g c disk settled v change shows has spells applies =
     let stands : Stands g.B.Blocks disk settled v c.args.blocks.now c.args.inodes.now = record { shows = shows; volume = has.memory } in
     let looks = c.prepare.ensures.looks in
     let kept = looks.kept disk settled v stands in
-    let does = subst (λ (r : Result Prepared Failure). IfOk r (λ x. Does disk settled c.prepare.new.inodes v x logged)) c.in-Ok.is (c.prepare.ensures.does disk settled v stands) in
-    record {
-      memory = c.commit.ensures.volume count disk settled v change (subst (λ (k : ℕ). IsVolumeOf k disk settled c.prepare.new.inodes v) looks.reads.count kept.volume)
-          (subst (λ (x : Change). Does disk settled c.prepare.new.inodes v c.in-Ok.prepared x) same does);
-      volume = subst (λ (s : Sizes). IsVolume s.inodes (applied change v)) (sym (c.commit.ensures.geometry ∙ looks.geometry))
-          (c.records_keep_volumes.ensures n v change has.volume applies);
-    }
+    let did = subst (λ (r : Result Prepared Failure). IfOk r (λ x. Does disk settled c.prepare.new.inodes v x logged)) c.in-Ok.is (c.prepare.ensures.does disk settled v stands) in
+    let does = subst (λ (x : Change). Does disk settled c.prepare.new.inodes v c.in-Ok.prepared x) same did in
+    let memory = subst (λ (k : ℕ). IsVolumeOf k disk settled c.prepare.new.inodes v) looks.reads.count kept.volume in
+    let before = c.size_before.ensures count disk settled v memory did.knows in
+    let costs = subst (λ (x : Change). c.cost_of-cost.result ≡ cost (work_of v x)) same (c.cost_of-cost.ensures.cost v before) in (
+      costs,
+      record {
+        memory = c.commit.ensures.volume count disk settled v change memory does;
+        volume = subst (λ (s : Sizes). IsVolume s.inodes (applied change v)) (sym (c.commit.ensures.geometry ∙ looks.geometry))
+            (c.records_keep_volumes.ensures n v change has.volume applies);
+      },
+      λ base. omega (arith, costs, c.commit.ensures.room base count disk settled v change memory does, needs_room base v c.args.inodes.now c.prepare.new.inodes looks.geometry looks.needs),
+    )

@@ -14,6 +14,7 @@ pub loop-number-init : goal.loop-number-init
 loop-number-init g c = record {
   read = search rules;
   geometry = refl;
+  needs = λ n k le. le;
   few = omega arith;
   counts = λ disk settled v shows has. (none_counted c.args.inodes.now.geometry.inodes v has.volume has.memory.own, has.memory);
 }
@@ -22,6 +23,7 @@ pub loop-number-preserved : goal.loop-number-preserved
 loop-number-preserved g c = record {
   read = search rules;
   geometry = c.in_ok-is_one.ensures.geometry ∙ c.loop-number.invariant.geometry;
+  needs = λ n k le. c.in_ok-is_one.ensures.needs n k (c.loop-number.invariant.needs n k le);
   few = omega (arith, c.loop-number.invariant.few, c.from-count.ensures, one_at_most c.in_ok-is_one.is_one);
   counts = λ disk settled v shows has.
       let read = c.loop-number.invariant.read in
@@ -55,3 +57,6 @@ returns-clause-counts g c disk settled v shows has =
       done.0 ∙ ap (λ (n : ℕ). count_nameless n v) at,
       record { memory = done.1; volume = subst (λ (s : Sizes). IsVolume s.inodes v) (sym c.loop-number.invariant.geometry) has.volume },
     )
+
+pub returns-in_err-is_one-clause-needs : goal.returns-in_err-is_one-clause-needs
+returns-in_err-is_one-clause-needs g c = λ n k le. c.in_err-is_one.ensures.needs n k (c.loop-number.invariant.needs n k le)

@@ -3,6 +3,7 @@ use Rattle.layout.specs.declared.inode.Inode.{Inode}
 use Rattle.model.specs.Records.{count_nameless}
 use Rattle.model.specs.Volumes.{Volume}
 use Rattle.buffers.specs.Reads.{HasOnlyRead}
+use Rattle.inofile.specs.Room.{NeedsNoMore}
 use Rattle.inofile.specs.Volumes.{IsVolumeOf}
 use Rattle.replay.specs.Volumes.{HasVolume}
 use Rattle.replay.proofs.sweeping.count_nameless.Given as goal
@@ -11,6 +12,7 @@ abbrev pub invariant-loop-number : goal.invariant-loop-number
 invariant-loop-number g l = record {
   read : HasOnlyRead g.B.Blocks l.fn.blocks l.blocks;
   geometry : l.inodes.geometry ≡ l.fn.inodes.geometry;
+  needs : NeedsNoMore l.fn.inodes l.inodes;
   few : l.count ≤ l.number;
   counts : (disk : ℕ → List ℕ) (settled : ℕ → Inode) (v : Volume) → g.B.Blocks.Shows l.fn.blocks disk
       → HasVolume (g.B.Blocks.count l.fn.blocks) disk settled l.fn.inodes v

@@ -1,6 +1,8 @@
-use Rattle.std.proofs.Common.{rules, ℕ, false, ap, subst}
+use Rattle.std.proofs.Common.{rules, ℕ, ◌≤◌, false, ap, subst, arith}
 use Rattle.model.specs.Volumes.{Volume, is_nameless, swept_node, with_node}
+use Rattle.inofile.specs.Room.{memory_room}
 use Rattle.inofile.specs.Volumes.{IsVolumeOf}
+use Rattle.inofile.proofs.RoomLaws.{needs_room}
 use Rattle.records.proofs.SweepLaws.{kept}
 use Rattle.replay.proofs.Errors.{undamaged}
 use Rattle.replay.proofs.sweeping.drop_if_nameless.Goals as goal
@@ -24,3 +26,21 @@ returns-clause-drops g c disk settled v shows stands =
     let loaded = c.in_ok-load.ensures.volume disk settled v shows stands in
     subst (λ (k : ℕ). IsVolumeOf count disk settled c.drop_nameless.new.inodes (with_node k (swept_node false (v k)) v)) c.new.ensures
     (c.drop_nameless.ensures.volume count disk settled v (c.in_ok-prepare_set.ensures.volume count disk settled v loaded))
+
+pub returns-then-not-is_taken-clause-room : goal.returns-then-not-is_taken-clause-room
+returns-then-not-is_taken-clause-room g c base disk settled v shows stands =
+    let s = c.args.inodes.now in
+    let none = c.is_taken.ensures.free (g.B.Blocks.count c.args.blocks.now) disk settled v stands (search rules) in
+    subst (λ (w : Volume). memory_room base s w ≤ memory_room base s v) (kept c.args.number v (ap is_nameless none)) (omega arith)
+
+pub returns-clause-room : goal.returns-clause-room
+returns-clause-room g c base disk settled v shows stands =
+    let count = g.B.Blocks.count c.args.blocks.now in
+    let s = c.args.inodes.now in
+    let t = c.prepare_set.new.self in
+    let loaded = c.in_ok-load.ensures.volume disk settled v shows stands in
+    let first = needs_room base v s c.load.new.self c.load.ensures.geometry c.load.ensures.needs in
+    let then = needs_room base v c.load.new.self t c.prepare_set.ensures.geometry c.prepare_set.ensures.needs in
+    let last = subst (λ (k : ℕ). memory_room base c.drop_nameless.new.inodes (with_node k (swept_node false (v k)) v) ≤ memory_room base t v) c.new.ensures
+    (c.drop_nameless.ensures.room base count disk settled v (c.in_ok-prepare_set.ensures.volume count disk settled v loaded)) in
+    omega (arith, first, then, last)

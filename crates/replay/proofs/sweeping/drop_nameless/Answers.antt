@@ -1,6 +1,7 @@
 use Rattle.std.proofs.Common.{rules, sym, subst, ap, arith, ℕ, ◌≡◌, ◌+◌, ◌≤◌, ◌∙◌, refl}
 use Rattle.layout.specs.Limits.{Sizes}
 use Rattle.model.specs.Volumes.{Volume}
+use Rattle.inofile.specs.Room.{memory_room}
 use Rattle.inofile.specs.Volumes.{IsVolumeOf}
 use Rattle.replay.proofs.Errors.{passed}
 use Rattle.replay.proofs.SweepLaws.{dropped_below, starts, one_more, ends}
@@ -12,6 +13,8 @@ loop-number-init g c = record {
   geometry = refl;
   drops = λ disk settled v shows has.
       subst (λ (w : Volume). IsVolumeOf (g.B.Blocks.count c.args.blocks.now) disk settled c.args.inodes.now w) (starts c.args.inodes.now.geometry.inodes v has.volume has.memory.own) has.memory;
+  room = λ base disk settled v shows has.
+      subst (λ (w : Volume). memory_room base c.args.inodes.now w ≤ memory_room base c.args.inodes.now v) (starts c.args.inodes.now.geometry.inodes v has.volume has.memory.own) (omega arith);
 }
 
 pub loop-number-preserved : goal.loop-number-preserved
@@ -25,6 +28,13 @@ loop-number-preserved g c = record {
       (subst (λ (w : Volume). IsVolumeOf (g.B.Blocks.count c.loop-number.blocks) disk settled c.drop_if_nameless.new.inodes w) (one_more m v)
       (c.in_ok-drop_if_nameless.ensures.drops disk settled (dropped_below m v) (read.same disk shows)
       (subst (λ (n : ℕ). IsVolumeOf n disk settled c.loop-number.inodes (dropped_below m v)) (sym read.count) (c.loop-number.invariant.drops disk settled v shows has))));
+  room = λ base disk settled v shows has.
+      let read = c.loop-number.invariant.read in
+      let m = c.loop-number.number in
+      let here = c.in_ok-drop_if_nameless.ensures.room base disk settled (dropped_below m v) (read.same disk shows)
+      (subst (λ (n : ℕ). IsVolumeOf n disk settled c.loop-number.inodes (dropped_below m v)) (sym read.count) (c.loop-number.invariant.drops disk settled v shows has)) in
+      let on = subst (λ (w : Volume). memory_room base c.drop_if_nameless.new.inodes w ≤ memory_room base c.loop-number.inodes (dropped_below m v)) (one_more m v) here in
+      omega (arith, on, c.loop-number.invariant.room base disk settled v shows has);
 }
 
 pub returns-in_err-drop_if_nameless-clause-drops : goal.returns-in_err-drop_if_nameless-clause-drops
@@ -47,3 +57,12 @@ returns-clause-drops g c disk settled v shows has =
           (ap (λ (n : ℕ). dropped_below n v) at ∙ ends inodes v has.volume many) (c.loop-number.invariant.drops disk settled v shows has);
       volume = search rules;
     }
+
+pub returns-clause-room : goal.returns-clause-room
+returns-clause-room g c base disk settled v shows has =
+    let inodes = c.args.inodes.now.geometry.inodes in
+    let last : c.inodes-number-end.result ≡ inodes = c.inodes-number-end.ensures.value ∙ ap (λ (s : Sizes). s.inodes) c.geometry.ensures in
+    let many : 4 ≤ inodes = omega (arith, last, c.inodes-number-end.ensures.value, c.inodes-number-end.ensures.within.least_inodes) in
+    let at : c.loop-number.number ≡ inodes = omega (arith, last, many) in
+    subst (λ (w : Volume). memory_room base c.loop-number.inodes w ≤ memory_room base c.args.inodes.now v)
+    (ap (λ (n : ℕ). dropped_below n v) at ∙ ends inodes v has.volume many) (c.loop-number.invariant.room base disk settled v shows has)

@@ -1,7 +1,8 @@
-use Rattle.std.proofs.Common.{◌≡◌, ℕ, List}
+use Rattle.std.proofs.Common.{◌≡◌, ◌≤◌, ℕ, List}
 use Rattle.layout.specs.declared.inode.Inode.{Inode}
 use Rattle.model.specs.Volumes.{Volume}
 use Rattle.buffers.specs.Reads.{HasOnlyRead}
+use Rattle.inofile.specs.Room.{memory_room}
 use Rattle.inofile.specs.Volumes.{IsVolumeOf}
 use Rattle.replay.specs.Volumes.{HasVolume}
 use Rattle.replay.proofs.SweepLaws.{dropped_below}
@@ -14,4 +15,6 @@ invariant-loop-number g l = record {
   drops : (disk : ℕ → List ℕ) (settled : ℕ → Inode) (v : Volume) → g.B.Blocks.Shows l.fn.blocks disk
       → HasVolume (g.B.Blocks.count l.fn.blocks) disk settled l.fn.inodes v
       → IsVolumeOf (g.B.Blocks.count l.fn.blocks) disk settled l.inodes (dropped_below l.number v);
+  room : (base : Volume) (disk : ℕ → List ℕ) (settled : ℕ → Inode) (v : Volume) → g.B.Blocks.Shows l.fn.blocks disk
+      → HasVolume (g.B.Blocks.count l.fn.blocks) disk settled l.fn.inodes v → memory_room base l.inodes (dropped_below l.number v) ≤ memory_room base l.fn.inodes v;
 }

@@ -16,3 +16,6 @@ pub returns-clause-tells : goal.returns-clause-tells
 returns-clause-tells g c disk settled v shows stands =
     let loaded = c.in_ok-load.ensures.volume disk settled v shows stands in
     (c.is_nameless.ensures (g.B.Blocks.count c.args.blocks.now) disk settled v loaded ∙ ap (λ (k : ℕ). is_nameless (v k)) c.new.ensures, loaded)
+
+pub returns-then-not-is_taken-clause-needs : goal.returns-then-not-is_taken-clause-needs
+returns-then-not-is_taken-clause-needs g c = λ n k le. le

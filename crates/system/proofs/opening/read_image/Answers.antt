@@ -37,12 +37,15 @@ returns-clause-has g c disk nvram first last snapshots changes shows tells holds
     let tested = c.in_ok-check_snapshots.ensures.reads in
     let count = c.in_ok-map.ensures.reads.count ∙ tested.count ∙ c.requires.size in
     let loaded = c.in_ok-map.ensures.loads disk (tested.same disk shows) (c.volumes_are_readable.ensures disk r first snapshots holds.holds) in
-    let did = c.in_ok-log.ensures.replays disk (inodes_of (whole disk r).active) first last changes nvram (c.in_ok-map.ensures.reads.same disk (tested.same disk shows))
-    (has_volume disk r nvram first last snapshots changes c.args.saved c.requires.half c.requires.generation holds inodes c.in_ok-map.field-0.map (g.B.Blocks.count c.load.new.blocks) geometry count loaded)
-    tells (saves disk r nvram first last snapshots changes c.args.saved c.requires.half c.requires.generation holds inodes geometry) in
+    let shown = c.in_ok-map.ensures.reads.same disk (tested.same disk shows) in
+    let has = has_volume disk r nvram first last snapshots changes c.args.saved c.requires.half c.requires.generation holds inodes c.in_ok-map.field-0.map (g.B.Blocks.count c.load.new.blocks) geometry count loaded in
+    let saved = saves disk r nvram first last snapshots changes c.args.saved c.requires.half c.requires.generation holds inodes geometry in
+    let under = inodes_of (whole disk r).active in
+    let did = c.in_ok-log.ensures.replays disk under first last changes nvram shown has tells saved in
     has_image disk r nvram first last snapshots changes c.args.saved c.requires.half c.requires.generation holds inodes
     (record { inodes = c.replay.new.inodes; map = c.in_ok-map.field-0.map; log = c.in_ok-log.field-0.log; pledged = c.in_ok-log.field-0.pledged })
-    (g.B.Blocks.count c.load.new.blocks) (c.in_ok-log.ensures.geometry ∙ geometry) count loaded did.0 did.1 did.2 geometry
+    (g.B.Blocks.count c.load.new.blocks) (c.in_ok-log.ensures.geometry ∙ geometry) count loaded did.0 did.1 did.2
+    (c.in_ok-log.ensures.room disk under first last changes nvram shown has tells saved c.in_ok-map.ensures.clean) geometry
 
 pub returns-clause-log : goal.returns-clause-log
 returns-clause-log g c nvram tells =

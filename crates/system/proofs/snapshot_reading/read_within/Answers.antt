@@ -11,8 +11,8 @@ use Rattle.model.specs.Volumes.{IsVolume}
 use Rattle.paths.specs.Standing.{Stands}
 use Rattle.records.specs.Failures.{told}
 use Rattle.snapshots.specs.Found.{FindsSnapshot, named}
-use Rattle.snapshots.specs.declared.finding.Found.{Found}
-use Rattle.system.specs.Answering.{reply_of}
+use Rattle.snapshots.specs.declared.finding.FoundSnapshot.{FoundSnapshot}
+use Rattle.system.specs.Answering.{answered_reply}
 use Rattle.system.proofs.ViewLaws.{closed, frozen_told, reading_viewed}
 use Rattle.system.proofs.snapshot_reading.read_within.Goals as goal
 
@@ -21,7 +21,7 @@ returns-clause-views g c = λ disk shows v pairs holds s same.
     let r = c.args.root.now in
     let name = c.args.name.now in
     let call = c.args.call.now in
-    let finds = subst (λ (o : Option Found). FindsSnapshot r disk name pairs o) c.in-Some.is (c.in_ok-found.ensures.finds disk shows v pairs holds) in
+    let finds = subst (λ (o : Option FoundSnapshot). FindsSnapshot r disk name pairs o) c.in-Some.is (c.in_ok-found.ensures.finds disk shows v pairs holds) in
     let (kept, hold, volume, is) = finds.1.frozen in
     let t = (whole disk r).frozen c.in-Some.found.slot in
     let next = c.find.ensures.reads.same disk shows in
@@ -32,16 +32,16 @@ returns-clause-views g c = λ disk shows v pairs holds s same.
       volume = subst (λ (n : ℕ). IsVolumeOf n disk (inodes_of t) c.in_ok-inodes.inodes kept) (sym count) (are.volume kept hold);
     } in
     IfOk-weaker (told c.read.result) _ _
-    (λ x answers. reading_viewed s name call (name, finds.1.tree) (reply_of x) (ap (named name) same ∙ finds.1.listed) (search rules)
-    (subst (λ (u : Tree). calls s.inodes u call (reply_of x) u nothing) (sym is)
-    (frozen_told c.mounts_forget_open_files.ensures c.reading_forgets_open_files.ensures r.geometry.inodes s.inodes kept call (reply_of x) volume (search rules) (answers s.inodes))))
+    (λ x answers. reading_viewed s name call (name, finds.1.tree) (answered_reply x) (ap (named name) same ∙ finds.1.listed) (search rules)
+    (subst (λ (u : Tree). calls s.inodes u call (answered_reply x) u nothing) (sym is)
+    (frozen_told c.mounts_forget_open_files.ensures c.reading_forgets_open_files.ensures r.geometry.inodes s.inodes kept call (answered_reply x) volume (search rules) (answers s.inodes))))
     (c.read.ensures.tells.answers disk (inodes_of t) kept closed stands (subst (λ (x : Sizes). IsVolume x.inodes kept) (sym are.geometry) volume))
 
 pub returns-clause-damaged : goal.returns-clause-damaged
 returns-clause-damaged g c = λ disk shows v pairs holds is.
     let r = c.args.root.now in
     let name = c.args.name.now in
-    let finds = subst (λ (o : Option Found). FindsSnapshot r disk name pairs o) c.in-Some.is (c.in_ok-found.ensures.finds disk shows v pairs holds) in
+    let finds = subst (λ (o : Option FoundSnapshot). FindsSnapshot r disk name pairs o) c.in-Some.is (c.in_ok-found.ensures.finds disk shows v pairs holds) in
     let (kept, hold, volume, tree) = finds.1.frozen in
     let t = (whole disk r).frozen c.in-Some.found.slot in
     let next = c.find.ensures.reads.same disk shows in

@@ -1,6 +1,6 @@
 use Rattle.std.proofs.Common.{ℕ, ◌*◌, ◌<◌, List, length, take, ap, sym, subst, ◌∙◌}
 use Rattle.station.specs.Images.{SectorsWritten}
-use Rattle.buffers.specs.Disks.{ShowsDisk, disk_with}
+use Rattle.buffers.specs.Disks.{ShowsDisk, disk_with_block}
 use Rattle.conspoint.specs.declared.plan.PlannedBlock.{PlannedBlock}
 use Rattle.conspoint.specs.Plans.{Planned}
 use Rattle.conspoint.specs.Cuts.{HoldsWritten, disk_with_blocks, disk_so_far}
@@ -32,5 +32,5 @@ returns-clause-shows g c disk shows =
     let more = subst (λ (p : Planned). p.written < length p.blocks) (sym c.self.view_is) c.requires.more in
     let before = disk_with_blocks (take at blocks) disk in
     let old = subst (λ (p : Planned). ShowsDisk m0 c.args.buffers.now.kept (disk_so_far p disk)) (sym c.self.view_is) shows in
-    let stored = subst (λ (xs : List ℕ). ShowsDisk m1 c.store.new.self.kept (disk_with block.place xs before)) c.bytes.ensures (c.in_ok-store.ensures.shows before old) in
+    let stored = subst (λ (xs : List ℕ). ShowsDisk m1 c.store.new.self.kept (disk_with_block block.place xs before)) c.bytes.ensures (c.in_ok-store.ensures.shows before old) in
     subst (λ (e : ℕ → List ℕ). ShowsDisk m1 c.store.new.self.kept e) (disk_more blocks at block disk c.index-block.ensures more) stored

@@ -5,11 +5,11 @@ use Rattle.std.specs.Option.{option_map}
 use Rattle.layout.specs.Limits.{Sizes}
 use Rattle.model.specs.Volumes.{with_node}
 use Rattle.images.specs.Sums.{sum_below}
-use Rattle.inofile.specs.Settled.{content_of}
+use Rattle.inofile.specs.Settled.{content_of_object}
 use Rattle.inofile.specs.Room.{number_room, room_of}
 use Rattle.inofile.specs.Inodes.{IsKnownSlot, slot_object}
 use Rattle.inofile.specs.Slots.{IsChangedSlot}
-use Rattle.inofile.specs.declared.inode_file.Slot.TheVariants.{Changed}
+use Rattle.inofile.specs.declared.inode_file.ObjectSlot.TheVariants.{Changed}
 use Rattle.inofile.proofs.SlotLaws.{contents_with, each_slot, other_changes, other_objects, puts}
 use Rattle.inofile.proofs.VolumeLaws.{Notes, note_maps, other_slot, own_stay, set_stands}
 use Rattle.inofile.proofs.RoomLaws.{given_room}
@@ -30,7 +30,7 @@ returns c =
       file = refl;
       stays = λ n known. each_slot old new number (Some (Changed object)) up IsKnownSlot tt n known;
       keeps = λ n room. each_slot old new number (Some (Changed object)) up IsSome refl n room;
-      set = λ disk settled n. contents_with old new number (Some (Changed object)) up disk settled (option_map (content_of disk) object) refl n;
+      set = λ disk settled n. contents_with old new number (Some (Changed object)) up disk settled (option_map (content_of_object disk) object) refl n;
       volume = λ count disk settled v node is stands. record {
         inodes = is.inodes;
         mapped = note_maps disk c.args.self.now.geometry.inodes (settled number) before after v number object node is.mapped noted stands;

@@ -5,7 +5,7 @@ use Rattle.images.specs.Nodes.{held}
 use Rattle.images.specs.Soundness.{IsSoundFile, IsOrdinary}
 use Rattle.inofile.specs.Objects.{StandsFor}
 use Rattle.inofile.specs.Settled.{held_content, settled_content}
-use Rattle.inofile.specs.declared.inode_file.Slot.TheVariants.{Loaded}
+use Rattle.inofile.specs.declared.inode_file.ObjectSlot.TheVariants.{Loaded}
 use Rattle.inofile.proofs.VolumeLaws.{all_stand, load_stands, load_same, unknown_stands}
 use Rattle.inofile.proofs.RoomLaws.{set_needs}
 use Rattle.inofile.proofs.inode_file.InodeFile.load.Goals as goal

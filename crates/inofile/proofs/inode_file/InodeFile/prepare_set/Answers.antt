@@ -1,5 +1,5 @@
 use Rattle.std.proofs.Common.{refl, Some}
-use Rattle.inofile.specs.declared.inode_file.Slot.TheVariants.{AsSettled}
+use Rattle.inofile.specs.declared.inode_file.ObjectSlot.TheVariants.{AsSettled}
 use Rattle.inofile.proofs.RoomLaws.{set_needs}
 use Rattle.inofile.proofs.inode_file.InodeFile.prepare_set.Goals as goal
 

@@ -1,9 +1,21 @@
-use Rattle.std.proofs.Common.{ap, arith, Err}
-use Rattle.mount.proofs.AnswerLemmas.{attempted, behind_that, no_room, not_attempted}
+use Rattle.std.proofs.Common.{arith, inl, inr}
+use Rattle.system.specs.Systems.{IsCovered}
+use Rattle.mount.proofs.AnswerLemmas.{attempted, behind_that, no_room, no_room_left, not_attempted, settled_applied, short_by}
+use Rattle.mount.proofs.AttemptLemmas.{still_going}
 use Rattle.mount.proofs.fs.Fs.call_settled.Goals as goal
 
+pub returns-then-is_covered : goal.returns-then-is_covered
+returns-then-is_covered g c =
+    let fs = c.args.self.now in
+    no_room_left {G = g.S.Station} 1 _ fs c.args.call.now c.requires.going (λ t here. c.served_states_open.ensures t.tree.descriptors t here) (λ s serves needs. needs.not_sure)
+    (λ s serves needs. c.is_covered.ensures.covers s.tree.descriptors s (serves.kept (still_going fs s serves c.requires.going)) c.if-is_covered.true)
+    (λ s serves needs. elim needs.waits [
+      | inl lacks ↦ short_by {G = g.S.Station} fs.system s c.args.call.now lacks
+      | inr full ↦ absurd (full (c.is_covered.ensures.told.0 c.if-is_covered.true).log)
+    ])
+
 pub returns-in-Err : goal.returns-in-Err
-returns-in-Err g c = no_room 1 _ _ _ c.args.call.now c.in-Err.errno (omega arith) c.in-Err.ensures (λ s needs. needs)
+returns-in-Err g c = no_room 1 _ _ _ c.args.call.now c.in-Err.errno (omega arith) c.in-Err.ensures (λ s needs. needs.not_sure)
 
 pub returns-in-Ok : goal.returns-in-Ok
 returns-in-Ok g c =
@@ -13,7 +25,7 @@ returns-in-Ok g c =
 pub returns-in-Err-attempt : goal.returns-in-Err-attempt
 returns-in-Err-attempt g c =
     let made = c.in_default.ensures.made in
-    behind_that 1 1 0 _ (λ s. Unit {0}) c.args.self.now c.settle.new.self _ c.args.call.now _ (omega arith) c.requires.going made.keeps
+    behind_that 1 1 0 _ (λ s. IsCovered c.settle.new.self.system s.tree.descriptors s) c.args.self.now c.settle.new.self _ c.args.call.now _ (omega arith) c.requires.going made.keeps
     (not_attempted 0 _ _ _ c.args.call.now c.in-Err-attempt.error _ c.errno_of_call.ensures c.in-Err-attempt.ensures
-    (λ s serves _ is. (c.in-Err-attempt.ensures.full s serves (ap (λ e. Err e) is)).2 made.empty))
-    (λ s serves needs. tt) (λ s serves needs. needs.not_sure)
+    (λ s serves covered. settled_applied {G = g.S.Station} _ _ c.args.call.now c.in-Err-attempt.error c.in-Err-attempt.ensures made.going made.empty s serves covered))
+    (λ s serves needs. made.covered s serves) (λ s serves needs. needs.not_sure)

@@ -2,6 +2,7 @@ use Rattle.std.proofs.Common.{false}
 use Rattle.std.proofs.lemmas.Bool.{false≢true}
 use Rattle.model.specs.Room.{Room}
 use Rattle.mount.proofs.AttemptLemmas.{still_going, told_room}
+use Rattle.mount.proofs.NamelessLemmas.{nameless_of, nameless_told}
 use Rattle.mount.proofs.fs.Fs.space.Goals as goal
 
 pub returns-clause-applied : goal.returns-clause-applied
@@ -9,11 +10,12 @@ returns-clause-applied g c s serves runs =
     let fs = c.args.self.now in
     let served = serves.kept (still_going fs s serves runs) in
     let told = c.space-blocks.ensures in
-    let room : Room = record { blocks = c.space-blocks.result.blocks; free = c.space-blocks.result.free; pledged = c.space-blocks.result.pledged; is_covered = false } in
+    let room : Room = record { blocks = c.space-blocks.result.blocks; free = c.space-blocks.result.free; pledged = c.space-blocks.result.pledged; is_covered = false; nameless_of = nameless_of fs.system s served } in
     let opens = c.served_states_open.ensures s.tree.descriptors s served in
     told_room fs s serves runs room (record {
       serves = served;
       blocks = told.blocks;
       free = told.free s.tree.descriptors s served;
-      told = told.told s.tree.descriptors s served false (λ e. absurd (false≢true e));
+      told = told.told s.tree.descriptors s served (nameless_of fs.system s served) false (λ e. absurd (false≢true e));
+      nameless = nameless_told fs.system s served;
     }) opens

@@ -6,7 +6,7 @@ use Rattle.system.specs.Images.{OpensTo}
 use Rattle.system.specs.Systems.{meaning_of}
 use Rattle.mount.proofs.AnswerLemmas.{at_once, no_room}
 use Rattle.mount.proofs.PointLemmas.{synced_by}
-use Rattle.mount.proofs.AttemptLemmas.{stays_by, still_going, sync_needs, synced}
+use Rattle.mount.proofs.AttemptLemmas.{stays_by, still_going, synced}
 use Rattle.mount.proofs.fs.Fs.sync.Goals as goal
 
 pub returns-then-is_covered : goal.returns-then-is_covered
@@ -23,4 +23,4 @@ pub returns-in-Ok : goal.returns-in-Ok
 returns-in-Ok g c = synced_by 2 c.args.self.now _ c.requires (omega arith) c.in-Ok.ensures.made
 
 pub returns-in-Err : goal.returns-in-Err
-returns-in-Err g c = no_room 2 _ _ _ Sync c.in-Err.errno (omega arith) c.in-Err.ensures (λ s _. sync_needs s)
+returns-in-Err g c = no_room 2 _ _ _ Sync c.in-Err.errno (omega arith) c.in-Err.ensures (λ s _ no. no)

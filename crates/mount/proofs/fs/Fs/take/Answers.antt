@@ -6,7 +6,7 @@ use Rattle.model.specs.declared.errno.Errno.TheVariants.{EIO}
 use Rattle.system.specs.Settling.{TestsTake}
 use Rattle.mount.proofs.AnswerLemmas.{behind_that}
 use Rattle.mount.proofs.PointLemmas.{glance_fails, glance_keeps, glance_refuses}
-use Rattle.mount.proofs.AttemptLemmas.{change_needs, still_going}
+use Rattle.mount.proofs.AttemptLemmas.{still_going}
 use Rattle.mount.proofs.fs.Fs.take.Goals as goal
 
 pub returns-in-Ok-None : goal.returns-in-Ok-None
@@ -15,8 +15,7 @@ returns-in-Ok-None g c =
     let asked = command.SnapTake c.args.name.now in
     behind_that 2 0 2 _ _ c.args.self.now _ _ asked c.take_tested.result (omega arith) c.requires
     (glance_keeps {G = g.S.Station} c.args.self.now _ c.requires c.requires (λ t here. c.served_states_open.ensures t.tree.descriptors t here) _ told.glances) c.take_tested.ensures
-    (λ s serves _. change_needs s asked (λ no. no)
-    (subst (λ (o : Option Errno). TestsTake s c.args.name.now o) c.in-Ok-None.field-0-is (told.tests s (serves.kept (still_going _ s serves c.requires))))) (λ s serves _ no. no)
+    (λ s serves _. subst (λ (o : Option Errno). TestsTake s c.args.name.now o) c.in-Ok-None.field-0-is (told.tests s (serves.kept (still_going _ s serves c.requires)))) (λ s serves _ no. no)
 
 pub returns-in-Ok-Some : goal.returns-in-Ok-Some
 returns-in-Ok-Some g c =

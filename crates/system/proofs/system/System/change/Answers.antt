@@ -1,4 +1,5 @@
-use Rattle.std.proofs.Common.{inr, ap, sym, refl}
+use Rattle.std.proofs.Common.{Err, inr, ap, sym, subst, refl}
+use Rattle.replay.specs.Costs.{KnowsFile}
 use Rattle.layout.specs.Record.{change_of}
 use Rattle.model.specs.Records.{work_of}
 use Rattle.model.specs.States.{State}
@@ -56,6 +57,8 @@ returns-in-Ok g c =
       leaves = c.log.ensures.any_moment s.tree.descriptors s (before s served) (made s served).advances;
     })
     c.in-Ok.field-0 change (λ s served. refl) done_is_no_fault (λ errno is. cc) c.in-Ok.ensures.writes c.in-Ok.ensures.log.1
+    (λ s served. c.in-Ok.ensures.room s.tree.descriptors s (before s served)
+    (subst (KnowsFile c.prepare.new.inodes) (sym c.record.ensures.says) (on_volumes {G = g.S.Station} fs told.does s served).knows))
     (λ s served.
     let behind = c.in-Ok.ensures.done s.tree.descriptors s (before s served) (made s served).advances
     (does_over (meaning_of {G = g.S.Station} fs) mid fs.root c.prepare.new.inodes served.running _ change _ c.record.ensures.says (sym (reads.goes served.honest).seen)
@@ -81,11 +84,13 @@ returns-in-Ok-Some g c =
       step = (made s served).step;
       leaves = c.log.ensures.any_moment s.tree.descriptors s (before s served) (made s served).advances;
     })
-    c.in-Err-log.error c.log_error.result c.log_error.ensures failed.writes
+    c.in-Err-log.error failed.own failed.writes
     (λ is.
     let same = failed.refused.1 is in (
       ap (λ (b : Buffers g.row.S.Denot). g.S.Station.meaning b.station) (sym same.0),
       same.1,
+      c.log.ensures.opened.0,
       λ s served. serves_same {G = g.S.Station} fs c.log.new.self blocks c.prepare.new.inodes s same.0 failed.refused.0 same.1 (before s served),
     ))
-    (λ is empty. short_fits {G = g.S.Station} fs change empty c.record.ensures.short (failed.full is))
+    (λ is empty. short_fits {G = g.S.Station} fs change empty c.record.ensures.short (failed.full (ap (λ e. Err e) is)))
+    (λ is s served. failed.short s.tree.descriptors s (before s served) (subst (KnowsFile c.prepare.new.inodes) (sym c.record.ensures.says) (on_volumes {G = g.S.Station} fs told.does s served).knows) (ap (λ e. Err e) is))

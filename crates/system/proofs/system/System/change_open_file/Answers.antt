@@ -1,4 +1,5 @@
-use Rattle.std.proofs.Common.{ℕ, Option, ap, inr, refl, sym, subst, [], ◌∷◌, ◌++◌}
+use Rattle.std.proofs.Common.{ℕ, Err, Option, ap, inr, refl, sym, subst, [], ◌∷◌, ◌++◌}
+use Rattle.replay.specs.Costs.{KnowsFile}
 use Rattle.layout.specs.Record.{change_of}
 use Rattle.model.specs.Records.{applied, work_of}
 use Rattle.model.specs.States.{State}
@@ -77,6 +78,8 @@ returns-in-Ok-log g c =
     (λ s served. c.served_states_open.ensures s.tree.descriptors s served) (λ s served. logging_not_sure s call c.requires)
     (λ s served. record { after = _; work = work_of served.running change; step = (made s served).step; leaves = leads s served })
     c.in-Ok-log.field-0 change (λ s served. refl) (told.within.accepted EIO) told.within.accepted c.in-Ok-log.ensures.writes c.in-Ok-log.ensures.log.1
+    (λ s served. c.in-Ok-log.ensures.room s.tree.descriptors s (before s served)
+    (subst (KnowsFile inodes) (sym c.record.ensures.says) (rw c.in-Some.is at (on_volumes {G = g.S.Station} fs told.does s served)).knows))
     (λ s served.
     let is = made s served in
     let behind = logged_moves {G = g.S.Station} c.log.new.self c.put_into.new.files doing.table s.tree.descriptors fs.root.geometry.inodes (swept s.tree.descriptors (applied change served.running)) served.snapshots
@@ -108,11 +111,13 @@ returns-in-Err-log g c =
     not_logged {G = g.S.Station} fs c.log.new.self mid call doing.reply (reads_on {G = g.S.Station} fs blocks inodes looks) looks.reads.counted c.log.ensures.log.0
     (λ s served. c.served_states_open.ensures s.tree.descriptors s served) (λ s served. logging_not_sure s call c.requires)
     (λ s served. record { after = _; work = work_of served.running change; step = (made s served).step; leaves = leads s served })
-    c.in-Err-log.error c.log_error.result c.log_error.ensures failed.writes
+    c.in-Err-log.error failed.own failed.writes
     (λ is.
     let same = failed.refused.1 is in (
       ap (λ (b : Buffers g.row.S.Denot). g.S.Station.meaning b.station) (sym same.0),
       same.1,
+      c.log.ensures.opened.0,
       λ s served. serves_same {G = g.S.Station} fs c.log.new.self blocks inodes s same.0 failed.refused.0 same.1 (before s served),
     ))
-    (λ is empty. record_fits {G = g.S.Station} fs change empty c.record.ensures.short (failed.full is))
+    (λ is empty. record_fits {G = g.S.Station} fs change empty c.record.ensures.short (failed.full (ap (λ e. Err e) is)))
+    (λ is s served. failed.short s.tree.descriptors s (before s served) (subst (KnowsFile inodes) (sym c.record.ensures.says) (rw c.in-Some.is at (on_volumes {G = g.S.Station} fs told.does s served)).knows) (ap (λ e. Err e) is))

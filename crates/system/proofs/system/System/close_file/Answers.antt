@@ -21,6 +21,7 @@ returns-in-Ok-close g c =
     let v = served.running in
     let mounted = subst (λ (t : ℕ → Option Description). IsMounted v t) served.opened served.mounted in
     close_leads {G = g.S.Station} c.records_lead_on.ensures _ s fd Done c.prepare_close.new.inodes fs.files now (c.close.ensures.volume fs.root.geometry.blocks _ _ v now.memory.stands mounted served.fits)
+    (c.close.ensures.room served.first fs.root.geometry.blocks _ _ v now.memory.stands mounted served.fits)
     (c.close.ensures.fits v served.fits) (c.close.ensures.mounted v mounted) (c.in-Ok-close.ensures.answers fs.root.geometry.inodes v served.memory.volume mounted))
 
 pub returns-in-Err-close : goal.returns-in-Err-close
@@ -37,6 +38,7 @@ returns-in-Err-close g c =
     let v = served.running in
     let mounted = subst (λ (t : ℕ → Option Description). IsMounted v t) served.opened served.mounted in
     close_leads {G = g.S.Station} c.records_lead_on.ensures _ s fd (Refused errno) c.prepare_close.new.inodes fs.files now (c.close.ensures.volume fs.root.geometry.blocks _ _ v now.memory.stands mounted served.fits)
+    (c.close.ensures.room served.first fs.root.geometry.blocks _ _ v now.memory.stands mounted served.fits)
     (c.close.ensures.fits v served.fits) (c.close.ensures.mounted v mounted) (c.in-Err-close.ensures.answers fs.root.geometry.inodes v served.memory.volume mounted))
 
 pub returns-in-Err : goal.returns-in-Err

@@ -15,7 +15,7 @@ use Rattle.model.specs.declared.command.Command.TheVariants as command
 use Rattle.model.specs.declared.errno.Errno.TheVariants.{NOSNAP}
 use Rattle.model.specs.declared.reply.Reply.TheVariants.{Done, Refused}
 use Rattle.snapshots.specs.Found.{FindsSnapshot, named}
-use Rattle.snapshots.specs.declared.finding.Found.{Found}
+use Rattle.snapshots.specs.declared.finding.FoundSnapshot.{FoundSnapshot}
 use Rattle.system.specs.Serving.{ServesState}
 use Rattle.system.specs.Systems.{meaning_of}
 use Rattle.system.proofs.HandlingLaws.{either_after}
@@ -31,13 +31,13 @@ finds : (g : Over) (c : In-Some g) (s : State) → (served : ServesState {G = g.
 finds g c s served =
     let fs = c.args.self.now in
     let d = blocks_of (meaning_of {G = g.S.Station} fs).seen.disk in
-    subst (λ (o : Option Found). FindsSnapshot fs.root d c.as_bytes.result.now served.snapshots o) c.in-Some.is (c.in-Ok.ensures.finds d served.shows served.first served.snapshots served.under.holds)
+    subst (λ (o : Option FoundSnapshot). FindsSnapshot fs.root d c.as_bytes.result.now served.snapshots o) c.in-Some.is (c.in-Ok.ensures.finds d served.shows served.first served.snapshots served.under.holds)
 
 number : (g : Over) (c : In-Some g) → (1 ≤ c.in-Some.found.slot) × (c.in-Some.found.slot ≤ SNAPSHOT_SLOTS)
-number g c = subst (λ (o : Option Found). IfSome o (λ f. (1 ≤ f.slot) × (f.slot ≤ SNAPSHOT_SLOTS))) c.in-Some.is c.in-Ok.ensures.slot
+number g c = subst (λ (o : Option FoundSnapshot). IfSome o (λ f. (1 ≤ f.slot) × (f.slot ≤ SNAPSHOT_SLOTS))) c.in-Some.is c.in-Ok.ensures.slot
 
 -- what isn't some is nothing
-not_found : (r : Root) (disk : Blocks) (name : Name) (pairs : List (Name × Tree)) (o : Option Found) → ((f : Found) → o ≡ Some f → ⊥) → FindsSnapshot r disk name pairs o → named name pairs ≡ None
+not_found : (r : Root) (disk : Blocks) (name : Name) (pairs : List (Name × Tree)) (o : Option FoundSnapshot) → ((f : FoundSnapshot) → o ≡ Some f → ⊥) → FindsSnapshot r disk name pairs o → named name pairs ≡ None
 not_found r disk name pairs None none finds = finds
 not_found r disk name pairs (Some f) none finds = absurd (none f refl)
 
@@ -89,9 +89,9 @@ returns-in-Ok-point_with g c =
       after = after;
       need = nothing;
       step = λ room. subst (λ (n : Name). deletes s n Done after nothing) c.as_bytes.ensures (delete_step {G = g.S.Station} fs s name served _ is_found.1.listed);
-      covered = made.covered s.tree.descriptors s over after (deleted found.slot name, record { is = (name, refl); can = can }, refl);
+      covered = made.covered s.tree.descriptors s over after (deleted found.slot name, record { is = (name, refl); can = can }, refl) tt;
       leaves = either_after m mid (meaning_of {G = g.S.Station} new) s after reads (c.served_states_open.ensures s.tree.descriptors s served)
-          (made.any_moment s.tree.descriptors s over after (deleted found.slot name, record { is = (name, refl); can = can }, refl));
+          (made.any_moment s.tree.descriptors s over after (deleted found.slot name, record { is = (name, refl); can = can }, refl) tt);
     }) _
 
 pub returns-in-Err-point_with : goal.returns-in-Err-point_with
@@ -122,8 +122,7 @@ returns-in-Err-point_with g c =
       need = nothing;
       step = λ room. subst (λ (n : Name). deletes s n Done after nothing) c.as_bytes.ensures (step s served);
       leaves = either_after m mid (meaning_of {G = g.S.Station} new) s after reads (c.served_states_open.ensures s.tree.descriptors s served)
-          (made.any_moment s.tree.descriptors s (over s served) after (deleted found.slot name, record { is = (name, refl); can = can }, refl));
+          (made.any_moment s.tree.descriptors s (over s served) after (deleted found.slot name, record { is = (name, refl); can = can }, refl) tt);
     })
-    (λ is. (made.full (ap (λ e. Err e) is)).1)
-    (λ s served room. (Done, without {G = g.S.Station} fs s name served, nothing, subst (λ (n : Name). deletes s n Done (without {G = g.S.Station} fs s name served) nothing) c.as_bytes.ensures (step s served), inr (tt, refl)))
+    (λ s served any is. made.roomy s.tree.descriptors s (over s served) tt (ap (λ e. Err e) is))
     (λ s served is. made.damaged s.tree.descriptors s (over s served) (ap (λ e. Err e) is)) (λ s served is. made.last s.tree.descriptors s (over s served) (ap (λ e. Err e) is))

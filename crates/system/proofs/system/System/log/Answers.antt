@@ -1,14 +1,17 @@
-use Rattle.std.proofs.Common.{◌≡◌, ◌∙◌, ◌⊎◌, ℕ, Option, ap, inl, sym, subst}
+use Rattle.std.proofs.Common.{◌≡◌, ◌≤◌, ◌+◌, ◌∙◌, ◌⊎◌, ℕ, Option, ap, arith, inl, sym, subst}
+use Rattle.std.proofs.lemmas.Bool.{false≢true}
 use Rattle.station.specs.Images.{Images}
 use Rattle.station.proofs.Moments.{started, weaker}
 use Rattle.layout.specs.Places.{blocks_of}
 use Rattle.layout.specs.Record.{change_of}
-use Rattle.model.specs.Records.{applied}
+use Rattle.model.specs.Records.{applied, work_of}
+use Rattle.model.specs.Room.{cost}
 use Rattle.model.specs.Trees.{Description}
 use Rattle.model.specs.Volumes.{IsMounted, Volume, swept}
 use Rattle.descriptors.specs.Fits.{FitsVolume}
 use Rattle.descriptors.specs.Tables.{table_of}
 use Rattle.descriptors.specs.declared.table.Descriptors.{Descriptors}
+use Rattle.inofile.specs.Room.{memory_room}
 use Rattle.inofile.specs.Volumes.{IsVolumeOf}
 use Rattle.inofile.specs.declared.inode_file.InodeFile.{InodeFile}
 use Rattle.images.specs.Roots.{whole}
@@ -41,11 +44,29 @@ returns-clause-done g c = λ table s serves advances does.
     let over = subst (λ (i : InodeFile). IsVolumeOf count disk settled i v) same serves.memory.stands in
     let doing = subst (λ (i : InodeFile). Does disk settled i v c.args.prepared change) same does in
     let mounted = subst (λ (t : ℕ → Option Description). IsMounted v t) opened serves.mounted in
-    c.in_ok-log_record.ensures.logged table s serves advances c.commit_swept.new.inodes c.commit_swept.new.files
+    let within = subst (λ (i : InodeFile). memory_room serves.first c.commit_swept.new.inodes (after (table_of c.log_record.new.self.files)) ≤ memory_room serves.first i v + cost (work_of v change))
+    (sym same) (c.commit_swept.ensures.room serves.first count disk settled v change over doing mounted) in
+    let stored = subst (λ (t : ℕ → Option Description). memory_room serves.first c.commit_swept.new.inodes (after t) ≤ c.log_record.new.self.pledged) (sym opened)
+    (omega (arith, within, serves.stored, c.in_default.ensures.pledges v)) in
+    c.in_default.ensures.logged table s serves advances c.commit_swept.new.inodes c.commit_swept.new.files
     (subst (λ (t : ℕ → Option Description). IsVolumeOf count disk settled c.commit_swept.new.inodes (after t)) (sym opened)
     (c.commit_swept.ensures.volume count disk settled v change over doing mounted))
+    stored
     (opened ∙ sym c.commit_swept.ensures.opened)
     (subst (λ (t : ℕ → Option Description). FitsVolume c.commit_swept.new.files (after t)) (sym opened)
     (c.commit_swept.ensures.fits count disk settled v change over doing mounted
     (subst (λ (d : Descriptors). FitsVolume d v) files serves.fits)
     (subst (λ (t : ℕ → Option Description). IsMounted (after t) t) opened advances.mounted)))
+
+pub returns-then-not-has_room-clause-short : goal.returns-then-not-has_room-clause-short
+returns-then-not-has_room-clause-short g c = λ table s serves knows is room. false≢true (sym c.if-not-has_room.true ∙ (c.has_room.ensures.told table s serves knows).1 room)
+
+pub returns-then-not-has_room-clause-any_moment : goal.returns-then-not-has_room-clause-any_moment
+returns-then-not-has_room-clause-any_moment g c = λ table s serves advances.
+    let f = c.args.self.now in
+    let m = meaning_of {G = g.S.Station} f in
+    let after = state_with f.root.geometry.inodes (swept table (applied (change_of c.args.change.now) serves.running)) table serves.snapshots in
+    weaker m m (OpensTo m s) (λ (i : Images). OpensTo m s i ⊎ OpensTo m after i) (started m (OpensTo m s) (c.served_states_open.ensures table s serves)) (λ i here. inl here)
+
+pub returns-clause-room : goal.returns-clause-room
+returns-clause-room g c = λ table s serves knows. (c.has_room.ensures.told table s serves knows).0 c.if-not-has_room.false

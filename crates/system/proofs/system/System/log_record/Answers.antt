@@ -1,11 +1,11 @@
-use Rattle.std.proofs.Common.{Ok, Err, ◌≡◌, ◌+◌, length, ap, arith, sym, subst, ◌⊎◌, ◌≢◌, inl, inr, refl}
+use Rattle.std.proofs.Common.{Ok, Err, ◌≡◌, ℕ, ◌+◌, length, ap, arith, sym, subst, ◌⊎◌, ◌≢◌, inl, inr, refl}
 use Rattle.std.specs.Prelude.{IsFalse, IsErrOf}
 use Rattle.layout.specs.Record.{change_of}
 use Rattle.oplog.specs.LogEnd.{HasRoomInHalf, LogEnd, logged_body, next_of}
 use Rattle.oplog.specs.declared.log.AppendError.{AppendError}
 use Rattle.oplog.specs.declared.log.AppendError.TheVariants.{Device, LogFull, NoMemory}
 use Rattle.system.proofs.LoggedLaws as laws
-use Rattle.system.proofs.RoomLaws.{had_room}
+use Rattle.system.proofs.RoomLaws.{free_is, had_room, same_cost}
 use Rattle.system.proofs.system.System.log_record.Goals as goal
 
 no_error : {T E : Type 0} {e : E} (x : T) → Ok x ≡ Err e → ⊥
@@ -40,6 +40,8 @@ returns-in-Err-clause-any_moment g c = λ table s serves advances.
     let m = g.S.Station.meaning f.blocks.station in
     let change = change_of c.args.change.now in
     laws.at_any_moment c.cuts_open.ensures c.records_lead_on.ensures serves change advances f.sectors f.half
+    (laws.reserves c.cuts_open.ensures c.records_lead_on.ensures serves change advances f.free c.cost_of-cost.result
+    (same_cost change _ _ c.cost_of-cost.ensures.cost) c.requires.room (free_is {G = g.S.Station} f table s serves))
     (g.S.Station.meaning c.append.new.station)
     (c.append.ensures.any_moment f.root.generation serves.bodies
     (laws.log_stands c.cuts_open.ensures c.records_lead_on.ensures serves change advances))
@@ -50,6 +52,8 @@ returns-in-Ok-clause-any_moment g c = λ table s serves advances.
     let m = g.S.Station.meaning f.blocks.station in
     let change = change_of c.args.change.now in
     laws.at_any_moment c.cuts_open.ensures c.records_lead_on.ensures serves change advances f.sectors f.half
+    (laws.reserves c.cuts_open.ensures c.records_lead_on.ensures serves change advances f.free c.cost_of-cost.result
+    (same_cost change _ _ c.cost_of-cost.ensures.cost) c.requires.room (free_is {G = g.S.Station} f table s serves))
     (g.S.Station.meaning c.append.new.station)
     (c.append.ensures.any_moment f.root.generation serves.bodies
     (laws.log_stands c.cuts_open.ensures c.records_lead_on.ensures serves change advances))
@@ -59,8 +63,14 @@ returns-in-Ok-clause-logged g c = λ table s serves advances.
     let f = c.args.self.now in
     let m = g.S.Station.meaning f.blocks.station in
     let change = change_of c.args.change.now in
+    let costs_it = same_cost change _ _ c.cost_of-cost.ensures.cost in
     laws.logged c.cuts_open.ensures c.records_lead_on.ensures serves change advances (g.S.Station.meaning c.append.new.station) c.append.new.self
     c.append.ensures.disk c.append.ensures.writes.same
+    (laws.reserves c.cuts_open.ensures c.records_lead_on.ensures serves change advances f.free c.cost_of-cost.result costs_it c.requires.room
+    (free_is {G = g.S.Station} f table s serves))
     (c.in-Ok.ensures.appended f.root.generation serves.bodies
     (laws.log_stands c.cuts_open.ensures c.records_lead_on.ensures serves change advances))
-    (subst (λ (l : LogEnd). IsFalse l.is_stopped) (sym c.in-Ok.ensures.end) serves.goes) c.cost_of-cost.result c.cost_of-cost.ensures.cost
+    (subst (λ (l : LogEnd). IsFalse l.is_stopped) (sym c.in-Ok.ensures.end) serves.goes) c.cost_of-cost.result costs_it
+
+pub returns-in-Ok-clause-pledges : goal.returns-in-Ok-clause-pledges
+returns-in-Ok-clause-pledges g c = λ v. ap (λ (n : ℕ). c.args.self.now.pledged + n) (same_cost (change_of c.args.change.now) _ _ c.cost_of-cost.ensures.cost v)

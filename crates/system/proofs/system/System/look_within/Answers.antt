@@ -6,7 +6,7 @@ use Rattle.model.specs.Room.{nothing}
 use Rattle.model.specs.Steps.{views}
 use Rattle.model.specs.declared.command.Command.TheVariants as command
 use Rattle.records.specs.Failures.{told}
-use Rattle.system.specs.Answering.{reply_of}
+use Rattle.system.specs.Answering.{answered_reply}
 use Rattle.system.specs.Systems.{meaning_of}
 use Rattle.system.proofs.ServingLaws.{looked_up}
 use Rattle.system.proofs.ViewLaws.{snapshots_of, stays_read}
@@ -23,6 +23,6 @@ returns g c =
     looked_up fs _ (command.Within c.args.name.now call) reads refl c.read_within-outcome.result _ c.answer.ensures (λ s served x. x) (λ s served. c.served_states_open.ensures s.tree.descriptors s served)
     seen.reads.counted seen.reads.device seen.own seen.no_fault
     (λ s served. (stays_read {G = g.S.Station} fs c.read_within-outcome.new.blocks s reads seen.reads.same served, refl))
-    (λ s served. IfOk-weaker (told c.read_within-outcome.result) _ _ (λ r views_so room. subst (λ (name : List ℕ). views s name call (reply_of r) s nothing) c.as_bytes.ensures views_so)
+    (λ s served. IfOk-weaker (told c.read_within-outcome.result) _ _ (λ r views_so room. subst (λ (name : List ℕ). views s name call (answered_reply r) s nothing) c.as_bytes.ensures views_so)
     (seen.views d served.shows served.first served.snapshots served.under.holds s (snapshots_of {G = g.S.Station} fs s served)))
     (λ s served. seen.damaged d served.shows served.first served.snapshots served.under.holds)

@@ -37,7 +37,7 @@ returns-in-Ok-clause-opens g c honest s to =
     let is : c.in-Ok.found.newest.root ≡ o.root = c.in-Ok.ensures.only honest o.root (bodies_of o.changes) o.newest fits o.log.log in
     let went = c.find.ensures.goes honest in
     let there : HoldsRecords (blocks_of m.seen.disk) o.root m.seen.nvram o.first o.last o.snapshots o.changes =
-    record { holds = o.holds; log = o.log; replays = o.replays } in
+    record { holds = o.holds; log = o.log; replays = o.replays; room = o.room } in
     let holds = subst (λ (i : Images). HoldsRecords (blocks_of i.disk) c.in-Ok.found.newest.root i.nvram o.first o.last o.snapshots o.changes) (sym went.seen)
     (subst (λ (r : Root). HoldsRecords (blocks_of m.seen.disk) r m.seen.nvram o.first o.last o.snapshots o.changes) (sym is) there) in
     let just = subst (λ (i : Images). LeavesJust mid i) (sym went.seen) c.in-Ok.ensures.settled.0 in

@@ -12,17 +12,17 @@ returns g c =
     let made = c.point_with.ensures in
     record {
       counted = made.counted;
-      any_moment = λ table s serves t is.
-          made.any_moment table s serves t (unchanged, record { is = refl; can = tt }, is ∙ sym (same_state s _ serves.state));
-      covered = λ table s serves t is.
-          made.covered table s serves t (unchanged, record { is = refl; can = tt }, is ∙ sym (same_state s _ serves.state));
+      any_moment = λ table s serves t is roomy.
+          made.any_moment table s serves t (unchanged, record { is = refl; can = tt }, is ∙ sym (same_state s _ serves.state)) tt;
+      covered = λ table s serves t is roomy.
+          made.covered table s serves t (unchanged, record { is = refl; can = tt }, is ∙ sym (same_state s _ serves.state)) tt;
       refused = made.refused;
       kept = made.kept;
       unlogged = made.unlogged;
       generation = made.generation;
       log = made.log;
       unchanged = made.unchanged;
-      full = λ is. let both = made.full is in (omega (arith, both.0), omega (arith, both.1));
+      roomy = made.roomy;
       damaged = made.damaged;
       last = made.last;
     }

@@ -1,5 +1,7 @@
-use Rattle.std.proofs.Common.{◌≡◌, ◌⊎◌, inl, inr, ℕ, ◌+◌, ◌*◌, ◌<◌, Option, Result, Ok, Err, refl, ap, sym, subst, ◌∙◌, arith}
-use Rattle.std.specs.Prelude.{IfErr, IfOk, IsFalse, OnOk}
+use Rattle.std.proofs.Common.{◌≡◌, ◌⊎◌, inl, inr, ℕ, ◌+◌, ◌-◌, ◌*◌, ◌<◌, Option, Ok, Err, refl, ap, sym, subst, ◌∙◌, arith}
+use Rattle.station.specs.declared.station.Station.{Ghosts}
+use Rattle.system.specs.declared.system.System.{System}
+use Rattle.std.specs.Prelude.{IsFalse}
 use Rattle.std.proofs.lemmas.Bool.{cases_lt, false≢true}
 use Rattle.station.specs.Images.{Images, Unchanged}
 use Rattle.station.specs.Moments.{Goes, Meaning, HasGrown, LeavesOnly}
@@ -28,34 +30,31 @@ use Rattle.conspoint.specs.Writes.{AreWhole, writes_of}
 use Rattle.conspoint.specs.declared.error.PlanError.TheVariants.{Damaged, Device, NoSpace}
 use Rattle.records.specs.Opened.{HasNumbers}
 use Rattle.system.specs.Images.{OpensTo}
-use Rattle.planning.specs.Changes.{head_nodes}
-use Rattle.planning.specs.Plans.{PlansEntries}
+use Rattle.blockmap.specs.Space.{left}
+use Rattle.images.specs.Cuts.{LeavesFree}
+use Rattle.inofile.specs.Room.{memory_room}
+use Rattle.model.specs.Room.{fixed_of}
+use Rattle.planning.specs.Changes.{IsStepOf, TakesNone}
+use Rattle.planning.specs.declared.change.SnapshotChange.{SnapshotChange}
+use Rattle.planning.specs.declared.change.SnapshotChange.TheVariants as changes
+use Rattle.planning.specs.Plans.{IsPlannable, PlansEntries}
 use Rattle.system.specs.Memory.{IsClean}
 use Rattle.system.specs.Counting.{no_call}
 use Rattle.system.specs.Errors.{IsRefused}
-use Rattle.system.specs.Points.{IsPlannedOver, IsStepFor, stepped}
+use Rattle.system.specs.Points.{HasRoomToStep, IsPlannedOver, IsStepFor, LeavesRoom, stepped}
+use Rattle.system.specs.Room.{HasRoomToTake}
 use Rattle.system.specs.Systems.{Parts, IsServing, HasState, system_parts}
 use Rattle.planning.specs.declared.points.Point.{Point}
 use Rattle.system.proofs.CountingLaws.{all_read, counted_after, none_logged, not_carried_out, not_planned, nothing_logged, perhaps_read}
 use Rattle.system.proofs.CoveredLaws.{covered_at}
 use Rattle.system.proofs.SystemLaws as served
 use Rattle.system.proofs.PointLaws as points
+use Rattle.system.proofs.PointLaws.{of_err, of_ok, on_ok}
 use Rattle.system.proofs.SettledLaws as settled
-use Rattle.system.proofs.SpaceLaws.{is_filled, still_filled}
+use Rattle.system.proofs.RoomLaws.{all_left, free_is, nameless_least, still_counted}
 use Rattle.system.proofs.system.System.point_with.Given.{Over}
 use Rattle.system.proofs.system.System.point_with.Goals as goal
 use Rattle.system.proofs.system.System.point_with.Goals.{In-Ok}
-
--- what holds of an answer that is Ok
-of_ok : {X E : Type 0} (r : Result X E) (x : X) (P : X → Type 0) → r ≡ Ok x → IfOk r P → P x
-of_ok {X = X} {E = E} r x P is h = subst (λ (q : Result X E). IfOk q P) is h
-
-on_ok : {X E : Type 0} {A : Type 0} (r : Result X E) (x : X) → r ≡ Ok x → OnOk r A → A
-on_ok {X = X} {E = E} {A = A} r x is h = subst (λ (q : Result X E). OnOk q A) is h
-
--- what holds of an error that is Err
-of_err : {X E : Type 0} (r : Result X E) (e : E) (P : E → Type 0) → r ≡ Err e → IfErr r P → P e
-of_err {X = X} {E = E} r e P is h = subst (λ (q : Result X E). IfErr q P) is h
 
 abbrev OnceCovered : Meaning → Parts → (ℕ → Option Description) → State → Type 0
 OnceCovered m k table s = (serves : IsServing m k table s) × (serves.bodies ≡ no_bodies) × (serves.first ≡ serves.running)
@@ -69,15 +68,57 @@ fits g c =
     of_ok c.plan-map.result.1 c.in-Ok.point (λ (q : Point). FitsDisk (8 * f.root.geometry.blocks) q.plan) c.in-Ok.is
     (c.plan-map.ensures.fits (8 * f.root.geometry.blocks) (omega (arith, f.is_root.head.sizes)) (omega (arith, count)))
 
+-- where no snapshot is taken, all that is pledged is kept, and else what every point stores, too
+kept_by : {S : Type 0} {G : Ghosts S} (f : System S G) (change : SnapshotChange) (step : SnapshotStep) → IsStepOf change f.root step → HasRoomToStep change f → TakesNone step ⊎ HasRoomToTake f
+kept_by f changes.Unchanged step is room = inl (subst TakesNone (sym is) tt)
+kept_by f (changes.Take k order name) step is room = inr room
+kept_by f (changes.Delete k) step is room = inl (subst TakesNone (sym is.1) tt)
+
+-- what is planned leaves so many blocks free
+leaves_room : (g : Over) (c : In-Ok g) (table : ℕ → Option Description) (s : State) → (serves : HasState c.args.self.now table s) → (step : SnapshotStep) → IsStepFor c.args.change.now c.args.self.now step
+    → HasRoomToStep c.args.change.now c.args.self.now
+    → IsPlannable c.args.self.now.root (g.S.Station.meaning c.args.self.now.blocks.station).seen.disk c.other_slot-slot.result c.in-Some.generation c.replace-map.result c.args.self.now.inodes serves.first serves.running serves.snapshots
+    → LeavesRoom (g.S.Station.meaning c.args.self.now.blocks.station).seen.disk c.args.self.now.root serves.running (writes_of c.in-Ok.point.plan.blocks) c.in-Ok.point.root
+leaves_room g c table s serves step made room plannable =
+    let f = c.args.self.now in
+    let m = g.S.Station.meaning f.blocks.station in
+    let d = m.seen.disk in
+    let q = c.in-Ok.point in
+    let r = c.plan-map.result.1 in
+    let n = f.inodes.geometry.inodes in
+    let needs = memory_room serves.first f.inodes serves.running in
+    let nameless = 4 * count_nameless n serves.running in
+    let fixed = fixed_of f.root.geometry.blocks in
+    let least = nameless_least serves.first f.inodes serves.running n in
+    let sizes = ap (λ (x : Sizes). count_nameless x.inodes serves.running) f.sizes in
+    let fixed_is = ap (λ (x : BlockMap). fixed_of x.count) c.replace-map.ensures.value ∙ ap fixed_of f.count in
+    let fresh = ap (λ (x : BlockMap). x.next) c.replace-map.ensures.value ∙ f.fresh in
+    let free = free_is {G = g.S.Station} f table s serves in
+    elim (kept_by {G = g.S.Station} f c.args.change.now step made.is room) [
+      | inl none ↦ record {
+        spent = needs - nameless;
+        leaves = of_ok r q (λ (p : Point). LeavesFree (needs - nameless) f.root (blocks_of d) (writes_of p.plan.blocks) p.root) c.in-Ok.is
+            (c.plan-map.ensures.room d serves.first serves.running serves.snapshots serves.shows plannable fresh step made.is none made.can (needs - nameless) (omega (arith, least)));
+        enough = omega (arith, least, serves.stored, serves.pledges, serves.reserved, sizes);
+      }
+      | inr enough ↦ record {
+        spent = needs + fixed - nameless;
+        leaves = of_ok r q (λ (p : Point). LeavesFree (needs + fixed - nameless) f.root (blocks_of d) (writes_of p.plan.blocks) p.root) c.in-Ok.is
+            (c.plan-map.ensures.leaves d serves.first serves.running serves.snapshots serves.shows plannable fresh step made.is made.can (needs + fixed - nameless) (omega (arith, least, fixed_is)));
+        enough = omega (arith, least, serves.stored, enough, sizes, free);
+      }
+    ]
+
 planned : (g : Over) (c : In-Ok g) (table : ℕ → Option Description) (s : State) → (serves : HasState c.args.self.now table s) → (step : SnapshotStep) → IsStepFor c.args.change.now c.args.self.now step
-    → IsPlannedOver step (g.S.Station.meaning c.args.self.now.blocks.station).seen.disk c.args.self.now.root c.args.self.now.slot c.args.self.now.log.epoch c.in-Ok.point.plan c.in-Ok.point.root serves.running
-planned g c table s serves step made =
+    → HasRoomToStep c.args.change.now c.args.self.now → IsPlannedOver step (g.S.Station.meaning c.args.self.now.blocks.station).seen.disk c.args.self.now.root c.args.self.now.slot c.args.self.now.log.epoch c.in-Ok.point.plan c.in-Ok.point.root serves.running
+planned g c table s serves step made room =
     let f = c.args.self.now in
     let m = g.S.Station.meaning f.blocks.station in
     let here = g.met.S.Station.seen_may_be_left f.blocks.station serves.honest in
     let q = c.in-Ok.point in
     let r = c.plan-map.result.1 in
     let epoch : c.in-Some.generation ≡ f.log.epoch = c.in-Some.ensures.value ∙ c.get.ensures ∙ c.epoch.ensures in
+    let plannable = points.plannable serves here c.other_slot-slot.result c.in-Some.generation c.replace-map.result c.other_slot-slot.ensures epoch c.replace-map.ensures.value in
     let slot : q.plan.slot ≡ c.other_slot-slot.result = of_ok r q (λ (x : Point). x.plan.slot ≡ c.other_slot-slot.result) c.in-Ok.is c.plan-map.ensures.slot in
     record {
       bytes = of_ok r q (λ (x : Point). x.plan.root ≡ root_bytes x.root) c.in-Ok.is c.plan-map.ensures.bytes;
@@ -86,9 +127,8 @@ planned g c table s serves step made =
       fits = fits g c;
       point = subst (λ (n : ℕ). IsPointWith step f.root m.seen.disk (writes_of q.plan.blocks) n q.root serves.running) (sym slot)
           (of_ok r q (λ (x : Point). IsPointWith step f.root m.seen.disk (writes_of x.plan.blocks) c.other_slot-slot.result x.root serves.running) c.in-Ok.is
-          (c.plan-map.ensures.point m.seen.disk serves.first serves.running serves.snapshots serves.shows
-          (points.plannable serves here c.other_slot-slot.result c.in-Some.generation c.replace-map.result c.other_slot-slot.ensures epoch c.replace-map.ensures.value)
-          step made.is made.can));
+          (c.plan-map.ensures.point m.seen.disk serves.first serves.running serves.snapshots serves.shows plannable step made.is made.can));
+      room = leaves_room g c table s serves step made room plannable;
     }
 
 pub plan-map-requires-clause-root : goal.plan-map-requires-clause-root
@@ -108,16 +148,16 @@ returns-in_default g c =
     let m = g.S.Station.meaning f.blocks.station in
     record {
       counted = perhaps_read m m (reads_none m);
-      any_moment = λ table s serves t leads.
+      any_moment = λ table s serves t leads room.
           started m (λ i. OpensTo m s i ⊎ OpensTo m t i) (λ honest i left. inl (served.all_open c.cuts_open.ensures serves f.sectors f.half honest i left));
-      covered = λ table s serves t leads. tt;
+      covered = λ table s serves t leads room. tt;
       refused = λ table s serves refused. serves;
       kept = λ refused. unchanged_none m;
       unlogged = none_logged m;
       generation = tt;
       log = refl;
       unchanged = tt;
-      full = λ is. cc;
+      roomy = λ table s serves room is. cc;
       damaged = λ table s serves is. cc;
       last = λ table s serves is.
           let here = g.met.S.Station.seen_may_be_left f.blocks.station serves.honest in
@@ -142,9 +182,9 @@ returns-in-Err g c =
     let epoch : c.in-Some.generation ≡ f.log.epoch = c.in-Some.ensures.value ∙ c.get.ensures ∙ c.epoch.ensures in
     record {
       counted = not_planned m mid c.in-Err.error reads (of_err r c.in-Err.error (λ e. e ≡ Device → HasGrown m.failed_reads mid.failed_reads) c.in-Err.is c.plan-map.ensures.reads.device);
-      any_moment = λ table s serves t leads.
+      any_moment = λ table s serves t leads room.
           leaves_unchanged m mid (λ i. OpensTo m s i ⊎ OpensTo m t i) (λ honest i left. inl (served.all_open c.cuts_open.ensures serves f.sectors f.half honest i left)) reads.goes;
-      covered = λ table s serves t leads. tt;
+      covered = λ table s serves t leads room. tt;
       refused = λ table s serves refused.
           served.read_on serves mid c.plan-map.new.blocks.kept given reads c.plan-map.ensures.reads.same
           (λ b. c.plan-map.ensures.settled b ∙ ap (λ (x : BlockMap). settled_at x.parts.items b) c.replace-map.ensures.value);
@@ -153,14 +193,15 @@ returns-in-Err g c =
       generation = tt;
       log = refl;
       unchanged = tt;
-      full = λ is.
+      roomy = λ table s serves room is.
+          let here = g.met.S.Station.seen_may_be_left f.blocks.station serves.honest in
           let same : c.in-Err.error ≡ NoSpace = cc in
-          let was = is_filled f.root f.inodes (head_nodes c.args.change.now) f.map c.replace-map.result c.replace-map.ensures.value f.fresh (c.plan-map.ensures.full (c.in-Err.is ∙ ap Err same)) in (
-            was,
-            still_filled f.root f.inodes (head_nodes c.args.change.now) f.map given f.fresh (of_err r c.in-Err.error (λ e. given.next ≡ 2) c.in-Err.is c.plan-map.ensures.next)
-                (c.plan-map.ensures.count ∙ ap (λ (x : BlockMap). x.count) c.replace-map.ensures.value)
-                (λ b. c.plan-map.ensures.settled b ∙ ap (λ (x : BlockMap). settled_at x.parts.items b) c.replace-map.ensures.value) was,
-          );
+          let lacks = c.plan-map.ensures.needs m.seen.disk serves.first serves.running serves.snapshots serves.shows
+          (points.plannable serves here c.other_slot-slot.result c.in-Some.generation c.replace-map.result c.other_slot-slot.ensures epoch c.replace-map.ensures.value)
+          (c.in-Err.is ∙ ap Err same) in
+          let left_is = ap left c.replace-map.ensures.value ∙ all_left {G = g.S.Station} f table s serves ∙ free_is {G = g.S.Station} f table s serves in
+          let fixed_is = ap (λ (x : BlockMap). fixed_of x.count) c.replace-map.ensures.value ∙ ap fixed_of f.count in
+          absurd (omega (arith, lacks, left_is, fixed_is, serves.stored, serves.pledges, serves.reserved));
       damaged = λ table s serves is.
           let here = g.met.S.Station.seen_may_be_left f.blocks.station serves.honest in
           let same : c.in-Err.error ≡ Damaged = cc in
@@ -183,6 +224,8 @@ invariant_of-self g c =
       count = c.plan-map.ensures.count ∙ ap (λ (x : BlockMap). x.count) c.replace-map.ensures.value ∙ f.count;
       clean = of_err c.plan-map.result.1 c.in-Err.error (λ e. IsClean given) c.in-Err.is c.plan-map.ensures.given;
       fresh = of_err c.plan-map.result.1 c.in-Err.error (λ e. given.next ≡ 2) c.in-Err.is c.plan-map.ensures.next;
+      counted = still_counted {G = g.S.Station} f given (c.plan-map.ensures.count ∙ ap (λ (x : BlockMap). x.count) c.replace-map.ensures.value)
+          (λ b. c.plan-map.ensures.settled b ∙ ap (λ (x : BlockMap). settled_at x.parts.items b) c.replace-map.ensures.value);
       few = f.few;
       numbers = f.numbers;
       is_root = f.is_root;
@@ -204,6 +247,8 @@ invariant_of-self-in-Err-carry_out g c =
       count = c.give_up.ensures.count ∙ c.plan-map.ensures.count ∙ ap (λ (x : BlockMap). x.count) c.replace-map.ensures.value ∙ f.count;
       clean = λ b. c.give_up.ensures.entries b ∙ sym (c.give_up.ensures.settled b);
       fresh = c.give_up.ensures.next;
+      counted = still_counted {G = g.S.Station} f c.give_up.new.self (c.give_up.ensures.count ∙ c.plan-map.ensures.count ∙ ap (λ (x : BlockMap). x.count) c.replace-map.ensures.value)
+          (λ b. c.give_up.ensures.settled b ∙ c.plan-map.ensures.settled b ∙ ap (λ (x : BlockMap). settled_at x.parts.items b) c.replace-map.ensures.value);
       few = f.few;
       numbers = f.numbers;
       is_root = f.is_root;
@@ -221,13 +266,13 @@ returns-in-Err-carry_out g c =
     record {
       counted = not_carried_out m mid now e reads c.in-Err-carry_out.ensures.writes
           (λ refused. ap (λ (b : Buffers g.row.S.Denot). (g.S.Station.meaning b.station).failed_writes) (c.in-Err-carry_out.ensures.refused.0 refused)) c.in-Err-carry_out.ensures.refused.1;
-      any_moment = λ table s serves t leads.
+      any_moment = λ table s serves t leads room.
           let here = g.met.S.Station.seen_may_be_left f.blocks.station serves.honest in
           subst (λ (u : State). LeavesOnly m now (λ i. OpensTo m s i ⊎ OpensTo m u i)) (sym leads.2)
           (points.at_any_moment c.cuts_open.ensures serves f.sectors f.half c.in-Ok.point.plan c.in-Ok.point.root leads.0
-          (planned g (goal.at.returns-in-Err-carry_out g c).In-Ok table s serves leads.0 leads.1) here (g.met.S.Station.sized f.blocks.station serves.honest m.seen here).sector
+          (planned g (goal.at.returns-in-Err-carry_out g c).In-Ok table s serves leads.0 leads.1 room) here (g.met.S.Station.sized f.blocks.station serves.honest m.seen here).sector
           mid now reads.goes c.carry_out.ensures.any_moment);
-      covered = λ table s serves t leads. tt;
+      covered = λ table s serves t leads room. tt;
       refused = λ table s serves refused.
           subst (λ (b : Buffers g.row.S.Denot). IsServing (g.S.Station.meaning b.station) (record (system_parts {G = g.S.Station} f) { kept = b.kept; map = c.give_up.new.self }) table s) (same refused)
           (served.read_on serves mid c.plan-map.new.blocks.kept c.give_up.new.self reads c.plan-map.ensures.reads.same
@@ -237,7 +282,7 @@ returns-in-Err-carry_out g c =
       generation = tt;
       log = refl;
       unchanged = tt;
-      full = λ is. elim c.in-Err-carry_out.ensures.refused.1 [ inl w ↦ cc | inr w ↦ cc ];
+      roomy = λ table s serves room is. elim c.in-Err-carry_out.ensures.refused.1 [ inl w ↦ cc | inr w ↦ cc ];
       damaged = λ table s serves is. elim c.in-Err-carry_out.ensures.refused.1 [ inl w ↦ cc | inr w ↦ cc ];
       last = λ table s serves is. elim c.in-Err-carry_out.ensures.refused.1 [ inl w ↦ cc | inr w ↦ cc ];
     }
@@ -262,6 +307,7 @@ invariant_of-self-in-Ok-carry_out g c =
       count = c.settle.ensures.count ∙ c.plan-map.ensures.count ∙ ap (λ (x : BlockMap). x.count) c.replace-map.ensures.value ∙ f.count ∙ ap (λ (x : Sizes). x.blocks) (sym sizes);
       clean = λ b. c.settle.ensures.entries b ∙ sym (c.settle.ensures.settled b);
       fresh = c.settle.ensures.next;
+      counted = c.free_count-self.ensures;
       few = omega (arith, c.nameless_files.ensures.few, c.from.ensures);
       numbers = subst (λ (x : Sizes). HasNumbers x.inodes f.files) (sym c.settle-in-Ok-carry_out.ensures.geometry) f.numbers;
       is_root = subst IsRoot (sym root) (of_ok c.plan-map.result.1 c.in-Ok.point (λ (x : Point). IsRoot x.root) c.in-Ok.is c.plan-map.ensures.root);
@@ -279,20 +325,20 @@ returns-in-Ok-carry_out g c =
     record {
       counted = counted_after m mid now no_call (all_read m mid reads (on_ok c.plan-map.result.1 c.in-Ok.point c.in-Ok.is c.plan-map.ensures.reads.counted))
           (record { uses = record { same = writes.same; reads = inl writes.reads; writes = writes.writes }; reads = writes.reads; writes = writes.ok });
-      any_moment = λ table s serves t leads.
+      any_moment = λ table s serves t leads room.
           let here = g.met.S.Station.seen_may_be_left f.blocks.station serves.honest in
           subst (λ (u : State). LeavesOnly m now (λ i. OpensTo m s i ⊎ OpensTo m u i)) (sym leads.2)
           (points.at_any_moment c.cuts_open.ensures serves f.sectors f.half c.in-Ok.point.plan c.in-Ok.point.root leads.0
-          (planned g (goal.at.returns-in-Ok-carry_out g c).In-Ok table s serves leads.0 leads.1) here (g.met.S.Station.sized f.blocks.station serves.honest m.seen here).sector
+          (planned g (goal.at.returns-in-Ok-carry_out g c).In-Ok table s serves leads.0 leads.1 room) here (g.met.S.Station.sized f.blocks.station serves.honest m.seen here).sector
           mid now reads.goes c.carry_out.ensures.any_moment);
-      covered = λ table s serves t leads.
+      covered = λ table s serves t leads room.
           let step = leads.0 in
           let made = leads.1 in
           let after = stepped step serves.first serves.snapshots s in
           let kept = c.carry_out.new.buffers.kept in
           let p = c.in-Ok.point.plan in
           let new = c.in-Ok.point.root in
-          let plan = planned g (goal.at.returns-in-Ok-carry_out g c).In-Ok table s serves step made in
+          let plan = planned g (goal.at.returns-in-Ok-carry_out g c).In-Ok table s serves step made room in
           let went = reads.goes serves.honest in
           let same = same_twice m (g.S.Station.meaning c.plan-map.new.blocks.station) now reads.same c.carry_out.ensures.writes.same in
           let honest = same.honest.0 serves.honest in
@@ -335,7 +381,9 @@ returns-in-Ok-carry_out g c =
           }) table after in
           let done : at new p.slot = (
             settled.settled laws serves f.sectors p new step plan now whole has images holds
-                kept c.settle-in-Ok-carry_out.new.self c.settle.new.self c.go_on.new.self honest c.in-Ok-carry_out.ensures.settled.1 shown newest stands goes memory c.from.result counted,
+                kept c.settle-in-Ok-carry_out.new.self c.settle.new.self c.go_on.new.self honest c.in-Ok-carry_out.ensures.settled.1 shown newest stands goes memory c.from.result counted c.settle-in-Ok-carry_out.ensures.unchanged
+                (c.settle-in-Ok-carry_out.ensures.geometry ∙ f.sizes ∙ sym plan.point.geometry)
+                (laws.free m.sectors m.seen.disk now.seen.disk m.seen.nvram s (writes_of p.blocks) p.slot new serves.running step plan.room.spent open_now plan.point images plan.room.leaves),
             refl {a = no_bodies},
             refl {a = serves.running},
           ) in
@@ -349,7 +397,7 @@ returns-in-Ok-carry_out g c =
           ∙ of_ok c.plan-map.result.1 c.in-Ok.point (λ (x : Point). x.root.generation ≡ c.in-Some.generation) c.in-Ok.is c.plan-map.ensures.generation ∙ epoch;
       log = c.go_on.ensures.end ∙ ap (λ (n : ℕ). record f.log { epoch = n; end = Unopened }) (c.epoch_after.ensures ∙ ap (λ (n : ℕ). n + 1) epoch);
       unchanged = c.settle-in-Ok-carry_out.ensures.unchanged;
-      full = λ is. cc;
+      roomy = λ table s serves room is. cc;
       damaged = λ table s serves is. cc;
       last = λ table s serves is. cc;
     }

@@ -101,7 +101,7 @@ returns-in-Ok g c =
     let made = c.in-Ok.ensures in
     settles fs new mid _ (command.SnapTake c.args.name.now) reads told.reads.counted made.unlogged made.counted made.log
     (λ s served covered.
-    let v = covered.serves in
+    let v = covered.0.serves in
     let over = stays_read {G = g.S.Station} fs c.prepare_take.new.blocks s reads told.reads.same v in
     let after : State = with_snapshots (v.snapshots ++ (name, tree_of (without_nameless v.first) closed) ∷ []) s in
     let step = taken taking.slot (record { order = taking.order; name = name; inode_file = fs.root.inode_file }) in
@@ -113,10 +113,10 @@ returns-in-Ok g c =
       after = after;
       need = a_snapshot;
       step = λ room. subst (λ (n : Name). takes s n Done after a_snapshot) c.as_bytes-name.ensures
-          (take_step {G = g.S.Station} fs s c.cuts_open.ensures.forgets name v covered.held (passed g (goal.at.returns-in-Ok g c).In-Ok-Ok s v));
-      covered = made.covered s.tree.descriptors s over after (step, record { is = refl; can = can }, refl);
+          (take_step {G = g.S.Station} fs s c.cuts_open.ensures.forgets name v covered.0.held (passed g (goal.at.returns-in-Ok g c).In-Ok-Ok s v));
+      covered = made.covered s.tree.descriptors s over after (step, record { is = refl; can = can }, refl) covered.1;
       leaves = either_after m mid (meaning_of {G = g.S.Station} new) s after reads (c.served_states_open.ensures s.tree.descriptors s served)
-          (made.any_moment s.tree.descriptors s over after (step, record { is = refl; can = can }, refl));
+          (made.any_moment s.tree.descriptors s over after (step, record { is = refl; can = can }, refl) covered.1);
     }) _
 
 pub returns-in-Err-point_with : goal.returns-in-Err-point_with
@@ -134,7 +134,7 @@ returns-in-Err-point_with g c =
     let over = λ (s : State) (served : ServesState {G = g.S.Station} fs s). stays_read {G = g.S.Station} fs c.prepare_take.new.blocks s reads told.reads.same served in
     not_settled fs new mid _ (command.SnapTake c.args.name.now) reads told.reads.counted made.unlogged c.in-Err-point_with.error made.counted made.log made.kept (λ s served refused. made.refused s.tree.descriptors s (over s served) refused)
     (λ s served covered is.
-    let v = covered.serves in
+    let v = covered.0.serves in
     let after : State = with_snapshots (v.snapshots ++ (name, tree_of (without_nameless v.first) closed) ∷ []) s in
     let step = taken taking.slot (record { order = taking.order; name = name; inode_file = fs.root.inode_file }) in
     let went = reads.goes v.honest in
@@ -146,14 +146,9 @@ returns-in-Err-point_with g c =
       after = after;
       need = a_snapshot;
       step = λ room. subst (λ (n : Name). takes s n Done after a_snapshot) c.as_bytes-name.ensures
-          (take_step {G = g.S.Station} fs s c.cuts_open.ensures.forgets name v covered.held (passed g (goal.at.returns-in-Err-point_with g c).In-Ok-Ok s v));
+          (take_step {G = g.S.Station} fs s c.cuts_open.ensures.forgets name v covered.0.held (passed g (goal.at.returns-in-Err-point_with g c).In-Ok-Ok s v));
       leaves = either_after m mid (meaning_of {G = g.S.Station} new) s after reads (c.served_states_open.ensures s.tree.descriptors s served)
-          (made.any_moment s.tree.descriptors s (over s v) after (step, record { is = refl; can = can }, refl));
+          (made.any_moment s.tree.descriptors s (over s v) after (step, record { is = refl; can = can }, refl) covered.1);
     })
-    (λ is. (made.full (ap (λ e. Err e) is)).1)
-    (λ s served room.
-    let t = tree_of (without_nameless served.running) closed in
-    let after : State = with_snapshots (s.snapshots ++ (name, t) ∷ []) s in
-    let step = take_done s name t (passed g (goal.at.returns-in-Err-point_with g c).In-Ok-Ok s served) (forgets_running {G = g.S.Station} fs s c.cuts_open.ensures.forgets served) in
-    (Done, after, a_snapshot, subst (λ (n : Name). takes s n Done after a_snapshot) c.as_bytes-name.ensures step, inl (λ e. cc)))
+    (λ s served covered is. made.roomy s.tree.descriptors s (over s served) covered.1 (ap (λ e. Err e) is))
     (λ s served is. made.damaged s.tree.descriptors s (over s served) (ap (λ e. Err e) is)) (λ s served is. made.last s.tree.descriptors s (over s served) (ap (λ e. Err e) is))

@@ -1,0 +1,3 @@
+pub mod Simple
+pub mod ValueLemmas
+pub mod ReadingLemmas

@@ -1,0 +1,4 @@
+use Rattle.command_line.proofs.arguments.do_command.Goals as goal
+
+pub returns : goal.returns
+returns c = c.arg-2.ensures _ _ (c.arg.ensures _ _ c.on_image.ensures c.command_words.ensures) c.explain.ensures

@@ -1,0 +1,135 @@
+-- What updates and steps add to what a consistency point may store.
+use Rattle.std.proofs.Common.{◌≡◌, ◌∙◌, ℕ, zero, suc, ◌+◌, ◌*◌, ◌≤◌, List, Bool, true, false, Option, Some, None, IsTrue, ◌||◌, if◌then◌else◌, refl, ap, sym, subst, arith}
+use Rattle.std.specs.Ordering.{nat_cmp}
+use Rattle.std.specs.BTreeMap.{get}
+use Rattle.std.proofs.lemmas.Bool.{false≢true}
+use Rattle.layout.specs.DirectoryNames.{NameMap}
+use Rattle.layout.specs.declared.inode.Inode.{Inode}
+use Rattle.model.specs.Records.{with_file_bytes, with_node_mode}
+use Rattle.model.specs.Volumes.{Node, Volume, directory_node, file_node, link_node, is_directory_node, is_file_node, is_nameless}
+use Rattle.dirs.specs.Room.{piece_count}
+use Rattle.dirs.specs.declared.edit.Edit.{Edit}
+use Rattle.inode.specs.Room.{file_room}
+use Rattle.inode.specs.declared.change.Change.{Change}
+use Rattle.inode.specs.declared.object.Object.{Object}
+use Rattle.inofile.specs.Inodes.{loaded}
+use Rattle.inofile.specs.Objects.{IsObjectOrNone}
+use Rattle.inofile.specs.Room.{nameless_room, room_of, slot_room}
+use Rattle.inofile.specs.Volumes.{IsVolumeOf}
+use Rattle.inofile.specs.declared.inode_file.InodeFile.{InodeFile}
+use Rattle.inofile.specs.declared.inode_file.ObjectSlot.{ObjectSlot}
+use Rattle.inofile.specs.declared.inode_file.ObjectSlot.TheVariants.{Changed}
+use Rattle.inofile.proofs.RoomLaws.{changed_room, gone_room, known_room, moved_once, unnamed_room}
+use Rattle.records.specs.Entering.{EditsIn, with_node_names}
+use Rattle.records.specs.Prepared.{AreBeside}
+use Rattle.records.specs.Room.{CountsObject, RaisesFile, SomeRoom, StoresIn, UpdateRoom}
+use Rattle.records.specs.Steps.{Commits, with_node_links}
+use Rattle.records.specs.declared.steps.Step.{Step}
+use Rattle.records.specs.declared.steps.Update.TheVariants as updates
+
+-- ---- one number
+
+most_nameless : (o : Option Node) → nameless_room o ≤ 4
+most_nameless o = of_bool (is_nameless o)
+  where
+    of_bool : (b : Bool) → (if b then 4 else 0) ≤ 4
+    of_bool true = omega arith
+    of_bool false = omega arith
+
+-- the number gets this object, or none
+pub set_room : (disk : ℕ → List ℕ) (inodes : ℕ) (settled : Inode) (slot : Option ObjectSlot) (base found to : Option Node) (was object : Option Object) (k : ℕ)
+    → IsObjectOrNone disk inodes settled object to → UpdateRoom was (updates.Set object) k → room_of (Some (Changed object)) base to ≤ room_of slot base found + k
+set_room disk inodes settled slot base found to was None k none room =
+    subst (λ (o : Option Node). room_of (Some (Changed None)) base o ≤ room_of slot base found + k) (sym none) (omega (arith, gone_room slot base found, room))
+set_room disk inodes settled slot base found to was (Some new) k is room = omega (arith, room, most_nameless to, moved_once base to)
+
+module _ (disk : ℕ → List ℕ) (inodes : ℕ) (settled : Inode) (slot : Option ObjectSlot) (base : Option Node) where
+  -- its file needs more: it has a name if it had one, and else it may lose it
+  more : (old new : Node) (o : Object) (after : Option Object) (k : ℕ) → file_room o.file ≤ slot_room slot → RaisesFile (Some o) after k → nameless_room (Some new) ≤ nameless_room (Some old)
+      → room_of (Some (Changed after)) base (Some new) ≤ room_of slot base (Some old) + (k + 2)
+  more old new o after k had raises names =
+      let p = raises o refl in
+      subst (λ (x : Option Object). room_of (Some (Changed x)) base (Some new) ≤ room_of slot base (Some old) + (k + 2)) (sym p.1) (changed_room slot base old new o p.0 k had p.2 names)
+
+  less : (old new : Node) (o : Object) (after : Option Object) → file_room o.file ≤ slot_room slot → RaisesFile (Some o) after 0
+      → room_of (Some (Changed after)) base (Some new) ≤ room_of slot base (Some old) + 6
+  less old new o after had raises =
+      let p = raises o refl in
+      subst (λ (x : Option Object). room_of (Some (Changed x)) base (Some new) ≤ room_of slot base (Some old) + 6) (sym p.1)
+      (unnamed_room slot base old new o p.0 0 had p.2 (most_nameless (Some new)))
+
+  -- a directory has other names
+  pub names_room : (found : Option Node) (was after : Option Object) (edit : Edit) (k : ℕ) (f : NameMap → NameMap) → EditsIn disk inodes f found was edit → CountsObject was slot
+      → RaisesFile was after (2 * piece_count edit + 3) → UpdateRoom was (updates.Names edit) k → room_of (Some (Changed after)) base (with_node_names f found) ≤ room_of slot base found + k
+  names_room found None after edit k f edits had raises room = absurd edits
+  names_room found (Some o) after edit k f edits had raises room =
+      subst (λ (x : Option Node). room_of (Some (Changed after)) base (with_node_names f x) ≤ room_of slot base x + k) (sym edits.stands)
+      (omega (
+        arith,
+        room,
+        more (directory_node o.attributes.mode edits.names) (directory_node o.attributes.mode (f edits.names)) o after (2 * piece_count edit + 3) had raises (omega arith),
+      ))
+
+  -- a file or directory has another mode
+  pub mode_room : (found : Option Node) (was after : Option Object) (mode k : ℕ) → IsObjectOrNone disk inodes settled was found → IsTrue (is_file_node found || is_directory_node found)
+      → CountsObject was slot → RaisesFile was after 0 → 2 ≤ k → room_of (Some (Changed after)) base (with_node_mode mode found) ≤ room_of slot base found + k
+  mode_room None was after mode k is has had raises room = absurd (false≢true has)
+  mode_room (Some (link_node text)) was after mode k is has had raises room = absurd (false≢true has)
+  mode_room (Some (directory_node old names)) None after mode k is has had raises room = absurd cc
+  mode_room (Some (directory_node old names)) (Some o) after mode k is has had raises room =
+      omega (arith, room, more (directory_node old names) (directory_node mode names) o after 0 had raises (omega arith))
+  mode_room (Some (file_node old links bytes)) None after mode k is has had raises room = absurd cc
+  mode_room (Some (file_node old zero bytes)) (Some o) after mode k is has had raises room =
+      omega (arith, room, more (file_node old zero bytes) (file_node mode zero bytes) o after 0 had raises (omega arith))
+  mode_room (Some (file_node old (suc links) bytes)) (Some o) after mode k is has had raises room =
+      omega (arith, room, more (file_node old (suc links) bytes) (file_node mode (suc links) bytes) o after 0 had raises (omega arith))
+
+  -- a file has other bytes
+  pub bytes_room : (found : Option Node) (was after : Option Object) (f : List ℕ → List ℕ) (change : Change) (k : ℕ) → IsObjectOrNone disk inodes settled was found → IsTrue (is_file_node found)
+      → CountsObject was slot → ((m : ℕ) → StoresIn was change m → RaisesFile was after m) → UpdateRoom was (updates.Bytes change) k
+      → room_of (Some (Changed after)) base (with_file_bytes f found) ≤ room_of slot base found + k
+  bytes_room None was after f change k is file had raises room = absurd (false≢true file)
+  bytes_room (Some (link_node text)) was after f change k is file had raises room = absurd (false≢true file)
+  bytes_room (Some (directory_node old names)) was after f change k is file had raises room = absurd (false≢true file)
+  bytes_room (Some (file_node mode links bytes)) None after f change k is file had raises room = absurd cc
+  bytes_room (Some (file_node mode zero bytes)) (Some o) after f change k is file had raises room =
+      omega (arith, room.1, more (file_node mode zero bytes) (file_node mode zero (f bytes)) o after room.0 had (raises room.0 room.2) (omega arith))
+  bytes_room (Some (file_node mode (suc links) bytes)) (Some o) after f change k is file had raises room =
+      omega (arith, room.1, more (file_node mode (suc links) bytes) (file_node mode (suc links) (f bytes)) o after room.0 had (raises room.0 room.2) (omega arith))
+
+  -- a file has so many names
+  pub links_room : (found : Option Node) (was after : Option Object) (links k : ℕ) → IsObjectOrNone disk inodes settled was found → IsTrue (is_file_node found)
+      → CountsObject was slot → RaisesFile was after 0 → 6 ≤ k → room_of (Some (Changed after)) base (with_node_links links found) ≤ room_of slot base found + k
+  links_room None was after links k is file had raises room = absurd (false≢true file)
+  links_room (Some (link_node text)) was after links k is file had raises room = absurd (false≢true file)
+  links_room (Some (directory_node old names)) was after links k is file had raises room = absurd (false≢true file)
+  links_room (Some (file_node mode old bytes)) None after links k is file had raises room = absurd cc
+  links_room (Some (file_node mode old bytes)) (Some o) after links k is file had raises room =
+      omega (arith, room, less (file_node mode old bytes) (file_node mode links bytes) o after had raises)
+
+-- what is in memory of a number counts the object that it has there
+pub counts_object : (count : ℕ) (disk : ℕ → List ℕ) (settled : ℕ → Inode) (s : InodeFile) (v : Volume) (n : ℕ) (o : Option Object) → IsVolumeOf count disk settled s v
+    → o ≡ loaded s n → CountsObject o (get nat_cmp s.slots n)
+counts_object count disk settled s v n None is same = tt
+counts_object count disk settled s v n (Some o) is same = known_room count disk settled s v n o is (sym same)
+
+-- an object is this one then
+pub raises_to : {old : Option Object} {was : Object} (new : Object) (k : ℕ) → old ≡ Some was → file_room new.file ≤ file_room was.file + k → RaisesFile old (Some new) k
+raises_to {was = was} new k is few o there =
+    let both : Some was ≡ Some o = sym is ∙ there in
+    let same : was ≡ o = cc in
+    (new, refl, subst (λ (x : Object). file_room new.file ≤ file_room x.file + k) same few)
+
+-- four are kept for a file without a name
+pub nameless_is : (o : Option Node) → is_nameless o ≡ true → nameless_room o ≡ 4
+nameless_is o is = ap (λ (b : Bool). if b then 4 else 0) is
+
+-- ---- steps behind another one
+
+module _ {s t : InodeFile} where
+  -- a step, if there is one, raises no more behind one that there may be
+  pub room_behind : (other step : Option Step) (k : ℕ) → Commits s t other → AreBeside other step → SomeRoom s step k → SomeRoom t step k
+  room_behind other None k commits beside room = tt
+  room_behind None (Some step) k commits beside room = subst (λ (o : Option Object). UpdateRoom o step.update k) (sym (commits.rest step.number tt)) room
+  room_behind (Some other) (Some step) k commits beside room =
+      subst (λ (o : Option Object). UpdateRoom o step.update k) (sym (commits.rest step.number (λ e. beside (sym e)))) room

@@ -1,0 +1,44 @@
+-- By how much updates and steps may raise what a consistency point may store.
+use Rattle.std.specs.Prelude.{ℕ, ◌≡◌, ◌+◌, ◌*◌, ◌≤◌, Option, Some, None, IfSome}
+use Rattle.dirs.specs.Room.{piece_count}
+use Rattle.inode.specs.Room.{StoresMore, file_room}
+use Rattle.inode.specs.declared.change.Change.{Change}
+use Rattle.inode.specs.declared.object.Object.{Object}
+use Rattle.inofile.specs.Inodes.{loaded}
+use Rattle.inofile.specs.Room.{slot_room}
+use Rattle.inofile.specs.declared.inode_file.InodeFile.{InodeFile}
+use Rattle.inofile.specs.declared.inode_file.ObjectSlot.{ObjectSlot}
+use Rattle.records.specs.declared.steps.Step.{Step}
+use Rattle.records.specs.declared.steps.Update.{Update}
+use Rattle.records.specs.declared.steps.Update.TheVariants as updates
+
+-- a change of the object's bytes stores so many blocks more at the most
+abbrev pub StoresIn : Option Object → Change → ℕ → Type 0
+StoresIn o change k = IfSome o (λ x. StoresMore x.file change k)
+
+-- an update of an object raises what its number needs by so much at the most
+abbrev pub UpdateRoom : Option Object → Update → ℕ → Type 0
+UpdateRoom o (updates.Set None) k = 3 ≤ k
+UpdateRoom o (updates.Set (Some object)) k = 7 + file_room object.file ≤ k
+UpdateRoom o (updates.Names edit) k = 2 * piece_count edit + 5 ≤ k
+UpdateRoom o (updates.SetMode mode) k = 2 ≤ k
+UpdateRoom o (updates.Bytes change) k = (more : ℕ) × (more + 2 ≤ k) × StoresIn o change more
+UpdateRoom o (updates.Links links) k = 6 ≤ k
+
+-- where there is an object, there is one then, whose file needs so many blocks more at the most
+abbrev pub RaisesFile : Option Object → Option Object → ℕ → Type 0
+RaisesFile old new k =
+    (o : Object) → old ≡ Some o → (p : Object) × (new ≡ Some p) × (file_room p.file ≤ file_room o.file + k)
+
+-- so does a step
+abbrev pub StepRoom : InodeFile → Step → ℕ → Type 0
+StepRoom s step k = UpdateRoom (loaded s step.number) step.update k
+
+-- and a step, if there is one
+abbrev pub SomeRoom : InodeFile → Option Step → ℕ → Type 0
+SomeRoom s None k = Unit {0}
+SomeRoom s (Some step) k = StepRoom s step k
+
+-- what memory has of a number counts the object that it has there
+abbrev pub CountsObject : Option Object → Option ObjectSlot → Type 0
+CountsObject o slot = IfSome o (λ x. file_room x.file ≤ slot_room slot)
