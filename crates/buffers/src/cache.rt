@@ -133,7 +133,9 @@ impl<S: Station> Buffers<S> {
         ensures shows { (disk : ℕ → List ℕ)
             → ShowsDisk (S.meaning self.old.station) self.old.kept disk
             → ShowsDisk (S.meaning self.new.station) self.new.kept disk }
-    {}
+    {
+        self.kept.clear();
+    }
 
     /// Writes a sector, which then reads so. It takes no memory. Where it fails, the sector may read either way.
     pub fn store_sector(

@@ -13,6 +13,7 @@ use Rattle.blocktree.specs.Errors.{IsFault}
 use Rattle.blocktree.specs.declared.error.ReadError.{ReadError}
 use Rattle.blocktree.specs.declared.error.ReadError.TheVariants.{Damaged}
 use Rattle.buffers.specs.declared.blocks.Blocks.{Ghosts}
+use Rattle.images.specs.Soundness.{by_bytes}
 use Rattle.inofile.specs.declared.inode_file.InodeFile.{InodeFile}
 use Rattle.paths.specs.Standing.{Looks, Stands}
 use Rattle.paths.proofs.Looks.{looks_err, looks_more, looks_ok}
@@ -155,25 +156,25 @@ module _ {B T : Type 0} {changes : T → Option Changing} {G : Ghosts B} {a b : 
 module _ {B T : Type 0} {changes : T → Option Changing} {G : Ghosts B} {a b : B} {s t : InodeFile} {P : Answer T} {Over Sure : Premise} {change : Change} where
   -- it is prepared
   pub granted : {p : Prepared} {y : T} {owned : OwnedChange} → DecidesOn Over Sure G a b s t change (Ok p) → changes y ≡ Some (record { change = owned; prepared = p })
-      → said_by owned ≡ change → OnVolumes G a s Over
+      → said_by owned ≡ change → OnVolumes G a s (Over by_bytes)
       → ((disk : ℕ → List ℕ) (settled : ℕ → Inode) (v : Volume) (table : ℕ → Option Description) → Stands G disk settled v a s → IsVolume s.geometry.inodes v
-      → (Sure disk settled v → Applies s.geometry.inodes v change) → P s.geometry.inodes v table (Ok y))
+      → (Sure by_bytes disk settled v → Applies s.geometry.inodes v change) → P s.geometry.inodes v table (Ok y))
       → PreparesWith changes G a b s t P (Ok y)
   granted {p = p} decides same says over answers =
       grants decides.looks
       (subst (λ o. IfSome o (λ c. IsReady t c.prepared)) (sym same) decides.ready)
       (λ disk settled v stands.
       subst (λ o. IfSome o (λ c. Does disk settled t v c.prepared (said_by c.change))) (sym same)
-      (subst (Does disk settled t v p) (sym says) (decides.does disk settled v (over disk settled v stands))))
-      (λ disk settled v table stands volume mounted. answers disk settled v table stands volume (decides.applies disk settled v))
+      (subst (Does disk settled t v p) (sym says) (decides.does {detail = by_bytes} disk settled v (over disk settled v stands))))
+      (λ disk settled v table stands volume mounted. answers disk settled v table stands volume (decides.applies {detail = by_bytes} disk settled v))
 
   -- there is an obstacle, or a block isn't read
   pub hindered : (f : Failure) (q : Result T Failure) → IsErrAnd q (λ g. g ≡ f) → DecidesOn Over Sure G a b s t change (Err f)
       → ((disk : ℕ → List ℕ) (settled : ℕ → Inode) (v : Volume) (table : ℕ → Option Description) → Stands G disk settled v a s → IsVolume s.geometry.inodes v
-      → (errno : Errno) → (Sure disk settled v → IsObstacle s.geometry.inodes v change errno) → P s.geometry.inodes v table (Err errno))
+      → (errno : Errno) → (Sure by_bytes disk settled v → IsObstacle s.geometry.inodes v change errno) → P s.geometry.inodes v table (Err errno))
       → PreparesWith changes G a b s t P q
   hindered (Refused errno) q is decides answers =
       carried (PreparesWith changes G a b s t P) q is
       (refuses decides.looks (obstacle_own change errno decides.own)
-      (λ disk settled v table stands volume mounted. answers disk settled v table stands volume errno (λ sure. decides.refused disk settled v sure volume)))
+      (λ disk settled v table stands volume mounted. answers disk settled v table stands volume errno (λ sure. decides.refused {detail = by_bytes} disk settled v sure volume)))
   hindered (Read e) q is decides answers = stops q is decides.looks decides.damaged

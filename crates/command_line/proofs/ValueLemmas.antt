@@ -13,7 +13,7 @@ use Rattle.clap.proofs.ValueTestLemmas.{Accepts-accepts, accepts-Accepts}
 use Rattle.clap.specs.ValueTests.{is_unsigned_in}
 use Rattle.clap.specs.Words.{ReadsOne, Text}
 use Rattle.clap.specs.declared.builder.value_parser.ValueParser.TheVariants.{Unsigned}
-use Rattle.command_line.specs.Values.{digits_in, number_of}
+use Rattle.command_line.specs.Values.{digits_in, spelled_number}
 
 -- ---- suffixes
 
@@ -36,12 +36,12 @@ no_suffix (x ∷ xs) k K M G =
 -- ---- numbers
 
 module _ (E : Type 0) (text : Text) where
-  pub number_ok : (n : ℕ) → ParsesUnsigned {E = E} 32 10 text (Ok n) → number_of text ≡ Some n
+  pub number_ok : (n : ℕ) → ParsesUnsigned {E = E} 32 10 text (Ok n) → spelled_number text ≡ Some n
   number_ok n h =
       let test : is_unsigned_in 0 4294967295 text ≡ true = Accepts-accepts false (Unsigned 0 4294967295) text (h.0.0, omega arith, omega arith, omega arith) in
       rw test (ap Some (sym h.1))
 
-  pub number_err : (e : E) → ParsesUnsigned {E = E} 32 10 text (Err e) → number_of text ≡ None
+  pub number_err : (e : E) → ParsesUnsigned {E = E} 32 10 text (Err e) → spelled_number text ≡ None
   number_err e h = go (is_unsigned_in 0 4294967295 text) refl
     where
       go : (b : Bool) → is_unsigned_in 0 4294967295 text ≡ b → cond b (Some (digits_value 10 (without_leading_plus text))) None ≡ None
@@ -52,7 +52,7 @@ module _ (E : Type 0) (text : Text) where
 
 -- what `get_one` reads of an option's text
 pub number_read : {E : Type 0} (G : Text → Result ℕ E → Type 0) (o : Option Text) (r : Option ℕ) → ((t : Text) (x : Result ℕ E) → G t x → ParsesUnsigned 32 10 t x)
-    → (o ≡ None → r ≡ None) → ((t : Text) → o ≡ Some t → ReadsOne G t r) → r ≡ option_and_then number_of o
+    → (o ≡ None → r ≡ None) → ((t : Text) → o ≡ Some t → ReadsOne G t r) → r ≡ option_and_then spelled_number o
 number_read {E} G None r parses none value = none refl
 number_read {E} G (Some t) (Some n) parses none value = sym (number_ok E t n (parses t (Ok n) (value t refl)))
 number_read {E} G (Some t) None parses none value =
@@ -68,6 +68,6 @@ flag_read E (Some t) (Some true) none value = rw (value t refl) refl
 flag_read E (Some t) (Some false) none value = rw (value t refl) refl
 flag_read E (Some t) None none value = sym (false_from_ne_true _ (λ e. (value t refl).1.0 ((bytes_eq-Decides t (codes "true")).0 e)))
 
-pub number_parsed : {E : Type 0} (t : Text) (r : Result ℕ E) → ParsesUnsigned 32 10 t r → result_ok r ≡ number_of t
+pub number_parsed : {E : Type 0} (t : Text) (r : Result ℕ E) → ParsesUnsigned 32 10 t r → result_ok r ≡ spelled_number t
 number_parsed {E} t (Ok n) h = sym (number_ok E t n h)
 number_parsed {E} t (Err e) h = sym (number_err E t e h)

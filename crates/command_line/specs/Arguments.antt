@@ -10,52 +10,52 @@ use Rattle.clap.specs.declared.builder.command.Command.TheViews.{out-Command}
 use Rattle.clap.specs.declared.builder.value_parser.ValueParser.TheVariants.{Signed}
 
 -- an argument known by its place, which is required
-abbrev pub place : Text → Rule
-place id = record (new_rule id) { value_names = 1; required = true }
+abbrev pub place_rule : Text → Rule
+place_rule id = record (new_rule id) { value_names = 1; required = true }
 
 -- an option without a value
-abbrev pub flag : Text → Rule
-flag id = record (new_rule id) { long = Some id; action = Some SetTrue }
+abbrev pub flag_rule : Text → Rule
+flag_rule id = record (new_rule id) { long = Some id; action = Some SetTrue }
 
 -- an option with a value
-abbrev pub option : Text → Rule
-option id = record (new_rule id) { long = Some id; value_names = 1 }
+abbrev pub option_rule : Text → Rule
+option_rule id = record (new_rule id) { long = Some id; value_names = 1 }
 
 -- an option of `make`, which is required: its number may have a suffix, so that clap takes each text
-abbrev pub size : Text → Rule
-size id = record (option id) { required = true }
+abbrev pub size_rule : Text → Rule
+size_rule id = record (option_rule id) { required = true }
 
 -- an option whose value is a number of 32 bits from this one on
 abbrev pub number_from : ℕ → Text → Rule
-number_from least id = record (option id) { parser = Some (Signed (pos least) (pos 4294967295)) }
+number_from least id = record (option_rule id) { parser = Some (Signed (pos least) (pos 4294967295)) }
 
 -- an option that has this value where the words don't have it
-abbrev pub or_else : Text → Rule → Rule
-or_else text rule = record rule { defaults = text ∷ [] }
+abbrev pub with_default : Text → Rule → Rule
+with_default text rule = record rule { defaults = text ∷ [] }
 
 -- all words that are left, one or more
 abbrev pub all_others : Text → Rule
-all_others id = record (place id) {
+all_others id = record (place_rule id) {
   range = Some (record { start_inclusive = 1; end_inclusive = usize_max });
   trailing_var_arg = true;
 }
 
 abbrev pub explain : Rule
-explain = flag (codes "explain")
+explain = flag_rule (codes "explain")
 
 -- a command with these arguments behind the two files of an image
 abbrev pub on_image : Text → List Rule → App
 on_image name rules =
-    fold with_rule (new_app name) (place (codes "disk") ∷ place (codes "nvram") ∷ rules)
+    fold with_rule (new_app name) (place_rule (codes "disk") ∷ place_rule (codes "nvram") ∷ rules)
 
 abbrev pub make_app : App
 make_app = on_image (codes "make")
-    (size (codes "blocks") ∷ size (codes "inodes") ∷ size (codes "half") ∷ flag (codes "new") ∷ [])
+    (size_rule (codes "blocks") ∷ size_rule (codes "inodes") ∷ size_rule (codes "half") ∷ flag_rule (codes "new") ∷ [])
 
 abbrev pub run_app : App
-run_app = on_image (codes "run") (place (codes "script") ∷ flag (codes "stop")
-    ∷ number_from 1 (codes "cut") ∷ or_else (codes "none") (option (codes "keep"))
-    ∷ or_else (codes "0") (number_from 0 (codes "bytes")) ∷ number_from 1 (codes "fail-sync")
+run_app = on_image (codes "run") (place_rule (codes "script") ∷ flag_rule (codes "stop")
+    ∷ number_from 1 (codes "cut") ∷ with_default (codes "none") (option_rule (codes "keep"))
+    ∷ with_default (codes "0") (number_from 0 (codes "bytes")) ∷ number_from 1 (codes "fail-sync")
     ∷ explain ∷ [])
 
 abbrev pub shell_app : App
@@ -67,12 +67,15 @@ do_app = on_image (codes "do") (all_others (codes "words") ∷ explain ∷ [])
 abbrev pub df_app : App
 df_app = on_image (codes "df") (explain ∷ [])
 
+abbrev pub check_app : App
+check_app = on_image (codes "check") []
+
 abbrev pub put_app : App
-put_app = on_image (codes "put") (place (codes "file") ∷ place (codes "path") ∷ explain ∷ [])
+put_app = on_image (codes "put") (place_rule (codes "file") ∷ place_rule (codes "path") ∷ explain ∷ [])
 
 abbrev pub get_app : App
 get_app = on_image (codes "get")
-    (place (codes "path") ∷ place (codes "file") ∷ option (codes "in") ∷ explain ∷ [])
+    (place_rule (codes "path") ∷ place_rule (codes "file") ∷ option_rule (codes "in") ∷ explain ∷ [])
 
 -- the program, which has a version and requires one of its commands
 abbrev pub program : App
@@ -82,16 +85,16 @@ program = record (new_app (codes "wafl")) {
 
 unfoldable pub wafl_app : App
 wafl_app = fold (λ a sub. with_subcommand a sub.top) program (make_app ∷ run_app ∷ shell_app
-    ∷ do_app ∷ df_app ∷ put_app ∷ get_app ∷ [])
+    ∷ do_app ∷ df_app ∷ check_app ∷ put_app ∷ get_app ∷ [])
 
 -- an argument that is given these rules, and counts for its own command alone
 abbrev pub IsArg : Rule → Arg → Type 0
 IsArg rule a = (rule_of a ≡ rule) × (a.global ≡ false)
 
 -- a command that is given these arguments, none of which counts below it
-abbrev pub IsCommand : App → Command → Type 0
-IsCommand app c = (app_of c ≡ app) × ((out-Command c).has_globals ≡ false)
+abbrev pub MakesCommand : App → Command → Type 0
+MakesCommand app c = (app_of c ≡ app) × ((out-Command c).has_globals ≡ false)
 
 -- the same of a command to which arguments are added, if there was memory
 abbrev pub GrowsTo : {E : Type 0} → App → Result Command E → Type 0
-GrowsTo app r = IfOk r (IsCommand app)
+GrowsTo app r = IfOk r (MakesCommand app)

@@ -8,7 +8,7 @@ use Rattle.clap.specs.declared.error.kind.ErrorKind.TheVariants.{DisplayHelp, Di
 use Rattle.layout.specs.declared.TheConstants.{BLOCK_BYTES}
 use Rattle.layout.specs.declared.geometry.TheConstants.{LEAST_BLOCKS, MOST_BLOCKS, LEAST_INODES, MOST_INODES, LEAST_HALF, MOST_HALF}
 use Rattle.command_line.specs.Arguments.{wafl_app}
-use Rattle.command_line.specs.Values.{Refusal, amount_at, given, is_set, needed, not_understood, number_at, out_of_range, text_at}
+use Rattle.command_line.specs.Values.{Refusal, amount_at, given, is_set, needed, not_understood, option_number, out_of_range, text_at}
 use Rattle.command_line.specs.declared.line.Asked.{Asked}
 use Rattle.command_line.specs.declared.line.Kept.{Kept}
 use Rattle.command_line.specs.declared.line.Kept.TheVariants as kept
@@ -20,40 +20,45 @@ use Rattle.command_line.specs.declared.line.RunFaults.{RunFaults}
 
 -- ---- the values of the types
 
+-- which sector writes a power cut keeps: none, all, or those at a 1 of a text
 pub data KeptValue : Type 0 where
   nothing : KeptValue
   everything : KeptValue
   bits : Text → KeptValue
 
+-- what is to go wrong in a run
 pub record FaultsValue : Type 0 where
   pub cut : Option ℕ
   pub keep : KeptValue
   pub bytes : ℕ
   pub fail_sync : Option ℕ
 
+-- what a line of the program asks for, its texts by their bytes; of help and the version not which text is shown
 pub data LineValue : Type 0 where
   make : (disk nvram : Text) → (blocks inodes half : ℕ) → (is_new : Bool) → LineValue
   run : (disk nvram script : Text) → (stops : Bool) → FaultsValue → LineValue
   shell : (disk nvram : Text) → LineValue
   one : (disk nvram : Text) → (words : List Text) → LineValue
   df : (disk nvram : Text) → LineValue
+  check : (disk nvram : Text) → LineValue
   put : (disk nvram file path : Text) → LineValue
   get : (disk nvram path file : Text) → (snapshot : Option Text) → LineValue
   help : LineValue
 
+-- a line, and whether it is explained on no terminal too
 pub record AskedValue : Type 0 where
   pub line : LineValue
   pub explains : Bool
 
-abbrev pub kept_value : Kept → KeptValue
-kept_value kept.Nothing = nothing
-kept_value kept.Everything = everything
-kept_value (kept.Bits text) = bits text.now
+abbrev pub keep_value : Kept → KeptValue
+keep_value kept.Nothing = nothing
+keep_value kept.Everything = everything
+keep_value (kept.Bits text) = bits text.now
 
 abbrev pub faults_value : RunFaults → FaultsValue
 faults_value f = record {
   cut = f.cut;
-  keep = kept_value f.keep;
+  keep = keep_value f.keep;
   bytes = f.bytes;
   fail_sync = f.fail_sync;
 }
@@ -66,6 +71,7 @@ line_value (line.Run disk nvram script stops faults) =
 line_value (line.Shell disk nvram) = shell disk.now nvram.now
 line_value (line.Do disk nvram words) = one disk.now nvram.now (map (λ w. w.now) words.items)
 line_value (line.Df disk nvram) = df disk.now nvram.now
+line_value (line.Check disk nvram) = check disk.now nvram.now
 line_value (line.Put disk nvram file path) = put disk.now nvram.now file.now path.now
 line_value (line.Get disk nvram path file snapshot) =
     get disk.now nvram.now path.now file.now (option_map (λ s. s.now) snapshot)
@@ -92,18 +98,18 @@ abbrev pub is_bits : Text → Bool
 is_bits text = nat_lt 0 (length text) && list_all (λ c. c == 48 || c == 49) text
 
 -- what is kept is `none`, `all` or a text of 0 (48) and 1
-abbrev pub kept_of : Text → Option KeptValue
-kept_of text = if bytes_eq text (codes "none") then Some nothing
+abbrev pub keep_named : Text → Option KeptValue
+keep_named text = if bytes_eq text (codes "none") then Some nothing
     else (if bytes_eq text (codes "all") then Some everything
     else (if is_bits text then Some (bits text) else None))
 
 abbrev pub faults_at : List Row → Result FaultsValue Refusal
-faults_at rows = given (given (text_at (codes "keep") rows) (λ word. needed (kept_of word))) (λ keep.
-    given (needed (number_at (codes "bytes") rows)) (λ bytes. Ok (record {
-      cut = number_at (codes "cut") rows;
+faults_at rows = given (given (text_at (codes "keep") rows) (λ word. needed (keep_named word))) (λ keep.
+    given (needed (option_number (codes "bytes") rows)) (λ bytes. Ok (record {
+      cut = option_number (codes "cut") rows;
       keep = keep;
       bytes = bytes;
-      fail_sync = number_at (codes "fail-sync") rows;
+      fail_sync = option_number (codes "fail-sync") rows;
     })))
 
 abbrev pub run_line : List Row → Result LineValue Refusal
@@ -116,6 +122,9 @@ shell_line rows = with_image rows (λ disk nvram. Ok (shell disk nvram))
 
 abbrev pub df_line : List Row → Result LineValue Refusal
 df_line rows = with_image rows (λ disk nvram. Ok (df disk nvram))
+
+abbrev pub check_line : List Row → Result LineValue Refusal
+check_line rows = with_image rows (λ disk nvram. Ok (check disk nvram))
 
 abbrev pub do_line : List Row → Result LineValue Refusal
 do_line rows = with_image rows (λ disk nvram.
@@ -130,20 +139,22 @@ get_line rows = with_image rows (λ disk nvram. given (text_at (codes "path") ro
     given (text_at (codes "file") rows) (λ file.
     Ok (get disk nvram path file (first_of (codes "in") rows)))))
 
-abbrev pub line_of : Text → List Row → Result LineValue Refusal
-line_of name rows = if bytes_eq name (codes "make") then make_line rows
+-- the line of the command of a name
+abbrev pub named_line : Text → List Row → Result LineValue Refusal
+named_line name rows = if bytes_eq name (codes "make") then make_line rows
     else (if bytes_eq name (codes "run") then run_line rows
     else (if bytes_eq name (codes "shell") then shell_line rows
     else (if bytes_eq name (codes "do") then do_line rows
     else (if bytes_eq name (codes "df") then df_line rows
+    else (if bytes_eq name (codes "check") then check_line rows
     else (if bytes_eq name (codes "put") then put_line rows
-    else (if bytes_eq name (codes "get") then get_line rows else Err not_understood))))))
+    else (if bytes_eq name (codes "get") then get_line rows else Err not_understood)))))))
 
 -- ---- the words
 
 -- the line of a command, and whether `--explain` is there
 abbrev pub asked_at : Text → List Row → Result AskedValue Refusal
-asked_at name rows = given (line_of name rows) (λ l. Ok (record {
+asked_at name rows = given (named_line name rows) (λ l. Ok (record {
   line = l;
   explains = is_set (codes "explain") rows;
 }))
@@ -156,6 +167,7 @@ faults_of words = fault_of wafl_app words
 unfoldable pub command_of : List Text → Option (Text × List Row)
 command_of words = subcommand_of wafl_app words
 
+-- where something is wrong with the words, they aren't understood
 abbrev pub unless : {V : Type 0} → Kinds → Result V Refusal → Result V Refusal
 unless [] r = r
 unless (k ∷ ks) r = Err not_understood

@@ -32,13 +32,13 @@ abbrev pub text_at : Text → List Row → Result Text Refusal
 text_at id rows = needed (first_of id rows)
 
 -- the number of 32 bits that a text spells: decimal digits, behind a plus or not
-abbrev pub number_of : Text → Option ℕ
-number_of text = if is_unsigned_in 0 4294967295 text
+abbrev pub spelled_number : Text → Option ℕ
+spelled_number text = if is_unsigned_in 0 4294967295 text
     then Some (digits_value 10 (without_leading_plus text)) else None
 
 -- the number of an option
-abbrev pub number_at : Text → List Row → Option ℕ
-number_at id rows = option_and_then number_of (one_of id rows)
+abbrev pub option_number : Text → List Row → Option ℕ
+option_number id rows = option_and_then spelled_number (one_of id rows)
 
 -- the flag is there
 abbrev pub is_set : Text → List Row → Bool
@@ -59,13 +59,13 @@ abbrev pub digits_in : Text → Text
 digits_in text = if unit_in text == 1 then text else take (length text - 1) text
 
 -- so many times the size, if it is whole
-abbrev pub whole : ℕ → ℕ → Result ℕ Refusal
-whole size total = if total % size == 0 then Ok (total / size) else Err out_of_range
+abbrev pub whole_count : ℕ → ℕ → Result ℕ Refusal
+whole_count size total = if total % size == 0 then Ok (total / size) else Err out_of_range
 
 -- how many a text names of what has this size in bytes: without a suffix its number, and with one so many bytes
 abbrev pub amount_of : ℕ → Text → Result ℕ Refusal
-amount_of size text = given (needed (number_of (digits_in text)))
-    (λ n. whole (if unit_in text == 1 then 1 else size) (n * unit_in text))
+amount_of size text = given (needed (spelled_number (digits_in text)))
+    (λ n. whole_count (if unit_in text == 1 then 1 else size) (n * unit_in text))
 
 abbrev pub within : ℕ → ℕ → ℕ → Result ℕ Refusal
 within least most n = if nat_le least n && nat_le n most then Ok n else Err out_of_range

@@ -3,7 +3,7 @@
 ghost use Rattle.std.specs.Prelude.{[]};
 ghost use Rattle.clap.specs.Words.{App, Rule, new_app, with_rule, with_subcommand};
 ghost use Rattle.command_line.specs.Arguments as spec;
-ghost use Rattle.command_line.specs.Arguments.{GrowsTo, IsArg, IsCommand};
+ghost use Rattle.command_line.specs.Arguments.{GrowsTo, IsArg, MakesCommand};
 
 use crate::options::{bytes, command_words, count, explain, flag, keep, option, place, size};
 use clap::{Arg, Command};
@@ -79,6 +79,7 @@ pub fn wafl_command<'a>(alloc: Global) -> Result<Command<'a>, AllocError>
         .subcommand(shell_command(alloc))
         .subcommand(do_command(alloc))
         .subcommand(df_command(alloc))
+        .subcommand(check_command(alloc))
         .subcommand(put_command(alloc))
         .subcommand(get_command(alloc))
         .command
@@ -86,7 +87,7 @@ pub fn wafl_command<'a>(alloc: Global) -> Result<Command<'a>, AllocError>
 
 /// `wafl` itself.
 fn program<'a>(alloc: Global) -> Command<'a>
-    ensures { IsCommand spec.program result }
+    ensures { MakesCommand spec.program result }
 {
     Command::new(alloc, "wafl")
         .version("0.1.0")
@@ -103,7 +104,7 @@ struct Growing<'a> {
 
 impl<'a> Growing<'a> {
     fn of(command: Command<'a>) -> Growing<'a>
-        ensures { (a : App) → IsCommand a command.entry → GrowsTo a result.command }
+        ensures { (a : App) → MakesCommand a command.entry → GrowsTo a result.command }
     {
         Growing {
             command: Ok(command),
@@ -161,7 +162,7 @@ fn on_image<'a>(alloc: Global, name: &'a str, about: &'a str, after: &'a str) ->
 
 /// A command without arguments, with what help says of it.
 fn named<'a>(alloc: Global, name: &'a str, about: &'a str, after: &'a str) -> Command<'a>
-    ensures { IsCommand (new_app name.entry.now) result }
+    ensures { MakesCommand (new_app name.entry.now) result }
 {
     Command::new(alloc, name).about(about).after_help(after)
 }
@@ -263,6 +264,17 @@ fn df_command<'a>(alloc: Global) -> Growing<'a>
         "Prints the disk's blocks, those that are free, and those that are pledged for what the newest root doesn't hold. The image stays as it is.\n\nExample:\n  wafl df disk nvram",
     )
     .arg(explain(alloc))
+}
+
+fn check_command<'a>(alloc: Global) -> Growing<'a>
+    ensures { GrowsTo spec.check_app result.command }
+{
+    on_image(
+        alloc,
+        "check",
+        "Look for faults in an image",
+        "Prints ok, the newest root's generation, how many snapshots it has, how many records of the log it doesn't hold, and how many blocks are free; or bad, the number and the name of the first fault, with status 6. Standard error tells of each tree with a fault what was found. The image stays as it is.\n\nFaults: 1 ROOTS, 2 SNAPROOT, 3 TREE, 4 SHARED, 5 MAPBIT, 6 INODEMAP, 7 DIR, 8 LINKS, 9 LOG.\n\nExample:\n  wafl check disk nvram",
+    )
 }
 
 fn put_command<'a>(alloc: Global) -> Growing<'a>

@@ -2,7 +2,7 @@
 
 ghost use Rattle.std.specs.Prelude.{◌≡◌, codes, option_map};
 ghost use Rattle.command_line.specs.Lines as spec;
-ghost use Rattle.command_line.specs.Lines.{Yields, faults_at, faults_value, kept_of, kept_value, line_of, line_value};
+ghost use Rattle.command_line.specs.Lines.{Yields, faults_at, faults_value, keep_named, keep_value, named_line, line_value};
 ghost use Rattle.command_line.specs.Values.{given, needed, rows_in, text_at};
 
 use crate::line::{Kept, Line, LineError, RunFaults, not_understood};
@@ -17,7 +17,7 @@ pub fn line_of_command<'a>(
     name: &str,
     matches: &ArgMatches<'a>,
 ) -> Result<Line<'a>, LineError>
-    ensures { Yields line_value (line_of name.now (rows_in matches.now)) result }
+    ensures { Yields line_value (named_line name.now (rows_in matches.now)) result }
 {
     match name {
         "make" => make_line(alloc, matches),
@@ -25,6 +25,7 @@ pub fn line_of_command<'a>(
         "shell" => shell_line(alloc, matches),
         "do" => do_line(alloc, matches),
         "df" => df_line(alloc, matches),
+        "check" => check_line(alloc, matches),
         "put" => put_line(alloc, matches),
         "get" => get_line(alloc, matches),
         _ => Err(not_understood(alloc, "error: no command\n")),
@@ -68,7 +69,7 @@ fn run_faults<'a>(alloc: Global, matches: &ArgMatches<'a>) -> Result<RunFaults<'
 }
 
 fn needed_kept<'a>(alloc: Global, matches: &ArgMatches<'a>) -> Result<Kept<'a>, LineError>
-    ensures { Yields kept_value (given (text_at (codes "keep") (rows_in matches.now)) (λ word. needed (kept_of word)))
+    ensures { Yields keep_value (given (text_at (codes "keep") (rows_in matches.now)) (λ word. needed (keep_named word)))
         result }
 {
     let word = needed_text(alloc, matches, "keep")?;
@@ -82,7 +83,7 @@ fn needed_kept<'a>(alloc: Global, matches: &ArgMatches<'a>) -> Result<Kept<'a>, 
 }
 
 fn read_kept(word: &str) -> Option<Kept<'_>>
-    ensures { option_map kept_value result ≡ kept_of word.now }
+    ensures { option_map keep_value result ≡ keep_named word.now }
 {
     if word == "none" {
         return Some(Kept::Nothing);
@@ -129,6 +130,15 @@ fn df_line<'a>(alloc: Global, matches: &ArgMatches<'a>) -> Result<Line<'a>, Line
     ensures { Yields line_value (spec.df_line (rows_in matches.now)) result }
 {
     Ok(Line::Df {
+        disk: needed_text(alloc, matches, "disk")?,
+        nvram: needed_text(alloc, matches, "nvram")?,
+    })
+}
+
+fn check_line<'a>(alloc: Global, matches: &ArgMatches<'a>) -> Result<Line<'a>, LineError>
+    ensures { Yields line_value (spec.check_line (rows_in matches.now)) result }
+{
+    Ok(Line::Check {
         disk: needed_text(alloc, matches, "disk")?,
         nvram: needed_text(alloc, matches, "nvram")?,
     })

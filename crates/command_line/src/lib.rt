@@ -14,4 +14,4 @@ mod values;
 
 pub use line::{Asked, Kept, Line, LineError, RunFaults, read_line};
 pub use script_lines::explain_line;
-pub use spelled_line::{are_words, line_of};
+pub use spelled_line::{are_words, line_of_words};

@@ -66,6 +66,11 @@ pub enum Line<'a> {
         disk: &'a str,
         nvram: &'a str,
     },
+    /// `wafl check DISK NVRAM`: looks for faults in the image.
+    Check {
+        disk: &'a str,
+        nvram: &'a str,
+    },
     /// `wafl put DISK NVRAM FILE PATH`: stores a file of the host's in one of the image.
     Put {
         disk: &'a str,

@@ -2,10 +2,10 @@
 
 ghost use Rattle.std.specs.Prelude.{◌≡◌, ◌<◌, ◌*◌, ◌==◌, if◌then◌else◌, IfOk};
 ghost use Rattle.command_line.specs.Lines.{IsMisunderstood, Yields};
-ghost use Rattle.command_line.specs.Values.{amount_at, amount_of, digits_in, given, number_of, rows_in, unit_in, unit_of, whole, within};
+ghost use Rattle.command_line.specs.Values.{amount_at, digits_in, given, rows_in, spelled_number, unit_in, unit_of, whole_count, within};
 
-use crate::line::{LineError, not_understood};
-use crate::values::text;
+use crate::line::LineError;
+use crate::values::needed_text;
 use clap::ArgMatches;
 use layout::{
     BLOCK_BYTES, LEAST_BLOCKS, LEAST_HALF, LEAST_INODES, MOST_BLOCKS, MOST_HALF, MOST_INODES,
@@ -57,9 +57,7 @@ pub fn make_number<'a>(
     ensures { Yields (λ n. n) (amount_at limits.option.now limits.unit
         limits.least limits.most (rows_in matches.now)) result }
 {
-    let Some(word) = text(matches, limits.option) else {
-        return Err(not_understood(alloc, "error: an argument is missing\n"));
-    };
+    let word = needed_text(alloc, matches, limits.option)?;
     let Some(number) = read_number(word) else {
         return Err(no_number(alloc, word, limits.option)?);
     };
@@ -87,7 +85,7 @@ fn in_range(
 ) -> Result<u32, LineError>
     requires { 0 < size }
     ensures { Yields (λ n. n)
-        (given (whole size number) (within limits.least limits.most)) result }
+        (given (whole_count size number) (within limits.least limits.most)) result }
 {
     let option = limits.option;
     if number % size != 0 {
@@ -107,7 +105,7 @@ fn in_range(
 
 /// A word's number without its suffix. None where it is no number of 32 bits.
 fn read_number(word: &str) -> Option<u32>
-    ensures { result ≡ number_of (digits_in word.now) }
+    ensures { result ≡ spelled_number (digits_in word.now) }
 {
     digits(word).parse().ok()
 }

@@ -9,7 +9,7 @@ use std::alloc::Global;
 
 /// An argument known by its place.
 pub fn place<'a>(alloc: Global, id: &'a str, name: &'a str, help: &'a str) -> Arg<'a>
-    ensures { IsArg (spec.place id.entry.now) result }
+    ensures { IsArg (spec.place_rule id.entry.now) result }
 {
     Arg::new(alloc, id)
         .value_name(name)
@@ -19,7 +19,7 @@ pub fn place<'a>(alloc: Global, id: &'a str, name: &'a str, help: &'a str) -> Ar
 
 /// An option without a value.
 pub fn flag<'a>(alloc: Global, name: &'a str, help: &'a str) -> Arg<'a>
-    ensures { IsArg (spec.flag name.entry.now) result }
+    ensures { IsArg (spec.flag_rule name.entry.now) result }
 {
     Arg::new(alloc, name)
         .long(name)
@@ -27,6 +27,7 @@ pub fn flag<'a>(alloc: Global, name: &'a str, help: &'a str) -> Arg<'a>
         .help(help)
 }
 
+/// `--explain`, which all commands have that mount an image.
 pub fn explain<'a>(alloc: Global) -> Arg<'a>
     ensures { IsArg spec.explain result }
 {
@@ -39,7 +40,7 @@ pub fn explain<'a>(alloc: Global) -> Arg<'a>
 
 /// An option with a value.
 pub fn option<'a>(alloc: Global, name: &'a str, value: &'a str, help: &'a str) -> Arg<'a>
-    ensures { IsArg (spec.option name.entry.now) result }
+    ensures { IsArg (spec.option_rule name.entry.now) result }
 {
     Arg::new(alloc, name)
         .long(name)
@@ -49,7 +50,7 @@ pub fn option<'a>(alloc: Global, name: &'a str, value: &'a str, help: &'a str) -
 
 /// An option of `make`, whose value is a number, with a suffix or without.
 pub fn size<'a>(alloc: Global, name: &'a str, help: &'a str) -> Arg<'a>
-    ensures { IsArg (spec.size name.entry.now) result }
+    ensures { IsArg (spec.size_rule name.entry.now) result }
 {
     option(alloc, name, "N", help).required(true)
 }
@@ -70,7 +71,7 @@ pub fn count<'a>(alloc: Global, name: &'a str, help: &'a str) -> Arg<'a>
 
 /// How many bytes an NVRAM write keeps.
 pub fn bytes<'a>(alloc: Global) -> Arg<'a>
-    ensures { IsArg (spec.or_else (codes "0") (spec.number_from 0 (codes "bytes"))) result }
+    ensures { IsArg (spec.with_default (codes "0") (spec.number_from 0 (codes "bytes"))) result }
 {
     number(
         alloc,
@@ -80,8 +81,9 @@ pub fn bytes<'a>(alloc: Global) -> Arg<'a>
     .default_value("0")
 }
 
+/// Which sector writes since the last sync a cut keeps: none where the words don't say.
 pub fn keep<'a>(alloc: Global) -> Arg<'a>
-    ensures { IsArg (spec.or_else (codes "none") (spec.option (codes "keep"))) result }
+    ensures { IsArg (spec.with_default (codes "none") (spec.option_rule (codes "keep"))) result }
 {
     option(
         alloc,

@@ -3,7 +3,7 @@
 use std::alloc::{AllocError, Global};
 
 /// The line of one command that words spell, with its end. Where they spell none it is a line that is no command.
-pub fn line_of(alloc: Global, words: &[&str]) -> Result<Vec<u8>, AllocError> {
+pub fn line_of_words(alloc: Global, words: &[&str]) -> Result<Vec<u8>, AllocError> {
     let mut line = Vec::new(alloc);
     if are_words(words) {
         for (i, word) in words.iter().enumerate() {

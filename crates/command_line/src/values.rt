@@ -3,7 +3,7 @@
 ghost use Rattle.std.specs.Prelude.{◌≡◌, option_map, map};
 ghost use Rattle.clap.specs.Words.{all_of, first_of};
 ghost use Rattle.command_line.specs.Values as spec;
-ghost use Rattle.command_line.specs.Values.{needed, number_at, rows_in};
+ghost use Rattle.command_line.specs.Values.{needed, option_number, rows_in};
 ghost use Rattle.command_line.specs.Lines.{IsMisunderstood, Yields};
 
 use crate::line::{LineError, not_understood};
@@ -48,7 +48,7 @@ pub fn needed_texts<'m, 'a>(
 
 /// The number of an option that each line has.
 pub fn needed_number(alloc: Global, matches: &ArgMatches<'_>, id: &str) -> Result<u32, LineError>
-    ensures { Yields (λ n. n) (needed (number_at id.now (rows_in matches.now))) result }
+    ensures { Yields (λ n. n) (needed (option_number id.now (rows_in matches.now))) result }
 {
     match number(matches, id) {
         Some(number) => Ok(number),
@@ -64,7 +64,7 @@ fn missing(alloc: Global) -> LineError
 
 /// The number of an option.
 pub fn number(matches: &ArgMatches<'_>, id: &str) -> Option<u32>
-    ensures { result ≡ number_at id.now (rows_in matches.now) }
+    ensures { result ≡ option_number id.now (rows_in matches.now) }
 {
     matches.get_one::<u32>(id)
 }

@@ -6,6 +6,7 @@ pub mod OverlayLaws
 mod PointLaws
 mod VolumeLaws
 mod StateLaws
+mod FaultLaws
 mod FreeLaws
 mod InodeFileLaws
 mod HoldLaws

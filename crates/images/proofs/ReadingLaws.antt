@@ -22,7 +22,7 @@ use Rattle.layout.proofs.InodeLaws.{inode_again}
 use Rattle.layout.proofs.SnapshotLaws.{snapshot_again}
 use Rattle.images.specs.Nodes.{held, body_block, file_block, place_at_height, pointers_of}
 use Rattle.images.specs.Roots.{free_inode, or_free, inode_from, inode_bytes_at, inode_under, tree, frozen_inode_file, inode_file_or_free}
-use Rattle.images.specs.Soundness.{nodes_of_size, IsSoundFile}
+use Rattle.images.specs.Soundness.{Detail, IsHeldFile, nodes_of_size}
 use Rattle.images.proofs.OverlayLaws.{held_up}
 pub use Rattle.layout.proofs.SizeLaws.{level_one, level_two, used_one, used_two}
 
@@ -67,7 +67,7 @@ highest d f level i is =
     none : suc level - suc level ≡ 0
     none = omega arith
 
-module _ (s : Sizes) (d : Blocks) (f : Inode) (pointers : List Pointer) (sound : IsSoundFile s (held d f)) (body : f.body ≡ Pointers pointers) where
+module _ {detail : Detail} (s : Sizes) (d : Blocks) (f : Inode) (pointers : List Pointer) (sound : IsHeldFile detail s (held d f)) (body : f.body ≡ Pointers pointers) where
   pub fits : FitsPointers pointers s.blocks f.size
   unfolding held
   fits = subst (λ (b : Body). FitsBody b s.blocks f.size) body sound.inode.body

@@ -13,3 +13,5 @@ pub mod Points
 pub mod SnapshotSteps
 pub mod Cuts
 pub mod FirstRoots
+pub mod Replaying
+pub mod Faults

@@ -23,12 +23,26 @@ unfoldable pub nodes_of_size : ℕ → ℕ → ℕ
 nodes_of_size size zero = div_ceil size BLOCK_BYTES
 nodes_of_size size (suc height) = div_ceil (nodes_of_size size height) BLOCK_POINTERS
 
--- a file in its grammar, in an image of these sizes: its inode, each indirect block that is stored, and zeros past its end
-pub record IsSoundFile (s : Sizes) (h : Held) : Type 0 where
+-- how much is known of the bytes in files: all of them, or how many there are
+pub data Detail : Type 0 where
+  by_bytes : Detail
+  by_sizes : Detail
+
+-- zeros stand past the end of a file; where the sizes alone are known, this isn't asked
+abbrev pub HasEnd : Detail → Held → Type 0
+HasEnd by_bytes h = EndsAt h.inode.size (byte_in (file_block h))
+HasEnd by_sizes h = Unit {0}
+
+-- a file in its grammar, in an image of these sizes: its inode, and each indirect block that is stored; and its end
+pub record IsHeldFile (detail : Detail) (s : Sizes) (h : Held) : Type 0 where
   pub inode : IsInode VERSION s h.inode
   pub indirect : (m i b : ℕ) → h.place (suc m) i ≡ Block b
       → IsIndirectBlock s.blocks (nodes_of_size h.inode.size m - BLOCK_POINTERS * i) (h.bytes (suc m) i)
-  pub ends : EndsAt h.inode.size (byte_in (file_block h))
+  pub ends : HasEnd detail h
+
+-- the same with zeros past its end
+abbrev pub IsSoundFile : Sizes → Held → Type 0
+IsSoundFile = IsHeldFile by_bytes
 
 -- kinds of ordinary numbers, and of the root directory's
 abbrev pub IsOrdinary : Kind → Type 0

@@ -29,4 +29,7 @@ pub use reading::{
 };
 pub use room::points_leave_room;
 pub use settling::{later_roots_are_newest, roots_cover_epochs};
-pub use states::{files_hold_one_volume, free_blocks_are_no_matter, images_open_to_one_state};
+pub use states::{
+    faultless_images_have_one_root, faultless_trees_hold_graphs, files_hold_one_volume,
+    free_blocks_are_no_matter, images_open_to_one_state, images_that_open_have_no_fault,
+};

@@ -15,7 +15,7 @@ ghost use Rattle.layout.specs.declared.pointer.Pointer.{Pointer};
 ghost use Rattle.layout.specs.declared.version.TheConstants.{VERSION};
 ghost use Rattle.images.specs.Nodes.{file_block, held};
 ghost use Rattle.images.specs.Roots.{free_inode, frozen_inode_file, inode_bytes_at, tree};
-ghost use Rattle.images.specs.Soundness.{IsSoundFile};
+ghost use Rattle.images.specs.Soundness.{Detail, IsHeldFile};
 
 /// Eight sectors that hold the parts of a block's bytes, one behind the other, are the block. It does nothing.
 pub fn eight_sectors_are_a_block()
@@ -44,8 +44,8 @@ pub fn snapshots_are_what_their_bytes_spell()
 /// Of a file in its grammar whose inode has pointers, the blocks before its end are those that the pointers lead to, and zeros
 /// stand behind them. It does nothing.
 pub fn blocks_are_where_pointers_lead()
-    ensures { (s : Sizes) (d : Blocks) (f : Inode) (pointers : List Pointer) (i : ℕ)
-        → IsSoundFile s (held d f) → f.body ≡ Pointers pointers
+    ensures { (detail : Detail) (s : Sizes) (d : Blocks) (f : Inode) (pointers : List Pointer)
+        (i : ℕ) → IsHeldFile detail s (held d f) → f.body ≡ Pointers pointers
         → file_block (held d f) i
         ≡ (if nat_lt i (div_ceil f.size BLOCK_BYTES)
         then pointed d (place d pointers (level_of f.size - 1) i)

@@ -10,7 +10,7 @@ use Rattle.inode.specs.Edges.{filled, written_list}
 use Rattle.inode.proofs.BytePositions.{slice_index-zeros, written_below, written_above, written_in, cut_below}
 use Rattle.layout.proofs.ZeroLaws.{length-zeros}
 
-length-first_bytes : (f : ℕ → ℕ) (size : ℕ) → length (first_bytes f size) ≡ size
+pub length-first_bytes : (f : ℕ → ℕ) (size : ℕ) → length (first_bytes f size) ≡ size
 length-first_bytes f size = length-map-range_with_len f 0 size
 
 byte_of : (f : ℕ → ℕ) (size k : ℕ) → k < size → slice_index (first_bytes f size) k ≡ f k

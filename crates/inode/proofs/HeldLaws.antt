@@ -22,7 +22,7 @@ use Rattle.blocktree.specs.Places.{depth_of, IsStoredNode, IsPath}
 use Rattle.blocktree.specs.Trees.{settled_block, AreSound}
 use Rattle.blocktree.specs.declared.tree.BlockTree.{BlockTree}
 use Rattle.images.specs.Nodes.{held, file_block, pointers_of, place_at_height}
-use Rattle.images.specs.Soundness.{nodes_of_size, IsSoundFile}
+use Rattle.images.specs.Soundness.{Detail, IsHeldFile, IsSoundFile, nodes_of_size}
 use Rattle.images.proofs.ReadingLaws.{hole_past}
 use Rattle.inode.specs.Bases.{IsBased, anew, over, StartsFrom}
 use Rattle.inode.specs.Bodies.{body_block, inode_block}
@@ -34,7 +34,7 @@ use Rattle.layout.proofs.PointerLaws.{points_below}
 
 -- what images say of the blocks of settled files
 pub record ReadingLaws : Type 0 where
-  pub pointers : (s : Sizes) (d : ℕ → List ℕ) (f : Inode) (ps : List Pointer) (i : ℕ) → IsSoundFile s (held d f) → f.body ≡ Pointers ps
+  pub pointers : {detail : Detail} (s : Sizes) (d : ℕ → List ℕ) (f : Inode) (ps : List Pointer) (i : ℕ) → IsHeldFile detail s (held d f) → f.body ≡ Pointers ps
       → file_block (held d f) i ≡ (if nat_lt i (div_ceil f.size 4096) then pointed d (place d ps (level_of f.size - 1) i) else zeros 4096)
   pub first : (s : Sizes) (d : ℕ → List ℕ) (f : Inode) (bytes : List ℕ) → IsInode VERSION s f → f.body ≡ Inline bytes
       → file_block (held d f) 0 ≡ take f.size bytes ++ zeros (4096 - f.size)
@@ -43,7 +43,7 @@ pub record ReadingLaws : Type 0 where
 not_first : (n : ℕ) (x y : List ℕ) → (if suc n == 0 then x else y) ≡ y
 not_first n x y = grind (arith, nat_tests)
 
-module _ (laws : ReadingLaws) (s : Sizes) (disk : ℕ → List ℕ) (f : Inode) (sound : IsSoundFile s (held disk f)) where
+module _ (laws : ReadingLaws) {detail : Detail} (s : Sizes) (disk : ℕ → List ℕ) (f : Inode) (sound : IsHeldFile detail s (held disk f)) where
   is_inode : IsInode VERSION s f
   unfolding held
   is_inode = sound.inode
@@ -98,7 +98,7 @@ used_is size zero level = grind (arith, nat_tests, level)
 used_is size (suc zero) level = grind (arith, nat_tests, level)
 used_is size (suc (suc top)) level = absurd (let most : level_of size ≤ 2 = grind (arith, nat_tests) in omega (arith, most, level))
 
-module _ (s : Sizes) (disk : ℕ → List ℕ) (f : Inode) (ps : List Pointer) (sound : IsSoundFile s (held disk f)) (body : f.body ≡ Pointers ps) where
+module _ {detail : Detail} (s : Sizes) (disk : ℕ → List ℕ) (f : Inode) (ps : List Pointer) (sound : IsHeldFile detail s (held disk f)) (body : f.body ≡ Pointers ps) where
   pub fits : FitsPointers ps s.blocks f.size
   unfolding held
   fits = subst (λ (b : Body). FitsBody b s.blocks f.size) body sound.inode.body
@@ -143,7 +143,7 @@ module _ (s : Sizes) (disk : ℕ → List ℕ) (f : Inode) (ps : List Pointer) (
 inline_level : (size : ℕ) → size ≤ 128 → level_of size ≡ 0
 inline_level size low = grind (arith, nat_tests, low)
 
-past_of : (s : Sizes) (disk : ℕ → List ℕ) (f : Inode) (m i : ℕ) (body : Body) → f.body ≡ body → IsSoundFile s (held disk f) → nodes_of_size f.size m ≤ i → (held disk f).place m i ≡ Hole
+past_of : {detail : Detail} (s : Sizes) (disk : ℕ → List ℕ) (f : Inode) (m i : ℕ) (body : Body) → f.body ≡ body → IsHeldFile detail s (held disk f) → nodes_of_size f.size m ≤ i → (held disk f).place m i ≡ Hole
 unfolding held
 past_of s disk f m i (Pointers ps) is sound past = past_node s disk f ps sound is m i past
 past_of s disk f m i (Inline bytes) is sound past =
@@ -151,14 +151,14 @@ past_of s disk f m i (Inline bytes) is sound past =
     node_above disk f m i (omega (arith, inline_level f.size fits.0))
 
 -- past the nodes at a height all are holes
-pub node_past : (s : Sizes) (disk : ℕ → List ℕ) (f : Inode) (m i : ℕ) → IsSoundFile s (held disk f) → nodes_of_size f.size m ≤ i → (held disk f).place m i ≡ Hole
+pub node_past : {detail : Detail} (s : Sizes) (disk : ℕ → List ℕ) (f : Inode) (m i : ℕ) → IsHeldFile detail s (held disk f) → nodes_of_size f.size m ≤ i → (held disk f).place m i ≡ Hole
 node_past s disk f m i sound past = past_of s disk f m i f.body refl sound past
 
 -- a file whose inode has pointers has a level
 some_level : (size : ℕ) → 128 < size → level_of size ≡ suc (depth_of size + 0)
 some_level size large = grind (arith, nat_tests, large)
 
-pub based_sound : (s : Sizes) (disk : ℕ → List ℕ) (f : Inode) (t : BlockTree) → IsSoundFile s (held disk f) → IsBased f t → AreSound s.blocks disk t
+pub based_sound : {detail : Detail} (s : Sizes) (disk : ℕ → List ℕ) (f : Inode) (t : BlockTree) → IsHeldFile detail s (held disk f) → IsBased f t → AreSound s.blocks disk t
 unfolding nodes_of_size
 based_sound s disk f t sound (anew none) i lt = absurd (omega (arith, none, lt))
 based_sound s disk f t sound (over ps body has) i lt =

@@ -28,7 +28,7 @@ impl File {
     ghost use Rattle.layout.specs.declared.inode.Inode.{Inode};
     ghost use Rattle.blocktree.specs.Trees.{IsChanged, IsSoundAt, IsAtLocation, OnDisk};
     ghost use Rattle.images.specs.Nodes.{held};
-    ghost use Rattle.images.specs.Soundness.{IsSoundFile};
+    ghost use Rattle.images.specs.Soundness.{Detail, IsHeldFile, IsSoundFile};
     ghost use Rattle.inode.specs.Bases.{IsBased, StartsFrom, StartsUnchanged};
     ghost use Rattle.inode.specs.Bodies.{inode_block};
     ghost use Rattle.inode.specs.Files.{IsAsHeld, file_block, byte_at, IsFile};
@@ -39,8 +39,8 @@ impl File {
         ensures size { IfOk result (λ f. f.size ≡ inode.size) }
         ensures blocks { IfOk result (λ f. (disk : ℕ → List ℕ) (i : ℕ)
             → file_block disk f i ≡ inode_block disk inode i) }
-        ensures held { (s : Sizes) (disk : ℕ → List ℕ) → IsSoundFile s (held disk inode)
-            → IfOk result (IsAsHeld disk inode) }
+        ensures held { (detail : Detail) (s : Sizes) (disk : ℕ → List ℕ)
+            → IsHeldFile detail s (held disk inode) → IfOk result (IsAsHeld disk inode) }
         ensures ends { (s : Sizes) (disk : ℕ → List ℕ) → IsSoundFile s (held disk inode)
             → IfOk result (IsFile disk) }
         ensures settled { IfOk result (λ f. StartsFrom inode.body inode.size f.tree) }

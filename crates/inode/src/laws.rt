@@ -12,14 +12,14 @@ ghost use Rattle.blocktree.specs.Places.{IsPath};
 ghost use Rattle.blocktree.specs.Trees.{AreSound, IsSoundAt};
 ghost use Rattle.blocktree.specs.declared.tree.BlockTree.{BlockTree};
 ghost use Rattle.images.specs.Nodes.{file_block, held};
-ghost use Rattle.images.specs.Soundness.{IsSoundFile, nodes_of_size};
+ghost use Rattle.images.specs.Soundness.{Detail, IsHeldFile, nodes_of_size};
 ghost use Rattle.inode.specs.Bases.{IsBased};
 ghost use Rattle.inode.specs.Bodies.{inode_block};
 
 /// A file in its grammar has the blocks that an image has for it. It does nothing.
 pub fn settled_files_are_as_held()
-    ensures { (s : Sizes) (disk : ℕ → List ℕ) (i : Inode) (n : ℕ) → IsSoundFile s (held disk i)
-        → inode_block disk i n ≡ file_block (held disk i) n }
+    ensures { (detail : Detail) (s : Sizes) (disk : ℕ → List ℕ) (i : Inode) (n : ℕ)
+        → IsHeldFile detail s (held disk i) → inode_block disk i n ≡ file_block (held disk i) n }
 {
     images::blocks_are_where_pointers_lead();
     images::inline_bytes_are_the_first_block();
@@ -33,12 +33,12 @@ pub fn nodes_are_where_pointers_lead()
         (depth height i : ℕ) → f.body ≡ Pointers pointers
         → level_of f.size ≡ suc (depth + height)
         → (held disk f).place height i ≡ place disk pointers depth i }
-    ensures paths { (s : Sizes) (disk : ℕ → List ℕ) (f : Inode) (pointers : List Pointer)
-        (depth height i : ℕ) → IsSoundFile s (held disk f) → f.body ≡ Pointers pointers
+    ensures paths { (detail : Detail) (s : Sizes) (disk : ℕ → List ℕ) (f : Inode)
+        (pointers : List Pointer) (depth height i : ℕ) → IsHeldFile detail s (held disk f) → f.body ≡ Pointers pointers
         → level_of f.size ≡ suc (depth + height)
         → IsPath s.blocks disk pointers depth (nodes_of_size f.size height) i }
-    ensures past { (s : Sizes) (disk : ℕ → List ℕ) (f : Inode) (height i : ℕ)
-        → IsSoundFile s (held disk f) → nodes_of_size f.size height ≤ i
+    ensures past { (detail : Detail) (s : Sizes) (disk : ℕ → List ℕ) (f : Inode) (height i : ℕ)
+        → IsHeldFile detail s (held disk f) → nodes_of_size f.size height ≤ i
         → (held disk f).place height i ≡ Hole }
     ensures above { (disk : ℕ → List ℕ) (f : Inode) (height i : ℕ) → level_of f.size ≤ height
         → (held disk f).place height i ≡ Hole }
@@ -46,8 +46,8 @@ pub fn nodes_are_where_pointers_lead()
 
 /// What stands over the settled blocks of a tree that is based on a file in its grammar is in its grammar. It does nothing.
 pub fn based_trees_are_sound()
-    ensures all { (s : Sizes) (disk : ℕ → List ℕ) (i : Inode) (t : BlockTree)
-        → IsSoundFile s (held disk i) → IsBased i t → AreSound s.blocks disk t }
-    ensures at { (s : Sizes) (disk : ℕ → List ℕ) (i : Inode) (t : BlockTree) (k : ℕ)
-        → IsSoundFile s (held disk i) → IsBased i t → IsSoundAt s.blocks disk t k }
+    ensures all { (detail : Detail) (s : Sizes) (disk : ℕ → List ℕ) (i : Inode) (t : BlockTree)
+        → IsHeldFile detail s (held disk i) → IsBased i t → AreSound s.blocks disk t }
+    ensures at { (detail : Detail) (s : Sizes) (disk : ℕ → List ℕ) (i : Inode) (t : BlockTree)
+        (k : ℕ) → IsHeldFile detail s (held disk i) → IsBased i t → IsSoundAt s.blocks disk t k }
 {}

@@ -29,7 +29,7 @@ pub struct Object {
 impl Object {
     ghost use Rattle.layout.specs.Limits.{Sizes};
     ghost use Rattle.images.specs.Nodes.{held};
-    ghost use Rattle.images.specs.Soundness.{IsSoundFile};
+    ghost use Rattle.images.specs.Soundness.{Detail, IsHeldFile, IsSoundFile};
     ghost use Rattle.inode.specs.Bases.{IsBased, StartsFrom, StartsUnchanged};
     ghost use Rattle.inode.specs.Files.{IsAsHeld, IsFile, file_block};
 
@@ -42,8 +42,8 @@ impl Object {
         ensures size { IfOk result (λ o. o.file.size ≡ inode.size) }
         ensures blocks { IfOk result (λ o. (disk : ℕ → List ℕ) (i : ℕ)
             → file_block disk o.file i ≡ inode_block disk inode i) }
-        ensures held { (s : Sizes) (disk : ℕ → List ℕ) → IsSoundFile s (held disk inode)
-            → IfOk result (λ o. IsAsHeld disk inode o.file) }
+        ensures held { (detail : Detail) (s : Sizes) (disk : ℕ → List ℕ)
+            → IsHeldFile detail s (held disk inode) → IfOk result (λ o. IsAsHeld disk inode o.file) }
         ensures ends { (s : Sizes) (disk : ℕ → List ℕ) → IsSoundFile s (held disk inode)
             → IfOk result (λ o. IsFile disk o.file) }
         ensures settled { IfOk result (λ o. StartsFrom inode.body inode.size o.file.tree) }

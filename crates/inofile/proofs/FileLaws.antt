@@ -13,15 +13,16 @@ use Rattle.model.specs.Volumes.{Node, Volume}
 use Rattle.images.specs.Contents.{Content, StandsAs, HoldsVolume}
 use Rattle.images.specs.Nodes.{held}
 use Rattle.images.specs.Roots.{free_inode}
-use Rattle.images.specs.Soundness.{FitsNumber}
+use Rattle.images.specs.Soundness.{Detail, by_bytes, FitsNumber}
 use Rattle.inode.specs.declared.object.Object.{Object}
 use Rattle.inofile.specs.Inodes.{or_free_content, slot_content, files_of, IsChangedSlot}
-use Rattle.inofile.specs.Objects.{StandsFor, IsAsSettled, IsObjectOrNone}
+use Rattle.inofile.specs.Objects.{StandsForIn, IsAsSettled, IsObjectOrNone}
 use Rattle.inofile.specs.Settled.{held_content, settled_content}
 use Rattle.inofile.specs.Volumes.{SlotStandsFor, IsVolumeOf, HasNoOwn}
 use Rattle.inofile.specs.declared.inode_file.InodeFile.{InodeFile}
 use Rattle.inofile.specs.declared.inode_file.ObjectSlot.{ObjectSlot}
 use Rattle.inofile.specs.declared.inode_file.ObjectSlot.TheVariants.{AsSettled, Loaded, Changed}
+use Rattle.inofile.proofs.DetailLaws.{in_detail}
 use Rattle.inofile.proofs.ObjectLaws.{free_is, free_content, held_inode, unless}
 
 free_or_not : (k : Kind) → (k ≡ kinds.Free) ⊎ (k ≡ kinds.Free → ⊥)
@@ -39,21 +40,21 @@ settled_file disk s i is = elim (free_or_not i.kind) [
   | inr used ↦ ap (or_free_content disk) (unless i.kind (held_content disk i) used)
 ]
 
-none_stands : (disk : ℕ → List ℕ) (inodes : ℕ) (found : Option Node) → found ≡ None → StandsFor inodes (held_content disk free_inode) found
+none_stands : (disk : ℕ → List ℕ) (inodes : ℕ) (found : Option Node) → found ≡ None → StandsForIn by_bytes inodes (held_content disk free_inode) found
 unfolding held
 none_stands disk inodes found none = none
 
-object_stands : (disk : ℕ → List ℕ) (inodes : ℕ) (settled : Inode) (object : Option Object) (below : Option Content) (found : Option Node) → IsObjectOrNone disk inodes settled object found
-    → StandsFor inodes (or_free_content disk (slot_content disk (Some (Changed object)) below)) found
+object_stands : (disk : ℕ → List ℕ) (inodes : ℕ) (settled : Inode) (object : Option Object) (below : Option Content) (found : Option Node) → IsObjectOrNone by_bytes disk inodes settled object found
+    → StandsForIn by_bytes inodes (or_free_content disk (slot_content disk (Some (Changed object)) below)) found
 object_stands disk inodes settled (Some o) below found is = is.stands
 object_stands disk inodes settled None below found is = none_stands disk inodes found is
 
 slot_stands : (disk : ℕ → List ℕ) (s : Sizes) (inodes : ℕ) (settled : Inode) (slot : Option ObjectSlot) (found : Option Node) → IsInode VERSION s settled
-    → SlotStandsFor disk inodes settled slot found → StandsFor inodes (or_free_content disk (slot_content disk slot (settled_content disk settled))) found
-slot_stands disk s inodes settled (Some AsSettled) found is stands = subst (λ (c : Content). StandsFor inodes c found) (sym (settled_file disk s settled is)) stands
+    → SlotStandsFor by_bytes disk inodes settled slot found → StandsForIn by_bytes inodes (or_free_content disk (slot_content disk slot (settled_content disk settled))) found
+slot_stands disk s inodes settled (Some AsSettled) found is stands = subst (λ (c : Content). StandsForIn by_bytes inodes c found) (sym (settled_file disk s settled is)) stands
 slot_stands disk s inodes settled (Some (Loaded object)) found is stands = object_stands disk inodes settled object (settled_content disk settled) found stands.1
 slot_stands disk s inodes settled (Some (Changed object)) found is stands = object_stands disk inodes settled object (settled_content disk settled) found stands
-slot_stands disk s inodes settled None found is stands = subst (λ (c : Content). StandsFor inodes c found) (sym (settled_file disk s settled is)) stands
+slot_stands disk s inodes settled None found is stands = subst (λ (c : Content). StandsForIn by_bytes inodes c found) (sym (settled_file disk s settled is)) stands
 
 loaded_file : (disk : ℕ → List ℕ) (settled : Inode) (object : Option Object) (below : Option Content) → IsAsSettled disk settled object
     → or_free_content disk (slot_content disk (Some (Loaded object)) below) ≡ held_content disk settled
@@ -61,7 +62,7 @@ loaded_file disk settled (Some o) below is = is.0
 loaded_file disk settled None below is = ap (held_content disk) (sym is)
 
 slot_file : (disk : ℕ → List ℕ) (s : Sizes) (inodes : ℕ) (settled : Inode) (slot : Option ObjectSlot) (found : Option Node) → IsInode VERSION s settled → (IsChangedSlot slot → ⊥)
-    → SlotStandsFor disk inodes settled slot found → or_free_content disk (slot_content disk slot (settled_content disk settled)) ≡ held_content disk settled
+    → SlotStandsFor by_bytes disk inodes settled slot found → or_free_content disk (slot_content disk slot (settled_content disk settled)) ≡ held_content disk settled
 slot_file disk s inodes settled (Some AsSettled) found is not stands = settled_file disk s settled is
 slot_file disk s inodes settled (Some (Loaded object)) found is not stands = loaded_file disk settled object (settled_content disk settled) stands.0
 slot_file disk s inodes settled (Some (Changed object)) found is not stands = absurd (not tt)
@@ -96,6 +97,9 @@ pub none_in : (m : BTreeMap ℕ ObjectSlot) → IsEmpty m → (n : ℕ) → get 
 none_in m empty n = ap (λ es. lookup (is_at (nat_cmp n)) es) empty
 
 -- nothing is in memory, and the settled inodes hold the volume
-pub held_stand : (disk : ℕ → List ℕ) (inodes : ℕ) (settled : ℕ → Inode) (m : BTreeMap ℕ ObjectSlot) (v : Volume) → IsEmpty m → HoldsVolume inodes (λ n. held_content disk (settled n)) v
-    → (n : ℕ) → SlotStandsFor disk inodes (settled n) (get nat_cmp m n) (v n)
-held_stand disk inodes settled m v empty holds n = subst (λ (x : Option ObjectSlot). SlotStandsFor disk inodes (settled n) x (v n)) (sym (none_in m empty n)) (holds n)
+pub held_stand : (detail : Detail) (disk : ℕ → List ℕ) (inodes : ℕ) (settled : ℕ → Inode) (m : BTreeMap ℕ ObjectSlot) (v : Volume) → IsEmpty m → HoldsVolume inodes (λ n. held_content disk (settled n)) v
+    → (n : ℕ) → SlotStandsFor detail disk inodes (settled n) (get nat_cmp m n) (v n)
+unfolding held
+held_stand detail disk inodes settled m v empty holds n =
+    subst (λ (x : Option ObjectSlot). SlotStandsFor detail disk inodes (settled n) x (v n)) (sym (none_in m empty n))
+    (in_detail detail (settled n).kind inodes (held_content disk (settled n)) (v n) (holds n))

@@ -1,4 +1,5 @@
 pub mod BitLaws
+pub mod DetailLaws
 mod ObjectLaws
 mod VolumeLaws
 mod SlotLaws

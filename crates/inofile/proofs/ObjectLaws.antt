@@ -13,17 +13,18 @@ use Rattle.layout.specs.Version.{level_of}
 use Rattle.layout.specs.declared.version.TheConstants.{VERSION}
 use Rattle.model.specs.Volumes.{Node}
 use Rattle.blocktree.specs.Places.{block_count, depth_of}
-use Rattle.images.specs.Contents.{Content, StandsAs}
+use Rattle.images.specs.Contents.{Content}
 use Rattle.images.specs.Nodes.{held}
 use Rattle.images.specs.Roots.{free_inode}
-use Rattle.images.specs.Soundness.{IsOrdinary, IsSoundFile}
+use Rattle.images.specs.Soundness.{Detail, IsHeldFile, IsOrdinary, by_bytes, by_sizes}
 use Rattle.inode.specs.Bases.{IsBased, StartsFrom, StartsUnchanged}
 use Rattle.inode.specs.Files.{file_block, IsAsHeld, IsFile, IsSameFile}
 use Rattle.inode.specs.declared.file.File.{File}
 use Rattle.inode.specs.declared.object.Attributes.{Attributes}
 use Rattle.inode.specs.declared.object.Object.{Object}
-use Rattle.inofile.specs.Objects.{StandsFor, IsObjectKind, IsObject, IsObjectOrNone, IsAsSettled, IsSameObject, IsSameOrNone, IsUntouched}
+use Rattle.inofile.specs.Objects.{EndsIn, IsAsSettled, IsObjectIn, IsObjectKind, IsObjectOrNone, IsSameObject, IsSameOrNone, IsSizedAs, IsUntouched, StandsForIn}
 use Rattle.inofile.specs.Settled.{content_of_object, held_content, unless_free, settled_content}
+use Rattle.inofile.proofs.DetailLaws.{by_size}
 use Rattle.std.proofs.lemmas.Bool.{false≢true}
 use Rattle.std.proofs.Math.Path.{fun_ext}
 use Rattle.layout.proofs.SizeLaws.{level_none}
@@ -41,13 +42,14 @@ free_is s i is free =
     let body = free_body i.body s.blocks i.size fits.2 is.body in
     λ j. record { kind = free j; mode = fits.0 j; links = fits.1 j; size = fits.2 j; body = body j }
 
-pub held_inode : (s : Sizes) (disk : ℕ → List ℕ) (i : Inode) → IsSoundFile s (held disk i) → IsInode VERSION s i
+pub held_inode : {detail : Detail} (s : Sizes) (disk : ℕ → List ℕ) (i : Inode) → IsHeldFile detail s (held disk i) → IsInode VERSION s i
 unfolding held
 held_inode s disk i sound = sound.inode
 
-pub free_stands : (disk : ℕ → List ℕ) (inodes : ℕ) (i : Inode) (found : Option Node) → i.kind ≡ kinds.Free → StandsFor inodes (held_content disk i) found → found ≡ None
+pub free_stands : (detail : Detail) (disk : ℕ → List ℕ) (inodes : ℕ) (i : Inode) (found : Option Node) → i.kind ≡ kinds.Free → StandsForIn detail inodes (held_content disk i) found → found ≡ None
 unfolding held
-free_stands disk inodes i found free stands = subst (λ (k : Kind). StandsAs k inodes (held_content disk i) found) free stands
+free_stands detail disk inodes i found free stands =
+    subst (λ (k : Kind). IsSizedAs k inodes (held_content disk i) found) free (by_size detail i.kind inodes (held_content disk i) found stands)
 
 pub free_content : (disk : ℕ → List ℕ) (i : Inode) → i.kind ≡ kinds.Free → settled_content disk i ≡ None
 free_content disk i free = ap (λ (k : Kind). unless_free k (held_content disk i)) free
@@ -97,15 +99,15 @@ loaded_content disk i o is same =
 pub loaded_settled : (disk : ℕ → List ℕ) (i : Inode) (o : Object) → IsLoaded i o → IsAsHeld disk i o.file → Some (content_of_object disk o) ≡ settled_content disk i
 loaded_settled disk i o is same = ap Some (loaded_content disk i o is same) ∙ sym (unless i.kind (held_content disk i) is.used)
 
-pub loaded_object : (disk : ℕ → List ℕ) (inodes : ℕ) (s : Sizes) (i : Inode) (o : Object) (found : Option Node) → IsInode VERSION s i → IsLoaded i o → IsAsHeld disk i o.file
-    → IsFile disk o.file → IsOrdinary i.kind → StandsFor inodes (held_content disk i) found → IsObject disk inodes i o found
-loaded_object disk inodes s i o found inode is same ends ordinary stands = record {
+pub loaded_object : (detail : Detail) (disk : ℕ → List ℕ) (inodes : ℕ) (s : Sizes) (i : Inode) (o : Object) (found : Option Node) → IsInode VERSION s i → IsLoaded i o → IsAsHeld disk i o.file
+    → EndsIn detail disk o.file → IsOrdinary i.kind → StandsForIn detail inodes (held_content disk i) found → IsObjectIn detail disk inodes i o found
+loaded_object detail disk inodes s i o found inode is same ends ordinary stands = record {
   kind = subst (λ (a : Attributes). IsObjectKind a.kind) (sym is.attributes) (object_kind i.kind is.used ordinary);
   mode = subst (λ (a : Attributes). a.mode ≤ 4095) (sym is.attributes) inode.mode;
   fits = λ t.
       subst (λ (a : Attributes). FitsKind a.kind t a.mode a.links o.file.size) (sym is.attributes)
       (subst (FitsKind i.kind t i.mode i.links) (sym is.size) (fits_any i.kind s t i.mode i.links i.size (object_kind i.kind is.used ordinary) inode.kind));
-  stands = subst (λ (c : Content). StandsFor inodes c found) (sym (loaded_content disk i o is same)) stands;
+  stands = subst (λ (c : Content). StandsForIn detail inodes c found) (sym (loaded_content disk i o is same)) stands;
   ends = ends;
   base = is.base;
 }
@@ -116,25 +118,29 @@ pub same_content : (disk : ℕ → List ℕ) (old new : Object) → IsSameObject
 same_content disk old new same =
     λ j. record { kind = (same.attributes j).kind; mode = (same.attributes j).mode; links = (same.attributes j).links; size = same.file.size j; block = λ n. same.file.blocks disk n j }
 
-same_ends : (disk : ℕ → List ℕ) (old new : File) → IsSameFile old new → IsFile disk old → IsFile disk new
-same_ends disk old new same ends =
+same_file_ends : (disk : ℕ → List ℕ) (old new : File) → IsSameFile old new → IsFile disk old → IsFile disk new
+same_file_ends disk old new same ends =
     let blocks : file_block disk old ≡ file_block disk new = fun_ext (λ n. sym (same.blocks disk n)) in
     subst (λ (n : ℕ). EndsAt n (byte_in (file_block disk new))) (sym same.size)
     (subst (λ (f : ℕ → List ℕ). EndsAt old.size (byte_in f)) blocks ends)
 
-pub same_object : (disk : ℕ → List ℕ) (inodes : ℕ) (settled : Inode) (was now : Option Object) (found : Option Node) → IsSameOrNone was now
-    → IsObjectOrNone disk inodes settled was found → IsObjectOrNone disk inodes settled now found
-same_object disk inodes settled None None found same is = is
-same_object disk inodes settled None (Some o) found same is = absurd same
-same_object disk inodes settled (Some o) None found same is = absurd same
-same_object disk inodes settled (Some old) (Some new) found same is = record {
+same_ends : (detail : Detail) (disk : ℕ → List ℕ) (old new : File) → IsSameFile old new → EndsIn detail disk old → EndsIn detail disk new
+same_ends by_bytes disk old new same ends = same_file_ends disk old new same ends
+same_ends by_sizes disk old new same ends = tt
+
+pub same_object : (detail : Detail) (disk : ℕ → List ℕ) (inodes : ℕ) (settled : Inode) (was now : Option Object) (found : Option Node) → IsSameOrNone was now
+    → IsObjectOrNone detail disk inodes settled was found → IsObjectOrNone detail disk inodes settled now found
+same_object detail disk inodes settled None None found same is = is
+same_object detail disk inodes settled None (Some o) found same is = absurd same
+same_object detail disk inodes settled (Some o) None found same is = absurd same
+same_object detail disk inodes settled (Some old) (Some new) found same is = record {
   kind = subst (λ (a : Attributes). IsObjectKind a.kind) (sym same.attributes) is.kind;
   mode = subst (λ (a : Attributes). a.mode ≤ 4095) (sym same.attributes) is.mode;
   fits = λ s.
       subst (λ (a : Attributes). FitsKind a.kind s a.mode a.links new.file.size) (sym same.attributes)
       (subst (FitsKind old.attributes.kind s old.attributes.mode old.attributes.links) (sym same.file.size) (is.fits s));
-  stands = subst (λ (c : Content). StandsFor inodes c found) (sym (same_content disk old new same)) is.stands;
-  ends = same_ends disk old.file new.file same.file is.ends;
+  stands = subst (λ (c : Content). StandsForIn detail inodes c found) (sym (same_content disk old new same)) is.stands;
+  ends = same_ends detail disk old.file new.file same.file is.ends;
   base = same.file.base settled is.base;
 }
 
@@ -156,19 +162,19 @@ same_settled disk settled (Some o) None same is = absurd same
 same_settled disk settled (Some old) (Some new) same is = (same_content disk old new same ∙ is.0, same_untouched old new same is.1)
 
 -- an object is some object of the volume
-kind_some : (k : Kind) (inodes : ℕ) (c : Content) (found : Option Node) → IsObjectKind k → StandsAs k inodes c found → IsSome found
+kind_some : (k : Kind) (inodes : ℕ) (c : Content) (found : Option Node) → IsObjectKind k → IsSizedAs k inodes c found → IsSome found
 kind_some kinds.Free inodes c found is stands = absurd is
-kind_some kinds.File inodes c found is stands = subst IsSome (sym stands) refl
+kind_some kinds.File inodes c found is stands = subst IsSome (sym stands.2) refl
 kind_some kinds.Directory inodes c found is stands = subst IsSome (sym stands.2) refl
-kind_some kinds.Link inodes c found is stands = subst IsSome (sym stands) refl
+kind_some kinds.Link inodes c found is stands = subst IsSome (sym stands.2) refl
 kind_some kinds.InodeFile inodes c found is stands = absurd is
 kind_some kinds.InodeMap inodes c found is stands = absurd is
 kind_some kinds.BlockMap inodes c found is stands = absurd is
 
-pub object_some : (disk : ℕ → List ℕ) (inodes : ℕ) (settled : Inode) (object : Option Object) (found : Option Node) → IsObjectOrNone disk inodes settled object found
+pub object_some : (detail : Detail) (disk : ℕ → List ℕ) (inodes : ℕ) (settled : Inode) (object : Option Object) (found : Option Node) → IsObjectOrNone detail disk inodes settled object found
     → IsTrue (is_some object) ↔ IsSome found
-object_some disk inodes settled (Some o) found is = ((λ yes. kind_some o.attributes.kind inodes (content_of_object disk o) found is.kind is.stands), (λ some. refl))
-object_some disk inodes settled None found is = ((λ yes. absurd (false≢true yes)), (λ some. absurd (false≢true (subst IsSome is some))))
+object_some detail disk inodes settled (Some o) found is = ((λ yes. kind_some o.attributes.kind inodes (content_of_object disk o) found is.kind (by_size detail o.attributes.kind inodes (content_of_object disk o) found is.stands)), (λ some. refl))
+object_some detail disk inodes settled None found is = ((λ yes. absurd (false≢true yes)), (λ some. absurd (false≢true (subst IsSome is some))))
 
 -- ---- objects as they are loaded
 

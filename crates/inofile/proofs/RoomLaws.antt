@@ -10,13 +10,14 @@ use Rattle.model.specs.Volumes.{Node, Volume, is_nameless, with_node}
 use Rattle.model.proofs.ObjectLaws.{node_here, node_other}
 use Rattle.images.specs.Sums.{sum_below}
 use Rattle.images.proofs.SumLaws.{change_at, sums_each}
+use Rattle.images.specs.Soundness.{Detail}
 use Rattle.inode.specs.Room.{file_room}
 use Rattle.inode.specs.declared.object.Object.{Object}
 use Rattle.inode.proofs.RoomLaws.{loaded_none, same_room}
 use Rattle.inofile.specs.Inodes.{loaded, slot_object, HasNoChange, IsChangedSlot}
 use Rattle.inofile.specs.Objects.{IsSameOrNone, IsUntouched}
 use Rattle.inofile.specs.Room.{has_moved, memory_room, nameless_room, number_room, room_of, slot_room, NeedsNoMore}
-use Rattle.inofile.specs.Volumes.{IsVolumeOf, SlotStandsFor, slot_with}
+use Rattle.inofile.specs.Volumes.{IsVolumeIn, SlotStandsFor, slot_with}
 use Rattle.inofile.specs.declared.inode_file.ObjectSlot.{ObjectSlot}
 use Rattle.inofile.specs.declared.inode_file.ObjectSlot.TheVariants.{AsSettled, Loaded, Changed}
 use Rattle.inofile.specs.declared.inode_file.InodeFile.{InodeFile}
@@ -86,24 +87,24 @@ needs_room base v old new sizes needs =
 pub untouched_room : (o : Object) → IsUntouched o → file_room o.file ≡ 0
 untouched_room o is = loaded_none o.file is.kept is.count is.depth is.none is.few
 
-slot_has : (disk : ℕ → List ℕ) (inodes : ℕ) (settled : Inode) (slot : Option ObjectSlot) (found : Option Node) (o : Object) → SlotStandsFor disk inodes settled slot found
+slot_has : (detail : Detail) (disk : ℕ → List ℕ) (inodes : ℕ) (settled : Inode) (slot : Option ObjectSlot) (found : Option Node) (o : Object) → SlotStandsFor detail disk inodes settled slot found
     → slot_object slot ≡ Some o → file_room o.file ≤ slot_room slot
-slot_has disk inodes settled None found o stands is = absurd cc
-slot_has disk inodes settled (Some AsSettled) found o stands is = absurd cc
-slot_has disk inodes settled (Some (Loaded None)) found o stands is = absurd cc
-slot_has disk inodes settled (Some (Loaded (Some p))) found o stands is =
+slot_has detail disk inodes settled None found o stands is = absurd cc
+slot_has detail disk inodes settled (Some AsSettled) found o stands is = absurd cc
+slot_has detail disk inodes settled (Some (Loaded None)) found o stands is = absurd cc
+slot_has detail disk inodes settled (Some (Loaded (Some p))) found o stands is =
     let same : p ≡ o = cc in
     let none = subst (λ (x : Object). file_room x.file ≡ 0) same (untouched_room p stands.0.1) in
     omega (arith, none)
-slot_has disk inodes settled (Some (Changed None)) found o stands is = absurd cc
-slot_has disk inodes settled (Some (Changed (Some p))) found o stands is =
+slot_has detail disk inodes settled (Some (Changed None)) found o stands is = absurd cc
+slot_has detail disk inodes settled (Some (Changed (Some p))) found o stands is =
     let same : p ≡ o = cc in
     subst (λ (x : Object). file_room x.file ≤ 2 + file_room p.file) same (omega arith)
 
 -- what is in memory of a number has room for the file that it has there
-pub known_room : (count : ℕ) (disk : ℕ → List ℕ) (settled : ℕ → Inode) (s : InodeFile) (v : Volume) (n : ℕ) (o : Object) → IsVolumeOf count disk settled s v
+pub known_room : (detail : Detail) (count : ℕ) (disk : ℕ → List ℕ) (settled : ℕ → Inode) (s : InodeFile) (v : Volume) (n : ℕ) (o : Object) → IsVolumeIn detail count disk settled s v
     → loaded s n ≡ Some o → file_room o.file ≤ slot_room (get nat_cmp s.slots n)
-known_room count disk settled s v n o is there = slot_has disk s.geometry.inodes (settled n) (get nat_cmp s.slots n) (v n) o (is.objects n) there
+known_room detail count disk settled s v n o is there = slot_has detail disk s.geometry.inodes (settled n) (get nat_cmp s.slots n) (v n) o (is.objects n) there
 
 -- ---- the updates, where what memory has of the number is an object whose file needs no more than that
 

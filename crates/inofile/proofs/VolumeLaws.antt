@@ -9,9 +9,10 @@ use Rattle.layout.specs.Maps.{IsTaken}
 use Rattle.layout.specs.declared.inode.Inode.{Inode}
 use Rattle.model.specs.Volumes.{Node, Volume, with_node}
 use Rattle.images.specs.Contents.{Content}
+use Rattle.images.specs.Soundness.{Detail}
 use Rattle.inode.specs.declared.object.Object.{Object}
 use Rattle.inofile.specs.Inodes.{IsKnownSlot, slot_content}
-use Rattle.inofile.specs.Objects.{StandsFor, IsAsSettled, IsObjectOrNone, IsSameOrNone}
+use Rattle.inofile.specs.Objects.{StandsForIn, IsAsSettled, IsObjectOrNone, IsSameOrNone}
 use Rattle.inofile.specs.Settled.{content_of_object, held_content, settled_content}
 use Rattle.inofile.specs.Volumes.{SlotStandsFor, MapsVolume, HasNoOwn, slot_with}
 use Rattle.inofile.specs.declared.inode_file.ObjectSlot.{ObjectSlot}
@@ -27,33 +28,33 @@ other_number k n ne = grind (arith, nat_tests)
 pub other_slot : (old new : BTreeMap ℕ ObjectSlot) (number n : ℕ) (slot : Option ObjectSlot) → Updates nat_cmp old new number slot → n ≢ number → get nat_cmp new n ≡ get nat_cmp old n
 other_slot old new number n slot up ne = up.2 n (other_number number n ne)
 
-module _ (disk : ℕ → List ℕ) (inodes : ℕ) (settled : ℕ → Inode) (old new : BTreeMap ℕ ObjectSlot) (number : ℕ) (slot : Option ObjectSlot) (up : Updates nat_cmp old new number slot) where
+module _ (detail : Detail) (disk : ℕ → List ℕ) (inodes : ℕ) (settled : ℕ → Inode) (old new : BTreeMap ℕ ObjectSlot) (number : ℕ) (slot : Option ObjectSlot) (up : Updates nat_cmp old new number slot) where
   -- all numbers stand for what they did, and one for this
   pub all_stand : (v w : Volume) → ((n : ℕ) → n ≢ number → w n ≡ v n)
-      → ((n : ℕ) → n ≢ number → SlotStandsFor disk inodes (settled n) (get nat_cmp old n) (v n))
-      → SlotStandsFor disk inodes (settled number) slot (w number)
-      → (n : ℕ) → SlotStandsFor disk inodes (settled n) (get nat_cmp new n) (w n)
+      → ((n : ℕ) → n ≢ number → SlotStandsFor detail disk inodes (settled n) (get nat_cmp old n) (v n))
+      → SlotStandsFor detail disk inodes (settled number) slot (w number)
+      → (n : ℕ) → SlotStandsFor detail disk inodes (settled n) (get nat_cmp new n) (w n)
   all_stand v w same others here n = elim (cases_eq n number) [
     | inl e ↦
-        subst (λ (k : ℕ). SlotStandsFor disk inodes (settled k) (get nat_cmp new k) (w k)) (sym e)
-        (subst (λ (x : Option ObjectSlot). SlotStandsFor disk inodes (settled number) x (w number)) (sym up.1) here)
+        subst (λ (k : ℕ). SlotStandsFor detail disk inodes (settled k) (get nat_cmp new k) (w k)) (sym e)
+        (subst (λ (x : Option ObjectSlot). SlotStandsFor detail disk inodes (settled number) x (w number)) (sym up.1) here)
     | inr ne ↦
-        subst (λ (x : Option ObjectSlot). SlotStandsFor disk inodes (settled n) x (w n)) (sym (other_slot old new number n slot up ne))
-        (subst (λ (x : Option Node). SlotStandsFor disk inodes (settled n) (get nat_cmp old n) x) (sym (same n ne)) (others n ne))
+        subst (λ (x : Option ObjectSlot). SlotStandsFor detail disk inodes (settled n) x (w n)) (sym (other_slot old new number n slot up ne))
+        (subst (λ (x : Option Node). SlotStandsFor detail disk inodes (settled n) (get nat_cmp old n) x) (sym (same n ne)) (others n ne))
   ]
 
-  pub others_stand : (v : Volume) → ((n : ℕ) → n ≢ number → SlotStandsFor disk inodes (settled n) (get nat_cmp old n) (v n))
-      → (n : ℕ) → n ≢ number → SlotStandsFor disk inodes (settled n) (get nat_cmp new n) (v n)
-  others_stand v others n ne = subst (λ (x : Option ObjectSlot). SlotStandsFor disk inodes (settled n) x (v n)) (sym (other_slot old new number n slot up ne)) (others n ne)
+  pub others_stand : (v : Volume) → ((n : ℕ) → n ≢ number → SlotStandsFor detail disk inodes (settled n) (get nat_cmp old n) (v n))
+      → (n : ℕ) → n ≢ number → SlotStandsFor detail disk inodes (settled n) (get nat_cmp new n) (v n)
+  others_stand v others n ne = subst (λ (x : Option ObjectSlot). SlotStandsFor detail disk inodes (settled n) x (v n)) (sym (other_slot old new number n slot up ne)) (others n ne)
 
   pub set_stands : (v : Volume) (object : Option Object) (node : Option Node) → slot ≡ Some (Changed object)
-      → ((n : ℕ) → n ≢ number → SlotStandsFor disk inodes (settled n) (get nat_cmp old n) (v n))
-      → IsObjectOrNone disk inodes (settled number) object node
-      → (n : ℕ) → SlotStandsFor disk inodes (settled n) (get nat_cmp new n) (with_node number node v n)
+      → ((n : ℕ) → n ≢ number → SlotStandsFor detail disk inodes (settled n) (get nat_cmp old n) (v n))
+      → IsObjectOrNone detail disk inodes (settled number) object node
+      → (n : ℕ) → SlotStandsFor detail disk inodes (settled n) (get nat_cmp new n) (with_node number node v n)
   set_stands v object node is others stands =
       all_stand v (with_node number node v) (λ n ne. node_other number n node v ne) others
-      (subst (λ (x : Option ObjectSlot). SlotStandsFor disk inodes (settled number) x (with_node number node v number)) (sym is)
-      (subst (IsObjectOrNone disk inodes (settled number) object) (sym (node_here number number node v refl)) stands))
+      (subst (λ (x : Option ObjectSlot). SlotStandsFor detail disk inodes (settled number) x (with_node number node v number)) (sym is)
+      (subst (IsObjectOrNone detail disk inodes (settled number) object) (sym (node_here number number node v refl)) stands))
 
 -- a value that is put in at a key that is there
 pub inserted : {A E : Type 0} (r : Result A E) (U : Type 0) (slot : Option ObjectSlot) → OnOk r U → OnErr r (slot ≡ None) → (slot ≡ None → ⊥) → U
@@ -76,18 +77,18 @@ present_some slot some none = false≢true (subst IsSome none some)
 
 -- ---- one number
 
-pub unknown_stands : (disk : ℕ → List ℕ) (inodes : ℕ) (settled : Inode) (slot : Option ObjectSlot) (found : Option Node) → (IsKnownSlot slot → ⊥)
-    → SlotStandsFor disk inodes settled slot found → StandsFor inodes (held_content disk settled) found
-unknown_stands disk inodes settled (Some AsSettled) found not stands = stands
-unknown_stands disk inodes settled (Some (Loaded object)) found not stands = absurd (not tt)
-unknown_stands disk inodes settled (Some (Changed object)) found not stands = absurd (not tt)
-unknown_stands disk inodes settled None found not stands = stands
+pub unknown_stands : (detail : Detail) (disk : ℕ → List ℕ) (inodes : ℕ) (settled : Inode) (slot : Option ObjectSlot) (found : Option Node) → (IsKnownSlot slot → ⊥)
+    → SlotStandsFor detail disk inodes settled slot found → StandsForIn detail inodes (held_content disk settled) found
+unknown_stands detail disk inodes settled (Some AsSettled) found not stands = stands
+unknown_stands detail disk inodes settled (Some (Loaded object)) found not stands = absurd (not tt)
+unknown_stands detail disk inodes settled (Some (Changed object)) found not stands = absurd (not tt)
+unknown_stands detail disk inodes settled None found not stands = stands
 
 -- a number that is loaded
-pub load_stands : (disk : ℕ → List ℕ) (inodes : ℕ) (settled inode : Inode) (object : Option Object) (found : Option Node) → inode ≡ settled
-    → IsAsSettled disk inode object → IsObjectOrNone disk inodes inode object found → SlotStandsFor disk inodes settled (Some (Loaded object)) found
-load_stands disk inodes settled inode object found same settled_is stands =
-    subst (λ (i : Inode). IsAsSettled disk i object × IsObjectOrNone disk inodes i object found) same (settled_is, stands)
+pub load_stands : (detail : Detail) (disk : ℕ → List ℕ) (inodes : ℕ) (settled inode : Inode) (object : Option Object) (found : Option Node) → inode ≡ settled
+    → IsAsSettled disk inode object → IsObjectOrNone detail disk inodes inode object found → SlotStandsFor detail disk inodes settled (Some (Loaded object)) found
+load_stands detail disk inodes settled inode object found same settled_is stands =
+    subst (λ (i : Inode). IsAsSettled disk i object × IsObjectOrNone detail disk inodes i object found) same (settled_is, stands)
 
 unknown_content : (disk : ℕ → List ℕ) (slot : Option ObjectSlot) (below : Option Content) → (IsKnownSlot slot → ⊥) → slot_content disk slot below ≡ below
 unknown_content disk (Some AsSettled) below not = refl
@@ -106,13 +107,13 @@ load_same disk settled old new number object up not same n = elim (cases_eq n nu
 ]
 
 -- an object that is put back into what memory has of a number
-pub back_stands : (disk : ℕ → List ℕ) (inodes : ℕ) (settled : Inode) (slot : Option ObjectSlot) (was now : Option Object) (found : Option Node) → IsKnownSlot slot → IsSameOrNone was now
-    → SlotStandsFor disk inodes settled (slot_with was slot) found → SlotStandsFor disk inodes settled (slot_with now slot) found
-back_stands disk inodes settled (Some AsSettled) was now found known same stands = absurd known
-back_stands disk inodes settled (Some (Loaded out)) was now found known same stands =
-    (same_settled disk settled was now same stands.0, same_object disk inodes settled was now found same stands.1)
-back_stands disk inodes settled (Some (Changed out)) was now found known same stands = same_object disk inodes settled was now found same stands
-back_stands disk inodes settled None was now found known same stands = absurd known
+pub back_stands : (detail : Detail) (disk : ℕ → List ℕ) (inodes : ℕ) (settled : Inode) (slot : Option ObjectSlot) (was now : Option Object) (found : Option Node) → IsKnownSlot slot → IsSameOrNone was now
+    → SlotStandsFor detail disk inodes settled (slot_with was slot) found → SlotStandsFor detail disk inodes settled (slot_with now slot) found
+back_stands detail disk inodes settled (Some AsSettled) was now found known same stands = absurd known
+back_stands detail disk inodes settled (Some (Loaded out)) was now found known same stands =
+    (same_settled disk settled was now same stands.0, same_object detail disk inodes settled was now found same stands.1)
+back_stands detail disk inodes settled (Some (Changed out)) was now found known same stands = same_object detail disk inodes settled was now found same stands
+back_stands detail disk inodes settled None was now found known same stands = absurd known
 
 -- the file system's own numbers stay without objects
 pub own_stay : (number : ℕ) (node : Option Node) (v : Volume) → 3 ≤ number → HasNoOwn v → HasNoOwn (with_node number node v)
@@ -125,9 +126,9 @@ pub record Notes (number : ℕ) (taken : Bool) (old new : List ℕ) : Type 0 whe
   pub own : number < 4 → (IsTaken new number ↔ IsTaken old number)
   pub others : (k : ℕ) → k ≢ number → (IsTaken new k ↔ IsTaken old k)
 
-pub note_maps : (disk : ℕ → List ℕ) (inodes : ℕ) (settled : Inode) (old new : List ℕ) (v : Volume) (number : ℕ) (object : Option Object) (node : Option Node)
-    → MapsVolume old v → Notes number (is_some object) old new → IsObjectOrNone disk inodes settled object node → MapsVolume new (with_node number node v)
-note_maps disk inodes settled old new v number object node maps notes is k = elim (cases_eq k number) [
+pub note_maps : (detail : Detail) (disk : ℕ → List ℕ) (inodes : ℕ) (settled : Inode) (old new : List ℕ) (v : Volume) (number : ℕ) (object : Option Object) (node : Option Node)
+    → MapsVolume old v → Notes number (is_some object) old new → IsObjectOrNone detail disk inodes settled object node → MapsVolume new (with_node number node v)
+note_maps detail disk inodes settled old new v number object node maps notes is k = elim (cases_eq k number) [
   | inr ne ↦ subst (λ (x : Option Node). IsTaken new k ↔ ((k < 4) ⊎ IsSome x)) (sym (node_other number k node v ne))
       ((λ taken. (maps k).0 ((notes.others k ne).0 taken)), (λ why. (notes.others k ne).1 ((maps k).1 why)))
   | inl e ↦ subst (λ (x : Option Node). IsTaken new k ↔ ((k < 4) ⊎ IsSome x)) (sym (node_here number k node v e))
@@ -135,7 +136,7 @@ note_maps disk inodes settled old new v number object node maps notes is k = eli
 ]
   where
     some : IsTrue (is_some object) ↔ IsSome node
-    some = object_some disk inodes settled object node is
+    some = object_some detail disk inodes settled object node is
 
     ordinary : 4 ≤ number → IsTaken new number ↔ ((number < 4) ⊎ IsSome node)
     ordinary ge = (

@@ -5,13 +5,14 @@ use Rattle.std.specs.Ordering.{nat_cmp}
 use Rattle.std.specs.BTreeMap as tree
 use Rattle.layout.specs.declared.inode.Inode.{Inode}
 use Rattle.model.specs.Volumes.{Node, Volume, with_node}
+use Rattle.images.specs.Soundness.{Detail}
 use Rattle.inode.specs.declared.object.Object.{Object}
 use Rattle.inofile.specs.Inodes as inodes
 use Rattle.inofile.specs.Inodes.{content_at, IsKnown, HasRoomFor, IsChanged}
 use Rattle.inofile.specs.Objects.{IsObjectOrNone}
 use Rattle.inofile.specs.Room.{memory_room, number_room, room_of}
 use Rattle.inofile.specs.Settled.{content_of_object}
-use Rattle.inofile.specs.Volumes.{IsVolumeOf, IsVolumeWithout}
+use Rattle.inofile.specs.Volumes.{IsVolumeIn, IsVolumeWithout}
 use Rattle.inofile.specs.declared.inode_file.InodeFile.{InodeFile}
 use Rattle.inofile.specs.declared.inode_file.ObjectSlot.TheVariants.{Changed}
 
@@ -24,12 +25,12 @@ pub record IsGiven (number : ℕ) (object : Option Object) (old new : InodeFile)
   pub keeps : (n : ℕ) → HasRoomFor old n → HasRoomFor new n
   pub set : (disk : ℕ → List ℕ) (settled : ℕ → Inode) (n : ℕ)
       → content_at disk settled new n ≡ (if n == number then option_map (content_of_object disk) object else content_at disk settled old n)
-  pub volume : (count : ℕ) (disk : ℕ → List ℕ) (settled : ℕ → Inode) (v : Volume) (node : Option Node)
-      → IsVolumeOf count disk settled old v → IsObjectOrNone disk old.geometry.inodes (settled number) object node
-      → IsVolumeOf count disk settled new (with_node number node v)
-  pub back : (was : Option Object) (count : ℕ) (disk : ℕ → List ℕ) (settled : ℕ → Inode) (v : Volume) (node : Option Node)
-      → IsVolumeWithout number was count disk settled old v → IsObjectOrNone disk old.geometry.inodes (settled number) object node
-      → IsVolumeOf count disk settled new (with_node number node v)
+  pub volume : {detail : Detail} (count : ℕ) (disk : ℕ → List ℕ) (settled : ℕ → Inode) (v : Volume) (node : Option Node)
+      → IsVolumeIn detail count disk settled old v → IsObjectOrNone detail disk old.geometry.inodes (settled number) object node
+      → IsVolumeIn detail count disk settled new (with_node number node v)
+  pub back : {detail : Detail} (was : Option Object) (count : ℕ) (disk : ℕ → List ℕ) (settled : ℕ → Inode) (v : Volume) (node : Option Node)
+      → IsVolumeWithout detail number was count disk settled old v → IsObjectOrNone detail disk old.geometry.inodes (settled number) object node
+      → IsVolumeIn detail count disk settled new (with_node number node v)
   pub loaded : inodes.loaded new number ≡ object
   pub rest : (n : ℕ) → n ≢ number → inodes.loaded new n ≡ inodes.loaded old n
   pub changed : IsChanged new number

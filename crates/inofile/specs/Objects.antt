@@ -1,5 +1,5 @@
 -- Objects in memory, and those of a volume that they stand for.
-use Rattle.std.specs.Prelude.{ℕ, ◌≡◌, ◌≤◌, List, Option, Some, None}
+use Rattle.std.specs.Prelude.{ℕ, ◌≡◌, ◌≤◌, List, length, Option, Some, None}
 use Rattle.layout.specs.Inode.{FitsKind}
 use Rattle.layout.specs.Limits.{Sizes}
 use Rattle.layout.specs.Version.{level_of}
@@ -7,19 +7,37 @@ use Rattle.layout.specs.declared.inode.Inode.{Inode}
 use Rattle.layout.specs.declared.kind.Kind.{Kind}
 use Rattle.layout.specs.declared.kind.Kind.TheVariants as kinds
 use Rattle.model.specs.declared.limits.TheConstants.{MODE_BITS}
-use Rattle.model.specs.Volumes.{Node}
+use Rattle.model.specs.Volumes.{Node, file_node, link_node}
 use Rattle.blocktree.specs.Places.{block_count, depth_of}
 use Rattle.blocktree.specs.Trees.{IsChanged}
 use Rattle.images.specs.Contents.{Content, StandsAs}
 use Rattle.images.specs.Roots.{free_inode}
+use Rattle.images.specs.Soundness.{Detail, by_bytes, by_sizes}
 use Rattle.inode.specs.Bases.{IsBased}
 use Rattle.inode.specs.Files.{IsFile, IsSameFile}
+use Rattle.inode.specs.declared.file.File.{File}
 use Rattle.inode.specs.declared.object.Object.{Object}
 use Rattle.inofile.specs.Settled.{content_of_object, held_content}
 
--- a content stands for this object of a volume of so many inodes, or for none
-abbrev pub StandsFor : ℕ → Content → Option Node → Type 0
-StandsFor inodes content found = StandsAs content.kind inodes content found
+-- the object of this kind that a content stands for, but that the bytes of a file or link may be any others of its size
+abbrev pub IsSizedAs : Kind → ℕ → Content → Option Node → Type 0
+IsSizedAs kinds.File inodes c o =
+    (bytes : List ℕ) × (length bytes ≡ c.size) × (o ≡ Some (file_node c.mode c.links bytes))
+IsSizedAs kinds.Link inodes c o = (text : List ℕ) × (length text ≡ c.size) × (o ≡ Some (link_node text))
+IsSizedAs kind inodes c o = StandsAs kind inodes c o
+
+-- a content of this kind stands for this object of a volume of so many inodes, or for none, in so much detail
+abbrev pub StandsAsIn : Detail → Kind → ℕ → Content → Option Node → Type 0
+StandsAsIn by_bytes kind inodes content found = StandsAs kind inodes content found
+StandsAsIn by_sizes kind inodes content found = IsSizedAs kind inodes content found
+
+abbrev pub StandsForIn : Detail → ℕ → Content → Option Node → Type 0
+StandsForIn detail inodes content found = StandsAsIn detail content.kind inodes content found
+
+-- zeros stand past the end of a file in memory; where the sizes alone are known, this isn't asked
+abbrev pub EndsIn : Detail → (ℕ → List ℕ) → File → Type 0
+EndsIn by_bytes disk file = IsFile disk file
+EndsIn by_sizes disk file = Unit {0}
 
 -- kinds of the objects of a volume
 abbrev pub IsObjectKind : Kind → Type 0
@@ -31,21 +49,24 @@ IsObjectKind kinds.InodeFile = ⊥
 IsObjectKind kinds.InodeMap = ⊥
 IsObjectKind kinds.BlockMap = ⊥
 
--- An object in memory stands for this one of a volume. Its mode, links and size are such as its kind allows in an image of any
--- sizes, it ends at its size, and its tree is based on the inode that is settled under its number.
-pub record IsObject (disk : ℕ → List ℕ) (inodes : ℕ) (settled : Inode) (o : Object) (found : Option Node) : Type 0 where
+-- An object in memory stands for this one of a volume, in so much detail. Its mode, links and size are such as its kind allows in an
+-- image of any sizes, it ends at its size, and its tree is based on the inode that is settled under its number.
+pub record IsObjectIn (detail : Detail) (disk : ℕ → List ℕ) (inodes : ℕ) (settled : Inode) (o : Object) (found : Option Node) : Type 0 where
   pub kind : IsObjectKind o.attributes.kind
   pub mode : o.attributes.mode ≤ MODE_BITS
   pub fits : (s : Sizes)
       → FitsKind o.attributes.kind s o.attributes.mode o.attributes.links o.file.size
-  pub stands : StandsFor inodes (content_of_object disk o) found
-  pub ends : IsFile disk o.file
+  pub stands : StandsForIn detail inodes (content_of_object disk o) found
+  pub ends : EndsIn detail disk o.file
   pub base : IsBased settled o.file.tree
 
+abbrev pub IsObject : (ℕ → List ℕ) → ℕ → Inode → Object → Option Node → Type 0
+IsObject = IsObjectIn by_bytes
+
 -- an object, or none, stands for this one, or none
-abbrev pub IsObjectOrNone : (ℕ → List ℕ) → ℕ → Inode → Option Object → Option Node → Type 0
-IsObjectOrNone disk inodes settled (Some o) found = IsObject disk inodes settled o found
-IsObjectOrNone disk inodes settled None found = found ≡ None
+abbrev pub IsObjectOrNone : Detail → (ℕ → List ℕ) → ℕ → Inode → Option Object → Option Node → Type 0
+IsObjectOrNone detail disk inodes settled (Some o) found = IsObjectIn detail disk inodes settled o found
+IsObjectOrNone detail disk inodes settled None found = found ≡ None
 
 -- An object as it is loaded: where its bytes don't stand in its inode, no block of its file is changed, and all settled ones count; where
 -- they do, at the most the first block is.

@@ -10,7 +10,7 @@ use Rattle.images.specs.Contents.{Content}
 use Rattle.images.specs.Contents as images
 use Rattle.images.specs.Nodes.{held}
 use Rattle.images.specs.Roots.{free_inode, inode_bytes_at}
-use Rattle.images.specs.Soundness.{IsSoundFile, FitsNumber}
+use Rattle.images.specs.Soundness.{Detail, by_bytes, FitsNumber, IsHeldFile}
 use Rattle.inode.specs.declared.file.File.{File}
 use Rattle.inode.specs.declared.object.Object.{Object}
 use Rattle.inode.specs.Files.{file_block}
@@ -45,11 +45,14 @@ settled_content disk i = unless_free i.kind (held_content disk i)
 
 -- The inode file of an image of these sizes has these inodes, each of a file in its grammar, on a disk of so many blocks. Number
 -- 0 stands for the inode file itself, whose inode stands elsewhere, and past the last number all are free.
-pub record AreSettled (blocks : ℕ) (disk : ℕ → List ℕ) (sizes : Sizes) (file : File) (settled : ℕ → Inode) : Type 0 where
+pub record AreSettledIn (detail : Detail) (blocks : ℕ) (disk : ℕ → List ℕ) (sizes : Sizes) (file : File) (settled : ℕ → Inode) : Type 0 where
   pub count : sizes.blocks ≡ blocks
   pub spelled : (n : ℕ) → 1 ≤ n → n < sizes.inodes
       → inode_bytes_at (file_block disk file) n ≡ inode_bytes (settled n)
-  pub sound : (n : ℕ) → IsSoundFile sizes (held disk (settled n))
+  pub sound : (n : ℕ) → IsHeldFile detail sizes (held disk (settled n))
   pub fits : (n : ℕ) → FitsNumber n (settled n).kind
   pub past : (n : ℕ) → sizes.inodes ≤ n → settled n ≡ free_inode
   pub reached : (i : ℕ) → IsSoundAt blocks disk file.tree i
+
+abbrev pub AreSettled : ℕ → (ℕ → List ℕ) → Sizes → File → (ℕ → Inode) → Type 0
+AreSettled = AreSettledIn by_bytes

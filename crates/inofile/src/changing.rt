@@ -8,8 +8,9 @@ ghost use Rattle.layout.specs.declared.inode.Inode.{Inode};
 ghost use Rattle.model.specs.declared.limits.TheConstants.{FIRST_NUMBER, ROOT_NUMBER};
 ghost use Rattle.model.specs.Volumes.{Volume};
 ghost use Rattle.images.specs.Contents.{HoldsVolume};
+ghost use Rattle.images.specs.Soundness.{Detail};
 ghost use Rattle.inode.specs.declared.object.Object.{Object};
-ghost use Rattle.inofile.specs.Objects.{IsObject, IsSameOrNone};
+ghost use Rattle.inofile.specs.Objects.{IsObjectIn, IsSameOrNone};
 ghost use Rattle.inofile.specs.Settled.{AreSettled, content_of_object, held_content, settled_content};
 
 use crate::{InodeFile, ObjectSlot};
@@ -20,7 +21,7 @@ impl InodeFile {
     ghost use Rattle.inofile.specs.Giving.{IsGiven};
     ghost use Rattle.inofile.specs.Inodes.{loaded, content_at, SameObjects, IsKnown, HasRoomFor, IsChanged};
     ghost use Rattle.inofile.specs.Room.{NeedsNoMore};
-    ghost use Rattle.inofile.specs.Volumes.{IsVolumeOf, IsVolumeWithout, MapsVolume, slot_with};
+    ghost use Rattle.inofile.specs.Volumes.{IsVolumeIn, IsVolumeOf, IsVolumeWithout, MapsVolume, slot_with};
 
     /// Makes room for a change of the object with a number. No object changes by it.
     pub fn prepare_set(&mut self, number: u32) -> Result<(), AllocError>
@@ -35,8 +36,9 @@ impl InodeFile {
         ensures loaded { (n : ℕ) → loaded self.new n ≡ loaded self.old n }
         ensures same { (disk : ℕ → List ℕ) (settled : ℕ → Inode)
             → SameObjects disk settled self.old self.new }
-        ensures volume { (count : ℕ) (disk : ℕ → List ℕ) (settled : ℕ → Inode) (v : Volume)
-            → IsVolumeOf count disk settled self.old v → IsVolumeOf count disk settled self.new v }
+        ensures volume { (detail : Detail) (count : ℕ) (disk : ℕ → List ℕ) (settled : ℕ → Inode)
+            (v : Volume) → IsVolumeIn detail count disk settled self.old v
+            → IsVolumeIn detail count disk settled self.new v }
     {
         if self.slots.contains_key(&number) {
             return Ok(());
@@ -77,14 +79,15 @@ impl InodeFile {
         ensures others { (disk : ℕ → List ℕ) (settled : ℕ → Inode) (n : ℕ) → (n ≢ number)
             → content_at disk settled self.new n ≡ content_at disk settled self.old n }
         ensures changed { (n : ℕ) → IsChanged self.new n ↔ IsChanged self.old n }
-        ensures stands { (count : ℕ) (disk : ℕ → List ℕ) (settled : ℕ → Inode) (v : Volume)
-            → IsVolumeOf count disk settled self.old v → IfSome result (λ o.
-            IsObject disk self.old.geometry.inodes (settled number) o (v number)) }
-        ensures stands_for_none { (count : ℕ) (disk : ℕ → List ℕ) (settled : ℕ → Inode) (v : Volume)
-            → IsVolumeOf count disk settled self.old v → IfNone result (v number ≡ None) }
-        ensures without { (count : ℕ) (disk : ℕ → List ℕ) (settled : ℕ → Inode) (v : Volume)
-            → IsVolumeOf count disk settled self.old v
-            → IsVolumeWithout number result count disk settled self.new v }
+        ensures stands { (detail : Detail) (count : ℕ) (disk : ℕ → List ℕ) (settled : ℕ → Inode)
+            (v : Volume) → IsVolumeIn detail count disk settled self.old v → IfSome result (λ o.
+            IsObjectIn detail disk self.old.geometry.inodes (settled number) o (v number)) }
+        ensures stands_for_none { (detail : Detail) (count : ℕ) (disk : ℕ → List ℕ)
+            (settled : ℕ → Inode) (v : Volume) → IsVolumeIn detail count disk settled self.old v
+            → IfNone result (v number ≡ None) }
+        ensures without { (detail : Detail) (count : ℕ) (disk : ℕ → List ℕ) (settled : ℕ → Inode)
+            (v : Volume) → IsVolumeIn detail count disk settled self.old v
+            → IsVolumeWithout detail number result count disk settled self.new v }
     {
         match self.slots.insert(number, ObjectSlot::Loaded(None)) {
             Ok(Some(ObjectSlot::Loaded(object))) => object,
@@ -115,10 +118,10 @@ impl InodeFile {
         ensures loaded { loaded self.new number ≡ object }
         ensures rest { (n : ℕ) → (n ≢ number) → loaded self.new n ≡ loaded self.old n }
         ensures changed { (n : ℕ) → IsChanged self.new n ↔ IsChanged self.old n }
-        ensures volume { (was : Option Object) (count : ℕ) (disk : ℕ → List ℕ)
+        ensures volume { (detail : Detail) (was : Option Object) (count : ℕ) (disk : ℕ → List ℕ)
             (settled : ℕ → Inode) (v : Volume)
-            → IsVolumeWithout number was count disk settled self.old v → IsSameOrNone was object
-            → IsVolumeOf count disk settled self.new v }
+            → IsVolumeWithout detail number was count disk settled self.old v
+            → IsSameOrNone was object → IsVolumeIn detail count disk settled self.new v }
     {
         let slot = self.slot_with(number, object);
         let _ = self.slots.insert(number, slot);
@@ -161,8 +164,9 @@ impl InodeFile {
         ensures slots { self.new.slots ≡ self.old.slots }
         ensures map { self.new.numbers.bytes.items ≡ self.old.numbers.bytes.items }
         ensures within { IfSome result (λ n. (FIRST_NUMBER ≤ n) × (n < self.old.geometry.inodes)) }
-        ensures volume { (count : ℕ) (disk : ℕ → List ℕ) (settled : ℕ → Inode) (v : Volume)
-            → IsVolumeOf count disk settled self.old v → IsVolumeOf count disk settled self.new v }
+        ensures volume { (detail : Detail) (count : ℕ) (disk : ℕ → List ℕ) (settled : ℕ → Inode)
+            (v : Volume) → IsVolumeIn detail count disk settled self.old v
+            → IsVolumeIn detail count disk settled self.new v }
         ensures free { (count : ℕ) (disk : ℕ → List ℕ) (settled : ℕ → Inode) (v : Volume)
             → IsVolumeOf count disk settled self.old v → IfSome result (λ n. v n ≡ None) }
         ensures least { (count : ℕ) (disk : ℕ → List ℕ) (settled : ℕ → Inode) (v : Volume)

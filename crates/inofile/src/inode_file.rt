@@ -50,15 +50,15 @@ ghost use Rattle.buffers.specs.Reads.{ReadsBlocks};
 ghost use Rattle.blocktree.specs.Errors.{IsFault};
 ghost use Rattle.images.specs.Contents.{HoldsVolume};
 ghost use Rattle.images.specs.Nodes.{held};
-ghost use Rattle.images.specs.Soundness.{IsOrdinary, IsSoundFile};
-ghost use Rattle.inofile.specs.Objects.{IsAsSettled, IsObject, IsObjectOrNone, IsUntouched, StandsFor};
-ghost use Rattle.inofile.specs.Settled.{AreSettled, content_of_object, held_content, settled_content};
+ghost use Rattle.images.specs.Soundness.{Detail, IsHeldFile, IsOrdinary};
+ghost use Rattle.inofile.specs.Objects.{IsAsSettled, IsObjectIn, IsObjectOrNone, IsUntouched, StandsForIn};
+ghost use Rattle.inofile.specs.Settled.{AreSettledIn, content_of_object, held_content, settled_content};
 ghost use Rattle.inofile.specs.Slots.{ChangesObjects};
 
 impl InodeFile {
     ghost use Rattle.inofile.specs.Inodes.{is_changed_slot, content_at, SameObjects, IsKnown, HasRoomFor, HasNoChange, IsChanged, loaded};
     ghost use Rattle.inofile.specs.Room.{NeedsNoMore};
-    ghost use Rattle.inofile.specs.Volumes.{IsVolumeOf, MapsVolume};
+    ghost use Rattle.inofile.specs.Volumes.{IsVolumeIn, MapsVolume};
     ghost use Rattle.layout.specs.Maps.{IsTaken};
 
     /// The inodes of this settled inode file, with the bytes of the inode map.
@@ -70,10 +70,11 @@ impl InodeFile {
         ensures settled { (disk : ℕ → List ℕ) (settled : ℕ → Inode) (n : ℕ)
             → content_at disk settled result n ≡ settled_content disk (settled n) }
         ensures unchanged { (n : ℕ) → IsChanged result n → ⊥ }
-        ensures volume { (count : ℕ) (disk : ℕ → List ℕ) (settled : ℕ → Inode) (v : Volume)
-            → AreSettled count disk geometry file settled → MapsVolume map.items v
+        ensures volume { (detail : Detail) (count : ℕ) (disk : ℕ → List ℕ) (settled : ℕ → Inode)
+            (v : Volume) → AreSettledIn detail count disk geometry file settled
+            → MapsVolume map.items v
             → HoldsVolume geometry.inodes (λ n. held_content disk (settled n)) v
-            → IsVolumeOf count disk settled result v }
+            → IsVolumeIn detail count disk settled result v }
     {
         let inodes = geometry.inodes();
         InodeFile {
@@ -89,13 +90,14 @@ impl InodeFile {
         requires low { 1 ≤ number }
         requires high { number < self.now.geometry.inodes }
         ensures reads { ReadsBlocks B.Blocks IsFault blocks.old blocks.new result }
-        ensures read { (disk : ℕ → List ℕ) (settled : ℕ → Inode) → B.Shows blocks.old disk
-            → AreSettled (B.count blocks.old) disk self.now.geometry self.now.file settled
-            → IfOk result (λ i. i ≡ settled number) }
+        ensures read { (detail : Detail) (disk : ℕ → List ℕ) (settled : ℕ → Inode)
+            → B.Shows blocks.old disk → AreSettledIn detail (B.count blocks.old) disk
+            self.now.geometry self.now.file settled → IfOk result (λ i. i ≡ settled number) }
         ensures fits { IfOk result (IsInode VERSION self.now.geometry) }
-        ensures damaged { (disk : ℕ → List ℕ) (settled : ℕ → Inode) → B.Shows blocks.old disk
-            → IsErrOf result ReadError.Damaged
-            → AreSettled (B.count blocks.old) disk self.now.geometry self.now.file settled → ⊥ }
+        ensures damaged { (detail : Detail) (disk : ℕ → List ℕ) (settled : ℕ → Inode)
+            → B.Shows blocks.old disk → IsErrOf result ReadError.Damaged
+            → AreSettledIn detail (B.count blocks.old) disk self.now.geometry self.now.file settled
+            → ⊥ }
     {
         let block = number / INODES_PER_BLOCK;
         let location = self.file.locate(blocks, block)?;
@@ -129,15 +131,17 @@ impl InodeFile {
         ensures untouched { (IsKnown self.old number → ⊥)
             → OnOk result (IfSome (loaded self.new number) IsUntouched) }
         ensures rest { (n : ℕ) → (n ≢ number) → loaded self.new n ≡ loaded self.old n }
-        ensures same { (disk : ℕ → List ℕ) (settled : ℕ → Inode) → B.Shows blocks.old disk
-            → AreSettled (B.count blocks.old) disk self.old.geometry self.old.file settled
-            → SameObjects disk settled self.old self.new }
-        ensures volume { (disk : ℕ → List ℕ) (settled : ℕ → Inode) (v : Volume)
-            → B.Shows blocks.old disk → IsVolumeOf (B.count blocks.old) disk settled self.old v
-            → IsVolumeOf (B.count blocks.old) disk settled self.new v }
-        ensures damaged { (disk : ℕ → List ℕ) (settled : ℕ → Inode) → B.Shows blocks.old disk
-            → IsErrOf result ReadError.Damaged
-            → AreSettled (B.count blocks.old) disk self.old.geometry self.old.file settled → ⊥ }
+        ensures same { (detail : Detail) (disk : ℕ → List ℕ) (settled : ℕ → Inode)
+            → B.Shows blocks.old disk → AreSettledIn detail (B.count blocks.old) disk
+            self.old.geometry self.old.file settled → SameObjects disk settled self.old self.new }
+        ensures volume { (detail : Detail) (disk : ℕ → List ℕ) (settled : ℕ → Inode) (v : Volume)
+            → B.Shows blocks.old disk
+            → IsVolumeIn detail (B.count blocks.old) disk settled self.old v
+            → IsVolumeIn detail (B.count blocks.old) disk settled self.new v }
+        ensures damaged { (detail : Detail) (disk : ℕ → List ℕ) (settled : ℕ → Inode)
+            → B.Shows blocks.old disk → IsErrOf result ReadError.Damaged
+            → AreSettledIn detail (B.count blocks.old) disk self.old.geometry self.old.file settled
+            → ⊥ }
     {
         if self.is_known(number) {
             return Ok(());
@@ -214,8 +218,8 @@ impl InodeFile {
     pub fn is_taken(&self, number: u32) -> bool
         requires { number < self.now.geometry.inodes }
         ensures taken { IsTrue result ↔ IsTaken self.now.numbers.bytes.items number }
-        ensures free { (count : ℕ) (disk : ℕ → List ℕ) (settled : ℕ → Inode) (v : Volume)
-            → IsVolumeOf count disk settled self.now v → IsFalse result → v number ≡ None }
+        ensures free { (detail : Detail) (count : ℕ) (disk : ℕ → List ℕ) (settled : ℕ → Inode)
+            (v : Volume) → IsVolumeIn detail count disk settled self.now v → IsFalse result → v number ≡ None }
     {
         self.numbers.is_taken(number)
     }
@@ -229,11 +233,12 @@ impl InodeFile {
         ensures none { (disk : ℕ → List ℕ) (settled : ℕ → Inode)
             → IfNone result (content_at disk settled self.now number ≡ None) }
         ensures loaded { IfSome result (λ o. loaded self.now number ≡ Some o.now) }
-        ensures stands { (count : ℕ) (disk : ℕ → List ℕ) (settled : ℕ → Inode) (v : Volume)
-            → IsVolumeOf count disk settled self.now v → IfSome result (λ o.
-            IsObject disk self.now.geometry.inodes (settled number) o.now (v number)) }
-        ensures stands_for_none { (count : ℕ) (disk : ℕ → List ℕ) (settled : ℕ → Inode) (v : Volume)
-            → IsVolumeOf count disk settled self.now v → IfNone result (v number ≡ None) }
+        ensures stands { (detail : Detail) (count : ℕ) (disk : ℕ → List ℕ) (settled : ℕ → Inode)
+            (v : Volume) → IsVolumeIn detail count disk settled self.now v → IfSome result (λ o.
+            IsObjectIn detail disk self.now.geometry.inodes (settled number) o.now (v number)) }
+        ensures stands_for_none { (detail : Detail) (count : ℕ) (disk : ℕ → List ℕ)
+            (settled : ℕ → Inode) (v : Volume) → IsVolumeIn detail count disk settled self.now v
+            → IfNone result (v number ≡ None) }
     {
         match self.slots.get(&number) {
             Some(ObjectSlot::AsSettled) => None,
@@ -276,16 +281,16 @@ impl InodeFile {
 // The object of a settled inode, if it is one.
 fn load_object(alloc: Global, inode: Inode) -> Result<Option<Object>, AllocError>
     requires { inode.size ≤ greatest_size VERSION }
-    ensures content { (s : Sizes) (disk : ℕ → List ℕ) → IsSoundFile s (held disk inode)
-        → IfOk result (λ o. option_map (content_of_object disk) o ≡ settled_content disk inode) }
-    ensures as_settled { (s : Sizes) (disk : ℕ → List ℕ) → IsSoundFile s (held disk inode)
-        → IfOk result (IsAsSettled disk inode) }
+    ensures content { (detail : Detail) (s : Sizes) (disk : ℕ → List ℕ)
+        → IsHeldFile detail s (held disk inode) → IfOk result (λ o. option_map (content_of_object disk) o ≡ settled_content disk inode) }
+    ensures as_settled { (detail : Detail) (s : Sizes) (disk : ℕ → List ℕ)
+        → IsHeldFile detail s (held disk inode) → IfOk result (IsAsSettled disk inode) }
     ensures untouched { (s : Sizes) → IsInode VERSION s inode
         → IfOk result (λ o. IfSome o IsUntouched) }
-    ensures stands { (s : Sizes) (disk : ℕ → List ℕ) (inodes : ℕ) (found : Option Node)
-        → IsSoundFile s (held disk inode) → IsOrdinary inode.kind
-        → StandsFor inodes (held_content disk inode) found
-        → IfOk result (λ o. IsObjectOrNone disk inodes inode o found) }
+    ensures stands { (detail : Detail) (s : Sizes) (disk : ℕ → List ℕ) (inodes : ℕ)
+        (found : Option Node) → IsHeldFile detail s (held disk inode) → IsOrdinary inode.kind
+        → StandsForIn detail inodes (held_content disk inode) found
+        → IfOk result (λ o. IsObjectOrNone detail disk inodes inode o found) }
 {
     match inode.kind {
         Kind::Free => Ok(None),

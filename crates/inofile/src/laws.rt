@@ -5,11 +5,12 @@ ghost use Rattle.layout.specs.declared.inode.Inode.{Inode};
 ghost use Rattle.model.specs.Volumes.{Node, Volume};
 ghost use Rattle.blocktree.specs.Trees.{IsSoundAt};
 ghost use Rattle.images.specs.Contents.{HoldsVolume};
+ghost use Rattle.images.specs.Soundness.{Detail};
 ghost use Rattle.inode.specs.declared.object.Object.{Object};
 ghost use Rattle.inofile.specs.Inodes.{HasNoChange, IsChanged, files_of};
-ghost use Rattle.inofile.specs.Objects.{IsObject};
+ghost use Rattle.inofile.specs.Objects.{IsObjectIn};
 ghost use Rattle.inofile.specs.Settled.{held_content};
-ghost use Rattle.inofile.specs.Volumes.{IsVolumeOf};
+ghost use Rattle.inofile.specs.Volumes.{IsVolumeIn, IsVolumeOf};
 ghost use Rattle.inofile.specs.declared.inode_file.InodeFile.{InodeFile};
 
 use images::files_hold_one_volume;
@@ -37,9 +38,9 @@ pub fn unchanged_memory_is_settled()
 
 /// All that stands over the blocks of an object in memory is in its grammar. It does nothing.
 pub fn objects_stand_in_their_grammar()
-    ensures { (count : ℕ) (disk : ℕ → List ℕ) (settled : ℕ → Inode) (s : InodeFile) (v : Volume)
-        (n i : ℕ) (o : Object) (found : Option Node) → IsVolumeOf count disk settled s v
-        → IsObject disk s.geometry.inodes (settled n) o found → IsSoundAt count disk o.file.tree i }
+    ensures { (detail : Detail) (count : ℕ) (disk : ℕ → List ℕ) (settled : ℕ → Inode)
+        (s : InodeFile) (v : Volume) (n i : ℕ) (o : Object) (found : Option Node)
+        → IsVolumeIn detail count disk settled s v → IsObjectIn detail disk s.geometry.inodes (settled n) o found → IsSoundAt count disk o.file.tree i }
 {
     based_trees_are_sound();
 }

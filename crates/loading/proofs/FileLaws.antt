@@ -12,7 +12,7 @@ use Rattle.layout.specs.declared.inode.Inode.{Inode}
 use Rattle.layout.specs.declared.pointer.Pointer.{Pointer}
 use Rattle.blocktree.specs.Places.{depth_of, IsPath}
 use Rattle.images.specs.Nodes.{held}
-use Rattle.images.specs.Soundness.{nodes_of_size, IsSoundFile, HasNoHole}
+use Rattle.images.specs.Soundness.{Detail, nodes_of_size, IsHeldFile, IsSoundFile, HasNoHole, by_bytes}
 use Rattle.loading.specs.Readings.{IsBodyPath, IsMapFile, IsStored}
 use Rattle.loading.specs.Laws.{ReadAsHeld}
 
@@ -20,13 +20,13 @@ use Rattle.loading.specs.Laws.{ReadAsHeld}
 pub record NodeLaws : Type 0 where
   pub places : (disk : Blocks) (f : Inode) (pointers : List Pointer) (depth height i : ℕ) → f.body ≡ Pointers pointers → level_of f.size ≡ suc (depth + height)
       → (held disk f).place height i ≡ place disk pointers depth i
-  pub paths : (s : Sizes) (disk : Blocks) (f : Inode) (pointers : List Pointer) (depth height i : ℕ) → IsSoundFile s (held disk f) → f.body ≡ Pointers pointers → level_of f.size ≡ suc (depth + height)
+  pub paths : {detail : Detail} (s : Sizes) (disk : Blocks) (f : Inode) (pointers : List Pointer) (depth height i : ℕ) → IsHeldFile detail s (held disk f) → f.body ≡ Pointers pointers → level_of f.size ≡ suc (depth + height)
       → IsPath s.blocks disk pointers depth (nodes_of_size f.size height) i
 
 some_level : (size : ℕ) → 128 < size → level_of size ≡ suc (depth_of size + 0)
 some_level size large = grind (arith, nat_tests, large)
 
-pub body_path : (laws : NodeLaws) (s : Sizes) (disk : Blocks) (f : Inode) (i : ℕ) (body : Body) → f.body ≡ body → IsSoundFile s (held disk f) → IsBodyPath s.blocks disk body f.size i
+pub body_path : {detail : Detail} (laws : NodeLaws) (s : Sizes) (disk : Blocks) (f : Inode) (i : ℕ) (body : Body) → f.body ≡ body → IsHeldFile detail s (held disk f) → IsBodyPath s.blocks disk body f.size i
 unfolding held nodes_of_size
 body_path laws s disk f i (Inline bytes) is sound = tt
 body_path laws s disk f i (Pointers pointers) is sound = λ lt.
@@ -49,5 +49,5 @@ pub map_file : (laws : NodeLaws) (reads : ReadAsHeld) (s : Sizes) (disk : Blocks
 unfolding held
 map_file laws reads s disk f sound whole = record {
   stored = body_stored laws s disk f f.body refl sound whole;
-  ends = subst (λ block. EndsAt f.size (byte_in block)) (sym (reads s disk f sound)) sound.ends;
+  ends = subst (λ block. EndsAt f.size (byte_in block)) (sym (reads by_bytes s disk f sound)) sound.ends;
 }

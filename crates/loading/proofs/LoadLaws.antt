@@ -23,14 +23,14 @@ use Rattle.inode.specs.Bodies.{inode_block}
 use Rattle.inode.specs.Files as memory
 use Rattle.inode.specs.declared.file.File.{File}
 use Rattle.inofile.specs.Inodes.{IsChanged}
-use Rattle.inofile.specs.Settled.{AreSettled, held_content}
-use Rattle.inofile.specs.Volumes.{IsVolumeOf, MapsVolume}
+use Rattle.inofile.specs.Settled.{AreSettledIn, held_content}
+use Rattle.inofile.specs.Volumes.{IsVolumeIn, MapsVolume}
 use Rattle.inofile.specs.declared.inode_file.InodeFile.{InodeFile}
 use Rattle.images.specs.Contents.{HoldsVolume, content_bytes, content_of, tree_contents}
 use Rattle.images.specs.Nodes.{held}
 use Rattle.images.specs.Roots.{inode_part, tree, whole}
-use Rattle.images.specs.Soundness.{IsSoundTree}
-use Rattle.loading.specs.Images.{AreInodesOf, IsLoadedUnder, IsReadable, inodes_of}
+use Rattle.images.specs.Soundness.{Detail}
+use Rattle.loading.specs.Images.{AreInodesIn, IsLoadedIn, IsReadableIn, inodes_of}
 use Rattle.loading.specs.InodeBlocks.{AreInodeBlocks}
 use Rattle.loading.specs.Laws.{TreesReadAsHeld}
 use Rattle.loading.specs.Readings.{AreParts, AreUnchanged, IsBodyPath, IsMapFile, inode_bytes_of}
@@ -45,10 +45,10 @@ refused P (Err errors.NoMemory) is undamaged = inl refl
 refused P (Err errors.Device) is undamaged = inr refl
 refused P (Err errors.Damaged) is undamaged = absurd (undamaged refl)
 
-module _ (l : TreesReadAsHeld) (disk : Blocks) (r : Root) (are : AreSizes r.geometry) (ready : IsReadable disk r) where
-  pub sound : IsSoundTree r.geometry (tree disk r.geometry.inodes r.inode_file)
+module _ {detail : Detail} (l : TreesReadAsHeld) (disk : Blocks) (r : Root) (are : AreSizes r.geometry) (ready : IsReadableIn detail disk r) where
+  pub sound : trees.IsTree detail r.geometry (tree disk r.geometry.inodes r.inode_file)
   unfolding whole
-  sound = ready.sound
+  sound = trees.tree_in detail r.geometry (tree disk r.geometry.inodes r.inode_file) ready.sound
 
   root : (tree disk r.geometry.inodes r.inode_file 3).inode.kind ≡ kinds.Directory
   unfolding whole
@@ -99,9 +99,9 @@ module _ (l : TreesReadAsHeld) (disk : Blocks) (r : Root) (are : AreSizes r.geom
     pub reached : (count i : ℕ) → count ≡ r.geometry.blocks → IsSoundAt count disk file.tree i
     reached count i is = subst (λ c. IsSoundAt c disk file.tree i) (sym is)
         (starts_sound_at r.geometry.blocks disk r.inode_file.body r.inode_file.size i file.tree file.tree.fits.1 starts
-        (l.paths r.geometry disk r.inode_file i (trees.top_sound r.geometry are disk r.inode_file sound root l.reads l.paths l.stored l.spells l.ends)))
+        (l.paths detail r.geometry disk r.inode_file i (trees.top_sound r.geometry are disk r.inode_file sound root l.reads l.paths l.stored l.spells l.ends)))
 
-    pub are_settled : AreSettled r.geometry.blocks disk r.geometry file (inodes_of (whole disk r).active)
+    pub are_settled : AreSettledIn detail r.geometry.blocks disk r.geometry file (inodes_of (whole disk r).active)
     unfolding whole
     are_settled = trees.settled r.geometry are disk r.inode_file sound root l.reads l.paths l.stored l.spells l.ends file same (λ k. reached r.geometry.blocks k refl)
 
@@ -132,19 +132,19 @@ module _ (l : TreesReadAsHeld) (disk : Blocks) (r : Root) (are : AreSizes r.geom
     -- the inodes
     pub inodes_loaded : (i : Inode) (bytes : List ℕ) (inodes : InodeFile) → tree disk r.geometry.inodes r.inode_file 1 ≡ held disk i → bytes ≡ inode_bytes_of disk i
         → inodes.geometry ≡ r.geometry → inodes.file ≡ file → inodes.numbers.bytes.items ≡ bytes → ((n : ℕ) → IsChanged inodes n → ⊥)
-        → ((v : Volume) → AreSettled r.geometry.blocks disk r.geometry file (inodes_of (tree disk r.geometry.inodes r.inode_file)) → MapsVolume bytes v
+        → ((v : Volume) → AreSettledIn detail r.geometry.blocks disk r.geometry file (inodes_of (tree disk r.geometry.inodes r.inode_file)) → MapsVolume bytes v
         → HoldsVolume r.geometry.inodes (λ n. held_content disk (inodes_of (tree disk r.geometry.inodes r.inode_file) n)) v
-        → IsVolumeOf r.geometry.blocks disk (inodes_of (tree disk r.geometry.inodes r.inode_file)) inodes v)
-        → AreInodesOf disk r.geometry (whole disk r).active inodes
+        → IsVolumeIn detail r.geometry.blocks disk (inodes_of (tree disk r.geometry.inodes r.inode_file)) inodes v)
+        → AreInodesIn detail disk r.geometry (whole disk r).active inodes
     unfolding whole
     inodes_loaded i bytes inodes is_i read geometry file_is numbers unchanged stands =
-        let settled : AreSettled r.geometry.blocks disk r.geometry file (inodes_of (tree disk r.geometry.inodes r.inode_file)) =
+        let settled : AreSettledIn detail r.geometry.blocks disk r.geometry file (inodes_of (tree disk r.geometry.inodes r.inode_file)) =
         trees.settled r.geometry are disk r.inode_file sound root l.reads l.paths l.stored l.spells l.ends file same (λ k. reached r.geometry.blocks k refl) in
         let whole_bytes : bytes ≡ content_bytes (content_of (tree disk r.geometry.inodes r.inode_file 1)) =
         read ∙ trees.map_bytes r.geometry are disk r.inode_file sound root l.reads l.paths l.stored l.spells l.ends i is_i in
         record {
           geometry = geometry;
-          settled = subst (λ f. AreSettled r.geometry.blocks disk r.geometry f (inodes_of (tree disk r.geometry.inodes r.inode_file))) (sym file_is) settled;
+          settled = subst (λ f. AreSettledIn detail r.geometry.blocks disk r.geometry f (inodes_of (tree disk r.geometry.inodes r.inode_file))) (sym file_is) settled;
           numbers = numbers ∙ whole_bytes;
           unchanged = unchanged;
           volume = λ v holds. stands v settled
@@ -158,10 +158,10 @@ module _ (l : TreesReadAsHeld) (disk : Blocks) (r : Root) (are : AreSizes r.geom
         → b.size ≡ 4 * r.geometry.blocks → bytes ≡ inode_bytes_of disk i → AreParts (inode_block disk b) (div_ceil r.geometry.blocks 1024) parts → AreUnchanged parts
         → map.parts.items ≡ parts → map.count ≡ r.geometry.blocks → map.next ≡ 2
         → inodes.geometry ≡ r.geometry → inodes.file ≡ file → inodes.numbers.bytes.items ≡ bytes → ((n : ℕ) → IsChanged inodes n → ⊥)
-        → ((v : Volume) → AreSettled r.geometry.blocks disk r.geometry file (inodes_of (tree disk r.geometry.inodes r.inode_file)) → MapsVolume bytes v
+        → ((v : Volume) → AreSettledIn detail r.geometry.blocks disk r.geometry file (inodes_of (tree disk r.geometry.inodes r.inode_file)) → MapsVolume bytes v
         → HoldsVolume r.geometry.inodes (λ n. held_content disk (inodes_of (tree disk r.geometry.inodes r.inode_file) n)) v
-        → IsVolumeOf r.geometry.blocks disk (inodes_of (tree disk r.geometry.inodes r.inode_file)) inodes v)
-        → IsLoadedUnder disk r map inodes
+        → IsVolumeIn detail r.geometry.blocks disk (inodes_of (tree disk r.geometry.inodes r.inode_file)) inodes v)
+        → IsLoadedIn detail disk r map inodes
     unfolding whole
     loaded i b bytes parts map inodes is_i is_b size read have clean items count next geometry file_is numbers unchanged stands =
         record {

@@ -9,13 +9,14 @@ use Rattle.buffers.proofs.ReadLaws.{reads_err}
 use Rattle.blocktree.specs.Errors.{IsFault}
 use Rattle.blocktree.specs.declared.error.ReadError.{ReadError}
 use Rattle.blocktree.specs.declared.error.ReadError.TheVariants.{Device, NoMemory}
-use Rattle.loading.specs.Images.{IsLoadedUnder, IsReadable}
+use Rattle.images.specs.Soundness.{Detail}
+use Rattle.loading.specs.Images.{IsLoadedIn, IsReadableIn}
 use Rattle.loading.specs.Loading.{LoadsUnder}
 use Rattle.loading.specs.declared.under_root.Loaded.{Loaded}
 
 -- a step before has failed
 pub not_loaded : {B U : Type 0} {G : Ghosts B} {a b : B} {r : Root} {e : ReadError} (q : Result Loaded ReadError) → IsErrAnd q (λ f. f ≡ e) → ReadsBlocks {T = U} G IsFault a b (Err e)
-    → ((disk : ℕ → List ℕ) → G.Shows a disk → IsReadable disk r → MatchResult q (λ l. IsLoadedUnder disk r l.map l.inodes) (λ e. (e ≡ NoMemory) ⊎ (e ≡ Device)))
+    → ((detail : Detail) (disk : ℕ → List ℕ) → G.Shows a disk → IsReadableIn detail disk r → MatchResult q (λ l. IsLoadedIn detail disk r l.map l.inodes) (λ e. (e ≡ NoMemory) ⊎ (e ≡ Device)))
     → LoadsUnder G a b r q
 not_loaded (Ok l) is reads loads = absurd is
 not_loaded (Err f) is reads loads = record {
@@ -28,5 +29,5 @@ not_loaded (Err f) is reads loads = record {
   clean = tt;
   numbers = tt;
   inodes = λ disk shows. tt;
-  loads = loads;
+  loads = λ {detail} disk shows ready. loads detail disk shows ready;
 }

@@ -18,19 +18,20 @@ use Rattle.model.specs.Volumes.{Node, Volume}
 use Rattle.blocktree.specs.Trees.{IsSoundAt}
 use Rattle.inode.specs.Files as memory
 use Rattle.inode.specs.declared.file.File.{File}
-use Rattle.inofile.specs.Settled.{AreSettled, held_content}
+use Rattle.inofile.specs.Settled.{AreSettledIn, held_content}
 use Rattle.inofile.specs.Volumes.{MapsVolume}
 use Rattle.images.specs.Contents.{Content, HoldsVolume, StandsAs, content_bytes, content_of, tree_contents}
 use Rattle.images.specs.Nodes.{file_block, held}
-use Rattle.images.specs.Roots.{free_inode, inode_bytes_at, inode_part, inode_under, tree}
-use Rattle.images.specs.Soundness.{IsOrdinary, HasNoHole, IsSoundFile, IsSoundTree}
+use Rattle.images.specs.Roots.{HeldTree, free_inode, inode_bytes_at, inode_part, inode_under, tree}
+use Rattle.images.specs.Soundness.{Detail, FitsNumber, HasNoHole, IsHeldFile, IsOrdinary, IsSoundFile, MapsNumbers, SpellsInodes, by_bytes, by_sizes}
+use Rattle.images.specs.Faults.{IsMapGrammar}
 use Rattle.blockmap.specs.Maps.{settled_at, entry_at, IsTouched}
 use Rattle.blockmap.specs.Parts.{Part}
 use Rattle.blockmap.specs.declared.map.BlockMap.{BlockMap}
 use Rattle.images.specs.BlockMap.{entry}
 use Rattle.images.proofs.EmptyLaws.{free_bytes, free_fits}
 use Rattle.images.proofs.KindLaws.{ordinary_kind}
-use Rattle.loading.specs.Images.{IsMapOf, inodes_of}
+use Rattle.loading.specs.Images.{IsMapOf, inodes_of, IsTreeIn}
 use Rattle.loading.specs.InodeBlocks.{AreInodeBlocks, HasKindOfPlace, IsInodeAt, IsInodeBlock}
 use Rattle.loading.specs.Laws.{AreMapFiles, EndTrees, HaveSoundPaths, ReadAsHeld, SpellTrees}
 use Rattle.loading.proofs.MapLaws.{entries_are, past_end, same_entries}
@@ -77,18 +78,45 @@ some_used kinds.InodeFile inodes c o stands some = λ is. cc
 some_used kinds.InodeMap inodes c o stands some = λ is. cc
 some_used kinds.BlockMap inodes c o stands some = λ is. cc
 
-module _ (s : Sizes) (are : AreSizes s) (disk : Blocks) (top : Inode) (sound : IsSoundTree s (tree disk s.inodes top))
+-- what is asked of a tree
+pub record IsTree (detail : Detail) (s : Sizes) (t : HeldTree) : Type 0 where
+  pub files : (n : ℕ) → IsHeldFile detail s (t n)
+  pub kinds : (n : ℕ) → FitsNumber n (t n).inode.kind
+  pub inodes : SpellsInodes s.inodes (file_block (t 0)) t
+  pub numbers : MapsNumbers t
+  pub inode_map : IsMapGrammar (t 1)
+  pub block_map : IsMapGrammar (t 2)
+
+pub tree_in : (detail : Detail) (s : Sizes) (t : HeldTree) → IsTreeIn detail s t → IsTree detail s t
+tree_in by_bytes s t sound = record {
+  files = sound.files;
+  kinds = sound.kinds;
+  inodes = sound.inodes;
+  numbers = sound.numbers;
+  inode_map = record { stored = sound.inode_map; ends = (sound.files 1).ends };
+  block_map = record { stored = sound.block_map; ends = (sound.files 2).ends };
+}
+tree_in by_sizes s t (grammar, numbers) = record {
+  files = λ n. record { inode = (grammar.files n).inode; indirect = (grammar.files n).indirect; ends = tt };
+  kinds = grammar.kinds;
+  inodes = grammar.inodes;
+  numbers = numbers;
+  inode_map = grammar.inode_map;
+  block_map = grammar.block_map;
+}
+
+module _ {detail : Detail} (s : Sizes) (are : AreSizes s) (disk : Blocks) (top : Inode) (sound : IsTree detail s (tree disk s.inodes top))
     (root : (tree disk s.inodes top 3).inode.kind ≡ kinds.Directory) (reads : ReadAsHeld) (paths : HaveSoundPaths) (stored : AreMapFiles)
     (spells : SpellTrees) (ends : EndTrees) where
   first_is : tree disk s.inodes top 0 ≡ held disk top
   unfolding tree inode_under held
   first_is = refl
 
-  pub top_sound : IsSoundFile s (held disk top)
-  top_sound = subst (IsSoundFile s) first_is (sound.files 0)
+  pub top_sound : IsHeldFile detail s (held disk top)
+  top_sound = subst (IsHeldFile detail s) first_is (sound.files 0)
 
   pub top_reads : inode_block disk top ≡ file_block (held disk top)
-  top_reads = reads s disk top top_sound
+  top_reads = reads detail s disk top top_sound
 
   -- ---- the inode file
 
@@ -159,11 +187,11 @@ module _ (s : Sizes) (are : AreSizes s) (disk : Blocks) (top : Inode) (sound : I
   free_behind n past = ap (λ h. h.inode) (ends disk s.inodes top n (omega (arith, are.least_inodes)) past)
 
   pub settled : (file : File) → memory.file_block disk file ≡ inode_block disk top → ((i : ℕ) → IsSoundAt s.blocks disk file.tree i)
-      → AreSettled s.blocks disk s file (inodes_of (tree disk s.inodes top))
+      → AreSettledIn detail s.blocks disk s file (inodes_of (tree disk s.inodes top))
   settled file same reached = record {
     count = refl;
     spelled = λ n some lt. ap (λ block. inode_bytes_at block n) same ∙ own_spelled n some lt;
-    sound = λ n. subst (IsSoundFile s) (sym (held_again n)) (sound.files n);
+    sound = λ n. subst (IsHeldFile detail s) (sym (held_again n)) (sound.files n);
     fits = sound.kinds;
     past = free_behind;
     reached = reached;
@@ -193,19 +221,26 @@ module _ (s : Sizes) (are : AreSizes s) (disk : Blocks) (top : Inode) (sound : I
   -- ---- the maps
 
   -- a file of the system's own, at its inode
-  pub own_sound : (n : ℕ) (i : Inode) → tree disk s.inodes top n ≡ held disk i → IsSoundFile s (held disk i)
-  own_sound n i is = subst (IsSoundFile s) is (sound.files n)
+  pub own_sound : (n : ℕ) (i : Inode) → tree disk s.inodes top n ≡ held disk i → IsHeldFile detail s (held disk i)
+  own_sound n i is = subst (IsHeldFile detail s) is (sound.files n)
+
+  map_sound : (n : ℕ) (i : Inode) → tree disk s.inodes top n ≡ held disk i → IsMapGrammar (tree disk s.inodes top n) → IsSoundFile s (held disk i)
+  map_sound n i is map = record {
+    inode = (own_sound n i is).inode;
+    indirect = (own_sound n i is).indirect;
+    ends = (subst IsMapGrammar is map).ends;
+  }
 
   pub inode_map_file : (i : Inode) → tree disk s.inodes top 1 ≡ held disk i → IsMapFile disk i
-  inode_map_file i is = stored s disk i (own_sound 1 i is) (subst HasNoHole is sound.inode_map)
+  inode_map_file i is = stored s disk i (map_sound 1 i is sound.inode_map) (subst HasNoHole is sound.inode_map.stored)
 
   pub block_map_file : (i : Inode) → tree disk s.inodes top 2 ≡ held disk i → IsMapFile disk i
-  block_map_file i is = stored s disk i (own_sound 2 i is) (subst HasNoHole is sound.block_map)
+  block_map_file i is = stored s disk i (map_sound 2 i is sound.block_map) (subst HasNoHole is sound.block_map.stored)
 
   pub map_bytes : (i : Inode) → tree disk s.inodes top 1 ≡ held disk i → inode_bytes_of disk i ≡ content_bytes (content_of (tree disk s.inodes top 1))
   unfolding held
   map_bytes i is =
-      ap (λ block. first_bytes (byte_in block) i.size) (reads s disk i (own_sound 1 i is))
+      ap (λ block. first_bytes (byte_in block) i.size) (reads detail s disk i (own_sound 1 i is))
       ∙ ap (λ h. content_bytes (content_of h)) (sym is)
 
   free_kind : (n : ℕ) → s.inodes ≤ n → (tree disk s.inodes top n).inode.kind ≡ kinds.Free
@@ -226,12 +261,12 @@ module _ (s : Sizes) (are : AreSizes s) (disk : Blocks) (top : Inode) (sound : I
   -- ---- what is loaded
 
   pub paths_of : (n : ℕ) (i : Inode) (k : ℕ) → tree disk s.inodes top n ≡ held disk i → IsBodyPath s.blocks disk i.body i.size k
-  paths_of n i k is = paths s disk i k (own_sound n i is)
+  paths_of n i k is = paths detail s disk i k (own_sound n i is)
 
   entry_is : (i : Inode) (b : ℕ) → tree disk s.inodes top 2 ≡ held disk i
       → map_entry (inode_block disk i (b / 1024)) (b % 1024) ≡ entry (tree disk s.inodes top) b
   unfolding entry
-  entry_is i b is = ap (λ block. map_entry (block (b / 1024)) (b % 1024)) (reads s disk i (own_sound 2 i is) ∙ ap file_block (sym is))
+  entry_is i b is = ap (λ block. map_entry (block (b / 1024)) (b % 1024)) (reads detail s disk i (own_sound 2 i is) ∙ ap file_block (sym is))
 
   past_map : (i : Inode) (j : ℕ) → i.size ≡ 4 * s.blocks → div_ceil s.blocks 1024 ≤ j → inode_block disk i j ≡ zeros 4096
   past_map i j size past = past_end disk i.body i.size j (omega (arith, are.least_blocks, past)) (omega (arith, size, past))

@@ -13,21 +13,30 @@ use Rattle.inode.specs.Bases.{StartsFrom}
 use Rattle.inode.specs.Bodies.{inode_block}
 use Rattle.inode.specs.Files.{file_block}
 use Rattle.inode.specs.declared.file.File.{File}
-use Rattle.inofile.specs.Settled.{AreSettled}
+use Rattle.inofile.specs.Settled.{AreSettledIn}
 use Rattle.inofile.specs.Inodes.{IsChanged}
-use Rattle.inofile.specs.Volumes.{IsVolumeOf}
+use Rattle.inofile.specs.Volumes.{IsVolumeIn}
 use Rattle.inofile.specs.declared.inode_file.InodeFile.{InodeFile}
 use Rattle.blockmap.specs.Maps.{settled_at, entry_at, IsTouched}
 use Rattle.blockmap.specs.declared.map.BlockMap.{BlockMap}
 use Rattle.images.specs.Contents.{HoldsVolume, content_bytes, content_of, tree_contents}
 use Rattle.images.specs.BlockMap.{entry}
 use Rattle.images.specs.Roots.{HeldTree, whole}
-use Rattle.images.specs.Soundness.{IsSoundTree}
+use Rattle.images.specs.Soundness.{Detail, IsSoundTree, MapsNumbers, by_bytes, by_sizes}
+use Rattle.images.specs.Faults.{IsTreeGrammar}
+
+-- A tree is in its grammar; where the sizes of files alone are known, zeros past their ends aren't asked, but of the maps.
+abbrev pub IsTreeIn : Detail → Sizes → HeldTree → Type 0
+IsTreeIn by_bytes s t = IsSoundTree s t
+IsTreeIn by_sizes s t = IsTreeGrammar s t × MapsNumbers t
 
 -- the active tree under a root is in its grammar, and its root directory is a directory
-pub record IsReadable (disk : Blocks) (r : Root) : Type 0 where
-  pub sound : IsSoundTree r.geometry (whole disk r).active
+pub record IsReadableIn (detail : Detail) (disk : Blocks) (r : Root) : Type 0 where
+  pub sound : IsTreeIn detail r.geometry (whole disk r).active
   pub root : ((whole disk r).active ROOT_NUMBER).inode.kind ≡ Directory
+
+abbrev pub IsReadable : Blocks → Root → Type 0
+IsReadable = IsReadableIn by_bytes
 
 -- a file in memory is that of a settled inode, of which nothing is changed
 pub record IsFileOfInode (inode : Inode) (file : File) : Type 0 where
@@ -48,16 +57,22 @@ pub record IsMapOf (t : HeldTree) (blocks : ℕ) (map : BlockMap) : Type 0 where
   pub untouched : (j : ℕ) → IsTouched map.parts.items j → ⊥
 
 -- The inodes in memory are those of a tree, in an image of these sizes, and so are the numbers that are in use. None is
--- changed: memory stands for the volume that the tree holds.
-pub record AreInodesOf (disk : Blocks) (s : Sizes) (t : HeldTree) (inodes : InodeFile) : Type 0 where
+-- changed: memory stands for the volume that the tree holds, in so much detail.
+pub record AreInodesIn (detail : Detail) (disk : Blocks) (s : Sizes) (t : HeldTree) (inodes : InodeFile) : Type 0 where
   pub geometry : inodes.geometry ≡ s
-  pub settled : AreSettled s.blocks disk s inodes.file (inodes_of t)
+  pub settled : AreSettledIn detail s.blocks disk s inodes.file (inodes_of t)
   pub numbers : inodes.numbers.bytes.items ≡ content_bytes (content_of (t 1))
   pub unchanged : (n : ℕ) → IsChanged inodes n → ⊥
   pub volume : (v : Volume) → HoldsVolume s.inodes (tree_contents t) v
-      → IsVolumeOf s.blocks disk (inodes_of t) inodes v
+      → IsVolumeIn detail s.blocks disk (inodes_of t) inodes v
+
+abbrev pub AreInodesOf : Blocks → Sizes → HeldTree → InodeFile → Type 0
+AreInodesOf = AreInodesIn by_bytes
 
 -- what was loaded is what a disk has under a root
-pub record IsLoadedUnder (disk : Blocks) (r : Root) (entries : BlockMap) (files : InodeFile) : Type 0 where
+pub record IsLoadedIn (detail : Detail) (disk : Blocks) (r : Root) (entries : BlockMap) (files : InodeFile) : Type 0 where
   pub map : IsMapOf (whole disk r).active r.geometry.blocks entries
-  pub inodes : AreInodesOf disk r.geometry (whole disk r).active files
+  pub inodes : AreInodesIn detail disk r.geometry (whole disk r).active files
+
+abbrev pub IsLoadedUnder : Blocks → Root → BlockMap → InodeFile → Type 0
+IsLoadedUnder = IsLoadedIn by_bytes

@@ -8,17 +8,17 @@ use Rattle.layout.specs.declared.version.TheConstants.{VERSION}
 use Rattle.inode.specs.Bodies.{inode_block}
 use Rattle.images.specs.Nodes.{file_block, held}
 use Rattle.images.specs.Roots.{free_inode, inode_bytes_at, tree}
-use Rattle.images.specs.Soundness.{HasNoHole, IsSoundFile}
+use Rattle.images.specs.Soundness.{Detail, HasNoHole, IsSoundFile, IsHeldFile}
 use Rattle.loading.specs.Readings.{IsBodyPath, IsMapFile}
 
 -- a file in its grammar reads as it is held
 abbrev pub ReadAsHeld : Type 0
-ReadAsHeld = (s : Sizes) (disk : Blocks) (f : Inode) → IsSoundFile s (held disk f)
+ReadAsHeld = (detail : Detail) (s : Sizes) (disk : Blocks) (f : Inode) → IsHeldFile detail s (held disk f)
     → inode_block disk f ≡ file_block (held disk f)
 
 -- all that stands over its blocks is in its grammar
 abbrev pub HaveSoundPaths : Type 0
-HaveSoundPaths = (s : Sizes) (disk : Blocks) (f : Inode) (i : ℕ) → IsSoundFile s (held disk f)
+HaveSoundPaths = (detail : Detail) (s : Sizes) (disk : Blocks) (f : Inode) (i : ℕ) → IsHeldFile detail s (held disk f)
     → IsBodyPath s.blocks disk f.body f.size i
 
 -- where it has no hole, all its blocks are stored

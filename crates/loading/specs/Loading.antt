@@ -9,9 +9,10 @@ use Rattle.buffers.specs.declared.blocks.Blocks.{Ghosts}
 use Rattle.blocktree.specs.Errors.{IsFault}
 use Rattle.blocktree.specs.declared.error.ReadError.{ReadError}
 use Rattle.blocktree.specs.declared.error.ReadError.TheVariants.{Device, NoMemory}
+use Rattle.images.specs.Soundness.{Detail}
 use Rattle.inode.specs.Files.{file_block}
 use Rattle.inofile.specs.Inodes.{HasNoChange}
-use Rattle.loading.specs.Images.{IsLoadedUnder, IsReadable}
+use Rattle.loading.specs.Images.{IsLoadedIn, IsReadableIn}
 use Rattle.loading.specs.InodeBlocks.{AreInodeBlocks}
 use Rattle.loading.specs.Readings.{AreUnchanged}
 use Rattle.loading.specs.declared.under_root.Loaded.{Loaded}
@@ -28,5 +29,5 @@ pub record LoadsUnder {B : Type 0} (G : Ghosts B) (old after : B) (root : Root) 
   pub clean : IfOk result (λ l. HasNoChange l.inodes)
   pub numbers : IfOk result (λ l. IsInodeMap 0 root.geometry.inodes l.inodes.numbers.bytes.items)
   pub inodes : (disk : ℕ → List ℕ) → G.Shows old disk → IfOk result (λ l. AreInodeBlocks root.geometry (file_block disk l.inodes.file))
-  pub loads : (disk : ℕ → List ℕ) → G.Shows old disk → IsReadable disk root
-      → MatchResult result (λ l. IsLoadedUnder disk root l.map l.inodes) (λ e. (e ≡ NoMemory) ⊎ (e ≡ Device))
+  pub loads : {detail : Detail} (disk : ℕ → List ℕ) → G.Shows old disk → IsReadableIn detail disk root
+      → MatchResult result (λ l. IsLoadedIn detail disk root l.map l.inodes) (λ e. (e ≡ NoMemory) ⊎ (e ≡ Device))

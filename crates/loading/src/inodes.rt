@@ -43,7 +43,7 @@ pub(crate) fn check_inodes<B: Blocks>(
 }
 
 /// The inode at a place of block 0 of a settled inode file, where it is of this kind.
-pub(crate) fn own_inode<B: Blocks>(
+pub fn own_inode<B: Blocks>(
     blocks: &mut B,
     file: &File,
     number: u32,
@@ -112,9 +112,21 @@ fn part(bytes: &[u8; BLOCK_BYTES], index: u32) -> &[u8]
 fn is_inode_at(bytes: &[u8], place: u32, geometry: Geometry) -> bool
     ensures { IsTrue result ↔ IsInodeAt geometry place bytes.now }
 {
-    match read_inode(bytes, geometry) {
-        Some(inode) => kind_fits(inode.kind, place, geometry.inodes()),
-        None => false,
+    inode_at(bytes, place, geometry).is_some()
+}
+
+/// The inode that these bytes are at a place of an inode file, if they are one.
+pub fn inode_at(bytes: &[u8], place: u32, geometry: Geometry) -> Option<Inode>
+    ensures found { IfSome result (λ i. IsInode VERSION geometry i
+        × (bytes.now ≡ inode_bytes i) × HasKindOfPlace geometry.inodes place i.kind) }
+    ensures only { (i : Inode) → IsInode VERSION geometry i → bytes.now ≡ inode_bytes i
+        → HasKindOfPlace geometry.inodes place i.kind → result ≡ Some i }
+{
+    let inode = read_inode(bytes, geometry)?;
+    if kind_fits(inode.kind, place, geometry.inodes()) {
+        Some(inode)
+    } else {
+        None
     }
 }
 
@@ -147,7 +159,7 @@ fn is_ordinary(kind: Kind) -> bool
 }
 
 /// Whether each byte of a block from one on is 0.
-pub(crate) fn is_zero_from(bytes: &[u8; BLOCK_BYTES], from: usize) -> bool
+pub fn is_zero_from(bytes: &[u8; BLOCK_BYTES], from: usize) -> bool
     requires { from ≤ BLOCK_BYTES }
     ensures { IsTrue result
         ↔ ((i : ℕ) → from ≤ i → i < BLOCK_BYTES → slice_index bytes.now i ≡ 0) }

@@ -27,7 +27,7 @@ use layout::{BLOCK_BYTES, BLOCK_POINTERS, Geometry, Inode, is_inode_map};
 use std::alloc::Global;
 
 /// The bytes of the inode map whose settled inode this is.
-pub(crate) fn load_numbers<B: Blocks>(
+pub fn load_numbers<B: Blocks>(
     alloc: Global,
     blocks: &mut B,
     inode: Inode,
@@ -107,7 +107,7 @@ pub(crate) fn load_parts<B: Blocks>(
 }
 
 /// The file of a map: all of its blocks are stored, and zeros stand past its end.
-fn map_file<B: Blocks>(alloc: Global, blocks: &mut B, inode: Inode) -> Result<File, ReadError>
+pub fn map_file<B: Blocks>(alloc: Global, blocks: &mut B, inode: Inode) -> Result<File, ReadError>
     requires { inode.size ≤ greatest_size 1 }
     ensures reads { ReadsBlocks B.Blocks IsFault blocks.old blocks.new result }
     ensures size { IfOk result (λ f. f.size ≡ inode.size) }

@@ -68,7 +68,7 @@ fn check_apart<B: Blocks>(
 }
 
 /// Whether the snapshots at two pointers, if there are two, differ in name and in order.
-fn are_apart<B: Blocks>(blocks: &mut B, a: Pointer, b: Pointer) -> Result<bool, ReadError>
+pub fn are_apart<B: Blocks>(blocks: &mut B, a: Pointer, b: Pointer) -> Result<bool, ReadError>
     requires first { PointsBelow (B.count blocks.old) a }
     requires second { PointsBelow (B.count blocks.old) b }
     ensures reads { ReadsBlocks B.Blocks IsFault blocks.old blocks.new result }
@@ -109,7 +109,11 @@ fn is_of(snapshot: &SnapRoot<'_>, root: &Root) -> bool
 }
 
 /// Tests the root block of the snapshot at a pointer, if there is one.
-fn check_snapshot<B: Blocks>(blocks: &mut B, pointer: Pointer, root: &Root) -> Result<(), ReadError>
+pub fn check_snapshot<B: Blocks>(
+    blocks: &mut B,
+    pointer: Pointer,
+    root: &Root,
+) -> Result<(), ReadError>
     requires { PointsBelow (B.count blocks.old) pointer }
     ensures reads { ReadsBlocks B.Blocks IsFault blocks.old blocks.new result }
     ensures is { (disk : ℕ → List ℕ) → B.Shows blocks.old disk

@@ -7,7 +7,8 @@ ghost use Rattle.layout.specs.declared.version.TheConstants.{VERSION};
 ghost use Rattle.buffers.specs.Reads.{ReadsBlocks};
 ghost use Rattle.blocktree.specs.Errors.{IsFault};
 ghost use Rattle.images.specs.Roots.{whole};
-ghost use Rattle.loading.specs.Images.{AreInodesOf, IsReadable};
+ghost use Rattle.images.specs.Soundness.{Detail};
+ghost use Rattle.loading.specs.Images.{AreInodesIn, IsReadableIn};
 ghost use Rattle.loading.specs.Loading.{LoadsUnder};
 
 use crate::inodes::{check_inodes, own_inode};
@@ -63,9 +64,9 @@ pub fn load_inodes<B: Blocks>(
     requires size { inode_file.size ≤ greatest_size VERSION }
     ensures reads { ReadsBlocks B.Blocks IsFault blocks.old blocks.new result }
     ensures geometry { IfOk result (λ s. s.geometry ≡ geometry) }
-    ensures loads { (disk : ℕ → List ℕ) → B.Shows blocks.old disk → (r : Root)
-        → r.geometry ≡ geometry → r.inode_file ≡ inode_file → IsReadable disk r
-        → MatchResult result (AreInodesOf disk geometry (whole disk r).active)
+    ensures loads { (detail : Detail) (disk : ℕ → List ℕ) → B.Shows blocks.old disk → (r : Root)
+        → r.geometry ≡ geometry → r.inode_file ≡ inode_file → IsReadableIn detail disk r
+        → MatchResult result (AreInodesIn detail disk geometry (whole disk r).active)
         (λ e. (e ≡ ReadError.NoMemory) ⊎ (e ≡ ReadError.Device)) }
 {
     trees_read_as_held();

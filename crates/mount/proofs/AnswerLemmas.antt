@@ -9,7 +9,7 @@ use Rattle.station.proofs.Calls.{uses_none, uses_twice}
 use Rattle.station.proofs.Moments.{same_none, unchanged_none}
 use Rattle.model.specs.Circumstances.{IsShortFor, IsSure}
 use Rattle.model.specs.Paths.{Name, first_refusal}
-use Rattle.model.specs.Room.{Need, Room, a_snapshot, fixed_of, logs, nothing}
+use Rattle.model.specs.Room.{Need, Room, a_snapshot, cost, fixed_of, keep, logs, nothing}
 use Rattle.model.specs.Steps.{Step, passing, says, take_tests, takes}
 use Rattle.model.specs.declared.command.Command.TheVariants as commands
 use Rattle.model.specs.States.{State}
@@ -114,8 +114,19 @@ module _ {S : Type 0} {G : Ghosts S} (n : ℕ) (P : State → Type 0) (old new :
 -- what a system has no room for it is short for, where its root covers all
 pub short_by : {S : Type 0} {G : Ghosts S} (f : System S G) (s : State) (command : Command) → LacksRoom f s command
     → (room : Room) → IsTrue room.is_covered → room.free ≡ f.free → room.blocks ≡ f.root.geometry.blocks → room.pledged ≡ f.pledged → IsShortFor room s command
-short_by f s command lacks room covered free blocks pledged =
-    (lacks.reply, lacks.after, logs lacks.work, lacks.step room, (covered, omega (arith, lacks.short, free, pledged, ap fixed_of blocks)))
+short_by f s command lacks room covered free blocks pledged = (
+  lacks.reply,
+  lacks.after,
+  logs lacks.work,
+  lacks.step room,
+  (
+    covered,
+    elim (cases_lt f.free (f.pledged + cost lacks.work + fixed_of f.root.geometry.blocks + keep lacks.work)) [
+      | inl few ↦ omega (arith, few, free, pledged, ap fixed_of blocks)
+      | inr enough ↦ absurd (lacks.short enough)
+    ],
+  ),
+)
 
 -- `snap take` that isn't refused by its tests takes a snapshot
 takes_one : (s : State) (tests : List (Bool × Errno)) (reply : Reply) (after : State) (need : Need) (done : Step) → ((reply : Reply) (after : State) (need : Need) → done reply after need → need ≡ a_snapshot)

@@ -4,6 +4,7 @@ ghost use Rattle.std.specs.Prelude.{◌≡◌, ◌⊎◌, IsFalse, IfOk, IfErr, 
 ghost use Rattle.station.specs.Images.{Unchanged};
 ghost use Rattle.station.specs.Moments.{IsSameStation, Goes};
 ghost use Rattle.model.specs.States.{State, Forgets};
+ghost use Rattle.images.specs.Faults.{HasNoFault};
 ghost use Rattle.system.specs.Images.{OpensTo};
 ghost use Rattle.loading.specs.Slots.{HasNoRoot};
 ghost use Rattle.system.specs.Opening.{HasFailed, HasNewest};
@@ -19,7 +20,7 @@ use system::System;
 /// cut leaves what it might have left before. Where what the station reads opens to a state, Ok serves that state, without open
 /// files; `NoRoot` comes where neither slot holds a root, `Damaged` only where one does but what the station reads opens to no
 /// state, `Device` only where a device call failed. Whatever else the station holds, Ok has taken the newest root, the station
-/// has its sizes, and the NVRAM holds a log over it.
+/// has its sizes, and the NVRAM holds a log over it. Over images without a fault neither `NoRoot` nor `Damaged` comes.
 pub fn mount<S: Station>(alloc: Global, station: S) -> Result<Fs<S>, (MountError, S)>
     ensures same { MatchResult result
         (λ fs. IsSameStation (S.meaning station) (meaning_of fs.system))
@@ -44,6 +45,10 @@ pub fn mount<S: Station>(alloc: Global, station: S) -> Result<Fs<S>, (MountError
         → HasNoRoot (S.meaning station).sectors (S.meaning station).seen.disk
         → MatchResult result (λ _. ⊥)
         (λ e. (e.0 ≡ MountError.NoRoot) ⊎ (e.0 ≡ MountError.Device)) }
+    ensures faultless { (S.meaning station).is_honest
+        → HasNoFault (S.meaning station).sectors (S.meaning station).seen.disk
+        (S.meaning station).seen.nvram
+        → IfErr result (λ e. (e.0 ≡ MountError.NoMemory) ⊎ (e.0 ≡ MountError.Device)) }
 {
     match System::open(alloc, station) {
         Ok(system) => Ok(Fs {

@@ -1,14 +1,16 @@
 -- Looking something up, step by step.
-use Rattle.std.proofs.Common.{◌≡◌, Result, Ok, Err, refl}
+use Rattle.std.proofs.Common.{◌≡◌, ℕ, List, Result, Ok, Err, refl}
 use Rattle.std.specs.Result.{IsErrAnd, IsErrOf}
 use Rattle.blocktree.specs.Errors.{IsFault}
 use Rattle.blocktree.specs.declared.error.ReadError.{ReadError}
 use Rattle.blocktree.specs.declared.error.ReadError.TheVariants.{Damaged}
 use Rattle.buffers.specs.declared.blocks.Blocks.{Ghosts}
+use Rattle.layout.specs.declared.inode.Inode.{Inode}
+use Rattle.images.specs.Soundness.{Detail}
 use Rattle.inofile.specs.declared.inode_file.InodeFile.{InodeFile}
 use Rattle.model.specs.Volumes.{Volume}
-use Rattle.paths.specs.Loads.{LooksUp, OnlyLoads}
-use Rattle.paths.specs.Standing.{Looks, NeverDamaged, OnVolumes}
+use Rattle.paths.specs.Loads.{LooksInto, LooksUp, OnlyLoads}
+use Rattle.paths.specs.Standing.{Looks, NeverDamaged, NeverDamagedIn, OnVolumes, StandsIn}
 use Rattle.paths.proofs.Looks.{HasLooked, as_look, has_looked, loads_more, looked_more, looks_err, looks_ok, looks_then, then_failed}
 
 -- an error carried on, whatever would have come in its place
@@ -42,6 +44,37 @@ module _ {B T : Type 0} {G : Ghosts B} {a b : B} {s t : InodeFile} {W : T → Ty
     within = tt;
     found = λ disk settled v stands. tt;
     damaged = λ disk settled v stands bad. sound disk settled v stands (same_error (Err f) e Damaged is bad);
+  }
+
+  -- the same of what no file's bytes tell
+  pub finds_into : {U : Type 0} {u : U} {x : T} → Looks {T = U} {E = ReadError} G IsFault a b s t (Ok u) → OnlyLoads s t → W x
+      → ((detail : Detail) (disk : ℕ → List ℕ) (settled : ℕ → Inode) (v : Volume) → StandsIn detail G disk settled v a s → P v x) → LooksInto G a b s t W P (Ok x)
+  finds_into look loads within found = record {
+    looks = looks_ok look;
+    loads = loads;
+    within = within;
+    found = λ disk settled v stands. found _ disk settled v stands;
+    damaged = λ disk settled v stands bad. cc;
+  }
+
+  pub fails_into : {U : Type 0} {e : ReadError} (q : Result T ReadError) → IsErrAnd q (λ f. f ≡ e) → Looks {T = U} G IsFault a b s t (Err e) → OnlyLoads s t
+      → ((detail : Detail) → NeverDamagedIn {T = U} detail G a s (Err e)) → LooksInto G a b s t W P q
+  fails_into (Ok y) is look loads sound = absurd is
+  fails_into {e = e} (Err f) is look loads sound = record {
+    looks = looks_err (Err f) is look;
+    loads = loads;
+    within = tt;
+    found = λ disk settled v stands. tt;
+    damaged = λ disk settled v stands bad. sound _ disk settled v stands (same_error (Err f) e Damaged is bad);
+  }
+
+  pub looked_into : {r : Result T ReadError} → LooksInto G a b s t W P r → LooksUp G a b s t W P r
+  looked_into up = record {
+    looks = up.looks;
+    loads = up.loads;
+    within = up.within;
+    found = λ disk settled v stands. up.found disk settled v stands;
+    damaged = λ disk settled v stands bad. up.damaged disk settled v stands bad;
   }
 
   -- it is found behind all looks

@@ -6,18 +6,19 @@ use Rattle.model.specs.Volumes.{Volume}
 use Rattle.buffers.specs.Failures.{HasGrown}
 use Rattle.buffers.specs.Reads.{ReadsBlocks, HasOnlyRead}
 use Rattle.buffers.specs.declared.blocks.Blocks.{Ghosts}
+use Rattle.images.specs.Soundness.{Detail}
 use Rattle.inofile.specs.Room.{NeedsNoMore}
-use Rattle.inofile.specs.Volumes.{IsVolumeOf}
+use Rattle.inofile.specs.Volumes.{IsVolumeIn}
 use Rattle.inofile.specs.declared.inode_file.InodeFile.{InodeFile}
 use Rattle.paths.specs.Loads.{OnlyLoads}
-use Rattle.paths.specs.Standing.{Stands, Looks}
+use Rattle.paths.specs.Standing.{Looks, StandsIn}
 
 -- memory stands for a volume over blocks that show the disk as before
-pub stands_over : {B : Type 0} {G : Ghosts B} {disk : ℕ → List ℕ} {settled : ℕ → Inode} {v : Volume} (blocks after : B) (t : InodeFile)
-    → G.count after ≡ G.count blocks → G.Shows after disk → IsVolumeOf (G.count blocks) disk settled t v → Stands G disk settled v after t
-stands_over {disk = disk} {settled = settled} {v = v} blocks after t same shows volume = record {
+pub stands_over : {B : Type 0} {detail : Detail} {G : Ghosts B} {disk : ℕ → List ℕ} {settled : ℕ → Inode} {v : Volume} (blocks after : B) (t : InodeFile)
+    → G.count after ≡ G.count blocks → G.Shows after disk → IsVolumeIn detail (G.count blocks) disk settled t v → StandsIn detail G disk settled v after t
+stands_over {detail = detail} {disk = disk} {settled = settled} {v = v} blocks after t same shows volume = record {
   shows = shows;
-  volume = subst (λ (n : ℕ). IsVolumeOf n disk settled t v) (sym same) volume;
+  volume = subst (λ (n : ℕ). IsVolumeIn detail n disk settled t v) (sym same) volume;
 }
 
 -- nothing was done but looking, and no call failed
@@ -26,7 +27,7 @@ pub record HasLooked {B : Type 0} (G : Ghosts B) (blocks after : B) (s t : Inode
   pub geometry : t.geometry ≡ s.geometry
   pub needs : NeedsNoMore s t
   pub loads : OnlyLoads s t
-  pub kept : (disk : ℕ → List ℕ) (settled : ℕ → Inode) (v : Volume) → Stands G disk settled v blocks s → Stands G disk settled v after t
+  pub kept : {detail : Detail} (disk : ℕ → List ℕ) (settled : ℕ → Inode) (v : Volume) → StandsIn detail G disk settled v blocks s → StandsIn detail G disk settled v after t
 
 pub loads_more : (old s new : InodeFile) → OnlyLoads old s → OnlyLoads s new → OnlyLoads old new
 loads_more old s new first last = record {

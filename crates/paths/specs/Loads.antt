@@ -1,12 +1,15 @@
 -- What looking into an image does to memory.
-use Rattle.std.specs.Prelude.{ℕ, ◌↔◌, Result, IfOk, OnOk}
+use Rattle.std.specs.Prelude.{ℕ, ◌↔◌, List, Result, IfOk, IsErrOf, OnOk}
+use Rattle.layout.specs.declared.inode.Inode.{Inode}
 use Rattle.blocktree.specs.Errors.{IsFault}
 use Rattle.blocktree.specs.declared.error.ReadError.{ReadError}
+use Rattle.blocktree.specs.declared.error.ReadError.TheVariants.{Damaged}
 use Rattle.buffers.specs.declared.blocks.Blocks.{Ghosts}
+use Rattle.images.specs.Soundness.{Detail}
 use Rattle.inofile.specs.Inodes.{IsKnown, HasRoomFor, IsChanged}
 use Rattle.inofile.specs.declared.inode_file.InodeFile.{InodeFile}
 use Rattle.model.specs.Volumes.{Volume}
-use Rattle.paths.specs.Standing.{Looks, NeverDamaged, OnVolumes}
+use Rattle.paths.specs.Standing.{Looks, NeverDamaged, OnVolumes, StandsIn}
 
 -- Objects come into memory. None goes out of it, and none changes.
 pub record OnlyLoads (old new : InodeFile) : Type 0 where
@@ -19,7 +22,8 @@ pub record TakesIn {B T : Type 0} (G : Ghosts B) (blocks after : B) (s t : Inode
   pub looks : Looks G IsFault blocks after s t result
   pub loads : OnlyLoads s t
   pub known : OnOk result (IsKnown t number)
-  pub damaged : NeverDamaged G blocks s result
+  pub damaged : {detail : Detail} (disk : ℕ → List ℕ) (settled : ℕ → Inode) (v : Volume) → StandsIn detail G disk settled v blocks s
+      → IsErrOf result Damaged → ⊥
 
 -- Something is looked up. What is found is in its limits, whatever memory stands for; and it is right of the volume that memory
 -- stands for.
@@ -29,6 +33,16 @@ pub record LooksUp {B T : Type 0} (G : Ghosts B) (blocks after : B) (s t : Inode
   pub within : IfOk result IsWithin
   pub found : OnVolumes G blocks s (λ disk settled v. IfOk result (IsFound v))
   pub damaged : NeverDamaged G blocks s result
+
+-- Something is looked up that no file's bytes tell: so it is right in whatever detail memory stands for the volume.
+pub record LooksInto {B T : Type 0} (G : Ghosts B) (blocks after : B) (s t : InodeFile) (IsWithin : T → Type 0) (IsFound : Volume → T → Type 0) (result : Result T ReadError) : Type 0 where
+  pub looks : Looks G IsFault blocks after s t result
+  pub loads : OnlyLoads s t
+  pub within : IfOk result IsWithin
+  pub found : {detail : Detail} (disk : ℕ → List ℕ) (settled : ℕ → Inode) (v : Volume) → StandsIn detail G disk settled v blocks s
+      → IfOk result (IsFound v)
+  pub damaged : {detail : Detail} (disk : ℕ → List ℕ) (settled : ℕ → Inode) (v : Volume) → StandsIn detail G disk settled v blocks s
+      → IsErrOf result Damaged → ⊥
 
 -- there are no limits
 abbrev pub IsAny : {T : Type 0} → T → Type 0

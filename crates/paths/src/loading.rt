@@ -3,9 +3,10 @@
 ghost use Rattle.std.specs.Prelude.{◌≡◌, ℕ, List, None, IfNone, IfSome};
 ghost use Rattle.layout.specs.declared.inode.Inode.{Inode};
 ghost use Rattle.model.specs.Volumes.{Volume};
+ghost use Rattle.images.specs.Soundness.{Detail};
 ghost use Rattle.inofile.specs.Inodes.{IsKnown};
-ghost use Rattle.inofile.specs.Objects.{IsObject};
-ghost use Rattle.inofile.specs.Volumes.{IsVolumeOf};
+ghost use Rattle.inofile.specs.Objects.{IsObjectIn};
+ghost use Rattle.inofile.specs.Volumes.{IsVolumeIn};
 ghost use Rattle.paths.specs.Loads.{TakesIn};
 ghost use Rattle.paths.specs.Numbers.{IsNumber};
 
@@ -32,11 +33,11 @@ pub fn load<B: Blocks>(
 /// The object with a number, if there is one; what is known of it is in memory.
 pub fn object(inodes: &InodeFile, number: InodeNumber) -> Option<&Object>
     requires { IsKnown inodes.now number }
-    ensures stands { (count : ℕ) (disk : ℕ → List ℕ) (settled : ℕ → Inode) (v : Volume)
-        → IsVolumeOf count disk settled inodes.now v → IfSome result (λ o.
-        IsObject disk inodes.now.geometry.inodes (settled number) o.now (v number)) }
-    ensures stands_for_none { (count : ℕ) (disk : ℕ → List ℕ) (settled : ℕ → Inode) (v : Volume)
-        → IsVolumeOf count disk settled inodes.now v → IfNone result (v number ≡ None) }
+    ensures stands { (detail : Detail) (count : ℕ) (disk : ℕ → List ℕ) (settled : ℕ → Inode)
+        (v : Volume) → IsVolumeIn detail count disk settled inodes.now v → IfSome result (λ o.
+        IsObjectIn detail disk inodes.now.geometry.inodes (settled number) o.now (v number)) }
+    ensures stands_for_none { (detail : Detail) (count : ℕ) (disk : ℕ → List ℕ)
+        (settled : ℕ → Inode) (v : Volume) → IsVolumeIn detail count disk settled inodes.now v → IfNone result (v number ≡ None) }
 {
     inodes.get(number.get())
 }

@@ -7,7 +7,7 @@ ghost use Rattle.blocktree.specs.Trees.{IsSoundAt};
 ghost use Rattle.dirs.specs.Listings.{IsListingOfNames};
 ghost use Rattle.inode.specs.Files.{bytes_of_file};
 ghost use Rattle.model.specs.Volumes.{entries};
-ghost use Rattle.paths.specs.Loads.{IsAny, LooksUp};
+ghost use Rattle.paths.specs.Loads.{IsAny, LooksInto, LooksUp};
 ghost use Rattle.paths.specs.Numbers.{IsNumber};
 ghost use Rattle.paths.specs.Steps.{found_as, found_in, text_in};
 
@@ -37,7 +37,7 @@ pub fn object_at<B: Blocks>(
     number: InodeNumber,
 ) -> Result<Found, ReadError>
     requires { IsNumber inodes.old.geometry.inodes number }
-    ensures { LooksUp B.Blocks blocks.old blocks.new inodes.old inodes.new IsAny
+    ensures { LooksInto B.Blocks blocks.old blocks.new inodes.old inodes.new IsAny
         (λ v found. found ≡ found_in (v number)) result }
 {
     load(alloc, inodes, blocks, number)?;
@@ -68,7 +68,7 @@ pub fn number_at<B: Blocks>(
     name: &[u8],
 ) -> Result<Option<InodeNumber>, ReadError>
     requires { IsNumber inodes.old.geometry.inodes directory }
-    ensures { LooksUp B.Blocks blocks.old blocks.new inodes.old inodes.new
+    ensures { LooksInto B.Blocks blocks.old blocks.new inodes.old inodes.new
         (λ number. IfSome number (IsNumber inodes.old.geometry.inodes))
         (λ v number. number ≡ entries v directory name.now) result }
 {
@@ -103,7 +103,7 @@ pub fn list<B: Blocks>(
     directory: InodeNumber,
 ) -> Result<Names, ReadError>
     requires { IsNumber inodes.old.geometry.inodes directory }
-    ensures { LooksUp B.Blocks blocks.old blocks.new inodes.old inodes.new IsAny
+    ensures { LooksInto B.Blocks blocks.old blocks.new inodes.old inodes.new IsAny
         (λ v names. IsListingOfNames (entries v directory) names) result }
 {
     load(alloc, inodes, blocks, directory)?;

@@ -8,14 +8,6 @@ pub use Rattle.inode.specs.Room.{more_over}
 use Rattle.inode.specs.declared.file.File.{File}
 use Rattle.conspoint.specs.Space.{changed_blocks}
 
--- all nodes of a file at a level that has so many blocks, height by height: one that its inode has room for has none
-abbrev pub level_nodes : ℕ → ℕ → ℕ
-level_nodes level blocks = sum_below (nodes_at blocks) level
-
--- all blocks that a file of so many bytes may take: its own, and the indirect blocks over them
-abbrev pub file_nodes : ℕ → ℕ
-file_nodes size = level_nodes (level_of size) (block_count size)
-
 -- What a consistency point stores of a file's nodes at a height, where so many of its blocks are changed: these, over them at the most one
 -- indirect block for each, and so many more, and higher up all that there are.
 unfoldable pub height_stores : ℕ → ℕ → ℕ → ℕ → ℕ

@@ -12,8 +12,10 @@ use Rattle.model.specs.Records.{Applies, applied, with_file_bytes, work_of}
 use Rattle.model.specs.Room.{cost}
 use Rattle.model.specs.Volumes.{Node, Volume, file_node, is_file_node, with_node}
 use Rattle.model.specs.declared.errno.Errno.TheVariants.{EFBIG}
+use Rattle.images.specs.Replaying.{LeavesPlace}
 use Rattle.images.specs.Contents as images
 use Rattle.images.specs.Contents.{Content, StandsAs}
+use Rattle.images.specs.Soundness.{Detail, by_bytes, by_sizes}
 use Rattle.inode.specs.Changes.{changed_block}
 use Rattle.inode.specs.Edges.{filled, written_list}
 use Rattle.inode.specs.Files.{IsCommitted, IsFile, IsSameFile, block_with, byte_with, bytes_of_file, bytes_with, file_block}
@@ -22,16 +24,16 @@ use Rattle.inode.specs.declared.change.Change.{Change}
 use Rattle.inode.specs.declared.file.File.{File}
 use Rattle.inode.specs.declared.object.Object.{Object}
 use Rattle.inofile.specs.Inodes.{IsKnown}
-use Rattle.inofile.specs.Objects.{IsObject}
+use Rattle.inofile.specs.Objects.{EndsIn, IsObjectIn, IsSizedAs, StandsAsIn, StandsForIn}
 use Rattle.inofile.specs.Settled.{content_of_object}
 use Rattle.inofile.specs.declared.inode_file.InodeFile.{InodeFile}
-use Rattle.records.specs.Contents.{KeepsRewriteBounds, RewriteRoom, Rewrites, bytes_after, rewriting}
+use Rattle.records.specs.Contents.{KeepsRewriteBounds, Resizes, RewriteRoom, Rewrites, RewritesFile, bytes_after, rewriting}
 use Rattle.records.specs.Obstacles.{IsObstacle, tells_obstacle}
 use Rattle.records.specs.Prepared.{KnowsFile}
 use Rattle.records.specs.Room.{StoresIn}
 use Rattle.records.specs.declared.contents.Rewrite.{Rewrite}
 use Rattle.records.specs.declared.contents.Rewrite.TheVariants.{Write, Cut}
-use Rattle.records.proofs.KindLaws.{held_file, file_kind}
+use Rattle.records.proofs.KindLaws.{file_stands, held_file, is_kind}
 
 -- ---- lists of bytes
 
@@ -77,26 +79,48 @@ module _ (inodes size : ℕ) (block : ℕ → List ℕ) (f : List ℕ → List �
   abbrev after : Content
   after = record { kind = c.kind; mode = c.mode; links = c.links; size = size; block = block }
 
-  fits_after : (k : Kind) (s : Sizes) → StandsAs k inodes c found → FitsKind k s c.mode c.links c.size → FitsKind k s c.mode c.links size
-  fits_after k s stands fits =
-      let kind = file_kind k inodes c found stands is in
+  fits_after : (detail : Detail) (k : Kind) (s : Sizes) → StandsAsIn detail k inodes c found → FitsKind k s c.mode c.links c.size → FitsKind k s c.mode c.links size
+  fits_after detail k s stands fits =
+      let kind = is_kind detail k inodes c found stands is in
       subst (λ (x : Kind). FitsKind x s c.mode c.links size) (sym kind) (subst (λ (x : Kind). FitsKind x s c.mode c.links c.size) kind fits)
 
   stands_after : images.content_bytes after ≡ f (images.content_bytes c) → (k : Kind) → StandsAs k inodes c found → StandsAs k inodes after (with_file_bytes f found)
   stands_after same k stands =
-      subst (λ (x : Kind). StandsAs x inodes after (with_file_bytes f found)) (sym (file_kind k inodes c found stands is))
-      (ap (with_file_bytes f) (held_file k inodes c found stands is) ∙ ap (λ (b : List ℕ). Some (file_node c.mode c.links b)) (sym same))
+      let kind = is_kind by_bytes k inodes c found stands is in
+      subst (λ (x : Kind). StandsAs x inodes after (with_file_bytes f found)) (sym kind)
+      (ap (with_file_bytes f) (file_stands k inodes c found stands kind) ∙ ap (λ (b : List ℕ). Some (file_node c.mode c.links b)) (sym same))
+
+  sized_after : ((bytes : List ℕ) → length bytes ≡ c.size → length (f bytes) ≡ size) → (k : Kind) → IsSizedAs k inodes c found → IsSizedAs k inodes after (with_file_bytes f found)
+  sized_after sizes k stands =
+      let held = held_file by_sizes k inodes c found stands is in
+      subst (λ (x : Kind). IsSizedAs x inodes after (with_file_bytes f found)) (sym (is_kind by_sizes k inodes c found stands is))
+      (f held.0, sizes held.0 held.1, ap (with_file_bytes f) held.2)
 
 -- a file in memory with other bytes
-pub bytes_put : (disk : ℕ → List ℕ) (inodes : ℕ) (settled : Inode) (o : Object) (found : Option Node) (f : List ℕ → List ℕ) (change : Change) (new : File)
-    → IsObject disk inodes settled o found → IsTrue (is_file_node found) → Rewrites disk f o.file change → IsCommitted o.file change new
-    → IsObject disk inodes settled (record { attributes = o.attributes; file = new }) (with_file_bytes f found)
-bytes_put disk inodes settled o found f change new was is rewrites done = record {
+module _ (disk : ℕ → List ℕ) (inodes : ℕ) (o : Object) (found : Option Node) (f : List ℕ → List ℕ) (change : Change) (new : File) (is : IsTrue (is_file_node found)) (done : IsCommitted o.file change new) where
+  abbrev rewritten : Object
+  rewritten = record { attributes = o.attributes; file = new }
+
+  stands_in : (detail : Detail) → RewritesFile detail disk f o.file change → StandsForIn detail inodes (content_of_object disk o) found
+      → StandsForIn detail inodes (content_of_object disk rewritten) (with_file_bytes f found)
+  stands_in by_bytes rewrites was =
+      stands_after inodes new.size (file_block disk new) f (content_of_object disk o) found is (bytes_are disk o.file new change done ∙ rewrites.bytes) o.attributes.kind was
+  stands_in by_sizes rewrites was =
+      sized_after inodes new.size (file_block disk new) f (content_of_object disk o) found is (λ bytes long. rewrites bytes long ∙ sym done.size) o.attributes.kind was
+
+  ends_in : (detail : Detail) → RewritesFile detail disk f o.file change → EndsIn detail disk new
+  ends_in by_bytes rewrites = ends_there disk o.file new change done rewrites.ends
+  ends_in by_sizes rewrites = tt
+
+pub bytes_put : (detail : Detail) (disk : ℕ → List ℕ) (inodes : ℕ) (settled : Inode) (o : Object) (found : Option Node) (f : List ℕ → List ℕ) (change : Change) (new : File)
+    → IsObjectIn detail disk inodes settled o found → IsTrue (is_file_node found) → RewritesFile detail disk f o.file change → IsCommitted o.file change new
+    → IsObjectIn detail disk inodes settled (record { attributes = o.attributes; file = new }) (with_file_bytes f found)
+bytes_put detail disk inodes settled o found f change new was is rewrites done = record {
   kind = was.kind;
   mode = was.mode;
-  fits = λ s. fits_after inodes new.size (file_block disk new) f (content_of_object disk o) found is o.attributes.kind s was.stands (was.fits s);
-  stands = stands_after inodes new.size (file_block disk new) f (content_of_object disk o) found is (bytes_are disk o.file new change done ∙ rewrites.bytes) o.attributes.kind was.stands;
-  ends = ends_there disk o.file new change done rewrites.ends;
+  fits = λ s. fits_after inodes new.size (file_block disk new) f (content_of_object disk o) found is detail o.attributes.kind s was.stands (was.fits s);
+  stands = stands_in disk inodes o found f change new is done detail rewrites was.stands;
+  ends = ends_in disk inodes o found f change new is done detail rewrites;
   base = done.base settled was.base;
 }
 
@@ -109,6 +133,10 @@ file_changed inodes v n (Cut size) can = can.0
 pub rewriting_applies : (inodes : ℕ) (v : Volume) (n : ℕ) (rewrite : Rewrite) → IsTrue (is_file_node (v n)) → KeepsRewriteBounds rewrite → Applies inodes v (rewriting n rewrite)
 rewriting_applies inodes v n (Write offset bytes) is keeps = (is, keeps.0, keeps.1, keeps.2)
 rewriting_applies inodes v n (Cut size) is keeps = (is, keeps)
+
+pub rewriting_place : (v : Volume) (n : ℕ) (rewrite : Rewrite) → LeavesPlace v (rewriting n rewrite)
+rewriting_place v n (Write offset bytes) = tt
+rewriting_place v n (Cut size) = tt
 
 pub rewriting_applied : (n : ℕ) (rewrite : Rewrite) (v : Volume) → applied (rewriting n rewrite) v ≡ with_node n (with_file_bytes (bytes_after rewrite) (v n)) v
 rewriting_applied n (Write offset bytes) v = refl

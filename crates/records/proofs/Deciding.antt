@@ -4,19 +4,21 @@ use Rattle.std.specs.Result.{IsErrAnd}
 use Rattle.layout.specs.Limits.{Sizes}
 use Rattle.layout.specs.declared.inode.Inode.{Inode}
 use Rattle.model.specs.Records.{Applies, Change}
-use Rattle.model.specs.Volumes.{Volume, IsVolume}
+use Rattle.model.specs.Volumes.{Volume}
 use Rattle.model.specs.declared.errno.Errno.{Errno}
 use Rattle.blocktree.specs.Errors.{IsFault}
 use Rattle.blocktree.specs.declared.error.ReadError.{ReadError}
 use Rattle.buffers.specs.declared.blocks.Blocks.{Ghosts}
+use Rattle.images.specs.Replaying.{LeavesPlace}
+use Rattle.images.specs.Soundness.{Detail}
 use Rattle.inofile.specs.declared.inode_file.InodeFile.{InodeFile}
 use Rattle.paths.specs.Standing.{Looks}
 use Rattle.paths.proofs.Looks.{looks_err, looks_more, looks_ok}
 use Rattle.records.specs.Failures.{told}
 use Rattle.records.specs.Obstacles.{IsObstacle, tells_obstacle}
-use Rattle.records.specs.Prepared.{Does, IsReady}
-use Rattle.records.specs.Preparing.{DecidesOn, Premise}
-use Rattle.records.specs.Shown.{NeverDamaged}
+use Rattle.records.specs.Prepared.{DoesIn, IsReady}
+use Rattle.records.specs.Preparing.{DecidesOn, IsVolumeFor, Premise}
+use Rattle.records.specs.Shown.{NeverDamagedIn}
 use Rattle.records.specs.declared.failure.Failure.{Failure}
 use Rattle.records.specs.declared.failure.Failure.TheVariants.{Read, Refused}
 use Rattle.records.specs.declared.prepared.Prepared.{Prepared}
@@ -26,9 +28,9 @@ module _ {B : Type 0} {Over Sure : Premise} {G : Ghosts B} {a b : B} {s t : Inod
   -- a step before has told what it failed by
   pub passes : {T : Type 0} (f : Failure) (q : Result Prepared Failure) → IsErrAnd q (λ g. g ≡ f) → Looks G IsFault a b s t (told {T = T} (Err f))
       → IfOk (told {T = T} (Err f)) (λ r. IfErr r (λ errno. IsTrue (tells_obstacle change errno)))
-      → ((disk : ℕ → List ℕ) (settled : ℕ → Inode) (v : Volume) → Sure disk settled v → IsVolume s.geometry.inodes v
+      → ((detail : Detail) (disk : ℕ → List ℕ) (settled : ℕ → Inode) (v : Volume) → Sure detail disk settled v → IsVolumeFor detail s.geometry.inodes change v
       → IfOk (told {T = T} (Err f)) (λ r. IfErr r (IsObstacle s.geometry.inodes v change)))
-      → NeverDamaged G a s (told {T = T} (Err f)) → DecidesOn Over Sure G a b s t change q
+      → ((detail : Detail) → NeverDamagedIn detail G a s (told {T = T} (Err f))) → DecidesOn Over Sure G a b s t change q
   passes f (Ok p) is looks own first sound = absurd is
   passes f (Err g) is looks own first sound = record {
     looks = looks_failed f (Err g) is looks;
@@ -36,19 +38,20 @@ module _ {B : Type 0} {Over Sure : Premise} {G : Ghosts B} {a b : B} {s t : Inod
     ready = tt;
     does = λ disk settled v over. tt;
     applies = λ disk settled v sure. tt;
-    refused = λ disk settled v sure volume. refused_by (λ r. IfErr r (IsObstacle s.geometry.inodes v change)) _ f (Err g) is (λ errno first. first) (first disk settled v sure volume);
-    damaged = damaged_failed f (Err g) is sound;
+    place = λ disk settled v sure. tt;
+    refused = λ {detail} disk settled v sure volume. refused_by (λ r. IfErr r (IsObstacle s.geometry.inodes v change)) _ f (Err g) is (λ errno first. first) (first detail disk settled v sure volume);
+    damaged = λ {detail} disk settled v stands bad. damaged_failed f (Err g) is (sound detail) disk settled v stands bad;
   }
 
   -- a block wasn't read
-  pub stops : {T : Type 0} {e : ReadError} (q : Result Prepared Failure) → IsErrAnd q (λ f. f ≡ Read e) → Looks {T = T} G IsFault a b s t (Err e) → NeverDamaged {T = T} G a s (Err e)
+  pub stops : {T : Type 0} {e : ReadError} (q : Result Prepared Failure) → IsErrAnd q (λ f. f ≡ Read e) → Looks {T = T} G IsFault a b s t (Err e) → ((detail : Detail) → NeverDamagedIn {T = T} detail G a s (Err e))
       → DecidesOn Over Sure G a b s t change q
   stops {T = T} {e = e} q is looks sound =
-      passes {T = T} (Read e) q is (looks_err (Err e) refl looks) tt (λ disk settled v sure volume. tt) (λ disk settled v stands bad. sound disk settled v stands (cc))
+      passes {T = T} (Read e) q is (looks_err (Err e) refl looks) tt (λ detail disk settled v sure volume. tt) (λ detail disk settled v stands bad. sound detail disk settled v stands (cc))
 
   -- this is the first obstacle
   pub obstructs : {T : Type 0} {x : T} {errno : Errno} → Looks {T = T} {E = ReadError} G IsFault a b s t (Ok x) → IsTrue (tells_obstacle change errno)
-      → ((disk : ℕ → List ℕ) (settled : ℕ → Inode) (v : Volume) → Sure disk settled v → IsVolume s.geometry.inodes v → IsObstacle s.geometry.inodes v change errno)
+      → ((detail : Detail) (disk : ℕ → List ℕ) (settled : ℕ → Inode) (v : Volume) → Sure detail disk settled v → IsVolumeFor detail s.geometry.inodes change v → IsObstacle s.geometry.inodes v change errno)
       → DecidesOn Over Sure G a b s t change (Err (Refused errno))
   obstructs looks own first = record {
     looks = looks_ok looks;
@@ -56,21 +59,24 @@ module _ {B : Type 0} {Over Sure : Premise} {G : Ghosts B} {a b : B} {s t : Inod
     ready = tt;
     does = λ disk settled v over. tt;
     applies = λ disk settled v sure. tt;
-    refused = first;
+    place = λ disk settled v sure. tt;
+    refused = λ {detail} disk settled v sure volume. first detail disk settled v sure volume;
     damaged = λ disk settled v stands is. cc;
   }
 
   -- it is prepared
   pub decides : {T : Type 0} {x : T} {p : Prepared} → Looks {T = T} {E = ReadError} G IsFault a b s t (Ok x) → IsReady t p
-      → ((disk : ℕ → List ℕ) (settled : ℕ → Inode) (v : Volume) → Over disk settled v → Does disk settled t v p change)
-      → ((disk : ℕ → List ℕ) (settled : ℕ → Inode) (v : Volume) → Sure disk settled v → Applies s.geometry.inodes v change)
+      → ((detail : Detail) (disk : ℕ → List ℕ) (settled : ℕ → Inode) (v : Volume) → Over detail disk settled v → DoesIn detail disk settled t v p change)
+      → ((detail : Detail) (disk : ℕ → List ℕ) (settled : ℕ → Inode) (v : Volume) → Sure detail disk settled v → Applies s.geometry.inodes v change)
+      → ((detail : Detail) (disk : ℕ → List ℕ) (settled : ℕ → Inode) (v : Volume) → Sure detail disk settled v → LeavesPlace v change)
       → DecidesOn Over Sure G a b s t change (Ok p)
-  decides looks ready does applies = record {
+  decides looks ready does applies place = record {
     looks = looks_ok looks;
     own = tt;
     ready = ready;
-    does = does;
-    applies = applies;
+    does = λ {detail} disk settled v over. does detail disk settled v over;
+    applies = λ {detail} disk settled v sure. applies detail disk settled v sure;
+    place = λ {detail} disk settled v sure. place detail disk settled v sure;
     refused = λ disk settled v sure volume. tt;
     damaged = λ disk settled v stands is. cc;
   }
@@ -78,16 +84,17 @@ module _ {B : Type 0} {Over Sure : Premise} {G : Ghosts B} {a b : B} {s t : Inod
 -- another function goes on behind a look
 pub follows : {B T : Type 0} {Over Sure Then Surely : Premise} {G : Ghosts B} {a b c : B} {s t u : InodeFile} {change : Change} {x : T} {r : Result Prepared Failure}
     → Looks {T = T} {E = ReadError} G IsFault a b s t (Ok x) → DecidesOn Then Surely G b c t u change r
-    → ((disk : ℕ → List ℕ) (settled : ℕ → Inode) (v : Volume) → Over disk settled v → Then disk settled v)
-    → ((disk : ℕ → List ℕ) (settled : ℕ → Inode) (v : Volume) → Sure disk settled v → Surely disk settled v) → DecidesOn Over Sure G a c s u change r
+    → ((detail : Detail) (disk : ℕ → List ℕ) (settled : ℕ → Inode) (v : Volume) → Over detail disk settled v → Then detail disk settled v)
+    → ((detail : Detail) (disk : ℕ → List ℕ) (settled : ℕ → Inode) (v : Volume) → Sure detail disk settled v → Surely detail disk settled v) → DecidesOn Over Sure G a c s u change r
 follows {s = s} {change = change} {r = r} looks last then surely = record {
   looks = looks_more looks last.looks;
   own = last.own;
   ready = last.ready;
-  does = λ disk settled v over. last.does disk settled v (then disk settled v over);
-  applies = λ disk settled v sure. subst (λ (z : Sizes). IfOk r (λ _. Applies z.inodes v change)) looks.geometry (last.applies disk settled v (surely disk settled v sure));
-  refused = λ disk settled v sure volume.
+  does = λ {detail} disk settled v over. last.does {detail = detail} disk settled v (then detail disk settled v over);
+  applies = λ {detail} disk settled v sure. subst (λ (z : Sizes). IfOk r (λ _. Applies z.inodes v change)) looks.geometry (last.applies {detail = detail} disk settled v (surely detail disk settled v sure));
+  place = λ {detail} disk settled v sure. last.place {detail = detail} disk settled v (surely detail disk settled v sure);
+  refused = λ {detail} disk settled v sure volume.
       subst (λ (z : Sizes). IfOk (told r) (λ q. IfErr q (IsObstacle z.inodes v change))) looks.geometry
-      (last.refused disk settled v (surely disk settled v sure) (subst (λ (z : Sizes). IsVolume z.inodes v) (sym looks.geometry) volume));
+      (last.refused {detail = detail} disk settled v (surely detail disk settled v sure) (subst (λ (z : Sizes). IsVolumeFor detail z.inodes change v) (sym looks.geometry) volume));
   damaged = λ disk settled v stands is. last.damaged disk settled v (looks.kept disk settled v stands) is;
 }

@@ -12,9 +12,10 @@ use Rattle.model.specs.Paths.{Name, IsName}
 use Rattle.model.specs.Records.{TakesName, is_vacant}
 use Rattle.model.specs.Volumes.{Node, directory_node, file_node, link_node, Volume, names_in, is_directory_node, with_node, set_name, with_entry}
 use Rattle.model.proofs.CountLemmas.{counts_once}
-use Rattle.images.specs.Contents.{Content, StandsAs, IsDirectoryOf}
+use Rattle.images.specs.Contents.{Content, IsDirectoryOf}
 use Rattle.inode.specs.declared.object.Object.{Object}
-use Rattle.inofile.specs.Objects.{IsObject, IsObjectKind, IsObjectOrNone, IsSameOrNone}
+use Rattle.inofile.specs.Objects.{IsObjectIn, IsObjectKind, IsObjectOrNone, IsSameOrNone, IsSizedAs}
+use Rattle.images.specs.Soundness.{Detail}
 use Rattle.inofile.specs.Settled.{content_of_object}
 use Rattle.layout.specs.declared.entry.Entry.{Entry}
 use Rattle.blocktree.specs.declared.error.ReadError.{ReadError}
@@ -28,7 +29,8 @@ use Rattle.records.specs.Naming.{EditsNames}
 use Rattle.inode.proofs.BaseLaws.{same_itself}
 use Rattle.model.proofs.ObjectLaws.{node_here, node_other}
 use Rattle.model.proofs.ListingLemmas.{names_apart}
-use Rattle.images.proofs.KindLaws.{directory_kind}
+use Rattle.inofile.proofs.DetailLaws.{by_size}
+use Rattle.records.proofs.KindLaws.{directory_kind}
 
 -- ---- a directory of a volume and one in memory
 
@@ -106,33 +108,33 @@ some_directory : (o : Option Node) (node : Node) → o ≡ Some node → is_dire
 some_directory o node some not is = both_ways (is_directory_node (Some node)) not (subst (λ (x : Option Node). IsTrue (is_directory_node x)) some is)
 
 -- a directory in memory, with its names
-pub directory_stands : (k : Kind) (inodes : ℕ) (c : Content) (o : Option Node) → k ≡ kinds.Directory → StandsAs k inodes c o
+pub directory_stands : (k : Kind) (inodes : ℕ) (c : Content) (o : Option Node) → k ≡ kinds.Directory → IsSizedAs k inodes c o
     → (names : NameMap) × IsDirectoryOf inodes c names × (o ≡ Some (directory_node c.mode names))
-directory_stands k inodes c o is stands = subst (λ (x : Kind). StandsAs x inodes c o) is stands
+directory_stands k inodes c o is stands = subst (λ (x : Kind). IsSizedAs x inodes c o) is stands
 
-pub not_directory : (k : Kind) (inodes : ℕ) (c : Content) (o : Option Node) → StandsAs k inodes c o → (k ≡ kinds.Directory → ⊥) → false ≡ is_directory_node o
+pub not_directory : (k : Kind) (inodes : ℕ) (c : Content) (o : Option Node) → IsSizedAs k inodes c o → (k ≡ kinds.Directory → ⊥) → false ≡ is_directory_node o
 not_directory k inodes c o stands other =
     elim (cases_Bool (is_directory_node o)) [ inl is ↦ absurd (other (directory_kind k inodes c o stands is)) | inr isnt ↦ sym isnt ]
 
 -- what stands for a directory is one in memory
-pub is_directory_object : (disk : ℕ → List ℕ) (inodes : ℕ) (settled : Inode) (x : Option Object) (found : Option Node) → IsObjectOrNone disk inodes settled x found
+pub is_directory_object : (detail : Detail) (disk : ℕ → List ℕ) (inodes : ℕ) (settled : Inode) (x : Option Object) (found : Option Node) → IsObjectOrNone detail disk inodes settled x found
     → IsTrue (is_directory_node found) → IsDirectoryObject x
-is_directory_object disk inodes settled (Some o) found stands is = directory_kind o.attributes.kind inodes (content_of_object disk o) found stands.stands is
-is_directory_object disk inodes settled None found stands is = absurd (none_directory found stands is)
+is_directory_object detail disk inodes settled (Some o) found stands is = directory_kind o.attributes.kind inodes (content_of_object disk o) found (by_size detail o.attributes.kind inodes (content_of_object disk o) found stands.stands) is
+is_directory_object detail disk inodes settled None found stands is = absurd (none_directory found stands is)
 
 nameless_file : (mode links : ℕ) (bytes : List ℕ) → (links == 0) ≡ is_vacant (Some (file_node mode links bytes))
 nameless_file mode zero bytes = refl
 nameless_file mode (suc links) bytes = grind (arith, nat_tests)
 
 -- a file without links is vacant, and nothing else that stands there is
-pub file_vacancy : (inodes : ℕ) (c : Content) (o : Option Node) → StandsAs kinds.File inodes c o → (c.links == 0) ≡ is_vacant o
-file_vacancy inodes c o stands = nameless_file c.mode c.links _ ∙ ap is_vacant (sym stands)
+pub file_vacancy : (inodes : ℕ) (c : Content) (o : Option Node) → IsSizedAs kinds.File inodes c o → (c.links == 0) ≡ is_vacant o
+file_vacancy inodes c o stands = nameless_file c.mode c.links _ ∙ ap is_vacant (sym stands.2)
 
-pub other_vacancy : (k : Kind) (inodes : ℕ) (c : Content) (o : Option Node) → (k ≡ kinds.File → ⊥) → IsObjectKind k → StandsAs k inodes c o → false ≡ is_vacant o
+pub other_vacancy : (k : Kind) (inodes : ℕ) (c : Content) (o : Option Node) → (k ≡ kinds.File → ⊥) → IsObjectKind k → IsSizedAs k inodes c o → false ≡ is_vacant o
 other_vacancy kinds.Free inodes c o other kind stands = absurd kind
 other_vacancy kinds.File inodes c o other kind stands = absurd (other refl)
 other_vacancy kinds.Directory inodes c o other kind stands = ap is_vacant (sym stands.2)
-other_vacancy kinds.Link inodes c o other kind stands = ap is_vacant (sym stands)
+other_vacancy kinds.Link inodes c o other kind stands = ap is_vacant (sym stands.2)
 other_vacancy kinds.InodeFile inodes c o other kind stands = absurd kind
 other_vacancy kinds.InodeMap inodes c o other kind stands = absurd kind
 other_vacancy kinds.BlockMap inodes c o other kind stands = absurd kind
@@ -159,10 +161,10 @@ same_object (Some o) = record { attributes = refl; file = same_itself o.file }
 same_object None = tt
 
 -- an object that was taken out, or none
-pub object_or_none : (disk : ℕ → List ℕ) (inodes : ℕ) (settled : Inode) (o : Option Object) (found : Option Node)
-    → IfSome o (λ x. IsObject disk inodes settled x found) → IfNone o (found ≡ None) → IsObjectOrNone disk inodes settled o found
-object_or_none disk inodes settled (Some x) found stands none = stands
-object_or_none disk inodes settled None found stands none = none
+pub object_or_none : (detail : Detail) (disk : ℕ → List ℕ) (inodes : ℕ) (settled : Inode) (o : Option Object) (found : Option Node)
+    → IfSome o (λ x. IsObjectIn detail disk inodes settled x found) → IfNone o (found ≡ None) → IsObjectOrNone detail disk inodes settled o found
+object_or_none detail disk inodes settled (Some x) found stands none = stands
+object_or_none detail disk inodes settled None found stands none = none
 
 -- ---- the volume
 

@@ -5,11 +5,12 @@ use Rattle.model.specs.declared.errno.Errno.{Errno}
 use Rattle.blocktree.specs.Errors.{IsFault}
 use Rattle.blocktree.specs.declared.error.ReadError.{ReadError}
 use Rattle.buffers.specs.declared.blocks.Blocks.{Ghosts}
+use Rattle.images.specs.Soundness.{Detail}
 use Rattle.inofile.specs.declared.inode_file.InodeFile.{InodeFile}
 use Rattle.paths.specs.Standing.{Looks}
 use Rattle.paths.proofs.Looks.{looks_err, looks_ok}
 use Rattle.records.specs.Failures.{told}
-use Rattle.records.specs.Shown.{NeverDamaged}
+use Rattle.records.specs.Shown.{NeverDamagedIn}
 use Rattle.records.specs.declared.failure.Failure.{Failure}
 use Rattle.records.specs.declared.failure.Failure.TheVariants.{Read, Refused}
 
@@ -30,8 +31,8 @@ pub looks_read : {B T U : Type 0} {G : Ghosts B} {a b : B} {s t : InodeFile} {e 
     → Looks {T = T} G IsFault a b s t (Err e) → Looks G IsFault a b s t (told q)
 looks_read {e = e} q is look = looks_err (told q) (read_failed e q is) look
 
-pub damaged_read : {B T U : Type 0} {G : Ghosts B} {a : B} {s : InodeFile} {e : ReadError} (q : Result U Failure) → IsErrAnd q (λ f. f ≡ Read e)
-    → NeverDamaged {T = T} G a s (Err e) → NeverDamaged G a s (told q)
+pub damaged_read : {B T U : Type 0} {detail : Detail} {G : Ghosts B} {a : B} {s : InodeFile} {e : ReadError} (q : Result U Failure) → IsErrAnd q (λ f. f ≡ Read e)
+    → NeverDamagedIn {T = T} detail G a s (Err e) → NeverDamagedIn detail G a s (told q)
 damaged_read (Ok x) is sound = absurd is
 damaged_read (Err (Refused errno)) is sound = absurd (cc)
 damaged_read (Err (Read f)) is sound = λ disk settled v stands bad. sound disk settled v stands (cc)
@@ -59,9 +60,9 @@ looks_failed {U = U} {G = G} {a = a} {b = b} {s = s} {t = t} (Refused errno) (Er
     subst (λ (h : Failure). Looks {T = Result U Errno} G IsFault a b s t (told (Err h))) (sym is) (looks_ok look)
 looks_failed (Read e) (Err g) is look = looks_read (Err g) is look
 
-pub damaged_failed : {B T U : Type 0} {G : Ghosts B} {a : B} {s : InodeFile} (f : Failure) (q : Result U Failure) → IsErrAnd q (λ g. g ≡ f) → NeverDamaged G a s (told {T = T} (Err f))
-    → NeverDamaged G a s (told q)
+pub damaged_failed : {B T U : Type 0} {detail : Detail} {G : Ghosts B} {a : B} {s : InodeFile} (f : Failure) (q : Result U Failure) → IsErrAnd q (λ g. g ≡ f) → NeverDamagedIn detail G a s (told {T = T} (Err f))
+    → NeverDamagedIn detail G a s (told q)
 damaged_failed f (Ok x) is sound = absurd is
-damaged_failed {U = U} {G = G} {a = a} {s = s} (Refused errno) (Err g) is sound =
-    subst (λ (h : Failure). NeverDamaged {T = Result U Errno} G a s (told (Err h))) (sym is) (λ disk settled v stands bad. cc)
+damaged_failed {U = U} {detail = detail} {G = G} {a = a} {s = s} (Refused errno) (Err g) is sound =
+    subst (λ (h : Failure). NeverDamagedIn {T = Result U Errno} detail G a s (told (Err h))) (sym is) (λ disk settled v stands bad. cc)
 damaged_failed (Read e) (Err g) is sound = damaged_read (Err g) is sound

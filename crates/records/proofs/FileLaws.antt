@@ -7,8 +7,8 @@ use Rattle.layout.specs.declared.kind.Kind.{Kind}
 use Rattle.layout.specs.declared.kind.Kind.TheVariants as kinds
 use Rattle.model.specs.Paths.{Name, IsName}
 use Rattle.model.specs.Records.{IsEmpty}
-use Rattle.model.specs.Volumes.{Node, Volume, directory_node, file_node, link_node, entries, names_in, is_directory_node, is_file_node, with_entry, with_name_less, with_name_more, with_node, IsVolume}
-use Rattle.images.specs.Contents.{Content, StandsAs}
+use Rattle.model.specs.Volumes.{Node, Volume, directory_node, file_node, link_node, entries, names_in, is_directory_node, is_file_node, with_entry, with_name_less, with_name_more, with_node}
+use Rattle.images.specs.Contents.{Content}
 use Rattle.layout.specs.DirectoryNames.{NameMap}
 use Rattle.dirs.specs.Directory.{with_name}
 use Rattle.dirs.specs.Listings.{IsListingOfNames}
@@ -17,6 +17,10 @@ use Rattle.layout.specs.Bytes.{zeros}
 use Rattle.inode.specs.declared.object.Object.{Object}
 use Rattle.inofile.specs.Inodes.{loaded}
 use Rattle.inofile.specs.declared.inode_file.InodeFile.{InodeFile}
+use Rattle.images.specs.Soundness.{Detail}
+use Rattle.inofile.specs.Objects.{IsSizedAs}
+use Rattle.records.specs.Preparing.{IsKnownVolume}
+use Rattle.records.proofs.DetailLaws.{graph_of, numbers_of}
 use Rattle.records.specs.Entering.{with_node_names}
 use Rattle.records.specs.Moving.{IsSomeAlone}
 use Rattle.records.specs.Prepared.{IsApartFrom}
@@ -28,11 +32,11 @@ use Rattle.records.proofs.EnterLaws.{names_set, put_volume}
 use Rattle.model.proofs.OptionLaws.{none_some}
 
 -- what isn't a file is gone with its name
-pub gone_with_name : (k : Kind) (inodes : ℕ) (c : Content) (o : Option Node) → StandsAs k inodes c o → (k ≡ kinds.File → ⊥) → with_name_less o ≡ None
+pub gone_with_name : (k : Kind) (inodes : ℕ) (c : Content) (o : Option Node) → IsSizedAs k inodes c o → (k ≡ kinds.File → ⊥) → with_name_less o ≡ None
 gone_with_name kinds.Free inodes c o stands other = ap with_name_less stands
 gone_with_name kinds.File inodes c o stands other = absurd (other refl)
 gone_with_name kinds.Directory inodes c o stands other = ap with_name_less stands.2
-gone_with_name kinds.Link inodes c o stands other = ap with_name_less stands
+gone_with_name kinds.Link inodes c o stands other = ap with_name_less stands.2
 gone_with_name kinds.InodeFile inodes c o stands other = ap with_name_less stands
 gone_with_name kinds.InodeMap inodes c o stands other = ap with_name_less stands
 gone_with_name kinds.BlockMap inodes c o stands other = ap with_name_less stands
@@ -62,10 +66,10 @@ file_apart v n d file directory same = apart (v d) (subst (λ k. IsTrue (is_file
     apart (Some (link_node text)) file directory = false≢true directory
 
 -- a file of a volume has a number of the image, and a name can stand for it
-pub file_entry : (inodes : ℕ) (v : Volume) (n : ℕ) (x : Name) → IsVolume inodes v → IsTrue (is_file_node (v n)) → IsName x → IsEntry inodes (record { number = n; name = x })
-file_entry inodes v n x volume file name =
-    elim (volume.limits.numbers n (some (v n) file)) [
-      | inl root ↦ absurd (file_apart v n 3 file volume.graph.root root)
+pub file_entry : (detail : Detail) (inodes : ℕ) (v : Volume) (n : ℕ) (x : Name) → IsKnownVolume detail inodes v → IsTrue (is_file_node (v n)) → IsName x → IsEntry inodes (record { number = n; name = x })
+file_entry detail inodes v n x volume file name =
+    elim (numbers_of detail inodes v volume n (some (v n) file)) [
+      | inl root ↦ absurd (file_apart v n 3 file (graph_of detail inodes v volume).root root)
       | inr within ↦ record { ordinary = within.0; below = within.1; name = name }
     ]
   where

@@ -24,7 +24,8 @@ use Rattle.records.specs.Steps.{IsBeside}
 use Rattle.records.specs.Sweeping.{OpensFiles, with_object_of, without_file}
 use Rattle.records.specs.declared.prepared.Prepared.{Prepared}
 use Rattle.records.specs.declared.steps.Step.{Step}
-use Rattle.records.proofs.KindLaws.{held_file}
+use Rattle.records.proofs.KindLaws.{file_stands, is_kind}
+use Rattle.images.specs.Soundness.{by_bytes}
 use Rattle.records.proofs.SweepLaws.{number_of, rest_stays}
 use Rattle.model.proofs.ObjectLaws.{node_here, node_other}
 
@@ -34,7 +35,7 @@ use Rattle.model.proofs.ObjectLaws.{node_here, node_other}
 pub object_figures : (disk : ℕ → List ℕ) (inodes : ℕ) (settled : Inode) (o : Object) (found : Option Node) → IsObject disk inodes settled o found → IsTrue (is_file_node found)
     → node_figures found ≡ Some (record { links = o.attributes.links; size = o.file.size })
 object_figures disk inodes settled o found stands is =
-    ap node_figures (held_file o.attributes.kind inodes (content_of_object disk o) found stands.stands is)
+    ap node_figures (file_stands o.attributes.kind inodes (content_of_object disk o) found stands.stands (is_kind by_bytes o.attributes.kind inodes (content_of_object disk o) found stands.stands is))
     ∙ ap (λ (s : ℕ). Some (record { links = o.attributes.links; size = s })) (length-map-range_with_len (byte_in (content_of_object disk o).block) 0 o.file.size)
 
 -- ---- open files with the figures noted that a number has

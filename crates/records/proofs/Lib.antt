@@ -1,3 +1,4 @@
+pub mod DetailLaws
 pub mod EnterLaws
 pub mod StandLaws
 pub mod KindLaws
@@ -12,6 +13,7 @@ pub mod RewriteLaws
 pub mod NamingLaws
 pub mod FileLaws
 pub mod BelowLaws
+pub mod PlaceLaws
 pub mod MoveLaws
 pub mod SweepLaws
 pub mod FollowLaws

@@ -8,12 +8,13 @@ use Rattle.buffers.specs.declared.blocks.Blocks.{Ghosts}
 use Rattle.blocktree.specs.Errors.{IsFault}
 use Rattle.blocktree.specs.declared.error.ReadError.{ReadError}
 use Rattle.blocktree.specs.declared.error.ReadError.TheVariants.{Damaged}
+use Rattle.images.specs.Soundness.{Detail}
 use Rattle.inofile.specs.declared.inode_file.InodeFile.{InodeFile}
 use Rattle.paths.specs.Loads.{OnlyLoads}
-use Rattle.paths.specs.Standing.{Looks, Stands}
+use Rattle.paths.specs.Standing.{Looks, StandsIn}
 use Rattle.paths.proofs.Looks.{looks_err, looks_more, looks_ok, looks_reads}
 use Rattle.records.specs.Looking.{Brings, Finding, Finds}
-use Rattle.records.specs.Shown.{NeverDamaged, OnVolumes}
+use Rattle.records.specs.Shown.{NeverDamagedIn, OnVolumesIn}
 use Rattle.records.specs.Steps.{IsAtHand, IsSomeAtHand}
 use Rattle.records.specs.declared.steps.Step.{Step}
 use Rattle.records.proofs.StandLaws.{no_look, some_stays_at_hand, stays_at_hand}
@@ -29,7 +30,7 @@ ok_so (Err e) P Q then is = tt
 
 module _ {B T : Type 0} {G : Ghosts B} {a b : B} {s t : InodeFile} {Known : InodeFile → Type 0} {r : Result T ReadError} where
   -- an object that came into memory is something that was found
-  pub brought : Brings G a b s t Known r → Finds G a b s t (λ disk settled v x. Unit {0}) r
+  pub brought : Brings G a b s t Known r → Finds G a b s t (λ detail disk settled v x. Unit {0}) r
   brought brings = record {
     looks = brings.looks;
     stays = brings.stays;
@@ -44,8 +45,14 @@ module _ {B T : Type 0} {G : Ghosts B} {a b : B} {s t : InodeFile} {Known : Inod
 
 -- what is found by objects that come into memory
 pub seen : {B T : Type 0} {G : Ghosts B} {a b : B} {s t : InodeFile} {P : Finding T} {r : Result T ReadError} → Looks G IsFault a b s t r → OnlyLoads s t
-    → OnVolumes G a s (λ disk settled v. IfOk r (P disk settled v)) → NeverDamaged G a s r → Finds G a b s t P r
-seen looks loads found damaged = record { looks = looks; stays = loads.known; keeps = loads.room; found = found; damaged = damaged }
+    → ((detail : Detail) → OnVolumesIn detail G a s (λ disk settled v. IfOk r (P detail disk settled v))) → ((detail : Detail) → NeverDamagedIn detail G a s r) → Finds G a b s t P r
+seen looks loads found damaged = record {
+  looks = looks;
+  stays = loads.known;
+  keeps = loads.room;
+  found = λ {detail} disk settled v stands. found detail disk settled v stands;
+  damaged = λ {detail} disk settled v stands is. damaged detail disk settled v stands is;
+}
 
 module _ {B T U : Type 0} {G : Ghosts B} {a b : B} {s t : InodeFile} {P : Finding T} {Q : Finding U} where
   -- a step before has failed
@@ -61,36 +68,36 @@ module _ {B T U : Type 0} {G : Ghosts B} {a b : B} {s t : InodeFile} {P : Findin
 
   -- something else is told by what was found
   pub tells : {x : T} {y : U} → Finds G a b s t P (Ok x)
-      → ((disk : ℕ → List ℕ) (settled : ℕ → Inode) (v : Volume) → Stands G disk settled v b t → P disk settled v x → Q disk settled v y)
+      → ((detail : Detail) (disk : ℕ → List ℕ) (settled : ℕ → Inode) (v : Volume) → StandsIn detail G disk settled v b t → P detail disk settled v x → Q detail disk settled v y)
       → Finds G a b s t Q (Ok y)
   tells finds then = record {
     looks = looks_ok finds.looks;
     stays = finds.stays;
     keeps = finds.keeps;
-    found = λ disk settled v stands. then disk settled v (finds.looks.kept disk settled v stands) (finds.found disk settled v stands);
+    found = λ {detail} disk settled v stands. then detail disk settled v (finds.looks.kept disk settled v stands) (finds.found disk settled v stands);
     damaged = λ disk settled v stands is. cc;
   }
 
 -- blocks are read behind what was found
 pub read_on : {B T U : Type 0} {G : Ghosts B} {a b c : B} {s t : InodeFile} {N : Finding T} {P : Finding U} {x : T} {r : Result U ReadError} → Finds G a b s t N (Ok x) → ReadsBlocks G IsFault b c r
-    → OnVolumes G b t (λ disk settled v. IfOk r (P disk settled v)) → NeverDamaged G b t r → Finds G a c s t P r
+    → ((detail : Detail) → OnVolumesIn detail G b t (λ disk settled v. IfOk r (P detail disk settled v))) → ((detail : Detail) → NeverDamagedIn detail G b t r) → Finds G a c s t P r
 read_on finds reads found damaged = record {
   looks = looks_reads finds.looks reads;
   stays = finds.stays;
   keeps = finds.keeps;
-  found = λ disk settled v stands. found disk settled v (finds.looks.kept disk settled v stands);
-  damaged = λ disk settled v stands is. damaged disk settled v (finds.looks.kept disk settled v stands) is;
+  found = λ {detail} disk settled v stands. found detail disk settled v (finds.looks.kept disk settled v stands);
+  damaged = λ {detail} disk settled v stands is. damaged detail disk settled v (finds.looks.kept disk settled v stands) is;
 }
 
 module _ {B T U : Type 0} {G : Ghosts B} {a b c : B} {s t u : InodeFile} {P : Finding T} {Q : Finding U} {x : T} {r : Result U ReadError} where
   -- something is found, and then something else: both are true
-  pub besides : Finds G a b s t P (Ok x) → Finds G b c t u Q r → Finds G a c s u (λ disk settled v y. P disk settled v x × Q disk settled v y) r
+  pub besides : Finds G a b s t P (Ok x) → Finds G b c t u Q r → Finds G a c s u (λ detail disk settled v y. P detail disk settled v x × Q detail disk settled v y) r
   besides first last = record {
     looks = looks_more first.looks last.looks;
     stays = λ n is. last.stays n (first.stays n is);
     keeps = λ n is. last.keeps n (first.keeps n is);
-    found = λ disk settled v stands.
-        ok_so r (Q disk settled v) (λ y. P disk settled v x × Q disk settled v y) (λ y is. (first.found disk settled v stands, is))
+    found = λ {detail} disk settled v stands.
+        ok_so r (Q detail disk settled v) (λ y. P detail disk settled v x × Q detail disk settled v y) (λ y is. (first.found disk settled v stands, is))
         (last.found disk settled v (first.looks.kept disk settled v stands));
     damaged = λ disk settled v stands is. last.damaged disk settled v (first.looks.kept disk settled v stands) is;
   }
@@ -113,5 +120,5 @@ pub some_at_hand_behind : {B T : Type 0} {G : Ghosts B} {a b : B} {s t : InodeFi
 some_at_hand_behind {s = s} {t = t} step finds is = some_stays_at_hand s t finds.looks.geometry finds.keeps finds.stays step is
 
 -- nothing was looked for
-pub found_nothing : {B : Type 0} {G : Ghosts B} {a : B} {s : InodeFile} → Finds {T = ℕ} G a a s s (λ disk settled v x. Unit {0}) (Ok 0)
+pub found_nothing : {B : Type 0} {G : Ghosts B} {a : B} {s : InodeFile} → Finds {T = ℕ} G a a s s (λ detail disk settled v x. Unit {0}) (Ok 0)
 found_nothing = record { looks = no_look; stays = λ n is. is; keeps = λ n is. is; found = λ disk settled v stands. tt; damaged = λ disk settled v stands is. cc }

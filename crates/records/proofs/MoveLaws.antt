@@ -1,23 +1,23 @@
 -- A move, as changes of one object after another.
-use Rattle.std.proofs.Common.{◌≡◌, ◌≢◌, ◌≤◌, ◌↔◌, ◌⊎◌, inl, inr, ℕ, Bool, true, false, List, Option, Some, None, IsSome, is_some, IsTrue, bytes_eq, refl, sym, ap, subst, ◌∙◌, arith}
+use Rattle.std.proofs.Common.{◌≡◌, ◌≢◌, ◌≤◌, ◌⊎◌, inl, inr, ℕ, Bool, true, false, List, Option, Some, None, is_some, IsTrue, refl, sym, ap, subst, ◌∙◌, arith}
 use mathlib.Core.Bool.{beq, not}
 use Rattle.std.proofs.Math.Path.{fun_ext}
-use Rattle.std.proofs.lemmas.Bool.{both_ways, cases_Bool, cases_eq, cond-false, cond-true, false≢true}
-use Rattle.std.proofs.lemmas.Slice.Eq.{bytes_eq-Decides}
+use Rattle.std.proofs.lemmas.Bool.{cases_eq, false≢true}
 use Rattle.layout.specs.Directory.{IsEntry}
 use Rattle.layout.specs.DirectoryNames.{NameMap}
 use Rattle.layout.specs.declared.entry.Entry.{Entry}
 use Rattle.layout.specs.declared.inode.Inode.{Inode}
-use Rattle.model.specs.Counting.{Counts}
 use Rattle.model.specs.Paths.{IsName, Name}
-use Rattle.model.specs.Records.{CanRename, CanReplace, IsBelow, IsEmpty, TakesName as TakesNewName}
-use Rattle.model.specs.Volumes.{IsVolume, Node, Volume, directory_node, entries, file_node, is_directory_node, link_node, names_in, released, set_name, with_entry, with_name_less, with_node}
-use Rattle.model.proofs.CountLemmas.{one_less, same_count}
-use Rattle.dirs.specs.Directory.{HasCount, with_name}
+use Rattle.model.specs.Records.{CanRename, CanReplace, IsBelow, IsEmpty, TakesName as TakesNewName, rename}
+use Rattle.model.specs.Volumes.{Node, Volume, directory_node, entries, file_node, is_directory_node, link_node, names_in, released, set_name, with_entry, with_name_less, with_node}
+use Rattle.dirs.specs.Directory.{with_name}
 use Rattle.inofile.specs.Inodes.{loaded}
 use Rattle.inofile.specs.declared.inode_file.InodeFile.{InodeFile}
 use Rattle.paths.specs.Steps.{found_in}
 use Rattle.paths.specs.declared.lookup.Found.TheVariants as found
+use Rattle.images.specs.Soundness.{Detail}
+use Rattle.records.specs.Preparing.{IsKnownVolume, IsVolumeFor}
+use Rattle.records.proofs.DetailLaws.{graph_of, numbers_of}
 use Rattle.records.specs.Entering.{Accepts, HasPlace, names_after, pieces_of, with_node_names}
 use Rattle.records.specs.Moving.{Moves, Replaces, edit_for}
 use Rattle.records.specs.Prepared.{AreBeside}
@@ -27,9 +27,9 @@ use Rattle.records.specs.declared.naming.NameEdit.TheVariants as edits
 use Rattle.records.specs.declared.steps.Step.{Step}
 use Rattle.records.proofs.EnterLaws.{accepts_entry, directory_is, names_set}
 use Rattle.records.proofs.FileLaws.{same_some}
+use Rattle.records.proofs.PlaceLaws.{place_across, place_inside}
 use Rattle.model.proofs.OptionLaws.{none_some}
 use Rattle.model.proofs.ObjectLaws.{node_here, node_other}
-use Rattle.model.proofs.ListingLemmas.{names_apart}
 
 -- objects of two numbers are changed in either order
 pub nodes_apart : (a b : ℕ) (o p : Option Node) (v : Volume) → a ≢ b → with_node a o (with_node b p v) ≡ with_node b p (with_node a o v)
@@ -70,65 +70,6 @@ moved_within d x y to v =
     node_twice d (set_name y to (with_entry d x None v d)) (set_name x None (v d)) v
     ∙ ap (λ (o : Option Node). with_node d (set_name y to o) v) (node_here d d (set_name x None (v d)) v refl)
     ∙ ap (λ (o : Option Node). with_node d o v) (sym (names_set_twice x y to (v d)))
-
--- ---- places
-
--- the other names are those that are left
-left_names : (names : NameMap) (x b : Name) → IsSome (with_name x None names b) ↔ (IsSome (names b) × (b ≢ x))
-left_names names x b = (
-  λ is. elim (cases_Bool (bytes_eq b x)) [
-    | inl same ↦ absurd (false≢true (subst (λ (o : Option ℕ). IsSome o) (cond-true (bytes_eq b x) None (names b) same) is))
-    | inr other ↦ (
-      subst (λ (o : Option ℕ). IsSome o) (cond-false (bytes_eq b x) None (names b) other) is,
-      λ e. both_ways (bytes_eq b x) other ((bytes_eq-Decides b x).1 e),
-    )
-  ],
-  λ is. elim (cases_Bool (bytes_eq b x)) [
-    | inl same ↦ absurd (is.1 ((bytes_eq-Decides b x).0 same))
-    | inr other ↦ subst (λ (o : Option ℕ). IsSome o) (sym (cond-false (bytes_eq b x) None (names b) other)) is.0
-  ],
-)
-
--- where a name goes that was there, a directory within the limit has place for one
-pub place_left : (names : NameMap) (x : Name) (n count : ℕ) → names x ≡ Some n → HasCount names count → count ≤ 65536 → HasPlace (with_name x None names)
-place_left names x n count is counts most =
-    let less = one_less (λ (y : Name). IsSome (names y)) x count names_apart (subst (λ (o : Option ℕ). IsSome o) (sym is) refl) counts in
-    let same = less.1 in
-    record {
-      count = less.0;
-      counts = same_count (λ (b : Name). IsSome (names b) × (b ≢ x)) (λ (b : Name). IsSome (with_name x None names b)) less.0 (λ b. ((left_names names x b).1, (left_names names x b).0)) less.2;
-      room = omega (arith, same, most);
-    }
-
--- where another name goes, a directory has no more names than before
-left_count : (names : NameMap) (y : Name) (count : ℕ) → HasCount names count → (rest : ℕ) × (rest ≤ count) × HasCount (with_name y None names) rest
-left_count names y count counts = by (names y) refl
-  where
-    by : (o : Option ℕ) → names y ≡ o → (rest : ℕ) × (rest ≤ count) × HasCount (with_name y None names) rest
-    by None none = (
-      count,
-      omega arith,
-      same_count (λ (b : Name). IsSome (names b)) (λ (b : Name). IsSome (with_name y None names b)) count (λ b. (
-        λ is. (left_names names y b).1 (is, λ same. none_some (sym none ∙ ap names (sym same) ∙ is_some_of (names b) is)),
-        λ is. ((left_names names y b).0 is).0,
-      )) counts,
-    )
-      where
-        is_some_of : (o : Option ℕ) → IsSome o → o ≡ Some (elim o as (λ _. ℕ) [ Some n ↦ n | None ↦ 0 ])
-        is_some_of None is = absurd (false≢true is)
-        is_some_of (Some n) is = refl
-    by (Some n) is =
-        let less = one_less (λ (b : Name). IsSome (names b)) y count names_apart (subst (λ (o : Option ℕ). IsSome o) (sym is) refl) counts in
-        let same = less.1 in
-        (less.0, omega arith, same_count (λ (b : Name). IsSome (names b) × (b ≢ y)) (λ (b : Name). IsSome (with_name y None names b)) less.0 (λ b. ((left_names names y b).1, (left_names names y b).0)) less.2)
-
--- where one name goes and another one that was there, a directory within the limit has place for one
-place_moved : (names : NameMap) (x y : Name) (n count : ℕ) → names x ≡ Some n → x ≢ y → HasCount names count → count ≤ 65536 → HasPlace (with_name x None (with_name y None names))
-place_moved names x y n count is apart counts most =
-    let rest = left_count names y count counts in
-    let fewer = rest.1 in
-    let other : bytes_eq x y ≡ false = elim (cases_Bool (bytes_eq x y)) [ inl same ↦ absurd (apart ((bytes_eq-Decides x y).0 same)) | inr other ↦ other ] in
-    place_left (with_name y None names) x n rest.0 (cond-false (bytes_eq x y) None (names x) other ∙ is) rest.2 (omega (arith, fewer, most))
 
 -- ---- what had the new name
 
@@ -182,21 +123,21 @@ moved_across d k x y to target v other aside aside_old =
 
 -- ---- a step on what had the new name
 
-module _ (disk : ℕ → List ℕ) (settled : ℕ → Inode) (v : Volume) (n : ℕ) where
+module _ (detail : Detail) (disk : ℕ → List ℕ) (settled : ℕ → Inode) (v : Volume) (n : ℕ) where
   -- it isn't the directory of a name
-  pub replaced_aside : (target : Option ℕ) (step : Option Step) → Replaces disk settled v n target step → (d : ℕ) (x : Name) (j : ℕ) → entries v d x ≡ Some j → IsAside d target
+  pub replaced_aside : (target : Option ℕ) (step : Option Step) → Replaces detail disk settled v n target step → (d : ℕ) (x : Name) (j : ℕ) → entries v d x ≡ Some j → IsAside d target
   replaced_aside None step replaces d x j at = tt
   replaced_aside (Some m) None replaces d x j at = absurd replaces
   replaced_aside (Some m) (Some step) (number, may, takes) d x j at = λ same. none_some (sym (subst (λ (k : ℕ). IsEmpty v k) same may.2 x) ∙ at)
 
-  pub replaced_beside : (target : Option ℕ) (step : Option Step) → Replaces disk settled v n target step → (a : ℕ) → IsAside a target → IsBeside a step
+  pub replaced_beside : (target : Option ℕ) (step : Option Step) → Replaces detail disk settled v n target step → (a : ℕ) → IsAside a target → IsBeside a step
   replaced_beside None None replaces a aside = tt
   replaced_beside None (Some step) replaces a aside = absurd replaces
   replaced_beside (Some m) None replaces a aside = absurd replaces
   replaced_beside (Some m) (Some step) (number, may, takes) a aside = λ same. aside (sym number ∙ same)
 
-  pub replaced_steps : (s : InodeFile) (w : Volume) (target : Option ℕ) (step : Option Step) → Replaces disk settled v n target step
-      → ((m : ℕ) → target ≡ Some m → w m ≡ v m) → StepsSome disk settled s w step (released target w)
+  pub replaced_steps : (s : InodeFile) (w : Volume) (target : Option ℕ) (step : Option Step) → Replaces detail disk settled v n target step
+      → ((m : ℕ) → target ≡ Some m → w m ≡ v m) → StepsSome detail disk settled s w step (released target w)
   replaced_steps s w None None replaces same = refl
   replaced_steps s w None (Some step) replaces same = absurd replaces
   replaced_steps s w (Some m) None replaces same = absurd replaces
@@ -204,12 +145,12 @@ module _ (disk : ℕ → List ℕ) (settled : ℕ → Inode) (v : Volume) (n : �
       let to = with_name_less (w m) in
       let o = loaded s step.number in (
         to,
-        subst (λ (k : ℕ). Updates disk s.geometry.inodes (settled k) (w k) o step.update to) (sym number)
-            (subst (λ (x : Option Node). Updates disk s.geometry.inodes (settled m) x o step.update (with_name_less x)) (sym (same m refl)) (takes s.geometry.inodes o).0),
+        subst (λ (k : ℕ). Updates detail disk s.geometry.inodes (settled k) (w k) o step.update to) (sym number)
+            (subst (λ (x : Option Node). Updates detail disk s.geometry.inodes (settled m) x o step.update (with_name_less x)) (sym (same m refl)) (takes s.geometry.inodes o).0),
         ap (λ (k : ℕ). with_node k to w) (sym number),
       )
 
-  pub replaced_room : (s : InodeFile) (target : Option ℕ) (step : Option Step) → Replaces disk settled v n target step → SomeRoom s step 6
+  pub replaced_room : (s : InodeFile) (target : Option ℕ) (step : Option Step) → Replaces detail disk settled v n target step → SomeRoom s step 6
   replaced_room s target None replaces = tt
   replaced_room s None (Some step) replaces = absurd replaces
   replaced_room s (Some m) (Some step) (number, may, takes) = (takes s.geometry.inodes (loaded s step.number)).1
@@ -221,35 +162,35 @@ pub few_pieces : (entry : Entry) (step : Option Step) → pieces_of (edit_for en
 few_pieces entry None = omega arith
 few_pieces entry (Some step) = omega arith
 
-module _ (disk : ℕ → List ℕ) (settled : ℕ → Inode) (v : Volume) (d : ℕ) (x : Name) (n k : ℕ) (y : Name) (step : Option Step) (moves : Moves disk settled v d x n k y step) where
+module _ (detail : Detail) (disk : ℕ → List ℕ) (settled : ℕ → Inode) (v : Volume) (d : ℕ) (x : Name) (n k : ℕ) (y : Name) (step : Option Step) (moves : Moves detail disk settled v d x n k y step) where
   abbrev target : Option ℕ
   target = entries v k y
 
   pub aside_old : IsAside d target
-  aside_old = replaced_aside disk settled v n target step moves.replaces d x n moves.there
+  aside_old = replaced_aside detail disk settled v n target step moves.replaces d x n moves.there
 
   pub aside_new : IsAside k target
   aside_new = by target refl
     where
       by : (o : Option ℕ) → target ≡ o → IsAside k o
       by None none = tt
-      by (Some m) is = subst (IsAside k) is (replaced_aside disk settled v n target step moves.replaces k y m is)
+      by (Some m) is = subst (IsAside k) is (replaced_aside detail disk settled v n target step moves.replaces k y m is)
 
   -- the target is as it was where only the directories have changed
   pub same_target : (w : Volume) → ((m : ℕ) → m ≢ d → m ≢ k → w m ≡ v m) → (m : ℕ) → target ≡ Some m → w m ≡ v m
   same_target w same m is = same m (aside_at d target aside_old m is) (aside_at k target aside_new m is)
 
   pub beside_old : IsBeside d step
-  beside_old = replaced_beside disk settled v n target step moves.replaces d aside_old
+  beside_old = replaced_beside detail disk settled v n target step moves.replaces d aside_old
 
   pub beside_new : IsBeside k step
-  beside_new = replaced_beside disk settled v n target step moves.replaces k aside_new
+  beside_new = replaced_beside detail disk settled v n target step moves.replaces k aside_new
 
-  pub steps_on : (s : InodeFile) (w : Volume) → ((m : ℕ) → m ≢ d → m ≢ k → w m ≡ v m) → StepsSome disk settled s w step (released target w)
-  steps_on s w same = replaced_steps disk settled v n s w target step moves.replaces (same_target w same)
+  pub steps_on : (s : InodeFile) (w : Volume) → ((m : ℕ) → m ≢ d → m ≢ k → w m ≡ v m) → StepsSome detail disk settled s w step (released target w)
+  steps_on s w same = replaced_steps detail disk settled v n s w target step moves.replaces (same_target w same)
 
   pub room_on : (s : InodeFile) → SomeRoom s step 6
-  room_on s = replaced_room disk settled v n s target step moves.replaces
+  room_on s = replaced_room detail disk settled v n s target step moves.replaces
 
   -- ---- when it applies
 
@@ -263,7 +204,7 @@ module _ (disk : ℕ → List ℕ) (settled : ℕ → Inode) (v : Volume) (d : �
     replaces = by target step refl moves.replaces;
   }
     where
-      by : (o : Option ℕ) (s : Option Step) → step ≡ s → Replaces disk settled v n o s → CanReplace v d k y n o
+      by : (o : Option ℕ) (s : Option Step) → step ≡ s → Replaces detail disk settled v n o s → CanReplace v d k y n o
       by None None is replaces = takes is
       by None (Some s) is replaces = absurd replaces
       by (Some m) None is replaces = absurd replaces
@@ -273,17 +214,16 @@ module _ (disk : ℕ → List ℕ) (settled : ℕ → Inode) (v : Volume) (d : �
   names_differ : d ≡ k → x ≢ y
   names_differ same equal = by target step (ap (λ (j : ℕ). entries v j y) (sym same) ∙ ap (entries v d) (sym equal) ∙ moves.there) moves.replaces
     where
-      by : (o : Option ℕ) (s : Option Step) → o ≡ Some n → Replaces disk settled v n o s → ⊥
+      by : (o : Option ℕ) (s : Option Step) → o ≡ Some n → Replaces detail disk settled v n o s → ⊥
       by None s is replaces = none_some is
       by (Some m) None is replaces = replaces
       by (Some m) (Some s) is replaces = replaces.1.0 (same_some is)
 
   -- a directory within its limit takes another name for one that it has
-  pub accepts_move : (inodes : ℕ) (old : Entry) (entry : Entry) → old.name.now ≡ x → entry.name.now ≡ y → IsVolume inodes v → d ≡ k → Accepts (edits.Move old.name entry) (v k)
+  pub accepts_move : (inodes : ℕ) (old : Entry) (entry : Entry) → old.name.now ≡ x → entry.name.now ≡ y → IsVolumeFor detail inodes (rename d x k y) v → d ≡ k → Accepts (edits.Move old.name entry) (v k)
   accepts_move inodes old entry is_old is_new volume same =
       let there : entries v k x ≡ Some n = ap (λ (j : ℕ). entries v j x) (sym same) ∙ moves.there in
       let is = directory_is (v k) (named (v k) there) in
-      let (count, counts, most) = volume.limits.children k in
       record {
         mode = is.0;
         names = is.1;
@@ -291,8 +231,7 @@ module _ (disk : ℕ → List ℕ) (settled : ℕ → Inode) (v : Volume) (d : �
         takes =
             subst (λ (a : Name). HasPlace (with_name a None (with_name entry.name.now None is.1))) (sym is_old)
             (subst (λ (b : Name). HasPlace (with_name x None (with_name b None is.1))) (sym is_new)
-            (place_moved is.1 x y n count (sym (ap (λ (o : Option Node). names_in o x) is.2) ∙ there) (names_differ same)
-            (subst (λ (o : Option Node). Counts (λ (b : Name). IsSome (names_in o b)) count) is.2 counts) most));
+            (place_inside detail inodes v d x n k y is.0 is.1 is.2 (sym (ap (λ (o : Option Node). names_in o x) is.2) ∙ there) same (names_differ same) volume));
       }
     where
       named : (o : Option Node) → names_in o x ≡ Some n → IsTrue (is_directory_node o)
@@ -302,25 +241,23 @@ module _ (disk : ℕ → List ℕ) (settled : ℕ → Inode) (v : Volume) (d : �
       named (Some (link_node text)) at = none_some at
 
   -- and another directory takes a name for what had it, or one more
-  pub accepts_other : (inodes : ℕ) (entry : Entry) → entry.name.now ≡ y → IsVolume inodes v → d ≢ k → CanRename v d x k y → Accepts (edit_for entry step) (v k)
+  pub accepts_other : (inodes : ℕ) (entry : Entry) → entry.name.now ≡ y → IsVolumeFor detail inodes (rename d x k y) v → d ≢ k → CanRename v d x k y → Accepts (edit_for entry step) (v k)
   accepts_other inodes entry is_new volume other can = by target step refl moves.replaces can.replaces
     where
-      by : (o : Option ℕ) (s : Option Step) → target ≡ o → Replaces disk settled v n o s → CanReplace v d k y can.number o → Accepts (edit_for entry s) (v k)
+      by : (o : Option ℕ) (s : Option Step) → target ≡ o → Replaces detail disk settled v n o s → CanReplace v d k y can.number o → Accepts (edit_for entry s) (v k)
       by None None none replaces (inl same) = absurd (other same)
       by None None none replaces (inr takes) = accepts_entry v k entry (subst (λ (b : Name). TakesNewName v k b) (sym is_new) takes)
       by None (Some s) none replaces may = absurd replaces
       by (Some m) None is replaces may = absurd replaces
       by (Some m) (Some s) is replaces may =
           let there = directory_is (v k) can.directory in
-          let (count, counts, most) = volume.limits.children k in
           record {
             mode = there.0;
             names = there.1;
             is = there.2;
             takes =
                 subst (λ (b : Name). HasPlace (with_name b None there.1)) (sym is_new)
-                (place_left there.1 y m count (sym (ap (λ (o : Option Node). names_in o y) there.2) ∙ is)
-                (subst (λ (o : Option Node). Counts (λ (b : Name). IsSome (names_in o b)) count) there.2 counts) most);
+                (place_across detail inodes v d x m k y there.0 there.1 there.2 (sym (ap (λ (o : Option Node). names_in o y) there.2) ∙ is) other volume);
           }
 
 -- ---- kinds
@@ -373,9 +310,10 @@ beside_none None = tt
 beside_none (Some step) = tt
 
 -- what has a name has an ordinary number, and may have another name
-pub entry_named : (inodes : ℕ) (v : Volume) (d : ℕ) (x : Name) (n : ℕ) (y : Name) → IsVolume inodes v → entries v d x ≡ Some n → IsName y → IsEntry inodes (record { number = n; name = y })
-entry_named inodes v d x n y volume there name =
-    elim (volume.limits.numbers n (volume.graph.used d n x there)) [
-      | inl root ↦ absurd (volume.graph.not_root d x (there ∙ ap (λ k. Some k) root))
+pub entry_named : (detail : Detail) (inodes : ℕ) (v : Volume) (d : ℕ) (x : Name) (n : ℕ) (y : Name) → IsKnownVolume detail inodes v → entries v d x ≡ Some n → IsName y → IsEntry inodes (record { number = n; name = y })
+entry_named detail inodes v d x n y volume there name =
+    let graph = graph_of detail inodes v volume in
+    elim (numbers_of detail inodes v volume n (graph.used d n x there)) [
+      | inl root ↦ absurd (graph.not_root d x (there ∙ ap (λ k. Some k) root))
       | inr within ↦ record { ordinary = within.0; below = within.1; name = name }
     ]

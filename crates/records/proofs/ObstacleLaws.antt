@@ -9,6 +9,7 @@ use Rattle.model.specs.declared.errno.Errno.{Errno}
 use Rattle.model.specs.declared.errno.Errno.TheVariants.{DAMAGED, DIRFULL, EEXIST, EFBIG, EINVAL, EISDIR, EMLINK, ENAMETOOLONG, ENOENT, ENOTDIR, ENOTEMPTY, EPERM}
 use Rattle.model.proofs.OptionLaws.{none_some}
 use Rattle.records.specs.Obstacles.{BarsMove, BarsReplacing, BarsTarget, IsObstacle}
+use Rattle.images.specs.Soundness.{Detail}
 use Rattle.records.specs.Moving.{Moves, Replaces, ReplacesBy}
 use Rattle.records.specs.declared.steps.Step.{Step}
 use Rattle.records.proofs.FileLaws.{named_directory, same_links, same_some}
@@ -73,11 +74,11 @@ obstacle_stops inodes v _ _ is can = absurd is
 -- ---- a move
 
 -- what keeps an object from another one's name keeps it from a move
-pub bars_replacing : (disk : ℕ → List ℕ) (settled : ℕ → Inode) (v : Volume) (d n m k : ℕ) (y : Name) (errno : Errno) → (IsBelow (entries v) n k → ⊥)
-    → ReplacesBy disk settled v n m (Err errno) → BarsMove v d n k y (Some m) errno
-bars_replacing disk settled v d n m k y EEXIST outside bars = ap (λ (j : ℕ). Some j) bars
-bars_replacing disk settled v d n m k y EINVAL outside bars = absurd bars.1
-bars_replacing disk settled v d n m k y _ outside bars = ((λ is. bars.0 (same_some is)), outside, bars.1)
+pub bars_replacing : (detail : Detail) (disk : ℕ → List ℕ) (settled : ℕ → Inode) (v : Volume) (d n m k : ℕ) (y : Name) (errno : Errno) → (IsBelow (entries v) n k → ⊥)
+    → ReplacesBy detail disk settled v n m (Err errno) → BarsMove v d n k y (Some m) errno
+bars_replacing detail disk settled v d n m k y EEXIST outside bars = ap (λ (j : ℕ). Some j) bars
+bars_replacing detail disk settled v d n m k y EINVAL outside bars = absurd bars.1
+bars_replacing detail disk settled v d n m k y _ outside bars = ((λ is. bars.0 (same_some is)), outside, bars.1)
 
 pub bars_rename : (inodes : ℕ) (v : Volume) (d : ℕ) (x : Name) (n m k : ℕ) (y : Name) (errno : Errno) → entries v d x ≡ Some n → entries v k y ≡ Some m
     → BarsMove v d n k y (Some m) errno → IsObstacle inodes v (rename d x k y) errno
@@ -86,14 +87,14 @@ bars_rename inodes v d x n m k y ENOENT there at bars = absurd bars.2
 bars_rename inodes v d x n m k y errno there at bars = (n, there, subst (λ (o : Option ℕ). BarsMove v d n k y o errno) (sym at) bars)
 
 -- nothing has the new name where a move that passes the other tests doesn't apply
-pub no_place : (inodes : ℕ) (disk : ℕ → List ℕ) (settled : ℕ → Inode) (v : Volume) (d : ℕ) (x : Name) (n k : ℕ) (y : Name) (step : Option Step) → Moves disk settled v d x n k y step → IsName y
+pub no_place : (inodes : ℕ) (detail : Detail) (disk : ℕ → List ℕ) (settled : ℕ → Inode) (v : Volume) (d : ℕ) (x : Name) (n k : ℕ) (y : Name) (step : Option Step) → Moves detail disk settled v d x n k y step → IsName y
     → (IsBelow (entries v) n k → ⊥) → d ≢ k → (CanRename v d x k y → ⊥) → IsObstacle inodes v (rename d x k y) DIRFULL
-no_place inodes disk settled v d x n k y step moves name outside other never = (n, moves.there, by (entries v k y) step refl refl moves.replaces)
+no_place inodes detail disk settled v d x n k y step moves name outside other never = (n, moves.there, by (entries v k y) step refl refl moves.replaces)
   where
-    by : (o : Option ℕ) (s : Option Step) → entries v k y ≡ o → step ≡ s → Replaces disk settled v n o s → BarsMove v d n k y o DIRFULL
+    by : (o : Option ℕ) (s : Option Step) → entries v k y ≡ o → step ≡ s → Replaces detail disk settled v n o s → BarsMove v d n k y o DIRFULL
     by None None none is so =
-        ((λ e. none_some e), outside, (other, λ takes. never (can_rename disk settled v d x n k y step moves takes.directory name outside (λ _. inr takes))))
+        ((λ e. none_some e), outside, (other, λ takes. never (can_rename detail disk settled v d x n k y step moves takes.directory name outside (λ _. inr takes))))
     by None (Some s) none is so = absurd so
     by (Some m) None at is so = absurd so
     by (Some m) (Some s) at is so =
-        absurd (never (can_rename disk settled v d x n k y step moves (named_directory (v k) y m at) name outside (λ none. none_some (sym none ∙ is))))
+        absurd (never (can_rename detail disk settled v d x n k y step moves (named_directory (v k) y m at) name outside (λ none. none_some (sym none ∙ is))))

@@ -3,8 +3,6 @@ use Rattle.std.proofs.Common.{◌≡◌, ◌≤◌, ◌<◌, ◌+◌, ◌==◌, 
 use Rattle.std.proofs.Math.Path.{fun_ext}
 use Rattle.std.proofs.lemmas.Bool.{cases_eq, cond-true, cond-false}
 use Rattle.std.proofs.lemmas.Bool.Decides.{nat_tests}
-use Rattle.std.proofs.lemmas.List.FromFn.{length-map-range_with_len}
-use Rattle.layout.specs.FileBytes.{byte_in}
 use Rattle.layout.specs.declared.kind.Kind.{Kind}
 use Rattle.model.specs.Changing.{cuts}
 use Rattle.model.specs.Changes.{ChangesTree, TakesFreeNumber}
@@ -23,7 +21,9 @@ use Rattle.records.specs.Contents.{bytes_after, rewriting}
 use Rattle.records.specs.Rewriting.{GoesOver}
 use Rattle.records.specs.declared.contents.Rewrite.{Rewrite}
 use Rattle.records.specs.declared.contents.Rewrite.TheVariants.{Write, Cut}
-use Rattle.images.specs.Contents.{Content, StandsAs}
+use Rattle.images.specs.Contents.{Content}
+use Rattle.images.specs.Soundness.{Detail}
+use Rattle.inofile.specs.Objects.{StandsAsIn}
 use Rattle.records.proofs.ContentLaws.{rewriting_applied}
 use Rattle.records.proofs.KindLaws.{held_file}
 use Rattle.model.proofs.ObjectLaws.{node_here, node_other}
@@ -129,6 +129,7 @@ pub other_size : (m n : ℕ) → (m ≡ n → ⊥) → (m == n) ≡ false
 other_size m n ne = grind (arith, nat_tests)
 
 -- a file in memory has as many bytes as in the volume
-pub file_size : (k : Kind) (inodes : ℕ) (c : Content) (found : Option Node) → StandsAs k inodes c found → IsTrue (is_file_node found) → c.size ≡ length (unwrap_or (bytes_of_node found) [])
-file_size k inodes c found stands is =
-    sym (ap (λ (o : Option Node). length (unwrap_or (bytes_of_node o) [])) (held_file k inodes c found stands is) ∙ length-map-range_with_len (byte_in c.block) 0 c.size)
+pub file_size : (detail : Detail) (k : Kind) (inodes : ℕ) (c : Content) (found : Option Node) → StandsAsIn detail k inodes c found → IsTrue (is_file_node found) → c.size ≡ length (unwrap_or (bytes_of_node found) [])
+file_size detail k inodes c found stands is =
+    let held = held_file detail k inodes c found stands is in
+    sym (ap (λ (o : Option Node). length (unwrap_or (bytes_of_node o) [])) held.2 ∙ held.1)

@@ -13,9 +13,10 @@ use Rattle.inode.specs.Room.{file_room}
 use Rattle.inode.specs.declared.change.Change.{Change}
 use Rattle.inode.specs.declared.object.Object.{Object}
 use Rattle.inofile.specs.Inodes.{loaded}
+use Rattle.images.specs.Soundness.{Detail}
 use Rattle.inofile.specs.Objects.{IsObjectOrNone}
 use Rattle.inofile.specs.Room.{nameless_room, room_of, slot_room}
-use Rattle.inofile.specs.Volumes.{IsVolumeOf}
+use Rattle.inofile.specs.Volumes.{IsVolumeIn}
 use Rattle.inofile.specs.declared.inode_file.InodeFile.{InodeFile}
 use Rattle.inofile.specs.declared.inode_file.ObjectSlot.{ObjectSlot}
 use Rattle.inofile.specs.declared.inode_file.ObjectSlot.TheVariants.{Changed}
@@ -37,13 +38,13 @@ most_nameless o = of_bool (is_nameless o)
     of_bool false = omega arith
 
 -- the number gets this object, or none
-pub set_room : (disk : ℕ → List ℕ) (inodes : ℕ) (settled : Inode) (slot : Option ObjectSlot) (base found to : Option Node) (was object : Option Object) (k : ℕ)
-    → IsObjectOrNone disk inodes settled object to → UpdateRoom was (updates.Set object) k → room_of (Some (Changed object)) base to ≤ room_of slot base found + k
-set_room disk inodes settled slot base found to was None k none room =
+pub set_room : (detail : Detail) (disk : ℕ → List ℕ) (inodes : ℕ) (settled : Inode) (slot : Option ObjectSlot) (base found to : Option Node) (was object : Option Object) (k : ℕ)
+    → IsObjectOrNone detail disk inodes settled object to → UpdateRoom was (updates.Set object) k → room_of (Some (Changed object)) base to ≤ room_of slot base found + k
+set_room detail disk inodes settled slot base found to was None k none room =
     subst (λ (o : Option Node). room_of (Some (Changed None)) base o ≤ room_of slot base found + k) (sym none) (omega (arith, gone_room slot base found, room))
-set_room disk inodes settled slot base found to was (Some new) k is room = omega (arith, room, most_nameless to, moved_once base to)
+set_room detail disk inodes settled slot base found to was (Some new) k is room = omega (arith, room, most_nameless to, moved_once base to)
 
-module _ (disk : ℕ → List ℕ) (inodes : ℕ) (settled : Inode) (slot : Option ObjectSlot) (base : Option Node) where
+module _ (detail : Detail) (disk : ℕ → List ℕ) (inodes : ℕ) (settled : Inode) (slot : Option ObjectSlot) (base : Option Node) where
   -- its file needs more: it has a name if it had one, and else it may lose it
   more : (old new : Node) (o : Object) (after : Option Object) (k : ℕ) → file_room o.file ≤ slot_room slot → RaisesFile (Some o) after k → nameless_room (Some new) ≤ nameless_room (Some old)
       → room_of (Some (Changed after)) base (Some new) ≤ room_of slot base (Some old) + (k + 2)
@@ -71,7 +72,7 @@ module _ (disk : ℕ → List ℕ) (inodes : ℕ) (settled : Inode) (slot : Opti
       ))
 
   -- a file or directory has another mode
-  pub mode_room : (found : Option Node) (was after : Option Object) (mode k : ℕ) → IsObjectOrNone disk inodes settled was found → IsTrue (is_file_node found || is_directory_node found)
+  pub mode_room : (found : Option Node) (was after : Option Object) (mode k : ℕ) → IsObjectOrNone detail disk inodes settled was found → IsTrue (is_file_node found || is_directory_node found)
       → CountsObject was slot → RaisesFile was after 0 → 2 ≤ k → room_of (Some (Changed after)) base (with_node_mode mode found) ≤ room_of slot base found + k
   mode_room None was after mode k is has had raises room = absurd (false≢true has)
   mode_room (Some (link_node text)) was after mode k is has had raises room = absurd (false≢true has)
@@ -85,7 +86,7 @@ module _ (disk : ℕ → List ℕ) (inodes : ℕ) (settled : Inode) (slot : Opti
       omega (arith, room, more (file_node old (suc links) bytes) (file_node mode (suc links) bytes) o after 0 had raises (omega arith))
 
   -- a file has other bytes
-  pub bytes_room : (found : Option Node) (was after : Option Object) (f : List ℕ → List ℕ) (change : Change) (k : ℕ) → IsObjectOrNone disk inodes settled was found → IsTrue (is_file_node found)
+  pub bytes_room : (found : Option Node) (was after : Option Object) (f : List ℕ → List ℕ) (change : Change) (k : ℕ) → IsObjectOrNone detail disk inodes settled was found → IsTrue (is_file_node found)
       → CountsObject was slot → ((m : ℕ) → StoresIn was change m → RaisesFile was after m) → UpdateRoom was (updates.Bytes change) k
       → room_of (Some (Changed after)) base (with_file_bytes f found) ≤ room_of slot base found + k
   bytes_room None was after f change k is file had raises room = absurd (false≢true file)
@@ -98,7 +99,7 @@ module _ (disk : ℕ → List ℕ) (inodes : ℕ) (settled : Inode) (slot : Opti
       omega (arith, room.1, more (file_node mode (suc links) bytes) (file_node mode (suc links) (f bytes)) o after room.0 had (raises room.0 room.2) (omega arith))
 
   -- a file has so many names
-  pub links_room : (found : Option Node) (was after : Option Object) (links k : ℕ) → IsObjectOrNone disk inodes settled was found → IsTrue (is_file_node found)
+  pub links_room : (found : Option Node) (was after : Option Object) (links k : ℕ) → IsObjectOrNone detail disk inodes settled was found → IsTrue (is_file_node found)
       → CountsObject was slot → RaisesFile was after 0 → 6 ≤ k → room_of (Some (Changed after)) base (with_node_links links found) ≤ room_of slot base found + k
   links_room None was after links k is file had raises room = absurd (false≢true file)
   links_room (Some (link_node text)) was after links k is file had raises room = absurd (false≢true file)
@@ -108,10 +109,10 @@ module _ (disk : ℕ → List ℕ) (inodes : ℕ) (settled : Inode) (slot : Opti
       omega (arith, room, less (file_node mode old bytes) (file_node mode links bytes) o after had raises)
 
 -- what is in memory of a number counts the object that it has there
-pub counts_object : (count : ℕ) (disk : ℕ → List ℕ) (settled : ℕ → Inode) (s : InodeFile) (v : Volume) (n : ℕ) (o : Option Object) → IsVolumeOf count disk settled s v
+pub counts_object : (detail : Detail) (count : ℕ) (disk : ℕ → List ℕ) (settled : ℕ → Inode) (s : InodeFile) (v : Volume) (n : ℕ) (o : Option Object) → IsVolumeIn detail count disk settled s v
     → o ≡ loaded s n → CountsObject o (get nat_cmp s.slots n)
-counts_object count disk settled s v n None is same = tt
-counts_object count disk settled s v n (Some o) is same = known_room count disk settled s v n o is (sym same)
+counts_object detail count disk settled s v n None is same = tt
+counts_object detail count disk settled s v n (Some o) is same = known_room detail count disk settled s v n o is (sym same)
 
 -- an object is this one then
 pub raises_to : {old : Option Object} {was : Object} (new : Object) (k : ℕ) → old ≡ Some was → file_room new.file ≤ file_room was.file + k → RaisesFile old (Some new) k

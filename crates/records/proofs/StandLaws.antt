@@ -10,28 +10,30 @@ use Rattle.buffers.specs.Reads.{ReadsBlocks}
 use Rattle.buffers.specs.declared.blocks.Blocks.{Ghosts}
 use Rattle.inofile.specs.Inodes.{HasRoomFor, IsKnown}
 use Rattle.inofile.specs.Room.{NeedsNoMore, slot_room}
-use Rattle.inofile.specs.Volumes.{IsVolumeOf}
+use Rattle.images.specs.Soundness.{Detail}
+use Rattle.inofile.specs.Volumes.{IsVolumeIn}
 use Rattle.inofile.specs.declared.inode_file.ObjectSlot.{ObjectSlot}
 use Rattle.inofile.specs.declared.inode_file.InodeFile.{InodeFile}
-use Rattle.paths.specs.Standing.{Looks, Stands}
+use Rattle.paths.specs.Standing.{Looks, StandsIn}
 use Rattle.records.specs.Steps.{IsAtHand, IsSomeAtHand}
 use Rattle.records.specs.declared.steps.Step.{Step}
 
 -- memory stands for all volumes that it stood for before
 abbrev pub StaysVolume : InodeFile → InodeFile → Type 0
-StaysVolume s t = (count : ℕ) (disk : ℕ → List ℕ) (settled : ℕ → Inode) (v : Volume) → IsVolumeOf count disk settled s v → IsVolumeOf count disk settled t v
+StaysVolume s t =
+    (detail : Detail) (count : ℕ) (disk : ℕ → List ℕ) (settled : ℕ → Inode) (v : Volume) → IsVolumeIn detail count disk settled s v → IsVolumeIn detail count disk settled t v
 
-module _ {B : Type 0} {G : Ghosts B} {disk : ℕ → List ℕ} {settled : ℕ → Inode} {v : Volume} where
-  pub stands_with : (blocks : B) (s t : InodeFile) → StaysVolume s t → Stands G disk settled v blocks s → Stands G disk settled v blocks t
+module _ {B : Type 0} {detail : Detail} {G : Ghosts B} {disk : ℕ → List ℕ} {settled : ℕ → Inode} {v : Volume} where
+  pub stands_with : (blocks : B) (s t : InodeFile) → StaysVolume s t → StandsIn detail G disk settled v blocks s → StandsIn detail G disk settled v blocks t
   stands_with blocks s t stays stands = record {
     shows = stands.shows;
-    volume = stays (G.count blocks) disk settled v stands.volume;
+    volume = stays detail (G.count blocks) disk settled v stands.volume;
   }
 
-  pub stands_over : (blocks after : B) (t : InodeFile) → G.count after ≡ G.count blocks → G.Shows after disk → IsVolumeOf (G.count blocks) disk settled t v → Stands G disk settled v after t
+  pub stands_over : (blocks after : B) (t : InodeFile) → G.count after ≡ G.count blocks → G.Shows after disk → IsVolumeIn detail (G.count blocks) disk settled t v → StandsIn detail G disk settled v after t
   stands_over blocks after t same shows volume = record {
     shows = shows;
-    volume = subst (λ (n : ℕ). IsVolumeOf n disk settled t v) (sym same) volume;
+    volume = subst (λ (n : ℕ). IsVolumeIn detail n disk settled t v) (sym same) volume;
   }
 
 -- blocks that were read before something failed

@@ -11,10 +11,12 @@ use Rattle.model.specs.Volumes.{Node, Volume, is_directory_node, is_file_node}
 use Rattle.images.specs.Contents.{Content, StandsAs}
 use Rattle.inode.specs.declared.object.Object.{Object}
 use Rattle.inofile.specs.Inodes.{loaded}
-use Rattle.inofile.specs.Objects.{IsObject}
+use Rattle.inofile.specs.Objects.{IsObjectIn, IsSizedAs, StandsAsIn}
 use Rattle.inofile.specs.Room.{memory_room}
+use Rattle.images.specs.Soundness.{Detail, by_bytes, by_sizes}
+use Rattle.inofile.proofs.DetailLaws.{by_size}
 use Rattle.inofile.specs.Settled.{content_of_object}
-use Rattle.inofile.specs.Volumes.{IsVolumeOf}
+use Rattle.inofile.specs.Volumes.{IsVolumeIn}
 use Rattle.inofile.specs.declared.inode_file.InodeFile.{InodeFile}
 use Rattle.records.specs.Contents.{FitsFile}
 use Rattle.records.specs.Entering.{FitsObject}
@@ -23,7 +25,7 @@ use Rattle.records.specs.Steps.{Commits, FitsUpdate, IsApart, Steps, StepsSome, 
 use Rattle.records.specs.declared.steps.Update.{Update}
 use Rattle.records.specs.declared.steps.Update.TheVariants as updates
 use Rattle.records.specs.declared.steps.Step.{Step}
-use Rattle.records.proofs.KindLaws.{held_file, file_kind}
+use Rattle.records.proofs.KindLaws.{file_stands, held_file, is_kind}
 use Rattle.records.proofs.StandLaws.{stays_at_hand}
 
 -- an object that has a mode
@@ -37,11 +39,11 @@ module _ (inodes mode : ℕ) (c : Content) (found : Option Node) (is : HasMode f
   abbrev after : Content
   after = record { kind = c.kind; mode = mode; links = c.links; size = c.size; block = c.block }
 
-  fits_after : (k : Kind) (s : Sizes) → StandsAs k inodes c found → FitsKind k s c.mode c.links c.size → FitsKind k s mode c.links c.size
+  fits_after : (k : Kind) (s : Sizes) → IsSizedAs k inodes c found → FitsKind k s c.mode c.links c.size → FitsKind k s mode c.links c.size
   fits_after kinds.Free s stands fits = no_mode found _ stands refl is
   fits_after kinds.File s stands fits = fits
   fits_after kinds.Directory s stands fits = fits
-  fits_after kinds.Link s stands fits = no_mode found _ stands refl is
+  fits_after kinds.Link s stands fits = no_mode found _ stands.2 refl is
   fits_after kinds.InodeFile s stands fits = no_mode found _ stands refl is
   fits_after kinds.InodeMap s stands fits = no_mode found _ stands refl is
   fits_after kinds.BlockMap s stands fits = no_mode found _ stands refl is
@@ -55,26 +57,39 @@ module _ (inodes mode : ℕ) (c : Content) (found : Option Node) (is : HasMode f
   stands_after kinds.InodeMap stands = no_mode found _ stands refl is
   stands_after kinds.BlockMap stands = no_mode found _ stands refl is
 
+  sized_after : (k : Kind) → IsSizedAs k inodes c found → IsSizedAs k inodes after (with_node_mode mode found)
+  sized_after kinds.File stands = (stands.0, stands.1, ap (with_node_mode mode) stands.2)
+  sized_after kinds.Link stands = no_mode found _ stands.2 refl is
+  sized_after kinds.Free stands = stands_after kinds.Free stands
+  sized_after kinds.Directory stands = stands_after kinds.Directory stands
+  sized_after kinds.InodeFile stands = stands_after kinds.InodeFile stands
+  sized_after kinds.InodeMap stands = stands_after kinds.InodeMap stands
+  sized_after kinds.BlockMap stands = stands_after kinds.BlockMap stands
+
+  in_detail_after : (detail : Detail) (k : Kind) → StandsAsIn detail k inodes c found → StandsAsIn detail k inodes after (with_node_mode mode found)
+  in_detail_after by_bytes k stands = stands_after k stands
+  in_detail_after by_sizes k stands = sized_after k stands
+
 -- a file or directory in memory with another mode
-pub mode_set : (disk : ℕ → List ℕ) (inodes : ℕ) (settled : Inode) (o : Object) (found : Option Node) (mode : ℕ) → mode ≤ 4095
-    → IsObject disk inodes settled o found → HasMode found
-    → IsObject disk inodes settled (record { attributes = record { kind = o.attributes.kind; mode = mode; links = o.attributes.links }; file = o.file }) (with_node_mode mode found)
-mode_set disk inodes settled o found mode good was is = record {
+pub mode_set : (detail : Detail) (disk : ℕ → List ℕ) (inodes : ℕ) (settled : Inode) (o : Object) (found : Option Node) (mode : ℕ) → mode ≤ 4095
+    → IsObjectIn detail disk inodes settled o found → HasMode found
+    → IsObjectIn detail disk inodes settled (record { attributes = record { kind = o.attributes.kind; mode = mode; links = o.attributes.links }; file = o.file }) (with_node_mode mode found)
+mode_set detail disk inodes settled o found mode good was is = record {
   kind = was.kind;
   mode = good;
-  fits = λ s. fits_after inodes mode (content_of_object disk o) found is o.attributes.kind s was.stands (was.fits s);
-  stands = stands_after inodes mode (content_of_object disk o) found is o.attributes.kind was.stands;
+  fits = λ s. fits_after inodes mode (content_of_object disk o) found is o.attributes.kind s (by_size detail o.attributes.kind inodes (content_of_object disk o) found was.stands) (was.fits s);
+  stands = in_detail_after inodes mode (content_of_object disk o) found is detail o.attributes.kind was.stands;
   ends = was.ends;
   base = was.base;
 }
 
 -- a step does the same where its object is the same in memory
-pub steps_after : (disk : ℕ → List ℕ) (settled : ℕ → Inode) (s t : InodeFile) (v w : Volume) (step : Step) → t.geometry ≡ s.geometry
-    → loaded t step.number ≡ loaded s step.number → Steps disk settled s v step w → Steps disk settled t v step w
-steps_after disk settled s t v w step same_sizes same steps = (
+pub steps_after : (detail : Detail) (disk : ℕ → List ℕ) (settled : ℕ → Inode) (s t : InodeFile) (v w : Volume) (step : Step) → t.geometry ≡ s.geometry
+    → loaded t step.number ≡ loaded s step.number → Steps detail disk settled s v step w → Steps detail disk settled t v step w
+steps_after detail disk settled s t v w step same_sizes same steps = (
   steps.0,
-  subst (λ (g : Sizes). Updates disk g.inodes (settled step.number) (v step.number) (loaded t step.number) step.update steps.0) (sym same_sizes)
-      (subst (λ (o : Option Object). Updates disk s.geometry.inodes (settled step.number) (v step.number) o step.update steps.0) (sym same) steps.1),
+  subst (λ (g : Sizes). Updates detail disk g.inodes (settled step.number) (v step.number) (loaded t step.number) step.update steps.0) (sym same_sizes)
+      (subst (λ (o : Option Object). Updates detail disk s.geometry.inodes (settled step.number) (v step.number) o step.update steps.0) (sym same) steps.1),
   steps.2,
 )
 
@@ -84,22 +99,33 @@ module _ (inodes links : ℕ) (c : Content) (found : Option Node) (is : IsTrue (
   abbrev counted : Content
   counted = record { kind = c.kind; mode = c.mode; links = links; size = c.size; block = c.block }
 
-  fits_counted : (k : Kind) (s : Sizes) → links ≤ 1000 → StandsAs k inodes c found → FitsKind k s c.mode links c.size
-  fits_counted k s few stands = subst (λ (x : Kind). FitsKind x s c.mode links c.size) (sym (file_kind k inodes c found stands is)) few
+  fits_counted : (detail : Detail) (k : Kind) (s : Sizes) → links ≤ 1000 → StandsAsIn detail k inodes c found → FitsKind k s c.mode links c.size
+  fits_counted detail k s few stands = subst (λ (x : Kind). FitsKind x s c.mode links c.size) (sym (is_kind detail k inodes c found stands is)) few
 
   stands_counted : (k : Kind) → StandsAs k inodes c found → StandsAs k inodes counted (with_node_links links found)
   stands_counted k stands =
-      subst (λ (x : Kind). StandsAs x inodes counted (with_node_links links found)) (sym (file_kind k inodes c found stands is)) (ap (with_node_links links) (held_file k inodes c found stands is))
+      let kind = is_kind by_bytes k inodes c found stands is in
+      subst (λ (x : Kind). StandsAs x inodes counted (with_node_links links found)) (sym kind) (ap (with_node_links links) (file_stands k inodes c found stands kind))
+
+  sized_counted : (k : Kind) → IsSizedAs k inodes c found → IsSizedAs k inodes counted (with_node_links links found)
+  sized_counted k stands =
+      let held = held_file by_sizes k inodes c found stands is in
+      subst (λ (x : Kind). IsSizedAs x inodes counted (with_node_links links found)) (sym (is_kind by_sizes k inodes c found stands is))
+      (held.0, held.1, ap (with_node_links links) held.2)
+
+  in_detail_counted : (detail : Detail) (k : Kind) → StandsAsIn detail k inodes c found → StandsAsIn detail k inodes counted (with_node_links links found)
+  in_detail_counted by_bytes k stands = stands_counted k stands
+  in_detail_counted by_sizes k stands = sized_counted k stands
 
 -- a file in memory with another count of names
-pub links_set : (disk : ℕ → List ℕ) (inodes : ℕ) (settled : Inode) (o : Object) (found : Option Node) (links : ℕ) → links ≤ 1000
-    → IsObject disk inodes settled o found → IsTrue (is_file_node found)
-    → IsObject disk inodes settled (record { attributes = record { kind = o.attributes.kind; mode = o.attributes.mode; links = links }; file = o.file }) (with_node_links links found)
-links_set disk inodes settled o found links few was is = record {
+pub links_set : (detail : Detail) (disk : ℕ → List ℕ) (inodes : ℕ) (settled : Inode) (o : Object) (found : Option Node) (links : ℕ) → links ≤ 1000
+    → IsObjectIn detail disk inodes settled o found → IsTrue (is_file_node found)
+    → IsObjectIn detail disk inodes settled (record { attributes = record { kind = o.attributes.kind; mode = o.attributes.mode; links = links }; file = o.file }) (with_node_links links found)
+links_set detail disk inodes settled o found links few was is = record {
   kind = was.kind;
   mode = was.mode;
-  fits = λ s. fits_counted inodes links (content_of_object disk o) found is o.attributes.kind s few was.stands;
-  stands = stands_counted inodes links (content_of_object disk o) found is o.attributes.kind was.stands;
+  fits = λ s. fits_counted inodes links (content_of_object disk o) found is detail o.attributes.kind s few was.stands;
+  stands = in_detail_counted inodes links (content_of_object disk o) found is detail o.attributes.kind was.stands;
   ends = was.ends;
   base = was.base;
 }
@@ -122,7 +148,7 @@ commits_none s = record {
   stays = λ n is. is;
   at_hand = tt;
   rest = λ n beside. refl;
-  volume = λ count disk settled v w volume same. subst (λ (x : Volume). IsVolumeOf count disk settled s x) (sym same) volume;
+  volume = λ {detail} count disk settled v w volume same. subst (λ (x : Volume). IsVolumeIn detail count disk settled s x) (sym same) volume;
   room = λ base count disk settled v w k volume same room. subst (λ (x : Volume). memory_room base s x ≤ memory_room base s v + k) (sym same) (omega arith);
 }
 
@@ -140,8 +166,8 @@ module _ {s t : InodeFile} where
   }
 
 -- and a step, if there is one, does the same
-module _ {s t : InodeFile} (disk : ℕ → List ℕ) (settled : ℕ → Inode) (v w : Volume) where
-  pub steps_behind : (other step : Option Step) → Commits s t other → AreBeside other step → StepsSome disk settled s v step w → StepsSome disk settled t v step w
+module _ {s t : InodeFile} (detail : Detail) (disk : ℕ → List ℕ) (settled : ℕ → Inode) (v w : Volume) where
+  pub steps_behind : (other step : Option Step) → Commits s t other → AreBeside other step → StepsSome detail disk settled s v step w → StepsSome detail disk settled t v step w
   steps_behind other None commits beside steps = steps
-  steps_behind None (Some step) commits beside steps = steps_after disk settled s t v w step commits.geometry (commits.rest step.number tt) steps
-  steps_behind (Some other) (Some step) commits beside steps = steps_after disk settled s t v w step commits.geometry (commits.rest step.number (λ e. beside (sym e))) steps
+  steps_behind None (Some step) commits beside steps = steps_after detail disk settled s t v w step commits.geometry (commits.rest step.number tt) steps
+  steps_behind (Some other) (Some step) commits beside steps = steps_after detail disk settled s t v w step commits.geometry (commits.rest step.number (λ e. beside (sym e))) steps

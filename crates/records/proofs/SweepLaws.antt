@@ -11,6 +11,7 @@ use Rattle.model.proofs.RecordLemmas.{swept_twice}
 use Rattle.model.proofs.SweepLemmas.{stays_open}
 use Rattle.inofile.specs.declared.inode_file.InodeFile.{InodeFile}
 use Rattle.records.specs.Prepared.{Does}
+use Rattle.images.specs.Soundness.{by_bytes}
 use Rattle.records.specs.Steps.{IsAtHand, IsBeside, IsSomeAtHand, StepsSome}
 use Rattle.records.specs.Sweeping.{without_file}
 use Rattle.records.specs.declared.prepared.Prepared.{Prepared}
@@ -116,7 +117,7 @@ module _ (table : ℕ → Option Description) where
   some_or_beside w x (Some step) k is = elim (cases_eq k step.number) [ inl here ↦ inl (gets_done w x step.number k is here) | inr other ↦ inr (λ e. other (sym e)) ]
 
 -- what a step isn't on stays
-some_rest : (disk : ℕ → List ℕ) (settled : ℕ → Inode) (s : InodeFile) (v w : Volume) (step : Option Step) (k : ℕ) → StepsSome disk settled s v step w → IsBeside k step → w k ≡ v k
+some_rest : (disk : ℕ → List ℕ) (settled : ℕ → Inode) (s : InodeFile) (v w : Volume) (step : Option Step) (k : ℕ) → StepsSome by_bytes disk settled s v step w → IsBeside k step → w k ≡ v k
 some_rest disk settled s v w None k steps beside = ap (λ (x : Volume). x k) steps
 some_rest disk settled s v w (Some step) k steps beside = ap (λ (x : Volume). x k) steps.2 ∙ node_other step.number k steps.0 v (λ e. beside (sym e))
 

@@ -10,6 +10,7 @@ use Rattle.blocktree.specs.Errors.{IsFault}
 use Rattle.blocktree.specs.Trees.{IsSoundAt}
 use Rattle.blocktree.specs.declared.error.ReadError.{ReadError}
 use Rattle.blocktree.specs.declared.error.ReadError.TheVariants.{Damaged}
+use Rattle.images.specs.Soundness.{Detail, by_bytes, by_sizes}
 use Rattle.inode.specs.Files.{Fits, IsFile, IsSameFile, bytes_of_file, bytes_with, byte_with}
 use Rattle.inode.specs.Room.{StoresMore, size_room, write_room}
 use Rattle.inode.specs.declared.change.Change.{Change}
@@ -44,6 +45,15 @@ pub record Rewrites (disk : ℕ → List ℕ) (f : List ℕ → List ℕ) (file 
   pub ends : EndsAt change.size (byte_with disk file change)
   pub bytes : bytes_with disk file change ≡ f (bytes_of_file disk file)
 
+-- of so many bytes as a file has, it makes as many as the file has then
+abbrev pub Resizes : (List ℕ → List ℕ) → File → Change → Type 0
+Resizes f file change = (bytes : List ℕ) → length bytes ≡ file.size → length (f bytes) ≡ change.size
+
+-- a change does so with a file's bytes, in so much detail
+abbrev pub RewritesFile : Detail → (ℕ → List ℕ) → (List ℕ → List ℕ) → File → Change → Type 0
+RewritesFile by_bytes disk f file change = Rewrites disk f file change
+RewritesFile by_sizes disk f file change = Resizes f file change
+
 -- A change of a file's bytes is prepared that makes these of them, and stores so many blocks more at the most. The file stays the same until it is put in force.
 pub record PlansFile {B : Type 0} (G : Ghosts B) (blocks after : B) (file new : File) (f : List ℕ → List ℕ) (more : ℕ) (result : Result Change ReadError) : Type 0 where
   pub reads : ReadsBlocks G IsFault blocks after result
@@ -51,13 +61,14 @@ pub record PlansFile {B : Type 0} (G : Ghosts B) (blocks after : B) (file new : 
   pub fits : IfOk result (Fits new.tree)
   pub stores : IfOk result (λ w. StoresMore new w more)
   pub rewrites : (disk : ℕ → List ℕ) → G.Shows blocks disk → IsFile disk file → IfOk result (Rewrites disk f new)
+  pub sizes : IfOk result (λ w. Resizes f new w)
   pub damaged : (disk : ℕ → List ℕ) → G.Shows blocks disk → IsErrOf result Damaged
       → ((i : ℕ) → IsSoundAt (G.count blocks) disk file.tree i) → ⊥
 
 -- there is an object, and a change does so with its bytes
-abbrev pub RewritesIn : (ℕ → List ℕ) → (List ℕ → List ℕ) → Option Object → Change → Type 0
-RewritesIn disk f (Some o) change = Rewrites disk f o.file change
-RewritesIn disk f None change = ⊥
+abbrev pub RewritesIn : Detail → (ℕ → List ℕ) → (List ℕ → List ℕ) → Option Object → Change → Type 0
+RewritesIn detail disk f (Some o) change = RewritesFile detail disk f o.file change
+RewritesIn detail disk f None change = ⊥
 
 -- a change of an object's bytes stores no more than such a one
 abbrev pub RewriteRoom : Rewrite → Option Object → Change → Type 0

@@ -4,6 +4,7 @@ use Rattle.layout.specs.declared.inode.Inode.{Inode}
 use Rattle.model.specs.Records.{Change, applied, cut, work_of, write}
 use Rattle.model.specs.Room.{cost}
 use Rattle.model.specs.Volumes.{Volume}
+use Rattle.images.specs.Soundness.{Detail, by_bytes}
 use Rattle.inofile.specs.Inodes.{IsKnown}
 use Rattle.inofile.specs.declared.inode_file.InodeFile.{InodeFile}
 use Rattle.records.specs.Room.{SomeRoom, StepRoom}
@@ -42,15 +43,15 @@ KnowsFile s (write number offset bytes) = IsKnown s number
 KnowsFile s (cut number size) = IsKnown s number
 KnowsFile s change = Unit {0}
 
--- Put in force on this memory, which stands for this volume, a prepared change does to it what the record says: each of its
+-- Put in force on this memory, which stands for this volume in so much detail, a prepared change does to it what the record says: each of its
 -- steps is on an object of its own. Each raises by so much at the most what a consistency point may store, and all of them by no more
 -- than the record costs.
-pub record Does (disk : ℕ → List ℕ) (settled : ℕ → Inode) (s : InodeFile) (v : Volume) (p : Prepared) (change : Change) : Type 0 where
+pub record DoesIn (detail : Detail) (disk : ℕ → List ℕ) (settled : ℕ → Inode) (s : InodeFile) (v : Volume) (p : Prepared) (change : Change) : Type 0 where
   pub between : Volume
   pub second : Volume
-  pub first : Steps disk settled s v p.first between
-  pub next : StepsSome disk settled s between p.next second
-  pub last : StepsSome disk settled s second p.last (applied change v)
+  pub first : Steps detail disk settled s v p.first between
+  pub next : StepsSome detail disk settled s between p.next second
+  pub last : StepsSome detail disk settled s second p.last (applied change v)
   pub next_beside : IsBeside p.first.number p.next
   pub last_beside : IsBeside p.first.number p.last
   pub beside : AreBeside p.next p.last
@@ -62,3 +63,6 @@ pub record Does (disk : ℕ → List ℕ) (settled : ℕ → Inode) (s : InodeFi
   pub last_room : SomeRoom s p.last lasts
   pub within : firsts + nexts + lasts ≤ cost (work_of v change)
   pub knows : KnowsFile s change
+
+abbrev pub Does : (ℕ → List ℕ) → (ℕ → Inode) → InodeFile → Volume → Prepared → Change → Type 0
+Does = DoesIn by_bytes

@@ -25,6 +25,10 @@ UpdateRoom o (updates.SetMode mode) k = 2 ≤ k
 UpdateRoom o (updates.Bytes change) k = (more : ℕ) × (more + 2 ≤ k) × StoresIn o change more
 UpdateRoom o (updates.Links links) k = 6 ≤ k
 
+-- a new object's file needs so few blocks: those of the longest text of a link, and of the places over them
+abbrev pub HasRoomOfNew : Object → Type 0
+HasRoomOfNew o = file_room o.file ≤ 5
+
 -- where there is an object, there is one then, whose file needs so many blocks more at the most
 abbrev pub RaisesFile : Option Object → Option Object → ℕ → Type 0
 RaisesFile old new k =

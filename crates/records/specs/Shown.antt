@@ -6,7 +6,7 @@ use Rattle.model.specs.Volumes.{Volume, IsMounted, IsVolume}
 use Rattle.buffers.specs.declared.blocks.Blocks.{Ghosts}
 use Rattle.inofile.specs.declared.inode_file.InodeFile.{InodeFile}
 use Rattle.paths.specs.Standing.{Stands}
-pub use Rattle.paths.specs.Standing.{NeverDamaged, OnVolumes}
+pub use Rattle.paths.specs.Standing.{NeverDamaged, NeverDamagedIn, OnVolumes, OnVolumesIn}
 
 -- this holds of each volume that memory stands for, with descriptors that fit it
 abbrev pub OnMounted : {B : Type 0} → Ghosts B → B → InodeFile → (Volume → (ℕ → Option Description) → Type 0) → Type 0

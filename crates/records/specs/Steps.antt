@@ -6,10 +6,11 @@ use Rattle.model.specs.declared.limits.TheConstants.{FILE_NAMES, ROOT_NUMBER}
 use Rattle.model.specs.Records.{with_file_bytes, with_node_mode}
 use Rattle.model.specs.Volumes.{Node, Volume, file_node, is_directory_node, is_file_node, with_node}
 use Rattle.inode.specs.declared.object.Object.{Object}
+use Rattle.images.specs.Soundness.{Detail}
 use Rattle.inofile.specs.Inodes.{HasRoomFor, IsKnown, loaded}
 use Rattle.inofile.specs.Objects.{IsObjectOrNone}
 use Rattle.inofile.specs.Room.{memory_room}
-use Rattle.inofile.specs.Volumes.{IsVolumeOf}
+use Rattle.inofile.specs.Volumes.{IsVolumeIn}
 use Rattle.inofile.specs.declared.inode_file.InodeFile.{InodeFile}
 use Rattle.records.specs.Contents.{FitsFile, RewritesIn}
 use Rattle.records.specs.Entering.{EditsIn, FitsObject, with_node_names}
@@ -77,28 +78,28 @@ abbrev pub with_node_links : ℕ → Option Node → Option Node
 with_node_links links (Some (file_node mode old bytes)) = Some (file_node mode links bytes)
 with_node_links links o = o
 
--- an update makes one object of a volume of another, or of none; in memory it is this one, or none
-abbrev pub Updates : (ℕ → List ℕ) → ℕ → Inode → Option Node → Option Object → Update → Option Node → Type 0
-Updates disk inodes settled found o (updates.Set object) to = IsObjectOrNone disk inodes settled object to
-Updates disk inodes settled found o (updates.Names edit) to =
+-- An update makes one object of a volume of another, or of none, in so much detail; in memory it is this one, or none.
+abbrev pub Updates : Detail → (ℕ → List ℕ) → ℕ → Inode → Option Node → Option Object → Update → Option Node → Type 0
+Updates detail disk inodes settled found o (updates.Set object) to = IsObjectOrNone detail disk inodes settled object to
+Updates detail disk inodes settled found o (updates.Names edit) to =
     (f : NameMap → NameMap) × EditsIn disk inodes f found o edit × (to ≡ with_node_names f found)
-Updates disk inodes settled found o (updates.SetMode mode) to =
+Updates detail disk inodes settled found o (updates.SetMode mode) to =
     IsTrue (is_file_node found || is_directory_node found) × (to ≡ with_node_mode mode found)
-Updates disk inodes settled found o (updates.Bytes change) to =
-    (f : List ℕ → List ℕ) × IsTrue (is_file_node found) × RewritesIn disk f o change × (to ≡ with_file_bytes f found)
-Updates disk inodes settled found o (updates.Links links) to =
+Updates detail disk inodes settled found o (updates.Bytes change) to =
+    (f : List ℕ → List ℕ) × IsTrue (is_file_node found) × RewritesIn detail disk f o change × (to ≡ with_file_bytes f found)
+Updates detail disk inodes settled found o (updates.Links links) to =
     IsTrue (is_file_node found) × (links ≤ FILE_NAMES) × (to ≡ with_node_links links found)
 
 -- a step makes one volume of another
-abbrev pub Steps : (ℕ → List ℕ) → (ℕ → Inode) → InodeFile → Volume → Step → Volume → Type 0
-Steps disk settled s v step w =
-    (to : Option Node) × Updates disk s.geometry.inodes (settled step.number) (v step.number) (loaded s step.number) step.update to
+abbrev pub Steps : Detail → (ℕ → List ℕ) → (ℕ → Inode) → InodeFile → Volume → Step → Volume → Type 0
+Steps detail disk settled s v step w =
+    (to : Option Node) × Updates detail disk s.geometry.inodes (settled step.number) (v step.number) (loaded s step.number) step.update to
     × (w ≡ with_node step.number to v)
 
 -- so does a step, if there is one, and else nothing changes
-abbrev pub StepsSome : (ℕ → List ℕ) → (ℕ → Inode) → InodeFile → Volume → Option Step → Volume → Type 0
-StepsSome disk settled s v None w = w ≡ v
-StepsSome disk settled s v (Some step) w = Steps disk settled s v step w
+abbrev pub StepsSome : Detail → (ℕ → List ℕ) → (ℕ → Inode) → InodeFile → Volume → Option Step → Volume → Type 0
+StepsSome detail disk settled s v None w = w ≡ v
+StepsSome detail disk settled s v (Some step) w = Steps detail disk settled s v step w
 
 -- A step, if there is one, is put in force: its object is at hand then, all others stay as they are, and memory stands for the
 -- volume that the step makes.
@@ -108,7 +109,7 @@ pub record Commits (s t : InodeFile) (step : Option Step) : Type 0 where
   pub stays : (n : ℕ) → IsKnown s n → IsKnown t n
   pub at_hand : IsSomeAtHand t step
   pub rest : (n : ℕ) → IsBeside n step → loaded t n ≡ loaded s n
-  pub volume : (count : ℕ) (disk : ℕ → List ℕ) (settled : ℕ → Inode) (v w : Volume) → IsVolumeOf count disk settled s v
-      → StepsSome disk settled s v step w → IsVolumeOf count disk settled t w
-  pub room : (base : Volume) (count : ℕ) (disk : ℕ → List ℕ) (settled : ℕ → Inode) (v w : Volume) (k : ℕ) → IsVolumeOf count disk settled s v
-      → StepsSome disk settled s v step w → SomeRoom s step k → memory_room base t w ≤ memory_room base s v + k
+  pub volume : {detail : Detail} (count : ℕ) (disk : ℕ → List ℕ) (settled : ℕ → Inode) (v w : Volume) → IsVolumeIn detail count disk settled s v
+      → StepsSome detail disk settled s v step w → IsVolumeIn detail count disk settled t w
+  pub room : {detail : Detail} (base : Volume) (count : ℕ) (disk : ℕ → List ℕ) (settled : ℕ → Inode) (v w : Volume) (k : ℕ) → IsVolumeIn detail count disk settled s v
+      → StepsSome detail disk settled s v step w → SomeRoom s step k → memory_room base t w ≤ memory_room base s v + k

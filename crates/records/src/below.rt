@@ -5,11 +5,12 @@ ghost use Rattle.std.specs.List.{Contains};
 ghost use Rattle.model.specs.Records.{IsBelow};
 ghost use Rattle.model.specs.Volumes.{entries};
 ghost use Rattle.blocktree.specs.Errors.{IsFault};
+ghost use Rattle.images.specs.Soundness.{Detail};
 ghost use Rattle.paths.specs.Loads.{OnlyLoads};
 ghost use Rattle.paths.specs.Numbers.{AreNumbers, IsNumber};
 ghost use Rattle.paths.specs.Standing.{Looks};
 ghost use Rattle.records.specs.Below.{IsChild, IsMarkedNumber, MarksMore};
-ghost use Rattle.records.specs.Shown.{NeverDamaged, OnVolumes};
+ghost use Rattle.records.specs.Shown.{NeverDamagedIn, OnVolumesIn};
 
 use blocktree::ReadError;
 use buffers::Blocks;
@@ -29,9 +30,9 @@ pub(crate) fn is_below<B: Blocks>(
     requires number { number < inodes.old.geometry.inodes }
     ensures looks { Looks B.Blocks IsFault blocks.old blocks.new inodes.old inodes.new result }
     ensures loads { OnlyLoads inodes.old inodes.new }
-    ensures below { OnVolumes B.Blocks blocks.old inodes.old (λ disk settled v.
+    ensures below { (detail : Detail) → OnVolumesIn detail B.Blocks blocks.old inodes.old (λ disk settled v.
         IfOk result (λ below. IsTrue below ↔ IsBelow (entries v) top number)) }
-    ensures damaged { NeverDamaged B.Blocks blocks.old inodes.old result }
+    ensures damaged { (detail : Detail) → NeverDamagedIn detail B.Blocks blocks.old inodes.old result }
 {
     let count = inodes.geometry().inodes();
     let mut marks = vec![in alloc; false; count as usize]?;
@@ -55,9 +56,9 @@ fn children_of<B: Blocks>(
     ensures looks { Looks B.Blocks IsFault blocks.old blocks.new inodes.old inodes.new result }
     ensures loads { OnlyLoads inodes.old inodes.new }
     ensures within { IfOk result (λ c. AreNumbers inodes.old.geometry.inodes c.items) }
-    ensures children { OnVolumes B.Blocks blocks.old inodes.old (λ disk settled v.
+    ensures children { (detail : Detail) → OnVolumesIn detail B.Blocks blocks.old inodes.old (λ disk settled v.
         IfOk result (λ c. (n : ℕ) → Contains c.items n ↔ IsChild (entries v) number n)) }
-    ensures damaged { NeverDamaged B.Blocks blocks.old inodes.old result }
+    ensures damaged { (detail : Detail) → NeverDamagedIn detail B.Blocks blocks.old inodes.old result }
 {
     let names = paths::list(alloc, inodes, blocks, number)?;
     let mut children = Vec::new(alloc);

@@ -9,13 +9,14 @@ ghost use Rattle.model.specs.declared.limits.TheConstants.{GREATEST_FILE};
 ghost use Rattle.buffers.specs.Reads.{ReadsBlocks};
 ghost use Rattle.blocktree.specs.Errors.{IsFault};
 ghost use Rattle.blocktree.specs.Trees.{IsSoundAt};
-ghost use Rattle.inode.specs.Files.{Fits, IsFile};
+ghost use Rattle.images.specs.Soundness.{Detail};
+ghost use Rattle.inode.specs.Files.{Fits};
 ghost use Rattle.inode.specs.Room.{StoresMore, size_room, write_room};
 ghost use Rattle.inode.specs.declared.object.Object.{Object};
 ghost use Rattle.inofile.specs.Inodes.{loaded};
-ghost use Rattle.inofile.specs.Objects.{IsObject, IsObjectOrNone, IsSameObject, IsSameOrNone};
+ghost use Rattle.inofile.specs.Objects.{EndsIn, IsObjectIn, IsObjectOrNone, IsSameObject, IsSameOrNone};
 ghost use Rattle.paths.specs.Numbers.{IsNumber};
-ghost use Rattle.records.specs.Contents.{FitsFile, KeepsRewriteBounds, PlansFile, RewriteRoom, Rewrites, RewritesIn, bytes_after, rewrite_room, rewriting};
+ghost use Rattle.records.specs.Contents.{FitsFile, KeepsRewriteBounds, PlansFile, RewriteRoom, RewritesFile, RewritesIn, bytes_after, rewrite_room, rewriting};
 ghost use Rattle.records.specs.Failures.{told};
 ghost use Rattle.records.specs.Looking.{Finds};
 ghost use Rattle.records.specs.Preparing.{DecidesRecord};
@@ -99,9 +100,9 @@ fn plan_number<B: Blocks>(
 ) -> Result<Option<Change>, ReadError>
     requires bounds { KeepsRewriteBounds rewrite.now }
     requires number { IsNumber inodes.old.geometry.inodes number }
-    ensures planned { Finds B.Blocks blocks.old blocks.new inodes.old inodes.new (λ disk settled v w.
+    ensures planned { Finds B.Blocks blocks.old blocks.new inodes.old inodes.new (λ detail disk settled v w.
         (is_some w ≡ is_file_node (v number))
-        × IfSome w (RewritesIn disk (bytes_after rewrite.now) (loaded inodes.new number))) result }
+        × IfSome w (RewritesIn detail disk (bytes_after rewrite.now) (loaded inodes.new number))) result }
     ensures ready { IfOk result
         (λ w. IfSome w (λ x. TakesUpdate inodes.new number (Update.Bytes x))) }
     ensures stores { IfOk result
@@ -128,12 +129,13 @@ fn plan_object<B: Blocks>(
     ensures same { IsSameOrNone object.old object.new }
     ensures fits { IfOk result (λ w. IfSome w (FitsFile object.new)) }
     ensures stores { IfOk result (λ w. IfSome w (RewriteRoom rewrite.now object.new)) }
-    ensures told { (disk : ℕ → List ℕ) (inodes : ℕ) (settled : Inode) (found : Option Node)
-        → IsObjectOrNone disk inodes settled object.old found
+    ensures told { (detail : Detail) (disk : ℕ → List ℕ) (inodes : ℕ) (settled : Inode)
+        (found : Option Node) → IsObjectOrNone detail disk inodes settled object.old found
         → IfOk result (λ w. is_some w ≡ is_file_node found) }
-    ensures rewrites { (disk : ℕ → List ℕ) (inodes : ℕ) (settled : Inode) (found : Option Node)
-        → B.Shows blocks.old disk → IsObjectOrNone disk inodes settled object.old found
-        → IfOk result (λ w. IfSome w (RewritesIn disk (bytes_after rewrite.now) object.new)) }
+    ensures rewrites { (detail : Detail) (disk : ℕ → List ℕ) (inodes : ℕ) (settled : Inode)
+        (found : Option Node) → B.Shows blocks.old disk
+        → IsObjectOrNone detail disk inodes settled object.old found
+        → IfOk result (λ w. IfSome w (RewritesIn detail disk (bytes_after rewrite.now) object.new)) }
     ensures damaged { (disk : ℕ → List ℕ) → B.Shows blocks.old disk
         → IsErrOf result ReadError.Damaged → ((o : Object) → object.old ≡ Some o
         → (i : ℕ) → IsSoundAt (B.count blocks.old) disk o.file.tree i) → ⊥ }
@@ -159,12 +161,12 @@ fn plan_taken<B: Blocks>(
     ensures fits { IfOk result (λ w. IfSome w (Fits object.new.file.tree)) }
     ensures stores { IfOk result (λ w. IfSome w
         (λ x. StoresMore object.new.file x (rewrite_room object.new.file.size rewrite.now))) }
-    ensures told { (disk : ℕ → List ℕ) (inodes : ℕ) (settled : Inode) (found : Option Node)
-        → IsObject disk inodes settled object.old found
+    ensures told { (detail : Detail) (disk : ℕ → List ℕ) (inodes : ℕ) (settled : Inode)
+        (found : Option Node) → IsObjectIn detail disk inodes settled object.old found
         → IfOk result (λ w. is_some w ≡ is_file_node found) }
-    ensures rewrites { (disk : ℕ → List ℕ) → B.Shows blocks.old disk
-        → IsFile disk object.old.file → IfOk result
-        (λ w. IfSome w (Rewrites disk (bytes_after rewrite.now) object.new.file)) }
+    ensures rewrites { (detail : Detail) (disk : ℕ → List ℕ) → B.Shows blocks.old disk
+        → EndsIn detail disk object.old.file → IfOk result
+        (λ w. IfSome w (RewritesFile detail disk (bytes_after rewrite.now) object.new.file)) }
     ensures damaged { (disk : ℕ → List ℕ) → B.Shows blocks.old disk
         → IsErrOf result ReadError.Damaged
         → ((i : ℕ) → IsSoundAt (B.count blocks.old) disk object.old.file.tree i) → ⊥ }
@@ -240,10 +242,11 @@ fn plan_cut<B: Blocks>(
 pub(crate) fn commit_bytes(object: &mut Option<Object>, change: Change)
     requires { FitsFile object.old change }
     ensures room { (k : ℕ) → StoresIn object.old change k → RaisesFile object.old object.new k }
-    ensures rewrites { (disk : ℕ → List ℕ) (inodes : ℕ) (settled : Inode) (found : Option Node)
-        (f : List ℕ → List ℕ) → IsObjectOrNone disk inodes settled object.old found
-        → IsTrue (is_file_node found) → RewritesIn disk f object.old change
-        → IsObjectOrNone disk inodes settled object.new (with_file_bytes f found) }
+    ensures rewrites { (detail : Detail) (disk : ℕ → List ℕ) (inodes : ℕ) (settled : Inode)
+        (found : Option Node) (f : List ℕ → List ℕ)
+        → IsObjectOrNone detail disk inodes settled object.old found
+        → IsTrue (is_file_node found) → RewritesIn detail disk f object.old change
+        → IsObjectOrNone detail disk inodes settled object.new (with_file_bytes f found) }
 {
     if let Some(object) = object {
         object.file.commit(change);

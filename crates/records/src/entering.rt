@@ -7,6 +7,7 @@ ghost use Rattle.model.specs.Volumes.{Node};
 ghost use Rattle.buffers.specs.Reads.{ReadsBlocks};
 ghost use Rattle.blocktree.specs.Errors.{IsFault};
 ghost use Rattle.blocktree.specs.Trees.{IsSoundAt};
+ghost use Rattle.images.specs.Soundness.{Detail};
 ghost use Rattle.dirs.specs.Room.{piece_count};
 ghost use Rattle.inode.specs.declared.object.Object.{Object};
 ghost use Rattle.inofile.specs.Inodes.{loaded};
@@ -39,7 +40,7 @@ pub(crate) fn edit_parent<B: Blocks>(
 ) -> Result<Option<Edit>, ReadError>
     requires parent { IsNumber inodes.old.geometry.inodes parent }
     requires wanted { IsNameEdit inodes.old.geometry.inodes wanted.now }
-    ensures edit { Finds B.Blocks blocks.old blocks.new inodes.old inodes.new (λ disk settled v.
+    ensures edit { Finds B.Blocks blocks.old blocks.new inodes.old inodes.new (λ detail disk settled v.
         PreparesEdit disk inodes.new.geometry.inodes wanted.now (v parent)
         (loaded inodes.new parent)) result }
     ensures ready { IfOk result
@@ -59,7 +60,7 @@ pub(crate) fn edit_known<B: Blocks>(
 ) -> Result<Option<Edit>, ReadError>
     requires parent { IsAtHand inodes.old parent }
     requires wanted { IsNameEdit inodes.old.geometry.inodes wanted.now }
-    ensures edit { Finds B.Blocks blocks.old blocks.new inodes.old inodes.new (λ disk settled v.
+    ensures edit { Finds B.Blocks blocks.old blocks.new inodes.old inodes.new (λ detail disk settled v.
         PreparesEdit disk inodes.new.geometry.inodes wanted.now (v parent)
         (loaded inodes.new parent)) result }
     ensures ready { IfOk result
@@ -87,12 +88,12 @@ fn edit_object<B: Blocks>(
     ensures reads { ReadsBlocks B.Blocks IsFault blocks.old blocks.new result }
     ensures same { IsSameOrNone object.old object.new }
     ensures fits { IfOk result (λ e. IfSome e (FitsObject object.new)) }
-    ensures edits { (disk : ℕ → List ℕ) (settled : Inode) (found : Option Node)
-        → B.Shows blocks.old disk → IsObjectOrNone disk inodes settled object.old found
+    ensures edits { (detail : Detail) (disk : ℕ → List ℕ) (settled : Inode) (found : Option Node)
+        → B.Shows blocks.old disk → IsObjectOrNone detail disk inodes settled object.old found
         → IfOk result (PreparesEdit disk inodes wanted.now found object.new) }
-    ensures damaged { (disk : ℕ → List ℕ) (settled : Inode) (found : Option Node)
+    ensures damaged { (detail : Detail) (disk : ℕ → List ℕ) (settled : Inode) (found : Option Node)
         → B.Shows blocks.old disk → IsErrOf result ReadError.Damaged
-        → IsObjectOrNone disk inodes settled object.old found
+        → IsObjectOrNone detail disk inodes settled object.old found
         → ((o : Object) → object.old ≡ Some o
         → (i : ℕ) → IsSoundAt (B.count blocks.old) disk o.file.tree i) → ⊥ }
 {
@@ -120,10 +121,10 @@ fn is_directory(object: &Option<Object>) -> bool
 pub(crate) fn commit_edit(object: &mut Option<Object>, edit: Edit)
     requires { FitsObject object.old edit }
     ensures room { RaisesFile object.old object.new (2 * piece_count edit + 3) }
-    ensures edits { (disk : ℕ → List ℕ) (inodes : ℕ) (settled : Inode) (found : Option Node)
-        (f : NameMap → NameMap) → IsObjectOrNone disk inodes settled object.old found
+    ensures edits { (detail : Detail) (disk : ℕ → List ℕ) (inodes : ℕ) (settled : Inode)
+        (found : Option Node) (f : NameMap → NameMap) → IsObjectOrNone detail disk inodes settled object.old found
         → EditsIn disk inodes f found object.old edit
-        → IsObjectOrNone disk inodes settled object.new (with_node_names f found) }
+        → IsObjectOrNone detail disk inodes settled object.new (with_node_names f found) }
 {
     if let Some(directory) = object {
         edit.commit(&mut directory.file);

@@ -21,7 +21,7 @@ pub fn kind_at<B: Blocks>(
 ) -> Result<Found, ReadError>
     requires { IsNumber inodes.old.geometry.inodes number }
     ensures { Finds B.Blocks blocks.old blocks.new inodes.old inodes.new
-        (λ disk settled v f. f ≡ found_in (v number)) result }
+        (λ detail disk settled v f. f ≡ found_in (v number)) result }
 {
     paths::object_at(alloc, inodes, blocks, number)
 }

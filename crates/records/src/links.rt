@@ -4,8 +4,9 @@ ghost use Rattle.std.specs.Prelude.{◌≡◌, ℕ, List, IfSome, IfNone, false}
 ghost use Rattle.layout.specs.declared.inode.Inode.{Inode};
 ghost use Rattle.model.specs.Records.{link};
 ghost use Rattle.model.specs.Volumes.{Volume, is_file_node};
+ghost use Rattle.images.specs.Soundness.{Detail};
 ghost use Rattle.inofile.specs.Inodes.{IsKnown};
-ghost use Rattle.inofile.specs.Volumes.{IsVolumeOf};
+ghost use Rattle.inofile.specs.Volumes.{IsVolumeIn};
 ghost use Rattle.records.specs.Preparing.{DecidesRecord};
 ghost use Rattle.records.specs.Steps.{IsFileWithLinks};
 
@@ -70,11 +71,11 @@ pub fn prepare_link<B: Blocks>(
 // How many names a file has; None where the number is of none.
 fn links_of(inodes: &InodeFile, number: InodeNumber) -> Option<u32>
     requires { IsKnown inodes.now number }
-    ensures file { (count : ℕ) (disk : ℕ → List ℕ) (settled : ℕ → Inode) (v : Volume)
-        → IsVolumeOf count disk settled inodes.now v
+    ensures file { (detail : Detail) (count : ℕ) (disk : ℕ → List ℕ) (settled : ℕ → Inode)
+        (v : Volume) → IsVolumeIn detail count disk settled inodes.now v
         → IfSome result (λ links. IsFileWithLinks links (v number)) }
-    ensures other { (count : ℕ) (disk : ℕ → List ℕ) (settled : ℕ → Inode) (v : Volume)
-        → IsVolumeOf count disk settled inodes.now v
+    ensures other { (detail : Detail) (count : ℕ) (disk : ℕ → List ℕ) (settled : ℕ → Inode)
+        (v : Volume) → IsVolumeIn detail count disk settled inodes.now v
         → IfNone result (is_file_node (v number) ≡ false) }
 {
     let Some(object) = paths::object(inodes, number) else {

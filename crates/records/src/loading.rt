@@ -1,10 +1,12 @@
 //! Objects on their way into memory.
 
 ghost use Rattle.std.specs.Prelude.{◌≡◌, ◌≢◌, None, IsFalse, IsTrue};
-ghost use Rattle.model.specs.Volumes.{Volume, IsVolume};
+ghost use Rattle.model.specs.Volumes.{Volume};
+ghost use Rattle.images.specs.Soundness.{Detail};
 ghost use Rattle.inofile.specs.Inodes.{IsKnown};
 ghost use Rattle.paths.specs.Numbers.{IsNumber};
 ghost use Rattle.records.specs.Looking.{Brings};
+ghost use Rattle.records.specs.Preparing.{IsKnownVolume};
 ghost use Rattle.records.specs.Steps.{IsAtHand};
 
 use blocktree::ReadError;
@@ -17,7 +19,8 @@ use std::alloc::Global;
 pub(crate) fn is_number(inodes: &InodeFile, number: InodeNumber) -> bool
     ensures yes { IsTrue result → IsNumber inodes.now.geometry.inodes number }
     ensures no { IsFalse result
-        → (v : Volume) → IsVolume inodes.now.geometry.inodes v → v number ≡ None }
+        → (detail : Detail) (v : Volume) → IsKnownVolume detail inodes.now.geometry.inodes v
+        → v number ≡ None }
 {
     number.get() >= ROOT_NUMBER && number.get() < inodes.geometry().inodes()
 }

@@ -4,8 +4,9 @@ ghost use Rattle.std.specs.Prelude.{◌≡◌, ◌||◌, ℕ, List};
 ghost use Rattle.layout.specs.declared.inode.Inode.{Inode};
 ghost use Rattle.model.specs.Records.{change_mode};
 ghost use Rattle.model.specs.Volumes.{Volume, is_directory_node, is_file_node};
+ghost use Rattle.images.specs.Soundness.{Detail};
 ghost use Rattle.inofile.specs.Inodes.{IsKnown};
-ghost use Rattle.inofile.specs.Volumes.{IsVolumeOf};
+ghost use Rattle.inofile.specs.Volumes.{IsVolumeIn};
 ghost use Rattle.records.specs.Preparing.{DecidesRecord};
 
 use crate::loading::{is_number, load_to_change};
@@ -50,8 +51,8 @@ pub fn prepare_mode<B: Blocks>(
 // Whether a file or a directory has a number.
 fn has_mode(inodes: &InodeFile, number: InodeNumber) -> bool
     requires { IsKnown inodes.now number }
-    ensures { (count : ℕ) (disk : ℕ → List ℕ) (settled : ℕ → Inode) (v : Volume)
-        → IsVolumeOf count disk settled inodes.now v
+    ensures { (detail : Detail) (count : ℕ) (disk : ℕ → List ℕ) (settled : ℕ → Inode)
+        (v : Volume) → IsVolumeIn detail count disk settled inodes.now v
         → result ≡ (is_file_node (v number) || is_directory_node (v number)) }
 {
     let Some(object) = inodes.get(number.get()) else {

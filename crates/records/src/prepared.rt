@@ -6,17 +6,18 @@ ghost use Rattle.layout.specs.declared.inode.Inode.{Inode};
 ghost use Rattle.model.specs.Paths.{IsName};
 ghost use Rattle.model.specs.Records.{Change, Made, TakesName, applied, create, is_vacant, node_of, work_of};
 ghost use Rattle.model.specs.Room.{cost};
-ghost use Rattle.model.specs.Volumes.{Volume, IsVolume};
+ghost use Rattle.model.specs.Volumes.{Volume};
 ghost use Rattle.blocktree.specs.Errors.{IsFault};
-ghost use Rattle.inode.specs.Room.{file_room};
-ghost use Rattle.inofile.specs.Objects.{IsObject};
+ghost use Rattle.images.specs.Soundness.{Detail};
+ghost use Rattle.inofile.specs.Objects.{IsObjectIn};
 ghost use Rattle.inofile.specs.Room.{memory_room};
-ghost use Rattle.inofile.specs.Volumes.{IsVolumeOf};
-ghost use Rattle.paths.specs.Standing.{Looks, Stands};
+ghost use Rattle.records.specs.Room.{HasRoomOfNew};
+ghost use Rattle.inofile.specs.Volumes.{IsVolumeIn};
+ghost use Rattle.paths.specs.Standing.{Looks, StandsIn};
 ghost use Rattle.records.specs.Failures.{told};
-ghost use Rattle.records.specs.Prepared.{AreAtHand, IsReady, Does};
-ghost use Rattle.records.specs.Preparing.{DecidesRecord};
-ghost use Rattle.records.specs.Shown.{NeverDamaged, OnVolumes};
+ghost use Rattle.records.specs.Prepared.{AreAtHand, DoesIn, IsReady};
+ghost use Rattle.records.specs.Preparing.{DecidesRecord, IsKnownVolume};
+ghost use Rattle.records.specs.Shown.{NeverDamagedIn, OnVolumesIn};
 
 use crate::Failure;
 use crate::contents::{Rewrite, prepare_bytes};
@@ -140,18 +141,18 @@ pub fn prepare_new<B: Blocks>(
     ensures looks { Looks B.Blocks IsFault blocks.old blocks.new inodes.old inodes.new (told result) }
     ensures full { IfOk (told result) (λ r. IfErr r (λ errno. errno ≡ Errno.DIRFULL)) }
     ensures ready { IfOk result (IsReady inodes.new) }
-    ensures does { (disk : ℕ → List ℕ) (settled : ℕ → Inode) (v : Volume) (made : Made)
-        → Stands B.Blocks disk settled v blocks.old inodes.old → IsTrue (is_vacant (v number))
-        → ((k : ℕ) → IsObject disk k (settled number) object (Some (node_of made)))
-        → file_room object.file ≤ 5
-        → IfOk result (λ x. Does disk settled inodes.new v x (create number parent made name.now)) }
+    ensures does { (detail : Detail) (disk : ℕ → List ℕ) (settled : ℕ → Inode) (v : Volume)
+        (made : Made) → StandsIn detail B.Blocks disk settled v blocks.old inodes.old → IsTrue (is_vacant (v number))
+        → ((k : ℕ) → IsObjectIn detail disk k (settled number) object (Some (node_of made)))
+        → HasRoomOfNew object
+        → IfOk result (λ x. DoesIn detail disk settled inodes.new v x (create number parent made name.now)) }
     ensures named { IfOk result (λ _. IsName name.now) }
-    ensures takes { OnVolumes B.Blocks blocks.old inodes.old (λ disk settled v.
+    ensures takes { (detail : Detail) → OnVolumesIn detail B.Blocks blocks.old inodes.old (λ disk settled v.
         IfOk result (λ _. TakesName v parent name.now)) }
-    ensures refused { OnVolumes B.Blocks blocks.old inodes.old (λ disk settled v.
-        IsVolume inodes.old.geometry.inodes v
+    ensures refused { (detail : Detail) → OnVolumesIn detail B.Blocks blocks.old inodes.old (λ disk settled v.
+        IsKnownVolume detail inodes.old.geometry.inodes v
         → IfOk (told result) (λ r. IfErr r (λ _. TakesName v parent name.now → ⊥))) }
-    ensures damaged { NeverDamaged B.Blocks blocks.old inodes.old (told result) }
+    ensures damaged { (detail : Detail) → NeverDamagedIn detail B.Blocks blocks.old inodes.old (told result) }
 {
     let entry = Entry { number, name };
     if !entry.fits(inodes.geometry().inodes()) {
@@ -183,13 +184,14 @@ pub fn commit(inodes: &mut InodeFile, prepared: Prepared)
     requires { IsReady inodes.old prepared }
     ensures geometry { inodes.new.geometry ≡ inodes.old.geometry }
     ensures at_hand { AreAtHand inodes.new prepared }
-    ensures volume { (count : ℕ) (disk : ℕ → List ℕ) (settled : ℕ → Inode) (v : Volume)
-        (change : Change) → IsVolumeOf count disk settled inodes.old v
-        → Does disk settled inodes.old v prepared change
-        → IsVolumeOf count disk settled inodes.new (applied change v) }
-    ensures room { (base : Volume) (count : ℕ) (disk : ℕ → List ℕ) (settled : ℕ → Inode) (v : Volume)
-        (change : Change) → IsVolumeOf count disk settled inodes.old v
-        → Does disk settled inodes.old v prepared change
+    ensures volume { (detail : Detail) (count : ℕ) (disk : ℕ → List ℕ) (settled : ℕ → Inode)
+        (v : Volume) (change : Change) → IsVolumeIn detail count disk settled inodes.old v
+        → DoesIn detail disk settled inodes.old v prepared change
+        → IsVolumeIn detail count disk settled inodes.new (applied change v) }
+    ensures room { (detail : Detail) (base : Volume) (count : ℕ) (disk : ℕ → List ℕ)
+        (settled : ℕ → Inode) (v : Volume) (change : Change)
+        → IsVolumeIn detail count disk settled inodes.old v
+        → DoesIn detail disk settled inodes.old v prepared change
         → memory_room base inodes.new (applied change v)
         ≤ memory_room base inodes.old v + cost (work_of v change) }
 {

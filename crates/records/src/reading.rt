@@ -8,7 +8,7 @@ ghost use Rattle.blocktree.specs.Trees.{IsSoundAt};
 ghost use Rattle.inode.specs.Files.{bytes_of_file};
 ghost use Rattle.paths.specs.Numbers.{IsNumber};
 ghost use Rattle.records.specs.Looking.{Finds};
-ghost use Rattle.records.specs.Reading.{ReadsNumber};
+ghost use Rattle.records.specs.Reading.{ReadsNumberIn};
 
 use crate::loading::load;
 use blocktree::ReadError;
@@ -31,7 +31,7 @@ pub fn read_bytes<B: Blocks>(
 ) -> Result<Option<Text>, ReadError>
     requires { IsNumber inodes.old.geometry.inodes number }
     ensures { Finds B.Blocks blocks.old blocks.new inodes.old inodes.new
-        (λ disk settled v. ReadsNumber v number offset count) result }
+        (λ detail disk settled v. ReadsNumberIn detail v number offset count) result }
 {
     objects_stand_in_their_grammar();
     load(alloc, inodes, blocks, number)?;

@@ -9,7 +9,7 @@ ghost use Rattle.dirs.specs.Directory.{with_name};
 ghost use Rattle.dirs.specs.Room.{piece_count};
 ghost use Rattle.inofile.specs.Inodes.{loaded};
 ghost use Rattle.paths.specs.Numbers.{IsNumber};
-ghost use Rattle.paths.specs.Standing.{Stands};
+ghost use Rattle.paths.specs.Standing.{StandsIn};
 ghost use Rattle.records.specs.Entering.{Accepts, EditsIn, IsNameEdit, PreparesEdit};
 ghost use Rattle.records.specs.Failures.{told};
 ghost use Rattle.records.specs.Looking.{Finds};
@@ -83,8 +83,8 @@ pub fn prepare_move<'n, B: Blocks>(
 ) -> Result<Prepared, Failure>
     requires parent { IsNumber inodes.old.geometry.inodes parent }
     requires new_parent { IsNumber inodes.old.geometry.inodes new_parent }
-    ensures { DecidesOn (λ disk settled v. Stands B.Blocks disk settled v blocks.old inodes.old)
-        (λ disk settled v. Stands B.Blocks disk settled v blocks.old inodes.old
+    ensures { DecidesOn (λ detail disk settled v. StandsIn detail B.Blocks disk settled v blocks.old inodes.old)
+        (λ detail disk settled v. StandsIn detail B.Blocks disk settled v blocks.old inodes.old
         × LiesOutside v parent name.now new_parent) B.Blocks blocks.old blocks.new inodes.old inodes.new
         (rename parent name.now new_parent new_name.now) result }
 {
@@ -112,9 +112,9 @@ fn move_found<'n, B: Blocks>(
     requires parent { IsNumber inodes.old.geometry.inodes parent }
     requires number { IsNumber inodes.old.geometry.inodes number }
     requires new_parent { IsNumber inodes.old.geometry.inodes new_parent }
-    ensures { DecidesOn (λ disk settled v. Stands B.Blocks disk settled v blocks.old inodes.old
+    ensures { DecidesOn (λ detail disk settled v. StandsIn detail B.Blocks disk settled v blocks.old inodes.old
         × (entries v parent name.now ≡ Some number))
-        (λ disk settled v. Stands B.Blocks disk settled v blocks.old inodes.old
+        (λ detail disk settled v. StandsIn detail B.Blocks disk settled v blocks.old inodes.old
         × (entries v parent name.now ≡ Some number)
         × (IsBelow (entries v) number new_parent → ⊥))
         B.Blocks blocks.old blocks.new inodes.old inodes.new
@@ -162,7 +162,7 @@ fn replace<B: Blocks>(
     requires number { IsNumber inodes.old.geometry.inodes number }
     requires other { IsNumber inodes.old.geometry.inodes other }
     ensures replaced { Finds B.Blocks blocks.old blocks.new inodes.old inodes.new
-        (λ disk settled v. ReplacesBy disk settled v number other) (told result) }
+        (λ detail disk settled v. ReplacesBy detail disk settled v number other) (told result) }
     ensures own { IfOk (told result) (λ r. IfErr r (λ errno. IsTrue (is_own errno))) }
     ensures ready { IfOk result (λ x. IsAlone x.update × IsAtHand inodes.new x.number) }
 {
@@ -196,7 +196,7 @@ pub fn is_directory_at<B: Blocks>(
 ) -> Result<bool, ReadError>
     requires { IsNumber inodes.old.geometry.inodes number }
     ensures { Finds B.Blocks blocks.old blocks.new inodes.old inodes.new
-        (λ disk settled v is. is ≡ is_directory_node (v number)) result }
+        (λ detail disk settled v is. is ≡ is_directory_node (v number)) result }
 {
     let found = kind_at(alloc, inodes, blocks, number)?;
     match found {
@@ -223,10 +223,10 @@ fn place<'n, B: Blocks>(
     requires entry { IsEntry inodes.old.geometry.inodes (named_of entry.now) }
     requires at_hand { IsSomeAtHand inodes.old replaced }
     requires alone { IsSomeAlone replaced }
-    ensures { DecidesOn (λ disk settled v. Stands B.Blocks disk settled v blocks.old inodes.old
-        × Moves disk settled v parent name.now entry.now.number new_parent entry.now.name.now replaced)
-        (λ disk settled v. Stands B.Blocks disk settled v blocks.old inodes.old
-        × Moves disk settled v parent name.now entry.now.number new_parent entry.now.name.now replaced
+    ensures { DecidesOn (λ detail disk settled v. StandsIn detail B.Blocks disk settled v blocks.old inodes.old
+        × Moves detail disk settled v parent name.now entry.now.number new_parent entry.now.name.now replaced)
+        (λ detail disk settled v. StandsIn detail B.Blocks disk settled v blocks.old inodes.old
+        × Moves detail disk settled v parent name.now entry.now.number new_parent entry.now.name.now replaced
         × (IsBelow (entries v) entry.now.number new_parent → ⊥))
         B.Blocks blocks.old blocks.new inodes.old inodes.new
         (rename parent name.now new_parent entry.now.name.now) result }
@@ -294,7 +294,7 @@ fn edit_both<B: Blocks>(
     requires new_parent { IsNumber inodes.old.geometry.inodes new_parent }
     requires apart { parent ≢ new_parent }
     requires wanted { IsNameEdit inodes.old.geometry.inodes wanted.now }
-    ensures both { Finds B.Blocks blocks.old blocks.new inodes.old inodes.new (λ disk settled v e.
+    ensures both { Finds B.Blocks blocks.old blocks.new inodes.old inodes.new (λ detail disk settled v e.
         IfSome e (λ x.
         PreparesEdit disk inodes.new.geometry.inodes wanted.now (v new_parent)
         (loaded inodes.new new_parent) (Some x.0)

@@ -97,7 +97,7 @@ fn size_at<B: Blocks>(
     number: InodeNumber,
 ) -> Result<u64, ReadError>
     requires { IsNumber inodes.old.geometry.inodes number }
-    ensures { Finds B.Blocks blocks.old blocks.new inodes.old inodes.new (λ disk settled v n.
+    ensures { Finds B.Blocks blocks.old blocks.new inodes.old inodes.new (λ detail disk settled v n.
         IsTrue (is_file_node (v number)) → n ≡ length (unwrap_or (bytes_of_node (v number)) [])) result }
 {
     load(alloc, inodes, blocks, number)?;

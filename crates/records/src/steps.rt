@@ -5,6 +5,7 @@ ghost use Rattle.layout.specs.declared.inode.Inode.{Inode};
 ghost use Rattle.model.specs.Records.{with_node_mode};
 ghost use Rattle.model.specs.Volumes.{Node, is_directory_node, is_file_node};
 ghost use Rattle.model.specs.declared.limits.TheConstants.{FILE_NAMES};
+ghost use Rattle.images.specs.Soundness.{Detail};
 ghost use Rattle.inofile.specs.Objects.{IsObjectOrNone};
 ghost use Rattle.inofile.specs.Room.{room_of};
 ghost use Rattle.inofile.specs.declared.inode_file.ObjectSlot.{ObjectSlot};
@@ -67,13 +68,13 @@ pub(crate) fn commit_some(inodes: &mut InodeFile, step: Option<Step>)
 // Makes of an object in memory what an update says.
 fn update_object(object: &mut Option<Object>, update: Update)
     requires { FitsUpdate object.old update }
-    ensures updates { (disk : ℕ → List ℕ) (inodes : ℕ) (settled : Inode) (found to : Option Node)
-        → IsObjectOrNone disk inodes settled object.old found
-        → Updates disk inodes settled found object.old update to
-        → IsObjectOrNone disk inodes settled object.new to }
-    ensures room { (disk : ℕ → List ℕ) (inodes : ℕ) (settled : Inode) (base found to : Option Node)
-        (slot : Option ObjectSlot) (k : ℕ) → IsObjectOrNone disk inodes settled object.old found
-        → Updates disk inodes settled found object.old update to → CountsObject object.old slot
+    ensures updates { (detail : Detail) (disk : ℕ → List ℕ) (inodes : ℕ) (settled : Inode)
+        (found to : Option Node) → IsObjectOrNone detail disk inodes settled object.old found
+        → Updates detail disk inodes settled found object.old update to
+        → IsObjectOrNone detail disk inodes settled object.new to }
+    ensures room { (detail : Detail) (disk : ℕ → List ℕ) (inodes : ℕ) (settled : Inode)
+        (base found to : Option Node) (slot : Option ObjectSlot) (k : ℕ)
+        → IsObjectOrNone detail disk inodes settled object.old found → Updates detail disk inodes settled found object.old update to → CountsObject object.old slot
         → UpdateRoom object.old update k
         → room_of (Some (Changed object.new)) base to ≤ room_of slot base found + k }
 {
@@ -88,10 +89,10 @@ fn update_object(object: &mut Option<Object>, update: Update)
 
 // Gives a file or directory another mode.
 fn set_mode(object: &mut Option<Object>, mode: Mode)
-    ensures sets { (disk : ℕ → List ℕ) (inodes : ℕ) (settled : Inode) (found : Option Node)
-        → IsObjectOrNone disk inodes settled object.old found
+    ensures sets { (detail : Detail) (disk : ℕ → List ℕ) (inodes : ℕ) (settled : Inode)
+        (found : Option Node) → IsObjectOrNone detail disk inodes settled object.old found
         → IsTrue (is_file_node found || is_directory_node found)
-        → IsObjectOrNone disk inodes settled object.new (with_node_mode mode found) }
+        → IsObjectOrNone detail disk inodes settled object.new (with_node_mode mode found) }
     ensures room { RaisesFile object.old object.new 0 }
 {
     // The type of a mode holds it to its bits.
@@ -103,10 +104,10 @@ fn set_mode(object: &mut Option<Object>, mode: Mode)
 
 // Gives a file so many names.
 fn set_links(object: &mut Option<Object>, links: u32)
-    ensures sets { (disk : ℕ → List ℕ) (inodes : ℕ) (settled : Inode) (found : Option Node)
-        → IsObjectOrNone disk inodes settled object.old found
+    ensures sets { (detail : Detail) (disk : ℕ → List ℕ) (inodes : ℕ) (settled : Inode)
+        (found : Option Node) → IsObjectOrNone detail disk inodes settled object.old found
         → IsTrue (is_file_node found) → links ≤ FILE_NAMES
-        → IsObjectOrNone disk inodes settled object.new (with_node_links links found) }
+        → IsObjectOrNone detail disk inodes settled object.new (with_node_links links found) }
     ensures room { RaisesFile object.old object.new 0 }
 {
     if let Some(object) = object {

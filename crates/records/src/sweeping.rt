@@ -6,9 +6,10 @@ ghost use Rattle.layout.specs.declared.inode.Inode.{Inode};
 ghost use Rattle.model.specs.Records.{Change, applied, work_of};
 ghost use Rattle.model.specs.Room.{cost};
 ghost use Rattle.model.specs.Volumes.{Volume, IsMounted, is_file_node, is_nameless, swept, swept_node, with_node};
+ghost use Rattle.images.specs.Soundness.{Detail};
 ghost use Rattle.inofile.specs.Inodes.{HasRoomFor, IsKnown};
 ghost use Rattle.inofile.specs.Room.{memory_room};
-ghost use Rattle.inofile.specs.Volumes.{IsVolumeOf};
+ghost use Rattle.inofile.specs.Volumes.{IsVolumeIn, IsVolumeOf};
 ghost use Rattle.descriptors.specs.Fits.{FitsVolume};
 ghost use Rattle.descriptors.specs.Tables.{table_of};
 ghost use Rattle.records.specs.Opened.{HasNumbers};
@@ -78,12 +79,12 @@ pub fn drop_nameless(inodes: &mut InodeFile, number: InodeNumber)
     ensures geometry { inodes.new.geometry ≡ inodes.old.geometry }
     ensures stays { (n : ℕ) → IsKnown inodes.old n → IsKnown inodes.new n }
     ensures keeps { (n : ℕ) → HasRoomFor inodes.old n → HasRoomFor inodes.new n }
-    ensures volume { (count : ℕ) (disk : ℕ → List ℕ) (settled : ℕ → Inode) (v : Volume)
-        → IsVolumeOf count disk settled inodes.old v
-        → IsVolumeOf count disk settled inodes.new
+    ensures volume { (detail : Detail) (count : ℕ) (disk : ℕ → List ℕ) (settled : ℕ → Inode)
+        (v : Volume) → IsVolumeIn detail count disk settled inodes.old v
+        → IsVolumeIn detail count disk settled inodes.new
         (with_node number (swept_node false (v number)) v) }
-    ensures room { (base : Volume) (count : ℕ) (disk : ℕ → List ℕ) (settled : ℕ → Inode) (v : Volume)
-        → IsVolumeOf count disk settled inodes.old v
+    ensures room { (detail : Detail) (base : Volume) (count : ℕ) (disk : ℕ → List ℕ)
+        (settled : ℕ → Inode) (v : Volume) → IsVolumeIn detail count disk settled inodes.old v
         → memory_room base inodes.new (with_node number (swept_node false (v number)) v)
         ≤ memory_room base inodes.old v }
 {
@@ -141,8 +142,8 @@ fn note_figures(inodes: &InodeFile, files: &mut Descriptors, number: InodeNumber
 /// Whether a file in memory has no name.
 pub fn is_nameless(inodes: &InodeFile, number: InodeNumber) -> bool
     requires { IsKnown inodes.now number }
-    ensures { (count : ℕ) (disk : ℕ → List ℕ) (settled : ℕ → Inode) (v : Volume)
-        → IsVolumeOf count disk settled inodes.now v → result ≡ is_nameless (v number) }
+    ensures { (detail : Detail) (count : ℕ) (disk : ℕ → List ℕ) (settled : ℕ → Inode)
+        (v : Volume) → IsVolumeIn detail count disk settled inodes.now v → result ≡ is_nameless (v number) }
 {
     let Some(object) = inodes.get(number.get()) else {
         return false;

@@ -4,9 +4,10 @@ ghost use Rattle.std.specs.Prelude.{◌≡◌, ◌↔◌, ℕ, List, Option, IfO
 ghost use Rattle.layout.specs.declared.inode.Inode.{Inode};
 ghost use Rattle.model.specs.Records.{IsEmpty, unname};
 ghost use Rattle.model.specs.Volumes.{Volume, entries, with_name_less};
+ghost use Rattle.images.specs.Soundness.{Detail};
 ghost use Rattle.inode.specs.declared.object.Object.{Object};
 ghost use Rattle.inofile.specs.Inodes.{IsKnown};
-ghost use Rattle.inofile.specs.Volumes.{IsVolumeOf};
+ghost use Rattle.inofile.specs.Volumes.{IsVolumeIn};
 ghost use Rattle.paths.specs.Numbers.{IsNumber};
 ghost use Rattle.records.specs.Looking.{Finds};
 ghost use Rattle.records.specs.Moving.{Releases};
@@ -73,7 +74,7 @@ pub(crate) fn number_in<B: Blocks>(
 ) -> Result<Option<InodeNumber>, ReadError>
     requires { IsNumber inodes.old.geometry.inodes directory }
     ensures number { Finds B.Blocks blocks.old blocks.new inodes.old inodes.new
-        (λ disk settled v n. n ≡ entries v directory name.now) result }
+        (λ detail disk settled v n. n ≡ entries v directory name.now) result }
     ensures within { IfOk result (λ n. IfSome n (IsNumber inodes.old.geometry.inodes)) }
 {
     paths::number_at(alloc, inodes, blocks, directory, name)
@@ -89,7 +90,7 @@ pub(crate) fn release<B: Blocks>(
 ) -> Result<Option<Update>, ReadError>
     requires { IsNumber inodes.old.geometry.inodes number }
     ensures released { Finds B.Blocks blocks.old blocks.new inodes.old inodes.new
-        (λ disk settled v. Releases disk settled v number) result }
+        (λ detail disk settled v. Releases detail disk settled v number) result }
     ensures ready { IfOk result (λ u. IfSome u (λ x. IsAlone x × IsAtHand inodes.new number)) }
 {
     let empty = is_empty(alloc, inodes, blocks, number)?;
@@ -109,7 +110,7 @@ fn is_empty<B: Blocks>(
 ) -> Result<bool, ReadError>
     requires { IsNumber inodes.old.geometry.inodes number }
     ensures { Finds B.Blocks blocks.old blocks.new inodes.old inodes.new
-        (λ disk settled v empty. IsTrue empty ↔ IsEmpty v number) result }
+        (λ detail disk settled v empty. IsTrue empty ↔ IsEmpty v number) result }
 {
     let names = paths::list(alloc, inodes, blocks, number)?;
     Ok(names.as_slice().is_empty())
@@ -119,9 +120,9 @@ fn is_empty<B: Blocks>(
 fn released(inodes: &InodeFile, number: InodeNumber) -> Update
     requires { IsKnown inodes.now number }
     ensures alone { IsAlone result }
-    ensures updates { (count : ℕ) (disk : ℕ → List ℕ) (settled : ℕ → Inode) (v : Volume)
-        → IsVolumeOf count disk settled inodes.now v → (many : ℕ) (o : Option Object)
-        → Updates disk many (settled number) (v number) o result (with_name_less (v number))
+    ensures updates { (detail : Detail) (count : ℕ) (disk : ℕ → List ℕ) (settled : ℕ → Inode)
+        (v : Volume) → IsVolumeIn detail count disk settled inodes.now v
+        → (many : ℕ) (o : Option Object) → Updates detail disk many (settled number) (v number) o result (with_name_less (v number))
         × UpdateRoom o result 6 }
 {
     let Some(object) = paths::object(inodes, number) else {

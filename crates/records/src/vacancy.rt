@@ -13,6 +13,7 @@ ghost use Rattle.blocktree.specs.Trees.{IsSoundAt};
 ghost use Rattle.blocktree.specs.declared.tree.BlockTree.{BlockTree};
 ghost use Rattle.inode.specs.Bases.{IsBased};
 ghost use Rattle.inode.specs.Room.{file_room};
+ghost use Rattle.records.specs.Room.{HasRoomOfNew};
 ghost use Rattle.inofile.specs.Objects.{IsObject};
 ghost use Rattle.records.specs.Looking.{Finds};
 
@@ -35,7 +36,7 @@ pub fn is_vacant<B: Blocks>(
     requires low { FIRST_NUMBER ≤ number }
     requires high { number < inodes.old.geometry.inodes }
     ensures { Finds B.Blocks blocks.old blocks.new inodes.old inodes.new
-        (λ disk settled v vacant. vacant ≡ is_vacant (v number)) result }
+        (λ detail disk settled v vacant. vacant ≡ is_vacant (v number)) result }
 {
     load(alloc, inodes, blocks, number)?;
     let Some(object) = paths::object(inodes, number) else {
@@ -69,7 +70,7 @@ pub fn new_object<B: Blocks>(
     ensures object { (disk : ℕ → List ℕ) → B.Shows blocks.old disk → IfOk result
         (λ o. (inodes : ℕ) (settled : Inode)
         → IsObject disk inodes settled o (Some (node_of (made_of object.now)))) }
-    ensures room { IfOk result (λ o. file_room o.file ≤ 5) }
+    ensures room { IfOk result HasRoomOfNew }
     ensures damaged { (disk : ℕ → List ℕ) → B.Shows blocks.old disk
         → IsErrOf result ReadError.Damaged
         → ((t : BlockTree) (i : ℕ) → ((settled : Inode) → IsBased settled t)
@@ -89,7 +90,7 @@ fn new_link<B: Blocks>(alloc: Global, blocks: &mut B, text: &[u8]) -> Result<Obj
     ensures object { (disk : ℕ → List ℕ) → B.Shows blocks.old disk → IfOk result
         (λ o. (inodes : ℕ) (settled : Inode)
         → IsObject disk inodes settled o (Some (link_node text.now))) }
-    ensures room { IfOk result (λ o. file_room o.file ≤ 5) }
+    ensures room { IfOk result HasRoomOfNew }
     ensures damaged { (disk : ℕ → List ℕ) → B.Shows blocks.old disk
         → IsErrOf result ReadError.Damaged
         → ((t : BlockTree) (i : ℕ) → ((settled : Inode) → IsBased settled t)

@@ -1,3 +1,4 @@
+pub mod GraphLaws
 mod Errors
 mod RecordLaws
 mod SizeLaws

@@ -5,28 +5,29 @@ use Rattle.byteorder.specs.Numbers.{length-bytes_low_first}
 use Rattle.byteorder.specs.Endian.{little_bytes}
 use Rattle.layout.specs.Log.{record_of, records_of, HoldsBodies, IsClosed}
 use Rattle.layout.specs.Record.{Change, IsChange, change_bytes}
-use Rattle.model.specs.Records.{Applies, applied}
+use Rattle.model.specs.Records.{applied}
 use Rattle.model.specs.Volumes.{Volume}
+use Rattle.images.specs.Soundness.{Detail}
 use Rattle.oplog.specs.SavedLog.{HoldsLeaving}
-use Rattle.replay.specs.Volumes.{LeadTo, SpellsRecord, bodies_of}
+use Rattle.replay.specs.Volumes.{AppliesIn, LeadTo, SpellsRecord, bodies_of}
 use Rattle.layout.proofs.OpenLaws.{record_once}
 
 head_length : (n : ℕ) → length (1 ∷ little_bytes 4 n) ≡ 5
 head_length n = omega (arith, length-bytes_low_first 0 4 n)
 
 -- the records behind an open gate: the first, and those that lead on
-pub record Step (inodes : ℕ) (body after : List ℕ) (changes : List Change) (now w : Volume) : Type 0 where
+pub record Step (detail : Detail) (inodes : ℕ) (body after : List ℕ) (changes : List Change) (now w : Volume) : Type 0 where
   pub change : Change
   pub more : List Change
   pub are : changes ≡ change ∷ more
   pub spells : SpellsRecord body change
-  pub applies : Applies inodes now change
-  pub leads : LeadTo inodes after more (applied change now) w
+  pub applies : AppliesIn detail inodes now change
+  pub leads : LeadTo detail inodes after more (applied change now) w
 
-pub step : (inodes : ℕ) (rest body after : List ℕ) (changes : List Change) (now w : Volume) → length body < 2 ^ 32 → rest ≡ record_of body ++ after
-    → LeadTo inodes rest changes now w → Step inodes body after changes now w
-step inodes rest body after [] now w short is leads = let e : 0 ∷ leads.held.0 ≡ record_of body ++ after = sym leads.held.1 ∙ is in absurd (cc)
-step inodes rest body after (c ∷ more) now w short is leads =
+pub step : (detail : Detail) (inodes : ℕ) (rest body after : List ℕ) (changes : List Change) (now w : Volume) → length body < 2 ^ 32 → rest ≡ record_of body ++ after
+    → LeadTo detail inodes rest changes now w → Step detail inodes body after changes now w
+step detail inodes rest body after [] now w short is leads = let e : 0 ∷ leads.held.0 ≡ record_of body ++ after = sym leads.held.1 ∙ is in absurd (cc)
+step detail inodes rest body after (c ∷ more) now w short is leads =
     let same = record_once body (change_bytes c) after leads.held.0 short leads.held.1 (sym is ∙ leads.held.2) in
     record {
       change = c;
@@ -42,25 +43,22 @@ step inodes rest body after (c ∷ more) now w short is leads =
     }
 
 -- behind a closed gate there are none
-pub ends : (inodes : ℕ) (rest : List ℕ) (changes : List Change) (now w : Volume) → IsClosed rest → LeadTo inodes rest changes now w → (changes ≡ []) × (w ≡ now)
-ends inodes rest [] now w shut leads = (refl, leads.replays)
-ends inodes rest (c ∷ more) now w shut leads = let e : 0 ∷ shut.0 ≡ record_of (change_bytes c) ++ leads.held.0 = sym shut.1 ∙ leads.held.2 in absurd (cc)
+pub ends : (detail : Detail) (inodes : ℕ) (rest : List ℕ) (changes : List Change) (now w : Volume) → IsClosed rest → LeadTo detail inodes rest changes now w → (changes ≡ []) × (w ≡ now)
+ends detail inodes rest [] now w shut leads = (refl, leads.replays)
+ends detail inodes rest (c ∷ more) now w shut leads = let e : 0 ∷ shut.0 ≡ record_of (change_bytes c) ++ leads.held.0 = sym shut.1 ∙ leads.held.2 in absurd (cc)
 
 -- What is left to be replayed of records that lead to a volume: from the volume that stands now, and so many bytes.
-pub record IsLeft (inodes : ℕ) (records rest : List ℕ) (changes : List Change) (now w : Volume) : Type 0 where
+pub record IsLeft (detail : Detail) (inodes : ℕ) (records rest : List ℕ) (changes : List Change) (now w : Volume) : Type 0 where
   pub more : List Change
-  pub leads : LeadTo inodes rest more now w
+  pub leads : LeadTo detail inodes rest more now w
   pub length_is : length (records_of (bodies_of more)) + length records ≡ length rest + length (records_of (bodies_of changes))
 
-pub none_done : (inodes : ℕ) (records : List ℕ) (changes : List Change) (v w : Volume) → LeadTo inodes records changes v w → IsLeft inodes records records changes v w
-none_done inodes records changes v w leads = record { more = changes; leads = leads; length_is = omega arith }
-
-module _ (inodes : ℕ) (records rest : List ℕ) (changes : List Change) (now w : Volume) (left : IsLeft inodes records rest changes now w) where
+module _ (detail : Detail) (inodes : ℕ) (records rest : List ℕ) (changes : List Change) (now w : Volume) (left : IsLeft detail inodes records rest changes now w) where
   -- one record more
   pub one_more : (body after : List ℕ) → length body < 2 ^ 32 → rest ≡ record_of body ++ after
-      → (s : Step inodes body after left.more now w) × (on : IsLeft inodes records after changes (applied s.change now) w) × (on.more ≡ s.more)
+      → (s : Step detail inodes body after left.more now w) × (on : IsLeft detail inodes records after changes (applied s.change now) w) × (on.more ≡ s.more)
   one_more body after short is =
-      let s = step inodes rest body after left.more now w short is left.leads in
+      let s = step detail inodes rest body after left.more now w short is left.leads in
       let body_is : change_bytes s.change ≡ body = sym s.spells.spelled in (
         s,
         record {
@@ -82,7 +80,7 @@ module _ (inodes : ℕ) (records rest : List ℕ) (changes : List Change) (now w
   -- all of them
   pub all_done : HoldsBodies records (bodies_of changes) → IsClosed rest → HoldsLeaving records (bodies_of changes) (length rest) × (w ≡ now) × (left.more ≡ [])
   all_done held shut =
-      let e = ends inodes rest left.more now w shut left.leads in
+      let e = ends detail inodes rest left.more now w shut left.leads in
       (record { held = held; left_is = omega (arith, left.length_is, ap (λ cs. length (records_of (bodies_of cs))) e.0) }, e.1, e.0)
 
 -- ---- any records

@@ -5,10 +5,12 @@ use Rattle.std.proofs.lemmas.List.{map-append}
 use Rattle.std.proofs.lemmas.List.Elements.{All-nil, All-cons, All-head, All-tail}
 use Rattle.layout.specs.Log.{HoldsBodies}
 use Rattle.layout.specs.Record.{Change, IsChange, change_bytes}
-use Rattle.model.specs.Records.{Replays, applied, costs}
+use Rattle.model.specs.Records.{applied, costs}
 use Rattle.model.specs.Volumes.{Volume}
+use Rattle.images.specs.Soundness.{Detail}
 use Rattle.oplog.specs.SavedLog.{Saved, TellsLog}
-use Rattle.replay.specs.Volumes.{LeadTo, SavesRecords, bodies_of}
+use Rattle.replay.specs.Volumes.{LeadTo, ReplaysIn, SavesRecordsIn, bodies_of}
+use Rattle.replay.proofs.GraphLaws.{replays_by_one}
 
 all_first : (P : Change → Type 0) (one two : List Change) → All P (one ++ two) → All P one
 all_first P [] two all = All-nil P
@@ -40,28 +42,28 @@ in_two (c ∷ changes) (body ∷ first) second is =
       second_is = rest.second_is;
     }
 
-replays_parts : (inodes : ℕ) (one two : List Change) (old new : Volume) → Replays inodes old (one ++ two) new → (mid : Volume) × Replays inodes old one mid × Replays inodes mid two new
-replays_parts inodes [] two old new replays = (old, refl, replays)
-replays_parts inodes (c ∷ one) two old new replays =
-    let rest = replays_parts inodes one two (applied c old) new replays.1 in
+replays_parts : (detail : Detail) (inodes : ℕ) (one two : List Change) (old new : Volume) → ReplaysIn detail inodes old (one ++ two) new → (mid : Volume) × ReplaysIn detail inodes old one mid × ReplaysIn detail inodes mid two new
+replays_parts detail inodes [] two old new replays = (old, refl, replays)
+replays_parts detail inodes (c ∷ one) two old new replays =
+    let rest = replays_parts detail inodes one two (applied c old) new replays.1 in
     (rest.0, (replays.0, rest.1), rest.2)
 
 -- The records of each epoch lead on from those of the one before.
-pub record LeadOn (inodes : ℕ) (first second : List ℕ) (changes : List Change) (old new : Volume) : Type 0 where
+pub record LeadOn (detail : Detail) (inodes : ℕ) (first second : List ℕ) (changes : List Change) (old new : Volume) : Type 0 where
   pub one : List Change
   pub two : List Change
   pub joined : changes ≡ one ++ two
   pub mid : Volume
-  pub leads : LeadTo inodes first one old mid
-  pub leads_on : LeadTo inodes second two mid new
+  pub leads : LeadTo detail inodes first one old mid
+  pub leads_on : LeadTo detail inodes second two mid new
 
-pub lead_on : (inodes : ℕ) (nvram : List ℕ) (saved : Saved) (changes : List Change) (old new : Volume) → TellsLog nvram saved → SavesRecords inodes nvram saved changes old new
-    → LeadOn inodes saved.first.records saved.second.records changes old new
-lead_on inodes nvram saved changes old new tells saves =
+pub lead_on : (detail : Detail) (inodes : ℕ) (nvram : List ℕ) (saved : Saved) (changes : List Change) (old new : Volume) → TellsLog nvram saved → SavesRecordsIn detail inodes nvram saved changes old new
+    → LeadOn detail inodes saved.first.records saved.second.records changes old new
+lead_on detail inodes nvram saved changes old new tells saves =
     let there = tells.held (bodies_of changes) saves.held in
     let parts = in_two changes there.0 there.1 there.2 in
     let are = subst (All IsChange) parts.joined saves.are in
-    let steps = replays_parts inodes parts.one parts.two old new (subst (λ (l : List Change). Replays inodes old l new) parts.joined saves.replays) in
+    let steps = replays_parts detail inodes parts.one parts.two old new (subst (λ (l : List Change). ReplaysIn detail inodes old l new) parts.joined (replays_by_one detail inodes changes old new saves.replays)) in
     record {
       one = parts.one;
       two = parts.two;
@@ -83,6 +85,6 @@ pub joined_bodies : (changes one two : List Change) → changes ≡ one ++ two �
 joined_bodies changes one two is = ap bodies_of is ∙ map-append change_bytes one two
 
 -- records one after the other cost what each part does
-pub costs_joined : (inodes : ℕ) (one two : List Change) (v mid : Volume) → Replays inodes v one mid → costs v (one ++ two) ≡ costs v one + costs mid two
-costs_joined inodes [] two v mid is = ap (λ (u : Volume). costs u two) (sym is) ∙ omega arith
-costs_joined inodes (c ∷ one) two v mid replays = omega (arith, costs_joined inodes one two (applied c v) mid replays.1)
+pub costs_joined : (detail : Detail) (inodes : ℕ) (one two : List Change) (v mid : Volume) → ReplaysIn detail inodes v one mid → costs v (one ++ two) ≡ costs v one + costs mid two
+costs_joined detail inodes [] two v mid is = ap (λ (u : Volume). costs u two) (sym is) ∙ omega arith
+costs_joined detail inodes (c ∷ one) two v mid replays = omega (arith, costs_joined detail inodes one two (applied c v) mid replays.1)

@@ -6,7 +6,8 @@ use Rattle.std.proofs.Math.Path.{fun_ext}
 use Rattle.std.proofs.lemmas.Bool.{cases_lt, cases_eq, cond_below, cond_above}
 use Rattle.std.proofs.lemmas.Bool.Decides.{nat_tests}
 use Rattle.model.specs.Records.{count_nameless, without_nameless}
-use Rattle.model.specs.Volumes.{Node, directory_node, file_node, link_node, Volume, IsVolume, is_directory_node, is_nameless, swept_node, with_node}
+use Rattle.model.specs.Volumes.{Node, directory_node, file_node, link_node, Volume, is_directory_node, is_nameless, swept_node, with_node}
+use Rattle.records.specs.Preparing.{HasGraph}
 use Rattle.inofile.specs.Volumes.{HasNoOwn}
 
 -- the files without names below a number are dropped
@@ -56,7 +57,7 @@ one_more m v = fun_ext {f = with_node m (swept_node false (dropped_below m v m))
 ])
 
 -- none is dropped of the numbers before the first that an object may have
-pub starts : (inodes : ℕ) (v : Volume) → IsVolume inodes v → HasNoOwn v → v ≡ dropped_below 4 v
+pub starts : (inodes : ℕ) (v : Volume) → HasGraph inodes v → HasNoOwn v → v ≡ dropped_below 4 v
 starts inodes v is own = fun_ext {f = v} {g = dropped_below 4 v} (λ k. elim (cases_lt k 4) [
   | inl low ↦ elim (cases_eq k 3) [
     | inl root ↦ sym (directory_stays (v k) (subst (λ n. IsTrue (is_directory_node (v n))) (sym root) is.graph.root)) ∙ sym (below 4 k v low)
@@ -68,10 +69,10 @@ starts inodes v is own = fun_ext {f = v} {g = dropped_below 4 v} (λ k. elim (ca
 ])
 
 -- behind the last number there are none
-pub ends : (inodes : ℕ) (v : Volume) → IsVolume inodes v → 4 ≤ inodes → dropped_below inodes v ≡ without_nameless v
+pub ends : (inodes : ℕ) (v : Volume) → HasGraph inodes v → 4 ≤ inodes → dropped_below inodes v ≡ without_nameless v
 ends inodes v is many = fun_ext {f = dropped_below inodes v} {g = without_nameless v} (λ k. elim (cases_lt k inodes) [
   | inl low ↦ below inodes k v low
-  | inr high ↦ past inodes k v high ∙ sym (none_where (v k) (λ some. elim (is.limits.numbers k some) [
+  | inr high ↦ past inodes k v high ∙ sym (none_where (v k) (λ some. elim (is.numbers k some) [
     | inl root ↦ absurd (omega arith)
     | inr within ↦ absurd (omega (arith, within.1))
   ]))
@@ -89,7 +90,7 @@ none_here : (n : ℕ) (v : Volume) → is_nameless (v n) ≡ false → count_nam
 none_here n v is = let here = ap (λ (b : Bool). count_nameless n v + (if b then 1 else 0)) is in here ∙ omega arith
 
 -- the numbers before the first that an object may have are none
-pub none_counted : (inodes : ℕ) (v : Volume) → IsVolume inodes v → HasNoOwn v → 0 ≡ count_nameless 4 v
+pub none_counted : (inodes : ℕ) (v : Volume) → HasGraph inodes v → HasNoOwn v → 0 ≡ count_nameless 4 v
 none_counted inodes v is own = sym (
     none_here 3 v (directory_named (v 3) is.graph.root) ∙ none_here 2 v (ap is_nameless (own 2 (omega arith)))
     ∙ none_here 1 v (ap is_nameless (own 1 (omega arith))) ∙ none_here 0 v (ap is_nameless (own 0 (omega arith)))

@@ -1,26 +1,32 @@
 -- The volume that memory stands for, and records that lead from one to another.
-use Rattle.std.specs.Prelude.{ℕ, ◌≡◌, ◌⊎◌, ◌+◌, ◌≤◌, List, All, Result, MatchResult, map}
+use Rattle.std.specs.Prelude.{ℕ, ◌≡◌, ◌⊎◌, ◌+◌, ◌≤◌, List, [], ◌∷◌, All, Result, MatchResult, map}
 use Rattle.layout.specs.Log.{HoldsBodies, LogHolds}
 use Rattle.layout.specs.Record.{Change, IsChange, change_bytes}
 use Rattle.layout.specs.declared.inode.Inode.{Inode}
-use Rattle.model.specs.Records.{Replays, costs}
-use Rattle.model.specs.Volumes.{Volume, IsVolume}
+use Rattle.model.specs.Records.{Applies, Replays, applied, costs}
+use Rattle.model.specs.Volumes.{Volume}
 use Rattle.blocktree.specs.declared.error.ReadError.{ReadError}
 use Rattle.blocktree.specs.declared.error.ReadError.TheVariants.{NoMemory, Device}
+use Rattle.images.specs.Replaying.{LeavesPlace, ReplaysWithin}
+use Rattle.images.specs.Soundness.{Detail, by_bytes, by_sizes}
 use Rattle.inofile.specs.Room.{memory_room}
-use Rattle.inofile.specs.Volumes.{IsVolumeOf}
+use Rattle.inofile.specs.Volumes.{IsVolumeIn}
 use Rattle.inofile.specs.declared.inode_file.InodeFile.{InodeFile}
 use Rattle.oplog.specs.SavedLog.{HoldsLeaving, Saved}
+use Rattle.records.specs.Preparing.{IsKnownVolume}
 use Rattle.replay.specs.declared.replaying.ReplayedHalf.{ReplayedHalf}
 
 -- an answer of which this is true, but where memory ran out or a device call failed
 abbrev pub ComesTo : {T : Type 0} → Result T ReadError → (T → Type 0) → Type 0
 ComesTo result P = MatchResult result P (λ e. (e ≡ NoMemory) ⊎ (e ≡ Device))
 
--- memory stands for this volume, over a disk of so many blocks with these inodes settled
-pub record HasVolume (count : ℕ) (disk : ℕ → List ℕ) (settled : ℕ → Inode) (s : InodeFile) (v : Volume) : Type 0 where
-  pub memory : IsVolumeOf count disk settled s v
-  pub volume : IsVolume s.geometry.inodes v
+-- memory stands for this volume, in so much detail, over a disk of so many blocks with these inodes settled
+pub record HasVolumeIn (detail : Detail) (count : ℕ) (disk : ℕ → List ℕ) (settled : ℕ → Inode) (s : InodeFile) (v : Volume) : Type 0 where
+  pub memory : IsVolumeIn detail count disk settled s v
+  pub volume : IsKnownVolume detail s.geometry.inodes v
+
+abbrev pub HasVolume : ℕ → (ℕ → List ℕ) → (ℕ → Inode) → InodeFile → Volume → Type 0
+HasVolume = HasVolumeIn by_bytes
 
 -- what a consistency point may store, over any base, rises by so much at the most from this memory of a volume to that
 abbrev pub RaisesRoom : InodeFile → Volume → InodeFile → Volume → ℕ → Type 0
@@ -35,11 +41,25 @@ pub record SpellsRecord (body : List ℕ) (change : Change) : Type 0 where
 abbrev pub bodies_of : List Change → List (List ℕ)
 bodies_of changes = map change_bytes changes
 
+-- records that apply one after the other lead from one volume to another: within the limits, where the volumes may pass them
+abbrev pub ReplaysFor : Detail → ℕ → Volume → List Change → Volume → Type 0
+ReplaysFor by_bytes inodes v changes w = Replays inodes v changes w
+ReplaysFor by_sizes inodes v changes w = ReplaysWithin inodes v changes w
+
+-- the same record by record
+abbrev pub AppliesIn : Detail → ℕ → Volume → Change → Type 0
+AppliesIn by_bytes inodes v change = Applies inodes v change
+AppliesIn by_sizes inodes v change = Applies inodes v change × LeavesPlace v change
+
+abbrev pub ReplaysIn : Detail → ℕ → Volume → List Change → Volume → Type 0
+ReplaysIn detail inodes v [] w = w ≡ v
+ReplaysIn detail inodes v (change ∷ changes) w = AppliesIn detail inodes v change × ReplaysIn detail inodes (applied change v) changes w
+
 -- the bytes from a gate on hold these records, which lead from one volume to another
-pub record LeadTo (inodes : ℕ) (records : List ℕ) (changes : List Change) (old new : Volume) : Type 0 where
+pub record LeadTo (detail : Detail) (inodes : ℕ) (records : List ℕ) (changes : List Change) (old new : Volume) : Type 0 where
   pub are : All IsChange changes
   pub held : HoldsBodies records (bodies_of changes)
-  pub replays : Replays inodes old changes new
+  pub replays : ReplaysIn detail inodes old changes new
 
 -- What is left behind the records from a gate on, and what these cost.
 pub record HasReplayed (records : List ℕ) (changes : List Change) (v : Volume) (r : ReplayedHalf) : Type 0 where
@@ -47,7 +67,10 @@ pub record HasReplayed (records : List ℕ) (changes : List Change) (v : Volume)
   pub cost : r.cost ≡ costs v changes
 
 -- the log that was saved over a root holds these records, which lead from one volume to another
-pub record SavesRecords (inodes : ℕ) (nvram : List ℕ) (saved : Saved) (changes : List Change) (old new : Volume) : Type 0 where
+pub record SavesRecordsIn (detail : Detail) (inodes : ℕ) (nvram : List ℕ) (saved : Saved) (changes : List Change) (old new : Volume) : Type 0 where
   pub are : All IsChange changes
   pub held : LogHolds saved.half saved.generation nvram (bodies_of changes)
-  pub replays : Replays inodes old changes new
+  pub replays : ReplaysFor detail inodes old changes new
+
+abbrev pub SavesRecords : ℕ → List ℕ → Saved → List Change → Volume → Volume → Type 0
+SavesRecords = SavesRecordsIn by_bytes

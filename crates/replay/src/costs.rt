@@ -7,8 +7,9 @@ ghost use Rattle.model.specs.declared.limits.TheConstants.{TRANSFER_BYTES};
 ghost use Rattle.model.specs.Records.{size_before, work_of};
 ghost use Rattle.model.specs.Room as room;
 ghost use Rattle.model.specs.Volumes.{Volume};
+ghost use Rattle.images.specs.Soundness.{Detail};
 ghost use Rattle.inofile.specs.Inodes.{IsKnown};
-ghost use Rattle.inofile.specs.Volumes.{IsVolumeOf};
+ghost use Rattle.inofile.specs.Volumes.{IsVolumeIn};
 ghost use Rattle.replay.specs.Costs.{IsSizeBefore, KnowsFile};
 ghost use Rattle.replay.specs.declared.costs.TheConstants.{MOST_COST};
 
@@ -29,8 +30,8 @@ pub const MOST_COST: u64 = 40;
 /// How many bytes the file has that a record writes to or cuts, before it is put in force: the file is in memory then. Of any other
 /// record 0.
 pub fn size_before(inodes: &InodeFile, logged: &Record<'_>) -> u64
-    ensures { (count : ℕ) (disk : ℕ → List ℕ) (settled : ℕ → Inode) (v : Volume)
-        → IsVolumeOf count disk settled inodes.now v → KnowsFile inodes.now (change_of logged.now)
+    ensures { (detail : Detail) (count : ℕ) (disk : ℕ → List ℕ) (settled : ℕ → Inode)
+        (v : Volume) → IsVolumeIn detail count disk settled inodes.now v → KnowsFile inodes.now (change_of logged.now)
         → IsSizeBefore v (change_of logged.now) result }
 {
     match logged {
@@ -46,8 +47,8 @@ pub fn size_before(inodes: &InodeFile, logged: &Record<'_>) -> u64
 
 /// How many bytes the file with a number has, which is in memory; 0 where no file has it.
 fn file_size(inodes: &InodeFile, number: u32) -> u64
-    ensures { (count : ℕ) (disk : ℕ → List ℕ) (settled : ℕ → Inode) (v : Volume)
-        → IsVolumeOf count disk settled inodes.now v → IsKnown inodes.now number
+    ensures { (detail : Detail) (count : ℕ) (disk : ℕ → List ℕ) (settled : ℕ → Inode)
+        (v : Volume) → IsVolumeIn detail count disk settled inodes.now v → IsKnown inodes.now number
         → result ≡ size_before v number }
 {
     if !inodes.is_known(number) {
@@ -63,7 +64,8 @@ fn file_size(inodes: &InodeFile, number: u32) -> u64
     }
 }
 
-/// The most blocks that a consistency point stores for a record, over a file of this size.
+/// The most blocks that a consistency point stores for a record, over a file of this size. No record costs more over a greater file: the
+/// size stands here because what a record costs is promised of it.
 pub fn cost_of(logged: &Record<'_>, _size: u64) -> u64
     requires { KeepsLimits (change_of logged.now) }
     ensures cost { (v : Volume) → IsSizeBefore v (change_of logged.now) _size

@@ -8,4 +8,5 @@ mod saved;
 mod sweeping;
 
 pub use costs::{MOST_COST, cost_of, keep_of, size_before};
+pub use replaying::replay_record;
 pub use saved::{Replayed, replay};

@@ -3,13 +3,14 @@
 ghost use Rattle.std.specs.Prelude.{◌≡◌, ◌≤◌, ◌*◌, List, ℕ, IfOk, length};
 ghost use Rattle.layout.specs.declared.geometry.TheConstants.{MOST_HALF};
 ghost use Rattle.layout.specs.declared.inode.Inode.{Inode};
-ghost use Rattle.model.specs.Records.{Applies, Change, applied, work_of};
+ghost use Rattle.model.specs.Records.{Change, applied, work_of};
 ghost use Rattle.model.specs.Room as room;
 ghost use Rattle.model.specs.Volumes.{Volume};
 ghost use Rattle.buffers.specs.Reads.{ReadsBlocks};
 ghost use Rattle.blocktree.specs.Errors.{IsFault};
+ghost use Rattle.images.specs.Soundness.{Detail};
 ghost use Rattle.oplog.specs.SavedLog.{HoldsLeaving};
-ghost use Rattle.replay.specs.Volumes.{ComesTo, HasReplayed, HasVolume, LeadTo, RaisesRoom, SpellsRecord};
+ghost use Rattle.replay.specs.Volumes.{AppliesIn, ComesTo, HasReplayed, HasVolumeIn, LeadTo, RaisesRoom, SpellsRecord};
 ghost use Rattle.replay.specs.declared.costs.TheConstants.{MOST_COST};
 
 use crate::costs::{cost_of, size_before};
@@ -43,12 +44,12 @@ pub(crate) fn replay_all<B: Blocks>(
     ensures geometry { inodes.new.geometry ≡ inodes.old.geometry }
     ensures some { IfOk result (λ r. (1 ≤ r.left) × (r.left ≤ length records.now)) }
     ensures few { IfOk result (λ r. r.cost ≤ MOST_COST * length records.now) }
-    ensures replays { (disk : ℕ → List ℕ) (settled : ℕ → Inode) (v w : Volume)
+    ensures replays { (detail : Detail) (disk : ℕ → List ℕ) (settled : ℕ → Inode) (v w : Volume)
         (changes : List Change) → B.Shows blocks.old disk
-        → HasVolume (B.count blocks.old) disk settled inodes.old v
-        → LeadTo inodes.old.geometry.inodes records.now changes v w
+        → HasVolumeIn detail (B.count blocks.old) disk settled inodes.old v
+        → LeadTo detail inodes.old.geometry.inodes records.now changes v w
         → ComesTo result (λ r. HasReplayed records.now changes v r
-        × HasVolume (B.count blocks.old) disk settled inodes.new w
+        × HasVolumeIn detail (B.count blocks.old) disk settled inodes.new w
         × RaisesRoom inodes.old v inodes.new w r.cost) }
     ensures holds { IfOk result
         (λ r. (bodies : List (List ℕ)) × HoldsLeaving records.now bodies r.left) }
@@ -65,15 +66,16 @@ pub(crate) fn replay_all<B: Blocks>(
             }
             Gate::Malformed => return Err(ReadError::Damaged),
             Gate::Open { body, rest: after } => {
-                cost += replay_one(alloc, inodes, blocks, body)?;
+                cost += replay_record(alloc, inodes, blocks, body)?;
                 rest = after;
             }
         }
     }
 }
 
-/// Does to the inodes in memory what the record with this body says, and answers what it costs a consistency point.
-fn replay_one<B: Blocks>(
+/// Does to the inodes in memory what the record with this body says, and answers what it costs a consistency point. `Damaged` where it is
+/// no record's, or the record doesn't apply.
+pub fn replay_record<B: Blocks>(
     alloc: Global,
     inodes: &mut InodeFile,
     blocks: &mut B,
@@ -82,14 +84,20 @@ fn replay_one<B: Blocks>(
     ensures reads { ReadsBlocks B.Blocks IsFault blocks.old blocks.new result }
     ensures geometry { inodes.new.geometry ≡ inodes.old.geometry }
     ensures few { IfOk result (λ cost. cost ≤ MOST_COST) }
-    ensures replays { (disk : ℕ → List ℕ) (settled : ℕ → Inode) (v : Volume) (change : Change)
+    ensures replays { (detail : Detail) (disk : ℕ → List ℕ) (settled : ℕ → Inode) (v : Volume) (change : Change)
         → B.Shows blocks.old disk
-        → HasVolume (B.count blocks.old) disk settled inodes.old v
+        → HasVolumeIn detail (B.count blocks.old) disk settled inodes.old v
         → SpellsRecord body.now change
-        → Applies inodes.old.geometry.inodes v change
+        → AppliesIn detail inodes.old.geometry.inodes v change
         → ComesTo result (λ cost. (cost ≡ room.cost (work_of v change))
-        × HasVolume (B.count blocks.old) disk settled inodes.new (applied change v)
+        × HasVolumeIn detail (B.count blocks.old) disk settled inodes.new (applied change v)
         × RaisesRoom inodes.old v inodes.new (applied change v) cost) }
+    ensures applies { (detail : Detail) (disk : ℕ → List ℕ) (settled : ℕ → Inode) (v : Volume)
+        → B.Shows blocks.old disk
+        → HasVolumeIn detail (B.count blocks.old) disk settled inodes.old v
+        → IfOk result (λ _. (change : Change) × SpellsRecord body.now change
+        × AppliesIn detail inodes.old.geometry.inodes v change
+        × HasVolumeIn detail (B.count blocks.old) disk settled inodes.new (applied change v)) }
 {
     records_keep_volumes();
     let Some(logged) = Record::read(body) else {

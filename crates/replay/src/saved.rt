@@ -6,10 +6,11 @@ ghost use Rattle.model.specs.Records.{Change, costs, pledged_for, without_namele
 ghost use Rattle.model.specs.Volumes.{Volume};
 ghost use Rattle.buffers.specs.Reads.{ReadsBlocks};
 ghost use Rattle.blocktree.specs.Errors.{IsFault};
+ghost use Rattle.images.specs.Soundness.{Detail};
 ghost use Rattle.inofile.specs.Inodes.{HasNoChange};
 ghost use Rattle.inofile.specs.Room.{memory_room};
 ghost use Rattle.oplog.specs.SavedLog.{StandsBehind, TellsLog};
-ghost use Rattle.replay.specs.Volumes.{ComesTo, HasVolume, RaisesRoom, SavesRecords, bodies_of};
+ghost use Rattle.replay.specs.Volumes.{ComesTo, HasVolumeIn, RaisesRoom, SavesRecordsIn, bodies_of};
 
 use crate::replaying::replay_all;
 use crate::sweeping::{count_nameless, drop_nameless};
@@ -46,17 +47,17 @@ pub fn replay<B: Blocks>(
     ensures half { IfOk result (λ r. r.log.half ≡ saved.half) }
     ensures runs { IfOk result (λ r. IsFalse r.log.is_stopped) }
     ensures few { IfOk result (λ r. r.pledged < 2 ^ 32) }
-    ensures replays { (disk : ℕ → List ℕ) (settled : ℕ → Inode) (v w : Volume)
+    ensures replays { (detail : Detail) (disk : ℕ → List ℕ) (settled : ℕ → Inode) (v w : Volume)
         (changes : List Change) (nvram : List ℕ) → B.Shows blocks.old disk
-        → HasVolume (B.count blocks.old) disk settled inodes.old v → TellsLog nvram saved
-        → SavesRecords inodes.old.geometry.inodes nvram saved changes v w
+        → HasVolumeIn detail (B.count blocks.old) disk settled inodes.old v → TellsLog nvram saved
+        → SavesRecordsIn detail inodes.old.geometry.inodes nvram saved changes v w
         → ComesTo result (λ r. StandsBehind r.log saved.generation nvram (bodies_of changes)
-        × HasVolume (B.count blocks.old) disk settled inodes.new (without_nameless w)
+        × HasVolumeIn detail (B.count blocks.old) disk settled inodes.new (without_nameless w)
         × (r.pledged ≡ pledged_for inodes.old.geometry.inodes v changes)) }
-    ensures room { (disk : ℕ → List ℕ) (settled : ℕ → Inode) (v w : Volume)
+    ensures room { (detail : Detail) (disk : ℕ → List ℕ) (settled : ℕ → Inode) (v w : Volume)
         (changes : List Change) (nvram : List ℕ) → B.Shows blocks.old disk
-        → HasVolume (B.count blocks.old) disk settled inodes.old v → TellsLog nvram saved
-        → SavesRecords inodes.old.geometry.inodes nvram saved changes v w
+        → HasVolumeIn detail (B.count blocks.old) disk settled inodes.old v → TellsLog nvram saved
+        → SavesRecordsIn detail inodes.old.geometry.inodes nvram saved changes v w
         → HasNoChange inodes.old → IfOk result
         (λ r. memory_room v inodes.new (without_nameless w) ≤ r.pledged) }
     ensures holds { (nvram : List ℕ) → TellsLog nvram saved → IfOk result
@@ -88,12 +89,12 @@ fn replay_records<B: Blocks>(
     ensures half { IfOk result (λ r. r.log.half ≡ saved.half) }
     ensures runs { IfOk result (λ r. IsFalse r.log.is_stopped) }
     ensures few { IfOk result (λ r. r.cost < 2 ^ 31) }
-    ensures replays { (disk : ℕ → List ℕ) (settled : ℕ → Inode) (v w : Volume)
+    ensures replays { (detail : Detail) (disk : ℕ → List ℕ) (settled : ℕ → Inode) (v w : Volume)
         (changes : List Change) (nvram : List ℕ) → B.Shows blocks.old disk
-        → HasVolume (B.count blocks.old) disk settled inodes.old v → TellsLog nvram saved
-        → SavesRecords inodes.old.geometry.inodes nvram saved changes v w
+        → HasVolumeIn detail (B.count blocks.old) disk settled inodes.old v → TellsLog nvram saved
+        → SavesRecordsIn detail inodes.old.geometry.inodes nvram saved changes v w
         → ComesTo result (λ r. StandsBehind r.log saved.generation nvram (bodies_of changes)
-        × HasVolume (B.count blocks.old) disk settled inodes.new (without_nameless w)
+        × HasVolumeIn detail (B.count blocks.old) disk settled inodes.new (without_nameless w)
         × (r.cost ≡ costs v changes)
         × RaisesRoom inodes.old v inodes.new (without_nameless w) r.cost) }
     ensures holds { (nvram : List ℕ) → TellsLog nvram saved → IfOk result

@@ -8,9 +8,10 @@ ghost use Rattle.model.specs.Records.{count_nameless, without_nameless};
 ghost use Rattle.model.specs.Volumes.{Volume, is_nameless, swept_node, with_node};
 ghost use Rattle.buffers.specs.Reads.{ReadsBlocks};
 ghost use Rattle.blocktree.specs.Errors.{IsFault};
+ghost use Rattle.images.specs.Soundness.{Detail};
 ghost use Rattle.inofile.specs.Room.{NeedsNoMore, memory_room};
-ghost use Rattle.inofile.specs.Volumes.{IsVolumeOf};
-ghost use Rattle.replay.specs.Volumes.{ComesTo, HasVolume};
+ghost use Rattle.inofile.specs.Volumes.{IsVolumeIn};
+ghost use Rattle.replay.specs.Volumes.{ComesTo, HasVolumeIn};
 
 use blocktree::ReadError;
 use buffers::Blocks;
@@ -30,11 +31,11 @@ pub(crate) fn count_nameless<B: Blocks>(
     ensures geometry { inodes.new.geometry ≡ inodes.old.geometry }
     ensures needs { NeedsNoMore inodes.old inodes.new }
     ensures few { IfOk result (λ count. count ≤ MOST_INODES) }
-    ensures counts { (disk : ℕ → List ℕ) (settled : ℕ → Inode) (v : Volume)
+    ensures counts { (detail : Detail) (disk : ℕ → List ℕ) (settled : ℕ → Inode) (v : Volume)
         → B.Shows blocks.old disk
-        → HasVolume (B.count blocks.old) disk settled inodes.old v
+        → HasVolumeIn detail (B.count blocks.old) disk settled inodes.old v
         → ComesTo result (λ count. (count ≡ count_nameless inodes.old.geometry.inodes v)
-        × HasVolume (B.count blocks.old) disk settled inodes.new v) }
+        × HasVolumeIn detail (B.count blocks.old) disk settled inodes.new v) }
 {
     let mut count = 0;
     for number in FIRST_NUMBER..inodes.geometry().inodes() {
@@ -53,14 +54,14 @@ pub(crate) fn drop_nameless<B: Blocks>(
 ) -> Result<(), ReadError>
     ensures reads { ReadsBlocks B.Blocks IsFault blocks.old blocks.new result }
     ensures geometry { inodes.new.geometry ≡ inodes.old.geometry }
-    ensures drops { (disk : ℕ → List ℕ) (settled : ℕ → Inode) (v : Volume)
+    ensures drops { (detail : Detail) (disk : ℕ → List ℕ) (settled : ℕ → Inode) (v : Volume)
         → B.Shows blocks.old disk
-        → HasVolume (B.count blocks.old) disk settled inodes.old v
-        → ComesTo result (λ _. HasVolume (B.count blocks.old) disk settled inodes.new
+        → HasVolumeIn detail (B.count blocks.old) disk settled inodes.old v
+        → ComesTo result (λ _. HasVolumeIn detail (B.count blocks.old) disk settled inodes.new
         (without_nameless v)) }
-    ensures room { (base : Volume) (disk : ℕ → List ℕ) (settled : ℕ → Inode) (v : Volume)
+    ensures room { (detail : Detail) (base : Volume) (disk : ℕ → List ℕ) (settled : ℕ → Inode) (v : Volume)
         → B.Shows blocks.old disk
-        → HasVolume (B.count blocks.old) disk settled inodes.old v
+        → HasVolumeIn detail (B.count blocks.old) disk settled inodes.old v
         → IfOk result (λ _. memory_room base inodes.new (without_nameless v)
         ≤ memory_room base inodes.old v) }
 {
@@ -82,14 +83,14 @@ fn drop_if_nameless<B: Blocks>(
     requires high { number < inodes.old.geometry.inodes }
     ensures reads { ReadsBlocks B.Blocks IsFault blocks.old blocks.new result }
     ensures geometry { inodes.new.geometry ≡ inodes.old.geometry }
-    ensures drops { (disk : ℕ → List ℕ) (settled : ℕ → Inode) (v : Volume)
+    ensures drops { (detail : Detail) (disk : ℕ → List ℕ) (settled : ℕ → Inode) (v : Volume)
         → B.Shows blocks.old disk
-        → IsVolumeOf (B.count blocks.old) disk settled inodes.old v
-        → ComesTo result (λ _. IsVolumeOf (B.count blocks.old) disk settled inodes.new
+        → IsVolumeIn detail (B.count blocks.old) disk settled inodes.old v
+        → ComesTo result (λ _. IsVolumeIn detail (B.count blocks.old) disk settled inodes.new
         (with_node number (swept_node false (v number)) v)) }
-    ensures room { (base : Volume) (disk : ℕ → List ℕ) (settled : ℕ → Inode) (v : Volume)
+    ensures room { (detail : Detail) (base : Volume) (disk : ℕ → List ℕ) (settled : ℕ → Inode) (v : Volume)
         → B.Shows blocks.old disk
-        → IsVolumeOf (B.count blocks.old) disk settled inodes.old v
+        → IsVolumeIn detail (B.count blocks.old) disk settled inodes.old v
         → IfOk result (λ _. memory_room base inodes.new
         (with_node number (swept_node false (v number)) v) ≤ memory_room base inodes.old v) }
 {
@@ -114,11 +115,11 @@ fn has_nameless<B: Blocks>(
     ensures reads { ReadsBlocks B.Blocks IsFault blocks.old blocks.new result }
     ensures geometry { inodes.new.geometry ≡ inodes.old.geometry }
     ensures needs { NeedsNoMore inodes.old inodes.new }
-    ensures tells { (disk : ℕ → List ℕ) (settled : ℕ → Inode) (v : Volume)
+    ensures tells { (detail : Detail) (disk : ℕ → List ℕ) (settled : ℕ → Inode) (v : Volume)
         → B.Shows blocks.old disk
-        → IsVolumeOf (B.count blocks.old) disk settled inodes.old v
+        → IsVolumeIn detail (B.count blocks.old) disk settled inodes.old v
         → ComesTo result (λ is_one. (is_one ≡ is_nameless (v number))
-        × IsVolumeOf (B.count blocks.old) disk settled inodes.new v) }
+        × IsVolumeIn detail (B.count blocks.old) disk settled inodes.new v) }
 {
     if !inodes.is_taken(number) {
         return Ok(false);

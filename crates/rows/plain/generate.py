@@ -112,7 +112,7 @@ def some_row(blocks, inodes, has_snapshots, seed):
     while count < LENGTH:
         length = min(LENGTH - count, numbers.randrange(5, numbers.longest_run))
         more, system = some_run(numbers, system, length)
-        lines += more
+        lines += more + ['check -> ' + shown(system.checked())]
         count += len(more) - 1
     mounted = system.copy()
     mounted.mount()

@@ -2,8 +2,8 @@
 
 It is written from the rules in docs/COMMANDS.md and docs/DECISIONS.md, and apart from the
 definitions of the crate `model`. A volume is a map from numbers to objects. Beside it stand
-the open files, what the log holds (its length, whether its epoch is open, the costs of its
-records: these are what it pledges), and the blocks that are free under the newest root. A
+the open files, what the log holds (its length, whether its epoch is open, how many records and
+their costs, which are what it pledges), and the blocks that are free under the newest root. A
 consistency point stores what changed since that root, and empties the log.
 
 A block has a place, a number of its own that no other block ever gets: what a tree and snapshots
@@ -64,6 +64,7 @@ class System:
         self.descriptors = [None] * DESCRIPTORS
         self.log_end, self.is_log_open = LOG_START, False
         self.costs, self.kept_nameless, self.is_changed = 0, 0, False
+        self.generation, self.records = 1, 0
         self.inode_blocks, self.changed_inodes = {0}, set()
         self.snapshots, self.places, self.next_place = [], {}, 0
         self.give_places(self.blocks())
@@ -209,6 +210,7 @@ class System:
         self.give_places(changed)
         self.kept_nameless = len(self.nameless())
         self.costs, self.is_changed = 0, False
+        self.generation, self.records = self.generation + 1, 0
         self.log_end, self.is_log_open = LOG_START, False
         self.steps.append(Step('root', self.writes, before, self.copy()))
 
@@ -247,11 +249,17 @@ class System:
         self.writes += 2
         self.record = Step('record', self.writes, self.copy(), None)
         self.log_end += 5 + length
+        self.records += 1
         self.costs += cost
 
     def pledged(self):
         """Blocks that a point may store for what isn't under the newest root yet."""
         return self.costs + 4 * self.kept_nameless
+
+    def checked(self):
+        """What a check says of it."""
+        figures = (self.generation, len(self.snapshots), self.records, self.free)
+        return b'ok generation %d snapshots %d records %d free %d' % figures
 
     def cut(self, write, before, keep, kept_bytes):
         """What a cut within this write of the command leaves.

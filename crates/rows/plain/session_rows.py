@@ -57,13 +57,13 @@ def rows_of(text):
 
 
 def is_read(row):
-    """Whether the model can read a row: it has sessions alone, and no failures or changed bytes."""
+    """Whether the model can read a row: sessions and checks, and no failures or changed bytes."""
     for line in row[1:]:
         if line.startswith('  ') or line.startswith('image ') or line == 'unchanged':
             continue
         if line.split()[0] == 'run' and not set(UNREAD) & {name for name, _ in words_of_run(line)}:
             continue
-        if re.match('(disk|nvram) (holds|zeros) ', line) or line.split()[0] in ('status', 'says'):
+        if re.match('(disk|nvram) (holds|zeros) |(status|says|check) ', line):
             continue
         return False
     return True
@@ -90,6 +90,9 @@ def difference_of_choice(row, choice):
     for index, line in enumerate(row):
         if line.startswith('image '):
             system = System(*[int(word) for word in line.split()[1:]])
+        if line.startswith('check -> ') and index > 0:
+            if not is_one_of(system.checked(), line.removeprefix('check -> ')):
+                return 'check: the model answers %s' % shown(system.checked())
         if line.split()[0] != 'run' or index == 0:
             continue
         options = {name: choice.pop(0) for name, _ in words_of_run(line)}

@@ -1,5 +1,6 @@
 //! What a row works on: its images, its locks, and the run or the command line that is being read.
 
+use crate::checks::{compare_check, expect_faultless};
 use crate::choices::Choices;
 use crate::fault::Fault;
 use crate::file_lines::obey_file;
@@ -20,6 +21,8 @@ pub struct Bench<'a> {
     alloc: Global,
     choices: Choices,
     images: Images,
+    /// The images are as runs left them, and no line changed them otherwise.
+    are_left: bool,
     locks: Locks<'a>,
     open: Open<'a>,
 }
@@ -41,6 +44,7 @@ impl<'a> Bench<'a> {
                 disk: Vec::new(alloc),
                 nvram: Vec::new(alloc),
             },
+            are_left: false,
             locks: Locks::new(alloc),
             open: Open::Nothing,
         }
@@ -90,7 +94,13 @@ impl<'a> Bench<'a> {
     fn end_open(&mut self, rt: &HostRuntime) -> Result<(), Fault> {
         match mem::replace(&mut self.open, Open::Nothing) {
             Open::Nothing => Ok(()),
-            Open::Run(run) => run.finish(self.alloc, &mut self.images),
+            Open::Run(run) => {
+                run.finish(self.alloc, &mut self.images)?;
+                if self.are_left {
+                    expect_faultless(self.alloc, &self.images)?;
+                }
+                Ok(())
+            }
             Open::Obeyed(obeyed) => obeyed.finish(rt),
         }
     }
@@ -120,8 +130,15 @@ impl<'a> Bench<'a> {
             }
             "image" => self.make_image(words),
             "random" => self.randomize(words),
-            "disk" => obey(self.alloc, &mut self.choices, &mut self.images.disk, words),
-            "nvram" => obey(self.alloc, &mut self.choices, &mut self.images.nvram, words),
+            "disk" => {
+                self.are_left = false;
+                obey(self.alloc, &mut self.choices, &mut self.images.disk, words)
+            }
+            "nvram" => {
+                self.are_left = false;
+                obey(self.alloc, &mut self.choices, &mut self.images.nvram, words)
+            }
+            "check" => compare_check(self.alloc, &self.images, words),
             "words" => compare_words(self.alloc, words),
             _ => Ok(false),
         }
@@ -139,6 +156,7 @@ impl<'a> Bench<'a> {
             return Ok(false);
         };
         self.images = Images::of(self.alloc, &sim)?;
+        self.are_left = true;
         Ok(true)
     }
 
@@ -147,6 +165,7 @@ impl<'a> Bench<'a> {
         let [Some(seed), Some(disk), Some(nvram)] = self.choices.numbers(words) else {
             return Ok(false);
         };
+        self.are_left = false;
         self.images = Images {
             disk: random_bytes(self.alloc, seed, disk)?,
             nvram: random_bytes(self.alloc, seed, nvram)?,

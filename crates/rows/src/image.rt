@@ -3,6 +3,7 @@
 use crate::choices::Choices;
 use crate::fault::Fault;
 use crate::text::random_bytes;
+use crate::written::{put_entry, put_inode};
 use std::alloc::Global;
 
 /// Does what the words behind `disk` or `nvram` say. False where they aren't understood.
@@ -20,6 +21,8 @@ pub fn obey(
         "at" => put_digits(alloc, choices, image, words),
         "copy" => copy(alloc, choices, image, words),
         "random" => put_random(alloc, choices, image, words),
+        "links" | "block" => Ok(put_inode(choices, image, verb, words)),
+        "entry" => Ok(put_entry(choices, image, words)),
         "holds" => holds(alloc, choices, image, words),
         "zeros" => is_zero(alloc, choices, image, words),
         _ => Ok(false),
@@ -132,7 +135,7 @@ fn is_zero(
 }
 
 /// So many bytes from a place on. None where the image ends before.
-fn part(image: &Vec<u8>, at: u32, count: u32) -> Option<&[u8]> {
+pub fn part(image: &Vec<u8>, at: u32, count: u32) -> Option<&[u8]> {
     let start = at as usize;
     image.get(start..start.checked_add(count as usize)?)
 }

@@ -4,6 +4,7 @@
 #![tactic(auto)]
 
 mod bench;
+mod checks;
 mod choices;
 mod expected;
 mod fault;
@@ -16,6 +17,7 @@ mod obeying;
 mod run;
 mod text;
 mod transfers;
+mod written;
 
 use bench::Bench;
 use fault::Fault;

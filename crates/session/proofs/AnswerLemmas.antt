@@ -15,7 +15,7 @@ use Rattle.mount.specs.declared.fs.TheConstants.{POINTS}
 use Rattle.std.specs.Prelude.{Err}
 use Rattle.session.specs.Answers.{cut_line, lines_of_steps, shown, EndsAnswer, EndsCut, EndsReply, HasDone, IsAnsweredBy}
 use Rattle.session.specs.declared.status.Status.{Status}
-use Rattle.session.specs.declared.status.Status.TheVariants.{Done, NotUnderstood, FileFault, Cut, NotMounted, NotACommand, NoMemory, Refused}
+use Rattle.session.specs.declared.status.Status.TheVariants.{Done, NotUnderstood, FileFault, Cut, NotMounted, NotACommand, NoMemory, Refused, Faulty}
 
 -- what a writer's known bytes gained by nothing, and by two writes
 pub appends_none : (o : Option (List ℕ)) → Appends o o []
@@ -58,6 +58,7 @@ cut_ends reply was_cut o o' NotMounted is ends = absurd ends
 cut_ends reply was_cut o o' NotACommand is ends = absurd ends
 cut_ends reply was_cut o o' NoMemory is ends = absurd ends
 cut_ends reply was_cut o o' Refused is ends = absurd ends
+cut_ends reply was_cut o o' Faulty is ends = absurd ends
 
 pub reply_ends : (reply : Reply) (was_cut : Bool → Type 0) (o o' : Option (List ℕ)) (status : Status) → EndsReply reply o o' (Err status) → EndsAnswer reply was_cut o o' (Err status)
 reply_ends reply was_cut o o' Cut ends = absurd ends
@@ -68,6 +69,7 @@ reply_ends reply was_cut o o' NotMounted ends = absurd ends
 reply_ends reply was_cut o o' NotACommand ends = absurd ends
 reply_ends reply was_cut o o' NoMemory ends = ends
 reply_ends reply was_cut o o' Refused ends = absurd ends
+reply_ends reply was_cut o o' Faulty ends = absurd ends
 
 module _ {S : Type 0} {G : Ghosts S} where
   -- no command so far

@@ -10,7 +10,7 @@ use Rattle.mount.specs.declared.fs.Fs.{Fs}
 use Rattle.session.specs.Answers.{cut_line, is_refusal, lines_of_steps, shown, AnswersShowing, EndsAnswer, EndsCut, EndsShort, HasDone, LacksLastReply}
 use Rattle.session.specs.Sessions.{commands_of, AreDone, AreFirstOf, EndsRunning, EndsShowing}
 use Rattle.session.specs.declared.status.Status.{Status}
-use Rattle.session.specs.declared.status.Status.TheVariants.{Done, NotUnderstood, FileFault, Cut, NotMounted, NotACommand, NoMemory, Refused}
+use Rattle.session.specs.declared.status.Status.TheVariants.{Done, NotUnderstood, FileFault, Cut, NotMounted, NotACommand, NoMemory, Refused, Faulty}
 use Rattle.session.proofs.AnswerLemmas.{appends_none, appends_twice, done_more, lines_more}
 
 -- So far these commands were done and their replies shown; the power is on.
@@ -56,6 +56,7 @@ ends_short steps command reply was_cut o a b NotUnderstood shows ends = absurd e
 ends_short steps command reply was_cut o a b NotMounted shows ends = absurd ends
 ends_short steps command reply was_cut o a b NotACommand shows ends = absurd ends
 ends_short steps command reply was_cut o a b Refused shows ends = absurd ends
+ends_short steps command reply was_cut o a b Faulty shows ends = absurd ends
 
 short_shows : (stops : Bool) (commands : List Command) (steps : List (Command × Reply)) (was_cut : Bool → Type 0) (o b : Option (List ℕ)) (status : Status) → AreFirstOf steps commands → EndsShort was_cut steps o b status
     → EndsShowing stops was_cut commands steps o b status
@@ -67,6 +68,7 @@ short_shows stops commands steps was_cut o b NotUnderstood first ends = absurd e
 short_shows stops commands steps was_cut o b NotMounted first ends = absurd ends
 short_shows stops commands steps was_cut o b NotACommand first ends = absurd ends
 short_shows stops commands steps was_cut o b Refused first ends = absurd ends
+short_shows stops commands steps was_cut o b Faulty first ends = absurd ends
 
 -- the power was cut before the first command
 cut_short : (was_cut : Bool → Type 0) (o a : Option (List ℕ)) (status : Status) → was_cut true → EndsCut o a status → EndsShort was_cut [] o a status
@@ -78,6 +80,7 @@ cut_short was_cut o a NotUnderstood is ends = absurd ends
 cut_short was_cut o a NotMounted is ends = absurd ends
 cut_short was_cut o a NotACommand is ends = absurd ends
 cut_short was_cut o a Refused is ends = absurd ends
+cut_short was_cut o a Faulty is ends = absurd ends
 
 module _ {S : Type 0} {G : Ghosts S} (first : Fs S G) (commands : List Command) (stops : Bool) (o : Option (List ℕ)) where
   pub reached_none : (was_cut : Bool → Type 0) → HasDone first first [] → was_cut false → IsReached first first (take 0 commands) stops was_cut o o

@@ -14,7 +14,7 @@ use Rattle.session.specs.Reading.{IsInputFault, TakesLine}
 use Rattle.session.specs.Scripts.{is_skipped, IsBadLine, IsLineOf}
 use Rattle.session.specs.Shells.{bad_line, said, said_of, step_before, steps_of, AnswersLine, LineComesTo, Dialog, DoesStep, EndsBad, EndsListening, EndsUnsaid, HasHeard, IsLast, TakesLines}
 use Rattle.session.specs.declared.status.Status.{Status}
-use Rattle.session.specs.declared.status.Status.TheVariants.{Done, NotUnderstood, FileFault, Cut, NotMounted, NotACommand, NoMemory, Refused}
+use Rattle.session.specs.declared.status.Status.TheVariants.{Done, NotUnderstood, FileFault, Cut, NotMounted, NotACommand, NoMemory, Refused, Faulty}
 use Rattle.session.proofs.AnswerLemmas.{appends_none, appends_twice, done_more}
 use Rattle.session.proofs.ReadingLemmas.{keeps_same, loses_kept}
 
@@ -36,6 +36,7 @@ module _ {S : Type 0} {G : Ghosts S} (fs : Fs S G) (line : List ℕ) (cut : Bool
   unsaid o' b (Err NotACommand) comes is ends = absurd ends
   unsaid o' b (Err NoMemory) comes is ends = absurd ends
   unsaid o' b (Err Refused) comes is ends = absurd ends
+  unsaid o' b (Err Faulty) comes is ends = absurd ends
 
   pub bad_said : (o' : Option (List ℕ)) (result : Result (Unit {0}) Status) → IsBadLine line → EndsBad false o o' result → AnswersLine fs fs line cut cut o o' result
   bad_said o' result bad ends = unsaid o' false result (inr (inl bad)) (flag_says false line (sym bad.kept)) ends
@@ -59,6 +60,7 @@ module _ {S : Type 0} {G : Ghosts S} (fs next : Fs S G) (line : List ℕ) (comma
       as_due NotMounted ends = absurd ends
       as_due NotACommand ends = absurd ends
       as_due Refused ends = absurd ends
+      as_due Faulty ends = absurd ends
 
 -- ---- several lines
 
@@ -138,6 +140,7 @@ module _ {S : Type 0} {G : Ghosts S} (first : Fs S G) where
   ends_behind fs next input left o a b was_cut lines rest NotMounted heard last ends = absurd ends
   ends_behind fs next input left o a b was_cut lines rest NotACommand heard last ends = absurd ends
   ends_behind fs next input left o a b was_cut lines rest Refused heard last ends = absurd ends
+  ends_behind fs next input left o a b was_cut lines rest Faulty heard last ends = absurd ends
 
   pub ends_unsaid : (fs next : Fs S G) (input left o a b : Option (List ℕ)) (line : List ℕ) (cut_before cut_now : Bool → Type 0) (status : Status) → IsListening first fs input left o a cut_before → AnswersLine fs next line cut_before cut_now a b (Err status)
       → EndsListening first next cut_now input o b status
@@ -152,6 +155,7 @@ module _ {S : Type 0} {G : Ghosts S} (first : Fs S G) where
   fault_unsaid was_cut a NotMounted fault = absurd fault
   fault_unsaid was_cut a NotACommand fault = absurd fault
   fault_unsaid was_cut a Refused fault = absurd fault
+  fault_unsaid was_cut a Faulty fault = absurd fault
 
   pub ends_unread : (fs : Fs S G) (input left o a : Option (List ℕ)) (was_cut : Bool → Type 0) (status : Status) → IsListening first fs input left o a was_cut → IsInputFault status → EndsListening first fs was_cut input o a status
   ends_unread fs input left o a was_cut status so_far fault = ends_behind fs fs input left o a a was_cut so_far.lines [] status so_far.heard refl (fault_unsaid was_cut a status fault)
@@ -165,6 +169,7 @@ module _ {S : Type 0} {G : Ghosts S} (first : Fs S G) where
   cut_unsaid was_cut o a NotMounted is ends = absurd ends
   cut_unsaid was_cut o a NotACommand is ends = absurd ends
   cut_unsaid was_cut o a Refused is ends = absurd ends
+  cut_unsaid was_cut o a Faulty is ends = absurd ends
 
   -- the power was cut before the first line
   pub ends_at_first : (input o a : Option (List ℕ)) (was_cut : Bool → Type 0) (status : Status) → HasDone first first [] → was_cut true → EndsCut o a status → EndsListening first first was_cut input o a status

@@ -15,6 +15,8 @@ pub enum Status {
     NotMounted = 4,
     /// A line of the script isn't a command, and nothing was run.
     NotACommand = 5,
+    /// A fault stands in the image.
+    Faulty = 6,
     /// No memory was left for the line, the script, the loaded images or a reply.
     NoMemory = 7,
     /// A command was refused, where that ends the run.

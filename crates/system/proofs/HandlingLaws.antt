@@ -1,7 +1,6 @@
 -- What a call comes to that a record is logged for, once objects came into memory.
 use Rattle.std.proofs.Common.{◌≡◌, ◌≢◌, ◌⊎◌, inl, inr, ℕ, ◌+◌, ◌<◌, ◌≤◌, [], ◌∷◌, ◌++◌, length, Result, Ok, Err, refl, ap, sym, subst, ◌∙◌, if◌then◌else◌, arith}
 use Rattle.std.specs.Prelude.{IsFalse}
-use Rattle.std.proofs.lemmas.Bool.{cases_lt}
 use Rattle.station.specs.Calls.{OnlyWrites}
 use Rattle.station.specs.Images.{Images}
 use Rattle.station.specs.Moments.{Meaning, EachCut}
@@ -99,10 +98,6 @@ IsFirstFault log e = (e ≡ call_errors.NotWritten) × IsFalse log.is_stopped
 error_is : (x y : CallError) (r q : Result Reply CallError) → r ≡ Err x → q ≡ Err y → r ≡ q → x ≡ y
 error_is x y r q first second is = cc
 
--- what isn't enough is less
-more_than : (a b : ℕ) → (a ≤ b → ⊥) → b < a
-more_than a b not = elim (cases_lt b a) [ inl lt ↦ lt | inr ge ↦ absurd (not ge) ]
-
 module _ {S : Type 0} {G : Ghosts S} (old new : System S G) (mid : Meaning) (call : Command) (reply : Reply) (reads : ReadsOn (meaning_of old) mid)
     (counted : mid.failed_reads ≡ (meaning_of old).failed_reads) (epoch : new.log.epoch ≡ old.log.epoch) (opens : AllOpen old)
     (not_sure : (s : State) → ServesState old s → ¬ IsSure s call) (leads : (s : State) → ServesState old s → LeadsOn old new mid s call reply) where
@@ -187,7 +182,7 @@ module _ {S : Type 0} {G : Ghosts S} (old new : System S G) (mid : Meaning) (cal
               after = (leads s served).after;
               work = (leads s served).work;
               step = (leads s served).step;
-              short = more_than _ _ (lacks room s served);
+              short = lacks room s served;
             },
             λ covered. covered_same new s covered (keeps s covered.serves),
           );

@@ -28,10 +28,14 @@ use Rattle.descriptors.specs.Tables.{open_at}
 use Rattle.descriptors.specs.declared.table.Descriptors.{Descriptors}
 use Rattle.images.specs.Roots.{whole}
 use Rattle.inofile.specs.Room.{memory_room}
-use Rattle.inofile.specs.Volumes.{IsVolumeOf}
+use Rattle.inofile.specs.Volumes.{IsVolumeIn, IsVolumeOf}
 use Rattle.inofile.specs.declared.inode_file.InodeFile.{InodeFile}
-use Rattle.loading.specs.Images.{IsLoadedUnder, inodes_of}
-use Rattle.replay.specs.Volumes.{HasVolume, SavesRecords, bodies_of}
+use Rattle.images.specs.Faults.{IsFaultlessUnder}
+use Rattle.images.specs.Replaying.{ReplaysWithin}
+use Rattle.images.specs.Soundness.{by_sizes}
+use Rattle.loading.specs.Images.{IsLoadedIn, IsLoadedUnder, IsReadableIn, inodes_of}
+use Rattle.records.specs.Preparing.{HasGraph}
+use Rattle.replay.specs.Volumes.{HasVolume, HasVolumeIn, SavesRecords, SavesRecordsIn, bodies_of}
 use Rattle.oplog.specs.declared.saved.SavedLogError.{SavedLogError}
 use Rattle.oplog.specs.declared.saved.SavedLogError.TheVariants as log
 use Rattle.blocktree.specs.declared.error.ReadError.{ReadError}
@@ -170,6 +174,28 @@ module _ (disk : Blocks) (r : Root) (nvram : List ℕ) (first last : Volume) (sn
     pledges = pledges ∙ ap (λ (s : Sizes). pledged_for s.inodes first changes) sizes;
     stored = stored;
   }
+
+-- ---- the same without a fault
+
+module _ (disk : Blocks) (r : Root) (nvram : List ℕ) (changes : List Change) (under : IsFaultlessUnder r (whole disk r) nvram changes) where
+  pub grammar_read : IsReadableIn by_sizes disk r
+  grammar_read = record { sound = (under.active.grammar, under.active.numbers); root = under.active.grammar.root }
+
+  module _ (saved : Saved) (half : saved.half ≡ r.geometry.half) (generation : saved.generation ≡ r.generation) (inodes : InodeFile) (geometry : inodes.geometry ≡ r.geometry) where
+    pub saves_within : SavesRecordsIn by_sizes inodes.geometry.inodes nvram saved changes under.log.first under.log.last
+    saves_within = record {
+      are = under.log.log.are;
+      held = subst (λ (n : ℕ). LogHolds n saved.generation nvram (bodies_of changes)) (sym half)
+          (subst (λ (n : ℕ). LogHolds r.geometry.half n nvram (bodies_of changes)) (sym generation) under.log.log.log);
+      replays = subst (λ (s : Sizes). ReplaysWithin s.inodes under.log.first changes under.log.last) (sym geometry) under.log.replays;
+    }
+
+    pub stands_by_sizes : (map : BlockMap) (count : ℕ) → count ≡ r.geometry.blocks → IsLoadedIn by_sizes disk r map inodes → HasGraph r.geometry.inodes under.log.first
+        → HasVolumeIn by_sizes count disk (inodes_of (whole disk r).active) inodes under.log.first
+    stands_by_sizes map count is loaded graph = record {
+      memory = subst (λ (n : ℕ). IsVolumeIn by_sizes n disk (inodes_of (whole disk r).active) inodes under.log.first) (sym is) (loaded.inodes.volume under.log.first under.log.holds);
+      volume = subst (λ (s : Sizes). HasGraph s.inodes under.log.first) (sym geometry) graph;
+    }
 
 -- ---- files without names
 

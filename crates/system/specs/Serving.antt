@@ -1,5 +1,5 @@
 -- What calls do to a system.
-use Rattle.std.specs.Prelude.{◌≡◌, ◌⊎◌, ◌+◌, ◌<◌, ◌≢◌, ◌∷◌, ◌++◌, List, [], IsFalse, Result, Ok, IfOk, IfErr, IsErrOf, MatchResult}
+use Rattle.std.specs.Prelude.{◌≡◌, ◌⊎◌, ◌+◌, ◌≢◌, ◌∷◌, ◌++◌, List, [], IsFalse, Result, Ok, IfOk, IfErr, IsErrOf, MatchResult}
 use Rattle.station.specs.Images.{Unchanged}
 use Rattle.station.specs.Moments.{Meaning, Goes, LeavesOnly}
 use Rattle.station.specs.declared.station.Station.{Ghosts}
@@ -12,7 +12,7 @@ use Rattle.model.specs.declared.reply.Reply.{Reply}
 use Rattle.model.specs.declared.reply.Reply.TheVariants.{Refused}
 use Rattle.model.specs.Circumstances.{IsSure}
 use Rattle.model.specs.Records.{Change, work_of}
-use Rattle.model.specs.Room.{Need, Room, Work, nothing, logs, a_snapshot, cost, keep, fixed_of}
+use Rattle.model.specs.Room.{Need, Room, Work, nothing, logs, a_snapshot}
 use Rattle.model.specs.States.{State}
 use Rattle.model.specs.Steps.{WouldStep}
 use Rattle.model.specs.Volumes.{Volume}
@@ -20,7 +20,7 @@ use Rattle.inofile.specs.Inodes.{HasNoChange}
 use Rattle.oplog.specs.LogEnd.{next_of}
 use Rattle.system.specs.Counting.{Counted, call_failed}
 use Rattle.system.specs.Images.{OpensTo}
-use Rattle.system.specs.Room.{HasRoomForNeed}
+use Rattle.system.specs.Room.{HasRoomForNeed, HasRoomForWork}
 use Rattle.system.specs.Systems.{HasState, IsCovered, meaning_of}
 use Rattle.system.specs.declared.error.CallError.{CallError}
 use Rattle.system.specs.declared.error.CallError.TheVariants.{Damaged, LogFull, NoRoom, NotWritten}
@@ -102,7 +102,7 @@ pub record LacksRoom {S : Type 0} {G : Ghosts S} (f : System S G) (s : State) (c
   pub after : State
   pub work : Work
   pub step : WouldCall s call reply after (logs work)
-  pub short : f.free < f.pledged + cost work + fixed_of f.root.geometry.blocks + keep work
+  pub short : HasRoomForWork f work → ⊥
 
 -- the log has no record that the root doesn't cover
 pub record HasEmptyLog {S : Type 0} {G : Ghosts S} (f : System S G) : Type 0 where

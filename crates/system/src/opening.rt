@@ -16,6 +16,8 @@ ghost use Rattle.model.specs.States.{Forgets, State};
 ghost use Rattle.model.specs.Trees.{Tree};
 ghost use Rattle.model.specs.Volumes.{Volume};
 ghost use Rattle.buffers.specs.Reads.{ReadsBlocks};
+ghost use Rattle.images.specs.Faults.{HasNoFault, IsFaultlessUnder};
+ghost use Rattle.images.specs.Roots.{whole};
 ghost use Rattle.loading.specs.Slots.{FitsStation, HasNoRoot};
 ghost use Rattle.oplog.specs.SavedLog.{TellsLog};
 ghost use Rattle.system.specs.Images.{OpensTo};
@@ -27,6 +29,7 @@ use crate::{OpenError, System};
 use blockmap::BlockMap;
 use buffers::{Blocks, Buffers};
 use descriptors::Descriptors;
+use images::faultless_trees_hold_graphs;
 use inofile::InodeFile;
 use layout::Root;
 use loading::{Loaded, Newest, check_snapshots, load, newest_root, volumes_are_readable};
@@ -102,8 +105,13 @@ fn read_image<B: Blocks>(
         (snapshots : List (Name × Tree)) (changes : List Change) → B.Shows blocks.old disk
         → TellsLog nvram saved → HoldsRecords disk root.now nvram first last snapshots changes
         → MatchResult result (HasImage disk root.now nvram first last changes) SaysNothing }
+    ensures faultless { (disk : Blocks) (nvram : List ℕ) (changes : List Change)
+        → B.Shows blocks.old disk → TellsLog nvram saved
+        → IsFaultlessUnder root.now (whole disk root.now) nvram changes
+        → MatchResult result (λ _. Unit {0}) SaysNothing }
 {
     volumes_are_readable();
+    faultless_trees_hold_graphs();
     check_snapshots(blocks, root)?;
     let Loaded { map, mut inodes } = load(alloc, blocks, root)?;
     let Replayed { log, pledged } = replay(alloc, &mut inodes, blocks, saved)?;
@@ -147,6 +155,11 @@ fn open_found<S: Station>(
         (state_with found.newest.root.geometry.inodes (without_nameless last) (λ d. None)
         snapshots))
         (λ e. SaysNothing e.0) }
+    ensures faultless { (S.meaning station).is_honest → IsOf (S.meaning station).seen found
+        → (changes : List Change) → IsFaultlessUnder found.newest.root
+        (whole (blocks_of (S.meaning station).seen.disk) found.newest.root)
+        (S.meaning station).seen.nvram changes
+        → MatchResult result (λ _. Unit {0}) (λ e. SaysNothing e.0) }
 {
     mounts_find_volumes();
     replays_keep_volumes();
@@ -184,7 +197,8 @@ impl<S: Station> System<S> {
     /// give what they gave before, and a cut leaves what it might have left before. `NoRoot` comes where neither slot holds a root,
     /// `Device` only where a device call failed. Where what the station reads opens to a state, Ok gives a system that serves what
     /// a mount finds of it, and `Damaged` doesn't come. No directory and no file is read, so Ok may come over an image that opens
-    /// to none; but it has taken the newest root, the station has its sizes, and the NVRAM holds a log over it.
+    /// to none; but it has taken the newest root, the station has its sizes, and the NVRAM holds a log over it. Neither `NoRoot` nor
+    /// `Damaged` comes over images without a fault.
     pub fn open(alloc: Global, mut station: S) -> Result<System<S>, (OpenError, S)>
         ensures same { MatchResult result
             (λ f. IsSameStation (S.meaning station) (meaning_of f))
@@ -207,6 +221,10 @@ impl<S: Station> System<S> {
             → OpensTo (S.meaning station) s (S.meaning station).seen
             → MatchResult result (λ f. (t : State) × Forgets s t × HasState f (λ d. None) t)
             (λ e. SaysNothing e.0) }
+        ensures faultless { (S.meaning station).is_honest
+            → HasNoFault (S.meaning station).sectors (S.meaning station).seen.disk
+            (S.meaning station).seen.nvram
+            → MatchResult result (λ _. Unit {0}) (λ e. SaysNothing e.0) }
     {
         match find(alloc, &mut station) {
             Ok(found) => open_found(alloc, station, found),

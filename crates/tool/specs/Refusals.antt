@@ -1,7 +1,11 @@
--- What is refused: by the system, and of the words.
+-- What the program ends with: where the system refuses, of its words, and where an image was checked.
+use Rattle.checker.specs.declared.error.CheckError.TheVariants as check_error
+use Rattle.checker.specs.declared.error.CheckError.{CheckError}
+use Rattle.checker.specs.declared.report.Report.TheVariants.{Bad, Good}
+use Rattle.checker.specs.declared.report.Report.{Report}
 use Rattle.command_line.specs.declared.line.LineError.TheVariants as line_error
 use Rattle.command_line.specs.declared.line.LineError.{LineError}
-use Rattle.session.specs.declared.status.Status.TheVariants.{FileFault, NoMemory, NotMounted, NotUnderstood}
+use Rattle.session.specs.declared.status.Status.TheVariants.{Done, Faulty, FileFault, NoMemory, NotMounted, NotUnderstood}
 use Rattle.session.specs.declared.status.Status.{Status}
 
 -- what the system refuses: there is no memory, or a file can't be read or written
@@ -20,3 +24,13 @@ abbrev pub line_status : LineError → Status
 line_status line_error.NoMemory = NoMemory
 line_status (line_error.NotUnderstood text) = NotUnderstood
 line_status (line_error.OutOfRange text) = FileFault
+
+-- what the program ends with where an image was checked
+abbrev pub report_status : Report → Status
+report_status (Good summary) = Done
+report_status (Bad finding) = Faulty
+
+-- what the program ends with where a check came to no report
+abbrev pub check_status : CheckError → Status
+check_status check_error.NoMemory = NoMemory
+check_status check_error.Device = FileFault

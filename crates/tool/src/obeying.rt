@@ -1,11 +1,13 @@
 //! The whole program but for its real streams: what its words ask for is done.
 
+mod checking;
 mod faults;
 mod sessions;
 mod transfers;
 
 use crate::image_making::make_image;
 use crate::statuses::{status_of_file, status_of_line};
+use checking::check_files;
 use command_line::{Line, read_line};
 use host_files::FileError;
 use session::Status;
@@ -103,6 +105,7 @@ fn obey_line<I: Read, O: Write, E: Write>(
             run_one(rt, Image { disk, nvram }, words.as_slice(), streams)
         }
         Line::Df { disk, nvram } => show_room(rt, Image { disk, nvram }, streams),
+        Line::Check { disk, nvram } => check_files(rt, Image { disk, nvram }, streams),
         Line::Put {
             disk,
             nvram,

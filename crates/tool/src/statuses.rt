@@ -2,8 +2,9 @@
 
 ghost use Rattle.std.specs.Prelude.{◌≡◌};
 ghost use Rattle.mount.specs.declared.error.MountError.{MountError};
-ghost use Rattle.tool.specs.Refusals.{IsSystemFault, IsTransferFault, line_status};
+ghost use Rattle.tool.specs.Refusals.{IsSystemFault, IsTransferFault, check_status, line_status, report_status};
 
+use checker::{CheckError, Report};
 use command_line::LineError;
 use host_files::FileError;
 use model::Errno;
@@ -47,5 +48,25 @@ pub fn status_of_transfer(error: &TransferError<'_>) -> Status
             ..
         } => Status::NoMemory,
         _ => Status::FileFault,
+    }
+}
+
+/// What the program ends with where an image was checked.
+pub fn status_of_report(report: &Report) -> Status
+    ensures { result ≡ report_status report.now }
+{
+    match report {
+        Report::Good(_) => Status::Done,
+        Report::Bad(_) => Status::Faulty,
+    }
+}
+
+/// What the program ends with where a check came to no report.
+pub fn status_of_check(error: CheckError) -> Status
+    ensures { result ≡ check_status error }
+{
+    match error {
+        CheckError::NoMemory => Status::NoMemory,
+        CheckError::Device => Status::FileFault,
     }
 }

@@ -3,7 +3,7 @@
 use super::faults::failing_station;
 use super::{Image, Streams, tell};
 use crate::explain::{explain_ending, explain_words};
-use command_line::{RunFaults, are_words, line_of};
+use command_line::{RunFaults, are_words, line_of_words};
 use host_files::{FileError, open_station, read_script, read_station, store_image};
 use session::{Ending, Status, session, shell};
 use station::{Sim, Station};
@@ -43,7 +43,7 @@ pub(super) fn run_one<I: Read, O: Write, E: Write>(
     words: &[&str],
     streams: &mut Streams<I, O, E>,
 ) -> Status {
-    let Ok(script) = line_of(rt.alloc(), words) else {
+    let Ok(script) = line_of_words(rt.alloc(), words) else {
         return tell(&FileError::NoMemory, &mut streams.err);
     };
     match run_on_files(rt, image, script.as_slice(), true, streams) {

@@ -11,6 +11,7 @@ use Rattle.records.specs.Failures.{told}
 use Rattle.records.specs.Prepared.{Does}
 use Rattle.records.specs.declared.failure.Failure.{Failure}
 use Rattle.records.specs.declared.prepared.Prepared.{Prepared}
+use Rattle.images.specs.Soundness.{by_bytes}
 use Rattle.records.proofs.StandLaws.{looks_beside, looks_of_reads, stands_over, stands_with}
 use Rattle.calls.specs.Changing.{made_by}
 use Rattle.calls.specs.Making.{CreatesObject, IsLeastFree, MakesIn}
@@ -22,7 +23,7 @@ returns-in_err-new-clause-prepares g c = stops c.from_residual.result c.from_res
     let inodes = stands.volume.inodes in
     c.in_err-new.ensures.damaged disk stands.shows is
     (λ t i based. subst (λ (n : ℕ). IsSoundAt n disk t i) inodes.count
-    (c.based_trees_are_sound.ensures.at c.args.inodes.now.geometry disk (settled 4) t i (inodes.sound 4) (based (settled 4)))))
+    (c.based_trees_are_sound.ensures.at _ c.args.inodes.now.geometry disk (settled 4) t i (inodes.sound 4) (based (settled 4)))))
 
 pub returns-in_default-clause-prepares : goal.returns-in_default-clause-prepares
 returns-in_default-clause-prepares g c =
@@ -68,10 +69,10 @@ returns-in_err-prepared-clause-prepares g c =
     let before = looks_more (looks_beside c.in_ok-new.ensures.reads c.least_free.ensures.geometry c.least_free.ensures.slots c.least_free.ensures.volume) c.in_ok-vacant.ensures.looks in
     let all = c.in_err-prepared.ensures in
     fails_by {X = Prepared} DIRFULL refl _ c.from_residual-in_err-prepared.result c.from_residual-in_err-prepared.ensures.1 (looks_more before all.looks) all.full
-    (λ disk settled v stands is. all.damaged disk settled v (before.kept disk settled v stands) is)
+    (λ disk settled v stands is. all.damaged _ disk settled v (before.kept disk settled v stands) is)
     (λ disk settled v table stands volume mounted is.
     let not = subst (λ (f : Failure). IfOk (told {T = Prepared} (Err f)) (λ r. IfErr r (λ _. TakesName v c.args.parent c.deref.result.now → ⊥))) is
-    (all.refused disk settled v (before.kept disk settled v stands) (subst (λ (s : Sizes). IsVolume s.inodes v) (sym before.geometry) volume)) in
+    (all.refused by_bytes disk settled v (before.kept disk settled v stands) (subst (λ (s : Sizes). IsVolume s.inodes v) (sym before.geometry) volume)) in
     inl (refl, subst (λ (x : List ℕ). TakesName v c.args.parent x → ⊥) (c.deref.ensures.value ∙ c.in-Some-new.ensures.some) not))
 
 pub returns-clause-prepares : goal.returns-clause-prepares
@@ -86,7 +87,7 @@ returns-clause-prepares g c =
     let free = ap v c.new-number.ensures ∙ c.in-Some.ensures.free _ disk settled v read.volume in
     let there = λ (k : ℕ). subst (λ (m : Made). IsObject disk k (settled n) c.in_ok-new.new (Some (node_of m))) c.as_new.ensures.says (c.in_ok-new.ensures.object disk stands.shows k (settled n)) in
     subst (λ (x : List ℕ). Does disk settled c.prepare_new.new.inodes v c.in_ok-prepared.prepared (create n c.args.parent made x)) c.deref.ensures.value
-    (c.in_ok-prepared.ensures.does disk settled v made (before.kept disk settled v stands) (ap is_vacant free) there c.in_ok-new.ensures.room))
+    (c.in_ok-prepared.ensures.does _ disk settled v made (before.kept disk settled v stands) (ap is_vacant free) there c.in_ok-new.ensures.room))
     (λ disk settled v table stands volume mounted.
     let read = stands_over {G = g.B.Blocks} c.args.blocks.now c.new_object.new.blocks c.args.inodes.now c.new_object.ensures.reads.count (c.new_object.ensures.reads.same disk stands.shows) stands.volume in
     let least : IsLeastFree c.args.inodes.now.geometry.inodes v c.in-Some.free = record {
@@ -98,7 +99,7 @@ returns-clause-prepares g c =
       n,
       ap (create n c.args.parent made) c.in-Some-new.ensures.some,
       subst IsMade c.as_new.ensures.says c.as_new.ensures.good,
-      subst (λ (x : List ℕ). TakesName v c.args.parent x) (c.deref.ensures.value ∙ c.in-Some-new.ensures.some) (c.in_ok-prepared.ensures.takes disk settled v (before.kept disk settled v stands)),
+      subst (λ (x : List ℕ). TakesName v c.args.parent x) (c.deref.ensures.value ∙ c.in-Some-new.ensures.some) (c.in_ok-prepared.ensures.takes _ disk settled v (before.kept disk settled v stands)),
       subst (IsLeastFree c.args.inodes.now.geometry.inodes v) (sym c.new-number.ensures) least,
     ))
 

@@ -4,4 +4,4 @@ use Rattle.loading.proofs.laws.files_without_holes_are_stored.Goals as goal
 pub returns : goal.returns
 returns c =
     let law = c.nodes_are_where_pointers_lead.ensures in
-    map_file (record { places = law.places; paths = law.paths }) c.sound_files_read_as_held.ensures
+    map_file (record { places = law.places; paths = law.paths _ }) c.sound_files_read_as_held.ensures

@@ -8,28 +8,28 @@ use Rattle.loading.proofs.Loading.{not_loaded}
 use Rattle.loading.proofs.under_root.load.Goals as goal
 
 pub returns-in_err-check_inodes : goal.returns-in_err-check_inodes
-returns-in_err-check_inodes g c = not_loaded c.from_residual-in_err-check_inodes.result c.from_residual-in_err-check_inodes.ensures.1 c.in_err-check_inodes.ensures.reads (λ disk shows ready.
+returns-in_err-check_inodes g c = not_loaded c.from_residual-in_err-check_inodes.result c.from_residual-in_err-check_inodes.ensures.1 c.in_err-check_inodes.ensures.reads (λ detail disk shows ready.
     laws.refused _ c.from_residual-in_err-check_inodes.result (search rules) (λ is.
     c.in_err-check_inodes.ensures.damaged disk shows (search rules)
     (λ i. laws.reached c.trees_read_as_held.ensures disk c.args.root.now c.requires.root.head.sizes ready c.in_ok-file.file c.in_ok-file.ensures.blocks c.in_ok-file.ensures.settled (g.B.Blocks.count c.args.blocks.now) i c.requires.size)
     (laws.inode_blocks c.trees_read_as_held.ensures disk c.args.root.now c.requires.root.head.sizes ready c.in_ok-file.file c.in_ok-file.ensures.blocks c.in_ok-file.ensures.settled)))
 
 pub returns-in_err-inode_map : goal.returns-in_err-inode_map
-returns-in_err-inode_map g c = not_loaded c.from_residual-in_err-inode_map.result c.from_residual-in_err-inode_map.ensures.1 (reads_more _ c.in_ok-check_inodes.ensures.reads c.in_err-inode_map.ensures.reads) (λ disk shows ready.
+returns-in_err-inode_map g c = not_loaded c.from_residual-in_err-inode_map.result c.from_residual-in_err-inode_map.ensures.1 (reads_more _ c.in_ok-check_inodes.ensures.reads c.in_err-inode_map.ensures.reads) (λ detail disk shows ready.
     laws.refused _ c.from_residual-in_err-inode_map.result (search rules) (λ is.
     laws.no_inode_map c.trees_read_as_held.ensures disk c.args.root.now c.requires.root.head.sizes ready c.in_ok-file.file c.in_ok-file.ensures.blocks c.in_ok-file.ensures.settled
     (g.B.Blocks.count c.check_inodes.new.blocks) (c.in_ok-check_inodes.ensures.reads.count ∙ c.requires.size)
     (c.in_err-inode_map.ensures.damaged disk (c.in_ok-check_inodes.ensures.reads.same disk shows) (search rules))))
 
 pub returns-in_err-block_map : goal.returns-in_err-block_map
-returns-in_err-block_map g c = not_loaded c.from_residual-in_err-block_map.result c.from_residual-in_err-block_map.ensures.1 (reads_more _ (reads_more _ c.in_ok-check_inodes.ensures.reads c.in_ok-inode_map.ensures.reads) c.in_err-block_map.ensures.reads) (λ disk shows ready.
+returns-in_err-block_map g c = not_loaded c.from_residual-in_err-block_map.result c.from_residual-in_err-block_map.ensures.1 (reads_more _ (reads_more _ c.in_ok-check_inodes.ensures.reads c.in_ok-inode_map.ensures.reads) c.in_err-block_map.ensures.reads) (λ detail disk shows ready.
     laws.refused _ c.from_residual-in_err-block_map.result (search rules) (λ is.
     laws.no_block_map c.trees_read_as_held.ensures disk c.args.root.now c.requires.root.head.sizes ready c.in_ok-file.file c.in_ok-file.ensures.blocks c.in_ok-file.ensures.settled
     (g.B.Blocks.count c.own_inode.new.blocks) (c.in_ok-inode_map.ensures.reads.count ∙ c.in_ok-check_inodes.ensures.reads.count ∙ c.requires.size)
     (c.in_err-block_map.ensures.damaged disk (c.in_ok-inode_map.ensures.reads.same disk (c.in_ok-check_inodes.ensures.reads.same disk shows)) (search rules))))
 
 pub returns-in_err-numbers : goal.returns-in_err-numbers
-returns-in_err-numbers g c = not_loaded c.from_residual-in_err-numbers.result c.from_residual-in_err-numbers.ensures.1 (reads_more _ (reads_more _ (reads_more _ c.in_ok-check_inodes.ensures.reads c.in_ok-inode_map.ensures.reads) c.in_ok-block_map.ensures.reads) c.in_err-numbers.ensures.reads) (λ disk shows ready.
+returns-in_err-numbers g c = not_loaded c.from_residual-in_err-numbers.result c.from_residual-in_err-numbers.ensures.1 (reads_more _ (reads_more _ (reads_more _ c.in_ok-check_inodes.ensures.reads c.in_ok-inode_map.ensures.reads) c.in_ok-block_map.ensures.reads) c.in_err-numbers.ensures.reads) (λ detail disk shows ready.
     let shows1 = c.in_ok-check_inodes.ensures.reads.same disk shows in
     let shows2 = c.in_ok-inode_map.ensures.reads.same disk shows1 in
     let shows3 = c.in_ok-block_map.ensures.reads.same disk shows2 in
@@ -44,7 +44,7 @@ returns-in_err-numbers g c = not_loaded c.from_residual-in_err-numbers.result c.
     (laws.numbers_are c.trees_read_as_held.ensures disk c.args.root.now c.requires.root.head.sizes ready c.in_ok-inode_map.inode_map there)))
 
 pub returns-in_err-parts : goal.returns-in_err-parts
-returns-in_err-parts g c = not_loaded c.from_residual-in_err-parts.result c.from_residual-in_err-parts.ensures.1 (reads_more _ (reads_more _ (reads_more _ (reads_more _ c.in_ok-check_inodes.ensures.reads c.in_ok-inode_map.ensures.reads) c.in_ok-block_map.ensures.reads) c.in_ok-numbers.ensures.reads) c.in_err-parts.ensures.reads) (λ disk shows ready.
+returns-in_err-parts g c = not_loaded c.from_residual-in_err-parts.result c.from_residual-in_err-parts.ensures.1 (reads_more _ (reads_more _ (reads_more _ (reads_more _ c.in_ok-check_inodes.ensures.reads c.in_ok-inode_map.ensures.reads) c.in_ok-block_map.ensures.reads) c.in_ok-numbers.ensures.reads) c.in_err-parts.ensures.reads) (λ detail disk shows ready.
     let shows1 = c.in_ok-check_inodes.ensures.reads.same disk shows in
     let shows2 = c.in_ok-inode_map.ensures.reads.same disk shows1 in
     let shows3 = c.in_ok-block_map.ensures.reads.same disk shows2 in
@@ -85,5 +85,5 @@ returns g c = record {
       (c.in_ok-numbers.ensures.bytes disk shows3) (c.in_ok-parts.ensures.parts disk shows4) c.in_ok-parts.ensures.unchanged
       c.new-map.ensures.parts (search rules) c.new-map.ensures.next
       c.new-inodes.ensures.geometry c.new-inodes.ensures.file c.new-inodes.ensures.map c.new-inodes.ensures.unchanged
-      (λ v are maps holds. c.new-inodes.ensures.volume c.args.root.now.geometry.blocks disk (inodes_of (tree disk c.args.root.now.geometry.inodes c.args.root.now.inode_file)) v are maps holds);
+      (λ v are maps holds. c.new-inodes.ensures.volume _ c.args.root.now.geometry.blocks disk (inodes_of (tree disk c.args.root.now.geometry.inodes c.args.root.now.inode_file)) v are maps holds);
 }

@@ -2,27 +2,27 @@ use Rattle.std.proofs.Common.{rules, ◌≡◌, ◌≢◌, ◌∙◌, ◌/◌, I
 use Rattle.dirs.specs.Directory.{AreDirectoryBlocks}
 use Rattle.dirs.specs.Listings.{IsListingOfNames}
 use Rattle.inode.specs.Files.{file_block}
-use Rattle.inofile.specs.Objects.{IsObject}
+use Rattle.inofile.specs.Objects.{IsObjectIn}
 use Rattle.layout.specs.declared.kind.Kind.TheVariants as kinds
 use Rattle.model.specs.Volumes.{entries, names_in}
-use Rattle.paths.proofs.LookingUp.{fails, finds}
+use Rattle.paths.proofs.LookingUp.{fails_into, finds_into}
 use Rattle.paths.proofs.Objects.{nothing_listed, without_names, of_names, blocks_of}
 use Rattle.paths.proofs.Looks.{looks_reads}
 use Rattle.paths.proofs.lookup.list.Goals as goal
 
 pub returns-in_err-load : goal.returns-in_err-load
-returns-in_err-load g c = fails c.from_residual.result c.from_residual.ensures.1 c.in_err-load.ensures.looks c.load.ensures.loads c.in_err-load.ensures.damaged
+returns-in_err-load g c = fails_into c.from_residual.result c.from_residual.ensures.1 c.in_err-load.ensures.looks c.load.ensures.loads (λ detail. c.in_err-load.ensures.damaged {detail = detail})
 
 pub returns-in_default : goal.returns-in_default
-returns-in_default g c = finds c.in_ok-load.ensures.looks c.load.ensures.loads tt (λ disk settled v stands.
-    let none = nothing_listed (entries v c.args.directory) (λ x. ap (λ node. names_in node x) (c.in_default.ensures.stands_for_none _ disk settled v (c.load.ensures.looks.kept disk settled v stands).volume)) in
+returns-in_default g c = finds_into c.in_ok-load.ensures.looks c.load.ensures.loads tt (λ detail disk settled v stands.
+    let none = nothing_listed (entries v c.args.directory) (λ x. ap (λ node. names_in node x) (c.in_default.ensures.stands_for_none _ _ disk settled v (c.load.ensures.looks.kept disk settled v stands).volume)) in
     search rules)
 
 pub returns-then-ne : goal.returns-then-ne
-returns-then-ne g c = finds c.in_ok-load.ensures.looks c.load.ensures.loads tt (λ disk settled v stands.
+returns-then-ne g c = finds_into c.in_ok-load.ensures.looks c.load.ensures.loads tt (λ detail disk settled v stands.
     let o = c.in-Some.object.now in
     let now = c.load.ensures.looks.kept disk settled v stands in
-    let is_object = c.in-Some.ensures.stands _ disk settled v now.volume in
+    let is_object = c.in-Some.ensures.stands _ _ disk settled v now.volume in
     let other : o.attributes.kind ≢ kinds.Directory = search rules in
     let none = nothing_listed (entries v c.args.directory) (without_names disk c.load.new.inodes.geometry.inodes (settled c.args.directory) o (v c.args.directory) is_object other) in
     search rules)
@@ -35,18 +35,18 @@ returns g c =
       looks = looks_reads c.in_ok-load.ensures.looks c.list.ensures.reads;
       loads = c.load.ensures.loads;
       within = search rules;
-      found = λ disk settled v stands.
+      found = λ {detail} disk settled v stands.
           let o = c.in-Some.object.now in
           let now = c.load.ensures.looks.kept disk settled v stands in
-          let is_object = c.in-Some.ensures.stands _ disk settled v now.volume in
-          let counted = subst (λ n. IsObject disk n (settled c.args.directory) o (v c.args.directory)) same is_object in
+          let is_object = c.in-Some.ensures.stands _ _ disk settled v now.volume in
+          let counted = subst (λ n. IsObjectIn detail disk n (settled c.args.directory) o (v c.args.directory)) same is_object in
           of_names disk c.inodes-count.result (settled c.args.directory) o (v c.args.directory) counted (λ names. IfOk c.list.result (IsListingOfNames names)) kind (λ names are. c.list.ensures.listed disk names now.shows are);
-      damaged = λ disk settled v stands is.
+      damaged = λ {detail} disk settled v stands is.
           let o = c.in-Some.object.now in
           let now = c.load.ensures.looks.kept disk settled v stands in
-          let is_object = c.in-Some.ensures.stands _ disk settled v now.volume in
+          let is_object = c.in-Some.ensures.stands _ _ disk settled v now.volume in
           let blocks = blocks_of disk c.load.new.inodes.geometry.inodes (settled c.args.directory) o (v c.args.directory) is_object kind in
           c.list.ensures.damaged disk now.shows is
-          (λ i below. c.objects_stand_in_their_grammar.ensures _ disk settled c.load.new.inodes v c.args.directory i o (v c.args.directory) now.volume is_object)
+          (λ i below. c.objects_stand_in_their_grammar.ensures _ _ disk settled c.load.new.inodes v c.args.directory i o (v c.args.directory) now.volume is_object)
           (subst (λ n. AreDirectoryBlocks n (o.file.size / 4096) (file_block disk o.file)) same blocks);
     }

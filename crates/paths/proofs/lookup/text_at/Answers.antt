@@ -11,14 +11,14 @@ returns-in_err-load g c = fails c.from_residual.result c.from_residual.ensures.1
 
 pub returns-in_default : goal.returns-in_default
 returns-in_default g c = finds c.in_ok-load.ensures.looks c.load.ensures.loads tt (λ disk settled v stands.
-    let none : text_in (v c.args.number) ≡ [] = ap text_in (c.in_default.ensures.stands_for_none _ disk settled v (c.load.ensures.looks.kept disk settled v stands).volume) in
+    let none : text_in (v c.args.number) ≡ [] = ap text_in (c.in_default.ensures.stands_for_none _ _ disk settled v (c.load.ensures.looks.kept disk settled v stands).volume) in
     search rules)
 
 pub returns-then-ne : goal.returns-then-ne
 returns-then-ne g c = finds c.in_ok-load.ensures.looks c.load.ensures.loads tt (λ disk settled v stands.
     let o = c.in-Some.object.now in
     let now = c.load.ensures.looks.kept disk settled v stands in
-    let is_object = c.in-Some.ensures.stands _ disk settled v now.volume in
+    let is_object = c.in-Some.ensures.stands _ _ disk settled v now.volume in
     let other : o.attributes.kind ≢ kinds.Link = search rules in
     let none = without_text disk c.load.new.inodes.geometry.inodes (settled c.args.number) o (v c.args.number) is_object other in
     search rules)
@@ -31,14 +31,14 @@ returns g c = record {
   found = λ disk settled v stands.
       let o = c.in-Some.object.now in
       let now = c.load.ensures.looks.kept disk settled v stands in
-      let is_object = c.in-Some.ensures.stands _ disk settled v now.volume in
+      let is_object = c.in-Some.ensures.stands _ _ disk settled v now.volume in
       let kind : o.attributes.kind ≡ kinds.Link = search rules in
       subst (λ text. IfOk c.all_bytes.result (λ t. t.items ≡ text)) (link_text disk c.load.new.inodes.geometry.inodes (settled c.args.number) o (v c.args.number) is_object kind)
       (c.all_bytes.ensures.bytes disk now.shows);
   damaged = λ disk settled v stands is.
       let o = c.in-Some.object.now in
       let now = c.load.ensures.looks.kept disk settled v stands in
-      let is_object = c.in-Some.ensures.stands _ disk settled v now.volume in
+      let is_object = c.in-Some.ensures.stands _ _ disk settled v now.volume in
       c.all_bytes.ensures.damaged disk now.shows is
-      (λ i. c.objects_stand_in_their_grammar.ensures _ disk settled c.load.new.inodes v c.args.number i o (v c.args.number) now.volume is_object);
+      (λ i. c.objects_stand_in_their_grammar.ensures _ _ disk settled c.load.new.inodes v c.args.number i o (v c.args.number) now.volume is_object);
 }

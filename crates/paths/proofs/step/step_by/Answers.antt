@@ -4,7 +4,7 @@ use Rattle.model.specs.Finding.{here}
 use Rattle.model.specs.Paths.{is_dot, is_dot_dot, is_too_long}
 use Rattle.model.specs.Volumes.{entries}
 use Rattle.paths.specs.Numbers.{IsNumber}
-use Rattle.paths.proofs.LookingUp.{fails, finds, then_fails, then_finds}
+use Rattle.paths.proofs.LookingUp.{fails, finds, looked_into, then_fails, then_finds}
 use Rattle.paths.proofs.Looks.{has_looked}
 use Rattle.paths.proofs.Walks.{turned_to_nothing, turned_to}
 use Rattle.paths.proofs.step.step_by.Goals as goal
@@ -24,10 +24,10 @@ returns-in_default g c = finds c.in_ok-number.ensures.looks c.number_at.ensures.
 
 pub returns-in_err-found : goal.returns-in_err-found
 returns-in_err-found g c =
-    then_fails c.from_residual-in_err-found.result c.from_residual-in_err-found.ensures.1 (has_looked c.in_ok-number.ensures.looks c.number_at.ensures.loads) c.in_err-found.ensures
+    then_fails c.from_residual-in_err-found.result c.from_residual-in_err-found.ensures.1 (has_looked c.in_ok-number.ensures.looks c.number_at.ensures.loads) (looked_into c.in_err-found.ensures)
 
 pub returns : goal.returns
-returns g c = then_finds (has_looked c.in_ok-number.ensures.looks c.number_at.ensures.loads) c.in_ok-found.ensures
+returns g c = then_finds (has_looked c.in_ok-number.ensures.looks c.number_at.ensures.loads) (looked_into c.in_ok-found.ensures)
     (c.step_to.ensures.within c.args.inodes.now.geometry.inodes (subst (λ o. IfSome o (IsNumber c.args.inodes.now.geometry.inodes)) c.in-Some.is c.in_ok-number.ensures.within))
     (λ disk settled v stands trail rest at last.
     let part = c.args.part.now in

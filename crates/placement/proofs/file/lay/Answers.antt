@@ -18,7 +18,7 @@ returns-then-level_of-eq0-clause-short g c = λ m i past. node_over c.in_ok-smal
 pub returns-in_err-small-clause-damaged : goal.returns-in_err-small-clause-damaged
 returns-in_err-small-clause-damaged g c = λ s disk base shows change blocks bad.
     let law = c.nodes_are_where_pointers_lead.ensures in
-    let laws : NodeLaws = record { places = law.places; paths = law.paths; past = law.past; above = law.above } in
+    let laws : NodeLaws = record { places = law.places; paths = law.paths _; past = law.past _; above = law.above } in
     let t = c.args.object.now.file.tree in
     c.in_err-small.ensures.damaged disk shows (search rules)
     (λ not kept. let low : 0 < t.count = omega (arith, kept, t.fits.1) in

@@ -44,7 +44,7 @@ pub returns-in_err-places-clause-damaged : goal.returns-in_err-places-clause-dam
 returns-in_err-places-clause-damaged g c = λ s disk base shows based sound blocks bad.
     let law = c.nodes_are_where_pointers_lead.ensures in
     let t = c.args.tree.now in
-    let laws : NodeLaws = record { places = law.places; paths = law.paths; past = law.past; above = law.above } in
+    let laws : NodeLaws = record { places = law.places; paths = law.paths _; past = law.past _; above = law.above } in
     c.in_err-places.ensures.damaged disk (c.loop-height.invariant.read.same disk shows) (search rules)
     (subst (λ (n : ℕ). (i : ℕ) → i < t.count → IsPath n disk t.pointers t.depth t.count i) (blocks ∙ sym c.loop-height.invariant.read.count) (paths_sound laws s disk base t based sound))
 
@@ -53,6 +53,6 @@ returns-clause-settled g c = λ s disk base shows based sound.
     let law = c.nodes_are_where_pointers_lead.ensures in
     let t = c.args.tree.now in
     let so_far = c.loop-height.invariant in
-    let laws : NodeLaws = record { places = law.places; paths = law.paths; past = law.past; above = law.above } in
+    let laws : NodeLaws = record { places = law.places; paths = law.paths _; past = law.past _; above = law.above } in
     let heights : height_of c.loop-height.nodes ≡ suc t.depth = search rules in
     are_settled laws s disk base t c.loop-height.nodes sound heights so_far.end (λ m i le low. so_far.nodes disk shows m i (omega (arith, le, heights, so_far.count)) low) based

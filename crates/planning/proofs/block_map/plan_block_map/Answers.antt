@@ -11,11 +11,11 @@ use Rattle.planning.proofs.PromiseLaws.{plans_after, plans_err, plans_ok, plans_
 use Rattle.planning.specs.Space.{map_file_nodes}
 
 pub returns-in_err-settled-clause-damaged : goal.returns-in_err-settled-clause-damaged
-returns-in_err-settled-clause-damaged g c = λ disk settled v before shows memory bad. c.in_err-settled.ensures.damaged disk settled shows (search rules) memory.volume.inodes
+returns-in_err-settled-clause-damaged g c = λ disk settled v before shows memory bad. c.in_err-settled.ensures.damaged _ disk settled shows (search rules) memory.volume.inodes
 
 pub returns-in_err-nodes-clause-damaged : goal.returns-in_err-nodes-clause-damaged
 returns-in_err-nodes-clause-damaged g c = λ disk settled v before shows memory bad.
-    let now : c.in_ok-settled.settled ≡ settled 2 = c.in_ok-settled.ensures.read disk settled shows memory.volume.inodes in
+    let now : c.in_ok-settled.settled ≡ settled 2 = c.in_ok-settled.ensures.read _ disk settled shows memory.volume.inodes in
     c.in_err-nodes.ensures.damaged c.args.inodes.now.geometry disk (c.settled_inode.ensures.reads.same disk shows)
     (subst (λ (x : Inode). IsSoundFile c.args.inodes.now.geometry (held disk x)) (sym now) (memory.volume.inodes.sound 2)) (memory.volume.inodes.count ∙ sym c.settled_inode.ensures.reads.count) (search rules)
 
@@ -27,7 +27,7 @@ returns-clause-planned g c = λ disk settled v before p shows memory sound same 
     let nodes = c.in_ok-nodes.nodes.items in
     let found = c.in_ok-settled.settled in
     let f = c.in_ok-map.map in
-    let now : found ≡ settled 2 = c.in_ok-settled.ensures.read disk settled shows memory.volume.inodes in
+    let now : found ≡ settled 2 = c.in_ok-settled.ensures.read _ disk settled shows memory.volume.inodes in
     let shown = c.settled_inode.ensures.reads.same disk shows in
     let file = subst (λ (x : Inode). IsSoundFile s (held disk x)) (sym now) (memory.volume.inodes.sound 2) in
     map_file_planned old new disk before s settled p nodes f memory.once memory.exact same progress fresh c.store_own_map.ensures.step.grows

@@ -44,7 +44,7 @@ returns-in_err-is_there-clause-damaged g c = λ disk settled v before shows memo
     let tree = c.in_ok-object.object.file.tree in
     c.in_err-is_there.ensures.damaged disk (c.settled_map.ensures.reads.same disk shows) (search rules)
     (λ i. subst (λ n. IsSoundAt n disk tree i) (memory.volume.inodes.count ∙ sym c.settled_map.ensures.reads.count)
-    (c.based_trees_are_sound.ensures.at s disk c.in_ok-settled.settled tree i sound c.in_ok-object.ensures.base))
+    (c.based_trees_are_sound.ensures.at _ s disk c.in_ok-settled.settled tree i sound c.in_ok-object.ensures.base))
 
 pub returns-then-is_there-clause-planned : goal.returns-then-is_there-clause-planned
 returns-then-is_there-clause-planned g c = λ disk settled v before found shows memory no_hole way fresh.
@@ -53,7 +53,7 @@ returns-then-is_there-clause-planned g c = λ disk settled v before found shows 
     let bytes = c.args.inodes.now.numbers.bytes.items in
     let file = c.in_ok-object.object.file in
     let sound = subst (λ (x : Inode). IsSoundFile s (held disk x)) (sym now) (memory.volume.inodes.sound 1) in
-    let there = held_bytes disk (settled 1) file bytes (subst (λ (x : Inode). IsAsHeld disk x file) now (c.in_ok-object.ensures.held s disk sound))
+    let there = held_bytes disk (settled 1) file bytes (subst (λ (x : Inode). IsAsHeld disk x file) now (c.in_ok-object.ensures.held _ s disk sound))
     (map_size_is (g.B.Blocks.count c.args.blocks.now) disk s c.args.inodes.now.file settled memory.volume.inodes ∙ sym (sym (ap (λ (xs : List ℕ). length xs) c.map_bytes.ensures.bytes) ∙ c.map_bytes.ensures.length))
     (subst (λ (xs : List ℕ). IsPart (byte_at disk file) 0 xs) c.map_bytes.ensures.bytes (c.in_ok-is_there.ensures.same disk (c.settled_map.ensures.reads.same disk shows) c.if-is_there.true)) no_hole in
     map_stays c.args.draft.now disk before s (settled_tree disk settled) found c.args.file.now bytes way (λ e has agrees.
@@ -68,7 +68,7 @@ returns-in_err-put_parts-clause-damaged g c = λ disk settled v before shows mem
     let tree = c.in_ok-object.object.file.tree in
     c.in_err-put_parts.ensures.damaged disk (c.has_bytes.ensures.reads.same disk (c.settled_map.ensures.reads.same disk shows)) (search rules)
     (λ i. subst (λ n. IsSoundAt n disk tree i) (memory.volume.inodes.count ∙ sym c.settled_map.ensures.reads.count ∙ sym c.has_bytes.ensures.reads.count)
-    (c.based_trees_are_sound.ensures.at s disk c.in_ok-settled.settled tree i sound c.in_ok-object.ensures.base))
+    (c.based_trees_are_sound.ensures.at _ s disk c.in_ok-settled.settled tree i sound c.in_ok-object.ensures.base))
 
 -- the file that is placed, over the settled one
 map_now : (g : Over) (c : In_ok-put_parts g) (disk : ℕ → List ℕ) (settled : ℕ → Inode) (v : Volume) (before : ℕ → ℕ) → g.B.Blocks.Shows c.args.blocks.now disk
@@ -130,7 +130,7 @@ few_counted g c disk settled v before shows memory w counts =
     (omega (arith, c.in_ok-settled.ensures.size, c.requires.sizes.most_inodes)) (c.put_parts.ensures.file.size ∙ c.in_ok-object.ensures.size) c.in_ok-object.ensures.unchanged
     (λ i changed. elim (only i changed) [
       | inl other ↦ inl (counts_one w bytes (nodes.file_block (held disk (settled 1))) (file_block disk first i) i counts
-          (c.in_ok-object.ensures.held s disk sound i ∙ ap (λ (x : Inode). nodes.file_block (held disk x) i) now) other)
+          (c.in_ok-object.ensures.held _ s disk sound i ∙ ap (λ (x : Inode). nodes.file_block (held disk x) i) now) other)
       | inr before ↦ inr before
     ]) in
     let all = ap (λ (n : ℕ). sum_below w (block_count n)) c.in_ok-settled.ensures.size in

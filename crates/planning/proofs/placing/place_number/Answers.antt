@@ -9,17 +9,17 @@ use Rattle.planning.proofs.PlacingLaws.{placed_after, placed_err, placed_rise, p
 use Rattle.planning.proofs.PromiseLaws.{read_of}
 
 pub returns-in_err-settled-clause-damaged : goal.returns-in_err-settled-clause-damaged
-returns-in_err-settled-clause-damaged g c = λ disk settled v shows memory bad. c.in_err-settled.ensures.damaged disk settled shows (search rules) memory.volume.inodes
+returns-in_err-settled-clause-damaged g c = λ disk settled v shows memory bad. c.in_err-settled.ensures.damaged _ disk settled shows (search rules) memory.volume.inodes
 
 pub returns-in_err-cleared-clause-damaged : goal.returns-in_err-cleared-clause-damaged
 returns-in_err-cleared-clause-damaged g c = λ disk settled v shows memory bad.
-    let now : c.in_ok-settled.settled ≡ settled c.args.number = c.in_ok-settled.ensures.read disk settled shows memory.volume.inodes in
+    let now : c.in_ok-settled.settled ≡ settled c.args.number = c.in_ok-settled.ensures.read _ disk settled shows memory.volume.inodes in
     c.in_err-cleared.ensures.damaged c.args.inodes.now.geometry disk (search rules)
     (file_over (g.B.Blocks.count c.args.blocks.now) c.args.draft.now disk settled c.args.inodes.now v c.args.number c.in_ok-settled.settled memory now) (search rules)
 
 pub returns-in_default-clause-placed : goal.returns-in_default-clause-placed
 returns-in_default-clause-placed g c = λ disk settled v shows memory e has same.
-    let now : c.in_ok-settled.settled ≡ settled c.args.number = c.in_ok-settled.ensures.read disk settled shows memory.volume.inodes in
+    let now : c.in_ok-settled.settled ≡ settled c.args.number = c.in_ok-settled.ensures.read _ disk settled shows memory.volume.inodes in
     none_placed c.args.inodes.now.geometry disk e settled c.args.inodes.now c.args.number c.in_ok-settled.settled c.in_ok-cleared.cleared.inode _ _ now (c.in_default.ensures.none disk settled)
     (c.in_ok-cleared.ensures.cleared c.args.inodes.now.geometry disk (search rules)
     (file_over (g.B.Blocks.count c.args.blocks.now) c.args.draft.now disk settled c.args.inodes.now v c.args.number c.in_ok-settled.settled memory now) e has
@@ -28,18 +28,18 @@ returns-in_default-clause-placed g c = λ disk settled v shows memory e has same
 pub returns-in_err-placed-clause-damaged : goal.returns-in_err-placed-clause-damaged
 returns-in_err-placed-clause-damaged g c = λ disk settled v shows memory bad.
     let count = g.B.Blocks.count c.args.blocks.now in
-    let now : c.in_ok-settled.settled ≡ settled c.args.number = c.in_ok-settled.ensures.read disk settled shows memory.volume.inodes in
+    let now : c.in_ok-settled.settled ≡ settled c.args.number = c.in_ok-settled.ensures.read _ disk settled shows memory.volume.inodes in
     c.in_err-placed.ensures.damaged c.args.inodes.now.geometry disk (search rules)
     (file_over count c.args.draft.now disk settled c.args.inodes.now v c.args.number c.in_ok-settled.settled memory now)
-    (object_over c.args.inodes.now.geometry c.args.inodes.now.geometry.inodes disk c.in_ok-settled.settled (settled c.args.number) c.in-Some.object.now (v c.args.number) now (c.in-Some.ensures.stands count disk settled v memory.volume))
+    (object_over c.args.inodes.now.geometry c.args.inodes.now.geometry.inodes disk c.in_ok-settled.settled (settled c.args.number) c.in-Some.object.now (v c.args.number) now (c.in-Some.ensures.stands _ count disk settled v memory.volume))
     (search rules)
 
 pub returns-clause-placed : goal.returns-clause-placed
 returns-clause-placed g c = λ disk settled v shows memory e has same.
     let count = g.B.Blocks.count c.args.blocks.now in
-    let now : c.in_ok-settled.settled ≡ settled c.args.number = c.in_ok-settled.ensures.read disk settled shows memory.volume.inodes in
+    let now : c.in_ok-settled.settled ≡ settled c.args.number = c.in_ok-settled.ensures.read _ disk settled shows memory.volume.inodes in
     let there = c.in-Some.ensures.some disk settled in
-    let stands = c.in-Some.ensures.stands count disk settled v memory.volume in
+    let stands = c.in-Some.ensures.stands _ count disk settled v memory.volume in
     let file = file_over count c.args.draft.now disk settled c.args.inodes.now v c.args.number c.in_ok-settled.settled memory now in
     let object = object_over c.args.inodes.now.geometry c.args.inodes.now.geometry.inodes disk c.in_ok-settled.settled (settled c.args.number) c.in-Some.object.now (v c.args.number) now stands in
     let agrees = agrees_now disk e c.in_ok-settled.settled (settled c.args.number) now same in

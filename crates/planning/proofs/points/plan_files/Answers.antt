@@ -51,13 +51,13 @@ returns-in_err-plan_changes-clause-damaged g c = λ disk settled v before shows 
     let s = c.args.inodes.now.geometry in
     let first_file = c.in_ok-top.top.file in
     let sound = top_sound start in
-    c.in_err-plan_changes.ensures.damaged disk settled v before shows start.memory c.args.draft.now.map.next (started start first_file (c.in_ok-top.ensures.held s disk sound))
-    (λ i. subst (λ n. IsSoundAt n disk first_file.tree i) start.memory.volume.inodes.count (c.based_trees_are_sound.ensures.at s disk c.args.root.now.inode_file first_file.tree i sound c.in_ok-top.ensures.base)) (search rules)
+    c.in_err-plan_changes.ensures.damaged disk settled v before shows start.memory c.args.draft.now.map.next (started start first_file (c.in_ok-top.ensures.held _ s disk sound))
+    (λ i. subst (λ n. IsSoundAt n disk first_file.tree i) start.memory.volume.inodes.count (c.based_trees_are_sound.ensures.at _ s disk c.args.root.now.inode_file first_file.tree i sound c.in_ok-top.ensures.base)) (search rules)
 
 pub returns-in_err-placed-clause-damaged : goal.returns-in_err-placed-clause-damaged
 returns-in_err-placed-clause-damaged g c = λ disk settled v before shows start bad.
     let s = c.args.inodes.now.geometry in
-    let begin = started start c.in_ok-top.top.file (c.in_ok-top.ensures.held s disk (top_sound start)) in
+    let begin = started start c.in_ok-top.top.file (c.in_ok-top.ensures.held _ s disk (top_sound start)) in
     let numbers = c.in_ok-plan_changes.ensures.planned disk settled v before shows start.memory start.sound.inode_map c.args.draft.now.map.next begin in
     let change = top_change g (goal.at.returns-in_err-placed-clause-damaged g c).In_ok-plan_changes disk settled v before start numbers in
     c.in_err-placed.ensures.damaged s disk (settled 0) (c.plan_changes.ensures.step.reads.same disk shows) change (search rules)
@@ -69,14 +69,14 @@ returns-in_err-plan_last-clause-damaged g c = λ disk settled v before shows sta
     let count : g.B.Blocks.count c.args.blocks.now ≡ g.B.Blocks.count c.place_top.new.blocks = sym c.plan_changes.ensures.step.reads.count ∙ sym c.place_top.ensures.step.reads.count in
     c.in_err-plan_last.ensures.damaged disk settled v before (c.place_top.ensures.step.reads.same disk shown) (subst (λ n. IsOverTree n disk settled c.args.inodes.now v before) count start.memory)
     (subst (λ n. IsSoundAt n disk c.plan_changes.new.file.tree 0) count (c.plan_changes.ensures.file.sound (g.B.Blocks.count c.args.blocks.now) disk 0
-    (subst (λ n. IsSoundAt n disk first_file.tree 0) start.memory.volume.inodes.count (c.based_trees_are_sound.ensures.at c.args.inodes.now.geometry disk c.args.root.now.inode_file first_file.tree 0 (top_sound start) c.in_ok-top.ensures.base))))
+    (subst (λ n. IsSoundAt n disk first_file.tree 0) start.memory.volume.inodes.count (c.based_trees_are_sound.ensures.at _ c.args.inodes.now.geometry disk c.args.root.now.inode_file first_file.tree 0 (top_sound start) c.in_ok-top.ensures.base))))
     (search rules)
 
 pub returns-clause-planned : goal.returns-clause-planned
 returns-clause-planned g c = λ disk settled v before shows start.
     let s = c.args.inodes.now.geometry in
     let root = c.args.root.now in
-    let begin = started start c.in_ok-top.top.file (c.in_ok-top.ensures.held s disk (top_sound start)) in
+    let begin = started start c.in_ok-top.top.file (c.in_ok-top.ensures.held _ s disk (top_sound start)) in
     let o = record c.in_ok-top.top { file = c.plan_changes.new.file } in
     let numbers = c.in_ok-plan_changes.ensures.planned disk settled v before shows start.memory start.sound.inode_map c.args.draft.now.map.next begin in
     let p = numbers.map.way.plan in

@@ -26,7 +26,7 @@ loop-here-init g c =
       };
       within = c.mark.ensures.within inodes c.requires.top (All-same (IsNumber inodes) _ [] c.new-left.ensures.items (All-nil (IsNumber inodes)));
       whole = c.mark.ensures.marks.same_length ∙ ap length none ∙ length-replicate c.inodes-count.result false ∙ c.inodes-count.ensures.value ∙ ap (λ (s : Sizes). s.inodes) c.geometry.ensures;
-      searched = λ disk settled v stands.
+      searched = λ detail disk settled v stands.
           searched_first (entries v) c.args.top c.in_ok-marks.marks.items c.mark.new.marks.items c.new-left.result.items c.mark.new.left.items
           (λ n is. unmarked c.inodes-count.result n (subst (λ (marks : List Bool). IsMarkedNumber marks n) none is))
           c.new-left.ensures.items c.mark.ensures.marks c.in_ok-mark.ensures.marked c.mark.ensures.only;
@@ -37,8 +37,8 @@ returns-in_err-children-clause-looks g c =
     looks_err c.from_residual-in_err-children.result c.from_residual-in_err-children.ensures.1 (looks_then c.loop-here.invariant.looked c.in_err-children.ensures.looks)
 
 pub returns-in_err-children-clause-damaged : goal.returns-in_err-children-clause-damaged
-returns-in_err-children-clause-damaged g c = λ disk settled v stands is.
-    c.in_err-children.ensures.damaged disk settled v (c.loop-here.invariant.looked.kept disk settled v stands) (search rules)
+returns-in_err-children-clause-damaged g c = λ detail disk settled v stands is.
+    c.in_err-children.ensures.damaged detail disk settled v (c.loop-here.invariant.looked.kept disk settled v stands) (search rules)
 
 pub returns-in_err-mark_all-clause-looks : goal.returns-in_err-mark_all-clause-looks
 returns-in_err-mark_all-clause-looks g c =
@@ -58,16 +58,16 @@ loop-here-preserved g c =
           (All-same (IsNumber inodes) _ _ items (subst (λ (s : Sizes). AreNumbers s.inodes c.in_ok-children.children.items) so_far.looked.geometry told.within))
           (All-pop (IsNumber inodes) c.loop-here.left.items c.pop.new.self.items c.pop.result c.pop.ensures.items so_far.within).0;
       whole = c.mark_all.ensures.marks.same_length ∙ so_far.whole;
-      searched = λ disk settled v stands.
+      searched = λ detail disk settled v stands.
           let e = entries v in
           let here = c.in-Some.here in
-          let are = subst (λ (xs : List ℕ). (n : ℕ) → Contains xs n ↔ IsChild e here n) (sym items) (told.children disk settled v (so_far.looked.kept disk settled v stands)) in
+          let are = subst (λ (xs : List ℕ). (n : ℕ) → Contains xs n ↔ IsChild e here n) (sym items) (told.children detail disk settled v (so_far.looked.kept disk settled v stands)) in
           searched_more e c.args.top here c.loop-here.marks.items c.mark_all.new.marks.items c.loop-here.left.items c.pop.new.self.items c.mark_all.new.left.items c.as_slice.result.now
-          c.in-Some.ensures.items are c.mark_all.ensures.marks c.in_ok-mark_all.ensures.all c.mark_all.ensures.only (so_far.searched disk settled v stands);
+          c.in-Some.ensures.items are c.mark_all.ensures.marks c.in_ok-mark_all.ensures.all c.mark_all.ensures.only (so_far.searched detail disk settled v stands);
     }
 
 pub returns-clause-below : goal.returns-clause-below
-returns-clause-below g c = λ disk settled v stands.
+returns-clause-below g c = λ detail disk settled v stands.
     let so_far = c.loop-here.invariant in
     let marks = c.loop-here.marks.items in
     let number = c.args.number in
@@ -75,6 +75,6 @@ returns-clause-below g c = λ disk settled v stands.
     let ended = subst (λ (r : Option ℕ). IsSome r) gone in
     let empty : 0 < vec_len c.loop-here.left → ⊥ = λ some. false≢true (ended (c.pop.ensures.variant.1 some)) in
     let none : c.loop-here.left.items ≡ [] = nil_from_length c.loop-here.left.items (omega (arith, empty, c.loop-here.left.ok)) in
-    let told = searched_all (entries v) c.args.top marks c.loop-here.left.items none (so_far.searched disk settled v stands) number in
+    let told = searched_all (entries v) c.args.top marks c.loop-here.left.items none (so_far.searched detail disk settled v stands) number in
     let same : c.index.result.now ≡ get_or marks number false = c.index.ensures ∙ ap (λ (k : ℕ). get_or marks k c.index.result.now) c.get.ensures ∙ get_or_default marks number c.index.result.now false (subst (λ (k : ℕ). number < k) (sym so_far.whole) c.requires.number) in
     (λ is. told.0 (sym same ∙ is), λ below. same ∙ told.1 below)

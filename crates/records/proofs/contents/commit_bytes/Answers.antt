@@ -8,10 +8,10 @@ use Rattle.records.proofs.RoomLaws.{raises_to}
 use Rattle.records.proofs.contents.commit_bytes.Goals as goal
 
 pub returns-in-Some-clause-rewrites : goal.returns-in-Some-clause-rewrites
-returns-in-Some-clause-rewrites c = λ disk inodes settled found f stands is rewrites.
-    let o = subst (λ (x : Option Object). IsObjectOrNone disk inodes settled x found) c.in-Some.is stands in
-    let gives = subst (λ (x : Option Object). RewritesIn disk f x c.args.change) c.in-Some.is rewrites in
-    bytes_put disk inodes settled c.in-Some.object found f c.args.change c.commit.new.self o is gives c.commit.ensures
+returns-in-Some-clause-rewrites c = λ detail disk inodes settled found f stands is rewrites.
+    let o = subst (λ (x : Option Object). IsObjectOrNone detail disk inodes settled x found) c.in-Some.is stands in
+    let gives = subst (λ (x : Option Object). RewritesIn detail disk f x c.args.change) c.in-Some.is rewrites in
+    bytes_put detail disk inodes settled c.in-Some.object found f c.args.change c.commit.new.self o is gives c.commit.ensures
 
 pub returns-in-Some-clause-room : goal.returns-in-Some-clause-room
 returns-in-Some-clause-room c = λ k stores.

@@ -25,22 +25,22 @@ returns-clause-planned g c =
         reads = plan.reads;
         geometry = c.put_back.ensures.geometry ∙ take.geometry;
         needs = back_needs s c.take-object.new.self c.put_back.new.self n c.take-object.result c.plan_object-planned.new.object plan.same take.slots take.back c.put_back.ensures.slots c.put_back.ensures.here;
-        kept = λ disk settled v now.
+        kept = λ {detail} disk settled v now.
             stands_over c.load_to_change.new.blocks c.plan_object-planned.new.blocks c.put_back.new.self plan.reads.count (plan.reads.same disk now.shows)
-            (c.put_back.ensures.volume c.take-object.result count disk settled v (take.without count disk settled v now.volume) plan.same);
+            (c.put_back.ensures.volume _ c.take-object.result count disk settled v (take.without _ count disk settled v now.volume) plan.same);
       };
       stays = λ k is. c.put_back.ensures.stays k (take.stays k is);
       keeps = λ k is. c.put_back.ensures.keeps k (take.keeps k is);
-      found = λ disk settled v now.
-          let o = object_or_none disk s.geometry.inodes (settled n) c.take-object.result (v n) (take.stands count disk settled v now.volume) (take.stands_for_none count disk settled v now.volume) in
-          told_both c.plan_object-planned.result _ _ (plan.told disk s.geometry.inodes (settled n) (v n) o)
-          (subst (λ (x : Option Object). IfOk c.plan_object-planned.result (λ w. IfSome w (RewritesIn disk f x))) (sym c.put_back.ensures.loaded)
-          (plan.rewrites disk s.geometry.inodes (settled n) (v n) now.shows o));
-      damaged = λ disk settled v now is.
-          let o = object_or_none disk s.geometry.inodes (settled n) c.take-object.result (v n) (take.stands count disk settled v now.volume) (take.stands_for_none count disk settled v now.volume) in
+      found = λ {detail} disk settled v now.
+          let o = object_or_none detail disk s.geometry.inodes (settled n) c.take-object.result (v n) (take.stands _ count disk settled v now.volume) (take.stands_for_none _ count disk settled v now.volume) in
+          told_both c.plan_object-planned.result _ _ (plan.told detail disk s.geometry.inodes (settled n) (v n) o)
+          (subst (λ (x : Option Object). IfOk c.plan_object-planned.result (λ w. IfSome w (RewritesIn detail disk f x))) (sym c.put_back.ensures.loaded)
+          (plan.rewrites detail disk s.geometry.inodes (settled n) (v n) now.shows o));
+      damaged = λ {detail} disk settled v now is.
+          let o = object_or_none detail disk s.geometry.inodes (settled n) c.take-object.result (v n) (take.stands _ count disk settled v now.volume) (take.stands_for_none _ count disk settled v now.volume) in
           plan.damaged disk now.shows is
-          (λ object some i. c.objects_stand_in_their_grammar.ensures count disk settled s v n i object (v n) now.volume
-          (subst (λ (x : Option Object). IsObjectOrNone disk s.geometry.inodes (settled n) x (v n)) some o));
+          (λ object some i. c.objects_stand_in_their_grammar.ensures _ count disk settled s v n i object (v n) now.volume
+          (subst (λ (x : Option Object). IsObjectOrNone detail disk s.geometry.inodes (settled n) x (v n)) some o));
     }))
 
 pub returns-clause-stores : goal.returns-clause-stores

@@ -2,6 +2,7 @@ use Rattle.std.proofs.Common.{ℕ, Some, sym, subst}
 use Rattle.inode.specs.Room.{StoresMore}
 use Rattle.inofile.specs.Settled.{content_of_object}
 use Rattle.records.specs.Contents.{rewrite_room}
+use Rattle.images.specs.Soundness.{by_bytes, by_sizes}
 use Rattle.records.proofs.KindLaws.{not_file}
 use Rattle.records.proofs.EnterLaws.{same_object}
 use Rattle.records.proofs.contents.plan_taken.Goals as goal
@@ -10,9 +11,13 @@ pub returns-in_default-clause-same : goal.returns-in_default-clause-same
 returns-in_default-clause-same g c = same_object (Some c.args.object.now)
 
 pub returns-in_default-clause-told : goal.returns-in_default-clause-told
-returns-in_default-clause-told g c = λ disk inodes settled found is.
+returns-in_default-clause-told g c = λ detail disk inodes settled found is.
     let o = c.args.object.now in
-    sym (not_file o.attributes.kind inodes (content_of_object disk o) found is.stands c.in_default.not-File)
+    sym (not_file detail o.attributes.kind inodes (content_of_object disk o) found is.stands c.in_default.not-File)
 
 pub returns-clause-stores : goal.returns-clause-stores
 returns-clause-stores g c = subst (λ (n : ℕ). StoresMore c.plan.new.file c.in_ok-change.change (rewrite_room n c.args.rewrite.now)) (sym c.plan.ensures.same.size) c.in_ok-change.ensures.stores
+
+pub returns-clause-rewrites : goal.returns-clause-rewrites
+returns-clause-rewrites g c by_bytes = c.in_ok-change.ensures.rewrites
+returns-clause-rewrites g c by_sizes = λ disk shows ends. c.in_ok-change.ensures.sizes

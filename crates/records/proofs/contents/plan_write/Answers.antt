@@ -1,7 +1,8 @@
-use Rattle.std.proofs.Common.{rules, ◌∙◌}
+use Rattle.std.proofs.Common.{rules, ◌∙◌, arith}
 use Rattle.model.specs.Edits.{written}
 use Rattle.inode.specs.Files.{byte_at, byte_with, bytes_of_file}
 use Rattle.inode.proofs.ComposingLaws.{written_ends}
+use Rattle.model.proofs.EditLaws.{length-written}
 use Rattle.records.proofs.ContentLaws.{rewrites_same, written_is}
 use Rattle.records.proofs.contents.plan_write.Goals as goal
 
@@ -19,5 +20,6 @@ returns-in-Ok g c =
           rewrites_same disk (written c.args.offset c.args.bytes.now) old c.prepare_write.new.self change told.same
           (written_ends (byte_at disk old) (byte_with disk old change) old.size change.size c.args.offset c.args.bytes.now told.size whole (told.bytes disk shows whole))
           (told.list disk shows whole ∙ written_is c.args.offset c.args.bytes.now (bytes_of_file disk old));
+      sizes = λ bytes long. length-written c.args.offset c.args.bytes.now bytes ∙ omega (arith, long, told.size, told.same.size);
       damaged = search rules;
     }

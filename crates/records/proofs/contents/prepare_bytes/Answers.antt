@@ -3,28 +3,29 @@ use Rattle.std.proofs.lemmas.Bool.{both_ways, false≢true}
 use Rattle.model.specs.Records.{with_file_bytes}
 use Rattle.model.specs.Volumes.{Node, is_file_node, with_node}
 use Rattle.inofile.specs.Inodes.{loaded}
-use Rattle.records.specs.Contents.{RewriteRoom, RewritesIn, bytes_after}
+use Rattle.records.specs.Contents.{RewriteRoom, RewritesIn, bytes_after, rewriting}
 use Rattle.records.specs.Steps.{TakesUpdate}
 use Rattle.records.specs.declared.steps.Update.TheVariants as updates
-use Rattle.records.proofs.ContentLaws.{bars_rewriting, bounds_kept, file_changed, rewrite_within, rewriting_applied, rewriting_applies, rewriting_knows, tells_rewriting}
+use Rattle.records.proofs.DetailLaws.{known_of}
+use Rattle.records.proofs.ContentLaws.{bars_rewriting, bounds_kept, file_changed, rewrite_within, rewriting_applied, rewriting_applies, rewriting_knows, rewriting_place, tells_rewriting}
 use Rattle.records.proofs.Deciding.{decides, obstructs, stops}
 use Rattle.records.proofs.StandLaws.{no_look}
 use Rattle.records.proofs.contents.prepare_bytes.Goals as goal
 
 pub returns-then-not-keeps_bounds-clause-decides : goal.returns-then-not-keeps_bounds-clause-decides
-returns-then-not-keeps_bounds-clause-decides g c = obstructs no_look (tells_rewriting c.args.number c.args.rewrite.now) (λ disk settled v stands volume. bars_rewriting _ v c.args.number c.args.rewrite.now (λ can.
+returns-then-not-keeps_bounds-clause-decides g c = obstructs no_look (tells_rewriting c.args.number c.args.rewrite.now) (λ detail disk settled v stands volume. bars_rewriting _ v c.args.number c.args.rewrite.now (λ can.
     both_ways c.keeps_bounds.result c.if-not-keeps_bounds.true (c.keeps_bounds.ensures.1 (bounds_kept c.args.inodes.now.geometry.inodes v c.args.number c.args.rewrite.now can))))
 
 pub returns-then-not-is_number-clause-decides : goal.returns-then-not-is_number-clause-decides
-returns-then-not-is_number-clause-decides g c = obstructs no_look (tells_rewriting c.args.number c.args.rewrite.now) (λ disk settled v stands volume. bars_rewriting _ v c.args.number c.args.rewrite.now (λ can.
-    false≢true (subst (λ (o : Option Node). IsTrue (is_file_node o)) (c.is_number.ensures.no c.if-not-is_number.true v volume)
+returns-then-not-is_number-clause-decides g c = obstructs no_look (tells_rewriting c.args.number c.args.rewrite.now) (λ detail disk settled v stands volume. bars_rewriting _ v c.args.number c.args.rewrite.now (λ can.
+    false≢true (subst (λ (o : Option Node). IsTrue (is_file_node o)) (c.is_number.ensures.no c.if-not-is_number.true detail v (known_of detail c.args.inodes.now.geometry.inodes (rewriting c.args.number c.args.rewrite.now) v volume))
     (file_changed c.args.inodes.now.geometry.inodes v c.args.number c.args.rewrite.now can))))
 
 pub returns-in_err-planned-clause-decides : goal.returns-in_err-planned-clause-decides
-returns-in_err-planned-clause-decides g c = stops c.from_residual.result c.from_residual.ensures.1 c.in_err-planned.ensures.planned.looks c.in_err-planned.ensures.planned.damaged
+returns-in_err-planned-clause-decides g c = stops c.from_residual.result c.from_residual.ensures.1 c.in_err-planned.ensures.planned.looks (λ detail. c.in_err-planned.ensures.planned.damaged {detail = detail})
 
 pub returns-in_default-clause-decides : goal.returns-in_default-clause-decides
-returns-in_default-clause-decides g c = obstructs c.in_ok-planned.ensures.planned.looks (tells_rewriting c.args.number c.args.rewrite.now) (λ disk settled v stands volume. bars_rewriting _ v c.args.number c.args.rewrite.now (λ can.
+returns-in_default-clause-decides g c = obstructs c.in_ok-planned.ensures.planned.looks (tells_rewriting c.args.number c.args.rewrite.now) (λ detail disk settled v stands volume. bars_rewriting _ v c.args.number c.args.rewrite.now (λ can.
     both_ways (is_file_node (v c.args.number)) (sym (c.in_ok-planned.ensures.planned.found disk settled v stands).0 ∙ ap is_some c.in_default.is)
     (file_changed c.args.inodes.now.geometry.inodes v c.args.number c.args.rewrite.now can)))
 
@@ -43,10 +44,10 @@ returns-clause-decides g c =
       last_apart = tt;
       apart = tt;
     })
-    (λ disk settled v stands.
+    (λ detail disk settled v stands.
     let told = planned.planned.found disk settled v stands in
     let is : IsTrue (is_file_node (v n)) = sym told.0 ∙ ap is_some c.in-Some.is in
-    let gives = subst (λ o. IfSome o (RewritesIn disk f (loaded s n))) c.in-Some.is told.1 in
+    let gives = subst (λ o. IfSome o (RewritesIn detail disk f (loaded s n))) c.in-Some.is told.1 in
     let w = with_node n (with_file_bytes f (v n)) v in
     let room = rewrite_within n c.args.rewrite.now (loaded s n) c.in-Some.change (subst (λ o. IfSome o (RewriteRoom c.args.rewrite.now (loaded s n))) c.in-Some.is planned.stores) in
     record {
@@ -67,6 +68,7 @@ returns-clause-decides g c =
       within = omega (arith, room.2 v);
       knows = rewriting_knows n c.args.rewrite.now s (subst (λ o. IfSome o (λ x. TakesUpdate s n (updates.Bytes x))) c.in-Some.is planned.ready).at_hand.known;
     })
-    (λ disk settled v stands.
+    (λ detail disk settled v stands.
     rewriting_applies c.args.inodes.now.geometry.inodes v n c.args.rewrite.now (sym (planned.planned.found disk settled v stands).0 ∙ ap is_some c.in-Some.is)
     (c.keeps_bounds.ensures.0 c.if-not-keeps_bounds.false))
+    (λ detail disk settled v stands. rewriting_place v n c.args.rewrite.now)

@@ -7,6 +7,8 @@ use Rattle.inode.specs.declared.object.Object.{Object}
 use Rattle.inofile.specs.Objects.{IsObjectOrNone}
 use Rattle.inofile.specs.Settled.{content_of_object}
 use Rattle.records.specs.Entering.{EditsIn, with_node_names}
+use Rattle.inofile.proofs.DetailLaws.{in_detail}
+use Rattle.records.proofs.DetailLaws.{ends_of}
 use Rattle.records.proofs.RoomLaws.{raises_to}
 use Rattle.records.proofs.entering.commit_edit.Goals as goal
 
@@ -14,8 +16,8 @@ whole : (n : ℕ) → (4096 * n) % 4096 ≡ 0
 whole n = omega arith
 
 pub returns-in-Some-clause-edits : goal.returns-in-Some-clause-edits
-returns-in-Some-clause-edits c = λ disk inodes settled found f stands edits.
-    let o = subst (λ (x : Option Object). IsObjectOrNone disk inodes settled x found) c.in-Some.is stands in
+returns-in-Some-clause-edits c = λ detail disk inodes settled found f stands edits.
+    let o = subst (λ (x : Option Object). IsObjectOrNone detail disk inodes settled x found) c.in-Some.is stands in
     let e = subst (λ (x : Option Object). EditsIn disk inodes f found x c.args.edit) c.in-Some.is edits in
     let names = f e.names in
     let after : Object = record { attributes = c.in-Some.directory.attributes; file = c.commit.new.file } in
@@ -26,9 +28,10 @@ returns-in-Some-clause-edits c = λ disk inodes settled found f stands edits.
           let was = subst (λ (k : Kind). FitsKind k s c.in-Some.directory.attributes.mode c.in-Some.directory.attributes.links c.in-Some.directory.file.size) e.kind (o.fits s) in
           subst (λ (k : Kind). FitsKind k s c.in-Some.directory.attributes.mode c.in-Some.directory.attributes.links c.commit.new.file.size) (sym e.kind)
           (was.0, ap (λ (n : ℕ). n % 4096) c.commit.ensures.size ∙ whole c.args.edit.count);
-      stands = subst (λ (k : Kind). StandsAs k inodes (content_of_object disk after) (with_node_names f found)) (sym e.kind)
-          (names, c.commit.ensures.names inodes disk names e.edited, ap (with_node_names f) e.stands);
-      ends = c.commit.ensures.ends disk;
+      stands = in_detail detail after.attributes.kind inodes (content_of_object disk after) (with_node_names f found)
+          (subst (λ (k : Kind). StandsAs k inodes (content_of_object disk after) (with_node_names f found)) (sym e.kind)
+          (names, c.commit.ensures.names inodes disk names e.edited, ap (with_node_names f) e.stands));
+      ends = ends_of detail disk c.commit.new.file (c.commit.ensures.ends disk);
       base = c.commit.ensures.base settled o.base;
     }
 

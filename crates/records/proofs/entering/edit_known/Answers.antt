@@ -21,22 +21,22 @@ returns-clause-edit g c =
         reads = edit.reads;
         geometry = c.put_back.ensures.geometry ∙ take.geometry;
         needs = back_needs c.args.inodes.now c.take-object.new.self c.put_back.new.self n c.take-object.result c.edit_object-edit.new.object edit.same take.slots take.back c.put_back.ensures.slots c.put_back.ensures.here;
-        kept = λ disk settled v stands.
+        kept = λ {detail} disk settled v stands.
             stands_over c.args.blocks.now c.edit_object-edit.new.blocks c.put_back.new.self edit.reads.count (edit.reads.same disk stands.shows)
-            (c.put_back.ensures.volume c.take-object.result count disk settled v (take.without count disk settled v stands.volume) edit.same);
+            (c.put_back.ensures.volume _ c.take-object.result count disk settled v (take.without _ count disk settled v stands.volume) edit.same);
       };
       stays = λ k is. c.put_back.ensures.stays k (take.stays k is);
       keeps = λ k is. c.put_back.ensures.keeps k (take.keeps k is);
-      found = λ disk settled v stands.
-          let o = object_or_none disk before (settled n) c.take-object.result (v n) (take.stands count disk settled v stands.volume) (take.stands_for_none count disk settled v stands.volume) in
-          let at = subst (λ (k : ℕ). IsObjectOrNone disk k (settled n) c.take-object.result (v n)) (sym same) o in
+      found = λ {detail} disk settled v stands.
+          let o = object_or_none detail disk before (settled n) c.take-object.result (v n) (take.stands _ count disk settled v stands.volume) (take.stands_for_none _ count disk settled v stands.volume) in
+          let at = subst (λ (k : ℕ). IsObjectOrNone detail disk k (settled n) c.take-object.result (v n)) (sym same) o in
           let after : c.put_back.new.self.geometry.inodes ≡ before = ap (λ (s : Sizes). s.inodes) (c.put_back.ensures.geometry ∙ take.geometry) in
           subst (λ (x : Option Object). IfOk c.edit_object-edit.result (PreparesEdit disk c.put_back.new.self.geometry.inodes c.args.wanted.now (v n) x)) (sym c.put_back.ensures.loaded)
           (subst (λ (k : ℕ). IfOk c.edit_object-edit.result (PreparesEdit disk k c.args.wanted.now (v n) c.edit_object-edit.new.object)) (same ∙ sym after)
-          (edit.edits disk (settled n) (v n) stands.shows at));
-      damaged = λ disk settled v stands is.
-          let o = object_or_none disk before (settled n) c.take-object.result (v n) (take.stands count disk settled v stands.volume) (take.stands_for_none count disk settled v stands.volume) in
-          edit.damaged disk (settled n) (v n) stands.shows is (subst (λ (k : ℕ). IsObjectOrNone disk k (settled n) c.take-object.result (v n)) (sym same) o)
-          (λ object some i. c.objects_stand_in_their_grammar.ensures count disk settled c.args.inodes.now v n i object (v n) stands.volume
-          (subst (λ (x : Option Object). IsObjectOrNone disk before (settled n) x (v n)) some o));
+          (edit.edits detail disk (settled n) (v n) stands.shows at));
+      damaged = λ {detail} disk settled v stands is.
+          let o = object_or_none detail disk before (settled n) c.take-object.result (v n) (take.stands _ count disk settled v stands.volume) (take.stands_for_none _ count disk settled v stands.volume) in
+          edit.damaged detail disk (settled n) (v n) stands.shows is (subst (λ (k : ℕ). IsObjectOrNone detail disk k (settled n) c.take-object.result (v n)) (sym same) o)
+          (λ object some i. c.objects_stand_in_their_grammar.ensures _ count disk settled c.args.inodes.now v n i object (v n) stands.volume
+          (subst (λ (x : Option Object). IsObjectOrNone detail disk before (settled n) x (v n)) some o));
     })

@@ -3,13 +3,16 @@ use Rattle.std.proofs.lemmas.Bool.{both_ways, cases_Bool, false≢true}
 use Rattle.layout.specs.Directory.{IsEntry, named_of}
 use Rattle.layout.specs.Limits.{Sizes}
 use Rattle.layout.specs.declared.entry.Entry.{Entry}
-use Rattle.model.specs.Volumes.{IsVolume, Node, with_name_more, with_node, is_directory_node, is_file_node}
+use Rattle.model.specs.Volumes.{Node, with_name_more, with_node, is_directory_node, is_file_node}
 use Rattle.inofile.specs.Inodes.{loaded}
 use Rattle.paths.proofs.Looks.{looks_more}
 use Rattle.records.specs.Entering.{PreparesEdit, names_after, with_node_names}
 use Rattle.records.specs.Steps.{TakesUpdate, with_node_links}
 use Rattle.records.specs.declared.naming.NameEdit.TheVariants as edits
 use Rattle.records.specs.declared.steps.Update.TheVariants as updates
+use Rattle.model.specs.Records.{link}
+use Rattle.records.specs.Preparing.{IsKnownVolume}
+use Rattle.records.proofs.DetailLaws.{known_of}
 use Rattle.records.proofs.EnterLaws.{accepts_entry, found_directory, takes_accepted}
 use Rattle.records.proofs.FileLaws.{both_steps, file_apart, file_entry, file_is, more_links}
 use Rattle.records.proofs.Looking.{at_hand_behind}
@@ -19,54 +22,55 @@ use Rattle.records.proofs.links.prepare_link.Goals as goal
 use Rattle.model.proofs.ObjectLaws.{node_other}
 
 pub returns-then-not-is_name : goal.returns-then-not-is_name
-returns-then-not-is_name g c = obstructs no_look refl (λ disk settled v stands volume name. both_ways c.is_name.result c.if-not-is_name.true (c.is_name.ensures.1 name))
+returns-then-not-is_name g c = obstructs no_look refl (λ detail disk settled v stands volume name. both_ways c.is_name.result c.if-not-is_name.true (c.is_name.ensures.1 name))
 
 pub returns-then-not-fits : goal.returns-then-not-fits
-returns-then-not-fits g c = obstructs no_look refl (λ disk settled v stands volume. elim (cases_Bool (is_file_node (v c.args.number))) [
+returns-then-not-fits g c = obstructs no_look refl (λ detail disk settled v stands volume. elim (cases_Bool (is_file_node (v c.args.number))) [
   | inl file ↦
       let entry : Entry = record { number = c.args.number; name = c.args.name } in
       let same : c.inodes.result ≡ c.args.inodes.now.geometry.inodes = c.inodes.ensures.value ∙ ap (λ (s : Sizes). s.inodes) c.geometry.ensures in
-      let is = file_entry c.args.inodes.now.geometry.inodes v c.args.number c.args.name.now volume file (c.is_name.ensures.0 c.if-not-is_name.false) in
+      let is = file_entry detail c.args.inodes.now.geometry.inodes v c.args.number c.args.name.now (known_of detail c.args.inodes.now.geometry.inodes (link c.args.number c.args.parent c.args.name.now) v volume) file (c.is_name.ensures.0 c.if-not-is_name.false) in
       absurd (both_ways c.fits.result c.if-not-fits.true (c.fits.ensures.1 (subst (λ (k : ℕ). IsEntry k (named_of entry)) (sym same) is)))
   | inr not ↦ not
 ])
 
 pub returns-in_err-load_to_change : goal.returns-in_err-load_to_change
-returns-in_err-load_to_change g c = stops c.from_residual.result c.from_residual.ensures.1 c.in_err-load_to_change.ensures.looks c.in_err-load_to_change.ensures.damaged
+returns-in_err-load_to_change g c = stops c.from_residual.result c.from_residual.ensures.1 c.in_err-load_to_change.ensures.looks (λ detail. c.in_err-load_to_change.ensures.damaged {detail = detail})
 
 pub returns-in_default : goal.returns-in_default
-returns-in_default g c = obstructs c.in_ok-load_to_change.ensures.looks refl (λ disk settled v stands volume.
+returns-in_default g c = obstructs c.in_ok-load_to_change.ensures.looks refl (λ detail disk settled v stands volume.
     let now = c.in_ok-load_to_change.ensures.looks.kept disk settled v stands in
-    c.in_default.ensures.other _ disk settled v now.volume)
+    c.in_default.ensures.other _ _ disk settled v now.volume)
 
 pub returns-then-links-ge-FILE_NAMES : goal.returns-then-links-ge-FILE_NAMES
-returns-then-links-ge-FILE_NAMES g c = obstructs c.in_ok-load_to_change.ensures.looks refl (λ disk settled v stands volume.
+returns-then-links-ge-FILE_NAMES g c = obstructs c.in_ok-load_to_change.ensures.looks refl (λ detail disk settled v stands volume.
     let now = c.in_ok-load_to_change.ensures.looks.kept disk settled v stands in
-    (c.in-Some.links, c.in-Some.ensures.file _ disk settled v now.volume, search rules))
+    (c.in-Some.links, c.in-Some.ensures.file _ _ disk settled v now.volume, search rules))
 
 pub returns-then-not-is_number : goal.returns-then-not-is_number
-returns-then-not-is_number g c = obstructs c.in_ok-load_to_change.ensures.looks refl (λ disk settled v stands volume.
+returns-then-not-is_number g c = obstructs c.in_ok-load_to_change.ensures.looks refl (λ detail disk settled v stands volume.
     let now = c.in_ok-load_to_change.ensures.looks.kept disk settled v stands in
-    let known = subst (λ (z : Sizes). IsVolume z.inodes v) (sym c.in_ok-load_to_change.ensures.looks.geometry) volume in (
+    let known = subst (λ (z : Sizes). IsKnownVolume detail z.inodes v) (sym c.in_ok-load_to_change.ensures.looks.geometry)
+    (known_of detail c.args.inodes.now.geometry.inodes (link c.args.number c.args.parent c.args.name.now) v volume) in (
       c.in-Some.links,
-      c.in-Some.ensures.file _ disk settled v now.volume,
+      c.in-Some.ensures.file _ _ disk settled v now.volume,
       search rules,
-      λ takes. false≢true (subst (λ (o : Option Node). IsTrue (is_directory_node o)) (c.is_number.ensures.no c.if-not-is_number.true v known) takes.directory),
+      λ takes. false≢true (subst (λ (o : Option Node). IsTrue (is_directory_node o)) (c.is_number.ensures.no c.if-not-is_number.true _ v known) takes.directory),
     ))
 
 pub returns-in_err-planned : goal.returns-in_err-planned
 returns-in_err-planned g c =
     follows c.in_ok-load_to_change.ensures.looks
-    (stops c.from_residual-in_err-planned.result c.from_residual-in_err-planned.ensures.1 c.in_err-planned.ensures.edit.looks c.in_err-planned.ensures.edit.damaged)
-    c.in_ok-load_to_change.ensures.looks.kept c.in_ok-load_to_change.ensures.looks.kept
+    (stops c.from_residual-in_err-planned.result c.from_residual-in_err-planned.ensures.1 c.in_err-planned.ensures.edit.looks (λ detail. c.in_err-planned.ensures.edit.damaged {detail = detail}))
+    (λ detail. c.in_ok-load_to_change.ensures.looks.kept {detail = detail}) (λ detail. c.in_ok-load_to_change.ensures.looks.kept {detail = detail})
 
 pub returns-in_default-planned : goal.returns-in_default-planned
-returns-in_default-planned g c = obstructs (looks_more c.in_ok-load_to_change.ensures.looks c.in_ok-planned.ensures.edit.looks) refl (λ disk settled v stands volume.
+returns-in_default-planned g c = obstructs (looks_more c.in_ok-load_to_change.ensures.looks c.in_ok-planned.ensures.edit.looks) refl (λ detail disk settled v stands volume.
     let now = c.in_ok-load_to_change.ensures.looks.kept disk settled v stands in
     let entry : Entry = record { number = c.args.number; name = c.args.name } in
     let s = c.edit_parent.new.inodes in (
       c.in-Some.links,
-      c.in-Some.ensures.file _ disk settled v now.volume,
+      c.in-Some.ensures.file _ _ disk settled v now.volume,
       search rules,
       λ takes.
           subst (PreparesEdit disk s.geometry.inodes (edits.Add entry) (v c.args.parent) (loaded s c.args.parent)) c.in_default-planned.is
@@ -94,9 +98,9 @@ returns g c =
       last_apart = tt;
       apart = tt;
     })
-    (λ disk settled v stands.
+    (λ detail disk settled v stands.
     let now = loads.looks.kept disk settled v stands in
-    let file = c.in-Some.ensures.file _ disk settled v now.volume in
+    let file = c.in-Some.ensures.file _ _ disk settled v now.volume in
     let edit = subst (PreparesEdit disk s.geometry.inodes (edits.Add entry) (v d) (loaded s d)) c.in-Some-planned.is (planned.edit.found disk settled v now) in
     let apart = file_apart v n d (file_is links (v n) file) (found_directory (v d) edit.1.mode edit.1.names edit.1.is) in
     let between = with_node d (with_node_names f (v d)) v in
@@ -120,9 +124,9 @@ returns g c =
       within = omega arith;
       knows = tt;
     })
-    (λ disk settled v stands.
+    (λ detail disk settled v stands.
     let now = loads.looks.kept disk settled v stands in
-    let file = c.in-Some.ensures.file _ disk settled v now.volume in
+    let file = c.in-Some.ensures.file _ _ disk settled v now.volume in
     let edit = subst (PreparesEdit disk s.geometry.inodes (edits.Add entry) (v d) (loaded s d)) c.in-Some-planned.is (planned.edit.found disk settled v now) in
     record {
       mode = file.0;
@@ -132,3 +136,4 @@ returns g c =
       few = search rules;
       takes = takes_accepted v d entry (c.fits.ensures.0 c.if-not-fits.false).name edit.1;
     })
+    (λ detail disk settled v stands. tt)

@@ -11,7 +11,7 @@ returns-in_err-load g c =
       stays = load.stays;
       keeps = load.keeps;
       known = search rules;
-      damaged = λ disk settled v stands is. load.damaged disk settled v stands (search rules);
+      damaged = λ {detail} disk settled v stands is. load.damaged disk settled v stands (search rules);
     }
 
 pub returns-in_err-prepare_set : goal.returns-in_err-prepare_set
@@ -20,7 +20,7 @@ returns-in_err-prepare_set g c = record {
     reads = search rules;
     geometry = search rules;
     needs = λ n k le. c.prepare_set.ensures.needs n k (c.load.ensures.looks.needs n k le);
-    kept = λ disk settled v stands. stands_with c.load.new.blocks c.load.new.inodes c.prepare_set.new.self c.prepare_set.ensures.volume (c.load.ensures.looks.kept disk settled v stands);
+    kept = λ {detail} disk settled v stands. stands_with c.load.new.blocks c.load.new.inodes c.prepare_set.new.self c.prepare_set.ensures.volume (c.load.ensures.looks.kept disk settled v stands);
   };
   stays = search rules;
   keeps = search rules;

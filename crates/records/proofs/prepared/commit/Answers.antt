@@ -14,15 +14,15 @@ commit_some-requires-2 c =
     takes_behind p.next p.last c.commit_some.ensures c.requires.apart (takes_behind (Some p.first) p.last c.commit_step.ensures c.requires.last_apart c.requires.last)
 
 pub returns-clause-volume : goal.returns-clause-volume
-returns-clause-volume c = λ count disk settled v change volume does.
+returns-clause-volume c = λ detail count disk settled v change volume does.
     let first = c.commit_step.ensures in
     let next = c.commit_some.ensures in
     let p = c.args.prepared in
     let w = applied change v in
     c.commit_some-2.ensures.volume count disk settled does.second w
     (next.volume count disk settled does.between does.second (first.volume count disk settled v does.between volume does.first)
-    (steps_behind disk settled does.between does.second (Some p.first) p.next first does.next_beside does.next))
-    (steps_behind disk settled does.second w p.next p.last next does.beside (steps_behind disk settled does.second w (Some p.first) p.last first does.last_beside does.last))
+    (steps_behind detail disk settled does.between does.second (Some p.first) p.next first does.next_beside does.next))
+    (steps_behind detail disk settled does.second w p.next p.last next does.beside (steps_behind detail disk settled does.second w (Some p.first) p.last first does.last_beside does.last))
 
 pub returns-clause-at_hand : goal.returns-clause-at_hand
 returns-clause-at_hand c =
@@ -39,16 +39,16 @@ returns-clause-at_hand c =
     }
 
 pub returns-clause-room : goal.returns-clause-room
-returns-clause-room c = λ base count disk settled v change volume does.
+returns-clause-room c = λ detail base count disk settled v change volume does.
     let first = c.commit_step.ensures in
     let next = c.commit_some.ensures in
     let p = c.args.prepared in
     let w = applied change v in
     let then = first.volume count disk settled v does.between volume does.first in
-    let on = steps_behind disk settled does.between does.second (Some p.first) p.next first does.next_beside does.next in
+    let on = steps_behind detail disk settled does.between does.second (Some p.first) p.next first does.next_beside does.next in
     let one = first.room base count disk settled v does.between does.firsts volume does.first does.first_room in
     let two = next.room base count disk settled does.between does.second does.nexts then on (room_behind (Some p.first) p.next does.nexts first does.next_beside does.next_room) in
     let three = c.commit_some-2.ensures.room base count disk settled does.second w does.lasts (next.volume count disk settled does.between does.second then on)
-    (steps_behind disk settled does.second w p.next p.last next does.beside (steps_behind disk settled does.second w (Some p.first) p.last first does.last_beside does.last))
+    (steps_behind detail disk settled does.second w p.next p.last next does.beside (steps_behind detail disk settled does.second w (Some p.first) p.last first does.last_beside does.last))
     (room_behind p.next p.last does.lasts next does.beside (room_behind (Some p.first) p.last does.lasts first does.last_beside does.last_room)) in
     omega (arith, one, two, three, does.within)

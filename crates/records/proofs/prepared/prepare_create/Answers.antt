@@ -1,15 +1,18 @@
-use Rattle.std.proofs.Common.{rules, ◌≡◌, ◌≤◌, ◌<◌, ℕ, List, IsTrue, refl, sym, subst, ◌∙◌}
+use Rattle.std.proofs.Common.{Some, rules, ◌≡◌, ◌≤◌, ◌<◌, ℕ, List, IsTrue, refl, sym, subst, ◌∙◌}
 use Rattle.std.proofs.lemmas.Bool.{both_ways}
 use Rattle.blocktree.specs.Trees.{IsSoundAt}
 use Rattle.layout.specs.Limits.{Sizes}
 use Rattle.layout.specs.Record.{made_of}
 use Rattle.layout.specs.declared.inode.Inode.{Inode}
-use Rattle.model.specs.Records.{IsMade, TakesName, create}
-use Rattle.model.specs.Volumes.{IsVolume, Volume}
+use Rattle.model.specs.Records.{IsMade, TakesName, create, node_of}
+use Rattle.model.specs.Volumes.{Volume}
 use Rattle.model.specs.declared.errno.Errno.TheVariants.{DIRFULL}
-use Rattle.paths.specs.Standing.{Stands}
+use Rattle.paths.specs.Standing.{StandsIn}
 use Rattle.paths.proofs.Looks.{looks_more, looks_reads}
 use Rattle.records.specs.Obstacles.{IsObstacle, tells_obstacle}
+use Rattle.images.specs.Soundness.{Detail}
+use Rattle.records.specs.Preparing.{IsKnownVolume}
+use Rattle.records.proofs.DetailLaws.{known_of, object_in}
 use Rattle.records.proofs.Deciding.{obstructs, stops}
 use Rattle.records.proofs.Failures.{refusal_is}
 use Rattle.records.proofs.Looking.{ok_so}
@@ -17,23 +20,23 @@ use Rattle.records.proofs.StandLaws.{no_look}
 use Rattle.records.proofs.prepared.prepare_create.Goals as goal
 
 pub returns-then-not-is_made : goal.returns-then-not-is_made
-returns-then-not-is_made g c = obstructs no_look refl (λ disk settled v stands volume may. both_ways c.is_made.result c.if-not-is_made.true (c.is_made.ensures.1 may.2))
+returns-then-not-is_made g c = obstructs no_look refl (λ detail disk settled v stands volume may. both_ways c.is_made.result c.if-not-is_made.true (c.is_made.ensures.1 may.2))
 
 pub returns-in_err-vacant : goal.returns-in_err-vacant
-returns-in_err-vacant g c = stops c.from_residual.result c.from_residual.ensures.1 c.in_err-vacant.ensures.looks c.in_err-vacant.ensures.damaged
+returns-in_err-vacant g c = stops c.from_residual.result c.from_residual.ensures.1 c.in_err-vacant.ensures.looks (λ detail. c.in_err-vacant.ensures.damaged {detail = detail})
 
 pub returns-then-not-vacant : goal.returns-then-not-vacant
-returns-then-not-vacant g c = obstructs c.in_ok-vacant.ensures.looks refl (λ disk settled v stands volume may.
+returns-then-not-vacant g c = obstructs c.in_ok-vacant.ensures.looks refl (λ detail disk settled v stands volume may.
     both_ways c.in_ok-vacant.vacant c.if-not-vacant.true (c.in_ok-vacant.ensures.found disk settled v stands ∙ may.3))
 
 pub returns-in_err-new : goal.returns-in_err-new
-returns-in_err-new g c = stops c.from_residual-in_err-new.result c.from_residual-in_err-new.ensures.1 (looks_reads c.in_ok-vacant.ensures.looks c.in_err-new.ensures.reads) (λ disk settled v stands is.
+returns-in_err-new g c = stops c.from_residual-in_err-new.result c.from_residual-in_err-new.ensures.1 (looks_reads c.in_ok-vacant.ensures.looks c.in_err-new.ensures.reads) (λ detail disk settled v stands is.
     let now = c.in_ok-vacant.ensures.looks.kept disk settled v stands in
     let s = c.is_vacant.new.inodes in
     let inodes = now.volume.inodes in
     c.in_err-new.ensures.damaged disk now.shows is
     (λ t i based. subst (λ (n : ℕ). IsSoundAt n disk t i) inodes.count
-    (c.based_trees_are_sound.ensures.at s.geometry disk (settled c.args.number) t i (inodes.sound c.args.number) (based (settled c.args.number)))))
+    (c.based_trees_are_sound.ensures.at _ s.geometry disk (settled c.args.number) t i (inodes.sound c.args.number) (based (settled c.args.number)))))
 
 pub returns : goal.returns
 returns g c =
@@ -44,22 +47,23 @@ returns g c =
     let low : 4 ≤ c.args.number = search rules in
     let high : c.args.number < c.args.inodes.now.geometry.inodes = search rules in
     let good : IsMade (made_of c.args.object.now) = c.is_made.ensures.0 c.if-not-is_made.false in
-    let is_free = λ (disk : ℕ → List ℕ) (settled : ℕ → Inode) (v : Volume) (stands : Stands g.B.Blocks disk settled v c.args.blocks.now c.args.inodes.now).
+    let is_free = λ (detail : Detail) (disk : ℕ → List ℕ) (settled : ℕ → Inode) (v : Volume) (stands : StandsIn detail g.B.Blocks disk settled v c.args.blocks.now c.args.inodes.now).
     sym (vacant.found disk settled v stands) ∙ c.if-not-vacant.false in
     record {
       looks = looks_more before new.looks;
       own = refusal_is (λ e. IsTrue (tells_obstacle (create c.args.number c.args.parent (made_of c.args.object.now) c.args.name.now) e)) (λ e. e ≡ DIRFULL) c.prepare_new.result new.full new.full (λ is. refl);
       ready = new.ready;
-      does = λ disk settled v stands.
-          new.does disk settled v (made_of c.args.object.now) (before.kept disk settled v stands) (is_free disk settled v stands)
-          (λ k. made.object disk (vacant.looks.kept disk settled v stands).shows k (settled c.args.number)) made.room;
-      applies = λ disk settled v stands.
-          ok_so c.prepare_new.result _ _ (λ p taken. record { low = low; high = high; vacant = is_free disk settled v stands; takes = taken; good = good })
-          (new.takes disk settled v (before.kept disk settled v stands));
-      refused = λ disk settled v stands volume.
+      does = λ {detail} disk settled v stands.
+          new.does detail disk settled v (made_of c.args.object.now) (before.kept disk settled v stands) (is_free detail disk settled v stands)
+          (λ k. object_in detail disk k (settled c.args.number) c.in_ok-new.new (Some (node_of (made_of c.args.object.now))) (made.object disk (vacant.looks.kept disk settled v stands).shows k (settled c.args.number))) made.room;
+      applies = λ {detail} disk settled v stands.
+          ok_so c.prepare_new.result _ _ (λ p taken. record { low = low; high = high; vacant = is_free detail disk settled v stands; takes = taken; good = good })
+          (new.takes detail disk settled v (before.kept disk settled v stands));
+      place = λ disk settled v stands. ok_so c.prepare_new.result _ _ (λ p taken. tt) (new.takes _ disk settled v (before.kept disk settled v stands));
+      refused = λ {detail} disk settled v stands volume.
           refusal_is (IsObstacle c.args.inodes.now.geometry.inodes v (create c.args.number c.args.parent (made_of c.args.object.now) c.args.name.now))
           (λ e. TakesName v c.args.parent c.args.name.now → ⊥) c.prepare_new.result new.full
-          (new.refused disk settled v (before.kept disk settled v stands) (subst (λ (s : Sizes). IsVolume s.inodes v) (sym before.geometry) volume))
-          (λ full. ((low, high, good, is_free disk settled v stands), full));
-      damaged = λ disk settled v stands is. new.damaged disk settled v (before.kept disk settled v stands) is;
+          (new.refused detail disk settled v (before.kept disk settled v stands) (subst (λ (s : Sizes). IsKnownVolume detail s.inodes v) (sym before.geometry) (known_of detail c.args.inodes.now.geometry.inodes (create c.args.number c.args.parent (made_of c.args.object.now) c.args.name.now) v volume)))
+          (λ full. ((low, high, good, is_free detail disk settled v stands), full));
+      damaged = λ {detail} disk settled v stands is. new.damaged detail disk settled v (before.kept disk settled v stands) is;
     }

@@ -15,28 +15,28 @@ use Rattle.records.proofs.Looking.{at_hand_behind}
 use Rattle.records.proofs.prepared.prepare_new.Goals as goal
 
 pub returns-then-not-is_number-clause-refused : goal.returns-then-not-is_number-clause-refused
-returns-then-not-is_number-clause-refused g c = λ disk settled v stands volume takes.
-    false≢true (subst (λ (o : Option Node). IsTrue (is_directory_node o)) (c.is_number.ensures.no c.if-not-is_number.true v volume) takes.directory)
+returns-then-not-is_number-clause-refused g c = λ detail disk settled v stands volume takes.
+    false≢true (subst (λ (o : Option Node). IsTrue (is_directory_node o)) (c.is_number.ensures.no c.if-not-is_number.true _ v volume) takes.directory)
 
 pub returns-in_err-load_to_change-clause-looks : goal.returns-in_err-load_to_change-clause-looks
 returns-in_err-load_to_change-clause-looks g c = looks_read c.from_residual.result c.from_residual.ensures.1 c.in_err-load_to_change.ensures.looks
 
 pub returns-in_err-load_to_change-clause-damaged : goal.returns-in_err-load_to_change-clause-damaged
-returns-in_err-load_to_change-clause-damaged g c = damaged_read c.from_residual.result c.from_residual.ensures.1 c.in_err-load_to_change.ensures.damaged
+returns-in_err-load_to_change-clause-damaged g c = λ detail. damaged_read c.from_residual.result c.from_residual.ensures.1 (c.in_err-load_to_change.ensures.damaged {detail = detail})
 
 pub returns-in_err-planned-clause-looks : goal.returns-in_err-planned-clause-looks
 returns-in_err-planned-clause-looks g c =
     looks_read c.from_residual-in_err-planned.result c.from_residual-in_err-planned.ensures.1 (looks_more c.in_ok-load_to_change.ensures.looks c.in_err-planned.ensures.edit.looks)
 
 pub returns-in_err-planned-clause-damaged : goal.returns-in_err-planned-clause-damaged
-returns-in_err-planned-clause-damaged g c = damaged_read c.from_residual-in_err-planned.result c.from_residual-in_err-planned.ensures.1 (λ disk settled v stands.
+returns-in_err-planned-clause-damaged g c = λ detail. damaged_read c.from_residual-in_err-planned.result c.from_residual-in_err-planned.ensures.1 (λ disk settled v stands.
     c.in_err-planned.ensures.edit.damaged disk settled v (c.in_ok-load_to_change.ensures.looks.kept disk settled v stands))
 
 pub returns-in_default-clause-looks : goal.returns-in_default-clause-looks
 returns-in_default-clause-looks g c = looks_ok (looks_more c.in_ok-load_to_change.ensures.looks c.in_ok-planned.ensures.edit.looks)
 
 pub returns-in_default-clause-refused : goal.returns-in_default-clause-refused
-returns-in_default-clause-refused g c = λ disk settled v stands volume takes.
+returns-in_default-clause-refused g c = λ detail disk settled v stands volume takes.
     let now = c.in_ok-load_to_change.ensures.looks.kept disk settled v stands in
     let entry : Entry = record { number = c.args.number; name = c.args.name } in
     let s = c.edit_parent.new.inodes in
@@ -62,7 +62,7 @@ returns-clause-ready g c =
     }
 
 pub returns-clause-does : goal.returns-clause-does
-returns-clause-does g c = λ disk settled v made stands is_free is_object small.
+returns-clause-does g c = λ detail disk settled v made stands is_free is_object small.
     let now = c.in_ok-load_to_change.ensures.looks.kept disk settled v stands in
     let name = c.args.name.now in
     let number = c.args.number in
@@ -97,7 +97,7 @@ returns-clause-does g c = λ disk settled v made stands is_free is_object small.
     }
 
 pub returns-clause-takes : goal.returns-clause-takes
-returns-clause-takes g c = λ disk settled v stands.
+returns-clause-takes g c = λ detail disk settled v stands.
     let now = c.in_ok-load_to_change.ensures.looks.kept disk settled v stands in
     let entry : Entry = record { number = c.args.number; name = c.args.name } in
     let s = c.edit_parent.new.inodes in

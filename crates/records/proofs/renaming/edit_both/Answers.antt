@@ -26,7 +26,7 @@ returns-in_err-planned-clause-both g c =
 pub returns-in_default-clause-both : goal.returns-in_default-clause-both
 returns-in_default-clause-both g c =
     tells (behind (brought c.in_ok-load_to_change.ensures) (behind (brought c.in_ok-load_to_change-2.ensures) c.in_ok-planned.ensures.edit))
-    (λ disk settled v now edit. (
+    (λ detail disk settled v now edit. (
       tt,
       λ accepts directory.
           let s = c.edit_known.new.inodes in
@@ -41,7 +41,7 @@ returns-in_err-taken-clause-both g c =
 pub returns-in_default-taken-clause-both : goal.returns-in_default-taken-clause-both
 returns-in_default-taken-clause-both g c =
     tells (behind (brought c.in_ok-load_to_change.ensures) (behind (brought c.in_ok-load_to_change-2.ensures) (behind c.in_ok-planned.ensures.edit c.in_ok-taken.ensures.edit)))
-    (λ disk settled v now edit. (
+    (λ detail disk settled v now edit. (
       tt,
       λ accepts directory.
           let t = c.edit_known-2.new.inodes in
@@ -59,7 +59,7 @@ returns-clause-both g c =
     let wanted = c.args.wanted.now in
     let same = c.edit_known-2.ensures.rest k (λ same. c.requires.apart (sym same)) in
     tells (behind (brought c.in_ok-load_to_change.ensures) (behind (brought c.in_ok-load_to_change-2.ensures) (besides c.in_ok-planned.ensures.edit c.in_ok-taken.ensures.edit)))
-    (λ disk settled v now both.
+    (λ detail disk settled v now both.
     let added = subst (PreparesEdit disk s.geometry.inodes wanted (v k) (loaded s k)) c.in-Some.is both.0 in
     let removed = subst (PreparesEdit disk t.geometry.inodes (edits.Remove c.args.name) (v d) (loaded t d)) c.in-Some-taken.is both.1 in (
       (

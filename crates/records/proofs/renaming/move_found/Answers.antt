@@ -5,10 +5,12 @@ use Rattle.layout.specs.Limits.{Sizes}
 use Rattle.layout.specs.declared.inode.Inode.{Inode}
 use Rattle.model.specs.Records.{rename}
 use Rattle.model.specs.Volumes.{Volume, entries}
-use Rattle.paths.specs.Standing.{Stands}
+use Rattle.paths.specs.Standing.{StandsIn}
 use Rattle.paths.proofs.Looks.{looks_more}
 use Rattle.records.specs.Moving.{Moves, Replaces, ReplacesBy}
 use Rattle.records.specs.Obstacles.{IsObstacle}
+use Rattle.images.specs.Soundness.{Detail}
+use Rattle.records.proofs.DetailLaws.{known_of}
 use Rattle.records.proofs.Deciding.{follows, obstructs, passes, stops}
 use Rattle.records.proofs.Failures.{refused_by}
 use Rattle.records.proofs.MoveLaws.{entry_named}
@@ -17,18 +19,19 @@ use Rattle.records.proofs.StandLaws.{no_look}
 use Rattle.records.proofs.renaming.move_found.Goals as goal
 
 pub returns-then-not-is_name : goal.returns-then-not-is_name
-returns-then-not-is_name g c = obstructs no_look refl (λ disk settled v known volume name. both_ways c.is_name.result c.if-not-is_name.true (c.is_name.ensures.1 name))
+returns-then-not-is_name g c = obstructs no_look refl (λ detail disk settled v known volume name. both_ways c.is_name.result c.if-not-is_name.true (c.is_name.ensures.1 name))
 
 pub returns-then-not-fits : goal.returns-then-not-fits
-returns-then-not-fits g c = obstructs no_look refl (λ disk settled v known volume.
+returns-then-not-fits g c = obstructs no_look refl (λ detail disk settled v known volume.
     let inodes = c.args.inodes.now.geometry.inodes in
     let count : c.inodes.result ≡ inodes = c.inodes.ensures.value ∙ ap (λ (s : Sizes). s.inodes) c.geometry.ensures in
     let n = c.args.number in
-    let is = entry_named inodes v c.args.parent c.args.name.now n c.args.new_name.now volume known.1 (c.is_name.ensures.0 c.if-not-is_name.false) in
+    let is = entry_named detail inodes v c.args.parent c.args.name.now n c.args.new_name.now
+    (known_of detail inodes (rename c.args.parent c.args.name.now c.args.new_parent c.args.new_name.now) v volume) known.1 (c.is_name.ensures.0 c.if-not-is_name.false) in
     absurd (both_ways c.fits.result c.if-not-fits.true (c.fits.ensures.1 (subst (λ (k : ℕ). IsEntry k (record { number = n; name = c.args.new_name.now })) (sym count) is))))
 
 pub returns-in_err-target : goal.returns-in_err-target
-returns-in_err-target g c = stops c.from_residual.result c.from_residual.ensures.1 c.in_err-target.ensures.number.looks c.in_err-target.ensures.number.damaged
+returns-in_err-target g c = stops c.from_residual.result c.from_residual.ensures.1 c.in_err-target.ensures.number.looks (λ detail. c.in_err-target.ensures.number.damaged {detail = detail})
 
 -- where nothing has the new name
 pub returns-in_default : goal.returns-in_default
@@ -37,15 +40,15 @@ returns-in_default g c =
     let d = c.args.parent in
     let x = c.args.name.now in
     let n = c.args.number in
-    let moves = λ (disk : ℕ → List ℕ) (settled : ℕ → Inode) (v : Volume) (stands : Stands g.B.Blocks disk settled v c.args.blocks.now c.args.inodes.now) (there : entries v d x ≡ Some n).
-    let m : Moves disk settled v d x n c.args.new_parent c.args.new_name.now None = record {
+    let moves = λ (detail : Detail) (disk : ℕ → List ℕ) (settled : ℕ → Inode) (v : Volume) (stands : StandsIn detail g.B.Blocks disk settled v c.args.blocks.now c.args.inodes.now) (there : entries v d x ≡ Some n).
+    let m : Moves detail disk settled v d x n c.args.new_parent c.args.new_name.now None = record {
       there = there;
-      replaces = subst (λ (o : Option ℕ). Replaces disk settled v n o None) (sym c.in_default.is ∙ target.found disk settled v stands) tt;
+      replaces = subst (λ (o : Option ℕ). Replaces detail disk settled v n o None) (sym c.in_default.is ∙ target.found disk settled v stands) tt;
     } in
     m in
     follows target.looks c.place.ensures
-    (λ disk settled v known. (target.looks.kept disk settled v known.0, moves disk settled v known.0 known.1))
-    (λ disk settled v known. (target.looks.kept disk settled v known.0, moves disk settled v known.0 known.1, known.2))
+    (λ detail disk settled v known. (target.looks.kept disk settled v known.0, moves detail disk settled v known.0 known.1))
+    (λ detail disk settled v known. (target.looks.kept disk settled v known.0, moves detail disk settled v known.0 known.1, known.2))
 
 -- where another object has it
 
@@ -54,19 +57,19 @@ returns-in_err-step g c =
     let target = c.in_ok-target.ensures.number in
     let failed = c.in_err-step.ensures in
     passes _ c.from_residual-in_err-step.result c.from_residual-in_err-step.ensures.1 (looks_more target.looks failed.replaced.looks) failed.own
-    (λ disk settled v known volume.
+    (λ detail disk settled v known volume.
     let d = c.args.parent in
     let x = c.args.name.now in
     let n = c.args.number in
     let m = c.in-Some.other in
     let k = c.args.new_parent in
     let y = c.args.new_name.now in
-    refused_by (ReplacesBy disk settled v n m) (λ r. IfErr r (IsObstacle c.args.inodes.now.geometry.inodes v (rename d x k y))) _ (Err _) refl
+    refused_by (ReplacesBy detail disk settled v n m) (λ r. IfErr r (IsObstacle c.args.inodes.now.geometry.inodes v (rename d x k y))) _ (Err _) refl
     (λ errno bars.
     bars_rename c.args.inodes.now.geometry.inodes v d x n m k y errno known.1 (sym (target.found disk settled v known.0) ∙ c.in-Some.is)
-    (bars_replacing disk settled v d n m k y errno known.2 bars))
+    (bars_replacing detail disk settled v d n m k y errno known.2 bars))
     (failed.replaced.found disk settled v (target.looks.kept disk settled v known.0)))
-    (λ disk settled v stands is. failed.replaced.damaged disk settled v (target.looks.kept disk settled v stands) is)
+    (λ detail disk settled v stands is. failed.replaced.damaged disk settled v (target.looks.kept disk settled v stands) is)
 
 pub returns : goal.returns
 returns g c =
@@ -77,14 +80,14 @@ returns g c =
     let x = c.args.name.now in
     let n = c.args.number in
     let step = Some c.in_ok-step.step in
-    let moves = λ (disk : ℕ → List ℕ) (settled : ℕ → Inode) (v : Volume) (stands : Stands g.B.Blocks disk settled v c.args.blocks.now c.args.inodes.now) (there : entries v d x ≡ Some n).
-    let m : Moves disk settled v d x n c.args.new_parent c.args.new_name.now step = record {
+    let moves = λ (detail : Detail) (disk : ℕ → List ℕ) (settled : ℕ → Inode) (v : Volume) (stands : StandsIn detail g.B.Blocks disk settled v c.args.blocks.now c.args.inodes.now) (there : entries v d x ≡ Some n).
+    let m : Moves detail disk settled v d x n c.args.new_parent c.args.new_name.now step = record {
       there = there;
       replaces =
-          subst (λ (o : Option ℕ). Replaces disk settled v n o step) (sym c.in-Some.is ∙ target.found disk settled v stands)
+          subst (λ (o : Option ℕ). Replaces detail disk settled v n o step) (sym c.in-Some.is ∙ target.found disk settled v stands)
           (took.found disk settled v (target.looks.kept disk settled v stands));
     } in
     m in
     follows before c.place-2.ensures
-    (λ disk settled v known. (before.kept disk settled v known.0, moves disk settled v known.0 known.1))
-    (λ disk settled v known. (before.kept disk settled v known.0, moves disk settled v known.0 known.1, known.2))
+    (λ detail disk settled v known. (before.kept disk settled v known.0, moves detail disk settled v known.0 known.1))
+    (λ detail disk settled v known. (before.kept disk settled v known.0, moves detail disk settled v known.0 known.1, known.2))

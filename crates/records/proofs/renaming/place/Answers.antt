@@ -16,21 +16,22 @@ use Rattle.records.proofs.Looking.{some_at_hand_behind}
 use Rattle.records.proofs.MoveLaws.{accepts_move, accepts_other, aside_new, aside_old, beside_new, beside_none, beside_old, can_rename, few_pieces, moved_across, moved_inside, names_for, room_on, steps_on, wanted_none, wanted_some}
 use Rattle.records.proofs.Deciding.{decides, obstructs, stops}
 use Rattle.records.proofs.ObstacleLaws.{no_place}
+use Rattle.records.proofs.PlaceLaws.{leaves_inside, leaves_other}
 use Rattle.records.proofs.renaming.place.Goals.{then-is_some, else-is_some}
 use Rattle.records.proofs.renaming.place.Goals as goal
 use Rattle.model.proofs.ObjectLaws.{node_other}
 
 pub returns-in_err-planned : goal.returns-in_err-planned
-returns-in_err-planned g c = stops c.from_residual.result c.from_residual.ensures.1 c.in_err-planned.ensures.edit.looks c.in_err-planned.ensures.edit.damaged
+returns-in_err-planned g c = stops c.from_residual.result c.from_residual.ensures.1 c.in_err-planned.ensures.edit.looks (λ detail. c.in_err-planned.ensures.edit.damaged {detail = detail})
 
 pub returns-in_default : goal.returns-in_default
-returns-in_default g c = obstructs c.in_ok-planned.ensures.edit.looks refl (λ disk settled v known volume.
+returns-in_default g c = obstructs c.in_ok-planned.ensures.edit.looks refl (λ detail disk settled v known volume.
     let entry : Entry = record { number = c.args.entry.now.number; name = c.args.entry.now.name } in
     let old : Entry = record { number = 0; name = c.args.name } in
     let k = c.args.new_parent in
     let s = c.edit_parent.new.inodes in
     absurd (subst (PreparesEdit disk s.geometry.inodes (edits.Move c.args.name entry) (v k) (loaded s k)) c.in_default.is (c.in_ok-planned.ensures.edit.found disk settled v known.0)
-    (accepts_move disk settled v c.args.parent c.args.name.now entry.number k entry.name.now c.args.replaced known.1 c.args.inodes.now.geometry.inodes old entry refl refl volume (c.is_same.ensures.yes c.if-is_same.true))))
+    (accepts_move detail disk settled v c.args.parent c.args.name.now entry.number k entry.name.now c.args.replaced known.1 c.args.inodes.now.geometry.inodes old entry refl refl volume (c.is_same.ensures.yes c.if-is_same.true))))
 
 pub returns-then-is_same : goal.returns-then-is_same
 returns-then-is_same g c =
@@ -53,7 +54,7 @@ returns-then-is_same g c =
       last_apart = tt;
       apart = apart_none step;
     })
-    (λ disk settled v known.
+    (λ detail disk settled v known.
     let moves = known.1 in
     let edit = subst (PreparesEdit disk s.geometry.inodes (edits.Move c.args.name entry) (v k) (loaded s k)) c.in-Some.is (planned.edit.found disk settled v known.0) in
     let between = with_node k (with_node_names f (v k)) v in
@@ -62,31 +63,34 @@ returns-then-is_same g c =
       between = between;
       second = released target between;
       first = (with_node_names f (v k), (f, edit.0, refl), refl);
-      next = steps_on disk settled v d x n k y step moves s between (λ m other apart. node_other k m (with_node_names f (v k)) v apart);
+      next = steps_on detail disk settled v d x n k y step moves s between (λ m other apart. node_other k m (with_node_names f (v k)) v apart);
       last =
           ap (λ (to : Option ℕ). with_entry k y to (with_entry d x None (released target v))) moves.there
-          ∙ moved_inside d k x y (Some n) target v (c.is_same.ensures.yes c.if-is_same.true) (aside_new disk settled v d x n k y step moves);
-      next_beside = beside_new disk settled v d x n k y step moves;
+          ∙ moved_inside d k x y (Some n) target v (c.is_same.ensures.yes c.if-is_same.true) (aside_new detail disk settled v d x n k y step moves);
+      next_beside = beside_new detail disk settled v d x n k y step moves;
       last_beside = tt;
       beside = beside_none step;
       firsts = 11;
       nexts = 6;
       lasts = 0;
       first_room = omega (arith, edit.2);
-      next_room = room_on disk settled v d x n k y step moves s;
+      next_room = room_on detail disk settled v d x n k y step moves s;
       last_room = tt;
       within = omega arith;
       knows = tt;
     })
-    (λ disk settled v known.
+    (λ detail disk settled v known.
     let edit = subst (PreparesEdit disk s.geometry.inodes (edits.Move c.args.name entry) (v k) (loaded s k)) c.in-Some.is (planned.edit.found disk settled v known.0) in
-    can_rename disk settled v d x n k y step known.1 (found_directory (v k) edit.1.mode edit.1.names edit.1.is) c.requires.entry.name known.2 (λ none. inl (c.is_same.ensures.yes c.if-is_same.true)))
+    can_rename detail disk settled v d x n k y step known.1 (found_directory (v k) edit.1.mode edit.1.names edit.1.is) c.requires.entry.name known.2 (λ none. inl (c.is_same.ensures.yes c.if-is_same.true)))
+    (λ detail disk settled v known.
+    let edit = subst (PreparesEdit disk s.geometry.inodes (edits.Move c.args.name entry) (v k) (loaded s k)) c.in-Some.is (planned.edit.found disk settled v known.0) in
+    leaves_inside v d x k y edit.1.mode edit.1.names edit.1.is (c.is_same.ensures.yes c.if-is_same.true) edit.1.takes)
 
 pub returns-in_err-both : goal.returns-in_err-both
-returns-in_err-both g c = stops c.from_residual-in_err-both.result c.from_residual-in_err-both.ensures.1 c.in_err-both.ensures.both.looks c.in_err-both.ensures.both.damaged
+returns-in_err-both g c = stops c.from_residual-in_err-both.result c.from_residual-in_err-both.ensures.1 c.in_err-both.ensures.both.looks (λ detail. c.in_err-both.ensures.both.damaged {detail = detail})
 
 pub returns-in_default-both : goal.returns-in_default-both
-returns-in_default-both g c = obstructs c.in_ok-both.ensures.both.looks refl (λ disk settled v known volume.
+returns-in_default-both g c = obstructs c.in_ok-both.ensures.both.looks refl (λ detail disk settled v known volume.
     let entry : Entry = record { number = c.args.entry.now.number; name = c.args.entry.now.name } in
     let d = c.args.parent in
     let x = c.args.name.now in
@@ -96,8 +100,8 @@ returns-in_default-both g c = obstructs c.in_ok-both.ensures.both.looks refl (λ
       | then-is_some w ↦ w.wanted-is ∙ wanted_some entry step (sym c.is_some.ensures ∙ w.if-is_some.true)
       | else-is_some w ↦ w.wanted-is ∙ wanted_none entry step (sym c.is_some.ensures ∙ w.if-is_some.false)
     ] in
-    no_place c.args.inodes.now.geometry.inodes disk settled v d x entry.number k entry.name.now step known.1 c.requires.entry.name known.2 (c.is_same.ensures.no c.if-is_same.false) (λ can.
-    let accepts = accepts_other disk settled v d x entry.number k entry.name.now step known.1 c.args.inodes.now.geometry.inodes entry refl volume (c.is_same.ensures.no c.if-is_same.false) can in
+    no_place c.args.inodes.now.geometry.inodes detail disk settled v d x entry.number k entry.name.now step known.1 c.requires.entry.name known.2 (c.is_same.ensures.no c.if-is_same.false) (λ can.
+    let accepts = accepts_other detail disk settled v d x entry.number k entry.name.now step known.1 c.args.inodes.now.geometry.inodes entry refl volume (c.is_same.ensures.no c.if-is_same.false) can in
     subst (λ o. IfNone o (Accepts c.if-is_some.wanted (v k) → IsTrue (is_directory_node (v d)) → ⊥)) c.in_default-both.is (c.in_ok-both.ensures.both.found disk settled v known.0).1
     (subst (λ (e : NameEdit). Accepts e (v k)) (sym wanted) accepts) (named_directory (v d) x entry.number known.1.there)))
 
@@ -129,7 +133,7 @@ returns g c =
       last_apart = alone_some_apart k step c.requires.alone;
       apart = alone_some_apart d step c.requires.alone;
     })
-    (λ disk settled v known.
+    (λ detail disk settled v known.
     let moves = known.1 in
     let edits_are = subst (λ o. IfSome o (λ e. PreparesEdit disk s.geometry.inodes c.if-is_some.wanted (v k) (loaded s k) (Some e.0) × EditsIn disk s.geometry.inodes h (v d) (loaded s d) e.1 × (piece_count e.1 ≤ 1))) c.in-Some-both.is
     (both.both.found disk settled v known.0).0 in
@@ -144,27 +148,31 @@ returns g c =
       first = (with_node_names f (v k), (f, added, refl), refl);
       next = (with_node_names h (between d), (h, subst (λ (o : Option Node). EditsIn disk s.geometry.inodes h o (loaded s d) c.in-Some-both.removed) (sym stays) edits_are.1, refl), refl);
       last =
-          subst (λ (u : Volume). StepsSome disk settled s second step u)
+          subst (λ (u : Volume). StepsSome detail disk settled s second step u)
           (sym (
           ap (λ (to : Option ℕ). with_entry k y to (with_entry d x None (released target v))) moves.there
-          ∙ moved_across d k x y (Some n) target v other (aside_new disk settled v d x n k y step moves) (aside_old disk settled v d x n k y step moves)
+          ∙ moved_across d k x y (Some n) target v other (aside_new detail disk settled v d x n k y step moves) (aside_old detail disk settled v d x n k y step moves)
           ))
-          (steps_on disk settled v d x n k y step moves s second (λ m not_old not_new. node_other d m (with_node_names h (between d)) between not_old ∙ node_other k m (with_node_names f (v k)) v not_new));
+          (steps_on detail disk settled v d x n k y step moves s second (λ m not_old not_new. node_other d m (with_node_names h (between d)) between not_old ∙ node_other k m (with_node_names f (v k)) v not_new));
       next_beside = other;
-      last_beside = beside_new disk settled v d x n k y step moves;
-      beside = beside_old disk settled v d x n k y step moves;
+      last_beside = beside_new detail disk settled v d x n k y step moves;
+      beside = beside_old detail disk settled v d x n k y step moves;
       firsts = 9;
       nexts = 7;
       lasts = 6;
       first_room = omega (arith, edits_are.0.2, ap pieces_of wanted, few_pieces entry step);
       next_room = omega (arith, edits_are.2);
-      last_room = room_on disk settled v d x n k y step moves s;
+      last_room = room_on detail disk settled v d x n k y step moves s;
       within = omega arith;
       knows = tt;
     })
-    (λ disk settled v known.
+    (λ detail disk settled v known.
     let edits_are = subst (λ o. IfSome o (λ e. PreparesEdit disk s.geometry.inodes c.if-is_some.wanted (v k) (loaded s k) (Some e.0) × EditsIn disk s.geometry.inodes h (v d) (loaded s d) e.1 × (piece_count e.1 ≤ 1))) c.in-Some-both.is
     (both.both.found disk settled v known.0).0 in
     let accepts = edits_are.0.1 in
-    can_rename disk settled v d x n k y step known.1 (found_directory (v k) accepts.mode accepts.names accepts.is) c.requires.entry.name known.2
+    can_rename detail disk settled v d x n k y step known.1 (found_directory (v k) accepts.mode accepts.names accepts.is) c.requires.entry.name known.2
     (λ none. inr (takes_accepted v k entry c.requires.entry.name (subst (λ (e : NameEdit). Accepts e (v k)) (wanted ∙ ap (edit_for entry) none) accepts))))
+    (λ detail disk settled v known.
+    let edits_are = subst (λ o. IfSome o (λ e. PreparesEdit disk s.geometry.inodes c.if-is_some.wanted (v k) (loaded s k) (Some e.0) × EditsIn disk s.geometry.inodes h (v d) (loaded s d) e.1 × (piece_count e.1 ≤ 1))) c.in-Some-both.is
+    (both.both.found disk settled v known.0).0 in
+    leaves_other v d x k step entry other (subst (λ (e : NameEdit). Accepts e (v k)) wanted edits_are.0.1))

@@ -1,45 +1,50 @@
 use Rattle.std.proofs.Common.{◌≡◌, ◌∙◌, ℕ, Option, None, Some, IsSome, IsTrue, refl, ap, sym, subst}
 use Rattle.std.proofs.lemmas.Bool.{both_ways, false≢true}
 use Rattle.layout.specs.Limits.{Sizes}
-use Rattle.model.specs.Volumes.{IsVolume, Node, entries, is_directory_node, names_in}
+use Rattle.model.specs.Volumes.{Node, entries, is_directory_node, names_in}
 use Rattle.model.specs.declared.errno.Errno.TheVariants.{DIRFULL}
 use Rattle.model.proofs.OptionLaws.{none_some}
 use Rattle.paths.proofs.Looks.{looks_more}
 use Rattle.records.specs.Obstacles.{BarsMove}
+use Rattle.model.specs.Records.{rename}
+use Rattle.records.specs.Preparing.{IsKnownVolume}
+use Rattle.records.proofs.DetailLaws.{graph_of, known_of}
 use Rattle.records.proofs.BelowLaws.{closed_below, never_around}
 use Rattle.records.proofs.Deciding.{follows, obstructs, stops}
 use Rattle.records.proofs.StandLaws.{no_look}
 use Rattle.records.proofs.renaming.prepare_rename.Goals as goal
 
 pub returns-then-not-is_number : goal.returns-then-not-is_number
-returns-then-not-is_number g c = obstructs no_look refl (λ disk settled v stands volume.
-    ap (λ (o : Option Node). names_in o c.args.name.now) (c.is_number.ensures.no c.if-not-is_number.true v volume))
+returns-then-not-is_number g c = obstructs no_look refl (λ detail disk settled v stands volume.
+    ap (λ (o : Option Node). names_in o c.args.name.now) (c.is_number.ensures.no c.if-not-is_number.true detail v (known_of detail c.args.inodes.now.geometry.inodes (rename c.args.parent c.args.name.now c.args.new_parent c.args.new_name.now) v volume)))
 
 pub returns-in_err-found : goal.returns-in_err-found
-returns-in_err-found g c = stops c.from_residual.result c.from_residual.ensures.1 c.in_err-found.ensures.number.looks c.in_err-found.ensures.number.damaged
+returns-in_err-found g c = stops c.from_residual.result c.from_residual.ensures.1 c.in_err-found.ensures.number.looks (λ detail. c.in_err-found.ensures.number.damaged {detail = detail})
 
 pub returns-in_default : goal.returns-in_default
-returns-in_default g c = obstructs c.in_ok-found.ensures.number.looks refl (λ disk settled v stands volume.
+returns-in_default g c = obstructs c.in_ok-found.ensures.number.looks refl (λ detail disk settled v stands volume.
     sym (c.in_ok-found.ensures.number.found disk settled v stands) ∙ c.in_default.is)
 
 -- nothing has a number that is none
 pub returns-then-not-is_number-2 : goal.returns-then-not-is_number-2
 returns-then-not-is_number-2 g c =
     let found = c.in_ok-found.ensures.number in
-    obstructs found.looks refl (λ disk settled v stands volume.
+    obstructs found.looks refl (λ detail disk settled v stands volume.
     let x = c.args.name.now in
     let n = c.in-Some.number in
     let k = c.args.new_parent in
     let y = c.args.new_name.now in
     let there : entries v c.args.parent x ≡ Some n = sym (found.found disk settled v stands) ∙ c.in-Some.is in
-    let nothing = c.is_number-2.ensures.no c.if-not-is_number-2.true v (subst (λ (s : Sizes). IsVolume s.inodes v) (sym found.looks.geometry) volume) in
+    let nothing = c.is_number-2.ensures.no c.if-not-is_number-2.true detail v (subst (λ (s : Sizes). IsKnownVolume detail s.inodes v) (sym found.looks.geometry)
+    (known_of detail c.args.inodes.now.geometry.inodes (rename c.args.parent c.args.name.now c.args.new_parent c.args.new_name.now) v volume)) in
+    let graph = graph_of detail c.args.inodes.now.geometry.inodes v (known_of detail c.args.inodes.now.geometry.inodes (rename c.args.parent c.args.name.now c.args.new_parent c.args.new_name.now) v volume) in
     let none : entries v k y ≡ None = ap (λ (o : Option Node). names_in o y) nothing in (
       n,
       there,
       subst (λ (o : Option ℕ). BarsMove v c.args.parent n k y o DIRFULL) (sym none) (
         (λ at. none_some at),
         (λ below.
-            let some = closed_below (entries v) (λ j. IsSome (v j)) (λ d m some child. volume.graph.used d m child.0 child.1) n k (volume.graph.used c.args.parent n x there) below in
+            let some = closed_below (entries v) (λ j. IsSome (v j)) (λ d m some child. graph.used d m child.0 child.1) n k (graph.used c.args.parent n x there) below in
             false≢true (subst IsSome nothing some)),
         (
           (λ same. none_some (sym (ap (λ (j : ℕ). entries v j x) same ∙ ap (λ (o : Option Node). names_in o x) nothing) ∙ there)),
@@ -52,23 +57,23 @@ pub returns-in_err-below : goal.returns-in_err-below
 returns-in_err-below g c =
     follows c.in_ok-found.ensures.number.looks
     (stops c.from_residual-in_err-below.result c.from_residual-in_err-below.ensures.1 c.in_err-below.ensures.looks c.in_err-below.ensures.damaged)
-    c.in_ok-found.ensures.number.looks.kept c.in_ok-found.ensures.number.looks.kept
+    (λ detail. c.in_ok-found.ensures.number.looks.kept {detail = detail}) (λ detail. c.in_ok-found.ensures.number.looks.kept {detail = detail})
 
 pub returns-then-below : goal.returns-then-below
 returns-then-below g c =
     let found = c.in_ok-found.ensures.number in
-    obstructs (looks_more found.looks c.in_ok-below.ensures.looks) refl (λ disk settled v stands volume.
+    obstructs (looks_more found.looks c.in_ok-below.ensures.looks) refl (λ detail disk settled v stands volume.
     let n = c.in-Some.number in
     let k = c.args.new_parent in
-    let below = (c.in_ok-below.ensures.below disk settled v (found.looks.kept disk settled v stands)).0 c.if-below.true in
-    (n, sym (found.found disk settled v stands) ∙ c.in-Some.is, ((λ at. never_around v volume.graph n k c.args.new_name.now at below), below)))
+    let below = (c.in_ok-below.ensures.below detail disk settled v (found.looks.kept disk settled v stands)).0 c.if-below.true in
+    (n, sym (found.found disk settled v stands) ∙ c.in-Some.is, ((λ at. never_around v (graph_of detail c.args.inodes.now.geometry.inodes v (known_of detail c.args.inodes.now.geometry.inodes (rename c.args.parent c.args.name.now c.args.new_parent c.args.new_name.now) v volume)) n k c.args.new_name.now at below), below)))
 
 pub returns : goal.returns
 returns g c =
     let found = c.in_ok-found.ensures.number in
     let before = looks_more found.looks c.in_ok-below.ensures.looks in
     follows before c.move_found.ensures
-    (λ disk settled v stands. (before.kept disk settled v stands, sym (found.found disk settled v stands) ∙ c.in-Some.is))
-    (λ disk settled v stands.
-    let told = c.in_ok-below.ensures.below disk settled v (found.looks.kept disk settled v stands) in
+    (λ detail disk settled v stands. (before.kept disk settled v stands, sym (found.found disk settled v stands) ∙ c.in-Some.is))
+    (λ detail disk settled v stands.
+    let told = c.in_ok-below.ensures.below detail disk settled v (found.looks.kept disk settled v stands) in
     (before.kept disk settled v stands, sym (found.found disk settled v stands) ∙ c.in-Some.is, λ is. both_ways c.in_ok-below.below c.if-below.false (told.1 is)))

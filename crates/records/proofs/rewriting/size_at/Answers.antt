@@ -10,11 +10,11 @@ pub returns-in_err-load : goal.returns-in_err-load
 returns-in_err-load g c = fails c.from_residual.result c.from_residual.ensures.1 (brought c.in_err-load.ensures)
 
 pub returns-in-Some : goal.returns-in-Some
-returns-in-Some g c = tells (brought c.in_ok-load.ensures) (λ disk settled v now any is.
+returns-in-Some g c = tells (brought c.in_ok-load.ensures) (λ detail disk settled v now any is.
     let object = c.in-Some.object.now in
-    let o = c.in-Some.ensures.stands _ disk settled v now.volume in
-    c.size.ensures.value ∙ file_size object.attributes.kind c.load.new.inodes.geometry.inodes (content_of_object disk object) (v c.args.number) o.stands is)
+    let o = c.in-Some.ensures.stands _ _ disk settled v now.volume in
+    c.size.ensures.value ∙ file_size detail object.attributes.kind c.load.new.inodes.geometry.inodes (content_of_object disk object) (v c.args.number) o.stands is)
 
 pub returns-in-None : goal.returns-in-None
-returns-in-None g c = tells (brought c.in_ok-load.ensures) (λ disk settled v now any is.
-    absurd (false≢true (subst (λ (node : Option Node). IsTrue (is_file_node node)) (c.in-None.ensures.stands_for_none _ disk settled v now.volume) is)))
+returns-in-None g c = tells (brought c.in_ok-load.ensures) (λ detail disk settled v now any is.
+    absurd (false≢true (subst (λ (node : Option Node). IsTrue (is_file_node node)) (c.in-None.ensures.stands_for_none _ _ disk settled v now.volume) is)))

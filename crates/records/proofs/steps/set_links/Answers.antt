@@ -6,9 +6,9 @@ use Rattle.records.proofs.StepLaws.{links_set}
 use Rattle.records.proofs.steps.set_links.Goals as goal
 
 pub returns-in-Some-clause-sets : goal.returns-in-Some-clause-sets
-returns-in-Some-clause-sets c = λ disk inodes settled found stands is few.
-    links_set disk inodes settled c.in-Some.object found c.args.links few
-    (subst (λ (x : Option Object). IsObjectOrNone disk inodes settled x found) c.in-Some.is stands) is
+returns-in-Some-clause-sets c = λ detail disk inodes settled found stands is few.
+    links_set detail disk inodes settled c.in-Some.object found c.args.links few
+    (subst (λ (x : Option Object). IsObjectOrNone detail disk inodes settled x found) c.in-Some.is stands) is
 
 pub returns-in-Some-clause-room : goal.returns-in-Some-clause-room
 returns-in-Some-clause-room c =

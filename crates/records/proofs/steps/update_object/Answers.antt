@@ -16,59 +16,59 @@ pub commit_bytes-requires : goal.commit_bytes-requires
 commit_bytes-requires c = subst (FitsUpdate c.args.object.now) c.in-Bytes.is c.requires
 
 pub returns-in-Set-clause-updates : goal.returns-in-Set-clause-updates
-returns-in-Set-clause-updates c = λ disk inodes settled found to stands updates.
-    subst (λ (u : Update). Updates disk inodes settled found c.args.object.now u to) c.in-Set.is updates
+returns-in-Set-clause-updates c = λ detail disk inodes settled found to stands updates.
+    subst (λ (u : Update). Updates detail disk inodes settled found c.args.object.now u to) c.in-Set.is updates
 
 pub returns-in-Names-clause-updates : goal.returns-in-Names-clause-updates
-returns-in-Names-clause-updates c = λ disk inodes settled found to stands updates.
-    let up = subst (λ (u : Update). Updates disk inodes settled found c.args.object.now u to) c.in-Names.is updates in
-    subst (λ (o : Option Node). IsObjectOrNone disk inodes settled c.commit_edit.new.object o) (sym up.2) (c.commit_edit.ensures.edits disk inodes settled found up.0 stands up.1)
+returns-in-Names-clause-updates c = λ detail disk inodes settled found to stands updates.
+    let up = subst (λ (u : Update). Updates detail disk inodes settled found c.args.object.now u to) c.in-Names.is updates in
+    subst (λ (o : Option Node). IsObjectOrNone detail disk inodes settled c.commit_edit.new.object o) (sym up.2) (c.commit_edit.ensures.edits detail disk inodes settled found up.0 stands up.1)
 
 pub returns-in-SetMode-clause-updates : goal.returns-in-SetMode-clause-updates
-returns-in-SetMode-clause-updates c = λ disk inodes settled found to stands updates.
-    let up = subst (λ (u : Update). Updates disk inodes settled found c.args.object.now u to) c.in-SetMode.is updates in
-    subst (λ (o : Option Node). IsObjectOrNone disk inodes settled c.set_mode.new.object o) (sym up.1) (c.set_mode.ensures.sets disk inodes settled found stands up.0)
+returns-in-SetMode-clause-updates c = λ detail disk inodes settled found to stands updates.
+    let up = subst (λ (u : Update). Updates detail disk inodes settled found c.args.object.now u to) c.in-SetMode.is updates in
+    subst (λ (o : Option Node). IsObjectOrNone detail disk inodes settled c.set_mode.new.object o) (sym up.1) (c.set_mode.ensures.sets detail disk inodes settled found stands up.0)
 
 pub returns-in-Bytes-clause-updates : goal.returns-in-Bytes-clause-updates
-returns-in-Bytes-clause-updates c = λ disk inodes settled found to stands updates.
-    let up = subst (λ (u : Update). Updates disk inodes settled found c.args.object.now u to) c.in-Bytes.is updates in
-    subst (λ (o : Option Node). IsObjectOrNone disk inodes settled c.commit_bytes.new.object o) (sym up.3) (c.commit_bytes.ensures.rewrites disk inodes settled found up.0 stands up.1 up.2)
+returns-in-Bytes-clause-updates c = λ detail disk inodes settled found to stands updates.
+    let up = subst (λ (u : Update). Updates detail disk inodes settled found c.args.object.now u to) c.in-Bytes.is updates in
+    subst (λ (o : Option Node). IsObjectOrNone detail disk inodes settled c.commit_bytes.new.object o) (sym up.3) (c.commit_bytes.ensures.rewrites detail disk inodes settled found up.0 stands up.1 up.2)
 
 pub returns-in-Links-clause-updates : goal.returns-in-Links-clause-updates
-returns-in-Links-clause-updates c = λ disk inodes settled found to stands updates.
-    let up = subst (λ (u : Update). Updates disk inodes settled found c.args.object.now u to) c.in-Links.is updates in
-    subst (λ (o : Option Node). IsObjectOrNone disk inodes settled c.set_links.new.object o) (sym up.2) (c.set_links.ensures.sets disk inodes settled found stands up.0 up.1)
+returns-in-Links-clause-updates c = λ detail disk inodes settled found to stands updates.
+    let up = subst (λ (u : Update). Updates detail disk inodes settled found c.args.object.now u to) c.in-Links.is updates in
+    subst (λ (o : Option Node). IsObjectOrNone detail disk inodes settled c.set_links.new.object o) (sym up.2) (c.set_links.ensures.sets detail disk inodes settled found stands up.0 up.1)
 
 pub returns-in-Set-clause-room : goal.returns-in-Set-clause-room
-returns-in-Set-clause-room c = λ disk inodes settled base found to slot k stands updates had room.
-    let up = subst (λ (u : Update). Updates disk inodes settled found c.args.object.now u to) c.in-Set.is updates in
+returns-in-Set-clause-room c = λ detail disk inodes settled base found to slot k stands updates had room.
+    let up = subst (λ (u : Update). Updates detail disk inodes settled found c.args.object.now u to) c.in-Set.is updates in
     let few = subst (λ (u : Update). UpdateRoom c.args.object.now u k) c.in-Set.is room in
-    set_room disk inodes settled slot base found to c.args.object.now c.in-Set.new k up few
+    set_room detail disk inodes settled slot base found to c.args.object.now c.in-Set.new k up few
 
 pub returns-in-Names-clause-room : goal.returns-in-Names-clause-room
-returns-in-Names-clause-room c = λ disk inodes settled base found to slot k stands updates had room.
-    let up = subst (λ (u : Update). Updates disk inodes settled found c.args.object.now u to) c.in-Names.is updates in
+returns-in-Names-clause-room c = λ detail disk inodes settled base found to slot k stands updates had room.
+    let up = subst (λ (u : Update). Updates detail disk inodes settled found c.args.object.now u to) c.in-Names.is updates in
     let few = subst (λ (u : Update). UpdateRoom c.args.object.now u k) c.in-Names.is room in
     subst (λ (o : Option Node). room_of (Some (Changed c.commit_edit.new.object)) base o ≤ room_of slot base found + k) (sym up.2)
-    (names_room disk inodes settled slot base found c.args.object.now c.commit_edit.new.object c.in-Names.edit k up.0 up.1 had c.commit_edit.ensures.room few)
+    (names_room detail disk inodes settled slot base found c.args.object.now c.commit_edit.new.object c.in-Names.edit k up.0 up.1 had c.commit_edit.ensures.room few)
 
 pub returns-in-SetMode-clause-room : goal.returns-in-SetMode-clause-room
-returns-in-SetMode-clause-room c = λ disk inodes settled base found to slot k stands updates had room.
-    let up = subst (λ (u : Update). Updates disk inodes settled found c.args.object.now u to) c.in-SetMode.is updates in
+returns-in-SetMode-clause-room c = λ detail disk inodes settled base found to slot k stands updates had room.
+    let up = subst (λ (u : Update). Updates detail disk inodes settled found c.args.object.now u to) c.in-SetMode.is updates in
     let few = subst (λ (u : Update). UpdateRoom c.args.object.now u k) c.in-SetMode.is room in
     subst (λ (o : Option Node). room_of (Some (Changed c.set_mode.new.object)) base o ≤ room_of slot base found + k) (sym up.1)
-    (mode_room disk inodes settled slot base found c.args.object.now c.set_mode.new.object c.in-SetMode.mode k stands up.0 had c.set_mode.ensures.room few)
+    (mode_room detail disk inodes settled slot base found c.args.object.now c.set_mode.new.object c.in-SetMode.mode k stands up.0 had c.set_mode.ensures.room few)
 
 pub returns-in-Bytes-clause-room : goal.returns-in-Bytes-clause-room
-returns-in-Bytes-clause-room c = λ disk inodes settled base found to slot k stands updates had room.
-    let up = subst (λ (u : Update). Updates disk inodes settled found c.args.object.now u to) c.in-Bytes.is updates in
+returns-in-Bytes-clause-room c = λ detail disk inodes settled base found to slot k stands updates had room.
+    let up = subst (λ (u : Update). Updates detail disk inodes settled found c.args.object.now u to) c.in-Bytes.is updates in
     let few = subst (λ (u : Update). UpdateRoom c.args.object.now u k) c.in-Bytes.is room in
     subst (λ (o : Option Node). room_of (Some (Changed c.commit_bytes.new.object)) base o ≤ room_of slot base found + k) (sym up.3)
-    (bytes_room disk inodes settled slot base found c.args.object.now c.commit_bytes.new.object up.0 c.in-Bytes.change k stands up.1 had c.commit_bytes.ensures.room few)
+    (bytes_room detail disk inodes settled slot base found c.args.object.now c.commit_bytes.new.object up.0 c.in-Bytes.change k stands up.1 had c.commit_bytes.ensures.room few)
 
 pub returns-in-Links-clause-room : goal.returns-in-Links-clause-room
-returns-in-Links-clause-room c = λ disk inodes settled base found to slot k stands updates had room.
-    let up = subst (λ (u : Update). Updates disk inodes settled found c.args.object.now u to) c.in-Links.is updates in
+returns-in-Links-clause-room c = λ detail disk inodes settled base found to slot k stands updates had room.
+    let up = subst (λ (u : Update). Updates detail disk inodes settled found c.args.object.now u to) c.in-Links.is updates in
     let few = subst (λ (u : Update). UpdateRoom c.args.object.now u k) c.in-Links.is room in
     subst (λ (o : Option Node). room_of (Some (Changed c.set_links.new.object)) base o ≤ room_of slot base found + k) (sym up.2)
-    (links_room disk inodes settled slot base found c.args.object.now c.set_links.new.object c.in-Links.links k stands up.0 had c.set_links.ensures.room few)
+    (links_room detail disk inodes settled slot base found c.args.object.now c.set_links.new.object c.in-Links.links k stands up.0 had c.set_links.ensures.room few)

@@ -29,7 +29,7 @@ returns-else-is_open-clause-volume c = λ count disk settled v stands.
     let table = table_of c.args.files.now in
     let closed = sym (subst (λ (k : ℕ). c.is_open.result ≡ is_open (table_of c.args.files.now) OPEN_FILES k) c.get.ensures c.is_open.ensures) ∙ c.if-is_open.false in
     subst (λ (n : Option ℕ). IsVolumeOf count disk settled c.drop_nameless.new.inodes (without_file table n v)) (sym c.in-Some.is)
-    (subst (λ (x : Volume). IsVolumeOf count disk settled c.drop_nameless.new.inodes x) (closed_goes table c.in-Some.number v closed) (c.drop_nameless.ensures.volume count disk settled v stands))
+    (subst (λ (x : Volume). IsVolumeOf count disk settled c.drop_nameless.new.inodes x) (closed_goes table c.in-Some.number v closed) (c.drop_nameless.ensures.volume _ count disk settled v stands))
 
 pub returns-else-is_open-clause-fits : goal.returns-else-is_open-clause-fits
 returns-else-is_open-clause-fits c = λ count disk settled v w stands opens fits.
@@ -52,7 +52,7 @@ returns-else-is_open-clause-room c = λ base count disk settled v stands.
     let t = c.drop_nameless.new.inodes in
     let closed = sym (subst (λ (k : ℕ). c.is_open.result ≡ is_open table OPEN_FILES k) c.get.ensures c.is_open.ensures) ∙ c.if-is_open.false in
     subst (λ (n : Option ℕ). memory_room base t (without_file table n v) ≤ memory_room base s v) (sym c.in-Some.is)
-    (subst (λ (x : Volume). memory_room base t x ≤ memory_room base s v) (closed_goes table c.in-Some.number v closed) (c.drop_nameless.ensures.room base count disk settled v stands))
+    (subst (λ (x : Volume). memory_room base t x ≤ memory_room base s v) (closed_goes table c.in-Some.number v closed) (c.drop_nameless.ensures.room _ base count disk settled v stands))
 
 pub returns-in_default-clause-room : goal.returns-in_default-clause-room
 returns-in_default-clause-room c = λ base count disk settled v stands.

@@ -8,6 +8,8 @@ use Rattle.records.specs.Steps.{IsAlone, IsAtHand, TakesUpdate, Updates}
 use Rattle.records.specs.declared.naming.NameEdit.TheVariants as edits
 use Rattle.records.specs.declared.steps.Update.{Update}
 use Rattle.records.specs.declared.steps.Update.TheVariants as updates
+use Rattle.model.specs.Records.{unname}
+use Rattle.records.proofs.DetailLaws.{known_of}
 use Rattle.records.proofs.EnterLaws.{directory_is}
 use Rattle.records.proofs.FileLaws.{alone_apart, alone_takes, both_steps, empty_apart, named_directory}
 use Rattle.records.proofs.Looking.{at_hand_behind}
@@ -17,27 +19,27 @@ use Rattle.records.proofs.unnaming.prepare_unname.Goals as goal
 use Rattle.model.proofs.ObjectLaws.{node_other}
 
 pub returns-then-not-is_number : goal.returns-then-not-is_number
-returns-then-not-is_number g c = obstructs no_look refl (λ disk settled v stands volume.
-    ap (λ (o : Option Node). names_in o c.args.name.now) (c.is_number.ensures.no c.if-not-is_number.true v volume))
+returns-then-not-is_number g c = obstructs no_look refl (λ detail disk settled v stands volume.
+    ap (λ (o : Option Node). names_in o c.args.name.now) (c.is_number.ensures.no c.if-not-is_number.true detail v (known_of detail c.args.inodes.now.geometry.inodes (unname c.args.parent c.args.name.now) v volume)))
 
 pub returns-in_err-found : goal.returns-in_err-found
-returns-in_err-found g c = stops c.from_residual.result c.from_residual.ensures.1 c.in_err-found.ensures.number.looks c.in_err-found.ensures.number.damaged
+returns-in_err-found g c = stops c.from_residual.result c.from_residual.ensures.1 c.in_err-found.ensures.number.looks (λ detail. c.in_err-found.ensures.number.damaged {detail = detail})
 
 pub returns-in_default : goal.returns-in_default
-returns-in_default g c = obstructs c.in_ok-found.ensures.number.looks refl (λ disk settled v stands volume.
+returns-in_default g c = obstructs c.in_ok-found.ensures.number.looks refl (λ detail disk settled v stands volume.
     sym (c.in_ok-found.ensures.number.found disk settled v stands) ∙ c.in_default.is)
 
 pub returns-in_err-released : goal.returns-in_err-released
 returns-in_err-released g c =
     follows c.in_ok-found.ensures.number.looks
-    (stops c.from_residual-in_err-released.result c.from_residual-in_err-released.ensures.1 c.in_err-released.ensures.released.looks c.in_err-released.ensures.released.damaged)
-    c.in_ok-found.ensures.number.looks.kept c.in_ok-found.ensures.number.looks.kept
+    (stops c.from_residual-in_err-released.result c.from_residual-in_err-released.ensures.1 c.in_err-released.ensures.released.looks (λ detail. c.in_err-released.ensures.released.damaged {detail = detail}))
+    (λ detail. c.in_ok-found.ensures.number.looks.kept {detail = detail}) (λ detail. c.in_ok-found.ensures.number.looks.kept {detail = detail})
 
 pub returns-in_default-released : goal.returns-in_default-released
-returns-in_default-released g c = obstructs (looks_more c.in_ok-found.ensures.number.looks c.in_ok-released.ensures.released.looks) refl (λ disk settled v stands volume. (
+returns-in_default-released g c = obstructs (looks_more c.in_ok-found.ensures.number.looks c.in_ok-released.ensures.released.looks) refl (λ detail disk settled v stands volume. (
   c.in-Some.number,
   sym (c.in_ok-found.ensures.number.found disk settled v stands) ∙ c.in-Some.is,
-  subst (Releases disk settled v c.in-Some.number) c.in_default-released.is
+  subst (Releases detail disk settled v c.in-Some.number) c.in_default-released.is
       (c.in_ok-released.ensures.released.found disk settled v (c.in_ok-found.ensures.number.looks.kept disk settled v stands)),
 ))
 
@@ -45,13 +47,13 @@ pub returns-in_err-planned : goal.returns-in_err-planned
 returns-in_err-planned g c =
     let before = looks_more c.in_ok-found.ensures.number.looks c.in_ok-released.ensures.released.looks in
     follows before
-    (stops c.from_residual-in_err-planned.result c.from_residual-in_err-planned.ensures.1 c.in_err-planned.ensures.edit.looks c.in_err-planned.ensures.edit.damaged)
-    before.kept before.kept
+    (stops c.from_residual-in_err-planned.result c.from_residual-in_err-planned.ensures.1 c.in_err-planned.ensures.edit.looks (λ detail. c.in_err-planned.ensures.edit.damaged {detail = detail}))
+    (λ detail. before.kept {detail = detail}) (λ detail. before.kept {detail = detail})
 
 pub returns-in_default-planned : goal.returns-in_default-planned
 returns-in_default-planned g c =
     let before = looks_more c.in_ok-found.ensures.number.looks c.in_ok-released.ensures.released.looks in
-    obstructs (looks_more before c.in_ok-planned.ensures.edit.looks) refl (λ disk settled v stands volume.
+    obstructs (looks_more before c.in_ok-planned.ensures.edit.looks) refl (λ detail disk settled v stands volume.
     let d = c.args.parent in
     let s = c.edit_parent.new.inodes in
     let there = sym (c.in_ok-found.ensures.number.found disk settled v stands) ∙ c.in-Some.is in
@@ -81,10 +83,10 @@ returns g c =
       last_apart = tt;
       apart = tt;
     })
-    (λ disk settled v stands.
+    (λ detail disk settled v stands.
     let now = found.number.looks.kept disk settled v stands in
     let there : entries v d x ≡ Some n = sym (found.number.found disk settled v stands) ∙ c.in-Some.is in
-    let goes = subst (Releases disk settled v n) c.in-Some-released.is (told.released.found disk settled v now) in
+    let goes = subst (Releases detail disk settled v n) c.in-Some-released.is (told.released.found disk settled v now) in
     let edit = subst (PreparesEdit disk s.geometry.inodes (edits.Remove c.args.name) (v d) (loaded s d)) c.in-Some-planned.is
     (planned.edit.found disk settled v (told.released.looks.kept disk settled v now)) in
     let apart = empty_apart v n d x goes.1 there in
@@ -95,7 +97,7 @@ returns g c =
       between = between;
       second = with_node n to between;
       first = (with_node_names f (v d), (f, edit.0, refl), refl);
-      next = (to, subst (λ (o : Option Node). Updates disk s.geometry.inodes (settled n) o (loaded s n) update to) (sym stays) (goes.0 s.geometry.inodes (loaded s n)).0, refl);
+      next = (to, subst (λ (o : Option Node). Updates detail disk s.geometry.inodes (settled n) o (loaded s n) update to) (sym stays) (goes.0 s.geometry.inodes (loaded s n)).0, refl);
       last = ap (λ (o : Option ℕ). with_entry d x None (released o v)) there ∙ both_steps n d x None to to v apart refl;
       next_beside = apart;
       last_beside = tt;
@@ -109,8 +111,9 @@ returns g c =
       within = omega arith;
       knows = tt;
     })
-    (λ disk settled v stands. record {
+    (λ detail disk settled v stands. record {
       number = n;
       there = sym (found.number.found disk settled v stands) ∙ c.in-Some.is;
-      empty = (subst (Releases disk settled v n) c.in-Some-released.is (told.released.found disk settled v (found.number.looks.kept disk settled v stands))).1;
+      empty = (subst (Releases detail disk settled v n) c.in-Some-released.is (told.released.found disk settled v (found.number.looks.kept disk settled v stands))).1;
     })
+    (λ detail disk settled v stands. tt)

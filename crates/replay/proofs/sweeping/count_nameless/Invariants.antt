@@ -3,9 +3,10 @@ use Rattle.layout.specs.declared.inode.Inode.{Inode}
 use Rattle.model.specs.Records.{count_nameless}
 use Rattle.model.specs.Volumes.{Volume}
 use Rattle.buffers.specs.Reads.{HasOnlyRead}
+use Rattle.images.specs.Soundness.{Detail}
 use Rattle.inofile.specs.Room.{NeedsNoMore}
-use Rattle.inofile.specs.Volumes.{IsVolumeOf}
-use Rattle.replay.specs.Volumes.{HasVolume}
+use Rattle.inofile.specs.Volumes.{IsVolumeIn}
+use Rattle.replay.specs.Volumes.{HasVolumeIn}
 use Rattle.replay.proofs.sweeping.count_nameless.Given as goal
 
 abbrev pub invariant-loop-number : goal.invariant-loop-number
@@ -14,7 +15,7 @@ invariant-loop-number g l = record {
   geometry : l.inodes.geometry ≡ l.fn.inodes.geometry;
   needs : NeedsNoMore l.fn.inodes l.inodes;
   few : l.count ≤ l.number;
-  counts : (disk : ℕ → List ℕ) (settled : ℕ → Inode) (v : Volume) → g.B.Blocks.Shows l.fn.blocks disk
-      → HasVolume (g.B.Blocks.count l.fn.blocks) disk settled l.fn.inodes v
-      → (l.count ≡ count_nameless l.number v) × IsVolumeOf (g.B.Blocks.count l.fn.blocks) disk settled l.inodes v;
+  counts : (detail : Detail) (disk : ℕ → List ℕ) (settled : ℕ → Inode) (v : Volume) → g.B.Blocks.Shows l.fn.blocks disk
+      → HasVolumeIn detail (g.B.Blocks.count l.fn.blocks) disk settled l.fn.inodes v
+      → (l.count ≡ count_nameless l.number v) × IsVolumeIn detail (g.B.Blocks.count l.fn.blocks) disk settled l.inodes v;
 }

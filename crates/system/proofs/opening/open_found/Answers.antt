@@ -53,3 +53,12 @@ returns-in-Err-clause-serves g c honest just of first last snapshots changes hol
 
 pub returns-in-Ok-clause-found : goal.returns-in-Ok-clause-found
 returns-in-Ok-clause-found g c = (refl, refl, c.in-Ok.ensures.log)
+
+pub returns-in-Err-clause-faultless : goal.returns-in-Err-clause-faultless
+returns-in-Err-clause-faultless g c honest of changes under =
+    let m = g.S.Station.meaning c.args.station in
+    let i = m.seen in
+    let sized = g.met.S.Station.sized c.args.station honest i (g.met.S.Station.seen_may_be_left c.args.station honest) in
+    let is_disk : IsDisk m (blocks_of i.disk) = λ place within. is_block i.disk place (λ k below. sized.sector (8 * place + k) (omega arith)) in
+    let shows = c.new-blocks.ensures.shows (blocks_of i.disk) honest is_disk in
+    c.in-Err.ensures.faultless (blocks_of i.disk) i.nvram changes shows of.saved under

@@ -33,15 +33,15 @@ returns c =
       set = λ disk settled n. contents_with old new number (Some (Changed object)) up disk settled (option_map (content_of_object disk) object) refl n;
       volume = λ count disk settled v node is stands. record {
         inodes = is.inodes;
-        mapped = note_maps disk c.args.self.now.geometry.inodes (settled number) before after v number object node is.mapped noted stands;
+        mapped = note_maps _ disk c.args.self.now.geometry.inodes (settled number) before after v number object node is.mapped noted stands;
         own = own_stay number node v c.requires.low is.own;
-        objects = set_stands disk c.args.self.now.geometry.inodes settled old new number (Some (Changed object)) up v object node refl (λ n ne. is.objects n) stands;
+        objects = set_stands _ disk c.args.self.now.geometry.inodes settled old new number (Some (Changed object)) up v object node refl (λ n ne. is.objects n) stands;
       };
       back = λ was count disk settled v node is stands. record {
         inodes = is.inodes;
-        mapped = note_maps disk c.args.self.now.geometry.inodes (settled number) before after v number object node is.mapped noted stands;
+        mapped = note_maps _ disk c.args.self.now.geometry.inodes (settled number) before after v number object node is.mapped noted stands;
         own = own_stay number node v c.requires.low is.own;
-        objects = set_stands disk c.args.self.now.geometry.inodes settled old new number (Some (Changed object)) up v object node refl is.others stands;
+        objects = set_stands _ disk c.args.self.now.geometry.inodes settled old new number (Some (Changed object)) up v object node refl is.others stands;
       };
       loaded = ap slot_object up.1;
       rest = other_objects old new number (Some (Changed object)) up;

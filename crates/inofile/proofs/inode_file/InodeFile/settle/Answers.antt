@@ -1,3 +1,4 @@
+use Rattle.images.specs.Soundness.{by_bytes}
 use Rattle.inofile.proofs.FileLaws.{held_stand, holds_no_own}
 use Rattle.inofile.proofs.inode_file.InodeFile.settle.Goals as goal
 
@@ -6,5 +7,5 @@ returns-clause-volume c = λ count disk settled v are maps holds. record {
   inodes = are;
   mapped = maps;
   own = holds_no_own disk c.args.self.now.geometry.inodes settled v are.fits holds;
-  objects = held_stand disk c.args.self.now.geometry.inodes settled c.clear.new.self v c.clear.ensures.empty holds;
+  objects = held_stand by_bytes disk c.args.self.now.geometry.inodes settled c.clear.new.self v c.clear.ensures.empty holds;
 }

@@ -19,7 +19,7 @@ pub returns-clause-told : goal.returns-clause-told
 returns-clause-told g c = λ table s serves knows.
     let f = c.args.self.now in
     let disk = blocks_of (meaning_of {G = g.S.Station} f).seen.disk in
-    let size = c.size_before-size.ensures f.root.geometry.blocks disk (inodes_of (whole disk f.root).active) serves.running serves.memory.stands knows in
+    let size = c.size_before-size.ensures _ f.root.geometry.blocks disk (inodes_of (whole disk f.root).active) serves.running serves.memory.stands knows in
     let fixed = c.fixed_of.ensures ∙ ap room.fixed_of (c.count.ensures ∙ f.count) in
     let cost = c.cost_of.ensures.cost serves.running size in
     let keep = c.keep_of.ensures.keep serves.running size in (

@@ -7,6 +7,8 @@ use Rattle.layout.specs.Places.{blocks_of}
 use Rattle.layout.specs.declared.root.Root.{Root}
 use Rattle.model.specs.Records.{without_nameless}
 use Rattle.model.specs.States.{Forgets}
+use Rattle.images.specs.Faults.{IsFaultlessUnder}
+use Rattle.images.specs.Roots.{whole}
 use Rattle.loading.specs.Slots.{FitsStation, IsNewestAt}
 use Rattle.replay.specs.Volumes.{bodies_of}
 use Rattle.system.specs.Opening.{HoldsRecords, HoldsSome, IsOf}
@@ -68,3 +70,23 @@ returns-in-Ok-clause-found g c honest =
       fits = subst (λ (r : Root). FitsStation r m) (sym is.0) (record { sectors = sym same.sectors ∙ fits.sectors; nvram = sym same.nvram_bytes ∙ fits.nvram });
       held = subst (λ (r : Root). HoldsSome f.log r.generation m.seen.nvram) (sym is.0) (is.2 m.seen.nvram (c.in-Ok.ensures.of_station honest).saved);
     }) c.open_found.ensures.found
+
+pub returns-in-Ok-clause-faultless : goal.returns-in-Ok-clause-faultless
+returns-in-Ok-clause-faultless g c honest none =
+    let r = none.root in
+    let m = g.S.Station.meaning c.args.station in
+    let sized = g.met.S.Station.sized c.args.station honest m.seen (g.met.S.Station.seen_may_be_left c.args.station honest) in
+    let fits : FitsStation r m = record { sectors = none.roots.sizes.disk; nvram = sym sized.nvram ∙ none.roots.sizes.nvram } in
+    let is : c.in-Ok.found.newest.root ≡ r = c.in-Ok.ensures.only honest r (bodies_of none.changes) none.roots.newest fits none.under.log.log.log in
+    let went = c.find.ensures.goes honest in
+    let of = subst (λ (i : Images). IsOf i c.in-Ok.found) (sym went.seen) (c.in-Ok.ensures.of_station honest) in
+    c.open_found.ensures.faultless went.honest of none.changes
+    (subst (λ (i : Images). IsFaultlessUnder c.in-Ok.found.newest.root (whole (blocks_of i.disk) c.in-Ok.found.newest.root) i.nvram none.changes) (sym went.seen)
+    (subst (λ (x : Root). IsFaultlessUnder x (whole (blocks_of m.seen.disk) x) m.seen.nvram none.changes) (sym is) none.under))
+
+pub returns-in-Err-clause-faultless : goal.returns-in-Err-clause-faultless
+returns-in-Err-clause-faultless g c honest none =
+    let m = g.S.Station.meaning c.args.station in
+    let sized = g.met.S.Station.sized c.args.station honest m.seen (g.met.S.Station.seen_may_be_left c.args.station honest) in
+    let fits : FitsStation none.root m = record { sectors = none.roots.sizes.disk; nvram = sym sized.nvram ∙ none.roots.sizes.nvram } in
+    c.in-Err.ensures.only honest none.root (bodies_of none.changes) none.roots.newest fits none.under.log.log.log

@@ -1,0 +1,162 @@
+-- Entries of the block map, compared with what the trees name.
+use Rattle.std.proofs.Common.{◌≡◌, ◌∙◌, ℕ, zero, suc, ◌+◌, ◌-◌, ◌*◌, ◌/◌, ◌%◌, ◌<◌, ◌≤◌, ◌==◌, if◌then◌else◌, List, length, slice_index, refl, ap, sym, subst, arith, inl, inr}
+use Rattle.std.specs.Prelude.{min}
+use Rattle.std.proofs.Math.Dec.{eqb-suc-zero}
+use Rattle.std.proofs.lemmas.Bool.{cases_lt}
+use Rattle.std.proofs.lemmas.List.{get_or-drop, get_or_past}
+use Rattle.layout.specs.Bytes.{number}
+use Rattle.layout.specs.Inode.{IsInode, inode_bytes}
+use Rattle.layout.specs.Limits.{AreSizes, Sizes}
+use Rattle.layout.specs.Maps.{map_entry}
+use Rattle.layout.specs.Root.{IsRoot}
+use Rattle.layout.specs.Places.{Blocks}
+use Rattle.layout.specs.declared.inode.Inode.{Inode}
+use Rattle.layout.specs.declared.root.Root.{Root}
+use Rattle.layout.specs.declared.version.TheConstants.{VERSION}
+use Rattle.layout.proofs.SizeLaws.{map_size}
+use Rattle.inode.specs.Files as memory
+use Rattle.inode.specs.declared.file.File.{File}
+use Rattle.images.specs.BlockMap.{IsExact, entry}
+use Rattle.images.specs.Faults.{IsFileGrammar, IsTreeGrammar}
+use Rattle.images.specs.Nodes.{Held, file_block, held}
+use Rattle.images.specs.Room.{free_at, free_under}
+use Rattle.images.specs.Roots.{HeldTree, Whole, inode_bytes_at, whole}
+use Rattle.images.specs.Sums.{sum_below}
+use Rattle.images.proofs.SumLaws.{same_sum, sum_append, sum_of_none}
+use Rattle.loading.specs.Images.{IsFileOfInode}
+use Rattle.loading.specs.Laws.{ReadAsHeld, SpellTrees}
+use Rattle.checker.specs.Findings.{IsFindingUnder, ShouldHave, tree_in}
+use Rattle.checker.specs.Maps.{HasEntries, IsMapFault, entries_in}
+use Rattle.checker.specs.Trees.{IsTreeOf}
+use Rattle.checker.specs.declared.fault.Fault.{Fault}
+use Rattle.checker.specs.declared.fault.TreeName.TheVariants.{Image}
+use Rattle.checker.specs.declared.tree.Tree.{Tree}
+use Rattle.checker.proofs.HeldLaws.{block_is, own_is, top_grammar}
+
+-- the first so many entries are those that they should be, and so many of them are free
+pub record IsCompared (t : HeldTree) (marks : List ℕ) (n free : ℕ) : Type 0 where
+  pub same : (b : ℕ) → b < n → entry t b ≡ slice_index marks b
+  pub free_is : free ≡ free_under t n
+
+pub compared_none : (t : HeldTree) (marks : List ℕ) → IsCompared t marks 0 0
+compared_none t marks = record { same = λ b lt. absurd (omega (arith, lt)); free_is = sym (sum_of_none (free_at t)) }
+
+-- how many are looked at before block j
+abbrev pub before_block : ℕ → ℕ → ℕ
+before_block blocks j = min blocks (1024 * j)
+
+entry_in : (t : HeldTree) (bytes : List ℕ) (j i : ℕ) → bytes ≡ file_block (t 2) j → i < 1024 → entry t (1024 * j + i) ≡ map_entry bytes i
+unfolding entry
+entry_in t bytes j i is lt =
+    let block : (1024 * j + i) / 1024 ≡ j = omega arith in
+    let place : (1024 * j + i) % 1024 ≡ i = omega arith in
+    ap (λ (k : ℕ). map_entry (file_block (t 2) k) ((1024 * j + i) % 1024)) block ∙ ap (map_entry (file_block (t 2) j)) place ∙ sym (ap (λ (xs : List ℕ). map_entry xs i) is)
+
+module _ (t : HeldTree) (marks bytes : List ℕ) (blocks j : ℕ) (within : 1024 * j < blocks) (is : bytes ≡ file_block (t 2) j) where
+  free_in : (i : ℕ) → i < entries_in blocks j → (if map_entry bytes i == 0 then 1 else 0) ≡ free_at t (1024 * j + i)
+  free_in i lt = ap (λ (x : ℕ). if x == 0 then 1 else 0) (sym (entry_in t bytes j i is (omega (arith, lt))))
+
+  -- a block more
+  pub compared_more : (free more : ℕ) → IsCompared t marks (before_block blocks j) free → HasEntries bytes blocks j marks more → IsCompared t marks (before_block blocks (j + 1)) (free + more)
+  compared_more free more before has =
+      let first : before_block blocks j ≡ 1024 * j = omega (arith, within) in
+      let all : 1024 * j + entries_in blocks j ≡ before_block blocks (j + 1) = omega (arith, within) in
+      subst (λ (n : ℕ). IsCompared t marks n (free + more)) all (record {
+        same = λ b lt. elim (cases_lt b (1024 * j)) [
+          | inl low ↦ before.same b (omega (arith, low, within))
+          | inr high ↦
+              let at : 1024 * j + (b - 1024 * j) ≡ b = omega (arith, high) in
+              let low : b - 1024 * j < entries_in blocks j = omega (arith, lt, high) in
+              subst (λ (n : ℕ). entry t n ≡ slice_index marks n) at (entry_in t bytes j (b - 1024 * j) is (omega (arith, low)) ∙ has.0 (b - 1024 * j) low)
+        ];
+        free_is =
+            let sums = same_sum (λ i. if map_entry bytes i == 0 then 1 else 0) (λ i. free_at t (1024 * j + i)) (entries_in blocks j) free_in in
+            let parts = sum_append (free_at t) (1024 * j) (entries_in blocks j) in
+            ap (λ (n : ℕ). n + more) (before.free_is ∙ ap (free_under t) first) ∙ ap (λ (n : ℕ). free_under t (1024 * j) + n) (has.1 ∙ sums) ∙ sym parts;
+      })
+
+  -- an entry that isn't what it should be
+  pub entry_fault : (r : Root) (w : Whole) (nvram : List ℕ) (fault : Fault) → w.active ≡ t → ((b : ℕ) → ShouldHave r w b (slice_index marks b)) → IsMapFault bytes blocks j marks fault
+      → IsFindingUnder r w nvram Image fault
+  entry_fault r w nvram fault active should (i, lt, differ, told) = subst (IsFindingUnder r w nvram Image) (sym told)
+      (ap (λ (x : HeldTree). entry x (1024 * j + i)) active ∙ entry_in t bytes j i is (omega (arith, lt)), differ, should (1024 * j + i))
+
+one_most : (x : ℕ) → (if x == 0 then 1 else 0) ≤ 1
+one_most zero = omega arith
+one_most (suc x) = let no = eqb-suc-zero x in rw no (omega arith)
+
+few_free : (f : ℕ → ℕ) (n : ℕ) → sum_below (λ i. if f i == 0 then 1 else 0) n ≤ n
+unfolding sum_below
+few_free f zero = omega arith
+few_free f (suc n) = omega (arith, few_free f n, one_most (f n))
+
+pub few_more : (bytes : List ℕ) (blocks j more : ℕ) (marks : List ℕ) → HasEntries bytes blocks j marks more → more ≤ 1024
+few_more bytes blocks j more marks has = let few = few_free (map_entry bytes) (entries_in blocks j) in omega (arith, few, has.1)
+
+-- ---- all
+
+word_zero : (bytes : List ℕ) (i : ℕ) → ((q : ℕ) → q < 4 → slice_index bytes (4 * i + q) ≡ 0) → map_entry bytes i ≡ 0
+unfolding number
+word_zero bytes i none =
+    let at = λ (q : ℕ) (lt : q < 4). get_or-drop (4 * i) bytes q 0 ∙ none q lt in
+    rw (at 0 (omega arith), at 1 (omega arith), at 2 (omega arith), at 3 (omega arith)) refl
+
+-- past the disk's end no entry is set
+entry_past : (s : Sizes) (t : HeldTree) (b : ℕ) → IsTreeGrammar s t → s.blocks ≤ b → entry t b ≡ 0
+unfolding entry
+entry_past s t b grammar past =
+    let i = (t 2).inode in
+    let size : i.size ≡ 4 * s.blocks = map_size i.kind s i.mode i.links i.size (grammar.kinds 2) (grammar.files 2).inode.kind in
+    word_zero (file_block (t 2) (b / 1024)) (b % 1024) (λ q lt.
+    let block : (4 * b + q) / 4096 ≡ b / 1024 = omega arith in
+    let place : (4 * b + q) % 4096 ≡ 4 * (b % 1024) + q = omega arith in
+    sym (ap (λ (k : ℕ). slice_index (file_block (t 2) k) ((4 * b + q) % 4096)) block ∙ ap (slice_index (file_block (t 2) (b / 1024))) place)
+    ∙ grammar.block_map.ends (4 * b + q) (omega (arith, size, past)))
+
+pub exact_of : (r : Root) (w : Whole) (marks : List ℕ) (free : ℕ) → IsTreeGrammar r.geometry w.active → length marks ≡ r.geometry.blocks
+    → ((b : ℕ) → ShouldHave r w b (slice_index marks b)) → IsCompared w.active marks r.geometry.blocks free → IsExact r w
+exact_of r w marks free grammar long should compared =
+    let same : (b : ℕ) → slice_index marks b ≡ entry w.active b = λ b. elim (cases_lt b r.geometry.blocks) [
+      | inl lt ↦ sym (compared.same b lt)
+      | inr ge ↦ get_or_past marks b 0 (omega (arith, long, ge)) ∙ sym (entry_past r.geometry w.active b grammar ge)
+    ] in
+    let all : (b : ℕ) → ShouldHave r w b (entry w.active b) = λ b. subst (λ (n : ℕ). ShouldHave r w b n) (same b) (should b) in record {
+      active = λ b. (all b).active;
+      frozen = λ b k some low. (all b).frozen k some low;
+      system = λ b. (all b).system;
+    }
+
+-- ---- the map's file as it is read
+
+pub known_tree : (disk : Blocks) (r : Root) (s : Sizes) (t : Tree) → r.geometry ≡ s → t.plane ≡ 0 → IsTreeGrammar r.geometry (whole disk r).active → IsTreeGrammar s (tree_in (whole disk r) t.plane)
+known_tree disk r s t same plane grammar =
+    subst (λ (x : Sizes). IsTreeGrammar x (tree_in (whole disk r) t.plane)) same (subst (λ (k : ℕ). IsTreeGrammar r.geometry (tree_in (whole disk r) k)) (sym plane) grammar)
+
+pub map_inode : (reads : ReadAsHeld) (spells : SpellTrees) (s : Sizes) (disk : Blocks) (r : Root) (t : Tree) (i : Inode) → r.geometry ≡ s → AreSizes s → IsTreeOf disk r t → t.plane ≡ 0
+    → IsTreeGrammar s (tree_in (whole disk r) t.plane) → IsInode VERSION s i → inode_bytes_at (memory.file_block disk t.file) 2 ≡ inode_bytes i → (whole disk r).active 2 ≡ held disk i
+map_inode reads spells s disk r t i same are is plane grammar fits spelled =
+    sym (ap (λ (k : ℕ). tree_in (whole disk r) k 2) plane)
+    ∙ own_is reads spells s disk r t 2 i same are is (top_grammar disk r s t is grammar) (omega arith) (omega (arith, are.least_inodes)) fits spelled
+
+pub map_block : (reads : ReadAsHeld) (s : Sizes) (disk : Blocks) (h : Held) (i : Inode) (file : File) (j : ℕ) (bytes : List ℕ) → h ≡ held disk i → IsFileGrammar s h → IsFileOfInode i file
+    → bytes ≡ memory.file_block disk file j → bytes ≡ file_block h j
+map_block reads s disk h i file j bytes is grammar of read =
+    read ∙ block_is reads s disk i file j (subst (IsFileGrammar s) is grammar) of ∙ sym (ap (λ (x : Held). file_block x j) is)
+
+pub map_known : (disk : Blocks) (r : Root) (s : Sizes) → r.geometry ≡ s → IsTreeGrammar r.geometry (whole disk r).active → IsFileGrammar s ((whole disk r).active 2)
+map_known disk r s same grammar = subst (λ (x : Sizes). IsFileGrammar x ((whole disk r).active 2)) same (grammar.files 2)
+
+-- the map's file in memory, in a tree in its grammar
+pub record IsMapRead (s : Sizes) (disk : Blocks) (r : Root) (i : Inode) (file : File) : Type 0 where
+  pub grammar : IsFileGrammar s (held disk i)
+  pub block : (j : ℕ) (bytes : List ℕ) → bytes ≡ memory.file_block disk file j → bytes ≡ file_block ((whole disk r).active 2) j
+
+pub map_read : (reads : ReadAsHeld) (spells : SpellTrees) (s : Sizes) (disk : Blocks) (r : Root) (t : Tree) (i : Inode) (file : File) → IsRoot r → r.geometry ≡ s → IsTreeOf disk r t → t.plane ≡ 0
+    → IsTreeGrammar r.geometry (whole disk r).active → IsInode VERSION s i → inode_bytes_at (memory.file_block disk t.file) 2 ≡ inode_bytes i → IsFileOfInode i file → IsMapRead s disk r i file
+map_read reads spells s disk r t i file root same is plane grammar fits spelled of =
+    let two : (whole disk r).active 2 ≡ held disk i =
+    map_inode reads spells s disk r t i same (subst AreSizes same root.head.sizes) is plane (known_tree disk r s t same plane grammar) fits spelled in
+    let known = map_known disk r s same grammar in record {
+      grammar = subst (IsFileGrammar s) two known;
+      block = λ j bytes read. map_block reads s disk ((whole disk r).active 2) i file j bytes two known of read;
+    }

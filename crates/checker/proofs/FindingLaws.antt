@@ -1,0 +1,47 @@
+-- What was found first.
+use Rattle.std.proofs.Common.{◌≡◌, ℕ, List, Bool, true, false, Option, Some, None, length, subst, sym, ap, ◌∙◌}
+use Rattle.std.specs.Prelude.{IfSome, if◌then◌else◌, nat_le}
+use Rattle.station.specs.Images.{Images}
+use Rattle.station.specs.Moments.{IsSameStation, Meaning}
+use Rattle.layout.specs.Opens.{IsNewest}
+use Rattle.layout.specs.declared.TheConstants.{SLOT_A, SLOT_B}
+use Rattle.layout.specs.declared.root.Root.{Root}
+use Rattle.images.specs.Faults.{HasRoots}
+use Rattle.images.specs.Roots.{Whole}
+use Rattle.loading.specs.Slots.{FitsStation}
+use Rattle.checker.specs.Checks.{AreFindings}
+use Rattle.checker.specs.Findings.{IsFinding, IsFindingUnder, fault_number, first_of}
+use Rattle.checker.specs.declared.fault.Fault.TheVariants as faults
+use Rattle.checker.specs.declared.fault.Finding.{Finding}
+use Rattle.checker.specs.declared.fault.RootsFault.{RootsFault}
+use Rattle.checker.specs.declared.fault.TreeName.TheVariants.{Image}
+
+-- no root is found: none of the roots has the sizes of the station
+pub no_roots : (m n : Meaning) → IsSameStation m n → n.seen ≡ m.seen → length m.seen.nvram ≡ m.nvram_bytes
+    → ((r : Root) → IsNewest r (n.seen.disk SLOT_A) (n.seen.disk SLOT_B) → FitsStation r n → ⊥) → (r : Root) → HasRoots r m.sectors m.seen.disk m.seen.nvram → ⊥
+no_roots m n same seen size none r has =
+    none r (subst (λ (i : Images). IsNewest r (i.disk SLOT_A) (i.disk SLOT_B)) (sym seen) has.newest)
+    (record { sectors = same.sectors ∙ has.sizes.disk; nvram = same.nvram_bytes ∙ sym size ∙ has.sizes.nvram })
+
+pub roots_found : (sectors : ℕ) (disk : ℕ → List ℕ) (nvram : List ℕ) (first new : Option Finding) (found : RootsFault) → first ≡ None → new ≡ Some (first_of first (record { tree = Image; fault = faults.Roots found }))
+    → ((r : Root) → HasRoots r sectors disk nvram → ⊥) → IfSome new (IsFinding sectors disk nvram)
+roots_found sectors disk nvram first new found none is not =
+    let one : new ≡ Some (record { tree = Image; fault = faults.Roots found }) = is ∙ ap (λ (o : Option Finding). Some (first_of o (record { tree = Image; fault = faults.Roots found }))) none in
+    subst (λ (o : Option Finding). IfSome o (IsFinding sectors disk nvram)) (sym one) not
+
+module _ (r : Root) (w : Whole) (nvram : List ℕ) where
+  either : (b : Bool) (x y : Finding) → IsFindingUnder r w nvram x.tree x.fault → IsFindingUnder r w nvram y.tree y.fault → AreFindings r w nvram (Some (if b then x else y))
+  either true x y one other = one
+  either false x y one other = other
+
+  first_found : (first : Option Finding) (found : Finding) → AreFindings r w nvram first → IsFindingUnder r w nvram found.tree found.fault → AreFindings r w nvram (Some (first_of first found))
+  first_found None found are is = is
+  first_found (Some first) found are is = either (nat_le (fault_number first.fault) (fault_number found.fault)) first found are is
+
+  -- one more is found
+  pub more_found : (first new : Option Finding) (found : Finding) → new ≡ Some (first_of first found) → AreFindings r w nvram first → IsFindingUnder r w nvram found.tree found.fault → AreFindings r w nvram new
+  more_found first new found new_is are is = subst (AreFindings r w nvram) (sym new_is) (first_found first found are is)
+
+  pub if_found : (first : Option Finding) → AreFindings r w nvram first → IfSome first (λ f. IsFindingUnder r w nvram f.tree f.fault)
+  if_found None are = tt
+  if_found (Some found) are = are

@@ -1,0 +1,161 @@
+-- Records that were replayed, as the log has them.
+use Rattle.std.proofs.Common.{◌≡◌, ◌⊎◌, ◌∙◌, ◌<◌, ◌≤◌, ◌^◌, ℕ, Bool, true, false, List, [], ◌∷◌, ◌++◌, Result, Ok, Err, length, refl, sym, ap, subst, inl, inr}
+use Rattle.std.specs.Prelude.{All, IfErr, IsSome, MatchResult, if◌then◌else◌}
+use Rattle.std.specs.Result.{IsErrAnd}
+use Rattle.std.proofs.lemmas.List.Elements.{All-cons, All-head, All-tail}
+use Rattle.blocktree.specs.declared.error.ReadError.{ReadError}
+use Rattle.blocktree.specs.declared.error.ReadError.TheVariants as errors
+use Rattle.layout.specs.Limits.{Sizes}
+use Rattle.layout.specs.Places.{Blocks}
+use Rattle.layout.specs.Log.{HoldsBodies, LogHolds, record_of}
+use Rattle.layout.specs.Record.{Change, IsChange}
+use Rattle.layout.specs.declared.root.Root.{Root}
+use Rattle.model.specs.Records.{applied}
+use Rattle.model.specs.Volumes.{IsGraph, Volume}
+use Rattle.images.specs.Contents.{HoldsVolume, tree_contents}
+use Rattle.images.specs.Faults.{HasLog}
+use Rattle.images.specs.Replaying.{ReplaysWithin}
+use Rattle.images.specs.Roots.{Whole, whole}
+use Rattle.images.specs.Soundness.{by_sizes}
+use Rattle.oplog.specs.LogEnd.{LogEnd, all_bodies}
+use Rattle.oplog.specs.SavedLog.{HoldsLeaving, Saved, TellsLog, end_of}
+use Rattle.inofile.specs.Volumes.{IsVolumeIn}
+use Rattle.inofile.specs.declared.inode_file.InodeFile.{InodeFile}
+use Rattle.loading.specs.Images.{AreInodesIn, inodes_of}
+use Rattle.model.specs.declared.limits.TheConstants.{FIRST_NUMBER, ROOT_NUMBER}
+use Rattle.replay.specs.Volumes.{AppliesIn, HasVolumeIn, LeadTo, ReplaysIn, SpellsRecord, bodies_of}
+use Rattle.checker.proofs.ReplayedLaws.{none_behind, one_in_front}
+use Rattle.checker.proofs.ReplayedLaws.{LeadOn, joined_bodies, lead_on}
+use Rattle.checker.specs.Checks.{Passes}
+use Rattle.checker.specs.Errors.{IsHaltFault, OrFault}
+use Rattle.checker.specs.Logs.{IsLogFault, TellsRecords}
+use Rattle.checker.specs.declared.error.Halt.{Halt}
+use Rattle.checker.specs.declared.error.Halt.TheVariants as halts
+use Rattle.checker.specs.declared.fault.Fault.{Fault}
+
+-- a record in front of others that lead on
+pub in_front : (inodes : ℕ) (rest body after : List ℕ) (change : Change) (more : List Change) (now w : Volume) → length body < 2 ^ 32 → rest ≡ record_of body ++ after → SpellsRecord body change
+    → AppliesIn by_sizes inodes now change → LeadTo by_sizes inodes after more (applied change now) w → LeadTo by_sizes inodes rest (change ∷ more) now w
+in_front inodes rest body after change more now w short is spells applies leads = record {
+  are = All-cons IsChange change more spells.is leads.are;
+  held = (after, subst (λ (b : List ℕ). length b < 2 ^ 32) spells.spelled short, is ∙ ap (λ (b : List ℕ). record_of b ++ after) spells.spelled, leads.held);
+  replays = (applies, leads.replays);
+}
+
+-- how many bytes are left behind the bodies
+leaving : (bodies : List (List ℕ)) (records : List ℕ) → HoldsBodies records bodies → (left : ℕ) × HoldsLeaving records bodies left
+leaving [] records held = (length records, none_behind records held)
+leaving (body ∷ bodies) records (after, short, is, held) =
+    let more = leaving bodies after held in
+    (more.0, one_in_front body records after bodies more.0 short is more.1)
+
+half_of_any : (x y : Bool) (p q s : LogEnd) (half : ℕ) → p.half ≡ half → q.half ≡ half → s.half ≡ half → (if x then p else (if y then q else s)).half ≡ half
+half_of_any true y p q s half one two three = one
+half_of_any false true p q s half one two three = two
+half_of_any false false p q s half one two three = three
+
+end_half : (saved : Saved) (first second : ℕ) → (end_of saved first second).half ≡ saved.half
+end_half saved first second = half_of_any saved.second.is_open saved.first.is_open _ _ _ saved.half refl refl refl
+
+-- records one after the other
+within_more : (inodes : ℕ) (one two : List Change) (v mid w : Volume) → ReplaysIn by_sizes inodes v one mid → ReplaysIn by_sizes inodes mid two w → ReplaysWithin inodes v (one ++ two) w
+within_more inodes [] [] v mid w first second = second ∙ first
+within_more inodes [] (c ∷ two) v mid w first second =
+    let on = subst (λ (u : Volume). ReplaysIn by_sizes inodes u (c ∷ two) w) first second in
+    (on.0.0, on.0.1, within_more inodes [] two (applied c v) (applied c v) w refl on.1)
+within_more inodes (c ∷ one) two v mid w first second = (first.0.0, first.0.1, within_more inodes one two (applied c v) mid w first.1 second)
+
+all_more : (one two : List Change) → All IsChange one → All IsChange two → All IsChange (one ++ two)
+all_more [] two first second = second
+all_more (c ∷ one) two first second = All-cons IsChange c (one ++ two) (All-head IsChange c one first) (all_more one two (All-tail IsChange c one first) second)
+
+-- what was saved, over a root
+module _ (r : Root) (w : Whole) (nvram : List ℕ) (saved : Saved) (half : saved.half ≡ r.geometry.half) (generation : saved.generation ≡ r.generation) (tells : TellsLog nvram saved)
+    (v : Volume) (holds : HoldsVolume r.geometry.inodes (tree_contents w.active) v) where
+  pub has_log : (one two : List Change) (mid last : Volume) → LeadTo by_sizes r.geometry.inodes saved.first.records one v mid → LeadTo by_sizes r.geometry.inodes saved.second.records two mid last
+      → HasLog r w nvram (one ++ two)
+  has_log one two mid last leads leads_on =
+      let first = leaving (bodies_of one) saved.first.records leads.held in
+      let second = leaving (bodies_of two) saved.second.records leads_on.held in
+      let stands = tells.ends (bodies_of one) (bodies_of two) first.0 second.0 first.1 second.1 in
+      let all : all_bodies stands.bodies ≡ bodies_of (one ++ two) = stands.all ∙ sym (joined_bodies (one ++ two) one two refl) in
+      record {
+        first = v;
+        last = last;
+        holds = holds;
+        log = record {
+          are = all_more one two leads.are leads_on.are;
+          log = subst (λ (n : ℕ). LogHolds n r.generation nvram (bodies_of (one ++ two))) (end_half saved first.0 second.0 ∙ half)
+              (subst (λ (n : ℕ). LogHolds (end_of saved first.0 second.0).half n nvram (bodies_of (one ++ two))) generation
+              (subst (LogHolds (end_of saved first.0 second.0).half saved.generation nvram) all stands.stands.holds));
+        };
+        replays = within_more r.geometry.inodes one two v mid last leads.replays leads_on.replays;
+      }
+
+  pub log_leads : (changes : List Change) (log : HasLog r w nvram changes) → log.first ≡ v → LeadOn by_sizes r.geometry.inodes saved.first.records saved.second.records changes v log.last
+  log_leads changes log same = lead_on by_sizes r.geometry.inodes nvram saved changes v log.last tells (record {
+    are = log.log.are;
+    held = subst (λ (n : ℕ). LogHolds n saved.generation nvram (bodies_of changes)) (sym half)
+        (subst (λ (n : ℕ). LogHolds r.geometry.half n nvram (bodies_of changes)) (sym generation) log.log.log);
+    replays = subst (λ (u : Volume). ReplaysWithin r.geometry.inodes u changes log.last) same log.replays;
+  })
+
+-- ---- what was loaded
+
+pub loaded : {T : Type 0} (P : T → Type 0) (Q : ReadError → Type 0) (fault : Fault) (read : Result T ReadError) (x : T) → OrFault fault read (Ok x) → MatchResult read P Q → P x
+loaded P Q fault (Ok y) x is told = (let same : y ≡ x = cc in subst P same told)
+loaded P Q fault (Err e) x is told = absurd (cc)
+
+-- where memory ran out or a device call failed, nothing is told
+pub not_loaded : {T U : Type 0} (P : T → Type 0) (Is : U → Type 0) (Found : Fault → Type 0) (fault : Fault) (read : Result T ReadError) (h : Halt) (q : Result U Halt)
+    → IsErrAnd q (λ f. f ≡ h) → OrFault fault read (Err h) → MatchResult read P (λ e. (e ≡ errors.NoMemory) ⊎ (e ≡ errors.Device)) → Passes Is Found q
+not_loaded P Is Found fault (Ok y) h q passed is told = absurd (cc (is))
+not_loaded P Is Found fault (Err e) h (Ok y) passed is told = absurd passed
+not_loaded P Is Found fault (Err e) h (Err halts.NoMemory) passed is told = tt
+not_loaded P Is Found fault (Err e) h (Err halts.Device) passed is told = tt
+not_loaded P Is Found fault (Err errors.NoMemory) h (Err (halts.Fault f)) passed is told = absurd (cc (passed, is))
+not_loaded P Is Found fault (Err errors.Device) h (Err (halts.Fault f)) passed is told = absurd (cc (passed, is))
+not_loaded P Is Found fault (Err errors.Damaged) h (Err (halts.Fault f)) passed is (inl memory) = absurd (cc)
+not_loaded P Is Found fault (Err errors.Damaged) h (Err (halts.Fault f)) passed is (inr device) = absurd (cc)
+
+-- a device call failed where a read says so
+pub load_device : {T Grown : Type 0} (fault : Fault) (read : Result T ReadError) (h : Halt) → OrFault fault read (Err h) → IfErr read (λ e. e ≡ errors.Device → Grown) → IsHaltFault h → Grown
+load_device fault (Ok y) h is told failed = absurd (cc (is))
+load_device fault (Err errors.NoMemory) h is told failed = absurd (cc (is, failed))
+load_device fault (Err errors.Device) h is told failed = told refl
+load_device fault (Err errors.Damaged) h is told failed = absurd (cc (is, failed))
+
+-- memory that was loaded under a root stands for the volume of its tree
+pub has_volume : (disk : Blocks) (r : Root) (count : ℕ) (inodes : InodeFile) (v : Volume) → count ≡ r.geometry.blocks → AreInodesIn by_sizes disk r.geometry (whole disk r).active inodes
+    → HoldsVolume r.geometry.inodes (tree_contents (whole disk r).active) v → IsGraph v
+    → ((n : ℕ) → IsSome (v n) → (n ≡ ROOT_NUMBER) ⊎ ((FIRST_NUMBER ≤ n) × (n < r.geometry.inodes))) → HasVolumeIn by_sizes count disk (inodes_of (whole disk r).active) inodes v
+has_volume disk r count inodes v is are holds graph numbers = record {
+  memory = subst (λ (n : ℕ). IsVolumeIn by_sizes n disk (inodes_of (whole disk r).active) inodes v) (sym is) (are.volume v holds);
+  volume = record {
+    graph = graph;
+    numbers = subst (λ (s : Sizes). (n : ℕ) → IsSome (v n) → (n ≡ ROOT_NUMBER) ⊎ ((FIRST_NUMBER ≤ n) × (n < s.inodes))) (sym are.geometry) numbers;
+  };
+}
+
+-- ---- a half that has a fault
+
+pub failed : (r : Root) (w : Whole) (nvram : List ℕ) (q : Result ℕ Halt) (h : Halt) → IsErrAnd q (λ f. f ≡ h) → Passes {T = ℕ} (λ _. Unit {0}) IsLogFault (Err h)
+    → ((changes : List Change) → HasLog r w nvram changes → Passes {T = ℕ} (λ _. Unit {0}) (λ _. ⊥) (Err h)) → TellsRecords r w nvram q
+failed r w nvram (Ok count) h passed faults refutes = absurd passed
+failed r w nvram (Err halts.NoMemory) h passed faults refutes = tt
+failed r w nvram (Err halts.Device) h passed faults refutes = tt
+failed r w nvram (Err (halts.Fault fault)) h passed faults refutes = (
+  subst (λ (e : Halt). Passes {T = ℕ} (λ _. Unit {0}) IsLogFault (Err e)) (sym passed) faults,
+  λ changes log. subst (λ (e : Halt). Passes {T = ℕ} (λ _. Unit {0}) (λ _. ⊥) (Err e)) (sym passed) (refutes changes log),
+)
+
+-- records by the sizes and the bytes that they are read by
+pub lead_over : (s t : Sizes) (records bytes : List ℕ) (changes : List Change) (v w : Volume) → s ≡ t → records ≡ bytes → LeadTo by_sizes t.inodes bytes changes v w → LeadTo by_sizes s.inodes records changes v w
+lead_over s t records bytes changes v w sizes same leads =
+    subst (λ (x : Sizes). LeadTo by_sizes x.inodes records changes v w) (sym sizes) (subst (λ (b : List ℕ). LeadTo by_sizes t.inodes b changes v w) (sym same) leads)
+
+-- what is true of a fault's answer says nothing of other ones
+pub refuted : (Is : ℕ → Type 0) (h : Halt) → Passes Is (λ _. ⊥) (Err h) → Passes {T = ℕ} (λ _. Unit {0}) (λ _. ⊥) (Err h)
+refuted Is halts.NoMemory told = tt
+refuted Is halts.Device told = tt
+refuted Is (halts.Fault fault) told = told

@@ -1,0 +1,302 @@
+-- One node is marked, and then those under it.
+use Rattle.std.proofs.Common.{◌≡◌, ◌≢◌, ◌⊎◌, inl, inr, ℕ, suc, ◌+◌, ◌-◌, ◌*◌, ◌/◌, ◌%◌, ◌^◌, ◌<◌, ◌≤◌, List, length, refl, sym, ap, subst, ◌∙◌, arith}
+use Rattle.std.specs.Prelude.{◌↔◌, min, slice_index, slice_index_or, Option, Some, None, Result, Ok, Err}
+use Rattle.std.specs.Result.{IsErrAnd}
+use Rattle.std.specs.Int.{bit_at}
+use Rattle.std.proofs.lemmas.Bool.{cases_eq, cases_lt}
+use Rattle.layout.specs.Maps.{IsIndirectBlock, indirect_pointer}
+use Rattle.layout.specs.Places.{Blocks, follow}
+use Rattle.layout.specs.Pointer.{PointsBelow}
+use Rattle.layout.specs.declared.pointer.Pointer.{Pointer}
+use Rattle.layout.specs.declared.pointer.Pointer.TheVariants.{Block, Hole}
+use Rattle.layout.proofs.PointerLaws.{block_same, no_block}
+use Rattle.blocktree.specs.Names.{nodes_at}
+use Rattle.images.specs.BlockMap.{HasBit}
+use Rattle.images.specs.Nodes.{Held}
+use Rattle.checker.specs.Nodes.{AreIndirect, HasNodes, IsAt, IsUnder, KeepsMarks, KeepsShared, LooksUnder, MarksFor, MarksThese, SharesNone}
+use Rattle.checker.specs.declared.error.Halt.{Halt}
+use Rattle.checker.specs.declared.error.Halt.TheVariants as halts
+use Rattle.checker.specs.declared.fault.FileNode.{FileNode}
+use Rattle.checker.specs.declared.nodes.Shared.{Shared}
+use Rattle.checker.proofs.NodeLaws.{IsAmong, hole_under, itself, looks_more, looks_none, none_before, one_up, some_none, some_same, these_more}
+
+-- A block was marked, and where it was marked before, that is told.
+module _ (old new : List ℕ) (before after : List (Option Shared)) (place bits twice : ℕ) (s : Shared)
+    (was : (k : ℕ) → HasBit k twice ↔ (HasBit k (slice_index old place) × HasBit k bits))
+    (here : (k : ℕ) → HasBit k (slice_index new place) ↔ (HasBit k (slice_index old place) ⊎ HasBit k bits))
+    (there : (b : ℕ) → b ≢ place → slice_index new b ≡ slice_index old b)
+    (kept : KeepsShared before after)
+    (these : (k : ℕ) → k < 21 → HasBit k twice → SharesNone before k → slice_index_or after k None ≡ Some s)
+    (others : (k : ℕ) → (HasBit k twice → ⊥) → slice_index_or after k None ≡ slice_index_or before k None)
+    (planes : (k : ℕ) → HasBit k bits → k < 21) where
+  twice_told : (k : ℕ) → HasBit k twice → SharesNone after k → ⊥
+  twice_told k bit none = some_none (slice_index_or after k None) s none (these k (planes k ((was k).0 bit).1) bit (none_before before after k kept none))
+
+  pub again_told : twice ≡ bits → (k : ℕ) → HasBit k bits → SharesNone after k → ⊥
+  again_told same k bit = twice_told k (subst (HasBit k) (sym same) bit)
+
+  pub keeps_at : length new ≡ length old → KeepsMarks bits old new before after
+  keeps_at length_is = record {
+    length_is = length_is;
+    others = λ k other. record {
+      marks = λ b. elim (cases_eq b place) [
+        | inl same ↦ subst (λ (n : ℕ). HasBit k (slice_index new n) ↔ HasBit k (slice_index old n)) (sym same) (
+          (λ bit. elim ((here k).0 bit) [ inl marked ↦ marked | inr mine ↦ absurd (other mine) ]),
+          (λ bit. (here k).1 (inl bit)),
+        )
+        | inr ne ↦ subst (λ (n : ℕ). HasBit k n ↔ HasBit k (slice_index old b)) (sym (there b ne)) (λ bit. bit, λ bit. bit)
+      ];
+      shared = others k (λ bit. other ((was k).0 bit).1);
+    };
+    kept = kept;
+  }
+
+  pub looks_at : (h : Held) → h.place s.second.height s.second.index ≡ Block place → s.block ≡ place → MarksFor h (IsAt s.second) s.second.number bits old new before after
+  looks_at h is block k bit = record {
+    marked = λ none.
+        let fresh : HasBit k (slice_index old place) → ⊥ = λ marked. twice_told k ((was k).1 (marked, bit)) none in
+        record {
+          marks = λ b. (
+            (λ mark. elim (cases_eq b place) [
+              | inl same ↦ inr (s.second.height, s.second.index, (refl, refl), is ∙ ap Block (sym same))
+              | inr ne ↦ inl (subst (HasBit k) (there b ne) mark)
+            ]),
+            (λ either. elim (cases_eq b place) [
+              | inl same ↦ subst (λ (n : ℕ). HasBit k (slice_index new n)) (sym same) ((here k).1 (inr bit))
+              | inr ne ↦ elim either [
+                | inl mark ↦ subst (HasBit k) (sym (there b ne)) mark
+                | inr some ↦ absurd (ne (at_place some.0 some.1 b some.2 some.3))
+              ]
+            ]),
+          );
+          apart = λ m i b at node mark. fresh (subst (λ (n : ℕ). HasBit k (slice_index old n)) (at_place m i b at node) mark);
+          once = λ m i n j b at to x y. (at.0 ∙ sym to.0, at.1 ∙ sym to.1);
+        };
+    shared = λ none t told. elim (cases_eq (bit_at twice k) 1) [
+      | inl again ↦
+          let same : s ≡ t = some_same (slice_index_or after k None) s t (these k (planes k bit) again none) told in
+          let P : Shared → Type 0 = λ x.
+          (x.second.number ≡ s.second.number) × IsAt s.second x.second.height x.second.index
+          × (h.place x.second.height x.second.index ≡ Block x.block)
+          × (HasBit k (slice_index old x.block)
+          ⊎ ((m : ℕ) × (i : ℕ) × IsAt s.second m i × (h.place m i ≡ Block x.block) × ((m ≡ x.second.height) × (i ≡ x.second.index) → ⊥))) in
+          subst P same (refl, (refl, refl), is ∙ ap Block (sym block), inl (subst (λ (n : ℕ). HasBit k (slice_index old n)) (sym block) ((was k).0 again).0))
+      | inr first ↦ some_none (slice_index_or after k None) t (others k first ∙ none) told
+    ];
+  }
+    where
+      at_place : (m i b : ℕ) → IsAt s.second m i → h.place m i ≡ Block b → b ≡ place
+      at_place m i b at node = block_same b place (sym node ∙ (ap (λ (n : ℕ). h.place n i) at.0 ∙ ap (h.place s.second.height) at.1 ∙ is))
+
+-- the nodes at a height up to one, and those under them, and then that one with those under it
+pub among_more : (blocks now number count bits : ℕ) (disk : Blocks) (h : Held) (height low high index next : ℕ) (old mid new : List ℕ) (before middle after : List (Option Shared))
+    → now ≡ blocks → low ≤ high → index ≡ high → next ≡ high + 1 → KeepsShared middle after
+    → MarksFor h (IsAmong height low high) number bits old mid before middle × AreIndirect blocks disk h count (IsAmong height low high)
+    → MarksFor h (IsUnder height index) number bits mid new middle after × AreIndirect now disk h count (IsUnder height index)
+    → MarksFor h (IsAmong height low next) number bits old new before after × AreIndirect blocks disk h count (IsAmong height low next)
+among_more blocks now number count bits disk h height low high index next old mid new before middle after same le here more kept one two =
+    these_more h (IsAmong height low high) (IsUnder height index) (IsAmong height low next)
+    (λ m i b among is. elim (cases_lt (i / 1024 ^ (height - m)) high) [
+      | inl lt ↦ inl (among.0, among.1, lt)
+      | inr ge ↦ inr (among.0, omega (arith, ge, among.2, here, more))
+    ])
+    (λ m i among. (among.0, among.1, omega (arith, among.2, more)))
+    (λ m i under. (under.0, omega (arith, under.1, le, here), omega (arith, under.1, here, more)))
+    (λ m i n j among under same.
+    let there : i / 1024 ^ (height - m) ≡ j / 1024 ^ (height - n) = ap (λ (x : ℕ). i / 1024 ^ (height - x)) same.0 ∙ ap (λ (x : ℕ). x / 1024 ^ (height - n)) same.1 in
+    omega (arith, there, among.2, under.1, here))
+    blocks number count bits disk old mid new before middle after kept one
+    (two.0, λ m i b under is. subst (λ (n : ℕ). IsIndirectBlock n (nodes_at count m - 1024 * i) (disk b)) same (two.1 m i b under is))
+
+-- no node stands among none
+pub among_none : (blocks number count bits : ℕ) (disk : Blocks) (h : Held) (height low high : ℕ) (marks : List ℕ) (shared : List (Option Shared)) → high ≤ low
+    → MarksFor h (IsAmong height low high) number bits marks marks shared shared × AreIndirect blocks disk h count (IsAmong height low high)
+among_none blocks number count bits disk h height low high marks shared le = (
+  (λ k bit. looks_none h (IsAmong height low high) k number marks shared (λ m i b among is. omega (arith, among.1, among.2, le))),
+  (λ m i b among is. absurd (omega (arith, among.1, among.2, le))),
+)
+
+-- the same was done for all nodes of a set, where those that it has more are holes
+pub looks_same : (h : Held) (S1 S : ℕ → ℕ → Type 0) (k number : ℕ) (old new : List ℕ) (before after : List (Option Shared))
+    → ((m i b : ℕ) → S m i → h.place m i ≡ Block b → S1 m i) → ((m i : ℕ) → S1 m i → S m i)
+    → LooksUnder h S1 k number old new before after → LooksUnder h S k number old new before after
+looks_same h S1 S k number old new before after split left one =
+    looks_more h S1 (λ m i. ⊥) S (λ m i b here is. inl (split m i b here is)) left (λ m i never. absurd never) (λ m i n j a never same. never)
+    (λ j s is. is) one (looks_none h (λ m i. ⊥) k number new after (λ m i b never is. never))
+
+-- a node that stands as high as the one over it is that one
+pub at_top : (node : FileNode) (m i : ℕ) → IsUnder node.height node.index m i → node.height ≤ m → IsAt node m i
+at_top node m i under ge =
+    let top : m ≡ node.height = omega (arith, under.0, ge) in
+    (top, sym (itself node.height i) ∙ (ap (λ (n : ℕ). i / 1024 ^ (node.height - n)) (sym top) ∙ under.1))
+
+pub under_top : (node : FileNode) (m i : ℕ) → IsAt node m i → IsUnder node.height node.index m i
+under_top node m i at =
+    (omega (arith, at.0), ap (λ (n : ℕ). i / 1024 ^ (node.height - n)) at.0 ∙ (itself node.height i ∙ at.1))
+
+-- a node that is a hole
+pub hole_marked : (blocks : ℕ) (disk : Blocks) (h : Held) (node : FileNode) (count bits : ℕ) (marks : List ℕ) (shared : List (Option Shared)) → HasNodes disk h node.height → h.place node.height node.index ≡ Hole
+    → MarksFor h (IsUnder node.height node.index) node.number bits marks marks shared shared × AreIndirect blocks disk h count (IsUnder node.height node.index)
+hole_marked blocks disk h node count bits marks shared nodes hole =
+    ((λ k bit. looks_none h (IsUnder node.height node.index) k node.number marks shared none), λ m i b under there. absurd (none (suc m) i b under there))
+  where
+    none : (m i b : ℕ) → IsUnder node.height node.index m i → h.place m i ≡ Block b → ⊥
+    none m i b under there =
+        no_block (h.place m i) b (hole_under disk h node.height nodes (node.height - m) m i (omega (arith, under.0)) (ap (h.place node.height) under.1 ∙ hole)) there
+
+-- a block of the file
+pub leaf_marked : (blocks : ℕ) (disk : Blocks) (h : Held) (node : FileNode) (count bits : ℕ) (old new : List ℕ) (before after : List (Option Shared)) → node.height ≡ 0
+    → MarksFor h (IsAt node) node.number bits old new before after
+    → MarksFor h (IsUnder node.height node.index) node.number bits old new before after × AreIndirect blocks disk h count (IsUnder node.height node.index)
+leaf_marked blocks disk h node count bits old new before after leaf one = (
+  (λ k bit. looks_same h (IsAt node) (IsUnder node.height node.index) k node.number old new before after
+      (λ m i b under is. at_top node m i under (omega (arith, leaf))) (under_top node) (one k bit)),
+  (λ m i b under there. absurd (omega (arith, under.0, leaf))),
+)
+
+-- Under a node stand those under the 1,024 nodes of the next height.
+module _ (blocks : ℕ) (disk : Blocks) (h : Held) (node : FileNode) (height used place count : ℕ)
+    (some : node.height ≢ 0) (next : height ≡ node.height - 1)
+    (is : h.place node.height node.index ≡ Block place)
+    (nodes : HasNodes disk h node.height)
+    (used_is : used ≡ nodes_at count height - 1024 * node.index) where
+  up : suc height ≡ node.height
+  up = omega (arith, some, next)
+
+  pub among_under : (m i : ℕ) → IsAmong height (1024 * node.index) (1024 * node.index + 1024) m i → IsUnder node.height node.index m i
+  among_under m i among =
+      let one : i / 1024 ^ (node.height - m) ≡ i / 1024 ^ (height - m) / 1024 = ap (λ (n : ℕ). i / 1024 ^ (n - m)) (sym up) ∙ one_up height m i among.0 in
+      (omega (arith, among.0, up), omega (arith, one, among.1, among.2))
+
+  pub under_among : (m i : ℕ) → IsUnder node.height node.index m i → m < node.height → IsAmong height (1024 * node.index) (1024 * node.index + 1024) m i
+  under_among m i under lt =
+      let le : m ≤ height = omega (arith, lt, up) in
+      let one : i / 1024 ^ (node.height - m) ≡ i / 1024 ^ (height - m) / 1024 = ap (λ (n : ℕ). i / 1024 ^ (n - m)) (sym up) ∙ one_up height m i le in
+      (le, omega (arith, one, under.1), omega (arith, one, under.1))
+
+  pub place_below : (r : ℕ) → r < 1024 → h.place height (1024 * node.index + r) ≡ indirect_pointer (disk place) r
+  place_below r lt =
+      let over : (1024 * node.index + r) / 1024 ≡ node.index = omega (arith, lt) in
+      let rest : (1024 * node.index + r) % 1024 ≡ r = omega (arith, lt) in
+      nodes height (1024 * node.index + r) (omega (arith, up))
+      ∙ (ap (λ (n : ℕ). follow disk (h.place n ((1024 * node.index + r) / 1024)) ((1024 * node.index + r) % 1024)) up
+      ∙ (ap (λ (n : ℕ). follow disk (h.place node.height n) ((1024 * node.index + r) % 1024)) over
+      ∙ (ap (λ (n : ℕ). follow disk (h.place node.height node.index) n) rest
+      ∙ ap (λ (p : Pointer). follow disk p r) is)))
+
+  -- the node's own block
+  pub own_indirect : IsIndirectBlock blocks used (disk place) → AreIndirect blocks disk h count (IsAt node)
+  own_indirect good m i b at there =
+      let low : height ≡ m = omega (arith, at.0, up) in
+      let same : place ≡ b = block_same place b (sym is ∙ (ap (λ (n : ℕ). h.place n node.index) (sym at.0) ∙ (ap (h.place (suc m)) (sym at.1) ∙ there))) in
+      let few : used ≡ nodes_at count m - 1024 * i = used_is ∙ (ap (λ (n : ℕ). nodes_at count n - 1024 * node.index) low ∙ ap (λ (n : ℕ). nodes_at count m - 1024 * n) (sym at.1)) in
+      subst (λ (n : ℕ). IsIndirectBlock blocks n (disk b)) few (subst (λ (n : ℕ). IsIndirectBlock blocks used (disk n)) same good)
+
+  pub own_bad : (IsIndirectBlock blocks used (disk place) → ⊥) → AreIndirect blocks disk h count (IsUnder node.height node.index) → ⊥
+  own_bad bad are =
+      bad (subst (λ (n : ℕ). IsIndirectBlock blocks n (disk place)) (sym used_is)
+      (are height node.index place (under_top node (suc height) node.index (up, refl)) (ap (λ (n : ℕ). h.place n node.index) up ∙ is)))
+
+  -- all of the trees had marked the block, and under it stand blocks of the file alone
+  pub again_marked : (bits : ℕ) (old new : List ℕ) (before after : List (Option Shared)) → height ≡ 0 → IsIndirectBlock blocks used (disk place)
+      → ((k : ℕ) → HasBit k bits → SharesNone after k → ⊥) → MarksFor h (IsAt node) node.number bits old new before after
+      → MarksFor h (IsUnder node.height node.index) node.number bits old new before after × AreIndirect blocks disk h count (IsUnder node.height node.index)
+  again_marked bits old new before after low good again one = (
+    (λ k bit. record {
+      marked = λ none. absurd (again k bit none);
+      shared = λ none s told.
+          let all = (one k bit).shared none s told in (
+            all.0,
+            under_top node s.second.height s.second.index all.1,
+            all.2,
+            elim all.3 [
+              | inl mark ↦ inl mark
+              | inr other ↦ inr (other.0, other.1, under_top node other.0 other.1 other.2, other.3, other.4)
+            ],
+          );
+    }),
+    (λ m i b under there. own_indirect good m i b (at_top node (suc m) i under (omega (arith, up, low))) there),
+  )
+
+  -- the pointers of the node's block lead to the nodes under it
+  pub child_place : (first r index : ℕ) (bytes : List ℕ) (below : Pointer) → first ≡ 1024 * node.index → r < 1024 → index ≡ first + r
+      → below ≡ indirect_pointer bytes r → bytes ≡ disk place → h.place height index ≡ below
+  child_place first r index bytes below first_is low index_is below_is read =
+      let at : index ≡ 1024 * node.index + r = omega (arith, first_is, index_is) in
+      ap (h.place height) at ∙ (place_below r low ∙ sym (below_is ∙ ap (λ (x : List ℕ). indirect_pointer x r) read))
+
+  pub child_under : (first r index : ℕ) → first ≡ 1024 * node.index → r < 1024 → index ≡ first + r → (m i : ℕ) → IsUnder height index m i → IsUnder node.height node.index m i
+  child_under first r index first_is low index_is m i under =
+      among_under m i (under.0, omega (arith, under.1, first_is, index_is), omega (arith, under.1, first_is, index_is, low))
+
+  -- those behind the file's end are holes
+  module _ (within : IsIndirectBlock blocks used (disk place)) (n : ℕ) (most : n ≤ 1024) (enough : n < 1024 → used ≤ n) where
+    hole_after : (a : ℕ) → 1024 * node.index + n ≤ a → a < 1024 * node.index + 1024 → h.place height a ≡ Hole
+    hole_after a ge lt =
+        let at : 1024 * node.index + (a - 1024 * node.index) ≡ a = omega (arith, ge) in
+        let low : a - 1024 * node.index < 1024 = omega (arith, ge, lt) in
+        let past : used ≤ a - 1024 * node.index = omega (arith, enough (omega (arith, ge, lt)), ge) in
+        ap (h.place height) (sym at) ∙ (place_below (a - 1024 * node.index) low ∙ (within.within (a - 1024 * node.index) low).1 past)
+
+    split : (m i b : ℕ) → IsUnder node.height node.index m i → h.place m i ≡ Block b → IsAt node m i ⊎ IsAmong height (1024 * node.index) (1024 * node.index + n) m i
+    split m i b under there = elim (cases_lt m node.height) [
+      | inr ge ↦ inl (at_top node m i under ge)
+      | inl lt ↦
+          let among = under_among m i under lt in
+          elim (cases_lt (i / 1024 ^ (height - m)) (1024 * node.index + n)) [
+            | inl before ↦ inr (among.0, among.1, before)
+            | inr past ↦ absurd (no_block (h.place m i) b
+                (hole_under disk h height (λ l j low. nodes l j (omega (arith, low, up))) (height - m) m i (omega (arith, among.0)) (hole_after (i / 1024 ^ (height - m)) past among.2)) there)
+          ]
+    ]
+
+    pub under_marked : (now first number bits : ℕ) (old mid new : List ℕ) (before middle after : List (Option Shared)) → now ≡ blocks → first ≡ 1024 * node.index → KeepsShared middle after
+        → MarksFor h (IsAt node) number bits old mid before middle
+        → MarksFor h (IsAmong height first (first + n)) number bits mid new middle after × AreIndirect now disk h count (IsAmong height first (first + n))
+        → MarksFor h (IsUnder node.height node.index) number bits old new before after × AreIndirect blocks disk h count (IsUnder node.height node.index)
+    under_marked now first number bits old mid new before middle after same first_is kept one two =
+        these_more h (IsAt node) (IsAmong height first (first + n)) (IsUnder node.height node.index)
+        (λ m i b under there. elim (split m i b under there) [
+          | inl at ↦ inl at
+          | inr among ↦ inr (among.0, omega (arith, among.1, first_is), omega (arith, among.2, first_is))
+        ])
+        (under_top node) (λ m i among. among_under m i (among.0, omega (arith, among.1, first_is), omega (arith, among.2, most, first_is)))
+        (λ m i k j at among same. omega (arith, at.0, same.0, among.0, up))
+        blocks number count bits disk old mid new before middle after kept (one, own_indirect within)
+        (two.0, λ m i b among there. subst (λ (x : ℕ). IsIndirectBlock x (nodes_at count m - 1024 * i) (disk b)) same (two.1 m i b among there))
+
+-- NUMBERS
+
+pub used_same : (nodes first used i n : ℕ) → nodes ≡ n → first ≡ min (1024 * i) (2 ^ 32 - 1) → used ≡ nodes - first → nodes < 2 ^ 32 → used ≡ n - 1024 * i
+used_same nodes first used i n is first_is used_is low = omega arith
+
+pub indirect_same : (a b used : ℕ) (x y : List ℕ) → a ≡ b → x ≡ y → IsIndirectBlock a used x → IsIndirectBlock b used y
+indirect_same a b used x y blocks bytes good = subst (λ (n : ℕ). IsIndirectBlock n used y) blocks (subst (IsIndirectBlock a used) bytes good)
+
+-- an indirect block in its grammar stands before the file's end
+pub first_exact : (blocks used nodes first i : ℕ) (bytes : List ℕ) → IsIndirectBlock blocks used bytes → first ≡ min (1024 * i) (2 ^ 32 - 1) → used ≡ nodes - first → nodes < 2 ^ 32 → first ≡ 1024 * i
+first_exact blocks used nodes first i bytes good first_is used_is low = elim (cases_lt good.some.0 used) [
+  | inl lt ↦ omega (arith, lt)
+  | inr ge ↦ absurd (good.some.2 ((good.within good.some.0 good.some.1).1 ge))
+]
+
+pub pointer_below : (a b used r : ℕ) (bytes : List ℕ) (p : Pointer) → IsIndirectBlock a used bytes → r < 1024 → a ≡ b → p ≡ indirect_pointer bytes r → PointsBelow b p
+pointer_below a b used r bytes p good low same is =
+    subst (PointsBelow b) (sym is) (subst (λ (n : ℕ). PointsBelow n (indirect_pointer bytes r)) same (good.within r low).0)
+
+-- an error is passed on
+these_err : (blocks : ℕ) (disk : Blocks) (h : Held) (S1 S : ℕ → ℕ → Type 0) (number count bits : ℕ) (o n p q : List ℕ) (b a c d : List (Option Shared)) (e : Halt) → ((m i : ℕ) → S1 m i → S m i)
+    → MarksThese blocks disk h S1 number count bits o n b a (Err e) → MarksThese blocks disk h S number count bits p q c d (Err e)
+these_err blocks disk h S1 S number count bits o n p q b a c d halts.NoMemory sub marked = tt
+these_err blocks disk h S1 S number count bits o n p q b a c d halts.Device sub marked = tt
+these_err blocks disk h S1 S number count bits o n p q b a c d (halts.Fault fault) sub marked =
+    ((λ are. marked.0 (λ m i x under there. are m i x (sub (suc m) i under) there)), marked.1, marked.2)
+
+pub err_marked : (blocks now : ℕ) (disk : Blocks) (h : Held) (S1 S : ℕ → ℕ → Type 0) (number count bits : ℕ) (o n p q : List ℕ) (b a c d : List (Option Shared)) (result : Result (Unit {0}) Halt) (e : Halt)
+    → now ≡ blocks → IsErrAnd result (λ f. f ≡ e) → ((m i : ℕ) → S1 m i → S m i)
+    → MarksThese now disk h S1 number count bits o n b a (Err e) → MarksThese blocks disk h S number count bits p q c d result
+err_marked blocks now disk h S1 S number count bits o n p q b a c d (Ok done) e same is sub marked = absurd is
+err_marked blocks now disk h S1 S number count bits o n p q b a c d (Err f) e same is sub marked =
+    these_err blocks disk h S1 S number count bits o n p q b a c d f sub
+    (subst (λ (x : Halt). MarksThese blocks disk h S1 number count bits o n b a (Err x)) (sym is)
+    (subst (λ (x : ℕ). MarksThese x disk h S1 number count bits o n b a (Err e)) same marked))

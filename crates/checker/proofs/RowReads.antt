@@ -1,0 +1,94 @@
+-- Blocks of the trees' inode files that are read.
+use Rattle.std.proofs.Common.{◌≡◌, ◌∙◌, ℕ, ◌≢◌, ◌+◌, ◌*◌, ◌<◌, ◌≤◌, List, ◌++◌, ◌∷◌, [], length, set, refl, ap, arith, sym, subst, inl, inr}
+use Rattle.std.specs.Prelude.{Option, Some, slice_get, slice_index_or}
+use Rattle.std.proofs.Math.Nat.{eq-or-lt_of_le}
+use Rattle.std.proofs.lemmas.List.{get_or_append_left, get_or_push}
+use Rattle.std.proofs.lemmas.Option.{slice_get_within}
+use Rattle.layout.specs.Places.{Blocks}
+use Rattle.layout.specs.declared.root.Root.{Root}
+use Rattle.blocktree.specs.Trees.{IsSoundAt}
+use Rattle.inode.specs.Files as memory
+use Rattle.images.specs.Faults.{IsFileGrammar}
+use Rattle.images.specs.Nodes.{Held, file_block, held}
+use Rattle.images.specs.Roots.{whole}
+use Rattle.loading.specs.Laws.{HaveSoundPaths, ReadAsHeld}
+use Rattle.checker.specs.Findings.{first_fault, tree_in}
+use Rattle.checker.specs.Rows.{AreRows, KeepsTrees}
+use Rattle.checker.specs.Trees.{AreTrees, IsOut, IsSeenTo}
+use Rattle.checker.specs.declared.fault.Fault.{Fault}
+use Rattle.checker.specs.declared.fault.Fault.TheVariants as faults
+use Rattle.checker.specs.declared.fault.TreeFault.{TreeFault}
+use Rattle.checker.specs.declared.nodes.Shared.{Shared}
+use Rattle.checker.specs.declared.tree.Tree.{Tree}
+use Rattle.checker.proofs.HeldLaws.{block_is, reached, top_is}
+use Rattle.checker.proofs.EachLaws.{Each, get_others, get_set, some_at, some_of}
+use Rattle.checker.proofs.OutLaws.{out_keeps, out_or_not}
+use Rattle.checker.proofs.RowLaws.{IsRowOf, IsSame, known_at, trees_again}
+
+module _ (disk : Blocks) (r : Root) (count places i : ℕ) (marks : List ℕ) (shared : List (Option Shared)) (t : Tree) (known : IsSeenTo disk r count places marks shared t) where
+  top_file : (IsOut t.fault → ⊥) → IsFileGrammar r.geometry (held disk t.top)
+  top_file inside = subst (IsFileGrammar r.geometry) (top_is disk r t known.tree) ((known.inodes inside).files 0 (inl refl))
+
+  -- a block that was read
+  pub row_read : (reads : ReadAsHeld) (row : List ℕ) → row ≡ memory.file_block disk t.file i → (IsOut t.fault → ⊥) → row ≡ file_block (tree_in (whole disk r) t.plane 0) i
+  row_read reads row is inside =
+      is ∙ block_is reads r.geometry disk t.top t.file i (top_file inside) known.tree.file ∙ sym (ap (λ (h : Held). file_block h i) (top_is disk r t known.tree))
+
+  -- one over which an indirect block isn't in its grammar: the tree is out of its own
+  pub row_damaged : (paths : HaveSoundPaths) (blocks : ℕ) → blocks ≡ r.geometry.blocks → (IsSoundAt blocks disk t.file.tree i → ⊥) → IsOut t.fault
+  row_damaged paths blocks same damaged = elim (out_or_not t.fault) [
+    | inl out ↦ out
+    | inr inside ↦ absurd (damaged (reached paths r.geometry disk t.top t.file blocks i (top_file inside) known.tree.file same))
+  ]
+
+  -- so it stays as it is
+  pub row_out : (found : TreeFault) (q : Tree) → IsOut t.fault → q ≡ record t { fault = Some (first_fault t.fault (faults.Tree found)) } → q ≡ t
+  row_out found q out is = is ∙ ap (λ (f : Option Fault). record t { fault = f }) (out_keeps t.fault found out)
+
+-- ---- the blocks of all trees
+
+-- of the trees before place k the blocks were read
+abbrev pub AreRead : Blocks → Root → ℕ → List ℕ → List (Option Shared) → ℕ → List Tree → List Tree → List (List ℕ) → Type 0
+AreRead disk r i marks shared k old new rows =
+    (j : ℕ) (t q : Tree) → slice_get old j ≡ Some t → slice_get new j ≡ Some q → j < k
+    → IsSeenTo disk r i (21 * i) marks shared t → IsSeenTo disk r i (21 * i) marks shared q × IsRowOf disk r i rows j q
+
+module _ (disk : Blocks) (r : Root) (i : ℕ) (marks : List ℕ) (shared : List (Option Shared)) (k : ℕ) (old mid : List Tree) where
+  pub rows_more : (x y : Tree) (rows new : List (List ℕ)) (row : List ℕ) → Each (λ j t q. IsSame t q) k old mid → k < length mid → slice_get mid k ≡ Some x → length rows ≡ k → new ≡ rows ++ row ∷ []
+      → AreRead disk r i marks shared k old mid rows
+      → (IsSeenTo disk r i (21 * i) marks shared x → IsSeenTo disk r i (21 * i) marks shared y × ((IsOut y.fault → ⊥) → row ≡ file_block (tree_in (whole disk r) y.plane 0) i))
+      → AreRead disk r i marks shared (k + 1) old (set mid k y) new
+  rows_more x y rows new row each lt at long is before here j t q was now low known =
+      let most : j ≤ k = omega (arith, low) in elim (eq-or-lt_of_le most) [
+        | inl same ↦
+            let t_is : t ≡ x = some_of (sym was ∙ ap (slice_get old) same ∙ sym (each.rest k (omega arith)) ∙ at) in
+            let q_is : q ≡ y = some_of (sym now ∙ ap (slice_get (set mid k y)) same ∙ get_set mid k y lt) in
+            let told = here (subst (IsSeenTo disk r i (21 * i) marks shared) t_is known) in
+            let last : slice_index_or new j (file_block (tree_in (whole disk r) y.plane 0) i) ≡ row =
+            ap (λ (rs : List (List ℕ)). slice_index_or rs j (file_block (tree_in (whole disk r) y.plane 0) i)) is
+            ∙ get_or_push rows row (file_block (tree_in (whole disk r) y.plane 0) i) j (long ∙ sym same) in (
+              subst (IsSeenTo disk r i (21 * i) marks shared) (sym q_is) told.0,
+              subst (λ (v : Tree). IsRowOf disk r i new j v) (sym q_is)
+                  (λ inside. last ∙ told.1 inside),
+            )
+        | inr less ↦
+            let ne : j ≢ k = λ same. omega (arith, same, less) in
+            let told = before j t q was (sym (get_others mid k j y ne) ∙ now) less known in (
+              told.0,
+              (λ inside. ap (λ (rs : List (List ℕ)). slice_index_or rs j (file_block (tree_in (whole disk r) q.plane 0) i)) is
+                  ∙ get_or_append_left rows (row ∷ []) (file_block (tree_in (whole disk r) q.plane 0) i) j (omega (arith, less, long)) ∙ told.1 inside),
+            )
+      ]
+
+  pub rows_done : (rows : List (List ℕ)) → KeepsTrees old mid → length rows ≡ k → k ≡ length old → AreRead disk r i marks shared k old mid rows
+      → AreTrees r old (IsSeenTo disk r i (21 * i) marks shared) → AreRows disk r i mid rows × AreTrees r mid (IsSeenTo disk r i (21 * i) marks shared)
+  rows_done rows kept long all read seen = (
+    record {
+      length_is = long ∙ all ∙ sym kept.length_is;
+      each = λ l q at inside.
+          let was = some_at old l (omega (arith, kept.length_is, slice_get_within mid l q at)) in
+          (read l was.0 q was.1 at (omega (arith, all, slice_get_within old l was.0 was.1)) (known_at r old (IsSeenTo disk r i (21 * i) marks shared) l was.0 seen was.1)).1 inside;
+    },
+    trees_again r old mid (IsSeenTo disk r i (21 * i) marks shared) (IsSeenTo disk r i (21 * i) marks shared) kept seen
+        (λ l t q was is known. (read l t q was is (omega (arith, all, slice_get_within old l t was)) known).0),
+  )

@@ -1,0 +1,243 @@
+-- The steps of a walk through directories.
+use Rattle.std.proofs.Common.{◌≡◌, ◌≢◌, ◌∙◌, inl, inr, ℕ, zero, suc, ◌+◌, ◌/◌, ◌<◌, ◌≤◌, if◌then◌else◌, get_or, List, [], ◌∷◌, length, Bool, not, true, false, Option, Some, None, is_some, Result, Ok, Err, bytes_eq, refl, sym, ap, subst, arith}
+use Rattle.std.specs.Prelude.{slice_get}
+use Rattle.std.specs.List.{list_any}
+use Rattle.std.specs.BTreeMap.{is_at}
+use Rattle.std.specs.BTreeSet.{BTreeSet, contains}
+use Rattle.std.specs.Cmp.Lexicographic.{slice_cmp}
+use Rattle.std.specs.Ordering.{nat_cmp}
+use Rattle.std.specs.Result.{IsErrAnd}
+use Rattle.std.proofs.lemmas.Bool.{cases_eq, cond-true, cond-false, false_from_ne_true, false≢true}
+use Rattle.std.proofs.lemmas.Map.Text.{is_eq-slice_cmp}
+use Rattle.std.proofs.lemmas.Option.{slice_get-get_or, slice_get_read, slice_get_within}
+use Rattle.std.proofs.lemmas.Slice.Eq.{bytes_eq-Decides}
+use Rattle.layout.specs.Limits.{Sizes}
+use Rattle.layout.specs.declared.TheConstants.{BLOCK_BYTES}
+use Rattle.layout.specs.declared.kind.Kind.{Kind}
+use Rattle.layout.specs.declared.kind.Kind.TheVariants as kinds
+use Rattle.model.specs.Paths.{Name, Path}
+use Rattle.model.specs.Volumes.{Entries, HasNames, number_at, with_edge}
+use Rattle.model.specs.declared.limits.TheConstants.{ROOT_NUMBER}
+use Rattle.model.proofs.ListingLemmas.{names_apart}
+use Rattle.model.proofs.OptionLaws.{none_some, some_same}
+use Rattle.model.proofs.WalkLemmas.{edge_here, edge_other}
+use Rattle.images.specs.Contents.{IsDirectoryOf, content_of}
+use Rattle.layout.specs.Places.{Blocks}
+use Rattle.layout.specs.declared.inode.Inode.{Inode}
+use Rattle.layout.specs.declared.root.Root.{Root}
+use Rattle.buffers.specs.Reads.{HasOnlyRead}
+use Rattle.buffers.specs.declared.blocks.Blocks.{Ghosts}
+use Rattle.blocktree.specs.Trees.{IsSoundAt}
+use Rattle.inode.specs.Files.{IsAsHeld}
+use Rattle.inode.specs.declared.file.File.{File}
+use Rattle.images.specs.Faults.{IsFileGrammar, IsTreeGrammar}
+use Rattle.images.specs.Nodes.{Held, file_block, held}
+use Rattle.images.specs.Roots.{HeldTree, whole}
+use Rattle.images.specs.Soundness.{IsHeldFile, by_sizes}
+use Rattle.checker.specs.Checks.{Passes}
+use Rattle.checker.specs.Errors.{IsFault, IsHaltFault, halt}
+use Rattle.checker.specs.Findings.{tree_in}
+use Rattle.checker.specs.Trees.{IsTreeOf}
+use Rattle.checker.specs.declared.tree.Tree.{Tree}
+use Rattle.checker.proofs.ReadLaws.{HasLooked}
+use Rattle.checker.proofs.HeldLaws.{by_size, number_is}
+use Rattle.checker.specs.Names.{AreWithin, IsFirst, IsTable, IsUnnamed}
+use Rattle.checker.specs.Walks.{HasCountedRows, HasFile, IsToCount, KnowsNames, LooksInto}
+use Rattle.checker.specs.declared.error.CheckError.{CheckError}
+use Rattle.checker.specs.declared.error.CheckError.TheVariants as check
+use Rattle.checker.specs.declared.error.Halt.{Halt}
+use Rattle.checker.specs.declared.error.Halt.TheVariants as halts
+use Rattle.checker.specs.declared.fault.Fault.{Fault}
+use Rattle.checker.specs.declared.names.NumberRow.{NumberRow}
+use Rattle.checker.proofs.NameLaws.{rows_all}
+
+-- ---- a set of names
+
+module _ {K : Type 0} (name : K → Name) where
+  pub knows_none : (set : BTreeSet K) (e : Name → Option ℕ) → set.keys ≡ [] → ((x : Name) → e x ≡ None) → KnowsNames set name e
+  knows_none set e empty none key = ap (list_any (is_at (λ k. slice_cmp nat_cmp (name key) (name k)))) empty ∙ sym (ap is_some (none (name key)))
+
+  at_key : (key q : K) → name q ≡ name key → is_at (λ k. slice_cmp nat_cmp (name key) (name k)) q ≡ true
+  at_key key q same = is_eq-slice_cmp (name key) (name q) ∙ (bytes_eq-Decides (name key) (name q)).1 (sym same)
+
+  not_at_key : (key q : K) → name q ≢ name key → is_at (λ k. slice_cmp nat_cmp (name key) (name k)) q ≡ false
+  not_at_key key q other =
+      is_eq-slice_cmp (name key) (name q) ∙ false_from_ne_true (bytes_eq (name key) (name q)) (λ t. other (sym ((bytes_eq-Decides (name key) (name q)).0 t)))
+
+  pub knows_more : (old new : BTreeSet K) (key : K) (d n : ℕ) (x : Name) (e : Entries) → name key ≡ x
+      → ((q : K) → contains (λ a b. slice_cmp nat_cmp (name a) (name b)) new q ≡ (if is_at (λ k. slice_cmp nat_cmp (name key) (name k)) q then true else contains (λ a b. slice_cmp nat_cmp (name a) (name b)) old q))
+      → KnowsNames old name (e d) → KnowsNames new name (with_edge d x (Some n) e d)
+  knows_more old new key d n x e is updates knows q = elim (names_apart (name q) x) [
+    | inl same ↦
+        updates q ∙ cond-true (is_at (λ k. slice_cmp nat_cmp (name key) (name k)) q) true (contains (λ a b. slice_cmp nat_cmp (name a) (name b)) old q) (at_key key q (same ∙ sym is))
+        ∙ sym (ap is_some (ap (with_edge d x (Some n) e d) same ∙ edge_here d x (Some n) e))
+    | inr other ↦
+        updates q ∙ cond-false (is_at (λ k. slice_cmp nat_cmp (name key) (name k)) q) true (contains (λ a b. slice_cmp nat_cmp (name a) (name b)) old q) (not_at_key key q (λ same. other (same ∙ is)))
+        ∙ knows q ∙ sym (ap is_some (edge_other d d x (name q) (Some n) e (λ _. other)))
+  ]
+
+-- what was added to a set, and what was there
+pub was_there : (b c : Bool) → b ≡ not c → b ≡ false → c ≡ true
+was_there b true is old = refl
+was_there b false is old = absurd (false≢true (sym old ∙ is))
+
+pub was_new : (b c : Bool) → b ≡ not c → b ≡ true → c ≡ false
+was_new b true is new = absurd (false≢true (sym is ∙ new))
+was_new b false is new = refl
+
+pub is_none : (o : Option ℕ) → is_some o ≡ false → o ≡ None
+is_none None is = refl
+is_none (Some n) is = absurd (false≢true (sym is))
+
+pub not_none : (o : Option ℕ) → is_some o ≡ true → o ≡ None → ⊥
+not_none o is none = false≢true (sym (ap is_some none) ∙ is)
+
+-- ---- directory by directory
+
+-- the walk begins at the root
+pub way_first : (s : Sizes) (t : HeldTree) (table : List NumberRow) → IsTable s t table → IsUnnamed table → (t ROOT_NUMBER).inode.kind ≡ kinds.Directory → LooksInto s t (λ d x. None) 0 (ROOT_NUMBER ∷ []) table
+way_first s t table is unnamed root = record {
+  way = record {
+    counted = record {
+      rows = is;
+      from = λ d n x at. none_some at;
+      used = λ d n x at. none_some at;
+      counts = λ n row at. subst (λ (k : ℕ). HasNames (λ d x. None) n k) (sym (unnamed n row at)) (λ place leads. none_some leads);
+      once = λ n row at never. omega (arith, unnamed n row at);
+      finds = λ d n x at. none_some at;
+      root = (0, omega arith, refl);
+      reached = λ n first.
+          let same : ROOT_NUMBER ≡ n = only first.0 n first.2 in
+          subst (λ (k : ℕ). ((t k).inode.kind ≡ kinds.Directory) × ((p : Path) × (number_at (λ d x. None) p ≡ Some k))) same (root, ([], refl));
+    };
+    distinct = λ i j n at_i at_j. place i n at_i ∙ sym (place j n at_j);
+    sound = λ g d n x at. none_some at;
+  };
+  names = λ d first. absurd (omega (arith, first.1));
+}
+  where
+    only : (i n : ℕ) → slice_get (ROOT_NUMBER ∷ []) i ≡ Some n → ROOT_NUMBER ≡ n
+    only zero n at = some_same at
+    only (suc i) n at = none_some at
+
+    place : (i n : ℕ) → slice_get (ROOT_NUMBER ∷ []) i ≡ Some n → i ≡ 0
+    place zero n at = refl
+    place (suc i) n at = none_some at
+
+-- the next directory is looked into
+module _ (s : Sizes) (t : HeldTree) (e : Entries) (count : ℕ) (found : List ℕ) (table : List NumberRow) (d : ℕ) (before : LooksInto s t e count found table) (at : slice_get found count ≡ Some d) where
+  -- a directory that is looked into before is another
+  other : IsFirst found count d → ⊥
+  other first =
+      let same = before.way.distinct first.0 count d first.2 at in
+      omega (arith, first.1, same)
+
+  pub to_count : IsToCount s t d e (count + 1) found table
+  to_count =
+      let was = before.way.counted in
+      record {
+        way = record {
+          counted = record {
+            rows = was.rows;
+            from = λ k n x is. let first = was.from k n x is in (first.0, omega (arith, first.1), first.2);
+            used = was.used;
+            counts = was.counts;
+            once = was.once;
+            finds = was.finds;
+            root = was.root;
+            reached = was.reached;
+          };
+          distinct = before.way.distinct;
+          sound = before.way.sound;
+        };
+        among = (count, omega arith, at);
+        none = λ x. none_yet x (e d x) refl;
+      }
+    where
+      none_yet : (x : Name) (o : Option ℕ) → e d x ≡ o → e d x ≡ None
+      none_yet x None is = is
+      none_yet x (Some n) is = absurd (other (before.way.counted.from d n x is))
+
+  pub directory : (t d).inode.kind ≡ kinds.Directory
+  directory = (before.way.counted.reached d (count, slice_get_within found count d at, at)).0
+
+  pub looked_into : (more : List ℕ) (later : List NumberRow) → ((i n : ℕ) → slice_get found i ≡ Some n → slice_get more i ≡ Some n)
+      → HasCountedRows s t d ((t d).inode.size / BLOCK_BYTES) (file_block (t d)) e (count + 1) more later → (f : Entries) × LooksInto s t f (count + 1) more later
+  looked_into more later keeps h = (h.names, record { way = h.way; names = names })
+    where
+      old : (i k : ℕ) → i < count → slice_get more i ≡ Some k → (o : Option ℕ) → slice_get found i ≡ o → slice_get found i ≡ Some k
+      old i k low is None past =
+          none_some (sym past ∙ slice_get-get_or found i 0 (omega (arith, low, slice_get_within found count d at)))
+      old i k low is (Some j) there = there ∙ sym (keeps i j there) ∙ is
+
+      names : (k : ℕ) → IsFirst more (count + 1) k → IsDirectoryOf s.inodes (content_of (t k)) (h.names k)
+      names k first = elim (cases_eq first.0 count) [
+        | inl same ↦
+            let is : d ≡ k = some_same (sym (keeps count d at) ∙ ap (slice_get more) (sym same) ∙ first.2) in
+            subst (λ (j : ℕ). IsDirectoryOf s.inodes (content_of (t j)) (h.names j)) is (rows_all s t d h.rows e h.names h.has)
+        | inr before_it ↦
+            let low : first.0 < count = omega (arith, first.1, before_it) in
+            let there = old first.0 k low first.2 (slice_get found first.0) refl in
+            let apart : k ≢ d = λ same. other (first.0, low, there ∙ ap (λ (j : ℕ). Some j) same) in
+            subst (IsDirectoryOf s.inodes (content_of (t k))) (sym (h.has.others k apart)) (before.names k (first.0, low, there))
+      ]
+
+-- ---- a directory's file
+
+-- a file of memory that was loaded from the inode of a number
+module _ (disk : Blocks) (r : Root) (tree : Tree) (n blocks : ℕ) (inode : Inode) (file : File) where
+  abbrev t : HeldTree
+  t = tree_in (whole disk r) tree.plane
+
+  pub has_file : IsTreeOf disk r tree → IsTreeGrammar r.geometry t → inode ≡ (t n).inode → blocks ≡ r.geometry.blocks → file.size ≡ inode.size
+      → (IsHeldFile by_sizes r.geometry (held disk inode) → IsAsHeld disk inode file) → ((i : ℕ) → IsHeldFile by_sizes r.geometry (held disk inode) → IsSoundAt r.geometry.blocks disk file.tree i)
+      → HasFile blocks disk file (t n)
+  has_file is grammar same count size as_held sound =
+      let here : t n ≡ held disk inode = number_is disk r tree n is ∙ ap (held disk) (sym same) in
+      let known : IsHeldFile by_sizes r.geometry (held disk inode) = by_size r.geometry (held disk inode) (subst (IsFileGrammar r.geometry) here (grammar.files n)) in
+      record {
+        size_is = size ∙ ap (λ (i : Inode). i.size) same;
+        block_is = λ i. as_held known i ∙ ap (λ (h : Held). file_block h i) (sym here);
+        sound = λ i. subst (λ (b : ℕ). IsSoundAt b disk file.tree i) (sym count) (sound i known);
+      }
+
+-- ---- what ends a part of a check
+
+module _ {T : Type 0} (Is Other : T → Type 0) (Found : Fault → Type 0) where
+  pub passes_then : (r : Result T Halt) → ((x : T) → Is x → Other x) → Passes Is Found r → Passes Other Found r
+  passes_then (Ok x) more told = more x told
+  passes_then (Err halts.NoMemory) more told = tt
+  passes_then (Err halts.Device) more told = tt
+  passes_then (Err (halts.Fault fault)) more told = told
+
+-- where memory ran out or a device call failed, nothing is told
+pub passes_halt : {T : Type 0} (Is : T → Type 0) (Found : Fault → Type 0) (q : Result T Halt) (e : CheckError) → IsErrAnd q (λ h. h ≡ halt e) → Passes Is Found q
+passes_halt Is Found (Ok x) e is = absurd is
+passes_halt Is Found (Err h) check.NoMemory is = subst (λ (k : Halt). Passes Is Found (Err k)) (sym is) tt
+passes_halt Is Found (Err h) check.Device is = subst (λ (k : Halt). Passes Is Found (Err k)) (sym is) tt
+
+pub device_halt : (e : CheckError) → IsHaltFault (halt e) → IsFault e
+device_halt check.NoMemory is = cc
+device_halt check.Device is = refl
+
+pub root_within : (inodes : ℕ) → 4 ≤ inodes → AreWithin inodes (3 ∷ [])
+root_within inodes many zero n at = let same : 3 ≡ n = some_same at in (omega (arith, same), omega (arith, same, many))
+root_within inodes many (suc i) n at = none_some at
+
+pub only_looked : {B : Type 0} {G : Ghosts B} {a b : B} → HasOnlyRead G a b → HasLooked G a b
+only_looked read = record { count = read.count; grown = inl read.counted; reads = read.reads; same = read.same }
+
+-- a table with one row
+pub row_named : (row : NumberRow) → row.names ≡ 0 → IsUnnamed (row ∷ [])
+row_named row none zero q at = ap (λ (p : NumberRow). p.names) (sym (some_same at)) ∙ none
+row_named row none (suc n) q at = none_some at
+
+pub row_alone : {Y : Type 0} (row : NumberRow) (n : ℕ) (q : NumberRow) → 1 ≤ n → slice_get (row ∷ []) n ≡ Some q → Y
+row_alone row zero q least at = absurd (omega (arith, least))
+row_alone row (suc n) q least at = none_some at
+
+pub row_at : (table : List NumberRow) (n : ℕ) (row : NumberRow) → n < length table → row ≡ get_or table n row → slice_get table n ≡ Some row
+row_at table n row low is = slice_get_read table (length table) n row refl low is
+
+pub both : {k : Kind} → k ≡ kinds.Directory → k ≡ kinds.File → ⊥
+both directory file = cc

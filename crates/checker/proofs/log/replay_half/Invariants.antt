@@ -1,0 +1,27 @@
+use Rattle.std.proofs.Common.{◌≡◌, ◌+◌, ◌≤◌, ℕ, List, length}
+use Rattle.layout.specs.Record.{Change}
+use Rattle.layout.specs.declared.inode.Inode.{Inode}
+use Rattle.model.specs.Volumes.{Volume}
+use Rattle.images.specs.Soundness.{by_sizes}
+use Rattle.replay.specs.Volumes.{HasVolumeIn, LeadTo}
+use Rattle.checker.proofs.ReadLaws.{HasLooked}
+use Rattle.checker.proofs.log.replay_half.Given as goal
+
+abbrev pub invariant-loop-body : goal.invariant-loop-body
+invariant-loop-body g l = record {
+  look : HasLooked g.B.Blocks l.fn.blocks l.blocks;
+  geometry : l.inodes.geometry ≡ l.fn.inodes.geometry;
+  few : l.count + length l.rest ≤ length l.records;
+  leads : (disk : ℕ → List ℕ) (settled : ℕ → Inode) (v w : Volume) (changes : List Change) → g.B.Blocks.Shows l.fn.blocks disk
+      → HasVolumeIn by_sizes (g.B.Blocks.count l.fn.blocks) disk settled l.fn.inodes v → LeadTo by_sizes l.fn.inodes.geometry.inodes l.records changes v w
+      → (more : List Change) × (now : Volume) × HasVolumeIn by_sizes (g.B.Blocks.count l.fn.blocks) disk settled l.inodes now
+      × LeadTo by_sizes l.fn.inodes.geometry.inodes l.rest more now w;
+  led : (disk : ℕ → List ℕ) (settled : ℕ → Inode) (v : Volume) → g.B.Blocks.Shows l.fn.blocks disk
+      → HasVolumeIn by_sizes (g.B.Blocks.count l.fn.blocks) disk settled l.fn.inodes v
+      → (now : Volume) × HasVolumeIn by_sizes (g.B.Blocks.count l.fn.blocks) disk settled l.inodes now
+      × ((more : List Change) (w : Volume) → LeadTo by_sizes l.fn.inodes.geometry.inodes l.rest more now w
+      → (all : List Change) × LeadTo by_sizes l.fn.inodes.geometry.inodes l.records all v w × (length all ≡ l.count + length more));
+}
+
+abbrev pub decreases-loop-body : goal.decreases-loop-body
+decreases-loop-body g l = length l.rest

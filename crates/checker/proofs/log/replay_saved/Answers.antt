@@ -1,0 +1,103 @@
+use Rattle.std.proofs.Common.{◌∙◌, ◌++◌, ℕ, length-append, refl, arith, sym, subst}
+use Rattle.images.specs.Roots.{whole}
+use Rattle.images.specs.Soundness.{by_sizes}
+use Rattle.loading.specs.Images.{AreInodesIn, inodes_of}
+use Rattle.replay.specs.Volumes.{HasVolumeIn}
+use Rattle.checker.specs.declared.fault.Fault.TheVariants as faults
+use Rattle.checker.specs.declared.fault.TreeFault.TheVariants.{InodeMap}
+use Rattle.checker.proofs.LogLaws.{failed, has_log, has_volume, lead_over, load_device, loaded, log_leads, not_loaded, refuted}
+use Rattle.checker.proofs.ReadLaws.{looked, looked_more, looked_none, looked_of, looks_ok, looks_passed}
+use Rattle.checker.proofs.log.replay_saved.Goals as goal
+
+pub returns-in_err-inodes-clause-reads : goal.returns-in_err-inodes-clause-reads
+returns-in_err-inodes-clause-reads g c =
+    looks_passed {G = g.B.Blocks} c.from_residual.result (λ h. h) (λ x is. is) c.from_residual.ensures.1 (looked_none c.args.blocks.now)
+    (looked_of g.met.B.Blocks.reads_nothing g.met.B.LetsGo.grows c.load_inodes-loaded.ensures.reads)
+    (load_device (faults.Tree InodeMap) c.load_inodes-loaded.result c.in_err-inodes.field-0.0 c.in_err-inodes.ensures c.load_inodes-loaded.ensures.reads.device)
+
+pub returns-in_err-inodes-clause-passes : goal.returns-in_err-inodes-clause-passes
+returns-in_err-inodes-clause-passes g c disk nvram shows tells faultless =
+    not_loaded _ _ _ (faults.Tree InodeMap) c.load_inodes-loaded.result c.in_err-inodes.field-0.0 c.from_residual.result c.from_residual.ensures.1 c.in_err-inodes.ensures
+    (c.load_inodes-loaded.ensures.loads by_sizes disk shows c.args.root.now refl refl (record { sound = (faultless.grammar, faultless.numbers); root = faultless.grammar.root }))
+
+pub returns-in_err-first-clause-passes : goal.returns-in_err-first-clause-passes
+returns-in_err-first-clause-passes g c disk nvram shows tells faultless =
+    let r = c.args.root.now in
+    let w = whole disk r in
+    let saved = c.args.saved.now in
+    let v = faultless.names.volume in
+    let holds = faultless.names.holds in
+    let told = c.load_inodes-loaded.ensures.loads by_sizes disk shows r refl refl (record { sound = (faultless.grammar, faultless.numbers); root = faultless.grammar.root }) in
+    let are = loaded (AreInodesIn by_sizes disk r.geometry w.active) _ (faults.Tree InodeMap) c.load_inodes-loaded.result c.in_ok-inodes.inodes c.in_ok-inodes.ensures told in
+    let graphs = c.faultless_trees_hold_graphs.ensures in
+    let read = c.load_inodes-loaded.ensures.reads in
+    let has = has_volume disk r (g.B.Blocks.count c.load_inodes-loaded.new.blocks) c.in_ok-inodes.inodes v (read.count ∙ c.requires.size) are holds
+    (graphs.graph disk r v c.requires.root faultless holds) (graphs.numbers disk r v c.requires.root faultless holds) in
+    failed r w nvram c.from_residual-in_err-first.result c.in_err-first.field-0.0 c.from_residual-in_err-first.ensures.1 c.in_err-first.ensures.faults (λ changes log.
+    let same = c.files_hold_one_volume.ensures r.geometry.inodes _ log.first v (omega (arith, c.requires.root.head.sizes.most_inodes)) log.holds holds in
+    let both = log_leads r w nvram saved c.requires.half c.requires.generation tells v holds changes log same in
+    refuted (λ _. HasVolumeIn by_sizes (g.B.Blocks.count c.load_inodes-loaded.new.blocks) disk (inodes_of w.active) c.replay_half.new.inodes both.mid) c.in_err-first.field-0.0
+    (c.in_err-first.ensures.replays disk (inodes_of w.active) v both.mid both.one (read.same disk shows) has
+    (lead_over c.in_ok-inodes.inodes.geometry r.geometry c.first_records.result.now saved.first.records both.one v both.mid are.geometry c.first_records.ensures.records both.leads)))
+
+pub returns-in_err-second-clause-passes : goal.returns-in_err-second-clause-passes
+returns-in_err-second-clause-passes g c disk nvram shows tells faultless =
+    let r = c.args.root.now in
+    let w = whole disk r in
+    let saved = c.args.saved.now in
+    let v = faultless.names.volume in
+    let holds = faultless.names.holds in
+    let told = c.load_inodes-loaded.ensures.loads by_sizes disk shows r refl refl (record { sound = (faultless.grammar, faultless.numbers); root = faultless.grammar.root }) in
+    let are = loaded (AreInodesIn by_sizes disk r.geometry w.active) _ (faults.Tree InodeMap) c.load_inodes-loaded.result c.in_ok-inodes.inodes c.in_ok-inodes.ensures told in
+    let graphs = c.faultless_trees_hold_graphs.ensures in
+    let read = c.load_inodes-loaded.ensures.reads in
+    let has = has_volume disk r (g.B.Blocks.count c.load_inodes-loaded.new.blocks) c.in_ok-inodes.inodes v (read.count ∙ c.requires.size) are holds
+    (graphs.graph disk r v c.requires.root faultless holds) (graphs.numbers disk r v c.requires.root faultless holds) in
+    let one = c.in_ok-first.ensures in
+    failed r w nvram c.from_residual-in_err-second.result c.in_err-second.field-0.0 c.from_residual-in_err-second.ensures.1 c.in_err-second.ensures.faults (λ changes log.
+    let same = c.files_hold_one_volume.ensures r.geometry.inodes _ log.first v (omega (arith, c.requires.root.head.sizes.most_inodes)) log.holds holds in
+    let both = log_leads r w nvram saved c.requires.half c.requires.generation tells v holds changes log same in
+    let mid = one.replays disk (inodes_of w.active) v both.mid both.one (read.same disk shows) has
+    (lead_over c.in_ok-inodes.inodes.geometry r.geometry c.first_records.result.now saved.first.records both.one v both.mid are.geometry c.first_records.ensures.records both.leads) in
+    refuted (λ _. HasVolumeIn by_sizes (g.B.Blocks.count c.replay_half.new.blocks) disk (inodes_of w.active) c.replay_half-2.new.inodes log.last) c.in_err-second.field-0.0
+    (c.in_err-second.ensures.replays disk (inodes_of w.active) both.mid log.last both.two (one.reads.same disk (read.same disk shows))
+    (subst (λ (n : ℕ). HasVolumeIn by_sizes n disk (inodes_of w.active) c.replay_half.new.inodes both.mid) (sym one.reads.count) mid)
+    (lead_over c.replay_half.new.inodes.geometry r.geometry c.second_records.result.now saved.second.records both.two both.mid log.last (one.geometry ∙ are.geometry) c.second_records.ensures.records both.leads_on)))
+
+pub returns-clause-passes : goal.returns-clause-passes
+returns-clause-passes g c disk nvram shows tells faultless =
+    let r = c.args.root.now in
+    let w = whole disk r in
+    let saved = c.args.saved.now in
+    let v = faultless.names.volume in
+    let holds = faultless.names.holds in
+    let told = c.load_inodes-loaded.ensures.loads by_sizes disk shows r refl refl (record { sound = (faultless.grammar, faultless.numbers); root = faultless.grammar.root }) in
+    let are = loaded (AreInodesIn by_sizes disk r.geometry w.active) _ (faults.Tree InodeMap) c.load_inodes-loaded.result c.in_ok-inodes.inodes c.in_ok-inodes.ensures told in
+    let graphs = c.faultless_trees_hold_graphs.ensures in
+    let read = c.load_inodes-loaded.ensures.reads in
+    let has = has_volume disk r (g.B.Blocks.count c.load_inodes-loaded.new.blocks) c.in_ok-inodes.inodes v (read.count ∙ c.requires.size) are holds
+    (graphs.graph disk r v c.requires.root faultless holds) (graphs.numbers disk r v c.requires.root faultless holds) in
+    let one = c.in_ok-first.ensures in
+    let first = one.applies disk (inodes_of w.active) v (read.same disk shows) has in
+    let second = c.in_ok-second.ensures.applies disk (inodes_of w.active) first.1 (one.reads.same disk (read.same disk shows))
+    (subst (λ (n : ℕ). HasVolumeIn by_sizes n disk (inodes_of w.active) c.replay_half.new.inodes first.1) (sym one.reads.count) first.4) in (
+      first.0 ++ second.0,
+      has_log r w nvram saved c.requires.half c.requires.generation tells v holds first.0 second.0 first.1 second.1
+          (lead_over r.geometry c.in_ok-inodes.inodes.geometry saved.first.records c.first_records.result.now first.0 v first.1 (sym are.geometry) (sym c.first_records.ensures.records) first.2)
+          (lead_over r.geometry c.replay_half.new.inodes.geometry saved.second.records c.second_records.result.now second.0 first.1 second.1 (sym (one.geometry ∙ are.geometry)) (sym c.second_records.ensures.records) second.2),
+      omega (arith, first.3, second.3, length-append first.0 second.0),
+    )
+
+pub returns-in_err-first-clause-reads : goal.returns-in_err-first-clause-reads
+returns-in_err-first-clause-reads g c =
+    looks_passed {G = g.B.Blocks} c.from_residual-in_err-first.result (λ h. h) (λ x is. is) c.from_residual-in_err-first.ensures.1
+    (looked_of g.met.B.Blocks.reads_nothing g.met.B.LetsGo.grows c.load_inodes-loaded.ensures.reads) (looked c.in_err-first.ensures.reads) c.in_err-first.ensures.reads.device
+
+pub returns-in_err-second-clause-reads : goal.returns-in_err-second-clause-reads
+returns-in_err-second-clause-reads g c =
+    looks_passed {G = g.B.Blocks} c.from_residual-in_err-second.result (λ h. h) (λ x is. is) c.from_residual-in_err-second.ensures.1
+    (looked_more (looked_of g.met.B.Blocks.reads_nothing g.met.B.LetsGo.grows c.load_inodes-loaded.ensures.reads) (looked c.in_ok-first.ensures.reads)) (looked c.in_err-second.ensures.reads) c.in_err-second.ensures.reads.device
+
+pub returns-clause-reads : goal.returns-clause-reads
+returns-clause-reads g c =
+    looks_ok (looked_more (looked_of g.met.B.Blocks.reads_nothing g.met.B.LetsGo.grows c.load_inodes-loaded.ensures.reads) (looked_more (looked c.in_ok-first.ensures.reads) (looked c.in_ok-second.ensures.reads)))

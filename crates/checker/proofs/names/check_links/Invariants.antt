@@ -1,0 +1,9 @@
+use Rattle.std.proofs.Common.{◌≡◌, ℕ, ◌<◌}
+use Rattle.layout.specs.declared.kind.Kind.TheVariants.{File}
+use Rattle.checker.specs.Links.{IsRow}
+use Rattle.checker.specs.declared.names.NumberRow.{NumberRow}
+use Rattle.checker.proofs.names.check_links.Given as goal
+
+abbrev pub invariant-loop-number : goal.invariant-loop-number
+invariant-loop-number l =
+    (n : ℕ) (row : NumberRow) → n < l.number → IsRow l.table.items n row → row.kind ≡ File → row.names ≡ row.links

@@ -1,0 +1,56 @@
+use Rattle.std.proofs.Common.{◌≡◌, ◌∙◌, ℕ, ◌≤◌, ◌^◌, List, Result, Ok, Err, None, subst, arith}
+use Rattle.layout.specs.Places.{Blocks}
+use Rattle.layout.specs.Root.{IsRoot}
+use Rattle.layout.specs.declared.root.Root.{Root}
+use Rattle.model.specs.Volumes.{Volume}
+use Rattle.images.specs.Contents.{Content, HoldsVolume}
+use Rattle.images.specs.Faults.{HoldsGraph}
+use Rattle.images.specs.Roots.{whole}
+use Rattle.checker.specs.Checks.{Passes}
+use Rattle.checker.specs.Findings.{IsTreeFinding, tree_in}
+use Rattle.checker.specs.Links.{AreReached, IsUnreached}
+use Rattle.checker.specs.Trees.{IsOut, IsSeen}
+use Rattle.checker.specs.declared.error.Halt.{Halt}
+use Rattle.checker.specs.declared.error.Halt.TheVariants as halts
+use Rattle.checker.specs.declared.fault.Fault.{Fault}
+use Rattle.checker.specs.declared.tree.Tree.{Tree}
+use Rattle.checker.proofs.GraphLaws.{IsKnown, holds_graph, tree_ends, unlinked_finding, unreached_finding}
+use Rattle.checker.proofs.HaltLaws.{passes_residual}
+use Rattle.checker.proofs.names.check_names.Goals as goal
+
+-- a part passes, or finds a fault, by what it tells
+passes_by : {T : Type 0} (Is Other : T → Type 0) (Found Told : Fault → Type 0) (q : Result T Halt) → ((x : T) → Is x → Other x) → ((fault : Fault) → Found fault → Told fault) → Passes Is Found q → Passes Other Told q
+passes_by Is Other Found Told (Ok x) good bad passes = good x passes
+passes_by Is Other Found Told (Err halts.NoMemory) good bad passes = tt
+passes_by Is Other Found Told (Err halts.Device) good bad passes = tt
+passes_by Is Other Found Told (Err (halts.Fault fault)) good bad passes = bad fault passes
+
+known : (disk : Blocks) (r : Root) (marks : List ℕ) (t : Tree) → IsRoot r → IsSeen disk r marks t → t.fault ≡ None
+    → ((inodes : ℕ) (files : ℕ → Content) (v w : Volume) → inodes ≤ 2 ^ 32 → HoldsVolume inodes files v → HoldsVolume inodes files w → v ≡ w)
+    → IsKnown r.geometry (tree_in (whole disk r) t.plane)
+known disk r marks t root seen none volumes =
+    let sizes = root.head.sizes in record {
+      once = λ files v w. volumes r.geometry.inodes files v w (omega (arith, sizes.most_inodes));
+      grammar = seen.grammar (λ out. subst IsOut none out);
+      ends = λ n past. tree_ends disk r t.plane n (omega (arith, sizes.least_inodes)) past;
+    }
+
+pub returns-in_err-check_reached-clause-passes : goal.returns-in_err-check_reached-clause-passes
+returns-in_err-check_reached-clause-passes g c = λ disk r marks shows root same count seen none.
+    let t = tree_in (whole disk r) c.args.tree.now.plane in
+    let is = known disk r marks c.args.tree.now root seen none c.files_hold_one_volume.ensures in
+    let table = c.walk.new.table.items in
+    let read = c.in_ok-table.ensures.table disk r shows root same count seen.tree is.grammar in
+    let walked = c.in_ok-walk.ensures.walked disk r (c.in_ok-table.ensures.reads.same disk shows) root same (c.in_ok-table.ensures.reads.count ∙ count) seen.tree is.grammar read.0 read.1 in
+    passes_residual (λ (_ : Unit {0}). AreReached table) (λ (_ : Unit {0}). HoldsGraph r.geometry.inodes t) (IsTreeFinding r t) c.from_residual-in_err-check_reached.result _ c.from_residual-in_err-check_reached.ensures.1
+    (passes_by (λ (_ : Unit {0}). AreReached table) (λ (_ : Unit {0}). AreReached table) (IsUnreached table) (IsTreeFinding r t) (Err _) (λ x so. so) (unreached_finding r t is table walked) c.in_err-check_reached.ensures.rows)
+
+pub returns-clause-passes : goal.returns-clause-passes
+returns-clause-passes g c = λ disk r marks shows root same count seen none.
+    let t = tree_in (whole disk r) c.args.tree.now.plane in
+    let is = known disk r marks c.args.tree.now root seen none c.files_hold_one_volume.ensures in
+    let table = c.walk.new.table.items in
+    let read = c.in_ok-table.ensures.table disk r shows root same count seen.tree is.grammar in
+    let walked = c.in_ok-walk.ensures.walked disk r (c.in_ok-table.ensures.reads.same disk shows) root same (c.in_ok-table.ensures.reads.count ∙ count) seen.tree is.grammar read.0 read.1 in
+    let are = c.in_ok-check_reached.ensures.rows in
+    passes_by _ _ _ _ c.check_links.result (λ x linked. holds_graph r t is table walked are linked) (unlinked_finding r t is table walked are) c.check_links.ensures.rows

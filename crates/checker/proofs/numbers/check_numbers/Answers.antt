@@ -1,0 +1,23 @@
+use Rattle.std.proofs.Common.{◌≡◌, refl, inl}
+use Rattle.checker.proofs.ReadLaws.{looked}
+use Rattle.checker.proofs.RowLaws.{kept_more, kept_of, trees_none}
+use Rattle.checker.proofs.SeenLaws.{stays_none}
+use Rattle.checker.proofs.numbers.check_numbers.Goals as goal
+
+pub returns-in_err-check_block-clause-trees : goal.returns-in_err-check_block-clause-trees
+returns-in_err-check_block-clause-trees g c =
+    (kept_more c.loop-i.invariant.kept (kept_of (looked c.check_block.ensures.reads) c.check_block.ensures.length c.check_block.ensures.trees c.check_block.ensures.others)).trees
+
+pub returns-in_err-check_block-clause-others : goal.returns-in_err-check_block-clause-others
+returns-in_err-check_block-clause-others g c =
+    (kept_more c.loop-i.invariant.kept (kept_of (looked c.check_block.ensures.reads) c.check_block.ensures.length c.check_block.ensures.trees c.check_block.ensures.others)).others
+
+pub loop-i-preserved : goal.loop-i-preserved
+loop-i-preserved g c = record {
+  kept = kept_more c.loop-i.invariant.kept
+      (kept_more (kept_of (looked c.check_block.ensures.reads) c.check_block.ensures.length c.check_block.ensures.trees c.check_block.ensures.others)
+      (kept_of (record { count = c.forget.ensures.count; grown = inl c.forget.ensures.counted; reads = c.forget.ensures.reads; same = c.forget.ensures.same }) refl
+      (trees_none c.check_block.new.trees.items) (λ k none. stays_none k c.check_block.new.marks c.check_block.new.shared.of)));
+  seen = λ disk r shows root same seen.
+      c.in_ok-check_block.ensures.seen disk r (c.loop-i.invariant.kept.looked.same disk shows) root same (c.loop-i.invariant.seen disk r shows root same seen);
+}

@@ -1,0 +1,45 @@
+use Rattle.std.proofs.Common.{◌≡◌, ◌∙◌, ℕ, ◌+◌, ◌*◌, ◌<◌, ◌≤◌, length, ap, arith}
+use Rattle.std.specs.Prelude.{Some, slice_get}
+use Rattle.std.proofs.lemmas.List.{length_push}
+use Rattle.checker.proofs.EachLaws.{Each, each_set, get_at}
+use Rattle.checker.proofs.ReadLaws.{looked, looked_more}
+use Rattle.checker.proofs.RowLaws.{IsSame, keeps_part}
+use Rattle.checker.proofs.RowReads.{rows_done, rows_more}
+use Rattle.checker.proofs.numbers.read_rows.Goals as goal
+
+pub returns-in_err-row-clause-trees : goal.returns-in_err-row-clause-trees
+returns-in_err-row-clause-trees g c =
+    let lt : c.loop-k.k < length c.loop-k.trees.items = omega (arith, c.loop-k-test.true, c.len-k-end.ensures, c.loop-k.invariant.each.length_is) in
+    keeps_part (c.loop-k.k + 1) c.args.trees.now.items _
+    (each_set (λ j t q. IsSame t q) c.loop-k.k c.args.trees.now.items c.loop-k.trees.items c.index_mut.result.now c.read_row.new.tree c.loop-k.invariant.each lt
+    (get_at c.loop-k.trees.items c.loop-k.k c.index_mut.result.now lt c.index_mut.ensures.value) c.read_row.ensures.same)
+
+pub returns-in_err-push-clause-trees : goal.returns-in_err-push-clause-trees
+returns-in_err-push-clause-trees g c =
+    let lt : c.loop-k.k < length c.loop-k.trees.items = omega (arith, c.loop-k-test.true, c.len-k-end.ensures, c.loop-k.invariant.each.length_is) in
+    keeps_part (c.loop-k.k + 1) c.args.trees.now.items _
+    (each_set (λ j t q. IsSame t q) c.loop-k.k c.args.trees.now.items c.loop-k.trees.items c.index_mut.result.now c.read_row.new.tree c.loop-k.invariant.each lt
+    (get_at c.loop-k.trees.items c.loop-k.k c.index_mut.result.now lt c.index_mut.ensures.value) c.read_row.ensures.same)
+
+pub loop-k-preserved : goal.loop-k-preserved
+loop-k-preserved g c =
+    let lt : c.loop-k.k < length c.loop-k.trees.items = omega (arith, c.loop-k-test.true, c.len-k-end.ensures, c.loop-k.invariant.each.length_is) in
+    let here : slice_get c.loop-k.trees.items c.loop-k.k ≡ Some c.index_mut.result.now = get_at c.loop-k.trees.items c.loop-k.k c.index_mut.result.now lt c.index_mut.ensures.value in
+    record {
+      looked = looked_more c.loop-k.invariant.looked (looked c.read_row.ensures.reads);
+      each = each_set (λ j t q. IsSame t q) c.loop-k.k c.args.trees.now.items c.loop-k.trees.items c.index_mut.result.now c.read_row.new.tree c.loop-k.invariant.each lt here c.read_row.ensures.same;
+      rows_length = ap length c.in_ok-push.ensures.items ∙ length_push c.loop-k.rows.items c.in_ok-row.row ∙ ap (λ (n : ℕ). n + 1) c.loop-k.invariant.rows_length;
+      rows_are = λ disk r marks shared shows same.
+          rows_more disk r c.args.i marks shared c.loop-k.k c.args.trees.now.items c.loop-k.trees.items c.index_mut.result.now c.read_row.new.tree c.loop-k.rows.items c.push.new.self.items c.in_ok-row.row
+          c.loop-k.invariant.each lt here c.loop-k.invariant.rows_length c.in_ok-push.ensures.items (c.loop-k.invariant.rows_are disk r marks shared shows same)
+          (c.in_ok-row.ensures.row disk r c.args.i (21 * c.args.i) marks shared (c.loop-k.invariant.looked.same disk shows) (c.loop-k.invariant.looked.count ∙ same));
+    }
+
+pub returns-clause-trees : goal.returns-clause-trees
+returns-clause-trees g c = keeps_part c.loop-k.k c.args.trees.now.items c.loop-k.trees.items c.loop-k.invariant.each
+
+pub returns-clause-rows : goal.returns-clause-rows
+returns-clause-rows g c = λ disk r marks shared shows root same seen.
+    rows_done disk r c.args.i marks shared c.loop-k.k c.args.trees.now.items c.loop-k.trees.items c.loop-k.rows.items
+    (keeps_part c.loop-k.k c.args.trees.now.items c.loop-k.trees.items c.loop-k.invariant.each) c.loop-k.invariant.rows_length
+    (omega (arith, c.loop-k-test.false, c.loop-k.auto.k-end, c.len-k-end.ensures)) (c.loop-k.invariant.rows_are disk r marks shared shows same) seen

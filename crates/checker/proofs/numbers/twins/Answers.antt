@@ -1,0 +1,49 @@
+use Rattle.std.proofs.Common.{◌≡◌, ◌∙◌, ℕ, ◌+◌, ◌<◌, ◌≤◌, List, [], length, arith, bit_or, ap, sym, subst, inl, inr}
+use Rattle.std.specs.Prelude.{◌⊎◌, ◌↔◌, Some, slice_get, slice_index_or}
+use Rattle.std.proofs.lemmas.Slice.Eq.{bytes_eq-Decides}
+use Rattle.images.specs.BlockMap.{HasBit}
+use Rattle.images.specs.Roots.{inode_part}
+use Rattle.checker.specs.Trees.{IsOut}
+use Rattle.checker.specs.declared.tree.Tree.{Tree}
+use Rattle.checker.proofs.EachLaws.{get_at, some_of}
+use Rattle.checker.proofs.MarkLaws.{bits_or}
+use Rattle.checker.proofs.TwinLaws.{AreTwinsTo, one_more, twins_end, twins_more, twins_skip, twins_start}
+use Rattle.checker.proofs.numbers.twins.Goals as goal
+use Rattle.checker.proofs.numbers.twins.Goals.{then-not-is_out+then-eq, else-not-is_out, else-not-is_out-via-then-not-is_out+else-eq, else-not-is_out-via-else-not-is_out}
+
+pub loop-l-init : goal.loop-l-init
+loop-l-init c =
+    twins_start c.args.trees.now.items c.args.rows.now.items c.args.k c.args.place c.bit-bits.result c.index.result.now
+    (get_at c.args.trees.now.items c.args.k c.index.result.now (omega (arith, c.requires.tree)) c.index.ensures) c.bit-bits.ensures
+
+pub loop-l-preserved : goal.loop-l-preserved
+loop-l-preserved c =
+    let lt : c.loop-l.l < length c.args.trees.now.items = omega (arith, c.loop-l-test.true, c.len-l-end.ensures) in
+    let after : c.args.k < c.loop-l.l = omega (arith, c.loop-l.auto.l) in
+    let at : slice_get c.args.trees.now.items c.loop-l.l ≡ Some c.index-in-loop-l.result.now = get_at c.args.trees.now.items c.loop-l.l c.index-in-loop-l.result.now lt c.index-in-loop-l.ensures in
+    elim c.if-not-is_out.branch [
+      | then-not-is_out+then-eq w ↦
+          let here : slice_get c.args.trees.now.items c.loop-l.l ≡ Some w.index-then-eq.result.now = get_at c.args.trees.now.items c.loop-l.l w.index-then-eq.result.now lt w.index-then-eq.ensures in
+          let same : w.part_of.result.now ≡ w.part_of-then-not-is_out.result.now = (bytes_eq-Decides w.part_of.result.now w.part_of-then-not-is_out.result.now).0 (sym w.eq.ensures ∙ w.if-eq.true) in
+          subst (λ (n : ℕ). AreTwinsTo c.args.trees.now.items c.args.rows.now.items c.args.k c.args.place n (c.loop-l.l + 1)) (sym w.bits-is)
+          (twins_more c.args.trees.now.items c.args.rows.now.items c.args.k c.args.place c.loop-l.bits (bit_or c.loop-l.bits w.bit-bits-then-eq.result) c.loop-l.l w.index-then-eq.result.now c.loop-l.invariant after here
+          (subst (λ (t : Tree). IsOut t.fault → ⊥) (some_of (sym at ∙ here)) (λ out. let yes = (c.is_out.ensures).1 out in let is_not = w.if-not-is_out.true in cc))
+          (sym w.part_of.ensures ∙ same ∙ w.part_of-then-not-is_out.ensures)
+          (one_more c.loop-l.bits w.bit-bits-then-eq.result w.index-then-eq.result.now.plane w.bit-bits-then-eq.ensures))
+      | else-not-is_out w ↦
+          subst (λ (n : ℕ). AreTwinsTo c.args.trees.now.items c.args.rows.now.items c.args.k c.args.place n (c.loop-l.l + 1)) (sym w.bits-is)
+          (twins_skip c.args.trees.now.items c.args.rows.now.items c.args.k c.args.place c.loop-l.bits c.loop-l.l c.index-in-loop-l.result.now c.loop-l.invariant at
+          (λ inside same. elim w.else-not-is_out.branch [
+            | else-not-is_out-via-then-not-is_out+else-eq v ↦
+                let yes = (bytes_eq-Decides v.part_of.result.now v.part_of-then-not-is_out.result.now).1
+                (v.part_of.ensures ∙ same ∙ sym v.part_of-then-not-is_out.ensures) in
+                let is_not = sym v.eq.ensures ∙ v.if-eq.false in
+                cc
+            | else-not-is_out-via-else-not-is_out v ↦ inside ((c.is_out.ensures).0 v.if-not-is_out.false)
+          ]))
+    ]
+
+pub returns : goal.returns
+returns c =
+    twins_end c.args.trees.now.items c.args.rows.now.items c.args.k c.args.place c.loop-l.bits c.loop-l.l c.loop-l.invariant
+    (omega (arith, c.loop-l-test.false, c.len-l-end.ensures))

@@ -1,0 +1,11 @@
+pub mod Errors
+pub mod Nodes
+pub mod Findings
+pub mod Trees
+pub mod Rows
+pub mod Names
+pub mod Links
+pub mod Walks
+pub mod Maps
+pub mod Logs
+pub mod Checks

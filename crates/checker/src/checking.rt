@@ -1,0 +1,338 @@
+//! A check of an image.
+
+ghost use Rattle.std.specs.Prelude.{◌≡◌, ◌*◌, ℕ, List, Err, IfErr, IfOk, IfSome, IsOk, IsSome, IsTrue, MatchResult, None, OnOk, Some, slice_get};
+ghost use Rattle.std.specs.Int.{div_ceil};
+ghost use Rattle.station.specs.Images.{Unchanged};
+ghost use Rattle.station.specs.Moments.{Goes, HasGrown, IsSameStation, MayGrow};
+ghost use Rattle.layout.specs.Opens.{IsNewest};
+ghost use Rattle.layout.specs.Root.{IsRoot};
+ghost use Rattle.layout.specs.declared.TheConstants.{INODES_PER_BLOCK, SLOT_A, SLOT_B};
+ghost use Rattle.layout.specs.declared.root.Root.{Root};
+ghost use Rattle.model.specs.States.{State};
+ghost use Rattle.buffers.specs.Disks.{ReadsOn, ShowsDisk};
+ghost use Rattle.images.specs.Faults.{IsFaultless};
+ghost use Rattle.images.specs.Roots.{whole};
+ghost use Rattle.images.specs.Snapshots.{AreSnapshots};
+ghost use Rattle.images.specs.States.{Opens};
+ghost use Rattle.loading.specs.Slots.{FitsStation};
+ghost use Rattle.checker.specs.Checks.{AreFaultless, AreFindings, HasFailed, IsFaultlessBy, IsGood, Reports, report_of};
+ghost use Rattle.checker.specs.Errors.{IsFault, Looks};
+ghost use Rattle.checker.specs.Findings.{IsFinding, IsFindingUnder, tree_in};
+ghost use Rattle.checker.specs.Rows.{AreSeenTo, KeepsTrees};
+ghost use Rattle.checker.specs.Trees.{IsApart, IsSeen, IsSeenTo};
+
+use crate::error::{Halt, fault_of};
+use crate::findings::Findings;
+use crate::log::check_log;
+use crate::map::{compare_map, mark_system};
+use crate::marks::Marks;
+use crate::names::check_names;
+use crate::nodes::{PLANES, SharedBlocks};
+use crate::numbers::check_numbers;
+use crate::owners::first_owner;
+use crate::snapshots::{count_snapshots, fault_in_slot};
+use crate::tree::Tree;
+use crate::trees::open_trees;
+use crate::{CheckError, Fault, Finding, LetsGo, Report, RootsFault, Summary, TreeName, Watch};
+use buffers::Buffers;
+use images::{
+    blocks_are_where_pointers_lead, faultless_images_have_one_root, images_that_open_have_no_fault,
+    inline_bytes_are_the_first_block, inodes_are_what_their_bytes_spell,
+    snapshots_are_what_their_bytes_spell,
+};
+use layout::{Geometry, Root, SNAPSHOT_SLOTS};
+use loading::{RootError, newest_root};
+use station::Station;
+use std::alloc::Global;
+
+/// Looks for faults in the image of a station. It settles what reads give, and writes nothing. `Good` says that none of the nine faults
+/// stands in the image, with its figures; `Bad` tells one that does, and comes for no image that opens to a state. Each tree with a fault is
+/// told to the watch. Err comes for want of memory and where a device call failed.
+pub fn check<S: Station, W: Watch>(
+    alloc: Global,
+    mut station: S,
+    watch: &mut W,
+) -> Result<(Report, S), (CheckError, S)>
+    ensures same { MatchResult result (λ r. IsSameStation (S.meaning station) (S.meaning r.1))
+        (λ e. IsSameStation (S.meaning station) (S.meaning e.1)) }
+    ensures goes { MatchResult result (λ r. Goes Unchanged (S.meaning station) (S.meaning r.1))
+        (λ e. Goes Unchanged (S.meaning station) (S.meaning e.1)) }
+    ensures device { IfErr result (λ e. e.0 ≡ CheckError.Device
+        → HasFailed (S.meaning station) (S.meaning e.1)) }
+    ensures reports { (S.meaning station).is_honest → IfOk result (λ r.
+        Reports (S.meaning station).sectors (S.meaning station).seen.disk
+        (S.meaning station).seen.nvram r.0) }
+    ensures opens { (S.meaning station).is_honest → (s : State)
+        → Opens (S.meaning station).sectors (S.meaning station).seen.disk
+        (S.meaning station).seen.nvram s → IfOk result (λ r. IsGood r.0) }
+{
+    images_that_open_have_no_fault();
+    faultless_images_have_one_root();
+    let mut findings = Findings::new(watch);
+    let root = match find_root(&mut station, &mut findings) {
+        Ok(Some(root)) => root,
+        Ok(None) => return Ok((report(findings.first, None), station)),
+        Err(error) => return Err((error, station)),
+    };
+    let mut blocks = Buffers::new(alloc, station);
+    match check_image(alloc, &mut blocks, &root, &mut findings) {
+        Ok(summary) => Ok((report(findings.first, summary), blocks.into_station())),
+        Err(error) => Err((error, blocks.into_station())),
+    }
+}
+
+/// What a check comes to: what was found first, or the figures of an image without faults.
+fn report(first: Option<Finding>, summary: Option<Summary>) -> Report
+    requires { first ≡ None → IsSome summary }
+    ensures { result ≡ report_of first summary }
+{
+    match (first, summary) {
+        (Some(finding), _) => Report::Bad(finding),
+        (None, Some(summary)) => Report::Good(summary),
+        (None, None) => unreachable!(),
+    }
+}
+
+/// Settles what reads give, and finds the newest root; None where the roots have a fault.
+fn find_root<S: Station, W: Watch>(
+    station: &mut S,
+    findings: &mut Findings<'_, W>,
+) -> Result<Option<Root>, CheckError>
+    ensures same { IsSameStation (S.meaning station.old) (S.meaning station.new) }
+    ensures goes { Goes Unchanged (S.meaning station.old) (S.meaning station.new) }
+    ensures device { result ≡ Err CheckError.Device
+        → HasFailed (S.meaning station.old) (S.meaning station.new) }
+    ensures root { IfOk result (λ found. IfSome found (λ r. IsRoot r
+        × FitsStation r (S.meaning station.new))) }
+    ensures found { (S.meaning station.old).is_honest → IfOk result (λ found. IfSome found
+        (λ r. IsNewest r ((S.meaning station.old).seen.disk SLOT_A)
+        ((S.meaning station.old).seen.disk SLOT_B) × (findings.new.first ≡ findings.old.first))) }
+    ensures some { IfOk result (λ found. found ≡ None → IsSome findings.new.first) }
+    ensures kept { IfOk result (λ found. IfSome found (λ _. findings.new.first ≡ findings.old.first)) }
+    ensures grown { MayGrow (S.meaning station.old).failed_reads (S.meaning station.new).failed_reads }
+    ensures none { (S.meaning station.old).is_honest → findings.old.first ≡ None
+        → IfOk result (λ found. found ≡ None → IfSome findings.new.first
+        (IsFinding (S.meaning station.old).sectors (S.meaning station.old).seen.disk
+        (S.meaning station.old).seen.nvram)) }
+{
+    let Ok(()) = station.sync() else {
+        return Err(CheckError::Device);
+    };
+    match newest_root(station) {
+        Ok(newest) => Ok(Some(newest.root)),
+        Err(RootError::Device) => Err(CheckError::Device),
+        Err(RootError::NoRoot) => {
+            findings.find(TreeName::Image, Fault::Roots(RootsFault::None));
+            Ok(None)
+        }
+        Err(RootError::Damaged) => {
+            findings.find(TreeName::Image, Fault::Roots(RootsFault::Unfit));
+            Ok(None)
+        }
+    }
+}
+
+/// Looks for faults under the newest root; None where there are some.
+fn check_image<S: Station, W: Watch>(
+    alloc: Global,
+    blocks: &mut Buffers<S>,
+    root: &Root,
+    findings: &mut Findings<'_, W>,
+) -> Result<Option<Summary>, CheckError>
+    requires root { IsRoot root.now }
+    requires fits { FitsStation root.now (S.meaning blocks.old.station) }
+    requires none { findings.old.first ≡ None }
+    ensures reads { ReadsOn (S.meaning blocks.old.station) (S.meaning blocks.new.station) }
+    ensures device { result ≡ Err CheckError.Device → HasGrown
+        (S.meaning blocks.old.station).failed_reads (S.meaning blocks.new.station).failed_reads }
+    ensures some { IfOk result (λ summary. findings.new.first ≡ None → IsSome summary) }
+    ensures found { (disk : ℕ → List ℕ)
+        → ShowsDisk (S.meaning blocks.old.station) blocks.old.kept disk → IfOk result (λ _.
+        IfSome findings.new.first (λ f. IsFindingUnder root.now (whole disk root.now)
+        (S.meaning blocks.old.station).seen.nvram f.tree f.fault)) }
+    ensures faultless { (disk : ℕ → List ℕ)
+        → ShowsDisk (S.meaning blocks.old.station) blocks.old.kept disk
+        → IfOk result (λ summary. findings.new.first ≡ None → IfSome summary
+        (IsFaultlessBy root.now (whole disk root.now) (S.meaning blocks.old.station).seen.nvram)) }
+{
+    check_snapshots(blocks, root, findings)?;
+    if findings.first.is_some() {
+        return Ok(None);
+    }
+    let (is_faultless, free) = check_trees(alloc, blocks, root, findings)?;
+    if !is_faultless {
+        return Ok(None);
+    }
+    match check_log(alloc, blocks, root) {
+        Ok(records) if findings.first.is_none() => Ok(Some(Summary {
+            generation: root.generation.get(),
+            snapshots: count_snapshots(root),
+            records,
+            free,
+        })),
+        Ok(_) => Ok(None),
+        Err(Halt::Fault(fault)) => {
+            findings.find(TreeName::Image, fault);
+            Ok(None)
+        }
+        Err(Halt::NoMemory) => Err(CheckError::NoMemory),
+        Err(Halt::Device) => Err(CheckError::Device),
+    }
+}
+
+/// Tests the snapshots' root blocks.
+fn check_snapshots<B: LetsGo, W: Watch>(
+    blocks: &mut B,
+    root: &Root,
+    findings: &mut Findings<'_, W>,
+) -> Result<(), CheckError>
+    requires root { IsRoot root.now }
+    requires size { B.count blocks.old ≡ root.now.geometry.blocks }
+    ensures reads { Looks B.Blocks IsFault blocks.old blocks.new result }
+    ensures found { (disk : ℕ → List ℕ) (nvram : List ℕ) → B.Shows blocks.old disk
+        → AreFindings root.now (whole disk root.now) nvram findings.old.first
+        → OnOk result (AreFindings root.now (whole disk root.now) nvram findings.new.first) }
+    ensures none { (disk : ℕ → List ℕ) → B.Shows blocks.old disk
+        → OnOk result (findings.new.first ≡ None → AreSnapshots root.now (whole disk root.now)) }
+{
+    snapshots_are_what_their_bytes_spell();
+    for k in 0..SNAPSHOT_SLOTS {
+        if let Some(fault) = fault_in_slot(blocks, root, k)? {
+            findings.find(TreeName::Image, fault);
+        }
+    }
+    Ok(())
+}
+
+/// Looks for faults in each tree, and in the block map. It tells whether the newest root's tree has none, and how many blocks are free.
+fn check_trees<B: LetsGo, W: Watch>(
+    alloc: Global,
+    blocks: &mut B,
+    root: &Root,
+    findings: &mut Findings<'_, W>,
+) -> Result<(bool, u32), CheckError>
+    requires root { IsRoot root.now }
+    requires size { B.count blocks.old ≡ root.now.geometry.blocks }
+    ensures reads { Looks B.Blocks IsFault blocks.old blocks.new result }
+    ensures found { (disk : ℕ → List ℕ) (nvram : List ℕ) → B.Shows blocks.old disk
+        → AreSnapshots root.now (whole disk root.now)
+        → AreFindings root.now (whole disk root.now) nvram findings.old.first
+        → OnOk result (AreFindings root.now (whole disk root.now) nvram findings.new.first) }
+    ensures newest { (disk : ℕ → List ℕ) → B.Shows blocks.old disk
+        → AreSnapshots root.now (whole disk root.now) → IfOk result (λ t. IsTrue t.0
+        → IsFaultless root.now.geometry (whole disk root.now).active) }
+    ensures told { IfOk result (λ t. findings.new.first ≡ None → IsTrue t.0) }
+    ensures faultless { (disk : ℕ → List ℕ) → B.Shows blocks.old disk
+        → AreSnapshots root.now (whole disk root.now)
+        → IfOk result (λ t. findings.new.first ≡ None
+        → AreFaultless root.now (whole disk root.now) t.1) }
+{
+    let geometry = root.geometry;
+    let mut marks = Marks::new(alloc, geometry.blocks())?;
+    let mut shared = SharedBlocks::none();
+    let mut trees = open_trees(alloc, blocks, root, &mut marks, &mut shared)?;
+    check_numbers(alloc, blocks, geometry, &mut trees, &mut marks, &mut shared)?;
+    let are_apart = check_each(alloc, blocks, geometry, &mut trees, &shared, findings)?;
+    mark_system(root, &mut marks);
+    let is_faultless = trees[0].fault.is_none();
+    if !are_apart {
+        return Ok((is_faultless, 0));
+    }
+    match compare_map(alloc, blocks, geometry, &trees[0], &marks) {
+        Ok(free) => Ok((is_faultless, free)),
+        Err(Halt::Fault(fault)) => {
+            findings.find(TreeName::Image, fault);
+            Ok((is_faultless, 0))
+        }
+        Err(Halt::NoMemory) => Err(CheckError::NoMemory),
+        Err(Halt::Device) => Err(CheckError::Device),
+    }
+}
+
+/// Looks for the faults of each tree that its inodes alone don't tell, and tells all that were found. It tells whether each tree is in its
+/// grammar and names no block twice.
+fn check_each<B: LetsGo, W: Watch>(
+    alloc: Global,
+    blocks: &mut B,
+    geometry: Geometry,
+    trees: &mut Vec<Tree>,
+    shared: &SharedBlocks,
+    findings: &mut Findings<'_, W>,
+) -> Result<bool, CheckError>
+    requires { B.count blocks.old ≡ geometry.blocks }
+    ensures reads { Looks B.Blocks IsFault blocks.old blocks.new result }
+    ensures trees { OnOk result (KeepsTrees trees.old.items trees.new.items) }
+    ensures found { (disk : ℕ → List ℕ) (r : Root) (marks nvram : List ℕ) → B.Shows blocks.old disk
+        → IsRoot r → r.geometry ≡ geometry
+        → AreSeenTo disk r (div_ceil geometry.inodes INODES_PER_BLOCK) marks shared.now.of trees.old.items
+        → AreFindings r (whole disk r) nvram findings.old.first
+        → OnOk result (AreFindings r (whole disk r) nvram findings.new.first) }
+    ensures seen { (disk : ℕ → List ℕ) (r : Root) (marks : List ℕ) → B.Shows blocks.old disk
+        → IsRoot r → r.geometry ≡ geometry
+        → AreSeenTo disk r (div_ceil geometry.inodes INODES_PER_BLOCK) marks shared.now.of trees.old.items
+        → OnOk result ((i : ℕ) (t : Tree) → slice_get trees.new.items i ≡ Some t → IsSeen disk r marks t
+        × (t.fault ≡ None → IsFaultless r.geometry (tree_in (whole disk r) t.plane))) }
+    ensures apart { IfOk result (λ apart. IsTrue apart → (i : ℕ) (t : Tree)
+        → slice_get trees.new.items i ≡ Some t → IsApart t.fault) }
+    ensures told { OnOk result (findings.new.first ≡ None → (i : ℕ) (t : Tree)
+        → slice_get trees.new.items i ≡ Some t → t.fault ≡ None) }
+    ensures all { IfOk result (λ apart. findings.new.first ≡ None → IsTrue apart) }
+{
+    let parts = trees.len().min(PLANES) as u32 + 1;
+    let mut are_apart = true;
+    for k in 0..trees.len() {
+        findings.goes_on(k.min(PLANES) as u32 + 1, parts);
+        let tree = &mut trees[k];
+        check_tree(alloc, blocks, geometry, tree, shared)?;
+        if let Some(fault) = tree.fault {
+            findings.find(tree.name, fault);
+            are_apart = are_apart && fault.number() > 4;
+        }
+        blocks.forget();
+    }
+    Ok(are_apart)
+}
+
+/// Looks for the faults of a tree that its inodes alone don't tell.
+fn check_tree<B: LetsGo>(
+    alloc: Global,
+    blocks: &mut B,
+    geometry: Geometry,
+    tree: &mut Tree,
+    shared: &SharedBlocks,
+) -> Result<(), CheckError>
+    requires { B.count blocks.old ≡ geometry.blocks }
+    ensures reads { Looks B.Blocks IsFault blocks.old blocks.new result }
+    ensures same { record tree.old { fault = tree.new.fault } ≡ tree.new }
+    ensures checked { (disk : ℕ → List ℕ) (r : Root) (marks : List ℕ) → B.Shows blocks.old disk
+        → IsRoot r → r.geometry ≡ geometry
+        → IsSeenTo disk r (div_ceil geometry.inodes INODES_PER_BLOCK)
+        (INODES_PER_BLOCK * div_ceil geometry.inodes INODES_PER_BLOCK) marks shared.now.of tree.old
+        → OnOk result (IsSeen disk r marks tree.new × (tree.new.fault ≡ None
+        → IsFaultless r.geometry (tree_in (whole disk r) tree.new.plane))) }
+{
+    inodes_are_what_their_bytes_spell();
+    blocks_are_where_pointers_lead();
+    inline_bytes_are_the_first_block();
+    if tree.is_out() {
+        return Ok(());
+    }
+    if let Some(shared) = shared.of[tree.plane as usize] {
+        let first = first_owner(alloc, blocks, geometry, tree, &shared)?;
+        tree.add(Fault::Shared {
+            block: shared.block,
+            first,
+            second: shared.second,
+        });
+        return Ok(());
+    }
+    if tree.fault.is_some() {
+        return Ok(());
+    }
+    let checked = check_names(alloc, blocks, geometry, tree);
+    let Some(fault) = fault_of(checked)? else {
+        return Ok(());
+    };
+    tree.add(fault);
+    Ok(())
+}

@@ -1,0 +1,134 @@
+//! The log over the newest root.
+
+ghost use Rattle.std.specs.Prelude.{◌≡◌, ◌≤◌, ℕ, Err, List, IfOk, length};
+ghost use Rattle.station.specs.Moments.{HasGrown};
+ghost use Rattle.layout.specs.Record.{Change};
+ghost use Rattle.layout.specs.Root.{IsRoot};
+ghost use Rattle.layout.specs.declared.geometry.TheConstants.{MOST_HALF};
+ghost use Rattle.layout.specs.declared.inode.Inode.{Inode};
+ghost use Rattle.model.specs.Volumes.{Volume};
+ghost use Rattle.buffers.specs.Disks.{ReadsOn, ShowsDisk};
+ghost use Rattle.images.specs.Faults.{IsFaultless};
+ghost use Rattle.images.specs.Roots.{whole};
+ghost use Rattle.images.specs.Soundness.{by_sizes};
+ghost use Rattle.loading.specs.Slots.{FitsStation};
+ghost use Rattle.oplog.specs.SavedLog.{TellsLog};
+ghost use Rattle.replay.specs.Volumes.{HasVolumeIn, LeadTo};
+ghost use Rattle.checker.specs.Checks.{Passes};
+ghost use Rattle.checker.specs.Errors.{IsHaltFault, Looks};
+ghost use Rattle.checker.specs.Logs.{IsLogFault, TellsRecords};
+
+use crate::error::{Halt, or_fault};
+use crate::{Fault, LetsGo, LogFault, TreeFault};
+use blocktree::ReadError;
+use buffers::Buffers;
+use images::{faultless_trees_hold_graphs, files_hold_one_volume};
+use inofile::InodeFile;
+use layout::{FIRST_GATE, Gate, Root, read_gate};
+use loading::load_inodes;
+use oplog::{SavedLog, SavedLogError};
+use replay::replay_record;
+use station::Station;
+use std::alloc::Global;
+
+/// Replays the log over the newest root's tree in memory, and counts its records.
+pub(crate) fn check_log<S: Station>(
+    alloc: Global,
+    blocks: &mut Buffers<S>,
+    root: &Root,
+) -> Result<u64, Halt>
+    requires root { IsRoot root.now }
+    requires fits { FitsStation root.now (S.meaning blocks.old.station) }
+    ensures reads { ReadsOn (S.meaning blocks.old.station) (S.meaning blocks.new.station) }
+    ensures device { result ≡ Err Halt.Device → HasGrown
+        (S.meaning blocks.old.station).failed_reads (S.meaning blocks.new.station).failed_reads }
+    ensures passes { (disk : ℕ → List ℕ)
+        → ShowsDisk (S.meaning blocks.old.station) blocks.old.kept disk
+        → IsFaultless root.now.geometry (whole disk root.now).active
+        → TellsRecords root.now (whole disk root.now)
+        (S.meaning blocks.old.station).seen.nvram result }
+{
+    let saved = match SavedLog::load(alloc, &mut blocks.station, root.geometry, root.generation) {
+        Ok(saved) => saved,
+        Err(SavedLogError::NoMemory) => return Err(Halt::NoMemory),
+        Err(SavedLogError::Device) => return Err(Halt::Device),
+        Err(SavedLogError::Damaged) => return Err(Halt::Fault(Fault::Log(LogFault::Header))),
+    };
+    replay_saved(alloc, blocks, root, &saved)
+}
+
+/// Replays what was saved over the newest root's tree in memory, and counts the records.
+fn replay_saved<B: LetsGo>(
+    alloc: Global,
+    blocks: &mut B,
+    root: &Root,
+    saved: &SavedLog,
+) -> Result<u64, Halt>
+    requires root { IsRoot root.now }
+    requires size { B.count blocks.old ≡ root.now.geometry.blocks }
+    requires half { saved.now.half ≡ root.now.geometry.half }
+    requires generation { saved.now.generation ≡ root.now.generation }
+    ensures reads { Looks B.Blocks IsHaltFault blocks.old blocks.new result }
+    ensures passes { (disk : ℕ → List ℕ) (nvram : List ℕ) → B.Shows blocks.old disk
+        → TellsLog nvram saved.now → IsFaultless root.now.geometry (whole disk root.now).active
+        → TellsRecords root.now (whole disk root.now) nvram result }
+{
+    faultless_trees_hold_graphs();
+    files_hold_one_volume();
+    let fault = Fault::Tree(TreeFault::InodeMap);
+    let loaded = load_inodes(alloc, blocks, root.geometry, root.inode_file);
+    let mut inodes = or_fault(loaded, fault)?;
+    let half = (root.generation.epoch_after(1).get() % 2) as u32;
+    let first = replay_half(alloc, &mut inodes, blocks, saved.first_records(), half)?;
+    let second = replay_half(alloc, &mut inodes, blocks, saved.second_records(), 1 - half)?;
+    Ok(first + second)
+}
+
+/// Replays the records of a half over the inodes in memory, and counts them.
+fn replay_half<B: LetsGo>(
+    alloc: Global,
+    inodes: &mut InodeFile,
+    blocks: &mut B,
+    records: &[u8],
+    half: u32,
+) -> Result<u64, Halt>
+    requires { length records.now ≤ MOST_HALF }
+    ensures reads { Looks B.Blocks IsHaltFault blocks.old blocks.new result }
+    ensures geometry { inodes.new.geometry ≡ inodes.old.geometry }
+    ensures few { IfOk result (λ count. count ≤ length records.now) }
+    ensures faults { Passes (λ _. Unit {0}) IsLogFault result }
+    ensures replays { (disk : ℕ → List ℕ) (settled : ℕ → Inode) (v w : Volume)
+        (changes : List Change) → B.Shows blocks.old disk
+        → HasVolumeIn by_sizes (B.count blocks.old) disk settled inodes.old v
+        → LeadTo by_sizes inodes.old.geometry.inodes records.now changes v w
+        → Passes (λ _. HasVolumeIn by_sizes (B.count blocks.old) disk settled inodes.new w)
+        (λ _. ⊥) result }
+    ensures applies { (disk : ℕ → List ℕ) (settled : ℕ → Inode) (v : Volume)
+        → B.Shows blocks.old disk
+        → HasVolumeIn by_sizes (B.count blocks.old) disk settled inodes.old v
+        → IfOk result (λ count. (changes : List Change) × (w : Volume)
+        × LeadTo by_sizes inodes.old.geometry.inodes records.now changes v w
+        × (count ≡ length changes)
+        × HasVolumeIn by_sizes (B.count blocks.old) disk settled inodes.new w) }
+{
+    let mut rest = records;
+    let mut count = 0;
+    loop {
+        let at = FIRST_GATE + (records.len() - rest.len()) as u32;
+        let fault = Halt::Fault(Fault::Log(LogFault::Record { half, at }));
+        match read_gate(rest) {
+            Gate::Closed => return Ok(count),
+            Gate::Malformed => return Err(fault),
+            Gate::Open { body, rest: after } => {
+                match replay_record(alloc, inodes, blocks, body) {
+                    Ok(_cost) => {}
+                    Err(ReadError::NoMemory) => return Err(Halt::NoMemory),
+                    Err(ReadError::Device) => return Err(Halt::Device),
+                    Err(ReadError::Damaged) => return Err(fault),
+                }
+                count += 1;
+                rest = after;
+            }
+        }
+    }
+}

@@ -1,0 +1,346 @@
+//! The inodes of all trees, number by number: what several trees have alike is looked at once.
+
+ghost use Rattle.std.specs.Prelude.{◌≡◌, ◌↔◌, ◌⊎◌, ◌+◌, ◌-◌, ◌*◌, ◌<◌, ◌^◌, drop, ℕ, List, IfOk, IsTrue, OnOk, Option, Some, [], length, slice_get, slice_index_or, vec_len};
+ghost use Rattle.std.specs.Int.{div_ceil};
+ghost use Rattle.layout.specs.Maps.{IsTaken};
+ghost use Rattle.layout.specs.Root.{IsRoot};
+ghost use Rattle.layout.specs.Bytes.{zeros};
+ghost use Rattle.layout.specs.declared.TheConstants.{BLOCK_BYTES, INODE_BYTES, INODES_PER_BLOCK};
+ghost use Rattle.layout.specs.declared.root.Root.{Root};
+ghost use Rattle.images.specs.BlockMap.{HasBit};
+ghost use Rattle.images.specs.Nodes.{file_block};
+ghost use Rattle.images.specs.Roots.{inode_part, whole};
+ghost use Rattle.checker.specs.Errors.{IsFault, Looks};
+ghost use Rattle.checker.specs.Nodes.{KeepsMarks, StaysFor};
+ghost use Rattle.checker.specs.declared.nodes.Shared.{Shared};
+ghost use Rattle.checker.specs.Rows.{AddsToEach, AreRows, AreSeenInBlock, AreSeenTo, AreTwins, ComparesBits, KeepsTrees, PlaneAt, SeesInode};
+ghost use Rattle.checker.specs.Findings.{tree_in};
+ghost use Rattle.checker.specs.Trees.{IsOut, IsSeenTo};
+ghost use Rattle.checker.specs.declared.tree.Tree.{Tree};
+
+use crate::error::fault_of;
+use crate::marks::Marks;
+use crate::nodes::{PLANES, SharedBlocks, mark_file};
+use crate::tree::Tree;
+use crate::{CheckError, Fault, LetsGo, TreeFault};
+use blocktree::ReadError;
+use buffers::Block;
+use images::inodes_are_what_their_bytes_spell;
+use layout::{
+    BLOCK_BYTES, FIRST_NUMBER, Geometry, INODE_BYTES, INODES_PER_BLOCK, Inode, Kind, is_taken,
+};
+use loading::{inode_at, is_zero_from, sound_files_have_sound_paths, sound_files_read_as_held};
+use std::alloc::Global;
+
+/// Tests the inodes of the trees and the indirect blocks under them, marks the blocks that they name, and compares their kinds with the
+/// inode maps. The first fault of each tree is told in it.
+pub(crate) fn check_numbers<B: LetsGo>(
+    alloc: Global,
+    blocks: &mut B,
+    geometry: Geometry,
+    trees: &mut Vec<Tree>,
+    marks: &mut Marks,
+    shared: &mut SharedBlocks,
+) -> Result<(), CheckError>
+    requires size { B.count blocks.old ≡ geometry.blocks }
+    requires table { length marks.old ≡ geometry.blocks }
+    ensures reads { Looks B.Blocks IsFault blocks.old blocks.new result }
+    ensures length { length marks.new ≡ length marks.old }
+    ensures trees { KeepsTrees trees.old.items trees.new.items }
+    ensures others { (k : ℕ) → ((i : ℕ) → PlaneAt trees.old.items i k → ⊥)
+        → StaysFor k marks.old marks.new shared.old.of shared.new.of }
+    ensures seen { (disk : ℕ → List ℕ) (r : Root) → B.Shows blocks.old disk → IsRoot r
+        → r.geometry ≡ geometry → AreSeenTo disk r 0 marks.old shared.old.of trees.old.items
+        → OnOk result (AreSeenTo disk r (div_ceil geometry.inodes INODES_PER_BLOCK)
+        marks.new shared.new.of trees.new.items) }
+{
+    for i in 0..geometry.inodes().div_ceil(INODES_PER_BLOCK) {
+        check_block(alloc, blocks, geometry, trees, i, marks, shared)?;
+        blocks.forget();
+    }
+    Ok(())
+}
+
+/// Looks at the inodes of block `i` of each tree's inode file.
+fn check_block<B: LetsGo>(
+    alloc: Global,
+    blocks: &mut B,
+    geometry: Geometry,
+    trees: &mut Vec<Tree>,
+    i: u32,
+    marks: &mut Marks,
+    shared: &mut SharedBlocks,
+) -> Result<(), CheckError>
+    requires within { i < 2 ^ 16 }
+    requires size { B.count blocks.old ≡ geometry.blocks }
+    requires table { length marks.old ≡ geometry.blocks }
+    ensures reads { Looks B.Blocks IsFault blocks.old blocks.new result }
+    ensures length { length marks.new ≡ length marks.old }
+    ensures trees { KeepsTrees trees.old.items trees.new.items }
+    ensures others { (k : ℕ) → ((j : ℕ) → PlaneAt trees.old.items j k → ⊥)
+        → StaysFor k marks.old marks.new shared.old.of shared.new.of }
+    ensures seen { (disk : ℕ → List ℕ) (r : Root) → B.Shows blocks.old disk → IsRoot r
+        → r.geometry ≡ geometry → AreSeenTo disk r i marks.old shared.old.of trees.old.items
+        → OnOk result (AreSeenTo disk r (i + 1) marks.new shared.new.of trees.new.items) }
+{
+    let rows = read_rows(alloc, blocks, trees, i)?;
+    for place in 0..INODES_PER_BLOCK {
+        let number = INODES_PER_BLOCK * i + place;
+        check_number(blocks, geometry, trees, &rows, place, number, marks, shared)?;
+    }
+    check_ends(trees, &rows, i);
+    Ok(())
+}
+
+/// Block `i` of each tree's inode file; of one that is out of its grammar any block.
+fn read_rows<B: LetsGo>(
+    alloc: Global,
+    blocks: &mut B,
+    trees: &mut Vec<Tree>,
+    i: u32,
+) -> Result<Vec<Block>, CheckError>
+    ensures reads { Looks B.Blocks IsFault blocks.old blocks.new result }
+    ensures trees { KeepsTrees trees.old.items trees.new.items }
+    ensures length { IfOk result (λ rows. vec_len rows ≡ vec_len trees.new) }
+    ensures rows { (disk : ℕ → List ℕ) (r : Root) (marks : List ℕ)
+        (shared : List (Option Shared)) → B.Shows blocks.old disk
+        → IsRoot r → B.count blocks.old ≡ r.geometry.blocks
+        → AreSeenTo disk r i marks shared trees.old.items
+        → IfOk result (λ rows. AreRows disk r i trees.new.items rows.items
+        × AreSeenTo disk r i marks shared trees.new.items) }
+{
+    let mut rows = Vec::new(alloc);
+    for k in 0..trees.len() {
+        let row = read_row(alloc, blocks, &mut trees[k], i)?;
+        rows.push(row)?;
+    }
+    Ok(rows)
+}
+
+/// Block `i` of a tree's inode file; of one that is out of its grammar any block.
+fn read_row<B: LetsGo>(
+    alloc: Global,
+    blocks: &mut B,
+    tree: &mut Tree,
+    i: u32,
+) -> Result<Block, CheckError>
+    ensures reads { Looks B.Blocks IsFault blocks.old blocks.new result }
+    ensures same { record tree.old { fault = tree.new.fault } ≡ tree.new }
+    ensures row { (disk : ℕ → List ℕ) (r : Root) (count places : ℕ) (marks : List ℕ)
+        (shared : List (Option Shared)) → B.Shows blocks.old disk
+        → B.count blocks.old ≡ r.geometry.blocks
+        → IsSeenTo disk r count places marks shared tree.old
+        → IfOk result (λ row. IsSeenTo disk r count places marks shared tree.new
+        × ((IsOut tree.new.fault → ⊥)
+        → row ≡ file_block (tree_in (whole disk r) tree.new.plane 0) i)) }
+{
+    sound_files_read_as_held();
+    sound_files_have_sound_paths();
+    match tree.file.copy(alloc, blocks, i) {
+        Ok(row) => Ok(row),
+        Err(ReadError::NoMemory) => Err(CheckError::NoMemory),
+        Err(ReadError::Device) => Err(CheckError::Device),
+        Err(ReadError::Damaged) => {
+            tree.add(Fault::Tree(TreeFault::InodeBlock(i)));
+            Ok(Block::zeroed(alloc)?)
+        }
+    }
+}
+
+/// Tests that zeros stand behind the inodes of each tree's block.
+fn check_ends(trees: &mut Vec<Tree>, rows: &Vec<Block>, i: u32)
+    requires { vec_len rows.now ≡ vec_len trees.old }
+    ensures trees { KeepsTrees trees.old.items trees.new.items }
+    ensures seen { (disk : ℕ → List ℕ) (r : Root) (marks : List ℕ)
+        (shared : List (Option Shared)) → AreRows disk r i trees.old.items rows.now.items
+        → AreSeenInBlock disk r i INODES_PER_BLOCK marks shared trees.old.items
+        → AreSeenTo disk r (i + 1) marks shared trees.new.items }
+{
+    for k in 0..trees.len() {
+        if !is_ended(rows[k].bytes()) {
+            trees[k].add(Fault::Tree(TreeFault::InodeBlock(i)));
+        }
+    }
+}
+
+/// Whether zeros stand behind the inodes of a block.
+fn is_ended(bytes: &[u8; BLOCK_BYTES]) -> bool
+    ensures { IsTrue result ↔ (drop (INODE_BYTES * INODES_PER_BLOCK) bytes.now
+        ≡ zeros (BLOCK_BYTES - INODE_BYTES * INODES_PER_BLOCK)) }
+{
+    is_zero_from(bytes, INODE_BYTES * INODES_PER_BLOCK as usize)
+}
+
+/// Looks at the inode of a number in each tree, once for all trees that have the same there.
+fn check_number<B: LetsGo>(
+    blocks: &mut B,
+    geometry: Geometry,
+    trees: &mut Vec<Tree>,
+    rows: &Vec<Block>,
+    place: u32,
+    number: u32,
+    marks: &mut Marks,
+    shared: &mut SharedBlocks,
+) -> Result<(), CheckError>
+    requires place { place < INODES_PER_BLOCK }
+    requires number { number < 2 ^ 32 }
+    requires rows { vec_len rows.now ≡ vec_len trees.old }
+    requires size { B.count blocks.old ≡ geometry.blocks }
+    requires table { length marks.old ≡ geometry.blocks }
+    ensures reads { Looks B.Blocks IsFault blocks.old blocks.new result }
+    ensures length { length marks.new ≡ length marks.old }
+    ensures trees { KeepsTrees trees.old.items trees.new.items }
+    ensures others { (k : ℕ) → ((i : ℕ) → PlaneAt trees.old.items i k → ⊥)
+        → StaysFor k marks.old marks.new shared.old.of shared.new.of }
+    ensures seen { (disk : ℕ → List ℕ) (r : Root) (i : ℕ) → B.Shows blocks.old disk → IsRoot r
+        → r.geometry ≡ geometry → number ≡ INODES_PER_BLOCK * i + place
+        → AreRows disk r i trees.old.items rows.now.items
+        → AreSeenInBlock disk r i place marks.old shared.old.of trees.old.items
+        → OnOk result (AreRows disk r i trees.new.items rows.now.items
+        × AreSeenInBlock disk r i (place + 1) marks.new shared.new.of trees.new.items) }
+{
+    let mut done = 0;
+    for k in 0..trees.len() {
+        if is_done(&trees[k], done) {
+            continue;
+        }
+        let bits = twins(trees, rows, k, place);
+        done |= bits;
+        let bytes = part_of(rows, k, place);
+        check_inode(blocks, geometry, trees, bits, bytes, number, marks, shared)?;
+    }
+    Ok(())
+}
+
+/// Looks at the inode that these bytes are at a number, for the trees of these bits.
+fn check_inode<B: LetsGo>(
+    blocks: &mut B,
+    geometry: Geometry,
+    trees: &mut Vec<Tree>,
+    bits: u32,
+    bytes: &[u8],
+    number: u32,
+    marks: &mut Marks,
+    shared: &mut SharedBlocks,
+) -> Result<(), CheckError>
+    requires planes { (k : ℕ) → HasBit k bits → k < PLANES }
+    requires size { B.count blocks.old ≡ geometry.blocks }
+    requires table { length marks.old ≡ geometry.blocks }
+    ensures reads { Looks B.Blocks IsFault blocks.old blocks.new result }
+    ensures keeps { KeepsMarks bits marks.old marks.new shared.old.of shared.new.of }
+    ensures trees { KeepsTrees trees.old.items trees.new.items }
+    ensures others { (l : ℕ) (t q : Tree) → slice_get trees.old.items l ≡ Some t
+        → slice_get trees.new.items l ≡ Some q → (HasBit t.plane bits → ⊥) → q ≡ t }
+    ensures seen { (disk : ℕ → List ℕ) (r : Root) (i : ℕ) → B.Shows blocks.old disk → IsRoot r
+        → r.geometry ≡ geometry → OnOk result (SeesInode disk r bits bytes.now number
+        (IsSeenTo disk r i number marks.old shared.old.of)
+        (IsSeenTo disk r i (number + 1) marks.new shared.new.of) trees.old.items trees.new.items) }
+{
+    inodes_are_what_their_bytes_spell();
+    let Some(inode) = inode_at(bytes, number, geometry) else {
+        add_to_each(trees, bits, Fault::Tree(TreeFault::Inode(number)));
+        return Ok(());
+    };
+    let marked = mark_file(blocks, &inode, number, bits, marks, shared);
+    if let Some(fault) = fault_of(marked)? {
+        add_to_each(trees, bits, fault);
+        return Ok(());
+    }
+    if number < geometry.inodes() {
+        check_bits(trees, bits, number, &inode);
+    }
+    Ok(())
+}
+
+/// The bits of the trees from the k-th on that have the same bytes as it at a place of their blocks, its own among them.
+fn twins(trees: &Vec<Tree>, rows: &Vec<Block>, k: usize, place: u32) -> u32
+    requires tree { k < vec_len trees.now }
+    requires rows { vec_len rows.now ≡ vec_len trees.now }
+    requires place { place < INODES_PER_BLOCK }
+    ensures { AreTwins trees.now.items rows.now.items k place result }
+{
+    let mut bits = trees[k].bit();
+    for l in k + 1..trees.len() {
+        if !trees[l].is_out() && part_of(rows, l, place) == part_of(rows, k, place) {
+            bits |= trees[l].bit();
+        }
+    }
+    bits
+}
+
+/// The bytes of one inode of the k-th block.
+fn part_of(rows: &Vec<Block>, k: usize, place: u32) -> &[u8]
+    requires block { k < vec_len rows.now }
+    requires place { place < INODES_PER_BLOCK }
+    ensures { result.now ≡ inode_part (slice_index_or rows.now.items k []) place }
+{
+    part(&rows[k], place)
+}
+
+/// The bytes of one inode of a block.
+fn part(block: &Block, place: u32) -> &[u8]
+    requires { place < INODES_PER_BLOCK }
+    ensures { result.now ≡ inode_part block.now place }
+{
+    let at = INODE_BYTES * place as usize;
+    &block.bytes()[at..at + INODE_BYTES]
+}
+
+/// The trees of these bits have a fault.
+fn add_to_each(trees: &mut Vec<Tree>, bits: u32, fault: Fault)
+    ensures trees { KeepsTrees trees.old.items trees.new.items }
+    ensures added { AddsToEach bits fault trees.old.items trees.new.items }
+{
+    for k in 0..trees.len() {
+        if is_among(&trees[k], bits) {
+            trees[k].add(fault);
+        }
+    }
+}
+
+/// Whether a tree needs no look: it is out of its grammar, or one of those of these bits.
+fn is_done(tree: &Tree, bits: u32) -> bool
+    ensures { IsTrue result ↔ (IsOut tree.now.fault ⊎ HasBit tree.now.plane bits) }
+{
+    tree.is_out() || is_among(tree, bits)
+}
+
+/// Whether a tree is one of those of these bits.
+fn is_among(tree: &Tree, bits: u32) -> bool
+    ensures { IsTrue result ↔ HasBit tree.now.plane bits }
+{
+    (bits >> tree.plane) % 2 == 1
+}
+
+/// Tests that the inode maps of the trees of these bits say of a number whether its inode is in use.
+fn check_bits(trees: &mut Vec<Tree>, bits: u32, number: u32, inode: &Inode)
+    ensures trees { KeepsTrees trees.old.items trees.new.items }
+    ensures compared { ComparesBits number inode.now.kind bits trees.old.items trees.new.items }
+{
+    let used = is_used(number, inode.kind);
+    for k in 0..trees.len() {
+        if is_among(&trees[k], bits) && !trees[k].is_out() {
+            let is_taken = has_bit(&trees[k].numbers, number);
+            if is_taken != used {
+                trees[k].add(Fault::InodeMap { number, is_taken });
+            }
+        }
+    }
+}
+
+/// Whether a number whose inode is of this kind is in use: the file system's own are.
+fn is_used(number: u32, kind: Kind) -> bool
+    ensures { IsTrue result ↔ ((number < FIRST_NUMBER) ⊎ (kind ≡ Kind.Free → ⊥)) }
+{
+    match kind {
+        Kind::Free => number < FIRST_NUMBER,
+        _ => true,
+    }
+}
+
+/// Whether the bytes of an inode map say that a number is in use.
+fn has_bit(numbers: &Vec<u8>, number: u32) -> bool
+    ensures { IsTrue result ↔ IsTaken numbers.now.items number }
+{
+    ((number / 8) as usize) < numbers.len() && is_taken(numbers, number)
+}

@@ -1,0 +1,164 @@
+//! Which node of a tree stands in a block.
+
+ghost use Rattle.std.specs.Prelude.{◌≡◌, ◌≢◌, ◌<◌, ◌≤◌, ℕ, List, IfNone, IfOk, IfSome, IsFalse, IsTrue, Some};
+ghost use Rattle.layout.specs.Inode.{IsInode};
+ghost use Rattle.layout.specs.Limits.{Sizes};
+ghost use Rattle.layout.specs.Root.{IsRoot};
+ghost use Rattle.layout.specs.declared.inode.Inode.{Inode};
+ghost use Rattle.layout.specs.declared.pointer.Pointer.TheVariants as pointers;
+ghost use Rattle.layout.specs.declared.root.Root.{Root};
+ghost use Rattle.layout.specs.declared.version.TheConstants.{VERSION};
+ghost use Rattle.blocktree.specs.PlaceMaps.{place_at};
+ghost use Rattle.images.specs.Faults.{IsFileGrammar, IsTreeGrammar};
+ghost use Rattle.images.specs.Nodes.{held};
+ghost use Rattle.images.specs.Roots.{whole};
+ghost use Rattle.loading.specs.Images.{IsFileOfInode};
+ghost use Rattle.checker.specs.Errors.{IsFault, Looks};
+ghost use Rattle.checker.specs.Findings.{StandsIn, tree_in};
+ghost use Rattle.checker.specs.Trees.{IsAloneAt, IsNode, IsOwner, IsTreeOf, SharesBlock};
+ghost use Rattle.checker.specs.declared.tree.Tree.{Tree};
+
+use crate::nodes::Shared;
+use crate::tree::Tree;
+use crate::{CheckError, FileNode, LetsGo};
+use blocktree::{PlaceMap, ReadError};
+use images::inodes_are_what_their_bytes_spell;
+use inode::{File, nodes_are_where_pointers_lead};
+use layout::{BlockNumber, Geometry, INODE_BYTES, INODES_PER_BLOCK, Inode};
+use loading::{inode_at, sound_files_have_sound_paths, sound_files_read_as_held};
+use std::alloc::Global;
+
+/// The first node of a tree, by number and then by height, that stands in a block which the tree names twice, but for the node that is told
+/// of it.
+pub(crate) fn first_owner<B: LetsGo>(
+    alloc: Global,
+    blocks: &mut B,
+    geometry: Geometry,
+    tree: &Tree,
+    shared: &Shared,
+) -> Result<FileNode, CheckError>
+    ensures reads { Looks B.Blocks IsFault blocks.old blocks.new result }
+    ensures stands { (disk : ℕ → List ℕ) (r : Root) → B.Shows blocks.old disk → IsRoot r
+        → r.geometry ≡ geometry → B.count blocks.old ≡ geometry.blocks → IsTreeOf disk r tree.now
+        → IsTreeGrammar geometry (tree_in (whole disk r) tree.now.plane)
+        → SharesBlock (tree_in (whole disk r) tree.now.plane) shared.now
+        → IfOk result (λ node. StandsIn (tree_in (whole disk r) tree.now.plane) node shared.now.block
+        × (node ≢ shared.now.second)) }
+{
+    inodes_are_what_their_bytes_spell();
+    nodes_are_where_pointers_lead();
+    if let Some(node) = node_in(alloc, blocks, &tree.file, 0, shared)? {
+        return Ok(node);
+    }
+    for number in 1..geometry.inodes() {
+        let Some(inode) = read_inode(blocks, geometry, &tree.file, number)? else {
+            continue;
+        };
+        let file = File::load(alloc, inode)?;
+        if let Some(node) = node_in(alloc, blocks, &file, number, shared)? {
+            return Ok(node);
+        }
+        blocks.forget();
+    }
+    Ok(shared.second)
+}
+
+/// The inode of a number; None where its bytes spell none.
+pub(crate) fn read_inode<B: LetsGo>(
+    blocks: &mut B,
+    geometry: Geometry,
+    file: &File,
+    number: u32,
+) -> Result<Option<Inode>, CheckError>
+    requires low { 1 ≤ number }
+    requires high { number < geometry.inodes }
+    ensures reads { Looks B.Blocks IsFault blocks.old blocks.new result }
+    ensures fits { IfOk result (λ found. IfSome found (IsInode VERSION geometry)) }
+    ensures is { (disk : ℕ → List ℕ) (r : Root) (tree : Tree) → B.Shows blocks.old disk → IsRoot r
+        → r.geometry ≡ geometry → B.count blocks.old ≡ geometry.blocks
+        → IsTreeOf disk r tree → file.now ≡ tree.file
+        → IsTreeGrammar geometry (tree_in (whole disk r) tree.plane)
+        → IfOk result (λ found. found ≡ Some (tree_in (whole disk r) tree.plane number).inode) }
+{
+    sound_files_read_as_held();
+    sound_files_have_sound_paths();
+    let i = number / INODES_PER_BLOCK;
+    let location = match file.locate(blocks, i) {
+        Ok(location) => location,
+        Err(ReadError::NoMemory) => return Err(CheckError::NoMemory),
+        Err(ReadError::Device) => return Err(CheckError::Device),
+        Err(ReadError::Damaged) => return Ok(None),
+    };
+    let at = INODE_BYTES * (number % INODES_PER_BLOCK) as usize;
+    let bytes = file.bytes(blocks, i, location);
+    Ok(inode_at(&bytes[at..at + INODE_BYTES], number, geometry))
+}
+
+/// The first node of a file that stands in a block which is named twice, but for the one that is told of it.
+fn node_in<B: LetsGo>(
+    alloc: Global,
+    blocks: &mut B,
+    file: &File,
+    number: u32,
+    shared: &Shared,
+) -> Result<Option<FileNode>, CheckError>
+    ensures reads { Looks B.Blocks IsFault blocks.old blocks.new result }
+    ensures stands { (disk : ℕ → List ℕ) (s : Sizes) (inode : Inode) → B.Shows blocks.old disk
+        → IsInode VERSION s inode → IsFileOfInode inode file.now
+        → IfOk result (λ found. IfSome found (IsOwner shared.now number (held disk inode))) }
+    ensures alone { (disk : ℕ → List ℕ) (s : Sizes) (inode : Inode) → B.Shows blocks.old disk
+        → s.blocks ≡ B.count blocks.old → IsFileGrammar s (held disk inode) → IsFileOfInode inode file.now
+        → IfOk result (λ found. IfNone found ((m : ℕ) → IsAloneAt shared.now number (held disk inode) m)) }
+{
+    sound_files_have_sound_paths();
+    nodes_are_where_pointers_lead();
+    let tree = file.tree();
+    for height in 0..=tree.depth() {
+        let nodes = match tree.settled_nodes(alloc, blocks, height) {
+            Ok(nodes) => nodes,
+            Err(ReadError::NoMemory) => return Err(CheckError::NoMemory),
+            Err(ReadError::Device) => return Err(CheckError::Device),
+            Err(ReadError::Damaged) => return Ok(None),
+        };
+        if let Some(node) = node_at(&nodes, tree.count(), number, height, shared) {
+            return Ok(Some(node));
+        }
+    }
+    Ok(None)
+}
+
+/// The first of so many nodes at a height that stands in a block which is named twice, but for the one that is told of it.
+fn node_at(
+    nodes: &PlaceMap,
+    count: u32,
+    number: u32,
+    height: u32,
+    shared: &Shared,
+) -> Option<FileNode>
+    ensures found { IfSome result (λ n. (n.number ≡ number) × (n.height ≡ height) × (n.index < count)
+        × (place_at nodes.now n.index ≡ pointers.Block shared.now.block) × (n ≢ shared.now.second)) }
+    ensures none { IfNone result ((i : ℕ) → i < count
+        → place_at nodes.now i ≡ pointers.Block shared.now.block → IsNode shared.now.second number height i) }
+{
+    let mut from = 0;
+    while let Some(stored) = nodes.next(from, count) {
+        let node = FileNode {
+            number,
+            height,
+            index: stored.index,
+        };
+        if is_other(node, stored.place, shared) {
+            return Some(node);
+        }
+        from = stored.index + 1;
+    }
+    None
+}
+
+/// Whether a node at a place stands in a block that is named twice, and isn't the one that is told of it.
+fn is_other(node: FileNode, place: BlockNumber, shared: &Shared) -> bool
+    ensures other { IsTrue result → (place ≡ shared.now.block) × (node ≢ shared.now.second) }
+    ensures same { IsFalse result → place ≡ shared.now.block → node ≡ shared.now.second }
+{
+    place.get() == shared.block && node != shared.second
+}

@@ -1,0 +1,112 @@
+//! The snapshots' root blocks.
+
+ghost use Rattle.std.specs.Prelude.{◌≡◌, ◌+◌, ◌<◌, ℕ, List, IfOk, IfSome, count_by, slice_index_or};
+ghost use Rattle.std.specs.Option.{option_map};
+ghost use Rattle.layout.specs.Pointer.{PointsBelow};
+ghost use Rattle.layout.specs.Root.{IsRoot};
+ghost use Rattle.layout.specs.declared.pointer.Pointer.TheVariants.{Block, Hole};
+ghost use Rattle.layout.specs.declared.version.TheConstants.{SNAPSHOT_SLOTS};
+ghost use Rattle.checker.specs.Checks.{is_block};
+ghost use Rattle.checker.specs.Errors.{IsFault, Looks};
+ghost use Rattle.checker.specs.Trees.{TellsSlot, TellsSnapshot};
+
+use crate::{CheckError, Fault, LetsGo, SnapshotFault, SnapshotName};
+use blocktree::ReadError;
+use images::snapshots_are_what_their_bytes_spell;
+use layout::{BlockNumber, Inode, Pointer, Root, SnapRoot};
+use loading::{are_apart, check_snapshot};
+
+/// The first fault of the root block in a slot of a root: that it is no snapshot's, or of the name or the number of one in a slot before
+/// it.
+pub(crate) fn fault_in_slot<B: LetsGo>(
+    blocks: &mut B,
+    root: &Root,
+    k: usize,
+) -> Result<Option<Fault>, CheckError>
+    requires root { IsRoot root.now }
+    requires size { B.count blocks.old ≡ root.now.geometry.blocks }
+    requires slot { k < SNAPSHOT_SLOTS }
+    ensures reads { Looks B.Blocks IsFault blocks.old blocks.new result }
+    ensures tells { (disk : ℕ → List ℕ) → B.Shows blocks.old disk
+        → IfOk result (TellsSlot disk root.now k) }
+{
+    snapshots_are_what_their_bytes_spell();
+    let pointer = root.snapshots[k];
+    let Pointer::Block(block) = pointer else {
+        return Ok(None);
+    };
+    match check_snapshot(blocks, pointer, root) {
+        Ok(()) => {}
+        Err(ReadError::Damaged) => {
+            return Ok(Some(slot_fault(k, block, SnapshotFault::NoSnapshot)));
+        }
+        Err(ReadError::NoMemory) => return Err(CheckError::NoMemory),
+        Err(ReadError::Device) => return Err(CheckError::Device),
+    }
+    for l in 0..k {
+        match are_apart(blocks, root.snapshots[l], root.snapshots[k]) {
+            Ok(true) => {}
+            Ok(false) => {
+                return Ok(Some(slot_fault(k, block, SnapshotFault::SameAs(l as u32 + 1))));
+            }
+            Err(ReadError::Device) => return Err(CheckError::Device),
+            Err(_) => return Err(CheckError::NoMemory),
+        }
+    }
+    Ok(None)
+}
+
+/// A fault of the root block in a slot.
+fn slot_fault(k: usize, block: BlockNumber, found: SnapshotFault) -> Fault
+    requires { k < SNAPSHOT_SLOTS }
+    ensures { result ≡ Fault.Snapshot (k + 1) block found }
+{
+    Fault::Snapshot {
+        slot: k as u32 + 1,
+        block: block.get(),
+        found,
+    }
+}
+
+/// The name of the snapshot at a pointer, and the inode of its inode file, if one is there.
+pub(crate) fn snapshot_at<B: LetsGo>(
+    blocks: &mut B,
+    pointer: Pointer,
+) -> Result<Option<(SnapshotName, Inode)>, CheckError>
+    requires { PointsBelow (B.count blocks.old) pointer }
+    ensures reads { Looks B.Blocks IsFault blocks.old blocks.new result }
+    ensures tells { (disk : ℕ → List ℕ) → B.Shows blocks.old disk
+        → IfOk result (λ found. TellsSnapshot disk pointer (option_map (λ f. f.1) found)) }
+    ensures there { IfOk result
+        (λ found. IfSome found (λ _. (block : ℕ) × (pointer ≡ Block block))) }
+{
+    snapshots_are_what_their_bytes_spell();
+    let Pointer::Block(block) = pointer else {
+        return Ok(None);
+    };
+    blocks.make_resident(block)?;
+    match SnapRoot::read(blocks.bytes(block)) {
+        Some(snapshot) => Ok(Some((SnapshotName::new(snapshot.name), snapshot.inode_file))),
+        None => Ok(None),
+    }
+}
+
+/// How many snapshots a root has.
+pub(crate) fn count_snapshots(root: &Root) -> usize
+    ensures { result ≡ count_by is_block root.now.snapshots }
+{
+    root.snapshots
+        .iter()
+        .filter(|pointer| is_block(**pointer))
+        .count()
+}
+
+/// Whether a pointer leads to a block.
+fn is_block(pointer: Pointer) -> bool
+    ensures { result ≡ is_block pointer }
+{
+    match pointer {
+        Pointer::Hole => false,
+        Pointer::Block(_) => true,
+    }
+}

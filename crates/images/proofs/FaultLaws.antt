@@ -1,0 +1,246 @@
+-- None of the nine faults stands in images that open.
+use Rattle.std.proofs.Common.{◌≡◌, ◌≢◌, ◌⊎◌, inl, inr, ℕ, zero, suc, ◌≤◌, ◌<◌, List, [], ◌∷◌, Option, Some, None, IsSome, is_some, refl, ap, sym, subst, ◌∙◌, arith}
+use Rattle.std.proofs.lemmas.Bool.{cases_eq, cases_lt, false≢true}
+use Rattle.std.proofs.Math.Nat.{eq-or-lt_of_le}
+use Rattle.layout.specs.Limits.{Sizes}
+use Rattle.layout.specs.Places.{Blocks, blocks_of}
+use Rattle.model.specs.Counting.{Counts}
+use Rattle.model.specs.Records.{Applies, CanRename, CanReplace, Change, Replays, applied, change_mode, create, cut, link, rename, unname, write}
+use Rattle.model.proofs.MoveLemmas.{records_keep_volumes}
+use Rattle.model.proofs.CountLemmas.{one_less, same_count}
+use Rattle.model.proofs.ListingLemmas.{names_apart}
+use Rattle.model.proofs.OptionLaws.{absent, none_some}
+use Rattle.images.specs.Replaying.{LeavesPlace, ReplaysWithin}
+use Rattle.layout.specs.Root.{IsRoot}
+use Rattle.layout.specs.SnapRoot.{Snapshot}
+use Rattle.layout.specs.declared.TheConstants.{SLOT_A, SLOT_B}
+use Rattle.layout.specs.declared.inode.Inode.{Inode}
+use Rattle.layout.specs.declared.kind.Kind.{Kind}
+use Rattle.layout.specs.declared.kind.Kind.TheVariants.{Free}
+use Rattle.layout.specs.declared.pointer.Pointer.TheVariants.{Block}
+use Rattle.layout.specs.declared.root.Root.{Root}
+use Rattle.layout.proofs.OpenLaws.{newest_once}
+use Rattle.model.specs.Paths.{Name}
+use Rattle.model.specs.States.{State}
+use Rattle.model.specs.Trees.{Tree}
+use Rattle.model.specs.Volumes.{IsGraph, IsVolume, Node, Volume, entries}
+use Rattle.model.specs.declared.limits.TheConstants.{DIRECTORY_NAMES, FIRST_NUMBER, ROOT_NUMBER}
+use Rattle.images.specs.Contents.{Content, HoldsVolume, StandsAs, content_of, tree_contents}
+use Rattle.images.specs.Faults.{HasNoFault, HasRoots, IsFaultless, IsFaultlessUnder}
+use Rattle.images.specs.Nodes.{Held, held}
+use Rattle.images.specs.Roots.{HeldTree, Whole, free_inode, frozen_at, frozen_inode_file, slot, tree, whole}
+use Rattle.images.specs.Snapshots.{AreKeptAbove, AreSnapshots, HasSnapshot, IsFrozenTree}
+use Rattle.images.specs.Soundness.{FitsNumber, IsSoundTree}
+use Rattle.images.specs.States.{Opens}
+use Rattle.images.proofs.KindLaws.{directory_kind}
+use Rattle.images.proofs.ReadingLaws.{read_past}
+use Rattle.images.proofs.VolumeLaws.{volume_once}
+use Rattle.images.proofs.StateLaws.{newest_is_root}
+
+-- past the last number all is free
+EndsFree : ℕ → HeldTree → Type 0
+EndsFree inodes t = (n : ℕ) → inodes ≤ n → (t n).inode.kind ≡ Free
+
+tree_ends : (d : Blocks) (inodes : ℕ) (top : Inode) → 1 ≤ inodes → EndsFree inodes (tree d inodes top)
+unfolding EndsFree held
+tree_ends d inodes top some n past =
+    ap (λ (h : Held). h.inode.kind) (read_past d inodes top n (omega (arith, some, past)) past)
+
+-- a tree in its grammar that holds a volume has no fault
+faultless : (s : Sizes) (t : HeldTree) (v : Volume) → FIRST_NUMBER ≤ s.inodes → EndsFree s.inodes t → IsSoundTree s t → HoldsVolume s.inodes (tree_contents t) v → IsVolume s.inodes v → IsFaultless s t
+unfolding EndsFree
+faultless s t v many ends sound holds is = record {
+  grammar = record {
+    files = λ n. record { inode = (sound.files n).inode; indirect = (sound.files n).indirect };
+    kinds = sound.kinds;
+    root = directory_kind (t 3).inode.kind s.inodes (content_of (t 3)) (v 3) (holds 3) is.graph.root;
+    inodes = sound.inodes;
+    inode_map = record { stored = sound.inode_map; ends = (sound.files 1).ends };
+    block_map = record { stored = sound.block_map; ends = (sound.files 2).ends };
+    numbers = record {
+      own = λ n low. (sound.numbers n).1 (inl low);
+      past = λ n past taken. elim ((sound.numbers n).0 taken) [
+        | inl low ↦ omega (arith, many, low, past)
+        | inr used ↦ used (ends n past)
+      ];
+    };
+  };
+  once = sound.once;
+  numbers = sound.numbers;
+  names = record { volume = v; holds = holds; graph = is.graph };
+}
+
+-- the tree of each snapshot holds a volume
+kept_tree : (r : Root) (w : Whole) (above : ℕ) (pairs : List (Name × Tree)) → AreSnapshots r w → AreKeptAbove r w above pairs → (k : ℕ) (s : Snapshot) → HasSnapshot r w k s → above < s.order → (kept : Tree) × IsFrozenTree r.geometry.inodes (w.frozen k) kept
+kept_tree r w above [] are kept k s has later = absurd (omega (arith, kept k s has, later))
+kept_tree r w above (p ∷ ps) are kept k s has later =
+    elim (eq-or-lt_of_le (kept.2.least k s has later)) [
+      | inl same ↦
+          (p.1, subst (λ (l : ℕ). IsFrozenTree r.geometry.inodes (w.frozen l) p.1) (are.orders kept.0 k kept.1 s kept.2.has has same) kept.4)
+      | inr more ↦ kept_tree r w kept.1.order ps are kept.5 k s has more
+    ]
+
+-- the tree of a snapshot ends with its last number
+frozen_ends : (d : Blocks) (r : Root) (k block : ℕ) → 1 ≤ r.geometry.inodes → slot r k ≡ Block block → EndsFree r.geometry.inodes ((whole d r).frozen k)
+unfolding EndsFree whole
+frozen_ends d r k block some there =
+    subst (EndsFree r.geometry.inodes) (sym (ap (frozen_at d r.geometry.inodes) there)) (tree_ends d r.geometry.inodes (frozen_inode_file (d block)) some)
+
+active_ends : (d : Blocks) (r : Root) → 1 ≤ r.geometry.inodes → EndsFree r.geometry.inodes (whole d r).active
+unfolding EndsFree whole
+active_ends d r some = tree_ends d r.geometry.inodes r.inode_file some
+
+-- ---- the log
+
+some_same : {m n : ℕ} → Some m ≡ Some n → m ≡ n
+some_same e = cc
+
+-- a directory of a volume has place for what is moved there
+module _ (inodes : ℕ) (v : Volume) (volume : IsVolume inodes v) (d : ℕ) (x : Name) (k : ℕ) (y : Name) (can : CanRename v d x k y) where
+  abbrev Has : Name → Type 0
+  Has z = IsSome (entries v k z)
+
+  abbrev Stays : Name → Type 0
+  Stays z = IsSome (entries v k z) × (z ≢ y) × (d ≡ k → z ≢ x)
+
+  -- beside the new name there are so many, and one fewer without the old one
+  inside : (count : ℕ) → d ≡ k → x ≢ y → Counts (λ (z : Name). Has z × (z ≢ y)) count → count ≤ DIRECTORY_NAMES → LeavesPlace v (rename d x k y)
+  inside count same apart counts most =
+      let there : entries v k x ≡ Some can.number = ap (λ (j : ℕ). entries v j x) (sym same) ∙ can.there in
+      let less = one_less (λ (z : Name). Has z × (z ≢ y)) x count names_apart (subst (λ (o : Option ℕ). IsSome o) (sym there) refl, apart) counts in
+      let fewer = less.1 in (
+        less.0,
+        same_count (λ (z : Name). (Has z × (z ≢ y)) × (z ≢ x)) Stays less.0 (λ z. (
+          (λ ((some, not_new), not_old). (some, not_new, λ _. not_old)),
+          (λ (some, not_new, not_old). ((some, not_new), not_old same)),
+        )) less.2,
+        omega (arith, fewer, most),
+      )
+
+  across : (count : ℕ) → (d ≡ k → ⊥) → Counts (λ (z : Name). Has z × (z ≢ y)) count → count < DIRECTORY_NAMES → LeavesPlace v (rename d x k y)
+  across count other counts room = (
+    count,
+    same_count (λ (z : Name). Has z × (z ≢ y)) Stays count (λ z. (
+      (λ (some, not_new). (some, not_new, λ same. absurd (other same))),
+      (λ (some, not_new, not_old). (some, not_new)),
+    )) counts,
+    room,
+  )
+
+  -- where nothing has the new name, nothing is taken away by it
+  all_stay : (count : ℕ) → entries v k y ≡ None → Counts Has count → Counts (λ (z : Name). Has z × (z ≢ y)) count
+  all_stay count none counts =
+      same_count Has (λ (z : Name). Has z × (z ≢ y)) count (λ z. (
+        (λ some. (some, λ is. false≢true (sym (ap is_some none) ∙ ap (λ (w : Name). is_some (entries v k w)) (sym is) ∙ some))),
+        (λ both. both.0),
+      )) counts
+
+  pub move_leaves_place : LeavesPlace v (rename d x k y)
+  move_leaves_place = by (entries v k y) refl can.replaces
+    where
+      by : (o : Option ℕ) → entries v k y ≡ o → CanReplace v d k y can.number o → LeavesPlace v (rename d x k y)
+      by (Some m) is may =
+          let (count, counts, most) = volume.limits.children k in
+          let less = one_less Has y count names_apart (subst (λ (o : Option ℕ). IsSome o) (sym is) refl) counts in
+          let fewer = less.1 in
+          elim (cases_eq d k) [
+            | inl same ↦ inside less.0 same (λ equal. may.0 (some_same (sym is ∙ ap (entries v k) (sym equal) ∙ ap (λ (j : ℕ). entries v j x) (sym same) ∙ can.there))) less.2 (omega (arith, fewer, most))
+            | inr other ↦ across less.0 other less.2 (omega (arith, fewer, most))
+          ]
+      by None none may = elim (cases_eq d k) [
+        | inl same ↦
+            let (count, counts, most) = volume.limits.children k in
+            inside count same (λ equal. none_some (sym none ∙ ap (entries v k) (sym equal) ∙ ap (λ (j : ℕ). entries v j x) (sym same) ∙ can.there)) (all_stay count none counts) most
+        | inr other ↦ elim may [
+          | inl same ↦ absurd (other same)
+          | inr takes ↦ across takes.count other (all_stay takes.count none takes.counts) takes.room
+        ]
+      ]
+
+leaves_place : (inodes : ℕ) (v : Volume) (change : Change) → IsVolume inodes v → Applies inodes v change → LeavesPlace v change
+leaves_place inodes v (create number parent made name) volume can = tt
+leaves_place inodes v (link number parent name) volume can = tt
+leaves_place inodes v (unname parent name) volume can = tt
+leaves_place inodes v (rename d x k y) volume can = move_leaves_place inodes v volume d x k y can
+leaves_place inodes v (write number offset bytes) volume can = tt
+leaves_place inodes v (cut number size) volume can = tt
+leaves_place inodes v (change_mode number mode) volume can = tt
+
+-- over a volume no limit is passed
+within : (inodes : ℕ) (changes : List Change) (v w : Volume) → IsVolume inodes v → Replays inodes v changes w → ReplaysWithin inodes v changes w
+within inodes [] v w volume replays = replays
+within inodes (change ∷ changes) v w volume replays = (
+  replays.0,
+  leaves_place inodes v change volume replays.0,
+  within inodes changes (applied change v) w (records_keep_volumes inodes v change volume replays.0) replays.1,
+)
+
+pub opens_faultless : (sectors : ℕ) (disk : ℕ → List ℕ) (nvram : List ℕ) (s : State) → (o : Opens sectors disk nvram s) → HasRoots o.root sectors disk nvram × IsFaultlessUnder o.root (whole (blocks_of disk) o.root) nvram o.changes
+opens_faultless sectors disk nvram s o =
+    let r = o.root in
+    let w = whole (blocks_of disk) r in
+    let is_root = newest_is_root r (disk SLOT_A) (disk SLOT_B) o.newest in
+    let least = is_root.head.sizes.least_inodes in
+    let some : 1 ≤ r.geometry.inodes = omega (arith, least) in
+    let many : FIRST_NUMBER ≤ r.geometry.inodes = omega (arith, least) in (
+      record { newest = o.newest; sizes = record { disk = o.size; nvram = o.log.log.size } },
+      record {
+        snapshots = o.holds.sound.snapshots;
+        active = faultless r.geometry w.active o.first many (active_ends (blocks_of disk) r some) o.holds.sound.active o.holds.holds o.holds.volume;
+        frozen = λ k block there.
+            let snapshot = o.holds.sound.snapshots.each k block there in
+            let kept = kept_tree r w 0 o.snapshots o.holds.sound.snapshots o.holds.kept k snapshot.0 snapshot.1 snapshot.2.is.first in
+            faultless r.geometry (w.frozen k) kept.1.0 many (frozen_ends (blocks_of disk) r k block some there) (o.holds.sound.frozen k block there) kept.1.1 kept.1.2;
+        exact = o.holds.sound.exact;
+        log = record {
+          first = o.first;
+          last = o.last;
+          holds = o.holds.holds;
+          log = o.log;
+          replays = within r.geometry.inodes o.changes o.first o.last o.holds.volume o.replays;
+        };
+      },
+    )
+
+pub opens_without_fault : (sectors : ℕ) (disk : ℕ → List ℕ) (nvram : List ℕ) (s : State) → Opens sectors disk nvram s → HasNoFault sectors disk nvram
+opens_without_fault sectors disk nvram s o =
+    let told = opens_faultless sectors disk nvram s o in
+    record { root = o.root; changes = o.changes; roots = told.0; under = told.1 }
+
+-- what is told of the newest root is told of the root that was found
+pub under_any : (sectors : ℕ) (disk : ℕ → List ℕ) (nvram : List ℕ) (r : Root) → HasNoFault sectors disk nvram → HasRoots r sectors disk nvram → (changes : List Change) × IsFaultlessUnder r (whole (blocks_of disk) r) nvram changes
+under_any sectors disk nvram r none has = (
+  none.changes,
+  subst (λ (x : Root). IsFaultlessUnder x (whole (blocks_of disk) x) nvram none.changes)
+      (newest_once (disk SLOT_A) (disk SLOT_B) none.root r none.roots.newest has.newest) none.under,
+)
+
+-- ---- the volume of a tree
+
+own_none : (n : ℕ) (k : Kind) (inodes : ℕ) (c : Content) (o : Option Node) → n < 3 → FitsNumber n k → StandsAs k inodes c o → o ≡ None
+own_none zero k inodes c o lt is stands = subst (λ (x : Kind). StandsAs x inodes c o) is stands
+own_none (suc zero) k inodes c o lt is stands = subst (λ (x : Kind). StandsAs x inodes c o) is stands
+own_none (suc (suc zero)) k inodes c o lt is stands = subst (λ (x : Kind). StandsAs x inodes c o) is stands
+own_none (suc (suc (suc n))) k inodes c o lt is stands = absurd (omega (arith, lt))
+
+-- it has names as a graph, and only ordinary numbers and the root directory's are in use in it
+pub tree_volume : (d : Blocks) (r : Root) (v : Volume) → IsRoot r → IsFaultless r.geometry (whole d r).active → HoldsVolume r.geometry.inodes (tree_contents (whole d r).active) v
+    → IsGraph v × ((n : ℕ) → IsSome (v n) → (n ≡ ROOT_NUMBER) ⊎ ((FIRST_NUMBER ≤ n) × (n < r.geometry.inodes)))
+unfolding EndsFree
+tree_volume d r v is active holds =
+    let w = whole d r in
+    let sizes = is.head.sizes in
+    let same = volume_once r.geometry.inodes (tree_contents w.active) active.names.volume v (omega (arith, sizes.most_inodes)) active.names.holds holds in (
+      subst IsGraph same active.names.graph,
+      λ n some. elim (cases_lt n r.geometry.inodes) [
+        | inr past ↦
+            absent (v n) (subst (λ (k : Kind). StandsAs k r.geometry.inodes (tree_contents w.active n) (v n)) (active_ends d r (omega (arith, sizes.least_inodes)) n past) (holds n)) some
+        | inl low ↦ elim (cases_lt n 3) [
+          | inl own ↦ absent (v n) (own_none n (w.active n).inode.kind r.geometry.inodes (tree_contents w.active n) (v n) own (active.grammar.kinds n) (holds n)) some
+          | inr high ↦ elim (cases_eq n 3) [
+            | inl root ↦ inl root
+            | inr other ↦ inr (omega (arith, high, other), low)
+          ]
+        ]
+      ],
+    )

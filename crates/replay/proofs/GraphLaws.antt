@@ -1,0 +1,119 @@
+-- What names and numbers keep, where the limits of objects aren't known.
+use Rattle.std.proofs.Common.{◌∙◌, ◌≡◌, inr, ℕ, List, Option, Some, None, IsSome, false, is_some, ap, sym, refl, [], ◌∷◌}
+use Rattle.model.specs.Records.{Applies, Change, Made, applied, change_mode, create, cut, directory, file, link, node_of, rename, symbolic_link, unname, with_file_bytes, with_node_mode, without_nameless, write}
+use Rattle.model.specs.Edits.{resized, written}
+use Rattle.model.specs.Volumes.{IsGraph, IsVolume, Node, Volume, directory_node, entries, file_node, is_directory_node, is_file_node, link_node, released, swept_node, with_entry, with_name_more, with_node}
+use Rattle.model.proofs.AddLemmas.{SameLinks, graph-altered, graph-created, graph-linked, graph-swept}
+use Rattle.model.proofs.LimitLemmas.{numbers_entry, numbers_node, numbers_released}
+use Rattle.model.proofs.MoveLemmas.{bytes_by, bytes_names, graph-moved, made_bare, mode_directory, mode_file, mode_names, mode_some, path_to}
+use Rattle.model.proofs.UnnameLemmas.{volume-unnamed}
+use Rattle.model.proofs.VolumeLemmas.{enters_directory}
+use Rattle.images.specs.Soundness.{Detail, by_bytes, by_sizes}
+use Rattle.images.specs.Replaying.{LeavesPlace}
+use Rattle.records.specs.Preparing.{HasGraph, IsKnownVolume, IsVolumeFor}
+use Rattle.replay.specs.Volumes.{AppliesIn, ReplaysFor, ReplaysIn}
+
+made_links : (made : Made) (mode links : ℕ) (bytes : List ℕ) → Some (node_of made) ≡ Some (file_node mode links bytes) → links ≡ 1
+made_links (file m) mode links bytes is = cc
+made_links (directory m) mode links bytes is = cc
+made_links (symbolic_link text) mode links bytes is = cc
+
+bytes_links : (f : List ℕ → List ℕ) (o : Option Node) → SameLinks o (with_file_bytes f o)
+bytes_links f None mode links bytes is = cc
+bytes_links f (Some (directory_node m names)) mode links bytes is = cc
+bytes_links f (Some (file_node m l b)) mode links bytes is = let same : l ≡ links = cc in (m, b, ap (λ c. Some (file_node m c b)) same)
+bytes_links f (Some (link_node text)) mode links bytes is = cc
+
+mode_links : (bits : ℕ) (o : Option Node) → SameLinks o (with_node_mode bits o)
+mode_links bits None mode links bytes is = cc
+mode_links bits (Some (directory_node m names)) mode links bytes is = cc
+mode_links bits (Some (file_node m l b)) mode links bytes is = let same : l ≡ links = cc in (m, b, ap (λ c. Some (file_node m c b)) same)
+mode_links bits (Some (link_node text)) mode links bytes is = cc
+
+module _ (inodes : ℕ) (v : Volume) (has : HasGraph inodes v) where
+  -- one object changes but for its kind, its names and its links
+  altered : (n : ℕ) (o : Option Node) → IsGraph (with_node n o v) → is_some o ≡ is_some (v n) → HasGraph inodes (with_node n o v)
+  altered n o graph some = record { graph = graph; numbers = numbers_node inodes v n o has.numbers (λ is. has.numbers n (sym some ∙ is)) }
+
+  bytes_changed : (n : ℕ) (f : List ℕ → List ℕ) → HasGraph inodes (with_node n (with_file_bytes f (v n)) v)
+  bytes_changed n f =
+      altered n (with_file_bytes f (v n))
+      (graph-altered v has.graph n (with_file_bytes f (v n)) (bytes_names f (v n)) (bytes_by is_file_node (λ mode links a b. refl) f (v n)) (bytes_by is_directory_node (λ mode links a b. refl) f (v n))
+      (bytes_by is_some (λ mode links a b. refl) f (v n)) (bytes_links f (v n)))
+      (bytes_by is_some (λ mode links a b. refl) f (v n))
+
+  -- a record that applies keeps it
+  pub record_kept : (change : Change) → Applies inodes v change → HasGraph inodes (applied change v)
+  record_kept (create n d made x) can =
+      let path = path_to v has.graph d can.takes.directory in
+      record {
+        graph = graph-created v has.graph path.0 x d n (node_of made) path.1 can.takes.directory can.takes.missing can.takes.name can.vacant (made_bare made) (made_links made);
+        numbers = numbers_entry inodes (with_node n (Some (node_of made)) v) d x (Some n) (numbers_node inodes v n (Some (node_of made)) has.numbers (λ some. inr (can.low, can.high)));
+      }
+  record_kept (link n d x) can =
+      let path = path_to v has.graph d can.takes.directory in
+      record {
+        graph = graph-linked v has.graph path.0 x d n can.mode can.links can.bytes path.1 can.takes.directory can.takes.missing can.takes.name can.file;
+        numbers = numbers_entry inodes (with_node n (with_name_more (v n)) v) d x (Some n) (numbers_node inodes v n (with_name_more (v n)) has.numbers (λ some. has.numbers n (ap is_some can.file)));
+      }
+  record_kept (unname d x) can =
+      let is = enters_directory (v d) x can.number can.there in
+      let path = path_to v has.graph d is in
+      record {
+        graph = volume-unnamed v has.graph path.0 x d can.number path.1 is can.there can.empty;
+        numbers = numbers_entry inodes (released (entries v d x) v) d x None (numbers_released inodes (entries v d x) v has.numbers);
+      }
+  record_kept (rename d x k y) can = record {
+    graph = graph-moved v has.graph d x k y can;
+    numbers = numbers_entry inodes (with_entry d x None (released (entries v k y) v)) k y (entries v d x)
+        (numbers_entry inodes (released (entries v k y) v) d x None (numbers_released inodes (entries v k y) v has.numbers));
+  }
+  record_kept (write n offset bytes) can = bytes_changed n (written offset bytes)
+  record_kept (cut n size) can = bytes_changed n (resized size)
+  record_kept (change_mode n mode) can =
+      altered n (with_node_mode mode (v n))
+      (graph-altered v has.graph n (with_node_mode mode (v n)) (mode_names mode (v n)) (mode_file mode (v n)) (mode_directory mode (v n)) (mode_some mode (v n)) (mode_links mode (v n)))
+      (mode_some mode (v n))
+
+swept_some : (o : Option Node) → IsSome (swept_node false o) → IsSome o
+swept_some None some = some
+swept_some (Some o) some = refl
+
+-- and so does a sweep of the files without names
+sweep_kept : (inodes : ℕ) (v : Volume) → HasGraph inodes v → HasGraph inodes (without_nameless v)
+sweep_kept inodes v has = record { graph = graph-swept v has.graph (λ d. None); numbers = λ n some. has.numbers n (swept_some (v n) some) }
+
+-- ---- in so much detail
+
+pub known_graph : (detail : Detail) (inodes : ℕ) (v : Volume) → IsKnownVolume detail inodes v → HasGraph inodes v
+known_graph by_bytes inodes v volume = record { graph = volume.graph; numbers = volume.limits.numbers }
+known_graph by_sizes inodes v volume = volume
+
+pub known_after : (detail : Detail) (inodes : ℕ) (v : Volume) (change : Change) → (IsVolume inodes v → IsVolume inodes (applied change v)) → IsKnownVolume detail inodes v → Applies inodes v change
+    → IsKnownVolume detail inodes (applied change v)
+known_after by_bytes inodes v change keeps volume can = keeps volume
+known_after by_sizes inodes v change keeps volume can = record_kept inodes v volume change can
+
+pub known_swept : (detail : Detail) (inodes : ℕ) (v : Volume) → (IsVolume inodes v → IsVolume inodes (without_nameless v)) → IsKnownVolume detail inodes v → IsKnownVolume detail inodes (without_nameless v)
+known_swept by_bytes inodes v keeps volume = keeps volume
+known_swept by_sizes inodes v keeps volume = sweep_kept inodes v volume
+
+-- a record applies to a volume that has what is known of it
+pub volume_for : (detail : Detail) (inodes : ℕ) (change : Change) (v : Volume) → IsKnownVolume detail inodes v → AppliesIn detail inodes v change → IsVolumeFor detail inodes change v
+volume_for by_bytes inodes change v volume can = volume
+volume_for by_sizes inodes change v volume can = (volume, can.1)
+
+pub applies_so : (detail : Detail) (inodes : ℕ) (v : Volume) (change : Change) → AppliesIn detail inodes v change → Applies inodes v change
+applies_so by_bytes inodes v change can = can
+applies_so by_sizes inodes v change can = can.0
+
+pub applies_within : (detail : Detail) (inodes : ℕ) (v : Volume) (change : Change) → Applies inodes v change → LeavesPlace v change → AppliesIn detail inodes v change
+applies_within by_bytes inodes v change can place = can
+applies_within by_sizes inodes v change can place = (can, place)
+
+-- record by record
+pub replays_by_one : (detail : Detail) (inodes : ℕ) (changes : List Change) (v w : Volume) → ReplaysFor detail inodes v changes w → ReplaysIn detail inodes v changes w
+replays_by_one by_bytes inodes [] v w replays = replays
+replays_by_one by_bytes inodes (change ∷ changes) v w replays = (replays.0, replays_by_one by_bytes inodes changes (applied change v) w replays.1)
+replays_by_one by_sizes inodes [] v w replays = replays
+replays_by_one by_sizes inodes (change ∷ changes) v w replays = ((replays.0, replays.1), replays_by_one by_sizes inodes changes (applied change v) w replays.2)

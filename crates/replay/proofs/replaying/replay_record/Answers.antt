@@ -1,0 +1,87 @@
+use Rattle.std.proofs.Common.{◌≡◌, ◌⊎◌, ◌∙◌, ℕ, Err, IfErr, IfOk, Result, ap, refl, sym, subst, arith}
+use Rattle.std.specs.Result.{IsErrOf}
+use Rattle.layout.specs.Limits.{Sizes}
+use Rattle.layout.specs.Record.{Change, change_of}
+use Rattle.model.specs.Records.{Applies, applied, work_of}
+use Rattle.model.specs.Room.{cost}
+use Rattle.model.specs.declared.errno.Errno.{Errno}
+use Rattle.blocktree.specs.declared.error.ReadError.{ReadError}
+use Rattle.blocktree.specs.declared.error.ReadError.TheVariants.{Damaged, Device, NoMemory}
+use Rattle.images.specs.Replaying.{LeavesPlace}
+use Rattle.inofile.specs.Volumes.{IsVolumeIn}
+use Rattle.inofile.proofs.RoomLaws.{needs_room}
+use Rattle.records.specs.Failures.{told}
+use Rattle.records.specs.Obstacles.{IsObstacle}
+use Rattle.records.specs.Preparing.{IsKnownVolume, IsVolumeFor}
+use Rattle.replay.proofs.GraphLaws.{applies_so, applies_within, known_after, volume_for}
+use Rattle.records.specs.Prepared.{DoesIn}
+use Rattle.records.specs.Standing.{StandsIn}
+use Rattle.records.specs.declared.failure.Failure.{Failure}
+use Rattle.records.specs.declared.prepared.Prepared.{Prepared}
+use Rattle.records.proofs.ObstacleLaws.{obstacle_stops}
+use Rattle.replay.proofs.Errors.{undamaged}
+use Rattle.replay.proofs.replaying.replay_record.Goals as goal
+
+pub returns-in-Err-Refused-clause-replays : goal.returns-in-Err-Refused-clause-replays
+returns-in-Err-Refused-clause-replays g c detail disk settled v change shows has spells applies =
+    let n = c.args.inodes.now.geometry.inodes in
+    let logged = change_of c.in-Some.logged in
+    let same : logged ≡ change = c.in-Some.ensures.only change spells.is spells.spelled in
+    let bars = c.prepare.ensures.refused {detail = detail} disk settled v (record { shows = shows; volume = has.memory })
+    (subst (λ (x : Change). IsVolumeFor detail n x v) (sym same) (volume_for detail n change v has.volume applies)) in
+    let is = c.in-Err-Refused.is ∙ ap (λ (f : Failure). Err f) c.in-Err-Refused.field-0-is in
+    absurd (obstacle_stops n v logged c.in-Err-Refused._errno
+    (subst (λ (r : Result Prepared Failure). IfOk (told r) (λ q. IfErr q (IsObstacle n v logged))) is bars) (subst (Applies n v) (sym same) (applies_so detail n v change applies)))
+
+pub returns-in-Err-Read-clause-replays : goal.returns-in-Err-Read-clause-replays
+returns-in-Err-Read-clause-replays g c detail disk settled v change shows has spells applies =
+    let failed = c.in-Err-Read.is ∙ ap (λ (f : Failure). Err f) c.in-Err-Read.field-0-is in
+    subst (λ (e : ReadError). (e ≡ NoMemory) ⊎ (e ≡ Device)) (cc) (undamaged (λ (_ : Result Prepared Errno). Unit {0}) (Err c.in-Err-Read.error) refl (λ is.
+    c.prepare.ensures.damaged {detail = detail} disk settled v (record { shows = shows; volume = has.memory })
+    (subst (λ (r : Result Prepared Failure). IsErrOf (told r) Damaged) (sym failed) is)))
+
+pub returns-clause-replays : goal.returns-clause-replays
+returns-clause-replays g c detail disk settled v change shows has spells applies =
+    let n = c.args.inodes.now.geometry.inodes in
+    let count = g.B.Blocks.count c.args.blocks.now in
+    let logged = change_of c.in-Some.logged in
+    let same : logged ≡ change = c.in-Some.ensures.only change spells.is spells.spelled in
+    let stands : StandsIn detail g.B.Blocks disk settled v c.args.blocks.now c.args.inodes.now = record { shows = shows; volume = has.memory } in
+    let looks = c.prepare.ensures.looks in
+    let kept = looks.kept disk settled v stands in
+    let did = subst (λ (r : Result Prepared Failure). IfOk r (λ x. DoesIn detail disk settled c.prepare.new.inodes v x logged)) c.in-Ok.is (c.prepare.ensures.does disk settled v stands) in
+    let does = subst (λ (x : Change). DoesIn detail disk settled c.prepare.new.inodes v c.in-Ok.prepared x) same did in
+    let memory = subst (λ (k : ℕ). IsVolumeIn detail k disk settled c.prepare.new.inodes v) looks.reads.count kept.volume in
+    let before = c.size_before.ensures detail count disk settled v memory did.knows in
+    let can = applies_so detail n v change applies in
+    let costs = subst (λ (x : Change). c.cost_of-cost.result ≡ cost (work_of v x)) same (c.cost_of-cost.ensures.cost v before) in (
+      costs,
+      record {
+        memory = c.commit.ensures.volume detail count disk settled v change memory does;
+        volume = subst (λ (s : Sizes). IsKnownVolume detail s.inodes (applied change v)) (sym (c.commit.ensures.geometry ∙ looks.geometry))
+            (known_after detail n v change (λ volume. c.records_keep_volumes.ensures n v change volume can) has.volume can);
+      },
+      λ base. omega (arith, costs, c.commit.ensures.room detail base count disk settled v change memory does, needs_room base v c.args.inodes.now c.prepare.new.inodes looks.geometry looks.needs),
+    )
+
+pub returns-clause-applies : goal.returns-clause-applies
+returns-clause-applies g c detail disk settled v shows has =
+    let n = c.args.inodes.now.geometry.inodes in
+    let logged = change_of c.in-Some.logged in
+    let stands : StandsIn detail g.B.Blocks disk settled v c.args.blocks.now c.args.inodes.now = record { shows = shows; volume = has.memory } in
+    let looks = c.prepare.ensures.looks in
+    let kept = looks.kept disk settled v stands in
+    let does = subst (λ (r : Result Prepared Failure). IfOk r (λ x. DoesIn detail disk settled c.prepare.new.inodes v x logged)) c.in-Ok.is (c.prepare.ensures.does disk settled v stands) in
+    let can = subst (λ (r : Result Prepared Failure). IfOk r (λ _. Applies n v logged)) c.in-Ok.is (c.prepare.ensures.applies disk settled v stands) in
+    let place = subst (λ (r : Result Prepared Failure). IfOk r (λ _. LeavesPlace v logged)) c.in-Ok.is (c.prepare.ensures.place disk settled v stands) in
+    let count = g.B.Blocks.count c.args.blocks.now in
+    let memory = subst (λ (k : ℕ). IsVolumeIn detail k disk settled c.prepare.new.inodes v) looks.reads.count kept.volume in (
+      logged,
+      record { is = c.in-Some.ensures.found.0; spelled = c.in-Some.ensures.found.1 },
+      applies_within detail n v logged can place,
+      record {
+        memory = c.commit.ensures.volume detail count disk settled v logged memory does;
+        volume = subst (λ (s : Sizes). IsKnownVolume detail s.inodes (applied logged v)) (sym (c.commit.ensures.geometry ∙ looks.geometry))
+            (known_after detail n v logged (λ volume. c.records_keep_volumes.ensures n v logged volume can) has.volume can);
+      },
+    )
