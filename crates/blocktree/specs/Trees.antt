@@ -4,6 +4,7 @@ use Rattle.std.specs.Ordering.{nat_cmp}
 use Rattle.std.specs.BTreeMap as tree
 use Rattle.layout.specs.Bytes.{zeros}
 use Rattle.layout.specs.declared.pointer.Pointer.{Pointer}
+use Rattle.buffers.specs.Disks.{IsWhole}
 use Rattle.blocktree.specs.Places.{pointed, place, IsPath}
 use Rattle.blocktree.specs.declared.tree.Slot.{Slot}
 use Rattle.blocktree.specs.declared.tree.Slot.TheVariants.{AsSettled, Changed}
@@ -66,10 +67,12 @@ pub record SameChanges (old new : BlockTree) : Type 0 where
   pub kept : new.kept ≡ old.kept
   pub only : (i : ℕ) → IsChanged new i → IsChanged old i
 
--- what stands on a disk of so many blocks over block i, where the settled inode counts for it, is in the grammar
+-- where the settled inode counts for block i, what stands on a disk of so many blocks over it is in the grammar, and the
+-- block itself can be read
 abbrev pub IsSoundAt : ℕ → (ℕ → List ℕ) → BlockTree → ℕ → Type 0
 IsSoundAt blocks disk t i =
-    (IsChanged t i → ⊥) → i < t.kept → IsPath blocks disk t.pointers t.depth t.count i
+    (IsChanged t i → ⊥) → i < t.kept
+    → IsPath blocks disk t.pointers t.depth t.count i × IsWhole (pointed disk (place disk t.pointers t.depth i))
 
 -- what stands on a disk of so many blocks over the settled blocks is in the grammar
 abbrev pub AreSound : ℕ → (ℕ → List ℕ) → BlockTree → Type 0

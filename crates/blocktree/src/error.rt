@@ -12,7 +12,7 @@ pub enum ReadError {
     /// A device call failed.
     #[error("a device call failed")]
     Device = 2,
-    /// A pointer leads past the disk, or an indirect block is out of its grammar.
+    /// A pointer leads past the disk, an indirect block is out of its grammar, or a sector of a block can't be read.
     #[error("a file's blocks are outside the format")]
     Damaged = 11,
 }
@@ -49,6 +49,7 @@ impl From<BufferError> for ReadError {
         match error {
             BufferError::NoMemory => ReadError::NoMemory,
             BufferError::Device => ReadError::Device,
+            BufferError::Damaged => ReadError::Damaged,
         }
     }
 }

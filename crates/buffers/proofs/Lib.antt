@@ -1,2 +1,3 @@
+pub mod SectorLaws
 pub mod DiskLaws
 pub mod ReadLaws

@@ -42,6 +42,13 @@ impl Block {
         Ok(Block { bytes })
     }
 
+    /// A block in memory has all its bytes. It does nothing.
+    pub(crate) fn is_whole(&self)
+        ensures { length self.now ≡ 4096 }
+    {
+        let _ = &self.bytes;
+    }
+
     pub fn bytes(&self) -> &[u8; BLOCK_BYTES]
         ensures { result.now ≡ self.now }
     {

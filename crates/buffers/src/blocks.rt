@@ -1,6 +1,7 @@
 //! The blocks of the disk as the layers above read them.
 
 ghost use Rattle.std.specs.Prelude.{◌≡◌, ℕ, ◌<◌, List, OnOk, IsErrOf};
+ghost use Rattle.buffers.specs.Disks.{IsWhole};
 ghost use Rattle.buffers.specs.Failures.{HasGrown};
 
 use crate::BufferError;
@@ -27,13 +28,18 @@ pub trait Blocks {
     fn count(&self) -> u32
         ensures { result ≡ count self.now };
 
-    /// Reads the block at a place into memory, where it isn't there. A place that was resident stays so.
+    /// Reads the block at a place into memory, where it isn't there. A place that was resident stays so. `Damaged` where the
+    /// block isn't whole, since a sector of it can't be read.
     fn make_resident(&mut self, place: BlockNumber) -> Result<(), BufferError>
         requires { place < count self.old }
         ensures count { count self.new ≡ count self.old }
         ensures counted { OnOk result (failed self.new ≡ failed self.old) }
         ensures device { IsErrOf result BufferError.Device
             → HasGrown (failed self.old) (failed self.new) }
+        ensures damaged { (disk : ℕ → List ℕ) → Shows self.old disk
+            → IsErrOf result BufferError.Damaged → IsWhole (disk place) → ⊥ }
+        ensures whole { (disk : ℕ → List ℕ) → Shows self.old disk
+            → OnOk result (IsWhole (disk place)) }
         ensures reads { (start : Self) → ReadsOn start self.old → ReadsOn start self.new }
         ensures same { (disk : ℕ → List ℕ) → Shows self.old disk → Shows self.new disk }
         ensures resident { OnOk result (IsResident self.new place) }

@@ -1,12 +1,13 @@
 //! A station's disk with blocks of it kept in memory.
 
-ghost use Rattle.std.specs.Prelude.{◌≡◌, ℕ, ◌+◌, ◌*◌, ◌/◌, ◌%◌, ◌<◌, ◌≤◌, ◌^◌, List, length, slice_index, OnOk, IfOk, IfErr};
+ghost use Rattle.std.specs.Prelude.{◌≡◌, ℕ, ◌+◌, ◌*◌, ◌/◌, ◌%◌, ◌<◌, ◌≤◌, ◌^◌, List, length, slice_index, OnOk, IfOk, IfErr, IsErrOf};
 ghost use Rattle.std.specs.Ordering.{nat_cmp};
 ghost use Rattle.std.specs.BTreeMap as tree;
 ghost use Rattle.station.specs.Images.{SomeSectorsWritten, SectorsWritten, Unchanged};
-ghost use Rattle.station.specs.Moments.{HasGrown, LeavesJust, SeenGoes};
+ghost use Rattle.station.specs.Moments.{HasGrown, LeavesJust, SeenGoes, Shows};
 ghost use Rattle.station.specs.Calls.{WriteCall};
-ghost use Rattle.buffers.specs.Disks.{IsBlock, IsDisk, ShowsDisk, ReadsOn, disk_with_block, disk_with_sector};
+ghost use Rattle.layout.specs.Places.{blocks_of};
+ghost use Rattle.buffers.specs.Disks.{IsBlock, IsDisk, IsWhole, ShowsDisk, ReadsOn, disk_with_block, disk_with_sector};
 
 use crate::{Block, Blocks, BufferError};
 use layout::{BLOCK_BYTES, BlockNumber, SECTOR_BYTES};
@@ -23,7 +24,7 @@ pub struct Buffers<S> {
     alloc: Global,
 }
 
-/// Reads a block.
+/// Reads a block. `Damaged` where a sector of it can't be read.
 fn read_block<S: Station>(alloc: Global, station: &mut S, place: u32) -> Result<Block, BufferError>
     requires within { 8 * place + 8 ≤ (S.meaning station.old).sectors }
     requires fits { 8 * place + 8 < 2 ^ 32 }
@@ -34,13 +35,18 @@ fn read_block<S: Station>(alloc: Global, station: &mut S, place: u32) -> Result<
         → HasGrown (S.meaning station.old).failed_reads (S.meaning station.new).failed_reads) }
     ensures block { (S.meaning station.old).is_honest
         → IfOk result (IsBlock (S.meaning station.old).seen.disk place) }
+    ensures damaged { IsErrOf result BufferError.Damaged
+        → Shows (S.meaning station.old) (λ c. IsWhole (blocks_of c.disk place) → ⊥) }
 {
     let mut block = Block::zeroed(alloc)?;
     for i in 0..8u32 {
         let mut sector = [0u8; SECTOR_BYTES];
-        let Ok(()) = station.read_sector(8 * place + i, &mut sector) else {
+        let Ok(is_readable) = station.read_sector(8 * place + i, &mut sector) else {
             return Err(BufferError::Device);
         };
+        if !is_readable {
+            return Err(BufferError::Damaged);
+        }
         block.put(512 * i as usize, &sector);
     }
     Ok(block)
@@ -65,7 +71,8 @@ impl<S: Station> Blocks for Buffers<S> {
 
     fn make_resident(&mut self, place: BlockNumber) -> Result<(), BufferError> {
         let place = place.get();
-        if self.kept.contains_key(&place) {
+        if let Some(block) = self.kept.get(&place) {
+            block.is_whole();
             return Ok(());
         }
         let _ = self.station.sectors();
@@ -101,7 +108,8 @@ impl<S: Station> Buffers<S> {
         }
     }
 
-    /// Writes a block to its place, which then reads so. It takes no memory. Where it fails, the place may read either way.
+    /// Writes a block to its place, which then reads so. It takes no memory. Where it fails, each sector of the place may
+    /// read either way, or can't be read.
     pub fn store(
         &mut self,
         place: BlockNumber,
@@ -137,7 +145,8 @@ impl<S: Station> Buffers<S> {
         self.kept.clear();
     }
 
-    /// Writes a sector, which then reads so. It takes no memory. Where it fails, the sector may read either way.
+    /// Writes a sector, and its block then reads as the station has it. It takes no memory. Where it fails, the sector may
+    /// read either way, or can't be read.
     pub fn store_sector(
         &mut self,
         sector: u32,
@@ -153,7 +162,7 @@ impl<S: Station> Buffers<S> {
             → ShowsDisk (S.meaning self.old.station) self.old.kept disk
             → OnOk result
             (ShowsDisk (S.meaning self.new.station) self.new.kept
-            (disk_with_sector sector bytes.now disk)) }
+            (disk_with_sector (S.meaning self.new.station).seen.disk sector disk)) }
     {
         let _ = self.kept.remove(&(sector / 8));
         match self.station.write_sector(sector, bytes) {

@@ -11,6 +11,9 @@ pub enum BufferError {
     /// A device call failed.
     #[error("a device call failed")]
     Device = 2,
+    /// A sector of the block can't be read.
+    #[error("a sector can't be read")]
+    Damaged = 11,
 }
 
 impl From<AllocError> for BufferError {

@@ -177,4 +177,4 @@ module _ {B T : Type 0} {changes : T → Option Changing} {G : Ghosts B} {a b : 
       carried (PreparesWith changes G a b s t P) q is
       (refuses decides.looks (obstacle_own change errno decides.own)
       (λ disk settled v table stands volume mounted. answers disk settled v table stands volume errno (λ sure. decides.refused {detail = by_bytes} disk settled v sure volume)))
-  hindered (Read e) q is decides answers = stops q is decides.looks decides.damaged
+  hindered (Read e) q is decides answers = stops q is decides.looks (λ disk settled v stands. decides.damaged disk settled v stands tt)

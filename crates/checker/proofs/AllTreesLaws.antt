@@ -8,14 +8,15 @@ use Rattle.layout.specs.declared.pointer.Pointer.{Pointer}
 use Rattle.layout.specs.declared.pointer.Pointer.TheVariants.{Block, Hole}
 use Rattle.layout.specs.declared.root.Root.{Root}
 use Rattle.images.specs.BlockMap.{HasBit, IsSystem}
-use Rattle.images.specs.Faults.{IsFaultless}
+use Rattle.images.specs.Faults.{IsFaultless, IsTreeGrammar}
 use Rattle.images.specs.Roots.{Reach, frozen_at, slot, whole}
 use Rattle.images.proofs.EmptyLaws.{free_named}
 use Rattle.checker.specs.Findings.{HasTree, ShouldHave, tree_in}
 use Rattle.checker.specs.Rows.{KeepsTrees, PlaneAt}
-use Rattle.checker.specs.Trees.{AreTrees, IsApart, IsSeen}
+use Rattle.checker.specs.Trees.{AreTrees, IsApart, IsSeen, IsTreeOf}
 use Rattle.checker.specs.declared.tree.Tree.{Tree}
 use Rattle.checker.proofs.EachLaws.{contained, contains, some_at}
+use Rattle.checker.proofs.WholeLaws.{out_number}
 
 -- a slot is a hole, or it has a tree
 has_or_not : (r : Root) (k : ℕ) → HasTree r k ⊎ ((slot r k ≡ Hole) × (1 ≤ k))
@@ -47,6 +48,12 @@ pub stays_clean : (r : Root) (trees : List Tree) (Known : Tree → Type 0) (befo
 stays_clean r trees Known before after are has stays clean k b none bit =
     clean k b none ((stays k (λ i at. none (subst (HasTree r) at.2 (has at.0 (are.each at.0 (contains trees i at.0 at.1))))) b).0 bit)
 
+-- the newest root's tree, which is in its grammar
+pub record IsNewest (disk : Blocks) (r : Root) (t : Tree) : Type 0 where
+  pub tree : IsTreeOf disk r t
+  pub plane : t.plane ≡ 0
+  pub grammar : IsTreeGrammar r.geometry (whole disk r).active
+
 module _ (disk : Blocks) (r : Root) (marks : List ℕ) (old new : List Tree) (Known : Tree → Type 0) (are : AreTrees r old Known) (keeps : KeepsTrees old new)
     (seen : (i : ℕ) (t : Tree) → slice_get new i ≡ Some t → IsSeen disk r marks t × (t.fault ≡ None → IsFaultless r.geometry (tree_in (whole disk r) t.plane))) where
   -- the tree of a number stands somewhere
@@ -64,6 +71,18 @@ module _ (disk : Blocks) (r : Root) (marks : List ℕ) (old new : List Tree) (Kn
       go : (old : List Tree) → AreTrees r old Known → KeepsTrees old new → q.plane ≡ 0
       go [] are keeps = absurd (omega (arith, are.some))
       go (t ∷ rest) are keeps = sym (ap (λ (x : Tree). x.plane) (keeps.same 0 t q refl is)) ∙ are.first t rest refl
+
+  -- and without a fault, where none is told of it
+  pub first_faultless : (q : Tree) → slice_get new 0 ≡ Some q → q.fault ≡ None → IsFaultless r.geometry (whole disk r).active
+  first_faultless q is none = subst (λ (n : ℕ). IsFaultless r.geometry (tree_in (whole disk r) n)) (first_plane q is) ((seen 0 q is).1 none)
+
+  pub first_known : ((i : ℕ) (t : Tree) → slice_get new i ≡ Some t → IsApart t.fault) → (q : Tree) → slice_get new 0 ≡ Some q → IsNewest disk r q
+  first_known apart q is =
+      let known = (seen 0 q is).0 in record {
+        tree = known.tree;
+        plane = first_plane q is;
+        grammar = subst (λ (n : ℕ). IsTreeGrammar r.geometry (tree_in (whole disk r) n)) (first_plane q is) (known.grammar (λ out. out_number q.fault out (apart 0 q is)));
+      }
 
   pub all_faultless : ((i : ℕ) (t : Tree) → slice_get new i ≡ Some t → t.fault ≡ None) → (k : ℕ) → HasTree r k → IsFaultless r.geometry (tree_in (whole disk r) k)
   all_faultless told k has =

@@ -1,5 +1,5 @@
 -- The trees while a number is looked at: of some it was already, with all that have the same inode there.
-use Rattle.std.proofs.Common.{◌≡◌, ◌∙◌, ℕ, ◌+◌, ◌*◌, ◌/◌, ◌%◌, ◌<◌, ◌≤◌, List, [], length, refl, ap, arith, sym, subst, inl, inr}
+use Rattle.std.proofs.Common.{◌≡◌, ◌∙◌, ℕ, ◌+◌, ◌/◌, ◌%◌, ◌<◌, ◌≤◌, List, [], length, refl, ap, arith, sym, subst, inl, inr}
 use Rattle.std.specs.Prelude.{◌⊎◌, ◌↔◌, Option, Some, slice_get, slice_index_or}
 use Rattle.std.specs.Int.{bit_at}
 use Rattle.std.proofs.lemmas.Bool.{cases_eq, cases_lt}
@@ -17,7 +17,7 @@ use Rattle.checker.specs.Rows.{AreRows, AreTwins, KeepsTrees, SeesInode}
 use Rattle.checker.specs.Trees.{AreTrees, IsOut, IsSeenTo}
 use Rattle.checker.specs.declared.nodes.Shared.{Shared}
 use Rattle.checker.specs.declared.tree.Tree.{Tree}
-use Rattle.checker.proofs.EachLaws.{contained, some_at, some_of}
+use Rattle.checker.proofs.EachLaws.{some_at, some_of}
 use Rattle.checker.proofs.OutLaws.{seen_out}
 use Rattle.checker.proofs.RowLaws.{known_at, plane_same, trees_again, trees_none}
 use Rattle.checker.proofs.SeenLaws.{seen_stays}

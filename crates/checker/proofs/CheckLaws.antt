@@ -14,34 +14,20 @@ use Rattle.images.specs.Snapshots.{AreSnapshots}
 use Rattle.loading.specs.Slots.{FitsStation}
 use Rattle.checker.specs.Checks.{AreFaultless, IsFaultlessBy, Reports, is_block, report_of}
 use Rattle.checker.specs.Findings.{IsFaultIn, IsFinding, IsFindingUnder}
-use Rattle.checker.specs.Logs.{IsLogFault}
 use Rattle.checker.specs.declared.fault.Fault.{Fault}
 use Rattle.checker.specs.declared.fault.Fault.TheVariants as faults
 use Rattle.checker.specs.declared.fault.Finding.{Finding}
 use Rattle.checker.specs.declared.fault.TreeName.{TreeName}
-use Rattle.checker.specs.declared.fault.TreeName.TheVariants as trees
 use Rattle.checker.specs.declared.report.Summary.{Summary}
 
 -- ---- under a root
-
--- the log's fault
-pub log_finding : (r : Root) (w : Whole) (nvram : List ℕ) (fault : Fault) → IsLogFault fault → ((changes : List Change) → HasLog r w nvram changes → ⊥) → IsFindingUnder r w nvram trees.Image fault
-log_finding r w nvram (faults.Log found) is not = not
-log_finding r w nvram (faults.Roots found) is not = absurd is
-log_finding r w nvram (faults.Snapshot k block found) is not = absurd is
-log_finding r w nvram (faults.Tree found) is not = absurd is
-log_finding r w nvram (faults.Shared block first second) is not = absurd is
-log_finding r w nvram (faults.MapBit block is_entry should) is not = absurd is
-log_finding r w nvram (faults.InodeMap number is_taken) is not = absurd is
-log_finding r w nvram (faults.Directory found) is not = absurd is
-log_finding r w nvram (faults.Links number names links) is not = absurd is
 
 -- nothing was found
 pub faultless_by : (r : Root) (w : Whole) (nvram : List ℕ) (s : Summary) (free count : ℕ) (changes : List Change) → AreSnapshots r w → AreFaultless r w free → HasLog r w nvram changes → count ≡ length changes
     → s.generation ≡ r.generation → s.snapshots ≡ count_by is_block r.snapshots → s.records ≡ count → s.free ≡ free → IsFaultlessBy r w nvram s
 faultless_by r w nvram s free count changes snapshots trees log counted generation slots records left = record {
   changes = changes;
-  under = record { snapshots = snapshots; active = trees.trees 0 tt; frozen = frozen; exact = trees.exact; log = log };
+  under = record { snapshots = snapshots; active = trees.trees 0 tt; frozen = frozen; readable = trees.readable; exact = trees.exact; log = log };
   figures = record { generation_is = generation; snapshots_are = slots; records_are = records ∙ counted; free_is = left ∙ trees.free_is };
 }
   where

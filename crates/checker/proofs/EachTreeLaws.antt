@@ -1,6 +1,6 @@
 -- What a look at a tree to its end tells: its fault, or that there is none.
 use Rattle.std.proofs.Common.{◌≡◌, ◌⊎◌, ◌∙◌, ◌+◌, ◌-◌, ◌*◌, ◌<◌, ◌≤◌, ℕ, Bool, true, false, List, Option, Some, None, Result, Ok, Err, length, set, refl, sym, ap, subst, inl, inr, arith}
-use Rattle.std.specs.Prelude.{◌≢◌, IsTrue, if◌then◌else◌, nat_lt, slice_get, slice_index_or}
+use Rattle.std.specs.Prelude.{◌≢◌, IsTrue, if◌then◌else◌, nat_lt, slice_get}
 use Rattle.std.specs.Option.{is_some}
 use Rattle.std.specs.Int.{div_ceil}
 use Rattle.std.proofs.Math.Nat.{eq-or-lt_of_le}

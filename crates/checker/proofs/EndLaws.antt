@@ -11,6 +11,7 @@ use Rattle.checker.specs.Trees.{IsSeen, IsSeenTo}
 use Rattle.checker.specs.declared.fault.Fault.{Fault}
 use Rattle.checker.specs.declared.fault.Fault.TheVariants as faults
 use Rattle.checker.specs.declared.fault.TreeName.{TreeName}
+use Rattle.checker.specs.declared.fault.TreeName.TheVariants as trees
 use Rattle.checker.specs.declared.nodes.Shared.{Shared}
 use Rattle.checker.specs.declared.tree.Tree.{Tree}
 
@@ -25,7 +26,9 @@ pub record IsEnded {B : Type 0} (Shows : B → (ℕ → List ℕ) → Type 0) (b
 pub tree_finding : (r : Root) (w : Whole) (nvram : List ℕ) (tree : TreeName) (k : ℕ) (fault : Fault) → IsNamedTree r tree k → IsTreeFinding r (tree_in w k) fault → IsFindingUnder r w nvram tree fault
 tree_finding r w nvram tree k (faults.Roots found) named told = absurd told
 tree_finding r w nvram tree k (faults.Snapshot slot block found) named told = absurd told
-tree_finding r w nvram tree k (faults.Tree found) named told = (k, named, told)
+tree_finding r w nvram trees.Image k (faults.Tree found) named told = absurd named
+tree_finding r w nvram trees.Newest k (faults.Tree found) named told = (k, named, told)
+tree_finding r w nvram (trees.Snapshot slot name) k (faults.Tree found) named told = (k, named, told)
 tree_finding r w nvram tree k (faults.Shared block first second) named told = (k, named, told)
 tree_finding r w nvram tree k (faults.MapBit block is should) named told = absurd told
 tree_finding r w nvram tree k (faults.InodeMap number is_taken) named told = (k, named, told)

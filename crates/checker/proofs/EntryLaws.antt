@@ -17,7 +17,8 @@ use Rattle.layout.proofs.SizeLaws.{map_size}
 use Rattle.inode.specs.Files as memory
 use Rattle.inode.specs.declared.file.File.{File}
 use Rattle.images.specs.BlockMap.{IsExact, entry}
-use Rattle.images.specs.Faults.{IsFileGrammar, IsTreeGrammar}
+use Rattle.images.specs.Faults.{IsTreeGrammar}
+use Rattle.images.specs.Soundness.{IsFileGrammar}
 use Rattle.images.specs.Nodes.{Held, file_block, held}
 use Rattle.images.specs.Room.{free_at, free_under}
 use Rattle.images.specs.Roots.{HeldTree, Whole, inode_bytes_at, whole}
@@ -148,15 +149,20 @@ map_known disk r s same grammar = subst (λ (x : Sizes). IsFileGrammar x ((whole
 
 -- the map's file in memory, in a tree in its grammar
 pub record IsMapRead (s : Sizes) (disk : Blocks) (r : Root) (i : Inode) (file : File) : Type 0 where
+  pub is : (whole disk r).active 2 ≡ held disk i
   pub grammar : IsFileGrammar s (held disk i)
+  pub size : i.size ≡ 4 * s.blocks
   pub block : (j : ℕ) (bytes : List ℕ) → bytes ≡ memory.file_block disk file j → bytes ≡ file_block ((whole disk r).active 2) j
 
 pub map_read : (reads : ReadAsHeld) (spells : SpellTrees) (s : Sizes) (disk : Blocks) (r : Root) (t : Tree) (i : Inode) (file : File) → IsRoot r → r.geometry ≡ s → IsTreeOf disk r t → t.plane ≡ 0
     → IsTreeGrammar r.geometry (whole disk r).active → IsInode VERSION s i → inode_bytes_at (memory.file_block disk t.file) 2 ≡ inode_bytes i → IsFileOfInode i file → IsMapRead s disk r i file
+unfolding held
 map_read reads spells s disk r t i file root same is plane grammar fits spelled of =
     let two : (whole disk r).active 2 ≡ held disk i =
     map_inode reads spells s disk r t i same (subst AreSizes same root.head.sizes) is plane (known_tree disk r s t same plane grammar) fits spelled in
     let known = map_known disk r s same grammar in record {
+      is = two;
       grammar = subst (IsFileGrammar s) two known;
+      size = map_size i.kind s i.mode i.links i.size (sym (ap (λ (h : Held). h.inode.kind) two) ∙ grammar.kinds 2) fits.kind;
       block = λ j bytes read. map_block reads s disk ((whole disk r).active 2) i file j bytes two known of read;
     }

@@ -24,18 +24,6 @@ module _ {X : Type 0} where
   get_pushed (z ∷ xs) x zero y is = inl is
   get_pushed (z ∷ xs) x (suc i) y is = elim (get_pushed xs x i y is) [ inl old ↦ inl old | inr new ↦ inr (ap (λ (k : ℕ). suc k) new.0, new.1) ]
 
-  pub get_set : (xs : List X) (i : ℕ) (y : X) → i < length xs → slice_get (set xs i y) i ≡ Some y
-  get_set [] i y low = absurd (omega (arith, low))
-  get_set (x ∷ xs) zero y low = refl
-  get_set (x ∷ xs) (suc i) y low = get_set xs i y (omega (arith, low))
-
-  pub get_other : (xs : List X) (i j : ℕ) (y : X) → j ≢ i → slice_get (set xs i y) j ≡ slice_get xs j
-  get_other [] i j y other = refl
-  get_other (x ∷ xs) zero zero y other = absurd (other refl)
-  get_other (x ∷ xs) zero (suc j) y other = refl
-  get_other (x ∷ xs) (suc i) zero y other = refl
-  get_other (x ∷ xs) (suc i) (suc j) y other = get_other xs i j y (λ same. other (ap (λ (k : ℕ). suc k) same))
-
 -- ---- a table and what is found, as they go on
 
 pub goes_none : (table : List NumberRow) (found : List ℕ) → GoesOn table found table found

@@ -1,4 +1,4 @@
--- In images without a fault none is found.
+-- In images without a fault none is found, where their files can be read.
 use Rattle.std.proofs.Common.{◌≡◌, ◌⊎◌, ◌∙◌, ◌<◌, ℕ, zero, suc, Bool, true, false, List, Some, refl, sym, ap, subst, inl, inr, arith}
 use Rattle.std.specs.Prelude.{◌≢◌, ◌↔◌, IsTrue}
 use Rattle.std.specs.Int.{bit_at}
@@ -10,21 +10,25 @@ use Rattle.layout.specs.Record.{Change}
 use Rattle.layout.specs.declared.kind.Kind.{Kind}
 use Rattle.layout.specs.declared.kind.Kind.TheVariants.{Directory, Free}
 use Rattle.layout.specs.declared.pointer.Pointer.TheVariants.{Block}
+use Rattle.layout.specs.declared.TheConstants.{SLOT_A, SLOT_B}
 use Rattle.layout.specs.declared.root.Root.{Root}
+use Rattle.layout.proofs.OpenLaws.{newest_once}
 use Rattle.model.specs.Paths.{Name}
 use Rattle.model.proofs.CountLemmas.{counts_once}
 use Rattle.model.proofs.ListingLemmas.{names_apart}
 use Rattle.model.specs.Volumes.{entries}
 use Rattle.images.specs.BlockMap.{HasBit, IsExact, entry}
 use Rattle.images.specs.Contents.{content_bytes, content_of}
-use Rattle.images.specs.Faults.{HasNoFault, HasRoots, IsFaultless, IsFaultlessUnder}
+use Rattle.images.specs.Faults.{HasRoots, IsFaultless, IsFaultlessUnder}
 use Rattle.images.specs.Roots.{HeldTree, Whole, whole}
-use Rattle.images.specs.Soundness.{FitsNumber}
+use Rattle.images.specs.Soundness.{FitsNumber, IsReadable}
 use Rattle.checker.specs.Checks.{IsGood, Reports}
-use Rattle.checker.specs.Findings.{HasTree, IsFaultIn, IsFindingUnder, IsNamedTree, IsTreeFinding, ShouldHave, StandsIn, tree_in}
+use Rattle.checker.specs.Findings.{HasTree, IsFaultIn, IsFindingUnder, IsNamedTree, IsTreeFinding, LacksLog, ShouldHave, StandsIn, tree_in}
 use Rattle.checker.specs.declared.fault.Fault.{Fault}
 use Rattle.checker.specs.declared.fault.Fault.TheVariants as faults
 use Rattle.checker.specs.declared.fault.FileNode.{FileNode}
+use Rattle.checker.specs.declared.fault.LogFault.{LogFault}
+use Rattle.checker.specs.declared.fault.LogFault.TheVariants.{Header, Record}
 use Rattle.checker.specs.declared.fault.TreeName.{TreeName}
 use Rattle.checker.specs.declared.fault.TreeName.TheVariants as trees
 use Rattle.checker.specs.declared.report.Report.{Report}
@@ -74,11 +78,11 @@ module _ (r : Root) (t : HeldTree) (is : IsFaultless r.geometry t) where
   no_tree_finding (faults.Tree found) not = not is.grammar
   no_tree_finding (faults.Shared block first second) (one, other, differ) = differ (one_node block first second one other)
   no_tree_finding (faults.InodeMap number is_taken) (taken, free) = map_told number is_taken taken free
-  no_tree_finding (faults.Directory found) not = not is.names
+  no_tree_finding (faults.Directory found) not = not is.names.names
   no_tree_finding (faults.Links number names links) told =
-      let v = is.names.volume in
-      let here = told v is.names.holds in
-      let counted = is.names.graph.counts number here.2 links here.3 here.4 in
+      let v = is.names.names.volume in
+      let here = told v is.names.names.holds in
+      let counted = is.names.counts number here.2 links here.3 here.4 in
       here.1 (counts_once (λ (place : ℕ × Name). entries v place.0 place.1 ≡ Some number) place_apart names links here.0 counted)
   no_tree_finding (faults.Roots found) not = not
   no_tree_finding (faults.Snapshot k block found) not = not
@@ -110,7 +114,7 @@ entry_should r w block should exact told = same_from_bits (entry w.active block)
       | inr other ↦ through (exact.frozen block (suc k) (omega arith) other) (told.frozen (suc k) (omega arith) other)
     ]
 
-module _ (r : Root) (w : Whole) (nvram : List ℕ) (changes : List Change) (under : IsFaultlessUnder r w nvram changes) where
+module _ (r : Root) (w : Whole) (nvram : List ℕ) (changes : List Change) (under : IsFaultlessUnder r w nvram changes) (readable : (n : ℕ) → IsReadable (w.active n)) where
   faultless_tree : (k : ℕ) → HasTree r k → IsFaultless r.geometry (tree_in w k)
   faultless_tree zero has = under.active
   faultless_tree (suc k) has = under.frozen (suc k) has.0 has.1
@@ -123,26 +127,34 @@ module _ (r : Root) (w : Whole) (nvram : List ℕ) (changes : List Change) (unde
   in_tree : (tree : TreeName) (fault : Fault) → (k : ℕ) × IsNamedTree r tree k × IsTreeFinding r (tree_in w k) fault → ⊥
   in_tree tree fault (k, named, told) = no_tree_finding r (tree_in w k) (faultless_tree k (named_tree tree k named)) fault told
 
+  no_log : (found : LogFault) → LacksLog r w nvram found → ⊥
+  no_log Header not = not changes under.log
+  no_log (Record half at) not = not readable changes under.log
+
   pub no_finding_under : (tree : TreeName) (fault : Fault) → IsFindingUnder r w nvram tree fault → ⊥
   no_finding_under tree (faults.Roots found) not = not
   no_finding_under tree (faults.Snapshot k block found) (there, not) = not under.snapshots
   no_finding_under tree (faults.MapBit block is_entry should) (is, differ, told) = differ (sym is ∙ entry_should r w block should under.exact told)
-  no_finding_under tree (faults.Log found) not = not changes under.log
-  no_finding_under tree (faults.Tree found) told = in_tree tree (faults.Tree found) told
+  no_finding_under tree (faults.Log found) not = no_log found not
+  no_finding_under trees.Image (faults.Tree found) not = not under.readable
+  no_finding_under trees.Newest (faults.Tree found) told = in_tree trees.Newest (faults.Tree found) told
+  no_finding_under (trees.Snapshot slot name) (faults.Tree found) told = in_tree (trees.Snapshot slot name) (faults.Tree found) told
   no_finding_under tree (faults.Shared block first second) told = in_tree tree (faults.Shared block first second) told
   no_finding_under tree (faults.InodeMap number is_taken) told = in_tree tree (faults.InodeMap number is_taken) told
   no_finding_under tree (faults.Directory found) told = in_tree tree (faults.Directory found) told
   no_finding_under tree (faults.Links number names links) told = in_tree tree (faults.Links number names links) told
 
--- ---- in images
+-- ---- in images that open
 
-module _ (sectors : ℕ) (disk : ℕ → List ℕ) (nvram : List ℕ) (none : HasNoFault sectors disk nvram)
-    (one : (r : Root) → HasRoots r sectors disk nvram → (changes : List Change) × IsFaultlessUnder r (whole (blocks_of disk) r) nvram changes) where
+module _ (sectors : ℕ) (disk : ℕ → List ℕ) (nvram : List ℕ) (root : Root) (roots : HasRoots root sectors disk nvram) (changes : List Change)
+    (under : IsFaultlessUnder root (whole (blocks_of disk) root) nvram changes) (readable : (n : ℕ) → IsReadable ((whole (blocks_of disk) root).active n)) where
   found_under : (tree : TreeName) (fault : Fault) → (r : Root) × HasRoots r sectors disk nvram × IsFindingUnder r (whole (blocks_of disk) r) nvram tree fault → ⊥
-  found_under tree fault (r, has, told) = let all = one r has in no_finding_under r (whole (blocks_of disk) r) nvram all.0 all.1 tree fault told
+  found_under tree fault (r, has, told) =
+      no_finding_under root (whole (blocks_of disk) root) nvram changes under readable tree fault
+      (subst (λ (x : Root). IsFindingUnder x (whole (blocks_of disk) x) nvram tree fault) (newest_once (disk SLOT_A) (disk SLOT_B) r root has.newest roots.newest) told)
 
   no_fault_in : (tree : TreeName) (fault : Fault) → IsFaultIn sectors disk nvram tree fault → ⊥
-  no_fault_in tree (faults.Roots found) not = not none.root none.roots
+  no_fault_in tree (faults.Roots found) not = not root roots
   no_fault_in tree (faults.Snapshot k block found) told = found_under tree (faults.Snapshot k block found) told
   no_fault_in tree (faults.Tree found) told = found_under tree (faults.Tree found) told
   no_fault_in tree (faults.Shared block first second) told = found_under tree (faults.Shared block first second) told

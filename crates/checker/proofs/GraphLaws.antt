@@ -12,13 +12,13 @@ use Rattle.layout.specs.declared.pointer.Pointer.TheVariants.{Block, Hole}
 use Rattle.layout.specs.declared.root.Root.{Root}
 use Rattle.model.specs.Counting.{Counts}
 use Rattle.model.specs.Paths.{IsName, Name, Path}
-use Rattle.model.specs.Volumes.{Entries, HasNames, IsGraph, Node, Volume, directory_node, enter, entries, file_node, is_directory_node, is_file_node, link_node, names_in, number_at}
+use Rattle.model.specs.Volumes.{Entries, HasNames, Node, Volume, directory_node, enter, entries, file_node, is_directory_node, is_file_node, link_node, names_in, number_at}
 use Rattle.model.specs.declared.limits.TheConstants.{FIRST_NUMBER, ROOT_NUMBER}
 use Rattle.model.proofs.KeptLemmas.{same_or_not}
 use Rattle.model.proofs.OptionLaws.{absent, none_some, some_same}
 use Rattle.model.proofs.WalkLemmas.{number_at-push}
 use Rattle.images.specs.Contents.{Content, HoldsVolume, StandsAs, content_bytes, content_of, tree_contents}
-use Rattle.images.specs.Faults.{HoldsGraph, IsTreeGrammar}
+use Rattle.images.specs.Faults.{CountsNames, HoldsGraph, HoldsNames, IsNaming, IsTreeGrammar}
 use Rattle.images.specs.Nodes.{Held, held}
 use Rattle.images.specs.Roots.{HeldTree, frozen_at, frozen_inode_file, slot, whole}
 use Rattle.images.specs.Soundness.{FitsNumber}
@@ -27,6 +27,7 @@ use Rattle.images.proofs.ReadingLaws.{read_past}
 use Rattle.checker.specs.Findings.{IsTreeFinding, tree_in}
 use Rattle.checker.specs.Links.{AreLinked, AreReached, HasOneName, IsRow, IsUnlinked, IsUnreached}
 use Rattle.checker.specs.Names.{IsAllWalked, IsFirst, IsNamedKind}
+use Rattle.checker.proofs.WalkLaws.{some_place}
 use Rattle.checker.specs.declared.fault.Fault.{Fault}
 use Rattle.checker.specs.declared.names.NumberRow.{NumberRow}
 
@@ -85,10 +86,6 @@ one_named _ one = absurd one
 
 -- ---- counts
 
-some_counted : {A : Type 0} (P : A → Type 0) (count : ℕ) → Counts P count → 1 ≤ count → (a : A) × P a
-some_counted P zero counts some = absurd (omega (arith, some))
-some_counted P (suc count) (a, here, rest) some = (a, here)
-
 one_counted : (P : ℕ × Name → Type 0) (count : ℕ) → Counts P count → count ≤ 1 → (a b : ℕ × Name) → P a → P b → a ≡ b
 one_counted P zero none few a b one other = absurd (none a one)
 one_counted P (suc zero) (c, here, none) few a b one other = to_c a one ∙ sym (to_c b other)
@@ -145,7 +142,7 @@ module _ (s : Sizes) (t : HeldTree) (known : IsKnown s t) (e : Entries) (found :
           let named = one_named (t n).inode.kind one in
           let high : 3 ≤ n = named_high n (t n).inode.kind (known.grammar.kinds n) named in
           let row = row_of n named in
-          let there = some_counted _ row.row.names (walked.counted.counts n row.row row.at) (are n row.row (omega (arith, high, other), row.at) (subst HasOneName (sym row.kind) one)) in
+          let there = some_place _ row.row.names (λ none. omega (arith, none, are n row.row (omega (arith, high, other), row.at) (subst HasOneName (sym row.kind) one))) (walked.counted.counts n row.row row.at) in
           inr (there.0.0, there.0.1, there.1)
     ]
 
@@ -156,7 +153,7 @@ module _ (s : Sizes) (t : HeldTree) (known : IsKnown s t) (e : Entries) (found :
     object n = by (t n).inode.kind refl
       where
         by : (k : Kind) → (t n).inode.kind ≡ k → (o : Option Node) × StandsAs k s.inodes (content_of (t n)) o
-        by kinds.Directory is = (_, (e n, walked.names n (is_found n is), refl))
+        by kinds.Directory is = (_, (e n, (walked.names n (is_found n is)).1, refl))
         by kinds.File is = (_, refl)
         by kinds.Link is = (_, refl)
         by kinds.Free is = (_, refl)
@@ -172,7 +169,7 @@ module _ (s : Sizes) (t : HeldTree) (known : IsKnown s t) (e : Entries) (found :
     directory_at d is =
         let c = content_of (t d) in
         ap (λ (w : Volume). w 0) (known.once (λ _. c) (λ _. v d) (λ _. Some (directory_node c.mode (e d))) (λ _. holds d)
-        (λ _. subst (λ (k : Kind). StandsAs k s.inodes c (Some (directory_node c.mode (e d)))) (sym (walked.counted.reached d is).0) (e d, walked.names d is, refl)))
+        (λ _. subst (λ (k : Kind). StandsAs k s.inodes c (Some (directory_node c.mode (e d)))) (sym (walked.counted.reached d is).0) (e d, (walked.names d is).1, refl)))
 
     same_entry : (d : ℕ) (x : Name) → IsFound d → entries v d x ≡ e d x
     same_entry d x is = ap (λ (o : Option Node). names_in o x) (directory_at d is)
@@ -189,12 +186,12 @@ module _ (s : Sizes) (t : HeldTree) (known : IsKnown s t) (e : Entries) (found :
         step None so m is = none_some is
         step (Some k) so m is = inr (k, x, sym (same_entry k x (found_if k (so k refl) (kind_of k x m is))) ∙ is)
 
-    -- where a directory or a link has no name, it isn't a graph
-    unreached : (fault : Fault) → IsUnreached table fault → IsGraph v → ⊥
-    unreached fault (n, row, is_row, one, none, is) graph =
+    -- where a directory or a link has no name, its names aren't such
+    unreached : (fault : Fault) → IsUnreached table fault → IsNaming v → ⊥
+    unreached fault (n, row, is_row, one, none, is) naming =
         let kind = (walked.counted.rows.each n row (omega (arith, is_row.0)) is_row.1).0 in
         let thing = one_object (t n).inode.kind s.inodes (content_of (t n)) (v n) (holds n) (subst HasOneName kind one) in
-        let path = graph.reached n thing.0 thing.1 in
+        let path = naming.reached n thing.0 thing.1 in
         elim (path_reaches path.0 (Some ROOT_NUMBER) n (λ k is_root. inl (sym (some_same is_root))) path.1) [
           | inl root ↦ omega (arith, root, is_row.0)
           | inr there ↦ subst (HasNames e n) none (walked.counted.counts n row is_row.1) (there.0, there.1) there.2
@@ -254,8 +251,18 @@ module _ (s : Sizes) (t : HeldTree) (known : IsKnown s t) (e : Entries) (found :
             )
       ]
 
+      naming : IsNaming v
+      naming = record {
+        root = ap is_directory_node (directory_at ROOT_NUMBER walked.counted.root);
+        not_root = λ d x is. omega (arith, (walked.counted.used d ROOT_NUMBER x (named d x ROOT_NUMBER is)).ordinary);
+        used = λ d n x is. named_object (t n).inode.kind s.inodes (content_of (t n)) (v n) (holds n) (walked.counted.used d n x (named d x n is)).kind;
+        once = entry_once;
+        names = λ d x some. is_name d x (entries v d x) refl some;
+        reached = found_at;
+      }
+
       module _ (linked : AreLinked table) where
-        counted : (n mode links : ℕ) (bytes : List ℕ) → v n ≡ Some (file_node mode links bytes) → HasNames (entries v) n links
+        counted : CountsNames v
         counted n mode links bytes is =
             let c = content_of (t n) in
             let kind = file_kind c.kind s.inodes c (v n) (holds n) (ap is_file_node is) in
@@ -275,17 +282,6 @@ module _ (s : Sizes) (t : HeldTree) (known : IsKnown s t) (e : Entries) (found :
             links_same : {a b k l : ℕ} {x y : List ℕ} → Some (file_node a k x) ≡ Some (file_node b l y) → k ≡ l
             links_same same = cc
 
-        graph : IsGraph v
-        graph = record {
-          root = ap is_directory_node (directory_at ROOT_NUMBER walked.counted.root);
-          not_root = λ d x is. omega (arith, (walked.counted.used d ROOT_NUMBER x (named d x ROOT_NUMBER is)).ordinary);
-          used = λ d n x is. named_object (t n).inode.kind s.inodes (content_of (t n)) (v n) (holds n) (walked.counted.used d n x (named d x n is)).kind;
-          once = entry_once;
-          names = λ d x some. is_name d x (entries v d x) refl some;
-          counts = counted;
-          reached = found_at;
-        }
-
 -- ---- what the rows tell
 
 -- there are names and found directories by which all directories of a tree were looked into
@@ -295,7 +291,7 @@ HasWalked s t table = (e : Entries) × (found : List ℕ) × IsAllWalked s t e f
 module _ (r : Root) (t : HeldTree) (known : IsKnown r.geometry t) (table : List NumberRow) (walked : HasWalked r.geometry t table) where
   pub unreached_finding : (fault : Fault) → IsUnreached table fault → IsTreeFinding r t fault
   unreached_finding fault none =
-      subst (IsTreeFinding r t) (sym none.5) (λ (g : HoldsGraph r.geometry.inodes t). unreached r.geometry t known walked.0 walked.1 table walked.2 g.volume g.holds fault none g.graph)
+      subst (IsTreeFinding r t) (sym none.5) (λ (g : HoldsNames r.geometry.inodes t). unreached r.geometry t known walked.0 walked.1 table walked.2 g.volume g.holds fault none g.naming)
 
   module _ (are : AreReached table) where
     pub unlinked_finding : (fault : Fault) → IsUnlinked table fault → IsTreeFinding r t fault
@@ -306,7 +302,15 @@ module _ (r : Root) (t : HeldTree) (known : IsKnown r.geometry t) (table : List 
     holds_graph linked =
         let v : Volume = λ n. (object r.geometry t known walked.0 walked.1 table walked.2 are n).0 in
         let holds : HoldsVolume r.geometry.inodes (tree_contents t) v = λ n. (object r.geometry t known walked.0 walked.1 table walked.2 are n).1 in
-        record { volume = v; holds = holds; graph = graph r.geometry t known walked.0 walked.1 table walked.2 v holds are linked }
+        record {
+          names = record {
+            readable = λ n kind. (walked.2.names n (is_found r.geometry t known walked.0 walked.1 table walked.2 are n kind)).0;
+            volume = v;
+            holds = holds;
+            naming = naming r.geometry t known walked.0 walked.1 table walked.2 v holds are;
+          };
+          counts = counted r.geometry t known walked.0 walked.1 table walked.2 v holds are linked;
+        }
 
 -- past the last number all is free
 frozen_ends : (d : Blocks) (inodes n : ℕ) (p : Pointer) → 1 ≤ inodes → inodes ≤ n → (frozen_at d inodes p n).inode.kind ≡ kinds.Free

@@ -1,6 +1,5 @@
 -- The trees of a root as they are read: the inode file, and what it says of each number.
-use Rattle.std.proofs.Common.{◌≡◌, ℕ, zero, suc, ◌+◌, ◌-◌, ◌/◌, ◌%◌, ◌<◌, ◌≤◌, List, refl, ap, sym, subst, ◌∙◌, arith}
-use Rattle.std.proofs.lemmas.Bool.Decides.{nat_tests}
+use Rattle.std.proofs.Common.{◌≡◌, ℕ, zero, suc, ◌+◌, ◌-◌, ◌/◌, ◌%◌, ◌<◌, ◌≤◌, List, drop, refl, ap, sym, subst, ◌∙◌, arith}
 use Rattle.layout.specs.Inode.{IsInode, inode_bytes}
 use Rattle.layout.specs.Limits.{AreSizes, Sizes}
 use Rattle.layout.specs.Places.{Blocks, place}
@@ -20,17 +19,19 @@ use Rattle.blocktree.specs.declared.tree.BlockTree.{BlockTree}
 use Rattle.inode.specs.Bases.{HasPointers}
 use Rattle.inode.specs.Files as memory
 use Rattle.inode.specs.declared.file.File.{File}
-use Rattle.images.specs.Faults.{IsFileGrammar, IsTreeGrammar}
+use Rattle.inode.proofs.HeldLaws.{some_level, starts_based}
+use Rattle.images.proofs.ReadableLaws.{inodes_readable}
+use Rattle.images.specs.Faults.{IsTreeGrammar}
 use Rattle.images.specs.Nodes.{Held, file_block, held}
 use Rattle.images.specs.Roots.{HeldTree, frozen_at, frozen_inode_file, inode_bytes_at, inode_part, inode_under, slot, tree, whole}
-use Rattle.images.specs.Soundness.{IsHeldFile, by_sizes}
+use Rattle.images.specs.Soundness.{IsFileGrammar, IsReadable, by_sizes}
 use Rattle.loading.specs.Images.{IsFileOfInode}
 use Rattle.loading.specs.InodeBlocks.{HasKindOfPlace}
-use Rattle.loading.specs.Laws.{HaveSoundPaths, ReadAsHeld, SpellTrees}
-use Rattle.loading.proofs.EndLaws.{starts_sound_at}
+use Rattle.loading.specs.Laws.{ReadAsHeld, SpellTrees}
 use Rattle.checker.specs.Findings.{HasTree, tree_in}
 use Rattle.checker.specs.Trees.{IsTreeOf}
 use Rattle.checker.specs.declared.tree.Tree.{Tree}
+use Rattle.checker.proofs.ReadableLaws.{AreSoundAt}
 
 -- ---- the tree of a number
 
@@ -66,6 +67,11 @@ number_is disk r t n is =
 pub top_grammar : (disk : Blocks) (r : Root) (s : Sizes) (t : Tree) → IsTreeOf disk r t → IsTreeGrammar s (tree_in (whole disk r) t.plane) → IsFileGrammar s (held disk t.top)
 top_grammar disk r s t is grammar = subst (IsFileGrammar s) (top_is disk r t is) (grammar.files 0)
 
+-- the inode file of a tree in its grammar can be read
+pub top_readable : (disk : Blocks) (r : Root) (s : Sizes) (t : Tree) → IsTreeOf disk r t → IsTreeGrammar s (tree_in (whole disk r) t.plane) → IsReadable (held disk t.top)
+top_readable disk r s t is grammar =
+    inodes_readable r.geometry disk t.top t.top.body refl is.fits.body (λ i. ap (λ (h : Held). drop 4032 (file_block h i)) (sym (top_is disk r t is)) ∙ grammar.inodes.behind i)
+
 pub kind_of_place : (s : Sizes) (t : HeldTree) (n : ℕ) → IsTreeGrammar s t → 1 ≤ n → n < s.inodes → HasKindOfPlace s.inodes n (t n).inode.kind
 kind_of_place s t n grammar some lt = record {
   number = λ _ _. grammar.kinds n;
@@ -76,21 +82,17 @@ kind_of_place s t n grammar some lt = record {
 
 -- ---- a file of memory
 
-pub by_size : (s : Sizes) (h : Held) → IsFileGrammar s h → IsHeldFile by_sizes s h
-by_size s h grammar = record { inode = grammar.inode; indirect = grammar.indirect; ends = tt }
-
--- what stands over its blocks is in the grammar
-pub reached : (paths : HaveSoundPaths) (s : Sizes) (disk : Blocks) (f : Inode) (file : File) (blocks i : ℕ) → IsFileGrammar s (held disk f) → IsFileOfInode f file
+-- what stands over its blocks is in the grammar, and they can be read
+pub reached : (at : AreSoundAt) (s : Sizes) (disk : Blocks) (f : Inode) (file : File) (blocks i : ℕ) → IsFileGrammar s (held disk f) → IsReadable (held disk f) → IsFileOfInode f file
     → blocks ≡ s.blocks → IsSoundAt blocks disk file.tree i
-reached paths s disk f file blocks i grammar is same =
-    subst (λ (n : ℕ). IsSoundAt n disk file.tree i) (sym same)
-    (starts_sound_at s.blocks disk f.body f.size i file.tree file.tree.fits.1 is.starts (paths by_sizes s disk f i (by_size s (held disk f) grammar)))
+reached at s disk f file blocks i grammar readable is same =
+    subst (λ (n : ℕ). IsSoundAt n disk file.tree i) (sym same) (at by_sizes s disk f file.tree i grammar readable (starts_based f file.tree is.starts))
 
 -- its blocks are those that images have
 pub block_is : (reads : ReadAsHeld) (s : Sizes) (disk : Blocks) (f : Inode) (file : File) (i : ℕ) → IsFileGrammar s (held disk f) → IsFileOfInode f file
     → memory.file_block disk file i ≡ file_block (held disk f) i
 block_is reads s disk f file i grammar is =
-    is.blocks disk i ∙ ap (λ (block : ℕ → List ℕ). block i) (reads by_sizes s disk f (by_size s (held disk f) grammar))
+    is.blocks disk i ∙ ap (λ (block : ℕ → List ℕ). block i) (reads by_sizes s disk f grammar)
 
 -- the bytes of an inode in the inode file, as they are read
 pub bytes_at : (reads : ReadAsHeld) (s : Sizes) (disk : Blocks) (r : Root) (t : Tree) (n : ℕ) → IsTreeOf disk r t → IsFileGrammar s (held disk t.top)
@@ -112,12 +114,12 @@ own_is reads spells s disk r t n i same are is grammar some lt fits spelled =
     ∙ spells s disk t.top i n are some lt fits (sym (ap (λ (h : Held). inode_bytes_at (file_block h) n) (top_is disk r t is)) ∙ sym (bytes_at reads s disk r t n is grammar) ∙ spelled)
 
 -- it is there, where the tree is in its grammar
-pub own_there : (reads : ReadAsHeld) (paths : HaveSoundPaths) (s : Sizes) (disk : Blocks) (r : Root) (t : Tree) (n blocks : ℕ) (kind : Kind) → IsTreeOf disk r t
+pub own_there : (reads : ReadAsHeld) (at : AreSoundAt) (s : Sizes) (disk : Blocks) (r : Root) (t : Tree) (n blocks : ℕ) (kind : Kind) → IsTreeOf disk r t
     → IsTreeGrammar s (tree_in (whole disk r) t.plane) → blocks ≡ s.blocks → 1 ≤ n → n < s.inodes → (tree_in (whole disk r) t.plane n).inode.kind ≡ kind
     → (IsSoundAt blocks disk t.file.tree 0 → (i : Inode) → IsInode VERSION s i → i.kind ≡ kind → inode_bytes_at (memory.file_block disk t.file) n ≡ inode_bytes i → ⊥) → ⊥
-own_there reads paths s disk r t n blocks kind is grammar count some lt of_kind none =
+own_there reads at s disk r t n blocks kind is grammar count some lt of_kind none =
     let top = top_grammar disk r s t is grammar in
-    none (reached paths s disk t.top t.file blocks 0 top is.file count) (tree_in (whole disk r) t.plane n).inode (grammar.files n).inode of_kind
+    none (reached at s disk t.top t.file blocks 0 top (top_readable disk r s t is grammar) is.file count) (tree_in (whole disk r) t.plane n).inode (grammar.files n).inode of_kind
     (bytes_at reads s disk r t n is top ∙ grammar.inodes.each n some lt)
 
 -- ---- a node
@@ -126,9 +128,6 @@ own_there reads paths s disk r t n blocks kind is grammar count some lt of_kind 
 abbrev pub StandWhereLed : Type 0
 StandWhereLed = (disk : Blocks) (f : Inode) (pointers : List Pointer) (depth height i : ℕ) → f.body ≡ Pointers pointers
     → level_of f.size ≡ suc (depth + height) → (held disk f).place height i ≡ place disk pointers depth i
-
-pub some_level : (size : ℕ) → 128 < size → level_of size ≡ suc (depth_of size + 0)
-some_level size large = grind (arith, nat_tests, large)
 
 level_over : (level full depth height : ℕ) → level ≡ suc (full + 0) → depth ≡ full → height ≤ depth → level ≡ suc (depth - height + height)
 level_over level full depth height is same le = omega arith

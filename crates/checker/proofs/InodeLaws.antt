@@ -1,5 +1,5 @@
 -- The trees that have an inode at a number, when it is looked at.
-use Rattle.std.proofs.Common.{◌≡◌, ◌∙◌, ℕ, ◌+◌, ◌<◌, ◌≤◌, List, Bool, refl, ap, arith, sym, subst, inl, inr}
+use Rattle.std.proofs.Common.{◌≡◌, ◌∙◌, ℕ, ◌+◌, ◌≤◌, List, Bool, refl, ap, arith, sym, subst, inl, inr}
 use Rattle.std.specs.Prelude.{◌⊎◌, ◌↔◌, IsTrue, Option, Some, None, Result, Ok, Err, slice_get}
 use Rattle.layout.specs.Inode.{IsInode, inode_bytes}
 use Rattle.layout.specs.Limits.{AreSizes}
@@ -9,17 +9,17 @@ use Rattle.layout.specs.declared.inode.Inode.{Inode}
 use Rattle.layout.specs.declared.root.Root.{Root}
 use Rattle.layout.specs.declared.version.TheConstants.{VERSION}
 use Rattle.images.specs.BlockMap.{HasBit}
-use Rattle.images.specs.Faults.{IsFileGrammar, IsTreeGrammar}
+use Rattle.images.specs.Faults.{IsTreeGrammar}
+use Rattle.images.specs.Soundness.{IsFileGrammar}
 use Rattle.images.specs.Nodes.{file_block, held}
 use Rattle.images.specs.Roots.{inode_bytes_at, whole}
 use Rattle.loading.specs.InodeBlocks.{HasKindOfPlace, IsInodeAt}
 use Rattle.loading.specs.Laws.{EndTrees, SpellTrees}
 use Rattle.checker.specs.Errors.{TellsFault}
 use Rattle.checker.specs.Findings.{IsTreeFinding, first_fault, tree_in}
-use Rattle.checker.specs.Nodes.{IsAny, KeepsMarks, MarksFor, StaysFor}
+use Rattle.checker.specs.Nodes.{IsAny, KeepsMarks, MarksFor}
 use Rattle.checker.specs.Rows.{AddsToEach, ComparesBits, IsMappedAs, KeepsTrees, SeesInode}
 use Rattle.checker.specs.Trees.{IsOut, IsSeenTo, IsTreeOf}
-use Rattle.checker.specs.declared.error.CheckError.{CheckError}
 use Rattle.checker.specs.declared.error.Halt.{Halt}
 use Rattle.checker.specs.declared.error.Halt.TheVariants as halts
 use Rattle.checker.specs.declared.fault.Fault.{Fault}

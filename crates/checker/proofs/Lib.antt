@@ -2,6 +2,7 @@ mod BetweenLaws
 mod CountLaws
 mod ReadLaws
 mod HaltLaws
+mod ReadableLaws
 mod HeldLaws
 mod SystemLaws
 mod SeenLaws
@@ -24,6 +25,8 @@ mod FoundLaws
 mod NameLaws
 mod WalkLaws
 mod StepLaws
+mod TableLaws
+mod PlaceLaws
 mod GraphLaws
 mod RootLaws
 mod FindingLaws
@@ -33,6 +36,4 @@ mod GoodLaws
 mod WholeLaws
 mod EndLaws
 mod AllTreesLaws
-mod ReplayedLaws
-mod BlockLaws
 mod EachTreeLaws

@@ -15,23 +15,27 @@ use Rattle.model.specs.Volumes.{IsGraph, Volume}
 use Rattle.images.specs.Contents.{HoldsVolume, tree_contents}
 use Rattle.images.specs.Faults.{HasLog}
 use Rattle.images.specs.Replaying.{ReplaysWithin}
-use Rattle.images.specs.Roots.{Whole, whole}
-use Rattle.images.specs.Soundness.{by_sizes}
+use Rattle.images.specs.Nodes.{held}
+use Rattle.images.specs.Roots.{Whole, tree, whole}
+use Rattle.images.specs.Soundness.{IsReadable, by_sizes}
 use Rattle.oplog.specs.LogEnd.{LogEnd, all_bodies}
 use Rattle.oplog.specs.SavedLog.{HoldsLeaving, Saved, TellsLog, end_of}
+use Rattle.inofile.specs.Settled.{CanRead}
 use Rattle.inofile.specs.Volumes.{IsVolumeIn}
 use Rattle.inofile.specs.declared.inode_file.InodeFile.{InodeFile}
 use Rattle.loading.specs.Images.{AreInodesIn, inodes_of}
 use Rattle.model.specs.declared.limits.TheConstants.{FIRST_NUMBER, ROOT_NUMBER}
 use Rattle.replay.specs.Volumes.{AppliesIn, HasVolumeIn, LeadTo, ReplaysIn, SpellsRecord, bodies_of}
-use Rattle.checker.proofs.ReplayedLaws.{none_behind, one_in_front}
-use Rattle.checker.proofs.ReplayedLaws.{LeadOn, joined_bodies, lead_on}
+use Rattle.replay.proofs.RecordLaws.{none_behind, one_in_front}
+use Rattle.replay.proofs.SavedLaws.{LeadOn, joined_bodies, lead_on}
 use Rattle.checker.specs.Checks.{Passes}
 use Rattle.checker.specs.Errors.{IsHaltFault, OrFault}
-use Rattle.checker.specs.Logs.{IsLogFault, TellsRecords}
+use Rattle.checker.specs.Findings.{IsFindingUnder}
+use Rattle.checker.specs.Logs.{IsRecordFault, TellsRecords}
 use Rattle.checker.specs.declared.error.Halt.{Halt}
 use Rattle.checker.specs.declared.error.Halt.TheVariants as halts
 use Rattle.checker.specs.declared.fault.Fault.{Fault}
+use Rattle.checker.specs.declared.fault.TreeName.TheVariants.{Image}
 
 -- a record in front of others that lead on
 pub in_front : (inodes : ℕ) (rest body after : List ℕ) (change : Change) (more : List Change) (now w : Volume) → length body < 2 ^ 32 → rest ≡ record_of body ++ after → SpellsRecord body change
@@ -137,17 +141,22 @@ has_volume disk r count inodes v is are holds graph numbers = record {
   };
 }
 
+-- the files of a root's tree that can be read, by its inodes
+pub can_read : (disk : Blocks) (r : Root) → ((n : ℕ) → IsReadable ((whole disk r).active n)) → CanRead by_sizes disk (inodes_of (whole disk r).active)
+unfolding whole tree held
+can_read disk r readable n = readable n
+
 -- ---- a half that has a fault
 
-pub failed : (r : Root) (w : Whole) (nvram : List ℕ) (q : Result ℕ Halt) (h : Halt) → IsErrAnd q (λ f. f ≡ h) → Passes {T = ℕ} (λ _. Unit {0}) IsLogFault (Err h)
-    → ((changes : List Change) → HasLog r w nvram changes → Passes {T = ℕ} (λ _. Unit {0}) (λ _. ⊥) (Err h)) → TellsRecords r w nvram q
+pub failed : (r : Root) (w : Whole) (nvram : List ℕ) (q : Result ℕ Halt) (h : Halt) → IsErrAnd q (λ f. f ≡ h) → Passes {T = ℕ} (λ _. Unit {0}) IsRecordFault (Err h)
+    → (((n : ℕ) → IsReadable (w.active n)) → (changes : List Change) → HasLog r w nvram changes → Passes {T = ℕ} (λ _. Unit {0}) (λ _. ⊥) (Err h)) → TellsRecords r w nvram q
 failed r w nvram (Ok count) h passed faults refutes = absurd passed
 failed r w nvram (Err halts.NoMemory) h passed faults refutes = tt
 failed r w nvram (Err halts.Device) h passed faults refutes = tt
-failed r w nvram (Err (halts.Fault fault)) h passed faults refutes = (
-  subst (λ (e : Halt). Passes {T = ℕ} (λ _. Unit {0}) IsLogFault (Err e)) (sym passed) faults,
-  λ changes log. subst (λ (e : Halt). Passes {T = ℕ} (λ _. Unit {0}) (λ _. ⊥) (Err e)) (sym passed) (refutes changes log),
-)
+failed r w nvram (Err (halts.Fault fault)) h passed faults refutes =
+    let is : IsRecordFault fault = subst (λ (e : Halt). Passes {T = ℕ} (λ _. Unit {0}) IsRecordFault (Err e)) (sym passed) faults in
+    subst (IsFindingUnder r w nvram Image) (sym is.2)
+    (λ readable changes log. subst (λ (e : Halt). Passes {T = ℕ} (λ _. Unit {0}) (λ _. ⊥) (Err e)) (sym passed) (refutes readable changes log))
 
 -- records by the sizes and the bytes that they are read by
 pub lead_over : (s t : Sizes) (records bytes : List ℕ) (changes : List Change) (v w : Volume) → s ≡ t → records ≡ bytes → LeadTo by_sizes t.inodes bytes changes v w → LeadTo by_sizes s.inodes records changes v w

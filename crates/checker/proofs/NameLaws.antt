@@ -19,7 +19,7 @@ use Rattle.model.proofs.ListingLemmas.{names_apart}
 use Rattle.model.proofs.OptionLaws.{none_some}
 use Rattle.model.proofs.WalkLemmas.{edge_here, edge_other}
 use Rattle.images.specs.Contents.{IsDirectoryOf, StandsAs, content_of}
-use Rattle.images.specs.Faults.{HoldsGraph}
+use Rattle.images.specs.Faults.{HoldsNames}
 use Rattle.images.specs.Nodes.{file_block}
 use Rattle.images.specs.Roots.{HeldTree}
 use Rattle.checker.specs.Walks.{AddsEntries, HasCounted, HasRows, IsAwaited, IsOnWay}
@@ -206,7 +206,7 @@ look x rows (suc count) = elim (look x rows count) [
     ])
 
 -- the next block of a directory is awaited, whatever graph the tree holds
-module _ (inodes : ℕ) (t : HeldTree) (d i : ℕ) (rows : ℕ → List Named) (e f : Entries) (g : HoldsGraph inodes t) (limit : inodes ≤ 2 ^ 32) (kind : (t d).inode.kind ≡ Directory) (low : i < (t d).inode.size / BLOCK_BYTES) (has : HasRows inodes i (file_block (t d)) d rows e f) where
+module _ (inodes : ℕ) (t : HeldTree) (d i : ℕ) (rows : ℕ → List Named) (e f : Entries) (g : HoldsNames inodes t) (limit : inodes ≤ 2 ^ 32) (kind : (t d).inode.kind ≡ Directory) (low : i < (t d).inode.size / BLOCK_BYTES) (has : HasRows inodes i (file_block (t d)) d rows e f) where
   stands : StandsAs Directory inodes (content_of (t d)) (g.volume d)
   stands = subst (λ (k : Kind). StandsAs k inodes (content_of (t d)) (g.volume d)) kind (g.holds d)
 

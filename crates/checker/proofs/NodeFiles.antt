@@ -19,9 +19,8 @@ use Rattle.layout.specs.declared.version.TheConstants.{VERSION}
 use Rattle.layout.proofs.PointerLaws.{no_block}
 use Rattle.layout.proofs.SizeLaws.{level_none, level_one, level_two}
 use Rattle.blocktree.specs.Names.{nodes_at}
-use Rattle.images.specs.Faults.{IsFileGrammar}
 use Rattle.images.specs.Nodes.{held, pointers_of}
-use Rattle.images.specs.Soundness.{nodes_of_size}
+use Rattle.images.specs.Soundness.{IsFileGrammar, nodes_of_size}
 use Rattle.images.proofs.EmptyLaws.{held_inode}
 use Rattle.images.proofs.OverlayLaws.{held_up}
 use Rattle.images.proofs.ReadingLaws.{highest}
@@ -87,6 +86,7 @@ module _ (d : Blocks) (f : Inode) (s : Sizes) (blocks count : ℕ) (same : s.blo
         subst (λ (n : ℕ). IsIndirectBlock n (nodes_at count m - 1024 * i) (d b)) (sym same) (are m i b tt is) in
         subst (λ (n : ℕ). IsIndirectBlock s.blocks n ((held d f).bytes (suc m) i)) (sym (ap (λ (n : ℕ). nodes_of_size n m - 1024 * i) size ∙ few m i))
         (subst (IsIndirectBlock s.blocks (nodes_at count m - 1024 * i)) (sym (node_bytes d f (suc m) i b is)) sized);
+    bytes = tt;
   }
 
   -- an inode with no node

@@ -267,16 +267,13 @@ module _ (blocks : ℕ) (disk : Blocks) (h : Held) (node : FileNode) (height use
 
 -- NUMBERS
 
-pub used_same : (nodes first used i n : ℕ) → nodes ≡ n → first ≡ min (1024 * i) (2 ^ 32 - 1) → used ≡ nodes - first → nodes < 2 ^ 32 → used ≡ n - 1024 * i
-used_same nodes first used i n is first_is used_is low = omega arith
-
 pub indirect_same : (a b used : ℕ) (x y : List ℕ) → a ≡ b → x ≡ y → IsIndirectBlock a used x → IsIndirectBlock b used y
 indirect_same a b used x y blocks bytes good = subst (λ (n : ℕ). IsIndirectBlock n used y) blocks (subst (IsIndirectBlock a used) bytes good)
 
 -- an indirect block in its grammar stands before the file's end
-pub first_exact : (blocks used nodes first i : ℕ) (bytes : List ℕ) → IsIndirectBlock blocks used bytes → first ≡ min (1024 * i) (2 ^ 32 - 1) → used ≡ nodes - first → nodes < 2 ^ 32 → first ≡ 1024 * i
-first_exact blocks used nodes first i bytes good first_is used_is low = elim (cases_lt good.some.0 used) [
-  | inl lt ↦ omega (arith, lt)
+pub first_exact : (blocks used first i : ℕ) (bytes : List ℕ) → IsIndirectBlock blocks used bytes → first ≡ min (1024 * i) (2 ^ 32 - 1) → (1 ≤ used → 1024 * i + used < 2 ^ 32) → first ≡ 1024 * i
+first_exact blocks used first i bytes good is low = elim (cases_lt good.some.0 used) [
+  | inl lt ↦ omega (arith, is, low (omega (arith, lt)))
   | inr ge ↦ absurd (good.some.2 ((good.within good.some.0 good.some.1).1 ge))
 ]
 

@@ -1,5 +1,5 @@
 -- A number of a tree that is looked at.
-use Rattle.std.proofs.Common.{◌≡◌, ◌≢◌, ◌∙◌, ℕ, zero, suc, ◌+◌, ◌-◌, ◌<◌, ◌≤◌, List, drop, Bool, true, false, refl, ap, arith, sym, subst, inl, inr}
+use Rattle.std.proofs.Common.{◌≡◌, ◌∙◌, ℕ, zero, suc, ◌+◌, ◌-◌, ◌<◌, ◌≤◌, List, drop, Bool, true, false, refl, ap, arith, sym, subst, inl, inr}
 use Rattle.std.specs.Prelude.{◌⊎◌, ◌↔◌, IsTrue, Option, Some, None, slice_index, slice_index_or}
 use Rattle.std.proofs.Math.Nat.{eq-or-lt_of_le}
 use Rattle.std.proofs.lemmas.Bool.{cases_lt}
@@ -13,28 +13,28 @@ use Rattle.layout.specs.declared.inode.Body.TheVariants.{Inline, Pointers}
 use Rattle.layout.specs.declared.inode.Inode.{Inode}
 use Rattle.layout.specs.declared.kind.Kind.{Kind}
 use Rattle.layout.specs.declared.kind.Kind.TheVariants.{Free}
-use Rattle.layout.specs.declared.pointer.Pointer.TheVariants.{Block}
 use Rattle.layout.specs.declared.root.Root.{Root}
 use Rattle.layout.specs.declared.version.TheConstants.{VERSION}
 use Rattle.images.specs.BlockMap.{HasBit}
 use Rattle.images.specs.Contents.{content_bytes, content_of}
-use Rattle.images.specs.Faults.{IsFileGrammar, IsTreeGrammar, MapsWithin}
+use Rattle.images.specs.Faults.{IsTreeGrammar, MapsWithin}
+use Rattle.images.specs.Soundness.{IsFileGrammar}
 use Rattle.images.specs.Nodes.{Held, IsOnce, Names, file_block, held}
 use Rattle.images.specs.Roots.{HeldTree, free_inode, inode_bytes_at, whole}
 use Rattle.images.proofs.EmptyLaws.{free_bytes, free_fits, free_named}
 use Rattle.loading.specs.InodeBlocks.{HasKindOfPlace, IsInodeAt}
 use Rattle.loading.specs.Laws.{EndTrees, SpellTrees}
-use Rattle.checker.specs.Findings.{IsTreeFinding, StandsIn, first_fault, tree_in}
+use Rattle.checker.specs.Findings.{IsTreeFinding, StandsIn, tree_in}
 use Rattle.checker.specs.Nodes.{IsAny, KeepsShared, LooksUnder, MarksNodes, SharesNone}
 use Rattle.checker.specs.Rows.{IsMappedAs}
-use Rattle.checker.specs.Trees.{AreMapped, HasInodes, HasMaps, HasMarked, IsBefore, IsOut, IsSeenTo, IsTreeOf, SharesBlock}
+use Rattle.checker.specs.Trees.{HasMarked, IsBefore, IsOut, IsSeenTo, IsTreeOf, SharesBlock}
 use Rattle.checker.specs.declared.fault.Fault.{Fault}
 use Rattle.checker.specs.declared.fault.Fault.TheVariants.{InodeMap}
 use Rattle.checker.specs.declared.fault.FileNode.{FileNode}
 use Rattle.checker.specs.declared.nodes.Shared.{Shared}
 use Rattle.checker.specs.declared.tree.Tree.{Tree}
 use Rattle.checker.proofs.HeldLaws.{kind_of_place, top_is, tree_is}
-use Rattle.checker.proofs.OutLaws.{first_found, tree_again}
+use Rattle.checker.proofs.OutLaws.{tree_again}
 
 -- ---- the inode of a number
 
@@ -100,6 +100,7 @@ number_grammar disk s t n i (inl own) fits grammar = subst (IsFileGrammar s) own
 number_grammar disk s t n i (inr none) fits grammar = record {
   inode = subst (IsInode VERSION s) (sym (held_inode disk i)) fits;
   indirect = λ m k b there. absurd (none.1 b (record { height = suc m; index = k; is = there }));
+  bytes = tt;
 }
 
 kind_is : (disk : Blocks) (t : HeldTree) (n : ℕ) (i : Inode) → IsNumbers disk t n i → 1 ≤ n → (t n).inode.kind ≡ i.kind

@@ -17,13 +17,13 @@ use Rattle.layout.specs.declared.inode.Inode.{Inode}
 use Rattle.layout.specs.declared.root.Root.{Root}
 use Rattle.images.specs.BlockMap.{HasBit}
 use Rattle.images.specs.Contents.{content_bytes, content_of}
-use Rattle.images.specs.Faults.{IsFileGrammar, IsMapGrammar, IsTreeGrammar, MapsWithin}
+use Rattle.images.specs.Faults.{IsMapGrammar, IsTreeGrammar, MapsWithin}
 use Rattle.images.specs.Nodes.{Held, IsOnce, Names, held}
 use Rattle.images.specs.Roots.{HeldTree, whole}
-use Rattle.images.specs.Soundness.{HasNoHole, by_sizes, nodes_of_size}
+use Rattle.images.specs.Soundness.{HasNoHole, IsFileGrammar, IsReadable, by_sizes, nodes_of_size}
 use Rattle.blocktree.specs.Places.{depth_of}
-use Rattle.loading.specs.Laws.{AreMapFiles, HaveSoundPaths, ReadAsHeld}
-use Rattle.loading.specs.Readings.{IsBodyPath, IsMapFile, IsStored, inode_bytes_of}
+use Rattle.loading.specs.Laws.{AreMapFiles, HaveSoundPaths, HaveWholeBodies, ReadAsHeld}
+use Rattle.loading.specs.Readings.{IsBodyPath, IsMapFile, IsStored, IsWholeBody, inode_bytes_of}
 use Rattle.checker.specs.Checks.{Passes}
 use Rattle.checker.specs.Findings.{IsTreeFinding, tree_in}
 use Rattle.checker.specs.Nodes.{IsAny, LooksUnder, MarksFile, SharesNone}
@@ -34,7 +34,9 @@ use Rattle.checker.specs.declared.fault.Fault.{Fault}
 use Rattle.checker.specs.declared.fault.FileNode.{FileNode}
 use Rattle.checker.specs.declared.nodes.Shared.{Shared}
 use Rattle.checker.specs.declared.tree.Tree.{Tree}
-use Rattle.checker.proofs.HeldLaws.{StandWhereLed, by_size, some_level}
+use Rattle.inode.proofs.HeldLaws.{some_level}
+use Rattle.checker.proofs.HeldLaws.{StandWhereLed}
+use Rattle.checker.proofs.ReadableLaws.{block_readable}
 
 -- a tree is out of its grammar
 abbrev pub TellsOut : Root → HeldTree → Fault → Type 0
@@ -106,13 +108,14 @@ unfolding held
 map_grammar led reads s disk f h is file grammar = subst IsMapGrammar (sym is) (
     let own : IsFileGrammar s (held disk f) = subst (IsFileGrammar s) is grammar in record {
       stored = stored_all led s disk f f.body refl own.inode.body file.stored;
-      ends = subst (λ (block : ℕ → List ℕ). EndsAt f.size (byte_in block)) (reads by_sizes s disk f (by_size s (held disk f) own)) file.ends;
+      last = λ b there. block_readable s disk f (f.size / 4096) b own file.last there;
+      ends = subst (λ (block : ℕ → List ℕ). EndsAt f.size (byte_in block)) (reads by_sizes s disk f own) file.ends;
     })
 
 pub map_bytes : (reads : ReadAsHeld) (s : Sizes) (disk : Blocks) (f : Inode) (h : Held) → h ≡ held disk f → IsFileGrammar s h → inode_bytes_of disk f ≡ content_bytes (content_of h)
 unfolding held
 map_bytes reads s disk f h is grammar =
-    ap (λ (block : ℕ → List ℕ). first_bytes (byte_in block) f.size) (reads by_sizes s disk f (by_size s (held disk f) (subst (IsFileGrammar s) is grammar)))
+    ap (λ (block : ℕ → List ℕ). first_bytes (byte_in block) f.size) (reads by_sizes s disk f (subst (IsFileGrammar s) is grammar))
     ∙ sym (ap (λ (x : Held). content_bytes (content_of x)) is)
 
 -- ---- and in a tree in its grammar they read so
@@ -120,13 +123,19 @@ map_bytes reads s disk f h is grammar =
 pub map_paths : (paths : HaveSoundPaths) (s : Sizes) (disk : Blocks) (f : Inode) (h : Held) (blocks i : ℕ) → h ≡ held disk f → IsFileGrammar s h → blocks ≡ s.blocks
     → IsBodyPath blocks disk f.body f.size i
 map_paths paths s disk f h blocks i is grammar count =
-    subst (λ (n : ℕ). IsBodyPath n disk f.body f.size i) (sym count) (paths by_sizes s disk f i (by_size s (held disk f) (subst (IsFileGrammar s) is grammar)))
+    subst (λ (n : ℕ). IsBodyPath n disk f.body f.size i) (sym count) (paths by_sizes s disk f i (subst (IsFileGrammar s) is grammar))
 
 pub map_reads : (stored : AreMapFiles) (s : Sizes) (disk : Blocks) (f : Inode) (h : Held) → h ≡ held disk f → IsFileGrammar s h → IsMapGrammar h → IsMapFile disk f
 map_reads stored s disk f h is grammar map =
-    let own : IsFileGrammar s (held disk f) = subst (IsFileGrammar s) is grammar in
-    let kept : IsMapGrammar (held disk f) = subst IsMapGrammar is map in
-    stored s disk f (record { inode = own.inode; indirect = own.indirect; ends = kept.ends }) kept.stored
+    stored by_sizes s disk f (subst (IsFileGrammar s) is grammar) (subst IsMapGrammar is map)
+
+-- a map that can be read
+pub map_readable : (s : Sizes) (disk : Blocks) (f : Inode) (h : Held) → h ≡ held disk f → IsWholeBody disk f.body f.size → IsFileGrammar s h → IsReadable h
+map_readable s disk f h is whole grammar =
+    subst IsReadable (sym is) (λ i b there. block_readable s disk f i b (subst (IsFileGrammar s) is grammar) (whole i) there)
+
+pub map_whole : (whole : HaveWholeBodies) (s : Sizes) (disk : Blocks) (f : Inode) (h : Held) → h ≡ held disk f → IsFileGrammar s h → IsReadable h → IsWholeBody disk f.body f.size
+map_whole whole s disk f h is grammar readable = (whole by_sizes s disk f (subst (IsFileGrammar s) is grammar)).0 (subst IsReadable is readable)
 
 pub is_inode_map : (inodes : ℕ) (bytes : List ℕ) → MapsWithin inodes bytes → IsInodeMap 0 inodes bytes
 is_inode_map inodes bytes within = record {

@@ -6,7 +6,7 @@ use Rattle.layout.specs.declared.root.Root.{Root}
 use Rattle.images.specs.Faults.{IsTreeGrammar}
 use Rattle.images.specs.Roots.{HeldTree, whole}
 use Rattle.checker.specs.Findings.{IsTreeFinding, fault_number, first_fault, tree_in}
-use Rattle.checker.specs.Trees.{HasFaultOrNone, IsOut, IsSeenTo, IsTreeOf}
+use Rattle.checker.specs.Trees.{IsOut, IsSeenTo, IsTreeOf}
 use Rattle.checker.specs.declared.fault.Fault.{Fault}
 use Rattle.checker.specs.declared.fault.Fault.TheVariants as faults
 use Rattle.checker.specs.declared.fault.TreeFault.{TreeFault}

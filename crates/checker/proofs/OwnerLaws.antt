@@ -18,20 +18,18 @@ use Rattle.blocktree.specs.Places.{block_count}
 use Rattle.blocktree.specs.Trees.{AreSound}
 use Rattle.blocktree.specs.declared.place_map.PlaceMap.{PlaceMap}
 use Rattle.blocktree.specs.declared.tree.BlockTree.{BlockTree}
-use Rattle.inode.specs.Bases.{StartsFrom}
-use Rattle.images.specs.Faults.{IsFileGrammar}
+use Rattle.inode.specs.Bases.{IsBased, StartsFrom}
+use Rattle.inode.proofs.HeldLaws.{some_level, starts_based}
 use Rattle.images.specs.Nodes.{Held, held}
 use Rattle.images.specs.Roots.{HeldTree, free_inode}
-use Rattle.images.specs.Soundness.{Detail, IsHeldFile, by_sizes, nodes_of_size}
+use Rattle.images.specs.Soundness.{Detail, IsFileGrammar, IsHeldFile, by_sizes, nodes_of_size}
 use Rattle.inode.specs.declared.file.File.{File}
 use Rattle.loading.specs.Images.{IsFileOfInode}
-use Rattle.loading.specs.Laws.{HaveSoundPaths}
-use Rattle.loading.proofs.EndLaws.{starts_sound}
 use Rattle.checker.specs.Findings.{StandsIn}
 use Rattle.checker.specs.Trees.{IsAloneAt, IsNode, IsOwner, SharesBlock}
 use Rattle.checker.specs.declared.fault.FileNode.{FileNode}
 use Rattle.checker.specs.declared.nodes.Shared.{Shared}
-use Rattle.checker.proofs.HeldLaws.{StandWhereLed, by_size, pointer_node, some_level}
+use Rattle.checker.proofs.HeldLaws.{StandWhereLed, pointer_node}
 
 -- by the laws of inode: past as many nodes as a size has, and from the file's level on, all are holes
 abbrev pub EndBySize : Type 0
@@ -39,6 +37,10 @@ EndBySize = (detail : Detail) (s : Sizes) (disk : Blocks) (f : Inode) (height i 
 
 abbrev pub EndByLevel : Type 0
 EndByLevel = (disk : Blocks) (f : Inode) (height i : ℕ) → level_of f.size ≤ height → (held disk f).place height i ≡ Hole
+
+-- and what stands over the blocks is in its grammar
+abbrev pub AreAllSound : Type 0
+AreAllSound = (detail : Detail) (s : Sizes) (disk : Blocks) (i : Inode) (t : BlockTree) → IsHeldFile detail s (held disk i) → IsBased i t → AreSound s.blocks disk t
 
 same_nodes : (size count height : ℕ) → count ≡ block_count size → nodes_at count height ≡ nodes_of_size size height
 unfolding nodes_at nodes_of_size
@@ -112,10 +114,10 @@ module _ (nodes : PlaceMap) (shared : Shared) (number height from : ℕ) (before
     | inr high ↦ (let hole = holes i high lt in cc)
   ]
 
-pub file_sound : (paths : HaveSoundPaths) (s : Sizes) (disk : Blocks) (f : Inode) (file : File) (blocks : ℕ) → IsFileGrammar s (held disk f) → IsFileOfInode f file → blocks ≡ s.blocks
+pub file_sound : (all : AreAllSound) (s : Sizes) (disk : Blocks) (f : Inode) (file : File) (blocks : ℕ) → IsFileGrammar s (held disk f) → IsFileOfInode f file → blocks ≡ s.blocks
     → AreSound blocks disk file.tree
-file_sound paths s disk f file blocks grammar is same = subst (λ (n : ℕ). AreSound n disk file.tree) (sym same)
-    (starts_sound s.blocks disk f.body f.size file.tree is.starts (λ i. paths by_sizes s disk f i (by_size s (held disk f) grammar)))
+file_sound all s disk f file blocks grammar is same =
+    subst (λ (n : ℕ). AreSound n disk file.tree) (sym same) (all by_sizes s disk f file.tree grammar (starts_based f file.tree is.starts))
 
 alone_at : (led : StandWhereLed) (past : EndBySize) (above : EndByLevel) (s : Sizes) (disk : Blocks) (f : Inode) (body : Body) (t : BlockTree) (nodes : PlaceMap) (shared : Shared) (number height : ℕ)
     → f.body ≡ body → FitsBody body s.blocks f.size → IsFileGrammar s (held disk f) → StartsFrom body f.size t → height ≤ t.depth
@@ -126,7 +128,7 @@ alone_at led past above s disk f (Inline bytes) t nodes shared number height is 
 alone_at led past above s disk f (Pointers pointers) t nodes shared number height is fits grammar starts le are none i there = elim (cases_lt i (nodes_at t.count height)) [
   | inl low ↦ none i (omega (arith, low, few_nodes t.count height)) (sym (pointer_node led disk f pointers t nodes height i is fits.0 starts.0 le are low) ∙ there)
   | inr high ↦
-      let hole = past by_sizes s disk f height i (by_size s (held disk f) grammar) (omega (arith, high, same_nodes f.size t.count height starts.0.count)) in cc
+      let hole = past by_sizes s disk f height i grammar (omega (arith, high, same_nodes f.size t.count height starts.0.count)) in cc
 ]
 
 pub height_alone : (led : StandWhereLed) (past : EndBySize) (above : EndByLevel) (s : Sizes) (disk : Blocks) (f : Inode) (t : BlockTree) (nodes : PlaceMap) (shared : Shared) (number height : ℕ)

@@ -1,6 +1,5 @@
 -- What only looks at blocks, step by step.
 use Rattle.std.proofs.Common.{◌≡◌, ◌∙◌, ℕ, List, Result, Ok, Err, arith, inl, inr, subst, sym}
-use Rattle.std.specs.Prelude.{IfErr}
 use Rattle.std.specs.Result.{IsErrAnd}
 use Rattle.station.specs.Moments.{HasGrown, MayGrow}
 use Rattle.buffers.specs.Reads.{ReadsBlocks}
@@ -46,6 +45,11 @@ module _ {B : Type 0} {G : Ghosts B} where
   -- a function that only reads, by what is known of a count that reads change
   pub looked_of : {T E : Type 0} {F : E → Type 0} {a b : B} {r : Result T E} → ((s : B) → G.ReadsOn s s) → ((s t : B) → G.ReadsOn s t → MayGrow (G.failed s) (G.failed t)) → ReadsBlocks G F a b r → HasLooked G a b
   looked_of {a = a} {b = b} nothing grows read = record { count = read.count; grown = grows a b (read.reads a (nothing a)); reads = read.reads; same = read.same }
+
+  -- the same, by its clauses one by one
+  pub looked_at : {a b : B} → ((s : B) → G.ReadsOn s s) → ((s t : B) → G.ReadsOn s t → MayGrow (G.failed s) (G.failed t)) → G.count b ≡ G.count a
+      → ((start : B) → G.ReadsOn start a → G.ReadsOn start b) → ((disk : ℕ → List ℕ) → G.Shows a disk → G.Shows b disk) → HasLooked G a b
+  looked_at {a = a} {b = b} nothing grows count reads same = record { count = count; grown = grows a b (reads a (nothing a)); reads = reads; same = same }
 
   -- an answer
   pub looks_ok : {T E : Type 0} {F : E → Type 0} {a b : B} {y : T} → HasLooked G a b → Looks G F a b (Ok y)

@@ -8,10 +8,11 @@ use Rattle.layout.specs.SnapRoot.{Snapshot, IsSnapshot, snapshot_bytes, snapshot
 use Rattle.layout.specs.declared.pointer.Pointer.{Pointer}
 use Rattle.layout.specs.declared.pointer.Pointer.TheVariants.{Hole, Block}
 use Rattle.layout.specs.declared.root.Root.{Root}
+use Rattle.buffers.specs.Disks.{IsWhole}
 use Rattle.images.specs.Roots.{frozen_inode_file, slot, whole}
 use Rattle.images.specs.Snapshots.{AreSnapshots, FitsRoot, HasSnapshot}
 use Rattle.loading.specs.Snapshots.{AreApartAt, IsSnapshotAt, IsSnapshotBlock}
-use Rattle.loading.proofs.SnapshotLaws.{apart, at_slot}
+use Rattle.loading.proofs.SnapshotLaws.{apart, at_slot, length-snapshot}
 use Rattle.checker.specs.Trees.{TellsSlot}
 
 -- the block of a slot is no snapshot's
@@ -28,6 +29,13 @@ pub same_as : (disk : Blocks) (r : Root) (l k b : ℕ) (p q : Pointer)
 same_as disk r l k b p q spells lt first second is not =
     let next : suc k ≡ k + 1 = omega arith in
     (subst (λ (n : ℕ). slot r n ≡ Block b) next (sym second ∙ is), λ are. not (apart disk r are spells l k p q lt (sym first) (sym second)))
+
+-- of two blocks that can't both be read no two snapshots are told
+pub apart_unread : (disk : Blocks) (p q : Pointer) → (IsWhole (pointed disk p) → IsWhole (pointed disk q) → ⊥) → AreApartAt disk p q
+apart_unread disk Hole q broken = tt
+apart_unread disk (Block a) Hole broken = tt
+apart_unread disk (Block a) (Block b) broken = λ s q one two first second.
+    absurd (broken (ap length first ∙ length-snapshot s one) (ap length second ∙ length-snapshot q two))
 
 -- all slots are told to be without a fault
 module _ (disk : Blocks) (r : Root) (count : length r.snapshots ≡ 20)

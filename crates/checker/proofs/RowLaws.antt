@@ -1,5 +1,5 @@
 -- The trees and the rows of their inode files, side by side.
-use Rattle.std.proofs.Common.{◌≡◌, ◌≢◌, ◌∙◌, ℕ, ◌+◌, ◌*◌, ◌<◌, ◌≤◌, List, ◌∷◌, [], length, get_or, drop, arith, ap, sym, subst, refl, inl, inr}
+use Rattle.std.proofs.Common.{◌≡◌, ◌∙◌, ℕ, ◌+◌, ◌*◌, ◌≤◌, List, ◌∷◌, [], length, drop, arith, ap, sym, subst, refl, inl, inr}
 use Rattle.std.specs.Prelude.{◌⊎◌, ◌↔◌, Bool, true, false, not, IsTrue, Option, Some, None, slice_get, slice_index_or}
 use Rattle.std.proofs.Math.Nat.{eq-or-lt_of_le}
 use Rattle.std.proofs.lemmas.Bool.{cases_lt}
@@ -17,7 +17,7 @@ use Rattle.images.specs.Nodes.{file_block}
 use Rattle.images.specs.Roots.{whole}
 use Rattle.checker.specs.Findings.{first_fault, tree_in}
 use Rattle.checker.specs.Nodes.{KeepsMarks, StaysFor}
-use Rattle.checker.specs.Rows.{AddsToEach, AreRows, AreTwins, ComparesBits, IsMappedAs, KeepsTrees, PlaneAt}
+use Rattle.checker.specs.Rows.{AreRows, AreTwins, IsMappedAs, KeepsTrees, PlaneAt}
 use Rattle.checker.specs.Trees.{AreTrees, IsOut, IsSeenTo}
 use Rattle.checker.specs.declared.fault.Fault.{Fault}
 use Rattle.checker.specs.declared.fault.Fault.TheVariants.{InodeMap}

@@ -8,21 +8,19 @@ use Rattle.layout.specs.Places.{Blocks}
 use Rattle.layout.specs.declared.root.Root.{Root}
 use Rattle.blocktree.specs.Trees.{IsSoundAt}
 use Rattle.inode.specs.Files as memory
-use Rattle.images.specs.Faults.{IsFileGrammar}
+use Rattle.images.specs.Faults.{IsTreeGrammar}
+use Rattle.images.specs.Soundness.{IsFileGrammar}
 use Rattle.images.specs.Nodes.{Held, file_block, held}
 use Rattle.images.specs.Roots.{whole}
-use Rattle.loading.specs.Laws.{HaveSoundPaths, ReadAsHeld}
-use Rattle.checker.specs.Findings.{first_fault, tree_in}
+use Rattle.loading.specs.Laws.{ReadAsHeld}
+use Rattle.checker.specs.Findings.{tree_in}
 use Rattle.checker.specs.Rows.{AreRows, KeepsTrees}
 use Rattle.checker.specs.Trees.{AreTrees, IsOut, IsSeenTo}
-use Rattle.checker.specs.declared.fault.Fault.{Fault}
-use Rattle.checker.specs.declared.fault.Fault.TheVariants as faults
-use Rattle.checker.specs.declared.fault.TreeFault.{TreeFault}
 use Rattle.checker.specs.declared.nodes.Shared.{Shared}
 use Rattle.checker.specs.declared.tree.Tree.{Tree}
-use Rattle.checker.proofs.HeldLaws.{block_is, reached, top_is}
+use Rattle.checker.proofs.HeldLaws.{block_is, reached, top_grammar, top_is, top_readable}
+use Rattle.checker.proofs.ReadableLaws.{AreSoundAt}
 use Rattle.checker.proofs.EachLaws.{Each, get_others, get_set, some_at, some_of}
-use Rattle.checker.proofs.OutLaws.{out_keeps, out_or_not}
 use Rattle.checker.proofs.RowLaws.{IsRowOf, IsSame, known_at, trees_again}
 
 module _ (disk : Blocks) (r : Root) (count places i : ℕ) (marks : List ℕ) (shared : List (Option Shared)) (t : Tree) (known : IsSeenTo disk r count places marks shared t) where
@@ -34,16 +32,10 @@ module _ (disk : Blocks) (r : Root) (count places i : ℕ) (marks : List ℕ) (s
   row_read reads row is inside =
       is ∙ block_is reads r.geometry disk t.top t.file i (top_file inside) known.tree.file ∙ sym (ap (λ (h : Held). file_block h i) (top_is disk r t known.tree))
 
-  -- one over which an indirect block isn't in its grammar: the tree is out of its own
-  pub row_damaged : (paths : HaveSoundPaths) (blocks : ℕ) → blocks ≡ r.geometry.blocks → (IsSoundAt blocks disk t.file.tree i → ⊥) → IsOut t.fault
-  row_damaged paths blocks same damaged = elim (out_or_not t.fault) [
-    | inl out ↦ out
-    | inr inside ↦ absurd (damaged (reached paths r.geometry disk t.top t.file blocks i (top_file inside) known.tree.file same))
-  ]
-
-  -- so it stays as it is
-  pub row_out : (found : TreeFault) (q : Tree) → IsOut t.fault → q ≡ record t { fault = Some (first_fault t.fault (faults.Tree found)) } → q ≡ t
-  row_out found q out is = is ∙ ap (λ (f : Option Fault). record t { fault = f }) (out_keeps t.fault found out)
+  -- one that can't be read, or over which an indirect block isn't in its grammar
+  pub row_damaged : (at : AreSoundAt) (blocks : ℕ) → blocks ≡ r.geometry.blocks → (IsSoundAt blocks disk t.file.tree i → ⊥) → IsTreeGrammar r.geometry (tree_in (whole disk r) t.plane) → ⊥
+  row_damaged at blocks same damaged grammar =
+      damaged (reached at r.geometry disk t.top t.file blocks i (top_grammar disk r r.geometry t known.tree grammar) (top_readable disk r r.geometry t known.tree grammar) known.tree.file same)
 
 -- ---- the blocks of all trees
 

@@ -1,6 +1,7 @@
 -- The steps of a walk through directories.
 use Rattle.std.proofs.Common.{◌≡◌, ◌≢◌, ◌∙◌, inl, inr, ℕ, zero, suc, ◌+◌, ◌/◌, ◌<◌, ◌≤◌, if◌then◌else◌, get_or, List, [], ◌∷◌, length, Bool, not, true, false, Option, Some, None, is_some, Result, Ok, Err, bytes_eq, refl, sym, ap, subst, arith}
-use Rattle.std.specs.Prelude.{slice_get}
+use Rattle.std.specs.Prelude.{◌%◌, slice_get}
+use Rattle.std.specs.Int.{div_ceil}
 use Rattle.std.specs.List.{list_any}
 use Rattle.std.specs.BTreeMap.{is_at}
 use Rattle.std.specs.BTreeSet.{BTreeSet, contains}
@@ -11,6 +12,7 @@ use Rattle.std.proofs.lemmas.Bool.{cases_eq, cond-true, cond-false, false_from_n
 use Rattle.std.proofs.lemmas.Map.Text.{is_eq-slice_cmp}
 use Rattle.std.proofs.lemmas.Option.{slice_get-get_or, slice_get_read, slice_get_within}
 use Rattle.std.proofs.lemmas.Slice.Eq.{bytes_eq-Decides}
+use Rattle.layout.specs.Inode.{FitsKind}
 use Rattle.layout.specs.Limits.{Sizes}
 use Rattle.layout.specs.declared.TheConstants.{BLOCK_BYTES}
 use Rattle.layout.specs.declared.kind.Kind.{Kind}
@@ -28,20 +30,22 @@ use Rattle.layout.specs.declared.root.Root.{Root}
 use Rattle.buffers.specs.Reads.{HasOnlyRead}
 use Rattle.buffers.specs.declared.blocks.Blocks.{Ghosts}
 use Rattle.blocktree.specs.Trees.{IsSoundAt}
+use Rattle.inode.specs.Bases.{StartsFrom, StartsUnchanged}
 use Rattle.inode.specs.Files.{IsAsHeld}
 use Rattle.inode.specs.declared.file.File.{File}
-use Rattle.images.specs.Faults.{IsFileGrammar, IsTreeGrammar}
+use Rattle.images.specs.Faults.{IsTreeGrammar}
 use Rattle.images.specs.Nodes.{Held, file_block, held}
 use Rattle.images.specs.Roots.{HeldTree, whole}
-use Rattle.images.specs.Soundness.{IsHeldFile, by_sizes}
+use Rattle.images.specs.Soundness.{IsFileGrammar, IsReadable}
 use Rattle.checker.specs.Checks.{Passes}
 use Rattle.checker.specs.Errors.{IsFault, IsHaltFault, halt}
 use Rattle.checker.specs.Findings.{tree_in}
 use Rattle.checker.specs.Trees.{IsTreeOf}
 use Rattle.checker.specs.declared.tree.Tree.{Tree}
 use Rattle.checker.proofs.ReadLaws.{HasLooked}
-use Rattle.checker.proofs.HeldLaws.{by_size, number_is}
-use Rattle.checker.specs.Names.{AreWithin, IsFirst, IsTable, IsUnnamed}
+use Rattle.checker.proofs.HeldLaws.{number_is}
+use Rattle.checker.proofs.ReadableLaws.{sound_readable}
+use Rattle.checker.specs.Names.{AreDirectories, AreWithin, IsFirst, IsTable, IsUnnamed}
 use Rattle.checker.specs.Walks.{HasCountedRows, HasFile, IsToCount, KnowsNames, LooksInto}
 use Rattle.checker.specs.declared.error.CheckError.{CheckError}
 use Rattle.checker.specs.declared.error.CheckError.TheVariants as check
@@ -161,25 +165,26 @@ module _ (s : Sizes) (t : HeldTree) (e : Entries) (count : ℕ) (found : List �
   pub directory : (t d).inode.kind ≡ kinds.Directory
   directory = (before.way.counted.reached d (count, slice_get_within found count d at, at)).0
 
-  pub looked_into : (more : List ℕ) (later : List NumberRow) → ((i n : ℕ) → slice_get found i ≡ Some n → slice_get more i ≡ Some n)
+  pub looked_into : IsReadable (t d) → (more : List ℕ) (later : List NumberRow) → ((i n : ℕ) → slice_get found i ≡ Some n → slice_get more i ≡ Some n)
       → HasCountedRows s t d ((t d).inode.size / BLOCK_BYTES) (file_block (t d)) e (count + 1) more later → (f : Entries) × LooksInto s t f (count + 1) more later
-  looked_into more later keeps h = (h.names, record { way = h.way; names = names })
+  looked_into readable more later keeps h = (h.names, record { way = h.way; names = names })
     where
       old : (i k : ℕ) → i < count → slice_get more i ≡ Some k → (o : Option ℕ) → slice_get found i ≡ o → slice_get found i ≡ Some k
       old i k low is None past =
           none_some (sym past ∙ slice_get-get_or found i 0 (omega (arith, low, slice_get_within found count d at)))
       old i k low is (Some j) there = there ∙ sym (keeps i j there) ∙ is
 
-      names : (k : ℕ) → IsFirst more (count + 1) k → IsDirectoryOf s.inodes (content_of (t k)) (h.names k)
+      names : AreDirectories s t h.names (count + 1) more
       names k first = elim (cases_eq first.0 count) [
         | inl same ↦
             let is : d ≡ k = some_same (sym (keeps count d at) ∙ ap (slice_get more) (sym same) ∙ first.2) in
-            subst (λ (j : ℕ). IsDirectoryOf s.inodes (content_of (t j)) (h.names j)) is (rows_all s t d h.rows e h.names h.has)
+            subst (λ (j : ℕ). IsReadable (t j) × IsDirectoryOf s.inodes (content_of (t j)) (h.names j)) is (readable, rows_all s t d h.rows e h.names h.has)
         | inr before_it ↦
             let low : first.0 < count = omega (arith, first.1, before_it) in
             let there = old first.0 k low first.2 (slice_get found first.0) refl in
             let apart : k ≢ d = λ same. other (first.0, low, there ∙ ap (λ (j : ℕ). Some j) same) in
-            subst (IsDirectoryOf s.inodes (content_of (t k))) (sym (h.has.others k apart)) (before.names k (first.0, low, there))
+            let was = before.names k (first.0, low, there) in
+            (was.0, subst (IsDirectoryOf s.inodes (content_of (t k))) (sym (h.has.others k apart)) was.1)
       ]
 
 -- ---- a directory's file
@@ -190,16 +195,31 @@ module _ (disk : Blocks) (r : Root) (tree : Tree) (n blocks : ℕ) (inode : Inod
   t = tree_in (whole disk r) tree.plane
 
   pub has_file : IsTreeOf disk r tree → IsTreeGrammar r.geometry t → inode ≡ (t n).inode → blocks ≡ r.geometry.blocks → file.size ≡ inode.size
-      → (IsHeldFile by_sizes r.geometry (held disk inode) → IsAsHeld disk inode file) → ((i : ℕ) → IsHeldFile by_sizes r.geometry (held disk inode) → IsSoundAt r.geometry.blocks disk file.tree i)
+      → (IsFileGrammar r.geometry (held disk inode) → IsAsHeld disk inode file) → ((i : ℕ) → IsFileGrammar r.geometry (held disk inode) → IsReadable (held disk inode) → IsSoundAt r.geometry.blocks disk file.tree i)
       → HasFile blocks disk file (t n)
   has_file is grammar same count size as_held sound =
       let here : t n ≡ held disk inode = number_is disk r tree n is ∙ ap (held disk) (sym same) in
-      let known : IsHeldFile by_sizes r.geometry (held disk inode) = by_size r.geometry (held disk inode) (subst (IsFileGrammar r.geometry) here (grammar.files n)) in
+      let known : IsFileGrammar r.geometry (held disk inode) = subst (IsFileGrammar r.geometry) here (grammar.files n) in
       record {
         size_is = size ∙ ap (λ (i : Inode). i.size) same;
         block_is = λ i. as_held known i ∙ ap (λ (h : Held). file_block h i) (sym here);
-        sound = λ i. subst (λ (b : ℕ). IsSoundAt b disk file.tree i) (sym count) (sound i known);
+        sound = λ readable i. subst (λ (b : ℕ). IsSoundAt b disk file.tree i) (sym count) (sound i known (subst IsReadable here readable));
       }
+
+  -- a directory's whole blocks are all that it has
+  whole_blocks : (size : ℕ) → size % 4096 ≡ 0 → div_ceil size 4096 ≡ size / 4096
+  whole_blocks size none = omega (arith, none)
+
+  -- where its blocks were read, it can be read
+  pub directory_readable : IsTreeOf disk r tree → IsTreeGrammar r.geometry t → inode ≡ (t n).inode → (t n).inode.kind ≡ kinds.Directory → file.size ≡ inode.size
+      → StartsFrom inode.body inode.size file.tree → StartsUnchanged inode.body file.tree → ((i : ℕ) → i < file.size / 4096 → IsSoundAt blocks disk file.tree i) → IsReadable (t n)
+  unfolding held
+  directory_readable is grammar same kind size starts unchanged sound =
+      let here : t n ≡ held disk inode = number_is disk r tree n is ∙ ap (held disk) (sym same) in
+      let known : IsFileGrammar r.geometry (held disk inode) = subst (IsFileGrammar r.geometry) here (grammar.files n) in
+      let fits = subst (λ (k : Kind). FitsKind k r.geometry inode.mode inode.links inode.size) (ap (λ (i : Inode). i.kind) same ∙ kind) known.inode.kind in
+      subst IsReadable (sym here) (sound_readable r.geometry disk inode blocks file.tree known starts unchanged
+      (λ i low. sound i (omega (arith, low, size, whole_blocks inode.size fits.1))))
 
 -- ---- what ends a part of a check
 
@@ -226,15 +246,6 @@ root_within inodes many (suc i) n at = none_some at
 
 pub only_looked : {B : Type 0} {G : Ghosts B} {a b : B} → HasOnlyRead G a b → HasLooked G a b
 only_looked read = record { count = read.count; grown = inl read.counted; reads = read.reads; same = read.same }
-
--- a table with one row
-pub row_named : (row : NumberRow) → row.names ≡ 0 → IsUnnamed (row ∷ [])
-row_named row none zero q at = ap (λ (p : NumberRow). p.names) (sym (some_same at)) ∙ none
-row_named row none (suc n) q at = none_some at
-
-pub row_alone : {Y : Type 0} (row : NumberRow) (n : ℕ) (q : NumberRow) → 1 ≤ n → slice_get (row ∷ []) n ≡ Some q → Y
-row_alone row zero q least at = absurd (omega (arith, least))
-row_alone row (suc n) q least at = none_some at
 
 pub row_at : (table : List NumberRow) (n : ℕ) (row : NumberRow) → n < length table → row ≡ get_or table n row → slice_get table n ≡ Some row
 row_at table n row low is = slice_get_read table (length table) n row refl low is

@@ -16,12 +16,13 @@ use Rattle.model.proofs.KeptLemmas.{pair_same}
 use Rattle.model.proofs.OptionLaws.{none_some, some_same}
 use Rattle.model.proofs.WalkLemmas.{edge_from, edge_here, edge_other, number_at-push}
 use Rattle.images.specs.Contents.{Content, StandsAs, content_of}
-use Rattle.images.specs.Faults.{HoldsGraph}
+use Rattle.images.specs.Faults.{HoldsNames}
 use Rattle.images.specs.Roots.{HeldTree}
 use Rattle.checker.specs.Names.{IsFirst, IsNamedKind, IsUsed}
 use Rattle.checker.specs.Walks.{IsOnWay}
 use Rattle.checker.specs.declared.names.NumberRow.{NumberRow}
-use Rattle.checker.proofs.FoundLaws.{get_front, get_last, get_other, get_pushed, get_set}
+use Rattle.checker.proofs.EachLaws.{get_others, get_set}
+use Rattle.checker.proofs.FoundLaws.{get_front, get_last, get_pushed}
 
 -- ---- walks
 
@@ -76,7 +77,7 @@ no_file kinds.InodeFile inodes c o never is = ap is_file_node is
 no_file kinds.InodeMap inodes c o never is = ap is_file_node is
 no_file kinds.BlockMap inodes c o never is = ap is_file_node is
 
-some_place : {A : Type 0} (P : A → Type 0) (count : ℕ) → count ≢ 0 → Counts P count → (a : A) × P a
+pub some_place : {A : Type 0} (P : A → Type 0) (count : ℕ) → count ≢ 0 → Counts P count → (a : A) × P a
 some_place P zero some counts = absurd (some refl)
 some_place P (suc count) some counts = (counts.0, counts.1)
 
@@ -106,21 +107,21 @@ module _ (s : Sizes) (t : HeldTree) (e : Entries) (count : ℕ) (found : List �
   kind_is = (way.counted.rows.each n row some there).0
 
   -- the two faults
-  pub unused : (IsNamedKind row.kind → ⊥) → (g : HoldsGraph s.inodes t) → entries g.volume d x ≡ Some n → ⊥
+  pub unused : (IsNamedKind row.kind → ⊥) → (g : HoldsNames s.inodes t) → entries g.volume d x ≡ Some n → ⊥
   unused never g leads =
       let none = no_object (t n).inode.kind s.inodes (content_of (t n)) (g.volume n) (λ named. never (subst IsNamedKind (sym kind_is) named)) (g.holds n) in
-      false≢true (sym (ap is_some none) ∙ g.graph.used d n x leads)
+      false≢true (sym (ap is_some none) ∙ g.naming.used d n x leads)
 
-  pub twice : row.kind ≢ kinds.File → row.names ≢ 0 → (g : HoldsGraph s.inodes t) → entries g.volume d x ≡ Some n → ⊥
+  pub twice : row.kind ≢ kinds.File → row.names ≢ 0 → (g : HoldsNames s.inodes t) → entries g.volume d x ≡ Some n → ⊥
   twice never several g leads =
       let place = some_place (λ (p : ℕ × Name). e p.0 p.1 ≡ Some n) row.names several (way.counted.counts n row there) in
       let file = no_file (t n).inode.kind s.inodes (content_of (t n)) (g.volume n) (λ same. never (kind_is ∙ same)) (g.holds n) in
-      let same = g.graph.once place.0.0 d n place.0.1 x (way.sound g place.0.0 n place.0.1 place.1) leads file in
+      let same = g.naming.once place.0.0 d n place.0.1 x (way.sound g place.0.0 n place.0.1 place.1) leads file in
       let again : e d x ≡ Some n = ap (λ (k : ℕ). e k x) (sym same.0) ∙ ap (e place.0.0) (sym same.1) ∙ place.1 in
       none_some (sym free ∙ again)
 
   module _ (new : NumberRow) (more : List ℕ) (kind : IsNamedKind row.kind) (kind_new : new.kind ≡ row.kind) (links_new : new.links ≡ row.links) (names_new : new.names ≡ row.names + 1)
-      (few : (row.kind ≢ kinds.File) → row.names ≡ 0) (adds : AddsFound n ((t n).inode.kind ≡ kinds.Directory) found more) (leads : (g : HoldsGraph s.inodes t) → entries g.volume d x ≡ Some n) where
+      (few : (row.kind ≢ kinds.File) → row.names ≡ 0) (adds : AddsFound n ((t n).inode.kind ≡ kinds.Directory) found more) (leads : (g : HoldsNames s.inodes t) → entries g.volume d x ≡ Some n) where
     abbrev after : Entries
     after = with_edge d x (Some n) e
 
@@ -140,7 +141,7 @@ module _ (s : Sizes) (t : HeldTree) (e : Entries) (count : ℕ) (found : List �
     row_of : (m : ℕ) (r : NumberRow) → slice_get later m ≡ Some r → ((m ≡ n) × (new ≡ r)) ⊎ ((m ≢ n) × (slice_get table m ≡ Some r))
     row_of m r is = elim (cases_eq m n) [
       | inl same ↦ inl (same, some_same (sym (get_set table n new low) ∙ ap (slice_get later) (sym same) ∙ is))
-      | inr other ↦ inr (other, sym (get_other table n m new other) ∙ is)
+      | inr other ↦ inr (other, sym (get_others table n m new other) ∙ is)
     ]
 
     first_kept : (i m : ℕ) → IsFirst found i m → IsFirst more i m

@@ -21,10 +21,10 @@ use Rattle.layout.specs.declared.pointer.Pointer.TheVariants.{Block}
 use Rattle.layout.specs.declared.root.Root.{Root}
 use Rattle.layout.specs.declared.version.TheConstants.{VERSION}
 use Rattle.images.specs.BlockMap.{HasBit, NamesOnce}
-use Rattle.images.specs.Faults.{IsFileGrammar, IsTreeGrammar, MapsWithin}
+use Rattle.images.specs.Faults.{IsTreeGrammar, MapsWithin}
 use Rattle.images.specs.Nodes.{Held, Names, file_block, held}
 use Rattle.images.specs.Roots.{HeldTree, Reach, free_inode, frozen_at, frozen_inode_file, inode_bytes_at, inode_part, inode_under, tree, whole}
-use Rattle.images.specs.Soundness.{Detail, FitsNumber, IsHeldFile, MapsNumbers, by_sizes}
+use Rattle.images.specs.Soundness.{Detail, FitsNumber, IsFileGrammar, IsHeldFile, MapsNumbers, by_sizes}
 use Rattle.images.proofs.EmptyLaws.{behind_zeros, free_bytes, free_fits, free_named, part_zeros}
 use Rattle.loading.specs.InodeBlocks.{IsInodeAt}
 use Rattle.loading.specs.Laws.{EndTrees, SpellTrees}
@@ -73,7 +73,7 @@ zeros_with : (s : Sizes) (d : Blocks) (f : Inode) (body : Body) (i : ℕ) → f.
     → IsFileGrammar s (held d f) → 1 ≤ i → div_ceil f.size 4096 ≤ i → file_block (held d f) i ≡ zeros 4096
 zeros_with s d f (Inline bytes) i here led inline grammar some past = inline d f bytes i here some
 zeros_with s d f (Pointers pointers) i here led inline grammar some past =
-    led by_sizes s d f pointers i (record { inode = grammar.inode; indirect = grammar.indirect; ends = tt }) here
+    led by_sizes s d f pointers i grammar here
     ∙ ap (λ (b : Bool). if b then pointed d (place d pointers (level_of f.size - 1) i) else zeros 4096) (past_is i (div_ceil f.size 4096) past)
 
 zeros_behind : (s : Sizes) (d : Blocks) (f : Inode) (i : ℕ)
@@ -132,6 +132,7 @@ module _ (disk : Blocks) (s : Sizes) (are : AreSizes s) (top : Inode) (t : HeldT
   free_grammar = record {
     inode = subst (IsInode VERSION s) (sym (inode_is free_inode)) (free_fits s);
     indirect = λ m i b here. absurd (free_names disk (suc m) i b here);
+    bytes = tt;
   }
 
   module _ (numbers : List ℕ) (maps : HasMaps s t numbers) (inodes : HasInodes s t (div_ceil s.inodes 21) (21 * div_ceil s.inodes 21)) where
@@ -192,6 +193,7 @@ module _ (disk : Blocks) (s : Sizes) (are : AreSizes s) (top : Inode) (t : HeldT
       };
       inode_map = maps.inode_map (files 1);
       block_map = maps.block_map (files 2);
+      readable = maps.readable (files 1);
       numbers = subst (MapsWithin s.inodes) (maps.bytes_are (files 1)) maps.within;
     }
 

@@ -2,8 +2,6 @@
 use Rattle.std.specs.Prelude.{ℕ, ◌≡◌, List, Option, Some, None, Result, Ok, Err, IfErr}
 use Rattle.station.specs.Moments.{HasGrown, MayGrow}
 use Rattle.buffers.specs.declared.blocks.Blocks.{Ghosts}
-use Rattle.buffers.specs.declared.error.BufferError.{BufferError}
-use Rattle.buffers.specs.declared.error.BufferError.TheVariants as below
 use Rattle.blocktree.specs.declared.error.ReadError.{ReadError}
 use Rattle.blocktree.specs.declared.error.ReadError.TheVariants as read
 use Rattle.checker.specs.declared.error.CheckError.{CheckError}
@@ -11,10 +9,6 @@ use Rattle.checker.specs.declared.error.CheckError.TheVariants as check
 use Rattle.checker.specs.declared.error.Halt.{Halt}
 use Rattle.checker.specs.declared.error.Halt.TheVariants as halts
 use Rattle.checker.specs.declared.fault.Fault.{Fault}
-
-abbrev pub check_error : BufferError → CheckError
-check_error below.NoMemory = check.NoMemory
-check_error below.Device = check.Device
 
 abbrev pub halt : CheckError → Halt
 halt check.NoMemory = halts.NoMemory

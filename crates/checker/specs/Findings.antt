@@ -1,5 +1,5 @@
 -- Faults that are found, and when there is such a fault in images.
-use Rattle.std.specs.Prelude.{ℕ, zero, suc, ◌≤◌, ◌≡◌, ◌≢◌, ◌↔◌, nat_le, if◌then◌else◌, List, length, Option, Some, None, Bool, IsTrue}
+use Rattle.std.specs.Prelude.{ℕ, zero, suc, ◌≤◌, ◌≡◌, ◌≢◌, ◌↔◌, nat_le, if◌then◌else◌, List, Option, Some, None, IsTrue}
 use Rattle.layout.specs.Maps.{IsTaken}
 use Rattle.layout.specs.Places.{blocks_of}
 use Rattle.layout.specs.Record.{Change}
@@ -7,15 +7,18 @@ use Rattle.layout.specs.declared.kind.Kind.TheVariants.{Free}
 use Rattle.layout.specs.declared.pointer.Pointer.TheVariants.{Block}
 use Rattle.layout.specs.declared.root.Root.{Root}
 use Rattle.model.specs.Volumes.{HasNames, Volume, entries, file_node}
-use Rattle.images.specs.BlockMap.{HasBit, IsExact, IsSystem, entry}
+use Rattle.images.specs.BlockMap.{HasBit, IsSystem, entry}
 use Rattle.images.specs.Contents.{HoldsVolume, content_bytes, content_of, tree_contents}
-use Rattle.images.specs.Faults.{HasLog, HasRoots, HoldsGraph, IsTreeGrammar}
+use Rattle.images.specs.Faults.{HasLog, HasRoots, HoldsNames, IsTreeGrammar}
 use Rattle.images.specs.Roots.{HeldTree, Reach, Whole, slot, whole}
 use Rattle.images.specs.Snapshots.{AreSnapshots}
+use Rattle.images.specs.Soundness.{IsReadable}
 use Rattle.checker.specs.declared.fault.Fault.{Fault}
 use Rattle.checker.specs.declared.fault.Fault.TheVariants as faults
 use Rattle.checker.specs.declared.fault.FileNode.{FileNode}
 use Rattle.checker.specs.declared.fault.Finding.{Finding}
+use Rattle.checker.specs.declared.fault.LogFault.{LogFault}
+use Rattle.checker.specs.declared.fault.LogFault.TheVariants.{Header, Record}
 use Rattle.checker.specs.declared.fault.TreeName.{TreeName}
 use Rattle.checker.specs.declared.fault.TreeName.TheVariants as trees
 
@@ -74,12 +77,17 @@ IsTreeFinding r t (faults.Shared block first second) = StandsIn t first block ×
 IsTreeFinding r t (faults.InodeMap number is_taken) =
     (IsTaken (content_bytes (content_of (t 1))) number ↔ IsTrue is_taken)
     × (IsTrue is_taken ↔ ((t number).inode.kind ≡ Free))
-IsTreeFinding r t (faults.Directory found) = HoldsGraph r.geometry.inodes t → ⊥
+IsTreeFinding r t (faults.Directory found) = HoldsNames r.geometry.inodes t → ⊥
 IsTreeFinding r t (faults.Links number names links) =
     (v : Volume) → HoldsVolume r.geometry.inodes (tree_contents t) v
     → HasNames (entries v) number names × (names ≢ links)
     × (mode : ℕ) × (bytes : List ℕ) × (v number ≡ Some (file_node mode links bytes))
 IsTreeFinding r t fault = ⊥
+
+-- the log doesn't hold records that apply, where what they write into can be read: a record may write into a part of a block
+abbrev pub LacksLog : Root → Whole → List ℕ → LogFault → Type 0
+LacksLog r w nvram Header = (changes : List Change) → HasLog r w nvram changes → ⊥
+LacksLog r w nvram (Record half at) = ((n : ℕ) → IsReadable (w.active n)) → (changes : List Change) → HasLog r w nvram changes → ⊥
 
 -- a fault that stands under a root
 abbrev pub IsFindingUnder : Root → Whole → List ℕ → TreeName → Fault → Type 0
@@ -88,7 +96,8 @@ IsFindingUnder r w nvram tree (faults.Snapshot k block found) =
     (slot r k ≡ Block block) × (AreSnapshots r w → ⊥)
 IsFindingUnder r w nvram tree (faults.MapBit block is should) =
     (entry w.active block ≡ is) × (is ≢ should) × ShouldHave r w block should
-IsFindingUnder r w nvram tree (faults.Log found) = (changes : List Change) → HasLog r w nvram changes → ⊥
+IsFindingUnder r w nvram tree (faults.Log found) = LacksLog r w nvram found
+IsFindingUnder r w nvram trees.Image (faults.Tree found) = IsReadable (w.active 2) → ⊥
 IsFindingUnder r w nvram tree fault = (k : ℕ) × IsNamedTree r tree k × IsTreeFinding r (tree_in w k) fault
 
 -- there is such a fault in a disk of so many sectors and an NVRAM

@@ -6,6 +6,7 @@ pub mod Rows
 pub mod Names
 pub mod Links
 pub mod Walks
+pub mod Tables
 pub mod Maps
 pub mod Logs
 pub mod Checks

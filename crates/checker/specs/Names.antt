@@ -8,6 +8,7 @@ use Rattle.model.specs.Volumes.{Entries, HasNames, number_at}
 use Rattle.model.specs.declared.limits.TheConstants.{FIRST_NUMBER, ROOT_NUMBER}
 use Rattle.images.specs.Contents.{IsDirectoryOf, content_of}
 use Rattle.images.specs.Roots.{HeldTree}
+use Rattle.images.specs.Soundness.{IsReadable}
 use Rattle.checker.specs.declared.names.NumberRow.{NumberRow}
 
 -- a table has what a tree has of each number
@@ -51,9 +52,9 @@ pub record IsCounted (s : Sizes) (t : HeldTree) (e : Entries) (count : ℕ) (fou
   pub reached : (n : ℕ) → IsFirst found (length found) n
       → ((t n).inode.kind ≡ Directory) × ((p : Path) × (number_at e p ≡ Some n))
 
--- the first so many directories that were found have these names, each of them all that its blocks give it
+-- the first so many directories that were found can be read, and have these names, each of them all that its blocks give it
 abbrev pub AreDirectories : Sizes → HeldTree → Entries → ℕ → List ℕ → Type 0
-AreDirectories s t e count found = (d : ℕ) → IsFirst found count d → IsDirectoryOf s.inodes (content_of (t d)) (e d)
+AreDirectories s t e count found = (d : ℕ) → IsFirst found count d → IsReadable (t d) × IsDirectoryOf s.inodes (content_of (t d)) (e d)
 
 -- What is known of a tree when the first so many directories that were found were looked into: these are their names.
 pub record IsWalked (s : Sizes) (t : HeldTree) (e : Entries) (count : ℕ) (found : List ℕ) (table : List NumberRow) : Type 0 where

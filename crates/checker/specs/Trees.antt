@@ -1,5 +1,5 @@
 -- The trees that a check looks at.
-use Rattle.std.specs.Prelude.{ℕ, ◌≡◌, ◌≢◌, ◌↔◌, ◌⊎◌, ◌+◌, ◌-◌, ◌*◌, ◌<◌, ◌≤◌, List, ◌∷◌, Contains, drop, length, slice_get, slice_index, slice_index_or, Option, Some, None}
+use Rattle.std.specs.Prelude.{ℕ, ◌≡◌, ◌≢◌, ◌↔◌, ◌⊎◌, ◌-◌, ◌*◌, ◌<◌, ◌≤◌, List, ◌∷◌, Contains, drop, length, slice_get, slice_index, slice_index_or, Option, Some, None}
 use Rattle.layout.specs.Bytes.{zeros}
 use Rattle.layout.specs.Inode.{IsInode}
 use Rattle.layout.specs.Maps.{IsTaken}
@@ -16,10 +16,10 @@ use Rattle.layout.specs.declared.version.TheConstants.{VERSION}
 use Rattle.model.specs.declared.limits.TheConstants.{FIRST_NUMBER}
 use Rattle.images.specs.BlockMap.{HasBit, NamesOnce}
 use Rattle.images.specs.Contents.{content_bytes, content_of}
-use Rattle.images.specs.Faults.{IsFileGrammar, IsMapGrammar, IsTreeGrammar, MapsWithin}
+use Rattle.images.specs.Faults.{IsMapGrammar, IsTreeGrammar, MapsWithin}
 use Rattle.images.specs.Nodes.{Held, IsOnce, Names, file_block}
 use Rattle.images.specs.Roots.{HeldTree, Reach, frozen_inode_file, inode_bytes_at, whole}
-use Rattle.images.specs.Soundness.{MapsNumbers}
+use Rattle.images.specs.Soundness.{IsFileGrammar, IsReadable, MapsNumbers}
 use Rattle.loading.specs.Images.{IsFileOfInode}
 use Rattle.loading.specs.InodeBlocks.{IsInodeAt}
 use Rattle.loading.specs.Snapshots.{AreApartAt, IsSnapshotAt}
@@ -74,6 +74,7 @@ IsOut (Some fault) = ⊥
 pub record HasMaps (s : Sizes) (t : HeldTree) (numbers : List ℕ) : Type 0 where
   pub inode_map : IsFileGrammar s (t 1) → IsMapGrammar (t 1)
   pub block_map : IsFileGrammar s (t 2) → IsMapGrammar (t 2)
+  pub readable : IsFileGrammar s (t 1) → IsReadable (t 1)
   pub bytes_are : IsFileGrammar s (t 1) → numbers ≡ content_bytes (content_of (t 1))
   pub within : MapsWithin s.inodes numbers
 

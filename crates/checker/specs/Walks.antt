@@ -14,9 +14,10 @@ use Rattle.model.specs.Volumes.{Entries, Volume, entries}
 use Rattle.blocktree.specs.Trees.{IsSoundAt}
 use Rattle.inode.specs.Files as files
 use Rattle.inode.specs.declared.file.File.{File}
-use Rattle.images.specs.Faults.{HoldsGraph, IsTreeGrammar}
+use Rattle.images.specs.Faults.{HoldsNames, IsTreeGrammar}
 use Rattle.images.specs.Nodes.{Held, file_block}
 use Rattle.images.specs.Roots.{HeldTree, whole}
+use Rattle.images.specs.Soundness.{IsReadable}
 use Rattle.checker.specs.Findings.{tree_in}
 use Rattle.checker.specs.Names.{AreWithin, IsCounted, IsFirst, AreDirectories}
 use Rattle.checker.specs.Trees.{IsTreeOf}
@@ -42,17 +43,17 @@ pub record IsTreeAt (disk : Blocks) (r : Root) (s : Sizes) (blocks : ℕ) (kept 
   pub tree : IsTreeOf disk r kept
   pub grammar : IsTreeGrammar r.geometry (tree_in (whole disk r) kept.plane)
 
--- a file in memory has the bytes of a held one, and is in its grammar
+-- a file in memory has the bytes of a held one, and is in its grammar, where that can be read
 pub record HasFile (blocks : ℕ) (disk : Blocks) (file : File) (h : Held) : Type 0 where
   pub size_is : file.size ≡ h.inode.size
   pub block_is : (i : ℕ) → files.file_block disk file i ≡ file_block h i
-  pub sound : (i : ℕ) → IsSoundAt blocks disk file.tree i
+  pub sound : IsReadable h → (i : ℕ) → IsSoundAt blocks disk file.tree i
 
 -- What is known on the way: these names are counted, no directory is found twice, and whatever graph the tree holds has these names.
 pub record IsOnWay (s : Sizes) (t : HeldTree) (e : Entries) (count : ℕ) (found : List ℕ) (table : List NumberRow) : Type 0 where
   pub counted : IsCounted s t e count found table
   pub distinct : (i j n : ℕ) → slice_get found i ≡ Some n → slice_get found j ≡ Some n → i ≡ j
-  pub sound : (g : HoldsGraph s.inodes t) (d n : ℕ) (x : Name) → e d x ≡ Some n → entries g.volume d x ≡ Some n
+  pub sound : (g : HoldsNames s.inodes t) (d n : ℕ) (x : Name) → e d x ≡ Some n → entries g.volume d x ≡ Some n
 
 -- on the way between two directories: the first so many that were found have all their names
 pub record LooksInto (s : Sizes) (t : HeldTree) (e : Entries) (count : ℕ) (found : List ℕ) (table : List NumberRow) : Type 0 where

@@ -36,7 +36,7 @@ use crate::trees::open_trees;
 use crate::{CheckError, Fault, Finding, LetsGo, Report, RootsFault, Summary, TreeName, Watch};
 use buffers::Buffers;
 use images::{
-    blocks_are_where_pointers_lead, faultless_images_have_one_root, images_that_open_have_no_fault,
+    blocks_are_where_pointers_lead, images_that_open_have_no_fault,
     inline_bytes_are_the_first_block, inodes_are_what_their_bytes_spell,
     snapshots_are_what_their_bytes_spell,
 };
@@ -47,7 +47,8 @@ use std::alloc::Global;
 
 /// Looks for faults in the image of a station. It settles what reads give, and writes nothing. `Good` says that none of the nine faults
 /// stands in the image, with its figures; `Bad` tells one that does, and comes for no image that opens to a state. Each tree with a fault is
-/// told to the watch. Err comes for want of memory and where a device call failed.
+/// told to the watch. Err comes for want of memory and where a device call failed. No data of files and no link's text is read, but a block
+/// into a part of which a record of the log writes: whether others can be read isn't known of a good image.
 pub fn check<S: Station, W: Watch>(
     alloc: Global,
     mut station: S,
@@ -67,7 +68,6 @@ pub fn check<S: Station, W: Watch>(
         (S.meaning station).seen.nvram s → IfOk result (λ r. IsGood r.0) }
 {
     images_that_open_have_no_fault();
-    faultless_images_have_one_root();
     let mut findings = Findings::new(watch);
     let root = match find_root(&mut station, &mut findings) {
         Ok(Some(root)) => root,
@@ -106,7 +106,7 @@ fn find_root<S: Station, W: Watch>(
         × FitsStation r (S.meaning station.new))) }
     ensures found { (S.meaning station.old).is_honest → IfOk result (λ found. IfSome found
         (λ r. IsNewest r ((S.meaning station.old).seen.disk SLOT_A)
-        ((S.meaning station.old).seen.disk SLOT_B) × (findings.new.first ≡ findings.old.first))) }
+        ((S.meaning station.old).seen.disk SLOT_B))) }
     ensures some { IfOk result (λ found. found ≡ None → IsSome findings.new.first) }
     ensures kept { IfOk result (λ found. IfSome found (λ _. findings.new.first ≡ findings.old.first)) }
     ensures grown { MayGrow (S.meaning station.old).failed_reads (S.meaning station.new).failed_reads }

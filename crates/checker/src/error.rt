@@ -2,7 +2,6 @@
 
 use crate::Fault;
 use blocktree::ReadError;
-use buffers::BufferError;
 use std::alloc::{AllocError, AllocFailed};
 use thiserror::Error;
 
@@ -43,34 +42,6 @@ impl<T: Drop> From<AllocFailed<T>> for CheckError {
 
     fn from(_: AllocFailed<T>) -> CheckError {
         CheckError::NoMemory
-    }
-}
-
-impl From<BufferError> for CheckError {
-    ghost use Rattle.std.specs.Prelude.{◌≡◌};
-    ghost use Rattle.checker.specs.Errors.{check_error};
-
-    ghost from_gives = { λ b e. e ≡ check_error b };
-
-    fn from(error: BufferError) -> CheckError {
-        match error {
-            BufferError::NoMemory => CheckError::NoMemory,
-            BufferError::Device => CheckError::Device,
-        }
-    }
-}
-
-impl From<BufferError> for Halt {
-    ghost use Rattle.std.specs.Prelude.{◌≡◌};
-    ghost use Rattle.checker.specs.Errors.{check_error, halt};
-
-    ghost from_gives = { λ b e. e ≡ halt (check_error b) };
-
-    fn from(error: BufferError) -> Halt {
-        match error {
-            BufferError::NoMemory => Halt::NoMemory,
-            BufferError::Device => Halt::Device,
-        }
     }
 }
 

@@ -13,7 +13,7 @@ pub enum Fault {
         block: u32,
         found: SnapshotFault,
     },
-    /// 3: an inode, an indirect block or a map of a tree is outside its grammar.
+    /// 3: an inode, an indirect block or a map of a tree is outside its grammar, as each of these blocks is that can't be read.
     Tree(TreeFault),
     /// 4: a tree names a block twice.
     Shared {
@@ -56,7 +56,7 @@ pub enum RootsFault {
 /// What is wrong with a snapshot's root block.
 #[derive(Clone, Copy, Debug, PartialEq, Eq)]
 pub enum SnapshotFault {
-    /// It is outside its grammar, or its order number is above the newest root's generation.
+    /// It is outside its grammar or can't be read, or its order number is above the newest root's generation.
     NoSnapshot,
     /// It has the name or the order number of the one in another slot.
     SameAs(u32),
@@ -87,7 +87,7 @@ pub struct FileNode {
 /// What is wrong with a tree's directories.
 #[derive(Clone, Copy, Debug, PartialEq, Eq)]
 pub enum DirectoryFault {
-    /// A block of a directory's entries is outside its grammar.
+    /// A block of a directory's entries is outside its grammar, or can't be read.
     Entries { directory: u32, block: u32 },
     /// A name stands twice in a directory.
     Repeated { directory: u32 },
@@ -104,7 +104,8 @@ pub enum DirectoryFault {
 pub enum LogFault {
     /// A half's header is no gate, or is open for an epoch that isn't its own or too late.
     Header,
-    /// The record whose gate stands at this byte of a half is malformed, or doesn't apply.
+    /// The record whose gate stands at this byte of a half is malformed, or doesn't apply, or writes into a part of a block that can't be
+    /// read.
     Record { half: u32, at: u32 },
 }
 

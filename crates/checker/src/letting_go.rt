@@ -1,9 +1,13 @@
 //! Blocks that may be let go of.
 
-ghost use Rattle.std.specs.Prelude.{◌≡◌, ℕ, List};
+ghost use Rattle.std.specs.Prelude.{◌≡◌, ◌<◌, ℕ, List, IfOk, IsFalse, IsTrue};
 ghost use Rattle.station.specs.Moments.{MayGrow};
+ghost use Rattle.buffers.specs.Disks.{IsWhole};
+ghost use Rattle.checker.specs.Errors.{IsFault, Looks};
 
-use buffers::{Blocks, Buffers};
+use crate::CheckError;
+use buffers::{Blocks, BufferError, Buffers};
+use layout::BlockNumber;
 use station::Station;
 
 /// Blocks of a disk that are let go of, so that no more are kept than are needed at once.
@@ -25,4 +29,20 @@ impl<S: Station> LetsGo for Buffers<S> {
     }
 
     ghost grows = { λ s t reads. reads.reads };
+}
+
+/// Reads the block at a place into memory, and tells whether all of it can be read.
+pub(crate) fn read_block<B: LetsGo>(blocks: &mut B, place: BlockNumber) -> Result<bool, CheckError>
+    requires { place < B.count blocks.old }
+    ensures reads { Looks B.Blocks IsFault blocks.old blocks.new result }
+    ensures resident { IfOk result (λ whole. IsTrue whole → B.IsResident blocks.new place) }
+    ensures whole { (disk : ℕ → List ℕ) → B.Shows blocks.old disk
+        → IfOk result (λ whole. IsFalse whole → IsWhole (disk place) → ⊥) }
+{
+    match blocks.make_resident(place) {
+        Ok(()) => Ok(true),
+        Err(BufferError::NoMemory) => Err(CheckError::NoMemory),
+        Err(BufferError::Device) => Err(CheckError::Device),
+        Err(BufferError::Damaged) => Ok(false),
+    }
 }

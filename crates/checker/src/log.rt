@@ -11,12 +11,13 @@ ghost use Rattle.buffers.specs.Disks.{ReadsOn, ShowsDisk};
 ghost use Rattle.images.specs.Faults.{IsFaultless};
 ghost use Rattle.images.specs.Roots.{whole};
 ghost use Rattle.images.specs.Soundness.{by_sizes};
+ghost use Rattle.inofile.specs.Settled.{CanRead};
 ghost use Rattle.loading.specs.Slots.{FitsStation};
 ghost use Rattle.oplog.specs.SavedLog.{TellsLog};
 ghost use Rattle.replay.specs.Volumes.{HasVolumeIn, LeadTo};
 ghost use Rattle.checker.specs.Checks.{Passes};
 ghost use Rattle.checker.specs.Errors.{IsHaltFault, Looks};
-ghost use Rattle.checker.specs.Logs.{IsLogFault, TellsRecords};
+ghost use Rattle.checker.specs.Logs.{IsRecordFault, TellsRecords};
 
 use crate::error::{Halt, or_fault};
 use crate::{Fault, LetsGo, LogFault, TreeFault};
@@ -31,7 +32,8 @@ use replay::replay_record;
 use station::Station;
 use std::alloc::Global;
 
-/// Replays the log over the newest root's tree in memory, and counts its records.
+/// Replays the log over the newest root's tree in memory, and counts its records. A record that writes into a part of a block that can't
+/// be read is a fault.
 pub(crate) fn check_log<S: Station>(
     alloc: Global,
     blocks: &mut Buffers<S>,
@@ -96,10 +98,11 @@ fn replay_half<B: LetsGo>(
     ensures reads { Looks B.Blocks IsHaltFault blocks.old blocks.new result }
     ensures geometry { inodes.new.geometry ≡ inodes.old.geometry }
     ensures few { IfOk result (λ count. count ≤ length records.now) }
-    ensures faults { Passes (λ _. Unit {0}) IsLogFault result }
+    ensures faults { Passes (λ _. Unit {0}) IsRecordFault result }
     ensures replays { (disk : ℕ → List ℕ) (settled : ℕ → Inode) (v w : Volume)
         (changes : List Change) → B.Shows blocks.old disk
         → HasVolumeIn by_sizes (B.count blocks.old) disk settled inodes.old v
+        → CanRead by_sizes disk settled
         → LeadTo by_sizes inodes.old.geometry.inodes records.now changes v w
         → Passes (λ _. HasVolumeIn by_sizes (B.count blocks.old) disk settled inodes.new w)
         (λ _. ⊥) result }

@@ -8,6 +8,7 @@ ghost use Rattle.images.specs.BlockMap.{HasBit, IsExact, IsSystem, entry};
 ghost use Rattle.images.specs.Faults.{IsTreeGrammar};
 ghost use Rattle.images.specs.Room.{free_under};
 ghost use Rattle.images.specs.Roots.{whole};
+ghost use Rattle.images.specs.Soundness.{IsReadable};
 ghost use Rattle.images.specs.Sums.{sum_below};
 ghost use Rattle.checker.specs.Checks.{Passes};
 ghost use Rattle.checker.specs.Errors.{IsHaltFault, Looks};
@@ -21,12 +22,12 @@ use crate::marks::Marks;
 use crate::tree::Tree;
 use crate::{Fault, LetsGo, TreeFault};
 use images::inodes_are_what_their_bytes_spell;
-use inode::File;
+use inode::{File, based_trees_are_sound};
 use layout::{
     BLOCK_BYTES, BLOCK_POINTERS, BlockNumber, Geometry, Kind, Pointer, Root, SNAPSHOT_SLOTS,
     map_entry,
 };
-use loading::{own_inode, sound_files_have_sound_paths, sound_files_read_as_held};
+use loading::{own_inode, sound_files_read_as_held};
 use std::alloc::Global;
 
 /// The bit of a block that is the system's own.
@@ -54,7 +55,7 @@ pub(crate) fn mark_system(root: &Root, marks: &mut Marks)
     }
 }
 
-/// Compares the entries of the newest root's block map with what the trees name, and counts the free ones.
+/// Compares the entries of the newest root's block map with what the trees name, and counts the free ones. All of its blocks are read.
 pub(crate) fn compare_map<B: LetsGo>(
     alloc: Global,
     blocks: &mut B,
@@ -69,12 +70,12 @@ pub(crate) fn compare_map<B: LetsGo>(
         → IsRoot r → r.geometry ≡ geometry → IsTreeOf disk r tree.now → tree.now.plane ≡ 0
         → IsTreeGrammar r.geometry (whole disk r).active
         → ((b : ℕ) → ShouldHave r (whole disk r) b (slice_index marks.now b))
-        → Passes (λ free. IsExact r (whole disk r)
+        → Passes (λ free. IsReadable ((whole disk r).active 2) × IsExact r (whole disk r)
         × (free ≡ free_under (whole disk r).active r.geometry.blocks))
         (IsFindingUnder r (whole disk r) nvram Image) result }
 {
     sound_files_read_as_held();
-    sound_files_have_sound_paths();
+    based_trees_are_sound();
     inodes_are_what_their_bytes_spell();
     let fault = Fault::Tree(TreeFault::BlockMap);
     let inode = or_fault(

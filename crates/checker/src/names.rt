@@ -5,13 +5,14 @@ ghost use Rattle.layout.specs.Version.{greatest_size};
 ghost use Rattle.layout.specs.declared.version.TheConstants.{VERSION};
 ghost use Rattle.layout.specs.Root.{IsRoot};
 ghost use Rattle.layout.specs.declared.root.Root.{Root};
-ghost use Rattle.images.specs.Faults.{HoldsGraph, IsTreeGrammar};
+ghost use Rattle.images.specs.Faults.{HoldsGraph, HoldsNames, IsTreeGrammar};
 ghost use Rattle.images.specs.Roots.{whole};
 ghost use Rattle.checker.specs.Checks.{Passes};
 ghost use Rattle.checker.specs.Errors.{IsHaltFault, Looks};
 ghost use Rattle.checker.specs.Findings.{IsTreeFinding, tree_in};
 ghost use Rattle.checker.specs.Trees.{IsSeen, IsTreeOf};
-ghost use Rattle.std.specs.Prelude.{◌+◌, ◌/◌, IsFalse, Some, slice_get};
+ghost use Rattle.std.specs.Prelude.{◌+◌, ◌/◌, IsFalse, OnOk, Some, slice_get};
+ghost use Rattle.blocktree.specs.Trees.{IsSoundAt};
 ghost use Rattle.layout.specs.declared.kind.Kind.TheVariants as kinds;
 ghost use Rattle.layout.specs.Directory.{IsEntry, named_of};
 ghost use Rattle.layout.specs.declared.TheConstants.{BLOCK_BYTES};
@@ -162,6 +163,8 @@ fn count_blocks<B: LetsGo>(
         → Passes (λ _. HasCountedRows r.geometry t directory (file.now.size / BLOCK_BYTES)
         (file_block (t directory)) e count found.new.items table.new.items)
         (IsTreeFinding r t) result }
+    ensures sound { (disk : ℕ → List ℕ) → B.Shows blocks.old disk → OnOk result ((i : ℕ)
+        → i < file.now.size / BLOCK_BYTES → IsSoundAt (B.count blocks.old) disk file.now.tree i) }
 {
     let mut names = BTreeSet::new(alloc);
     for i in 0..(file.size() / BLOCK_BYTES as u64) as u32 {
@@ -197,7 +200,7 @@ fn count_entries(
         → IsOnWay r.geometry t e count found.old.items table.old.items
         → IsFirst found.old.items count directory
         → KnowsNames names.old (λ n. n.items) (e directory)
-        → ((g : HoldsGraph r.geometry.inodes t) → IsAwaited r.geometry.inodes g.volume directory e bytes.now)
+        → ((g : HoldsNames r.geometry.inodes t) → IsAwaited r.geometry.inodes g.volume directory e bytes.now)
         → Passes (λ _. (h : HasCounted r.geometry t directory bytes.now e count found.new.items table.new.items)
         × KnowsNames names.new (λ n. n.items) (h.names directory))
         (IsTreeFinding r t) result }
@@ -258,7 +261,7 @@ fn count_entry(
         → IsFirst found.old.items count directory
         → KnowsNames names.old (λ n. n.items) (e directory)
         → IsEntry r.geometry.inodes (named_of entry.now)
-        → ((g : HoldsGraph r.geometry.inodes t)
+        → ((g : HoldsNames r.geometry.inodes t)
         → (entries g.volume directory entry.now.name.now ≡ Some entry.now.number)
         × (e directory entry.now.name.now ≡ None))
         → Passes (λ _. (e directory entry.now.name.now ≡ None)
@@ -290,7 +293,7 @@ fn count_name(
         → IsOnWay r.geometry t e count found.old.items table.old.items
         → IsFirst found.old.items count directory → e directory x ≡ None
         → IsEntry r.geometry.inodes (record { number = number; name = x })
-        → ((g : HoldsGraph r.geometry.inodes t) → entries g.volume directory x ≡ Some number)
+        → ((g : HoldsNames r.geometry.inodes t) → entries g.volume directory x ≡ Some number)
         → Passes (λ _. IsOnWay r.geometry t (with_edge directory x (Some number) e)
         count found.new.items table.new.items) (IsTreeFinding r t) result }
 {

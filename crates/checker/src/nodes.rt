@@ -1,6 +1,6 @@
 //! The nodes of a file: each is marked, and each indirect block tested.
 
-ghost use Rattle.std.specs.Prelude.{◌≡◌, ◌-◌, ◌<◌, ◌≤◌, ℕ, List, None, Some, length, slice_index_or};
+ghost use Rattle.std.specs.Prelude.{◌≡◌, ◌+◌, ◌-◌, ◌*◌, ◌^◌, ◌<◌, ◌≤◌, ℕ, List, None, Some, length, slice_index_or};
 ghost use Rattle.std.specs.Int.{div_ceil};
 ghost use Rattle.layout.specs.Inode.{IsInode};
 ghost use Rattle.layout.specs.Limits.{Sizes};
@@ -14,6 +14,7 @@ ghost use Rattle.images.specs.Nodes.{Held};
 ghost use Rattle.checker.specs.Nodes.{HasNodes, IsAt, IsUnder, KeepsMarks, KeepsShared, MarksFile, MarksFor, MarksThese, SharesNone};
 
 use crate::error::Halt;
+use crate::letting_go::read_block;
 use crate::marks::Marks;
 use crate::{Fault, FileNode, LetsGo, TreeFault};
 use layout::{
@@ -149,15 +150,18 @@ fn mark_node<B: LetsGo>(
     }
     let height = node.height - 1;
     let first = GROUP.saturating_mul(node.index);
-    let used = nodes_at(count, height).saturating_sub(first);
-    blocks.make_resident(place)?;
+    let used = used_below(count, height, node.index);
+    let outside = Halt::Fault(Fault::Tree(TreeFault::Indirect {
+        number: node.number,
+        block: place.get(),
+    }));
+    if !read_block(blocks, place)? {
+        return Err(outside);
+    }
     let stored = blocks.bytes(place);
     let bytes = *stored;
     if !is_indirect_block(&bytes, blocks.count(), used) {
-        return Err(Halt::Fault(Fault::Tree(TreeFault::Indirect {
-            number: node.number,
-            block: place.get(),
-        })));
+        return Err(outside);
     }
     if height == 0 && before == bits {
         return Ok(());
@@ -198,6 +202,15 @@ fn mark_block(
         },
     );
     before
+}
+
+/// How many nodes stand at a height over so many blocks, from those under node `index` of the height above on.
+fn used_below(count: u32, height: u32, index: u32) -> u32
+    ensures used { result ≡ nodes_at count height - 1024 * index }
+    ensures low { 1 ≤ result → 1024 * index + result < 2 ^ 32 }
+{
+    let first = GROUP.saturating_mul(index);
+    nodes_at(count, height).saturating_sub(first)
 }
 
 /// How many nodes stand at a height over so many blocks.

@@ -26,10 +26,11 @@ use crate::{CheckError, Fault, LetsGo, TreeFault};
 use blocktree::ReadError;
 use buffers::Block;
 use images::inodes_are_what_their_bytes_spell;
+use inode::based_trees_are_sound;
 use layout::{
     BLOCK_BYTES, FIRST_NUMBER, Geometry, INODE_BYTES, INODES_PER_BLOCK, Inode, Kind, is_taken,
 };
-use loading::{inode_at, is_zero_from, sound_files_have_sound_paths, sound_files_read_as_held};
+use loading::{inode_at, is_zero_from, sound_files_read_as_held};
 use std::alloc::Global;
 
 /// Tests the inodes of the trees and the indirect blocks under them, marks the blocks that they name, and compares their kinds with the
@@ -135,7 +136,7 @@ fn read_row<B: LetsGo>(
         → row ≡ file_block (tree_in (whole disk r) tree.new.plane 0) i)) }
 {
     sound_files_read_as_held();
-    sound_files_have_sound_paths();
+    based_trees_are_sound();
     match tree.file.copy(alloc, blocks, i) {
         Ok(row) => Ok(row),
         Err(ReadError::NoMemory) => Err(CheckError::NoMemory),

@@ -9,7 +9,8 @@ ghost use Rattle.layout.specs.declared.pointer.Pointer.TheVariants as pointers;
 ghost use Rattle.layout.specs.declared.root.Root.{Root};
 ghost use Rattle.layout.specs.declared.version.TheConstants.{VERSION};
 ghost use Rattle.blocktree.specs.PlaceMaps.{place_at};
-ghost use Rattle.images.specs.Faults.{IsFileGrammar, IsTreeGrammar};
+ghost use Rattle.images.specs.Faults.{IsTreeGrammar};
+ghost use Rattle.images.specs.Soundness.{IsFileGrammar};
 ghost use Rattle.images.specs.Nodes.{held};
 ghost use Rattle.images.specs.Roots.{whole};
 ghost use Rattle.loading.specs.Images.{IsFileOfInode};
@@ -23,9 +24,9 @@ use crate::tree::Tree;
 use crate::{CheckError, FileNode, LetsGo};
 use blocktree::{PlaceMap, ReadError};
 use images::inodes_are_what_their_bytes_spell;
-use inode::{File, nodes_are_where_pointers_lead};
+use inode::{File, based_trees_are_sound, nodes_are_where_pointers_lead};
 use layout::{BlockNumber, Geometry, INODE_BYTES, INODES_PER_BLOCK, Inode};
-use loading::{inode_at, sound_files_have_sound_paths, sound_files_read_as_held};
+use loading::{inode_at, sound_files_read_as_held};
 use std::alloc::Global;
 
 /// The first node of a tree, by number and then by height, that stands in a block which the tree names twice, but for the node that is told
@@ -81,7 +82,7 @@ pub(crate) fn read_inode<B: LetsGo>(
         → IfOk result (λ found. found ≡ Some (tree_in (whole disk r) tree.plane number).inode) }
 {
     sound_files_read_as_held();
-    sound_files_have_sound_paths();
+    based_trees_are_sound();
     let i = number / INODES_PER_BLOCK;
     let location = match file.locate(blocks, i) {
         Ok(location) => location,
@@ -110,7 +111,7 @@ fn node_in<B: LetsGo>(
         → s.blocks ≡ B.count blocks.old → IsFileGrammar s (held disk inode) → IsFileOfInode inode file.now
         → IfOk result (λ found. IfNone found ((m : ℕ) → IsAloneAt shared.now number (held disk inode) m)) }
 {
-    sound_files_have_sound_paths();
+    based_trees_are_sound();
     nodes_are_where_pointers_lead();
     let tree = file.tree();
     for height in 0..=tree.depth() {

@@ -1,15 +1,17 @@
 //! The snapshots' root blocks.
 
-ghost use Rattle.std.specs.Prelude.{◌≡◌, ◌+◌, ◌<◌, ℕ, List, IfOk, IfSome, count_by, slice_index_or};
+ghost use Rattle.std.specs.Prelude.{◌≡◌, ◌↔◌, ◌+◌, ◌<◌, ℕ, List, IfOk, IfSome, IsTrue, count_by, slice_index_or};
 ghost use Rattle.std.specs.Option.{option_map};
 ghost use Rattle.layout.specs.Pointer.{PointsBelow};
 ghost use Rattle.layout.specs.Root.{IsRoot};
 ghost use Rattle.layout.specs.declared.pointer.Pointer.TheVariants.{Block, Hole};
 ghost use Rattle.layout.specs.declared.version.TheConstants.{SNAPSHOT_SLOTS};
+ghost use Rattle.loading.specs.Snapshots.{AreApartAt};
 ghost use Rattle.checker.specs.Checks.{is_block};
 ghost use Rattle.checker.specs.Errors.{IsFault, Looks};
 ghost use Rattle.checker.specs.Trees.{TellsSlot, TellsSnapshot};
 
+use crate::letting_go::read_block;
 use crate::{CheckError, Fault, LetsGo, SnapshotFault, SnapshotName};
 use blocktree::ReadError;
 use images::snapshots_are_what_their_bytes_spell;
@@ -44,16 +46,27 @@ pub(crate) fn fault_in_slot<B: LetsGo>(
         Err(ReadError::Device) => return Err(CheckError::Device),
     }
     for l in 0..k {
-        match are_apart(blocks, root.snapshots[l], root.snapshots[k]) {
-            Ok(true) => {}
-            Ok(false) => {
-                return Ok(Some(slot_fault(k, block, SnapshotFault::SameAs(l as u32 + 1))));
-            }
-            Err(ReadError::Device) => return Err(CheckError::Device),
-            Err(_) => return Err(CheckError::NoMemory),
+        if !differ(blocks, root.snapshots[l], root.snapshots[k])? {
+            return Ok(Some(slot_fault(k, block, SnapshotFault::SameAs(l as u32 + 1))));
         }
     }
     Ok(None)
+}
+
+/// Whether the snapshots at two pointers, if there are two that can be read, differ in name and in order.
+fn differ<B: LetsGo>(blocks: &mut B, a: Pointer, b: Pointer) -> Result<bool, CheckError>
+    requires first { PointsBelow (B.count blocks.old) a }
+    requires second { PointsBelow (B.count blocks.old) b }
+    ensures reads { Looks B.Blocks IsFault blocks.old blocks.new result }
+    ensures apart { (disk : ℕ → List ℕ) → B.Shows blocks.old disk
+        → IfOk result (λ apart. IsTrue apart ↔ AreApartAt disk a b) }
+{
+    match are_apart(blocks, a, b) {
+        Ok(apart) => Ok(apart),
+        Err(ReadError::Damaged) => Ok(true),
+        Err(ReadError::NoMemory) => Err(CheckError::NoMemory),
+        Err(ReadError::Device) => Err(CheckError::Device),
+    }
 }
 
 /// A fault of the root block in a slot.
@@ -68,7 +81,7 @@ fn slot_fault(k: usize, block: BlockNumber, found: SnapshotFault) -> Fault
     }
 }
 
-/// The name of the snapshot at a pointer, and the inode of its inode file, if one is there.
+/// The name of the snapshot at a pointer, and the inode of its inode file, if one is there and can be read.
 pub(crate) fn snapshot_at<B: LetsGo>(
     blocks: &mut B,
     pointer: Pointer,
@@ -84,7 +97,9 @@ pub(crate) fn snapshot_at<B: LetsGo>(
     let Pointer::Block(block) = pointer else {
         return Ok(None);
     };
-    blocks.make_resident(block)?;
+    if !read_block(blocks, block)? {
+        return Ok(None);
+    }
     match SnapRoot::read(blocks.bytes(block)) {
         Some(snapshot) => Ok(Some((SnapshotName::new(snapshot.name), snapshot.inode_file))),
         None => Ok(None),

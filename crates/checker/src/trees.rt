@@ -25,10 +25,10 @@ use crate::snapshots::snapshot_at;
 use crate::tree::Tree;
 use crate::{CheckError, Fault, LetsGo, TreeFault, TreeName};
 use images::inodes_are_what_their_bytes_spell;
-use inode::{File, nodes_are_where_pointers_lead};
+use inode::{File, based_trees_are_sound, nodes_are_where_pointers_lead};
 use layout::{Geometry, Inode, Kind, Root, SNAPSHOT_SLOTS};
 use loading::{
-    files_without_holes_are_stored, load_numbers, map_file, own_inode,
+    files_without_holes_are_stored, load_numbers, map_file, own_inode, readable_files_are_whole,
     sound_files_have_sound_paths, sound_files_read_as_held,
 };
 use std::alloc::Global;
@@ -159,6 +159,8 @@ fn open_files<B: LetsGo>(
 {
     sound_files_read_as_held();
     sound_files_have_sound_paths();
+    based_trees_are_sound();
+    readable_files_are_whole();
     files_without_holes_are_stored();
     inodes_are_what_their_bytes_spell();
     nodes_are_where_pointers_lead();

@@ -1,5 +1,5 @@
 -- What the program's words ask for, as a function of them.
-use Rattle.std.specs.Prelude.{ℕ, ◌≡◌, ◌⊎◌, ◌==◌, ◌&&◌, ◌||◌, Bool, nat_lt, List, [], ◌∷◌, length, map}
+use Rattle.std.specs.Prelude.{ℕ, ◌≡◌, ◌⊎◌, ◌==◌, ◌&&◌, Bool, nat_le, nat_lt, List, [], ◌∷◌, length, map}
 use Rattle.std.specs.Prelude.{Option, Some, None, option_map, if◌then◌else◌, codes, Result, Ok, Err}
 use Rattle.std.specs.List.{list_all}
 use Rattle.std.specs.Str.{bytes_eq}
@@ -20,7 +20,7 @@ use Rattle.command_line.specs.declared.line.RunFaults.{RunFaults}
 
 -- ---- the values of the types
 
--- which sector writes a power cut keeps: none, all, or those at a 1 of a text
+-- which sector writes a power cut keeps: none, all, or as the characters of a text say
 pub data KeptValue : Type 0 where
   nothing : KeptValue
   everything : KeptValue
@@ -95,9 +95,9 @@ make_line rows = with_image rows (λ disk nvram.
     Ok (make disk nvram blocks inodes half (is_set (codes "new") rows))))))
 
 abbrev pub is_bits : Text → Bool
-is_bits text = nat_lt 0 (length text) && list_all (λ c. c == 48 || c == 49) text
+is_bits text = nat_lt 0 (length text) && list_all (λ c. nat_le 48 c && nat_le c 50) text
 
--- what is kept is `none`, `all` or a text of 0 (48) and 1
+-- what is kept is `none`, `all` or a text of 0 (48), 1 and 2 (50)
 abbrev pub keep_named : Text → Option KeptValue
 keep_named text = if bytes_eq text (codes "none") then Some nothing
     else (if bytes_eq text (codes "all") then Some everything

@@ -77,7 +77,7 @@ fn needed_kept<'a>(alloc: Global, matches: &ArgMatches<'a>) -> Result<Kept<'a>, 
         Some(kept) => Ok(kept),
         None => Err(not_understood(
             alloc,
-            "error: invalid value for '--keep': none, all or a text of 0 and 1\n",
+            "error: invalid value for '--keep': none, all or a text of 0, 1 and 2\n",
         )),
     }
 }
@@ -97,11 +97,11 @@ fn read_kept(word: &str) -> Option<Kept<'_>>
     None
 }
 
-/// Whether a text is one of 0 and 1.
+/// Whether a text is one of 0, 1 and 2.
 fn is_bits(text: &[u8]) -> bool
     ensures { result ≡ spec.is_bits text.now }
 {
-    !text.is_empty() && text.iter().all(|byte| *byte == b'0' || *byte == b'1')
+    !text.is_empty() && text.iter().all(|byte| b'0' <= *byte && *byte <= b'2')
 }
 
 fn shell_line<'a>(alloc: Global, matches: &ArgMatches<'a>) -> Result<Line<'a>, LineError>

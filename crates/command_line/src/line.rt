@@ -114,7 +114,8 @@ pub enum Kept<'a> {
     Nothing,
     /// `all`.
     Everything,
-    /// A nonempty text of 0 and 1, used again from its start: write i is kept where its character is 1.
+    /// A nonempty text of 0, 1 and 2, used again from its start: write i is dropped where its character is 0 and kept where it
+    /// is 1, and where it is 2 the sector can't be read then.
     Bits(&'a str),
 }
 

@@ -89,7 +89,7 @@ pub fn keep<'a>(alloc: Global) -> Arg<'a>
         alloc,
         "keep",
         "none|all|BITS",
-        "Which sector writes since the last sync a cut keeps; with BITS those at a 1, as in --keep 10",
+        "Which sector writes since the last sync a cut keeps; with BITS those at a 1, and at a 2 the sector can't be read any more, as in --keep 10",
     )
     .default_value("none")
 }

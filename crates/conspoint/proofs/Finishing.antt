@@ -6,16 +6,16 @@ use Rattle.station.specs.Moments.{Meaning, MayLeave, Goes, EachCut, LeavesJust, 
 use Rattle.station.proofs.Moments.{started, goes_on_from, goes_on_unchanged}
 use Rattle.conspoint.specs.declared.plan.PlannedBlock.{PlannedBlock}
 use Rattle.conspoint.specs.Plans.{Planned, IsPlanned}
-use Rattle.conspoint.specs.Cuts.{HoldsBlocks, HoldsWritten, HasNewRoot}
+use Rattle.conspoint.specs.Cuts.{HoldsBlocks, HoldsWritten, HasNewRoot, HasRootOrLost}
 use Rattle.conspoint.proofs.Writes.{root_may, root_written}
 
 -- all blocks are written
 abbrev pub HasBlocks : Planned → Meaning → Type 0
 HasBlocks p m = Shows m (λ c. HoldsBlocks p.blocks c.disk)
 
--- what one might have left before, or the new root
+-- what one might have left before, or the new root, or its sector lost
 abbrev pub OldOrNew : Planned → Meaning → Images → Type 0
-OldOrNew p m c = MayLeave m c ⊎ HasNewRoot p m.seen c
+OldOrNew p m c = MayLeave m c ⊎ HasRootOrLost p m.seen c
 
 -- up to the first sync
 pub before_root : (p : Planned) (m0 m1 : Meaning) → Goes Unchanged m0 m1 → LeavesOnly m0 m1 (OldOrNew p m0)

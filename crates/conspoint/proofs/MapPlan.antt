@@ -11,14 +11,14 @@ use Rattle.layout.specs.declared.geometry.TheConstants.{MOST_BLOCKS}
 use Rattle.layout.specs.declared.pointer.Pointer.{Pointer}
 use Rattle.layout.specs.declared.pointer.Pointer.TheVariants.{Hole, Block}
 use Rattle.blockmap.specs.Bits.{HasBit}
-use Rattle.blockmap.specs.Maps.{HoldsPart, IsTouched, entry_at}
+use Rattle.blockmap.specs.Maps.{IsTouched, entry_at}
 use Rattle.blockmap.specs.Parts.{Part}
 use Rattle.blockmap.specs.declared.map.BlockMap.{BlockMap}
 use Rattle.conspoint.specs.declared.draft.Draft.{Draft}
 use Rattle.conspoint.specs.Closures.{IsClosedOver, PartsMoved, OverMoved}
 use Rattle.conspoint.specs.Drafts.{OnEach, HasAll, Grows, WasTaken}
 use Rattle.conspoint.specs.Groups.{pointer_at}
-use Rattle.conspoint.specs.MapFiles.{map_nodes, node_at, IsOfMoved, PlansMap}
+use Rattle.conspoint.specs.MapFiles.{StoresPart, map_nodes, node_at, IsOfMoved, PlansMap}
 use Rattle.conspoint.specs.Marks.{Marking}
 use Rattle.conspoint.specs.Marks.Marking.{marks, stays}
 use Rattle.conspoint.proofs.DraftLemmas.{grows_twice, taken_later}
@@ -84,7 +84,7 @@ pub record Steps (d0 d1 d2 d3 d4 d5 : Draft) (settled places tops : List Pointer
   pub in_same : (j : ℕ) → IsTouched d3.map.parts.items j → IsTouched d2.map.parts.items j
   pub out : (b : ℕ) → Marking (IsOfMoved settled places (length places)) false d1.map.parts.items d2.map.parts.items b
   pub into : (b : ℕ) → Marking (IsOfMoved places places (length places)) true d2.map.parts.items d3.map.parts.items b
-  pub stored : OnEach d4 (λ e. (k b : ℕ) → k < length d3.map.parts.items → pointer_at places k ≡ Block b → HoldsPart d3.map.parts.items k (e b))
+  pub stored : OnEach d4 (λ e. (k b : ℕ) → k < length d3.map.parts.items → pointer_at places k ≡ Block b → StoresPart d3.map.parts.items k (e b))
   pub over_size : OnEach d5 (λ e. (b : ℕ) → over ≡ Block b → length (e b) ≡ 4096)
   pub over_spelled : OnEach d5 (λ e. (b i : ℕ) → over ≡ Block b → i < 1024 → indirect_pointer (e b) i ≡ (if nat_lt i n then node_at settled places i else Hole))
   pub tops_size : length tops ≡ 16
@@ -167,7 +167,7 @@ module _ (d0 d1 d2 d3 d4 d5 : Draft) (settled places tops : List Pointer) (n fir
         let at : length d1.map.parts.items + k / 1024 ≡ n = omega (arith, parts_later, lt, few) in
         w.over_moved k (omega (arith, lt, parts_later)) (omega (arith, lt, there)) (omega (arith, at, there)) some (ap (pointer_at places) at ∙ none);
     changed = d5.changed;
-    stored = λ k b lt is. subst (λ (ps : List Part). HoldsPart ps k (e b)) (sym parts_are) (w.stored e (w.over_grows.has e has) k b (omega (arith, lt, parts_stored)) is);
+    stored = λ k b lt is. subst (λ (ps : List Part). StoresPart ps k (e b)) (sym parts_are) (w.stored e (w.over_grows.has e has) k b (omega (arith, lt, parts_stored)) is);
     over_size = λ b is. w.over_size e has b (w.over_is ∙ is);
     over_spelled = λ b i is lt. w.over_spelled e has b i (w.over_is ∙ is) lt;
     tops_size = w.tops_size;

@@ -16,7 +16,7 @@ use Rattle.layout.specs.declared.pointer.Pointer.{Pointer}
 use Rattle.layout.specs.declared.pointer.Pointer.TheVariants.{Hole, Block}
 use Rattle.layout.specs.declared.version.TheConstants.{VERSION}
 use Rattle.images.specs.Nodes.{held, Names, Agrees, IsOnce, body_block, file_block, place_at_height}
-use Rattle.images.specs.Soundness.{IsSoundFile, HasNoHole, nodes_of_size}
+use Rattle.images.specs.Soundness.{IsSoundFile, IsReadable, HasNoHole, nodes_of_size}
 use Rattle.images.proofs.ReadingLaws.{used_one, used_two}
 use Rattle.blockmap.specs.Parts.{Part}
 use Rattle.blockmap.specs.Maps.{IsTouched, no_part, entry_at, settled_at}
@@ -54,7 +54,7 @@ module _ {s : Sizes} {d e : Blocks} {old : Inode} {before after : Draft} {settle
   old_zero b ge = is.entries b (λ low. absurd (omega (arith, ge, low))) ∙ word_zero (file_block (held d old) (b / 1024)) (b % 1024) (λ r lt.
       let block : (4 * b + r) / 4096 ≡ b / 1024 = omega arith in
       let at : (4 * b + r) % 4096 ≡ 4 * (b % 1024) + r = omega arith in
-      let none : slice_index (file_block (held d old) ((4 * b + r) / 4096)) ((4 * b + r) % 4096) ≡ 0 = is.sound.ends (4 * b + r) (omega (arith, old_size w is agrees, ge)) in
+      let none : slice_index (file_block (held d old) ((4 * b + r) / 4096)) ((4 * b + r) % 4096) ≡ 0 = is.sound.bytes.ends (4 * b + r) (omega (arith, old_size w is agrees, ge)) in
       sym (ap (λ j. slice_index (file_block (held d old) j) ((4 * b + r) % 4096)) block ∙ ap (slice_index (file_block (held d old) (b / 1024))) at) ∙ none)
 
   new_zero : (b : ℕ) → before.map.count ≤ b → entry_at after.map.parts.items b ≡ 0
@@ -74,7 +74,7 @@ module _ {s : Sizes} {d e : Blocks} {old : Inode} {before after : Draft} {settle
   entry_in b p lt at = elim (by_place (pointer_at places (b / 1024))) [
     | inr new ↦
         let there : pointer_at places (b / 1024) ≡ Block p = new.1 ∙ sym (new_node settled places (b / 1024) new.0 new.1) ∙ at in
-        w.stored (b / 1024) p lt there (b % 1024) (omega arith) ∙ ap (entry_at after.map.parts.items) (omega arith)
+        (w.stored (b / 1024) p lt there).entries (b % 1024) (omega arith) ∙ ap (entry_at after.map.parts.items) (omega arith)
     | inl none ↦
         let there : pointer_at settled (b / 1024) ≡ Block p = sym (old_node settled places (b / 1024) none) ∙ at in
         let bytes : e p ≡ file_block (held d old) (b / 1024) = same_block w is agrees (b / 1024) p there ∙ sym (old_block_at (b / 1024) lt ∙ ap (pointed d) there) in
@@ -172,9 +172,26 @@ module _ {s : Sizes} {d e : Blocks} {old : Inode} {before after : Draft} {settle
   over_sound zero (suc i) x at = absurd (no_block _ x ((new_stands w is agrees).beside i) at)
   over_sound (suc m) i x at = absurd (no_block _ x ((new_stands w is agrees).above m i) at)
 
+  block_size : (k x : ℕ) → k < n → node_at settled places k ≡ Block x → length (e x) ≡ 4096
+  unfolding held
+  block_size k x lt at = elim (by_place (pointer_at places k)) [
+    | inr new ↦ (w.stored k x lt (new.1 ∙ sym (new_node settled places k new.0 new.1) ∙ at)).size
+    | inl none ↦
+        let there : pointer_at settled k ≡ Block x = sym (old_node settled places k none) ∙ at in
+        let stood : place_at_height d old 0 k ≡ Block x = (old_stands w is agrees).low k lt ∙ there in
+        ap length (same_block w is agrees k x there ∙ sym (ap (pointed d) stood)) ∙ is.sound.bytes.readable k x stood
+  ]
+
+  readable : IsReadable (held e (own_inode tops before.map.count))
+  unfolding held
+  readable k x at = elim (cases_lt k n) [
+    | inl lt ↦ ap length (ap (pointed e) at) ∙ block_size k x lt (sym ((new_stands w is agrees).low k lt) ∙ at)
+    | inr ge ↦ absurd (no_block _ x ((new_stands w is agrees).past k ge) at)
+  ]
+
   pub sound_is : IsSoundFile s (held e (own_inode tops before.map.count))
   unfolding held
-  sound_is = record { inode = inode_is; indirect = over_sound; ends = ends_at }
+  sound_is = record { inode = inode_is; indirect = over_sound; bytes = record { readable = readable; ends = ends_at } }
 
   no_hole : HasNoHole (held e (own_inode tops before.map.count))
   unfolding held nodes_of_size

@@ -19,11 +19,11 @@ use Rattle.layout.specs.declared.pointer.Pointer.TheVariants.{Hole, Block}
 use Rattle.images.specs.Nodes.{held, Names, Agrees}
 use Rattle.images.proofs.OverlayLaws.{held_up}
 use Rattle.images.proofs.ReadingLaws.{level_one, level_two}
-use Rattle.blockmap.specs.Maps.{HoldsPart, IsTouched}
+use Rattle.blockmap.specs.Maps.{IsTouched}
 use Rattle.conspoint.specs.declared.draft.Draft.{Draft}
 use Rattle.conspoint.specs.Drafts.{Grows, WasTaken}
 use Rattle.conspoint.specs.Groups.{pointer_at}
-use Rattle.conspoint.specs.MapFiles.{AreTouched, map_nodes, or_settled, node_at, IsSettledMap}
+use Rattle.conspoint.specs.MapFiles.{StoresPart, AreTouched, map_nodes, or_settled, node_at, IsSettledMap}
 use Rattle.conspoint.specs.Plans.{ChangesTouched}
 use Rattle.conspoint.proofs.MapNodes.{Stands, named_at, stands_direct, stands_under, sound_stands}
 use Rattle.layout.proofs.PointerLaws.{no_block}
@@ -48,7 +48,7 @@ pub record Work (e : Blocks) (before after : Draft) (settled places tops : List 
   pub moved : (k : ℕ) → k < n → IsTouched after.map.parts.items k → pointer_at places k ≢ Hole
   pub over_moved : (k : ℕ) → k < n → n < length places → pointer_at places k ≢ Hole → pointer_at places n ≢ Hole
   pub changed : ChangesTouched after.map.count after.map.parts.items
-  pub stored : (k b : ℕ) → k < n → pointer_at places k ≡ Block b → HoldsPart after.map.parts.items k (e b)
+  pub stored : (k b : ℕ) → k < n → pointer_at places k ≡ Block b → StoresPart after.map.parts.items k (e b)
   pub over_size : (b : ℕ) → pointer_at places n ≡ Block b → length (e b) ≡ 4096
   pub over_spelled : (b i : ℕ) → pointer_at places n ≡ Block b → i < 1024
       → indirect_pointer (e b) i ≡ (if nat_lt i n then node_at settled places i else Hole)

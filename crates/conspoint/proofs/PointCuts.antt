@@ -4,13 +4,11 @@ use Rattle.station.specs.Images.{Images}
 use Rattle.station.specs.Moments.{Meaning, MayLeave, EachCut, Shows, After, Goes, LeavesOnly, IsSameStation}
 use Rattle.station.proofs.Moments.{started, goes_on, weaker, joined, at_the_end}
 use Rattle.std.proofs.Math.Seq.{take-length}
-use Rattle.std.proofs.lemmas.Bool.{cases_lt}
 use Rattle.std.specs.BTreeMap.{BTreeMap}
 use Rattle.buffers.specs.Disks.{ShowsDisk, disk_with_sector}
 use Rattle.buffers.specs.declared.block.Block.{Block}
-use Rattle.conspoint.specs.Cuts.{StaysOutside, HasNewRoot, HoldsWritten, HoldsBlocks, disk_so_far, disk_with_blocks}
-use Rattle.conspoint.specs.Plans.{Planned, FitsDisk}
-use Rattle.conspoint.specs.Writes.{AreWhole}
+use Rattle.conspoint.specs.Cuts.{StaysOutside, HasNewRoot, HasRootOrLost, LosesSlot, HoldsWritten, HoldsBlocks, disk_so_far, disk_with_blocks}
+use Rattle.conspoint.specs.Plans.{Planned}
 use Rattle.conspoint.specs.declared.plan.PlannedBlock.{PlannedBlock}
 
 -- where nothing is written, that stands there
@@ -36,15 +34,14 @@ so_far_all p q disk is all =
     ∙ ap (λ (l : List PlannedBlock). disk_with_blocks l disk) (take-length p.blocks)
 
 pub shown_all : (m : Meaning) (kept : BTreeMap ℕ Block) (p q : Planned) (disk : ℕ → List ℕ) → q ≡ record p { written = q.written } → q.written ≡ length p.blocks
-    → ShowsDisk m kept (disk_with_sector q.slot q.root (disk_so_far q disk)) → ShowsDisk m kept (disk_with_sector p.slot p.root (disk_with_blocks p.blocks disk))
+    → ShowsDisk m kept (disk_with_sector m.seen.disk q.slot (disk_so_far q disk)) → ShowsDisk m kept (disk_with_sector m.seen.disk p.slot (disk_with_blocks p.blocks disk))
 shown_all m kept p q disk is all shows =
-    subst (λ (d : ℕ → List ℕ). ShowsDisk m kept (disk_with_sector p.slot p.root d)) (so_far_all p q disk is all)
-    (subst (λ (r : List ℕ). ShowsDisk m kept (disk_with_sector p.slot r (disk_so_far q disk))) (ap (λ (x : Planned). x.root) is)
-    (subst (λ (n : ℕ). ShowsDisk m kept (disk_with_sector n q.root (disk_so_far q disk))) (ap (λ (x : Planned). x.slot) is) shows))
+    subst (λ (d : ℕ → List ℕ). ShowsDisk m kept (disk_with_sector m.seen.disk p.slot d)) (so_far_all p q disk is all)
+    (subst (λ (n : ℕ). ShowsDisk m kept (disk_with_sector m.seen.disk n (disk_so_far q disk))) (ap (λ (x : Planned). x.slot) is) shows)
 
 module _ (old mid : Meaning) (p : Planned) (goes : Goes (StaysOutside p.blocks) old mid) where
   abbrev Cut : Images → Type 0
-  Cut c = After (StaysOutside p.blocks) old c ⊎ HasNewRoot p old.seen c
+  Cut c = After (StaysOutside p.blocks) old c ⊎ HasRootOrLost p old.seen c
 
   -- before the root is written
   pub wrote : LeavesOnly old mid Cut
@@ -52,14 +49,7 @@ module _ (old mid : Meaning) (p : Planned) (goes : Goes (StaysOutside p.blocks) 
       goes_on old old mid (StaysOutside p.blocks) Cut
       (started old Cut (λ honest c left. inl (c, left, record { nvram = refl; disk = λ n out. refl }))) goes (λ c after. inl after)
 
-  module _ (q : Planned) (is : q ≡ record p { written = q.written }) (fits : FitsDisk mid.sectors p) (sized : mid.is_honest → AreWhole mid.sectors mid.seen.disk) where
-    -- whole sectors are still whole
-    still : old.is_honest → (n : ℕ) → length (old.seen.disk n) ≡ 512 → length (mid.seen.disk n) ≡ 512
-    still honest n size = elim (cases_lt n mid.sectors) [
-      | inl low ↦ sized (goes honest).honest n low
-      | inr past ↦ ap (λ (s : List ℕ). length s) ((goes honest).seen.disk n (λ i d lt same. let le = fits.blocks i d lt in absurd (omega (arith, past, same, le)))) ∙ size
-    ]
-
+  module _ (q : Planned) (is : q ≡ record p { written = q.written }) where
     from_old : old.is_honest → (c : Images) → HasNewRoot q mid.seen c → HasNewRoot p old.seen c
     from_old honest c has =
         let went = goes honest in
@@ -69,17 +59,22 @@ module _ (old mid : Meaning) (p : Planned) (goes : Goes (StaysOutside p.blocks) 
           disk = λ n out other. here.disk n out other ∙ went.seen.disk n out;
           blocks = here.blocks;
           root = here.root;
-          whole = λ n size. here.whole n (still honest n size);
         }
+
+    lost_from : old.is_honest → (c : Images) → LosesSlot q mid.seen c → LosesSlot p old.seen c
+    lost_from honest c loses =
+        let went = goes honest in
+        let here = subst (λ (x : Planned). LosesSlot x mid.seen c) is loses in
+        record { nvram = here.nvram ∙ went.seen.nvram; disk = λ n out other. here.disk n out other ∙ went.seen.disk n out; lost = here.lost }
 
     -- while it is, and after it
     pub finished : (new : Meaning) → IsSameStation old mid → Shows mid (HoldsWritten q)
-        → (Shows mid (HoldsWritten q) → LeavesOnly mid new (λ c. MayLeave mid c ⊎ HasNewRoot q mid.seen c)) → LeavesOnly old new Cut
+        → (Shows mid (HoldsWritten q) → LeavesOnly mid new (λ c. MayLeave mid c ⊎ HasRootOrLost q mid.seen c)) → LeavesOnly old new Cut
     finished new same shown ends honest =
         joined old mid new Cut wrote
-        (weaker mid new (λ c. MayLeave mid c ⊎ HasNewRoot q mid.seen c) Cut (ends shown) (λ c. λ one. elim one [
+        (weaker mid new (λ c. MayLeave mid c ⊎ HasRootOrLost q mid.seen c) Cut (ends shown) (λ c. λ one. elim one [
           | inl left ↦ at_the_end old mid Cut same wrote (goes honest).honest c left
-          | inr root ↦ inr (from_old honest c root)
+          | inr began ↦ inr (elim began [ inl root ↦ inl (from_old honest c root) | inr loses ↦ inr (lost_from honest c loses) ])
         ])) honest
 
     pub settled : (new : Meaning) → old.is_honest → EachCut new (HasNewRoot q mid.seen) → EachCut new (HasNewRoot p old.seen)

@@ -1,6 +1,5 @@
 -- The writes of planned blocks, and of the root.
-use Rattle.std.proofs.Common.{◌≡◌, ◌≢◌, ◌⊎◌, inl, inr, ℕ, ◌+◌, ◌-◌, ◌*◌, ◌/◌, ◌%◌, ◌<◌, ◌≤◌, List, length, take, drop, get_or, refl, ap, sym, subst, ◌∙◌, arith, ◌&&◌, leb, ltb, true, false}
-use Rattle.std.specs.Prelude.{slice_index}
+use Rattle.std.proofs.Common.{◌≡◌, ◌≢◌, ◌⊎◌, inl, inr, ℕ, ◌+◌, ◌-◌, ◌*◌, ◌<◌, ◌≤◌, List, length, take, drop, get_or, refl, ap, sym, subst, ◌∙◌, arith, ◌&&◌, leb, ltb, true, false}
 use Rattle.std.proofs.lemmas.Bool.{cases_eq}
 use Rattle.std.proofs.lemmas.Bool.Decides.{nat_tests}
 use Rattle.std.proofs.Math.Path.{fun_ext}
@@ -12,9 +11,9 @@ use Rattle.station.proofs.Moments.{goes_twice}
 use Rattle.buffers.specs.Disks.{IsBlock}
 use Rattle.conspoint.specs.declared.plan.PlannedBlock.{PlannedBlock}
 use Rattle.conspoint.specs.Plans.{Planned, AreApart, IsSlot, IsPlanned}
-use Rattle.conspoint.specs.Cuts.{StaysOutside, HoldsBlocks, HasNewRoot}
-use Rattle.layout.proofs.PartLaws.{slice_index-between}
-use Rattle.buffers.proofs.DiskLaws.{hit, miss}
+use Rattle.conspoint.specs.Cuts.{StaysOutside, HoldsBlocks, HasNewRoot, HasRootOrLost}
+use Rattle.layout.proofs.PointerLaws.{same_block}
+use Rattle.buffers.proofs.DiskLaws.{block_written, block_elsewhere}
 
 -- THE BLOCKS
 
@@ -31,23 +30,6 @@ stays_twice blocks a b c first second = record {
 pub goes_stays_on : (blocks same : List PlannedBlock) (old mid new : Meaning) → same ≡ blocks → Goes (StaysOutside blocks) old mid → Goes (StaysOutside same) mid new → Goes (StaysOutside blocks) old new
 goes_stays_on blocks same old mid new is first second =
     goes_twice old mid new (StaysOutside blocks) (StaysOutside blocks) (StaysOutside blocks) first (subst (λ (xs : List PlannedBlock). Goes (StaysOutside xs) mid new) is second) (λ a b stays. stays) (stays_twice blocks)
-
--- the block that was written
-block_written : (sectors : ℕ → Sector) (place : ℕ) (bytes : List ℕ) → length bytes ≡ 4096 → IsBlock (disk_with (8 * place) bytes sectors) place bytes
-block_written sectors place bytes len = record {
-  size = len;
-  bytes_are = λ r lt.
-      let at : 512 * (8 * place + r / 512 - 8 * place) + r % 512 ≡ r = omega arith in
-      let rest : r % 512 < 512 = omega arith in
-      rw (hit place r (length bytes) (omega arith)) (sym (slice_index-between bytes (512 * (8 * place + r / 512 - 8 * place)) 512 (r % 512) rest ∙ ap (slice_index bytes) at));
-}
-
--- another block
-block_elsewhere : (sectors : ℕ → Sector) (place b : ℕ) (bytes block : List ℕ) → length bytes ≡ 4096 → (b ≡ place → ⊥) → IsBlock sectors b block → IsBlock (disk_with (8 * place) bytes sectors) b block
-block_elsewhere sectors place b bytes block len ne is = record {
-  size = is.size;
-  bytes_are = λ r lt. is.bytes_are r lt ∙ sym (rw (miss b place r (length bytes) ne len lt) refl);
-}
 
 -- one more block is written
 pub more_holds : (blocks : List PlannedBlock) (at : ℕ) (b : PlannedBlock) (old new : Images) → AreApart blocks → at < length blocks → b ≡ get_or blocks at b → length b.bytes ≡ 4096
@@ -75,13 +57,9 @@ slot_low (inr e) = omega arith
 blocks_stay : (p : Planned) (old new : ℕ → Sector) → IsPlanned p → ((n : ℕ) → n ≢ p.slot → new n ≡ old n) → HoldsBlocks p.blocks old → HoldsBlocks p.blocks new
 blocks_stay p old new is same holds k d lt =
     let b = get_or p.blocks k d in
-    let block = holds k d lt in
     let far : 2 ≤ b.place = is.blocks.behind k d lt in
     let low : p.slot < 16 = slot_low is.slot in
-    record {
-      size = block.size;
-      bytes_are = λ r small. block.bytes_are r small ∙ ap (λ (s : Sector). slice_index s (r % 512)) (sym (same (8 * b.place + r / 512) (omega arith)));
-    }
+    holds k d lt ∙ sym (same_block old new b.place (λ i small. same (8 * b.place + i) (omega arith)))
 
 -- the root stands there
 new_root : (p : Planned) (old new : Images) → IsPlanned p → HoldsBlocks p.blocks old.disk → new.nvram ≡ old.nvram → ((n : ℕ) → n ≢ p.slot → new.disk n ≡ old.disk n)
@@ -91,10 +69,6 @@ new_root p old new is holds nvram others root = record {
   disk = λ n outside differ. others n differ;
   blocks = blocks_stay p old.disk new.disk is others holds;
   root = now;
-  whole = λ n size. elim (cases_eq n p.slot) [
-    | inl at ↦ ap (λ (x : ℕ). length (new.disk x)) at ∙ ap (λ (s : Sector). length s) now ∙ is.root
-    | inr differ ↦ ap (λ (s : Sector). length s) (others n differ) ∙ size
-  ];
 }
   where
     whole_part : (slot : ℕ) (root : List ℕ) → length root ≡ 512 → part_of slot root slot ≡ sector_with root
@@ -106,7 +80,7 @@ new_root p old new is holds nvram others root = record {
     now = root ∙ whole_part p.slot p.root is.root
 
 -- a write of the root that may not have been done
-pub root_may : (p : Planned) (old new : Images) → IsPlanned p → HoldsBlocks p.blocks old.disk → SomeSectorsWritten p.slot p.root old new → (new ≡ old) ⊎ HasNewRoot p old new
+pub root_may : (p : Planned) (old new : Images) → IsPlanned p → HoldsBlocks p.blocks old.disk → SomeSectorsWritten p.slot p.root old new → (new ≡ old) ⊎ HasRootOrLost p old new
 root_may p old new is holds some =
     let size = is.root in
     let others : (n : ℕ) → n ≢ p.slot → new.disk n ≡ old.disk n = λ n differ. elim (some.disk n) [
@@ -121,7 +95,10 @@ root_may p old new is holds some =
         ]) i;
         nvram = some.nvram i;
       })
-      | inr reached ↦ inr (new_root p old new is holds some.nvram others reached.1)
+      | inr reached ↦ inr (elim reached.1 [
+        | inl there ↦ inl (new_root p old new is holds some.nvram others there)
+        | inr lost ↦ inr record { nvram = some.nvram; disk = λ n outside differ. others n differ; lost = lost }
+      ])
     ]
 
 -- a write of the root that is done

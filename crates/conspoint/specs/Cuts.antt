@@ -1,7 +1,6 @@
 -- What a power cut may leave while the blocks of a plan are written, and then its root.
-use Rattle.std.specs.Prelude.{ℕ, ◌≡◌, ◌≢◌, ◌+◌, ◌*◌, ◌/◌, ◌≤◌, List, [], ◌∷◌, length, take, All}
-use Rattle.station.specs.Images.{Images, Sector, sector_with}
-use Rattle.layout.specs.declared.TheConstants.{SECTOR_BYTES}
+use Rattle.std.specs.Prelude.{ℕ, ◌≡◌, ◌≢◌, ◌⊎◌, ◌+◌, ◌*◌, ◌/◌, ◌≤◌, List, [], ◌∷◌, take, All}
+use Rattle.station.specs.Images.{Images, Sector, sector_with, unreadable}
 use Rattle.buffers.specs.Disks.{IsBlock, disk_with_block}
 use Rattle.buffers.specs.declared.error.BufferError.{BufferError}
 use Rattle.buffers.specs.declared.error.BufferError.TheVariants.{Device}
@@ -35,13 +34,22 @@ disk_with_blocks (b ∷ blocks) disk = disk_with_blocks blocks (disk_with_block 
 abbrev pub disk_so_far : Planned → (ℕ → List ℕ) → ℕ → List ℕ
 disk_so_far p disk = disk_with_blocks (take p.written p.blocks) disk
 
--- the images of before, with all the planned blocks and the new root; whole sectors stay so
+-- the images of before, with all the planned blocks and the new root
 pub record HasNewRoot (p : Planned) (old new : Images) : Type 0 where
   pub nvram : new.nvram ≡ old.nvram
   pub disk : (n : ℕ) → IsOutside p.blocks n → n ≢ p.slot → new.disk n ≡ old.disk n
   pub blocks : HoldsBlocks p.blocks new.disk
   pub root : new.disk p.slot ≡ sector_with p.root
-  pub whole : (n : ℕ) → length (old.disk n) ≡ SECTOR_BYTES → length (new.disk n) ≡ SECTOR_BYTES
+
+-- the images of before but for the planned blocks, where the sector of the new root can't be read
+pub record LosesSlot (p : Planned) (old new : Images) : Type 0 where
+  pub nvram : new.nvram ≡ old.nvram
+  pub disk : (n : ℕ) → IsOutside p.blocks n → n ≢ p.slot → new.disk n ≡ old.disk n
+  pub lost : new.disk p.slot ≡ unreadable
+
+-- once the write of the root began: the root stands there, or its sector can't be read
+abbrev pub HasRootOrLost : Planned → Images → Images → Type 0
+HasRootOrLost p old new = HasNewRoot p old new ⊎ LosesSlot p old new
 
 -- each block of a disk of so many sectors reads so
 abbrev pub ReadsAs : ℕ → Images → (ℕ → List ℕ) → Type 0

@@ -2,14 +2,14 @@
 use Rattle.std.specs.Prelude.{ℕ, ◌≡◌, ◌≢◌, ◌⊎◌, ◌↔◌, ◌+◌, ◌/◌, ◌%◌, ◌<◌, List, length, nat_le, if◌then◌else◌, Bool, true, false}
 use Rattle.std.specs.Int.{bit_at}
 use Rattle.blockmap.specs.Bits.{HasBit}
-use Rattle.blockmap.specs.Maps.{IsTouched, entry_at, settled_at}
+use Rattle.blockmap.specs.Maps.{HoldsPart, IsTouched, entry_at, settled_at}
 use Rattle.blockmap.specs.Parts.{Part}
 use Rattle.blockmap.specs.declared.map.BlockMap.{BlockMap}
 use Rattle.layout.specs.Limits.{Sizes, AreSizes}
 use Rattle.layout.specs.Maps.{map_entry}
 use Rattle.layout.specs.Places.{Blocks}
 use Rattle.layout.specs.Version.{level_of}
-use Rattle.layout.specs.declared.TheConstants.{BODY_POINTERS}
+use Rattle.layout.specs.declared.TheConstants.{BLOCK_BYTES, BODY_POINTERS}
 use Rattle.layout.specs.declared.inode.Inode.{Inode}
 use Rattle.layout.specs.declared.kind.Kind.TheVariants as kinds
 use Rattle.layout.specs.declared.pointer.Pointer.{Pointer}
@@ -38,6 +38,11 @@ node_at settled places k = or_settled (pointer_at places k) (pointer_at settled 
 abbrev pub IsOfMoved : List Pointer → List Pointer → ℕ → ℕ → Type 0
 IsOfMoved nodes places n b =
     (k : ℕ) × (k < n) × (pointer_at places k ≢ Hole) × (pointer_at nodes k ≡ Block b)
+
+-- these bytes are block j of the map with these entries, as it is stored
+pub record StoresPart (parts : List Part) (j : ℕ) (bytes : List ℕ) : Type 0 where
+  pub size : length bytes ≡ BLOCK_BYTES
+  pub entries : HoldsPart parts j bytes
 
 -- the next consistency point stores each block of the map
 abbrev pub AreTouched : List Part → Type 0

@@ -1,13 +1,14 @@
 //! The blocks of a changed file.
 
-ghost use Rattle.std.specs.Prelude.{◌≡◌, ◌≢◌, ℕ, List, ◌<◌, ◌≤◌, IfOk};
+ghost use Rattle.std.specs.Prelude.{◌≡◌, ◌≢◌, ℕ, List, ◌<◌, ◌≤◌, IfOk, OnOk};
+ghost use Rattle.buffers.specs.Disks.{IsWhole};
 ghost use Rattle.layout.specs.Places.{pointed};
 ghost use Rattle.layout.specs.Pointer.{PointsBelow};
 ghost use Rattle.layout.specs.declared.geometry.TheConstants.{MOST_BLOCKS};
 ghost use Rattle.layout.specs.declared.pointer.Pointer.TheVariants.{Hole};
 ghost use Rattle.blocktree.specs.PlaceMaps.{AreBelow, EndBefore, place_at};
 ghost use Rattle.blocktree.specs.Trees.{IsChanged};
-ghost use Rattle.conspoint.specs.Blocks.{changed_or};
+ghost use Rattle.conspoint.specs.Blocks.{AreWholeOver, changed_or};
 ghost use Rattle.conspoint.specs.Drafts.{OnEach, WasTaken};
 ghost use Rattle.conspoint.specs.Groups.{ArePlaced, ComesFrom};
 ghost use Rattle.conspoint.specs.Space.{changed_blocks};
@@ -24,6 +25,7 @@ use std::alloc::Global;
 fn store_copy(alloc: Global, draft: &mut Draft, block: &Block) -> Result<BlockNumber, PlanError>
     ensures step { Places 1 draft.old draft.new result }
     ensures taken { IfOk result (WasTaken draft.old draft.new) }
+    ensures whole { OnOk result (IsWhole block.now) }
     ensures stored { IfOk result (λ place. OnEach draft.new (λ e. e place ≡ block.now)) }
     ensures within { IfOk result (λ place. PointsBelow MOST_BLOCKS (Pointer.Block place)) }
     ensures from { IfOk result (λ place. (settled : Pointer)
@@ -58,6 +60,7 @@ pub fn place_blocks(
     ensures blocks { IfOk result (λ nodes. OnEach draft.new (λ e. (i : ℕ) → i < count
         → first ≤ i → pointed e (place_at nodes i)
         ≡ changed_or tree.now i (pointed e (place_at settled i)))) }
+    ensures whole { OnOk result (AreWholeOver tree.now first count) }
     ensures placed { IfOk result (λ nodes. ArePlaced draft.old draft.new settled nodes) }
 {
     let mut nodes = settled;

@@ -1,13 +1,11 @@
 //! What a power cut leaves, read block by block.
 
 ghost use Rattle.std.specs.Prelude.{◌≡◌, ◌≢◌, ℕ, ◌+◌, ◌*◌, ◌≤◌, List, All};
-ghost use Rattle.station.specs.Images.{Images, Sector};
-ghost use Rattle.buffers.specs.Disks.{IsBlock};
-ghost use Rattle.layout.specs.Places.{blocks_of};
+ghost use Rattle.station.specs.Images.{Images};
 ghost use Rattle.images.specs.Cuts as points;
-ghost use Rattle.conspoint.specs.Writes.{AreWhole, writes_of};
+ghost use Rattle.conspoint.specs.Writes.{writes_of};
 ghost use Rattle.conspoint.specs.Plans.{AreApart, Planned, IsSlot, FitsDisk};
-ghost use Rattle.conspoint.specs.Cuts.{StaysOutside, HasNewRoot, ReadsAs, disk_with_blocks};
+ghost use Rattle.conspoint.specs.Cuts.{StaysOutside, HasNewRoot, LosesSlot, ReadsAs, disk_with_blocks};
 ghost use Rattle.conspoint.specs.declared.plan.PlannedBlock.{PlannedBlock};
 
 /// Before the root is written every block that isn't planned reads as it did. After it all the planned ones are there, and
@@ -34,20 +32,13 @@ pub fn written_disks_have_the_blocks()
 {}
 
 /// What a cut leaves of a plan is what images' laws on points speak of: before the root is written only sectors of planned blocks
-/// differ, and after it they all are there with the new root. It does nothing.
+/// differ, after it they all are there with the new root, and where its sector is lost that differs too. It does nothing.
 pub fn cuts_are_those_of_images()
     ensures unfinished { (blocks : List PlannedBlock) (old new : Images)
         → StaysOutside blocks old new
         → points.StaysOutsideWrites (writes_of blocks) old.disk new.disk }
-    ensures finished { (sectors : ℕ) (p : Planned) (old new : Images)
-        → FitsDisk sectors p → AreWhole sectors old.disk → HasNewRoot p old new
+    ensures finished { (p : Planned) (old new : Images) → HasNewRoot p old new
         → points.HasRootWritten (writes_of p.blocks) p.slot p.root old.disk new.disk }
+    ensures lost { (p : Planned) (old new : Images) → LosesSlot p old new
+        → points.LosesSlot (writes_of p.blocks) p.slot old.disk new.disk }
 {}
-
-/// A block of a disk of whole sectors is its eight sectors. It does nothing.
-pub fn blocks_are_those_of_images()
-    ensures { (sectors : ℕ) (disk : ℕ → Sector) (b : ℕ) (bytes : List ℕ) → AreWhole sectors disk
-        → 8 * b + 8 ≤ sectors → IsBlock disk b bytes → blocks_of disk b ≡ bytes }
-{
-    images::eight_sectors_are_a_block();
-}

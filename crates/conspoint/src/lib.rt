@@ -21,10 +21,7 @@ pub use closure::reserve_map;
 pub use draft::Draft;
 pub use error::PlanError;
 pub use group::{place_group, place_over};
-pub use laws::{
-    blocks_are_those_of_images, cuts_are_those_of_images, cuts_leave_blocks,
-    written_disks_have_the_blocks,
-};
+pub use laws::{cuts_are_those_of_images, cuts_leave_blocks, written_disks_have_the_blocks};
 pub use map_file::store_map;
 pub use map_inode::store_own_map;
 pub use marks::mark_all;

@@ -1,9 +1,9 @@
 //! The bytes of the block map's blocks.
 
 ghost use Rattle.std.specs.Prelude.{◌≡◌, ◌≢◌, ℕ, ◌<◌, ◌≤◌, OnOk, IfErr, IsErrOf, length};
-ghost use Rattle.blockmap.specs.Maps.{HoldsPart};
 ghost use Rattle.conspoint.specs.Drafts.{OnEach, IsReserved};
 ghost use Rattle.conspoint.specs.Groups.{pointer_at};
+ghost use Rattle.conspoint.specs.MapFiles.{StoresPart};
 ghost use Rattle.conspoint.specs.Steps.{Puts};
 
 use crate::draft::Draft;
@@ -18,7 +18,7 @@ fn store_part(alloc: Global, draft: &mut Draft, k: usize, pointer: Pointer) -> R
     requires reserved { (b : ℕ) → pointer ≡ Pointer.Block b → IsReserved draft.old b }
     ensures step { Puts draft.old draft.new result }
     ensures stored { OnOk result (OnEach draft.new (λ e. (b : ℕ) → pointer ≡ Pointer.Block b
-        → HoldsPart draft.old.map.parts.items k (e b))) }
+        → StoresPart draft.old.map.parts.items k (e b))) }
     ensures others { (p : ℕ) → pointer ≢ Pointer.Block p
         → IsReserved draft.old p → IsReserved draft.new p }
 {
@@ -39,7 +39,7 @@ pub fn store_map(alloc: Global, draft: &mut Draft, places: &[Pointer]) -> Result
     ensures step { Puts draft.old draft.new result }
     ensures stored { OnOk result (OnEach draft.new (λ e. (k b : ℕ)
         → k < length draft.old.map.parts.items → pointer_at places.now k ≡ Pointer.Block b
-        → HoldsPart draft.old.map.parts.items k (e b))) }
+        → StoresPart draft.old.map.parts.items k (e b))) }
     ensures others { (p : ℕ) → IsReserved draft.old p → ((k : ℕ)
         → k < length draft.old.map.parts.items → pointer_at places.now k ≢ Pointer.Block p)
         → IsReserved draft.new p }

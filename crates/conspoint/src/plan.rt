@@ -5,7 +5,7 @@ ghost use Rattle.station.specs.Moments.{MayLeave, EachCut, LeavesJust, Shows, Go
 ghost use Rattle.station.specs.Calls.{OnlyWrites};
 ghost use Rattle.buffers.specs.Disks.{ShowsDisk, disk_with_sector};
 ghost use Rattle.conspoint.specs.Plans.{Planned, ArePlacedBehindSlots, IsPlanned, IsSlot, FitsDisk};
-ghost use Rattle.conspoint.specs.Cuts.{StaysOutside, HoldsWritten, HasNewRoot, IsFault, disk_so_far};
+ghost use Rattle.conspoint.specs.Cuts.{StaysOutside, HoldsWritten, HasNewRoot, HasRootOrLost, IsFault, disk_so_far};
 
 use buffers::{Block, BufferError, Buffers};
 use layout::{BlockNumber, ROOT_BYTES};
@@ -133,11 +133,12 @@ impl Plan {
         ensures writes { OnlyWrites IsFault
             (S.meaning buffers.old.station) (S.meaning buffers.new.station) result }
         ensures device { IfErr result IsFault }
-        // A cut at any moment leaves what one might have left before, or all the blocks with the new root.
+        // A cut at any moment leaves what one might have left before, or all the blocks with the new root, or what was there
+        // before with the root's sector lost.
         ensures any_moment { Shows (S.meaning buffers.old.station) (HoldsWritten self.now)
             → LeavesOnly (S.meaning buffers.old.station) (S.meaning buffers.new.station)
             (λ c. MayLeave (S.meaning buffers.old.station) c
-            ⊎ HasNewRoot self.now (S.meaning buffers.old.station).seen c) }
+            ⊎ HasRootOrLost self.now (S.meaning buffers.old.station).seen c) }
         ensures settled { Shows (S.meaning buffers.old.station) (HoldsWritten self.now)
             → OnOk result (EachCut (S.meaning buffers.new.station)
             (HasNewRoot self.now (S.meaning buffers.old.station).seen)) }
@@ -146,7 +147,7 @@ impl Plan {
         ensures shows { (disk : ℕ → List ℕ)
             → ShowsDisk (S.meaning buffers.old.station) buffers.old.kept disk
             → OnOk result (ShowsDisk (S.meaning buffers.new.station) buffers.new.kept
-            (disk_with_sector self.now.slot self.now.root disk)) }
+            (disk_with_sector (S.meaning buffers.new.station).seen.disk self.now.slot disk)) }
     {
         // The blocks are settled before the root is written: it would lead to what isn't there.
         buffers.sync()?;

@@ -5,7 +5,7 @@ ghost use Rattle.station.specs.Moments.{After, EachCut, LeavesJust, LeavesOnly};
 ghost use Rattle.station.specs.Calls.{OnlyWrites};
 ghost use Rattle.buffers.specs.Disks.{ShowsDisk, disk_with_sector};
 ghost use Rattle.conspoint.specs.Plans.{FitsDisk};
-ghost use Rattle.conspoint.specs.Cuts.{StaysOutside, HasNewRoot, IsFault, disk_with_blocks};
+ghost use Rattle.conspoint.specs.Cuts.{StaysOutside, HasNewRoot, HasRootOrLost, IsFault, disk_with_blocks};
 
 use crate::plan::Plan;
 use buffers::{BufferError, Buffers};
@@ -18,10 +18,11 @@ pub fn write_point<S: Station>(mut plan: Plan, buffers: &mut Buffers<S>) -> Resu
     ensures writes { OnlyWrites IsFault
         (S.meaning buffers.old.station) (S.meaning buffers.new.station) result }
     ensures device { IfErr result IsFault }
-    // A cut at any moment leaves what one might have left before, with some of the blocks, or all of them with the new root.
+    // A cut at any moment leaves what one might have left before, with some of the blocks, or all of them with the new root, or
+    // such a disk with the root's sector lost.
     ensures any_moment { LeavesOnly (S.meaning buffers.old.station) (S.meaning buffers.new.station)
         (λ c. After (StaysOutside plan.blocks) (S.meaning buffers.old.station) c
-        ⊎ HasNewRoot plan (S.meaning buffers.old.station).seen c) }
+        ⊎ HasRootOrLost plan (S.meaning buffers.old.station).seen c) }
     ensures settled { (S.meaning buffers.old.station).is_honest
         → OnOk result (EachCut (S.meaning buffers.new.station)
         (HasNewRoot plan (S.meaning buffers.old.station).seen)) }
@@ -30,7 +31,8 @@ pub fn write_point<S: Station>(mut plan: Plan, buffers: &mut Buffers<S>) -> Resu
     ensures shows { (disk : ℕ → List ℕ)
         → ShowsDisk (S.meaning buffers.old.station) buffers.old.kept disk
         → OnOk result (ShowsDisk (S.meaning buffers.new.station) buffers.new.kept
-        (disk_with_sector plan.slot plan.root (disk_with_blocks plan.blocks disk))) }
+        (disk_with_sector (S.meaning buffers.new.station).seen.disk plan.slot
+        (disk_with_blocks plan.blocks disk))) }
 {
     let left = plan.left();
     plan.write_some(buffers, left)?;

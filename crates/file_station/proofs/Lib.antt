@@ -1,3 +1,4 @@
 mod FileLemmas
 mod StationLemmas
 mod MemoryLemmas
+mod AtHandLemmas

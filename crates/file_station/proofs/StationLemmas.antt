@@ -2,8 +2,7 @@
 use Rattle.std.proofs.Common.{◌≡◌, inl, inr, ℕ, ◌+◌, ◌*◌, ◌/◌, ◌%◌, ◌≤◌, List, length, arith, refl, sym, ap, ◌∙◌, subst, Result, Ok, Err}
 use Rattle.std.proofs.Math.Path.{fun_ext}
 use Rattle.std.specs.Prelude.{OnOk, OnErr, is_ok}
-use Rattle.station.specs.Images.{Images, Unchanged, SectorsWritten, SomeSectorsWritten, NvramWritten, NvramPrefixWritten, disk_with}
-use Rattle.station.specs.Device.{images_of, sectors_of}
+use Rattle.station.specs.Images.{Images, Unchanged, SectorsWritten, SomeSectorsWritten, NvramWritten, NvramPrefixWritten, disk_with, images_of, sectors_of}
 use Rattle.station.specs.Moments.{After, Goes, SeenGoes, LeftGoes, IsSameStation, counted_up}
 use Rattle.station.specs.Calls.{WriteCall}
 use Rattle.station.proofs.DiskLemmas.{cases_reach, sectors_of-write}
@@ -29,7 +28,7 @@ module _ (at first : ℕ) (bytes : List ℕ) (place : at ≡ 512 * first) (whole
       | inr made ↦
           let is : sectors_of e k ≡ disk_with first bytes (sectors_of d) k = made ∙ with_sectors d k fits in
           elim (cases_reach first bytes k) [
-            | inl within ↦ inr ((within.0, within.1), rw within.2 at is)
+            | inl within ↦ inr ((within.0, within.1), inl (rw within.2 at is))
             | inr off ↦ inl (rw off.1 at is)
           ]
     ];

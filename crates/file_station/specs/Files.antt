@@ -1,7 +1,6 @@
 -- What is known of the two files of an image, and how a call goes on from what it found.
 use Rattle.std.specs.Prelude.{◌≡◌, ◌⊎◌, ◌↔◌, ℕ, ◌<◌, ◌≤◌, List, [], length, take}
-use Rattle.station.specs.Images.{nvram_with}
-use Rattle.station.specs.Device.{sectors_of}
+use Rattle.station.specs.Images.{nvram_with, sectors_of}
 use Rattle.file_station.specs.declared.image_files.Part.{Part}
 use Rattle.file_station.specs.declared.image_files.Part.TheVariants.{Disk, Nvram}
 

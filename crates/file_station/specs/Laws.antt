@@ -1,8 +1,7 @@
 -- The laws of a station over two files.
 use Rattle.std.specs.Prelude.{◌≡◌, ℕ, List, length, refl}
-use Rattle.std.proofs.Common.{ap, ◌∙◌, arith, length-take, length-drop}
-use Rattle.station.specs.Images.{Images}
-use Rattle.station.specs.Device.{sectors_of}
+use Rattle.std.proofs.Common.{inl, ap, ◌∙◌, arith, length-take, length-drop}
+use Rattle.station.specs.Images.{Images, sectors_of}
 use Rattle.station.specs.Moments.{MayLeave, EachCut, HasSizes}
 use Rattle.file_station.specs.Files.{FilesMeaning}
 use Rattle.file_station.specs.Stations.{FitStation, station_of}
@@ -19,5 +18,5 @@ sized m r w fits disk nvram honest c left =
       sector = λ n below.
           let long : length left.0 ≡ m.disk.length = disk left.0 honest left.2 in
           let whole : length (sectors_of left.0 n) ≡ 512 = simp (length-take, length-drop) (omega (arith, long, below, fits.whole)) in
-          ap (λ (i : Images). length (i.disk n)) is ∙ whole;
+          inl (ap (λ (i : Images). length (i.disk n)) is ∙ whole);
     }

@@ -1,15 +1,18 @@
 //! A station over the two files of an image.
 
-ghost use Rattle.std.specs.Prelude.{◌≡◌, ◌↔◌, ◌+◌, ◌≤◌, length, is_ok, IfOk, OnOk, OnErr, IsErrOf};
+ghost use Rattle.std.specs.Prelude.{◌≡◌, ◌↔◌, ◌+◌, ◌*◌, ◌<◌, ◌≤◌, ◌/◌, Some, length, take, drop, is_ok, IfOk, IsTrue, OnOk, OnErr, IsErrOf};
 ghost use Rattle.station.specs.Moments.{counted_up};
 ghost use Rattle.file_station.specs.Files.{AreSameFiles, FilesGo, LeavesFile, PrefixKept, ShowsFile, LeavesJustFile, file_with};
-ghost use Rattle.file_station.specs.Stations.{FitStation, HasBadSize};
+ghost use Rattle.file_station.specs.Stations.{FitStation, HasBadSize, IsAtHand};
 ghost use Rattle.file_station.specs.declared.image_files.Part.TheVariants.{Disk, Nvram};
 
 use crate::{ImageFiles, Part};
 use station::{BLOCK_BYTES, DeviceFault, SECTOR_BYTES, Station};
 use std::io;
 use thiserror::Error;
+
+/// Sectors of a block.
+const BLOCK_SECTORS: u32 = (BLOCK_BYTES / SECTOR_BYTES) as u32;
 
 /// Why two files are no station.
 #[derive(Clone, Copy, Debug, PartialEq, Eq, Error)]
@@ -24,13 +27,18 @@ pub enum SizeError {
 
 /// A station over two files: the disk's sectors one after the other, and the NVRAM's bytes. It is honest where the
 /// files are. Each NVRAM write is followed by a sync of the NVRAM's file, since a station keeps what such a write
-/// wrote. A sync is one of both files, so that an NVRAM write whose own sync failed is settled by the next sync.
+/// wrote. A sync is one of both files, so that an NVRAM write whose own sync failed is settled by the next sync. A block's
+/// sectors are read at once, and are at hand until another block is read or the disk is written.
 #[derive(Drop)]
 pub struct FileStation<M: ImageFiles> {
     files: M,
+    /// The block that is at hand, and its bytes.
+    block: Option<u32>,
+    bytes: [u8; BLOCK_BYTES],
     failed_reads: u64,
     failed_writes: u64,
     ghost fits: { FitStation (M.meaning files) },
+    ghost at_hand: { IsAtHand (M.meaning files) block bytes },
 }
 
 impl<M: ImageFiles + Drop> FileStation<M> {
@@ -51,6 +59,8 @@ impl<M: ImageFiles + Drop> FileStation<M> {
         }
         Ok(FileStation {
             files,
+            block: None,
+            bytes: [0; BLOCK_BYTES],
             failed_reads: 0,
             failed_writes: 0,
         })
@@ -69,6 +79,33 @@ impl<M: ImageFiles + Drop> FileStation<M> {
     {
         sync_files(&mut self.files)
     }
+
+    /// Whether a block is at hand.
+    fn has(&self, block: u32) -> bool
+        ensures { IsTrue result → self.now.block ≡ Some block }
+    {
+        match self.block {
+            Some(number) => number == block,
+            None => false,
+        }
+    }
+
+    /// Reads a block, as far as the disk has its sectors. It is at hand then, but where the file can't be read so.
+    fn fetch(&mut self, block: u32)
+        requires { 8 * block < (M.meaning self.old.files).disk.length / 512 }
+        ensures same { AreSameFiles (M.meaning self.old.files) (M.meaning self.new.files) }
+        ensures reads { self.new.failed_reads ≡ self.old.failed_reads }
+        ensures writes { self.new.failed_writes ≡ self.old.failed_writes }
+        ensures goes { FilesGo LeavesFile LeavesFile (M.meaning self.old.files) (M.meaning self.new.files) }
+    {
+        self.block = None;
+        let at = BLOCK_BYTES as u64 * u64::from(block);
+        let count = (self.files.len(Part::Disk) - at).min(BLOCK_BYTES as u64) as usize;
+        let done = read_first(&mut self.files, at, &mut self.bytes, count);
+        if done.is_ok() {
+            self.block = Some(block);
+        }
+    }
 }
 
 /// Syncs both files.
@@ -82,6 +119,23 @@ fn sync_files<M: ImageFiles>(files: &mut M) -> io::Result<()>
 {
     files.sync(Part::Disk)?;
     files.sync(Part::Nvram)
+}
+
+/// Reads the first bytes of a block from the disk's file.
+fn read_first<M: ImageFiles>(
+    files: &mut M,
+    at: u64,
+    block: &mut [u8; BLOCK_BYTES],
+    count: usize,
+) -> io::Result<()>
+    requires within { at + count ≤ (M.meaning files.old).disk.length }
+    requires few { count ≤ 4096 }
+    ensures same { AreSameFiles (M.meaning files.old) (M.meaning files.new) }
+    ensures goes { FilesGo LeavesFile LeavesFile (M.meaning files.old) (M.meaning files.new) }
+    ensures bytes { OnOk result (ShowsFile (M.meaning files.old) Disk
+        (λ file. take count block.new ≡ take count (drop at file))) }
+{
+    files.read(Part::Disk, at, &mut block[..count])
 }
 
 /// Writes to the NVRAM's file and syncs it.
@@ -136,14 +190,27 @@ impl<M: ImageFiles + Drop> Station for FileStation<M> {
         self.files.len(Part::Nvram) as u32
     }
 
-    fn read_sector(&mut self, n: u32, out: &mut [u8; 512]) -> Result<(), DeviceFault> {
+    /// Always true where it succeeds: a file that can't be read is a call that fails. Where the block can't be read at once, the
+    /// sector alone may be.
+    fn read_sector(&mut self, n: u32, out: &mut [u8; 512]) -> Result<bool, DeviceFault> {
+        let block = n / BLOCK_SECTORS;
+        if !self.has(block) {
+            self.fetch(block);
+        }
+        if self.has(block) {
+            let at = (n % BLOCK_SECTORS) as usize * SECTOR_BYTES;
+            out.copy_from_slice(&self.bytes[at..at + SECTOR_BYTES]);
+            return Ok(true);
+        }
         let done = self
             .files
             .read(Part::Disk, SECTOR_BYTES as u64 * u64::from(n), out);
-        note(&mut self.failed_reads, done)
+        note(&mut self.failed_reads, done)?;
+        Ok(true)
     }
 
     fn write_sector(&mut self, n: u32, bytes: &[u8; 512]) -> Result<(), DeviceFault> {
+        self.block = None;
         let done = self
             .files
             .write(Part::Disk, SECTOR_BYTES as u64 * u64::from(n), bytes);
@@ -151,6 +218,7 @@ impl<M: ImageFiles + Drop> Station for FileStation<M> {
     }
 
     fn write_block(&mut self, b: u32, bytes: &[u8; 4096]) -> Result<(), DeviceFault> {
+        self.block = None;
         let done = self
             .files
             .write(Part::Disk, BLOCK_BYTES as u64 * u64::from(b), bytes);

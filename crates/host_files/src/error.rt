@@ -3,8 +3,8 @@
 ghost use Rattle.std.specs.Prelude.{◌≡◌, Err, IsTrue, MatchResult, Ok};
 
 use file_station::SizeError;
-use station::LoadError;
-use std::alloc::AllocError;
+use memory_station::LoadError;
+use std::alloc::{AllocError, AllocFailed};
 use std::io;
 use thiserror::Error;
 
@@ -46,6 +46,20 @@ pub enum FileError<'a> {
         path: &'a str,
         tries: u32,
     },
+    /// This line of the list of sectors that can't be read, counted from 1, is none.
+    #[error("{path}: line {line}: expected a decimal number from {least} on, below the disk's {sectors} sectors")]
+    BadLine {
+        path: &'a str,
+        line: usize,
+        /// The least number that may stand there.
+        least: u32,
+        sectors: u32,
+    },
+    /// The NVRAM has the name of the disk's list of sectors that can't be read.
+    #[error("{path}: the name of the list of sectors that can't be read; the NVRAM needs another")]
+    IsList {
+        path: &'a str,
+    },
     /// The disk was replaced, and the NVRAM couldn't be. Its new file stays where it was made.
     #[error("{disk} is replaced and {nvram} is not: {error}; the new NVRAM is {new_nvram}")]
     HalfReplaced {
@@ -72,6 +86,12 @@ pub enum FileError<'a> {
 
 impl From<AllocError> for FileError<'_> {
     fn from(_error: AllocError) -> Self {
+        FileError::NoMemory
+    }
+}
+
+impl<T: Drop> From<AllocFailed<T>> for FileError<'_> {
+    fn from(_error: AllocFailed<T>) -> Self {
         FileError::NoMemory
     }
 }

@@ -1,122 +1,182 @@
-//! The files of an image: opening and reading them, holding them while they are replaced, and storing an image on them.
+//! The files of an image: opening and reading them, and holding them while they are replaced.
 
 ghost use Rattle.std.specs.Prelude.{◌≡◌, false, IfOk, IsErr};
-ghost use Rattle.station.specs.FaultPlan.{no_plan};
-ghost use Rattle.station.specs.Sim.{plan_of, was_cut};
+ghost use Rattle.host_files.specs.Names.{HasOneName};
+ghost use Rattle.memory_station.specs.FaultPlan.{no_plan};
+ghost use Rattle.memory_station.specs.Sim.{plan_of, was_cut};
 
+use crate::bad_list::read_list;
 use crate::error::{FileError, on};
+use crate::image::Image;
 use crate::locking::{Purpose, open_locked};
 use crate::places::is_one_file;
-use crate::replacement::Replacement;
-use crate::sparse::Sparse;
 use file_station::{FileStation, OpenFiles};
-use station::Sim;
+use memory_station::Sim;
+use station::SECTOR_BYTES;
 use std::alloc::Global;
-use std::fs::{File, OpenFile};
-use std::io::{ErrorKind, Read, Seek, Write};
+use std::fs;
+use std::fs::File;
+use std::io::{ErrorKind, Read};
 use std::rt::Files;
-use std::{fs, io};
 
-/// Both files of an image, open and under their locks as long as this lives.
+/// Both files of an image, open and under their locks as long as this lives, and the sectors of its disk that couldn't be
+/// read when they were loaded.
 #[derive(Drop)]
 pub struct Held {
     disk: Option<File>,
     nvram: Option<File>,
+    pub(crate) bad: Vec<u32>,
+}
+
+/// What a command works on.
+#[derive(Drop)]
+pub enum Opened {
+    /// A station over the files themselves, under locks as long as it lives.
+    Files(FileStation<OpenFiles<File>>),
+    /// Where an image has a list of sectors that can't be read, a station in memory, and what holds the files until the image
+    /// is stored again. Its power is on, and no call of it is to fail.
+    Memory(Sim, Held),
 }
 
 /// Opens both files of an image, which are there and two, the disk first.
 fn open_both<'a, R: Files<File = File>>(
     rt: &R,
-    disk: &'a str,
-    nvram: &'a str,
+    image: Image<'a>,
     purpose: Purpose,
 ) -> Result<(File, File), FileError<'a>>
-    ensures { disk.now ≡ nvram.now → IsErr result }
+    ensures { HasOneName image.entry → IsErr result }
 {
-    let disk_file = open_locked(rt, disk, purpose)?;
+    let disk_file = open_locked(rt, image.disk, purpose)?;
     // The disk's lock would be in the way of one of the same file.
-    if is_one_file(rt, disk, nvram) {
-        return Err(FileError::OneFile { path: disk });
+    if is_one_file(rt, image.disk, image.nvram) {
+        return Err(FileError::OneFile { path: image.disk });
     }
-    let nvram_file = open_locked(rt, nvram, purpose)?;
+    let nvram_file = open_locked(rt, image.nvram, purpose)?;
     Ok((disk_file, nvram_file))
 }
 
-/// A station over two files that are there, for one who writes: open for reading and writing, under exclusive locks as long as
-/// the station lives.
-pub fn open_station<'a, R: Files<File = File>>(
+/// An image whose files are there, for one who writes: open for reading and writing, under exclusive locks.
+pub fn open_image<'a, R: Files<File = File> + AllocGlobal>(
     rt: &R,
-    disk: &'a str,
-    nvram: &'a str,
-) -> Result<FileStation<OpenFiles<File>>, FileError<'a>>
-    ensures { disk.now ≡ nvram.now → IsErr result }
+    image: Image<'a>,
+) -> Result<Opened, FileError<'a>>
+    ensures { HasOneName image.entry → IsErr result }
 {
-    station_over(rt, disk, nvram, Purpose::Writing)
-}
-
-/// A station over two files that are there, for one who reads: open for reading alone, so that every write to it fails, under
-/// shared locks as long as the station lives.
-pub fn read_station<'a, R: Files<File = File>>(
-    rt: &R,
-    disk: &'a str,
-    nvram: &'a str,
-) -> Result<FileStation<OpenFiles<File>>, FileError<'a>>
-    ensures { disk.now ≡ nvram.now → IsErr result }
-{
-    station_over(rt, disk, nvram, Purpose::Reading)
-}
-
-fn station_over<'a, R: Files<File = File>>(
-    rt: &R,
-    disk: &'a str,
-    nvram: &'a str,
-    purpose: Purpose,
-) -> Result<FileStation<OpenFiles<File>>, FileError<'a>>
-    ensures { disk.now ≡ nvram.now → IsErr result }
-{
-    let (disk_file, nvram_file) = open_both(rt, disk, nvram, purpose)?;
-    match FileStation::new(disk_file, nvram_file) {
-        Ok(station) => Ok(station),
-        Err(error) => Err(FileError::Size { disk, nvram, error }),
+    let (disk, nvram) = open_both(rt, image, Purpose::Writing)?;
+    match list_text(rt, image)? {
+        None => Ok(Opened::Files(station_over(image, disk, nvram)?)),
+        Some(text) => {
+            let (sim, held) = load_files(rt.alloc(), image, disk, nvram, &text)?;
+            Ok(Opened::Memory(sim, held))
+        }
     }
 }
 
-/// A station in memory with the bytes of two files that are there and may be written, and what holds these files until the
-/// image is stored again. Its power is on, and no call of it is to fail.
+/// An image whose files are there, for one who reads: open for reading alone, so that every write to it fails, under shared
+/// locks. Where there is a list of sectors that can't be read, it is as for one who writes, since it is stored again.
+pub fn open_to_read<'a, R: Files<File = File> + AllocGlobal>(
+    rt: &R,
+    image: Image<'a>,
+) -> Result<Opened, FileError<'a>>
+    ensures { HasOneName image.entry → IsErr result }
+{
+    if let Some(station) = read_files(rt, image)? {
+        return Ok(Opened::Files(station));
+    }
+    open_image(rt, image)
+}
+
+/// A station over the files themselves, open for reading. None where there is a list.
+fn read_files<'a, R: Files<File = File> + AllocGlobal>(
+    rt: &R,
+    image: Image<'a>,
+) -> Result<Option<FileStation<OpenFiles<File>>>, FileError<'a>>
+    ensures { HasOneName image.entry → IsErr result }
+{
+    let (disk, nvram) = open_both(rt, image, Purpose::Reading)?;
+    match list_text(rt, image)? {
+        None => Ok(Some(station_over(image, disk, nvram)?)),
+        Some(_) => Ok(None),
+    }
+}
+
+fn station_over(
+    image: Image<'_>,
+    disk: File,
+    nvram: File,
+) -> Result<FileStation<OpenFiles<File>>, FileError<'_>> {
+    match FileStation::new(disk, nvram) {
+        Ok(station) => Ok(station),
+        Err(error) => Err(FileError::Size {
+            disk: image.disk,
+            nvram: image.nvram,
+            error,
+        }),
+    }
+}
+
+/// The text of the list of sectors that can't be read. None where there is no such file.
+fn list_text<'a, R: Files + AllocGlobal>(
+    rt: &R,
+    image: Image<'a>,
+) -> Result<Option<Vec<u8>>, FileError<'a>> {
+    if is_one_file(rt, image.bad, image.nvram) {
+        return Err(FileError::IsList { path: image.nvram });
+    }
+    match fs::read(rt, image.bad) {
+        Ok(text) => Ok(Some(text)),
+        Err(error) if error.kind() == ErrorKind::NotFound => Ok(None),
+        Err(error) => Err(FileError::Io {
+            path: image.bad,
+            error,
+        }),
+    }
+}
+
+/// A station in memory with what two files that are there hold, of which the sectors of the list can't be read, and what
+/// holds these files until the image is stored again. Its power is on, and no call of it is to fail.
 pub fn load_station<'a, R: Files<File = File> + AllocGlobal>(
     rt: &R,
-    disk: &'a str,
-    nvram: &'a str,
+    image: Image<'a>,
 ) -> Result<(Sim, Held), FileError<'a>>
-    ensures one { disk.now ≡ nvram.now → IsErr result }
+    ensures one { HasOneName image.entry → IsErr result }
     ensures power { IfOk result (λ loaded. was_cut loaded.0 ≡ false) }
     ensures plan { IfOk result (λ loaded. plan_of loaded.0 ≡ no_plan) }
 {
-    let (mut disk_file, mut nvram_file) = open_both(rt, disk, nvram, Purpose::Writing)?;
-    let disk_bytes = read_to_end(rt.alloc(), disk, &mut disk_file)?;
-    let nvram_bytes = read_to_end(rt.alloc(), nvram, &mut nvram_file)?;
-    let sim = load_bytes(rt.alloc(), disk, nvram, disk_bytes, nvram_bytes)?;
-    let held = Held {
-        disk: Some(disk_file),
-        nvram: Some(nvram_file),
-    };
-    Ok((sim, held))
+    let (disk, nvram) = open_both(rt, image, Purpose::Writing)?;
+    let text = list_text(rt, image)?.unwrap_or(Vec::new(rt.alloc()));
+    load_files(rt.alloc(), image, disk, nvram, &text)
 }
 
-/// A station in memory with these bytes of two files.
-fn load_bytes<'a>(
+/// A station in memory with what two open files hold, of which the sectors of a list with this text can't be read.
+fn load_files<'a>(
     alloc: Global,
-    disk: &'a str,
-    nvram: &'a str,
-    disk_bytes: Vec<u8>,
-    nvram_bytes: Vec<u8>,
-) -> Result<Sim, FileError<'a>>
-    ensures power { IfOk result (λ sim. was_cut sim ≡ false) }
-    ensures plan { IfOk result (λ sim. plan_of sim ≡ no_plan) }
+    image: Image<'a>,
+    mut disk: File,
+    mut nvram: File,
+    text: &[u8],
+) -> Result<(Sim, Held), FileError<'a>>
+    ensures power { IfOk result (λ loaded. was_cut loaded.0 ≡ false) }
+    ensures plan { IfOk result (λ loaded. plan_of loaded.0 ≡ no_plan) }
 {
-    match Sim::load(alloc, disk_bytes, nvram_bytes) {
-        Ok(sim) => Ok(sim),
-        Err(error) => Err(FileError::Load { disk, nvram, error }),
+    let disk_bytes = read_to_end(alloc, image.disk, &mut disk)?;
+    let nvram_bytes = read_to_end(alloc, image.nvram, &mut nvram)?;
+    let sectors = u32::try_from(disk_bytes.len() / SECTOR_BYTES).unwrap_or(u32::MAX);
+    let bad = read_list(alloc, image.bad, text, sectors)?;
+    match Sim::load_bad(alloc, disk_bytes, nvram_bytes, &bad) {
+        Ok(sim) => {
+            let held = Held {
+                disk: Some(disk),
+                nvram: Some(nvram),
+                bad,
+            };
+            Ok((sim, held))
+        }
+        Err(error) => Err(FileError::Load {
+            disk: image.disk,
+            nvram: image.nvram,
+            error,
+        }),
     }
 }
 
@@ -144,22 +204,27 @@ pub fn read_script<'a, R: Files + AllocGlobal, I: Read>(
 }
 
 /// Holds both files of an image where they are there and are to be replaced, the disk first. With `is_new` refuses those that
-/// have bytes.
-pub fn hold_both<'a, R: Files<File = File>>(
+/// have bytes, and a list of sectors that can't be read, too.
+pub fn hold_both<'a, R: Files<File = File> + AllocGlobal>(
     rt: &R,
-    disk: &'a str,
-    nvram: &'a str,
+    image: Image<'a>,
     is_new: bool,
 ) -> Result<Held, FileError<'a>>
-    ensures { disk.now ≡ nvram.now → IsErr result }
+    ensures { HasOneName image.entry → IsErr result }
 {
-    if is_one_file(rt, disk, nvram) {
-        return Err(FileError::OneFile { path: disk });
+    if is_one_file(rt, image.disk, image.nvram) {
+        return Err(FileError::OneFile { path: image.disk });
     }
-    Ok(Held {
-        disk: hold(rt, disk, is_new)?,
-        nvram: hold(rt, nvram, is_new)?,
-    })
+    if is_one_file(rt, image.bad, image.nvram) {
+        return Err(FileError::IsList { path: image.nvram });
+    }
+    let held = Held {
+        disk: hold(rt, image.disk, is_new)?,
+        nvram: hold(rt, image.nvram, is_new)?,
+        bad: Vec::new(rt.alloc()),
+    };
+    hold(rt, image.bad, is_new)?;
+    Ok(held)
 }
 
 /// Holds a file that is to be replaced, where one is there. Exists where it is to be a new one, and has bytes.
@@ -180,34 +245,4 @@ fn hold<'a, R: Files<File = File>>(
         Err(error) if error.kind() == ErrorKind::NotFound => Ok(None),
         Err(error) => Err(FileError::Io { path, error }),
     }
-}
-
-/// Stores an image in two new files, which then replace those at these paths. It takes no locks: whoever loaded the image holds
-/// both files until this is done.
-pub fn store_image<'a, R: Files<File = File> + AllocGlobal>(
-    rt: &R,
-    disk: &'a str,
-    nvram: &'a str,
-    disk_bytes: &[u8],
-    nvram_bytes: &[u8],
-) -> Result<(), FileError<'a>>
-    ensures { disk.now ≡ nvram.now → IsErr result }
-{
-    let (new, mut disk_file, mut nvram_file) = Replacement::begin(rt, disk, nvram)?;
-    let stored = match on(disk, write_whole(&mut disk_file, disk_bytes)) {
-        Ok(()) => on(nvram, write_whole(&mut nvram_file, nvram_bytes)),
-        Err(error) => Err(error),
-    };
-    if let Err(error) = stored {
-        new.give_up(rt);
-        return Err(error);
-    }
-    new.finish(rt)
-}
-
-/// Writes a new file, with holes where whole blocks of it are zeros, and syncs it.
-fn write_whole<F: Write + Seek + OpenFile + Drop>(file: &mut F, bytes: &[u8]) -> io::Result<()> {
-    let mut sparse = Sparse::new(file);
-    sparse.write_all(bytes)?;
-    sparse.end()
 }

@@ -1,20 +1,28 @@
 //! Files of the host's: opening them under locks, where their names lead, replacing them whole, and the holes and modes of
-//! new ones; and the two files of an image, as a station over them or as one in memory.
+//! new ones; and the files of an image, as a station over them or as one in memory.
 #![tactic(auto)]
 
+mod bad_list;
 mod error;
+mod image;
 mod image_files;
 mod locking;
+mod new_list;
 mod places;
 mod replacement;
 mod sparse;
 mod stand_ins;
+mod storing;
 
+pub use bad_list::{read_list, write_list};
 pub use error::{FileError, on};
+pub use image::{Image, list_name};
 pub use image_files::{
-    Held, hold_both, load_station, open_station, read_script, read_station, store_image,
+    Held, Opened, hold_both, load_station, open_image, open_to_read, read_script,
 };
+pub use new_list::NewList;
 pub use places::{Found, Place, find_place, is_one_file};
 pub use replacement::{NewFile, Replacement, make_beside, remove};
 pub use sparse::Sparse;
 pub use stand_ins::open_descriptors;
+pub use storing::store_image;

@@ -1,9 +1,13 @@
-//! Replacing both files of an image by new ones, once these are whole and synced. Nothing else that is there is touched:
-//! each new file is made under a name that nothing had, and only what was made here is removed.
+//! Replacing the files of an image by new ones, once these are whole and synced. Nothing else that is there is touched:
+//! each new file is made under a name that nothing had, and only what was made here is removed, or an image's own list of
+//! sectors that can't be read.
 
 ghost use Rattle.std.specs.Prelude.{◌≡◌, IsErr};
+ghost use Rattle.host_files.specs.Names.{HasOneName};
 
 use crate::error::{FileError, on};
+use crate::image::Image;
+use crate::new_list::NewList;
 use crate::places::{Found, Place, find_place, is_one_file};
 use std::alloc::{AllocError, Global};
 use std::fs::{File, Metadata, OpenOptions, Permissions};
@@ -52,16 +56,15 @@ impl<'a> Replacement<'a> {
     /// Makes both new files, empty.
     pub fn begin<R: Files<File = File> + AllocGlobal>(
         rt: &R,
-        disk: &'a str,
-        nvram: &'a str,
+        image: Image<'a>,
     ) -> Result<(Replacement<'a>, File, File), FileError<'a>>
-        ensures { disk.now ≡ nvram.now → IsErr result }
+        ensures { HasOneName image.entry → IsErr result }
     {
-        if is_one_file(rt, disk, nvram) {
-            return Err(FileError::OneFile { path: disk });
+        if is_one_file(rt, image.disk, image.nvram) {
+            return Err(FileError::OneFile { path: image.disk });
         }
-        let disk = find_file_place(rt, disk)?;
-        let nvram = find_file_place(rt, nvram)?;
+        let disk = find_file_place(rt, image.disk)?;
+        let nvram = find_file_place(rt, image.nvram)?;
         let first = make_beside(rt, &disk, disk.path.as_str(), nvram.path.as_str())?;
         match make_second(rt, &first, &disk, &nvram) {
             Ok(second) => {
@@ -80,11 +83,17 @@ impl<'a> Replacement<'a> {
         }
     }
 
-    /// Puts both new files in place, which are whole and synced. Where the disk's can't be put there, removes both.
-    pub fn finish<R: Files>(self, rt: &R) -> Result<(), FileError<'a>> {
+    /// Puts both new files in place, which are whole and synced, and the list that belongs to the new disk behind that. Where
+    /// the disk's can't be put there, removes them all.
+    pub fn finish<R: Files>(self, rt: &R, list: NewList<'a>) -> Result<(), FileError<'a>> {
         match self.disk.replace(rt, self.new_disk.as_str()) {
-            Ok(()) => self.replace_nvram(rt),
+            Ok(()) => {
+                let listed = list.put(rt);
+                self.replace_nvram(rt)?;
+                listed
+            }
             Err(error) => {
+                list.give_up(rt);
                 self.give_up(rt);
                 Err(error)
             }
@@ -119,7 +128,7 @@ impl<'a> Place<'a> {
 }
 
 /// The place that a name leads to, where a file may be put: one is there, or nothing is.
-fn find_file_place<'a, R: Files + AllocGlobal>(
+pub(crate) fn find_file_place<'a, R: Files + AllocGlobal>(
     rt: &R,
     name: &'a str,
 ) -> Result<Place<'a>, FileError<'a>> {

@@ -4,11 +4,12 @@ use Rattle.model.specs.Room.{fixed_of}
 use Rattle.model.specs.States.{Forgets, going}
 use Rattle.model.specs.Volumes.{tree_of}
 use Rattle.images.specs.States.{LogHoldsChanges}
-use Rattle.std.proofs.Common.{None, ◌≡◌, ◌≢◌, ◌⊎◌, inl, inr, ℕ, ◌+◌, ◌*◌, ◌/◌, ◌<◌, ◌≤◌, List, get_or, All, refl, ap, sym, subst, ◌∙◌, arith}
+use Rattle.std.specs.Prelude.{slice_index}
+use Rattle.std.proofs.Common.{None, [], ◌≡◌, ◌≢◌, ◌⊎◌, inl, inr, ℕ, ◌+◌, ◌*◌, ◌/◌, ◌<◌, ◌≤◌, List, All, refl, ap, sym, subst, ◌∙◌, arith}
 use Rattle.layout.specs.Limits.{Sizes}
 use Rattle.layout.specs.Opens.{HoldsRoot, IsNewest}
 use Rattle.layout.specs.Places.{blocks_of}
-use Rattle.layout.specs.Root.{IsRoot, root_bytes}
+use Rattle.layout.specs.Root.{IsRoot, root_bytes, head_bytes}
 use Rattle.layout.specs.declared.TheConstants.{SLOT_A, SLOT_B}
 use Rattle.layout.specs.declared.root.Root.{Root}
 use Rattle.model.specs.Paths.{Name}
@@ -19,16 +20,16 @@ use Rattle.images.specs.Nodes.{Agrees}
 use Rattle.images.specs.Roots.{whole, Needs}
 use Rattle.images.specs.BlockMap.{entry, roots}
 use Rattle.images.specs.SnapshotSteps.{SnapshotStep, kept_after}
-use Rattle.images.specs.States.{Holds, Opens, OpensBy}
-use Rattle.images.specs.Cuts.{Write, IsOutsideWrites, StaysOutsideWrites, AreFree, HasRootWritten, IsPointWith, LeavesFree}
+use Rattle.images.specs.States.{Holds, Opens, OpensBy, HasReserve}
+use Rattle.images.specs.Cuts.{Write, IsOutsideWrites, StaysOutsideWrites, AreFree, HasRootWritten, IsOtherSlot, IsPointWith, LeavesFree, LosesSlot}
 use Rattle.images.specs.Room.{free_under}
 use Rattle.images.proofs.PointLaws.{free_is_free}
 use Rattle.images.proofs.StateLaws.{newest_is_root}
 use Rattle.images.proofs.FreeLaws.{open_alike}
+use Rattle.images.proofs.Frames.{whole_same}
 use Rattle.images.proofs.StepLaws.{step_holds}
 use Rattle.images.proofs.BehindLaws.{needed_behind}
 use Rattle.images.proofs.RoomLaws.{keeps_own}
-use Rattle.images.proofs.SectorLaws.{sectors_block}
 use Rattle.images.proofs.SettlingLaws.{newest_first, newest_second}
 use Rattle.layout.proofs.PointerLaws.{same_block}
 use Rattle.images.proofs.EmptyLaws.{no_bit}
@@ -53,44 +54,91 @@ low_slot : (r : Root) (d : ℕ → List ℕ) (sector : ℕ) → (sector ≡ SLOT
 low_slot r d sector (inl b) = omega (arith, b.0)
 low_slot r d sector (inr a) = omega (arith, a.0)
 
-module _ (sectors : ℕ) (d e : ℕ → List ℕ) (nvram : List ℕ) (s : State) (writes : List Write) (sector : ℕ) (new : Root) (v : Volume) (step : SnapshotStep) (o : Opens sectors d nvram s) (point : IsPointWith step o.root d writes sector new v) (has : HasRootWritten writes sector (root_bytes new) d e) where
+-- what a point leaves of the disk but for its blocks and its slot
+module _ (sectors : ℕ) (d e : ℕ → List ℕ) (nvram : List ℕ) (s : State) (writes : List Write) (sector : ℕ) (o : Opens sectors d nvram s) (free : AreFree o.root d writes) (slot : IsOtherSlot o.root d sector)
+    (others : (n : ℕ) → IsOutsideWrites writes n → n ≢ sector → e n ≡ d n) where
   old_root : IsRoot o.root
   old_root = newest_is_root o.root (d SLOT_A) (d SLOT_B) o.newest
 
-  pub needs_stay : Agrees (Needs o.root (whole (blocks_of d) o.root)) (blocks_of d) (blocks_of e)
-  needs_stay b needs = same_block d e b (λ i lt.
+  needed_stay : Agrees (Needs o.root (whole (blocks_of d) o.root)) (blocks_of d) (blocks_of e)
+  needed_stay b needs = same_block d e b (λ i lt.
       let behind = (needed_behind (blocks_of d) o.root old_root o.holds.sound b needs).0 in
-      let low = low_slot o.root d sector point.slot in
+      let low = low_slot o.root d sector slot in
       let block : (8 * b + i) / 8 ≡ b = omega arith in
-      has.others (8 * b + i)
+      others (8 * b + i)
       (λ k w within same. free_is_free (blocks_of d) o.root b old_root o.holds.sound.exact
-      (ap (entry (whole (blocks_of d) o.root).active) (sym block ∙ sym same) ∙ point.free k w within) needs)
+      (ap (entry (whole (blocks_of d) o.root).active) (sym block ∙ sym same) ∙ free k w within) needs)
       (λ same. absurd (omega (arith, same))))
 
+  -- the two slots are in no block that is written
+  slot_stays : (n : ℕ) → n / 8 < 2 → n ≢ sector → e n ≡ d n
+  slot_stays n low other = others n (outside_free o.root d writes n free (λ none. no_bit 31 _ none ((o.holds.sound.exact.system (n / 8)).1 (roots low)))) other
+
+-- ---- without the slot
+
+no_root : (r : Root) (bytes : List ℕ) → bytes ≡ [] → (other : Root) → HoldsRoot bytes other → (other.generation < r.generation) × (other.geometry ≡ r.geometry)
+unfolding head_bytes
+no_root r bytes none other it =
+    let first : 0 ≡ 87 = ap (λ (l : List ℕ). slice_index l 0) (sym none ∙ it.spelled) in
+    absurd (omega (arith, first))
+
+pub open_without_slot : (sectors : ℕ) (d e : ℕ → List ℕ) (nvram : List ℕ) (s : State) (writes : List Write) (sector : ℕ) → (o : Opens sectors d nvram s) → AreFree o.root d writes → IsOtherSlot o.root d sector
+    → LosesSlot writes sector d e → OpensBy sectors e nvram s o.changes
+open_without_slot sectors d e nvram s writes sector o free slot loses =
+    let r = o.root in
+    let whole_is : whole (blocks_of e) r ≡ whole (blocks_of d) r = whole_same (blocks_of d) (blocks_of e) r (needed_stay sectors d e nvram s writes sector o free slot loses.others) in
+    let stays = slot_stays sectors d e nvram s writes sector o free slot loses.others in
+    record {
+      opens = record {
+        root = r;
+        newest = elim slot [
+          | inl b ↦
+              let there : e SLOT_A ≡ d SLOT_A = stays SLOT_A (omega arith) (λ same. absurd (omega (arith, same, b.0))) in
+              inl (subst (λ x. HoldsRoot x r) (sym there) b.1, no_root r (e SLOT_B) (ap e (sym b.0) ∙ loses.lost))
+          | inr a ↦
+              let there : e SLOT_B ≡ d SLOT_B = stays SLOT_B (omega arith) (λ same. absurd (omega (arith, same, a.0))) in
+              inr (subst (λ x. HoldsRoot x r) (sym there) a.1, no_root r (e SLOT_A) (ap e (sym a.0) ∙ loses.lost))
+        ];
+        size = o.size;
+        first = o.first;
+        snapshots = o.snapshots;
+        holds = subst (λ w. Holds r w o.first o.snapshots) (sym whole_is) o.holds;
+        changes = o.changes;
+        log = o.log;
+        room = subst (λ w. HasReserve r w o.first o.changes) (sym whole_is) o.room;
+        last = o.last;
+        replays = o.replays;
+        state = o.state;
+      };
+      these = refl;
+    }
+
+-- ---- with the new root
+
+module _ (sectors : ℕ) (d e : ℕ → List ℕ) (nvram : List ℕ) (s : State) (writes : List Write) (sector : ℕ) (new : Root) (v : Volume) (step : SnapshotStep) (o : Opens sectors d nvram s) (point : IsPointWith step o.root d writes sector new v) (has : HasRootWritten writes sector (root_bytes new) d e) where
+  pub needs_stay : Agrees (Needs o.root (whole (blocks_of d) o.root)) (blocks_of d) (blocks_of e)
+  needs_stay = needed_stay sectors d e nvram s writes sector o point.free point.slot has.others
+
   pub written : All (λ w. blocks_of e w.place ≡ w.bytes) writes
-  written k w lt = sectors_block e (get_or writes k w).place (get_or writes k w).bytes (point.long k w lt) (has.holds k w lt)
+  written = has.holds
 
   pub new_holds : Holds new (whole (blocks_of e) new) v (kept_after step o.first o.snapshots)
   new_holds =
       let plans = point.plans (blocks_of e) written needs_stay in
-      step_holds (blocks_of d) (blocks_of e) o.root new point.files o.first v o.snapshots old_root o.holds needs_stay plans.plan plans.sound
-      (keeps_own (blocks_of d) (blocks_of e) o.root new point.files old_root point.root o.holds.sound needs_stay plans.plan plans.sound plans.own)
+      step_holds (blocks_of d) (blocks_of e) o.root new point.files o.first v o.snapshots (old_root sectors d e nvram s writes sector o point.free point.slot has.others) o.holds needs_stay plans.plan plans.sound
+      (keeps_own (blocks_of d) (blocks_of e) o.root new point.files (old_root sectors d e nvram s writes sector o point.free point.slot has.others) point.root o.holds.sound needs_stay plans.plan plans.sound plans.own)
       point.later point.objects point.volume step point.possible point.snapshots (point.head (blocks_of e) written)
-
-  -- the two slots are in no block that is written
-  slot_stays : (n : ℕ) → n / 8 < 2 → n ≢ sector → e n ≡ d n
-  slot_stays n low other = has.others n (outside_free o.root d writes n point.free (λ none. no_bit 31 _ none ((o.holds.sound.exact.system (n / 8)).1 (roots low)))) other
 
   pub new_newest : IsNewest new (e SLOT_A) (e SLOT_B)
   new_newest = elim point.slot [
     | inl b ↦
         let root_is : e SLOT_B ≡ root_bytes new = ap e (sym b.0) ∙ has.root_is in
-        let stays : e SLOT_A ≡ d SLOT_A = slot_stays SLOT_A (omega arith) (λ same. absurd (omega (arith, same, b.0))) in
+        let stays : e SLOT_A ≡ d SLOT_A = slot_stays sectors d e nvram s writes sector o point.free point.slot has.others SLOT_A (omega arith) (λ same. absurd (omega (arith, same, b.0))) in
         subst (λ x. IsNewest new x (e SLOT_B)) (sym stays) (subst (IsNewest new (d SLOT_A)) (sym root_is)
         (newest_second o.root new (d SLOT_A) b.1 point.root point.later point.geometry))
     | inr a ↦
         let root_is : e SLOT_A ≡ root_bytes new = ap e (sym a.0) ∙ has.root_is in
-        let stays : e SLOT_B ≡ d SLOT_B = slot_stays SLOT_B (omega arith) (λ same. absurd (omega (arith, same, a.0))) in
+        let stays : e SLOT_B ≡ d SLOT_B = slot_stays sectors d e nvram s writes sector o point.free point.slot has.others SLOT_B (omega arith) (λ same. absurd (omega (arith, same, a.0))) in
         subst (λ x. IsNewest new x (e SLOT_B)) (sym root_is) (subst (IsNewest new (root_bytes new)) (sym stays)
         (newest_first o.root new (d SLOT_B) a.1 point.root point.later point.geometry))
   ]

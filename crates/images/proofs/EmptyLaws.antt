@@ -55,7 +55,10 @@ pub zero_sound : (s : Sizes) (d : Blocks) (f : Inode) → IsInode VERSION s f �
 zero_sound s d f fits body level = record {
   inode = subst (IsInode VERSION s) (sym (held_inode d f)) fits;
   indirect = λ m i b is. absurd (none_named d f level b (record { height = suc m; index = i; is = is }));
-  ends = λ p le. zero_ends d f body p;
+  bytes = record {
+    readable = λ i b is. absurd (none_named d f level b (record { height = 0; index = i; is = is }));
+    ends = λ p le. zero_ends d f body p;
+  };
 }
 
 pub free_fits : (s : Sizes) → IsInode VERSION s free_inode

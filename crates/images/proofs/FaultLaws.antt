@@ -1,5 +1,5 @@
 -- None of the nine faults stands in images that open.
-use Rattle.std.proofs.Common.{◌≡◌, ◌≢◌, ◌⊎◌, inl, inr, ℕ, zero, suc, ◌≤◌, ◌<◌, List, [], ◌∷◌, Option, Some, None, IsSome, is_some, refl, ap, sym, subst, ◌∙◌, arith}
+use Rattle.std.proofs.Common.{◌≡◌, ◌≢◌, ◌⊎◌, inl, inr, ℕ, zero, suc, ◌/◌, ◌≤◌, ◌<◌, List, [], ◌∷◌, Option, Some, None, IsSome, is_some, refl, ap, sym, subst, ◌∙◌, arith}
 use Rattle.std.proofs.lemmas.Bool.{cases_eq, cases_lt, false≢true}
 use Rattle.std.proofs.Math.Nat.{eq-or-lt_of_le}
 use Rattle.layout.specs.Limits.{Sizes}
@@ -26,11 +26,11 @@ use Rattle.model.specs.Trees.{Tree}
 use Rattle.model.specs.Volumes.{IsGraph, IsVolume, Node, Volume, entries}
 use Rattle.model.specs.declared.limits.TheConstants.{DIRECTORY_NAMES, FIRST_NUMBER, ROOT_NUMBER}
 use Rattle.images.specs.Contents.{Content, HoldsVolume, StandsAs, content_of, tree_contents}
-use Rattle.images.specs.Faults.{HasNoFault, HasRoots, IsFaultless, IsFaultlessUnder}
+use Rattle.images.specs.Faults.{HasNoFault, HasRoots, HoldsGraph, IsFaultless, IsFaultlessUnder, IsMapGrammar, IsNaming}
 use Rattle.images.specs.Nodes.{Held, held}
-use Rattle.images.specs.Roots.{HeldTree, Whole, free_inode, frozen_at, frozen_inode_file, slot, tree, whole}
+use Rattle.images.specs.Roots.{HeldTree, Whole, frozen_at, frozen_inode_file, slot, tree, whole}
 use Rattle.images.specs.Snapshots.{AreKeptAbove, AreSnapshots, HasSnapshot, IsFrozenTree}
-use Rattle.images.specs.Soundness.{FitsNumber, IsSoundTree}
+use Rattle.images.specs.Soundness.{FitsNumber, HasNoHole, IsSoundFile, IsSoundTree}
 use Rattle.images.specs.States.{Opens}
 use Rattle.images.proofs.KindLaws.{directory_kind}
 use Rattle.images.proofs.ReadingLaws.{read_past}
@@ -46,17 +46,31 @@ unfolding EndsFree held
 tree_ends d inodes top some n past =
     ap (λ (h : Held). h.inode.kind) (read_past d inodes top n (omega (arith, some, past)) past)
 
+-- a graph without what its files count
+naming : (v : Volume) → IsGraph v → IsNaming v
+naming v is = record { root = is.root; not_root = is.not_root; used = is.used; once = is.once; names = is.names; reached = is.reached }
+
+-- with it
+graph : (inodes : ℕ) (t : HeldTree) → (g : HoldsGraph inodes t) → IsGraph g.names.volume
+graph inodes t g =
+    let is = g.names.naming in
+    record { root = is.root; not_root = is.not_root; used = is.used; once = is.once; names = is.names; counts = g.counts; reached = is.reached }
+
+map_grammar : (s : Sizes) (h : Held) → IsSoundFile s h → HasNoHole h → IsMapGrammar h
+map_grammar s h sound stored = record { stored = stored; last = sound.bytes.readable (h.inode.size / 4096); ends = sound.bytes.ends }
+
 -- a tree in its grammar that holds a volume has no fault
 faultless : (s : Sizes) (t : HeldTree) (v : Volume) → FIRST_NUMBER ≤ s.inodes → EndsFree s.inodes t → IsSoundTree s t → HoldsVolume s.inodes (tree_contents t) v → IsVolume s.inodes v → IsFaultless s t
 unfolding EndsFree
 faultless s t v many ends sound holds is = record {
   grammar = record {
-    files = λ n. record { inode = (sound.files n).inode; indirect = (sound.files n).indirect };
+    files = λ n. record { inode = (sound.files n).inode; indirect = (sound.files n).indirect; bytes = tt };
     kinds = sound.kinds;
     root = directory_kind (t 3).inode.kind s.inodes (content_of (t 3)) (v 3) (holds 3) is.graph.root;
     inodes = sound.inodes;
-    inode_map = record { stored = sound.inode_map; ends = (sound.files 1).ends };
-    block_map = record { stored = sound.block_map; ends = (sound.files 2).ends };
+    inode_map = map_grammar s (t 1) (sound.files 1) sound.inode_map;
+    readable = (sound.files 1).bytes.readable;
+    block_map = map_grammar s (t 2) (sound.files 2) sound.block_map;
     numbers = record {
       own = λ n low. (sound.numbers n).1 (inl low);
       past = λ n past taken. elim ((sound.numbers n).0 taken) [
@@ -67,7 +81,10 @@ faultless s t v many ends sound holds is = record {
   };
   once = sound.once;
   numbers = sound.numbers;
-  names = record { volume = v; holds = holds; graph = is.graph };
+  names = record {
+    names = record { readable = λ n _. (sound.files n).bytes.readable; volume = v; holds = holds; naming = naming v is.graph };
+    counts = is.graph.counts;
+  };
 }
 
 -- the tree of each snapshot holds a volume
@@ -191,6 +208,7 @@ opens_faultless sectors disk nvram s o =
             let snapshot = o.holds.sound.snapshots.each k block there in
             let kept = kept_tree r w 0 o.snapshots o.holds.sound.snapshots o.holds.kept k snapshot.0 snapshot.1 snapshot.2.is.first in
             faultless r.geometry (w.frozen k) kept.1.0 many (frozen_ends (blocks_of disk) r k block some there) (o.holds.sound.frozen k block there) kept.1.1 kept.1.2;
+        readable = (o.holds.sound.active.files 2).bytes.readable;
         exact = o.holds.sound.exact;
         log = record {
           first = o.first;
@@ -230,8 +248,8 @@ unfolding EndsFree
 tree_volume d r v is active holds =
     let w = whole d r in
     let sizes = is.head.sizes in
-    let same = volume_once r.geometry.inodes (tree_contents w.active) active.names.volume v (omega (arith, sizes.most_inodes)) active.names.holds holds in (
-      subst IsGraph same active.names.graph,
+    let same = volume_once r.geometry.inodes (tree_contents w.active) active.names.names.volume v (omega (arith, sizes.most_inodes)) active.names.names.holds holds in (
+      subst IsGraph same (graph r.geometry.inodes w.active active.names),
       λ n some. elim (cases_lt n r.geometry.inodes) [
         | inr past ↦
             absent (v n) (subst (λ (k : Kind). StandsAs k r.geometry.inodes (tree_contents w.active n) (v n)) (active_ends d r (omega (arith, sizes.least_inodes)) n past) (holds n)) some

@@ -7,11 +7,11 @@ mod PointLaws
 mod VolumeLaws
 mod StateLaws
 mod FaultLaws
+pub mod ReadableLaws
 mod FreeLaws
 mod InodeFileLaws
 mod HoldLaws
 mod StepLaws
-mod SectorLaws
 mod AloneLaws
 mod SlotLaws
 pub mod FirstLaws

@@ -1,9 +1,9 @@
 -- What the writes of a consistency point leave on the disk, before its root and with it.
-use Rattle.std.specs.Prelude.{ℕ, ◌≡◌, ◌≢◌, ◌⊎◌, ◌+◌, ◌*◌, ◌/◌, ◌<◌, ◌≤◌, List, length, take, drop, All}
+use Rattle.std.specs.Prelude.{ℕ, ◌≡◌, ◌≢◌, ◌⊎◌, ◌+◌, ◌/◌, ◌<◌, ◌≤◌, List, [], length, All}
 use Rattle.layout.specs.Opens.{HoldsRoot}
 use Rattle.layout.specs.Places.{Blocks, blocks_of}
 use Rattle.layout.specs.Root.{IsRoot}
-use Rattle.layout.specs.declared.TheConstants.{BLOCK_BYTES, SECTOR_BYTES, SLOT_A, SLOT_B}
+use Rattle.layout.specs.declared.TheConstants.{BLOCK_BYTES, SLOT_A, SLOT_B}
 use Rattle.layout.specs.declared.root.Root.{Root}
 use Rattle.model.specs.Volumes.{Volume, IsVolume}
 use Rattle.images.specs.Nodes.{Agrees, held}
@@ -37,8 +37,12 @@ AreFree r d writes = All (λ w. entry (whole (blocks_of d) r).active w.place ≡
 
 -- the sectors of the disk have a block
 abbrev pub HoldsWrite : (ℕ → List ℕ) → Write → Type 0
-HoldsWrite disk w =
-    (i : ℕ) → i < 8 → disk (8 * w.place + i) ≡ take SECTOR_BYTES (drop (SECTOR_BYTES * i) w.bytes)
+HoldsWrite disk w = blocks_of disk w.place ≡ w.bytes
+
+-- the blocks may be written or not, and this sector can't be read; the others are as before
+pub record LosesSlot (writes : List Write) (sector : ℕ) (d e : ℕ → List ℕ) : Type 0 where
+  pub others : (n : ℕ) → IsOutsideWrites writes n → n ≢ sector → e n ≡ d n
+  pub lost : e sector ≡ []
 
 -- all blocks are written, and this sector has a new root; the other sectors are as before
 pub record HasRootWritten (writes : List Write) (sector : ℕ) (root : List ℕ) (d e : ℕ → List ℕ) : Type 0 where

@@ -1,18 +1,17 @@
 -- The nine faults that images may have: of each, that it doesn't stand in them.
-use Rattle.std.specs.Prelude.{ℕ, suc, ◌≡◌, ◌-◌, ◌*◌, ◌<◌, ◌≤◌, List, length}
+use Rattle.std.specs.Prelude.{ℕ, ◌≡◌, ◌≢◌, ◌⊎◌, ◌*◌, ◌/◌, ◌<◌, ◌≤◌, List, length, Some, IsSome, IsTrue, IsFalse}
 use Rattle.layout.specs.FileBytes.{byte_in, EndsAt}
-use Rattle.layout.specs.Inode.{IsInode}
 use Rattle.layout.specs.Limits.{Sizes}
-use Rattle.layout.specs.Maps.{IsTaken, IsIndirectBlock}
+use Rattle.layout.specs.Maps.{IsTaken}
 use Rattle.layout.specs.Opens.{IsNewest}
 use Rattle.layout.specs.Places.{blocks_of}
 use Rattle.layout.specs.Record.{Change}
-use Rattle.layout.specs.declared.TheConstants.{BLOCK_POINTERS, SLOT_A, SLOT_B}
-use Rattle.layout.specs.declared.kind.Kind.TheVariants.{Directory}
+use Rattle.layout.specs.declared.TheConstants.{BLOCK_BYTES, SLOT_A, SLOT_B}
+use Rattle.layout.specs.declared.kind.Kind.TheVariants.{Directory, File, Link}
 use Rattle.layout.specs.declared.pointer.Pointer.TheVariants.{Block}
 use Rattle.layout.specs.declared.root.Root.{Root}
-use Rattle.layout.specs.declared.version.TheConstants.{VERSION}
-use Rattle.model.specs.Volumes.{IsGraph, Volume}
+use Rattle.model.specs.Paths.{IsName, Name, Path}
+use Rattle.model.specs.Volumes.{HasNames, Volume, entries, file_node, is_directory_node, is_file_node, number_at}
 use Rattle.model.specs.declared.limits.TheConstants.{FIRST_NUMBER, ROOT_NUMBER}
 use Rattle.images.specs.BlockMap.{IsExact, NamesOnce}
 use Rattle.images.specs.Contents.{HoldsVolume, content_bytes, content_of, tree_contents}
@@ -20,7 +19,7 @@ use Rattle.images.specs.Nodes.{Held, file_block}
 use Rattle.images.specs.Replaying.{ReplaysWithin}
 use Rattle.images.specs.Roots.{HeldTree, Whole, slot, whole}
 use Rattle.images.specs.Snapshots.{AreSnapshots}
-use Rattle.images.specs.Soundness.{FitsNumber, HasNoHole, MapsNumbers, SpellsInodes, nodes_of_size}
+use Rattle.images.specs.Soundness.{FitsNumber, HasNoHole, IsFileGrammar, IsReadable, MapsNumbers, SpellsInodes}
 use Rattle.images.specs.States.{LogHoldsChanges}
 
 -- ---- 1: the roots
@@ -37,15 +36,11 @@ pub record HasRoots (r : Root) (sectors : ℕ) (disk : ℕ → List ℕ) (nvram 
 
 -- ---- 3: the grammar of a tree
 
--- a file's inode and each indirect block that is stored is in its grammar, in an image of these sizes
-pub record IsFileGrammar (s : Sizes) (h : Held) : Type 0 where
-  pub inode : IsInode VERSION s h.inode
-  pub indirect : (m i b : ℕ) → h.place (suc m) i ≡ Block b
-      → IsIndirectBlock s.blocks (nodes_of_size h.inode.size m - BLOCK_POINTERS * i) (h.bytes (suc m) i)
-
--- a map's file has no hole, and zeros past its end
+-- a map's file has no hole, and zeros past its end, in a block that can be read
 pub record IsMapGrammar (h : Held) : Type 0 where
   pub stored : HasNoHole h
+  pub last : (b : ℕ) → h.place 0 (h.inode.size / BLOCK_BYTES) ≡ Block b
+      → length (h.bytes 0 (h.inode.size / BLOCK_BYTES)) ≡ BLOCK_BYTES
   pub ends : EndsAt h.inode.size (byte_in (file_block h))
 
 -- the inode map has the file system's own numbers as taken, and none past the last one
@@ -61,16 +56,39 @@ pub record IsTreeGrammar (s : Sizes) (t : HeldTree) : Type 0 where
   pub inodes : SpellsInodes s.inodes (file_block (t 0)) t
   pub inode_map : IsMapGrammar (t 1)
   pub block_map : IsMapGrammar (t 2)
+  pub readable : IsReadable (t 1)
   pub numbers : MapsWithin s.inodes (content_bytes (content_of (t 1)))
 
 -- ---- 3, 4, 6, 7, 8: a tree
 
--- 7, 8: the directories of a tree give it names, each of which leads to an object; only a file has several, and as many as it counts;
--- and each directory and link is reached from the root directory
-pub record HoldsGraph (inodes : ℕ) (t : HeldTree) : Type 0 where
+-- each name leads to an object, only a file has several, and each directory and link is reached from the root directory
+pub record IsNaming (v : Volume) : Type 0 where
+  pub root : IsTrue (is_directory_node (v ROOT_NUMBER))
+  pub not_root : (d : ℕ) (x : Name) → entries v d x ≢ Some ROOT_NUMBER
+  pub used : (d n : ℕ) (x : Name) → entries v d x ≡ Some n → IsSome (v n)
+  pub once : (d k n : ℕ) (x y : Name) → entries v d x ≡ Some n → entries v k y ≡ Some n
+      → IsFalse (is_file_node (v n)) → (d ≡ k) × (x ≡ y)
+  pub names : (d : ℕ) (x : Name) → IsSome (entries v d x) → IsName x
+  pub reached : (n : ℕ) → IsSome (v n) → IsFalse (is_file_node (v n))
+      → (p : Path) × (number_at (entries v) p ≡ Some n)
+
+-- 7: the directories of a tree can be read, and give names to its objects
+pub record HoldsNames (inodes : ℕ) (t : HeldTree) : Type 0 where
+  pub readable : (n : ℕ) → (t n).inode.kind ≡ Directory → IsReadable (t n)
   pub volume : Volume
   pub holds : HoldsVolume inodes (tree_contents t) volume
-  pub graph : IsGraph volume
+  pub naming : IsNaming volume
+
+-- 8: each file counts its names
+abbrev pub CountsNames : Volume → Type 0
+CountsNames v =
+    (n mode links : ℕ) (bytes : List ℕ) → v n ≡ Some (file_node mode links bytes)
+    → HasNames (entries v) n links
+
+-- 7, 8: both
+pub record HoldsGraph (inodes : ℕ) (t : HeldTree) : Type 0 where
+  pub names : HoldsNames inodes t
+  pub counts : CountsNames names.volume
 
 -- no fault stands in a tree, in an image of these sizes
 pub record IsFaultless (s : Sizes) (t : HeldTree) : Type 0 where
@@ -78,6 +96,11 @@ pub record IsFaultless (s : Sizes) (t : HeldTree) : Type 0 where
   pub once : NamesOnce t
   pub numbers : MapsNumbers t
   pub names : HoldsGraph s.inodes t
+
+-- the blocks of a tree's files and links can be read, which is no matter to the nine faults
+abbrev pub HasReadableFiles : HeldTree → Type 0
+HasReadableFiles t =
+    (n : ℕ) → ((t n).inode.kind ≡ File) ⊎ ((t n).inode.kind ≡ Link) → IsReadable (t n)
 
 -- ---- 9: the log
 
@@ -97,6 +120,7 @@ pub record IsFaultlessUnder (r : Root) (w : Whole) (nvram : List ℕ) (changes :
   pub snapshots : AreSnapshots r w
   pub active : IsFaultless r.geometry w.active
   pub frozen : (k block : ℕ) → slot r k ≡ Block block → IsFaultless r.geometry (w.frozen k)
+  pub readable : IsReadable (w.active 2)
   pub exact : IsExact r w
   pub log : HasLog r w nvram changes
 

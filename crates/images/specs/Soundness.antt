@@ -1,5 +1,5 @@
 -- The grammars that a tree keeps: its inodes, indirect blocks, maps and the bytes past the ends of its files.
-use Rattle.std.specs.Prelude.{ℕ, zero, suc, ◌≡◌, ◌≢◌, ◌⊎◌, ◌↔◌, ◌-◌, ◌*◌, ◌<◌, ◌≤◌, List, drop}
+use Rattle.std.specs.Prelude.{ℕ, zero, suc, ◌≡◌, ◌≢◌, ◌⊎◌, ◌↔◌, ◌-◌, ◌*◌, ◌<◌, ◌≤◌, List, length, drop}
 use Rattle.std.specs.Int.{div_ceil}
 use Rattle.layout.specs.Bytes.{zeros}
 use Rattle.layout.specs.FileBytes.{byte_in, EndsAt}
@@ -28,21 +28,33 @@ pub data Detail : Type 0 where
   by_bytes : Detail
   by_sizes : Detail
 
--- zeros stand past the end of a file; where the sizes alone are known, this isn't asked
-abbrev pub HasEnd : Detail → Held → Type 0
-HasEnd by_bytes h = EndsAt h.inode.size (byte_in (file_block h))
-HasEnd by_sizes h = Unit {0}
+-- each block of a file's bytes that is stored can be read
+abbrev pub IsReadable : Held → Type 0
+IsReadable h = (i b : ℕ) → h.place 0 i ≡ Block b → length (h.bytes 0 i) ≡ BLOCK_BYTES
 
--- a file in its grammar, in an image of these sizes: its inode, and each indirect block that is stored; and its end
+-- the bytes of a file can be read, and zeros stand past its end
+pub record HasBytes (h : Held) : Type 0 where
+  pub readable : IsReadable h
+  pub ends : EndsAt h.inode.size (byte_in (file_block h))
+
+-- where the sizes alone are known, nothing is asked of the bytes
+abbrev pub KnowsBytes : Detail → Held → Type 0
+KnowsBytes by_bytes h = HasBytes h
+KnowsBytes by_sizes h = Unit {0}
+
+-- a file in its grammar, in an image of these sizes: its inode, and each indirect block that is stored; and its bytes
 pub record IsHeldFile (detail : Detail) (s : Sizes) (h : Held) : Type 0 where
   pub inode : IsInode VERSION s h.inode
   pub indirect : (m i b : ℕ) → h.place (suc m) i ≡ Block b
       → IsIndirectBlock s.blocks (nodes_of_size h.inode.size m - BLOCK_POINTERS * i) (h.bytes (suc m) i)
-  pub ends : HasEnd detail h
+  pub bytes : KnowsBytes detail h
 
--- the same with zeros past its end
+-- the same with its bytes, and without them
 abbrev pub IsSoundFile : Sizes → Held → Type 0
 IsSoundFile = IsHeldFile by_bytes
+
+abbrev pub IsFileGrammar : Sizes → Held → Type 0
+IsFileGrammar = IsHeldFile by_sizes
 
 -- kinds of ordinary numbers, and of the root directory's
 abbrev pub IsOrdinary : Kind → Type 0

@@ -10,7 +10,7 @@ ghost use Rattle.model.specs.Records.{Change, Replays, pledged_for, without_name
 ghost use Rattle.model.specs.Room.{fixed_of};
 ghost use Rattle.model.specs.States.{State, with_snapshots};
 ghost use Rattle.model.specs.Volumes.{Volume};
-ghost use Rattle.images.specs.Cuts.{AreFree, HasRootWritten, IsOfDisk, IsPointWith, LeavesFree, PlansOn, StaysOutsideWrites, Write};
+ghost use Rattle.images.specs.Cuts.{AreFree, HasRootWritten, IsOfDisk, IsOtherSlot, IsPointWith, LeavesFree, LosesSlot, PlansOn, StaysOutsideWrites, Write};
 ghost use Rattle.images.specs.Contents.{tree_contents};
 ghost use Rattle.images.specs.Room.{free_under};
 ghost use Rattle.images.specs.Roots.{Needs, whole};
@@ -28,6 +28,15 @@ pub fn needed_blocks_are_of_the_disk()
 pub fn unfinished_points_open_as_before()
     ensures { (sectors : ℕ) (d e : ℕ → List ℕ) (nvram : List ℕ) (s : State) (writes : List Write)
         → (o : Opens sectors d nvram s) → AreFree o.root d writes → StaysOutsideWrites writes d e
+        → OpensBy sectors e nvram s o.changes }
+{}
+
+/// Where the sector that its root goes to can't be read afterwards, a consistency point leaves images that open as before, by
+/// the same records: the newest root stands in the other slot. It does nothing.
+pub fn lost_slots_open_as_before()
+    ensures { (sectors : ℕ) (d e : ℕ → List ℕ) (nvram : List ℕ) (s : State) (writes : List Write)
+        (sector : ℕ) → (o : Opens sectors d nvram s) → AreFree o.root d writes
+        → IsOtherSlot o.root d sector → LosesSlot writes sector d e
         → OpensBy sectors e nvram s o.changes }
 {}
 

@@ -13,8 +13,8 @@ mod settling;
 mod states;
 
 pub use cut::{
-    finished_points_hold, finished_points_open, needed_blocks_are_of_the_disk,
-    nothing_can_be_planned, unfinished_points_open_as_before,
+    finished_points_hold, finished_points_open, lost_slots_open_as_before,
+    needed_blocks_are_of_the_disk, nothing_can_be_planned, unfinished_points_open_as_before,
 };
 pub use first::{first_images_open_to_the_empty_state, first_roots_hold, free_files_hold_nothing};
 pub use frame::disks_that_agree_hold_the_same;
@@ -24,7 +24,7 @@ pub use point::{
     planned_points_settle, trees_are_bases,
 };
 pub use reading::{
-    blocks_are_where_pointers_lead, eight_sectors_are_a_block, inline_bytes_are_the_first_block,
+    blocks_are_where_pointers_lead, inline_bytes_are_the_first_block,
     inodes_are_what_their_bytes_spell, snapshots_are_what_their_bytes_spell,
 };
 pub use room::points_leave_room;

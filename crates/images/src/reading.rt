@@ -1,14 +1,14 @@
 //! What is read block by block is what the tree has.
 
-ghost use Rattle.std.specs.Prelude.{ℕ, ◌≡◌, ◌+◌, ◌-◌, ◌*◌, ◌<◌, ◌≤◌, List, ◌++◌, drop, length, take, Some, nat_lt, if◌then◌else◌};
+ghost use Rattle.std.specs.Prelude.{ℕ, ◌≡◌, ◌-◌, ◌<◌, ◌≤◌, List, ◌++◌, take, Some, nat_lt, if◌then◌else◌};
 ghost use Rattle.std.specs.Int.{div_ceil};
 ghost use Rattle.layout.specs.Bytes.{zeros};
 ghost use Rattle.layout.specs.Inode.{IsInode, inode_bytes};
 ghost use Rattle.layout.specs.Limits.{AreSizes, Sizes};
-ghost use Rattle.layout.specs.Places.{Blocks, blocks_of, place, pointed};
+ghost use Rattle.layout.specs.Places.{Blocks, place, pointed};
 ghost use Rattle.layout.specs.SnapRoot.{IsSnapshot, Snapshot, snapshot_bytes, snapshot_in};
 ghost use Rattle.layout.specs.Version.{level_of};
-ghost use Rattle.layout.specs.declared.TheConstants.{BLOCK_BYTES, SECTOR_BYTES};
+ghost use Rattle.layout.specs.declared.TheConstants.{BLOCK_BYTES};
 ghost use Rattle.layout.specs.declared.inode.Body.TheVariants.{Inline, Pointers};
 ghost use Rattle.layout.specs.declared.inode.Inode.{Inode};
 ghost use Rattle.layout.specs.declared.pointer.Pointer.{Pointer};
@@ -16,13 +16,6 @@ ghost use Rattle.layout.specs.declared.version.TheConstants.{VERSION};
 ghost use Rattle.images.specs.Nodes.{file_block, held};
 ghost use Rattle.images.specs.Roots.{free_inode, frozen_inode_file, inode_bytes_at, tree};
 ghost use Rattle.images.specs.Soundness.{Detail, IsHeldFile};
-
-/// Eight sectors that hold the parts of a block's bytes, one behind the other, are the block. It does nothing.
-pub fn eight_sectors_are_a_block()
-    ensures { (disk : ℕ → List ℕ) (b : ℕ) (bytes : List ℕ) → length bytes ≡ BLOCK_BYTES
-        → ((i : ℕ) → i < 8 → disk (8 * b + i) ≡ take SECTOR_BYTES (drop (SECTOR_BYTES * i) bytes))
-        → blocks_of disk b ≡ bytes }
-{}
 
 /// A tree has the inode that the inode file's bytes spell, and past the last number free ones. It does nothing.
 pub fn inodes_are_what_their_bytes_spell()

@@ -11,8 +11,9 @@ ghost use Rattle.model.specs.Trees.{Tree};
 ghost use Rattle.model.specs.Volumes.{IsGraph, Volume};
 ghost use Rattle.model.specs.declared.limits.TheConstants.{FIRST_NUMBER, ROOT_NUMBER};
 ghost use Rattle.images.specs.Contents.{Content, HoldsVolume, tree_contents};
-ghost use Rattle.images.specs.Faults.{HasNoFault, HasRoots, IsFaultless, IsFaultlessUnder};
+ghost use Rattle.images.specs.Faults.{HasNoFault, HasReadableFiles, HasRoots, IsFaultless, IsFaultlessUnder};
 ghost use Rattle.images.specs.Roots.{Whole, whole};
+ghost use Rattle.images.specs.Soundness.{IsReadable};
 ghost use Rattle.images.specs.States.{Opens, OpensBy, SameButFree};
 
 /// Files hold one volume at most. It does nothing.
@@ -46,7 +47,7 @@ pub fn images_that_open_have_no_fault()
 {}
 
 /// A tree without a fault holds a volume whose names are a graph, and of its numbers only ordinary ones and the root directory's are in use.
-/// It does nothing.
+/// But for those of files, links and the block map its blocks can be read. It does nothing.
 pub fn faultless_trees_hold_graphs()
     ensures graph { (d : Blocks) (r : Root) (v : Volume) → IsRoot r
         → IsFaultless r.geometry (whole d r).active
@@ -55,6 +56,8 @@ pub fn faultless_trees_hold_graphs()
         → IsFaultless r.geometry (whole d r).active
         → HoldsVolume r.geometry.inodes (tree_contents (whole d r).active) v → (n : ℕ) → IsSome (v n)
         → (n ≡ ROOT_NUMBER) ⊎ ((FIRST_NUMBER ≤ n) × (n < r.geometry.inodes)) }
+    ensures readable { (d : Blocks) (r : Root) → IsFaultless r.geometry (whole d r).active
+        → IsReadable ((whole d r).active 2) → HasReadableFiles (whole d r).active → (n : ℕ) → IsReadable ((whole d r).active n) }
 {}
 
 /// Of one root, the volume and the records are one: so what is told of the images without faults is told of the same. It does nothing.

@@ -18,17 +18,19 @@ use Rattle.layout.specs.declared.inode.Inode.{Inode}
 use Rattle.layout.specs.declared.pointer.Pointer.{Pointer}
 use Rattle.layout.specs.declared.pointer.Pointer.TheVariants.{Hole, Block}
 use Rattle.layout.specs.declared.version.TheConstants.{VERSION}
+use Rattle.buffers.specs.Disks.{IsWhole}
 use Rattle.blocktree.specs.Places.{depth_of, IsStoredNode, IsPath}
 use Rattle.blocktree.specs.Trees.{settled_block, AreSound}
 use Rattle.blocktree.specs.declared.tree.BlockTree.{BlockTree}
 use Rattle.images.specs.Nodes.{held, file_block, pointers_of, place_at_height}
-use Rattle.images.specs.Soundness.{Detail, IsHeldFile, IsSoundFile, nodes_of_size}
+use Rattle.images.specs.Soundness.{Detail, IsHeldFile, IsReadable, IsSoundFile, nodes_of_size}
 use Rattle.images.proofs.ReadingLaws.{hole_past}
 use Rattle.inode.specs.Bases.{IsBased, anew, over, StartsFrom}
 use Rattle.inode.specs.Bodies.{body_block, inode_block}
 use Rattle.inode.specs.Edges.{filled}
 use Rattle.inode.proofs.EdgeLaws.{filled_short}
 use Rattle.layout.proofs.PointerLaws.{points_below}
+use Rattle.layout.proofs.ZeroLaws.{length-zeros}
 
 -- ---- blocks
 
@@ -63,7 +65,7 @@ module _ (laws : ReadingLaws) {detail : Detail} (s : Sizes) (disk : ℕ → List
 
 pub held_ends : (s : Sizes) (disk : ℕ → List ℕ) (f : Inode) (block : ℕ → List ℕ) → IsSoundFile s (held disk f) → ((n : ℕ) → block n ≡ file_block (held disk f) n) → EndsAt f.size (byte_in block)
 unfolding held
-held_ends s disk f block sound same p past = ap (λ (b : List ℕ). slice_index b (p % 4096)) (same (p / 4096)) ∙ sound.ends p past
+held_ends s disk f block sound same p past = ap (λ (b : List ℕ). slice_index b (p % 4096)) (same (p / 4096)) ∙ sound.bytes.ends p past
 
 -- ---- what a tree is based on
 
@@ -155,7 +157,7 @@ pub node_past : {detail : Detail} (s : Sizes) (disk : ℕ → List ℕ) (f : Ino
 node_past s disk f m i sound past = past_of s disk f m i f.body refl sound past
 
 -- a file whose inode has pointers has a level
-some_level : (size : ℕ) → 128 < size → level_of size ≡ suc (depth_of size + 0)
+pub some_level : (size : ℕ) → 128 < size → level_of size ≡ suc (depth_of size + 0)
 some_level size large = grind (arith, nat_tests, large)
 
 pub based_sound : {detail : Detail} (s : Sizes) (disk : ℕ → List ℕ) (f : Inode) (t : BlockTree) → IsHeldFile detail s (held disk f) → IsBased f t → AreSound s.blocks disk t
@@ -166,3 +168,18 @@ based_sound s disk f t sound (over ps body has) i lt =
     subst (λ (p : List Pointer). IsPath s.blocks disk p t.depth t.count i) (sym has.pointers_are)
     (subst (λ (d : ℕ). IsPath s.blocks disk ps d t.count i) (sym has.depth)
     (subst (λ (n : ℕ). IsPath s.blocks disk ps (depth_of f.size) n i) (sym has.count) (path_is s disk f ps sound body (depth_of f.size) 0 i (some_level f.size large.0))))
+
+-- a block that is a hole, or that can be read
+pub stored_whole : (disk : ℕ → List ℕ) (f : Inode) (i : ℕ) (p : Pointer) → (held disk f).place 0 i ≡ p → IsReadable (held disk f) → IsWhole (pointed disk p)
+unfolding held
+stored_whole disk f i Hole is readable = length-zeros 4096
+stored_whole disk f i (Block b) is readable = ap (λ (p : Pointer). length (pointed disk p)) (sym is) ∙ readable i b is
+
+pub based_whole : {detail : Detail} (s : Sizes) (disk : ℕ → List ℕ) (f : Inode) (t : BlockTree) → IsHeldFile detail s (held disk f) → IsReadable (held disk f) → IsBased f t
+    → (i : ℕ) → i < t.count → IsWhole (pointed disk (place disk t.pointers t.depth i))
+based_whole s disk f t sound readable (anew none) i lt = absurd (omega (arith, none, lt))
+based_whole s disk f t sound readable (over ps body has) i lt =
+    let large = fits s disk f ps sound body in
+    subst (λ (p : List Pointer). IsWhole (pointed disk (place disk p t.depth i))) (sym has.pointers_are)
+    (subst (λ (d : ℕ). IsWhole (pointed disk (place disk ps d i))) (sym has.depth)
+    (stored_whole disk f i (place disk ps (depth_of f.size) i) (node_place disk f ps (depth_of f.size) 0 i body (some_level f.size large.0)) readable))

@@ -12,7 +12,7 @@ ghost use Rattle.blocktree.specs.Places.{IsPath};
 ghost use Rattle.blocktree.specs.Trees.{AreSound, IsSoundAt};
 ghost use Rattle.blocktree.specs.declared.tree.BlockTree.{BlockTree};
 ghost use Rattle.images.specs.Nodes.{file_block, held};
-ghost use Rattle.images.specs.Soundness.{Detail, IsHeldFile, nodes_of_size};
+ghost use Rattle.images.specs.Soundness.{Detail, IsHeldFile, IsReadable, nodes_of_size};
 ghost use Rattle.inode.specs.Bases.{IsBased};
 ghost use Rattle.inode.specs.Bodies.{inode_block};
 
@@ -44,10 +44,12 @@ pub fn nodes_are_where_pointers_lead()
         → (held disk f).place height i ≡ Hole }
 {}
 
-/// What stands over the settled blocks of a tree that is based on a file in its grammar is in its grammar. It does nothing.
+/// What stands over the settled blocks of a tree that is based on a file in its grammar is in its grammar, and where the file's
+/// stored blocks can be read, so can those of the tree. It does nothing.
 pub fn based_trees_are_sound()
     ensures all { (detail : Detail) (s : Sizes) (disk : ℕ → List ℕ) (i : Inode) (t : BlockTree)
         → IsHeldFile detail s (held disk i) → IsBased i t → AreSound s.blocks disk t }
     ensures at { (detail : Detail) (s : Sizes) (disk : ℕ → List ℕ) (i : Inode) (t : BlockTree)
-        (k : ℕ) → IsHeldFile detail s (held disk i) → IsBased i t → IsSoundAt s.blocks disk t k }
+        (k : ℕ) → IsHeldFile detail s (held disk i) → IsReadable (held disk i) → IsBased i t
+        → IsSoundAt s.blocks disk t k }
 {}

@@ -12,7 +12,7 @@ use Rattle.layout.specs.FileBytes.{byte_in, first_bytes, EndsAt}
 use Rattle.layout.specs.Inode.{FitsKind}
 use Rattle.layout.specs.Limits.{Sizes}
 use Rattle.layout.specs.Maps.{IsInodeMap}
-use Rattle.layout.specs.Places.{Blocks, place}
+use Rattle.layout.specs.Places.{Blocks, place, pointed}
 use Rattle.layout.specs.declared.kind.Kind.{Kind}
 use Rattle.layout.specs.declared.kind.Kind.TheVariants as kinds
 use Rattle.layout.specs.declared.inode.Body.{Body}
@@ -27,11 +27,11 @@ use Rattle.blocktree.specs.declared.place_map.PlaceMap.{PlaceMap}
 use Rattle.blocktree.specs.Places.{block_count, depth_of, IsPath}
 use Rattle.blocktree.specs.Trees.{AreSound, IsSoundAt}
 use Rattle.blocktree.specs.declared.tree.BlockTree.{BlockTree}
-use Rattle.inode.specs.Bases.{HasPointers, StartsFrom}
+use Rattle.inode.specs.Bases.{HasPointers, StartsFrom, StartsUnchanged}
 use Rattle.inode.specs.Bodies.{body_block, inode_block}
 use Rattle.inode.specs.Files.{file_block, byte_at, bytes_of_file}
 use Rattle.inode.specs.declared.file.File.{File}
-use Rattle.loading.specs.Readings.{HasAllPlaces, IsBodyPath, IsMapFile, IsStored, inode_byte, inode_bytes_of}
+use Rattle.loading.specs.Readings.{HasAllPlaces, IsBodyPath, IsMapFile, IsStored, IsWholeAt, inode_byte, inode_bytes_of}
 use Rattle.loading.proofs.MapLaws.{past_end}
 use Rattle.layout.proofs.ZeroLaws.{zero_byte}
 
@@ -98,21 +98,31 @@ path_like blocks disk pointers size i t has path =
     (subst (λ d. IsPath blocks disk pointers d t.count i) (sym has.depth)
     (subst (λ n. IsPath blocks disk pointers (depth_of size) n i) (sym has.count) path))
 
+same_place : (disk : Blocks) (pointers : List Pointer) (size i : ℕ) (t : BlockTree) → HasPointers pointers size t
+    → place disk t.pointers t.depth i ≡ place disk pointers (depth_of size) i
+same_place disk pointers size i t has = ap (λ ps. place disk ps t.depth i) has.pointers_are ∙ ap (λ d. place disk pointers d i) has.depth
+
 pub starts_sound_at : (blocks : ℕ) (disk : Blocks) (body : Body) (size i : ℕ) (t : BlockTree) → t.kept ≤ t.count → StartsFrom body size t
-    → IsBodyPath blocks disk body size i → IsSoundAt blocks disk t i
-starts_sound_at blocks disk (Inline bytes) size i t within starts path = λ _ lt. absurd (omega (arith, starts, within, lt))
-starts_sound_at blocks disk (Pointers pointers) size i t within starts path = λ _ lt.
-    path_like blocks disk pointers size i t starts.0 (path (omega (arith, starts.1, starts.0.count, lt)))
+    → IsBodyPath blocks disk body size i → IsWholeAt disk body size i → IsSoundAt blocks disk t i
+starts_sound_at blocks disk (Inline bytes) size i t within starts path whole = λ _ lt. absurd (omega (arith, starts, within, lt))
+starts_sound_at blocks disk (Pointers pointers) size i t within starts path whole = λ _ lt.
+    let low : i < block_count size = omega (arith, starts.1, starts.0.count, lt) in (
+      path_like blocks disk pointers size i t starts.0 (path low),
+      ap (λ p. length (pointed disk p)) (same_place disk pointers size i t starts.0) ∙ whole low,
+    )
+
+-- a block of it that was read
+pub sound_whole : (blocks : ℕ) (disk : Blocks) (body : Body) (size i : ℕ) (t : BlockTree) → StartsFrom body size t → StartsUnchanged body t
+    → (i < block_count size → IsSoundAt blocks disk t i) → IsWholeAt disk body size i
+sound_whole blocks disk (Inline bytes) size i t starts clean sound = tt
+sound_whole blocks disk (Pointers pointers) size i t starts clean sound = λ lt.
+    ap (λ p. length (pointed disk p)) (sym (same_place disk pointers size i t starts.0)) ∙ (sound lt (clean i) (omega (arith, starts.1, starts.0.count, lt))).1
 
 pub starts_sound : (blocks : ℕ) (disk : Blocks) (body : Body) (size : ℕ) (t : BlockTree) → StartsFrom body size t
     → ((i : ℕ) → IsBodyPath blocks disk body size i) → AreSound blocks disk t
 starts_sound blocks disk (Inline bytes) size t starts paths = λ i lt. absurd (omega (arith, starts, lt))
 starts_sound blocks disk (Pointers pointers) size t starts paths = λ i lt.
     path_like blocks disk pointers size i t starts.0 (paths i (omega (arith, starts.0.count, lt)))
-
-same_place : (disk : Blocks) (pointers : List Pointer) (size i : ℕ) (t : BlockTree) → HasPointers pointers size t
-    → place disk t.pointers t.depth i ≡ place disk pointers (depth_of size) i
-same_place disk pointers size i t has = ap (λ ps. place disk ps t.depth i) has.pointers_are ∙ ap (λ d. place disk pointers d i) has.depth
 
 pub stored_all : (disk : Blocks) (body : Body) (size : ℕ) (t : BlockTree) → StartsFrom body size t → HasAllPlaces disk t → IsStored disk body size
 stored_all disk (Inline bytes) size t starts all = tt
@@ -133,11 +143,12 @@ lowest_nodes disk t nodes are i lt = let none : t.depth - 0 ≡ t.depth = omega 
 
 -- ---- a map's file
 
-pub map_file_is : (disk : Blocks) (inode : Inode) (file : File) → StartsFrom inode.body inode.size file.tree → HasAllPlaces disk file.tree → file.size ≡ inode.size
-    → ((i : ℕ) → file_block disk file i ≡ inode_block disk inode i)
+pub map_file_is : (disk : Blocks) (inode : Inode) (file : File) → StartsFrom inode.body inode.size file.tree → HasAllPlaces disk file.tree → IsWholeAt disk inode.body inode.size (inode.size / 4096)
+    → file.size ≡ inode.size → ((i : ℕ) → file_block disk file i ≡ inode_block disk inode i)
     → ((p : ℕ) → file.size ≤ p → p / 4096 ≡ file.size / 4096 → byte_at disk file p ≡ 0) → IsMapFile disk inode
-map_file_is disk inode file starts all size same last = record {
+map_file_is disk inode file starts all read size same last = record {
   stored = stored_all disk inode.body inode.size file.tree starts all;
+  last = read;
   ends = ends_all disk inode.body inode.size (λ p past here.
       ap (λ b. slice_index b (p % 4096)) (sym (same (p / 4096))) ∙ last p (omega (arith, size, past)) (here ∙ ap (λ n. n / 4096) (sym size)));
 }

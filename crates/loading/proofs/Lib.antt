@@ -1,3 +1,4 @@
+mod LostLaws
 mod FileLaws
 mod MapLaws
 pub mod EndLaws

@@ -29,12 +29,12 @@ use Rattle.inofile.specs.declared.inode_file.InodeFile.{InodeFile}
 use Rattle.images.specs.Contents.{HoldsVolume, content_bytes, content_of, tree_contents}
 use Rattle.images.specs.Nodes.{held}
 use Rattle.images.specs.Roots.{inode_part, tree, whole}
-use Rattle.images.specs.Soundness.{Detail}
+use Rattle.images.specs.Soundness.{Detail, IsReadable}
 use Rattle.loading.specs.Images.{AreInodesIn, IsLoadedIn, IsReadableIn, inodes_of}
 use Rattle.loading.specs.InodeBlocks.{AreInodeBlocks}
 use Rattle.loading.specs.Laws.{TreesReadAsHeld}
-use Rattle.loading.specs.Readings.{AreParts, AreUnchanged, IsBodyPath, IsMapFile, inode_bytes_of}
-use Rattle.loading.proofs.EndLaws.{starts_sound_at}
+use Rattle.loading.specs.Readings.{AreParts, AreUnchanged, IsBodyPath, IsMapFile, IsWholeBody, inode_bytes_of}
+use Rattle.inode.proofs.HeldLaws.{starts_based}
 use Rattle.loading.proofs.TreeLaws as trees
 
 -- an error that isn't `Damaged`
@@ -60,7 +60,7 @@ module _ {detail : Detail} (l : TreesReadAsHeld) (disk : Blocks) (r : Root) (are
   is_own n i fits some few is =
       let block : n / 21 ≡ 0 = omega arith in
       let place : n % 21 ≡ n = omega arith in
-      trees.own_is r.geometry are disk r.inode_file sound root l.reads l.paths l.stored l.spells l.ends n i some (omega (arith, few, are.least_inodes)) fits
+      trees.own_is r.geometry are disk r.inode_file sound root l n i some (omega (arith, few, are.least_inodes)) fits
       (ap (λ j. inode_part (inode_block disk r.inode_file j) (n % 21)) block ∙ ap (λ k. inode_part (inode_block disk r.inode_file 0) k) place ∙ is)
 
   -- the inode that is to be there
@@ -69,26 +69,33 @@ module _ {detail : Detail} (l : TreesReadAsHeld) (disk : Blocks) (r : Root) (are
       let block : 0 ≡ n / 21 = omega arith in
       let place : n ≡ n % 21 = omega arith in
       ap (λ j. inode_part (inode_block disk r.inode_file j) n) block ∙ ap (λ k. inode_part (inode_block disk r.inode_file (n / 21)) k) place
-      ∙ trees.own_spelled r.geometry are disk r.inode_file sound root l.reads l.paths l.stored l.spells l.ends n some (omega (arith, few, are.least_inodes))
+      ∙ trees.own_spelled r.geometry are disk r.inode_file sound root l n some (omega (arith, few, are.least_inodes))
 
   -- what the file of a map is to be
   pub map_paths : (n count k : ℕ) (i : Inode) → count ≡ r.geometry.blocks → tree disk r.geometry.inodes r.inode_file n ≡ held disk i → IsBodyPath count disk i.body i.size k
   map_paths n count k i same is = subst (λ c. IsBodyPath c disk i.body i.size k) (sym same)
-      (trees.paths_of r.geometry are disk r.inode_file sound root l.reads l.paths l.stored l.spells l.ends n i k is)
+      (trees.paths_of r.geometry are disk r.inode_file sound root l n i k is)
 
   pub numbers_file : (i : Inode) → tree disk r.geometry.inodes r.inode_file 1 ≡ held disk i → IsMapFile disk i
-  numbers_file i is = trees.inode_map_file r.geometry are disk r.inode_file sound root l.reads l.paths l.stored l.spells l.ends i is
+  numbers_file i is = trees.map_file r.geometry are disk r.inode_file sound root l 1 i is sound.inode_map
+
+  pub numbers_whole : (i : Inode) → tree disk r.geometry.inodes r.inode_file 1 ≡ held disk i → IsWholeBody disk i.body i.size
+  numbers_whole i is = trees.map_whole r.geometry are disk r.inode_file sound root l 1 i is sound.readable
 
   pub parts_file : (i : Inode) → tree disk r.geometry.inodes r.inode_file 2 ≡ held disk i → IsMapFile disk i
-  parts_file i is = trees.block_map_file r.geometry are disk r.inode_file sound root l.reads l.paths l.stored l.spells l.ends i is
+  parts_file i is = trees.map_file r.geometry are disk r.inode_file sound root l 2 i is sound.block_map
+
+  pub parts_whole : (i : Inode) → tree disk r.geometry.inodes r.inode_file 2 ≡ held disk i → IsReadable ((whole disk r).active 2) → IsWholeBody disk i.body i.size
+  unfolding whole
+  parts_whole i is map = trees.map_whole r.geometry are disk r.inode_file sound root l 2 i is map
 
   pub numbers_are : (i : Inode) → tree disk r.geometry.inodes r.inode_file 1 ≡ held disk i → IsInodeMap 0 r.geometry.inodes (inode_bytes_of disk i)
-  numbers_are i is = trees.is_map r.geometry are disk r.inode_file sound root l.reads l.paths l.stored l.spells l.ends i is
+  numbers_are i is = trees.is_map r.geometry are disk r.inode_file sound root l i is
 
   pub hold_volume : (v : Volume) → HoldsVolume r.geometry.inodes (tree_contents (whole disk r).active) v
       → HoldsVolume r.geometry.inodes (λ n. held_content disk (inodes_of (whole disk r).active n)) v
   unfolding whole
-  hold_volume v = trees.holds_volume r.geometry are disk r.inode_file sound root l.reads l.paths l.stored l.spells l.ends v
+  hold_volume v = trees.holds_volume r.geometry are disk r.inode_file sound root l v
 
   -- with the inode file in memory
   module _ (file : File) (blocks : (d : Blocks) (i : ℕ) → memory.file_block d file i ≡ inode_block d r.inode_file i)
@@ -98,16 +105,16 @@ module _ {detail : Detail} (l : TreesReadAsHeld) (disk : Blocks) (r : Root) (are
 
     pub reached : (count i : ℕ) → count ≡ r.geometry.blocks → IsSoundAt count disk file.tree i
     reached count i is = subst (λ c. IsSoundAt c disk file.tree i) (sym is)
-        (starts_sound_at r.geometry.blocks disk r.inode_file.body r.inode_file.size i file.tree file.tree.fits.1 starts
-        (l.paths detail r.geometry disk r.inode_file i (trees.top_sound r.geometry are disk r.inode_file sound root l.reads l.paths l.stored l.spells l.ends)))
+        (l.based detail r.geometry disk r.inode_file file.tree i (trees.top_sound r.geometry are disk r.inode_file sound root l)
+        (trees.top_readable r.geometry are disk r.inode_file sound root l) (starts_based r.inode_file file.tree starts))
 
     pub are_settled : AreSettledIn detail r.geometry.blocks disk r.geometry file (inodes_of (whole disk r).active)
     unfolding whole
-    are_settled = trees.settled r.geometry are disk r.inode_file sound root l.reads l.paths l.stored l.spells l.ends file same (λ k. reached r.geometry.blocks k refl)
+    are_settled = trees.settled r.geometry are disk r.inode_file sound root l file same (λ k. reached r.geometry.blocks k refl)
 
     pub inode_blocks : AreInodeBlocks r.geometry (memory.file_block disk file)
     inode_blocks = subst (AreInodeBlocks r.geometry) (sym same)
-        (trees.inode_blocks r.geometry are disk r.inode_file sound root l.reads l.paths l.stored l.spells l.ends)
+        (trees.inode_blocks r.geometry are disk r.inode_file sound root l)
 
     pub memory_own : (n : ℕ) → 1 ≤ n → n < 21 → inode_part (memory.file_block disk file 0) n ≡ inode_bytes (tree disk r.geometry.inodes r.inode_file n).inode
     memory_own n some few = ap (λ b. inode_part b n) (blocks disk 0) ∙ own_there n some few
@@ -139,17 +146,17 @@ module _ {detail : Detail} (l : TreesReadAsHeld) (disk : Blocks) (r : Root) (are
     unfolding whole
     inodes_loaded i bytes inodes is_i read geometry file_is numbers unchanged stands =
         let settled : AreSettledIn detail r.geometry.blocks disk r.geometry file (inodes_of (tree disk r.geometry.inodes r.inode_file)) =
-        trees.settled r.geometry are disk r.inode_file sound root l.reads l.paths l.stored l.spells l.ends file same (λ k. reached r.geometry.blocks k refl) in
+        trees.settled r.geometry are disk r.inode_file sound root l file same (λ k. reached r.geometry.blocks k refl) in
         let whole_bytes : bytes ≡ content_bytes (content_of (tree disk r.geometry.inodes r.inode_file 1)) =
-        read ∙ trees.map_bytes r.geometry are disk r.inode_file sound root l.reads l.paths l.stored l.spells l.ends i is_i in
+        read ∙ trees.map_bytes r.geometry are disk r.inode_file sound root l i is_i in
         record {
           geometry = geometry;
           settled = subst (λ f. AreSettledIn detail r.geometry.blocks disk r.geometry f (inodes_of (tree disk r.geometry.inodes r.inode_file))) (sym file_is) settled;
           numbers = numbers ∙ whole_bytes;
           unchanged = unchanged;
           volume = λ v holds. stands v settled
-              (subst (λ bs. MapsVolume bs v) (sym whole_bytes) (trees.maps_volume r.geometry are disk r.inode_file sound root l.reads l.paths l.stored l.spells l.ends v holds))
-              (trees.holds_volume r.geometry are disk r.inode_file sound root l.reads l.paths l.stored l.spells l.ends v holds);
+              (subst (λ bs. MapsVolume bs v) (sym whole_bytes) (trees.maps_volume r.geometry are disk r.inode_file sound root l v holds))
+              (trees.holds_volume r.geometry are disk r.inode_file sound root l v holds);
         }
 
     -- all of it
@@ -165,6 +172,6 @@ module _ {detail : Detail} (l : TreesReadAsHeld) (disk : Blocks) (r : Root) (are
     unfolding whole
     loaded i b bytes parts map inodes is_i is_b size read have clean items count next geometry file_is numbers unchanged stands =
         record {
-          map = trees.map_is r.geometry are disk r.inode_file sound root l.reads l.paths l.stored l.spells l.ends b map parts is_b size have clean items count next;
+          map = trees.map_is r.geometry are disk r.inode_file sound root l b map parts is_b size have clean items count next;
           inodes = inodes_loaded i bytes inodes is_i read geometry file_is numbers unchanged stands;
         }

@@ -9,14 +9,15 @@ use Rattle.buffers.proofs.ReadLaws.{reads_err}
 use Rattle.blocktree.specs.Errors.{IsFault}
 use Rattle.blocktree.specs.declared.error.ReadError.{ReadError}
 use Rattle.blocktree.specs.declared.error.ReadError.TheVariants.{Device, NoMemory}
-use Rattle.images.specs.Soundness.{Detail}
+use Rattle.images.specs.Roots.{whole}
+use Rattle.images.specs.Soundness.{Detail, IsReadable}
 use Rattle.loading.specs.Images.{IsLoadedIn, IsReadableIn}
 use Rattle.loading.specs.Loading.{LoadsUnder}
 use Rattle.loading.specs.declared.under_root.Loaded.{Loaded}
 
 -- a step before has failed
 pub not_loaded : {B U : Type 0} {G : Ghosts B} {a b : B} {r : Root} {e : ReadError} (q : Result Loaded ReadError) → IsErrAnd q (λ f. f ≡ e) → ReadsBlocks {T = U} G IsFault a b (Err e)
-    → ((detail : Detail) (disk : ℕ → List ℕ) → G.Shows a disk → IsReadableIn detail disk r → MatchResult q (λ l. IsLoadedIn detail disk r l.map l.inodes) (λ e. (e ≡ NoMemory) ⊎ (e ≡ Device)))
+    → ((detail : Detail) (disk : ℕ → List ℕ) → G.Shows a disk → IsReadableIn detail disk r → IsReadable ((whole disk r).active 2) → MatchResult q (λ l. IsLoadedIn detail disk r l.map l.inodes) (λ e. (e ≡ NoMemory) ⊎ (e ≡ Device)))
     → LoadsUnder G a b r q
 not_loaded (Ok l) is reads loads = absurd is
 not_loaded (Err f) is reads loads = record {
@@ -29,5 +30,5 @@ not_loaded (Err f) is reads loads = record {
   clean = tt;
   numbers = tt;
   inodes = λ disk shows. tt;
-  loads = λ {detail} disk shows ready. loads detail disk shows ready;
+  loads = λ {detail} disk shows ready map. loads detail disk shows ready map;
 }

@@ -1,15 +1,51 @@
 -- The snapshots of a root, slot by slot.
-use Rattle.std.proofs.Common.{◌≡◌, ◌<◌, ◌↔◌, ℕ, suc, Bool, true, false, not, eqb, Decides, refl, List, Some, sym, ap, arith, ◌∙◌}
+use Rattle.std.proofs.Common.{◌≡◌, ◌<◌, ◌≤◌, ◌-◌, ◌↔◌, ◌++◌, length, ℕ, suc, Bool, true, false, not, eqb, Decides, refl, List, Some, sym, ap, arith, ◌∙◌}
 use Rattle.std.specs.Prelude.{◌≢◌, IsTrue}
 use Rattle.std.proofs.lemmas.Bool.Decides.{nat_tests}
+use Rattle.std.proofs.lemmas.List.{length-append}
+use Rattle.layout.specs.Bytes.{little, zeros}
+use Rattle.layout.specs.Inode.{inode_bytes}
+use Rattle.layout.specs.Limits.{Sizes}
 use Rattle.layout.specs.Places.{Blocks, pointed}
 use Rattle.layout.specs.SnapRoot.{Snapshot, IsSnapshot, snapshot_bytes, snapshot_in}
 use Rattle.layout.specs.declared.pointer.Pointer.{Pointer}
 use Rattle.layout.specs.declared.pointer.Pointer.TheVariants.{Hole, Block}
 use Rattle.layout.specs.declared.root.Root.{Root}
+use Rattle.layout.proofs.InodeLaws.{length-inode}
+use Rattle.layout.proofs.NumberLaws.{length-little}
+use Rattle.layout.proofs.ZeroLaws.{length-zeros}
+use Rattle.buffers.specs.Disks.{IsWhole}
 use Rattle.images.specs.Roots.{frozen_inode_file, slot, whole}
 use Rattle.images.specs.Snapshots.{AreSnapshots, HasSnapshot}
 use Rattle.loading.specs.Snapshots.{AreOfTwoSnapshots, AreApartAt, IsSnapshotAt}
+
+-- ---- how many bytes they have
+
+pub length-snapshot : (v : Snapshot) → IsSnapshot v → length (snapshot_bytes v) ≡ 4096
+length-snapshot v is =
+    let name = v.name in
+    let pad = zeros (63 - length name) in
+    let inode = inode_bytes v.inode_file in
+    omega (
+      arith,
+      is.short,
+      length-append (little 8 v.order) ((little 1 (length name) ++ (name ++ pad)) ++ (inode ++ zeros 3832)),
+      length-little 8 v.order,
+      length-append (little 1 (length name) ++ (name ++ pad)) (inode ++ zeros 3832),
+      length-append (little 1 (length name)) (name ++ pad),
+      length-little 1 (length name),
+      length-append name pad,
+      length-zeros (63 - length name),
+      length-append inode (zeros 3832),
+      length-inode v.inode_file is.inode_file.sizes is.inode_file.fits,
+      length-zeros 3832,
+    )
+
+pub snapshot_whole : (s : Sizes) (most : ℕ) (disk : Blocks) (p : Pointer) → IsSnapshotAt s most disk p → IsWhole (pointed disk p)
+snapshot_whole s most disk Hole is = length-zeros 4096
+snapshot_whole s most disk (Block b) is = ap length is.spelled ∙ length-snapshot is.snapshot is.is
+
+-- ---- slot by slot
 
 pub at_slot : (disk : Blocks) (r : Root) (k : ℕ) (p : Pointer) → AreSnapshots r (whole disk r) → slot r (suc k) ≡ p → IsSnapshotAt r.geometry r.generation disk p
 unfolding whole

@@ -1,6 +1,6 @@
 -- A readable tree as it is read: its inode file, and the files of the maps.
 use Rattle.std.proofs.Common.{◌≡◌, ℕ, ◌+◌, ◌*◌, ◌/◌, ◌%◌, ◌<◌, ◌≤◌, List, length, refl, ap, sym, subst, ◌∙◌, arith, inl, inr}
-use Rattle.std.specs.Prelude.{◌≢◌, IsSome, Option, None}
+use Rattle.std.specs.Prelude.{◌≢◌, IsSome, Option, None, drop}
 use Rattle.std.specs.Int.{div_ceil}
 use Rattle.std.proofs.lemmas.Bool.{cases_lt}
 use Rattle.layout.specs.Bytes.{zeros}
@@ -23,7 +23,7 @@ use Rattle.inofile.specs.Volumes.{MapsVolume}
 use Rattle.images.specs.Contents.{Content, HoldsVolume, StandsAs, content_bytes, content_of, tree_contents}
 use Rattle.images.specs.Nodes.{file_block, held}
 use Rattle.images.specs.Roots.{HeldTree, free_inode, inode_bytes_at, inode_part, inode_under, tree}
-use Rattle.images.specs.Soundness.{Detail, FitsNumber, HasNoHole, IsHeldFile, IsOrdinary, IsSoundFile, MapsNumbers, SpellsInodes, by_bytes, by_sizes}
+use Rattle.images.specs.Soundness.{Detail, FitsNumber, IsHeldFile, IsOrdinary, IsReadable, MapsNumbers, SpellsInodes, by_bytes, by_sizes}
 use Rattle.images.specs.Faults.{IsMapGrammar}
 use Rattle.blockmap.specs.Maps.{settled_at, entry_at, IsTouched}
 use Rattle.blockmap.specs.Parts.{Part}
@@ -31,11 +31,12 @@ use Rattle.blockmap.specs.declared.map.BlockMap.{BlockMap}
 use Rattle.images.specs.BlockMap.{entry}
 use Rattle.images.proofs.EmptyLaws.{free_bytes, free_fits}
 use Rattle.images.proofs.KindLaws.{ordinary_kind}
+use Rattle.images.proofs.ReadableLaws.{inodes_readable}
 use Rattle.loading.specs.Images.{IsMapOf, inodes_of, IsTreeIn}
 use Rattle.loading.specs.InodeBlocks.{AreInodeBlocks, HasKindOfPlace, IsInodeAt, IsInodeBlock}
-use Rattle.loading.specs.Laws.{AreMapFiles, EndTrees, HaveSoundPaths, ReadAsHeld, SpellTrees}
+use Rattle.loading.specs.Laws.{TreesReadAsHeld}
 use Rattle.loading.proofs.MapLaws.{entries_are, past_end, same_entries}
-use Rattle.loading.specs.Readings.{AreParts, AreUnchanged, IsBodyPath, IsMapFile, inode_bytes_of}
+use Rattle.loading.specs.Readings.{AreParts, AreUnchanged, IsBodyPath, IsMapFile, IsWholeBody, inode_bytes_of}
 
 -- ---- free inodes
 
@@ -86,6 +87,7 @@ pub record IsTree (detail : Detail) (s : Sizes) (t : HeldTree) : Type 0 where
   pub numbers : MapsNumbers t
   pub inode_map : IsMapGrammar (t 1)
   pub block_map : IsMapGrammar (t 2)
+  pub readable : IsReadable (t 1)
 
 pub tree_in : (detail : Detail) (s : Sizes) (t : HeldTree) → IsTreeIn detail s t → IsTree detail s t
 tree_in by_bytes s t sound = record {
@@ -93,21 +95,22 @@ tree_in by_bytes s t sound = record {
   kinds = sound.kinds;
   inodes = sound.inodes;
   numbers = sound.numbers;
-  inode_map = record { stored = sound.inode_map; ends = (sound.files 1).ends };
-  block_map = record { stored = sound.block_map; ends = (sound.files 2).ends };
+  inode_map = record { stored = sound.inode_map; last = (sound.files 1).bytes.readable ((t 1).inode.size / 4096); ends = (sound.files 1).bytes.ends };
+  block_map = record { stored = sound.block_map; last = (sound.files 2).bytes.readable ((t 2).inode.size / 4096); ends = (sound.files 2).bytes.ends };
+  readable = (sound.files 1).bytes.readable;
 }
 tree_in by_sizes s t (grammar, numbers) = record {
-  files = λ n. record { inode = (grammar.files n).inode; indirect = (grammar.files n).indirect; ends = tt };
+  files = grammar.files;
   kinds = grammar.kinds;
   inodes = grammar.inodes;
   numbers = numbers;
   inode_map = grammar.inode_map;
   block_map = grammar.block_map;
+  readable = grammar.readable;
 }
 
 module _ {detail : Detail} (s : Sizes) (are : AreSizes s) (disk : Blocks) (top : Inode) (sound : IsTree detail s (tree disk s.inodes top))
-    (root : (tree disk s.inodes top 3).inode.kind ≡ kinds.Directory) (reads : ReadAsHeld) (paths : HaveSoundPaths) (stored : AreMapFiles)
-    (spells : SpellTrees) (ends : EndTrees) where
+    (root : (tree disk s.inodes top 3).inode.kind ≡ kinds.Directory) (l : TreesReadAsHeld) where
   first_is : tree disk s.inodes top 0 ≡ held disk top
   unfolding tree inode_under held
   first_is = refl
@@ -116,7 +119,11 @@ module _ {detail : Detail} (s : Sizes) (are : AreSizes s) (disk : Blocks) (top :
   top_sound = subst (IsHeldFile detail s) first_is (sound.files 0)
 
   pub top_reads : inode_block disk top ≡ file_block (held disk top)
-  top_reads = reads detail s disk top top_sound
+  top_reads = l.reads detail s disk top top_sound
+
+  pub top_readable : IsReadable (held disk top)
+  unfolding held
+  top_readable = inodes_readable s disk top top.body refl top_sound.inode.body (subst (λ h. (i : ℕ) → drop 4032 (file_block h i) ≡ zeros 64) first_is sound.inodes.behind)
 
   -- ---- the inode file
 
@@ -174,7 +181,7 @@ module _ {detail : Detail} (s : Sizes) (are : AreSizes s) (disk : Blocks) (top :
 
   pub own_is : (n : ℕ) (i : Inode) → 1 ≤ n → n < s.inodes → IsInode VERSION s i → inode_bytes_at (inode_block disk top) n ≡ inode_bytes i
       → tree disk s.inodes top n ≡ held disk i
-  own_is n i some lt fits is = spells s disk top i n are some lt fits (ap (λ block. inode_bytes_at block n) (sym top_reads) ∙ is)
+  own_is n i some lt fits is = l.spells s disk top i n are some lt fits (ap (λ block. inode_bytes_at block n) (sym top_reads) ∙ is)
 
   -- ---- all inodes by number
 
@@ -184,7 +191,7 @@ module _ {detail : Detail} (s : Sizes) (are : AreSizes s) (disk : Blocks) (top :
 
   free_behind : (n : ℕ) → s.inodes ≤ n → (tree disk s.inodes top n).inode ≡ free_inode
   unfolding held
-  free_behind n past = ap (λ h. h.inode) (ends disk s.inodes top n (omega (arith, are.least_inodes)) past)
+  free_behind n past = ap (λ h. h.inode) (l.ends disk s.inodes top n (omega (arith, are.least_inodes)) past)
 
   pub settled : (file : File) → memory.file_block disk file ≡ inode_block disk top → ((i : ℕ) → IsSoundAt s.blocks disk file.tree i)
       → AreSettledIn detail s.blocks disk s file (inodes_of (tree disk s.inodes top))
@@ -224,23 +231,16 @@ module _ {detail : Detail} (s : Sizes) (are : AreSizes s) (disk : Blocks) (top :
   pub own_sound : (n : ℕ) (i : Inode) → tree disk s.inodes top n ≡ held disk i → IsHeldFile detail s (held disk i)
   own_sound n i is = subst (IsHeldFile detail s) is (sound.files n)
 
-  map_sound : (n : ℕ) (i : Inode) → tree disk s.inodes top n ≡ held disk i → IsMapGrammar (tree disk s.inodes top n) → IsSoundFile s (held disk i)
-  map_sound n i is map = record {
-    inode = (own_sound n i is).inode;
-    indirect = (own_sound n i is).indirect;
-    ends = (subst IsMapGrammar is map).ends;
-  }
+  pub map_file : (n : ℕ) (i : Inode) → tree disk s.inodes top n ≡ held disk i → IsMapGrammar (tree disk s.inodes top n) → IsMapFile disk i
+  map_file n i is map = l.stored detail s disk i (own_sound n i is) (subst IsMapGrammar is map)
 
-  pub inode_map_file : (i : Inode) → tree disk s.inodes top 1 ≡ held disk i → IsMapFile disk i
-  inode_map_file i is = stored s disk i (map_sound 1 i is sound.inode_map) (subst HasNoHole is sound.inode_map.stored)
-
-  pub block_map_file : (i : Inode) → tree disk s.inodes top 2 ≡ held disk i → IsMapFile disk i
-  block_map_file i is = stored s disk i (map_sound 2 i is sound.block_map) (subst HasNoHole is sound.block_map.stored)
+  pub map_whole : (n : ℕ) (i : Inode) → tree disk s.inodes top n ≡ held disk i → IsReadable (tree disk s.inodes top n) → IsWholeBody disk i.body i.size
+  map_whole n i is readable = (l.whole detail s disk i (own_sound n i is)).0 (subst IsReadable is readable)
 
   pub map_bytes : (i : Inode) → tree disk s.inodes top 1 ≡ held disk i → inode_bytes_of disk i ≡ content_bytes (content_of (tree disk s.inodes top 1))
   unfolding held
   map_bytes i is =
-      ap (λ block. first_bytes (byte_in block) i.size) (reads detail s disk i (own_sound 1 i is))
+      ap (λ block. first_bytes (byte_in block) i.size) (l.reads detail s disk i (own_sound 1 i is))
       ∙ ap (λ h. content_bytes (content_of h)) (sym is)
 
   free_kind : (n : ℕ) → s.inodes ≤ n → (tree disk s.inodes top n).inode.kind ≡ kinds.Free
@@ -261,12 +261,12 @@ module _ {detail : Detail} (s : Sizes) (are : AreSizes s) (disk : Blocks) (top :
   -- ---- what is loaded
 
   pub paths_of : (n : ℕ) (i : Inode) (k : ℕ) → tree disk s.inodes top n ≡ held disk i → IsBodyPath s.blocks disk i.body i.size k
-  paths_of n i k is = paths detail s disk i k (own_sound n i is)
+  paths_of n i k is = l.paths detail s disk i k (own_sound n i is)
 
   entry_is : (i : Inode) (b : ℕ) → tree disk s.inodes top 2 ≡ held disk i
       → map_entry (inode_block disk i (b / 1024)) (b % 1024) ≡ entry (tree disk s.inodes top) b
   unfolding entry
-  entry_is i b is = ap (λ block. map_entry (block (b / 1024)) (b % 1024)) (reads detail s disk i (own_sound 2 i is) ∙ ap file_block (sym is))
+  entry_is i b is = ap (λ block. map_entry (block (b / 1024)) (b % 1024)) (l.reads detail s disk i (own_sound 2 i is) ∙ ap file_block (sym is))
 
   past_map : (i : Inode) (j : ℕ) → i.size ≡ 4 * s.blocks → div_ceil s.blocks 1024 ≤ j → inode_block disk i j ≡ zeros 4096
   past_map i j size past = past_end disk i.body i.size j (omega (arith, are.least_blocks, past)) (omega (arith, size, past))

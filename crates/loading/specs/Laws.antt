@@ -1,15 +1,19 @@
 -- Statements of laws: what is read of files and trees in their grammar is what images mean.
-use Rattle.std.specs.Prelude.{ℕ, ◌≡◌, ◌<◌, ◌≤◌}
+use Rattle.std.specs.Prelude.{ℕ, ◌≡◌, ◌↔◌, ◌<◌, ◌≤◌}
 use Rattle.layout.specs.Inode.{IsInode, inode_bytes}
 use Rattle.layout.specs.Limits.{Sizes, AreSizes}
 use Rattle.layout.specs.Places.{Blocks}
 use Rattle.layout.specs.declared.inode.Inode.{Inode}
 use Rattle.layout.specs.declared.version.TheConstants.{VERSION}
+use Rattle.blocktree.specs.Trees.{IsSoundAt}
+use Rattle.blocktree.specs.declared.tree.BlockTree.{BlockTree}
+use Rattle.inode.specs.Bases.{IsBased}
 use Rattle.inode.specs.Bodies.{inode_block}
+use Rattle.images.specs.Faults.{IsMapGrammar}
 use Rattle.images.specs.Nodes.{file_block, held}
 use Rattle.images.specs.Roots.{free_inode, inode_bytes_at, tree}
-use Rattle.images.specs.Soundness.{Detail, HasNoHole, IsSoundFile, IsHeldFile}
-use Rattle.loading.specs.Readings.{IsBodyPath, IsMapFile}
+use Rattle.images.specs.Soundness.{Detail, IsReadable, IsHeldFile}
+use Rattle.loading.specs.Readings.{IsBodyPath, IsMapFile, IsWholeBody}
 
 -- a file in its grammar reads as it is held
 abbrev pub ReadAsHeld : Type 0
@@ -21,10 +25,20 @@ abbrev pub HaveSoundPaths : Type 0
 HaveSoundPaths = (detail : Detail) (s : Sizes) (disk : Blocks) (f : Inode) (i : ℕ) → IsHeldFile detail s (held disk f)
     → IsBodyPath s.blocks disk f.body f.size i
 
--- where it has no hole, all its blocks are stored
+-- where its blocks can be read, so can those of a tree that is based on it
+abbrev pub AreBasedSound : Type 0
+AreBasedSound = (detail : Detail) (s : Sizes) (disk : Blocks) (f : Inode) (t : BlockTree) (k : ℕ) → IsHeldFile detail s (held disk f)
+    → IsReadable (held disk f) → IsBased f t → IsSoundAt s.blocks disk t k
+
+-- and so can its blocks as they are read
+abbrev pub HaveWholeBodies : Type 0
+HaveWholeBodies = (detail : Detail) (s : Sizes) (disk : Blocks) (f : Inode) → IsHeldFile detail s (held disk f)
+    → IsReadable (held disk f) ↔ IsWholeBody disk f.body f.size
+
+-- of a map in its grammar all blocks are stored
 abbrev pub AreMapFiles : Type 0
-AreMapFiles = (s : Sizes) (disk : Blocks) (f : Inode) → IsSoundFile s (held disk f) → HasNoHole (held disk f)
-    → IsMapFile disk f
+AreMapFiles = (detail : Detail) (s : Sizes) (disk : Blocks) (f : Inode) → IsHeldFile detail s (held disk f)
+    → IsMapGrammar (held disk f) → IsMapFile disk f
 
 -- a tree has the inodes that the inode file's bytes spell
 abbrev pub SpellTrees : Type 0
@@ -42,6 +56,8 @@ EndTrees = (disk : Blocks) (inodes : ℕ) (top : Inode) (n : ℕ) → 1 ≤ n �
 pub record TreesReadAsHeld : Type 0 where
   pub reads : ReadAsHeld
   pub paths : HaveSoundPaths
+  pub based : AreBasedSound
+  pub whole : HaveWholeBodies
   pub stored : AreMapFiles
   pub spells : SpellTrees
   pub ends : EndTrees

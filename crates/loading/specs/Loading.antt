@@ -9,7 +9,8 @@ use Rattle.buffers.specs.declared.blocks.Blocks.{Ghosts}
 use Rattle.blocktree.specs.Errors.{IsFault}
 use Rattle.blocktree.specs.declared.error.ReadError.{ReadError}
 use Rattle.blocktree.specs.declared.error.ReadError.TheVariants.{Device, NoMemory}
-use Rattle.images.specs.Soundness.{Detail}
+use Rattle.images.specs.Roots.{whole}
+use Rattle.images.specs.Soundness.{Detail, IsReadable}
 use Rattle.inode.specs.Files.{file_block}
 use Rattle.inofile.specs.Inodes.{HasNoChange}
 use Rattle.loading.specs.Images.{IsLoadedIn, IsReadableIn}
@@ -17,8 +18,8 @@ use Rattle.loading.specs.InodeBlocks.{AreInodeBlocks}
 use Rattle.loading.specs.Readings.{AreUnchanged}
 use Rattle.loading.specs.declared.under_root.Loaded.{Loaded}
 
--- The block map and the inodes of an image are read. They fit the root's sizes, and where the root's tree is in its grammar, they are
--- what the tree has, and it fails only for want of memory and where a device call failed.
+-- The block map and the inodes of an image are read. They fit the root's sizes, and where the root's tree is in its grammar, and its
+-- block map can be read, they are what the tree has, and it fails only for want of memory and where a device call failed.
 pub record LoadsUnder {B : Type 0} (G : Ghosts B) (old after : B) (root : Root) (result : Result Loaded ReadError) : Type 0 where
   pub reads : ReadsBlocks G IsFault old after result
   pub blocks : IfOk result (λ l. l.map.count ≡ root.geometry.blocks)
@@ -30,4 +31,4 @@ pub record LoadsUnder {B : Type 0} (G : Ghosts B) (old after : B) (root : Root) 
   pub numbers : IfOk result (λ l. IsInodeMap 0 root.geometry.inodes l.inodes.numbers.bytes.items)
   pub inodes : (disk : ℕ → List ℕ) → G.Shows old disk → IfOk result (λ l. AreInodeBlocks root.geometry (file_block disk l.inodes.file))
   pub loads : {detail : Detail} (disk : ℕ → List ℕ) → G.Shows old disk → IsReadableIn detail disk root
-      → MatchResult result (λ l. IsLoadedIn detail disk root l.map l.inodes) (λ e. (e ≡ NoMemory) ⊎ (e ≡ Device))
+      → IsReadable ((whole disk root).active 2) → MatchResult result (λ l. IsLoadedIn detail disk root l.map l.inodes) (λ e. (e ≡ NoMemory) ⊎ (e ≡ Device))

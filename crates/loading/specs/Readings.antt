@@ -1,11 +1,13 @@
 -- What is read of the two maps, block by block of their files.
-use Rattle.std.specs.Prelude.{ℕ, ◌≡◌, ◌≢◌, ◌<◌, List, length, slice_index_or}
+use Rattle.std.specs.Prelude.{ℕ, ◌≡◌, ◌≢◌, ◌/◌, ◌<◌, List, length, slice_index_or}
 use Rattle.layout.specs.FileBytes.{byte_in, first_bytes, EndsAt}
-use Rattle.layout.specs.Places.{Blocks, place}
+use Rattle.layout.specs.Places.{Blocks, place, pointed}
+use Rattle.layout.specs.declared.TheConstants.{BLOCK_BYTES}
 use Rattle.layout.specs.declared.inode.Body.{Body}
 use Rattle.layout.specs.declared.inode.Body.TheVariants.{Inline, Pointers}
 use Rattle.layout.specs.declared.inode.Inode.{Inode}
 use Rattle.layout.specs.declared.pointer.Pointer.TheVariants.{Hole}
+use Rattle.buffers.specs.Disks.{IsWhole}
 use Rattle.blocktree.specs.Places.{block_count, depth_of, IsPath}
 use Rattle.blocktree.specs.declared.tree.BlockTree.{BlockTree}
 use Rattle.inode.specs.Bodies.{inode_block}
@@ -24,6 +26,16 @@ IsStored disk (Inline bytes) size = Unit {0}
 IsStored disk (Pointers pointers) size =
     (i : ℕ) → i < block_count size → place disk pointers (depth_of size) i ≢ Hole
 
+-- block i of a file with this body and size can be read
+abbrev pub IsWholeAt : Blocks → Body → ℕ → ℕ → Type 0
+IsWholeAt disk (Inline bytes) size i = Unit {0}
+IsWholeAt disk (Pointers pointers) size i =
+    i < block_count size → IsWhole (pointed disk (place disk pointers (depth_of size) i))
+
+-- each can
+abbrev pub IsWholeBody : Blocks → Body → ℕ → Type 0
+IsWholeBody disk body size = (i : ℕ) → IsWholeAt disk body size i
+
 -- all settled blocks of a tree are stored
 abbrev pub HasAllPlaces : Blocks → BlockTree → Type 0
 HasAllPlaces disk t = (i : ℕ) → i < t.count → place disk t.pointers t.depth i ≢ Hole
@@ -36,9 +48,10 @@ inode_byte disk inode = byte_in (inode_block disk inode)
 abbrev pub inode_bytes_of : Blocks → Inode → List ℕ
 inode_bytes_of disk inode = first_bytes (inode_byte disk inode) inode.size
 
--- the file of a map: all its blocks are stored, and zeros stand past its end
+-- the file of a map: all its blocks are stored, and zeros stand past its end, in a block that can be read
 pub record IsMapFile (disk : Blocks) (inode : Inode) : Type 0 where
   pub stored : IsStored disk inode.body inode.size
+  pub last : IsWholeAt disk inode.body inode.size (inode.size / BLOCK_BYTES)
   pub ends : EndsAt inode.size (inode_byte disk inode)
 
 -- of a map no entry is changed

@@ -15,10 +15,10 @@ ghost use Rattle.images.specs.States.{Holds};
 ghost use Rattle.inode.specs.declared.file.File.{File};
 ghost use Rattle.inofile.specs.Settled.{AreSettled, held_content};
 ghost use Rattle.loading.specs.Images.{IsFileOfInode, IsReadable, inodes_of};
-ghost use Rattle.loading.specs.Laws.{AreMapFiles, HaveSoundPaths, ReadAsHeld, TreesReadAsHeld};
+ghost use Rattle.loading.specs.Laws.{AreMapFiles, HaveSoundPaths, HaveWholeBodies, ReadAsHeld, TreesReadAsHeld};
 
 use images::inodes_are_what_their_bytes_spell;
-use inode::{nodes_are_where_pointers_lead, settled_files_are_as_held};
+use inode::{based_trees_are_sound, nodes_are_where_pointers_lead, settled_files_are_as_held};
 
 /// A file in its grammar reads as it is held. It does nothing.
 pub fn sound_files_read_as_held()
@@ -34,7 +34,14 @@ pub fn sound_files_have_sound_paths()
     nodes_are_where_pointers_lead();
 }
 
-/// Of a file in its grammar that has no hole all blocks are stored, and zeros stand past its end. It does nothing.
+/// The blocks of a file in its grammar can be read where the stored ones on the disk can. It does nothing.
+pub fn readable_files_are_whole()
+    ensures { HaveWholeBodies }
+{
+    nodes_are_where_pointers_lead();
+}
+
+/// Of a map's file in its grammar all blocks are stored, and zeros stand past its end. It does nothing.
 pub fn files_without_holes_are_stored()
     ensures { AreMapFiles }
 {
@@ -82,6 +89,8 @@ pub(crate) fn trees_read_as_held()
 {
     sound_files_read_as_held();
     sound_files_have_sound_paths();
+    readable_files_are_whole();
     files_without_holes_are_stored();
     inodes_are_what_their_bytes_spell();
+    based_trees_are_sound();
 }

@@ -13,8 +13,9 @@ mod under_root;
 pub use error::RootError;
 pub use inodes::{inode_at, is_zero_from, own_inode};
 pub use laws::{
-    files_without_holes_are_stored, readable_inodes_are_settled, snapshots_are_readable,
-    sound_files_have_sound_paths, sound_files_read_as_held, volumes_are_readable,
+    files_without_holes_are_stored, readable_files_are_whole, readable_inodes_are_settled,
+    snapshots_are_readable, sound_files_have_sound_paths, sound_files_read_as_held,
+    volumes_are_readable,
 };
 pub use maps::{load_numbers, map_file};
 pub use slots::{Newest, newest_root};

@@ -13,10 +13,12 @@ ghost use Rattle.layout.specs.declared.version.TheConstants.{VERSION};
 ghost use Rattle.buffers.specs.Reads.{ReadsBlocks};
 ghost use Rattle.blocktree.specs.Errors.{IsFault};
 ghost use Rattle.blocktree.specs.PlaceMaps.{place_at};
+ghost use Rattle.blocktree.specs.Places.{block_count};
 ghost use Rattle.blocktree.specs.Trees.{AreSound, IsSoundAt};
+ghost use Rattle.inode.specs.Bases.{StartsFrom, StartsUnchanged};
 ghost use Rattle.inode.specs.Bodies.{inode_block};
 ghost use Rattle.inode.specs.Files.{byte_at, bytes_of_file, file_block};
-ghost use Rattle.loading.specs.Readings.{AreParts, AreUnchanged, HasAllPlaces, IsBodyPath, IsMapFile, inode_bytes_of};
+ghost use Rattle.loading.specs.Readings.{AreParts, AreUnchanged, HasAllPlaces, IsBodyPath, IsMapFile, IsWholeBody, inode_bytes_of};
 
 use crate::inodes::is_zero_from;
 use blockmap::MapPart;
@@ -40,12 +42,14 @@ pub fn load_numbers<B: Blocks>(
     ensures map { IfOk result (λ v. IsInodeMap 0 geometry.inodes v.items) }
     ensures file { (disk : ℕ → List ℕ) → B.Shows blocks.old disk
         → OnOk result (IsMapFile disk inode) }
+    ensures whole { (disk : ℕ → List ℕ) → B.Shows blocks.old disk
+        → OnOk result (IsWholeBody disk inode.body inode.size) }
     ensures bytes { (disk : ℕ → List ℕ) → B.Shows blocks.old disk
         → IfOk result (λ v. v.items ≡ inode_bytes_of disk inode) }
     ensures damaged { (disk : ℕ → List ℕ) → B.Shows blocks.old disk
         → IsErrOf result ReadError.Damaged
         → ((i : ℕ) → IsBodyPath (B.count blocks.old) disk inode.body inode.size i)
-        → IsMapFile disk inode
+        → IsWholeBody disk inode.body inode.size → IsMapFile disk inode
         → IsInodeMap 0 geometry.inodes (inode_bytes_of disk inode) → ⊥ }
 {
     let inodes = geometry.inodes();
@@ -64,6 +68,8 @@ fn read_all<B: Blocks>(alloc: Global, blocks: &mut B, file: &File) -> Result<Vec
     ensures size { IfOk result (λ v. vec_len v ≡ file.now.size) }
     ensures bytes { (disk : ℕ → List ℕ) → B.Shows blocks.old disk
         → IfOk result (λ v. v.items ≡ bytes_of_file disk file.now) }
+    ensures sound { (disk : ℕ → List ℕ) → B.Shows blocks.old disk → OnOk result ((i : ℕ)
+        → i < block_count file.now.size → IsSoundAt (B.count blocks.old) disk file.now.tree i) }
     ensures damaged { (disk : ℕ → List ℕ) → B.Shows blocks.old disk
         → IsErrOf result ReadError.Damaged
         → ((i : ℕ) → IsSoundAt (B.count blocks.old) disk file.now.tree i) → ⊥ }
@@ -94,7 +100,7 @@ pub(crate) fn load_parts<B: Blocks>(
     ensures damaged { (disk : ℕ → List ℕ) → B.Shows blocks.old disk
         → IsErrOf result ReadError.Damaged
         → ((i : ℕ) → IsBodyPath (B.count blocks.old) disk inode.body inode.size i)
-        → IsMapFile disk inode → ⊥ }
+        → IsWholeBody disk inode.body inode.size → IsMapFile disk inode → ⊥ }
 {
     let file = map_file(alloc, blocks, inode)?;
     let mut parts = Vec::new(alloc);
@@ -106,15 +112,15 @@ pub(crate) fn load_parts<B: Blocks>(
     Ok(parts)
 }
 
-/// The file of a map: all of its blocks are stored, and zeros stand past its end.
+/// The file of a map: all of its blocks are stored, and zeros stand past its end. Of its blocks only the last one is read.
 pub fn map_file<B: Blocks>(alloc: Global, blocks: &mut B, inode: Inode) -> Result<File, ReadError>
     requires { inode.size ≤ greatest_size 1 }
     ensures reads { ReadsBlocks B.Blocks IsFault blocks.old blocks.new result }
     ensures size { IfOk result (λ f. f.size ≡ inode.size) }
     ensures blocks { IfOk result (λ f. (disk : ℕ → List ℕ) (i : ℕ)
         → file_block disk f i ≡ inode_block disk inode i) }
-    ensures sound { IfOk result (λ f. (disk : ℕ → List ℕ) (count i : ℕ)
-        → IsBodyPath count disk inode.body inode.size i → IsSoundAt count disk f.tree i) }
+    ensures starts { IfOk result (λ f. StartsFrom inode.body inode.size f.tree) }
+    ensures unchanged { IfOk result (λ f. StartsUnchanged inode.body f.tree) }
     ensures file { (disk : ℕ → List ℕ) → B.Shows blocks.old disk
         → OnOk result (IsMapFile disk inode) }
     ensures damaged { (disk : ℕ → List ℕ) → B.Shows blocks.old disk
@@ -167,9 +173,11 @@ fn check_end<B: Blocks>(blocks: &mut B, file: &File) -> Result<(), ReadError>
     ensures ends { (disk : ℕ → List ℕ) → B.Shows blocks.old disk
         → OnOk result ((p : ℕ) → file.now.size ≤ p → p / 4096 ≡ file.now.size / 4096
         → byte_at disk file.now p ≡ 0) }
+    ensures sound { (disk : ℕ → List ℕ) → B.Shows blocks.old disk
+        → OnOk result (IsSoundAt (B.count blocks.old) disk file.now.tree (file.now.size / 4096)) }
     ensures damaged { (disk : ℕ → List ℕ) → B.Shows blocks.old disk
         → IsErrOf result ReadError.Damaged
-        → ((i : ℕ) → IsSoundAt (B.count blocks.old) disk file.now.tree i)
+        → IsSoundAt (B.count blocks.old) disk file.now.tree (file.now.size / 4096)
         → EndsAt file.now.size (byte_at disk file.now) → ⊥ }
 {
     let size = file.size();

@@ -2,10 +2,12 @@
 
 ghost use Rattle.std.specs.Prelude.{◌≡◌, ◌↔◌, ◌≤◌, ◌<◌, ℕ, All, List, IfOk, IsErrOf, IsTrue, OnOk, slice_index_or};
 ghost use Rattle.layout.specs.Inode.{IsInode};
+ghost use Rattle.layout.specs.Places.{pointed};
 ghost use Rattle.layout.specs.Pointer.{PointsBelow};
 ghost use Rattle.layout.specs.Root.{IsRoot};
 ghost use Rattle.layout.specs.declared.version.TheConstants.{SNAPSHOT_SLOTS, VERSION};
 ghost use Rattle.layout.specs.declared.pointer.Pointer.TheVariants.{Hole};
+ghost use Rattle.buffers.specs.Disks.{IsWhole};
 ghost use Rattle.buffers.specs.Reads.{ReadsBlocks};
 ghost use Rattle.blocktree.specs.Errors.{IsFault};
 ghost use Rattle.images.specs.Roots.{whole};
@@ -54,8 +56,9 @@ fn check_apart<B: Blocks>(
         → AreApartAt disk (slice_index_or snapshots.now l Hole)
         (slice_index_or snapshots.now k Hole)) }
     ensures damaged { (disk : ℕ → List ℕ) → B.Shows blocks.old disk
-        → IsErrOf result ReadError.Damaged → ((l : ℕ) → l < k
-        → AreApartAt disk (slice_index_or snapshots.now l Hole)
+        → IsErrOf result ReadError.Damaged
+        → ((l : ℕ) → l ≤ k → IsWhole (pointed disk (slice_index_or snapshots.now l Hole)))
+        → ((l : ℕ) → l < k → AreApartAt disk (slice_index_or snapshots.now l Hole)
         (slice_index_or snapshots.now k Hole)) → ⊥ }
 {
     for earlier in 0..k {
@@ -74,7 +77,9 @@ pub fn are_apart<B: Blocks>(blocks: &mut B, a: Pointer, b: Pointer) -> Result<bo
     ensures reads { ReadsBlocks B.Blocks IsFault blocks.old blocks.new result }
     ensures apart { (disk : ℕ → List ℕ) → B.Shows blocks.old disk
         → IfOk result (λ apart. IsTrue apart ↔ AreApartAt disk a b) }
-    ensures undamaged { IsErrOf result ReadError.Damaged → ⊥ }
+    ensures damaged { (disk : ℕ → List ℕ) → B.Shows blocks.old disk
+        → IsErrOf result ReadError.Damaged
+        → IsWhole (pointed disk a) → IsWhole (pointed disk b) → ⊥ }
 {
     let Pointer::Block(a) = a else {
         return Ok(true);

@@ -30,9 +30,9 @@ pub struct Loaded {
 }
 
 /// Reads the inode file, the inode map and the block map under a root, and tests them. Where the root's tree is in its
-/// grammar, what is loaded is what the tree has, and Err comes only for want of memory and where a device call failed.
-/// `Damaged` comes where an inode, a map's bytes or an indirect block over these isn't in its grammar, where the inodes
-/// don't have the kinds of their numbers, and where a map has a hole or bytes past its end.
+/// grammar and its block map can be read, what is loaded is what the tree has, and Err comes only for want of memory and where
+/// a device call failed. `Damaged` comes where an inode, a map's bytes or an indirect block over these isn't in its grammar or
+/// can't be read, where the inodes don't have the kinds of their numbers, and where a map has a hole or bytes past its end.
 pub fn load<B: Blocks>(alloc: Global, blocks: &mut B, root: &Root) -> Result<Loaded, ReadError>
     requires root { IsRoot root.now }
     requires size { B.count blocks.old ≡ root.now.geometry.blocks }

@@ -9,6 +9,7 @@ use Rattle.std.specs.Prelude.{Err, IsErrOf, Ok, Result}
 use Rattle.std.specs.Int.{bit_at}
 use Rattle.layout.specs.Inode.{FitsKind}
 use Rattle.layout.specs.Limits.{Sizes}
+use Rattle.layout.specs.Places.{Blocks}
 use Rattle.layout.specs.declared.inode.Inode.{Inode}
 use Rattle.blocktree.specs.declared.tree.BlockTree.{BlockTree}
 use Rattle.blockmap.specs.Maps.{entry_at}
@@ -29,7 +30,7 @@ use Rattle.inode.specs.declared.object.Attributes.{Attributes}
 use Rattle.inode.specs.declared.object.Object.{Object}
 use Rattle.layout.specs.declared.kind.Kind.{Kind}
 use Rattle.placement.specs.Files.{IsBasedOn, IsChangeOf, IsPlaced, is_one, none}
-use Rattle.making.specs.Plans.{HasFile}
+use Rattle.making.specs.Plans.{HasFileOn}
 use Rattle.making.specs.Starts.{nothing}
 use Rattle.std.specs.Result.{IsErrAnd}
 use Rattle.buffers.specs.declared.blocks.Blocks.{Ghosts}
@@ -82,20 +83,20 @@ marked_in taken old new came b = (
     same isnt = ap (λ x. bit_at x 0) (came.stay b (λ at. true_false (one_of taken b at) isnt))
 
 -- a file that was placed over nothing, and marked
-pub has_file : (s : Sizes) (old mid new : Draft) (f : Inode) (taken : List ℕ) (freed : ℕ → Bool) → ((b : ℕ) → Names (held nothing free_inode) b → ⊥)
+pub has_file : (IsOne : Blocks → Type 0) (s : Sizes) (old mid new : Draft) (f : Inode) (taken : List ℕ) (freed : ℕ → Bool) → ((b : ℕ) → Names (held nothing free_inode) b → ⊥)
     → Grows mid new → new.map.next ≡ mid.map.next → mid.map.parts.items ≡ old.map.parts.items
     → AreMarked taken (length taken) true mid.map.parts.items new.map.parts.items
     → ((b : ℕ) → is_one taken b ≡ true → WasTaken old mid b)
-    → OnEach mid (λ e. Agrees (Names (held nothing free_inode)) nothing e → IsPlaced s e (held nothing free_inode) f (is_one taken) freed)
-    → HasFile s old new f
-has_file s old mid new f taken freed none_named grows next parts came given placed = record {
+    → OnEach mid (λ e. Agrees (Names (held nothing free_inode)) nothing e → IsOne e → IsPlaced s e (held nothing free_inode) f (is_one taken) freed)
+    → HasFileOn IsOne s old new f
+has_file IsOne s old mid new f taken freed none_named grows next parts came given placed = record {
   taken = is_one taken;
   given = λ b is. let was = given b is in record { from = was.from; to = omega (arith, was.to, next); within = was.within; free = was.free };
   active = λ b. subst (λ (ps : List Part). HasBit 0 (entry_at new.map.parts.items b) ↔ (HasBit 0 (entry_at ps b) ⊎ (is_one taken b ≡ true))) parts
       (marked_in taken mid.map.parts.items new.map.parts.items came b);
   others = λ b i other. came.others b i other ∙ ap (λ (ps : List Part). bit_at (entry_at ps b) i) parts;
-  stands = λ e has.
-      let p = placed e (grows.has e has) (λ b names. absurd (none_named b names)) in
+  stands = λ e has one.
+      let p = placed e (grows.has e has) (λ b names. absurd (none_named b names)) one in
       record {
         named = λ b. (λ names. elim (p.moves names.height names.index b names.is) [ inl was ↦ absurd (none_named b (record { height = names.height; index = names.index; is = was })) | inr is ↦ is ], p.named b);
         once = p.once;

@@ -80,7 +80,10 @@ unfolding held
 no_map_sound s are = record {
   inode = no_map_fits s are;
   indirect = λ m i b is. absurd (no_name s b (record { height = suc m; index = i; is = is }));
-  ends = λ p past. ap (λ (x : List ℕ). slice_index x (p % 4096)) (empty_block s (p / 4096)) ∙ zero_byte (p % 4096) 4096;
+  bytes = record {
+    readable = λ i b is. absurd (no_name s b (record { height = 0; index = i; is = is }));
+    ends = λ p past. ap (λ (x : List ℕ). slice_index x (p % 4096)) (empty_block s (p / 4096)) ∙ zero_byte (p % 4096) 4096;
+  };
 }
 
 pub system_past : (b : ℕ) → 2 ≤ b → system_entry b ≡ 0
@@ -128,7 +131,7 @@ module _ (s : Sizes) (old new : Draft) (nodes : List Pointer) (f : Inode) (are :
       λ either. (plan.active b).1 (elim either [ inl was ↦ inl (was, kept b) | inr is ↦ inr is ]),
     );
     others = plan.others;
-    stands = λ e has.
+    stands = λ e has one.
         let m = on e has in
         record {
           named = λ b. (λ names. elim (m.moves names.height names.index b names.is) [ inl was ↦ absurd (no_name s b (record { height = names.height; index = names.index; is = was })) | inr is ↦ is ], m.named b);

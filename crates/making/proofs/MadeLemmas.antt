@@ -1,5 +1,5 @@
 -- A new image opens to an empty state.
-use Rattle.std.proofs.Common.{◌≡◌, inl, inr, ℕ, ◌+◌, ◌*◌, ◌<◌, ◌≤◌, List, [], ◌∷◌, length, refl, ap, sym, ◌∙◌, subst, arith}
+use Rattle.std.proofs.Common.{◌≡◌, inl, inr, ℕ, ◌*◌, ◌<◌, ◌≤◌, List, [], ◌∷◌, length, refl, ap, sym, ◌∙◌, subst, arith}
 use Rattle.std.specs.Prelude.{All, replicate, slice_index}
 use Rattle.station.specs.Images.{Images}
 use Rattle.model.specs.States.{empty}
@@ -11,14 +11,12 @@ use Rattle.layout.specs.Root.{IsRoot, root_bytes, head_bytes}
 use Rattle.layout.specs.declared.TheConstants.{SLOT_A, SLOT_B}
 use Rattle.layout.specs.declared.numbers.TheConstants.{FIRST_GENERATION}
 use Rattle.layout.specs.declared.root.Root.{Root}
-use Rattle.buffers.specs.Disks.{IsBlock}
 use Rattle.images.specs.FirstRoots.{root_alone_volume}
 use Rattle.images.specs.Roots.{whole}
 use Rattle.images.specs.States.{HasReserve, Holds, OpensBy}
 use Rattle.conspoint.specs.Cuts.{IsOutside}
 use Rattle.conspoint.specs.Drafts.{HasAll}
-use Rattle.conspoint.specs.Plans.{FitsDisk, Planned}
-use Rattle.conspoint.specs.Writes.{AreWhole}
+use Rattle.conspoint.specs.Plans.{Planned}
 use Rattle.making.specs.Images.{HasClosedHalves, HoldsMade, IsWritten}
 
 -- a root begins with a letter, so no root is all zeros
@@ -83,10 +81,9 @@ module _ (s : Sizes) (p : Planned) (r : Root) (is : IsFirstPlan s p r) (c : Imag
   newest : IsNewest r (c.disk SLOT_A) (c.disk SLOT_B)
   newest = inl (record { root = is.root; spelled = in_a }, λ other it. zeros_no_root other (sym in_b ∙ it.spelled))
 
-  module _ (sectors : ℕ) (fits : FitsDisk sectors p) (sized : AreWhole sectors c.disk)
-      (reads : (n : ℕ) (disk : ℕ → List ℕ) (b : ℕ) (bytes : List ℕ) → AreWhole n disk → 8 * b + 8 ≤ n → IsBlock disk b bytes → blocks_of disk b ≡ bytes) where
+  module _ (sectors : ℕ) where
     has_all : HasAll (blocks_of c.disk) p.blocks
-    has_all = λ i d lt. reads sectors c.disk _ _ sized (fits.blocks i d lt) (w.written.blocks i d lt)
+    has_all = λ i d lt. sym (w.written.blocks i d lt)
 
     pub opens : sectors ≡ 8 * s.blocks → length c.nvram ≡ 2 * s.half
         → ((n : ℕ) (disk : ℕ → List ℕ) (nvram : List ℕ) (q : Root) → IsNewest q (disk SLOT_A) (disk SLOT_B) → n ≡ 8 * q.geometry.blocks → Holds q (whole (blocks_of disk) q) root_alone_volume []

@@ -54,6 +54,9 @@ module _ (puts : PutsOneByOne) (numbers map : Inode) (long_numbers : length (ino
   fits3 : FitsPlace base c2 3 (inode_bytes empty_directory)
   fits3 = record { block = length-put 384 (inode_bytes map) (spliced_at 192 (inode_bytes numbers) (zeros 4096)) fits2.block long_map (omega arith); inode = long_directory }
 
+  pub first_long : length (inodes_block numbers map) ≡ 4096
+  first_long = length-put 576 (inode_bytes empty_directory) (overlaid_block base c2 0) fits3.block long_directory (omega arith)
+
   blocks_are : (i : ℕ) → overlaid_block base c3 i ≡ (if i == 0 then inodes_block numbers map else zeros 4096)
   blocks_are zero = refl
   blocks_are (suc i) = (let later : (suc i == 0) ≡ false = ne_eqb (suc i) 0 (λ is. absurd (omega (arith, is))) in rw later refl)

@@ -9,6 +9,7 @@ use Rattle.layout.specs.Inode.{inode_bytes}
 use Rattle.layout.specs.Limits.{AreSizes, Sizes}
 use Rattle.layout.specs.Places.{Blocks}
 use Rattle.layout.specs.declared.inode.Inode.{Inode}
+use Rattle.buffers.specs.Disks.{IsWhole}
 use Rattle.blockmap.specs.Maps.{entry_at}
 use Rattle.conspoint.specs.Drafts.{Grows, HasAll, OnEach}
 use Rattle.conspoint.specs.declared.draft.Draft.{Draft}
@@ -18,10 +19,10 @@ use Rattle.images.specs.Nodes.{IsOnce, Names, file_block, held}
 use Rattle.images.specs.Roots.{Reach}
 use Rattle.images.specs.Soundness.{IsSoundFile}
 use Rattle.images.proofs.FirstLaws.{free_named, none_named}
-use Rattle.making.specs.Plans.{HasFile, HasTree, IsDraftMapOn, IsNumbersOn, IsTopOn, StandsInJust}
+use Rattle.making.specs.Plans.{HasFile, HasFileOn, HasTree, IsDraftMapOn, IsNumbersOn, IsTopOn, StandsInJust}
 use Rattle.making.specs.Starts.{IsEmptyMap, inodes_block, system_entry}
 use Rattle.making.proofs.EmptyMapLaws.{system_low, system_past}
-use Rattle.making.proofs.SpelledLaws.{PutsOneByOne, first_spelled}
+use Rattle.making.proofs.SpelledLaws.{PutsOneByOne, first_long, first_spelled}
 
 three : (P : ℕ → Type 0) → P 0 → P 1 → P 2 → (n : ℕ) → n < 3 → P n
 three P zero_is one two zero low = zero_is
@@ -46,7 +47,7 @@ start_system b = (
 )
 
 module _ (puts : PutsOneByOne) (s : Sizes) (are : AreSizes s) (d0 d1 d2 d3 d4 : Draft) (numbers top map : Inode) (first : ℕ)
-    (has1 : HasFile s d0 d1 numbers) (on1 : OnEach d1 (λ e. IsNumbersOn e numbers)) (has0 : HasFile s d1 d2 top) (on0 : OnEach d2 (λ e. IsTopOn e first top))
+    (has1 : HasFile s d0 d1 numbers) (on1 : OnEach d1 (λ e. IsNumbersOn e numbers)) (has0 : HasFileOn (λ e. IsWhole (e first)) s d1 d2 top) (on0 : OnEach d2 (λ e. IsTopOn e first top))
     (has2 : HasFile s d2 d3 map) (on2 : OnEach d3 (λ e. IsDraftMapOn e d3 map)) (grows1 : Grows d0 d1) (grows2 : Grows d1 d2) (grows3 : Grows d2 d3) (grows4 : Grows d3 d4)
     (start : IsEmptyMap s.blocks d0.map) (stored : OnEach d4 (λ e. e first ≡ inodes_block numbers map))
     (long_numbers : length (inode_bytes numbers) ≡ 192) (long_map : length (inode_bytes map) ≡ 192) (long_directory : length (inode_bytes empty_directory) ≡ 192) where
@@ -61,13 +62,13 @@ module _ (puts : PutsOneByOne) (s : Sizes) (are : AreSizes s) (d0 d1 d2 d3 d4 : 
     at1 = grows2.has e at2
 
     in1 : StandsInJust s e numbers has1.taken
-    in1 = has1.stands e at1
+    in1 = has1.stands e at1 tt
 
     in0 : StandsInJust s e top has0.taken
-    in0 = has0.stands e at2
+    in0 = has0.stands e at2 (ap length (stored e has) ∙ first_long puts numbers map long_numbers long_map long_directory)
 
     in2 : StandsInJust s e map has2.taken
-    in2 = has2.stands e at3
+    in2 = has2.stands e at3 tt
 
     others_are : (b k : ℕ) → k ≢ 0 → bit_at (entry_at d3.map.parts.items b) k ≡ bit_at (system_entry b) k
     others_are b k other = has2.others b k other ∙ has0.others b k other ∙ has1.others b k other ∙ ap (λ x. bit_at x k) (start.entries b)

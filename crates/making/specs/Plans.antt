@@ -26,15 +26,19 @@ pub record StandsInJust (s : Sizes) (e : Blocks) (f : Inode) (taken : ℕ → Bo
   pub sound : IsSoundFile s (held e f)
 
 -- A file is planned: the blocks that were given out for it are in the active tree's set of the map, which else is as before, and
--- each disk that has the planned blocks has the file in them.
-pub record HasFile (s : Sizes) (old new : Draft) (f : Inode) : Type 0 where
+-- each disk that has the planned blocks, and is one of these, has the file in them.
+pub record HasFileOn (IsOne : Blocks → Type 0) (s : Sizes) (old new : Draft) (f : Inode) : Type 0 where
   pub taken : ℕ → Bool
   pub given : (b : ℕ) → taken b ≡ true → WasTaken old new b
   pub active : (b : ℕ) → HasBit 0 (entry_at new.map.parts.items b)
       ↔ (HasBit 0 (entry_at old.map.parts.items b) ⊎ (taken b ≡ true))
   pub others : (b i : ℕ) → i ≢ 0
       → bit_at (entry_at new.map.parts.items b) i ≡ bit_at (entry_at old.map.parts.items b) i
-  pub stands : OnEach new (λ e. StandsInJust s e f taken)
+  pub stands : OnEach new (λ e. IsOne e → StandsInJust s e f taken)
+
+-- and so each disk that has the planned blocks
+abbrev pub HasFile : Sizes → Draft → Draft → Inode → Type 0
+HasFile = HasFileOn (λ e. Unit {0})
 
 -- on a disk e this is the inode of an inode map of which the numbers 0 to 3 are taken
 pub record IsNumbersOn (e : Blocks) (f : Inode) : Type 0 where

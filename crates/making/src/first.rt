@@ -7,6 +7,7 @@ ghost use Rattle.layout.specs.Root.{IsRoot, root_bytes};
 ghost use Rattle.layout.specs.declared.TheConstants.{BLOCK_POINTERS, SLOT_A};
 ghost use Rattle.layout.specs.declared.numbers.TheConstants.{FIRST_GENERATION};
 ghost use Rattle.layout.specs.declared.pointer.Pointer.TheVariants.{Hole};
+ghost use Rattle.buffers.specs.Disks.{IsWhole};
 ghost use Rattle.conspoint.specs.Drafts.{Grows, HasAll, IsReserved, IsShortage, OnEach};
 ghost use Rattle.conspoint.specs.Groups.{pointer_at};
 ghost use Rattle.conspoint.specs.MapFiles.{map_nodes};
@@ -16,7 +17,7 @@ ghost use Rattle.images.specs.FirstRoots.{root_alone_volume};
 ghost use Rattle.images.specs.Roots.{whole};
 ghost use Rattle.images.specs.States.{HasReserve, Holds};
 ghost use Rattle.making.specs.Space.{NUMBERS_STORES, TOP_STORES};
-ghost use Rattle.making.specs.Plans.{HasFile, HasTree, IsDraftMapOn, IsNumbersOn, IsPlacedOver, IsTopOn};
+ghost use Rattle.making.specs.Plans.{HasFile, HasFileOn, HasTree, IsDraftMapOn, IsNumbersOn, IsPlacedOver, IsTopOn};
 ghost use Rattle.making.specs.Starts.{IsEmptyMap};
 ghost use Rattle.conspoint.specs.Steps.{Takes};
 
@@ -74,7 +75,8 @@ fn place_top(
     ensures disk { disk.new.count ≡ disk.old.count }
     ensures step { Takes TOP_STORES draft.old draft.new result }
     ensures reserved { IfOk result (λ r. IsReserved draft.new r.1) }
-    ensures file { IfOk result (λ r. HasFile geometry draft.old draft.new r.0) }
+    ensures file { IfOk result (λ r.
+        HasFileOn (λ e. IsWhole (e r.1)) geometry draft.old draft.new r.0) }
     ensures top { IfOk result (λ r. OnEach draft.new (λ e. IsTopOn e r.1 r.0)) }
 {
     free_files_hold_nothing();

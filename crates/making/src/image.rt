@@ -12,7 +12,7 @@ use crate::clearing::clear;
 use crate::error::MakeError;
 use crate::first::plan_first;
 use buffers::Buffers;
-use conspoint::{Plan, blocks_are_those_of_images, write_point};
+use conspoint::{Plan, write_point};
 use images::first_images_open_to_the_empty_state;
 use layout::Geometry;
 use station::Station;
@@ -46,7 +46,6 @@ pub fn make<S: Station>(
         (S.meaning made) (OpensAlone (S.meaning made) (empty inodes))) }
 {
     first_images_open_to_the_empty_state();
-    blocks_are_those_of_images();
     let Some(geometry) = Geometry::new(blocks, inodes, half) else {
         return Err((MakeError::BadSize, station));
     };

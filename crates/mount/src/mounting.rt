@@ -3,8 +3,10 @@
 ghost use Rattle.std.specs.Prelude.{◌≡◌, ◌⊎◌, IsFalse, IfOk, IfErr, MatchResult};
 ghost use Rattle.station.specs.Images.{Unchanged};
 ghost use Rattle.station.specs.Moments.{IsSameStation, Goes};
+ghost use Rattle.layout.specs.Places.{blocks_of};
 ghost use Rattle.model.specs.States.{State, Forgets};
-ghost use Rattle.images.specs.Faults.{HasNoFault};
+ghost use Rattle.images.specs.Faults.{HasNoFault, HasReadableFiles};
+ghost use Rattle.images.specs.Roots.{whole};
 ghost use Rattle.system.specs.Images.{OpensTo};
 ghost use Rattle.loading.specs.Slots.{HasNoRoot};
 ghost use Rattle.system.specs.Opening.{HasFailed, HasNewest};
@@ -20,7 +22,8 @@ use system::System;
 /// cut leaves what it might have left before. Where what the station reads opens to a state, Ok serves that state, without open
 /// files; `NoRoot` comes where neither slot holds a root, `Damaged` only where one does but what the station reads opens to no
 /// state, `Device` only where a device call failed. Whatever else the station holds, Ok has taken the newest root, the station
-/// has its sizes, and the NVRAM holds a log over it. Over images without a fault neither `NoRoot` nor `Damaged` comes.
+/// has its sizes, and the NVRAM holds a log over it. Over images without a fault whose files can be read neither `NoRoot`
+/// nor `Damaged` comes.
 pub fn mount<S: Station>(alloc: Global, station: S) -> Result<Fs<S>, (MountError, S)>
     ensures same { MatchResult result
         (λ fs. IsSameStation (S.meaning station) (meaning_of fs.system))
@@ -46,8 +49,9 @@ pub fn mount<S: Station>(alloc: Global, station: S) -> Result<Fs<S>, (MountError
         → MatchResult result (λ _. ⊥)
         (λ e. (e.0 ≡ MountError.NoRoot) ⊎ (e.0 ≡ MountError.Device)) }
     ensures faultless { (S.meaning station).is_honest
-        → HasNoFault (S.meaning station).sectors (S.meaning station).seen.disk
-        (S.meaning station).seen.nvram
+        → (fine : HasNoFault (S.meaning station).sectors (S.meaning station).seen.disk
+        (S.meaning station).seen.nvram)
+        → HasReadableFiles (whole (blocks_of (S.meaning station).seen.disk) fine.root).active
         → IfErr result (λ e. (e.0 ≡ MountError.NoMemory) ⊎ (e.0 ≡ MountError.Device)) }
 {
     match System::open(alloc, station) {

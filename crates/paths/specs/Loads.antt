@@ -9,7 +9,7 @@ use Rattle.images.specs.Soundness.{Detail}
 use Rattle.inofile.specs.Inodes.{IsKnown, HasRoomFor, IsChanged}
 use Rattle.inofile.specs.declared.inode_file.InodeFile.{InodeFile}
 use Rattle.model.specs.Volumes.{Volume}
-use Rattle.paths.specs.Standing.{Looks, NeverDamaged, OnVolumes, StandsIn}
+use Rattle.paths.specs.Standing.{Looks, NeverDamaged, NeverDamagedIn, OnVolumes, StandsIn}
 
 -- Objects come into memory. None goes out of it, and none changes.
 pub record OnlyLoads (old new : InodeFile) : Type 0 where
@@ -41,8 +41,7 @@ pub record LooksInto {B T : Type 0} (G : Ghosts B) (blocks after : B) (s t : Ino
   pub within : IfOk result IsWithin
   pub found : {detail : Detail} (disk : ℕ → List ℕ) (settled : ℕ → Inode) (v : Volume) → StandsIn detail G disk settled v blocks s
       → IfOk result (IsFound v)
-  pub damaged : {detail : Detail} (disk : ℕ → List ℕ) (settled : ℕ → Inode) (v : Volume) → StandsIn detail G disk settled v blocks s
-      → IsErrOf result Damaged → ⊥
+  pub damaged : {detail : Detail} → NeverDamagedIn detail G blocks s result
 
 -- there are no limits
 abbrev pub IsAny : {T : Type 0} → T → Type 0

@@ -1,29 +1,40 @@
 -- A file that is laid out is placed.
-use Rattle.std.proofs.Common.{◌≡◌, ◌↔◌, inl, inr, ℕ, ◌/◌, ◌%◌, ◌≤◌, List, get_or, Contains, refl, ap, sym, ◌∙◌, arith}
+use Rattle.std.proofs.Common.{◌≡◌, ◌↔◌, inl, inr, ℕ, zero, suc, ◌/◌, ◌%◌, ◌≤◌, List, length, get_or, Contains, refl, ap, sym, subst, ◌∙◌, arith}
 use Rattle.std.specs.Prelude.{true, nat_eq}
 use Rattle.std.specs.Cmp.{IsEquivalence}
 use Rattle.std.proofs.lemmas.Bool.{cases_lt, cond_below, cond_above, eqb-true, eq-eqb}
 use Rattle.std.proofs.lemmas.Bool.Decides.{nat_tests}
 use Rattle.std.proofs.lemmas.Map.Views.{list_any-from_Contains, Contains-from_any}
 use Rattle.layout.specs.Bytes.{zeros}
+use Rattle.layout.specs.Inode.{FitsBody}
 use Rattle.layout.specs.FileBytes.{byte_in, EndsAt}
 use Rattle.layout.specs.Limits.{Sizes}
-use Rattle.layout.specs.Places.{Blocks}
+use Rattle.layout.specs.Places.{Blocks, place, pointed}
+use Rattle.layout.specs.Version.{level_of}
 use Rattle.layout.specs.declared.inode.Body.{Body}
+use Rattle.layout.specs.declared.inode.Body.TheVariants.{Inline, Pointers}
 use Rattle.layout.specs.declared.inode.Inode.{Inode}
+use Rattle.layout.proofs.SizeLaws.{level_none}
+use Rattle.layout.proofs.ZeroLaws.{length-zeros}
 use Rattle.images.specs.Contents.{content_of}
-use Rattle.images.specs.Nodes.{held}
-use Rattle.images.specs.Soundness.{IsSoundFile}
+use Rattle.images.specs.Nodes.{held, body_block}
+use Rattle.images.specs.Soundness.{IsReadable, IsSoundFile}
+use Rattle.images.proofs.EmptyLaws.{none_named}
+use Rattle.buffers.specs.Disks.{IsWhole}
 use Rattle.blocktree.specs.Places.{block_count}
+use Rattle.blocktree.specs.Trees.{settled_block}
 use Rattle.inode.specs.Files as files
 use Rattle.inode.specs.declared.object.Object.{Object}
+use Rattle.conspoint.specs.Blocks.{AreWholeOver}
 use Rattle.conspoint.specs.declared.draft.Draft.{Draft}
 use Rattle.placement.specs.declared.nodes.Nodes.{Nodes}
-use Rattle.placement.specs.Files.{IsChangeOf, IsPlaced, is_one, content_with, object_block, with_first}
+use Rattle.placement.specs.Files.{IsBasedOn, IsChangeOf, IsPlaced, is_one, content_with, object_block, with_first}
 use Rattle.placement.specs.Layouts.{inode_with, AreSettledNodes, IsLaidOut}
 use Rattle.placement.specs.Nodes.{HasMoved, ArePlacedOver}
+use Rattle.placement.proofs.HeldLaws.{leveled}
 use Rattle.placement.proofs.InlineLaws.{zero_byte}
 use Rattle.placement.proofs.MovedLaws.{moves, named, stays, freed_are, once_after}
+use Rattle.placement.proofs.SettledLaws.{blocks_whole}
 use Rattle.placement.proofs.StandLaws.{other_first}
 
 nat_equivalence : IsEquivalence nat_eq
@@ -52,6 +63,29 @@ pub first_ends : (bytes : List ℕ) (block : ℕ → List ℕ) (size : ℕ) → 
 first_ends bytes block size large ends p le =
     ap (λ xs. get_or xs (p % 4096) 0) (sym (other_first (p / 4096) bytes (block (p / 4096)) (λ is. omega (arith, is, le, large)))) ∙ ends p le
 
+-- blocks as memory has them, over settled ones that can be read
+module _ (d : Blocks) (base : Inode) (o : Object) (based : IsBasedOn base o.file.tree) (readable : IsReadable (held d base)) where
+  below_whole : (i : ℕ) → IsWhole (settled_block d o.file.tree.pointers o.file.tree.depth o.file.tree.kept i)
+  unfolding settled_block
+  below_whole i =
+      let t = o.file.tree in
+      let block = pointed d (place d t.pointers t.depth i) in
+      elim (cases_lt i t.kept) [
+        | inl lt ↦ subst IsWhole (cond_below i t.kept block (zeros 4096) lt) (blocks_whole d base t based readable i (omega (arith, lt, t.fits.1)))
+        | inr ge ↦ subst IsWhole (cond_above i t.kept block (zeros 4096) (zeros 4096) ge refl) (length-zeros 4096)
+      ]
+
+  pub object_whole : (first : ℕ) → AreWholeOver o.file.tree first (block_count o.file.size) → (i : ℕ) → first ≤ i → IsWhole (object_block d o i)
+  object_whole first over i from = elim (cases_lt i (block_count o.file.size)) [
+    | inl lt ↦ subst IsWhole (cond_below i (block_count o.file.size) (files.file_block d o.file i) (zeros 4096) lt) (over i from lt (settled_block d o.file.tree.pointers o.file.tree.depth o.file.tree.kept i) (below_whole i))
+    | inr ge ↦ subst IsWhole (cond_above i (block_count o.file.size) (files.file_block d o.file i) (zeros 4096) (zeros 4096) ge refl) (length-zeros 4096)
+  ]
+
+-- and with another whole block as the first
+pub first_whole : (bytes : List ℕ) (block : ℕ → List ℕ) → IsWhole bytes → ((i : ℕ) → 1 ≤ i → IsWhole (block i)) → (i : ℕ) → IsWhole (with_first bytes block i)
+first_whole bytes block first others zero = first
+first_whole bytes block first others (suc i) = subst IsWhole (other_first (suc i) bytes (block (suc i)) (λ is. absurd (omega (arith, is)))) (others (suc i) (omega arith))
+
 module _ (s : Sizes) (old new : Draft) (d e : Blocks) (base : Inode) (o : Object) (body : Body) (block : ℕ → List ℕ) (settled placed : Nodes) (change : IsChangeOf s old d base o)
     (known : AreSettledNodes d base o.file.tree settled) (laid : IsLaidOut s e block (inode_with o body) placed) (ends : EndsAt o.file.size (byte_in block)) (over : ArePlacedOver old new settled placed)
     (taken freed : List ℕ) (took : (b : ℕ) → Contains taken b ↔ HasMoved placed settled b) (left : (b : ℕ) → Contains freed b ↔ HasMoved settled placed b) where
@@ -59,16 +93,27 @@ module _ (s : Sizes) (old new : Draft) (d e : Blocks) (base : Inode) (o : Object
   unfolding held
   content_is = λ j. record { kind = o.attributes.kind; mode = o.attributes.mode; links = o.attributes.links; size = o.file.size; block = λ i. laid.blocks i j }
 
-  sound_is : IsSoundFile s (held e (inode_with o body))
+  -- a file's blocks are whole where it has any
+  readable : (1 ≤ level_of o.file.size → (i : ℕ) → IsWhole (block i)) → (b : Body) → body ≡ b → FitsBody b s.blocks o.file.size → IsReadable (held e (inode_with o body))
   unfolding held
-  sound_is = record {
+  readable whole (Inline bytes) is fits i x at = absurd (none_named e (inode_with o body) (level_none o.file.size fits.0) x (record { height = 0; index = i; is = at }))
+  readable whole (Pointers ps) is fits i x at =
+      let stored = (held e (inode_with o body)).bytes 0 i in
+      ap length (ap (λ b. body_block b stored i) (sym is) ∙ laid.blocks i) ∙ whole (leveled o.file.size fits.0) i
+
+  sound_is : (1 ≤ level_of o.file.size → (i : ℕ) → IsWhole (block i)) → IsSoundFile s (held e (inode_with o body))
+  unfolding held
+  sound_is whole = record {
     inode = record { mode = change.mode; size = o.file.within; kind = change.kind; body = laid.body };
     indirect = laid.indirect;
-    ends = λ p le. ap (λ xs. get_or xs (p % 4096) 0) (laid.blocks (p / 4096)) ∙ ends p le;
+    bytes = record {
+      readable = readable whole body refl laid.body;
+      ends = λ p le. ap (λ xs. get_or xs (p % 4096) 0) (laid.blocks (p / 4096)) ∙ ends p le;
+    };
   }
 
-  pub file_placed : IsPlaced s e (held d base) (inode_with o body) (is_one taken) (is_one freed)
-  file_placed =
+  pub file_placed : (1 ≤ level_of o.file.size → (i : ℕ) → IsWhole (block i)) → IsPlaced s e (held d base) (inode_with o body) (is_one taken) (is_one freed)
+  file_placed whole =
       let before = held d base in
       let after = held e (inode_with o body) in
       record {
@@ -83,5 +128,5 @@ module _ (s : Sizes) (old new : Draft) (d e : Blocks) (base : Inode) (o : Object
         ];
         freed_are = λ b is. freed_are old new before after settled placed known.nodes laid.nodes over change.used change.once b ((left b).0 (of_one freed b is));
         once = once_after old new before after settled placed known.nodes laid.nodes over change.used change.once;
-        sound = sound_is;
+        sound = sound_is whole;
       }

@@ -20,6 +20,9 @@ not_inline size top level = grind (arith, nat_tests)
 pub is_inline : (size : ℕ) → level_of size ≡ 0 → size ≤ 128
 is_inline size level = grind (arith, nat_tests)
 
+pub leveled : (size : ℕ) → 128 < size → 1 ≤ level_of size
+leveled size large = grind (arith, nat_tests)
+
 -- the bytes of a node that stands in a block
 pub node_bytes : (d : Blocks) (f : Inode) (m i b : ℕ) → (held d f).place m i ≡ Block b → (held d f).bytes m i ≡ d b
 unfolding held

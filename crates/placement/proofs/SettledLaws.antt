@@ -2,18 +2,20 @@
 use Rattle.std.proofs.Common.{◌≡◌, inl, inr, ℕ, suc, ◌+◌, ◌-◌, ◌<◌, ◌≤◌, List, ap, sym, subst, ◌∙◌, arith}
 use Rattle.std.proofs.lemmas.Bool.{cases_lt}
 use Rattle.layout.specs.Limits.{Sizes}
-use Rattle.layout.specs.Places.{Blocks, place}
+use Rattle.layout.specs.Places.{Blocks, place, pointed}
 use Rattle.layout.specs.Version.{level_of}
 use Rattle.layout.specs.declared.inode.Body.TheVariants.{Pointers}
 use Rattle.layout.specs.declared.inode.Inode.{Inode}
 use Rattle.layout.specs.declared.pointer.Pointer.{Pointer}
 use Rattle.layout.specs.declared.pointer.Pointer.TheVariants.{Hole}
+use Rattle.buffers.specs.Disks.{IsWhole}
 use Rattle.images.specs.Nodes.{held}
 use Rattle.images.specs.Soundness as images
-use Rattle.images.specs.Soundness.{IsSoundFile}
+use Rattle.images.specs.Soundness.{IsReadable, IsSoundFile}
 use Rattle.blocktree.specs.Names.{nodes_at}
 use Rattle.blocktree.specs.Places.{block_count, IsPath}
 use Rattle.blocktree.specs.declared.tree.BlockTree.{BlockTree}
+use Rattle.inode.proofs.HeldLaws.{node_place, stored_whole}
 use Rattle.placement.specs.declared.nodes.Nodes.{Nodes}
 use Rattle.placement.specs.Files.{IsBasedOn}
 use Rattle.placement.specs.Layouts.{AreSettledNodes}
@@ -35,6 +37,12 @@ paths_sound laws s d base t (IsBasedOn.settled body level count) sound i lt =
     let all : images.nodes_of_size base.size 0 ≡ t.count = nodes_same base.size 0 ∙ first_nodes (block_count base.size) ∙ sym count in
     subst (λ (n : ℕ). IsPath s.blocks d t.pointers t.depth n i) all (laws.paths s d base t.pointers t.depth 0 i sound body (omega (arith, level)))
 paths_sound laws s d base t (IsBasedOn.none level count) sound i lt = absurd (omega (arith, lt, count))
+
+-- a settled block is a hole, or can be read
+pub blocks_whole : (d : Blocks) (base : Inode) (t : BlockTree) → IsBasedOn base t → IsReadable (held d base) → (i : ℕ) → i < t.count → IsWhole (pointed d (place d t.pointers t.depth i))
+blocks_whole d base t (IsBasedOn.settled body level count) readable i lt =
+    stored_whole d base i (place d t.pointers t.depth i) (node_place d base t.pointers t.depth 0 i body (omega (arith, level))) readable
+blocks_whole d base t (IsBasedOn.none level count) readable i lt = absurd (omega (arith, lt, count))
 
 module _ (laws : NodeLaws) (s : Sizes) (d : Blocks) (base : Inode) (t : BlockTree) (n : Nodes) (sound : IsSoundFile s (held d base)) (heights : height_of n ≡ suc t.depth)
     (end : (m i : ℕ) → nodes_at t.count m ≤ i → node n m i ≡ Hole) (nodes : (m i : ℕ) → m ≤ t.depth → i < nodes_at t.count m → node n m i ≡ place d t.pointers (t.depth - m) i) where

@@ -1,11 +1,11 @@
 //! A changed file's blocks, at their new places.
 
-ghost use Rattle.std.specs.Prelude.{◌≡◌, ◌≢◌, ℕ, ◌<◌, ◌≤◌, IfOk, nat_lt, if◌then◌else◌};
+ghost use Rattle.std.specs.Prelude.{◌≡◌, ◌≢◌, ℕ, ◌<◌, ◌≤◌, IfOk, OnOk, nat_lt, if◌then◌else◌};
 ghost use Rattle.layout.specs.Places.{pointed};
 ghost use Rattle.layout.specs.declared.pointer.Pointer.TheVariants.{Hole};
 ghost use Rattle.blocktree.specs.PlaceMaps.{EndBefore, place_at};
 ghost use Rattle.blocktree.specs.Trees.{IsChanged};
-ghost use Rattle.conspoint.specs.Blocks.{changed_or};
+ghost use Rattle.conspoint.specs.Blocks.{AreWholeOver, changed_or};
 ghost use Rattle.conspoint.specs.Drafts.{OnEach};
 ghost use Rattle.conspoint.specs.Space.{changed_blocks};
 ghost use Rattle.conspoint.specs.Steps.{Places};
@@ -40,6 +40,7 @@ pub(crate) fn place_lowest(
     ensures unchanged { IfOk result (λ nodes. (i : ℕ) → i < count
         → (IsChanged tree.now i → ⊥) → place_at nodes i
         ≡ (if nat_lt i tree.now.kept then node settled.now 0 i else Hole)) }
+    ensures whole { OnOk result (AreWholeOver tree.now first count) }
     ensures placed { IfOk result (ArePlacedAt draft.old draft.new (node settled.now 0)) }
 {
     let kept = tree.kept().min(count);

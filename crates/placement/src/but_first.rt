@@ -1,6 +1,6 @@
 //! A changed file whose first block comes later: the inode file's, which has the inode of the block map.
 
-ghost use Rattle.std.specs.Prelude.{◌≡◌, ℕ, ◌<◌, ◌≤◌, ◌+◌, List, IfOk, IsErrOf, nat_lt, if◌then◌else◌};
+ghost use Rattle.std.specs.Prelude.{◌≡◌, ℕ, ◌<◌, ◌≤◌, ◌+◌, List, IfOk, OnOk, IsErrOf, nat_lt, if◌then◌else◌};
 ghost use Rattle.layout.specs.Limits.{Sizes};
 ghost use Rattle.layout.specs.Places.{pointed};
 ghost use Rattle.layout.specs.declared.TheConstants.{BLOCK_BYTES};
@@ -8,10 +8,11 @@ ghost use Rattle.layout.specs.declared.inode.Inode.{Inode};
 ghost use Rattle.layout.specs.declared.pointer.Pointer.TheVariants.{Hole, Block};
 ghost use Rattle.images.specs.Contents.{content_of};
 ghost use Rattle.images.specs.Nodes.{held, Agrees, Names};
+ghost use Rattle.buffers.specs.Disks.{IsWhole};
 ghost use Rattle.blocktree.specs.PlaceMaps.{EndBefore, place_at};
 ghost use Rattle.blocktree.specs.Places.{block_count};
 ghost use Rattle.blocktree.specs.Trees.{IsChanged};
-ghost use Rattle.conspoint.specs.Blocks.{changed_or};
+ghost use Rattle.conspoint.specs.Blocks.{AreWholeOver, changed_or};
 ghost use Rattle.conspoint.specs.Drafts.{OnEach, IsReserved};
 ghost use Rattle.conspoint.specs.Space.{changed_blocks};
 ghost use Rattle.placement.specs.Files.{IsChangeOf, IsPlaced, content_with, is_one, object_block, with_first};
@@ -53,6 +54,7 @@ fn place_but_first(
     ensures blocks { IfOk result (λ r. OnEach draft.new (λ e. (i : ℕ) → i < count
         → 1 ≤ i → pointed e (place_at r.0 i) ≡ changed_or tree.now i (pointed e
         (if nat_lt i tree.now.kept then node settled.now 0 i else Hole)))) }
+    ensures whole { OnOk result (AreWholeOver tree.now 1 count) }
     ensures placed { IfOk result (λ r.
         ArePlacedAt draft.old draft.new (node settled.now 0) r.0) }
 {
@@ -77,6 +79,8 @@ fn lay_but_first(
     ensures placed { IfOk result (λ r. ArePlacedOver draft.old draft.new settled.now r.0.nodes) }
     ensures short { IfOk result (λ r. AreShort (block_count object.now.file.size) r.0.nodes) }
     ensures first { IfOk result (λ r. node r.0.nodes 0 0 ≡ Block r.1) }
+    ensures whole { OnOk result
+        (AreWholeOver object.now.file.tree 1 (block_count object.now.file.size)) }
     ensures stands { (s : Sizes) (disk : ℕ → List ℕ) (base : Inode)
         → IsChangeOf s draft.old disk base object.now
         → AreSettledNodes disk base object.now.file.tree settled.now
@@ -103,11 +107,11 @@ pub fn place_file_but_first<B: Blocks>(
     requires some { BLOCK_BYTES ≤ object.now.file.size }
     ensures step { PlacesFile B.Blocks (first_stores object.now.file) file_in blocks.old blocks.new draft.old draft.new result }
     ensures reserved { IfOk result (λ r. IsReserved draft.new r.1) }
-    // On each disk that has the planned blocks, and those that the settled inode names as they are.
+    // On each disk that has the planned blocks, a whole block there, and those that the settled inode names as they are.
     ensures placed { (s : Sizes) (disk : ℕ → List ℕ) (base : Inode) → B.Shows blocks.old disk
         → IsChangeOf s draft.old disk base object.now
         → IfOk result (λ r. OnEach draft.new (λ e. Agrees (Names (held disk base)) disk e
-        → IsPlaced s e (held disk base) r.0.inode (is_one r.0.taken.items)
+        → IsWhole (e r.1) → IsPlaced s e (held disk base) r.0.inode (is_one r.0.taken.items)
         (is_one r.0.freed.items))) }
     ensures first { (s : Sizes) (disk : ℕ → List ℕ) (base : Inode) → B.Shows blocks.old disk
         → IsChangeOf s draft.old disk base object.now

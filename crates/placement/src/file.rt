@@ -1,6 +1,6 @@
 //! A changed file, placed.
 
-ghost use Rattle.std.specs.Prelude.{◌≡◌, ◌≢◌, ℕ, ◌<◌, ◌≤◌, List, [], length, All, Contains, ◌↔◌, IfOk, IsErrOf, nat_lt, if◌then◌else◌};
+ghost use Rattle.std.specs.Prelude.{◌≡◌, ◌≢◌, ℕ, ◌<◌, ◌≤◌, List, [], length, All, Contains, ◌↔◌, IfOk, OnOk, IsErrOf, nat_lt, if◌then◌else◌};
 ghost use Rattle.layout.specs.Limits.{Sizes};
 ghost use Rattle.layout.specs.Version.{level_of};
 ghost use Rattle.layout.specs.declared.inode.Inode.{Inode};
@@ -13,6 +13,7 @@ ghost use Rattle.blocktree.specs.PlaceMaps.{AreBelow, EndBefore, place_at};
 ghost use Rattle.blocktree.specs.Places.{block_count};
 ghost use Rattle.blocktree.specs.Trees.{IsChanged, IsSoundAt};
 ghost use Rattle.inode.specs.Files.{IsFile};
+ghost use Rattle.conspoint.specs.Blocks.{AreWholeOver};
 ghost use Rattle.conspoint.specs.Drafts.{OnEach};
 ghost use Rattle.conspoint.specs.Groups.{group};
 ghost use Rattle.placement.specs.Files.{AreAllChanged, IsChangeOf, IsPlaced, IsWholeOver, is_one, object_block, object_content};
@@ -110,6 +111,8 @@ fn lay_blocks(
         else Hole) ≡ Hole) }
     ensures stored { IfOk result (λ l. (i : ℕ) → i < block_count object.now.file.size
         → IsChanged object.now.file.tree i → node l.nodes 0 i ≢ Hole) }
+    ensures whole { OnOk result
+        (AreWholeOver object.now.file.tree 0 (block_count object.now.file.size)) }
     ensures placed { IfOk result (λ l. ArePlacedOver draft.old draft.new settled.now l.nodes) }
     ensures short { IfOk result (λ l. AreShort (block_count object.now.file.size) l.nodes) }
     ensures stands { (s : Sizes) (disk : ℕ → List ℕ) (base : Inode)
@@ -163,6 +166,8 @@ fn lay<B: Blocks>(
     ensures stored { IfOk result (λ l. (i : ℕ)
         → 1 ≤ level_of object.now.file.size → i < block_count object.now.file.size
         → IsChanged object.now.file.tree i → node l.nodes 0 i ≢ Hole) }
+    ensures whole { OnOk result (1 ≤ level_of object.now.file.size
+        → AreWholeOver object.now.file.tree 0 (block_count object.now.file.size)) }
     ensures placed { IfOk result (λ l. ArePlacedOver draft.old draft.new settled.now l.nodes) }
     ensures short { IfOk result (λ l. AreShort (block_count object.now.file.size) l.nodes) }
     ensures stands { (s : Sizes) (disk : ℕ → List ℕ) (base : Inode) → B.Shows blocks.old disk

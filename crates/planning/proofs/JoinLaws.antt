@@ -20,7 +20,7 @@ use Rattle.inode.specs.Files.{file_block}
 use Rattle.inode.specs.declared.file.File.{File}
 use Rattle.placement.specs.Files.{IsPlaced}
 use Rattle.planning.specs.Inodes.{AreSpelled, with_inode_at}
-use Rattle.planning.specs.Plans.{HasInodeMap, IsInodeMapOn, OnEachOver, Progresses}
+use Rattle.planning.specs.Plans.{HasInodeMap, IsInodeMapOn, IsProgressOf, OnEachOver}
 use Rattle.planning.specs.Progress.{AreTaken, IsExactPlane, IsMarked, PlannedInodes, with_planned_file}
 use Rattle.planning.specs.Steps.{IsPlanUnderWay}
 use Rattle.planning.proofs.ProgressLaws.{more_planned}
@@ -30,14 +30,10 @@ use Rattle.planning.proofs.SpellingLaws.{PutsOneByOne, one_spelled}
 pub marked_over : (taken freed : ℕ → Bool) (old mid new : List Part) → mid ≡ old → IsMarked taken freed (entry_at mid) (entry_at new) → IsMarked taken freed (entry_at old) (entry_at new)
 marked_over taken freed old mid new same marked = subst (λ (ps : List Part). IsMarked taken freed (entry_at ps) (entry_at new)) same marked
 
-module _ (old new : Draft) (disk : Blocks) (before : ℕ → ℕ) (s : Sizes) (t : HeldTree) (p : PlannedInodes) (n : ℕ) (f : Inode) (taken freed : ℕ → Bool)
+module _ (old new : Draft) (before : ℕ → ℕ) (s : Sizes) (t : HeldTree) (p : PlannedInodes) (n : ℕ) (f : Inode) (taken freed : ℕ → Bool)
     (once : NamesOnce t) (exact : IsExactPlane t before) (settled : (b : ℕ) → settled_at old.map.parts.items b ≡ before b)
-    (progress : Progresses old disk before s t p) (fresh : p.changed n ≡ false) (grows : Grows old new) (given : (b : ℕ) → taken b ≡ true → WasTaken old new b)
-    (placed : OnEach new (λ e. Agrees (Names (t n)) disk e → IsPlaced s e (t n) f taken freed)) (fits : OnEach new (λ e. Agrees (Names (t n)) disk e → FitsNumber n f.kind))
+    (fresh : p.changed n ≡ false) (grows : Grows old new) (given : (b : ℕ) → taken b ≡ true → WasTaken old new b)
     (marked : IsMarked taken freed (entry_at old.map.parts.items) (entry_at new.map.parts.items)) where
-  mine : (e : Blocks) → Agrees (Reach t) disk e → Agrees (Names (t n)) disk e
-  mine e same b names = same b (record { file = n; names = names })
-
   are_taken : AreTaken old.map.next new.map.next before taken
   are_taken = record {
     free = λ b is. sym (settled b) ∙ (given b is).free;
@@ -45,10 +41,9 @@ module _ (old new : Draft) (disk : Blocks) (before : ℕ → ℕ) (s : Sizes) (t
     below = λ b is. (given b is).to;
   }
 
-  pub progress_more : Progresses new disk before s t (with_planned_file n f taken p)
-  progress_more e has same =
-      more_planned s t e old.map.next new.map.next before (entry_at old.map.parts.items) (entry_at new.map.parts.items) p n f taken freed once exact
-      (progress e (grows.has e has) same) fresh (placed e has (mine e same)) (fits e has (mine e same)) are_taken grows.next marked
+  pub progress_more : (e : Blocks) → IsPlaced s e (t n) f taken freed → FitsNumber n f.kind → IsProgressOf old s t e before p → IsProgressOf new s t e before (with_planned_file n f taken p)
+  progress_more e placed fits progress =
+      more_planned s t e old.map.next new.map.next before (entry_at old.map.parts.items) (entry_at new.map.parts.items) p n f taken freed once exact progress fresh placed fits are_taken grows.next marked
 
 module _ (puts : PutsOneByOne) (old new : Draft) (disk : Blocks) (before : ℕ → ℕ) (s : Sizes) (t : HeldTree) (found : ℕ → Content) (file changed : File) (f : Inode) (bytes : List ℕ) (taken freed : ℕ → Bool)
     (way : IsPlanUnderWay old disk before s t found file) (once : NamesOnce t) (exact : IsExactPlane t before) (fresh : way.plan.changed 1 ≡ false) (high : 1 < s.inodes)
@@ -57,6 +52,9 @@ module _ (puts : PutsOneByOne) (old new : Draft) (disk : Blocks) (before : ℕ �
     (marked : IsMarked taken freed (entry_at old.map.parts.items) (entry_at new.map.parts.items))
     (map : OnEach new (λ e. Agrees (Names (t 1)) disk e → IsInodeMapOn bytes (held e f)))
     (put : (i : ℕ) → file_block disk changed i ≡ with_inode_at (file_block disk file) 1 f i) (size : length (file_block disk file (1 / 21)) ≡ 4096) (long : length (inode_bytes f) ≡ 192) where
+  mine : (e : Blocks) → Agrees (Reach t) disk e → Agrees (Names (t 1)) disk e
+  mine e same b names = same b (record { file = 1; names = names })
+
   abbrev after : PlannedInodes
   after = with_planned_file 1 f taken way.plan
 
@@ -71,14 +69,15 @@ module _ (puts : PutsOneByOne) (old new : Draft) (disk : Blocks) (before : ℕ �
     way = record {
       plan = after;
       settled = λ b. grows.settled.settled b ∙ way.settled b;
-      progress = progress_more old new disk before s t way.plan 1 f taken freed once exact way.settled way.progress fresh grows given placed fits marked;
+      progress = λ e has same. progress_more old new before s t way.plan 1 f taken freed once exact way.settled fresh grows given marked e (placed e has (mine e same)) (fits e has (mine e same))
+          (way.progress e (grows.has e has) same);
       contents = contents_on;
       spelled = subst (λ (g : ℕ → List ℕ). AreSpelled s.inodes g after.inode) (sym (fun_ext put))
           (one_spelled puts s.inodes (file_block disk file) way.plan.inode 1 f way.spelled (omega arith) high size long);
     };
     from_is = refl;
     others = λ k other. cond-false (k == 1) true (way.plan.changed k) (ne_eqb k 1 other);
-    map = λ e has same. map e has (λ b names. same b (record { file = 1; names = names }));
+    map = λ e has same. map e has (mine e same);
   }
 
 -- where the settled file is the map already

@@ -20,13 +20,13 @@ use Rattle.conspoint.specs.MapFiles.{IsMapOn, IsSettledMap, PlansMap}
 use Rattle.conspoint.specs.declared.draft.Draft.{Draft}
 use Rattle.images.specs.BlockMap.{NamesOnce, entry}
 use Rattle.images.specs.Nodes.{Agrees, Names, file_block, held}
-use Rattle.images.specs.Roots.{HeldTree}
+use Rattle.images.specs.Roots.{HeldTree, Reach}
 use Rattle.images.specs.Soundness.{HasNoHole, nodes_of_size}
 use Rattle.images.proofs.ReadingLaws as reading
 use Rattle.inode.specs.declared.file.File.{File}
 use Rattle.inofile.specs.Settled.{AreSettled}
 use Rattle.placement.specs.Files.{IsPlaced}
-use Rattle.planning.specs.Plans.{HasBlockMap, IsBlockMapOn, Progresses}
+use Rattle.planning.specs.Plans.{HasBlockMap, IsBlockMapOn}
 use Rattle.planning.specs.Progress.{IsExactPlane, IsMarked, IsProgress, PlannedInodes, with_planned_file}
 use Rattle.planning.specs.Steps.{settled_tree}
 use Rattle.planning.proofs.JoinLaws.{progress_more}
@@ -95,10 +95,10 @@ map_placed s d e old new taken freed entry_of on = record {
 }
 
 module _ (old new : Draft) (disk : Blocks) (before : ℕ → ℕ) (s : Sizes) (settled_of : ℕ → Inode) (p : PlannedInodes) (nodes : List Pointer) (f : Inode) (once : NamesOnce (settled_tree disk settled_of))
-    (exact : IsExactPlane (settled_tree disk settled_of) before) (same : (b : ℕ) → settled_at old.map.parts.items b ≡ before b) (progress : Progresses old disk before s (settled_tree disk settled_of) p)
+    (exact : IsExactPlane (settled_tree disk settled_of) before) (same : (b : ℕ) → settled_at old.map.parts.items b ≡ before b)
     (fresh : p.changed 2 ≡ false) (grows : Grows old new) (plan : PlansMap old new nodes f) (settled : IsSettledMap s disk (settled_of 2) old.map nodes) where
-  stands : (e : Blocks) → HasAll e new.blocks.items → Agrees (Names (held disk (settled_of 2))) disk e → IsMapOn s disk e (settled_of 2) f plan.taken plan.freed (entry_at new.map.parts.items)
-  stands e has agrees = plan.stands e has s disk (settled_of 2) settled agrees
+  stands : (e : Blocks) → HasAll e new.blocks.items → Agrees (Reach (settled_tree disk settled_of)) disk e → IsMapOn s disk e (settled_of 2) f plan.taken plan.freed (entry_at new.map.parts.items)
+  stands e has agrees = plan.stands e has s disk (settled_of 2) settled (λ b names. agrees b (record { file = 2; names = names }))
 
   marked : IsMarked plan.taken plan.freed (entry_at old.map.parts.items) (entry_at new.map.parts.items)
   marked = record { active = plan.active; others = plan.others }
@@ -106,10 +106,11 @@ module _ (old new : Draft) (disk : Blocks) (before : ℕ → ℕ) (s : Sizes) (s
   pub map_file_planned : HasBlockMap old p new disk before s (settled_tree disk settled_of) f
   map_file_planned = record {
     taken = plan.taken;
-    progress = progress_more old new disk before s (settled_tree disk settled_of) p 2 f plan.taken plan.freed once exact same progress fresh grows plan.was_taken
-        (λ e has agrees. map_placed s disk e (settled_of 2) f plan.taken plan.freed (entry_at new.map.parts.items) (stands e has agrees)) (λ e has agrees. (stands e has agrees).kind) marked;
-    map = λ e has agrees.
-        let on = stands e has (λ b names. agrees b (record { file = 2; names = names })) in record { entries = on.entries; no_hole = on.no_hole };
+    progress = λ e has agrees.
+        let on = stands e has agrees in
+        progress_more old new before s (settled_tree disk settled_of) p 2 f plan.taken plan.freed once exact same fresh grows plan.was_taken marked
+        e (map_placed s disk e (settled_of 2) f plan.taken plan.freed (entry_at new.map.parts.items) on) on.kind;
+    map = λ e has agrees. let on = stands e has agrees in record { entries = on.entries; no_hole = on.no_hole };
     anew = λ touched e has agrees. plan.anew touched e has s disk (settled_of 2) settled (λ b names. agrees b (record { file = 2; names = names }));
   }
 
@@ -117,7 +118,7 @@ module _ (old new : Draft) (disk : Blocks) (before : ℕ → ℕ) (s : Sizes) (s
 pub map_file_later : (start old new : Draft) (disk : Blocks) (before : ℕ → ℕ) (s : Sizes) (t : HeldTree) (p : PlannedInodes) (f : Inode) → Grows old new → new.map ≡ old.map → HasBlockMap start p old disk before s t f → HasBlockMap start p new disk before s t f
 map_file_later start old new disk before s t p f grows same has_map = record {
   taken = has_map.taken;
-  progress = λ e has agrees. subst (λ (m : BlockMap). IsProgress s t e m.next before (entry_at m.parts.items) (with_planned_file 2 f has_map.taken p)) (sym same) (has_map.progress e (grows.has e has) agrees);
+  progress = λ e has agrees so_far. subst (λ (m : BlockMap). IsProgress s t e m.next before (entry_at m.parts.items) (with_planned_file 2 f has_map.taken p)) (sym same) (has_map.progress e (grows.has e has) agrees so_far);
   map = λ e has agrees. subst (λ (m : BlockMap). IsBlockMapOn (entry_at m.parts.items) (held e f)) (sym same) (has_map.map e (grows.has e has) agrees);
   anew = λ touched e has agrees. has_map.anew touched e (grows.has e has) agrees;
 }

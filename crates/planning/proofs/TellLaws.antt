@@ -160,7 +160,7 @@ moves_told w s t bytes first v sound holds maps moves i none k small =
     let at : n / 32768 ≡ i = omega (arith, small) in
     let unmoved : IsSome (first n) ↔ IsSome (v n) = moves n (ap w at ∙ none) in
     let told : bit_at (slice_index (content_bytes (content_of (t 1))) (n / 8)) (n % 8) ≡ bit_at (slice_index (file_block (t 1) i) (k / 8)) (k % 8) =
-    told_at (file_block (t 1)) (t 1).inode.size i k (sound.files 1).ends small in (
+    told_at (file_block (t 1)) (t 1).inode.size i k (sound.files 1).bytes.ends small in (
       λ is. (maps n).1 (elim ((sound.numbers n).0 (told ∙ is)) [
         | inl own ↦ inl own
         | inr kind ↦ elim (cases_lt n 4) [

@@ -1,5 +1,5 @@
 -- The parts of a whole plan, put together.
-use Rattle.std.proofs.Common.{◌≡◌, ◌≢◌, ◌↔◌, inl, inr, ℕ, ◌+◌, ◌-◌, ◌*◌, ◌/◌, ◌%◌, ◌<◌, ◌≤◌, Bool, true, false, List, length, drop, refl, ap, sym, subst, ◌∙◌, arith}
+use Rattle.std.proofs.Common.{◌≡◌, ◌≢◌, ◌↔◌, inl, inr, ℕ, ◌+◌, ◌-◌, ◌*◌, ◌/◌, ◌%◌, ◌<◌, ◌≤◌, Bool, true, false, List, length, drop, refl, ap, sym, subst, ◌∙◌, arith, length-append, length-drop, length-take}
 use Rattle.std.proofs.Math.Path.{fun_ext}
 use Rattle.std.proofs.lemmas.Bool.{cases_eq, cases_lt, cond-true, cond-false, cond_below, cond_above, eq-eqb, ne_eqb, cases_Bool}
 use Rattle.std.specs.Int.{div_ceil}
@@ -9,6 +9,7 @@ use Rattle.layout.specs.Inode.{inode_bytes}
 use Rattle.layout.specs.Limits.{Sizes}
 use Rattle.layout.specs.Places.{Blocks}
 use Rattle.layout.specs.declared.inode.Inode.{Inode}
+use Rattle.buffers.specs.Disks.{IsWhole}
 use Rattle.blocktree.specs.Places.{block_count}
 use Rattle.conspoint.specs.Drafts.{Grows, HasAll, OnEach}
 use Rattle.conspoint.specs.Space.{TakesAtMost}
@@ -25,11 +26,14 @@ use Rattle.inofile.specs.Inodes.{IsChanged}
 use Rattle.inofile.specs.declared.inode_file.InodeFile.{InodeFile}
 use Rattle.placement.specs.Files.{object_block}
 use Rattle.planning.specs.Inodes.{AreSpelled, with_inode_at, with_number}
-use Rattle.planning.specs.Plans.{HasBlockMap, HasInodeMap, HasTop, IsAllPlanned, OnEachOver}
+use Rattle.planning.specs.Plans.{HasBlockMap, HasInodeMap, HasTop, IsAllPlanned, IsProgressOf, OnEachOver}
 use Rattle.planning.specs.Progress.{PlannedInodes, with_planned_file}
 use Rattle.planning.specs.Space.{CountsBlocks, map_stores, nodes_below, top_nodes}
 use Rattle.planning.proofs.SpellingLaws.{PutsOneByOne, one_spelled}
 use Rattle.images.proofs.EmptyLaws.{part_zeros, behind_zeros}
+
+length-spliced : (at : ℕ) (ys xs : List ℕ) → at + length ys ≤ length xs → length (spliced_at at ys xs) ≡ length xs
+length-spliced at ys xs le = simp (length-append, length-take, length-drop) (omega (arith, le))
 
 -- ---- blocks of zeros behind the last one spell no inode
 
@@ -80,6 +84,12 @@ module _ (puts : PutsOneByOne) (start low mid last : Draft) (disk : Blocks) (bef
 
   at_low : (e : Blocks) → HasAll e last.blocks.items → HasAll e low.blocks.items
   at_low e has = one.has e (at_mid e has)
+
+  first_whole : (e : Blocks) → HasAll e last.blocks.items → IsWhole (e first)
+  first_whole e has = ap length (stored e has ∙ put) ∙ length-spliced (192 * (2 % 21)) (inode_bytes map) (file_block disk top.file (2 / 21)) (omega (arith, whole, long)) ∙ whole
+
+  progress_all : OnEachOver t disk last (λ e. IsProgressOf last s t e before q)
+  progress_all e has agrees = has_map.progress e has agrees (has_top.progress e (at_mid e has) agrees (first_whole e has))
 
   -- which are changed
   as_before : (n : ℕ) → 3 ≤ n → q.changed n ≡ changed n
@@ -156,11 +166,11 @@ module _ (puts : PutsOneByOne) (start low mid last : Draft) (disk : Blocks) (bef
   to_mid = grows_twice start low mid begun one
 
   from_all : OnEachOver t disk last (λ e. (n b : ℕ) → q.taken n b ≡ true → start.map.next ≤ b)
-  from_all e has agrees n b is = let high = (has_map.progress e has agrees).behind n b is in omega (arith, high, numbers.from_is)
+  from_all e has agrees n b is = let high = (progress_all e has agrees).behind n b is in omega (arith, high, numbers.from_is)
 
   below_all : OnEachOver t disk last (λ e. (n b : ℕ) → n ≢ 2 → q.taken n b ≡ true → b < mid.map.next)
   below_all e has agrees n b other is =
-      (has_top.progress e (at_mid e has) agrees).below n b
+      (has_top.progress e (at_mid e has) agrees (first_whole e has)).below n b
       (sym (ap (λ g. g b) (cond-false (n == 2) has_map.taken ((with_planned_file 0 f has_top.taken p).taken n) (ne_eqb n 2 other))) ∙ is)
 
   pub all_planned : IsAllPlanned start last disk before s t found inodes f
@@ -168,7 +178,7 @@ module _ (puts : PutsOneByOne) (start low mid last : Draft) (disk : Blocks) (bef
     plan = q;
     top_is = refl;
     first = refl;
-    progress = has_map.progress;
+    progress = progress_all;
     past = past_all;
     changed = λ n least. (λ is. (just n).0 (sym (as_before n least) ∙ is), λ is. as_before n least ∙ (just n).1 is);
     contents = contents_all;
@@ -181,6 +191,6 @@ module _ (puts : PutsOneByOne) (start low mid last : Draft) (disk : Blocks) (bef
     few = few;
     from = from_all;
     below = below_all;
-    first_taken = λ e has agrees. has_top.first_taken e (at_mid e has) agrees;
+    first_taken = λ e has agrees. has_top.first_taken e (at_mid e has) agrees (first_whole e has);
     anew = λ touched. has_map.anew (λ j lt. to_mid.settled.touched j (touched j (omega (arith, lt, to_mid.settled.count))));
   }

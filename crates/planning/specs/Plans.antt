@@ -11,6 +11,7 @@ use Rattle.layout.specs.declared.root.Root.{Root}
 use Rattle.model.specs.Paths.{Name}
 use Rattle.model.specs.Trees.{Tree}
 use Rattle.model.specs.Volumes.{IsVolume, Volume}
+use Rattle.buffers.specs.Disks.{IsWhole}
 use Rattle.blockmap.specs.Maps.{entry_at, settled_at}
 use Rattle.blockmap.specs.declared.map.BlockMap.{BlockMap}
 use Rattle.conspoint.specs.Drafts.{Grows, HasAll, OnEach}
@@ -80,10 +81,12 @@ pub record IsPlanStart (count : ℕ) (d : Draft) (disk : Blocks) (root : Root) (
 abbrev pub OnEachOver : HeldTree → Blocks → Draft → (Blocks → Type 0) → Type 0
 OnEachOver t disk d P = OnEach d (λ e. Agrees (Reach t) disk e → P e)
 
--- what is planned so far holds on each of these
+-- what is planned so far holds on a disk, and on each of these
+abbrev pub IsProgressOf : Draft → Sizes → HeldTree → Blocks → (ℕ → ℕ) → PlannedInodes → Type 0
+IsProgressOf d s t e before p = IsProgress s t e d.map.next before (entry_at d.map.parts.items) p
+
 abbrev pub Progresses : Draft → Blocks → (ℕ → ℕ) → Sizes → HeldTree → PlannedInodes → Type 0
-Progresses d disk before s t p =
-    OnEachOver t disk d (λ e. IsProgress s t e d.map.next before (entry_at d.map.parts.items) p)
+Progresses d disk before s t p = OnEachOver t disk d (λ e. IsProgressOf d s t e before p)
 
 -- a file that is an inode map with these bytes
 pub record IsInodeMapOn (bytes : List ℕ) (h : Held) : Type 0 where
@@ -97,12 +100,12 @@ pub record HasInodeMap (bytes : List ℕ) (changed : ℕ → Bool) (from : ℕ) 
   pub others : (k : ℕ) → k ≢ 1 → way.plan.changed k ≡ changed k
   pub map : OnEachOver t disk d (λ e. IsInodeMapOn bytes (held e (way.plan.inode 1)))
 
--- The inode file is planned with this inode, but for the bytes of its first block: its blocks are those in memory, and first the one
--- that is put there.
+-- The inode file is planned with this inode, but for the bytes of its first block: its blocks are those in memory, and first the whole
+-- one that is put there.
 pub record HasTop (p : PlannedInodes) (d : Draft) (disk : Blocks) (before : ℕ → ℕ) (s : Sizes) (t : HeldTree) (top : Object) (f : Inode) (first : ℕ) : Type 0 where
   pub taken : ℕ → Bool
-  pub progress : Progresses d disk before s t (with_planned_file 0 f taken p)
-  pub first_taken : OnEachOver t disk d (λ e. (b : ℕ) → (held e f).place 0 0 ≡ Block b → taken b ≡ true)
+  pub progress : OnEachOver t disk d (λ e. IsWhole (e first) → IsProgressOf d s t e before (with_planned_file 0 f taken p))
+  pub first_taken : OnEachOver t disk d (λ e. IsWhole (e first) → (b : ℕ) → (held e f).place 0 0 ≡ Block b → taken b ≡ true)
   pub blocks : OnEachOver t disk d (λ e. (i : ℕ)
       → file_block (held e f) i ≡ with_first (e first) (object_block disk top) i)
 
@@ -111,10 +114,10 @@ pub record IsBlockMapOn (entry_of : ℕ → ℕ) (h : Held) : Type 0 where
   pub entries : (b : ℕ) → map_entry (file_block h (b / 1024)) (b % 1024) ≡ entry_of b
   pub no_hole : HasNoHole h
 
--- The block map is planned with this inode. Where each of its blocks was to be stored before, its whole file is taken.
+-- The block map is planned with this inode, over what was planned so far. Where each of its blocks was to be stored before, its whole file is taken.
 pub record HasBlockMap (start : Draft) (p : PlannedInodes) (d : Draft) (disk : Blocks) (before : ℕ → ℕ) (s : Sizes) (t : HeldTree) (f : Inode) : Type 0 where
   pub taken : ℕ → Bool
-  pub progress : Progresses d disk before s t (with_planned_file 2 f taken p)
+  pub progress : OnEachOver t disk d (λ e. IsProgressOf start s t e before p → IsProgressOf d s t e before (with_planned_file 2 f taken p))
   pub map : OnEachOver t disk d (λ e. IsBlockMapOn (entry_at d.map.parts.items) (held e f))
   pub anew : AreTouched start.map.parts.items → OnEachOver t disk d (λ e. (b : ℕ) → Names (held e f) b → taken b ≡ true)
 

@@ -18,7 +18,7 @@ ghost use Rattle.conspoint.specs.MapFiles.{map_nodes};
 ghost use Rattle.images.specs.Nodes.{held};
 ghost use Rattle.images.specs.BlockMap.{entry};
 ghost use Rattle.images.specs.Soundness.{IsSoundFile, IsSoundTree};
-ghost use Rattle.planning.specs.Plans.{HasBlockMap, HasLast, Progresses};
+ghost use Rattle.planning.specs.Plans.{HasBlockMap, HasLast};
 ghost use Rattle.planning.specs.Progress.{PlannedInodes};
 ghost use Rattle.planning.specs.Space.{map_file_nodes};
 ghost use Rattle.planning.specs.Steps.{IsOverTree, settled_tree};
@@ -80,7 +80,6 @@ pub(crate) fn plan_block_map<B: Blocks>(
         → IsSoundTree inodes.now.geometry (settled_tree disk settled)
         → ((b : ℕ) → settled_at draft.old.map.parts.items b ≡ before b)
         → ((b : ℕ) → before b ≡ entry (settled_tree disk settled) b)
-        → Progresses draft.old disk before inodes.now.geometry (settled_tree disk settled) p
         → p.changed 2 ≡ false
         → IfOk result (λ f. HasBlockMap draft.old p draft.new disk before inodes.now.geometry
         (settled_tree disk settled) f) }
@@ -115,7 +114,6 @@ pub(crate) fn plan_last<B: Blocks>(
         → IsSoundTree inodes.now.geometry (settled_tree disk settled)
         → ((b : ℕ) → settled_at draft.old.map.parts.items b ≡ before b)
         → ((b : ℕ) → before b ≡ entry (settled_tree disk settled) b)
-        → Progresses draft.old disk before inodes.now.geometry (settled_tree disk settled) p
         → p.changed 2 ≡ false
         → OnOk result (HasLast draft.old p draft.new disk before inodes.now.geometry
         (settled_tree disk settled) file.now first) }

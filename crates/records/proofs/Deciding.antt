@@ -40,14 +40,14 @@ module _ {B : Type 0} {Over Sure : Premise} {G : Ghosts B} {a b : B} {s t : Inod
     applies = λ disk settled v sure. tt;
     place = λ disk settled v sure. tt;
     refused = λ {detail} disk settled v sure volume. refused_by (λ r. IfErr r (IsObstacle s.geometry.inodes v change)) _ f (Err g) is (λ errno first. first) (first detail disk settled v sure volume);
-    damaged = λ {detail} disk settled v stands bad. damaged_failed f (Err g) is (sound detail) disk settled v stands bad;
+    damaged = λ {detail}. damaged_failed f (Err g) is (sound detail);
   }
 
   -- a block wasn't read
   pub stops : {T : Type 0} {e : ReadError} (q : Result Prepared Failure) → IsErrAnd q (λ f. f ≡ Read e) → Looks {T = T} G IsFault a b s t (Err e) → ((detail : Detail) → NeverDamagedIn {T = T} detail G a s (Err e))
       → DecidesOn Over Sure G a b s t change q
   stops {T = T} {e = e} q is looks sound =
-      passes {T = T} (Read e) q is (looks_err (Err e) refl looks) tt (λ detail disk settled v sure volume. tt) (λ detail disk settled v stands bad. sound detail disk settled v stands (cc))
+      passes {T = T} (Read e) q is (looks_err (Err e) refl looks) tt (λ detail disk settled v sure volume. tt) (λ detail disk settled v stands can bad. sound detail disk settled v stands can (cc))
 
   -- this is the first obstacle
   pub obstructs : {T : Type 0} {x : T} {errno : Errno} → Looks {T = T} {E = ReadError} G IsFault a b s t (Ok x) → IsTrue (tells_obstacle change errno)
@@ -61,7 +61,7 @@ module _ {B : Type 0} {Over Sure : Premise} {G : Ghosts B} {a b : B} {s t : Inod
     applies = λ disk settled v sure. tt;
     place = λ disk settled v sure. tt;
     refused = λ {detail} disk settled v sure volume. first detail disk settled v sure volume;
-    damaged = λ disk settled v stands is. cc;
+    damaged = λ disk settled v stands can is. cc;
   }
 
   -- it is prepared
@@ -78,7 +78,7 @@ module _ {B : Type 0} {Over Sure : Premise} {G : Ghosts B} {a b : B} {s t : Inod
     applies = λ {detail} disk settled v sure. applies detail disk settled v sure;
     place = λ {detail} disk settled v sure. place detail disk settled v sure;
     refused = λ disk settled v sure volume. tt;
-    damaged = λ disk settled v stands is. cc;
+    damaged = λ disk settled v stands can is. cc;
   }
 
 -- another function goes on behind a look
@@ -96,5 +96,5 @@ follows {s = s} {change = change} {r = r} looks last then surely = record {
   refused = λ {detail} disk settled v sure volume.
       subst (λ (z : Sizes). IfOk (told r) (λ q. IfErr q (IsObstacle z.inodes v change))) looks.geometry
       (last.refused {detail = detail} disk settled v (surely detail disk settled v sure) (subst (λ (z : Sizes). IsVolumeFor detail z.inodes change v) (sym looks.geometry) volume));
-  damaged = λ disk settled v stands is. last.damaged disk settled v (looks.kept disk settled v stands) is;
+  damaged = λ disk settled v stands can is. last.damaged disk settled v (looks.kept disk settled v stands) can is;
 }

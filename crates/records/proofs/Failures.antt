@@ -35,7 +35,7 @@ pub damaged_read : {B T U : Type 0} {detail : Detail} {G : Ghosts B} {a : B} {s 
     → NeverDamagedIn {T = T} detail G a s (Err e) → NeverDamagedIn detail G a s (told q)
 damaged_read (Ok x) is sound = absurd is
 damaged_read (Err (Refused errno)) is sound = absurd (cc)
-damaged_read (Err (Read f)) is sound = λ disk settled v stands bad. sound disk settled v stands (cc)
+damaged_read (Err (Read f)) is sound = λ disk settled v stands can bad. sound disk settled v stands can (cc)
 
 -- ---- a step failed, and the whole by it
 
@@ -64,5 +64,5 @@ pub damaged_failed : {B T U : Type 0} {detail : Detail} {G : Ghosts B} {a : B} {
     → NeverDamagedIn detail G a s (told q)
 damaged_failed f (Ok x) is sound = absurd is
 damaged_failed {U = U} {detail = detail} {G = G} {a = a} {s = s} (Refused errno) (Err g) is sound =
-    subst (λ (h : Failure). NeverDamagedIn {T = Result U Errno} detail G a s (told (Err h))) (sym is) (λ disk settled v stands bad. cc)
+    subst (λ (h : Failure). NeverDamagedIn {T = Result U Errno} detail G a s (told (Err h))) (sym is) (λ disk settled v stands can bad. cc)
 damaged_failed (Read e) (Err g) is sound = damaged_read (Err g) is sound

@@ -9,7 +9,7 @@ use Rattle.blocktree.specs.declared.error.ReadError.TheVariants.{Damaged}
 use Rattle.images.specs.Soundness.{Detail}
 use Rattle.inofile.specs.Inodes.{HasRoomFor, IsKnown}
 use Rattle.inofile.specs.declared.inode_file.InodeFile.{InodeFile}
-use Rattle.paths.specs.Standing.{Looks, StandsIn}
+use Rattle.paths.specs.Standing.{Looks, NeverDamagedIn, StandsIn}
 
 -- what is true of something that was found, by the volume that memory stands for in so much detail
 abbrev pub Finding : Type 0 → Type 1
@@ -22,8 +22,7 @@ pub record Finds {B T : Type 0} (G : Ghosts B) (blocks after : B) (s t : InodeFi
   pub keeps : (n : ℕ) → HasRoomFor s n → HasRoomFor t n
   pub found : {detail : Detail} (disk : ℕ → List ℕ) (settled : ℕ → Inode) (v : Volume) → StandsIn detail G disk settled v blocks s
       → IfOk result (P detail disk settled v)
-  pub damaged : {detail : Detail} (disk : ℕ → List ℕ) (settled : ℕ → Inode) (v : Volume) → StandsIn detail G disk settled v blocks s
-      → IsErrOf result Damaged → ⊥
+  pub damaged : {detail : Detail} → NeverDamagedIn detail G blocks s result
 
 -- An object comes into memory, of which this is known then. Memory keeps what it knew, and the room that it had.
 pub record Brings {B T : Type 0} (G : Ghosts B) (blocks after : B) (s t : InodeFile) (Known : InodeFile → Type 0) (result : Result T ReadError) : Type 0 where

@@ -1,6 +1,6 @@
 pub mod GraphLaws
 mod Errors
-mod RecordLaws
+pub mod RecordLaws
 mod SizeLaws
-mod SavedLaws
+pub mod SavedLaws
 mod SweepLaws

@@ -26,15 +26,17 @@ from session_rows import bytes_of, difference, is_read, rows_of, shown
 DATA = Path(__file__).resolve().parent.parent / 'data'
 HALF = 131072
 LENGTH = 150
-# File, blocks, inodes, whether there are snapshots, and the seed of each list. The seeds are ones
-# with refusals of many kinds.
-FILES = [
-    ('random_64.rows', 64, 32, False, [24, 87, 106, 152, 160, 164]),
-    ('random_128.rows', 128, 32, False, [53, 87, 106, 160, 207, 236]),
-    ('random_256.rows', 256, 64, False, [43, 87, 119, 160, 186, 260]),
-    ('random_snapshots.rows', 128, 32, True, [5, 20, 53, 65, 68, 77]),
-]
 KEEPS = ['none', 'all', '10', '01', '110']
+LOSING_KEEPS = ['2', '021']
+# File, blocks, inodes, whether there are snapshots, what cuts keep, and the seed of each list. The
+# seeds are ones with refusals of many kinds.
+FILES = [
+    ('random_64.rows', 64, 32, False, KEEPS, [24, 87, 106, 152, 160, 164]),
+    ('random_128.rows', 128, 32, False, KEEPS, [53, 87, 106, 160, 207, 236]),
+    ('random_256.rows', 256, 64, False, KEEPS, [43, 87, 119, 160, 186, 260]),
+    ('random_snapshots.rows', 128, 32, True, KEEPS, [5, 20, 53, 65, 68, 77]),
+    ('random_unreadable.rows', 128, 32, True, LOSING_KEEPS, [3, 10, 23, 31, 40, 57]),
+]
 HEAD = '''\
 # Commands made from fixed numbers, with the replies of a plain model in Python: see the folder
 # `plain`, which writes this file. How a row is written stands in the head of sessions.rows.
@@ -55,14 +57,14 @@ def script(numbers, system, length):
     return pairs, writes
 
 
-def some_run(numbers, system, length):
+def some_run(numbers, system, keeps, length):
     """The lines of a run, and what it leaves. Half of the runs are cut."""
     pairs, writes = script(numbers, system, length)
     lines = [bytes_of(line) for line, _ in pairs]
     if writes == 0 or numbers.random() < 0.5:
         replies, left = run(system, lines)
         return ['run'] + shown_lines(pairs, replies), left
-    cut, keep = numbers.randrange(1, writes + 1), numbers.choice(KEEPS)
+    cut, keep = numbers.randrange(1, writes + 1), numbers.choice(keeps)
     kept_bytes = numbers.choice([0, 0, 1, 5, 20, 1000])
     replies, left = run(system, lines, cut, keep, kept_bytes)
     head = 'run cut=%d keep=%s bytes=%d' % (cut, keep, kept_bytes)
@@ -103,7 +105,7 @@ def reading_tree(volume):
     return lines
 
 
-def some_row(blocks, inodes, has_snapshots, seed):
+def some_row(blocks, inodes, has_snapshots, keeps, seed):
     """A row of as many commands as `LENGTH`, and then what reads all that is left."""
     numbers = Numbers(seed, has_snapshots)
     system = System(blocks, inodes, HALF)
@@ -111,8 +113,10 @@ def some_row(blocks, inodes, has_snapshots, seed):
     count = 0
     while count < LENGTH:
         length = min(LENGTH - count, numbers.randrange(5, numbers.longest_run))
-        more, system = some_run(numbers, system, length)
+        more, system = some_run(numbers, system, keeps, length)
         lines += more + ['check -> ' + shown(system.checked())]
+        if keeps is LOSING_KEEPS:
+            lines.append(' '.join(['slots ->'] + [str(sector) for sector in system.lost_slots()]))
         count += len(more) - 1
     mounted = system.copy()
     mounted.mount()
@@ -121,11 +125,11 @@ def some_row(blocks, inodes, has_snapshots, seed):
     return lines + ['run'] + shown_lines([(line, None) for line in last], replies) + ['unchanged']
 
 
-def made_file(blocks, inodes, has_snapshots, seeds):
+def made_file(blocks, inodes, has_snapshots, keeps, seeds):
     """The text of a file with a row for each seed."""
     lines = HEAD.splitlines()
     for seed in seeds:
-        lines += some_row(blocks, inodes, has_snapshots, seed)
+        lines += some_row(blocks, inodes, has_snapshots, keeps, seed)
     return '\n'.join(lines) + '\n'
 
 
@@ -167,9 +171,9 @@ def main(words):
         return 0 if check() else 1
     if len(words) == 4 and words[0] == '--more':
         for seed in range(int(words[1]), int(words[1]) + int(words[2])):
-            _, blocks, inodes, has_snapshots, _ = FILES[seed // 3 % len(FILES)]
+            _, blocks, inodes, has_snapshots, keeps, _ = FILES[seed // 3 % len(FILES)]
             path = Path(words[3]) / ('random_%d.rows' % seed)
-            path.write_text(made_file(blocks, inodes, has_snapshots, [seed]))
+            path.write_text(made_file(blocks, inodes, has_snapshots, keeps, [seed]))
         return 0
     if words:
         print(__doc__)

@@ -11,6 +11,10 @@ share is told by places, and a block is free where neither the tree under the ne
 snapshot has its place.
 
 Every command tells how many device writes it makes, and what a cut within each of them leaves.
+
+A cut may leave a sector that can't be read. Of all sectors only those of the two root slots are
+told apart here: the newest root stands in one, and the other one may be unreadable. A mount takes
+it for a slot without a root, and the next root goes there.
 """
 
 import copy
@@ -22,6 +26,7 @@ FIRST = 4
 DESCRIPTORS = 32
 INODES_OF_A_BLOCK = 21
 LOG_START = 9
+SLOTS = (0, 8)
 
 
 class Refusal(Exception):
@@ -67,6 +72,7 @@ class System:
         self.generation, self.records = 1, 0
         self.inode_blocks, self.changed_inodes = {0}, set()
         self.snapshots, self.places, self.next_place = [], {}, 0
+        self.slot, self.is_other_lost = 0, False
         self.give_places(self.blocks())
         self.begin_command()
 
@@ -212,6 +218,7 @@ class System:
         self.costs, self.is_changed = 0, False
         self.generation, self.records = self.generation + 1, 0
         self.log_end, self.is_log_open = LOG_START, False
+        self.slot, self.is_other_lost = 1 - self.slot, False
         self.steps.append(Step('root', self.writes, before, self.copy()))
 
     def fixed(self):
@@ -261,6 +268,10 @@ class System:
         figures = (self.generation, len(self.snapshots), self.records, self.free)
         return b'ok generation %d snapshots %d records %d free %d' % figures
 
+    def lost_slots(self):
+        """The sectors of root slots that can't be read."""
+        return [SLOTS[1 - self.slot]] if self.is_other_lost else []
+
     def cut(self, write, before, keep, kept_bytes):
         """What a cut within this write of the command leaves.
 
@@ -272,13 +283,21 @@ class System:
             if step.write < write:
                 left = step.after
             elif step.write == write:
-                stays = kept_bytes >= 1 if step.kind == 'open' else is_kept(keep)
+                stays = kept_bytes >= 1 if step.kind == 'open' else mark_of(keep) == '1'
                 left = step.after if stays else step.before
+                if step.kind == 'root' and mark_of(keep) == '2':
+                    left = left.with_lost_slot()
         if self.record is not None and self.record.write == write:
             left = self if kept_bytes >= 1 else self.record.before
         return left.copy()
 
+    def with_lost_slot(self):
+        """The same, where the slot without the newest root can't be read."""
+        other = self.copy()
+        other.is_other_lost = True
+        return other
 
-def is_kept(keep):
-    """Whether a cut keeps the first sector since a sync."""
-    return keep == 'all' or keep != 'none' and keep[0] == '1'
+
+def mark_of(keep):
+    """What a cut does with the first sector since a sync: 0 drops it, 1 keeps it, 2 loses it."""
+    return {'none': '0', 'all': '1'}.get(keep, keep[0])

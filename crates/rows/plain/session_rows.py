@@ -63,7 +63,7 @@ def is_read(row):
             continue
         if line.split()[0] == 'run' and not set(UNREAD) & {name for name, _ in words_of_run(line)}:
             continue
-        if re.match('(disk|nvram) (holds|zeros) |(status|says|check) ', line):
+        if re.match('(disk|nvram) (holds|zeros) |(status|says|check|slots) |bad (->|of )', line):
             continue
         return False
     return True
@@ -93,6 +93,9 @@ def difference_of_choice(row, choice):
         if line.startswith('check -> ') and index > 0:
             if not is_one_of(system.checked(), line.removeprefix('check -> ')):
                 return 'check: the model answers %s' % shown(system.checked())
+        if line.startswith('slots ->') and index > 0:
+            if line.split()[2:] != [str(sector) for sector in system.lost_slots()]:
+                return '%s: the model answers %s' % (line, system.lost_slots())
         if line.split()[0] != 'run' or index == 0:
             continue
         options = {name: choice.pop(0) for name, _ in words_of_run(line)}

@@ -6,12 +6,13 @@ use crate::fault::Fault;
 use crate::file_lines::obey_file;
 use crate::guards::Locks;
 use crate::image::obey;
+use crate::image_verbs::{Images, looks_at_bad};
 use crate::obeying::Obeyed;
-use crate::run::{Images, Run};
+use crate::run::Run;
 use crate::text::{is_one_of, random_bytes};
 use command_line::{Asked, LineError, read_line};
+use memory_station::Sim;
 use mount::make;
-use station::Sim;
 use std::alloc::{AllocError, Global};
 use std::mem;
 
@@ -21,6 +22,8 @@ pub struct Bench<'a> {
     alloc: Global,
     choices: Choices,
     images: Images,
+    /// What runs leave is checked. Of a row with many choices it is for every fourth.
+    is_checked: bool,
     /// The images are as runs left them, and no line changed them otherwise.
     are_left: bool,
     locks: Locks<'a>,
@@ -40,10 +43,8 @@ impl<'a> Bench<'a> {
         Bench {
             alloc,
             choices: Choices::new(choice),
-            images: Images {
-                disk: Vec::new(alloc),
-                nvram: Vec::new(alloc),
-            },
+            images: Images::new(alloc),
+            is_checked: choice % 4 == 0,
             are_left: false,
             locks: Locks::new(alloc),
             open: Open::Nothing,
@@ -96,7 +97,7 @@ impl<'a> Bench<'a> {
             Open::Nothing => Ok(()),
             Open::Run(run) => {
                 run.finish(self.alloc, &mut self.images)?;
-                if self.are_left {
+                if self.is_checked && self.are_left {
                     expect_faultless(self.alloc, &self.images)?;
                 }
                 Ok(())
@@ -128,18 +129,30 @@ impl<'a> Bench<'a> {
                 self.open = Open::Obeyed(Obeyed::new(self.alloc, words));
                 Ok(true)
             }
+            "words" => compare_words(self.alloc, words),
             "image" => self.make_image(words),
             "random" => self.randomize(words),
-            "disk" => {
-                self.are_left = false;
-                obey(self.alloc, &mut self.choices, &mut self.images.disk, words)
-            }
-            "nvram" => {
-                self.are_left = false;
-                obey(self.alloc, &mut self.choices, &mut self.images.nvram, words)
-            }
+            _ => self.obey_images(verb, words),
+        }
+    }
+
+    /// Does what a line says that changes the images or looks at them. False where it isn't understood.
+    fn obey_images(&mut self, verb: &str, words: &str) -> Result<bool, Fault> {
+        match verb {
+            "slots" => self.images.compare_slots(self.alloc, words),
             "check" => compare_check(self.alloc, &self.images, words),
-            "words" => compare_words(self.alloc, words),
+            _ => {
+                self.are_left &= verb == "bad" && looks_at_bad(words);
+                self.change_images(verb, words)
+            }
+        }
+    }
+
+    fn change_images(&mut self, verb: &str, words: &str) -> Result<bool, Fault> {
+        match verb {
+            "bad" => self.images.obey_bad(self.alloc, words),
+            "disk" => obey(self.alloc, &mut self.choices, &mut self.images.disk, words),
+            "nvram" => obey(self.alloc, &mut self.choices, &mut self.images.nvram, words),
             _ => Ok(false),
         }
     }
@@ -169,6 +182,7 @@ impl<'a> Bench<'a> {
         self.images = Images {
             disk: random_bytes(self.alloc, seed, disk)?,
             nvram: random_bytes(self.alloc, seed, nvram)?,
+            bad: Vec::new(self.alloc),
         };
         Ok(true)
     }

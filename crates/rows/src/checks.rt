@@ -1,10 +1,9 @@
 //! A check of a row's images.
 
 use crate::fault::Fault;
-use crate::run::Images;
+use crate::image_verbs::Images;
 use crate::text::is_one_of;
 use checker::{CheckError, Finding, Watch, check};
-use station::Sim;
 use std::alloc::{AllocError, Global};
 
 /// What a check finds, a text for each tree.
@@ -47,11 +46,7 @@ pub fn expect_faultless(alloc: Global, images: &Images) -> Result<(), Fault> {
 }
 
 fn check_text(alloc: Global, images: &Images) -> Result<String, Fault> {
-    let disk = Vec::from_slice(alloc, &images.disk)?;
-    let nvram = Vec::from_slice(alloc, &images.nvram)?;
-    let Ok(sim) = Sim::load(alloc, disk, nvram) else {
-        return Err(Fault::misread(alloc, "no station has these sizes"));
-    };
+    let sim = images.load(alloc)?;
     let mut told = Told {
         alloc,
         text: Ok(String::new(alloc)),

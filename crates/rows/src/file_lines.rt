@@ -4,6 +4,7 @@ use crate::fault::Fault;
 use crate::guards::obey_guard;
 use crate::text::{bytes_of, is_one_of};
 use crate::transfers::obey_transfer;
+use host_files::{Image, list_name};
 use std::fs;
 use std::os::unix::fs::symlink;
 use tool::make_image;
@@ -47,7 +48,13 @@ fn make_files(rt: &HostRuntime, text: &str) -> Result<bool, Fault> {
     let (Ok(blocks), Ok(inodes), Ok(half)) = (blocks.parse(), inodes.parse(), half.parse()) else {
         return Ok(false);
     };
-    let came = match make_image(rt, disk, nvram, blocks, inodes, half, false) {
+    let bad = list_name(rt.alloc(), disk)?;
+    let image = Image {
+        disk,
+        nvram,
+        bad: bad.as_str(),
+    };
+    let came = match make_image(rt, image, blocks, inodes, half, false) {
         Ok(()) => String::from_str(rt.alloc(), "done")?,
         Err(error) => format!(in rt.alloc(); "{error}")?,
     };

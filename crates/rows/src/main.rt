@@ -12,6 +12,7 @@ mod file_lines;
 mod formats;
 mod guards;
 mod image;
+mod image_verbs;
 mod levels;
 mod obeying;
 mod run;

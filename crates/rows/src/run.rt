@@ -2,9 +2,10 @@
 
 use crate::choices::Choices;
 use crate::fault::Fault;
+use crate::image_verbs::Images;
 use crate::text::{bytes_of, is_one_of, push_text};
+use memory_station::{Keep, Mark, Sim};
 use session::{session, shell};
-use station::{Keep, Sim};
 use std::alloc::{AllocError, Global};
 
 /// What fails in a run, by the numbers that a station counts.
@@ -38,13 +39,6 @@ pub struct Run<'a> {
     is_unchanged: bool,
 }
 
-/// Both images.
-#[derive(Drop)]
-pub struct Images {
-    pub disk: Vec<u8>,
-    pub nvram: Vec<u8>,
-}
-
 /// What a run gave.
 #[derive(Drop)]
 struct Outcome {
@@ -52,17 +46,6 @@ struct Outcome {
     out: Vec<u8>,
     err: Vec<u8>,
     images: Images,
-}
-
-impl Images {
-    /// What reads of a station give.
-    pub fn of(alloc: Global, sim: &Sim) -> Result<Images, AllocError> {
-        let (disk, nvram) = sim.images();
-        Ok(Images {
-            disk: Vec::from_slice(alloc, disk)?,
-            nvram: Vec::from_slice(alloc, nvram)?,
-        })
-    }
 }
 
 impl<'a> Run<'a> {
@@ -188,9 +171,7 @@ impl<'a> Run<'a> {
         self.compare_status(alloc, outcome.status)?;
         self.compare_replies(alloc, &outcome.out, is_refused)?;
         self.compare_fault(alloc, &outcome.err, is_refused)?;
-        let is_same = outcome.images.disk.as_slice() == before.disk.as_slice()
-            && outcome.images.nvram.as_slice() == before.nvram.as_slice();
-        if !is_same && (self.is_unchanged || is_refused) {
+        if !outcome.images.is_same(before) && (self.is_unchanged || is_refused) {
             return Err(Fault::differs(alloc, "images", b"others", "the same"));
         }
         Ok(())
@@ -274,12 +255,7 @@ impl<'a> FaultPlan<'a> {
 
     /// A station in memory on these images, with what is to fail.
     fn station(&self, alloc: Global, images: &Images) -> Result<Sim, Fault> {
-        let disk = Vec::from_slice(alloc, &images.disk)?;
-        let nvram = Vec::from_slice(alloc, &images.nvram)?;
-        let mut sim = match Sim::load(alloc, disk, nvram) {
-            Ok(sim) => sim,
-            Err(_) => return Err(Fault::misread(alloc, "no station has these sizes")),
-        };
+        let mut sim = images.load(alloc)?;
         if let Some(write) = self.cut {
             sim.cut_at(write, keep_of(alloc, self.keep)?, self.bytes);
         }
@@ -297,6 +273,14 @@ fn keep_of(alloc: Global, word: &str) -> Result<Keep, AllocError> {
     match word {
         "none" => Ok(Keep::Nothing),
         "all" => Ok(Keep::Everything),
-        bits => Ok(Keep::Bits(bits.bytes().map(|byte| byte == b'1').collect(alloc)?)),
+        bits => Ok(Keep::Bits(bits.bytes().map(|byte| mark_of(byte)).collect(alloc)?)),
+    }
+}
+
+fn mark_of(byte: u8) -> Mark {
+    match byte {
+        b'1' => Mark::Kept,
+        b'2' => Mark::Lost,
+        _ => Mark::Dropped,
     }
 }

@@ -2,6 +2,7 @@
 
 use crate::fault::Fault;
 use crate::text::{is_one_of, random_bytes};
+use host_files::{Image, list_name};
 use std::fs;
 use std::io::sink;
 use transfer::{Progress, Transfer, TransferError, get_file, put_file};
@@ -48,10 +49,18 @@ fn put(rt: &HostRuntime, text: &str) -> Result<bool, Fault> {
     let Some((words, expected)) = text.split_once(" -> ") else {
         return Ok(false);
     };
-    let Some(what) = put_words(words) else {
+    let Some(words) = four_words(words) else {
         return Ok(false);
     };
+    let bad = list_name(rt.alloc(), words.first)?;
     let mut progress = Progress::new(sink(), false);
+    let what = transfer_of(
+        words.first,
+        words.second,
+        bad.as_str(),
+        words.fourth,
+        words.third,
+    );
     let came = put_file(rt, what, &mut rt.reader(), &mut progress);
     compare_end(rt, &came, expected)
 }
@@ -61,9 +70,22 @@ fn get(rt: &HostRuntime, text: &str) -> Result<bool, Fault> {
     let Some((words, expected)) = text.split_once(" -> ") else {
         return Ok(false);
     };
-    let Some(what) = get_words(words) else {
+    let Some(words) = four_words(words) else {
         return Ok(false);
     };
+    let bad = list_name(rt.alloc(), words.first)?;
+    let what = transfer_of(
+        words.first,
+        words.second,
+        bad.as_str(),
+        words.third,
+        words.fourth,
+    );
+    bring_back(rt, what, expected)
+}
+
+/// Brings a file back, and compares how that ended.
+fn bring_back(rt: &HostRuntime, what: Transfer<'_>, expected: &str) -> Result<bool, Fault> {
     let mut shown = Vec::new(rt.alloc());
     let mut progress = Progress::new(sink(), false);
     let came = get_file(rt, what, None, &mut shown, &mut progress);
@@ -73,25 +95,33 @@ fn get(rt: &HostRuntime, text: &str) -> Result<bool, Fault> {
     compare_end(rt, &came, expected)
 }
 
-/// `DISK NVRAM FILE PATH`
-fn put_words(words: &str) -> Option<Transfer<'_>> {
-    let mut words = words.split(' ');
-    Some(Transfer {
-        disk: words.next()?,
-        nvram: words.next()?,
-        file: words.next()?,
-        path: words.next()?,
-    })
+fn transfer_of<'a>(
+    disk: &'a str,
+    nvram: &'a str,
+    bad: &'a str,
+    path: &'a str,
+    file: &'a str,
+) -> Transfer<'a> {
+    let image = Image { disk, nvram, bad };
+    Transfer { image, path, file }
 }
 
-/// `DISK NVRAM PATH FILE`
-fn get_words(words: &str) -> Option<Transfer<'_>> {
+/// The words of a line about a transfer.
+#[derive(Drop)]
+struct FourWords<'a> {
+    first: &'a str,
+    second: &'a str,
+    third: &'a str,
+    fourth: &'a str,
+}
+
+fn four_words(words: &str) -> Option<FourWords<'_>> {
     let mut words = words.split(' ');
-    Some(Transfer {
-        disk: words.next()?,
-        nvram: words.next()?,
-        path: words.next()?,
-        file: words.next()?,
+    Some(FourWords {
+        first: words.next()?,
+        second: words.next()?,
+        third: words.next()?,
+        fourth: words.next()?,
     })
 }
 

@@ -1,9 +1,13 @@
 -- What stands on a disk and an NVRAM, and the steps from one such state to the next.
-use Rattle.std.specs.Prelude.{◌≡◌, ◌⊎◌, ℕ, ◌+◌, ◌-◌, ◌*◌, ◌<◌, ◌≤◌, List, ◌++◌, length, take, drop, if◌then◌else◌, Bool, nat_lt, nat_le, ◌&&◌}
+use Rattle.std.specs.Prelude.{◌≡◌, ◌⊎◌, ℕ, ◌+◌, ◌-◌, ◌*◌, ◌<◌, ◌≤◌, List, [], ◌++◌, length, take, drop, if◌then◌else◌, Bool, true, false, nat_lt, nat_le, ◌&&◌}
 
--- what a sector holds: its bytes
+-- what a sector holds: its bytes, or none where it can't be read
 abbrev pub Sector : Type 0
 Sector = List ℕ
+
+-- a sector that can't be read
+abbrev pub unreadable : Sector
+unreadable = []
 
 -- the bytes that a read of a sector gives
 abbrev pub sector_bytes : Sector → List ℕ
@@ -13,10 +17,23 @@ sector_bytes sector = sector
 abbrev pub sector_with : List ℕ → Sector
 sector_with bytes = bytes
 
+-- what a read of a sector tells: whether it can be read, and then its bytes
+abbrev pub Tells : Bool → List ℕ → Sector → Type 0
+Tells true out sector = out ≡ sector_bytes sector
+Tells false out sector = sector ≡ unreadable
+
 -- what each sector of the disk holds, and the bytes of the NVRAM
 pub record Images : Type 0 where
   pub disk : ℕ → Sector
   pub nvram : List ℕ
+
+-- the sectors of a disk of these bytes
+abbrev pub sectors_of : List ℕ → ℕ → Sector
+sectors_of disk n = sector_with (take 512 (drop (512 * n) disk))
+
+-- the images of these bytes
+abbrev pub images_of : List ℕ → List ℕ → Images
+images_of disk nvram = record { disk = sectors_of disk; nvram = nvram }
 
 -- sector n with its part of bytes that were written from sector first on
 abbrev pub part_of : ℕ → List ℕ → ℕ → Sector
@@ -47,12 +64,12 @@ abbrev pub SectorsWritten : ℕ → List ℕ → Images → Images → Type 0
 SectorsWritten first bytes old new =
     new ≡ record { disk = disk_with first bytes old.disk; nvram = old.nvram }
 
--- any of the sectors are written: each that the bytes reach keeps what it had or takes its part of them, and the
--- others stay
+-- any of the sectors are written: each that the bytes reach keeps what it had, takes its part of them, or can't be read
+-- then; the others stay
 pub record SomeSectorsWritten (first : ℕ) (bytes : List ℕ) (old new : Images) : Type 0 where
   pub nvram : new.nvram ≡ old.nvram
   pub disk : (n : ℕ) → (new.disk n ≡ old.disk n)
-      ⊎ (Reaches first bytes n × (new.disk n ≡ part_of first bytes n))
+      ⊎ (Reaches first bytes n × ((new.disk n ≡ part_of first bytes n) ⊎ (new.disk n ≡ unreadable)))
 
 -- the bytes are written to the NVRAM
 abbrev pub NvramWritten : ℕ → List ℕ → Images → Images → Type 0

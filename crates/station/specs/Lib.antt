@@ -1,10 +1,3 @@
 pub mod Images
 pub mod Moments
 pub mod Calls
-pub mod Unsynced
-pub mod Device
-pub mod Tied
-pub mod FaultPlan
-pub mod Media
-pub mod Sim
-pub mod DeviceLaws

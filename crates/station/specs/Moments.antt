@@ -1,6 +1,6 @@
 -- What a power cut may leave at each moment, and how a call goes on from what it found.
 use Rattle.std.specs.Prelude.{◌≡◌, ◌⊎◌, ℕ, ◌+◌, ◌<◌, ◌≤◌, ◌-◌, ◌^◌, min, length, List, Result, OnOk, OnErr, ◌↔◌}
-use Rattle.station.specs.Images.{Images, sector_bytes}
+use Rattle.station.specs.Images.{Images, Sector, sector_bytes, unreadable}
 
 -- What is known of a station. A moment is a number that doesn't fall: calls begin and end at moments, and moments
 -- may lie within a call.
@@ -44,10 +44,14 @@ pub record FitsNumbers (m : Meaning) : Type 0 where
   pub sectors : m.sectors < 2 ^ 32
   pub nvram : m.nvram_bytes < 2 ^ 32
 
+-- a sector has 512 bytes, or can't be read
+abbrev pub IsSector : Sector → Type 0
+IsSector sector = (length (sector_bytes sector) ≡ 512) ⊎ (sector ≡ unreadable)
+
 -- images of a station's sizes
 pub record HasSizes (m : Meaning) (c : Images) : Type 0 where
   pub nvram : length c.nvram ≡ m.nvram_bytes
-  pub sector : (n : ℕ) → n < m.sectors → length (sector_bytes (c.disk n)) ≡ 512
+  pub sector : (n : ℕ) → n < m.sectors → IsSector (c.disk n)
 
 -- images that a cut may have left at old, after a step
 abbrev pub After : (Images → Images → Type 0) → Meaning → Images → Type 0

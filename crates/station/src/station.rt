@@ -1,7 +1,7 @@
 //! A disk and an NVRAM as the file system sees them.
 
-ghost use Rattle.std.specs.Prelude.{◌≡◌, ◌↔◌, ℕ, ◌+◌, ◌*◌, ◌<◌, ◌≤◌, length, take, drop, OnOk};
-ghost use Rattle.station.specs.Images.{Unchanged, SectorsWritten, SomeSectorsWritten, NvramWritten, NvramPrefixWritten, sector_bytes};
+ghost use Rattle.std.specs.Prelude.{◌≡◌, ◌↔◌, ℕ, ◌+◌, ◌*◌, ◌<◌, ◌≤◌, length, take, drop, OnOk, IfOk};
+ghost use Rattle.station.specs.Images.{Unchanged, SectorsWritten, SomeSectorsWritten, NvramWritten, NvramPrefixWritten, Tells};
 ghost use Rattle.station.specs.Moments.{Meaning, MayLeave, Shows, EachCut, LeavesJust, FitsNumbers, HasSizes, SeenGoes, LeftGoes};
 ghost use Rattle.station.specs.Calls.{ReadCall, WriteCall};
 
@@ -21,11 +21,12 @@ pub struct DeviceFault;
 /// A disk of sectors of 512 bytes and an NVRAM. A *device write* is one `write_sector`, `write_block` or `nv_write`; a
 /// power cut comes before, within or after one. Every call may fail. The words that the clauses below use speak of a
 /// station that is *honest*, which means that it keeps to the device's rules:
-/// - a read gives the last value written;
+/// - a read gives the last value written, or tells that the sector can't be read, which isn't a failure;
 /// - a cut leaves in each sector, independently of the others, its settled value or one written since the last sync
-///   that succeeded;
-/// - a disk write that failed counts as written, and a read then gives the old or the new value of each sector, the
-///   same one until the sector is written again;
+///   that succeeded; a sector that was written since then may also be one that can't be read, and stays so until it is
+///   written again;
+/// - a disk write that failed counts as written; each of its sectors then has the old value, or the new one, or can't be
+///   read, the same until it is written again;
 /// - an NVRAM write that succeeded is kept, and one that was cut off or failed keeps a beginning of its bytes. Of one
 ///   that failed, reads may give another beginning than a cut leaves, until a sync succeeds or the bytes are written
 ///   again;
@@ -43,12 +44,12 @@ pub trait Station {
     fn nv_bytes(&self) -> u32
         ensures { result ≡ (meaning self.now).nvram_bytes };
 
-    /// Reads sector `n`.
-    fn read_sector(&mut self, n: u32, out: &mut [u8; 512]) -> Result<(), DeviceFault>
+    /// Reads sector `n`, and tells whether it can be read.
+    fn read_sector(&mut self, n: u32, out: &mut [u8; 512]) -> Result<bool, DeviceFault>
         requires { n < (meaning self.old).sectors }
         ensures call { ReadCall (meaning self.old) (meaning self.new) result }
-        ensures bytes { OnOk result
-            (Shows (meaning self.old) (λ c. out.new ≡ sector_bytes (c.disk n))) };
+        ensures bytes { IfOk result (λ is.
+            Shows (meaning self.old) (λ c. Tells is out.new (c.disk n))) };
 
     /// Writes sector `n`.
     fn write_sector(&mut self, n: u32, bytes: &[u8; 512]) -> Result<(), DeviceFault>

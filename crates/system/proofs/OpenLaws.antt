@@ -1,10 +1,8 @@
 -- What is found on a station and read from it makes a system that serves it.
-use Rattle.std.proofs.Common.{◌≡◌, ◌⊎◌, inl, inr, ℕ, zero, suc, ◌+◌, ◌-◌, ◌*◌, ◌/◌, ◌%◌, ◌<◌, ◌≤◌, List, ◌++◌, length, slice_index, Option, Some, None, false, refl, sym, ap, subst, ◌∙◌, arith, length-append, zero-add}
+use Rattle.std.proofs.Common.{◌≡◌, ◌⊎◌, inl, inr, ℕ, zero, suc, ◌≤◌, List, Option, Some, None, false, refl, sym, ap, subst, ◌∙◌}
 use Rattle.std.specs.Prelude.{Result, Ok, Err, IsErrAnd, IsErrOf, IsSome, IsTrue, IsFalse, MatchResult, IfErr}
 use Rattle.std.specs.BTreeMap.{BTreeMap}
 use Rattle.std.specs.Option.{option_map}
-use Rattle.std.proofs.lemmas.Bool.{cases_lt}
-use Rattle.std.proofs.lemmas.List.{get_or_append_left, get_or-append_right}
 use Rattle.station.specs.Images.{Images, Unchanged}
 use Rattle.station.specs.Moments.{Meaning, Goes, IsSameStation, LeavesJust}
 use Rattle.layout.specs.Limits.{Sizes}
@@ -17,7 +15,7 @@ use Rattle.model.specs.Records.{Extends, Replays, is_vacant, pledged_for, withou
 use Rattle.model.specs.States.{State}
 use Rattle.model.specs.Trees.{Tree}
 use Rattle.model.specs.Volumes.{Node, directory_node, file_node, link_node, IsMounted, IsVolume, Volume, swept_node}
-use Rattle.buffers.specs.Disks.{IsBlock, ShowsDisk}
+use Rattle.buffers.specs.Disks.{ShowsDisk}
 use Rattle.buffers.specs.declared.block.Block.{Block}
 use Rattle.oplog.specs.LogEnd.{StandsAt}
 use Rattle.oplog.specs.SavedLog.{Saved, StandsBehind}
@@ -26,13 +24,15 @@ use Rattle.descriptors.specs.Files.{description_of}
 use Rattle.descriptors.specs.Fits.{FitsVolume}
 use Rattle.descriptors.specs.Tables.{open_at}
 use Rattle.descriptors.specs.declared.table.Descriptors.{Descriptors}
-use Rattle.images.specs.Roots.{whole}
+use Rattle.images.specs.Nodes.{held}
+use Rattle.images.specs.Roots.{tree, whole}
 use Rattle.inofile.specs.Room.{memory_room}
+use Rattle.inofile.specs.Settled.{CanRead}
 use Rattle.inofile.specs.Volumes.{IsVolumeIn, IsVolumeOf}
 use Rattle.inofile.specs.declared.inode_file.InodeFile.{InodeFile}
 use Rattle.images.specs.Faults.{IsFaultlessUnder}
 use Rattle.images.specs.Replaying.{ReplaysWithin}
-use Rattle.images.specs.Soundness.{by_sizes}
+use Rattle.images.specs.Soundness.{IsReadable, by_sizes}
 use Rattle.loading.specs.Images.{IsLoadedIn, IsLoadedUnder, IsReadableIn, inodes_of}
 use Rattle.records.specs.Preparing.{HasGraph}
 use Rattle.replay.specs.Volumes.{HasVolume, HasVolumeIn, SavesRecords, SavesRecordsIn, bodies_of}
@@ -95,53 +95,6 @@ still_left old new i same goes just honest c left =
     let d = (goes before).now c left in
     d.2 ∙ just before d.0 d.1
 
--- ---- the disk by blocks
-
--- sectors k and those behind it, one behind the other
-row : (ℕ → List ℕ) → ℕ → ℕ → ℕ → List ℕ
-row d at k zero = d (at + k)
-row d at k (suc n) = d (at + k) ++ row d at (k + 1) n
-
-row_length : (d : ℕ → List ℕ) (at k n : ℕ) → ((i : ℕ) → k ≤ i → i ≤ k + n → length (d (at + i)) ≡ 512) → length (row d at k n) ≡ 512 * (n + 1)
-unfolding row
-row_length d at k zero long = long k (omega arith) (omega arith) ∙ omega arith
-row_length d at k (suc n) long =
-    omega (arith, length-append (d (at + k)) (row d at (k + 1) n), long k (omega arith) (omega arith), row_length d at (k + 1) n (λ i low high. long i (omega arith) (omega arith)))
-
-row_at : (d : ℕ → List ℕ) (at k n r : ℕ) → ((i : ℕ) → k ≤ i → i ≤ k + n → length (d (at + i)) ≡ 512) → r < 512 * (n + 1)
-    → slice_index (row d at k n) r ≡ slice_index (d (at + (k + r / 512))) (r % 512)
-unfolding row
-row_at d at k zero r long within =
-    let place : k ≡ k + r / 512 = omega arith in
-    let rest : r ≡ r % 512 = omega arith in
-    ap (λ (j : ℕ). slice_index (d (at + j)) r) place ∙ ap (slice_index (d (at + (k + r / 512)))) rest
-row_at d at k (suc n) r long within = elim (cases_lt r 512) [
-  | inl low ↦
-      let place : k ≡ k + r / 512 = omega arith in
-      let rest : r ≡ r % 512 = omega arith in
-      get_or_append_left (d (at + k)) (row d at (k + 1) n) 0 r (omega (arith, low, long k (omega arith) (omega arith)))
-      ∙ ap (λ (j : ℕ). slice_index (d (at + j)) r) place ∙ ap (slice_index (d (at + (k + r / 512)))) rest
-  | inr high ↦
-      let place : (k + 1) + (r - 512) / 512 ≡ k + r / 512 = omega (arith, high) in
-      let rest : (r - 512) % 512 ≡ r % 512 = omega (arith, high) in
-      get_or-append_right (d (at + k)) (row d at (k + 1) n) 512 r 0 (long k (omega arith) (omega arith)) high
-      ∙ row_at d at (k + 1) n (r - 512) (λ i low2 high2. long i (omega arith) (omega arith)) (omega (arith, within, high))
-      ∙ ap (λ (j : ℕ). slice_index (d (at + j)) ((r - 512) % 512)) place ∙ ap (slice_index (d (at + (k + r / 512)))) rest
-]
-
--- a block is its eight sectors
-pub is_block : (d : ℕ → List ℕ) (b : ℕ) → ((i : ℕ) → i < 8 → length (d (8 * b + i)) ≡ 512) → IsBlock d b (blocks_of d b)
-unfolding blocks_of row
-is_block d b long =
-    let at : 8 * b + 0 ≡ 8 * b = omega arith in
-    let same : row d (8 * b) 0 7 ≡ blocks_of d b = ap (λ (n : ℕ). d n ++ row d (8 * b) 1 6) at in
-    subst (IsBlock d b) same (record {
-      size = row_length d (8 * b) 0 7 (λ i low high. long i (omega arith));
-      bytes_are = λ r lt.
-          row_at d (8 * b) 0 7 r (λ i low high. long i (omega arith)) (omega arith)
-          ∙ ap (λ (n : ℕ). slice_index (d (8 * b + n)) (r % 512)) (zero-add (r / 512));
-    })
-
 -- ---- what memory has
 
 module _ (disk : Blocks) (r : Root) (nvram : List ℕ) (first last : Volume) (snapshots : List (Name × Tree)) (changes : List Change) (saved : Saved)
@@ -180,6 +133,11 @@ module _ (disk : Blocks) (r : Root) (nvram : List ℕ) (first last : Volume) (sn
 module _ (disk : Blocks) (r : Root) (nvram : List ℕ) (changes : List Change) (under : IsFaultlessUnder r (whole disk r) nvram changes) where
   pub grammar_read : IsReadableIn by_sizes disk r
   grammar_read = record { sound = (under.active.grammar, under.active.numbers); root = under.active.grammar.root }
+
+  -- the files of a tree are those of its inodes
+  pub can_read : ((n : ℕ) → IsReadable ((whole disk r).active n)) → CanRead by_sizes disk (inodes_of (whole disk r).active)
+  unfolding whole tree held
+  can_read readable = readable
 
   module _ (saved : Saved) (half : saved.half ≡ r.geometry.half) (generation : saved.generation ≡ r.generation) (inodes : InodeFile) (geometry : inodes.geometry ≡ r.geometry) where
     pub saves_within : SavesRecordsIn by_sizes inodes.geometry.inodes nvram saved changes under.log.first under.log.last

@@ -1,6 +1,7 @@
 -- What a cut leaves of a point that is planned for a system.
 use Rattle.std.proofs.Common.{◌≡◌, ◌≢◌, ◌⊎◌, inl, inr, ℕ, ◌+◌, ◌*◌, ◌/◌, ◌<◌, ◌^◌, List, [], Option, Result, Ok, Err, refl, ap, sym, subst, ◌∙◌, arith}
 use Rattle.std.specs.Prelude.{IfErr, IfOk, OnOk}
+use Rattle.station.specs.declared.station.Station.{Ghosts}
 use Rattle.station.specs.Images.{Images, Unchanged}
 use Rattle.station.specs.Moments.{Meaning, MayLeave, After, Goes, LeavesOnly}
 use Rattle.station.proofs.Moments.{joined, leaves_unchanged, weaker}
@@ -18,18 +19,23 @@ use Rattle.images.specs.Cuts.{Write, AreFree}
 use Rattle.images.specs.Roots.{whole}
 use Rattle.images.specs.SnapshotSteps.{SnapshotStep}
 use Rattle.images.specs.States.{Opens, OpensBy}
-use Rattle.oplog.specs.LogEnd.{LogEnd, Bodies, all_bodies, StandsAt}
-use Rattle.conspoint.specs.Cuts.{StaysOutside, HasNewRoot}
-use Rattle.conspoint.specs.Plans.{Planned, FitsDisk}
-use Rattle.conspoint.specs.Writes.{AreWhole, writes_of}
+use Rattle.oplog.specs.LogEnd.{LogEnd, Bodies, all_bodies, no_bodies, StandsAt}
+use Rattle.conspoint.specs.Cuts.{StaysOutside, HasNewRoot, HasRootOrLost, LosesSlot}
+use Rattle.conspoint.specs.Plans.{Planned}
+use Rattle.conspoint.specs.Writes.{writes_of}
 use Rattle.system.specs.Counting.{LogsNothing, SameNvram}
 use Rattle.system.specs.Images.{OpensTo}
 use Rattle.system.specs.Laws.{CutLaws}
 use Rattle.system.specs.Memory.{HasEntries}
+use Rattle.planning.specs.Changes.{IsStepOf, TakesNone}
 use Rattle.planning.specs.Plans.{IsPlannable}
-use Rattle.system.specs.Points.{IsPlannedOver, stepped}
+use Rattle.planning.specs.declared.change.SnapshotChange.{SnapshotChange}
+use Rattle.planning.specs.declared.change.SnapshotChange.TheVariants as changes
+use Rattle.system.specs.Points.{HasRoomToStep, IsPlannedOver, stepped}
+use Rattle.system.specs.Room.{HasRoomToTake}
 use Rattle.system.specs.Slots.{IsNewestAt, other_slot}
 use Rattle.system.specs.Systems.{Parts, IsServing}
+use Rattle.system.specs.declared.system.System.{System}
 use Rattle.system.proofs.CountingLaws.{logged_twice, nothing_logged}
 use Rattle.system.proofs.SystemLaws.{all_open, one_opens, reads_open}
 
@@ -103,12 +109,12 @@ module _ (laws : CutLaws) {m : Meaning} {k : Parts} {table : ℕ → Option Desc
         log_stands = subst (StandsAt k.log k.root.generation serves.bodies) (sym stays.nvram) left.log_stands;
       })
 
-  module _ (here : MayLeave m m.seen) (sizes : AreWhole m.sectors m.seen.disk) where
+  module _ (here : MayLeave m m.seen) where
     -- a disk with the new root
     pub with_root : (c : Images) → HasNewRoot p m.seen c → points.HasRootWritten (writes_of p.blocks) p.slot (root_bytes new) m.seen.disk c.disk
     with_root c has =
         subst (λ (bytes : List ℕ). points.HasRootWritten (writes_of p.blocks) p.slot bytes m.seen.disk c.disk) planned.bytes
-        (laws.finished m.sectors p m.seen c (subst (λ (n : ℕ). FitsDisk n p) (sym size) planned.fits) sizes has)
+        (laws.finished p m.seen c has)
 
     -- what the system reads
     abbrev pub reads : Opens m.sectors m.seen.disk m.seen.nvram s
@@ -131,25 +137,47 @@ module _ (laws : CutLaws) {m : Meaning} {k : Parts} {table : ℕ → Option Desc
               (omega (arith, planned.room.enough)))).opens;
         }
 
+    -- a disk on which the sector of the new root is lost
+    pub lost : (c : Images) → LosesSlot p m.seen c → OpensTo m s c
+    lost c loses = record {
+      opens = subst (λ (nvram : List ℕ). Opens m.sectors c.disk nvram s) (sym loses.nvram)
+          (laws.without_slot m.sectors m.seen.disk c.disk m.seen.nvram s (writes_of p.blocks) p.slot reads planned.point.free planned.point.slot (laws.lost p m.seen c loses)).opens;
+    }
+
     -- while it is planned and written
-    pub at_any_moment : (mid now : Meaning) → Goes Unchanged m mid → LeavesOnly mid now (λ c. After (StaysOutside p.blocks) mid c ⊎ HasNewRoot p mid.seen c)
+    pub at_any_moment : (mid now : Meaning) → Goes Unchanged m mid → LeavesOnly mid now (λ c. After (StaysOutside p.blocks) mid c ⊎ HasRootOrLost p mid.seen c)
         → LeavesOnly m now (λ c. OpensTo m s c ⊎ OpensTo m after c)
     at_any_moment mid now goes writes =
         let went = goes serves.honest in
         joined m mid now (λ c. OpensTo m s c ⊎ OpensTo m after c)
         (leaves_unchanged m mid (λ c. OpensTo m s c ⊎ OpensTo m after c) (λ honest c left. inl (all_open laws serves size half honest c left)) goes)
-        (weaker mid now (λ c. After (StaysOutside p.blocks) mid c ⊎ HasNewRoot p mid.seen c) (λ c. OpensTo m s c ⊎ OpensTo m after c) writes (λ c. λ one. elim one [
+        (weaker mid now (λ c. After (StaysOutside p.blocks) mid c ⊎ HasRootOrLost p mid.seen c) (λ c. OpensTo m s c ⊎ OpensTo m after c) writes (λ c. λ one. elim one [
           | inl later_on ↦
               let before = went.now later_on.0 later_on.1 in
               inl (unfinished c (before.0, before.1, subst (λ (x : Images). StaysOutside p.blocks x c) before.2 later_on.2))
-          | inr has ↦ inr (finished c (subst (λ (x : Images). HasNewRoot p x c) went.seen has))
+          | inr began ↦ elim began [
+            | inl has ↦ inr (finished c (subst (λ (x : Images). HasNewRoot p x c) went.seen has))
+            | inr loses ↦ inl (lost c (subst (λ (x : Images). LosesSlot p x c) went.seen loses))
+          ]
         ]))
 
 -- a point that is planned and written writes no NVRAM
 pub written_unlogged : (m mid now : Meaning) (p : Planned) → Goes Unchanged m mid → (mid.is_honest → MayLeave mid mid.seen)
-    → LeavesOnly mid now (λ c. After (StaysOutside p.blocks) mid c ⊎ HasNewRoot p mid.seen c) → LogsNothing m now
+    → LeavesOnly mid now (λ c. After (StaysOutside p.blocks) mid c ⊎ HasRootOrLost p mid.seen c) → LogsNothing m now
 written_unlogged m mid now p goes here writes = logged_twice m mid now (nothing_logged m mid goes) (λ honest.
-    weaker mid now (λ c. After (StaysOutside p.blocks) mid c ⊎ HasNewRoot p mid.seen c) (After SameNvram mid) writes (λ c one. elim one [
+    weaker mid now (λ c. After (StaysOutside p.blocks) mid c ⊎ HasRootOrLost p mid.seen c) (After SameNvram mid) writes (λ c one. elim one [
       | inl stays ↦ (stays.0, stays.1, stays.2.nvram)
-      | inr has ↦ (mid.seen, here honest, has.nvram)
+      | inr began ↦ (mid.seen, here honest, elim began [ inl has ↦ has.nvram | inr loses ↦ loses.nvram ])
     ]) honest)
+
+-- ---- what is asked of a point
+
+-- a system serves a state, and its root covers all of it
+abbrev pub OnceCovered : Meaning → Parts → (ℕ → Option Description) → State → Type 0
+OnceCovered m k table s = (serves : IsServing m k table s) × (serves.bodies ≡ no_bodies) × (serves.first ≡ serves.running)
+
+-- where no snapshot is taken, all that is pledged is kept, and else what every point stores, too
+pub kept_by : {S : Type 0} {G : Ghosts S} (f : System S G) (change : SnapshotChange) (step : SnapshotStep) → IsStepOf change f.root step → HasRoomToStep change f → TakesNone step ⊎ HasRoomToTake f
+kept_by f changes.Unchanged step is room = inl (subst TakesNone (sym is) tt)
+kept_by f (changes.Take k order name) step is room = inr room
+kept_by f (changes.Delete k) step is room = inl (subst TakesNone (sym is.1) tt)

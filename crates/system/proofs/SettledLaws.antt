@@ -1,5 +1,5 @@
 -- A system once the root of its point is settled.
-use Rattle.std.proofs.Common.{◌≡◌, ◌≢◌, inl, inr, ℕ, ◌+◌, ◌*◌, ◌/◌, ◌%◌, ◌<◌, ◌≤◌, List, [], All, Option, eqb, get_or, refl, ap, sym, subst, ◌∙◌, arith}
+use Rattle.std.proofs.Common.{◌≡◌, ◌≢◌, inl, inr, ℕ, ◌+◌, ◌*◌, ◌/◌, ◌<◌, ◌≤◌, List, [], All, Option, eqb, refl, ap, sym, subst, ◌∙◌, arith}
 use Rattle.std.specs.BTreeMap.{BTreeMap}
 use Rattle.std.specs.Prelude.{IsFalse}
 use Rattle.std.proofs.lemmas.Bool.{cases_lt, cond-false, ne_eqb}
@@ -18,7 +18,7 @@ use Rattle.model.specs.Paths.{Name}
 use Rattle.model.specs.States.{State, with_snapshots}
 use Rattle.model.specs.Trees.{Description, Tree}
 use Rattle.model.specs.Volumes.{Volume}
-use Rattle.buffers.specs.Disks.{ShowsDisk, IsBlock, disk_with_sector, sector_put}
+use Rattle.buffers.specs.Disks.{ShowsDisk, disk_with_sector}
 use Rattle.buffers.specs.declared.block.Block.{Block}
 use Rattle.blockmap.specs.Maps.{settled_at}
 use Rattle.blockmap.specs.declared.map.BlockMap.{BlockMap}
@@ -41,7 +41,7 @@ use Rattle.oplog.specs.LogEnd.{LogEnd, no_bodies, StandsAt}
 use Rattle.conspoint.specs.Cuts.{HasNewRoot, disk_with_blocks}
 use Rattle.conspoint.specs.Drafts.{HasAll}
 use Rattle.conspoint.specs.Plans.{Planned, IsSlot}
-use Rattle.conspoint.specs.Writes.{AreWhole, write_of, writes_of}
+use Rattle.conspoint.specs.Writes.{write_of, writes_of}
 use Rattle.system.specs.Images.{IsLeft, IsReplayed}
 use Rattle.system.specs.Laws.{RootLaws}
 use Rattle.system.specs.Memory.{IsInMemory}
@@ -73,7 +73,7 @@ none_replayed inodes running = record {
 module _ (laws : RootLaws) {m : Meaning} {k : Parts} {table : ℕ → Option Description} {s : State}
     (serves : IsServing m k table s) (size : m.sectors ≡ 8 * k.root.geometry.blocks)
     (p : Planned) (new : Root) (step : SnapshotStep) (planned : IsPlannedOver step m.seen.disk k.root k.slot k.log.epoch p new serves.running)
-    (now : Meaning) (sizes : AreWhole m.sectors now.seen.disk) (has : HasNewRoot p m.seen now.seen)
+    (now : Meaning) (has : HasNewRoot p m.seen now.seen)
     (images : points.HasRootWritten (writes_of p.blocks) p.slot (root_bytes new) m.seen.disk now.seen.disk) where
   -- ---- the blocks of the new disk
 
@@ -98,19 +98,19 @@ module _ (laws : RootLaws) {m : Meaning} {k : Parts} {table : ℕ → Option Des
 
   -- what is planned
   pub has_all : HasAll (blocks_of now.seen.disk) p.blocks
-  has_all = λ i x lt. laws.block_is m.sectors now.seen.disk (get_or p.blocks i x).place (get_or p.blocks i x).bytes sizes (fits i x lt) (has.blocks i x lt)
+  has_all = λ i x lt. sym (has.blocks i x lt)
 
   -- what is kept of the disk is of the new one
   pub shows : (now_kept : BTreeMap ℕ Block) → now.sectors ≡ m.sectors
-      → ShowsDisk now now_kept (disk_with_sector p.slot p.root (disk_with_blocks p.blocks (blocks_of m.seen.disk))) → ShowsDisk now now_kept (blocks_of now.seen.disk)
+      → ShowsDisk now now_kept (disk_with_sector now.seen.disk p.slot (disk_with_blocks p.blocks (blocks_of m.seen.disk))) → ShowsDisk now now_kept (blocks_of now.seen.disk)
   shows now_kept same there = record {
     honest = there.honest;
-    reads = λ b lt. subst (IsBlock now.seen.disk b) (sym (is b)) (there.reads b lt);
+    reads = λ b lt. refl;
     kept_is = λ b block here. there.kept_is b block here ∙ sym (is b);
   }
     where
       shown : ℕ → List ℕ
-      shown = disk_with_sector p.slot p.root (disk_with_blocks p.blocks (blocks_of m.seen.disk))
+      shown = disk_with_sector now.seen.disk p.slot (disk_with_blocks p.blocks (blocks_of m.seen.disk))
 
       past : (b : ℕ) → m.sectors < 8 * b + 8 → 16 ≤ m.sectors → blocks_of now.seen.disk b ≡ shown b
       past b far enough =
@@ -119,12 +119,12 @@ module _ (laws : RootLaws) {m : Meaning} {k : Parts} {table : ℕ → Option Des
           let free : All (λ x. x.place ≢ b) p.blocks = λ i x lt same. let le = fits i x lt in absurd (omega (arith, same, le, far)) in
           stays b (omega (arith, far, enough)) (All-map (λ w. w.place ≢ b) write_of p.blocks free)
           ∙ sym (laws.others p.blocks (blocks_of m.seen.disk) b free)
-          ∙ sym (cond-false (eqb b (p.slot / 8)) (sector_put (p.slot % 8) p.root (disk_with_blocks p.blocks (blocks_of m.seen.disk) (p.slot / 8))) (disk_with_blocks p.blocks (blocks_of m.seen.disk) b) (ne_eqb b (p.slot / 8) not_slot))
+          ∙ sym (cond-false (eqb b (p.slot / 8)) (blocks_of now.seen.disk (p.slot / 8)) (disk_with_blocks p.blocks (blocks_of m.seen.disk) b) (ne_eqb b (p.slot / 8) not_slot))
 
       is : (b : ℕ) → blocks_of now.seen.disk b ≡ shown b
       is b = elim (cases_lt m.sectors (8 * b + 8)) [
         | inl far ↦ past b far (subst (λ (n : ℕ). 16 ≤ n) (sym size) planned.fits.slots)
-        | inr near ↦ laws.block_is m.sectors now.seen.disk b (shown b) sizes near (there.reads b (subst (λ (n : ℕ). 8 * b + 8 ≤ n) (sym same) near))
+        | inr near ↦ sym (there.reads b (subst (λ (n : ℕ). 8 * b + 8 ≤ n) (sym same) near))
       ]
 
   -- ---- what memory has under the new root

@@ -1,5 +1,5 @@
 -- The images of a system that serves a state open to it.
-use Rattle.std.proofs.Common.{◌≡◌, ℕ, ◌*◌, ◌≤◌, List, Option, None, refl, ap, sym, subst, ◌∙◌, arith}
+use Rattle.std.proofs.Common.{◌≡◌, ℕ, ◌*◌, List, Option, None, refl, ap, sym, subst, ◌∙◌, arith}
 use Rattle.std.specs.BTreeMap.{BTreeMap}
 use Rattle.station.specs.Images.{Images}
 use Rattle.station.specs.Moments.{Meaning, EachCut}

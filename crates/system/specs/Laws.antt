@@ -1,6 +1,6 @@
 -- Laws of the layers below that the proofs on points stand on.
-use Rattle.std.specs.Prelude.{ℕ, ◌≡◌, ◌≢◌, ◌+◌, ◌*◌, ◌≤◌, ◌<◌, ◌^◌, List, [], All}
-use Rattle.station.specs.Images.{Images, Sector}
+use Rattle.std.specs.Prelude.{ℕ, ◌≡◌, ◌≢◌, ◌+◌, ◌≤◌, ◌<◌, ◌^◌, List, [], All}
+use Rattle.station.specs.Images.{Images}
 use Rattle.layout.specs.Log.{LogHolds}
 use Rattle.layout.specs.Opens.{IsNewest}
 use Rattle.layout.specs.Places.{Blocks, blocks_of}
@@ -15,7 +15,6 @@ use Rattle.model.specs.Room.{fixed_of}
 use Rattle.model.specs.States.{State, with_snapshots}
 use Rattle.model.specs.Trees.{Tree}
 use Rattle.model.specs.Volumes.{Volume}
-use Rattle.buffers.specs.Disks.{IsBlock}
 use Rattle.inode.specs.declared.file.File.{File}
 use Rattle.inofile.specs.Settled.{AreSettled, held_content}
 use Rattle.images.specs.BlockMap.{IsExact, entry}
@@ -26,9 +25,9 @@ use Rattle.images.specs.Room.{free_under}
 use Rattle.images.specs.Roots.{whole, Needs}
 use Rattle.images.specs.SnapshotSteps.{SnapshotStep, kept_after}
 use Rattle.images.specs.States.{Holds, IsSound, LogHoldsChanges, Opens, OpensBy, SameButFree}
-use Rattle.conspoint.specs.Cuts.{HasNewRoot, StaysOutside, disk_with_blocks}
-use Rattle.conspoint.specs.Plans.{FitsDisk, Planned}
-use Rattle.conspoint.specs.Writes.{AreWhole, writes_of}
+use Rattle.conspoint.specs.Cuts.{HasNewRoot, LosesSlot, StaysOutside, disk_with_blocks}
+use Rattle.conspoint.specs.Plans.{Planned}
+use Rattle.conspoint.specs.Writes.{writes_of}
 use Rattle.conspoint.specs.declared.plan.PlannedBlock.{PlannedBlock}
 use Rattle.loading.specs.Images.{IsFileOfInode, IsReadable, inodes_of}
 
@@ -40,9 +39,14 @@ pub record CutLaws : Type 0 where
       → (o : Opens sectors d nvram s) → SameButFree o.root d e → OpensBy sectors e nvram s o.changes
   pub unfinished : (blocks : List PlannedBlock) (old new : Images) → StaysOutside blocks old new
       → points.StaysOutsideWrites (writes_of blocks) old.disk new.disk
-  pub finished : (sectors : ℕ) (p : Planned) (old new : Images) → FitsDisk sectors p
-      → AreWhole sectors old.disk → HasNewRoot p old new
+  pub finished : (p : Planned) (old new : Images) → HasNewRoot p old new
       → points.HasRootWritten (writes_of p.blocks) p.slot p.root old.disk new.disk
+  pub lost : (p : Planned) (old new : Images) → LosesSlot p old new
+      → points.LosesSlot (writes_of p.blocks) p.slot old.disk new.disk
+  pub without_slot : (sectors : ℕ) (d e : ℕ → List ℕ) (nvram : List ℕ) (s : State)
+      (writes : List Write) (sector : ℕ) → (o : Opens sectors d nvram s)
+      → points.AreFree o.root d writes → points.IsOtherSlot o.root d sector
+      → points.LosesSlot writes sector d e → OpensBy sectors e nvram s o.changes
   pub opens : (sectors : ℕ) (d e : ℕ → List ℕ) (nvram : List ℕ) (s : State) (writes : List Write)
       (sector : ℕ) (new : Root) (v : Volume) (step : SnapshotStep) (rest : List Change)
       (last : Volume) → (o : Opens sectors d nvram s)
@@ -88,9 +92,6 @@ pub record RootLaws : Type 0 where
   pub held : (d : Blocks) (r : Root) (v : Volume) → IsRoot r → IsReadable d r
       → HoldsVolume r.geometry.inodes (tree_contents (whole d r).active) v
       → HoldsVolume r.geometry.inodes (λ n. held_content d (inodes_of (whole d r).active n)) v
-  pub block_is : (sectors : ℕ) (disk : ℕ → Sector) (b : ℕ) (bytes : List ℕ)
-      → AreWhole sectors disk → 8 * b + 8 ≤ sectors → IsBlock disk b bytes
-      → blocks_of disk b ≡ bytes
   pub others : (blocks : List PlannedBlock) (disk : ℕ → List ℕ) (n : ℕ)
       → All (λ b. b.place ≢ n) blocks → disk_with_blocks blocks disk n ≡ disk n
 

@@ -1,10 +1,10 @@
 -- Commands that end behind a consistency point, and the tests that come before one.
-use Rattle.std.specs.Prelude.{ℕ, ◌≡◌, ◌≢◌, ◌+◌, ◌<◌, ◌≤◌, ◌^◌, IfErr, IfOk, IsErrOf, MatchResult, Option, Some, None, Result}
+use Rattle.std.specs.Prelude.{◌≡◌, ◌≢◌, ◌≤◌, ◌^◌, IfErr, IfOk, IsErrOf, MatchResult, Option, Some, None, Result}
 use Rattle.station.specs.Images.{Unchanged}
 use Rattle.station.specs.Moments.{Goes}
 use Rattle.station.specs.declared.station.Station.{Ghosts}
 use Rattle.model.specs.Paths.{Name}
-use Rattle.model.specs.Room.{Need, Room, nothing}
+use Rattle.model.specs.Room.{Need, nothing}
 use Rattle.model.specs.States.{State}
 use Rattle.model.specs.declared.command.Command.{Command}
 use Rattle.model.specs.declared.command.Command.TheVariants as command

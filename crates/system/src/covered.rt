@@ -1,6 +1,6 @@
 //! What a mounted system has that its newest root doesn't hold.
 
-ghost use Rattle.std.specs.Prelude.{◌≡◌, ◌↔◌, ℕ, Option, IsTrue};
+ghost use Rattle.std.specs.Prelude.{◌↔◌, ℕ, Option, IsTrue};
 ghost use Rattle.model.specs.Records as records;
 ghost use Rattle.model.specs.States.{State};
 ghost use Rattle.model.specs.Trees.{Description};

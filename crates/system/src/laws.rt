@@ -9,12 +9,11 @@ ghost use Rattle.system.specs.Laws.{CutLaws, RecordLaws, RootLaws};
 ghost use Rattle.system.specs.Systems.{HasState, meaning_of};
 
 use crate::System;
-use conspoint::{
-    blocks_are_those_of_images, cuts_are_those_of_images, written_disks_have_the_blocks,
-};
+use conspoint::{cuts_are_those_of_images, written_disks_have_the_blocks};
 use images::{
     finished_points_hold, finished_points_open, free_blocks_are_no_matter,
-    free_blocks_are_unneeded, needed_blocks_are_of_the_disk, roots_cover_epochs,
+    free_blocks_are_unneeded, lost_slots_open_as_before, needed_blocks_are_of_the_disk,
+    roots_cover_epochs,
 };
 use loading::{readable_inodes_are_settled, volumes_are_readable};
 use model::{
@@ -39,6 +38,7 @@ pub(crate) fn cuts_open()
     replays_end_same();
     free_blocks_are_no_matter();
     cuts_are_those_of_images();
+    lost_slots_open_as_before();
     finished_points_open();
     roots_cover_epochs();
 }
@@ -52,7 +52,6 @@ pub(crate) fn new_roots_hold()
     free_blocks_are_unneeded();
     volumes_are_readable();
     readable_inodes_are_settled();
-    blocks_are_those_of_images();
     written_disks_have_the_blocks();
 }
 

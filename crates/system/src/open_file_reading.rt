@@ -1,6 +1,6 @@
 //! Calls on descriptors that log nothing.
 
-ghost use Rattle.std.specs.Prelude.{ℕ, IfErr, IfOk, IsTrue};
+ghost use Rattle.std.specs.Prelude.{ℕ, IfOk, IsTrue};
 ghost use Rattle.model.specs.Room.{nothing};
 ghost use Rattle.model.specs.Volumes.{IsMounted, Volume};
 ghost use Rattle.records.specs.Opened.{HasNumbers};

@@ -1,6 +1,6 @@
 //! Calls on descriptors, served on a mounted system.
 
-ghost use Rattle.std.specs.Prelude.{◌≡◌, IsTrue};
+ghost use Rattle.std.specs.Prelude.{IsTrue};
 ghost use Rattle.system.specs.OpenFiles.{is_logging_call, is_looking_call, is_table_call};
 ghost use Rattle.system.specs.Serving.{Handles, IsOpenFileCall};
 

@@ -1,6 +1,6 @@
 //! Whether the disk has room for what is asked of it.
 
-ghost use Rattle.std.specs.Prelude.{◌≡◌, ◌↔◌, ℕ, Option, IsFalse, IsTrue};
+ghost use Rattle.std.specs.Prelude.{◌≡◌, ◌↔◌, ℕ, Option, IsTrue};
 ghost use Rattle.layout.specs.Record.{KeepsLimits, change_of};
 ghost use Rattle.model.specs.Records.{work_of};
 ghost use Rattle.model.specs.Room as room;

@@ -7,7 +7,7 @@ ghost use Rattle.layout.specs.Root.{IsRoot};
 ghost use Rattle.buffers.specs.Disks.{ShowsDisk, disk_with_sector};
 ghost use Rattle.loading.specs.Images.{IsFileOfInode};
 ghost use Rattle.conspoint.specs.Plans.{FitsDisk};
-ghost use Rattle.conspoint.specs.Cuts.{StaysOutside, HasNewRoot, disk_with_blocks};
+ghost use Rattle.conspoint.specs.Cuts.{StaysOutside, HasNewRoot, HasRootOrLost, disk_with_blocks};
 ghost use Rattle.system.specs.Errors.{IsNotWritten, IsRefused};
 
 use crate::PointError;
@@ -34,7 +34,7 @@ pub(crate) fn carry_out<S: Station>(
         × ((e ≡ PointError.NotWritten) ⊎ (e ≡ PointError.NotPlanned PlanError.NoMemory))) }
     ensures any_moment { LeavesOnly (S.meaning buffers.old.station) (S.meaning buffers.new.station)
         (λ c. After (StaysOutside point.plan.blocks) (S.meaning buffers.old.station) c
-        ⊎ HasNewRoot point.plan (S.meaning buffers.old.station).seen c) }
+        ⊎ HasRootOrLost point.plan (S.meaning buffers.old.station).seen c) }
     ensures settled { OnOk result (
         ((S.meaning buffers.old.station).is_honest → EachCut (S.meaning buffers.new.station)
         (HasNewRoot point.plan (S.meaning buffers.old.station).seen))
@@ -42,7 +42,7 @@ pub(crate) fn carry_out<S: Station>(
     ensures shows { (disk : ℕ → List ℕ)
         → ShowsDisk (S.meaning buffers.old.station) buffers.old.kept disk
         → OnOk result (ShowsDisk (S.meaning buffers.new.station) buffers.new.kept
-        (disk_with_sector point.plan.slot point.plan.root
+        (disk_with_sector (S.meaning buffers.new.station).seen.disk point.plan.slot
         (disk_with_blocks point.plan.blocks disk))) }
     ensures root { IfOk result (λ r. (r.0 ≡ point.root) × IsFileOfInode point.root.inode_file r.1) }
 {

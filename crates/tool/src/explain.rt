@@ -2,8 +2,8 @@
 
 mod mounting;
 
-use crate::obeying::Image;
 use command_line::explain_line;
+use host_files::Image;
 pub(crate) use mounting::explain_mount;
 use session::{Ending, Fault};
 use std::io::Write;

@@ -1,11 +1,12 @@
 //! Making an image on files of the host's.
 
 ghost use Rattle.std.specs.Prelude.{◌≡◌, IsErr};
+ghost use Rattle.host_files.specs.Names.{HasOneName};
 ghost use Rattle.layout.specs.Limits.{AreSizes};
 
 use crate::image_error::ImageError;
 use file_station::FileStation;
-use host_files::{FileError, Replacement, hold_both, on};
+use host_files::{FileError, Image, NewList, Replacement, hold_both, on};
 use layout::Geometry;
 use mount::{MakeError, make};
 use station::{SECTOR_BYTES, Station};
@@ -14,12 +15,12 @@ use std::fs::{File, OpenFile};
 use std::io::{Read, Seek, Write};
 use std::rt::Files;
 
-/// Makes an empty image on two new files, which then replace those at these paths, unless another program holds a lock on one of
-/// them. With `is_new` nothing is replaced that has bytes. Numbers out of their range are told before any file is looked at.
+/// Makes an empty image on two new files, which then replace those of these names, unless another program holds a lock on one of
+/// them; a list of sectors that can't be read goes behind that. With `is_new` nothing is replaced or removed that has bytes.
+/// Numbers out of their range are told before any file is looked at.
 pub fn make_image<'a, R: Files<File = File> + AllocGlobal>(
     rt: &R,
-    disk: &'a str,
-    nvram: &'a str,
+    image: Image<'a>,
     blocks: u32,
     inodes: u32,
     half: u32,
@@ -27,40 +28,62 @@ pub fn make_image<'a, R: Files<File = File> + AllocGlobal>(
 ) -> Result<(), ImageError<'a>>
     ensures bad_size { ¬ AreSizes (record { blocks = blocks; inodes = inodes; half = half })
         → result ≡ Err (ImageError.Make MakeError.BadSize) }
-    ensures one { disk.now ≡ nvram.now → IsErr result }
+    ensures one { HasOneName image.entry → IsErr result }
 {
     let Some(geometry) = Geometry::new(blocks, inodes, half) else {
         return Err(ImageError::Make(MakeError::BadSize));
     };
-    let _held = hold_both(rt, disk, nvram, is_new)?;
-    let (new, disk_file, nvram_file) = Replacement::begin(rt, disk, nvram)?;
-    if let Err(error) = make_on(rt.alloc(), disk, nvram, disk_file, nvram_file, geometry) {
-        new.give_up(rt);
-        return Err(error);
+    let _held = hold_both(rt, image, is_new)?;
+    let (new, disk, nvram) = Replacement::begin(rt, image)?;
+    match make_files(rt, image, disk, nvram, geometry) {
+        Ok(list) => Ok(new.finish(rt, list)?),
+        Err(error) => {
+            new.give_up(rt);
+            Err(error)
+        }
     }
-    Ok(new.finish(rt)?)
+}
+
+/// Makes an empty image on two empty files, all of whose sectors can be read.
+fn make_files<'a, R: Files<File = File> + AllocGlobal>(
+    rt: &R,
+    image: Image<'a>,
+    disk: File,
+    nvram: File,
+    geometry: Geometry,
+) -> Result<NewList<'a>, ImageError<'a>> {
+    make_on(rt.alloc(), image, disk, nvram, geometry)?;
+    Ok(NewList::make(rt, image, &[])?)
 }
 
 /// Makes an empty image on two empty files, and syncs them.
 fn make_on<'a, F: Read + Write + Seek + OpenFile + Drop>(
     alloc: Global,
-    disk: &'a str,
-    nvram: &'a str,
-    disk_file: F,
-    nvram_file: F,
+    image: Image<'a>,
+    disk: F,
+    nvram: F,
     geometry: Geometry,
 ) -> Result<(), ImageError<'a>> {
     on(
-        disk,
-        disk_file.set_len(SECTOR_BYTES as u64 * u64::from(geometry.sectors())),
+        image.disk,
+        disk.set_len(SECTOR_BYTES as u64 * u64::from(geometry.sectors())),
     )?;
-    on(nvram, nvram_file.set_len(u64::from(geometry.nvram_bytes())))?;
-    let station = match FileStation::new(disk_file, nvram_file) {
+    on(
+        image.nvram,
+        nvram.set_len(u64::from(geometry.nvram_bytes())),
+    )?;
+    let station = match FileStation::new(disk, nvram) {
         Ok(station) => station,
-        Err(error) => return Err(ImageError::File(FileError::Size { disk, nvram, error })),
+        Err(error) => {
+            return Err(ImageError::File(FileError::Size {
+                disk: image.disk,
+                nvram: image.nvram,
+                error,
+            }));
+        }
     };
     match make_sized(alloc, station, geometry) {
-        Ok(mut station) => Ok(on(disk, station.sync_both())?),
+        Ok(mut station) => Ok(on(image.disk, station.sync_both())?),
         Err(error) => Err(ImageError::Make(error)),
     }
 }

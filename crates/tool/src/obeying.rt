@@ -9,7 +9,7 @@ use crate::image_making::make_image;
 use crate::statuses::{status_of_file, status_of_line};
 use checking::check_files;
 use command_line::{Line, read_line};
-use host_files::FileError;
+use host_files::{FileError, Image, list_name};
 use session::Status;
 use sessions::{run_one, run_script, run_shell, show_room};
 use std::io::{Read, Write};
@@ -22,13 +22,6 @@ pub struct Terminals {
     pub input: bool,
     pub out: bool,
     pub err: bool,
-}
-
-/// The two files of an image.
-#[derive(Clone, Copy, Debug)]
-pub(crate) struct Image<'a> {
-    pub(crate) disk: &'a str,
-    pub(crate) nvram: &'a str,
 }
 
 /// The standard streams, and what is told on them.
@@ -77,16 +70,44 @@ fn obey_line<I: Read, O: Write, E: Write>(
     line: &Line<'_>,
     streams: &mut Streams<I, O, E>,
 ) -> Status {
+    let (disk, nvram) = match line {
+        Line::Help(text) => return show_text(text.as_str(), &mut streams.out),
+        Line::Make { disk, nvram, .. } => (*disk, *nvram),
+        Line::Run { disk, nvram, .. } => (*disk, *nvram),
+        Line::Shell { disk, nvram } => (*disk, *nvram),
+        Line::Do { disk, nvram, .. } => (*disk, *nvram),
+        Line::Df { disk, nvram } => (*disk, *nvram),
+        Line::Check { disk, nvram } => (*disk, *nvram),
+        Line::Put { disk, nvram, .. } => (*disk, *nvram),
+        Line::Get { disk, nvram, .. } => (*disk, *nvram),
+    };
+    let Ok(bad) = list_name(rt.alloc(), disk) else {
+        return tell(&FileError::NoMemory, &mut streams.err);
+    };
+    let image = Image {
+        disk,
+        nvram,
+        bad: bad.as_str(),
+    };
+    obey_on(rt, image, line, streams)
+}
+
+/// Does what a line asks for on these files.
+fn obey_on<I: Read, O: Write, E: Write>(
+    rt: &HostRuntime,
+    image: Image<'_>,
+    line: &Line<'_>,
+    streams: &mut Streams<I, O, E>,
+) -> Status {
     match line {
-        Line::Help(text) => show_text(text.as_str(), &mut streams.out),
+        Line::Help(_) => Status::Done,
         Line::Make {
-            disk,
-            nvram,
             blocks,
             inodes,
             half,
             is_new,
-        } => match make_image(rt, disk, nvram, *blocks, *inodes, *half, *is_new) {
+            ..
+        } => match make_image(rt, image, *blocks, *inodes, *half, *is_new) {
             Ok(()) => Status::Done,
             Err(error) => {
                 let _ = writeln!(streams.err, "wafl: {error}");
@@ -94,50 +115,22 @@ fn obey_line<I: Read, O: Write, E: Write>(
             }
         },
         Line::Run {
-            disk,
-            nvram,
             script,
             stops,
             faults,
-        } => run_script(rt, Image { disk, nvram }, script, *stops, *faults, streams),
-        Line::Shell { disk, nvram } => run_shell(rt, Image { disk, nvram }, streams),
-        Line::Do { disk, nvram, words } => {
-            run_one(rt, Image { disk, nvram }, words.as_slice(), streams)
-        }
-        Line::Df { disk, nvram } => show_room(rt, Image { disk, nvram }, streams),
-        Line::Check { disk, nvram } => check_files(rt, Image { disk, nvram }, streams),
-        Line::Put {
-            disk,
-            nvram,
-            file,
-            path,
-        } => put(
-            rt,
-            Transfer {
-                disk,
-                nvram,
-                path,
-                file,
-            },
-            streams,
-        ),
+            ..
+        } => run_script(rt, image, script, *stops, *faults, streams),
+        Line::Shell { .. } => run_shell(rt, image, streams),
+        Line::Do { words, .. } => run_one(rt, image, words.as_slice(), streams),
+        Line::Df { .. } => show_room(rt, image, streams),
+        Line::Check { .. } => check_files(rt, image, streams),
+        Line::Put { file, path, .. } => put(rt, Transfer { image, path, file }, streams),
         Line::Get {
-            disk,
-            nvram,
             path,
             file,
             snapshot,
-        } => get(
-            rt,
-            Transfer {
-                disk,
-                nvram,
-                path,
-                file,
-            },
-            *snapshot,
-            streams,
-        ),
+            ..
+        } => get(rt, Transfer { image, path, file }, *snapshot, streams),
     }
 }
 

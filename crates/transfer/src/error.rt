@@ -17,7 +17,7 @@ pub enum TransferError<'a> {
     /// The image isn't mounted.
     #[error("mount {0}")]
     Mount(MountError),
-    /// The host's file is one of the two of the image.
+    /// The host's file is one of the image's own.
     #[error("{file}: a file of the image")]
     IsImage {
         file: &'a str,

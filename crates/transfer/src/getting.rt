@@ -5,7 +5,8 @@ use crate::progress::Progress;
 use crate::steps::{Source, find_source, mount_station, read_part};
 use crate::what::Transfer;
 use host_files::{
-    FileError, Found, NewFile, Place, Sparse, find_place, make_beside, on, read_station, remove,
+    FileError, Found, NewFile, Opened, Place, Sparse, find_place, make_beside, on, open_to_read,
+    remove, store_image,
 };
 use mount::Fs;
 use station::Station;
@@ -27,12 +28,45 @@ pub fn get_file<'a, R: Files<File = File> + AllocGlobal, O: Write, E: Write>(
     out: &mut O,
     progress: &mut Progress<E>,
 ) -> Result<(), TransferError<'a>> {
-    let station = read_station(rt, what.disk, what.nvram)?;
+    match open_to_read(rt, what.image)? {
+        Opened::Files(station) => {
+            get_from(rt, station, what, snapshot, out, progress)?;
+        }
+        Opened::Memory(sim, held) => {
+            let sim = get_from(rt, sim, what, snapshot, out, progress)?;
+            store_image(rt, what.image, &sim, &held)?;
+        }
+    }
+    Ok(())
+}
+
+/// Brings a file back from a station, and gives that back.
+fn get_from<'a, R: Files<File = File> + AllocGlobal, S: Station + Drop, O: Write, E: Write>(
+    rt: &R,
+    station: S,
+    what: Transfer<'a>,
+    snapshot: Option<&'a str>,
+    out: &mut O,
+    progress: &mut Progress<E>,
+) -> Result<S, TransferError<'a>> {
     let mut fs = mount_station(rt.alloc(), station)?;
     let source = find_source(rt.alloc(), &mut fs, what.path, snapshot);
     let source = at(what.path, 0, source)?;
+    bring(rt, &mut fs, source, what, out, progress)?;
+    Ok(fs.into_station())
+}
+
+/// Brings what a source holds to where it is to go.
+fn bring<'a, R: Files<File = File> + AllocGlobal, S: Station, O: Write, E: Write>(
+    rt: &R,
+    fs: &mut Fs<S>,
+    source: Source<'a>,
+    what: Transfer<'a>,
+    out: &mut O,
+    progress: &mut Progress<E>,
+) -> Result<(), TransferError<'a>> {
     if STANDARD_OUTPUT.contains(&what.file) {
-        return show(rt.alloc(), &mut fs, source, what, out, progress);
+        return show(rt.alloc(), fs, source, what, out, progress);
     }
     if what.is_of_image(rt) {
         return Err(TransferError::IsImage { file: what.file });
@@ -45,9 +79,9 @@ pub fn get_file<'a, R: Files<File = File> + AllocGlobal, O: Write, E: Write>(
                 what.file,
                 OpenOptions::new().append(true).open(rt, what.file),
             )?;
-            show(rt.alloc(), &mut fs, source, what, &mut stream, progress)
+            show(rt.alloc(), fs, source, what, &mut stream, progress)
         }
-        Found::Nothing | Found::File(_) => store(rt, &mut fs, source, what, &place, progress),
+        Found::Nothing | Found::File(_) => store(rt, fs, source, what, &place, progress),
     }
 }
 
@@ -75,7 +109,7 @@ fn store<'a, R: Files<File = File> + AllocGlobal, S: Station, E: Write>(
     place: &Place<'a>,
     progress: &mut Progress<E>,
 ) -> Result<(), TransferError<'a>> {
-    let mut new = make_beside(rt, place, what.disk, what.nvram)?;
+    let mut new = make_beside(rt, place, what.image.disk, what.image.nvram)?;
     let stored = match fill(rt.alloc(), fs, source, what, &mut new, progress) {
         Ok(()) => place
             .replace(rt, new.path.as_str())

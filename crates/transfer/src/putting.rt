@@ -8,7 +8,7 @@ use crate::steps::{
 };
 use crate::target::{Target, find_target};
 use crate::what::Transfer;
-use host_files::{FileError, on, open_station};
+use host_files::{FileError, Opened, on, open_image, store_image};
 use layout::INLINE_BYTES;
 use model::{Errno, GREATEST_FILE, TRANSFER_BYTES};
 use mount::Fs;
@@ -52,27 +52,49 @@ fn put_from<'a, R: Files<File = File> + AllocGlobal, I: Read, E: Write>(
     reader: &mut I,
     progress: &mut Progress<E>,
 ) -> Result<(), TransferError<'a>> {
-    let station = open_station(rt, what.disk, what.nvram)?;
+    let opened = open_image(rt, what.image)?;
     if what.file != "-" && what.is_of_image(rt) {
         // What is written would be read again.
         return Err(TransferError::IsImage { file: what.file });
     }
-    let mut fs = mount_station(rt.alloc(), station)?;
-    let target = at(what.path, 0, find_target(rt.alloc(), &mut fs, what.path))?;
+    match opened {
+        Opened::Files(station) => {
+            put_on(rt.alloc(), station, what, size, reader, progress)?;
+        }
+        Opened::Memory(sim, held) => {
+            let sim = put_on(rt.alloc(), sim, what, size, reader, progress)?;
+            store_image(rt, what.image, &sim, &held)?;
+        }
+    }
+    Ok(())
+}
+
+/// Stores what a reader gives on a station, and gives that back.
+fn put_on<'a, S: Station + Drop, I: Read, E: Write>(
+    alloc: Global,
+    station: S,
+    what: Transfer<'a>,
+    size: Option<u64>,
+    reader: &mut I,
+    progress: &mut Progress<E>,
+) -> Result<S, TransferError<'a>> {
+    let mut fs = mount_station(alloc, station)?;
+    let target = at(what.path, 0, find_target(alloc, &mut fs, what.path))?;
     check_size(what.path, size)?;
-    let left = remove(rt.alloc(), &mut fs, target.unfinished.as_slice());
+    let left = remove(alloc, &mut fs, target.unfinished.as_slice());
     at(what.path, 0, left)?;
     if let Some(size) = size {
         // Its name comes behind its blocks. What tells where these are, and the writes, may need more.
         let call = blocks_of(size).saturating_add(NAMING_COST);
         check_room(&mut fs, what.path, 0, call)?;
     }
-    let stored = store(rt.alloc(), &mut fs, &target, what, reader, progress);
+    let stored = store(alloc, &mut fs, &target, what, reader, progress);
     if stored.is_err() {
         // Where it can't be taken away, the next file that is stored here does it.
-        let _ = remove(rt.alloc(), &mut fs, target.unfinished.as_slice());
+        let _ = remove(alloc, &mut fs, target.unfinished.as_slice());
     }
-    stored
+    stored?;
+    Ok(fs.into_station())
 }
 
 /// Refuses a file that is larger than one may be, at its first byte that is too many.

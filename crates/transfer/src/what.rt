@@ -1,13 +1,12 @@
 //! What is transferred.
 
-use host_files::is_one_file;
+use host_files::{Image, is_one_file};
 use std::rt::Files;
 
 /// What goes where.
 #[derive(Clone, Copy, Debug)]
 pub struct Transfer<'a> {
-    pub disk: &'a str,
-    pub nvram: &'a str,
+    pub image: Image<'a>,
     /// The path of a file in the image.
     pub path: &'a str,
     /// A file of the host's; `-` is standard input or standard output.
@@ -15,8 +14,11 @@ pub struct Transfer<'a> {
 }
 
 impl Transfer<'_> {
-    /// Whether the host's file is one of the two of the image.
+    /// Whether the host's file is one of the image's own.
     pub(crate) fn is_of_image<R: Files>(&self, rt: &R) -> bool {
-        is_one_file(rt, self.file, self.disk) || is_one_file(rt, self.file, self.nvram)
+        let Image { disk, nvram, bad } = self.image;
+        is_one_file(rt, self.file, disk)
+            || is_one_file(rt, self.file, nvram)
+            || is_one_file(rt, self.file, bad)
     }
 }

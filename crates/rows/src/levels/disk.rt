@@ -2,7 +2,7 @@
 
 use crate::fault::Fault;
 use layout::BLOCK_BYTES;
-use station::Sim;
+use memory_station::Sim;
 use std::alloc::{AllocError, Global};
 
 const BLOCKS: u8 = 64;

@@ -10,7 +10,7 @@ use super::bodies::{inline_inode, pointer_inode};
 use buffers::Buffers;
 use inode::File;
 use layout::{VERSION, greatest_size};
-use station::Sim;
+use memory_station::Sim;
 use std::alloc::{AllocError, Global};
 
 /// Runs a row on the file, and answers what it gives.

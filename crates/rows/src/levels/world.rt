@@ -7,7 +7,7 @@ use crate::fault::Fault;
 use crate::image::put;
 use buffers::Buffers;
 use inode::File;
-use station::Sim;
+use memory_station::Sim;
 use std::alloc::Global;
 
 /// The disk, and what stands on it.

@@ -1,6 +1,6 @@
 //! Why an image isn't mounted: what a look at its files shows.
 
-use crate::obeying::Image;
+use host_files::Image;
 use layout::{BLOCK_BYTES, Geometry, ROOT_BYTES, Root};
 use mount::MountError;
 use std::io::{Read, Seek, SeekFrom, Write};
@@ -16,7 +16,7 @@ pub(crate) fn explain_mount<E: Write>(
     error: MountError,
     err: &mut E,
 ) {
-    let Image { disk, nvram } = image;
+    let Image { disk, nvram, bad } = image;
     let _ = match error {
         MountError::NoMemory => writeln!(err, "wafl: {disk}: no memory for the image"),
         MountError::Device => writeln!(err, "wafl: {disk}, {nvram}: a read or a sync failed"),
@@ -26,6 +26,10 @@ pub(crate) fn explain_mount<E: Write>(
                 "wafl: {disk}: no image of wafl, but {nvram} holds a root (are DISK and NVRAM swapped?)"
             )
         }
+        MountError::NoRoot if is_there(rt, bad) => writeln!(
+            err,
+            "wafl: {disk}: it holds no root that can be read: {bad} names sectors that can't be"
+        ),
         MountError::NoRoot => writeln!(err, "wafl: {disk}: no image of wafl: it holds no root"),
         MountError::Damaged => explain_damage(rt, image, err),
     };
@@ -33,7 +37,7 @@ pub(crate) fn explain_mount<E: Write>(
 
 /// Tells why files that hold a root aren't mounted.
 fn explain_damage<E: Write>(rt: &HostRuntime, image: Image<'_>, err: &mut E) -> io::Result<()> {
-    let Image { disk, nvram } = image;
+    let Image { disk, nvram, bad } = image;
     let Some(geometry) = geometry_in(rt, disk) else {
         return writeln!(err, "wafl: {disk}: its root is outside the format");
     };
@@ -50,11 +54,19 @@ fn explain_damage<E: Write>(rt: &HostRuntime, image: Image<'_>, err: &mut E) -> 
             err,
             "wafl: {nvram}: {bytes} bytes, and by the root of {disk} {nvram_bytes} (is it another image's NVRAM?)"
         ),
+        None if is_there(rt, bad) => writeln!(
+            err,
+            "wafl: {disk}, {nvram}: what they hold is outside the format, or in a sector that {bad} names"
+        ),
         None => writeln!(
             err,
             "wafl: {disk}, {nvram}: what they hold is outside the format"
         ),
     }
+}
+
+fn is_there(rt: &HostRuntime, path: &str) -> bool {
+    fs::metadata(rt, path).is_ok()
 }
 
 /// The sizes that a root in one of a file's slots tells.

@@ -1,10 +1,11 @@
 //! A check of an image.
 
-use super::{Image, Streams, tell};
+use super::{Streams, tell};
 use crate::statuses::{status_of_check, status_of_report};
 use checker::{CheckError, Finding, Report, Watch, check};
-use host_files::read_station;
+use host_files::{Image, Opened, open_to_read, store_image};
 use session::Status;
+use station::Station;
 use std::io::{Read, Write};
 
 /// Tells on standard error what a check finds, and on a terminal how far it is.
@@ -40,16 +41,32 @@ impl<'a, E: Write> Teller<'a, E> {
     }
 }
 
-/// Looks for faults in the image's files.
+/// Looks for faults in an image.
 pub(super) fn check_files<I: Read, O: Write, E: Write>(
     rt: &HostRuntime,
     image: Image<'_>,
     streams: &mut Streams<I, O, E>,
 ) -> Status {
-    let station = match read_station(rt, image.disk, image.nvram) {
-        Ok(station) => station,
-        Err(error) => return tell(&error, &mut streams.err),
-    };
+    match open_to_read(rt, image) {
+        Ok(Opened::Files(station)) => check_on(rt, station, image, streams).0,
+        Ok(Opened::Memory(sim, held)) => {
+            let (status, sim) = check_on(rt, sim, image, streams);
+            match store_image(rt, image, &sim, &held) {
+                Ok(()) => status,
+                Err(error) => tell(&error, &mut streams.err),
+            }
+        }
+        Err(error) => tell(&error, &mut streams.err),
+    }
+}
+
+/// Looks for faults on a station, and gives that back.
+fn check_on<S: Station, I: Read, O: Write, E: Write>(
+    rt: &HostRuntime,
+    station: S,
+    image: Image<'_>,
+    streams: &mut Streams<I, O, E>,
+) -> (Status, S) {
     let mut teller = Teller {
         to: &mut streams.err,
         has_terminal: streams.terminals.err,
@@ -58,8 +75,8 @@ pub(super) fn check_files<I: Read, O: Write, E: Write>(
     let checked = check(rt.alloc(), station, &mut teller);
     teller.end();
     match checked {
-        Ok((report, _station)) => show(&report, &mut streams.out),
-        Err((error, _station)) => refuse(error, image, &mut streams.err),
+        Ok((report, station)) => (show(&report, &mut streams.out), station),
+        Err((error, station)) => (refuse(error, image, &mut streams.err), station),
     }
 }
 
@@ -73,7 +90,7 @@ fn show<O: Write>(report: &Report, out: &mut O) -> Status {
 
 /// Tells why there is no report.
 fn refuse<E: Write>(error: CheckError, image: Image<'_>, err: &mut E) -> Status {
-    let Image { disk, nvram } = image;
+    let Image { disk, nvram, .. } = image;
     let _ = writeln!(err, "wafl: {disk}, {nvram}: {error}");
     status_of_check(error)
 }

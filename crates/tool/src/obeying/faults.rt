@@ -1,23 +1,32 @@
 //! What is to go wrong in a run.
 
 ghost use Rattle.std.specs.Prelude.{◌≡◌, IfOk};
-ghost use Rattle.tool.specs.Words.{IsToFail, KeepsAsTold};
+ghost use Rattle.tool.specs.Words.{IsToFail, KeepsAsTold, mark_told};
 
-use super::Image;
 use command_line::{Kept, RunFaults};
-use host_files::{FileError, Held, load_station};
-use station::{Keep, Sim};
+use host_files::{FileError, Held, Image, Opened, load_station};
+use memory_station::{Keep, Mark, Sim};
 use std::alloc::{AllocError, Global};
 
+/// An image in memory that is to fail as these faults say.
+pub(super) fn failing_image<'a>(
+    rt: &HostRuntime,
+    image: Image<'a>,
+    faults: RunFaults<'_>,
+) -> Result<Opened, FileError<'a>> {
+    let (sim, held) = failing_station(rt, image, faults)?;
+    Ok(Opened::Memory(sim, held))
+}
+
 /// What a run in memory starts from: a station that is to fail as these faults say, and what holds the image's files.
-pub(super) fn failing_station<'a>(
+fn failing_station<'a>(
     rt: &HostRuntime,
     image: Image<'a>,
     faults: RunFaults<'_>,
 ) -> Result<(Sim, Held), FileError<'a>>
     ensures { IfOk result (λ run. IsToFail faults.entry run.0) }
 {
-    let (mut sim, held) = load_station(rt, image.disk, image.nvram)?;
+    let (mut sim, held) = load_station(rt, image)?;
     if let Some(cut) = faults.cut {
         sim.cut_at(cut, keep_of(rt.alloc(), faults.keep)?, faults.bytes);
     }
@@ -34,6 +43,17 @@ fn keep_of(alloc: Global, kept: Kept<'_>) -> Result<Keep, AllocError>
     match kept {
         Kept::Nothing => Ok(Keep::Nothing),
         Kept::Everything => Ok(Keep::Everything),
-        Kept::Bits(text) => Ok(Keep::Bits(text.bytes().map(|byte| byte == b'1').collect(alloc)?)),
+        Kept::Bits(text) => Ok(Keep::Bits(text.bytes().map(|byte| mark_of(byte)).collect(alloc)?)),
+    }
+}
+
+/// What a character of a text says of a sector write: 0 drops it, 1 keeps it, and with 2 the sector can't be read.
+fn mark_of(byte: u8) -> Mark
+    ensures { result ≡ mark_told byte }
+{
+    match byte {
+        b'1' => Mark::Kept,
+        b'2' => Mark::Lost,
+        _ => Mark::Dropped,
     }
 }

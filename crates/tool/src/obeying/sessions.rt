@@ -1,15 +1,18 @@
 //! Commands on an image: a script's, standard input's line by line, or one of the program's own words.
 
-use super::faults::failing_station;
-use super::{Image, Streams, tell};
+use super::faults::failing_image;
+use super::{Streams, tell};
 use crate::explain::{explain_ending, explain_words};
 use command_line::{RunFaults, are_words, line_of_words};
-use host_files::{FileError, open_station, read_script, read_station, store_image};
+use host_files::{
+    FileError, Held, Image, Opened, open_image, open_to_read, read_script, store_image,
+};
+use memory_station::Sim;
 use session::{Ending, Status, session, shell};
-use station::{Sim, Station};
+use station::Station;
 use std::io::{Read, Write};
 
-/// Runs a script: on the image's files, or in memory where something is to go wrong.
+/// Runs a script: on the image's files, or in memory where something is to go wrong or can't be read.
 pub(super) fn run_script<I: Read, O: Write, E: Write>(
     rt: &HostRuntime,
     image: Image<'_>,
@@ -22,15 +25,15 @@ pub(super) fn run_script<I: Read, O: Write, E: Write>(
         Ok(script) => script,
         Err(error) => return tell(&error, &mut streams.err),
     };
-    let ran = match faults {
+    let opened = match faults {
         RunFaults {
             cut: None,
             fail_sync: None,
             ..
-        } => run_on_files(rt, image, script.as_slice(), stops, streams),
-        _ => run_in_memory(rt, image, script.as_slice(), stops, faults, streams),
+        } => open_image(rt, image),
+        _ => failing_image(rt, image, faults),
     };
-    match ran {
+    match run_on(rt, image, opened, script.as_slice(), stops, streams) {
         Ok(ending) => explain(rt, image, script.as_slice(), ending, streams),
         Err(error) => tell(&error, &mut streams.err),
     }
@@ -46,12 +49,26 @@ pub(super) fn run_one<I: Read, O: Write, E: Write>(
     let Ok(script) = line_of_words(rt.alloc(), words) else {
         return tell(&FileError::NoMemory, &mut streams.err);
     };
-    match run_on_files(rt, image, script.as_slice(), true, streams) {
+    let opened = open_image(rt, image);
+    match run_on(rt, image, opened, script.as_slice(), true, streams) {
         Ok(ending) if streams.explains && !are_words(words) => {
             explain_words(&mut streams.err);
             ending.status()
         }
         Ok(ending) => explain(rt, image, script.as_slice(), ending, streams),
+        Err(error) => tell(&error, &mut streams.err),
+    }
+}
+
+/// Tells the room of the image's disk.
+pub(super) fn show_room<I: Read, O: Write, E: Write>(
+    rt: &HostRuntime,
+    image: Image<'_>,
+    streams: &mut Streams<I, O, E>,
+) -> Status {
+    let opened = open_to_read(rt, image);
+    match run_on(rt, image, opened, b"df\n", false, streams) {
+        Ok(ending) => explain(rt, image, b"df\n", ending, streams),
         Err(error) => tell(&error, &mut streams.err),
     }
 }
@@ -62,22 +79,35 @@ pub(super) fn run_shell<I: Read, O: Write, E: Write>(
     image: Image<'_>,
     streams: &mut Streams<I, O, E>,
 ) -> Status {
-    let station = match open_station(rt, image.disk, image.nvram) {
-        Ok(station) => station,
-        Err(error) => return tell(&error, &mut streams.err),
-    };
-    let ending = answer_lines(rt, station, streams);
-    explain(rt, image, b"", ending, streams)
+    match answer_on(rt, image, streams) {
+        Ok(ending) => explain(rt, image, b"", ending, streams),
+        Err(error) => tell(&error, &mut streams.err),
+    }
 }
 
-/// Answers each line of standard input on a station whose power isn't cut, and lets it go.
-fn answer_lines<S: Station + Drop, I: Read, O: Write, E: Write>(
+/// Answers each line of standard input on an image.
+fn answer_on<'a, I: Read, O: Write, E: Write>(
+    rt: &HostRuntime,
+    image: Image<'a>,
+    streams: &mut Streams<I, O, E>,
+) -> Result<Ending, FileError<'a>> {
+    match open_image(rt, image)? {
+        Opened::Files(station) => Ok(answer_lines(rt, station, streams).0),
+        Opened::Memory(sim, held) => {
+            let (ending, sim) = answer_lines(rt, sim, streams);
+            store(rt, image, ending, &sim, &held)
+        }
+    }
+}
+
+/// Answers each line of standard input on a station whose power isn't cut, and gives that back.
+fn answer_lines<S: Station, I: Read, O: Write, E: Write>(
     rt: &HostRuntime,
     station: S,
     streams: &mut Streams<I, O, E>,
-) -> Ending {
+) -> (Ending, S) {
     let prompts = streams.terminals.input && streams.terminals.out;
-    let (ending, _station) = shell(
+    shell(
         rt.alloc(),
         station,
         prompts,
@@ -85,37 +115,42 @@ fn answer_lines<S: Station + Drop, I: Read, O: Write, E: Write>(
         |_| false,
         &mut streams.out,
         &mut streams.err,
-    );
-    ending
+    )
 }
 
-/// Tells the room of the image's disk.
-pub(super) fn show_room<I: Read, O: Write, E: Write>(
-    rt: &HostRuntime,
-    image: Image<'_>,
-    streams: &mut Streams<I, O, E>,
-) -> Status {
-    let station = match read_station(rt, image.disk, image.nvram) {
-        Ok(station) => station,
-        Err(error) => return tell(&error, &mut streams.err),
-    };
-    let ending = run_bytes(rt, station, b"df\n", false, streams);
-    explain(rt, image, b"df\n", ending, streams)
-}
-
-/// Runs a script's bytes on the image's files.
-fn run_on_files<'a, I, O: Write, E: Write>(
+/// Runs a script's bytes on an image that was opened.
+fn run_on<'a, I, O: Write, E: Write>(
     rt: &HostRuntime,
     image: Image<'a>,
+    opened: Result<Opened, FileError<'a>>,
     script: &[u8],
     stops: bool,
     streams: &mut Streams<I, O, E>,
 ) -> Result<Ending, FileError<'a>> {
-    let station = open_station(rt, image.disk, image.nvram)?;
-    Ok(run_bytes(rt, station, script, stops, streams))
+    match opened? {
+        Opened::Files(station) => Ok(run_bytes(rt, station, script, stops, streams)),
+        Opened::Memory(sim, held) => {
+            let (ending, sim) = run_until_cut(rt, sim, script, stops, streams);
+            store(rt, image, ending, &sim, &held)
+        }
+    }
 }
 
-/// Runs a script's bytes on a station whose power isn't cut, and lets it go.
+/// Stores what a run in memory left, where it came to one.
+fn store<'a>(
+    rt: &HostRuntime,
+    image: Image<'a>,
+    ending: Ending,
+    sim: &Sim,
+    held: &Held,
+) -> Result<Ending, FileError<'a>> {
+    if let Ending::Ran(_) = ending {
+        store_image(rt, image, sim, held)?;
+    }
+    Ok(ending)
+}
+
+/// Runs a script's bytes on a station whose power isn't cut, and gives that back.
 fn run_bytes<S: Station + Drop, I, O: Write, E: Write>(
     rt: &HostRuntime,
     station: S,
@@ -133,25 +168,6 @@ fn run_bytes<S: Station + Drop, I, O: Write, E: Write>(
         &mut streams.err,
     );
     ending
-}
-
-/// Runs a script's bytes on a station in memory that is to fail as these faults say, and stores what that leaves.
-fn run_in_memory<'a, I, O: Write, E: Write>(
-    rt: &HostRuntime,
-    image: Image<'a>,
-    script: &[u8],
-    stops: bool,
-    faults: RunFaults<'_>,
-    streams: &mut Streams<I, O, E>,
-) -> Result<Ending, FileError<'a>> {
-    // Both files stay locked until the image is stored.
-    let (sim, _held) = failing_station(rt, image, faults)?;
-    let (ending, sim) = run_until_cut(rt, sim, script, stops, streams);
-    if let Ending::Ran(Status::Done | Status::Cut | Status::Refused) = ending {
-        let (disk_bytes, nvram_bytes) = sim.images();
-        store_image(rt, image.disk, image.nvram, disk_bytes, nvram_bytes)?;
-    }
-    Ok(ending)
 }
 
 /// Runs a script's bytes on a station in memory until its power is cut, and gives that back.

@@ -1,6 +1,6 @@
 //! Storing a file of the host's in an image, and bringing one back.
 
-use super::{Image, Streams};
+use super::Streams;
 use crate::explain::explain_mount;
 use crate::statuses::status_of_transfer;
 use session::Status;
@@ -45,11 +45,7 @@ fn tell<I, O, E: Write>(
     let _ = writeln!(streams.err, "wafl: {error}");
     if let TransferError::Mount(error) = error {
         if streams.explains {
-            let image = Image {
-                disk: what.disk,
-                nvram: what.nvram,
-            };
-            explain_mount(rt, image, *error, &mut streams.err);
+            explain_mount(rt, what.image, *error, &mut streams.err);
         }
     }
     status_of_transfer(error)

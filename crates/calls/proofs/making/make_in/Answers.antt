@@ -23,7 +23,7 @@ returns-in_err-new-clause-prepares g c = stops c.from_residual.result c.from_res
     let inodes = stands.volume.inodes in
     c.in_err-new.ensures.damaged disk stands.shows is
     (λ t i based. subst (λ (n : ℕ). IsSoundAt n disk t i) inodes.count
-    (c.based_trees_are_sound.ensures.at _ c.args.inodes.now.geometry disk (settled 4) t i (inodes.sound 4) (based (settled 4)))))
+    (c.based_trees_are_sound.ensures.at _ c.args.inodes.now.geometry disk (settled 4) t i (inodes.sound 4) (inodes.sound 4).bytes.readable (based (settled 4)))))
 
 pub returns-in_default-clause-prepares : goal.returns-in_default-clause-prepares
 returns-in_default-clause-prepares g c =
@@ -36,7 +36,7 @@ returns-in_default-clause-prepares g c =
 pub returns-in_err-vacant-clause-prepares : goal.returns-in_err-vacant-clause-prepares
 returns-in_err-vacant-clause-prepares g c =
     stops_later c.from_residual-in_err-vacant.result c.from_residual-in_err-vacant.ensures.1
-    (looks_beside c.in_ok-new.ensures.reads c.least_free.ensures.geometry c.least_free.ensures.slots c.least_free.ensures.volume) c.in_err-vacant.ensures.looks c.in_err-vacant.ensures.damaged
+    (looks_beside c.in_ok-new.ensures.reads c.least_free.ensures.geometry c.least_free.ensures.slots c.least_free.ensures.volume) c.in_err-vacant.ensures.looks (λ disk settled v stands. c.in_err-vacant.ensures.damaged disk settled v stands tt)
 
 pub returns-then-not-vacant-clause-prepares : goal.returns-then-not-vacant-clause-prepares
 returns-then-not-vacant-clause-prepares g c =
@@ -69,7 +69,7 @@ returns-in_err-prepared-clause-prepares g c =
     let before = looks_more (looks_beside c.in_ok-new.ensures.reads c.least_free.ensures.geometry c.least_free.ensures.slots c.least_free.ensures.volume) c.in_ok-vacant.ensures.looks in
     let all = c.in_err-prepared.ensures in
     fails_by {X = Prepared} DIRFULL refl _ c.from_residual-in_err-prepared.result c.from_residual-in_err-prepared.ensures.1 (looks_more before all.looks) all.full
-    (λ disk settled v stands is. all.damaged _ disk settled v (before.kept disk settled v stands) is)
+    (λ disk settled v stands is. all.damaged by_bytes disk settled v (before.kept disk settled v stands) tt is)
     (λ disk settled v table stands volume mounted is.
     let not = subst (λ (f : Failure). IfOk (told {T = Prepared} (Err f)) (λ r. IfErr r (λ _. TakesName v c.args.parent c.deref.result.now → ⊥))) is
     (all.refused by_bytes disk settled v (before.kept disk settled v stands) (subst (λ (s : Sizes). IsVolume s.inodes v) (sym before.geometry) volume)) in

@@ -1,9 +1,7 @@
-use Rattle.std.proofs.Common.{◌∙◌, ◌+◌, ◌*◌, Err, ap, arith, inl, sym, subst}
+use Rattle.std.proofs.Common.{◌∙◌, Err, ap, inl, refl, sym, subst}
 use Rattle.station.specs.Images.{Images}
 use Rattle.station.specs.Moments.{HasGrown}
 use Rattle.layout.specs.Places.{blocks_of}
-use Rattle.buffers.specs.Disks.{IsDisk}
-use Rattle.checker.proofs.BlockLaws.{is_block}
 use Rattle.checker.specs.Checks.{Reports}
 use Rattle.checker.proofs.CheckLaws.{has_roots, reports_roots, reports_under}
 use Rattle.checker.proofs.GoodLaws.{is_good}
@@ -17,8 +15,8 @@ check_image-requires-clause-none g c =
 pub returns-in-Ok-None-clause-opens : goal.returns-in-Ok-None-clause-opens
 returns-in-Ok-None-clause-opens g c honest s opens =
     let m = g.S.Station.meaning c.args.station in
-    let none = c.images_that_open_have_no_fault.ensures.all m.sectors m.seen.disk m.seen.nvram s opens in
-    is_good m.sectors m.seen.disk m.seen.nvram none (λ r has. c.faultless_images_have_one_root.ensures m.sectors m.seen.disk m.seen.nvram r none has) c.report.result
+    let none = c.images_that_open_have_no_fault.ensures.under m.sectors m.seen.disk m.seen.nvram s opens in
+    is_good m.sectors m.seen.disk m.seen.nvram opens.root none.0 opens.changes none.1 (λ n. (opens.holds.sound.active.files n).bytes.readable) c.report.result
     (subst (Reports m.sectors m.seen.disk m.seen.nvram) (sym c.report.ensures)
     (reports_roots m.sectors m.seen.disk m.seen.nvram c.find_root.new.findings.first (c.in-Ok-None.ensures.some c.in-Ok-None.field-0-is) (c.in-Ok-None.ensures.none honest c.new-findings.ensures c.in-Ok-None.field-0-is)))
 
@@ -28,13 +26,11 @@ returns-in-Ok-clause-reports g c honest =
     let n = g.S.Station.meaning c.find_root.new.station in
     let went = c.find_root.ensures.goes honest in
     let sized = g.met.S.Station.sized c.args.station honest m.seen (g.met.S.Station.seen_may_be_left c.args.station honest) in
-    let read = g.met.S.Station.sized c.find_root.new.station went.honest n.seen (g.met.S.Station.seen_may_be_left c.find_root.new.station went.honest) in
-    let is_disk : IsDisk n (blocks_of n.seen.disk) = λ place within. is_block n.seen.disk place (λ k below. read.sector (8 * place + k) (omega arith)) in
-    let shows = c.new-blocks.ensures.shows (blocks_of n.seen.disk) went.honest is_disk in
+    let shows = c.new-blocks.ensures.shows (blocks_of n.seen.disk) went.honest (λ place within. refl) in
     let root = c.in-Ok-Some.root in
     let newest = rw c.in-Ok-Some.field-0-is at (c.in-Ok-Some.ensures.found honest) in
     let root_is = rw c.in-Ok-Some.field-0-is at c.in-Ok-Some.ensures.root in
-    let roots = has_roots m n root c.find_root.ensures.same sized.nvram newest.0 root_is.1 in
+    let roots = has_roots m n root c.find_root.ensures.same sized.nvram newest root_is.1 in
     let there = ap (λ (s : g.row.S.Denot). (g.S.Station.meaning s).seen) c.new-blocks.ensures.station in
     subst (Reports m.sectors m.seen.disk m.seen.nvram) (sym c.report-in-Ok.ensures)
     (reports_under m.sectors m.seen.disk n.seen.disk m.seen.nvram (g.S.Station.meaning c.new-blocks.result.station).seen.nvram root c.check_image.new.findings.first c.in-Ok.summary
@@ -43,8 +39,8 @@ returns-in-Ok-clause-reports g c honest =
 pub returns-in-Ok-clause-opens : goal.returns-in-Ok-clause-opens
 returns-in-Ok-clause-opens g c honest s opens =
     let m = g.S.Station.meaning c.args.station in
-    let none = c.images_that_open_have_no_fault.ensures.all m.sectors m.seen.disk m.seen.nvram s opens in
-    is_good m.sectors m.seen.disk m.seen.nvram none (λ r has. c.faultless_images_have_one_root.ensures m.sectors m.seen.disk m.seen.nvram r none has) c.report-in-Ok.result
+    let none = c.images_that_open_have_no_fault.ensures.under m.sectors m.seen.disk m.seen.nvram s opens in
+    is_good m.sectors m.seen.disk m.seen.nvram opens.root none.0 opens.changes none.1 (λ n. (opens.holds.sound.active.files n).bytes.readable) c.report-in-Ok.result
     (returns-in-Ok-clause-reports g c honest)
 
 pub returns-in-Err-check_image-clause-device : goal.returns-in-Err-check_image-clause-device

@@ -1,11 +1,10 @@
-use Rattle.std.proofs.Common.{◌≡◌, ◌∙◌, ◌+◌, ◌<◌, ◌≤◌, ℕ, Bool, false, true, Vec, Global, None, Option, Some, length, set, ap, arith, inl, inr, sym, subst}
-use Rattle.std.specs.Prelude.{IsTrue, slice_get}
+use Rattle.std.proofs.Common.{◌≡◌, ◌∙◌, ◌+◌, ◌<◌, false, true, Vec, Global, None, Some, length, set, ap, arith, inl, inr, sym, subst}
+use Rattle.std.specs.Prelude.{slice_get}
 use Rattle.std.proofs.lemmas.Option.{slice_get_within}
 use Rattle.images.specs.Roots.{whole}
 use Rattle.checker.specs.Checks.{AreFindings}
-use Rattle.checker.specs.Findings.{IsFindingUnder, fault_number}
+use Rattle.checker.specs.Findings.{fault_number}
 use Rattle.checker.specs.Trees.{IsApart}
-use Rattle.checker.specs.declared.fault.Finding.{Finding}
 use Rattle.checker.specs.declared.findings.Findings.{Findings}
 use Rattle.checker.specs.declared.tree.Tree.{Tree}
 use Rattle.checker.proofs.EachLaws.{Each, contains, each_all, each_set, get_at, some_at}

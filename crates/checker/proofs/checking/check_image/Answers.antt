@@ -4,8 +4,9 @@ use Rattle.buffers.specs.Readings.{reads_none, reads_twice}
 use Rattle.images.specs.Faults.{HasLog}
 use Rattle.images.specs.Roots.{whole}
 use Rattle.checker.specs.Checks.{AreFindings}
+use Rattle.checker.specs.Findings.{IsFindingUnder}
 use Rattle.checker.specs.declared.fault.TreeName.TheVariants.{Image}
-use Rattle.checker.proofs.CheckLaws.{faultless_by, log_finding}
+use Rattle.checker.proofs.CheckLaws.{faultless_by}
 use Rattle.checker.proofs.FindingLaws.{if_found, more_found}
 use Rattle.checker.proofs.checking.check_image.Goals as goal
 
@@ -104,4 +105,4 @@ returns-in-Err-Fault-clause-found g c disk shows =
     let told = rw c.in-Err-Fault.field-0-is at (c.in-Err-Fault.ensures.passes disk shows2 active) in
     if_found r w nvram c.find.new.self.first
     (more_found r w nvram c.check_trees.new.findings.first c.find.new.self.first (record { tree = Image; fault = c.in-Err-Fault.fault }) c.find.ensures second
-    (log_finding r w nvram c.in-Err-Fault.fault told.0 (λ changes log. told.1 changes (subst (λ (i : Images). HasLog r w i.nvram changes) (sym seen) log))))
+    (subst (λ (i : Images). IsFindingUnder r w i.nvram Image c.in-Err-Fault.fault) seen told))

@@ -1,20 +1,19 @@
-use Rattle.std.proofs.Common.{◌≡◌, ◌∙◌, ◌<◌, ℕ, [], Err, None, length, refl, rules, sym, subst}
+use Rattle.std.proofs.Common.{◌≡◌, ◌∙◌, ◌<◌, [], Err, None, length, refl, rules, sym, subst}
 use Rattle.std.proofs.lemmas.Bool.{false≢true}
 use Rattle.std.specs.declared.alloc.AllocError.{AllocError}
 use Rattle.images.specs.BlockMap.{IsExact}
-use Rattle.images.specs.Faults.{IsFaultless, IsTreeGrammar}
 use Rattle.images.specs.Room.{free_under}
 use Rattle.images.specs.Roots.{whole}
+use Rattle.images.specs.Soundness.{IsReadable}
 use Rattle.checker.specs.Checks.{Passes}
-use Rattle.checker.specs.Findings.{IsFindingUnder, tree_in}
+use Rattle.checker.specs.Findings.{IsFindingUnder}
 use Rattle.checker.specs.declared.error.CheckError.TheVariants.{NoMemory}
 use Rattle.checker.specs.declared.error.Halt.{Halt}
 use Rattle.checker.specs.declared.fault.TreeName.TheVariants.{Image}
-use Rattle.checker.proofs.AllTreesLaws.{all_faultless, first_plane, should, stays_clean}
+use Rattle.checker.proofs.AllTreesLaws.{all_faultless, first_faultless, first_known, should, stays_clean}
 use Rattle.checker.proofs.EachLaws.{get_at}
 use Rattle.checker.proofs.FindingLaws.{more_found}
 use Rattle.checker.proofs.ReadLaws.{looked, looked_more, looked_none, looks_err, looks_ok, looks_passed}
-use Rattle.checker.proofs.WholeLaws.{out_number}
 use Rattle.checker.proofs.checking.check_trees.Goals as goal
 
 pub returns-in_err-marks-clause-reads : goal.returns-in_err-marks-clause-reads
@@ -44,37 +43,21 @@ pub returns-then-not-are_apart-clause-found : goal.returns-then-not-are_apart-cl
 returns-then-not-are_apart-clause-found g c disk nvram shows snapshots are =
     let one = looked c.open_trees.ensures.reads in
     let two = looked_more one (looked c.check_numbers.ensures.reads) in
-    let three = looked_more two (looked c.check_each.ensures.reads) in
     let r = c.args.root.now in
-    let w = whole disk r in
     let opened = c.in_ok-trees.ensures.trees disk shows snapshots c.in_ok-marks.ensures.none c.none-shared.ensures in
     let numbered = c.in_ok-check_numbers.ensures.seen disk r (one.same disk shows) c.requires.root refl opened in
-    let ended = c.in_ok-are_apart.ensures.seen disk r c.check_numbers.new.marks (two.same disk shows) c.requires.root refl numbered in
-    let keeps = c.in_ok-are_apart.ensures.trees in
-    let trees = c.check_each.new.trees.items in
-    let some : 0 < length trees = search rules in
-    let newest = c.index.result.now in
-    let at = get_at trees 0 newest some c.index.ensures in
-    let plane = first_plane disk r c.check_numbers.new.marks c.check_numbers.new.trees.items trees _ numbered keeps ended newest at in
     c.in_ok-are_apart.ensures.found disk r c.check_numbers.new.marks nvram (two.same disk shows) c.requires.root refl numbered are
 
 pub returns-then-not-are_apart-clause-newest : goal.returns-then-not-are_apart-clause-newest
 returns-then-not-are_apart-clause-newest g c disk shows snapshots sure =
     let one = looked c.open_trees.ensures.reads in
     let two = looked_more one (looked c.check_numbers.ensures.reads) in
-    let three = looked_more two (looked c.check_each.ensures.reads) in
     let r = c.args.root.now in
-    let w = whole disk r in
     let opened = c.in_ok-trees.ensures.trees disk shows snapshots c.in_ok-marks.ensures.none c.none-shared.ensures in
     let numbered = c.in_ok-check_numbers.ensures.seen disk r (one.same disk shows) c.requires.root refl opened in
     let ended = c.in_ok-are_apart.ensures.seen disk r c.check_numbers.new.marks (two.same disk shows) c.requires.root refl numbered in
-    let keeps = c.in_ok-are_apart.ensures.trees in
-    let trees = c.check_each.new.trees.items in
-    let some : 0 < length trees = search rules in
-    let newest = c.index.result.now in
-    let at = get_at trees 0 newest some c.index.ensures in
-    let plane = first_plane disk r c.check_numbers.new.marks c.check_numbers.new.trees.items trees _ numbered keeps ended newest at in
-    subst (λ (n : ℕ). IsFaultless r.geometry (tree_in w n)) plane ((ended 0 newest at).1 (search rules))
+    let some : 0 < length c.check_each.new.trees.items = search rules in
+    first_faultless disk r c.check_numbers.new.marks c.check_numbers.new.trees.items c.check_each.new.trees.items _ numbered c.in_ok-are_apart.ensures.trees ended c.index.result.now (get_at c.check_each.new.trees.items 0 c.index.result.now some c.index.ensures) (search rules)
 
 pub returns-then-not-are_apart-clause-told : goal.returns-then-not-are_apart-clause-told
 returns-then-not-are_apart-clause-told g c none =
@@ -98,19 +81,12 @@ pub returns-in-Ok-clause-newest : goal.returns-in-Ok-clause-newest
 returns-in-Ok-clause-newest g c disk shows snapshots sure =
     let one = looked c.open_trees.ensures.reads in
     let two = looked_more one (looked c.check_numbers.ensures.reads) in
-    let three = looked_more two (looked c.check_each.ensures.reads) in
     let r = c.args.root.now in
-    let w = whole disk r in
     let opened = c.in_ok-trees.ensures.trees disk shows snapshots c.in_ok-marks.ensures.none c.none-shared.ensures in
     let numbered = c.in_ok-check_numbers.ensures.seen disk r (one.same disk shows) c.requires.root refl opened in
     let ended = c.in_ok-are_apart.ensures.seen disk r c.check_numbers.new.marks (two.same disk shows) c.requires.root refl numbered in
-    let keeps = c.in_ok-are_apart.ensures.trees in
-    let trees = c.check_each.new.trees.items in
-    let some : 0 < length trees = search rules in
-    let newest = c.index.result.now in
-    let at = get_at trees 0 newest some c.index.ensures in
-    let plane = first_plane disk r c.check_numbers.new.marks c.check_numbers.new.trees.items trees _ numbered keeps ended newest at in
-    subst (λ (n : ℕ). IsFaultless r.geometry (tree_in w n)) plane ((ended 0 newest at).1 (search rules))
+    let some : 0 < length c.check_each.new.trees.items = search rules in
+    first_faultless disk r c.check_numbers.new.marks c.check_numbers.new.trees.items c.check_each.new.trees.items _ numbered c.in_ok-are_apart.ensures.trees ended c.index.result.now (get_at c.check_each.new.trees.items 0 c.index.result.now some c.index.ensures) (search rules)
 
 pub returns-in-Err-Fault-clause-reads : goal.returns-in-Err-Fault-clause-reads
 returns-in-Err-Fault-clause-reads g c =
@@ -123,36 +99,20 @@ pub returns-in-Err-Fault-clause-newest : goal.returns-in-Err-Fault-clause-newest
 returns-in-Err-Fault-clause-newest g c disk shows snapshots sure =
     let one = looked c.open_trees.ensures.reads in
     let two = looked_more one (looked c.check_numbers.ensures.reads) in
-    let three = looked_more two (looked c.check_each.ensures.reads) in
     let r = c.args.root.now in
-    let w = whole disk r in
     let opened = c.in_ok-trees.ensures.trees disk shows snapshots c.in_ok-marks.ensures.none c.none-shared.ensures in
     let numbered = c.in_ok-check_numbers.ensures.seen disk r (one.same disk shows) c.requires.root refl opened in
     let ended = c.in_ok-are_apart.ensures.seen disk r c.check_numbers.new.marks (two.same disk shows) c.requires.root refl numbered in
-    let keeps = c.in_ok-are_apart.ensures.trees in
-    let trees = c.check_each.new.trees.items in
-    let some : 0 < length trees = search rules in
-    let newest = c.index.result.now in
-    let at = get_at trees 0 newest some c.index.ensures in
-    let plane = first_plane disk r c.check_numbers.new.marks c.check_numbers.new.trees.items trees _ numbered keeps ended newest at in
-    subst (λ (n : ℕ). IsFaultless r.geometry (tree_in w n)) plane ((ended 0 newest at).1 (search rules))
+    let some : 0 < length c.check_each.new.trees.items = search rules in
+    first_faultless disk r c.check_numbers.new.marks c.check_numbers.new.trees.items c.check_each.new.trees.items _ numbered c.in_ok-are_apart.ensures.trees ended c.index.result.now (get_at c.check_each.new.trees.items 0 c.index.result.now some c.index.ensures) (search rules)
 
 pub returns-in-Ok-clause-found : goal.returns-in-Ok-clause-found
 returns-in-Ok-clause-found g c disk nvram shows snapshots are =
     let one = looked c.open_trees.ensures.reads in
     let two = looked_more one (looked c.check_numbers.ensures.reads) in
-    let three = looked_more two (looked c.check_each.ensures.reads) in
     let r = c.args.root.now in
-    let w = whole disk r in
     let opened = c.in_ok-trees.ensures.trees disk shows snapshots c.in_ok-marks.ensures.none c.none-shared.ensures in
     let numbered = c.in_ok-check_numbers.ensures.seen disk r (one.same disk shows) c.requires.root refl opened in
-    let ended = c.in_ok-are_apart.ensures.seen disk r c.check_numbers.new.marks (two.same disk shows) c.requires.root refl numbered in
-    let keeps = c.in_ok-are_apart.ensures.trees in
-    let trees = c.check_each.new.trees.items in
-    let some : 0 < length trees = search rules in
-    let newest = c.index.result.now in
-    let at = get_at trees 0 newest some c.index.ensures in
-    let plane = first_plane disk r c.check_numbers.new.marks c.check_numbers.new.trees.items trees _ numbered keeps ended newest at in
     c.in_ok-are_apart.ensures.found disk r c.check_numbers.new.marks nvram (two.same disk shows) c.requires.root refl numbered are
 
 pub returns-in-Ok-clause-told : goal.returns-in-Ok-clause-told
@@ -172,26 +132,18 @@ returns-in-Ok-clause-faultless g c disk shows snapshots none =
     let opened = c.in_ok-trees.ensures.trees disk shows snapshots c.in_ok-marks.ensures.none c.none-shared.ensures in
     let numbered = c.in_ok-check_numbers.ensures.seen disk r (one.same disk shows) c.requires.root refl opened in
     let ended = c.in_ok-are_apart.ensures.seen disk r c.check_numbers.new.marks (two.same disk shows) c.requires.root refl numbered in
-    let keeps = c.in_ok-are_apart.ensures.trees in
-    let trees = c.check_each.new.trees.items in
-    let some : 0 < length trees = search rules in
-    let newest = c.index.result.now in
-    let at = get_at trees 0 newest some c.index.ensures in
-    let plane = first_plane disk r c.check_numbers.new.marks c.check_numbers.new.trees.items trees _ numbered keeps ended newest at in
-    let again = c.index-2.result.now in
-    let there = get_at trees 0 again some c.index-2.ensures in
-    let second = first_plane disk r c.check_numbers.new.marks c.check_numbers.new.trees.items trees _ numbered keeps ended again there in
-    let all_apart = c.in_ok-are_apart.ensures.apart (search rules) in
+    let some : 0 < length c.check_each.new.trees.items = search rules in
+    let apart = c.in_ok-are_apart.ensures.apart (search rules) in
+    let newest = first_known disk r c.check_numbers.new.marks c.check_numbers.new.trees.items c.check_each.new.trees.items _ numbered c.in_ok-are_apart.ensures.trees ended apart c.index-2.result.now (get_at c.check_each.new.trees.items 0 c.index-2.result.now some c.index-2.ensures) in
     let clean = stays_clean r c.in_ok-trees.trees.items _ c.open_trees.new.marks c.check_numbers.new.marks opened (λ t known. known.tree.has)
     (λ k none b. (c.in_ok-check_numbers.ensures.others k none).marks b) (λ k b none. c.in_ok-trees.ensures.clean c.in_ok-marks.ensures.none k b none) in
-    let exact = should disk r c.check_numbers.new.marks c.check_numbers.new.trees.items trees _ numbered keeps ended c.mark_system.new.marks all_apart c.requires.root.slots clean c.mark_system.ensures.system c.mark_system.ensures.others in
-    let seen = (ended 0 again there).0 in
-    let grammar = subst (λ (n : ℕ). IsTreeGrammar r.geometry (tree_in w n)) second (seen.grammar (λ out. out_number again.fault out (all_apart 0 again there))) in
-    let passes = c.in-Ok.ensures.passes disk r [] (three.same disk shows) c.requires.root refl seen.tree second grammar exact in
+    let exact = should disk r c.check_numbers.new.marks c.check_numbers.new.trees.items c.check_each.new.trees.items _ numbered c.in_ok-are_apart.ensures.trees ended c.mark_system.new.marks apart c.requires.root.slots clean c.mark_system.ensures.system c.mark_system.ensures.others in
+    let passes = c.in-Ok.ensures.passes disk r [] (three.same disk shows) c.requires.root refl newest.tree newest.plane newest.grammar exact in
     record {
-      trees = all_faultless disk r c.check_numbers.new.marks c.check_numbers.new.trees.items trees _ numbered keeps ended (c.in_ok-are_apart.ensures.told none);
-      exact = passes.0;
-      free_is = passes.1;
+      trees = all_faultless disk r c.check_numbers.new.marks c.check_numbers.new.trees.items c.check_each.new.trees.items _ numbered c.in_ok-are_apart.ensures.trees ended (c.in_ok-are_apart.ensures.told none);
+      readable = passes.0;
+      exact = passes.1;
+      free_is = passes.2;
     }
 
 pub returns-in-Err-Fault-clause-found : goal.returns-in-Err-Fault-clause-found
@@ -204,25 +156,16 @@ returns-in-Err-Fault-clause-found g c disk nvram shows snapshots are =
     let opened = c.in_ok-trees.ensures.trees disk shows snapshots c.in_ok-marks.ensures.none c.none-shared.ensures in
     let numbered = c.in_ok-check_numbers.ensures.seen disk r (one.same disk shows) c.requires.root refl opened in
     let ended = c.in_ok-are_apart.ensures.seen disk r c.check_numbers.new.marks (two.same disk shows) c.requires.root refl numbered in
-    let keeps = c.in_ok-are_apart.ensures.trees in
-    let trees = c.check_each.new.trees.items in
-    let some : 0 < length trees = search rules in
-    let newest = c.index.result.now in
-    let at = get_at trees 0 newest some c.index.ensures in
-    let plane = first_plane disk r c.check_numbers.new.marks c.check_numbers.new.trees.items trees _ numbered keeps ended newest at in
-    let again = c.index-2.result.now in
-    let there = get_at trees 0 again some c.index-2.ensures in
-    let second = first_plane disk r c.check_numbers.new.marks c.check_numbers.new.trees.items trees _ numbered keeps ended again there in
-    let all_apart = c.in_ok-are_apart.ensures.apart (search rules) in
+    let some : 0 < length c.check_each.new.trees.items = search rules in
+    let apart = c.in_ok-are_apart.ensures.apart (search rules) in
+    let newest = first_known disk r c.check_numbers.new.marks c.check_numbers.new.trees.items c.check_each.new.trees.items _ numbered c.in_ok-are_apart.ensures.trees ended apart c.index-2.result.now (get_at c.check_each.new.trees.items 0 c.index-2.result.now some c.index-2.ensures) in
     let clean = stays_clean r c.in_ok-trees.trees.items _ c.open_trees.new.marks c.check_numbers.new.marks opened (λ t known. known.tree.has)
     (λ k none b. (c.in_ok-check_numbers.ensures.others k none).marks b) (λ k b none. c.in_ok-trees.ensures.clean c.in_ok-marks.ensures.none k b none) in
-    let exact = should disk r c.check_numbers.new.marks c.check_numbers.new.trees.items trees _ numbered keeps ended c.mark_system.new.marks all_apart c.requires.root.slots clean c.mark_system.ensures.system c.mark_system.ensures.others in
-    let seen = (ended 0 again there).0 in
-    let grammar = subst (λ (n : ℕ). IsTreeGrammar r.geometry (tree_in w n)) second (seen.grammar (λ out. out_number again.fault out (all_apart 0 again there))) in
+    let exact = should disk r c.check_numbers.new.marks c.check_numbers.new.trees.items c.check_each.new.trees.items _ numbered c.in_ok-are_apart.ensures.trees ended c.mark_system.new.marks apart c.requires.root.slots clean c.mark_system.ensures.system c.mark_system.ensures.others in
     more_found r w nvram c.check_each.new.findings.first c.find.new.self.first (record { tree = Image; fault = c.in-Err-Fault.fault }) c.find.ensures
     (c.in_ok-are_apart.ensures.found disk r c.check_numbers.new.marks nvram (two.same disk shows) c.requires.root refl numbered are)
-    (subst (λ (h : Halt). Passes (λ free. IsExact r w × (free ≡ free_under w.active r.geometry.blocks)) (IsFindingUnder r w nvram Image) (Err h)) c.in-Err-Fault.field-0-is
-    (c.in-Err-Fault.ensures.passes disk r nvram (three.same disk shows) c.requires.root refl seen.tree second grammar exact))
+    (subst (λ (h : Halt). Passes (λ free. IsReadable (w.active 2) × IsExact r w × (free ≡ free_under w.active r.geometry.blocks)) (IsFindingUnder r w nvram Image) (Err h)) c.in-Err-Fault.field-0-is
+    (c.in-Err-Fault.ensures.passes disk r nvram (three.same disk shows) c.requires.root refl newest.tree newest.plane newest.grammar exact))
 
 pub returns-in-Err-Fault-clause-told : goal.returns-in-Err-Fault-clause-told
 returns-in-Err-Fault-clause-told g c none =

@@ -1,4 +1,4 @@
-use Rattle.std.proofs.Common.{refl, subst}
+use Rattle.std.proofs.Common.{subst}
 use Rattle.station.specs.Images.{Images}
 use Rattle.layout.specs.Opens.{IsNewest}
 use Rattle.layout.specs.declared.TheConstants.{SLOT_A, SLOT_B}
@@ -9,7 +9,7 @@ use Rattle.checker.proofs.checking.find_root.Goals as goal
 pub returns-in-Ok-newest_root-clause-found : goal.returns-in-Ok-newest_root-clause-found
 returns-in-Ok-newest_root-clause-found g c honest =
     let went = c.sync.ensures.call.goes honest in
-    (subst (λ (i : Images). IsNewest c.in-Ok-newest_root.newest.root (i.disk SLOT_A) (i.disk SLOT_B)) went.seen (c.in-Ok-newest_root.ensures.found went.honest).newest, refl)
+    subst (λ (i : Images). IsNewest c.in-Ok-newest_root.newest.root (i.disk SLOT_A) (i.disk SLOT_B)) went.seen (c.in-Ok-newest_root.ensures.found went.honest).newest
 
 pub returns-in-Err-NoRoot-clause-none : goal.returns-in-Err-NoRoot-clause-none
 returns-in-Err-NoRoot-clause-none g c honest none found =

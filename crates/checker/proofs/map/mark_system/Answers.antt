@@ -1,10 +1,9 @@
-use Rattle.std.proofs.Common.{◌≡◌, ◌∙◌, ◌+◌, ◌<◌, ◌≤◌, suc, length, sym, subst, arith, rules, List, ℕ}
-use Rattle.std.specs.Prelude.{◌↔◌, slice_index_or}
+use Rattle.std.proofs.Common.{◌≡◌, ◌∙◌, ◌+◌, ◌<◌, ◌≤◌, suc, length, sym, subst, arith, List, ℕ}
 use Rattle.std.proofs.lemmas.List.{get_or_default}
 use Rattle.layout.specs.declared.pointer.Pointer.TheVariants.{Block, Hole}
-use Rattle.images.specs.BlockMap.{HasBit, IsSystem}
+use Rattle.images.specs.BlockMap.{IsSystem}
 use Rattle.images.specs.Roots.{slot}
-use Rattle.checker.proofs.SystemLaws.{IsSystemTo, MarksOne, MarksSystem, of_roots, of_slot, roots_alone, slot_before, slot_more, slots_all, system_more, system_none, system_same}
+use Rattle.checker.proofs.SystemLaws.{IsSystemTo, MarksSystem, of_roots, of_slot, roots_alone, slot_before, slot_more, slots_all, system_more, system_none, system_same}
 use Rattle.checker.proofs.map.mark_system.Goals as goal
 use Rattle.checker.proofs.map.mark_system.Goals.{in-Block, in_default}
 

@@ -1,7 +1,7 @@
 use Rattle.std.proofs.Common.{ℕ, ◌≤◌, ◌^◌, Some, sym, subst, arith}
 use Rattle.layout.specs.Directory.{HoldsEntries, IsEntry, named_of}
 use Rattle.model.specs.Volumes.{Entries, with_edge}
-use Rattle.images.specs.Faults.{HoldsGraph}
+use Rattle.images.specs.Faults.{HoldsNames}
 use Rattle.checker.specs.Findings.{IsTreeFinding}
 use Rattle.checker.proofs.FoundLaws.{goes_more, goes_none}
 use Rattle.checker.proofs.HaltLaws.{passes_residual}
@@ -41,7 +41,7 @@ returns-in_err-count_entries-in-Entry-clause-counted t c = λ r h e count inodes
     let one : Entries = with_edge c.args.directory first.name (Some first.number) e in
     let limit : r.geometry.inodes ≤ 2 ^ 32 = omega (arith, inodes) in
     let is : IsEntry r.geometry.inodes first = subst (λ (n : ℕ). IsEntry n first) (sym inodes) c.in-Entry.ensures.0 in
-    let step = λ (g : HoldsGraph r.geometry.inodes h). awaited_behind c.args.directory first e r.geometry.inodes g.volume c.args.bytes.now c.in-Entry.rest.now limit is c.in-Entry.ensures.1 (awaited g) in
+    let step = λ (g : HoldsNames r.geometry.inodes h). awaited_behind c.args.directory first e r.geometry.inodes g.volume c.args.bytes.now c.in-Entry.rest.now limit is c.in-Entry.ensures.1 (awaited g) in
     let did = c.in_ok-count_entry-in-Entry.ensures.counted r h e count way among knows is (λ g. (step g).0) in
     let kept = c.in_ok-count_entry-in-Entry.ensures.goes.keeps among.0 c.args.directory among.2 in
     passes_residual (λ (_ : Unit {0}). Unit {0}) _ (IsTreeFinding r h) c.from_residual-in_err-count_entries-in-Entry.result _ c.from_residual-in_err-count_entries-in-Entry.ensures.1
@@ -56,7 +56,7 @@ returns-in_ok-count_entries-in-Entry-clause-counted t c = λ r h e count inodes 
     let one : Entries = with_edge c.args.directory first.name (Some first.number) e in
     let limit : r.geometry.inodes ≤ 2 ^ 32 = omega (arith, inodes) in
     let is : IsEntry r.geometry.inodes first = subst (λ (n : ℕ). IsEntry n first) (sym inodes) c.in-Entry.ensures.0 in
-    let step = λ (g : HoldsGraph r.geometry.inodes h). awaited_behind c.args.directory first e r.geometry.inodes g.volume c.args.bytes.now c.in-Entry.rest.now limit is c.in-Entry.ensures.1 (awaited g) in
+    let step = λ (g : HoldsNames r.geometry.inodes h). awaited_behind c.args.directory first e r.geometry.inodes g.volume c.args.bytes.now c.in-Entry.rest.now limit is c.in-Entry.ensures.1 (awaited g) in
     let did = c.in_ok-count_entry-in-Entry.ensures.counted r h e count way among knows is (λ g. (step g).0) in
     let kept = c.in_ok-count_entry-in-Entry.ensures.goes.keeps among.0 c.args.directory among.2 in
     let rest = c.in_ok-count_entries-in-Entry.ensures.counted r h one count inodes did.1 (among.0, among.1, kept) did.2 (λ g. (step g).1) in

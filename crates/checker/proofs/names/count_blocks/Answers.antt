@@ -1,4 +1,5 @@
-use Rattle.std.proofs.Common.{◌≡◌, ◌∙◌, ℕ, ◌/◌, ◌<◌, ◌≤◌, ◌^◌, List, [], Err, sym, ap, subst, arith}
+use Rattle.std.proofs.Common.{◌≡◌, ◌∙◌, ℕ, ◌/◌, ◌<◌, ◌≤◌, ◌^◌, List, [], Err, sym, ap, subst, arith, inl, inr}
+use Rattle.std.proofs.lemmas.Bool.{cases_lt}
 use Rattle.std.proofs.lemmas.Option.{slice_get_within}
 use Rattle.layout.specs.Directory.{HoldsEntries}
 use Rattle.layout.specs.declared.kind.Kind.TheVariants.{Directory}
@@ -11,7 +12,7 @@ use Rattle.checker.specs.declared.error.Halt.{Halt}
 use Rattle.checker.specs.declared.fault.DirectoryFault.TheVariants as directory_faults
 use Rattle.checker.specs.declared.fault.Fault.TheVariants as faults
 use Rattle.checker.proofs.FoundLaws.{goes_more, goes_none}
-use Rattle.checker.proofs.HaltLaws.{if_ok, looks_failed, looks_more, looks_of, looks_or_fault, looks_residual, passes_or_fault, passes_residual}
+use Rattle.checker.proofs.HaltLaws.{if_ok, on_ok, looks_failed, looks_more, looks_of, looks_or_fault, looks_residual, passes_or_fault, passes_residual}
 use Rattle.checker.proofs.NameLaws.{awaited_block, rows_more, rows_none, with_row}
 use Rattle.checker.proofs.ReadLaws.{looked_more, looked_none, looked_of, looks_ok}
 use Rattle.checker.proofs.StepLaws.{knows_none}
@@ -25,6 +26,7 @@ loop-i-init g c = record {
     record { names = e; rows = λ i. []; has = rows_none r.geometry.inodes (file_block (t c.args.directory)) c.args.directory e start.none; way = start.way },
     knows_none (λ n. n.items) c.new-names.result (e c.args.directory) c.new-names.ensures.empty start.none,
   );
+  sound = λ disk shows i low. absurd (omega (arith, low));
 }
 
 pub bytes-bytes-requires : goal.bytes-bytes-requires
@@ -60,6 +62,14 @@ loop-i-preserved g c =
             },
             done.1,
           );
+      sound = λ disk shows j low. elim (cases_lt j i) [
+        | inl before ↦ so_far.sound disk shows j before
+        | inr last ↦
+            let same : i ≡ j = omega (arith, low, last) in
+            subst (IsSoundAt (g.B.Blocks.count c.args.blocks.now) disk c.args.file.now.tree) same
+            (subst (λ (n : ℕ). IsSoundAt n disk c.args.file.now.tree i) so_far.looked.count
+            (on_ok (IsSoundAt (g.B.Blocks.count c.loop-i.blocks) disk c.args.file.now.tree i) fault c.locate.result c.in_ok-location.location c.in_ok-location.ensures (c.locate.ensures.sound disk (so_far.looked.same disk shows))))
+      ];
     }
 
 pub returns-in_err-location-clause-reads : goal.returns-in_err-location-clause-reads
@@ -72,8 +82,10 @@ returns-in_err-location-clause-counted g c = λ disk r t e count shows same file
     let fault = faults.Directory (directory_faults.Entries c.args.directory c.loop-i.i) in
     passes_residual (λ (_ : Location). Unit {0}) _ (IsTreeFinding r t) c.from_residual.result _ c.from_residual.ensures.1
     (passes_or_fault (λ (_ : Location). Unit {0}) (IsTreeFinding r t) fault c.locate.result _ c.in_err-location.ensures
-    (λ damaged. absurd (c.locate.ensures.damaged disk (c.loop-i.invariant.looked.same disk shows) damaged
-    (subst (λ (n : ℕ). IsSoundAt n disk c.args.file.now.tree c.loop-i.i) (sym c.loop-i.invariant.looked.count) (file.sound c.loop-i.i)))))
+    (λ damaged names.
+    let kind : (t c.args.directory).inode.kind ≡ Directory = (start.way.counted.reached c.args.directory (start.among.0, slice_get_within _ start.among.0 c.args.directory start.among.2, start.among.2)).0 in
+    c.locate.ensures.damaged disk (c.loop-i.invariant.looked.same disk shows) damaged
+    (subst (λ (n : ℕ). IsSoundAt n disk c.args.file.now.tree c.loop-i.i) (sym c.loop-i.invariant.looked.count) (file.sound (names.readable c.args.directory kind) c.loop-i.i))))
 
 pub returns-in_err-count_entries-clause-reads : goal.returns-in_err-count_entries-clause-reads
 returns-in_err-count_entries-clause-reads g c =
@@ -111,3 +123,8 @@ returns-clause-counted g c = λ disk r t e count shows same file start.
     let all : c.loop-i.i ≡ c.args.file.now.size / 4096 = omega (arith, end) in
     subst (λ (k : ℕ). HasCountedRows r.geometry t c.args.directory k (file_block (t c.args.directory)) e count c.loop-i.found.items c.loop-i.table.items) all
     (c.loop-i.invariant.counted disk r t e count shows same file start).0
+
+pub returns-clause-sound : goal.returns-clause-sound
+returns-clause-sound g c = λ disk shows i low.
+    let end : c.size.result / 4096 ≡ c.args.file.now.size / 4096 = ap (λ (s : ℕ). s / 4096) c.size.ensures.value in
+    c.loop-i.invariant.sound disk shows i (omega (arith, end, low))

@@ -1,6 +1,7 @@
-use Rattle.std.proofs.Common.{◌≡◌, ℕ, List}
+use Rattle.std.proofs.Common.{◌≡◌, ◌<◌, ℕ, List}
 use Rattle.layout.specs.declared.root.Root.{Root}
 use Rattle.model.specs.Volumes.{Entries}
+use Rattle.blocktree.specs.Trees.{IsSoundAt}
 use Rattle.images.specs.Nodes.{file_block}
 use Rattle.images.specs.Roots.{HeldTree}
 use Rattle.checker.specs.Walks.{GoesOn, HasCountedRows, HasFile, IsToCount, KnowsNames}
@@ -16,4 +17,5 @@ invariant-loop-i g l = record {
       → IsToCount r.geometry t l.directory e count l.fn.found.items l.fn.table.items
       → (h : HasCountedRows r.geometry t l.directory l.i (file_block (t l.directory)) e count l.found.items l.table.items)
       × KnowsNames l.names (λ n. n.items) (h.names l.directory);
+  sound : (disk : ℕ → List ℕ) → g.B.Blocks.Shows l.fn.blocks disk → (i : ℕ) → i < l.i → IsSoundAt (g.B.Blocks.count l.fn.blocks) disk l.file.tree i;
 }

@@ -15,7 +15,7 @@ use Rattle.checker.specs.declared.error.CheckError.TheVariants as check
 use Rattle.checker.proofs.FoundLaws.{goes_none}
 use Rattle.checker.proofs.HaltLaws.{looks_failed, looks_more, looks_residual, passes_residual}
 use Rattle.checker.proofs.ReadLaws.{looked, looked_more, looked_none, looks_ok, looks_passed}
-use Rattle.checker.proofs.StepLaws.{device_halt, has_file, looked_into, passes_halt, to_count}
+use Rattle.checker.proofs.StepLaws.{device_halt, directory, directory_readable, has_file, looked_into, passes_halt, to_count}
 use Rattle.checker.proofs.names.look_into.Goals as goal
 
 pub load-requires : goal.load-requires
@@ -69,7 +69,7 @@ returns-in_err-count_blocks-clause-looked g c = λ disk r e count shows at befor
     let told = c.in_ok-inode.ensures.is disk r c.args.tree.now shows at.root at.geometry (at.count ∙ ap (λ (s : Sizes). s.blocks) at.geometry) at.tree (search rules) known in
     let is : i ≡ (t d).inode = some_same (sym c.in-Some.is ∙ told) in
     let file = has_file disk r c.args.tree.now d (g.B.Blocks.count c.read_inode.new.blocks) i f at.tree at.grammar is (c.in_ok-inode.ensures.reads.count ∙ at.count) c.in_ok-file.ensures.size
-    (c.in_ok-file.ensures.held by_sizes r.geometry disk) (λ k held. c.based_trees_are_sound.ensures.at by_sizes r.geometry disk i f.tree k held c.in_ok-file.ensures.base) in
+    (c.in_ok-file.ensures.held by_sizes r.geometry disk) (λ k held readable. c.based_trees_are_sound.ensures.at by_sizes r.geometry disk i f.tree k held readable c.in_ok-file.ensures.base) in
     passes_residual (λ (_ : Unit {0}). Unit {0}) _ (IsTreeFinding r t) c.from_residual-in_err-count_blocks.result _ c.from_residual-in_err-count_blocks.ensures.1
     (c.in_err-count_blocks.ensures.counted disk r t e (count + 1) (c.in_ok-inode.ensures.reads.same disk shows) (ap (λ (s : Sizes). s.inodes) at.geometry ∙ sym c.inodes.ensures.value) file
     (to_count r.geometry t e count c.args.found.now.items c.args.table.now.items d before next))
@@ -87,8 +87,10 @@ returns-clause-looked g c = λ disk r e count shows at before next.
     let told = c.in_ok-inode.ensures.is disk r c.args.tree.now shows at.root at.geometry (at.count ∙ ap (λ (s : Sizes). s.blocks) at.geometry) at.tree (search rules) known in
     let is : i ≡ (t d).inode = some_same (sym c.in-Some.is ∙ told) in
     let file = has_file disk r c.args.tree.now d (g.B.Blocks.count c.read_inode.new.blocks) i f at.tree at.grammar is (c.in_ok-inode.ensures.reads.count ∙ at.count) c.in_ok-file.ensures.size
-    (c.in_ok-file.ensures.held by_sizes r.geometry disk) (λ k held. c.based_trees_are_sound.ensures.at by_sizes r.geometry disk i f.tree k held c.in_ok-file.ensures.base) in
+    (c.in_ok-file.ensures.held by_sizes r.geometry disk) (λ k held readable. c.based_trees_are_sound.ensures.at by_sizes r.geometry disk i f.tree k held readable c.in_ok-file.ensures.base) in
     let counted = c.in_ok-count_blocks.ensures.counted disk r t e (count + 1) (c.in_ok-inode.ensures.reads.same disk shows) (ap (λ (s : Sizes). s.inodes) at.geometry ∙ sym c.inodes.ensures.value) file
     (to_count r.geometry t e count c.args.found.now.items c.args.table.now.items d before next) in
-    looked_into r.geometry t e count c.args.found.now.items c.args.table.now.items d before next _ _ c.in_ok-count_blocks.ensures.goes.keeps
+    let readable = directory_readable disk r c.args.tree.now d (g.B.Blocks.count c.read_inode.new.blocks) i f at.tree at.grammar is (directory r.geometry t e count c.args.found.now.items c.args.table.now.items d before next)
+    c.in_ok-file.ensures.size c.in_ok-file.ensures.settled c.in_ok-file.ensures.unchanged (c.in_ok-count_blocks.ensures.sound disk (c.in_ok-inode.ensures.reads.same disk shows)) in
+    looked_into r.geometry t e count c.args.found.now.items c.args.table.now.items d before next readable _ _ c.in_ok-count_blocks.ensures.goes.keeps
     (subst (λ (s : ℕ). HasCountedRows r.geometry t d (s / 4096) (file_block (t d)) e (count + 1) c.count_blocks.new.found.items c.count_blocks.new.table.items) file.size_is counted)

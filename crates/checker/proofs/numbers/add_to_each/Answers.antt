@@ -1,4 +1,4 @@
-use Rattle.std.proofs.Common.{◌≡◌, ◌∙◌, ◌+◌, ◌<◌, Vec, Global, length, arith, ap, sym, subst}
+use Rattle.std.proofs.Common.{◌≡◌, ◌∙◌, ◌+◌, ◌<◌, Vec, Global, length, arith, sym, subst}
 use Rattle.std.specs.Prelude.{Some, slice_get}
 use Rattle.images.specs.BlockMap.{HasBit}
 use Rattle.checker.specs.declared.tree.Tree.{Tree}

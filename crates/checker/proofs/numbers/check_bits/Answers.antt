@@ -1,4 +1,4 @@
-use Rattle.std.proofs.Common.{◌≡◌, ◌∙◌, ◌+◌, ◌<◌, Vec, Global, length, arith, true, ap, sym, subst}
+use Rattle.std.proofs.Common.{◌≡◌, ◌∙◌, ◌+◌, ◌<◌, Vec, Global, length, arith, true, sym, subst}
 use Rattle.std.specs.Prelude.{◌⊎◌, Some, slice_get}
 use Rattle.layout.specs.Maps.{IsTaken}
 use Rattle.layout.specs.declared.kind.Kind.TheVariants.{Free}

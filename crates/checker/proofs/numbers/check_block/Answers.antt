@@ -1,4 +1,4 @@
-use Rattle.std.proofs.Common.{◌≡◌, ◌∙◌, ℕ, ◌+◌, ◌*◌, ◌<◌, ◌≤◌, length, refl, arith, ap, sym, subst}
+use Rattle.std.proofs.Common.{◌≡◌, ◌∙◌, ℕ, ◌+◌, ◌*◌, refl, arith, ap, sym, subst}
 use Rattle.layout.specs.Limits.{Sizes}
 use Rattle.checker.specs.Rows.{AreSeenInBlock}
 use Rattle.checker.specs.Trees.{AreTrees, IsSeenTo}

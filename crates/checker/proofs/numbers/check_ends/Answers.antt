@@ -1,9 +1,6 @@
-use Rattle.std.proofs.Common.{◌≡◌, ◌∙◌, ◌+◌, ◌<◌, ◌≤◌, List, [], Vec, Global, length, drop, arith, ap, sym, subst}
+use Rattle.std.proofs.Common.{◌≡◌, ◌∙◌, ◌+◌, ◌<◌, ◌≤◌, [], Vec, Global, length, drop, arith, ap, sym, subst}
 use Rattle.std.specs.Prelude.{Some, slice_get, slice_index_or}
 use Rattle.std.proofs.lemmas.List.{get_or_default}
-use Rattle.layout.specs.Bytes.{zeros}
-use Rattle.checker.specs.declared.fault.Fault.TheVariants as faults
-use Rattle.checker.specs.declared.fault.TreeFault.TheVariants.{InodeBlock}
 use Rattle.checker.specs.declared.tree.Tree.{Tree}
 use Rattle.checker.proofs.EachLaws.{Each, each_all, each_same, each_set, get_at, some_at}
 use Rattle.checker.proofs.RowLaws.{Ends, ends_in, ends_not, ends_seen, keeps}

@@ -1,14 +1,12 @@
-use Rattle.std.proofs.Common.{◌≡◌, ◌∙◌, ℕ, ◌≤◌, List, arith, refl, ap, sym, subst}
-use Rattle.std.specs.Prelude.{None, Option, Ok, Err, Some}
-use Rattle.layout.specs.Inode.{IsInode, inode_bytes}
+use Rattle.std.proofs.Common.{◌∙◌, ◌≤◌, arith, refl, ap, sym, subst}
+use Rattle.std.specs.Prelude.{Option, Ok}
+use Rattle.layout.specs.Inode.{IsInode}
 use Rattle.layout.specs.Limits.{Sizes}
-use Rattle.layout.specs.declared.root.Root.{Root}
 use Rattle.layout.specs.declared.version.TheConstants.{VERSION}
 use Rattle.loading.specs.InodeBlocks.{HasKindOfPlace}
 use Rattle.checker.specs.Errors.{TellsFault}
 use Rattle.checker.specs.Nodes.{MarksFile}
 use Rattle.checker.specs.Rows.{AddsToEach}
-use Rattle.checker.specs.declared.error.Halt.TheVariants as halts
 use Rattle.checker.specs.declared.fault.Fault.{Fault}
 use Rattle.checker.specs.declared.fault.TreeFault.TheVariants as tree_faults
 use Rattle.checker.proofs.InodeLaws.{broken_file, marked_fault, marked_ok, not_spelled, sees_broken, sees_marked, told_by, told_none, told_past}

@@ -1,4 +1,4 @@
-use Rattle.std.proofs.Common.{◌≡◌, refl, inl}
+use Rattle.std.proofs.Common.{refl, inl}
 use Rattle.checker.proofs.ReadLaws.{looked}
 use Rattle.checker.proofs.RowLaws.{kept_more, kept_of, trees_none}
 use Rattle.checker.proofs.SeenLaws.{stays_none}

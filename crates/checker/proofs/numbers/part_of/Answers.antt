@@ -1,4 +1,4 @@
-use Rattle.std.proofs.Common.{◌≡◌, ◌∙◌, ℕ, ◌<◌, List, [], length, arith, ap, sym}
+use Rattle.std.proofs.Common.{◌∙◌, ℕ, ◌<◌, List, [], length, arith, ap, sym}
 use Rattle.std.proofs.lemmas.List.{get_or_default}
 use Rattle.images.specs.Roots.{inode_part}
 use Rattle.checker.proofs.numbers.part_of.Goals as goal

@@ -1,11 +1,14 @@
-use Rattle.std.proofs.Common.{rules, ◌≡◌, ℕ, List, Err, ap, sym, subst}
+use Rattle.std.proofs.Common.{rules, ◌≡◌, Err, ap, sym, subst}
+use Rattle.images.specs.Roots.{whole}
+use Rattle.checker.specs.Findings.{tree_in}
 use Rattle.checker.specs.Trees.{IsOut, IsSeenTo}
 use Rattle.checker.specs.declared.error.CheckError.TheVariants as check
 use Rattle.checker.specs.declared.fault.TreeFault.TheVariants.{InodeBlock}
 use Rattle.checker.specs.declared.tree.Tree.{Tree}
 use Rattle.checker.proofs.HaltLaws.{looks_failed}
 use Rattle.checker.proofs.ReadLaws.{looked_of, looks_ok}
-use Rattle.checker.proofs.RowReads.{row_damaged, row_out, row_read}
+use Rattle.checker.proofs.OutLaws.{added_out, seen_added}
+use Rattle.checker.proofs.RowReads.{row_damaged, row_read}
 use Rattle.checker.proofs.numbers.read_row.Goals as goal
 
 no_device : check.NoMemory ≡ check.Device → ⊥
@@ -33,9 +36,9 @@ returns-in_ok-zeroed-in-Err-Damaged-clause-reads g c = looks_ok (looked_of g.met
 pub returns-in_ok-zeroed-in-Err-Damaged-clause-row :
     goal.returns-in_ok-zeroed-in-Err-Damaged-clause-row
 returns-in_ok-zeroed-in-Err-Damaged-clause-row g c = λ disk r count places marks shared shows same known.
-    let out = row_damaged disk r count places c.args.i marks shared c.args.tree.now known c.sound_files_have_sound_paths.ensures (g.B.Blocks.count c.args.blocks.now) same
-    (c.in-Err-Damaged.ensures.damaged disk shows (ap Err c.in-Err-Damaged.field-0-is)) in
-    let stays = row_out disk r count places c.args.i marks shared c.args.tree.now known (InodeBlock c.args.i) c.add.new.self out c.add.ensures in (
-      subst (IsSeenTo disk r count places marks shared) (sym stays) known,
-      (λ inside. absurd (inside (subst (λ (v : Tree). IsOut v.fault) (sym stays) out))),
+    let v = c.args.tree.now in
+    let broken = row_damaged disk r count places c.args.i marks shared v known c.based_trees_are_sound.ensures.at (g.B.Blocks.count c.args.blocks.now) same
+    (c.in-Err-Damaged.ensures.damaged disk shows (ap Err c.in-Err-Damaged.field-0-is)) in (
+      subst (IsSeenTo disk r count places marks shared) (sym c.add.ensures) (seen_added disk r count places count places marks marks shared shared v known (InodeBlock c.args.i) broken),
+      (λ inside. absurd (inside (subst (λ (q : Tree). IsOut q.fault) (sym c.add.ensures) (added_out r (tree_in (whole disk r) v.plane) v.fault (InodeBlock c.args.i) known.fault)))),
     )

@@ -1,7 +1,7 @@
-use Rattle.std.proofs.Common.{◌≡◌, ◌∙◌, ℕ, ◌+◌, ◌*◌, ◌<◌, ◌≤◌, length, ap, arith}
+use Rattle.std.proofs.Common.{◌≡◌, ◌∙◌, ℕ, ◌+◌, ◌*◌, ◌<◌, length, ap, arith}
 use Rattle.std.specs.Prelude.{Some, slice_get}
 use Rattle.std.proofs.lemmas.List.{length_push}
-use Rattle.checker.proofs.EachLaws.{Each, each_set, get_at}
+use Rattle.checker.proofs.EachLaws.{each_set, get_at}
 use Rattle.checker.proofs.ReadLaws.{looked, looked_more}
 use Rattle.checker.proofs.RowLaws.{IsSame, keeps_part}
 use Rattle.checker.proofs.RowReads.{rows_done, rows_more}

@@ -1,10 +1,7 @@
-use Rattle.std.proofs.Common.{◌≡◌, ℕ, ◌*◌, ◌<◌, List, length, slice_index_or}
+use Rattle.std.proofs.Common.{◌≡◌, ℕ, ◌*◌, ◌<◌, List, length}
 use Rattle.std.specs.Prelude.{Option, Some, slice_get}
 use Rattle.layout.specs.declared.root.Root.{Root}
-use Rattle.images.specs.Nodes.{file_block}
-use Rattle.images.specs.Roots.{whole}
-use Rattle.checker.specs.Findings.{tree_in}
-use Rattle.checker.specs.Trees.{IsOut, IsSeenTo}
+use Rattle.checker.specs.Trees.{IsSeenTo}
 use Rattle.checker.specs.declared.nodes.Shared.{Shared}
 use Rattle.checker.specs.declared.tree.Tree.{Tree}
 use Rattle.checker.proofs.EachLaws.{Each}

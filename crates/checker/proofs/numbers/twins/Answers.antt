@@ -1,12 +1,9 @@
-use Rattle.std.proofs.Common.{◌≡◌, ◌∙◌, ℕ, ◌+◌, ◌<◌, ◌≤◌, List, [], length, arith, bit_or, ap, sym, subst, inl, inr}
-use Rattle.std.specs.Prelude.{◌⊎◌, ◌↔◌, Some, slice_get, slice_index_or}
+use Rattle.std.proofs.Common.{◌≡◌, ◌∙◌, ℕ, ◌+◌, ◌<◌, length, arith, bit_or, sym, subst}
+use Rattle.std.specs.Prelude.{Some, slice_get}
 use Rattle.std.proofs.lemmas.Slice.Eq.{bytes_eq-Decides}
-use Rattle.images.specs.BlockMap.{HasBit}
-use Rattle.images.specs.Roots.{inode_part}
 use Rattle.checker.specs.Trees.{IsOut}
 use Rattle.checker.specs.declared.tree.Tree.{Tree}
 use Rattle.checker.proofs.EachLaws.{get_at, some_of}
-use Rattle.checker.proofs.MarkLaws.{bits_or}
 use Rattle.checker.proofs.TwinLaws.{AreTwinsTo, one_more, twins_end, twins_more, twins_skip, twins_start}
 use Rattle.checker.proofs.numbers.twins.Goals as goal
 use Rattle.checker.proofs.numbers.twins.Goals.{then-not-is_out+then-eq, else-not-is_out, else-not-is_out-via-then-not-is_out+else-eq, else-not-is_out-via-else-not-is_out}

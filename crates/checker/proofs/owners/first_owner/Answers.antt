@@ -1,11 +1,9 @@
-use Rattle.std.proofs.Common.{rules, ◌≡◌, ◌∙◌, ◌≤◌, ◌<◌, ℕ, ap, inl, inr, refl, sym, subst, arith}
-use Rattle.std.specs.Prelude.{IfNone, IfSome, Option, Some}
+use Rattle.std.proofs.Common.{◌≡◌, ◌∙◌, ◌≤◌, ℕ, ap, inl, inr, refl, sym, subst, arith}
 use Rattle.std.proofs.lemmas.Bool.{cases_lt}
 use Rattle.layout.specs.Inode.{IsInode}
 use Rattle.layout.specs.Limits.{AreSizes, Sizes}
-use Rattle.layout.specs.declared.inode.Inode.{Inode}
 use Rattle.layout.specs.declared.version.TheConstants.{VERSION}
-use Rattle.images.specs.Faults.{IsFileGrammar}
+use Rattle.images.specs.Soundness.{IsFileGrammar}
 use Rattle.images.specs.Nodes.{Held, held}
 use Rattle.images.specs.Roots.{HeldTree, free_inode, whole}
 use Rattle.loading.specs.Images.{IsFileOfInode}
@@ -14,7 +12,7 @@ use Rattle.checker.specs.Trees.{IsAloneAt, IsOwner}
 use Rattle.checker.proofs.HaltLaws.{if_none, if_some}
 use Rattle.checker.proofs.HeldLaws.{number_is, top_grammar, top_is, tree_is}
 use Rattle.checker.proofs.OwnerLaws.{free_alone, one_found, owner_stands}
-use Rattle.checker.proofs.ReadLaws.{HasLooked, looked, looked_more}
+use Rattle.checker.proofs.ReadLaws.{looked, looked_more}
 use Rattle.checker.proofs.owners.first_owner.Goals as goal
 
 pub returns-in-Some-clause-stands : goal.returns-in-Some-clause-stands

@@ -22,7 +22,7 @@ pub returns-in-Err-Damaged-clause-alone : goal.returns-in-Err-Damaged-clause-alo
 returns-in-Err-Damaged-clause-alone g c = λ disk s inode shows count grammar file.
     absurd (c.settled_nodes.ensures.damaged disk (c.loop-height.invariant.read.same disk shows) (search rules)
     (subst (λ (t : BlockTree). AreSound (g.B.Blocks.count c.loop-height.blocks) disk t) (sym c.tree-tree.ensures)
-    (file_sound c.sound_files_have_sound_paths.ensures s disk inode c.args.file.now (g.B.Blocks.count c.loop-height.blocks) grammar file (c.loop-height.invariant.read.count ∙ sym count))))
+    (file_sound c.based_trees_are_sound.ensures.all s disk inode c.args.file.now (g.B.Blocks.count c.loop-height.blocks) grammar file (c.loop-height.invariant.read.count ∙ sym count))))
 
 pub returns-in-Some-clause-stands : goal.returns-in-Some-clause-stands
 returns-in-Some-clause-stands g c = λ disk s inode shows fits file.

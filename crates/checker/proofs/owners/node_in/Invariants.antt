@@ -1,7 +1,7 @@
 use Rattle.std.proofs.Common.{◌≡◌, ◌<◌, ℕ, List}
 use Rattle.layout.specs.Limits.{Sizes}
 use Rattle.layout.specs.declared.inode.Inode.{Inode}
-use Rattle.images.specs.Faults.{IsFileGrammar}
+use Rattle.images.specs.Soundness.{IsFileGrammar}
 use Rattle.images.specs.Nodes.{held}
 use Rattle.loading.specs.Images.{IsFileOfInode}
 use Rattle.checker.specs.Trees.{IsAloneAt}

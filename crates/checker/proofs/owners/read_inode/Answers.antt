@@ -1,10 +1,10 @@
-use Rattle.std.proofs.Common.{rules, ◌≡◌, ◌∙◌, ℕ, ◌+◌, ◌-◌, ◌*◌, ◌/◌, ◌%◌, List, take, drop, ap, sym, subst, arith}
+use Rattle.std.proofs.Common.{rules, ◌≡◌, ◌∙◌, ℕ, ◌+◌, ◌-◌, ◌*◌, ◌/◌, ◌%◌, take, drop, ap, sym, subst, arith}
 use Rattle.blocktree.specs.Trees.{IsSoundAt}
 use Rattle.inode.specs.Files.{file_block}
 use Rattle.inode.specs.declared.file.File.{File}
 use Rattle.images.specs.Roots.{whole}
 use Rattle.checker.specs.Findings.{tree_in}
-use Rattle.checker.proofs.HeldLaws.{kind_of_place, reached, row_bytes, top_grammar}
+use Rattle.checker.proofs.HeldLaws.{kind_of_place, reached, row_bytes, top_grammar, top_readable}
 use Rattle.checker.proofs.HaltLaws.{looks_failed}
 use Rattle.checker.proofs.ReadLaws.{looked_of, looks_ok}
 use Rattle.checker.proofs.owners.read_inode.Goals as goal
@@ -19,8 +19,8 @@ pub returns-in-Err-Damaged-clause-is : goal.returns-in-Err-Damaged-clause-is
 returns-in-Err-Damaged-clause-is g c = λ disk r tree shows root same count is file grammar.
     absurd (c.locate.ensures.damaged disk shows (search rules)
     (subst (λ (f : File). IsSoundAt (g.B.Blocks.count c.args.blocks.now) disk f.tree (c.args.number / 21)) (sym file)
-    (reached c.sound_files_have_sound_paths.ensures c.args.geometry disk tree.top tree.file (g.B.Blocks.count c.args.blocks.now) (c.args.number / 21)
-    (top_grammar disk r c.args.geometry tree is grammar) is.file count)))
+    (reached c.based_trees_are_sound.ensures.at c.args.geometry disk tree.top tree.file (g.B.Blocks.count c.args.blocks.now) (c.args.number / 21)
+    (top_grammar disk r c.args.geometry tree is grammar) (top_readable disk r c.args.geometry tree is grammar) is.file count)))
 
 pub returns-clause-is : goal.returns-clause-is
 returns-clause-is g c = λ disk r tree shows root same count is file grammar.

@@ -1,26 +1,26 @@
-use Rattle.std.proofs.Common.{◌≡◌, ◌∙◌, ◌<◌, ℕ, List, Global, Vec, sym, subst, refl, arith}
+use Rattle.std.proofs.Common.{◌≡◌, ◌∙◌, ℕ, Global, Vec, sym, subst, refl, arith}
 use Rattle.layout.specs.Inode.{IsInode, inode_bytes}
 use Rattle.layout.specs.Limits.{AreSizes, Sizes}
 use Rattle.layout.specs.Maps.{IsInodeMap}
 use Rattle.layout.specs.declared.inode.Inode.{Inode}
 use Rattle.layout.specs.declared.kind.Kind.TheVariants as kinds
-use Rattle.layout.specs.declared.root.Root.{Root}
 use Rattle.layout.specs.declared.version.TheConstants.{VERSION}
 use Rattle.inode.specs.Files.{file_block}
 use Rattle.inode.specs.declared.file.File.{File}
 use Rattle.images.specs.Contents.{content_bytes, content_of}
-use Rattle.images.specs.Faults.{IsFileGrammar, IsTreeGrammar}
+use Rattle.images.specs.Faults.{IsTreeGrammar}
+use Rattle.images.specs.Soundness.{IsFileGrammar}
 use Rattle.images.specs.Nodes.{held}
-use Rattle.images.specs.Roots.{HeldTree, inode_bytes_at, whole}
-use Rattle.loading.specs.Readings.{IsMapFile, inode_bytes_of}
+use Rattle.images.specs.Roots.{inode_bytes_at, whole}
+use Rattle.loading.specs.Readings.{IsMapFile, IsWholeBody, inode_bytes_of}
 use Rattle.checker.specs.Findings.{tree_in}
 use Rattle.checker.specs.Nodes.{IsAny, LooksUnder}
-use Rattle.checker.specs.Trees.{HasInodes, HasMaps, IsTreeOf}
+use Rattle.checker.specs.Trees.{HasInodes, HasMaps}
 use Rattle.checker.specs.declared.fault.Fault.TheVariants as faults
 use Rattle.checker.specs.declared.fault.TreeFault.TheVariants as tree_faults
 use Rattle.checker.proofs.HaltLaws.{if_ok, looks_more, looks_of, looks_or_fault, looks_residual, on_ok, passes_or_fault, passes_residual}
 use Rattle.checker.proofs.HeldLaws.{own_is, own_there, top_grammar, top_is}
-use Rattle.checker.proofs.OpenLaws.{TellsOut, is_inode_map, map_bytes, map_grammar, map_paths, map_reads, mark_failed, maps_within, top_inodes, top_marked, top_shared}
+use Rattle.checker.proofs.OpenLaws.{TellsOut, is_inode_map, map_bytes, map_grammar, map_paths, map_readable, map_reads, map_whole, mark_failed, maps_within, top_inodes, top_marked, top_shared}
 use Rattle.checker.proofs.ReadLaws.{looked, looked_more, looked_of}
 use Rattle.checker.proofs.trees.open_files.Goals as goal
 
@@ -48,7 +48,7 @@ returns-in_err-inode-clause-opened g c = λ disk r shows root same is unmarked n
       tt,
       λ grammar.
           let known : IsTreeGrammar c.args.geometry t = subst (λ (s : Sizes). IsTreeGrammar s t) same grammar in
-          own_there c.sound_files_read_as_held.ensures c.sound_files_have_sound_paths.ensures c.args.geometry disk r c.args.tree.now 1 (g.B.Blocks.count c.mark_file.new.blocks) kinds.InodeMap is known
+          own_there c.sound_files_read_as_held.ensures c.based_trees_are_sound.ensures.at c.args.geometry disk r c.args.tree.now 1 (g.B.Blocks.count c.mark_file.new.blocks) kinds.InodeMap is known
           (c.in_ok-mark_file.ensures.reads.count ∙ c.requires.size) (omega arith) (omega (arith, sizes.least_inodes)) (known.kinds 1)
           (c.own_inode.ensures.damaged disk (c.in_ok-mark_file.ensures.reads.same disk shows) damaged),
     )))
@@ -79,6 +79,7 @@ returns-in_err-tree-clause-opened g c = λ disk r shows root same is unmarked no
           let count : g.B.Blocks.count c.own_inode.new.blocks ≡ s.blocks = c.own_inode.ensures.reads.count ∙ c.in_ok-mark_file.ensures.reads.count ∙ c.requires.size in
           c.load_numbers.ensures.damaged disk (c.own_inode.ensures.reads.same disk shows1) damaged
           (λ k. map_paths c.sound_files_have_sound_paths.ensures s disk i (t 1) (g.B.Blocks.count c.own_inode.new.blocks) k one (known.files 1) count)
+          (map_whole c.readable_files_are_whole.ensures s disk i (t 1) one (known.files 1) known.readable)
           (map_reads c.files_without_holes_are_stored.ensures s disk i (t 1) one (known.files 1) known.inode_map)
           (subst (IsInodeMap 0 s.inodes) (sym (map_bytes c.sound_files_read_as_held.ensures s disk i (t 1) one (known.files 1)))
           (is_inode_map s.inodes (content_bytes (content_of (t 1))) known.numbers)),
@@ -104,7 +105,7 @@ returns-in_err-inode-2-clause-opened g c = λ disk r shows root same is unmarked
       tt,
       λ grammar.
           let known : IsTreeGrammar c.args.geometry t = subst (λ (s : Sizes). IsTreeGrammar s t) same grammar in
-          own_there c.sound_files_read_as_held.ensures c.sound_files_have_sound_paths.ensures c.args.geometry disk r c.args.tree.now 2 (g.B.Blocks.count c.load_numbers.new.blocks) kinds.BlockMap is known
+          own_there c.sound_files_read_as_held.ensures c.based_trees_are_sound.ensures.at c.args.geometry disk r c.args.tree.now 2 (g.B.Blocks.count c.load_numbers.new.blocks) kinds.BlockMap is known
           (c.load_numbers.ensures.reads.count ∙ c.own_inode.ensures.reads.count ∙ c.in_ok-mark_file.ensures.reads.count ∙ c.requires.size) (omega arith) (omega (arith, sizes.least_inodes)) (known.kinds 2)
           (c.own_inode-2.ensures.damaged disk shows3 damaged),
     )))
@@ -178,6 +179,7 @@ returns-clause-opened g c = λ disk r shows root same is unmarked none.
       maps = subst (λ (x : Sizes). HasMaps x t numbers.items) (sym same) (record {
         inode_map = map_grammar c.nodes_are_where_pointers_lead.ensures.places c.sound_files_read_as_held.ensures s disk i (t 1) one first;
         block_map = map_grammar c.nodes_are_where_pointers_lead.ensures.places c.sound_files_read_as_held.ensures s disk j (t 2) two second;
+        readable = map_readable s disk i (t 1) one (on_ok (IsWholeBody disk i.body i.size) (faults.Tree tree_faults.InodeMap) c.load_numbers.result numbers c.in_ok-tree.ensures (c.load_numbers.ensures.whole disk shows2));
         bytes_are = λ grammar. bytes ∙ map_bytes c.sound_files_read_as_held.ensures s disk i (t 1) one grammar;
         within = maps_within s numbers.items sizes (omega (arith, numbers.ok.0, size)) map;
       });

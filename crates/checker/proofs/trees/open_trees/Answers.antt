@@ -1,11 +1,10 @@
-use Rattle.std.proofs.Common.{rules, ◌≡◌, ◌∙◌, ◌+◌, ◌≤◌, ◌<◌, ℕ, List, true, length, refl, sym, subst, arith}
+use Rattle.std.proofs.Common.{rules, ◌≡◌, ◌∙◌, ◌+◌, ◌<◌, ℕ, true, length, refl, sym, subst, arith}
 use Rattle.std.specs.Prelude.{slice_index_or}
 use Rattle.std.proofs.lemmas.List.{get_or_default}
 use Rattle.layout.specs.Pointer.{PointsBelow}
 use Rattle.layout.specs.declared.pointer.Pointer.TheVariants.{Block, Hole}
-use Rattle.images.specs.BlockMap.{HasBit}
 use Rattle.checker.specs.Findings.{HasTree}
-use Rattle.checker.specs.Nodes.{SharesNone, StaysFor}
+use Rattle.checker.specs.Nodes.{StaysFor}
 use Rattle.checker.specs.Trees.{IsSeenTo}
 use Rattle.checker.proofs.HaltLaws.{if_some}
 use Rattle.checker.proofs.PlaneLaws.{active_top, no_tree, snapshot_none, snapshot_some, snapshot_tree, tree_at, trees_end, trees_push, trees_skip, trees_start}

@@ -1,4 +1,4 @@
-use Rattle.std.proofs.Common.{◌≡◌, ℕ, List, [], ◌∷◌, length, Bool, false, eqb, ◌||◌, arith, rules, tests}
+use Rattle.std.proofs.Common.{◌≡◌, ℕ, List, [], ◌∷◌, length, Bool, false, eqb, leb, ◌&&◌, arith, rules, tests}
 use Rattle.std.proofs.lemmas.Bool.{lt-ltb}
 use Rattle.std.proofs.lemmas.Iterator.{YieldsList-from_slice}
 use Rattle.std.proofs.lemmas.Iterator.Search.{all_from_yields_List}
@@ -7,7 +7,7 @@ use Rattle.command_line.specs.Lines.{is_bits}
 use Rattle.command_line.proofs.commands.is_bits.Goals as goal
 
 abbrev is_bit : ℕ → Bool
-is_bit b = eqb b 48 || eqb b 49
+is_bit b = leb 48 b && leb b 50
 
 bits_are : (t : List ℕ) (is_empty r : Bool) → is_empty ≡ eqb (length t) 0 → is_empty ≡ false → r ≡ list_all is_bit t → r ≡ is_bits t
 bits_are [] is_empty r is some all = absurd (cc)

@@ -1,10 +1,11 @@
-use Rattle.std.proofs.Common.{◌≡◌, ◌≢◌, inl, inr, ◌+◌, ◌<◌, ◌≤◌, ap, sym, ◌∙◌, arith, rules}
+use Rattle.std.proofs.Common.{◌≡◌, ◌≢◌, inl, inr, ◌+◌, ◌<◌, ◌≤◌, ℕ, ap, sym, subst, ◌∙◌, arith, rules}
 use Rattle.std.specs.Prelude.{min}
-use Rattle.std.proofs.lemmas.Bool.{cases_lt}
+use Rattle.std.proofs.lemmas.Bool.{cases_eq, cases_lt}
 use Rattle.layout.specs.Places.{pointed}
 use Rattle.layout.specs.declared.pointer.Pointer.TheVariants.{Hole, Block}
 use Rattle.layout.proofs.PointerLaws.{hole_block}
 use Rattle.images.proofs.SumLaws.{sums_rise}
+use Rattle.buffers.specs.Disks.{IsWhole}
 use Rattle.blocktree.specs.PlaceMaps.{place_at}
 use Rattle.blocktree.specs.Trees.{IsChanged}
 use Rattle.conspoint.specs.Blocks.{changed_or}
@@ -26,6 +27,7 @@ loop-i-init c = record {
   stored = λ i lt le. absurd (omega (arith, lt, le));
   unchanged = search rules;
   blocks = λ e has i lt le. absurd (omega (arith, lt, le));
+  whole = λ i le lt. absurd (omega (arith, lt, le));
   placed = placed_same c.args.draft.now c.args.settled c.requires.within;
 }
 
@@ -61,6 +63,15 @@ loop-i-preserved c =
                 let not = c.in-Some.ensures.before j more (omega (arith, lt, n)) in
                 ap (pointed e) (so_far.unchanged j not) ∙ unchanged_block t j (pointed e (place_at settled j)) not
           ]);
+      whole = λ j le lt below is. elim (cases_eq j i) [
+        | inl same ↦
+            let block = changed_block t i c.in-Some.block.now below c.in-Some.ensures.block found.2 in
+            subst (λ (k : ℕ). IsWhole (changed_or t k below)) (sym same) (subst IsWhole block c.in_ok-place.ensures.whole)
+        | inr n ↦ elim (cases_lt j c.loop-i.from) [
+          | inl done ↦ so_far.whole j le done below is
+          | inr more ↦ subst IsWhole (unchanged_block t j below (c.in-Some.ensures.before j more (omega (arith, lt, n)))) is
+        ]
+      ];
       placed = placed_more c.args.draft.now c.loop-i.draft c.store_copy.new.draft settled c.loop-i.nodes c.set.new.self i p so_far.step.grows stored.step.grows so_far.placed put.there put.others
           (stored.from (place_at settled i)) stored.within;
     }
@@ -98,4 +109,10 @@ returns-clause-blocks c e has i lt le = elim (cases_lt i c.loop-i.from) [
   | inr more ↦
       let not = c.in_default.ensures.none i more lt in
       ap (pointed e) (c.loop-i.invariant.unchanged i not) ∙ unchanged_block c.args.tree.now i (pointed e (place_at c.args.settled i)) not
+]
+
+pub returns-clause-whole : goal.returns-clause-whole
+returns-clause-whole c i le lt below is = elim (cases_lt i c.loop-i.from) [
+  | inl done ↦ c.loop-i.invariant.whole i le done below is
+  | inr more ↦ subst IsWhole (unchanged_block c.args.tree.now i below (c.in_default.ensures.none i more lt)) is
 ]

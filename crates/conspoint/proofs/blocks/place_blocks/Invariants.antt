@@ -4,7 +4,7 @@ use Rattle.layout.specs.Places.{pointed}
 use Rattle.layout.specs.declared.pointer.Pointer.TheVariants.{Hole}
 use Rattle.blocktree.specs.PlaceMaps.{EndBefore, place_at}
 use Rattle.blocktree.specs.Trees.{IsChanged}
-use Rattle.conspoint.specs.Blocks.{changed_or}
+use Rattle.conspoint.specs.Blocks.{AreWholeOver, changed_or}
 use Rattle.conspoint.specs.Drafts.{OnEach}
 use Rattle.conspoint.specs.Groups.{ArePlaced}
 use Rattle.conspoint.specs.Space.{changed_blocks}
@@ -21,6 +21,7 @@ invariant-loop-i l = record {
   stored : (i : ℕ) → i < l.from → l.first ≤ i → IsChanged l.tree i → place_at l.nodes i ≢ Hole;
   unchanged : (i : ℕ) → (IsChanged l.tree i → ⊥) → place_at l.nodes i ≡ place_at l.fn.settled i;
   blocks : OnEach l.draft (λ e. (i : ℕ) → i < l.from → l.first ≤ i → pointed e (place_at l.nodes i) ≡ changed_or l.tree i (pointed e (place_at l.fn.settled i)));
+  whole : AreWholeOver l.tree l.first l.from;
   placed : ArePlaced l.fn.draft l.draft l.fn.settled l.nodes;
 }
 

@@ -6,3 +6,6 @@ returns-clause-unfinished c = cuts.unfinished
 
 pub returns-clause-finished : goal.returns-clause-finished
 returns-clause-finished c = cuts.finished
+
+pub returns-clause-lost : goal.returns-clause-lost
+returns-clause-lost c = cuts.lost

@@ -3,8 +3,8 @@ use Rattle.std.proofs.lemmas.Bool.{cases_eq}
 use Rattle.std.proofs.lemmas.List.{get_or_default}
 use Rattle.layout.specs.declared.pointer.Pointer.TheVariants.{Hole, Block}
 use Rattle.blockmap.specs.declared.map.BlockMap.{BlockMap}
-use Rattle.blockmap.specs.Maps.{HoldsPart}
 use Rattle.conspoint.specs.Groups.{pointer_at}
+use Rattle.conspoint.specs.MapFiles.{StoresPart}
 use Rattle.conspoint.proofs.StepLemmas.{puts_err, puts_then}
 use Rattle.conspoint.proofs.map_file.store_map.Goals as goal
 
@@ -32,8 +32,8 @@ loop-k-preserved c =
       stored = λ e has j b below at. elim (cases_eq j k) [
         | inl same ↦
             let pointer : c.index-places-k.result ≡ Block b = here ∙ ap (pointer_at places) (sym same) ∙ at in
-            let holds = subst (λ (m : BlockMap). HoldsPart m.parts.items k (e b)) so_far.step.map (c.in_ok-store_part.ensures.stored e has b pointer) in
-            subst (λ (n : ℕ). HoldsPart c.args.draft.now.map.parts.items n (e b)) (sym same) holds
+            let holds = subst (λ (m : BlockMap). StoresPart m.parts.items k (e b)) so_far.step.map (c.in_ok-store_part.ensures.stored e has b pointer) in
+            subst (λ (n : ℕ). StoresPart c.args.draft.now.map.parts.items n (e b)) (sym same) holds
         | inr other ↦ so_far.stored e (now.has e has) j b (omega (arith, below)) at
       ];
       others = λ p is none. c.store_part.ensures.others p (λ at. none k (omega arith) (sym here ∙ at)) (so_far.others p is (λ j below. none j (omega (arith, below))));

@@ -1,4 +1,4 @@
-use Rattle.std.proofs.Common.{rules, arith, ◌∙◌, subst, sym, ◌+◌}
+use Rattle.std.proofs.Common.{rules, arith, subst, sym, ◌+◌}
 use Rattle.blocktree.specs.Trees.{IsSoundAt}
 use Rattle.dirs.specs.Edits.{edited_block}
 use Rattle.dirs.specs.Surveys.{IsBounded}

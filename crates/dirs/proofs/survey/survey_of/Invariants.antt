@@ -1,4 +1,4 @@
-use Rattle.std.proofs.Common.{◌≡◌, ◌≤◌, ◌*◌, ℕ, List}
+use Rattle.std.proofs.Common.{◌≤◌, ◌*◌, ℕ, List}
 use Rattle.buffers.specs.Reads.{HasOnlyRead}
 use Rattle.dirs.specs.Edits.{edited_block}
 use Rattle.dirs.specs.Surveys.{SurveysBlocks, IsBounded}

@@ -1,7 +1,17 @@
-use Rattle.std.proofs.Common.{◌≡◌, true}
+use Rattle.std.proofs.Common.{rules, ◌≡◌, ◌/◌, true, sym, subst}
+use Rattle.blocktree.specs.Trees.{IsSoundAt}
 use Rattle.inode.specs.Files.{file_block}
 use Rattle.loading.proofs.EndLaws.{block_ends, ends_block, not_both}
 use Rattle.loading.proofs.maps.check_end.Goals as goal
+
+pub returns-in_err-location-clause-damaged : goal.returns-in_err-location-clause-damaged
+returns-in_err-location-clause-damaged g c = λ disk shows is sound ends.
+    c.in_err-location.ensures.damaged disk shows (search rules)
+    (subst (λ n. IsSoundAt (g.B.Blocks.count c.args.blocks.now) disk c.args.file.now.tree (n / 4096)) (sym c.size-size.ensures.value) sound)
+
+pub returns-then-is_zero_from-clause-sound : goal.returns-then-is_zero_from-clause-sound
+returns-then-is_zero_from-clause-sound g c = λ disk shows.
+    subst (λ n. IsSoundAt (g.B.Blocks.count c.args.blocks.now) disk c.args.file.now.tree (n / 4096)) c.size-size.ensures.value (c.in_ok-location.ensures.sound disk shows)
 
 pub returns-then-is_zero_from-clause-ends : goal.returns-then-is_zero_from-clause-ends
 returns-then-is_zero_from-clause-ends g c = λ disk shows p past here.

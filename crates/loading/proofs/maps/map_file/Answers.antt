@@ -1,6 +1,7 @@
-use Rattle.std.proofs.Common.{rules, sym, subst}
+use Rattle.std.proofs.Common.{rules, ◌/◌, sym, subst}
+use Rattle.blocktree.specs.Trees.{IsSoundAt}
 use Rattle.loading.specs.Readings.{IsBodyPath}
-use Rattle.loading.proofs.EndLaws.{all_stored, file_ends, map_file_is, starts_sound, starts_sound_at}
+use Rattle.loading.proofs.EndLaws.{all_stored, file_ends, map_file_is, sound_whole, starts_sound, starts_sound_at}
 use Rattle.buffers.proofs.ReadLaws.{reads_err, reads_more, reads_ok}
 use Rattle.loading.proofs.maps.map_file.Goals as goal
 
@@ -12,19 +13,25 @@ returns-in_err-check_stored-clause-damaged g c = λ disk shows is paths map.
 
 pub returns-in_err-check_end-clause-damaged : goal.returns-in_err-check_end-clause-damaged
 returns-in_err-check_end-clause-damaged g c = λ disk shows is paths map.
+    let inode = c.args.inode in
+    let tree = c.in_ok-file.file.tree in
+    let count = g.B.Blocks.count c.check_stored.new.blocks in
     c.in_err-check_end.ensures.damaged disk (c.in_ok-check_stored.ensures.reads.same disk shows) (search rules)
-    (λ i. starts_sound_at (g.B.Blocks.count c.check_stored.new.blocks) disk c.args.inode.body c.args.inode.size i c.in_ok-file.file.tree c.in_ok-file.file.tree.fits.1
-    c.in_ok-file.ensures.settled (subst (λ n. IsBodyPath n disk c.args.inode.body c.args.inode.size i) (sym c.in_ok-check_stored.ensures.reads.count) (paths i)))
+    (subst (λ n. IsSoundAt count disk tree (n / 4096)) (sym c.in_ok-file.ensures.size)
+    (starts_sound_at count disk inode.body inode.size (inode.size / 4096) tree tree.fits.1 c.in_ok-file.ensures.settled
+    (subst (λ n. IsBodyPath n disk inode.body inode.size (inode.size / 4096)) (sym c.in_ok-check_stored.ensures.reads.count) (paths (inode.size / 4096))) map.last))
     (file_ends disk c.args.inode c.in_ok-file.file c.in_ok-file.ensures.size (c.in_ok-file.ensures.blocks disk) map.ends)
-
-pub returns-clause-sound : goal.returns-clause-sound
-returns-clause-sound g c = λ disk count i path.
-    starts_sound_at count disk c.args.inode.body c.args.inode.size i c.in_ok-file.file.tree c.in_ok-file.file.tree.fits.1 c.in_ok-file.ensures.settled path
 
 pub returns-clause-file : goal.returns-clause-file
 returns-clause-file g c = λ disk shows.
-    map_file_is disk c.args.inode c.in_ok-file.file c.in_ok-file.ensures.settled (c.in_ok-check_stored.ensures.stored disk shows) c.in_ok-file.ensures.size
-    (c.in_ok-file.ensures.blocks disk) (c.in_ok-check_end.ensures.ends disk (c.in_ok-check_stored.ensures.reads.same disk shows))
+    let inode = c.args.inode in
+    let tree = c.in_ok-file.file.tree in
+    let count = g.B.Blocks.count c.check_stored.new.blocks in
+    let shows1 = c.in_ok-check_stored.ensures.reads.same disk shows in
+    map_file_is disk inode c.in_ok-file.file c.in_ok-file.ensures.settled (c.in_ok-check_stored.ensures.stored disk shows)
+    (sound_whole count disk inode.body inode.size (inode.size / 4096) tree c.in_ok-file.ensures.settled c.in_ok-file.ensures.unchanged
+    (λ _. subst (λ n. IsSoundAt count disk tree (n / 4096)) c.in_ok-file.ensures.size (c.in_ok-check_end.ensures.sound disk shows1)))
+    c.in_ok-file.ensures.size (c.in_ok-file.ensures.blocks disk) (c.in_ok-check_end.ensures.ends disk shows1)
 
 pub returns-in_err-check_stored-clause-reads : goal.returns-in_err-check_stored-clause-reads
 returns-in_err-check_stored-clause-reads g c = reads_err c.from_residual-in_err-check_stored.result c.from_residual-in_err-check_stored.ensures.1 c.in_err-check_stored.ensures.reads

@@ -3,7 +3,7 @@ use Rattle.std.specs.Prelude.{slice_index_or}
 use Rattle.std.proofs.lemmas.List.{get_or_read}
 use Rattle.layout.specs.declared.pointer.Pointer.TheVariants.{Hole}
 use Rattle.images.specs.Roots.{slot}
-use Rattle.loading.proofs.SnapshotLaws.{apart, at_slot}
+use Rattle.loading.proofs.SnapshotLaws.{apart, at_slot, snapshot_whole}
 use Rattle.buffers.proofs.ReadLaws.{only_more, only_ok, reads_err, reads_more}
 use Rattle.loading.proofs.snapshots.check_snapshots.Goals as goal
 
@@ -16,7 +16,9 @@ returns-in_err-check_snapshot-clause-damaged g c disk shows damaged are =
 
 pub returns-in_err-check_apart-clause-damaged : goal.returns-in_err-check_apart-clause-damaged
 returns-in_err-check_apart-clause-damaged g c disk shows damaged are =
+    let r = c.args.root.now in
     c.in_err-check_apart.ensures.damaged disk (c.in_ok-check_snapshot.ensures.reads.same disk (c.loop-k.invariant.read.same disk shows)) (search rules)
+    (λ l lt. snapshot_whole r.geometry r.generation disk (slice_index_or r.snapshots l Hole) (at_slot disk r l (slice_index_or r.snapshots l Hole) are refl))
     (λ l lt. apart disk c.args.root.now are c.snapshots_are_what_their_bytes_spell.ensures l c.loop-k.k (slice_index_or c.args.root.now.snapshots l Hole) (slice_index_or c.args.root.now.snapshots c.loop-k.k Hole) lt refl refl)
 
 pub returns-in_err-check_snapshot-clause-reads : goal.returns-in_err-check_snapshot-clause-reads

@@ -33,6 +33,7 @@ returns-in_err-numbers-clause-loads g c = λ detail disk shows root sizes top re
     laws.refused _ c.from_residual-in_err-numbers.result (search rules) (λ is.
     c.in_err-numbers.ensures.damaged disk (c.in_ok-inode_map.ensures.reads.same disk shows) (search rules)
     (λ k. laws.map_paths c.trees_read_as_held.ensures disk r within ready 1 (g.B.Blocks.count c.own_inode.new.blocks) k c.in_ok-inode_map.inode_map count there)
+    (laws.numbers_whole c.trees_read_as_held.ensures disk r within ready c.in_ok-inode_map.inode_map there)
     (laws.numbers_file c.trees_read_as_held.ensures disk r within ready c.in_ok-inode_map.inode_map there)
     (laws.numbers_are c.trees_read_as_held.ensures disk r within ready c.in_ok-inode_map.inode_map there))
 

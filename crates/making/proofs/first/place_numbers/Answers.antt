@@ -18,10 +18,10 @@ returns-clause-file c =
     let placed = c.in_ok-placed.placed in
     let change = own_change s c.args.draft.now o kinds.InodeMap (sym c.requires.map) (law.sound s nothing) (law.none nothing) c.in_ok-object.ensures.base
     (numbers_end o.file s.inodes c.in_ok-object.ensures.size c.inodes.ensures.within.least_inodes (c.in_ok-object.ensures.blocks nothing)) c.in_ok-object.ensures.attributes (refl, refl, c.in_ok-object.ensures.size) in
-    has_file s c.args.draft.now c.place_file.new.draft c.mark_all.new.draft placed.inode placed.taken.items (is_one placed.freed.items) (law.none nothing)
+    has_file (λ e. Unit {0}) s c.args.draft.now c.place_file.new.draft c.mark_all.new.draft placed.inode placed.taken.items (is_one placed.freed.items) (law.none nothing)
     c.mark_all.ensures.step.grows c.mark_all.ensures.step.next c.place_file.ensures.step.parts
     (subst (λ (xs : List ℕ). AreMarked xs (length xs) true c.place_file.new.draft.map.parts.items c.mark_all.new.draft.map.parts.items) c.deref.ensures.value c.in_ok-mark_all.ensures.marked)
-    c.in_ok-placed.ensures.step.given (c.in_ok-placed.ensures.placed s nothing free_inode (λ place. refl) change)
+    c.in_ok-placed.ensures.step.given (λ e has agrees one. c.in_ok-placed.ensures.placed s nothing free_inode (λ place. refl) change e has agrees)
 
 pub returns-clause-numbers : goal.returns-clause-numbers
 returns-clause-numbers c = λ e has.

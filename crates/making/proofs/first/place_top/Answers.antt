@@ -1,4 +1,5 @@
 use Rattle.std.proofs.Common.{ℕ, List, length, true, refl, sym, subst, arith}
+use Rattle.buffers.specs.Disks.{IsWhole}
 use Rattle.conspoint.specs.Marks.{AreMarked}
 use Rattle.layout.specs.declared.kind.Kind.TheVariants as kinds
 use Rattle.images.specs.Roots.{free_inode}
@@ -18,7 +19,7 @@ returns-clause-file c =
     let placed = c.in_ok-all.all.0 in
     let change = own_change s c.args.draft.now o kinds.InodeFile (sym c.requires.map) (law.sound s nothing) (law.none nothing) c.inode_file-object.ensures.base
     (zeros_end o.file (c.inode_file-object.ensures.blocks nothing)) c.inode_file-object.ensures.attributes (refl, refl, c.inode_file-object.ensures.size) in
-    has_file s c.args.draft.now c.place_file_but_first.new.draft c.mark_all.new.draft placed.inode placed.taken.items (is_one placed.freed.items) (law.none nothing)
+    has_file (λ e. IsWhole (e c.in_ok-all.all.1)) s c.args.draft.now c.place_file_but_first.new.draft c.mark_all.new.draft placed.inode placed.taken.items (is_one placed.freed.items) (law.none nothing)
     c.mark_all.ensures.step.grows c.mark_all.ensures.step.next c.place_file_but_first.ensures.step.parts
     (subst (λ (xs : List ℕ). AreMarked xs (length xs) true c.place_file_but_first.new.draft.map.parts.items c.mark_all.new.draft.map.parts.items) c.deref.ensures.value c.in_ok-mark_all.ensures.marked)
     c.in_ok-all.ensures.step.given (c.in_ok-all.ensures.placed s nothing free_inode (λ place. refl) change)

@@ -1,7 +1,6 @@
 use Rattle.std.proofs.Common.{◌≡◌, ◌*◌, length, arith, sym, subst, ◌∙◌}
 use Rattle.model.specs.States.{empty}
 use Rattle.layout.specs.Limits.{Sizes}
-use Rattle.conspoint.specs.Plans.{FitsDisk}
 use Rattle.making.specs.Images.{HoldsMade, OpensAlone}
 use Rattle.making.proofs.MadeLemmas.{IsFirstPlan, made, opens}
 use Rattle.making.proofs.image.make.Given.{Over}
@@ -40,7 +39,5 @@ returns-in-Ok-write_image-clause-opens g c honest images left =
     let sized = g.met.S.Station.sized new honest images left in
     let size : length images.nvram ≡ 2 * s.half =
     sized.nvram ∙ same.nvram_bytes ∙ sym c.nv_bytes.ensures ∙ c.if-nv_bytes-nvram_bytes.false ∙ c.nvram_bytes.ensures.value in
-    let sizes = c.sectors-2.ensures.within in
-    let fits : FitsDisk m.sectors c.in-Ok.point.plan = c.in-Ok.ensures.fits m.sectors (omega (arith, sectors, sizes.least_blocks)) (omega (arith, sectors)) in
     subst (λ (t : Sizes). OpensAlone m (empty t.inodes) images) c.in-Some.ensures.value
-    (opens s c.in-Ok.point.plan c.in-Ok.point.root (first g at) images written m.sectors fits sized.sector c.blocks_are_those_of_images.ensures sectors size c.first_images_open_to_the_empty_state.ensures)
+    (opens s c.in-Ok.point.plan c.in-Ok.point.root (first g at) images written m.sectors sectors size c.first_images_open_to_the_empty_state.ensures)

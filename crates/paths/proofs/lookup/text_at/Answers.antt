@@ -40,5 +40,5 @@ returns g c = record {
       let now = c.load.ensures.looks.kept disk settled v stands in
       let is_object = c.in-Some.ensures.stands _ _ disk settled v now.volume in
       c.all_bytes.ensures.damaged disk now.shows is
-      (λ i. c.objects_stand_in_their_grammar.ensures _ _ disk settled c.load.new.inodes v c.args.number i o (v c.args.number) now.volume is_object);
+      (λ i. c.objects_stand_in_their_grammar.ensures _ _ disk settled c.load.new.inodes v c.args.number i o (v c.args.number) now.volume is_object tt);
 }

@@ -53,6 +53,9 @@ returns-clause-first c = c.in_ok-laid.ensures.blocks 0 ∙ c.in_ok-placed.ensure
 pub returns-clause-short : goal.returns-clause-short
 returns-clause-short c = λ m i past. c.in_ok-laid.ensures.end m i (omega (arith, past, nodes_fall (block_count c.args.object.now.file.size) m))
 
+pub returns-clause-whole : goal.returns-clause-whole
+returns-clause-whole c = rw (c.tree.ensures, c.block_count-count.ensures) at c.in_ok-placed.ensures.whole
+
 pub returns-clause-stands : goal.returns-clause-stands
 returns-clause-stands c = λ s disk base change known e has same.
     let o = c.args.object.now in

@@ -4,7 +4,7 @@ use Rattle.images.specs.Contents.{content_of}
 use Rattle.images.specs.Nodes.{held}
 use Rattle.placement.specs.Files.{IsBasedOn, IsPlaced, content_with, is_one, object_block, with_first}
 use Rattle.placement.specs.Layouts.{AreSettledNodes}
-use Rattle.placement.proofs.FileLaws.{content_is, file_placed, object_ends, of_one, first_ends}
+use Rattle.placement.proofs.FileLaws.{content_is, file_placed, first_ends, first_whole, object_ends, object_whole, of_one}
 use Rattle.placement.proofs.MovedLaws.{moved_taken}
 use Rattle.buffers.proofs.ReadLaws.{reads_ok}
 use Rattle.conspoint.specs.declared.error.PlanError.TheVariants.{NoSpace}
@@ -41,7 +41,7 @@ returns-clause-step g c =
     }
 
 pub returns-clause-placed : goal.returns-clause-placed
-returns-clause-placed g c = λ s disk base shows change e has same.
+returns-clause-placed g c = λ s disk base shows change e has same first.
     let o = c.args.object.now in
     let settled = c.in_ok-settled.settled in
     let laid = c.in_ok-all.all.0 in
@@ -52,7 +52,8 @@ returns-clause-placed g c = λ s disk base shows change e has same.
     let ends = first_ends (e c.in_ok-all.all.1) (object_block disk o) o.file.size c.requires.some (object_ends disk o change.ends) in
     subst (λ f. IsPlaced s e (held disk base) f (is_one placed.taken.items) (is_one placed.freed.items)) (sym c.in_ok-placed.ensures.inode)
     (file_placed s c.args.draft.now c.lay_but_first.new.draft disk e base o laid.body block settled laid.nodes change known stands ends c.in_ok-all.ensures.placed
-    placed.taken.items placed.freed.items c.in_ok-placed.ensures.taken c.in_ok-placed.ensures.freed)
+    placed.taken.items placed.freed.items c.in_ok-placed.ensures.taken c.in_ok-placed.ensures.freed
+    (λ level. first_whole (e c.in_ok-all.all.1) (object_block disk o) first (object_whole disk base o change.based change.sound.bytes.readable 1 c.in_ok-all.ensures.whole)))
 
 pub returns-clause-first : goal.returns-clause-first
 returns-clause-first g c = λ s disk base shows change e has same.

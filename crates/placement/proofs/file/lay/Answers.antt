@@ -2,7 +2,7 @@ use Rattle.std.proofs.Common.{rules, ℕ, ◌<◌, List, length, ap, subst, arit
 use Rattle.blocktree.specs.Places.{IsPath}
 use Rattle.blocktree.specs.declared.place_map.PlaceMap.{PlaceMap}
 use Rattle.placement.proofs.PlacedLaws.{node_over, none_laid}
-use Rattle.placement.proofs.SettledLaws.{NodeLaws, paths_sound}
+use Rattle.placement.proofs.SettledLaws.{NodeLaws, blocks_whole, paths_sound}
 use Rattle.placement.proofs.StepLaws.{both_err, both_ok, place_ended, read_ended, reads_nothing}
 use Rattle.placement.proofs.file.lay.Goals as goal
 
@@ -22,7 +22,7 @@ returns-in_err-small-clause-damaged g c = λ s disk base shows change blocks bad
     let t = c.args.object.now.file.tree in
     c.in_err-small.ensures.damaged disk shows (search rules)
     (λ not kept. let low : 0 < t.count = omega (arith, kept, t.fits.1) in
-    subst (λ (n : ℕ). IsPath n disk t.pointers t.depth t.count 0) blocks (paths_sound laws s disk base t change.based change.sound 0 low))
+    (subst (λ (n : ℕ). IsPath n disk t.pointers t.depth t.count 0) blocks (paths_sound laws s disk base t change.based change.sound 0 low), blocks_whole disk base t change.based change.sound.bytes.readable 0 low))
 
 pub returns-clause-stands : goal.returns-clause-stands
 returns-clause-stands g c = λ s disk base shows change known. c.in_ok-laid.ensures.stands s disk base change known

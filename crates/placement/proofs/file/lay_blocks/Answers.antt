@@ -54,6 +54,9 @@ pub returns-clause-stored : goal.returns-clause-stored
 returns-clause-stored c = λ i lt changed hole.
     c.in_ok-blocks.ensures.stored i (omega (arith, lt)) (omega arith) (subst (λ (t : BlockTree). IsChanged t i) (sym c.tree.ensures) changed) (sym (c.in_ok-laid.ensures.blocks i) ∙ hole)
 
+pub returns-clause-whole : goal.returns-clause-whole
+returns-clause-whole c = rw (c.tree.ensures, c.block_count-count.ensures) at c.in_ok-blocks.ensures.whole
+
 pub returns-clause-stands : goal.returns-clause-stands
 returns-clause-stands c = λ s disk base change known e has same.
     let o = c.args.object.now in

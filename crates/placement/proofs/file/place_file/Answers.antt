@@ -1,11 +1,11 @@
-use Rattle.std.proofs.Common.{rules, refl, sym, subst, ◌≡◌}
+use Rattle.std.proofs.Common.{arith, rules, refl, sym, subst, ◌≡◌}
 use Rattle.images.specs.Contents.{content_of}
 use Rattle.images.specs.Nodes.{held}
 use Rattle.images.specs.Soundness.{HasNoHole}
 use Rattle.placement.specs.Files.{IsBasedOn, IsPlaced, content_with, is_one, object_block}
 use Rattle.placement.specs.Layouts.{AreSettledNodes, inode_with}
 use Rattle.placement.proofs.HoleLaws.{no_hole_left, none_left}
-use Rattle.placement.proofs.FileLaws.{content_is, file_placed, object_ends, of_one}
+use Rattle.placement.proofs.FileLaws.{content_is, file_placed, object_ends, object_whole, of_one}
 use Rattle.placement.proofs.MovedLaws.{moved_taken}
 use Rattle.buffers.proofs.ReadLaws.{reads_ok}
 use Rattle.conspoint.specs.declared.error.PlanError.TheVariants.{NoSpace}
@@ -51,7 +51,8 @@ returns-clause-placed g c = λ s disk base shows change e has same.
     let stands = c.in_ok-laid.ensures.stands s disk base (c.in_ok-settled.ensures.reads.same disk shows) change known e has same in
     subst (λ f. IsPlaced s e (held disk base) f (is_one placed.taken.items) (is_one placed.freed.items)) (sym c.in_ok-placed.ensures.inode)
     (file_placed s c.args.draft.now c.lay.new.draft disk e base o laid.body (object_block disk o) settled laid.nodes change known stands (object_ends disk o change.ends) c.in_ok-laid.ensures.placed
-    placed.taken.items placed.freed.items c.in_ok-placed.ensures.taken c.in_ok-placed.ensures.freed)
+    placed.taken.items placed.freed.items c.in_ok-placed.ensures.taken c.in_ok-placed.ensures.freed
+    (λ level i. object_whole disk base o change.based change.sound.bytes.readable 0 (c.in_ok-laid.ensures.whole level) i (omega arith)))
 
 pub returns-clause-content : goal.returns-clause-content
 returns-clause-content g c = λ s disk base shows change e has same.

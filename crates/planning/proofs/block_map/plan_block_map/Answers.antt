@@ -20,7 +20,7 @@ returns-in_err-nodes-clause-damaged g c = λ disk settled v before shows memory 
     (subst (λ (x : Inode). IsSoundFile c.args.inodes.now.geometry (held disk x)) (sym now) (memory.volume.inodes.sound 2)) (memory.volume.inodes.count ∙ sym c.settled_inode.ensures.reads.count) (search rules)
 
 pub returns-clause-planned : goal.returns-clause-planned
-returns-clause-planned g c = λ disk settled v before p shows memory sound same entries progress fresh.
+returns-clause-planned g c = λ disk settled v before p shows memory sound same entries fresh.
     let s = c.args.inodes.now.geometry in
     let old = c.args.draft.now in
     let new = c.store_own_map.new.draft in
@@ -30,7 +30,7 @@ returns-clause-planned g c = λ disk settled v before p shows memory sound same 
     let now : found ≡ settled 2 = c.in_ok-settled.ensures.read _ disk settled shows memory.volume.inodes in
     let shown = c.settled_inode.ensures.reads.same disk shows in
     let file = subst (λ (x : Inode). IsSoundFile s (held disk x)) (sym now) (memory.volume.inodes.sound 2) in
-    map_file_planned old new disk before s settled p nodes f memory.once memory.exact same progress fresh c.store_own_map.ensures.step.grows
+    map_file_planned old new disk before s settled p nodes f memory.once memory.exact same fresh c.store_own_map.ensures.step.grows
     (subst (λ (ns : List Pointer). PlansMap old new ns f) c.deref.ensures.value c.in_ok-map.ensures.planned)
     (settled_map (g.B.Blocks.count c.args.blocks.now) old disk s c.args.inodes.now.file settled before found nodes memory.volume.inodes c.requires.sizes c.requires.disk memory.once memory.exact same entries
     sound.block_map now

@@ -9,12 +9,12 @@ pub returns-in_err-map-clause-damaged : goal.returns-in_err-map-clause-damaged
 returns-in_err-map-clause-damaged g c = λ disk settled v before shows memory sound bad. c.in_err-map.ensures.damaged disk settled v before shows memory (search rules)
 
 pub returns-clause-planned : goal.returns-clause-planned
-returns-clause-planned g c = λ disk settled v before p shows memory sound same entries progress fresh.
+returns-clause-planned g c = λ disk settled v before p shows memory sound same entries fresh.
     let shown = c.plan_block_map.ensures.step.reads.same disk shows in
     record {
       map = c.in_ok-map.map;
       planned = map_file_later c.args.draft.now c.plan_block_map.new.draft c.put.new.self disk before c.args.inodes.now.geometry (settled_tree disk settled) p c.in_ok-map.map c.put.ensures.step.grows c.put.ensures.step.map
-          (c.in_ok-map.ensures.planned disk settled v before p shows memory sound same entries progress fresh);
+          (c.in_ok-map.ensures.planned disk settled v before p shows memory sound same entries fresh);
       put = λ e has. c.in_ok-put.ensures.stored e has ∙ c.in_ok-block.ensures.put disk shown;
       whole = c.in_ok-block.ensures.whole disk shown;
       long = c.in_ok-block.ensures.long;

@@ -44,7 +44,7 @@ returns-in_err-is_there-clause-damaged g c = λ disk settled v before shows memo
     let tree = c.in_ok-object.object.file.tree in
     c.in_err-is_there.ensures.damaged disk (c.settled_map.ensures.reads.same disk shows) (search rules)
     (λ i. subst (λ n. IsSoundAt n disk tree i) (memory.volume.inodes.count ∙ sym c.settled_map.ensures.reads.count)
-    (c.based_trees_are_sound.ensures.at _ s disk c.in_ok-settled.settled tree i sound c.in_ok-object.ensures.base))
+    (c.based_trees_are_sound.ensures.at _ s disk c.in_ok-settled.settled tree i sound sound.bytes.readable c.in_ok-object.ensures.base))
 
 pub returns-then-is_there-clause-planned : goal.returns-then-is_there-clause-planned
 returns-then-is_there-clause-planned g c = λ disk settled v before found shows memory no_hole way fresh.
@@ -68,7 +68,7 @@ returns-in_err-put_parts-clause-damaged g c = λ disk settled v before shows mem
     let tree = c.in_ok-object.object.file.tree in
     c.in_err-put_parts.ensures.damaged disk (c.has_bytes.ensures.reads.same disk (c.settled_map.ensures.reads.same disk shows)) (search rules)
     (λ i. subst (λ n. IsSoundAt n disk tree i) (memory.volume.inodes.count ∙ sym c.settled_map.ensures.reads.count ∙ sym c.has_bytes.ensures.reads.count)
-    (c.based_trees_are_sound.ensures.at _ s disk c.in_ok-settled.settled tree i sound c.in_ok-object.ensures.base))
+    (c.based_trees_are_sound.ensures.at _ s disk c.in_ok-settled.settled tree i sound sound.bytes.readable c.in_ok-object.ensures.base))
 
 -- the file that is placed, over the settled one
 map_now : (g : Over) (c : In_ok-put_parts g) (disk : ℕ → List ℕ) (settled : ℕ → Inode) (v : Volume) (before : ℕ → ℕ) → g.B.Blocks.Shows c.args.blocks.now disk

@@ -52,7 +52,7 @@ returns-in_err-plan_changes-clause-damaged g c = λ disk settled v before shows 
     let first_file = c.in_ok-top.top.file in
     let sound = top_sound start in
     c.in_err-plan_changes.ensures.damaged disk settled v before shows start.memory c.args.draft.now.map.next (started start first_file (c.in_ok-top.ensures.held _ s disk sound))
-    (λ i. subst (λ n. IsSoundAt n disk first_file.tree i) start.memory.volume.inodes.count (c.based_trees_are_sound.ensures.at _ s disk c.args.root.now.inode_file first_file.tree i sound c.in_ok-top.ensures.base)) (search rules)
+    (λ i. subst (λ n. IsSoundAt n disk first_file.tree i) start.memory.volume.inodes.count (c.based_trees_are_sound.ensures.at _ s disk c.args.root.now.inode_file first_file.tree i sound sound.bytes.readable c.in_ok-top.ensures.base)) (search rules)
 
 pub returns-in_err-placed-clause-damaged : goal.returns-in_err-placed-clause-damaged
 returns-in_err-placed-clause-damaged g c = λ disk settled v before shows start bad.
@@ -69,7 +69,7 @@ returns-in_err-plan_last-clause-damaged g c = λ disk settled v before shows sta
     let count : g.B.Blocks.count c.args.blocks.now ≡ g.B.Blocks.count c.place_top.new.blocks = sym c.plan_changes.ensures.step.reads.count ∙ sym c.place_top.ensures.step.reads.count in
     c.in_err-plan_last.ensures.damaged disk settled v before (c.place_top.ensures.step.reads.same disk shown) (subst (λ n. IsOverTree n disk settled c.args.inodes.now v before) count start.memory)
     (subst (λ n. IsSoundAt n disk c.plan_changes.new.file.tree 0) count (c.plan_changes.ensures.file.sound (g.B.Blocks.count c.args.blocks.now) disk 0
-    (subst (λ n. IsSoundAt n disk first_file.tree 0) start.memory.volume.inodes.count (c.based_trees_are_sound.ensures.at _ c.args.inodes.now.geometry disk c.args.root.now.inode_file first_file.tree 0 (top_sound start) c.in_ok-top.ensures.base))))
+    (subst (λ n. IsSoundAt n disk first_file.tree 0) start.memory.volume.inodes.count (c.based_trees_are_sound.ensures.at _ c.args.inodes.now.geometry disk c.args.root.now.inode_file first_file.tree 0 (top_sound start) (top_sound start).bytes.readable c.in_ok-top.ensures.base))))
     (search rules)
 
 pub returns-clause-planned : goal.returns-clause-planned
@@ -92,7 +92,7 @@ returns-clause-planned g c = λ disk settled v before shows start.
     let first = c.in_ok-placed.placed.1 in
     let top = c.in_ok-placed.ensures.planned s disk settled before p shown change kind start.memory.once start.memory.exact same_now numbers.map.way.progress fresh in
     let last = c.in_ok-plan_last.ensures.planned disk settled v before (with_planned_file 0 f top.taken p) (c.place_top.ensures.step.reads.same disk shown)
-    (subst (λ n. IsOverTree n disk settled c.args.inodes.now v before) count start.memory) start.sound (λ b. c.place_top.ensures.step.grows.settled.settled b ∙ same_now b) start.entries top.progress fresh_map in
+    (subst (λ n. IsOverTree n disk settled c.args.inodes.now v before) count start.memory) start.sound (λ b. c.place_top.ensures.step.grows.settled.settled b ∙ same_now b) start.entries fresh_map in
     let said = c.inodes_are_put_one_by_one.ensures in
     let least : AreSizes s = subst AreSizes (sym c.requires.sizes) c.requires.root_is.head.sizes in
     let most = top_within g (goal.at.returns-clause-planned g c).After-plan_changes in

@@ -22,15 +22,17 @@ returns-clause-planned g c = λ s disk settled before p shows change kind once e
     let grows = grows_twice old mid new c.place_file_but_first.ensures.step.grows goes in
     record {
       taken = is_one placed.taken.items;
-      progress = progress_more old new disk before s (settled_tree disk settled) p 0 placed.inode (is_one placed.taken.items) (is_one placed.freed.items) once exact same progress fresh grows
-          (λ b is. taken_later old mid new b (c.in_ok-all.ensures.step.given b is) goes)
-          (λ e has agrees. c.in_ok-all.ensures.placed s disk (settled 0) shows change e (goes.has e has) agrees)
-          (λ e has agrees. sym (ap (λ (i : Inode). i.kind) (held_inode e placed.inode))
-          ∙ ap (λ (x : Content). x.kind) (c.in_ok-all.ensures.content s disk (settled 0) shows change e (goes.has e has) agrees) ∙ kind)
-          (marked_over (is_one placed.taken.items) (is_one placed.freed.items) old.map.parts.items mid.map.parts.items new.map.parts.items c.place_file_but_first.ensures.step.parts c.in_ok-mark_placed.ensures.marked);
-      first_taken = λ e has agrees b is.
+      progress = λ e has agrees whole.
           let mine : Agrees (Names (held disk (settled 0))) disk e = λ b names. agrees b (record { file = 0; names = names }) in
-          elim ((c.in_ok-all.ensures.placed s disk (settled 0) shows change e (goes.has e has) mine).moves 0 0 b is) [
+          progress_more old new before s (settled_tree disk settled) p 0 placed.inode (is_one placed.taken.items) (is_one placed.freed.items) once exact same fresh grows
+          (λ b is. taken_later old mid new b (c.in_ok-all.ensures.step.given b is) goes)
+          (marked_over (is_one placed.taken.items) (is_one placed.freed.items) old.map.parts.items mid.map.parts.items new.map.parts.items c.place_file_but_first.ensures.step.parts c.in_ok-mark_placed.ensures.marked)
+          e (c.in_ok-all.ensures.placed s disk (settled 0) shows change e (goes.has e has) mine whole)
+          (sym (ap (λ (i : Inode). i.kind) (held_inode e placed.inode)) ∙ ap (λ (x : Content). x.kind) (c.in_ok-all.ensures.content s disk (settled 0) shows change e (goes.has e has) mine) ∙ kind)
+          (progress e (grows.has e has) agrees);
+      first_taken = λ e has agrees whole b is.
+          let mine : Agrees (Names (held disk (settled 0))) disk e = λ b names. agrees b (record { file = 0; names = names }) in
+          elim ((c.in_ok-all.ensures.placed s disk (settled 0) shows change e (goes.has e has) mine whole).moves 0 0 b is) [
             | inr came ↦ came
             | inl was ↦
                 let at = block_same b c.in_ok-all.all.1 (sym is ∙ c.in_ok-all.ensures.first s disk (settled 0) shows change e (goes.has e has) mine) in

@@ -36,11 +36,11 @@ returns-clause-planned g c =
           told_both c.plan_object-planned.result _ _ (plan.told detail disk s.geometry.inodes (settled n) (v n) o)
           (subst (λ (x : Option Object). IfOk c.plan_object-planned.result (λ w. IfSome w (RewritesIn detail disk f x))) (sym c.put_back.ensures.loaded)
           (plan.rewrites detail disk s.geometry.inodes (settled n) (v n) now.shows o));
-      damaged = λ {detail} disk settled v now is.
+      damaged = λ {detail} disk settled v now can is.
           let o = object_or_none detail disk s.geometry.inodes (settled n) c.take-object.result (v n) (take.stands _ count disk settled v now.volume) (take.stands_for_none _ count disk settled v now.volume) in
           plan.damaged disk now.shows is
           (λ object some i. c.objects_stand_in_their_grammar.ensures _ count disk settled s v n i object (v n) now.volume
-          (subst (λ (x : Option Object). IsObjectOrNone detail disk s.geometry.inodes (settled n) x (v n)) some o));
+          (subst (λ (x : Option Object). IsObjectOrNone detail disk s.geometry.inodes (settled n) x (v n)) some o) can);
     }))
 
 pub returns-clause-stores : goal.returns-clause-stores

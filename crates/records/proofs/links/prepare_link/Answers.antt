@@ -35,7 +35,7 @@ returns-then-not-fits g c = obstructs no_look refl (λ detail disk settled v sta
 ])
 
 pub returns-in_err-load_to_change : goal.returns-in_err-load_to_change
-returns-in_err-load_to_change g c = stops c.from_residual.result c.from_residual.ensures.1 c.in_err-load_to_change.ensures.looks (λ detail. c.in_err-load_to_change.ensures.damaged {detail = detail})
+returns-in_err-load_to_change g c = stops c.from_residual.result c.from_residual.ensures.1 c.in_err-load_to_change.ensures.looks (λ detail disk settled v stands can. c.in_err-load_to_change.ensures.damaged {detail = detail} disk settled v stands)
 
 pub returns-in_default : goal.returns-in_default
 returns-in_default g c = obstructs c.in_ok-load_to_change.ensures.looks refl (λ detail disk settled v stands volume.

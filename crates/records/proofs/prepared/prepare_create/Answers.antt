@@ -11,6 +11,7 @@ use Rattle.paths.specs.Standing.{StandsIn}
 use Rattle.paths.proofs.Looks.{looks_more, looks_reads}
 use Rattle.records.specs.Obstacles.{IsObstacle, tells_obstacle}
 use Rattle.images.specs.Soundness.{Detail}
+use Rattle.inofile.proofs.DetailLaws.{readable_in}
 use Rattle.records.specs.Preparing.{IsKnownVolume}
 use Rattle.records.proofs.DetailLaws.{known_of, object_in}
 use Rattle.records.proofs.Deciding.{obstructs, stops}
@@ -30,13 +31,13 @@ returns-then-not-vacant g c = obstructs c.in_ok-vacant.ensures.looks refl (λ de
     both_ways c.in_ok-vacant.vacant c.if-not-vacant.true (c.in_ok-vacant.ensures.found disk settled v stands ∙ may.3))
 
 pub returns-in_err-new : goal.returns-in_err-new
-returns-in_err-new g c = stops c.from_residual-in_err-new.result c.from_residual-in_err-new.ensures.1 (looks_reads c.in_ok-vacant.ensures.looks c.in_err-new.ensures.reads) (λ detail disk settled v stands is.
+returns-in_err-new g c = stops c.from_residual-in_err-new.result c.from_residual-in_err-new.ensures.1 (looks_reads c.in_ok-vacant.ensures.looks c.in_err-new.ensures.reads) (λ detail disk settled v stands can is.
     let now = c.in_ok-vacant.ensures.looks.kept disk settled v stands in
     let s = c.is_vacant.new.inodes in
     let inodes = now.volume.inodes in
     c.in_err-new.ensures.damaged disk now.shows is
     (λ t i based. subst (λ (n : ℕ). IsSoundAt n disk t i) inodes.count
-    (c.based_trees_are_sound.ensures.at _ s.geometry disk (settled c.args.number) t i (inodes.sound c.args.number) (based (settled c.args.number)))))
+    (c.based_trees_are_sound.ensures.at _ s.geometry disk (settled c.args.number) t i (inodes.sound c.args.number) (readable_in detail s.geometry disk settled c.args.number (inodes.sound c.args.number) can) (based (settled c.args.number)))))
 
 pub returns : goal.returns
 returns g c =
@@ -65,5 +66,5 @@ returns g c =
           (λ e. TakesName v c.args.parent c.args.name.now → ⊥) c.prepare_new.result new.full
           (new.refused detail disk settled v (before.kept disk settled v stands) (subst (λ (s : Sizes). IsKnownVolume detail s.inodes v) (sym before.geometry) (known_of detail c.args.inodes.now.geometry.inodes (create c.args.number c.args.parent (made_of c.args.object.now) c.args.name.now) v volume)))
           (λ full. ((low, high, good, is_free detail disk settled v stands), full));
-      damaged = λ {detail} disk settled v stands is. new.damaged detail disk settled v (before.kept disk settled v stands) is;
+      damaged = λ {detail} disk settled v stands can is. new.damaged detail disk settled v (before.kept disk settled v stands) can is;
     }

@@ -22,7 +22,7 @@ pub returns-in_err-load_to_change-clause-looks : goal.returns-in_err-load_to_cha
 returns-in_err-load_to_change-clause-looks g c = looks_read c.from_residual.result c.from_residual.ensures.1 c.in_err-load_to_change.ensures.looks
 
 pub returns-in_err-load_to_change-clause-damaged : goal.returns-in_err-load_to_change-clause-damaged
-returns-in_err-load_to_change-clause-damaged g c = λ detail. damaged_read c.from_residual.result c.from_residual.ensures.1 (c.in_err-load_to_change.ensures.damaged {detail = detail})
+returns-in_err-load_to_change-clause-damaged g c = λ detail. damaged_read c.from_residual.result c.from_residual.ensures.1 (λ disk settled v stands can. c.in_err-load_to_change.ensures.damaged {detail = detail} disk settled v stands)
 
 pub returns-in_err-planned-clause-looks : goal.returns-in_err-planned-clause-looks
 returns-in_err-planned-clause-looks g c =

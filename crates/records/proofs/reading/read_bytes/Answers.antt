@@ -23,16 +23,16 @@ returns-in_default-kind g c = tells (brought c.in_ok-load.ensures) (λ detail di
 pub returns-in_err-bytes : goal.returns-in_err-bytes
 returns-in_err-bytes g c =
     fails c.from_residual-in_err-bytes.result c.from_residual-in_err-bytes.ensures.1
-    (read_on {P = λ detail disk settled v bytes. Unit {0}} (brought c.in_ok-load.ensures) c.in_err-bytes.ensures.reads (λ detail disk settled v now. tt) (λ detail disk settled v now is.
+    (read_on {P = λ detail disk settled v bytes. Unit {0}} (brought c.in_ok-load.ensures) c.in_err-bytes.ensures.reads (λ detail disk settled v now. tt) (λ detail disk settled v now can is.
     let o = c.in-Some.ensures.stands _ _ disk settled v now.volume in
     c.in_err-bytes.ensures.damaged disk now.shows is
-    (λ i. c.objects_stand_in_their_grammar.ensures _ _ disk settled c.load.new.inodes v c.args.number i c.in-Some.object.now (v c.args.number) now.volume o)))
+    (λ i. c.objects_stand_in_their_grammar.ensures _ _ disk settled c.load.new.inodes v c.args.number i c.in-Some.object.now (v c.args.number) now.volume o can)))
 
 pub returns : goal.returns
 returns g c =
     let object = c.in-Some.object.now in
     tells (read_on {P = λ detail disk settled v bytes. bytes.items ≡ read_at c.args.offset c.args.count (bytes_of_file disk object.file)} (brought c.in_ok-load.ensures) c.in_ok-bytes.ensures.reads
-    (λ detail disk settled v now. c.in_ok-bytes.ensures.bytes disk now.shows) (λ detail disk settled v now is. cc))
+    (λ detail disk settled v now. c.in_ok-bytes.ensures.bytes disk now.shows) (λ detail disk settled v now can is. cc))
     (λ detail disk settled v now read.
     let o = c.in-Some.ensures.stands _ _ disk settled v now.volume in
     part_read detail disk c.load.new.inodes.geometry.inodes object v c.args.number c.args.offset c.args.count c.new.result c.in-File.is o.stands (c.new.ensures ∙ read))

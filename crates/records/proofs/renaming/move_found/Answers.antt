@@ -69,7 +69,7 @@ returns-in_err-step g c =
     bars_rename c.args.inodes.now.geometry.inodes v d x n m k y errno known.1 (sym (target.found disk settled v known.0) ∙ c.in-Some.is)
     (bars_replacing detail disk settled v d n m k y errno known.2 bars))
     (failed.replaced.found disk settled v (target.looks.kept disk settled v known.0)))
-    (λ detail disk settled v stands is. failed.replaced.damaged disk settled v (target.looks.kept disk settled v stands) is)
+    (λ detail disk settled v stands can is. failed.replaced.damaged disk settled v (target.looks.kept disk settled v stands) can is)
 
 pub returns : goal.returns
 returns g c =

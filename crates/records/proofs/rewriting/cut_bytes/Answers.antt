@@ -13,7 +13,7 @@ use Rattle.records.proofs.rewriting.cut_bytes.Goals as goal
 use Rattle.std.proofs.lemmas.Bool.{eq-eqb}
 
 pub returns-in_err-now-clause-damaged : goal.returns-in_err-now-clause-damaged
-returns-in_err-now-clause-damaged g c = damaged_read c.from_residual.result c.from_residual.ensures.1 c.in_err-now.ensures.damaged
+returns-in_err-now-clause-damaged g c = λ disk settled v stands. damaged_read c.from_residual.result c.from_residual.ensures.1 c.in_err-now.ensures.damaged disk settled v stands tt
 
 pub returns-then-now-size-clause-answers : goal.returns-then-now-size-clause-answers
 returns-then-now-size-clause-answers g c = λ disk settled v table stands volume mounted is.
@@ -35,7 +35,8 @@ returns-in_err-prepared-clause-answers g c = λ disk settled v table stands volu
     (refusal_is (λ errno. ⊥) (IsObstacle c.size_at.new.inodes.geometry.inodes v (cut c.args.number c.args.size)) (Err _) failed.own (failed.decides.refused disk settled v (looks.kept disk settled v stands) all) (λ never. never (is, c.requires.within)))
 
 pub returns-in_err-prepared-clause-damaged : goal.returns-in_err-prepared-clause-damaged
-returns-in_err-prepared-clause-damaged g c = damaged_failed _ c.from_residual-in_err-prepared.result c.from_residual-in_err-prepared.ensures.1 (λ disk settled v stands. c.in_err-prepared.ensures.decides.damaged disk settled v (c.in_ok-now.ensures.looks.kept disk settled v stands))
+returns-in_err-prepared-clause-damaged g c = λ disk settled v stands.
+    damaged_failed _ c.from_residual-in_err-prepared.result c.from_residual-in_err-prepared.ensures.1 c.in_err-prepared.ensures.decides.damaged disk settled v (c.in_ok-now.ensures.looks.kept disk settled v stands) tt
 
 pub returns-clause-looks : goal.returns-clause-looks
 returns-clause-looks g c = looks_ok (looks_more c.in_ok-now.ensures.looks c.in_ok-prepared.ensures.decides.looks)

@@ -40,7 +40,7 @@ returns-in_err-prepared-clause-answers g c = λ disk settled v table stands volu
     (λ never also. puts_too_much (tree_of v table) c.args.number offset bytes also none (past never)))
 
 pub returns-in_err-prepared-clause-damaged : goal.returns-in_err-prepared-clause-damaged
-returns-in_err-prepared-clause-damaged g c = damaged_failed _ c.from_residual.result c.from_residual.ensures.1 c.in_err-prepared.ensures.decides.damaged
+returns-in_err-prepared-clause-damaged g c = λ disk settled v stands. damaged_failed _ c.from_residual.result c.from_residual.ensures.1 c.in_err-prepared.ensures.decides.damaged disk settled v stands tt
 
 pub returns-clause-answers : goal.returns-clause-answers
 returns-clause-answers g c = λ disk settled v table stands volume mounted is.

@@ -23,7 +23,7 @@ use Rattle.replay.proofs.Errors.{undamaged}
 use Rattle.replay.proofs.replaying.replay_record.Goals as goal
 
 pub returns-in-Err-Refused-clause-replays : goal.returns-in-Err-Refused-clause-replays
-returns-in-Err-Refused-clause-replays g c detail disk settled v change shows has spells applies =
+returns-in-Err-Refused-clause-replays g c detail disk settled v change shows has readable spells applies =
     let n = c.args.inodes.now.geometry.inodes in
     let logged = change_of c.in-Some.logged in
     let same : logged ≡ change = c.in-Some.ensures.only change spells.is spells.spelled in
@@ -34,14 +34,14 @@ returns-in-Err-Refused-clause-replays g c detail disk settled v change shows has
     (subst (λ (r : Result Prepared Failure). IfOk (told r) (λ q. IfErr q (IsObstacle n v logged))) is bars) (subst (Applies n v) (sym same) (applies_so detail n v change applies)))
 
 pub returns-in-Err-Read-clause-replays : goal.returns-in-Err-Read-clause-replays
-returns-in-Err-Read-clause-replays g c detail disk settled v change shows has spells applies =
+returns-in-Err-Read-clause-replays g c detail disk settled v change shows has readable spells applies =
     let failed = c.in-Err-Read.is ∙ ap (λ (f : Failure). Err f) c.in-Err-Read.field-0-is in
     subst (λ (e : ReadError). (e ≡ NoMemory) ⊎ (e ≡ Device)) (cc) (undamaged (λ (_ : Result Prepared Errno). Unit {0}) (Err c.in-Err-Read.error) refl (λ is.
-    c.prepare.ensures.damaged {detail = detail} disk settled v (record { shows = shows; volume = has.memory })
+    c.prepare.ensures.damaged {detail = detail} disk settled v (record { shows = shows; volume = has.memory }) readable
     (subst (λ (r : Result Prepared Failure). IsErrOf (told r) Damaged) (sym failed) is)))
 
 pub returns-clause-replays : goal.returns-clause-replays
-returns-clause-replays g c detail disk settled v change shows has spells applies =
+returns-clause-replays g c detail disk settled v change shows has readable spells applies =
     let n = c.args.inodes.now.geometry.inodes in
     let count = g.B.Blocks.count c.args.blocks.now in
     let logged = change_of c.in-Some.logged in

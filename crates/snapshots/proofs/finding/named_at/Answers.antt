@@ -1,8 +1,16 @@
-use Rattle.std.proofs.Common.{◌≡◌, ◌∙◌, ap, sym, subst, Some, List, ℕ}
+use Rattle.std.proofs.Common.{rules, ◌≡◌, ◌∙◌, ap, sym, subst, Some, List, ℕ}
 use Rattle.layout.specs.SnapRoot.{Snapshot, snapshot_in, snapshot_of}
+use Rattle.layout.specs.declared.pointer.Pointer.TheVariants.{Block}
+use Rattle.loading.specs.Snapshots.{IsSnapshotAt}
+use Rattle.loading.proofs.SnapshotLaws.{snapshot_whole}
 use Rattle.snapshots.specs.Found.{SpellsSnapshot, snapshot_found}
 use Rattle.snapshots.proofs.SlotLaws.{one_spelled, is_spelled, other_name, same_name}
 use Rattle.snapshots.proofs.finding.named_at.Goals as goal
+
+pub returns-in_err-make_resident-clause-damaged : goal.returns-in_err-make_resident-clause-damaged
+returns-in_err-make_resident-clause-damaged g c = λ disk sizes most shows is snapshot.
+    c.in_err-make_resident.ensures.damaged disk shows (search rules)
+    (snapshot_whole sizes most disk (Block c.in-Block.place) (subst (IsSnapshotAt sizes most disk) c.in-Block.is snapshot))
 
 pub returns-then-ne-clause-none : goal.returns-then-ne-clause-none
 returns-then-ne-clause-none g c disk shows s spells same =

@@ -1,7 +1,13 @@
 use Rattle.std.proofs.Common.{◌≡◌, ◌∙◌, ap, sym, Some, rules}
 use Rattle.layout.specs.SnapRoot.{Snapshot, snapshot_in, snapshot_of}
+use Rattle.layout.specs.declared.pointer.Pointer.TheVariants.{Block}
+use Rattle.loading.proofs.SnapshotLaws.{snapshot_whole}
 use Rattle.snapshots.proofs.SlotLaws.{one_spelled, is_spelled}
 use Rattle.snapshots.proofs.listing.name_at.Goals as goal
+
+pub returns-in_err-make_resident-clause-damaged : goal.returns-in_err-make_resident-clause-damaged
+returns-in_err-make_resident-clause-damaged g c = λ disk sizes most shows is snapshot.
+    c.in_err-make_resident.ensures.damaged disk shows (search rules) (snapshot_whole sizes most disk (Block c.args.place) snapshot)
 
 pub returns-clause-name : goal.returns-clause-name
 returns-clause-name g c disk shows s spells =

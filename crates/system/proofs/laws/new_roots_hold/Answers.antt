@@ -10,6 +10,5 @@ returns c = record {
   readable = c.volumes_are_readable.ensures;
   settled = c.readable_inodes_are_settled.ensures.settled;
   held = c.readable_inodes_are_settled.ensures.holds;
-  block_is = c.blocks_are_those_of_images.ensures;
   others = c.written_disks_have_the_blocks.ensures.others;
 }

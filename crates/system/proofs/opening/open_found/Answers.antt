@@ -1,10 +1,10 @@
-use Rattle.std.proofs.Common.{◌+◌, ◌*◌, arith, refl, sym, subst}
+use Rattle.std.proofs.Common.{refl, sym, subst}
 use Rattle.station.specs.Images.{Unchanged}
 use Rattle.station.specs.Moments.{Goes, IsSameStation}
 use Rattle.layout.specs.Places.{blocks_of}
-use Rattle.buffers.specs.Disks.{IsDisk, ReadsOn}
+use Rattle.buffers.specs.Disks.{ReadsOn}
 use Rattle.buffers.specs.Readings.{reads_none}
-use Rattle.system.proofs.OpenLaws.{IsOver, is_block, serves, still_left}
+use Rattle.system.proofs.OpenLaws.{IsOver, serves, still_left}
 use Rattle.system.proofs.opening.open_found.Goals as goal
 
 pub returns-in-Ok-clause-goes : goal.returns-in-Ok-clause-goes
@@ -25,9 +25,7 @@ returns-in-Ok-clause-serves g c honest just of first last snapshots changes hold
     let m = g.S.Station.meaning c.args.station in
     let new = g.S.Station.meaning c.read_image.new.blocks.station in
     let i = m.seen in
-    let sized = g.met.S.Station.sized c.args.station honest i (g.met.S.Station.seen_may_be_left c.args.station honest) in
-    let is_disk : IsDisk m (blocks_of i.disk) = λ place within. is_block i.disk place (λ k below. sized.sector (8 * place + k) (omega arith)) in
-    let shows = c.new-blocks.ensures.shows (blocks_of i.disk) honest is_disk in
+    let shows = c.new-blocks.ensures.shows (blocks_of i.disk) honest (λ place within. refl) in
     let on : ReadsOn (g.S.Station.meaning c.new-blocks.result.station) new =
     c.read_image.ensures.reads.reads c.new-blocks.result (reads_none (g.S.Station.meaning c.new-blocks.result.station)) in
     let from : ReadsOn m new = subst (λ (s : g.row.S.Denot). ReadsOn (g.S.Station.meaning s) new) c.new-blocks.ensures.station on in
@@ -46,19 +44,15 @@ pub returns-in-Err-clause-serves : goal.returns-in-Err-clause-serves
 returns-in-Err-clause-serves g c honest just of first last snapshots changes holds =
     let m = g.S.Station.meaning c.args.station in
     let i = m.seen in
-    let sized = g.met.S.Station.sized c.args.station honest i (g.met.S.Station.seen_may_be_left c.args.station honest) in
-    let is_disk : IsDisk m (blocks_of i.disk) = λ place within. is_block i.disk place (λ k below. sized.sector (8 * place + k) (omega arith)) in
-    let shows = c.new-blocks.ensures.shows (blocks_of i.disk) honest is_disk in
+    let shows = c.new-blocks.ensures.shows (blocks_of i.disk) honest (λ place within. refl) in
     c.in-Err.ensures.has (blocks_of i.disk) i.nvram first last snapshots changes shows of.saved holds
 
 pub returns-in-Ok-clause-found : goal.returns-in-Ok-clause-found
 returns-in-Ok-clause-found g c = (refl, refl, c.in-Ok.ensures.log)
 
 pub returns-in-Err-clause-faultless : goal.returns-in-Err-clause-faultless
-returns-in-Err-clause-faultless g c honest of changes under =
+returns-in-Err-clause-faultless g c honest of changes under readable =
     let m = g.S.Station.meaning c.args.station in
     let i = m.seen in
-    let sized = g.met.S.Station.sized c.args.station honest i (g.met.S.Station.seen_may_be_left c.args.station honest) in
-    let is_disk : IsDisk m (blocks_of i.disk) = λ place within. is_block i.disk place (λ k below. sized.sector (8 * place + k) (omega arith)) in
-    let shows = c.new-blocks.ensures.shows (blocks_of i.disk) honest is_disk in
-    c.in-Err.ensures.faultless (blocks_of i.disk) i.nvram changes shows of.saved under
+    let shows = c.new-blocks.ensures.shows (blocks_of i.disk) honest (λ place within. refl) in
+    c.in-Err.ensures.faultless (blocks_of i.disk) i.nvram changes shows of.saved under readable

@@ -1,6 +1,6 @@
 use Rattle.std.proofs.Common.{subst, sym, ◌∙◌}
 use Rattle.buffers.specs.Disks.{ShowsDisk, disk_with_sector}
-use Rattle.station.specs.Images.{SomeSectorsWritten, SectorsWritten}
+use Rattle.station.specs.Images.{Images, SomeSectorsWritten, SectorsWritten}
 use Rattle.station.specs.Moments.{Goes, SeenGoes, LeavesOnly, Shows}
 use Rattle.station.proofs.Moments.{same_twice, goes_on_unchanged}
 use Rattle.conspoint.specs.Plans.{Planned, IsPlanned}
@@ -51,7 +51,10 @@ pub returns-clause-shows : goal.returns-clause-shows
 returns-clause-shows g c disk shows =
     let stored = c.in_ok-store_sector.ensures.shows disk (c.in_ok-sync.ensures.shows disk shows) in
     let m3 = g.S.Station.meaning c.sync-2.new.self.station in
-    subst (λ (p : Planned). ShowsDisk m3 c.sync-2.new.self.kept (disk_with_sector p.slot p.root disk)) c.self.view_is (c.in_ok-sync-2.ensures.shows _ stored)
+    let call = c.sync-2.ensures.call in
+    let still = (call.goes stored.honest).seen in
+    subst (λ (i : Images). ShowsDisk m3 c.sync-2.new.self.kept (disk_with_sector i.disk c.args.self.now.slot disk)) (sym still)
+    (subst (λ (p : Planned). ShowsDisk m3 c.sync-2.new.self.kept (disk_with_sector (g.S.Station.meaning c.store_sector.new.self.station).seen.disk p.slot disk)) c.self.view_is (c.in_ok-sync-2.ensures.shows _ stored))
 
 pub returns-clause-just : goal.returns-clause-just
 returns-clause-just g c = λ honest d left.

@@ -38,3 +38,6 @@ returns-clause-few c =
     let few : (n : ℕ) → changed_below c.set_size.new.self.tree n ≤ changed_below c.args.file.now.tree n + tree.btree_map_len c.args.self.changed =
     λ n. omega (arith, none_changed c.loop-i.file.tree c.set_size.new.self.tree c.set_size.ensures.changed n, c.loop-i.invariant.few n) in
     record { changed = few; room = room_grows c.args.file.now c.set_size.new.self (tree.btree_map_len c.args.self.changed) (few _) }
+
+pub returns-clause-sound : goal.returns-clause-sound
+returns-clause-sound c = λ blocks disk i is. c.set_size.ensures.sound blocks disk i (c.loop-i.invariant.sound blocks disk i is)

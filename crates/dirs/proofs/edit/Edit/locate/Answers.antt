@@ -1,4 +1,4 @@
-use Rattle.std.proofs.Common.{rules, ◌∙◌, ◌≡◌, inl, inr, ◌+◌, ◌<◌, ◌≤◌, Some, None, sym, subst, arith}
+use Rattle.std.proofs.Common.{rules, ◌∙◌, inl, inr, sym, subst, arith}
 use Rattle.std.proofs.lemmas.Bool.{cases_eq}
 use Rattle.layout.specs.Directory.{HoldsEntries}
 use Rattle.blocktree.specs.Trees.{IsSoundAt}

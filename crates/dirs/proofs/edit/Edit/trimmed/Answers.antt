@@ -1,4 +1,4 @@
-use Rattle.std.proofs.Common.{rules, sym, ◌≡◌, ◌∙◌, inl, inr, ◌-◌, ◌<◌, ℕ, arith, subst, []}
+use Rattle.std.proofs.Common.{rules, sym, ◌≡◌, inl, inr, ◌-◌, ◌<◌, ℕ, arith, subst, []}
 use Rattle.std.proofs.lemmas.Bool.{cases_lt}
 use Rattle.std.proofs.lemmas.List.{nil_from_length}
 use Rattle.blocktree.specs.Trees.{IsSoundAt}

@@ -1,4 +1,4 @@
-use Rattle.std.proofs.Common.{rules, subst, arith, length, ◌∙◌, ap, slice_index, List, ℕ, refl, ◌/◌, ◌+◌, ◌*◌, ◌%◌, ◌≡◌}
+use Rattle.std.proofs.Common.{rules, subst, arith, length, ◌∙◌, ap, slice_index, List, ℕ, refl, sym, ◌/◌, ◌+◌, ◌*◌, ◌%◌, ◌≡◌}
 use Rattle.buffers.specs.Positions.{with_bytes_at}
 use Rattle.std.proofs.lemmas.List.{length_push}
 use Rattle.blocktree.specs.Trees.{HasRoom, IsSoundAt}
@@ -65,3 +65,9 @@ returns-in_err-push-clause-same g c = still_same c.args.self.now c.loop-i.self c
 pub returns-clause-stores : goal.returns-clause-stores
 returns-clause-stores g c =
     stores_pieces c.loop-i.self _ _ (touches c.args.self.now.size c.args.offset (length c.args.bytes.now) (length c.loop-i.pieces.items) (search rules))
+
+pub returns-in_err-block-clause-damaged : goal.returns-in_err-block-clause-damaged
+returns-in_err-block-clause-damaged g c = λ disk shows bad sound.
+    c.in_err-block.ensures.damaged disk (c.loop-i.invariant.read.same disk shows) (search rules)
+    (subst (λ (n : ℕ). IsSoundAt n disk c.loop-i.self.tree c.loop-i.i) (sym c.loop-i.invariant.read.count)
+    (c.loop-i.invariant.same.sound (g.B.Blocks.count c.args.blocks.now) disk c.loop-i.i (sound c.loop-i.i)))

@@ -1,4 +1,4 @@
-use Rattle.std.proofs.Common.{◌≡◌, inr, List, Option, Some, None, Err, ap, refl, sym, subst, ◌∙◌}
+use Rattle.std.proofs.Common.{◌≡◌, List, Option, Some, None, Err, ap, refl, sym, subst, ◌∙◌}
 use Rattle.std.specs.Prelude.{IfSome, ◌≤◌}
 use Rattle.station.specs.Images.{Images}
 use Rattle.layout.specs.Places.{Blocks, blocks_of}

@@ -1,4 +1,4 @@
-use Rattle.std.proofs.Common.{◌≡◌, ap, refl, sym, ◌∙◌, arith}
+use Rattle.std.proofs.Common.{◌≡◌, ap, refl, sym, ◌∙◌}
 use Rattle.images.specs.SnapshotSteps.SnapshotStep.{unchanged}
 use Rattle.model.specs.States.{State, with_snapshots}
 use Rattle.system.proofs.system.System.point.Goals as goal

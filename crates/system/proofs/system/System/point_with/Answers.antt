@@ -1,10 +1,8 @@
 use Rattle.std.proofs.Common.{◌≡◌, ◌⊎◌, inl, inr, ℕ, ◌+◌, ◌-◌, ◌*◌, ◌<◌, Option, Ok, Err, refl, ap, sym, subst, ◌∙◌, arith}
-use Rattle.station.specs.declared.station.Station.{Ghosts}
-use Rattle.system.specs.declared.system.System.{System}
 use Rattle.std.specs.Prelude.{IsFalse}
 use Rattle.std.proofs.lemmas.Bool.{cases_lt, false≢true}
 use Rattle.station.specs.Images.{Images, Unchanged}
-use Rattle.station.specs.Moments.{Goes, Meaning, HasGrown, LeavesOnly}
+use Rattle.station.specs.Moments.{Goes, HasGrown, LeavesOnly}
 use Rattle.station.proofs.Moments.{leaves_unchanged, same_twice, started, unchanged_none}
 use Rattle.layout.specs.Limits.{Sizes}
 use Rattle.layout.specs.Places.{blocks_of}
@@ -26,7 +24,7 @@ use Rattle.images.specs.Roots as roots
 use Rattle.images.specs.SnapshotSteps.{SnapshotStep}
 use Rattle.conspoint.specs.Cuts.{HasNewRoot}
 use Rattle.conspoint.specs.Plans.{FitsDisk}
-use Rattle.conspoint.specs.Writes.{AreWhole, writes_of}
+use Rattle.conspoint.specs.Writes.{writes_of}
 use Rattle.conspoint.specs.declared.error.PlanError.TheVariants.{Damaged, Device, NoSpace}
 use Rattle.records.specs.Opened.{HasNumbers}
 use Rattle.system.specs.Images.{OpensTo}
@@ -34,30 +32,23 @@ use Rattle.blockmap.specs.Space.{left}
 use Rattle.images.specs.Cuts.{LeavesFree}
 use Rattle.inofile.specs.Room.{memory_room}
 use Rattle.model.specs.Room.{fixed_of}
-use Rattle.planning.specs.Changes.{IsStepOf, TakesNone}
-use Rattle.planning.specs.declared.change.SnapshotChange.{SnapshotChange}
-use Rattle.planning.specs.declared.change.SnapshotChange.TheVariants as changes
 use Rattle.planning.specs.Plans.{IsPlannable, PlansEntries}
 use Rattle.system.specs.Memory.{IsClean}
 use Rattle.system.specs.Counting.{no_call}
 use Rattle.system.specs.Errors.{IsRefused}
 use Rattle.system.specs.Points.{HasRoomToStep, IsPlannedOver, IsStepFor, LeavesRoom, stepped}
-use Rattle.system.specs.Room.{HasRoomToTake}
-use Rattle.system.specs.Systems.{Parts, IsServing, HasState, system_parts}
+use Rattle.system.specs.Systems.{IsServing, HasState, system_parts}
 use Rattle.planning.specs.declared.points.Point.{Point}
 use Rattle.system.proofs.CountingLaws.{all_read, counted_after, none_logged, not_carried_out, not_planned, nothing_logged, perhaps_read}
 use Rattle.system.proofs.CoveredLaws.{covered_at}
 use Rattle.system.proofs.SystemLaws as served
 use Rattle.system.proofs.PointLaws as points
-use Rattle.system.proofs.PointLaws.{of_err, of_ok, on_ok}
+use Rattle.system.proofs.PointLaws.{OnceCovered, kept_by, of_err, of_ok, on_ok}
 use Rattle.system.proofs.SettledLaws as settled
 use Rattle.system.proofs.RoomLaws.{all_left, free_is, nameless_least, still_counted}
 use Rattle.system.proofs.system.System.point_with.Given.{Over}
 use Rattle.system.proofs.system.System.point_with.Goals as goal
 use Rattle.system.proofs.system.System.point_with.Goals.{In-Ok}
-
-abbrev OnceCovered : Meaning → Parts → (ℕ → Option Description) → State → Type 0
-OnceCovered m k table s = (serves : IsServing m k table s) × (serves.bodies ≡ no_bodies) × (serves.first ≡ serves.running)
 
 -- ---- what is planned
 
@@ -67,12 +58,6 @@ fits g c =
     let count : c.replace-map.result.count ≡ f.root.geometry.blocks = ap (λ (x : BlockMap). x.count) c.replace-map.ensures.value ∙ f.count in
     of_ok c.plan-map.result.1 c.in-Ok.point (λ (q : Point). FitsDisk (8 * f.root.geometry.blocks) q.plan) c.in-Ok.is
     (c.plan-map.ensures.fits (8 * f.root.geometry.blocks) (omega (arith, f.is_root.head.sizes)) (omega (arith, count)))
-
--- where no snapshot is taken, all that is pledged is kept, and else what every point stores, too
-kept_by : {S : Type 0} {G : Ghosts S} (f : System S G) (change : SnapshotChange) (step : SnapshotStep) → IsStepOf change f.root step → HasRoomToStep change f → TakesNone step ⊎ HasRoomToTake f
-kept_by f changes.Unchanged step is room = inl (subst TakesNone (sym is) tt)
-kept_by f (changes.Take k order name) step is room = inr room
-kept_by f (changes.Delete k) step is room = inl (subst TakesNone (sym is.1) tt)
 
 -- what is planned leaves so many blocks free
 leaves_room : (g : Over) (c : In-Ok g) (table : ℕ → Option Description) (s : State) → (serves : HasState c.args.self.now table s) → (step : SnapshotStep) → IsStepFor c.args.change.now c.args.self.now step
@@ -270,7 +255,7 @@ returns-in-Err-carry_out g c =
           let here = g.met.S.Station.seen_may_be_left f.blocks.station serves.honest in
           subst (λ (u : State). LeavesOnly m now (λ i. OpensTo m s i ⊎ OpensTo m u i)) (sym leads.2)
           (points.at_any_moment c.cuts_open.ensures serves f.sectors f.half c.in-Ok.point.plan c.in-Ok.point.root leads.0
-          (planned g (goal.at.returns-in-Err-carry_out g c).In-Ok table s serves leads.0 leads.1 room) here (g.met.S.Station.sized f.blocks.station serves.honest m.seen here).sector
+          (planned g (goal.at.returns-in-Err-carry_out g c).In-Ok table s serves leads.0 leads.1 room) here
           mid now reads.goes c.carry_out.ensures.any_moment);
       covered = λ table s serves t leads room. tt;
       refused = λ table s serves refused.
@@ -329,7 +314,7 @@ returns-in-Ok-carry_out g c =
           let here = g.met.S.Station.seen_may_be_left f.blocks.station serves.honest in
           subst (λ (u : State). LeavesOnly m now (λ i. OpensTo m s i ⊎ OpensTo m u i)) (sym leads.2)
           (points.at_any_moment c.cuts_open.ensures serves f.sectors f.half c.in-Ok.point.plan c.in-Ok.point.root leads.0
-          (planned g (goal.at.returns-in-Ok-carry_out g c).In-Ok table s serves leads.0 leads.1 room) here (g.met.S.Station.sized f.blocks.station serves.honest m.seen here).sector
+          (planned g (goal.at.returns-in-Ok-carry_out g c).In-Ok table s serves leads.0 leads.1 room) here
           mid now reads.goes c.carry_out.ensures.any_moment);
       covered = λ table s serves t leads room.
           let step = leads.0 in
@@ -343,14 +328,12 @@ returns-in-Ok-carry_out g c =
           let same = same_twice m (g.S.Station.meaning c.plan-map.new.blocks.station) now reads.same c.carry_out.ensures.writes.same in
           let honest = same.honest.0 serves.honest in
           let here = g.met.S.Station.seen_may_be_left f.blocks.station serves.honest in
-          let sizes = (g.met.S.Station.sized f.blocks.station serves.honest m.seen here).sector in
           let has : HasNewRoot p m.seen now.seen = subst (λ (x : Images). HasNewRoot p x now.seen) went.seen
           (c.in-Ok-carry_out.ensures.settled.0 went.honest honest now.seen (g.met.S.Station.seen_may_be_left c.carry_out.new.buffers.station honest)) in
-          let whole : AreWhole m.sectors now.seen.disk = λ n low. has.whole n (sizes n low) in
           let cuts = c.cuts_open.ensures in
           let laws = c.new_roots_hold.ensures in
-          let images = points.with_root cuts serves f.sectors f.half p new step plan here sizes now.seen has in
-          let open_now = points.reads cuts serves f.sectors f.half p new step plan here sizes in
+          let images = points.with_root cuts serves f.sectors f.half p new step plan here now.seen has in
+          let open_now = points.reads cuts serves f.sectors f.half p new step plan here in
           let newest = laws.newest m.sectors m.seen.disk now.seen.disk m.seen.nvram s (writes_of p.blocks) p.slot new serves.running step open_now plan.point images in
           let holds = laws.holds m.sectors m.seen.disk now.seen.disk m.seen.nvram s (writes_of p.blocks) p.slot new serves.running step open_now plan.point images in
           let plannable = points.plannable serves here c.other_slot-slot.result c.in-Some.generation c.replace-map.result c.other_slot-slot.ensures epoch
@@ -358,11 +341,11 @@ returns-in-Ok-carry_out g c =
           let entries : (b : ℕ) → settled_at c.settle.new.self.parts.items b ≡ entry (roots.whole (blocks_of now.seen.disk) new).active b = λ b.
           c.settle.ensures.settled b ∙ sym (of_ok c.plan-map.result.1 c.in-Ok.point (λ (x : Point). PlansEntries (blocks_of m.seen.disk) f.root x.plan x.root c.plan-map.result.0) c.in-Ok.is
           (c.plan-map.ensures.entries m.seen.disk serves.first serves.running serves.snapshots serves.shows plannable) (blocks_of now.seen.disk)
-          (settled.has_all laws serves f.sectors p new step plan now whole has images)
-          (settled.agrees laws serves f.sectors p new step plan now whole has images) b) in
-          let memory = settled.memory laws serves f.sectors p new step plan now whole has images holds
+          (settled.has_all laws serves f.sectors p new step plan now has images)
+          (settled.agrees laws serves f.sectors p new step plan now has images) b) in
+          let memory = settled.memory laws serves f.sectors p new step plan now has images holds
           c.in-Ok-carry_out.file c.settle-in-Ok-carry_out.new.self c.settle.new.self f.sizes c.in-Ok-carry_out.ensures.root.1 c.settle-in-Ok-carry_out.ensures.volume entries in
-          let shown = settled.shows laws serves f.sectors p new step plan now whole has images kept same.sectors
+          let shown = settled.shows laws serves f.sectors p new step plan now has images kept same.sectors
           (c.in-Ok-carry_out.ensures.shows (blocks_of m.seen.disk) (c.plan-map.ensures.reads.same (blocks_of m.seen.disk) serves.shows)) in
           let stands = c.go_on.ensures.covered f.root.generation serves.bodies m.seen.nvram (omega (arith, f.is_root.head.last)) (c.epoch_after.ensures ∙ ap (λ (n : ℕ). n + 1) epoch)
           (serves.left serves.honest m.seen here).log_stands in
@@ -380,7 +363,7 @@ returns-in-Ok-carry_out g c =
             pledged = 4 * c.from.result;
           }) table after in
           let done : at new p.slot = (
-            settled.settled laws serves f.sectors p new step plan now whole has images holds
+            settled.settled laws serves f.sectors p new step plan now has images holds
                 kept c.settle-in-Ok-carry_out.new.self c.settle.new.self c.go_on.new.self honest c.in-Ok-carry_out.ensures.settled.1 shown newest stands goes memory c.from.result counted c.settle-in-Ok-carry_out.ensures.unchanged
                 (c.settle-in-Ok-carry_out.ensures.geometry ∙ f.sizes ∙ sym plan.point.geometry)
                 (laws.free m.sectors m.seen.disk now.seen.disk m.seen.nvram s (writes_of p.blocks) p.slot new serves.running step plan.room.spent open_now plan.point images plan.room.leaves),

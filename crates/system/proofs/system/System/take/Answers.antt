@@ -21,7 +21,7 @@ use Rattle.system.specs.Serving.{ServesState}
 use Rattle.system.specs.Systems.{meaning_of}
 use Rattle.system.proofs.HandlingLaws.{either_after}
 use Rattle.system.proofs.PointLaws.{later}
-use Rattle.system.proofs.SettlingLaws.{can_take, not_settled, refuses, settles, take_done, take_refused, take_step, forgets_running, too_old, unread}
+use Rattle.system.proofs.SettlingLaws.{can_take, not_settled, refuses, settles, take_refused, take_step, too_old, unread}
 use Rattle.system.proofs.ViewLaws.{closed, snapshots_of, stays_read}
 use Rattle.system.proofs.system.System.take.Given.{Over}
 use Rattle.system.proofs.system.System.take.Goals as goal

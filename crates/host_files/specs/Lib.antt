@@ -1,0 +1,2 @@
+pub mod BadList
+pub mod Names

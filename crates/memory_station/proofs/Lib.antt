@@ -1,0 +1,7 @@
+mod MediaLemmas
+mod KeptLemmas
+mod BadLemmas
+mod DeviceLemmas
+mod GoesLemmas
+mod TiedLemmas
+mod SimLemmas

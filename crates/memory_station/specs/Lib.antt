@@ -1,0 +1,9 @@
+pub mod Disk
+pub mod Sectors
+pub mod Unsynced
+pub mod Device
+pub mod Tied
+pub mod FaultPlan
+pub mod Media
+pub mod Sim
+pub mod DeviceLaws
