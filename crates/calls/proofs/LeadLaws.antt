@@ -43,10 +43,10 @@ module _ (inodes : ℕ) (v : Volume) (volume : IsVolume inodes v) where
       elim (ends p) [
         | inl e ↦
             let same : 3 ≡ n = some_same (sym (ap (number_at (entries v)) e) ∙ at) in
-            subst (λ (k : ℕ). IsSome (v k)) same (directory_some (v 3) volume.graph.root)
+            subst (λ (k : ℕ). IsSome (v k)) same (directory_some (v 3) volume.graph.naming.root)
         | inr (u, x, e) ↦
             let last = last_step (entries v) u x n (sym (ap (number_at (entries v)) e) ∙ at) in
-            volume.graph.used last.0 n x last.2
+            volume.graph.naming.used last.0 n x last.2
       ]
 
   pub leads_directory : (trail : List ℕ) (r : Resolution) → IsPlaceOf v (at_directory trail) r → LeadsTo v r (Ok (here trail))
@@ -56,7 +56,7 @@ module _ (inodes : ℕ) (v : Volume) (volume : IsVolume inodes v) where
 
   pub leads_entry : (trail : List ℕ) (x : Name) (n : ℕ) (r : Resolution) → IsPlaceOf v (at_entry trail x n) r → LeadsTo v r (Ok n)
   leads_entry trail x n (named q) (p, trails, same, to) =
-      (ap (number_at (entries v)) same ∙ entry_at v p trail x (Some n) trails to, volume.graph.used (here trail) n x to)
+      (ap (number_at (entries v)) same ∙ entry_at v p trail x (Some n) trails to, volume.graph.naming.used (here trail) n x to)
   leads_entry trail x n (missing p name) is = absurd is
   leads_entry trail x n (refused errno) is = absurd is
 

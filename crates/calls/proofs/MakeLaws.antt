@@ -109,7 +109,7 @@ module _ (inodes : ℕ) (v : Volume) (table : ℕ → Option Description) (volum
   -- a name stands in a directory where it leads to an object
   named_object : (d : ℕ) (x : Name) (o : Option ℕ) → entries v d x ≡ o → IsSome (object_at v o) ↔ IsSome o
   named_object d x None is = (λ some. some, λ some. some)
-  named_object d x (Some n) is = (λ some. refl, λ some. node_object n (v n) (volume.graph.used d n x is))
+  named_object d x (Some n) is = (λ some. refl, λ some. node_object n (v n) (volume.graph.naming.used d n x is))
 
   module _ (p : Path) (d : ℕ) (at : number_at (entries v) p ≡ Some d) where
     child : (x : Name) → (tree_of v table).objects (p ++ x ∷ []) ≡ object_at v (entries v d x)

@@ -148,7 +148,7 @@ module _ (inodes : ℕ) (v : Volume) (table : ℕ → Option Description) (volum
     there_comes there reply new need comes =
         subst (λ (s : Resolution). leads_to t s there reply new need) (sym finds.is)
         (subst (λ (o : Option Object). (elim o as (λ _. Outcome) [ Some o ↦ there q o | None ↦ λ _ _ _. ⊥ ]) reply new need) (sym (ap (object_at v) at_name))
-        (by (object_of n (v n)) refl (node_object n (v n) (volume.graph.used d n x finds.edge))))
+        (by (object_of n (v n)) refl (node_object n (v n) (volume.graph.naming.used d n x finds.edge))))
       where
         by : (o : Option Object) → object_of n (v n) ≡ o → IsSome o → (elim o as (λ _. Outcome) [ Some o ↦ there q o | None ↦ λ _ _ _. ⊥ ]) reply new need
         by None is some = absurd (false≢true some)

@@ -91,7 +91,7 @@ module _ (inodes : ℕ) (v : Volume) (table : ℕ → Option Description) (volum
         path = finds.path;
         is = inr (finds.is, some);
         at = finds.at;
-        good = volume.graph.names (here trail) y some;
+        good = volume.graph.naming.names (here trail) y some;
         directory = named_directory (v (here trail)) y m finds.edge;
       }
 
@@ -126,7 +126,7 @@ module _ (inodes : ℕ) (v : Volume) (table : ℕ → Option Description) (volum
 
         by : (a : Option ℕ) → entries v k y ≡ a → IsSome a → stands (object_at v a)
         by None is some = absurd (false≢true some)
-        by (Some m) is some = by_object (object_of m (v m)) (node_object m (v m) (volume.graph.used k m y is))
+        by (Some m) is some = by_object (object_of m (v m)) (node_object m (v m) (volume.graph.naming.used k m y is))
 
   -- ---- the trail of the new path
 
@@ -149,7 +149,7 @@ module _ (inodes : ℕ) (v : Volume) (table : ℕ → Option Description) (volum
 
     pub along_entry : (trail : List ℕ) (y : Name) (m : ℕ) (s : Resolution) → m ≢ n → IsPlaceOf v (at_entry trail y m) s → MovesAlong v d x n trail y
     along_entry trail y m (named q) apart (w, trails, same, to) =
-        along w trail y trails (named_directory (v (here trail)) y m to) (volume.graph.names (here trail) y (ap is_some to)) (λ is. apart (some_same (sym to ∙ is)))
+        along w trail y trails (named_directory (v (here trail)) y m to) (volume.graph.naming.names (here trail) y (ap is_some to)) (λ is. apart (some_same (sym to ∙ is)))
     along_entry trail y m (missing w z) apart is = absurd is
     along_entry trail y m (refused errno) apart is = absurd is
 

@@ -105,7 +105,7 @@ module _ (inodes : ℕ) (v : Volume) (table : ℕ → Option Description) (volum
       replacing_barred m is ENOTEMPTY (same, filled) =
           past_tests inodes v table volume mounted tree front d x n at_old edge w k y at_new o object law directory other
           (passes_some inodes v table volume mounted tree front d x n at_old edge w k y at_new o object law directory other outside m is same) (Refused ENOTEMPTY) t nothing
-          (at_target (Some m) is (Refused ENOTEMPTY) (not_replaced m is filled (v m) (volume.graph.used k m y is) refl))
+          (at_target (Some m) is (Refused ENOTEMPTY) (not_replaced m is filled (v m) (volume.graph.naming.used k m y is) refl))
       replacing_barred m is _ bars = absurd bars
 
       target_barred : IsName y → (a : Option ℕ) → target ≡ a → (errno : Errno) → BarsTarget v d n k y a errno → moves t p o q (Refused errno) t nothing

@@ -166,7 +166,7 @@ module _ (inodes : ℕ) (v : Volume) (table : ℕ → Option Description) (volum
       there_at = stands_q ∙ ap (object_at v) is
 
       some_at : is_some (t.objects q) ≡ true
-      some_at = ap is_some there_at ∙ node_object m (v m) (volume.graph.used k m y is)
+      some_at = ap is_some there_at ∙ node_object m (v m) (volume.graph.naming.used k m y is)
 
       kind_at : is_directory (t.objects q) ≡ is_directory_node (v m)
       kind_at = ap is_directory there_at ∙ directory_of m (v m)
@@ -318,7 +318,7 @@ module _ (inodes : ℕ) (v : Volume) (table : ℕ → Option Description) (volum
 
             by : (a : Option ℕ) → target ≡ a → with_target t p q (object_at v a) rest reply new need
             by None is = free (subst (CanReplace v d k y can.number) is can.replaces)
-            by (Some m) is = at_node m (v m) (volume.graph.used k m y is) refl is
+            by (Some m) is = at_node m (v m) (volume.graph.naming.used k m y is) refl is
 
     pub move_stays : target ≡ Some n → moves t p o q Done t nothing
     move_stays is = by _ (path_eq p q || is_same_file o (t.objects q)) (same_there is)

@@ -12,7 +12,7 @@ ghost use Rattle.calls.specs.Preparing.{Prepares};
 use crate::{Changing, Creation, EntryName, OwnedChange, OwnedObject};
 use blocktree::ReadError;
 use buffers::Blocks;
-use inode::{Object, based_trees_are_sound};
+use inode::Object;
 use inofile::InodeFile;
 use layout::{FIRST_NUMBER, InodeNumber};
 use model::{Errno, records_change_trees, volumes_are_trees, volumes_tell_fresh_numbers};
@@ -68,7 +68,6 @@ pub(crate) fn make_in<B: Blocks>(
     ensures prepares { Prepares B.Blocks blocks.old blocks.new inodes.old inodes.new
         (λ inodes v table. MakesIn inodes v parent name.items (made_by object)) result }
 {
-    based_trees_are_sound();
     let new = new_object(alloc, blocks, &object.as_new())?;
     let Some(free) = inodes.least_free() else {
         return refuse_in(alloc, inodes, blocks, parent, name.as_slice(), new);

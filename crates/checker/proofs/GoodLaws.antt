@@ -21,14 +21,12 @@ use Rattle.images.specs.BlockMap.{HasBit, IsExact, entry}
 use Rattle.images.specs.Contents.{content_bytes, content_of}
 use Rattle.images.specs.Faults.{HasRoots, IsFaultless, IsFaultlessUnder}
 use Rattle.images.specs.Roots.{HeldTree, Whole, whole}
-use Rattle.images.specs.Soundness.{FitsNumber, IsReadable}
+use Rattle.images.specs.Soundness.{FitsNumber}
 use Rattle.checker.specs.Checks.{IsGood, Reports}
-use Rattle.checker.specs.Findings.{HasTree, IsFaultIn, IsFindingUnder, IsNamedTree, IsTreeFinding, LacksLog, ShouldHave, StandsIn, tree_in}
+use Rattle.checker.specs.Findings.{HasTree, IsFaultIn, IsFindingUnder, IsNamedTree, IsTreeFinding, ShouldHave, StandsIn, tree_in}
 use Rattle.checker.specs.declared.fault.Fault.{Fault}
 use Rattle.checker.specs.declared.fault.Fault.TheVariants as faults
 use Rattle.checker.specs.declared.fault.FileNode.{FileNode}
-use Rattle.checker.specs.declared.fault.LogFault.{LogFault}
-use Rattle.checker.specs.declared.fault.LogFault.TheVariants.{Header, Record}
 use Rattle.checker.specs.declared.fault.TreeName.{TreeName}
 use Rattle.checker.specs.declared.fault.TreeName.TheVariants as trees
 use Rattle.checker.specs.declared.report.Report.{Report}
@@ -114,7 +112,7 @@ entry_should r w block should exact told = same_from_bits (entry w.active block)
       | inr other ↦ through (exact.frozen block (suc k) (omega arith) other) (told.frozen (suc k) (omega arith) other)
     ]
 
-module _ (r : Root) (w : Whole) (nvram : List ℕ) (changes : List Change) (under : IsFaultlessUnder r w nvram changes) (readable : (n : ℕ) → IsReadable (w.active n)) where
+module _ (r : Root) (w : Whole) (nvram : List ℕ) (changes : List Change) (under : IsFaultlessUnder r w nvram changes) where
   faultless_tree : (k : ℕ) → HasTree r k → IsFaultless r.geometry (tree_in w k)
   faultless_tree zero has = under.active
   faultless_tree (suc k) has = under.frozen (suc k) has.0 has.1
@@ -127,15 +125,11 @@ module _ (r : Root) (w : Whole) (nvram : List ℕ) (changes : List Change) (unde
   in_tree : (tree : TreeName) (fault : Fault) → (k : ℕ) × IsNamedTree r tree k × IsTreeFinding r (tree_in w k) fault → ⊥
   in_tree tree fault (k, named, told) = no_tree_finding r (tree_in w k) (faultless_tree k (named_tree tree k named)) fault told
 
-  no_log : (found : LogFault) → LacksLog r w nvram found → ⊥
-  no_log Header not = not changes under.log
-  no_log (Record half at) not = not readable changes under.log
-
   pub no_finding_under : (tree : TreeName) (fault : Fault) → IsFindingUnder r w nvram tree fault → ⊥
   no_finding_under tree (faults.Roots found) not = not
   no_finding_under tree (faults.Snapshot k block found) (there, not) = not under.snapshots
   no_finding_under tree (faults.MapBit block is_entry should) (is, differ, told) = differ (sym is ∙ entry_should r w block should under.exact told)
-  no_finding_under tree (faults.Log found) not = no_log found not
+  no_finding_under tree (faults.Log found) not = not changes under.log
   no_finding_under trees.Image (faults.Tree found) not = not under.readable
   no_finding_under trees.Newest (faults.Tree found) told = in_tree trees.Newest (faults.Tree found) told
   no_finding_under (trees.Snapshot slot name) (faults.Tree found) told = in_tree (trees.Snapshot slot name) (faults.Tree found) told
@@ -147,10 +141,10 @@ module _ (r : Root) (w : Whole) (nvram : List ℕ) (changes : List Change) (unde
 -- ---- in images that open
 
 module _ (sectors : ℕ) (disk : ℕ → List ℕ) (nvram : List ℕ) (root : Root) (roots : HasRoots root sectors disk nvram) (changes : List Change)
-    (under : IsFaultlessUnder root (whole (blocks_of disk) root) nvram changes) (readable : (n : ℕ) → IsReadable ((whole (blocks_of disk) root).active n)) where
+    (under : IsFaultlessUnder root (whole (blocks_of disk) root) nvram changes) where
   found_under : (tree : TreeName) (fault : Fault) → (r : Root) × HasRoots r sectors disk nvram × IsFindingUnder r (whole (blocks_of disk) r) nvram tree fault → ⊥
   found_under tree fault (r, has, told) =
-      no_finding_under root (whole (blocks_of disk) root) nvram changes under readable tree fault
+      no_finding_under root (whole (blocks_of disk) root) nvram changes under tree fault
       (subst (λ (x : Root). IsFindingUnder x (whole (blocks_of disk) x) nvram tree fault) (newest_once (disk SLOT_A) (disk SLOT_B) r root has.newest roots.newest) told)
 
   no_fault_in : (tree : TreeName) (fault : Fault) → IsFaultIn sectors disk nvram tree fault → ⊥

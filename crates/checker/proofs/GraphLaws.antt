@@ -12,13 +12,13 @@ use Rattle.layout.specs.declared.pointer.Pointer.TheVariants.{Block, Hole}
 use Rattle.layout.specs.declared.root.Root.{Root}
 use Rattle.model.specs.Counting.{Counts}
 use Rattle.model.specs.Paths.{IsName, Name, Path}
-use Rattle.model.specs.Volumes.{Entries, HasNames, Node, Volume, directory_node, enter, entries, file_node, is_directory_node, is_file_node, link_node, names_in, number_at}
+use Rattle.model.specs.Volumes.{CountsNames, Entries, HasNames, IsNaming, Node, Volume, directory_node, enter, entries, file_node, is_directory_node, is_file_node, link_node, names_in, number_at}
 use Rattle.model.specs.declared.limits.TheConstants.{FIRST_NUMBER, ROOT_NUMBER}
 use Rattle.model.proofs.KeptLemmas.{same_or_not}
 use Rattle.model.proofs.OptionLaws.{absent, none_some, some_same}
 use Rattle.model.proofs.WalkLemmas.{number_at-push}
 use Rattle.images.specs.Contents.{Content, HoldsVolume, StandsAs, content_bytes, content_of, tree_contents}
-use Rattle.images.specs.Faults.{CountsNames, HoldsGraph, HoldsNames, IsNaming, IsTreeGrammar}
+use Rattle.images.specs.Faults.{HoldsGraph, HoldsNames, IsTreeGrammar}
 use Rattle.images.specs.Nodes.{Held, held}
 use Rattle.images.specs.Roots.{HeldTree, frozen_at, frozen_inode_file, slot, whole}
 use Rattle.images.specs.Soundness.{FitsNumber}

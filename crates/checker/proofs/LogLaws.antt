@@ -12,15 +12,15 @@ use Rattle.layout.specs.Record.{Change, IsChange}
 use Rattle.layout.specs.declared.root.Root.{Root}
 use Rattle.model.specs.Records.{applied}
 use Rattle.model.specs.Volumes.{IsGraph, Volume}
-use Rattle.images.specs.Contents.{HoldsVolume, tree_contents}
+use Rattle.images.specs.Contents.{tree_contents}
 use Rattle.images.specs.Faults.{HasLog}
 use Rattle.images.specs.Replaying.{ReplaysWithin}
 use Rattle.images.specs.Nodes.{held}
-use Rattle.images.specs.Roots.{Whole, tree, whole}
-use Rattle.images.specs.Soundness.{IsReadable, by_sizes}
+use Rattle.images.specs.Roots.{Whole, whole}
+use Rattle.images.specs.Sizes.{HoldsVolumeIn}
+use Rattle.images.specs.Soundness.{by_sizes}
 use Rattle.oplog.specs.LogEnd.{LogEnd, all_bodies}
 use Rattle.oplog.specs.SavedLog.{HoldsLeaving, Saved, TellsLog, end_of}
-use Rattle.inofile.specs.Settled.{CanRead}
 use Rattle.inofile.specs.Volumes.{IsVolumeIn}
 use Rattle.inofile.specs.declared.inode_file.InodeFile.{InodeFile}
 use Rattle.loading.specs.Images.{AreInodesIn, inodes_of}
@@ -66,8 +66,8 @@ within_more : (inodes : ℕ) (one two : List Change) (v mid w : Volume) → Repl
 within_more inodes [] [] v mid w first second = second ∙ first
 within_more inodes [] (c ∷ two) v mid w first second =
     let on = subst (λ (u : Volume). ReplaysIn by_sizes inodes u (c ∷ two) w) first second in
-    (on.0.0, on.0.1, within_more inodes [] two (applied c v) (applied c v) w refl on.1)
-within_more inodes (c ∷ one) two v mid w first second = (first.0.0, first.0.1, within_more inodes one two (applied c v) mid w first.1 second)
+    (on.0, within_more inodes [] two (applied c v) (applied c v) w refl on.1)
+within_more inodes (c ∷ one) two v mid w first second = (first.0, within_more inodes one two (applied c v) mid w first.1 second)
 
 all_more : (one two : List Change) → All IsChange one → All IsChange two → All IsChange (one ++ two)
 all_more [] two first second = second
@@ -75,7 +75,7 @@ all_more (c ∷ one) two first second = All-cons IsChange c (one ++ two) (All-he
 
 -- what was saved, over a root
 module _ (r : Root) (w : Whole) (nvram : List ℕ) (saved : Saved) (half : saved.half ≡ r.geometry.half) (generation : saved.generation ≡ r.generation) (tells : TellsLog nvram saved)
-    (v : Volume) (holds : HoldsVolume r.geometry.inodes (tree_contents w.active) v) where
+    (v : Volume) (holds : HoldsVolumeIn by_sizes r.geometry.inodes (tree_contents w.active) v) where
   pub has_log : (one two : List Change) (mid last : Volume) → LeadTo by_sizes r.geometry.inodes saved.first.records one v mid → LeadTo by_sizes r.geometry.inodes saved.second.records two mid last
       → HasLog r w nvram (one ++ two)
   has_log one two mid last leads leads_on =
@@ -96,13 +96,14 @@ module _ (r : Root) (w : Whole) (nvram : List ℕ) (saved : Saved) (half : saved
         replays = within_more r.geometry.inodes one two v mid last leads.replays leads_on.replays;
       }
 
-  pub log_leads : (changes : List Change) (log : HasLog r w nvram changes) → log.first ≡ v → LeadOn by_sizes r.geometry.inodes saved.first.records saved.second.records changes v log.last
-  log_leads changes log same = lead_on by_sizes r.geometry.inodes nvram saved changes v log.last tells (record {
-    are = log.log.are;
-    held = subst (λ (n : ℕ). LogHolds n saved.generation nvram (bodies_of changes)) (sym half)
-        (subst (λ (n : ℕ). LogHolds r.geometry.half n nvram (bodies_of changes)) (sym generation) log.log.log);
-    replays = subst (λ (u : Volume). ReplaysWithin r.geometry.inodes u changes log.last) same log.replays;
-  })
+pub log_leads : (r : Root) (w : Whole) (nvram : List ℕ) (saved : Saved) → saved.half ≡ r.geometry.half → saved.generation ≡ r.generation → TellsLog nvram saved
+    → (changes : List Change) (log : HasLog r w nvram changes) → LeadOn by_sizes r.geometry.inodes saved.first.records saved.second.records changes log.first log.last
+log_leads r w nvram saved half generation tells changes log = lead_on by_sizes r.geometry.inodes nvram saved changes log.first log.last tells (record {
+  are = log.log.are;
+  held = subst (λ (n : ℕ). LogHolds n saved.generation nvram (bodies_of changes)) (sym half)
+      (subst (λ (n : ℕ). LogHolds r.geometry.half n nvram (bodies_of changes)) (sym generation) log.log.log);
+  replays = log.replays;
+})
 
 -- ---- what was loaded
 
@@ -131,7 +132,7 @@ load_device fault (Err errors.Damaged) h is told failed = absurd (cc (is, failed
 
 -- memory that was loaded under a root stands for the volume of its tree
 pub has_volume : (disk : Blocks) (r : Root) (count : ℕ) (inodes : InodeFile) (v : Volume) → count ≡ r.geometry.blocks → AreInodesIn by_sizes disk r.geometry (whole disk r).active inodes
-    → HoldsVolume r.geometry.inodes (tree_contents (whole disk r).active) v → IsGraph v
+    → HoldsVolumeIn by_sizes r.geometry.inodes (tree_contents (whole disk r).active) v → IsGraph v
     → ((n : ℕ) → IsSome (v n) → (n ≡ ROOT_NUMBER) ⊎ ((FIRST_NUMBER ≤ n) × (n < r.geometry.inodes))) → HasVolumeIn by_sizes count disk (inodes_of (whole disk r).active) inodes v
 has_volume disk r count inodes v is are holds graph numbers = record {
   memory = subst (λ (n : ℕ). IsVolumeIn by_sizes n disk (inodes_of (whole disk r).active) inodes v) (sym is) (are.volume v holds);
@@ -141,22 +142,17 @@ has_volume disk r count inodes v is are holds graph numbers = record {
   };
 }
 
--- the files of a root's tree that can be read, by its inodes
-pub can_read : (disk : Blocks) (r : Root) → ((n : ℕ) → IsReadable ((whole disk r).active n)) → CanRead by_sizes disk (inodes_of (whole disk r).active)
-unfolding whole tree held
-can_read disk r readable n = readable n
-
 -- ---- a half that has a fault
 
 pub failed : (r : Root) (w : Whole) (nvram : List ℕ) (q : Result ℕ Halt) (h : Halt) → IsErrAnd q (λ f. f ≡ h) → Passes {T = ℕ} (λ _. Unit {0}) IsRecordFault (Err h)
-    → (((n : ℕ) → IsReadable (w.active n)) → (changes : List Change) → HasLog r w nvram changes → Passes {T = ℕ} (λ _. Unit {0}) (λ _. ⊥) (Err h)) → TellsRecords r w nvram q
+    → ((changes : List Change) → HasLog r w nvram changes → Passes {T = ℕ} (λ _. Unit {0}) (λ _. ⊥) (Err h)) → TellsRecords r w nvram q
 failed r w nvram (Ok count) h passed faults refutes = absurd passed
 failed r w nvram (Err halts.NoMemory) h passed faults refutes = tt
 failed r w nvram (Err halts.Device) h passed faults refutes = tt
 failed r w nvram (Err (halts.Fault fault)) h passed faults refutes =
     let is : IsRecordFault fault = subst (λ (e : Halt). Passes {T = ℕ} (λ _. Unit {0}) IsRecordFault (Err e)) (sym passed) faults in
     subst (IsFindingUnder r w nvram Image) (sym is.2)
-    (λ readable changes log. subst (λ (e : Halt). Passes {T = ℕ} (λ _. Unit {0}) (λ _. ⊥) (Err e)) (sym passed) (refutes readable changes log))
+    (λ changes log. subst (λ (e : Halt). Passes {T = ℕ} (λ _. Unit {0}) (λ _. ⊥) (Err e)) (sym passed) (refutes changes log))
 
 -- records by the sizes and the bytes that they are read by
 pub lead_over : (s t : Sizes) (records bytes : List ℕ) (changes : List Change) (v w : Volume) → s ≡ t → records ≡ bytes → LeadTo by_sizes t.inodes bytes changes v w → LeadTo by_sizes s.inodes records changes v w

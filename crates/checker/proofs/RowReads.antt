@@ -4,38 +4,57 @@ use Rattle.std.specs.Prelude.{Option, Some, slice_get, slice_index_or}
 use Rattle.std.proofs.Math.Nat.{eq-or-lt_of_le}
 use Rattle.std.proofs.lemmas.List.{get_or_append_left, get_or_push}
 use Rattle.std.proofs.lemmas.Option.{slice_get_within}
-use Rattle.layout.specs.Places.{Blocks}
+use Rattle.layout.specs.Places.{Blocks, pointed}
+use Rattle.layout.specs.declared.pointer.Pointer.{Pointer}
 use Rattle.layout.specs.declared.root.Root.{Root}
-use Rattle.blocktree.specs.Trees.{IsSoundAt}
-use Rattle.inode.specs.Files as memory
+use Rattle.buffers.specs.Disks.{IsWhole}
+use Rattle.blocktree.specs.PlaceMaps.{AreBelow, place_at}
+use Rattle.blocktree.specs.Trees.{AreSound}
+use Rattle.blocktree.specs.declared.place_map.PlaceMap.{PlaceMap}
+use Rattle.inode.specs.declared.file.File.{File}
 use Rattle.images.specs.Faults.{IsTreeGrammar}
 use Rattle.images.specs.Soundness.{IsFileGrammar}
 use Rattle.images.specs.Nodes.{Held, file_block, held}
 use Rattle.images.specs.Roots.{whole}
-use Rattle.loading.specs.Laws.{ReadAsHeld}
 use Rattle.checker.specs.Findings.{tree_in}
-use Rattle.checker.specs.Rows.{AreRows, KeepsTrees}
+use Rattle.checker.specs.Rows.{AreAllBelow, ArePlacesOfTrees, AreRows, KeepsTrees, LeadsToRow}
+use Rattle.checker.specs.Tables.{ArePlaces}
 use Rattle.checker.specs.Trees.{AreTrees, IsOut, IsSeenTo}
 use Rattle.checker.specs.declared.nodes.Shared.{Shared}
 use Rattle.checker.specs.declared.tree.Tree.{Tree}
-use Rattle.checker.proofs.HeldLaws.{block_is, reached, top_grammar, top_is, top_readable}
-use Rattle.checker.proofs.ReadableLaws.{AreSoundAt}
+use Rattle.checker.proofs.HeldLaws.{top_is, top_readable}
+use Rattle.checker.proofs.OwnerLaws.{AreAllSound, file_sound}
+use Rattle.checker.proofs.PlaceLaws.{places_are, stored_at, top_large, whole_at}
 use Rattle.checker.proofs.EachLaws.{Each, get_others, get_set, some_at, some_of}
+use Rattle.checker.proofs.FoundLaws.{get_pushed}
 use Rattle.checker.proofs.RowLaws.{IsRowOf, IsSame, known_at, trees_again}
 
 module _ (disk : Blocks) (r : Root) (count places i : ℕ) (marks : List ℕ) (shared : List (Option Shared)) (t : Tree) (known : IsSeenTo disk r count places marks shared t) where
-  top_file : (IsOut t.fault → ⊥) → IsFileGrammar r.geometry (held disk t.top)
-  top_file inside = subst (IsFileGrammar r.geometry) (top_is disk r t known.tree) ((known.inodes inside).files 0 (inl refl))
+  top_file : IsFileGrammar r.geometry (tree_in (whole disk r) t.plane 0) → IsFileGrammar r.geometry (held disk t.top)
+  top_file grammar = subst (IsFileGrammar r.geometry) (top_is disk r t known.tree) grammar
 
-  -- a block that was read
-  pub row_read : (reads : ReadAsHeld) (row : List ℕ) → row ≡ memory.file_block disk t.file i → (IsOut t.fault → ⊥) → row ≡ file_block (tree_in (whole disk r) t.plane 0) i
-  row_read reads row is inside =
-      is ∙ block_is reads r.geometry disk t.top t.file i (top_file inside) known.tree.file ∙ sym (ap (λ (h : Held). file_block h i) (top_is disk r t known.tree))
+  top_place : (tree_in (whole disk r) t.plane 0).place 0 i ≡ (held disk t.top).place 0 i
+  top_place = ap (λ (h : Held). h.place 0 i) (top_is disk r t known.tree)
 
-  -- one that can't be read, or over which an indirect block isn't in its grammar
-  pub row_damaged : (at : AreSoundAt) (blocks : ℕ) → blocks ≡ r.geometry.blocks → (IsSoundAt blocks disk t.file.tree i → ⊥) → IsTreeGrammar r.geometry (tree_in (whole disk r) t.plane) → ⊥
-  row_damaged at blocks same damaged grammar =
-      damaged (reached at r.geometry disk t.top t.file blocks i (top_grammar disk r r.geometry t known.tree grammar) (top_readable disk r r.geometry t known.tree grammar) known.tree.file same)
+  -- where a block is
+  pub leads_to_row : (all : AreAllSound) (blocks : ℕ) (p : PlaceMap) (pointer : Pointer) → blocks ≡ r.geometry.blocks → 1 ≤ r.geometry.inodes → pointer ≡ place_at p i
+      → (AreSound blocks disk t.file.tree → ArePlaces disk t.file.tree p) → LeadsToRow disk r i t pointer
+  leads_to_row all blocks p pointer same some is are grammar =
+      let top = top_file grammar in
+      is ∙ places_are r.geometry disk t.top t.file.tree p i (top_large disk r t known.tree some) top known.tree.file.starts (are (file_sound all r.geometry disk t.top t.file blocks top known.tree.file same))
+      ∙ sym top_place
+
+  -- one that was read
+  pub row_read : (row : List ℕ) (pointer : Pointer) → 1 ≤ r.geometry.inodes → row ≡ pointed disk pointer → LeadsToRow disk r i t pointer → (IsOut t.fault → ⊥) → row ≡ file_block (tree_in (whole disk r) t.plane 0) i
+  row_read row pointer some is leads inside =
+      let grammar = (known.inodes inside).files 0 (inl refl) in
+      is ∙ ap (pointed disk) (leads grammar ∙ top_place) ∙ sym (stored_at r.geometry disk t.top i (top_large disk r t known.tree some) (top_file grammar))
+      ∙ sym (ap (λ (h : Held). file_block h i) (top_is disk r t known.tree))
+
+  -- one that can't be read
+  pub row_damaged : (pointer : Pointer) → (IsWhole (pointed disk pointer) → ⊥) → LeadsToRow disk r i t pointer → IsTreeGrammar r.geometry (tree_in (whole disk r) t.plane) → ⊥
+  row_damaged pointer damaged leads grammar =
+      damaged (whole_at disk t.top i pointer (top_readable disk r r.geometry t known.tree grammar) (sym (leads (grammar.files 0) ∙ top_place)))
 
 -- ---- the blocks of all trees
 
@@ -84,3 +103,28 @@ module _ (disk : Blocks) (r : Root) (i : ℕ) (marks : List ℕ) (shared : List 
     trees_again r old mid (IsSeenTo disk r i (21 * i) marks shared) (IsSeenTo disk r i (21 * i) marks shared) kept seen
         (λ l t q was is known. (read l t q was is (omega (arith, all, slice_get_within old l t was)) known).0),
   )
+
+-- ---- the places of the blocks of all trees
+
+-- they stay, as the files do
+pub places_kept : (blocks : ℕ) (disk : Blocks) (old new : List Tree) (places : List PlaceMap) → KeepsTrees old new → ArePlacesOfTrees blocks disk old places → ArePlacesOfTrees blocks disk new places
+places_kept blocks disk old new places kept are l q p at there =
+    let was = some_at old l (omega (arith, kept.length_is, slice_get_within new l q at)) in
+    subst (λ (f : File). AreSound blocks disk f.tree → ArePlaces disk f.tree p) (ap (λ (v : Tree). v.file) (kept.same l was.0 q was.1 at)) (are l was.0 p was.1 there)
+
+-- one tree's more
+pub below_more : (blocks : ℕ) (old new : List PlaceMap) (p : PlaceMap) → new ≡ old ++ p ∷ [] → AreAllBelow blocks old → AreBelow blocks p → AreAllBelow blocks new
+below_more blocks old new p is before here l q at = elim (get_pushed old p l q (subst (λ (ps : List PlaceMap). slice_get ps l ≡ Some q) is at)) [
+  | inl was ↦ before l q was
+  | inr last ↦ subst (AreBelow blocks) (sym last.1) here
+]
+
+pub places_more : (blocks : ℕ) (disk : Blocks) (trees : List Tree) (old new : List PlaceMap) (t : Tree) (p : PlaceMap) → new ≡ old ++ p ∷ [] → slice_get trees (length old) ≡ Some t
+    → ArePlacesOfTrees blocks disk trees old → (AreSound blocks disk t.file.tree → ArePlaces disk t.file.tree p) → ArePlacesOfTrees blocks disk trees new
+places_more blocks disk trees old new t p is tree before here l v q there at = elim (get_pushed old p l q (subst (λ (ps : List PlaceMap). slice_get ps l ≡ Some q) is at)) [
+  | inl was ↦ before l v q there was
+  | inr last ↦
+      let same : t ≡ v = some_of (sym tree ∙ sym (ap (slice_get trees) last.0) ∙ there) in
+      subst (λ (x : Tree). AreSound blocks disk x.file.tree → ArePlaces disk x.file.tree q) same
+      (subst (λ (m : PlaceMap). AreSound blocks disk t.file.tree → ArePlaces disk t.file.tree m) (sym last.1) here)
+]

@@ -17,8 +17,6 @@ use Rattle.checker.specs.declared.fault.Fault.{Fault}
 use Rattle.checker.specs.declared.fault.Fault.TheVariants as faults
 use Rattle.checker.specs.declared.fault.FileNode.{FileNode}
 use Rattle.checker.specs.declared.fault.Finding.{Finding}
-use Rattle.checker.specs.declared.fault.LogFault.{LogFault}
-use Rattle.checker.specs.declared.fault.LogFault.TheVariants.{Header, Record}
 use Rattle.checker.specs.declared.fault.TreeName.{TreeName}
 use Rattle.checker.specs.declared.fault.TreeName.TheVariants as trees
 
@@ -84,10 +82,9 @@ IsTreeFinding r t (faults.Links number names links) =
     × (mode : ℕ) × (bytes : List ℕ) × (v number ≡ Some (file_node mode links bytes))
 IsTreeFinding r t fault = ⊥
 
--- the log doesn't hold records that apply, where what they write into can be read: a record may write into a part of a block
-abbrev pub LacksLog : Root → Whole → List ℕ → LogFault → Type 0
-LacksLog r w nvram Header = (changes : List Change) → HasLog r w nvram changes → ⊥
-LacksLog r w nvram (Record half at) = ((n : ℕ) → IsReadable (w.active n)) → (changes : List Change) → HasLog r w nvram changes → ⊥
+-- the log doesn't hold records that apply
+abbrev pub LacksLog : Root → Whole → List ℕ → Type 0
+LacksLog r w nvram = (changes : List Change) → HasLog r w nvram changes → ⊥
 
 -- a fault that stands under a root
 abbrev pub IsFindingUnder : Root → Whole → List ℕ → TreeName → Fault → Type 0
@@ -96,7 +93,7 @@ IsFindingUnder r w nvram tree (faults.Snapshot k block found) =
     (slot r k ≡ Block block) × (AreSnapshots r w → ⊥)
 IsFindingUnder r w nvram tree (faults.MapBit block is should) =
     (entry w.active block ≡ is) × (is ≢ should) × ShouldHave r w block should
-IsFindingUnder r w nvram tree (faults.Log found) = LacksLog r w nvram found
+IsFindingUnder r w nvram tree (faults.Log found) = LacksLog r w nvram
 IsFindingUnder r w nvram trees.Image (faults.Tree found) = IsReadable (w.active 2) → ⊥
 IsFindingUnder r w nvram tree fault = (k : ℕ) × IsNamedTree r tree k × IsTreeFinding r (tree_in w k) fault
 

@@ -5,12 +5,18 @@ use Rattle.layout.specs.Places.{Blocks}
 use Rattle.layout.specs.declared.TheConstants.{INODES_PER_BLOCK}
 use Rattle.layout.specs.declared.kind.Kind.{Kind}
 use Rattle.layout.specs.declared.kind.Kind.TheVariants.{Free}
+use Rattle.layout.specs.declared.pointer.Pointer.{Pointer}
 use Rattle.layout.specs.declared.root.Root.{Root}
 use Rattle.model.specs.declared.limits.TheConstants.{FIRST_NUMBER}
+use Rattle.blocktree.specs.PlaceMaps.{AreBelow}
+use Rattle.blocktree.specs.Trees.{AreSound}
+use Rattle.blocktree.specs.declared.place_map.PlaceMap.{PlaceMap}
 use Rattle.images.specs.BlockMap.{HasBit}
 use Rattle.images.specs.Nodes.{file_block}
 use Rattle.images.specs.Roots.{inode_bytes_at, inode_part, whole}
+use Rattle.images.specs.Soundness.{IsFileGrammar}
 use Rattle.checker.specs.Findings.{first_fault, tree_in}
+use Rattle.checker.specs.Tables.{ArePlaces}
 use Rattle.checker.specs.Trees.{AreTrees, IsOut, IsSeenTo}
 use Rattle.checker.specs.declared.fault.Fault.{Fault}
 use Rattle.checker.specs.declared.fault.Fault.TheVariants.{InodeMap}
@@ -36,6 +42,22 @@ pub record KeepsTrees (old new : List Tree) : Type 0 where
   pub length_is : length new ≡ length old
   pub same : (i : ℕ) (t q : Tree) → slice_get old i ≡ Some t → slice_get new i ≡ Some q
       → record t { fault = q.fault } ≡ q
+
+-- none of these places is past a disk of so many blocks
+abbrev pub AreAllBelow : ℕ → List PlaceMap → Type 0
+AreAllBelow blocks places = (l : ℕ) (p : PlaceMap) → slice_get places l ≡ Some p → AreBelow blocks p
+
+-- they are those of the blocks of the trees' inode files, where the indirect blocks over these are in their grammar
+abbrev pub ArePlacesOfTrees : ℕ → Blocks → List Tree → List PlaceMap → Type 0
+ArePlacesOfTrees blocks disk trees places =
+    (l : ℕ) (t : Tree) (p : PlaceMap) → slice_get trees l ≡ Some t → slice_get places l ≡ Some p
+    → AreSound blocks disk t.file.tree → ArePlaces disk t.file.tree p
+
+-- block i of a tree's inode file is at this pointer, where that file is in its grammar
+abbrev pub LeadsToRow : Blocks → Root → ℕ → Tree → Pointer → Type 0
+LeadsToRow disk r i t pointer =
+    IsFileGrammar r.geometry (tree_in (whole disk r) t.plane 0)
+    → pointer ≡ (tree_in (whole disk r) t.plane 0).place 0 i
 
 -- block i of the inode file of each tree that isn't out of its grammar
 pub record AreRows (disk : Blocks) (r : Root) (i : ℕ) (trees : List Tree) (rows : List (List ℕ)) : Type 0 where

@@ -11,7 +11,6 @@ ghost use Rattle.buffers.specs.Disks.{ReadsOn, ShowsDisk};
 ghost use Rattle.images.specs.Faults.{IsFaultless};
 ghost use Rattle.images.specs.Roots.{whole};
 ghost use Rattle.images.specs.Soundness.{by_sizes};
-ghost use Rattle.inofile.specs.Settled.{CanRead};
 ghost use Rattle.loading.specs.Slots.{FitsStation};
 ghost use Rattle.oplog.specs.SavedLog.{TellsLog};
 ghost use Rattle.replay.specs.Volumes.{HasVolumeIn, LeadTo};
@@ -23,7 +22,7 @@ use crate::error::{Halt, or_fault};
 use crate::{Fault, LetsGo, LogFault, TreeFault};
 use blocktree::ReadError;
 use buffers::Buffers;
-use images::{faultless_trees_hold_graphs, files_hold_one_volume};
+use images::faultless_trees_hold_graphs;
 use inofile::InodeFile;
 use layout::{FIRST_GATE, Gate, Root, read_gate};
 use loading::load_inodes;
@@ -76,7 +75,6 @@ fn replay_saved<B: LetsGo>(
         → TellsRecords root.now (whole disk root.now) nvram result }
 {
     faultless_trees_hold_graphs();
-    files_hold_one_volume();
     let fault = Fault::Tree(TreeFault::InodeMap);
     let loaded = load_inodes(alloc, blocks, root.geometry, root.inode_file);
     let mut inodes = or_fault(loaded, fault)?;
@@ -102,7 +100,6 @@ fn replay_half<B: LetsGo>(
     ensures replays { (disk : ℕ → List ℕ) (settled : ℕ → Inode) (v w : Volume)
         (changes : List Change) → B.Shows blocks.old disk
         → HasVolumeIn by_sizes (B.count blocks.old) disk settled inodes.old v
-        → CanRead by_sizes disk settled
         → LeadTo by_sizes inodes.old.geometry.inodes records.now changes v w
         → Passes (λ _. HasVolumeIn by_sizes (B.count blocks.old) disk settled inodes.new w)
         (λ _. ⊥) result }

@@ -3,6 +3,7 @@
 ghost use Rattle.std.specs.Prelude.{◌≡◌, ◌↔◌, ◌⊎◌, ◌+◌, ◌-◌, ◌*◌, ◌<◌, ◌^◌, drop, ℕ, List, IfOk, IsTrue, OnOk, Option, Some, [], length, slice_get, slice_index_or, vec_len};
 ghost use Rattle.std.specs.Int.{div_ceil};
 ghost use Rattle.layout.specs.Maps.{IsTaken};
+ghost use Rattle.layout.specs.Pointer.{PointsBelow};
 ghost use Rattle.layout.specs.Root.{IsRoot};
 ghost use Rattle.layout.specs.Bytes.{zeros};
 ghost use Rattle.layout.specs.declared.TheConstants.{BLOCK_BYTES, INODE_BYTES, INODES_PER_BLOCK};
@@ -13,24 +14,27 @@ ghost use Rattle.images.specs.Roots.{inode_part, whole};
 ghost use Rattle.checker.specs.Errors.{IsFault, Looks};
 ghost use Rattle.checker.specs.Nodes.{KeepsMarks, StaysFor};
 ghost use Rattle.checker.specs.declared.nodes.Shared.{Shared};
-ghost use Rattle.checker.specs.Rows.{AddsToEach, AreRows, AreSeenInBlock, AreSeenTo, AreTwins, ComparesBits, KeepsTrees, PlaneAt, SeesInode};
+ghost use Rattle.checker.specs.Rows.{AddsToEach, AreAllBelow, ArePlacesOfTrees, AreRows, AreSeenInBlock, AreSeenTo, AreTwins, ComparesBits, KeepsTrees, LeadsToRow, PlaneAt, SeesInode};
 ghost use Rattle.checker.specs.Findings.{tree_in};
 ghost use Rattle.checker.specs.Trees.{IsOut, IsSeenTo};
 ghost use Rattle.checker.specs.declared.tree.Tree.{Tree};
 
 use crate::error::fault_of;
+use crate::letting_go::read_block;
 use crate::marks::Marks;
 use crate::nodes::{PLANES, SharedBlocks, mark_file};
+use crate::table::find_places;
 use crate::tree::Tree;
 use crate::{CheckError, Fault, LetsGo, TreeFault};
-use blocktree::ReadError;
+use blocktree::PlaceMap;
 use buffers::Block;
 use images::inodes_are_what_their_bytes_spell;
 use inode::based_trees_are_sound;
 use layout::{
-    BLOCK_BYTES, FIRST_NUMBER, Geometry, INODE_BYTES, INODES_PER_BLOCK, Inode, Kind, is_taken,
+    BLOCK_BYTES, FIRST_NUMBER, Geometry, INODE_BYTES, INODES_PER_BLOCK, Inode, Kind, Pointer,
+    is_taken,
 };
-use loading::{inode_at, is_zero_from, sound_files_read_as_held};
+use loading::{inode_at, is_zero_from};
 use std::alloc::Global;
 
 /// Tests the inodes of the trees and the indirect blocks under them, marks the blocks that they name, and compares their kinds with the
@@ -55,11 +59,32 @@ pub(crate) fn check_numbers<B: LetsGo>(
         → OnOk result (AreSeenTo disk r (div_ceil geometry.inodes INODES_PER_BLOCK)
         marks.new shared.new.of trees.new.items) }
 {
+    let places = places_of_trees(alloc, blocks, trees)?;
     for i in 0..geometry.inodes().div_ceil(INODES_PER_BLOCK) {
-        check_block(alloc, blocks, geometry, trees, i, marks, shared)?;
+        check_block(alloc, blocks, geometry, trees, &places, i, marks, shared)?;
         blocks.forget();
     }
     Ok(())
+}
+
+/// Where the blocks of each tree's inode file are.
+fn places_of_trees<B: LetsGo>(
+    alloc: Global,
+    blocks: &mut B,
+    trees: &Vec<Tree>,
+) -> Result<Vec<PlaceMap>, CheckError>
+    ensures reads { Looks B.Blocks IsFault blocks.old blocks.new result }
+    ensures length { IfOk result (λ places. vec_len places ≡ vec_len trees.now) }
+    ensures below { IfOk result (λ places. AreAllBelow (B.count blocks.old) places.items) }
+    ensures places { (disk : ℕ → List ℕ) → B.Shows blocks.old disk → IfOk result (λ places.
+        ArePlacesOfTrees (B.count blocks.old) disk trees.now.items places.items) }
+{
+    let mut places = Vec::new(alloc);
+    for k in 0..trees.len() {
+        let found = find_places(alloc, blocks, &trees[k].file)?;
+        places.push(found)?;
+    }
+    Ok(places)
 }
 
 /// Looks at the inodes of block `i` of each tree's inode file.
@@ -68,11 +93,14 @@ fn check_block<B: LetsGo>(
     blocks: &mut B,
     geometry: Geometry,
     trees: &mut Vec<Tree>,
+    places: &Vec<PlaceMap>,
     i: u32,
     marks: &mut Marks,
     shared: &mut SharedBlocks,
 ) -> Result<(), CheckError>
     requires within { i < 2 ^ 16 }
+    requires places { vec_len places.now ≡ vec_len trees.old }
+    requires below { AreAllBelow (B.count blocks.old) places.now.items }
     requires size { B.count blocks.old ≡ geometry.blocks }
     requires table { length marks.old ≡ geometry.blocks }
     ensures reads { Looks B.Blocks IsFault blocks.old blocks.new result }
@@ -81,10 +109,12 @@ fn check_block<B: LetsGo>(
     ensures others { (k : ℕ) → ((j : ℕ) → PlaneAt trees.old.items j k → ⊥)
         → StaysFor k marks.old marks.new shared.old.of shared.new.of }
     ensures seen { (disk : ℕ → List ℕ) (r : Root) → B.Shows blocks.old disk → IsRoot r
-        → r.geometry ≡ geometry → AreSeenTo disk r i marks.old shared.old.of trees.old.items
+        → r.geometry ≡ geometry
+        → ArePlacesOfTrees (B.count blocks.old) disk trees.old.items places.now.items
+        → AreSeenTo disk r i marks.old shared.old.of trees.old.items
         → OnOk result (AreSeenTo disk r (i + 1) marks.new shared.new.of trees.new.items) }
 {
-    let rows = read_rows(alloc, blocks, trees, i)?;
+    let rows = read_rows(alloc, blocks, trees, places, i)?;
     for place in 0..INODES_PER_BLOCK {
         let number = INODES_PER_BLOCK * i + place;
         check_number(blocks, geometry, trees, &rows, place, number, marks, shared)?;
@@ -98,50 +128,57 @@ fn read_rows<B: LetsGo>(
     alloc: Global,
     blocks: &mut B,
     trees: &mut Vec<Tree>,
+    places: &Vec<PlaceMap>,
     i: u32,
 ) -> Result<Vec<Block>, CheckError>
+    requires places { vec_len places.now ≡ vec_len trees.old }
+    requires below { AreAllBelow (B.count blocks.old) places.now.items }
     ensures reads { Looks B.Blocks IsFault blocks.old blocks.new result }
     ensures trees { KeepsTrees trees.old.items trees.new.items }
     ensures length { IfOk result (λ rows. vec_len rows ≡ vec_len trees.new) }
     ensures rows { (disk : ℕ → List ℕ) (r : Root) (marks : List ℕ)
         (shared : List (Option Shared)) → B.Shows blocks.old disk
         → IsRoot r → B.count blocks.old ≡ r.geometry.blocks
+        → ArePlacesOfTrees (B.count blocks.old) disk trees.old.items places.now.items
         → AreSeenTo disk r i marks shared trees.old.items
         → IfOk result (λ rows. AreRows disk r i trees.new.items rows.items
         × AreSeenTo disk r i marks shared trees.new.items) }
 {
+    based_trees_are_sound();
     let mut rows = Vec::new(alloc);
     for k in 0..trees.len() {
-        let row = read_row(alloc, blocks, &mut trees[k], i)?;
+        let place = places[k].at(i);
+        let row = read_row(alloc, blocks, &mut trees[k], place, i)?;
         rows.push(row)?;
     }
     Ok(rows)
 }
 
-/// Block `i` of a tree's inode file; of one that is out of its grammar any block.
+/// Block `i` of a tree's inode file, which is at this place; of one that is out of its grammar any block.
 fn read_row<B: LetsGo>(
     alloc: Global,
     blocks: &mut B,
     tree: &mut Tree,
+    place: Pointer,
     i: u32,
 ) -> Result<Block, CheckError>
+    requires { PointsBelow (B.count blocks.old) place }
     ensures reads { Looks B.Blocks IsFault blocks.old blocks.new result }
     ensures same { record tree.old { fault = tree.new.fault } ≡ tree.new }
     ensures row { (disk : ℕ → List ℕ) (r : Root) (count places : ℕ) (marks : List ℕ)
-        (shared : List (Option Shared)) → B.Shows blocks.old disk
-        → B.count blocks.old ≡ r.geometry.blocks
+        (shared : List (Option Shared)) → B.Shows blocks.old disk → IsRoot r
+        → LeadsToRow disk r i tree.old place
         → IsSeenTo disk r count places marks shared tree.old
         → IfOk result (λ row. IsSeenTo disk r count places marks shared tree.new
         × ((IsOut tree.new.fault → ⊥)
         → row ≡ file_block (tree_in (whole disk r) tree.new.plane 0) i)) }
 {
-    sound_files_read_as_held();
-    based_trees_are_sound();
-    match tree.file.copy(alloc, blocks, i) {
-        Ok(row) => Ok(row),
-        Err(ReadError::NoMemory) => Err(CheckError::NoMemory),
-        Err(ReadError::Device) => Err(CheckError::Device),
-        Err(ReadError::Damaged) => {
+    match place {
+        Pointer::Hole => Ok(Block::zeroed(alloc)?),
+        Pointer::Block(block) => {
+            if read_block(blocks, block)? {
+                return Ok(Block::copy_of(alloc, blocks.bytes(block))?);
+            }
             tree.add(Fault::Tree(TreeFault::InodeBlock(i)));
             Ok(Block::zeroed(alloc)?)
         }

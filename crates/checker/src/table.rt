@@ -32,7 +32,7 @@ use crate::tree::Tree;
 use crate::{CheckError, LetsGo};
 use blocktree::{Location, PlaceMap, ReadError};
 use inode::{File, based_trees_are_sound};
-use layout::{BLOCK_BYTES, Geometry, INODE_BYTES, INODES_PER_BLOCK, Kind, Pointer};
+use layout::{BLOCK_BYTES, Geometry, INODE_BYTES, INODES_PER_BLOCK, Inode, Kind, Pointer};
 use loading::sound_files_read_as_held;
 use std::alloc::Global;
 
@@ -79,7 +79,7 @@ pub(crate) fn read_table<B: LetsGo>(
 }
 
 /// Where the blocks of a file are: nowhere, where one over them is out of its grammar.
-fn find_places<B: LetsGo>(
+pub(crate) fn find_places<B: LetsGo>(
     alloc: Global,
     blocks: &mut B,
     file: &File,
@@ -171,9 +171,10 @@ fn row_of(bytes: &[u8]) -> NumberRow
     ensures inode { (s : Sizes) (i : Inode) → IsInode VERSION s i → bytes.now ≡ inode_bytes i
         → (result.kind ≡ i.kind) × (result.links ≡ i.links) }
 {
+    let (kind, links) = Inode::kind_and_links(bytes).unwrap_or((Kind::Free, 0));
     NumberRow {
-        kind: Kind::from_code(bytes[0] as u16).unwrap_or(Kind::Free),
-        links: u32::from_le_bytes([bytes[4], bytes[5], bytes[6], bytes[7]]),
+        kind,
+        links,
         names: 0,
     }
 }

@@ -1,9 +1,8 @@
 -- Open files with no name, counted by their lowest descriptors, are the files of a mounted volume that have no name.
-use Rattle.std.proofs.Common.{◌≡◌, ◌≢◌, ◌<◌, ◌≤◌, ◌==◌, ◌+◌, ◌&&◌, ◌||◌, not, inl, inr, ℕ, zero, suc, if◌then◌else◌, List, Bool, true, false, Option, Some, None, IsSome, refl, sym, ap, ◌∙◌, arith}
+use Rattle.std.proofs.Common.{◌≡◌, ◌≢◌, ◌<◌, ◌==◌, ◌+◌, ◌&&◌, ◌||◌, not, inl, inr, ℕ, zero, suc, if◌then◌else◌, Bool, true, false, Option, Some, None, IsSome, refl, sym, ap, ◌∙◌, arith}
 use Rattle.std.proofs.lemmas.Bool.{cases_Bool, cases_eq, eq-eqb, ne_eqb, false≢true}
 use Rattle.std.specs.Option.{option_map}
 use Rattle.model.specs.Records.{count_nameless}
-use Rattle.model.specs.Trees.{Description}
 use Rattle.model.specs.Volumes.{IsMounted, IsVolume, Node, Volume, directory_node, file_node, link_node, is_directory_node, is_nameless, is_numbered, is_open, swept_node}
 use Rattle.descriptors.specs.Files.{Figures, description_of, figures_of, node_figures}
 use Rattle.descriptors.specs.Fits.{FitsVolume}
@@ -99,7 +98,7 @@ module _ (t : Descriptors) (inodes : ℕ) (v : Volume) (volume : IsVolume inodes
   below fd f e =
       let is = fits.files fd f e in
       elim (volume.limits.numbers f.number (figured_there (v f.number) (figures_of f) is)) [
-        | inl root ↦ absurd (false≢true (sym (figured_some (v f.number) (figures_of f) is) ∙ ap (λ (n : ℕ). is_directory_node (v n)) root ∙ volume.graph.root))
+        | inl root ↦ absurd (false≢true (sym (figured_some (v f.number) (figures_of f) is) ∙ ap (λ (n : ℕ). is_directory_node (v n)) root ∙ volume.graph.naming.root))
         | inr within ↦ within.1
       ]
 

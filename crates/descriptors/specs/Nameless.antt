@@ -2,7 +2,6 @@
 use Rattle.std.specs.Prelude.{ℕ, ◌==◌, ◌&&◌, not, Bool, false, Some, None}
 use Rattle.model.specs.Volumes.{is_open}
 use Rattle.descriptors.specs.Tables.{open_at, table_of}
-use Rattle.descriptors.specs.declared.open_file.OpenFile.{OpenFile}
 use Rattle.descriptors.specs.declared.table.Descriptors.{Descriptors}
 
 -- the descriptor is the lowest that is open for its file, and this has no name

@@ -3,6 +3,7 @@ use Rattle.std.specs.Prelude.{ℕ, ◌≡◌, ◌/◌, ◌<◌, List, Option, So
 use Rattle.std.specs.Ordering.{nat_cmp}
 use Rattle.std.specs.BTreeMap as tree
 use Rattle.layout.specs.Directory.{Named, HoldsEntries}
+use Rattle.buffers.specs.Disks.{IsWhole}
 use Rattle.blocktree.specs.Trees.{HasRoom, IsSoundAt}
 use Rattle.inode.specs.declared.file.File.{File}
 use Rattle.inode.specs.Files.{file_block}
@@ -15,6 +16,10 @@ use Rattle.dirs.specs.declared.edit.Place.{Place}
 -- block i of a directory's file with an edit of it
 abbrev pub edited_block : (ℕ → List ℕ) → File → Edit → ℕ → List ℕ
 edited_block disk f e i = unwrap_or (tree.get nat_cmp e.changed i) (file_block disk f i)
+
+-- each block can be read
+abbrev pub AreWhole : (ℕ → List ℕ) → Type 0
+AreWhole block = (i : ℕ) → IsWhole (block i)
 
 -- with an edit, a directory has these names
 abbrev pub HasEditedNames : ℕ → (ℕ → List ℕ) → File → Edit → NameMap → Type 0

@@ -26,7 +26,7 @@ pub(crate) struct Place {
     pub(crate) number: u32,
 }
 
-ghost use Rattle.std.specs.Prelude.{◌*◌, ◌/◌, ◌≢◌, IfSome, OnErr, ◌≤◌, ◌≡◌, ◌<◌, ℕ, List, IfOk, OnOk, IsErrOf, None};
+ghost use Rattle.std.specs.Prelude.{◌*◌, ◌/◌, ◌≢◌, IfSome, OnErr, ◌≤◌, ◌≡◌, ◌<◌, ℕ, List, IfOk, OnOk, IsErrOf, None, length};
 ghost use Rattle.std.specs.Option.{option_map};
 ghost use Rattle.std.specs.Ordering.{nat_cmp};
 ghost use Rattle.std.specs.BTreeMap as tree;
@@ -38,10 +38,10 @@ ghost use Rattle.dirs.specs.declared.TheConstants.{FILE_BLOCKS};
 impl Edit {
     ghost use Rattle.blocktree.specs.Trees.{IsSoundAt, KeepsRoom, KeepsSound};
     ghost use Rattle.inode.specs.Bases.{KeepsBase};
-    ghost use Rattle.inode.specs.Files.{IsFile, IsSameFile};
+    ghost use Rattle.inode.specs.Files.{IsFile, IsSameFile, file_block};
     ghost use Rattle.layout.specs.DirectoryNames.{NameMap, AllHold};
     ghost use Rattle.dirs.specs.Entries.{IsObjectNumber};
-    ghost use Rattle.dirs.specs.Edits.{edited_block, HasEditedNames, IsSoundEdit, IsReached, IsNamePlace, IsFirstFound, FitsIn, IsDirectory};
+    ghost use Rattle.dirs.specs.Edits.{AreWhole, edited_block, HasEditedNames, IsSoundEdit, IsReached, IsNamePlace, IsFirstFound, FitsIn, IsDirectory};
     ghost use Rattle.dirs.specs.Looks.{TellsEntries, IsLikely};
     ghost use Rattle.dirs.specs.Room.{AddsPiece, ChangesFew, piece_count};
 
@@ -208,11 +208,19 @@ impl Edit {
         ensures base { KeepsBase file.old.tree file.new.tree }
         ensures sound { KeepsSound file.old.tree file.new.tree }
         ensures few { ChangesFew (piece_count self) file.old file.new }
+        ensures whole { (disk : ℕ → List ℕ) → AreWhole (file_block disk file.old) →
+            AreWhole (file_block disk file.new) }
     {
         let Edit { mut changed, count } = self;
         while let Some((i, block)) = changed.pop_first() {
+            is_whole(block.bytes());
             file.set_block(i, block);
         }
         file.set_size(4096 * u64::from(count));
     }
 }
+
+// A block in memory has all its bytes. It does nothing.
+fn is_whole(bytes: &[u8; BLOCK_BYTES])
+    ensures { length bytes.now ≡ 4096 }
+{}

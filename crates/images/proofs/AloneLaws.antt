@@ -59,13 +59,15 @@ some_not_none some none = absurd (cc)
 pub alone_volume : (inodes : ℕ) → IsVolume inodes alone
 alone_volume inodes = record {
   graph = record {
-    root = refl;
-    not_root = λ d x e. none_some (sym (no_entry d x) ∙ e);
-    used = λ d n x e. none_some (sym (no_entry d x) ∙ e);
-    once = λ d k n x y e f file. none_some (sym (no_entry d x) ∙ e);
-    names = λ d x some. absurd (some_not_none some (no_entry d x));
+    naming = record {
+      root = refl;
+      not_root = λ d x e. none_some (sym (no_entry d x) ∙ e);
+      used = λ d n x e. none_some (sym (no_entry d x) ∙ e);
+      once = λ d k n x y e f file. none_some (sym (no_entry d x) ∙ e);
+      names = λ d x some. absurd (some_not_none some (no_entry d x));
+      reached = λ n some file. ([], ap Some (sym (is_root n some)));
+    };
     counts = λ n mode links bytes e. absurd (no_file n mode links bytes e);
-    reached = λ n some file. ([], ap Some (sym (is_root n some)));
   };
   limits = record {
     nodes = good_node;

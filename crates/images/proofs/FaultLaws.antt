@@ -1,9 +1,11 @@
 -- None of the nine faults stands in images that open.
-use Rattle.std.proofs.Common.{◌≡◌, ◌≢◌, ◌⊎◌, inl, inr, ℕ, zero, suc, ◌/◌, ◌≤◌, ◌<◌, List, [], ◌∷◌, Option, Some, None, IsSome, is_some, refl, ap, sym, subst, ◌∙◌, arith}
+use Rattle.std.proofs.Common.{◌≡◌, ◌≢◌, ◌⊎◌, inl, inr, ℕ, zero, suc, ◌/◌, ◌≤◌, ◌<◌, ◌^◌, All, List, [], ◌∷◌, Option, Some, None, IsSome, is_some, refl, ap, sym, subst, ◌∙◌, arith}
 use Rattle.std.proofs.lemmas.Bool.{cases_eq, cases_lt, false≢true}
+use Rattle.std.proofs.lemmas.List.Elements.{All-head, All-tail}
 use Rattle.std.proofs.Math.Nat.{eq-or-lt_of_le}
 use Rattle.layout.specs.Limits.{Sizes}
 use Rattle.layout.specs.Places.{Blocks, blocks_of}
+use Rattle.layout.specs.Record.{IsChange}
 use Rattle.model.specs.Counting.{Counts}
 use Rattle.model.specs.Records.{Applies, CanRename, CanReplace, Change, Replays, applied, change_mode, create, cut, link, rename, unname, write}
 use Rattle.model.proofs.MoveLemmas.{records_keep_volumes}
@@ -26,15 +28,17 @@ use Rattle.model.specs.Trees.{Tree}
 use Rattle.model.specs.Volumes.{IsGraph, IsVolume, Node, Volume, entries}
 use Rattle.model.specs.declared.limits.TheConstants.{DIRECTORY_NAMES, FIRST_NUMBER, ROOT_NUMBER}
 use Rattle.images.specs.Contents.{Content, HoldsVolume, StandsAs, content_of, tree_contents}
-use Rattle.images.specs.Faults.{HasNoFault, HasRoots, HoldsGraph, IsFaultless, IsFaultlessUnder, IsMapGrammar, IsNaming}
+use Rattle.images.specs.Faults.{HasNoFault, HasRoots, HoldsGraph, IsFaultless, IsFaultlessUnder, IsMapGrammar}
 use Rattle.images.specs.Nodes.{Held, held}
 use Rattle.images.specs.Roots.{HeldTree, Whole, frozen_at, frozen_inode_file, slot, tree, whole}
 use Rattle.images.specs.Snapshots.{AreKeptAbove, AreSnapshots, HasSnapshot, IsFrozenTree}
-use Rattle.images.specs.Soundness.{FitsNumber, HasNoHole, IsSoundFile, IsSoundTree}
+use Rattle.images.specs.Sizes.{HoldsVolumeIn}
+use Rattle.images.specs.Soundness.{FitsNumber, HasNoHole, IsSoundFile, IsSoundTree, by_sizes}
 use Rattle.images.specs.States.{Opens}
 use Rattle.images.proofs.KindLaws.{directory_kind}
 use Rattle.images.proofs.ReadingLaws.{read_past}
-use Rattle.images.proofs.VolumeLaws.{volume_once}
+use Rattle.images.proofs.LowLaws.{low, low_applied, low_applies, low_place, low_reads}
+use Rattle.images.proofs.SizeLaws.{low_holds, same_some, sized_graph}
 use Rattle.images.proofs.StateLaws.{newest_is_root}
 
 -- past the last number all is free
@@ -46,15 +50,9 @@ unfolding EndsFree held
 tree_ends d inodes top some n past =
     ap (λ (h : Held). h.inode.kind) (read_past d inodes top n (omega (arith, some, past)) past)
 
--- a graph without what its files count
-naming : (v : Volume) → IsGraph v → IsNaming v
-naming v is = record { root = is.root; not_root = is.not_root; used = is.used; once = is.once; names = is.names; reached = is.reached }
-
--- with it
+-- the names of a tree, with what its files count
 graph : (inodes : ℕ) (t : HeldTree) → (g : HoldsGraph inodes t) → IsGraph g.names.volume
-graph inodes t g =
-    let is = g.names.naming in
-    record { root = is.root; not_root = is.not_root; used = is.used; once = is.once; names = is.names; counts = g.counts; reached = is.reached }
+graph inodes t g = record { naming = g.names.naming; counts = g.counts }
 
 map_grammar : (s : Sizes) (h : Held) → IsSoundFile s h → HasNoHole h → IsMapGrammar h
 map_grammar s h sound stored = record { stored = stored; last = sound.bytes.readable (h.inode.size / 4096); ends = sound.bytes.ends }
@@ -66,7 +64,7 @@ faultless s t v many ends sound holds is = record {
   grammar = record {
     files = λ n. record { inode = (sound.files n).inode; indirect = (sound.files n).indirect; bytes = tt };
     kinds = sound.kinds;
-    root = directory_kind (t 3).inode.kind s.inodes (content_of (t 3)) (v 3) (holds 3) is.graph.root;
+    root = directory_kind (t 3).inode.kind s.inodes (content_of (t 3)) (v 3) (holds 3) is.graph.naming.root;
     inodes = sound.inodes;
     inode_map = map_grammar s (t 1) (sound.files 1) sound.inode_map;
     readable = (sound.files 1).bytes.readable;
@@ -82,7 +80,7 @@ faultless s t v many ends sound holds is = record {
   once = sound.once;
   numbers = sound.numbers;
   names = record {
-    names = record { readable = λ n _. (sound.files n).bytes.readable; volume = v; holds = holds; naming = naming v is.graph };
+    names = record { readable = λ n _. (sound.files n).bytes.readable; volume = v; holds = holds; naming = is.graph.naming };
     counts = is.graph.counts;
   };
 }
@@ -183,13 +181,13 @@ leaves_place inodes v (write number offset bytes) volume can = tt
 leaves_place inodes v (cut number size) volume can = tt
 leaves_place inodes v (change_mode number mode) volume can = tt
 
--- over a volume no limit is passed
-within : (inodes : ℕ) (changes : List Change) (v w : Volume) → IsVolume inodes v → Replays inodes v changes w → ReplaysWithin inodes v changes w
-within inodes [] v w volume replays = replays
-within inodes (change ∷ changes) v w volume replays = (
-  replays.0,
-  leaves_place inodes v change volume replays.0,
-  within inodes changes (applied change v) w (records_keep_volumes inodes v change volume replays.0) replays.1,
+-- over a volume no limit is passed, and over that of its lowest bytes all that is changed in part can be read
+within : (inodes : ℕ) (changes : List Change) (v w : Volume) → All IsChange changes → IsVolume inodes v → Replays inodes v changes w → ReplaysWithin inodes (low v) changes (low w)
+within inodes [] v w are volume replays = ap low replays
+within inodes (change ∷ changes) v w are volume replays = (
+  record { can = low_applies v inodes change replays.0; place = low_place v change (leaves_place inodes v change volume replays.0); reads = low_reads v change },
+  subst (λ (x : Volume). ReplaysWithin inodes x changes (low w)) (low_applied change v (All-head IsChange change changes are))
+      (within inodes changes (applied change v) w (All-tail IsChange change changes are) (records_keep_volumes inodes v change volume replays.0) replays.1),
 )
 
 pub opens_faultless : (sectors : ℕ) (disk : ℕ → List ℕ) (nvram : List ℕ) (s : State) → (o : Opens sectors disk nvram s) → HasRoots o.root sectors disk nvram × IsFaultlessUnder o.root (whole (blocks_of disk) o.root) nvram o.changes
@@ -211,11 +209,11 @@ opens_faultless sectors disk nvram s o =
         readable = (o.holds.sound.active.files 2).bytes.readable;
         exact = o.holds.sound.exact;
         log = record {
-          first = o.first;
-          last = o.last;
-          holds = o.holds.holds;
+          first = low o.first;
+          last = low o.last;
+          holds = low_holds (blocks_of disk) r o.first o.holds.sound.active.files o.holds.holds;
           log = o.log;
-          replays = within r.geometry.inodes o.changes o.first o.last o.holds.volume o.replays;
+          replays = within r.geometry.inodes o.changes o.first o.last o.log.are o.holds.volume o.replays;
         };
       },
     )
@@ -241,24 +239,27 @@ own_none (suc zero) k inodes c o lt is stands = subst (λ (x : Kind). StandsAs x
 own_none (suc (suc zero)) k inodes c o lt is stands = subst (λ (x : Kind). StandsAs x inodes c o) is stands
 own_none (suc (suc (suc n))) k inodes c o lt is stands = absurd (omega (arith, lt))
 
--- it has names as a graph, and only ordinary numbers and the root directory's are in use in it
-pub tree_volume : (d : Blocks) (r : Root) (v : Volume) → IsRoot r → IsFaultless r.geometry (whole d r).active → HoldsVolume r.geometry.inodes (tree_contents (whole d r).active) v
+-- where the bytes of files aren't known, it has names as a graph, and only ordinary numbers and the root directory's are in use in it
+pub tree_volume : (d : Blocks) (r : Root) (v : Volume) → IsRoot r → IsFaultless r.geometry (whole d r).active → HoldsVolumeIn by_sizes r.geometry.inodes (tree_contents (whole d r).active) v
     → IsGraph v × ((n : ℕ) → IsSome (v n) → (n ≡ ROOT_NUMBER) ⊎ ((FIRST_NUMBER ≤ n) × (n < r.geometry.inodes)))
 unfolding EndsFree
-tree_volume d r v is active holds =
+tree_volume d r v is active sized =
     let w = whole d r in
     let sizes = is.head.sizes in
-    let same = volume_once r.geometry.inodes (tree_contents w.active) active.names.names.volume v (omega (arith, sizes.most_inodes)) active.names.names.holds holds in (
-      subst IsGraph same (graph r.geometry.inodes w.active active.names),
-      λ n some. elim (cases_lt n r.geometry.inodes) [
-        | inr past ↦
-            absent (v n) (subst (λ (k : Kind). StandsAs k r.geometry.inodes (tree_contents w.active n) (v n)) (active_ends d r (omega (arith, sizes.least_inodes)) n past) (holds n)) some
-        | inl low ↦ elim (cases_lt n 3) [
-          | inl own ↦ absent (v n) (own_none n (w.active n).inode.kind r.geometry.inodes (tree_contents w.active n) (v n) own (active.grammar.kinds n) (holds n)) some
-          | inr high ↦ elim (cases_eq n 3) [
-            | inl root ↦ inl root
-            | inr other ↦ inr (omega (arith, high, other), low)
-          ]
-        ]
-      ],
+    let limit : r.geometry.inodes ≤ 2 ^ 32 = omega (arith, sizes.most_inodes) in
+    let u = active.names.names.volume in
+    let holds = active.names.names.holds in (
+      sized_graph r.geometry.inodes (tree_contents w.active) u v limit holds sized (graph r.geometry.inodes w.active active.names),
+      λ n is_some. let some : IsSome (u n) = sym (same_some r.geometry.inodes (tree_contents w.active) u v limit holds sized n) ∙ is_some in
+          elim (cases_lt n r.geometry.inodes) [
+            | inr past ↦
+                absent (u n) (subst (λ (k : Kind). StandsAs k r.geometry.inodes (tree_contents w.active n) (u n)) (active_ends d r (omega (arith, sizes.least_inodes)) n past) (holds n)) some
+            | inl lt ↦ elim (cases_lt n 3) [
+              | inl own ↦ absent (u n) (own_none n (w.active n).inode.kind r.geometry.inodes (tree_contents w.active n) (u n) own (active.grammar.kinds n) (holds n)) some
+              | inr high ↦ elim (cases_eq n 3) [
+                | inl root ↦ inl root
+                | inr other ↦ inr (omega (arith, high, other), lt)
+              ]
+            ]
+          ],
     )

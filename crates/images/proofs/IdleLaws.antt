@@ -7,7 +7,7 @@ use Rattle.images.specs.Roots.{HeldTree, tree, inode_under, whole, slot}
 use Rattle.images.specs.BlockMap.{entry, IsSystem, roots, head}
 use Rattle.images.specs.Contents.{tree_contents}
 use Rattle.images.specs.Points as point
-use Rattle.images.specs.Points.{MarksPlane, IsPlannedOn, IsSoundPlan}
+use Rattle.images.specs.Points.{MarksPlane}
 use Rattle.images.specs.States.{IsSound}
 use Rattle.images.specs.Cuts.{PlansOn}
 

@@ -6,6 +6,8 @@ pub mod OverlayLaws
 mod PointLaws
 mod VolumeLaws
 mod StateLaws
+mod LowLaws
+mod SizeLaws
 mod FaultLaws
 pub mod ReadableLaws
 mod FreeLaws

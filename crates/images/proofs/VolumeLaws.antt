@@ -69,7 +69,7 @@ names_once inodes count block names others limit one other =
     map_once one.entries count names others one.past one.are (subst (λ (es : ℕ → List Named). AreNames es others) same other.are)
 
 -- a content stands for one object at most
-stands_once : (kind : Kind) (inodes : ℕ) (c : Content) (o p : Option Node) → inodes ≤ 2 ^ 32 → StandsAs kind inodes c o → StandsAs kind inodes c p → o ≡ p
+pub stands_once : (kind : Kind) (inodes : ℕ) (c : Content) (o p : Option Node) → inodes ≤ 2 ^ 32 → StandsAs kind inodes c o → StandsAs kind inodes c p → o ≡ p
 stands_once kinds.Free inodes c o p limit one other = one ∙ sym other
 stands_once kinds.File inodes c o p limit one other = one ∙ sym other
 stands_once kinds.Directory inodes c o p limit one other =

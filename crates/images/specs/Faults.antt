@@ -1,5 +1,5 @@
 -- The nine faults that images may have: of each, that it doesn't stand in them.
-use Rattle.std.specs.Prelude.{ℕ, ◌≡◌, ◌≢◌, ◌⊎◌, ◌*◌, ◌/◌, ◌<◌, ◌≤◌, List, length, Some, IsSome, IsTrue, IsFalse}
+use Rattle.std.specs.Prelude.{ℕ, ◌≡◌, ◌*◌, ◌/◌, ◌<◌, ◌≤◌, List, length}
 use Rattle.layout.specs.FileBytes.{byte_in, EndsAt}
 use Rattle.layout.specs.Limits.{Sizes}
 use Rattle.layout.specs.Maps.{IsTaken}
@@ -7,11 +7,10 @@ use Rattle.layout.specs.Opens.{IsNewest}
 use Rattle.layout.specs.Places.{blocks_of}
 use Rattle.layout.specs.Record.{Change}
 use Rattle.layout.specs.declared.TheConstants.{BLOCK_BYTES, SLOT_A, SLOT_B}
-use Rattle.layout.specs.declared.kind.Kind.TheVariants.{Directory, File, Link}
+use Rattle.layout.specs.declared.kind.Kind.TheVariants.{Directory}
 use Rattle.layout.specs.declared.pointer.Pointer.TheVariants.{Block}
 use Rattle.layout.specs.declared.root.Root.{Root}
-use Rattle.model.specs.Paths.{IsName, Name, Path}
-use Rattle.model.specs.Volumes.{HasNames, Volume, entries, file_node, is_directory_node, is_file_node, number_at}
+use Rattle.model.specs.Volumes.{CountsNames, IsNaming, Volume}
 use Rattle.model.specs.declared.limits.TheConstants.{FIRST_NUMBER, ROOT_NUMBER}
 use Rattle.images.specs.BlockMap.{IsExact, NamesOnce}
 use Rattle.images.specs.Contents.{HoldsVolume, content_bytes, content_of, tree_contents}
@@ -19,7 +18,8 @@ use Rattle.images.specs.Nodes.{Held, file_block}
 use Rattle.images.specs.Replaying.{ReplaysWithin}
 use Rattle.images.specs.Roots.{HeldTree, Whole, slot, whole}
 use Rattle.images.specs.Snapshots.{AreSnapshots}
-use Rattle.images.specs.Soundness.{FitsNumber, HasNoHole, IsFileGrammar, IsReadable, MapsNumbers, SpellsInodes}
+use Rattle.images.specs.Sizes.{HoldsVolumeIn}
+use Rattle.images.specs.Soundness.{FitsNumber, HasNoHole, IsFileGrammar, IsReadable, MapsNumbers, SpellsInodes, by_sizes}
 use Rattle.images.specs.States.{LogHoldsChanges}
 
 -- ---- 1: the roots
@@ -61,17 +61,6 @@ pub record IsTreeGrammar (s : Sizes) (t : HeldTree) : Type 0 where
 
 -- ---- 3, 4, 6, 7, 8: a tree
 
--- each name leads to an object, only a file has several, and each directory and link is reached from the root directory
-pub record IsNaming (v : Volume) : Type 0 where
-  pub root : IsTrue (is_directory_node (v ROOT_NUMBER))
-  pub not_root : (d : ℕ) (x : Name) → entries v d x ≢ Some ROOT_NUMBER
-  pub used : (d n : ℕ) (x : Name) → entries v d x ≡ Some n → IsSome (v n)
-  pub once : (d k n : ℕ) (x y : Name) → entries v d x ≡ Some n → entries v k y ≡ Some n
-      → IsFalse (is_file_node (v n)) → (d ≡ k) × (x ≡ y)
-  pub names : (d : ℕ) (x : Name) → IsSome (entries v d x) → IsName x
-  pub reached : (n : ℕ) → IsSome (v n) → IsFalse (is_file_node (v n))
-      → (p : Path) × (number_at (entries v) p ≡ Some n)
-
 -- 7: the directories of a tree can be read, and give names to its objects
 pub record HoldsNames (inodes : ℕ) (t : HeldTree) : Type 0 where
   pub readable : (n : ℕ) → (t n).inode.kind ≡ Directory → IsReadable (t n)
@@ -79,13 +68,7 @@ pub record HoldsNames (inodes : ℕ) (t : HeldTree) : Type 0 where
   pub holds : HoldsVolume inodes (tree_contents t) volume
   pub naming : IsNaming volume
 
--- 8: each file counts its names
-abbrev pub CountsNames : Volume → Type 0
-CountsNames v =
-    (n mode links : ℕ) (bytes : List ℕ) → v n ≡ Some (file_node mode links bytes)
-    → HasNames (entries v) n links
-
--- 7, 8: both
+-- 7, 8: its files count their names too
 pub record HoldsGraph (inodes : ℕ) (t : HeldTree) : Type 0 where
   pub names : HoldsNames inodes t
   pub counts : CountsNames names.volume
@@ -97,18 +80,14 @@ pub record IsFaultless (s : Sizes) (t : HeldTree) : Type 0 where
   pub numbers : MapsNumbers t
   pub names : HoldsGraph s.inodes t
 
--- the blocks of a tree's files and links can be read, which is no matter to the nine faults
-abbrev pub HasReadableFiles : HeldTree → Type 0
-HasReadableFiles t =
-    (n : ℕ) → ((t n).inode.kind ≡ File) ⊎ ((t n).inode.kind ≡ Link) → IsReadable (t n)
-
 -- ---- 9: the log
 
--- the log holds records, which apply one after the other, within the limits, over the volume of a root's tree
+-- the log holds records, which apply one after the other, within the limits, over the volume of a root's tree, and change in part
+-- only blocks that can be read
 pub record HasLog (r : Root) (w : Whole) (nvram : List ℕ) (changes : List Change) : Type 0 where
   pub first : Volume
   pub last : Volume
-  pub holds : HoldsVolume r.geometry.inodes (tree_contents w.active) first
+  pub holds : HoldsVolumeIn by_sizes r.geometry.inodes (tree_contents w.active) first
   pub log : LogHoldsChanges r nvram changes
   pub replays : ReplaysWithin r.geometry.inodes first changes last
 

@@ -5,6 +5,8 @@ pub mod BlockMap
 pub mod Room
 pub mod Contents
 pub mod Soundness
+pub mod Sizes
+pub mod Edges
 pub mod Snapshots
 pub mod States
 pub mod Overlays

@@ -1,10 +1,15 @@
--- Records that a replay takes, over volumes whose directories may have any count of names.
-use Rattle.std.specs.Prelude.{ℕ, ◌≡◌, ◌≢◌, ◌<◌, IsSome, List, [], ◌∷◌}
+-- Records that a replay takes, over volumes whose directories may have any count of names, and whose files may have blocks that
+-- can't be read.
+use Rattle.std.specs.Prelude.{ℕ, ◌≡◌, ◌≢◌, ◌/◌, ◌<◌, IsSome, List, [], ◌∷◌, length, Option, Some}
+use Rattle.layout.specs.declared.TheConstants.{BLOCK_BYTES}
 use Rattle.model.specs.Counting.{Counts}
 use Rattle.model.specs.Paths.{Name}
-use Rattle.model.specs.Records.{Applies, Change, applied, rename}
-use Rattle.model.specs.Volumes.{Volume, entries}
+use Rattle.model.specs.Records.{Applies, Change, applied, cut, rename, write}
+use Rattle.model.specs.Volumes.{Node, Volume, entries, file_node}
 use Rattle.model.specs.declared.limits.TheConstants.{DIRECTORY_NAMES}
+use Rattle.images.specs.Edges.{CutsBlock, IsPartlyWritten}
+use Rattle.images.specs.Sizes.{IsReadBlock}
+use Rattle.images.specs.Soundness.{Detail, by_bytes, by_sizes}
 
 -- no limit is passed by a move: the directory that gets the name has place for it, when the names are gone that the move takes away
 abbrev pub LeavesPlace : Volume → Change → Type 0
@@ -12,8 +17,30 @@ LeavesPlace v (rename d x k y) =
     (count : ℕ) × Counts (λ (z : Name). IsSome (entries v k z) × (z ≢ y) × (d ≡ k → z ≢ x)) count × (count < DIRECTORY_NAMES)
 LeavesPlace v change = Unit {0}
 
--- records that apply one after the other, each within the limits, lead from one volume to another
+-- the bytes of a file; other objects have none
+abbrev pub bytes_of_node : Option Node → List ℕ
+bytes_of_node (Some (file_node mode links bytes)) = bytes
+bytes_of_node o = []
+
+-- the blocks of a file that a change leaves in part can be read
+abbrev pub ReadsParts : Volume → Change → Type 0
+ReadsParts v (write n offset bytes) = (i : ℕ) → IsPartlyWritten offset (length bytes) i → IsReadBlock (bytes_of_node (v n)) i
+ReadsParts v (cut n size) = CutsBlock (length (bytes_of_node (v n))) size → IsReadBlock (bytes_of_node (v n)) (size / BLOCK_BYTES)
+ReadsParts v change = Unit {0}
+
+-- the same, where this isn't known of all blocks
+abbrev pub ReadsIn : Detail → Volume → Change → Type 0
+ReadsIn by_bytes v change = Unit {0}
+ReadsIn by_sizes v change = ReadsParts v change
+
+-- a record applies to a volume of which no more is known
+pub record AppliesWithin (inodes : ℕ) (v : Volume) (change : Change) : Type 0 where
+  pub can : Applies inodes v change
+  pub place : LeavesPlace v change
+  pub reads : ReadsParts v change
+
+-- records that apply one after the other lead from one volume to another
 abbrev pub ReplaysWithin : ℕ → Volume → List Change → Volume → Type 0
 ReplaysWithin inodes v [] w = w ≡ v
 ReplaysWithin inodes v (change ∷ changes) w =
-    Applies inodes v change × LeavesPlace v change × ReplaysWithin inodes (applied change v) changes w
+    AppliesWithin inodes v change × ReplaysWithin inodes (applied change v) changes w

@@ -11,9 +11,10 @@ ghost use Rattle.model.specs.Trees.{Tree};
 ghost use Rattle.model.specs.Volumes.{IsGraph, Volume};
 ghost use Rattle.model.specs.declared.limits.TheConstants.{FIRST_NUMBER, ROOT_NUMBER};
 ghost use Rattle.images.specs.Contents.{Content, HoldsVolume, tree_contents};
-ghost use Rattle.images.specs.Faults.{HasNoFault, HasReadableFiles, HasRoots, IsFaultless, IsFaultlessUnder};
+ghost use Rattle.images.specs.Faults.{HasNoFault, HasRoots, IsFaultless, IsFaultlessUnder};
 ghost use Rattle.images.specs.Roots.{Whole, whole};
-ghost use Rattle.images.specs.Soundness.{IsReadable};
+ghost use Rattle.images.specs.Sizes.{HoldsVolumeIn};
+ghost use Rattle.images.specs.Soundness.{by_sizes};
 ghost use Rattle.images.specs.States.{Opens, OpensBy, SameButFree};
 
 /// Files hold one volume at most. It does nothing.
@@ -46,18 +47,18 @@ pub fn images_that_open_have_no_fault()
         → Opens sectors disk nvram s → HasNoFault sectors disk nvram }
 {}
 
-/// A tree without a fault holds a volume whose names are a graph, and of its numbers only ordinary ones and the root directory's are in use.
-/// But for those of files, links and the block map its blocks can be read. It does nothing.
+/// A tree without a fault holds a volume by the sizes of its files; the names of each that it holds so are a graph, and of its numbers only
+/// ordinary ones and the root directory's are in use. It does nothing.
 pub fn faultless_trees_hold_graphs()
+    ensures holds { (d : Blocks) (r : Root) → IsFaultless r.geometry (whole d r).active
+        → (v : Volume) × HoldsVolumeIn by_sizes r.geometry.inodes (tree_contents (whole d r).active) v }
     ensures graph { (d : Blocks) (r : Root) (v : Volume) → IsRoot r
         → IsFaultless r.geometry (whole d r).active
-        → HoldsVolume r.geometry.inodes (tree_contents (whole d r).active) v → IsGraph v }
+        → HoldsVolumeIn by_sizes r.geometry.inodes (tree_contents (whole d r).active) v → IsGraph v }
     ensures numbers { (d : Blocks) (r : Root) (v : Volume) → IsRoot r
         → IsFaultless r.geometry (whole d r).active
-        → HoldsVolume r.geometry.inodes (tree_contents (whole d r).active) v → (n : ℕ) → IsSome (v n)
+        → HoldsVolumeIn by_sizes r.geometry.inodes (tree_contents (whole d r).active) v → (n : ℕ) → IsSome (v n)
         → (n ≡ ROOT_NUMBER) ⊎ ((FIRST_NUMBER ≤ n) × (n < r.geometry.inodes)) }
-    ensures readable { (d : Blocks) (r : Root) → IsFaultless r.geometry (whole d r).active
-        → IsReadable ((whole d r).active 2) → HasReadableFiles (whole d r).active → (n : ℕ) → IsReadable ((whole d r).active n) }
 {}
 
 /// Of one root, the volume and the records are one: so what is told of the images without faults is told of the same. It does nothing.

@@ -8,7 +8,7 @@ use Rattle.buffers.specs.Positions.{with_bytes_at, laid, cut}
 use Rattle.blocktree.specs.Places.{block_count}
 use Rattle.layout.specs.FileBytes.{byte_in}
 use Rattle.inode.specs.Changes.{changed_block}
-use Rattle.inode.specs.Edges.{IsPartlyWritten}
+use Rattle.images.specs.Edges.{IsPartlyWritten}
 pub use Rattle.layout.proofs.PartLaws.{slice_index-between}
 use Rattle.layout.proofs.ZeroLaws.{zero_byte}
 

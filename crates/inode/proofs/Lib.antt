@@ -1,4 +1,5 @@
 pub mod BytePositions
+mod ChangeLaws
 pub mod EdgeLaws
 pub mod ComposingLaws
 pub mod PutLaws

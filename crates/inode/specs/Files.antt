@@ -1,6 +1,7 @@
 -- A file in memory, and a change of it that is prepared.
 use Rattle.std.specs.Prelude.{ℕ, ◌≡◌, ◌⊎◌, ◌+◌, ◌<◌, ◌≤◌, min, List, length}
 use Rattle.layout.specs.FileBytes.{byte_in, first_bytes, EndsAt}
+use Rattle.layout.specs.declared.TheConstants.{BLOCK_BYTES}
 use Rattle.layout.specs.declared.inode.Inode.{Inode}
 use Rattle.blocktree.specs.Trees.{tree_block, HasRoom, IsChanged, KeepsSound, SameBlocks, SameChanges, SameSettled}
 use Rattle.blocktree.specs.Places.{block_count}
@@ -46,6 +47,13 @@ bytes_with disk f w = first_bytes (byte_with disk f w) w.size
 -- there is room for each block of a change
 abbrev pub Fits : BlockTree → Change → Type 0
 Fits t w = (j : ℕ) → j < length w.pieces.items → HasRoom t (w.first + j)
+
+-- What a prepared change makes of a file's blocks: it puts these anew, and has read those; up to the new end the rest stays as it was.
+pub record ChangesBlocks (disk : ℕ → List ℕ) (f : File) (w : Change) (Read Put : ℕ → Type 0) : Type 0 where
+  pub read : (i : ℕ) → Read i → length (file_block disk f i) ≡ BLOCK_BYTES
+  pub put : (i : ℕ) → Put i → length (block_with disk f w i) ≡ BLOCK_BYTES
+  pub past : (i : ℕ) → block_count w.size ≤ i → length (block_with disk f w i) ≡ BLOCK_BYTES
+  pub rest : (i : ℕ) → (Put i → ⊥) → i < block_count w.size → block_with disk f w i ≡ file_block disk f i
 
 -- a prepared change changes block j
 abbrev pub IsPiece : Change → ℕ → Type 0

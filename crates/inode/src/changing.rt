@@ -2,11 +2,11 @@
 
 ghost use Rattle.std.specs.Prelude.{◌≡◌, ◌≢◌, ◌⊎◌, ℕ, ◌+◌, ◌*◌, ◌<◌, ◌≤◌, ◌/◌, ◌%◌, List, length, slice_index, OnOk, OnErr, IsErrOf, IsFalse, IsTrue, IfOk, max};
 ghost use Rattle.layout.specs.Version.{greatest_size};
-ghost use Rattle.layout.specs.declared.TheConstants.{INLINE_BYTES};
 ghost use Rattle.buffers.specs.Reads.{ReadsBlocks};
 ghost use Rattle.blocktree.specs.Errors.{IsFault};
 ghost use Rattle.buffers.specs.Positions.{with_bytes_at, cut};
 ghost use Rattle.blocktree.specs.Places.{block_count};
+ghost use Rattle.images.specs.Edges.{CutsBlock};
 ghost use Rattle.inode.specs.Errors.{IsChangeFault};
 
 use crate::{Change, ChangeError, File};
@@ -27,8 +27,8 @@ fn block_count(size: u64) -> u32
 /// off. Bytes that the inode can hold are block 0 all the same, zeros too, so that it goes to a place as the file grows further.
 fn keeps_last_block(old: u64, new: u64) -> bool
     ensures whole { IsTrue result → (old ≤ new) ⊎ (new % 4096 ≡ 0) }
-    ensures within { IsFalse result → new % 4096 ≢ 0 }
-    ensures level { IsFalse result → (new < old) ⊎ (new ≤ INLINE_BYTES) }
+    ensures cuts { IsFalse result → CutsBlock old new }
+    ensures only { CutsBlock old new → IsFalse result }
 {
     if new % 4096 == 0 {
         return true;
@@ -41,9 +41,10 @@ impl File {
     ghost use Rattle.layout.specs.Bytes.{zeros};
     ghost use Rattle.blocktree.specs.Trees.{HasRoom, IsChanged, KeepsRoom, IsSoundAt, KeepsSound, SameSettled};
     ghost use Rattle.inode.specs.Bases.{KeepsBase};
-    ghost use Rattle.inode.specs.Edges.{filled, written_list, IsPartlyWritten, CutsBlock};
+    ghost use Rattle.images.specs.Edges.{IsPartlyWritten, IsWritten, EndsIn};
+    ghost use Rattle.inode.specs.Edges.{filled, written_list};
     ghost use Rattle.inode.specs.Room.{StoresMore, size_room, write_room};
-    ghost use Rattle.inode.specs.Files.{file_block, byte_at, byte_with, bytes_of_file, bytes_with, IsFile, IsSameFile, Fits, IsCommitted};
+    ghost use Rattle.inode.specs.Files.{file_block, byte_at, byte_with, bytes_of_file, bytes_with, IsFile, IsSameFile, Fits, IsCommitted, ChangesBlocks};
 
     /// Makes room for a change of block `i`. Nothing changes by it.
     pub fn make_room(&mut self, i: u32) -> Result<(), AllocError>
@@ -112,8 +113,11 @@ impl File {
             ((i : ℕ) → IsPartlyWritten offset (length bytes.now) i
             → IsSoundAt (B.count blocks.old) disk self.old.tree i) }
         ensures damaged { (disk : ℕ → List ℕ) → B.Shows blocks.old disk
-            → IsErrOf result ChangeError.Damaged
-            → ((i : ℕ) → IsSoundAt (B.count blocks.old) disk self.old.tree i) → ⊥ }
+            → IsErrOf result ChangeError.Damaged → ((i : ℕ) → IsPartlyWritten offset (length bytes.now) i
+            → IsSoundAt (B.count blocks.old) disk self.old.tree i) → ⊥ }
+        ensures blocks { (disk : ℕ → List ℕ) → B.Shows blocks.old disk → IfOk result
+            (λ w. ChangesBlocks disk self.old w (IsPartlyWritten offset (length bytes.now))
+            (IsWritten offset (length bytes.now))) }
         ensures size { IfOk result (λ w. w.size ≡ max self.old.size (offset + length bytes.now)) }
         ensures fits { IfOk result (λ w. Fits self.new.tree w) }
         ensures bytes { (disk : ℕ → List ℕ) → B.Shows blocks.old disk → IsFile disk self.old
@@ -160,8 +164,11 @@ impl File {
             (IsPartlyWritten offset (length bytes.now) i
             → IsSoundAt (B.count blocks.old) disk self.old.tree i) }
         ensures damaged { (disk : ℕ → List ℕ) → B.Shows blocks.old disk
-            → IsErrOf result ReadError.Damaged
-            → IsSoundAt (B.count blocks.old) disk self.old.tree i → ⊥ }
+            → IsErrOf result ReadError.Damaged → (IsPartlyWritten offset (length bytes.now) i
+            → IsSoundAt (B.count blocks.old) disk self.old.tree i) → ⊥ }
+        ensures whole { (disk : ℕ → List ℕ) → B.Shows blocks.old disk → OnOk result
+            (IsPartlyWritten offset (length bytes.now) i → length (file_block disk self.old i) ≡ 4096) }
+        ensures length { IfOk result (λ b. length b ≡ 4096) }
         ensures unchanged { IsSameFile self.old self.new }
         ensures room { OnOk result (HasRoom self.new.tree i) }
         ensures keeps { KeepsRoom self.old.tree self.new.tree }
@@ -195,9 +202,10 @@ impl File {
             → OnOk result (bytes ≢ 4096 → IsSoundAt (B.count blocks.old) disk self.now.tree i) }
         ensures damaged { (disk : ℕ → List ℕ) → B.Shows blocks.old disk
             → IsErrOf result ReadError.Damaged
-            → IsSoundAt (B.count blocks.old) disk self.now.tree i → ⊥ }
+            → (bytes ≢ 4096 → IsSoundAt (B.count blocks.old) disk self.now.tree i) → ⊥ }
         ensures bytes { (disk : ℕ → List ℕ) → B.Shows blocks.old disk
             → IfOk result (λ b. bytes ≢ 4096 → b ≡ file_block disk self.now i) }
+        ensures whole { IfOk result (λ b. length b ≡ 4096) }
     {
         if bytes == 4096 {
             let block = Block::zeroed(alloc)?;
@@ -242,8 +250,10 @@ impl File {
             (CutsBlock self.old.size size
             → IsSoundAt (B.count blocks.old) disk self.old.tree (size / 4096)) }
         ensures damaged { (disk : ℕ → List ℕ) → B.Shows blocks.old disk
-            → IsErrOf result ChangeError.Damaged
-            → ((i : ℕ) → IsSoundAt (B.count blocks.old) disk self.old.tree i) → ⊥ }
+            → IsErrOf result ChangeError.Damaged → (CutsBlock self.old.size size
+            → IsSoundAt (B.count blocks.old) disk self.old.tree (size / 4096)) → ⊥ }
+        ensures blocks { (disk : ℕ → List ℕ) → B.Shows blocks.old disk → IfOk result
+            (λ w. ChangesBlocks disk self.old w (EndsIn self.old.size size) (EndsIn self.old.size size)) }
         ensures size { IfOk result (λ w. w.size ≡ size) }
         ensures fits { IfOk result (λ w. Fits self.new.tree w) }
         ensures bytes { (disk : ℕ → List ℕ) → B.Shows blocks.old disk → IsFile disk self.old
@@ -274,7 +284,7 @@ impl File {
             });
         }
         self.make_room(first)?;
-        let mut block = self.tree.copy(alloc, blocks, first)?;
+        let mut block = self.copy(alloc, blocks, first)?;
         block.cut((size % 4096) as usize);
         pieces.push(block)?;
         Ok(Change {

@@ -117,13 +117,16 @@ impl File {
         ensures reads { ReadsBlocks B.Blocks IsFault blocks.old blocks.new result }
         ensures bytes { (disk : ℕ → List ℕ) → B.Shows blocks.old disk
             → IfOk result (λ b. b ≡ file_block disk self.now i) }
+        ensures whole { IfOk result (λ b. length b ≡ 4096) }
         ensures sound { (disk : ℕ → List ℕ) → B.Shows blocks.old disk
             → OnOk result (IsSoundAt (B.count blocks.old) disk self.now.tree i) }
         ensures damaged { (disk : ℕ → List ℕ) → B.Shows blocks.old disk
             → IsErrOf result ReadError.Damaged
             → IsSoundAt (B.count blocks.old) disk self.now.tree i → ⊥ }
     {
-        self.tree.copy(alloc, blocks, i)
+        let location = self.tree.locate(blocks, i)?;
+        let block = Block::copy_of(alloc, self.tree.bytes(blocks, i, location))?;
+        Ok(block)
     }
 
     /// Reads the bytes from an offset on. Past the file's end they are zeros.

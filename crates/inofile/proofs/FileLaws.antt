@@ -10,19 +10,20 @@ use Rattle.layout.specs.declared.kind.Kind.{Kind}
 use Rattle.layout.specs.declared.kind.Kind.TheVariants as kinds
 use Rattle.layout.specs.declared.version.TheConstants.{VERSION}
 use Rattle.model.specs.Volumes.{Node, Volume}
-use Rattle.images.specs.Contents.{Content, StandsAs, HoldsVolume}
+use Rattle.images.specs.Contents.{Content, HoldsVolume}
 use Rattle.images.specs.Nodes.{held}
 use Rattle.images.specs.Roots.{free_inode}
+use Rattle.images.specs.Sizes.{HoldsVolumeIn, StandsForIn}
 use Rattle.images.specs.Soundness.{Detail, by_bytes, FitsNumber}
 use Rattle.inode.specs.declared.object.Object.{Object}
 use Rattle.inofile.specs.Inodes.{or_free_content, slot_content, files_of, IsChangedSlot}
-use Rattle.inofile.specs.Objects.{StandsForIn, IsAsSettled, IsObjectOrNone}
+use Rattle.inofile.specs.Objects.{IsAsSettled, IsObjectOrNone}
 use Rattle.inofile.specs.Settled.{held_content, settled_content}
 use Rattle.inofile.specs.Volumes.{SlotStandsFor, IsVolumeOf, HasNoOwn}
 use Rattle.inofile.specs.declared.inode_file.InodeFile.{InodeFile}
 use Rattle.inofile.specs.declared.inode_file.ObjectSlot.{ObjectSlot}
 use Rattle.inofile.specs.declared.inode_file.ObjectSlot.TheVariants.{AsSettled, Loaded, Changed}
-use Rattle.inofile.proofs.DetailLaws.{in_detail}
+use Rattle.inofile.proofs.DetailLaws.{HasSizeOf, by_size}
 use Rattle.inofile.proofs.ObjectLaws.{free_is, free_content, held_inode, unless}
 
 free_or_not : (k : Kind) → (k ≡ kinds.Free) ⊎ (k ≡ kinds.Free → ⊥)
@@ -80,16 +81,17 @@ module _ (count : ℕ) (disk : ℕ → List ℕ) (settled : ℕ → Inode) (s : 
 
 -- ---- the file system's own numbers
 
-own_kind : (n : ℕ) (k : Kind) (inodes : ℕ) (c : Content) (found : Option Node) → n < 3 → FitsNumber n k → StandsAs k inodes c found → found ≡ None
-own_kind zero k inodes c found lt is stands = subst (λ (x : Kind). StandsAs x inodes c found) is stands
-own_kind (suc zero) k inodes c found lt is stands = subst (λ (x : Kind). StandsAs x inodes c found) is stands
-own_kind (suc (suc zero)) k inodes c found lt is stands = subst (λ (x : Kind). StandsAs x inodes c found) is stands
+own_kind : (n : ℕ) (k : Kind) (inodes : ℕ) (c : Content) (found : Option Node) → n < 3 → FitsNumber n k → HasSizeOf k inodes c found → found ≡ None
+own_kind zero k inodes c found lt is stands = subst (λ (x : Kind). HasSizeOf x inodes c found) is stands
+own_kind (suc zero) k inodes c found lt is stands = subst (λ (x : Kind). HasSizeOf x inodes c found) is stands
+own_kind (suc (suc zero)) k inodes c found lt is stands = subst (λ (x : Kind). HasSizeOf x inodes c found) is stands
 own_kind (suc (suc (suc n))) k inodes c found lt is stands = absurd (omega arith)
 
-pub holds_no_own : (disk : ℕ → List ℕ) (inodes : ℕ) (settled : ℕ → Inode) (v : Volume) → ((n : ℕ) → FitsNumber n (settled n).kind)
-    → HoldsVolume inodes (λ n. held_content disk (settled n)) v → HasNoOwn v
+pub holds_no_own : (detail : Detail) (disk : ℕ → List ℕ) (inodes : ℕ) (settled : ℕ → Inode) (v : Volume) → ((n : ℕ) → FitsNumber n (settled n).kind)
+    → HoldsVolumeIn detail inodes (λ n. held_content disk (settled n)) v → HasNoOwn v
 unfolding held
-holds_no_own disk inodes settled v fits holds n lt = own_kind n (settled n).kind inodes (held_content disk (settled n)) (v n) lt (fits n) (holds n)
+holds_no_own detail disk inodes settled v fits holds n lt =
+    own_kind n (settled n).kind inodes (held_content disk (settled n)) (v n) lt (fits n) (by_size detail (settled n).kind inodes (held_content disk (settled n)) (v n) (holds n))
 
 -- ---- all settled
 
@@ -97,9 +99,8 @@ pub none_in : (m : BTreeMap ℕ ObjectSlot) → IsEmpty m → (n : ℕ) → get 
 none_in m empty n = ap (λ es. lookup (is_at (nat_cmp n)) es) empty
 
 -- nothing is in memory, and the settled inodes hold the volume
-pub held_stand : (detail : Detail) (disk : ℕ → List ℕ) (inodes : ℕ) (settled : ℕ → Inode) (m : BTreeMap ℕ ObjectSlot) (v : Volume) → IsEmpty m → HoldsVolume inodes (λ n. held_content disk (settled n)) v
+pub held_stand : (detail : Detail) (disk : ℕ → List ℕ) (inodes : ℕ) (settled : ℕ → Inode) (m : BTreeMap ℕ ObjectSlot) (v : Volume) → IsEmpty m → HoldsVolumeIn detail inodes (λ n. held_content disk (settled n)) v
     → (n : ℕ) → SlotStandsFor detail disk inodes (settled n) (get nat_cmp m n) (v n)
 unfolding held
 held_stand detail disk inodes settled m v empty holds n =
-    subst (λ (x : Option ObjectSlot). SlotStandsFor detail disk inodes (settled n) x (v n)) (sym (none_in m empty n))
-    (in_detail detail (settled n).kind inodes (held_content disk (settled n)) (v n) (holds n))
+    subst (λ (x : Option ObjectSlot). SlotStandsFor detail disk inodes (settled n) x (v n)) (sym (none_in m empty n)) (holds n)

@@ -16,15 +16,16 @@ use Rattle.blocktree.specs.Places.{block_count, depth_of}
 use Rattle.images.specs.Contents.{Content}
 use Rattle.images.specs.Nodes.{held}
 use Rattle.images.specs.Roots.{free_inode}
+use Rattle.images.specs.Sizes.{StandsForIn}
 use Rattle.images.specs.Soundness.{Detail, IsHeldFile, IsOrdinary, by_bytes, by_sizes}
 use Rattle.inode.specs.Bases.{IsBased, StartsFrom, StartsUnchanged}
 use Rattle.inode.specs.Files.{file_block, IsAsHeld, IsFile, IsSameFile}
 use Rattle.inode.specs.declared.file.File.{File}
 use Rattle.inode.specs.declared.object.Attributes.{Attributes}
 use Rattle.inode.specs.declared.object.Object.{Object}
-use Rattle.inofile.specs.Objects.{EndsIn, IsAsSettled, IsObjectIn, IsObjectKind, IsObjectOrNone, IsSameObject, IsSameOrNone, IsSizedAs, IsUntouched, StandsForIn}
+use Rattle.inofile.specs.Objects.{EndsIn, IsAsSettled, IsObjectIn, IsObjectKind, IsObjectOrNone, IsSameObject, IsSameOrNone, IsUntouched}
 use Rattle.inofile.specs.Settled.{content_of_object, held_content, unless_free, settled_content}
-use Rattle.inofile.proofs.DetailLaws.{by_size}
+use Rattle.inofile.proofs.DetailLaws.{HasSizeOf, by_size}
 use Rattle.std.proofs.lemmas.Bool.{false≢true}
 use Rattle.std.proofs.Math.Path.{fun_ext}
 use Rattle.layout.proofs.SizeLaws.{level_none}
@@ -49,7 +50,7 @@ held_inode s disk i sound = sound.inode
 pub free_stands : (detail : Detail) (disk : ℕ → List ℕ) (inodes : ℕ) (i : Inode) (found : Option Node) → i.kind ≡ kinds.Free → StandsForIn detail inodes (held_content disk i) found → found ≡ None
 unfolding held
 free_stands detail disk inodes i found free stands =
-    subst (λ (k : Kind). IsSizedAs k inodes (held_content disk i) found) free (by_size detail i.kind inodes (held_content disk i) found stands)
+    subst (λ (k : Kind). HasSizeOf k inodes (held_content disk i) found) free (by_size detail i.kind inodes (held_content disk i) found stands)
 
 pub free_content : (disk : ℕ → List ℕ) (i : Inode) → i.kind ≡ kinds.Free → settled_content disk i ≡ None
 free_content disk i free = ap (λ (k : Kind). unless_free k (held_content disk i)) free
@@ -162,7 +163,7 @@ same_settled disk settled (Some o) None same is = absurd same
 same_settled disk settled (Some old) (Some new) same is = (same_content disk old new same ∙ is.0, same_untouched old new same is.1)
 
 -- an object is some object of the volume
-kind_some : (k : Kind) (inodes : ℕ) (c : Content) (found : Option Node) → IsObjectKind k → IsSizedAs k inodes c found → IsSome found
+kind_some : (k : Kind) (inodes : ℕ) (c : Content) (found : Option Node) → IsObjectKind k → HasSizeOf k inodes c found → IsSome found
 kind_some kinds.Free inodes c found is stands = absurd is
 kind_some kinds.File inodes c found is stands = subst IsSome (sym stands.2) refl
 kind_some kinds.Directory inodes c found is stands = subst IsSome (sym stands.2) refl

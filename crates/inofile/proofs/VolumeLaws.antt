@@ -9,10 +9,11 @@ use Rattle.layout.specs.Maps.{IsTaken}
 use Rattle.layout.specs.declared.inode.Inode.{Inode}
 use Rattle.model.specs.Volumes.{Node, Volume, with_node}
 use Rattle.images.specs.Contents.{Content}
+use Rattle.images.specs.Sizes.{StandsForIn}
 use Rattle.images.specs.Soundness.{Detail}
 use Rattle.inode.specs.declared.object.Object.{Object}
 use Rattle.inofile.specs.Inodes.{IsKnownSlot, slot_content}
-use Rattle.inofile.specs.Objects.{StandsForIn, IsAsSettled, IsObjectOrNone, IsSameOrNone}
+use Rattle.inofile.specs.Objects.{IsAsSettled, IsObjectOrNone, IsSameOrNone}
 use Rattle.inofile.specs.Settled.{content_of_object, held_content, settled_content}
 use Rattle.inofile.specs.Volumes.{SlotStandsFor, MapsVolume, HasNoOwn, slot_with}
 use Rattle.inofile.specs.declared.inode_file.ObjectSlot.{ObjectSlot}

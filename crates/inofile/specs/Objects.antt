@@ -1,5 +1,5 @@
 -- Objects in memory, and those of a volume that they stand for.
-use Rattle.std.specs.Prelude.{ℕ, ◌≡◌, ◌≤◌, List, length, Option, Some, None}
+use Rattle.std.specs.Prelude.{ℕ, ◌≡◌, ◌≤◌, List, Option, Some, None}
 use Rattle.layout.specs.Inode.{FitsKind}
 use Rattle.layout.specs.Limits.{Sizes}
 use Rattle.layout.specs.Version.{level_of}
@@ -7,32 +7,17 @@ use Rattle.layout.specs.declared.inode.Inode.{Inode}
 use Rattle.layout.specs.declared.kind.Kind.{Kind}
 use Rattle.layout.specs.declared.kind.Kind.TheVariants as kinds
 use Rattle.model.specs.declared.limits.TheConstants.{MODE_BITS}
-use Rattle.model.specs.Volumes.{Node, file_node, link_node}
+use Rattle.model.specs.Volumes.{Node}
 use Rattle.blocktree.specs.Places.{block_count, depth_of}
 use Rattle.blocktree.specs.Trees.{IsChanged}
-use Rattle.images.specs.Contents.{Content, StandsAs}
 use Rattle.images.specs.Roots.{free_inode}
+use Rattle.images.specs.Sizes.{StandsForIn}
 use Rattle.images.specs.Soundness.{Detail, by_bytes, by_sizes}
 use Rattle.inode.specs.Bases.{IsBased}
 use Rattle.inode.specs.Files.{IsFile, IsSameFile}
 use Rattle.inode.specs.declared.file.File.{File}
 use Rattle.inode.specs.declared.object.Object.{Object}
 use Rattle.inofile.specs.Settled.{content_of_object, held_content}
-
--- the object of this kind that a content stands for, but that the bytes of a file or link may be any others of its size
-abbrev pub IsSizedAs : Kind → ℕ → Content → Option Node → Type 0
-IsSizedAs kinds.File inodes c o =
-    (bytes : List ℕ) × (length bytes ≡ c.size) × (o ≡ Some (file_node c.mode c.links bytes))
-IsSizedAs kinds.Link inodes c o = (text : List ℕ) × (length text ≡ c.size) × (o ≡ Some (link_node text))
-IsSizedAs kind inodes c o = StandsAs kind inodes c o
-
--- a content of this kind stands for this object of a volume of so many inodes, or for none, in so much detail
-abbrev pub StandsAsIn : Detail → Kind → ℕ → Content → Option Node → Type 0
-StandsAsIn by_bytes kind inodes content found = StandsAs kind inodes content found
-StandsAsIn by_sizes kind inodes content found = IsSizedAs kind inodes content found
-
-abbrev pub StandsForIn : Detail → ℕ → Content → Option Node → Type 0
-StandsForIn detail inodes content found = StandsAsIn detail content.kind inodes content found
 
 -- zeros stand past the end of a file in memory; where the sizes alone are known, this isn't asked
 abbrev pub EndsIn : Detail → (ℕ → List ℕ) → File → Type 0

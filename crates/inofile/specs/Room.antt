@@ -5,7 +5,6 @@ use Rattle.std.specs.BTreeMap as tree
 use Rattle.model.specs.Volumes.{Node, Volume, is_nameless}
 use Rattle.images.specs.Sums.{sum_below}
 use Rattle.inode.specs.Room.{file_room}
-use Rattle.inode.specs.declared.object.Object.{Object}
 use Rattle.inofile.specs.declared.inode_file.ObjectSlot.{ObjectSlot}
 use Rattle.inofile.specs.declared.inode_file.ObjectSlot.TheVariants.{AsSettled, Loaded, Changed}
 use Rattle.inofile.specs.declared.inode_file.InodeFile.{InodeFile}

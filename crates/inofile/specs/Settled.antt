@@ -10,7 +10,7 @@ use Rattle.images.specs.Contents.{Content}
 use Rattle.images.specs.Contents as images
 use Rattle.images.specs.Nodes.{held}
 use Rattle.images.specs.Roots.{free_inode, inode_bytes_at}
-use Rattle.images.specs.Soundness.{Detail, FitsNumber, IsHeldFile, IsReadable, by_bytes, by_sizes}
+use Rattle.images.specs.Soundness.{Detail, FitsNumber, IsHeldFile, by_bytes}
 use Rattle.inode.specs.declared.file.File.{File}
 use Rattle.inode.specs.declared.object.Object.{Object}
 use Rattle.inode.specs.Files.{file_block}
@@ -53,11 +53,6 @@ pub record AreSettledIn (detail : Detail) (blocks : ℕ) (disk : ℕ → List �
   pub fits : (n : ℕ) → FitsNumber n (settled n).kind
   pub past : (n : ℕ) → sizes.inodes ≤ n → settled n ≡ free_inode
   pub reached : (i : ℕ) → IsSoundAt blocks disk file.tree i
-
--- the blocks of the files can be read, where this isn't known of their bytes
-abbrev pub CanRead : Detail → (ℕ → List ℕ) → (ℕ → Inode) → Type 0
-CanRead by_bytes disk settled = Unit {0}
-CanRead by_sizes disk settled = (n : ℕ) → IsReadable (held disk (settled n))
 
 abbrev pub AreSettled : ℕ → (ℕ → List ℕ) → Sizes → File → (ℕ → Inode) → Type 0
 AreSettled = AreSettledIn by_bytes

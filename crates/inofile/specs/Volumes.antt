@@ -8,7 +8,8 @@ use Rattle.model.specs.declared.limits.TheConstants.{FIRST_NUMBER, ROOT_NUMBER}
 use Rattle.model.specs.Volumes.{Node, Volume}
 use Rattle.images.specs.Soundness.{Detail, by_bytes}
 use Rattle.inode.specs.declared.object.Object.{Object}
-use Rattle.inofile.specs.Objects.{StandsForIn, IsAsSettled, IsObjectOrNone}
+use Rattle.images.specs.Sizes.{StandsForIn}
+use Rattle.inofile.specs.Objects.{IsAsSettled, IsObjectOrNone}
 use Rattle.inofile.specs.Settled.{held_content, AreSettledIn}
 use Rattle.inofile.specs.declared.inode_file.ObjectSlot.{ObjectSlot}
 use Rattle.inofile.specs.declared.inode_file.ObjectSlot.TheVariants.{AsSettled, Loaded, Changed}

@@ -48,10 +48,10 @@ ghost use Rattle.layout.specs.declared.version.TheConstants.{VERSION};
 ghost use Rattle.model.specs.Volumes.{Node, Volume};
 ghost use Rattle.buffers.specs.Reads.{ReadsBlocks};
 ghost use Rattle.blocktree.specs.Errors.{IsFault};
-ghost use Rattle.images.specs.Contents.{HoldsVolume};
 ghost use Rattle.images.specs.Nodes.{held};
+ghost use Rattle.images.specs.Sizes.{HoldsVolumeIn, StandsForIn};
 ghost use Rattle.images.specs.Soundness.{Detail, IsHeldFile, IsOrdinary};
-ghost use Rattle.inofile.specs.Objects.{IsAsSettled, IsObjectIn, IsObjectOrNone, IsUntouched, StandsForIn};
+ghost use Rattle.inofile.specs.Objects.{IsAsSettled, IsObjectIn, IsObjectOrNone, IsUntouched};
 ghost use Rattle.inofile.specs.Settled.{AreSettledIn, content_of_object, held_content, settled_content};
 ghost use Rattle.inofile.specs.Slots.{ChangesObjects};
 
@@ -73,7 +73,7 @@ impl InodeFile {
         ensures volume { (detail : Detail) (count : ℕ) (disk : ℕ → List ℕ) (settled : ℕ → Inode)
             (v : Volume) → AreSettledIn detail count disk geometry file settled
             → MapsVolume map.items v
-            → HoldsVolume geometry.inodes (λ n. held_content disk (settled n)) v
+            → HoldsVolumeIn detail geometry.inodes (λ n. held_content disk (settled n)) v
             → IsVolumeIn detail count disk settled result v }
     {
         let inodes = geometry.inodes();

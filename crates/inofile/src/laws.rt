@@ -5,11 +5,13 @@ ghost use Rattle.layout.specs.declared.inode.Inode.{Inode};
 ghost use Rattle.model.specs.Volumes.{Node, Volume};
 ghost use Rattle.blocktree.specs.Trees.{IsSoundAt};
 ghost use Rattle.images.specs.Contents.{HoldsVolume};
+ghost use Rattle.images.specs.Sizes.{CanReadBlock};
 ghost use Rattle.images.specs.Soundness.{Detail};
+ghost use Rattle.inode.specs.Files.{file_block};
 ghost use Rattle.inode.specs.declared.object.Object.{Object};
 ghost use Rattle.inofile.specs.Inodes.{HasNoChange, IsChanged, files_of};
 ghost use Rattle.inofile.specs.Objects.{IsObjectIn};
-ghost use Rattle.inofile.specs.Settled.{CanRead, held_content};
+ghost use Rattle.inofile.specs.Settled.{held_content};
 ghost use Rattle.inofile.specs.Volumes.{IsVolumeIn, IsVolumeOf};
 ghost use Rattle.inofile.specs.declared.inode_file.InodeFile.{InodeFile};
 
@@ -36,12 +38,13 @@ pub fn unchanged_memory_is_settled()
     files_hold_one_volume();
 }
 
-/// All that stands over the blocks of an object in memory is in its grammar, where the blocks of the files can be read. It does nothing.
+/// All that stands over a block of an object in memory is in its grammar, where the block can be read. It does nothing.
 pub fn objects_stand_in_their_grammar()
     ensures { (detail : Detail) (count : ℕ) (disk : ℕ → List ℕ) (settled : ℕ → Inode)
         (s : InodeFile) (v : Volume) (n i : ℕ) (o : Object) (found : Option Node)
-        → IsVolumeIn detail count disk settled s v → IsObjectIn detail disk s.geometry.inodes (settled n) o found → CanRead detail disk settled
-        → IsSoundAt count disk o.file.tree i }
+        → IsVolumeIn detail count disk settled s v
+        → IsObjectIn detail disk s.geometry.inodes (settled n) o found
+        → CanReadBlock detail (file_block disk o.file) i → IsSoundAt count disk o.file.tree i }
 {
     based_trees_are_sound();
 }

@@ -11,7 +11,7 @@ use Rattle.layout.specs.Pointer.{PointsBelow, pointers_bytes, pointers_in}
 use Rattle.layout.specs.Reading.{is_zero, all_of}
 use Rattle.layout.specs.Version.{level_of}
 use Rattle.layout.specs.Inode.{kind_code, body_bytes, inode_head, inode_fields, inode_bytes, FitsKind, FitsBody, IsInode, IsSomeInode}
-use Rattle.layout.specs.InodeReading.{kind_of, body_in, inode_of, inode_in, likely_sizes}
+use Rattle.layout.specs.InodeReading.{kind_of, body_in, inode_of, inode_in, kind_and_links_in, likely_sizes}
 use Rattle.layout.specs.declared.version.TheConstants.{VERSION}
 use Rattle.layout.specs.declared.kind.Kind.{Kind}
 use Rattle.layout.specs.declared.kind.Kind.TheVariants as kinds
@@ -68,10 +68,11 @@ likely_inode version i some =
 
 -- ---- what is read is spelled so
 
+head_exact : IsExact inode_head
+head_exact = then_exact (num_exact 2) (then_exact (ranged_exact 2 0 4095 (omega arith)) (then_exact (num_exact 4) (then_exact (num_exact 8) (num_exact 1))))
+
 inode_exact : IsExact inode_fields
-inode_exact =
-    then_exact (then_exact (num_exact 2) (then_exact (ranged_exact 2 0 4095 (omega arith)) (then_exact (num_exact 4) (then_exact (num_exact 8) (num_exact 1)))))
-    (then_exact (blank_exact 47) (part_exact 128))
+inode_exact = then_exact head_exact (then_exact (blank_exact 47) (part_exact 128))
 
 kind_takes : (code : ℕ) (kind : Kind) → kind_of code ≡ Some kind → code ≡ kind_code kind
 unfolding kind_of
@@ -159,16 +160,27 @@ body_again (Pointers ps) blocks size limit fits =
     let same : pointers_in 16 (pointers_bytes ps ++ zeros 64) ≡ ps = pointers_again 16 blocks ps (zeros 64) fits.1 (omega arith) fits.2 in
     rw (large, behind, is_zero-zeros 64, same) refl
 
+-- what stands in the head of an inode
+abbrev head_of : Inode → ℕ × (ℕ × (ℕ × (ℕ × ℕ)))
+head_of i = (kind_code i.kind, (i.mode, (i.links, (i.size, level_of i.size))))
+
+head_fits : (s : Sizes) (i : Inode) → IsInode VERSION s i → inode_head.Fits (head_of i)
+head_fits s i fits =
+    let code : kind_code i.kind < 256 ^ 2 = omega (arith, kind_small i.kind) in
+    let links : i.links < 256 ^ 4 = omega (arith, links_small i.kind s i.mode i.links i.size fits.kind) in
+    let size : i.size < 256 ^ 8 = omega (arith, fits.size) in
+    (code, ((omega arith, fits.mode), (links, (size, level_small i.size))))
+
+pub head_again : (s : Sizes) (i : Inode) → IsInode VERSION s i → kind_and_links_in (inode_bytes i) ≡ Some (i.kind, i.links)
+unfolding kind_and_links_in
+head_again s i fits = rw (head_exact.again (head_of i) (zeros 47 ++ body_bytes i.body) (head_fits s i fits), kind_again i.kind) refl
+
 pub inode_again : (i : Inode) → IsSomeInode VERSION i → inode_in (inode_bytes i) ≡ Some i
 unfolding inode_in inode_of
 inode_again i some =
     let fits = some.fits in
-    let code : kind_code i.kind < 256 ^ 2 = omega (arith, kind_small i.kind) in
-    let links : i.links < 256 ^ 4 = omega (arith, links_small i.kind some.sizes i.mode i.links i.size fits.kind) in
-    let size : i.size < 256 ^ 8 = omega (arith, fits.size) in
     let same : eqb (level_of i.size) (level_of i.size) ≡ true = eq-eqb (level_of i.size) (level_of i.size) refl in
-    let read = whole_again inode_exact ((kind_code i.kind, (i.mode, (i.links, (i.size, level_of i.size)))), (tt, body_bytes i.body))
-    ((code, ((omega arith, fits.mode), (links, (size, level_small i.size)))), (tt, length-body i.body some.sizes.blocks i.size fits.body)) in
+    let read = whole_again inode_exact (head_of i, (tt, body_bytes i.body)) (head_fits some.sizes i fits, (tt, length-body i.body some.sizes.blocks i.size fits.body)) in
     rw (read, kind_again i.kind, body_again i.body some.sizes.blocks i.size some.are_sizes.most_blocks fits.body, same) refl
 
 pub length-inode : (i : Inode) (s : Sizes) → IsInode VERSION s i → length (inode_bytes i) ≡ 192

@@ -8,7 +8,7 @@ use Rattle.layout.specs.Reading.{◌>>=◌, number_read, counted_at, all_of}
 use Rattle.layout.specs.Record.{Made, file, directory, symbolic_link, Change, create, link, unname, rename, write, cut, change_mode, create_head, link_fields, unname_fields, rename_fields, write_fields, cut_fields, change_mode_fields, kind_of_made, mode_of_made, text_bytes, change_bytes, KeepsMadeLimits, FitsFields, IsChange}
 use Rattle.layout.specs.RecordReading.{link_in, unname_in, rename_in, write_in, cut_in, change_mode_in, made_in, create_in, change_in}
 use Rattle.layout.proofs.NumberLaws.{little_one}
-use Rattle.layout.proofs.Formats.{bind_some, some_is, if_then, tried, IsExact, num_exact, ranged_exact, counted_exact, then_exact, whole_takes, made_again, byte_again}
+use Rattle.layout.proofs.Formats.{bind_some, some_is, if_then, tried, IsExact, num_exact, ranged_exact, counted_exact, then_exact, whole_takes, made_again, byte_again, IsBytes-behind}
 
 create_exact : IsExact create_head
 create_exact = then_exact (num_exact 4) (then_exact (num_exact 4) (then_exact (num_exact 1) (then_exact (ranged_exact 2 0 4095 (omega arith)) (counted_exact 1))))
@@ -36,12 +36,17 @@ abbrev Spells : ℕ → List ℕ → Change → Type 0
 Spells op bytes c = (op ∷ bytes ≡ change_bytes c) × FitsFields c
 
 -- a record of these fields is spelled as it was read
-fields_take : {A : Type 0} {f : Format A} (op : ℕ) → IsExact f → (make : A → Change) → ((v : A) → f.Fits v → Spells op (f.text v) (make v))
+fields_take : {A : Type 0} {f : Format A} (op : ℕ) → IsExact f → (make : A → Change) → ((v : A) → f.Fits v → IsBytes (f.text v) → Spells op (f.text v) (make v))
     → (bytes : List ℕ) (c : Change) → IsBytes bytes → (all_of f.at bytes >>= λ v. Some (make v)) ≡ Some c → Spells op bytes c
 fields_take {A} {f} op exact make spells bytes c fits e =
     let w = bind_some (all_of f.at bytes) (λ v. Some (make v)) c e in
     let t = whole_takes exact bytes w.0 fits w.1 in
-    subst (λ (d : Change). Spells op bytes d) (some_is (make w.0) c w.2) (subst (λ (r : List ℕ). Spells op r (make w.0)) (sym t.0) (spells w.0 t.1))
+    subst (λ (d : Change). Spells op bytes d) (some_is (make w.0) c w.2) (subst (λ (r : List ℕ). Spells op r (make w.0)) (sym t.0) (spells w.0 t.1 (subst IsBytes t.0 fits)))
+
+written_bytes : (number offset : ℕ) (bytes : List ℕ) → IsBytes (write_fields.text (number, (offset, bytes))) → IsBytes bytes
+written_bytes number offset bytes ok =
+    let counted = IsBytes-behind (little 4 number) _ ok in
+    IsBytes-behind (little 4 (length bytes)) bytes (IsBytes-behind (little 8 offset) _ counted)
 
 nothing_left : {A : Type 0} (bytes : List ℕ) (x y : A) → cond (eqb (length bytes) 0) (Some x) None ≡ Some y → (bytes ≡ []) × (x ≡ y)
 nothing_left bytes x y e =
@@ -104,12 +109,12 @@ change_takes bytes c fits e =
     let ok = t.0.rest_fits in
     let by = λ (op : ℕ) (small : op < 256). spelled_by op bytes w.0.0 rest c small t.0.parts in
     tried (eqb w.0.0 1) _ _ c w.2 (λ is e. by 1 (omega arith) is (create_takes rest c ok e)) (λ e.
-    tried (eqb w.0.0 2) _ _ c e (λ is e. by 2 (omega arith) is (fields_take 2 link_exact (λ v. link v.0 v.1.0 v.1.1) (λ v fits. (refl, fits)) rest c ok e)) (λ e.
-    tried (eqb w.0.0 3) _ _ c e (λ is e. by 3 (omega arith) is (fields_take 3 unname_exact (λ v. unname v.0 v.1) (λ v fits. (refl, fits)) rest c ok e)) (λ e.
-    tried (eqb w.0.0 4) _ _ c e (λ is e. by 4 (omega arith) is (fields_take 4 rename_exact (λ v. rename v.0 v.1.0 v.1.1.0 v.1.1.1) (λ v fits. (refl, fits)) rest c ok e)) (λ e.
-    tried (eqb w.0.0 5) _ _ c e (λ is e. by 5 (omega arith) is (fields_take 5 write_exact (λ v. write v.0 v.1.0 v.1.1) (λ v fits. (refl, fits)) rest c ok e)) (λ e.
-    tried (eqb w.0.0 6) _ _ c e (λ is e. by 6 (omega arith) is (fields_take 6 cut_exact (λ v. cut v.0 v.1) (λ v fits. (refl, fits)) rest c ok e)) (λ e.
-    tried (eqb w.0.0 7) _ _ c e (λ is e. by 7 (omega arith) is (fields_take 7 change_mode_exact (λ v. change_mode v.0 v.1) (λ v fits. (refl, fits)) rest c ok e)) (λ e. absurd cc)))))))
+    tried (eqb w.0.0 2) _ _ c e (λ is e. by 2 (omega arith) is (fields_take 2 link_exact (λ v. link v.0 v.1.0 v.1.1) (λ v fits ok. (refl, fits)) rest c ok e)) (λ e.
+    tried (eqb w.0.0 3) _ _ c e (λ is e. by 3 (omega arith) is (fields_take 3 unname_exact (λ v. unname v.0 v.1) (λ v fits ok. (refl, fits)) rest c ok e)) (λ e.
+    tried (eqb w.0.0 4) _ _ c e (λ is e. by 4 (omega arith) is (fields_take 4 rename_exact (λ v. rename v.0 v.1.0 v.1.1.0 v.1.1.1) (λ v fits ok. (refl, fits)) rest c ok e)) (λ e.
+    tried (eqb w.0.0 5) _ _ c e (λ is e. by 5 (omega arith) is (fields_take 5 write_exact (λ v. write v.0 v.1.0 v.1.1) (λ v fits ok. (refl, (fits, written_bytes v.0 v.1.0 v.1.1 ok))) rest c ok e)) (λ e.
+    tried (eqb w.0.0 6) _ _ c e (λ is e. by 6 (omega arith) is (fields_take 6 cut_exact (λ v. cut v.0 v.1) (λ v fits ok. (refl, fits)) rest c ok e)) (λ e.
+    tried (eqb w.0.0 7) _ _ c e (λ is e. by 7 (omega arith) is (fields_take 7 change_mode_exact (λ v. change_mode v.0 v.1) (λ v fits ok. (refl, fits)) rest c ok e)) (λ e. absurd cc)))))))
 
 object_again : (made : Made) → KeepsMadeLimits made → made_in (kind_of_made made) (mode_of_made made) (text_bytes made) ≡ Some made
 unfolding made_in
@@ -132,7 +137,7 @@ change_again (link number parent name) is = rw byte_again (made_again link_exact
 change_again (unname parent name) is = rw byte_again (made_again unname_exact (λ v. unname v.0 v.1) (parent, name) is.fields)
 change_again (rename parent name new_parent new_name) is =
     rw byte_again (made_again rename_exact (λ v. rename v.0 v.1.0 v.1.1.0 v.1.1.1) (parent, (name, (new_parent, new_name))) is.fields)
-change_again (write number offset bytes) is = rw byte_again (made_again write_exact (λ v. write v.0 v.1.0 v.1.1) (number, (offset, bytes)) is.fields)
+change_again (write number offset bytes) is = rw byte_again (made_again write_exact (λ v. write v.0 v.1.0 v.1.1) (number, (offset, bytes)) is.fields.0)
 change_again (cut number size) is = rw byte_again (made_again cut_exact (λ v. cut v.0 v.1) (number, size) is.fields)
 change_again (change_mode number mode) is = rw byte_again (made_again change_mode_exact (λ v. change_mode v.0 v.1) (number, mode) is.fields)
 

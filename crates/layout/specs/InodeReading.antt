@@ -1,7 +1,7 @@
 -- Reading an inode, before its limits are looked at.
 use Rattle.std.specs.Prelude.{ℕ, ◌*◌, ◌/◌, min, List, drop, Option, Some, None, nat_le, ◌==◌, if◌then◌else◌}
 use Rattle.layout.specs.Reading.{◌>>=◌, is_zero, all_of}
-use Rattle.layout.specs.Inode.{inode_fields}
+use Rattle.layout.specs.Inode.{inode_fields, inode_head}
 use Rattle.layout.specs.Limits.{Sizes}
 use Rattle.layout.specs.Pointer.{pointers_in}
 use Rattle.layout.specs.Version.{level_of}
@@ -40,6 +40,11 @@ inode_of code mode links size level bytes =
 unfoldable pub inode_in : List ℕ → Option Inode
 inode_in bytes =
     all_of inode_fields.at bytes >>= λ v. inode_of v.0.0 v.0.1.0 v.0.1.1.0 v.0.1.1.1.0 v.0.1.1.1.1 v.1.1
+
+-- the kind and the links in the head of an inode
+unfoldable pub kind_and_links_in : List ℕ → Option (Kind × ℕ)
+kind_and_links_in bytes =
+    inode_head.at bytes >>= λ v. kind_of v.0.0 >>= λ kind. Some (kind, v.0.1.1.0)
 
 -- the sizes of an image that has an inode of this kind and size, if one has
 abbrev pub likely_blocks : Kind → ℕ → ℕ

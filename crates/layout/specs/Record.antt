@@ -1,5 +1,6 @@
 -- The body of a record of the log.
 use Rattle.std.specs.Prelude.{ℕ, ◌≤◌, ◌<◌, ◌^◌, List, [], ◌∷◌, ◌++◌, length}
+use Rattle.layout.specs.Bytes.{IsBytes}
 use Rattle.layout.specs.Format.{Format, num, counted, mode_bits, ◌▸◌}
 use Rattle.model.specs.Paths.{IsName}
 pub use Rattle.model.specs.Records.{Made, file, directory, symbolic_link, Change, create, link, unname, rename, write, cut, change_mode}
@@ -85,7 +86,7 @@ FitsFields (create number parent made name) = (number < 2 ^ 32) × (parent < 2 ^
 FitsFields (link number parent name) = link_fields.Fits (number, (parent, name))
 FitsFields (unname parent name) = unname_fields.Fits (parent, name)
 FitsFields (rename parent name new_parent new_name) = rename_fields.Fits (parent, (name, (new_parent, new_name)))
-FitsFields (write number offset bytes) = write_fields.Fits (number, (offset, bytes))
+FitsFields (write number offset bytes) = write_fields.Fits (number, (offset, bytes)) × IsBytes bytes
 FitsFields (cut number size) = cut_fields.Fits (number, size)
 FitsFields (change_mode number mode) = change_mode_fields.Fits (number, mode)
 

@@ -5,9 +5,9 @@ ghost use Rattle.layout.specs.Bytes.{Writes, zeros};
 ghost use Rattle.layout.specs.Pointer.{PointsBelow, pointers_bytes};
 ghost use Rattle.layout.specs.declared.pointer.Pointer.TheVariants.{Hole};
 ghost use Rattle.layout.specs.Inode.{IsInode, IsSomeInode, FitsKind, FitsBody, FitsInline, FitsPointers, body_bytes, inode_bytes, pointers_used};
-ghost use Rattle.layout.specs.Limits.{AreSizes};
+ghost use Rattle.layout.specs.Limits.{AreSizes, Sizes};
 ghost use Rattle.layout.specs.Version.{greatest_size};
-ghost use Rattle.layout.specs.InodeReading.{likely_blocks, likely_inodes, likely_sizes, body_in, inode_of, inode_in};
+ghost use Rattle.layout.specs.InodeReading.{likely_blocks, likely_inodes, likely_sizes, body_in, inode_of, inode_in, kind_and_links_in};
 ghost use Rattle.layout.specs.declared.inode.Inode.{Inode};
 
 use crate::fields::is_zero;
@@ -51,6 +51,15 @@ impl Inode {
             return None;
         };
         if inode.fits_some() { Some(inode) } else { None }
+    }
+
+    /// The kind and the links of the inode that these bytes spell, by its head alone; None where no head is.
+    pub fn kind_and_links(bytes: &[u8]) -> Option<(Kind, u32)>
+        ensures head { result ≡ kind_and_links_in bytes.now }
+        ensures only { (s : Sizes) (i : Inode) → IsInode VERSION s i → bytes.now ≡ inode_bytes i
+            → result ≡ Some (i.kind, i.links) }
+    {
+        read_kind_and_links(bytes)
     }
 
     /// Writes the inode's 192 bytes, and answers how many they are.
@@ -155,6 +164,19 @@ pub(crate) fn read_fields(bytes: &[u8]) -> Option<Inode>
     }
     let mode = Mode::new(mode).unwrap();
     made_inode(kind, mode, links, size, level, body)
+}
+
+// The kind and the links in these bytes, before the limits are looked at.
+#[tactic(auto, unfolding(crate::specs::InodeReading::kind_and_links_in))]
+fn read_kind_and_links(bytes: &[u8]) -> Option<(Kind, u32)>
+    ensures { result ≡ kind_and_links_in bytes.now }
+{
+    let (kind, bytes) = u16_at(bytes)?;
+    let (_, bytes) = mode_at(bytes)?;
+    let (links, bytes) = u32_at(bytes)?;
+    let (_, bytes) = u64_at(bytes)?;
+    let _ = u8_at(bytes)?;
+    Some((Kind::from_code(kind)?, links))
 }
 
 // The inode of these fields.

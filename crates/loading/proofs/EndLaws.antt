@@ -19,7 +19,6 @@ use Rattle.layout.specs.declared.inode.Body.{Body}
 use Rattle.layout.specs.declared.inode.Body.TheVariants.{Inline, Pointers}
 use Rattle.layout.specs.declared.inode.Inode.{Inode}
 use Rattle.layout.specs.declared.pointer.Pointer.{Pointer}
-use Rattle.layout.specs.declared.pointer.Pointer.TheVariants.{Hole}
 use Rattle.buffers.specs.Positions.{IsPart}
 use Rattle.blocktree.specs.Names.{AreNodes, nodes_at}
 use Rattle.blocktree.specs.PlaceMaps.{place_at}

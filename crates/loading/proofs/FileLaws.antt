@@ -1,5 +1,5 @@
 -- A settled file as the layers below read it, and as images hold it.
-use Rattle.std.proofs.Common.{◌≡◌, ◌↔◌, inl, inr, ℕ, suc, ◌+◌, ◌-◌, ◌/◌, ◌<◌, ◌≤◌, List, length, drop, refl, ap, sym, subst, ◌∙◌, arith, length-drop}
+use Rattle.std.proofs.Common.{◌≡◌, ◌↔◌, inl, inr, ℕ, suc, ◌+◌, ◌-◌, ◌/◌, ◌≤◌, List, length, refl, ap, sym, subst, ◌∙◌, arith}
 use Rattle.std.specs.Int.{div_ceil}
 use Rattle.std.proofs.lemmas.Bool.{cases_lt}
 use Rattle.std.proofs.lemmas.Bool.Decides.{nat_tests}
@@ -7,7 +7,6 @@ use Rattle.layout.specs.FileBytes.{byte_in, EndsAt}
 use Rattle.layout.specs.Inode.{FitsBody}
 use Rattle.layout.specs.Limits.{Sizes}
 use Rattle.layout.specs.Places.{Blocks, place, pointed}
-use Rattle.layout.specs.Bytes.{zeros}
 use Rattle.layout.specs.Version.{level_of}
 use Rattle.layout.specs.declared.inode.Body.{Body}
 use Rattle.layout.specs.declared.inode.Body.TheVariants.{Inline, Pointers}
@@ -18,7 +17,7 @@ use Rattle.layout.proofs.ZeroLaws.{length-zeros}
 use Rattle.buffers.specs.Disks.{IsWhole}
 use Rattle.blocktree.specs.Places.{depth_of, IsPath}
 use Rattle.images.specs.Faults.{IsMapGrammar}
-use Rattle.images.specs.Nodes.{body_block, held}
+use Rattle.images.specs.Nodes.{held}
 use Rattle.images.specs.Soundness.{Detail, nodes_of_size, IsHeldFile, HasNoHole, IsReadable}
 use Rattle.loading.specs.Readings.{IsBodyPath, IsMapFile, IsStored, IsWholeAt, IsWholeBody}
 use Rattle.loading.specs.Laws.{ReadAsHeld}

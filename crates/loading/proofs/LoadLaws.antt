@@ -26,7 +26,8 @@ use Rattle.inofile.specs.Inodes.{IsChanged}
 use Rattle.inofile.specs.Settled.{AreSettledIn, held_content}
 use Rattle.inofile.specs.Volumes.{IsVolumeIn, MapsVolume}
 use Rattle.inofile.specs.declared.inode_file.InodeFile.{InodeFile}
-use Rattle.images.specs.Contents.{HoldsVolume, content_bytes, content_of, tree_contents}
+use Rattle.images.specs.Contents.{content_bytes, content_of, tree_contents}
+use Rattle.images.specs.Sizes.{HoldsVolumeIn}
 use Rattle.images.specs.Nodes.{held}
 use Rattle.images.specs.Roots.{inode_part, tree, whole}
 use Rattle.images.specs.Soundness.{Detail, IsReadable}
@@ -92,8 +93,8 @@ module _ {detail : Detail} (l : TreesReadAsHeld) (disk : Blocks) (r : Root) (are
   pub numbers_are : (i : Inode) → tree disk r.geometry.inodes r.inode_file 1 ≡ held disk i → IsInodeMap 0 r.geometry.inodes (inode_bytes_of disk i)
   numbers_are i is = trees.is_map r.geometry are disk r.inode_file sound root l i is
 
-  pub hold_volume : (v : Volume) → HoldsVolume r.geometry.inodes (tree_contents (whole disk r).active) v
-      → HoldsVolume r.geometry.inodes (λ n. held_content disk (inodes_of (whole disk r).active n)) v
+  pub hold_volume : (v : Volume) → HoldsVolumeIn detail r.geometry.inodes (tree_contents (whole disk r).active) v
+      → HoldsVolumeIn detail r.geometry.inodes (λ n. held_content disk (inodes_of (whole disk r).active n)) v
   unfolding whole
   hold_volume v = trees.holds_volume r.geometry are disk r.inode_file sound root l v
 
@@ -140,7 +141,7 @@ module _ {detail : Detail} (l : TreesReadAsHeld) (disk : Blocks) (r : Root) (are
     pub inodes_loaded : (i : Inode) (bytes : List ℕ) (inodes : InodeFile) → tree disk r.geometry.inodes r.inode_file 1 ≡ held disk i → bytes ≡ inode_bytes_of disk i
         → inodes.geometry ≡ r.geometry → inodes.file ≡ file → inodes.numbers.bytes.items ≡ bytes → ((n : ℕ) → IsChanged inodes n → ⊥)
         → ((v : Volume) → AreSettledIn detail r.geometry.blocks disk r.geometry file (inodes_of (tree disk r.geometry.inodes r.inode_file)) → MapsVolume bytes v
-        → HoldsVolume r.geometry.inodes (λ n. held_content disk (inodes_of (tree disk r.geometry.inodes r.inode_file) n)) v
+        → HoldsVolumeIn detail r.geometry.inodes (λ n. held_content disk (inodes_of (tree disk r.geometry.inodes r.inode_file) n)) v
         → IsVolumeIn detail r.geometry.blocks disk (inodes_of (tree disk r.geometry.inodes r.inode_file)) inodes v)
         → AreInodesIn detail disk r.geometry (whole disk r).active inodes
     unfolding whole
@@ -166,7 +167,7 @@ module _ {detail : Detail} (l : TreesReadAsHeld) (disk : Blocks) (r : Root) (are
         → map.parts.items ≡ parts → map.count ≡ r.geometry.blocks → map.next ≡ 2
         → inodes.geometry ≡ r.geometry → inodes.file ≡ file → inodes.numbers.bytes.items ≡ bytes → ((n : ℕ) → IsChanged inodes n → ⊥)
         → ((v : Volume) → AreSettledIn detail r.geometry.blocks disk r.geometry file (inodes_of (tree disk r.geometry.inodes r.inode_file)) → MapsVolume bytes v
-        → HoldsVolume r.geometry.inodes (λ n. held_content disk (inodes_of (tree disk r.geometry.inodes r.inode_file) n)) v
+        → HoldsVolumeIn detail r.geometry.inodes (λ n. held_content disk (inodes_of (tree disk r.geometry.inodes r.inode_file) n)) v
         → IsVolumeIn detail r.geometry.blocks disk (inodes_of (tree disk r.geometry.inodes r.inode_file)) inodes v)
         → IsLoadedIn detail disk r map inodes
     unfolding whole

@@ -1,5 +1,5 @@
 -- Slots that can't be read.
-use Rattle.std.proofs.Common.{◌≡◌, ℕ, List, [], Option, None, Some, sym, ap, ◌∙◌, arith}
+use Rattle.std.proofs.Common.{◌≡◌, ℕ, List, [], None, sym, ap, ◌∙◌, arith}
 use Rattle.std.specs.Prelude.{slice_index}
 use Rattle.layout.specs.Root.{head_bytes}
 use Rattle.layout.specs.declared.root.Root.{Root}

@@ -19,7 +19,7 @@ use Rattle.loading.specs.Images.{IsReadable}
 pub readable : (disk : Blocks) (r : Root) (first : Volume) (snapshots : List (Name × Tree)) → Holds r (whole disk r) first snapshots → IsReadable disk r
 readable disk r first snapshots holds = record {
   sound = holds.sound.active;
-  root = directory_kind ((whole disk r).active 3).inode.kind r.geometry.inodes (content_of ((whole disk r).active 3)) (first 3) (holds.holds 3) holds.volume.graph.root;
+  root = directory_kind ((whole disk r).active 3).inode.kind r.geometry.inodes (content_of ((whole disk r).active 3)) (first 3) (holds.holds 3) holds.volume.graph.naming.root;
 }
 
 -- ---- the trees of snapshots
@@ -38,5 +38,5 @@ frozen_readable disk r first snapshots k s kept holds has frozen =
     record {
       sound = subst (IsSoundTree r.geometry) (sym same) (holds.sound.frozen k has.block has.there);
       root = subst (λ (x : HeldTree). (x 3).inode.kind ≡ kinds.Directory) (sym same)
-          (directory_kind (t 3).inode.kind r.geometry.inodes (content_of (t 3)) (frozen.0 3) (frozen.1 3) frozen.2.graph.root);
+          (directory_kind (t 3).inode.kind r.geometry.inodes (content_of (t 3)) (frozen.0 3) (frozen.1 3) frozen.2.graph.naming.root);
     }

@@ -1,5 +1,5 @@
 -- The snapshots of a root, slot by slot.
-use Rattle.std.proofs.Common.{◌≡◌, ◌<◌, ◌≤◌, ◌-◌, ◌↔◌, ◌++◌, length, ℕ, suc, Bool, true, false, not, eqb, Decides, refl, List, Some, sym, ap, arith, ◌∙◌}
+use Rattle.std.proofs.Common.{◌≡◌, ◌<◌, ◌-◌, ◌↔◌, ◌++◌, length, ℕ, suc, Bool, true, false, not, eqb, Decides, refl, List, Some, sym, ap, arith, ◌∙◌}
 use Rattle.std.specs.Prelude.{◌≢◌, IsTrue}
 use Rattle.std.proofs.lemmas.Bool.Decides.{nat_tests}
 use Rattle.std.proofs.lemmas.List.{length-append}

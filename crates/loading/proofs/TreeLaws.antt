@@ -20,9 +20,10 @@ use Rattle.inode.specs.Files as memory
 use Rattle.inode.specs.declared.file.File.{File}
 use Rattle.inofile.specs.Settled.{AreSettledIn, held_content}
 use Rattle.inofile.specs.Volumes.{MapsVolume}
-use Rattle.images.specs.Contents.{Content, HoldsVolume, StandsAs, content_bytes, content_of, tree_contents}
+use Rattle.images.specs.Contents.{Content, StandsAs, content_bytes, content_of, tree_contents}
 use Rattle.images.specs.Nodes.{file_block, held}
 use Rattle.images.specs.Roots.{HeldTree, free_inode, inode_bytes_at, inode_part, inode_under, tree}
+use Rattle.images.specs.Sizes.{HoldsVolumeIn, StandsAsIn, StandsForIn}
 use Rattle.images.specs.Soundness.{Detail, FitsNumber, IsHeldFile, IsOrdinary, IsReadable, MapsNumbers, SpellsInodes, by_bytes, by_sizes}
 use Rattle.images.specs.Faults.{IsMapGrammar}
 use Rattle.blockmap.specs.Maps.{settled_at, entry_at, IsTouched}
@@ -72,12 +73,20 @@ none_some is = cc
 
 some_used : (kind : Kind) (inodes : ℕ) (c : Content) (o : Option Node) → StandsAs kind inodes c o → IsSome o → kind ≢ kinds.Free
 some_used kinds.Free inodes c o stands some = absurd (none_some (subst IsSome stands some))
-some_used kinds.File inodes c o stands some = λ is. cc
-some_used kinds.Directory inodes c o stands some = λ is. cc
-some_used kinds.Link inodes c o stands some = λ is. cc
-some_used kinds.InodeFile inodes c o stands some = λ is. cc
-some_used kinds.InodeMap inodes c o stands some = λ is. cc
-some_used kinds.BlockMap inodes c o stands some = λ is. cc
+some_used kind inodes c o stands some = λ is. cc
+
+-- the same in so much detail
+used_in : (detail : Detail) (kind : Kind) (inodes : ℕ) (c : Content) (o : Option Node) → IsOrdinary kind → StandsAsIn detail kind inodes c o → kind ≢ kinds.Free → IsSome o
+used_in by_bytes kind inodes c o usual stands used = used_some kind inodes c o usual stands used
+used_in by_sizes kinds.File inodes c o usual stands used = subst IsSome (sym stands.3) refl
+used_in by_sizes kinds.Directory inodes c o usual stands used = subst IsSome (sym stands.1.2) refl
+used_in by_sizes kinds.Link inodes c o usual stands used = subst IsSome (sym stands.2) refl
+used_in by_sizes kind inodes c o usual stands used = used_some kind inodes c o usual stands used
+
+some_in : (detail : Detail) (kind : Kind) (inodes : ℕ) (c : Content) (o : Option Node) → StandsAsIn detail kind inodes c o → IsSome o → kind ≢ kinds.Free
+some_in by_bytes kind inodes c o stands some = some_used kind inodes c o stands some
+some_in by_sizes kinds.Free inodes c o stands some = absurd (none_some (subst IsSome stands some))
+some_in by_sizes kind inodes c o stands some = λ is. cc
 
 -- what is asked of a tree
 pub record IsTree (detail : Detail) (s : Sizes) (t : HeldTree) : Type 0 where
@@ -204,11 +213,11 @@ module _ {detail : Detail} (s : Sizes) (are : AreSizes s) (disk : Blocks) (top :
     reached = reached;
   }
 
-  pub holds_volume : (v : Volume) → HoldsVolume s.inodes (tree_contents (tree disk s.inodes top)) v
-      → HoldsVolume s.inodes (λ n. held_content disk (inodes_of (tree disk s.inodes top) n)) v
-  holds_volume v holds n = subst (λ h. StandsAs (content_of h).kind s.inodes (content_of h) (v n)) (sym (held_again n)) (holds n)
+  pub holds_volume : (v : Volume) → HoldsVolumeIn detail s.inodes (tree_contents (tree disk s.inodes top)) v
+      → HoldsVolumeIn detail s.inodes (λ n. held_content disk (inodes_of (tree disk s.inodes top) n)) v
+  holds_volume v holds n = subst (λ h. StandsForIn detail s.inodes (content_of h) (v n)) (sym (held_again n)) (holds n)
 
-  pub maps_volume : (v : Volume) → HoldsVolume s.inodes (tree_contents (tree disk s.inodes top)) v
+  pub maps_volume : (v : Volume) → HoldsVolumeIn detail s.inodes (tree_contents (tree disk s.inodes top)) v
       → MapsVolume (content_bytes (content_of (tree disk s.inodes top 1))) v
   maps_volume v holds n = elim (cases_lt n 4) [
     | inl low ↦ (λ _. inl low, λ _. (sound.numbers n).1 (inl low))
@@ -216,11 +225,11 @@ module _ {detail : Detail} (s : Sizes) (are : AreSizes s) (disk : Blocks) (top :
         let usual : IsOrdinary (tree disk s.inodes top n).inode.kind = ordinary_kind n (tree disk s.inodes top n).inode.kind (omega arith) (sound.kinds n) in (
           (λ taken. elim ((sound.numbers n).0 taken) [
             | inl low ↦ inl low
-            | inr used ↦ inr (used_some (tree disk s.inodes top n).inode.kind s.inodes (content_of (tree disk s.inodes top n)) (v n) usual (holds n) used)
+            | inr used ↦ inr (used_in detail (tree disk s.inodes top n).inode.kind s.inodes (content_of (tree disk s.inodes top n)) (v n) usual (holds n) used)
           ]),
           (λ which. elim which [
             | inl low ↦ (sound.numbers n).1 (inl low)
-            | inr some ↦ (sound.numbers n).1 (inr (some_used (tree disk s.inodes top n).inode.kind s.inodes (content_of (tree disk s.inodes top n)) (v n) (holds n) some))
+            | inr some ↦ (sound.numbers n).1 (inr (some_in detail (tree disk s.inodes top n).inode.kind s.inodes (content_of (tree disk s.inodes top n)) (v n) (holds n) some))
           ]),
         )
   ]

@@ -19,9 +19,10 @@ use Rattle.inofile.specs.Volumes.{IsVolumeIn}
 use Rattle.inofile.specs.declared.inode_file.InodeFile.{InodeFile}
 use Rattle.blockmap.specs.Maps.{settled_at, entry_at, IsTouched}
 use Rattle.blockmap.specs.declared.map.BlockMap.{BlockMap}
-use Rattle.images.specs.Contents.{HoldsVolume, content_bytes, content_of, tree_contents}
+use Rattle.images.specs.Contents.{content_bytes, content_of, tree_contents}
 use Rattle.images.specs.BlockMap.{entry}
 use Rattle.images.specs.Roots.{HeldTree, whole}
+use Rattle.images.specs.Sizes.{HoldsVolumeIn}
 use Rattle.images.specs.Soundness.{Detail, IsSoundTree, MapsNumbers, by_bytes, by_sizes}
 use Rattle.images.specs.Faults.{IsTreeGrammar}
 
@@ -63,7 +64,7 @@ pub record AreInodesIn (detail : Detail) (disk : Blocks) (s : Sizes) (t : HeldTr
   pub settled : AreSettledIn detail s.blocks disk s inodes.file (inodes_of t)
   pub numbers : inodes.numbers.bytes.items ≡ content_bytes (content_of (t 1))
   pub unchanged : (n : ℕ) → IsChanged inodes n → ⊥
-  pub volume : (v : Volume) → HoldsVolume s.inodes (tree_contents t) v
+  pub volume : (v : Volume) → HoldsVolumeIn detail s.inodes (tree_contents t) v
       → IsVolumeIn detail s.blocks disk (inodes_of t) inodes v
 
 abbrev pub AreInodesOf : Blocks → Sizes → HeldTree → InodeFile → Type 0

@@ -65,7 +65,7 @@ module _ (v new : Volume) (graph : IsGraph v) (w : Path) (b : Name) (k n : ℕ) 
           | inl (same_z, name_z, to_z) ↦ absurd (n_once (ap (λ l. is_file_node (new l)) (sym to_z) ∙ no_file) j y (old.1 ∙ ap (λ l. Some l) to_z))
           | inr old_z ↦ elim (cases_eq m n) [
             | inl is ↦ absurd (n_once (ap (λ l. is_file_node (new l)) (sym is) ∙ no_file) j y (old.1 ∙ ap (λ l. Some l) is))
-            | inr other ↦ graph.once j i m y z old.1 old_z.1 (sym (others m other).file ∙ no_file)
+            | inr other ↦ graph.naming.once j i m y z old.1 old_z.1 (sym (others m other).file ∙ no_file)
           ]
         ]
       ]
@@ -95,7 +95,7 @@ module _ (v new : Volume) (graph : IsGraph v) (w : Path) (b : Name) (k n : ℕ) 
         | inl same ↦ (place, put_here ∙ ap (λ l. Some l) (sym same))
         | inr other ↦
             let kept_m = others m other in
-            let old = graph.reached m (sym kept_m.some ∙ some) (sym kept_m.file ∙ no_file) in (
+            let old = graph.naming.reached m (sym kept_m.some ∙ some) (sym kept_m.file ∙ no_file) in (
               old.0,
               put_other old.0 (λ is. let none : None ≡ Some m = sym at_place ∙ ap (number_at e) (sym is) ∙ old.1 in cc) ∙ old.1,
             )
@@ -103,19 +103,21 @@ module _ (v new : Volume) (graph : IsGraph v) (w : Path) (b : Name) (k n : ℕ) 
 
   pub graph-added : IsGraph new
   graph-added = record {
-    root = (others 3 (λ e. no_root (sym e))).directory ∙ graph.root;
-    not_root = λ j y is. elim (edge_of j y 3 is) [ inl (same, name, to) ↦ no_root (sym to) | inr old ↦ graph.not_root j y old.1 ];
-    used = λ j m y is. elim (edge_of j y m is) [
-      | inl (same, name, to) ↦ ap (λ l. is_some (new l)) to ∙ n_some
-      | inr old ↦ elim (cases_eq m n) [
-        | inl same ↦ ap (λ l. is_some (new l)) same ∙ n_some
-        | inr other ↦ (others m other).some ∙ graph.used j m y old.1
-      ]
-    ];
-    once = once_new;
-    names = λ j y some. let m = some_value (entries new j y) some in elim (edge_of j y m.0 m.1) [ inl (same, name, to) ↦ subst IsName (sym name) good | inr old ↦ graph.names j y (ap is_some old.1) ];
+    naming = record {
+      root = (others 3 (λ e. no_root (sym e))).directory ∙ graph.naming.root;
+      not_root = λ j y is. elim (edge_of j y 3 is) [ inl (same, name, to) ↦ no_root (sym to) | inr old ↦ graph.naming.not_root j y old.1 ];
+      used = λ j m y is. elim (edge_of j y m is) [
+        | inl (same, name, to) ↦ ap (λ l. is_some (new l)) to ∙ n_some
+        | inr old ↦ elim (cases_eq m n) [
+          | inl same ↦ ap (λ l. is_some (new l)) same ∙ n_some
+          | inr other ↦ (others m other).some ∙ graph.naming.used j m y old.1
+        ]
+      ];
+      once = once_new;
+      names = λ j y some. let m = some_value (entries new j y) some in elim (edge_of j y m.0 m.1) [ inl (same, name, to) ↦ subst IsName (sym name) good | inr old ↦ graph.naming.names j y (ap is_some old.1) ];
+      reached = reached_new;
+    };
     counts = count_new;
-    reached = reached_new;
   }
 
 pub more_kept : (v : Volume) (n j : ℕ) → Kept (v j) (with_node n (with_name_more (v n)) v j)
@@ -134,7 +136,7 @@ edges-linked v k b n k_is =
 pub graph-linked : (v : Volume) → IsGraph v → (w : Path) (b : Name) (k n mode links : ℕ) (bytes : List ℕ) → number_at (entries v) w ≡ Some k → is_directory_node (v k) ≡ true → entries v k b ≡ None → IsName b → v n ≡ Some (file_node mode links bytes) → IsGraph (linked n k b v)
 graph-linked v graph w b k n mode links bytes at_k k_is free good a_file =
     graph-added v (linked n k b v) graph w b k n at_k k_is free good apart
-    (λ e. false≢true (sym (ap is_directory_node a_file) ∙ ap (λ m. is_directory_node (v m)) e ∙ graph.root))
+    (λ e. false≢true (sym (ap is_directory_node a_file) ∙ ap (λ m. is_directory_node (v m)) e ∙ graph.naming.root))
     (λ x. file_no_names (v n) (ap is_file_node a_file) x) (edges-linked v k b n k_is) (λ m other. all m) files
     ((all n).some ∙ ap is_some a_file)
     (λ no_file. absurd (false≢true (sym no_file ∙ (all n).file ∙ ap is_file_node a_file)))
@@ -159,7 +161,7 @@ pub vacant_unnamed : (v : Volume) → IsGraph v → (n : ℕ) → is_vacant (v n
 vacant_unnamed v graph n vacant j y is = by_node (v n) refl vacant
   where
     by_node : (o : Option Node) → v n ≡ o → is_vacant o ≡ true → ⊥
-    by_node None there e = false≢true (sym (ap is_some there) ∙ graph.used j n y is)
+    by_node None there e = false≢true (sym (ap is_some there) ∙ graph.naming.used j n y is)
     by_node (Some (directory_node mode names)) there e = false≢true e
     by_node (Some (link_node text)) there e = false≢true e
     by_node (Some (file_node mode (suc links) bytes)) there e = false≢true e
@@ -189,7 +191,7 @@ edges-created v graph k b n node k_is vacant leaf =
 pub graph-created : (v : Volume) → IsGraph v → (w : Path) (b : Name) (k n : ℕ) (node : Node) → number_at (entries v) w ≡ Some k → is_directory_node (v k) ≡ true → entries v k b ≡ None → IsName b → is_vacant (v n) ≡ true → ((x : Name) → names_in (Some node) x ≡ None) → ((mode links : ℕ) (bytes : List ℕ) → Some node ≡ Some (file_node mode links bytes) → links ≡ 1) → IsGraph (created n k b node v)
 graph-created v graph w b k n node at_k k_is free good vacant leaf one_link =
     graph-added v (created n k b node v) graph w b k n at_k k_is free good (vacant_apart v n k vacant k_is)
-    (λ e. false≢true (sym (vacant_other (v n) vacant) ∙ ap (λ m. is_directory_node (v m)) e ∙ graph.root))
+    (λ e. false≢true (sym (vacant_other (v n) vacant) ∙ ap (λ m. is_directory_node (v m)) e ∙ graph.naming.root))
     (vacant_bare (v n) vacant) (edges-created v graph k b n node k_is vacant leaf)
     (λ m other. kept_through (v m) (with_node n (Some node) v m) (created n k b node v m) (subst (Kept (v m)) (sym (node_other n m (Some node) v other)) (kept (v m))) (entry_keeps k b (Some n) (with_node n (Some node) v) m))
     (λ m mode links bytes other is. sym (node_other n m (Some node) v other) ∙ entry_was mode links bytes k b (Some n) (with_node n (Some node) v) m is)
@@ -225,13 +227,15 @@ module _ (v : Volume) (graph : IsGraph v) (n : ℕ) (o : Option Node) (names : (
 
   pub graph-altered : IsGraph altered
   graph-altered = record {
-    root = same_by is_directory_node directory 3 ∙ graph.root;
-    not_root = λ d x is. graph.not_root d x (ap (λ e. e d x) (sym same_entries) ∙ is);
-    used = λ d m x is. same_by is_some some m ∙ graph.used d m x (ap (λ e. e d x) (sym same_entries) ∙ is);
-    once = λ d k m x y at_x at_y no_file. graph.once d k m x y (ap (λ e. e d x) (sym same_entries) ∙ at_x) (ap (λ e. e k y) (sym same_entries) ∙ at_y) (sym (same_by is_file_node file m) ∙ no_file);
-    names = λ d x is. graph.names d x (ap (λ e. is_some (e d x)) (sym same_entries) ∙ is);
+    naming = record {
+      root = same_by is_directory_node directory 3 ∙ graph.naming.root;
+      not_root = λ d x is. graph.naming.not_root d x (ap (λ e. e d x) (sym same_entries) ∙ is);
+      used = λ d m x is. same_by is_some some m ∙ graph.naming.used d m x (ap (λ e. e d x) (sym same_entries) ∙ is);
+      once = λ d k m x y at_x at_y no_file. graph.naming.once d k m x y (ap (λ e. e d x) (sym same_entries) ∙ at_x) (ap (λ e. e k y) (sym same_entries) ∙ at_y) (sym (same_by is_file_node file m) ∙ no_file);
+      names = λ d x is. graph.naming.names d x (ap (λ e. is_some (e d x)) (sym same_entries) ∙ is);
+      reached = λ m is no_file. let old = graph.naming.reached m (sym (same_by is_some some m) ∙ is) (sym (same_by is_file_node file m) ∙ no_file) in (old.0, ap (λ e. number_at e old.0) same_entries ∙ old.1);
+    };
     counts = λ m mode links bytes is. let old = was_file m mode links bytes is in subst (λ e. HasNames e m links) (sym same_entries) (graph.counts m old.0 links old.1 old.2);
-    reached = λ m is no_file. let old = graph.reached m (sym (same_by is_some some m) ∙ is) (sym (same_by is_file_node file m) ∙ no_file) in (old.0, ap (λ e. number_at e old.0) same_entries ∙ old.1);
   }
 
 -- what a sweep drops has no names and none leads to it
@@ -262,16 +266,18 @@ module _ (v : Volume) (graph : IsGraph v) (table : ℕ → Option Description) w
 
   pub graph-swept : IsGraph (swept table v)
   graph-swept = record {
-    root = root_stays (is_open table 32 3) (v 3) graph.root;
-    not_root = λ d x is. graph.not_root d x (ap (λ e. e d x) (sym same_swept) ∙ is);
-    used = λ d m x is. let there = ap (λ e. e d x) (sym same_swept) ∙ is in ap is_some (named_stays d m x there) ∙ graph.used d m x there;
-    once = λ d k m x y at_x at_y no_file.
-        let there = ap (λ e. e d x) (sym same_swept) ∙ at_x in
-        graph.once d k m x y there (ap (λ e. e k y) (sym same_swept) ∙ at_y) (ap is_file_node (sym (named_stays d m x there)) ∙ no_file);
-    names = λ d x is. graph.names d x (ap (λ e. is_some (e d x)) (sym same_swept) ∙ is);
+    naming = record {
+      root = root_stays (is_open table 32 3) (v 3) graph.naming.root;
+      not_root = λ d x is. graph.naming.not_root d x (ap (λ e. e d x) (sym same_swept) ∙ is);
+      used = λ d m x is. let there = ap (λ e. e d x) (sym same_swept) ∙ is in ap is_some (named_stays d m x there) ∙ graph.naming.used d m x there;
+      once = λ d k m x y at_x at_y no_file.
+          let there = ap (λ e. e d x) (sym same_swept) ∙ at_x in
+          graph.naming.once d k m x y there (ap (λ e. e k y) (sym same_swept) ∙ at_y) (ap is_file_node (sym (named_stays d m x there)) ∙ no_file);
+      names = λ d x is. graph.naming.names d x (ap (λ e. is_some (e d x)) (sym same_swept) ∙ is);
+      reached = λ m is no_file.
+          let same = swept_is m is in
+          let old = graph.naming.reached m (ap is_some (sym same) ∙ is) (ap is_file_node (sym same) ∙ no_file) in
+          (old.0, ap (λ e. number_at e old.0) same_swept ∙ old.1);
+    };
     counts = λ m mode links bytes is. subst (λ e. HasNames e m links) (sym same_swept) (graph.counts m mode links bytes (sym (swept_is m (ap is_some is)) ∙ is));
-    reached = λ m is no_file.
-        let same = swept_is m is in
-        let old = graph.reached m (ap is_some (sym same) ∙ is) (ap is_file_node (sym same) ∙ no_file) in
-        (old.0, ap (λ e. number_at e old.0) same_swept ∙ old.1);
   }

@@ -188,7 +188,7 @@ module _ (e : Entries) (w p : Path) (trail : List ℕ) (n : ℕ) (trails : Trail
       (length p - 1, below, sym (here-take (length p - 1) below) ∙ ap (λ j. here (take j trail)) (omega (arith, some)) ∙ some_same at)
 
 pub resolves_by_numbers : ResolvesByNumbers
-resolves_by_numbers inodes v table follow text volume = finds_from_root v volume.graph.used table follow text
+resolves_by_numbers inodes v table follow text volume = finds_from_root v volume.graph.naming.used table follow text
 
 some_behind : (o : Option Path) → is_some o ≡ true → (s : Path) × (o ≡ Some s)
 some_behind None some = absurd (false≢true some)

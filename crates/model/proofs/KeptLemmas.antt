@@ -253,7 +253,7 @@ module _ (v : Volume) (volume : IsGraph v) (u w : Path) (a b : Name) (d k n : �
     old_kept j y m old =
         keeps m (λ target. elim (cases_Bool (is_file_node (v m))) [
           | inl a_file ↦ a_file
-          | inr no_file ↦ let same = volume.once j k m y b old.0 target no_file in absurd (old.2 same.0 same.1)
+          | inr no_file ↦ let same = volume.naming.once j k m y b old.0 target no_file in absurd (old.2 same.0 same.1)
         ])
 
     n_kept : Kept (v n) (new n)
@@ -265,7 +265,7 @@ module _ (v : Volume) (volume : IsGraph v) (u w : Path) (a b : Name) (d k n : �
     once_new : (j i m : ℕ) (y z : Name) → entries new j y ≡ Some m → entries new i z ≡ Some m → is_file_node (new m) ≡ false → (j ≡ i) × (y ≡ z)
     once_new j i m y z at_y at_z no_file =
         let plain : is_file_node (v m) ≡ false = sym (edge_kept j y m at_y).file ∙ no_file in
-        let n_only : (l : ℕ) (x : Name) → m ≡ n → IsOld l x m → ⊥ = λ l x is old. let same = volume.once l d m x a old.0 (there ∙ ap (λ o. Some o) (sym is)) plain in old.1 same.0 same.1 in
+        let n_only : (l : ℕ) (x : Name) → m ≡ n → IsOld l x m → ⊥ = λ l x is old. let same = volume.naming.once l d m x a old.0 (there ∙ ap (λ o. Some o) (sym is)) plain in old.1 same.0 same.1 in
         elim (edge_of j y m at_y) [
           | inl (same, name, to) ↦ elim (edge_of i z m at_z) [
             | inl (same_z, name_z, to_z) ↦ (same ∙ sym same_z, name ∙ sym name_z)
@@ -273,7 +273,7 @@ module _ (v : Volume) (volume : IsGraph v) (u w : Path) (a b : Name) (d k n : �
           ]
           | inr old ↦ elim (edge_of i z m at_z) [
             | inl (same_z, name_z, to_z) ↦ absurd (n_only j y to_z old)
-            | inr old_z ↦ volume.once j i m y z old.0 old_z.0 plain
+            | inr old_z ↦ volume.naming.once j i m y z old.0 old_z.0 plain
           ]
         ]
 
@@ -312,7 +312,7 @@ module _ (v : Volume) (volume : IsGraph v) (u w : Path) (a b : Name) (d k n : �
           ]
           | inr other ↦
               let same = keeps m (λ target. absurd (other target)) in
-              let old = volume.reached m (sym same.some ∙ some) (sym same.file ∙ no_file) in
+              let old = volume.naming.reached m (sym same.some ∙ some) (sym same.file ∙ no_file) in
               path_to m other old.0 old.1
         ]
 
@@ -354,14 +354,16 @@ module _ (v : Volume) (volume : IsGraph v) (u w : Path) (a b : Name) (d k n : �
 
     pub volume-renamed : IsGraph new
     volume-renamed = record {
-      root = (keeps 3 (λ target. absurd (volume.not_root k b target))).directory ∙ volume.root;
-      not_root = λ j y is. elim (edge_of j y 3 is) [ inl (same, name, to) ↦ volume.not_root d a (there ∙ ap (λ m. Some m) (sym to)) | inr old ↦ volume.not_root j y old.0 ];
-      used = λ j m y is. (edge_kept j y m is).some ∙ elim (edge_of j y m is) [
-        | inl (same, name, to) ↦ volume.used d m a (there ∙ ap (λ i. Some i) (sym to))
-        | inr old ↦ volume.used j m y old.0
-      ];
-      once = once_new;
-      names = λ j y some. let m = some_value (entries new j y) some in elim (edge_of j y m.0 m.1) [ inl (same, name, to) ↦ subst IsName (sym name) good | inr old ↦ volume.names j y (ap is_some old.0) ];
+      naming = record {
+        root = (keeps 3 (λ target. absurd (volume.naming.not_root k b target))).directory ∙ volume.naming.root;
+        not_root = λ j y is. elim (edge_of j y 3 is) [ inl (same, name, to) ↦ volume.naming.not_root d a (there ∙ ap (λ m. Some m) (sym to)) | inr old ↦ volume.naming.not_root j y old.0 ];
+        used = λ j m y is. (edge_kept j y m is).some ∙ elim (edge_of j y m is) [
+          | inl (same, name, to) ↦ volume.naming.used d m a (there ∙ ap (λ i. Some i) (sym to))
+          | inr old ↦ volume.naming.used j m y old.0
+        ];
+        once = once_new;
+        names = λ j y some. let m = some_value (entries new j y) some in elim (edge_of j y m.0 m.1) [ inl (same, name, to) ↦ subst IsName (sym name) good | inr old ↦ volume.naming.names j y (ap is_some old.0) ];
+        reached = reached_new;
+      };
       counts = count_new;
-      reached = reached_new;
     }

@@ -39,7 +39,7 @@ module _ (v : Volume) (volume : IsGraph v) (table : ℕ → Option Description) 
   t = tree_of v table
 
   reached : (d : ℕ) → is_directory_node (v d) ≡ true → (p : Path) × (number_at (entries v) p ≡ Some d)
-  reached d is = volume.reached d (directory_some (v d) is) (directory_no_file (v d) is)
+  reached d is = volume.naming.reached d (directory_some (v d) is) (directory_no_file (v d) is)
 
   abbrev path_by : (d : ℕ) → (is_directory_node (v d) ≡ true) ⊎ (is_directory_node (v d) ≡ false) → Path
   path_by d (inl is) = (reached d is).0
@@ -82,7 +82,7 @@ module _ (v : Volume) (volume : IsGraph v) (table : ℕ → Option Description) 
     where
       back_to : (p : Path) → t.objects p ≡ Some (file n) → (entries v (place_of p).0 (place_of p).1 ≡ Some n) × (path_of (place_of p) ≡ p)
       back_to p is = elim (ends p) [
-        | inl e ↦ absurd (no_file_object (v 3) 3 n volume.root (ap t.objects (sym e) ∙ is))
+        | inl e ↦ absurd (no_file_object (v 3) 3 n volume.naming.root (ap t.objects (sym e) ∙ is))
         | inr (u, x, e) ↦
             let last = last_step (entries v) u x n (ap (number_at (entries v)) (sym e) ∙ object_number v (number_at (entries v) p) n is) in
             let place : place_of p ≡ (last.0, x) = place-push p (ends p) u x last.0 e last.1 in

@@ -135,7 +135,7 @@ module _ (inodes : ℕ) (v : Volume) (volume : IsVolume inodes v) (table : ℕ �
             let last = last_step (entries v) u x n (ap (number_at (entries v)) (sym e) ∙ at_p) in
             let size : length p ≡ length (u ++ x ∷ []) = ap length e in
             subst (All IsName) (sym e)
-            (All-push IsName u x (names_upto bound u last.0 (omega (arith, short, size, length-append u (x ∷ []))) last.1) (volume.graph.names last.0 x (ap is_some last.2)))
+            (All-push IsName u x (names_upto bound u last.0 (omega (arith, short, size, length-append u (x ∷ []))) last.1) (volume.graph.naming.names last.0 x (ap is_some last.2)))
       ]
 
   names_are : (p : Path) → IsSome (t.objects p) → All IsName p
@@ -170,7 +170,7 @@ module _ (inodes : ℕ) (v : Volume) (volume : IsVolume inodes v) (table : ℕ �
   bytes_are n = (λ some. file_used n (sym (file_bytes (v n)) ∙ some), λ used. file_bytes (v n) ∙ used_file n used)
 
   directory_stands : (n : ℕ) → is_directory_node (v n) ≡ true → StandsAtPath t directory n
-  directory_stands n is = let path = volume.graph.reached n (directory_some (v n) is) (directory_no_file (v n) is) in (path.0, object_is path.0 n path.1 ∙ node_directory n (v n) is)
+  directory_stands n is = let path = volume.graph.naming.reached n (directory_some (v n) is) (directory_no_file (v n) is) in (path.0, object_is path.0 n path.1 ∙ node_directory n (v n) is)
 
   modes_are : (n : ℕ) → IsSome (t.mode n) ↔ (StandsAtPath t directory n ⊎ StandsAtPath t file n ⊎ IsOpen t n)
   modes_are n = (
@@ -212,7 +212,7 @@ module _ (inodes : ℕ) (v : Volume) (volume : IsVolume inodes v) (table : ℕ �
           let counts = volume.limits.children d in (
             counts.0,
             same_count (λ x. IsSome (entries v d x)) (λ x. IsSome (t.objects (p ++ x ∷ []))) counts.0
-                (λ x. let same : is_some (t.objects (p ++ x ∷ [])) ≡ is_some (entries v d x) = ap (λ o. is_some (object_at v o)) (number_at-push (entries v) p x ∙ ap (λ o. enter (entries v) o x) at_p) ∙ entry_some (entries v d x) (λ n there. volume.graph.used d n x there) in
+                (λ x. let same : is_some (t.objects (p ++ x ∷ [])) ≡ is_some (entries v d x) = ap (λ o. is_some (object_at v o)) (number_at-push (entries v) p x ∙ ap (λ o. enter (entries v) o x) at_p) ∙ entry_some (entries v d x) (λ n there. volume.graph.naming.used d n x there) in
                 (λ some. same ∙ some, λ some. sym same ∙ some)) counts.1,
             counts.2,
           )
@@ -230,7 +230,7 @@ module _ (inodes : ℕ) (v : Volume) (volume : IsVolume inodes v) (table : ℕ �
 
   pub tree_of_is_tree : IsTree inodes t
   tree_of_is_tree = record {
-    root = node_directory ROOT_NUMBER (v ROOT_NUMBER) volume.graph.root;
+    root = node_directory ROOT_NUMBER (v ROOT_NUMBER) volume.graph.naming.root;
     above = above_is;
     names = names_are;
     single = single_is;

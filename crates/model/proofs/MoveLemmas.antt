@@ -22,7 +22,7 @@ use Rattle.model.proofs.EditLaws.{written_short, length-resized}
 
 -- the path of a directory
 pub path_to : (v : Volume) → IsGraph v → (d : ℕ) → is_directory_node (v d) ≡ true → (p : Path) × (number_at (entries v) p ≡ Some d)
-path_to v graph d is = graph.reached d (directory_some (v d) is) (directory_no_file (v d) is)
+path_to v graph d is = graph.naming.reached d (directory_some (v d) is) (directory_no_file (v d) is)
 
 -- An object n goes from the name a in the directory d at u to the name b in the directory k at w.
 pub record IsMove (v : Volume) (u w : Path) (a b : Name) (d k n : ℕ) : Type 0 where

@@ -156,7 +156,7 @@ module _ (inodes : ℕ) (v : Volume) (volume : IsVolume inodes v) (table : ℕ �
     other_than_parent e = false≢true (sym (ap is_directory_node free) ∙ ap (λ n. is_directory_node (v n)) e ∙ can.takes.directory)
 
     not_root : number ≢ 3
-    not_root e = false≢true (sym (ap is_directory_node free) ∙ ap (λ n. is_directory_node (v n)) e ∙ graph.root)
+    not_root e = false≢true (sym (ap is_directory_node free) ∙ ap (λ n. is_directory_node (v n)) e ∙ graph.naming.root)
 
     objects : (tree_of new table).objects ≡ put_at q (object_of number (Some (node_of made))) t.objects
     objects =

@@ -82,7 +82,7 @@ module _ (v : Volume) (volume : IsGraph v) (table : ℕ → Option Description) 
       elim (ends r) [
         | inl e ↦
             let three : 3 ≡ n = some_same (ap (number_at (entries v)) (sym e) ∙ at_r) in
-            let root : is_directory_node (Some (file_node mode 0 bytes)) ≡ true = ap is_directory_node (sym is ∙ ap v (sym three)) ∙ volume.root in
+            let root : is_directory_node (Some (file_node mode 0 bytes)) ≡ true = ap is_directory_node (sym is ∙ ap v (sym three)) ∙ volume.naming.root in
             false≢true root
         | inr (u, x, e) ↦
             let last = last_step (entries v) u x n (ap (number_at (entries v)) (sym e) ∙ at_r) in
@@ -113,12 +113,12 @@ module _ (v : Volume) (volume : IsGraph v) (table : ℕ → Option Description) 
   -- what a sweep leaves is used
   used_by : (n : ℕ) (o : Option Node) → v n ≡ o → swept_node (is_open table 32 n) o ≢ None → IsUsed (tree_of v table) n
   used_by n None is stays = absurd (stays refl)
-  used_by n (Some (directory_node mode names)) is stays = let path = volume.reached n (ap is_some is) (ap is_file_node is) in at_path n path.0 path.1 (ap is_some is)
-  used_by n (Some (link_node text)) is stays = let path = volume.reached n (ap is_some is) (ap is_file_node is) in at_path n path.0 path.1 (ap is_some is)
+  used_by n (Some (directory_node mode names)) is stays = let path = volume.naming.reached n (ap is_some is) (ap is_file_node is) in at_path n path.0 path.1 (ap is_some is)
+  used_by n (Some (link_node text)) is stays = let path = volume.naming.reached n (ap is_some is) (ap is_file_node is) in at_path n path.0 path.1 (ap is_some is)
   used_by n (Some (file_node mode (suc links) bytes)) is stays =
       let name = count_some (entries v) n links (volume.counts n mode (suc links) bytes is) in
       let a_directory = enters_directory (v name.0) name.1 n name.2 in
-      let path = volume.reached name.0 (directory_some (v name.0) a_directory) (directory_no_file (v name.0) a_directory) in
+      let path = volume.naming.reached name.0 (directory_some (v name.0) a_directory) (directory_no_file (v name.0) a_directory) in
       at_path n (path.0 ++ name.1 ∷ []) (number_at-push (entries v) path.0 name.1 ∙ ap (λ o. enter (entries v) o name.1) path.1 ∙ name.2) (ap is_some is)
   used_by n (Some (file_node mode zero bytes)) is stays =
       elim (cases_Bool (is_open table 32 n)) [

@@ -48,7 +48,7 @@ module _ (v : Volume) (volume : IsGraph v) (w : Path) (b : Name) (k n : ℕ) (at
   old_kept j y m old =
       keeps m (λ target. elim (cases_Bool (is_file_node (v m))) [
         | inl a_file ↦ a_file
-        | inr no_file ↦ let same = volume.once j k m y b old.1 target no_file in absurd (old.0 same.0 same.1)
+        | inr no_file ↦ let same = volume.naming.once j k m y b old.1 target no_file in absurd (old.0 same.0 same.1)
       ])
 
   new_edge : (j : ℕ) (y : Name) → (j ≡ k → y ≢ b) → entries new j y ≡ e j y
@@ -89,7 +89,7 @@ module _ (v : Volume) (volume : IsGraph v) (w : Path) (b : Name) (k n : ℕ) (at
               absurd (false≢true (sym none ∙ sym (entry_keeps k b None less m).some ∙ some))
           | inr other ↦
               let kept_m = keeps m (λ t. absurd (other (is_n m t))) in
-              let old = volume.reached m (sym kept_m.some ∙ some) plain in (
+              let old = volume.naming.reached m (sym kept_m.some ∙ some) plain in (
                 old.0,
                 ap (λ f. number_at f old.0) edges
                     ∙ number_at-put e w b k None at_k (λ s is. alone v volume s w k is at_k (directory_no_file (v k) k_is)) nothing_below (λ x. refl) old.0
@@ -101,13 +101,15 @@ module _ (v : Volume) (volume : IsGraph v) (w : Path) (b : Name) (k n : ℕ) (at
 
   pub volume-unnamed : IsGraph new
   volume-unnamed = record {
-    root = (keeps 3 (λ t. absurd (volume.not_root k b t))).directory ∙ volume.root;
-    not_root = λ j y is. volume.not_root j y (edge_of j y 3 is).1;
-    used = λ j m y is. (old_kept j y m (edge_of j y m is)).some ∙ volume.used j m y (edge_of j y m is).1;
-    once = λ j i m y z at_y at_z no_file. volume.once j i m y z (edge_of j y m at_y).1 (edge_of i z m at_z).1 (sym (old_kept j y m (edge_of j y m at_y)).file ∙ no_file);
-    names = λ j y some. let m = some_value (entries new j y) some in volume.names j y (ap is_some (edge_of j y m.0 m.1).1);
+    naming = record {
+      root = (keeps 3 (λ t. absurd (volume.naming.not_root k b t))).directory ∙ volume.naming.root;
+      not_root = λ j y is. volume.naming.not_root j y (edge_of j y 3 is).1;
+      used = λ j m y is. (old_kept j y m (edge_of j y m is)).some ∙ volume.naming.used j m y (edge_of j y m is).1;
+      once = λ j i m y z at_y at_z no_file. volume.naming.once j i m y z (edge_of j y m at_y).1 (edge_of i z m at_z).1 (sym (old_kept j y m (edge_of j y m at_y)).file ∙ no_file);
+      names = λ j y some. let m = some_value (entries new j y) some in volume.naming.names j y (ap is_some (edge_of j y m.0 m.1).1);
+      reached = reached_new;
+    };
     counts = count_new;
-    reached = reached_new;
   }
 
   -- what stands somewhere afterwards, or is open, has its bytes and its mode
@@ -122,7 +124,7 @@ module _ (v : Volume) (volume : IsGraph v) (w : Path) (b : Name) (k n : ℕ) (at
       by_end (inl empty) =
           let root : Some 3 ≡ Some m = ap (number_at (entries new)) (sym empty) ∙ at_r in
           let three : 3 ≡ m = cc in
-          keeps m (λ target. absurd (volume.not_root k b (target ∙ ap (λ j. Some j) (sym three))))
+          keeps m (λ target. absurd (volume.naming.not_root k b (target ∙ ap (λ j. Some j) (sym three))))
       by_end (inr (u, x, pushed)) =
           let last = last_step (entries new) u x m (ap (number_at (entries new)) (sym pushed) ∙ at_r) in
           old_kept last.0 x m (edge_of last.0 x m last.2)

@@ -46,15 +46,15 @@ module _ (v : Volume) (volume : IsGraph v) where
           | inr (w, y, eq) ↦
               let last = last_step (entries v) w y n (ap (number_at (entries v)) (sym eq) ∙ at_q) in
               let three : Some 3 ≡ Some n = ap (number_at (entries v)) (sym ep) ∙ at_p in
-              absurd (volume.not_root last.0 y (last.2 ∙ sym three))
+              absurd (volume.naming.not_root last.0 y (last.2 ∙ sym three))
         ]
         | inr (u, x, ep) ↦
             let here = last_step (entries v) u x n (ap (number_at (entries v)) (sym ep) ∙ at_p) in
             elim (ends q) [
-              | inl eq ↦ let three : Some 3 ≡ Some n = ap (number_at (entries v)) (sym eq) ∙ at_q in absurd (volume.not_root here.0 x (here.2 ∙ sym three))
+              | inl eq ↦ let three : Some 3 ≡ Some n = ap (number_at (entries v)) (sym eq) ∙ at_q in absurd (volume.naming.not_root here.0 x (here.2 ∙ sym three))
               | inr (w, y, eq) ↦
                   let there = last_step (entries v) w y n (ap (number_at (entries v)) (sym eq) ∙ at_q) in
-                  let same = volume.once here.0 there.0 n x y here.2 there.2 no_file in
+                  let same = volume.naming.once here.0 there.0 n x y here.2 there.2 no_file in
                   let longer : length p ≡ length (u ++ x ∷ []) = ap length ep in
                   let smaller : suc (length u) ≤ length p = omega (arith, length-append u (x ∷ []), longer) in
                   let rest : u ≡ w = rec u w here.0 smaller here.1 (there.1 ∙ ap (λ m. Some m) (sym same.0)) (directory_no_file (v here.0) (enters_directory (v here.0) x n here.2)) in

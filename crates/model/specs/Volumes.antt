@@ -103,15 +103,24 @@ HasNames e n count = Counts (λ (place : ℕ × Name). e place.0 place.1 ≡ Som
 
 -- what names and numbers keep: each name leads to an object, only a file has several, and each directory and link is
 -- reached from the root
-pub record IsGraph (v : Volume) : Type 0 where
+pub record IsNaming (v : Volume) : Type 0 where
   pub root : IsTrue (is_directory_node (v ROOT_NUMBER))
   pub not_root : (d : ℕ) (x : Name) → entries v d x ≢ Some ROOT_NUMBER
   pub used : (d n : ℕ) (x : Name) → entries v d x ≡ Some n → IsSome (v n)
   -- only a file may have several names
   pub once : (d k n : ℕ) (x y : Name) → entries v d x ≡ Some n → entries v k y ≡ Some n → IsFalse (is_file_node (v n)) → (d ≡ k) × (x ≡ y)
   pub names : (d : ℕ) (x : Name) → IsSome (entries v d x) → IsName x
-  pub counts : (n mode links : ℕ) (bytes : List ℕ) → v n ≡ Some (file_node mode links bytes) → HasNames (entries v) n links
   pub reached : (n : ℕ) → IsSome (v n) → IsFalse (is_file_node (v n)) → (p : Path) × (number_at (entries v) p ≡ Some n)
+
+-- each file counts its names
+abbrev pub CountsNames : Volume → Type 0
+CountsNames v =
+    (n mode links : ℕ) (bytes : List ℕ) → v n ≡ Some (file_node mode links bytes) → HasNames (entries v) n links
+
+-- both
+pub record IsGraph (v : Volume) : Type 0 where
+  pub naming : IsNaming v
+  pub counts : CountsNames v
 
 -- the limits that one object keeps
 abbrev pub IsNode : Node → Type 0

@@ -5,7 +5,7 @@ ghost use Rattle.station.specs.Images.{Unchanged};
 ghost use Rattle.station.specs.Moments.{IsSameStation, Goes};
 ghost use Rattle.layout.specs.Places.{blocks_of};
 ghost use Rattle.model.specs.States.{State, Forgets};
-ghost use Rattle.images.specs.Faults.{HasNoFault, HasReadableFiles};
+ghost use Rattle.images.specs.Faults.{HasNoFault};
 ghost use Rattle.images.specs.Roots.{whole};
 ghost use Rattle.system.specs.Images.{OpensTo};
 ghost use Rattle.loading.specs.Slots.{HasNoRoot};
@@ -49,9 +49,8 @@ pub fn mount<S: Station>(alloc: Global, station: S) -> Result<Fs<S>, (MountError
         → MatchResult result (λ _. ⊥)
         (λ e. (e.0 ≡ MountError.NoRoot) ⊎ (e.0 ≡ MountError.Device)) }
     ensures faultless { (S.meaning station).is_honest
-        → (fine : HasNoFault (S.meaning station).sectors (S.meaning station).seen.disk
-        (S.meaning station).seen.nvram)
-        → HasReadableFiles (whole (blocks_of (S.meaning station).seen.disk) fine.root).active
+        → HasNoFault (S.meaning station).sectors (S.meaning station).seen.disk
+        (S.meaning station).seen.nvram
         → IfErr result (λ e. (e.0 ≡ MountError.NoMemory) ⊎ (e.0 ≡ MountError.Device)) }
 {
     match System::open(alloc, station) {

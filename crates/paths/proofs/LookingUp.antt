@@ -54,7 +54,7 @@ module _ {B T : Type 0} {G : Ghosts B} {a b : B} {s t : InodeFile} {W : T → Ty
     loads = loads;
     within = within;
     found = λ disk settled v stands. found _ disk settled v stands;
-    damaged = λ disk settled v stands can bad. cc;
+    damaged = λ disk settled v stands bad. cc;
   }
 
   pub fails_into : {U : Type 0} {e : ReadError} (q : Result T ReadError) → IsErrAnd q (λ f. f ≡ e) → Looks {T = U} G IsFault a b s t (Err e) → OnlyLoads s t
@@ -65,7 +65,7 @@ module _ {B T : Type 0} {G : Ghosts B} {a b : B} {s t : InodeFile} {W : T → Ty
     loads = loads;
     within = tt;
     found = λ disk settled v stands. tt;
-    damaged = λ disk settled v stands can bad. sound _ disk settled v stands can (same_error (Err f) e Damaged is bad);
+    damaged = λ disk settled v stands bad. sound _ disk settled v stands (same_error (Err f) e Damaged is bad);
   }
 
   pub looked_into : {r : Result T ReadError} → LooksInto G a b s t W P r → LooksUp G a b s t W P r
@@ -74,7 +74,7 @@ module _ {B T : Type 0} {G : Ghosts B} {a b : B} {s t : InodeFile} {W : T → Ty
     loads = up.loads;
     within = up.within;
     found = λ disk settled v stands. up.found disk settled v stands;
-    damaged = λ disk settled v stands bad. up.damaged disk settled v stands tt bad;
+    damaged = λ disk settled v stands bad. up.damaged disk settled v stands bad;
   }
 
   -- it is found behind all looks

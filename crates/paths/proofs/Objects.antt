@@ -10,21 +10,22 @@ use Rattle.layout.specs.declared.inode.Inode.{Inode}
 use Rattle.images.specs.Contents.{Content, StandsAs, content_bytes}
 use Rattle.inode.specs.Files.{file_block}
 use Rattle.inode.specs.declared.object.Object.{Object}
-use Rattle.inofile.specs.Objects.{IsObject, IsObjectIn, IsObjectKind, IsSizedAs}
+use Rattle.inofile.specs.Objects.{IsObject, IsObjectIn, IsObjectKind}
+use Rattle.images.specs.Sizes.{CanReadBlock}
 use Rattle.images.specs.Soundness.{Detail}
 use Rattle.inofile.specs.Settled.{content_of_object}
-use Rattle.inofile.proofs.DetailLaws.{by_size}
+use Rattle.inofile.proofs.DetailLaws.{HasSizeOf, by_size, directory_readable}
 use Rattle.model.specs.Paths.{Name}
 use Rattle.model.specs.Volumes.{Node, directory_node, names_in}
 use Rattle.paths.specs.Steps.{found_as, found_in, text_in}
 
 module _ {detail : Detail} (disk : ℕ → List ℕ) (inodes : ℕ) (settled : Inode) (o : Object) (node : Option Node) (object : IsObjectIn detail disk inodes settled o node) where
   -- it stands for what its kind says
-  sized : IsSizedAs o.attributes.kind inodes (content_of_object disk o) node
+  sized : HasSizeOf o.attributes.kind inodes (content_of_object disk o) node
   sized = by_size detail o.attributes.kind inodes (content_of_object disk o) node object.stands
 
-  stands : (kind : Kind) → o.attributes.kind ≡ kind → IsSizedAs kind inodes (content_of_object disk o) node
-  stands kind is = subst (λ k. IsSizedAs k inodes (content_of_object disk o) node) is sized
+  stands : (kind : Kind) → o.attributes.kind ≡ kind → HasSizeOf kind inodes (content_of_object disk o) node
+  stands kind is = subst (λ k. HasSizeOf k inodes (content_of_object disk o) node) is sized
 
   -- a directory's names
   pub names_of : o.attributes.kind ≡ kinds.Directory → (names : NameMap) × HoldNames inodes (o.file.size / 4096) (file_block disk o.file) names × (node ≡ Some (directory_node o.attributes.mode names))
@@ -34,13 +35,17 @@ module _ {detail : Detail} (disk : ℕ → List ℕ) (inodes : ℕ) (settled : I
   pub blocks_of : o.attributes.kind ≡ kinds.Directory → AreDirectoryBlocks inodes (o.file.size / 4096) (file_block disk o.file)
   blocks_of is = λ i below. let d = names_of is in (d.1.entries i, d.1.holds i below)
 
+  -- they can be read
+  pub can_read : o.attributes.kind ≡ kinds.Directory → (i : ℕ) → CanReadBlock detail (file_block disk o.file) i
+  can_read is i = directory_readable detail o.attributes.kind inodes (content_of_object disk o) node object.stands is i
+
   -- what is told of its names, is told of the object's
   pub of_names : (P : NameMap → Type 0) → o.attributes.kind ≡ kinds.Directory → ((names : NameMap) → HoldNames inodes (o.file.size / 4096) (file_block disk o.file) names → P names)
       → P (names_in node)
   of_names P is told = let d = names_of is in subst (λ n. P (names_in n)) (sym d.2) (told d.0 d.1)
 
   -- what is no directory has no names
-  no_names : (kind : Kind) → (kind ≢ kinds.Directory) → IsObjectKind kind → IsSizedAs kind inodes (content_of_object disk o) node → (x : Name) → names_in node x ≡ None
+  no_names : (kind : Kind) → (kind ≢ kinds.Directory) → IsObjectKind kind → HasSizeOf kind inodes (content_of_object disk o) node → (x : Name) → names_in node x ≡ None
   no_names kinds.Free other kind is x = absurd kind
   no_names kinds.File other kind is x = ap (λ n. names_in n x) is.2
   no_names kinds.Directory other kind is x = absurd (other refl)
@@ -53,7 +58,7 @@ module _ {detail : Detail} (disk : ℕ → List ℕ) (inodes : ℕ) (settled : I
   without_names other x = no_names o.attributes.kind other object.kind sized x
 
   -- what is no link has no text
-  no_text : (kind : Kind) → (kind ≢ kinds.Link) → IsObjectKind kind → IsSizedAs kind inodes (content_of_object disk o) node → text_in node ≡ []
+  no_text : (kind : Kind) → (kind ≢ kinds.Link) → IsObjectKind kind → HasSizeOf kind inodes (content_of_object disk o) node → text_in node ≡ []
   no_text kinds.Free other kind is = absurd kind
   no_text kinds.File other kind is = ap text_in is.2
   no_text kinds.Directory other kind is = ap text_in is.2
@@ -71,7 +76,7 @@ pub link_text : (disk : ℕ → List ℕ) (inodes : ℕ) (settled : Inode) (o : 
 link_text disk inodes settled o node object is = sym (ap text_in (subst (λ k. StandsAs k inodes (content_of_object disk o) node) is object.stands))
 
 -- an object is what its kind says
-pub found_is : (kind : Kind) (inodes : ℕ) (c : Content) (node : Option Node) → IsSizedAs kind inodes c node → found_as kind ≡ found_in node
+pub found_is : (kind : Kind) (inodes : ℕ) (c : Content) (node : Option Node) → HasSizeOf kind inodes c node → found_as kind ≡ found_in node
 found_is kinds.Free inodes c node is = sym (ap found_in is)
 found_is kinds.File inodes c node is = sym (ap found_in is.2)
 found_is kinds.Directory inodes c node is = sym (ap found_in is.2)

@@ -30,7 +30,7 @@ resolves {s = s} {path = path} {follow = follow} {r = r} law up = record {
   found = λ disk settled v table text stands volume are.
       IfOk-weaker r (IsLedTo path follow v) _ (λ p is. leads law s.geometry.inodes v table follow text path (model_place_of p) volume are is) (up.found disk settled v stands);
   ends = λ disk settled v stands volume.
-      IfOk-weaker r (IsLedTo path follow v) _ (λ p is. subst (EndsWell v follow) (sym is) (ends_well v (found_directory (v 3) volume.graph.root) follow 8 path)) (up.found disk settled v stands);
+      IfOk-weaker r (IsLedTo path follow v) _ (λ p is. subst (EndsWell v follow) (sym is) (ends_well v (found_directory (v 3) volume.graph.naming.root) follow 8 path)) (up.found disk settled v stands);
   named = λ disk settled v stands not plain.
       IfOk-weaker r (IsLedTo path follow v) _ (λ p is. subst IsAtName (sym is) (ends_at_name v follow 8 path not plain)) (up.found disk settled v stands);
   damaged = up.damaged;

@@ -8,7 +8,6 @@ use Rattle.buffers.specs.Reads.{ReadsBlocks}
 use Rattle.buffers.specs.declared.blocks.Blocks.{Ghosts}
 use Rattle.images.specs.Soundness.{Detail, by_bytes}
 use Rattle.inofile.specs.Room.{NeedsNoMore}
-use Rattle.inofile.specs.Settled.{CanRead}
 use Rattle.inofile.specs.Volumes.{IsVolumeIn}
 use Rattle.inofile.specs.declared.inode_file.InodeFile.{InodeFile}
 
@@ -41,7 +40,7 @@ OnVolumes G blocks s P = OnVolumesIn by_bytes G blocks s P
 abbrev pub NeverDamaged : {B T : Type 0} → Ghosts B → B → InodeFile → Result T ReadError → Type 0
 NeverDamaged G blocks s result = OnVolumes G blocks s (λ disk settled v. IsErrOf result Damaged → ⊥)
 
--- nor is any where this is known in so much detail, and the blocks can be read
+-- nor is any where this is known in so much detail
 abbrev pub NeverDamagedIn : {B T : Type 0} → Detail → Ghosts B → B → InodeFile → Result T ReadError → Type 0
 NeverDamagedIn detail G blocks s result =
-    OnVolumesIn detail G blocks s (λ disk settled v. CanRead detail disk settled → IsErrOf result Damaged → ⊥)
+    OnVolumesIn detail G blocks s (λ disk settled v. IsErrOf result Damaged → ⊥)

@@ -19,7 +19,7 @@ use Rattle.conspoint.specs.Groups.{pointer_at}
 use Rattle.conspoint.specs.MapFiles.{IsMapOn, IsSettledMap, PlansMap}
 use Rattle.conspoint.specs.declared.draft.Draft.{Draft}
 use Rattle.images.specs.BlockMap.{NamesOnce, entry}
-use Rattle.images.specs.Nodes.{Agrees, Names, file_block, held}
+use Rattle.images.specs.Nodes.{Agrees, file_block, held}
 use Rattle.images.specs.Roots.{HeldTree, Reach}
 use Rattle.images.specs.Soundness.{HasNoHole, nodes_of_size}
 use Rattle.images.proofs.ReadingLaws as reading

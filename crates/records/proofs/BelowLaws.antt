@@ -58,7 +58,7 @@ module _ (v : Volume) (graph : IsGraph v) where
   never_around n k y there (p, below) =
       let e = entries v in
       let other = leads_no_file n k p below (enters_directory (v k) y n there) in
-      let from = graph.reached n (graph.used k n y there) other in
+      let from = graph.naming.reached n (graph.naming.used k n y there) other in
       let at_k = fold-append (enter e) (Some ROOT_NUMBER) from.0 p ∙ ap (λ (o : Option ℕ). fold (enter e) o p) from.1 ∙ below in
       let at_n = number_at-push e (from.0 ++ p) y ∙ ap (λ (o : Option ℕ). enter e o y) at_k ∙ there in
       longer from.0 p y (alone v graph ((from.0 ++ p) ++ y ∷ []) from.0 n at_n from.1 other)

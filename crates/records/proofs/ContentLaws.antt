@@ -15,6 +15,7 @@ use Rattle.model.specs.declared.errno.Errno.TheVariants.{EFBIG}
 use Rattle.images.specs.Replaying.{LeavesPlace}
 use Rattle.images.specs.Contents as images
 use Rattle.images.specs.Contents.{Content, StandsAs}
+use Rattle.images.specs.Sizes.{IsSizedAs, StandsAsIn, StandsForIn, TellsBlocks}
 use Rattle.images.specs.Soundness.{Detail, by_bytes, by_sizes}
 use Rattle.inode.specs.Changes.{changed_block}
 use Rattle.inode.specs.Edges.{filled, written_list}
@@ -24,7 +25,7 @@ use Rattle.inode.specs.declared.change.Change.{Change}
 use Rattle.inode.specs.declared.file.File.{File}
 use Rattle.inode.specs.declared.object.Object.{Object}
 use Rattle.inofile.specs.Inodes.{IsKnown}
-use Rattle.inofile.specs.Objects.{EndsIn, IsObjectIn, IsSizedAs, StandsAsIn, StandsForIn}
+use Rattle.inofile.specs.Objects.{EndsIn, IsObjectIn}
 use Rattle.inofile.specs.Settled.{content_of_object}
 use Rattle.inofile.specs.declared.inode_file.InodeFile.{InodeFile}
 use Rattle.records.specs.Contents.{KeepsRewriteBounds, Resizes, RewriteRoom, Rewrites, RewritesFile, bytes_after, rewriting}
@@ -33,7 +34,7 @@ use Rattle.records.specs.Prepared.{KnowsFile}
 use Rattle.records.specs.Room.{StoresIn}
 use Rattle.records.specs.declared.contents.Rewrite.{Rewrite}
 use Rattle.records.specs.declared.contents.Rewrite.TheVariants.{Write, Cut}
-use Rattle.records.proofs.KindLaws.{file_stands, held_file, is_kind}
+use Rattle.records.proofs.KindLaws.{file_stands, is_kind}
 
 -- ---- lists of bytes
 
@@ -58,6 +59,13 @@ rewrites_same disk f old new change same ends bytes = record {
   where
     was : file_block disk old ≡ file_block disk new
     was = sym (fun_ext {f = file_block disk new} {g = file_block disk old} (same.blocks disk))
+
+-- so it does with which of its blocks can be read
+pub resizes_same : (disk : ℕ → List ℕ) (f : List ℕ → List ℕ) (old new : File) (change : Change) → IsSameFile old new → Resizes disk f old change → Resizes disk f new change
+resizes_same disk f old new change same sizes bytes long tells =
+    let was : file_block disk old ≡ file_block disk new = sym (fun_ext {f = file_block disk new} {g = file_block disk old} (same.blocks disk)) in
+    subst (λ (b : ℕ → List ℕ). (length (f bytes) ≡ change.size) × TellsBlocks (changed_block b change.size change.first change.pieces.items) (f bytes)) was
+    (sizes bytes (long ∙ same.size) (subst (λ (b : ℕ → List ℕ). TellsBlocks b bytes) (sym was) tells))
 
 -- ---- and put in force
 
@@ -90,11 +98,13 @@ module _ (inodes size : ℕ) (block : ℕ → List ℕ) (f : List ℕ → List �
       subst (λ (x : Kind). StandsAs x inodes after (with_file_bytes f found)) (sym kind)
       (ap (with_file_bytes f) (file_stands k inodes c found stands kind) ∙ ap (λ (b : List ℕ). Some (file_node c.mode c.links b)) (sym same))
 
-  sized_after : ((bytes : List ℕ) → length bytes ≡ c.size → length (f bytes) ≡ size) → (k : Kind) → IsSizedAs k inodes c found → IsSizedAs k inodes after (with_file_bytes f found)
+  sized_after : ((bytes : List ℕ) → length bytes ≡ c.size → TellsBlocks c.block bytes → (length (f bytes) ≡ size) × TellsBlocks block (f bytes)) → (k : Kind) → IsSizedAs k inodes c found
+      → IsSizedAs k inodes after (with_file_bytes f found)
   sized_after sizes k stands =
-      let held = held_file by_sizes k inodes c found stands is in
-      subst (λ (x : Kind). IsSizedAs x inodes after (with_file_bytes f found)) (sym (is_kind by_sizes k inodes c found stands is))
-      (f held.0, sizes held.0 held.1, ap (with_file_bytes f) held.2)
+      let kind = is_kind by_sizes k inodes c found stands is in
+      let held = subst (λ (x : Kind). IsSizedAs x inodes c found) kind stands in
+      let now = sizes held.0 held.1 held.2 in
+      subst (λ (x : Kind). IsSizedAs x inodes after (with_file_bytes f found)) (sym kind) (f held.0, now.0, now.1, ap (with_file_bytes f) held.3)
 
 -- a file in memory with other bytes
 module _ (disk : ℕ → List ℕ) (inodes : ℕ) (o : Object) (found : Option Node) (f : List ℕ → List ℕ) (change : Change) (new : File) (is : IsTrue (is_file_node found)) (done : IsCommitted o.file change new) where
@@ -106,7 +116,9 @@ module _ (disk : ℕ → List ℕ) (inodes : ℕ) (o : Object) (found : Option N
   stands_in by_bytes rewrites was =
       stands_after inodes new.size (file_block disk new) f (content_of_object disk o) found is (bytes_are disk o.file new change done ∙ rewrites.bytes) o.attributes.kind was
   stands_in by_sizes rewrites was =
-      sized_after inodes new.size (file_block disk new) f (content_of_object disk o) found is (λ bytes long. rewrites bytes long ∙ sym done.size) o.attributes.kind was
+      sized_after inodes new.size (file_block disk new) f (content_of_object disk o) found is (λ bytes long tells.
+      let now = rewrites bytes long tells in
+      (now.0 ∙ sym done.size, subst (λ (b : ℕ → List ℕ). TellsBlocks b (f bytes)) (sym (blocks_are disk o.file new change done)) now.1)) o.attributes.kind was
 
   ends_in : (detail : Detail) → RewritesFile detail disk f o.file change → EndsIn detail disk new
   ends_in by_bytes rewrites = ends_there disk o.file new change done rewrites.ends

@@ -1,6 +1,6 @@
 -- Functions that prepare a record or tell the first obstacle, step by step.
 use Rattle.std.proofs.Common.{◌≡◌, ℕ, List, Result, Ok, Err, IfErr, IfOk, IsTrue, refl, sym, subst}
-use Rattle.std.specs.Result.{IsErrAnd}
+use Rattle.std.specs.Result.{IsErrAnd, IsErrOf}
 use Rattle.layout.specs.Limits.{Sizes}
 use Rattle.layout.specs.declared.inode.Inode.{Inode}
 use Rattle.model.specs.Records.{Applies, Change}
@@ -8,9 +8,10 @@ use Rattle.model.specs.Volumes.{Volume}
 use Rattle.model.specs.declared.errno.Errno.{Errno}
 use Rattle.blocktree.specs.Errors.{IsFault}
 use Rattle.blocktree.specs.declared.error.ReadError.{ReadError}
+use Rattle.blocktree.specs.declared.error.ReadError.TheVariants.{Damaged}
 use Rattle.buffers.specs.declared.blocks.Blocks.{Ghosts}
-use Rattle.images.specs.Replaying.{LeavesPlace}
-use Rattle.images.specs.Soundness.{Detail}
+use Rattle.images.specs.Replaying.{LeavesPlace, ReadsIn, ReadsParts}
+use Rattle.images.specs.Soundness.{Detail, by_bytes, by_sizes}
 use Rattle.inofile.specs.declared.inode_file.InodeFile.{InodeFile}
 use Rattle.paths.specs.Standing.{Looks}
 use Rattle.paths.proofs.Looks.{looks_err, looks_more, looks_ok}
@@ -18,11 +19,16 @@ use Rattle.records.specs.Failures.{told}
 use Rattle.records.specs.Obstacles.{IsObstacle, tells_obstacle}
 use Rattle.records.specs.Prepared.{DoesIn, IsReady}
 use Rattle.records.specs.Preparing.{DecidesOn, IsVolumeFor, Premise}
-use Rattle.records.specs.Shown.{NeverDamagedIn}
+use Rattle.records.specs.Shown.{OnVolumesIn}
 use Rattle.records.specs.declared.failure.Failure.{Failure}
 use Rattle.records.specs.declared.failure.Failure.TheVariants.{Read, Refused}
 use Rattle.records.specs.declared.prepared.Prepared.{Prepared}
-use Rattle.records.proofs.Failures.{damaged_failed, looks_failed, refused_by}
+use Rattle.records.proofs.Failures.{damaged_by, looks_failed, refused_by}
+
+-- what can be read is known in no more detail
+pub reads_in : (detail : Detail) (v : Volume) (change : Change) → ReadsParts v change → ReadsIn detail v change
+reads_in by_bytes v change reads = tt
+reads_in by_sizes v change reads = reads
 
 module _ {B : Type 0} {Over Sure : Premise} {G : Ghosts B} {a b : B} {s t : InodeFile} {change : Change} where
   -- a step before has told what it failed by
@@ -30,7 +36,7 @@ module _ {B : Type 0} {Over Sure : Premise} {G : Ghosts B} {a b : B} {s t : Inod
       → IfOk (told {T = T} (Err f)) (λ r. IfErr r (λ errno. IsTrue (tells_obstacle change errno)))
       → ((detail : Detail) (disk : ℕ → List ℕ) (settled : ℕ → Inode) (v : Volume) → Sure detail disk settled v → IsVolumeFor detail s.geometry.inodes change v
       → IfOk (told {T = T} (Err f)) (λ r. IfErr r (IsObstacle s.geometry.inodes v change)))
-      → ((detail : Detail) → NeverDamagedIn detail G a s (told {T = T} (Err f))) → DecidesOn Over Sure G a b s t change q
+      → ((detail : Detail) → OnVolumesIn detail G a s (λ disk settled v. ReadsIn detail v change → IsErrOf (told {T = T} (Err f)) Damaged → ⊥)) → DecidesOn Over Sure G a b s t change q
   passes f (Ok p) is looks own first sound = absurd is
   passes f (Err g) is looks own first sound = record {
     looks = looks_failed f (Err g) is looks;
@@ -40,14 +46,15 @@ module _ {B : Type 0} {Over Sure : Premise} {G : Ghosts B} {a b : B} {s t : Inod
     applies = λ disk settled v sure. tt;
     place = λ disk settled v sure. tt;
     refused = λ {detail} disk settled v sure volume. refused_by (λ r. IfErr r (IsObstacle s.geometry.inodes v change)) _ f (Err g) is (λ errno first. first) (first detail disk settled v sure volume);
-    damaged = λ {detail}. damaged_failed f (Err g) is (sound detail);
+    reads = λ disk settled v sure. tt;
+    damaged = λ {detail} disk settled v stands reads. damaged_by f (Err g) is (sound detail disk settled v stands reads);
   }
 
   -- a block wasn't read
-  pub stops : {T : Type 0} {e : ReadError} (q : Result Prepared Failure) → IsErrAnd q (λ f. f ≡ Read e) → Looks {T = T} G IsFault a b s t (Err e) → ((detail : Detail) → NeverDamagedIn {T = T} detail G a s (Err e))
-      → DecidesOn Over Sure G a b s t change q
+  pub stops : {T : Type 0} {e : ReadError} (q : Result Prepared Failure) → IsErrAnd q (λ f. f ≡ Read e) → Looks {T = T} G IsFault a b s t (Err e)
+      → ((detail : Detail) → OnVolumesIn detail G a s (λ disk settled v. ReadsIn detail v change → IsErrOf {T = T} {E = ReadError} (Err e) Damaged → ⊥)) → DecidesOn Over Sure G a b s t change q
   stops {T = T} {e = e} q is looks sound =
-      passes {T = T} (Read e) q is (looks_err (Err e) refl looks) tt (λ detail disk settled v sure volume. tt) (λ detail disk settled v stands can bad. sound detail disk settled v stands can (cc))
+      passes {T = T} (Read e) q is (looks_err (Err e) refl looks) tt (λ detail disk settled v sure volume. tt) (λ detail disk settled v stands reads bad. sound detail disk settled v stands reads (cc))
 
   -- this is the first obstacle
   pub obstructs : {T : Type 0} {x : T} {errno : Errno} → Looks {T = T} {E = ReadError} G IsFault a b s t (Ok x) → IsTrue (tells_obstacle change errno)
@@ -61,7 +68,8 @@ module _ {B : Type 0} {Over Sure : Premise} {G : Ghosts B} {a b : B} {s t : Inod
     applies = λ disk settled v sure. tt;
     place = λ disk settled v sure. tt;
     refused = λ {detail} disk settled v sure volume. first detail disk settled v sure volume;
-    damaged = λ disk settled v stands can is. cc;
+    reads = λ disk settled v sure. tt;
+    damaged = λ disk settled v stands reads is. cc;
   }
 
   -- it is prepared
@@ -69,8 +77,9 @@ module _ {B : Type 0} {Over Sure : Premise} {G : Ghosts B} {a b : B} {s t : Inod
       → ((detail : Detail) (disk : ℕ → List ℕ) (settled : ℕ → Inode) (v : Volume) → Over detail disk settled v → DoesIn detail disk settled t v p change)
       → ((detail : Detail) (disk : ℕ → List ℕ) (settled : ℕ → Inode) (v : Volume) → Sure detail disk settled v → Applies s.geometry.inodes v change)
       → ((detail : Detail) (disk : ℕ → List ℕ) (settled : ℕ → Inode) (v : Volume) → Sure detail disk settled v → LeavesPlace v change)
+      → ((detail : Detail) (disk : ℕ → List ℕ) (settled : ℕ → Inode) (v : Volume) → Sure detail disk settled v → ReadsIn detail v change)
       → DecidesOn Over Sure G a b s t change (Ok p)
-  decides looks ready does applies place = record {
+  decides looks ready does applies place reads = record {
     looks = looks_ok looks;
     own = tt;
     ready = ready;
@@ -78,7 +87,8 @@ module _ {B : Type 0} {Over Sure : Premise} {G : Ghosts B} {a b : B} {s t : Inod
     applies = λ {detail} disk settled v sure. applies detail disk settled v sure;
     place = λ {detail} disk settled v sure. place detail disk settled v sure;
     refused = λ disk settled v sure volume. tt;
-    damaged = λ disk settled v stands can is. cc;
+    reads = λ {detail} disk settled v sure. reads detail disk settled v sure;
+    damaged = λ disk settled v stands reads is. cc;
   }
 
 -- another function goes on behind a look
@@ -96,5 +106,6 @@ follows {s = s} {change = change} {r = r} looks last then surely = record {
   refused = λ {detail} disk settled v sure volume.
       subst (λ (z : Sizes). IfOk (told r) (λ q. IfErr q (IsObstacle z.inodes v change))) looks.geometry
       (last.refused {detail = detail} disk settled v (surely detail disk settled v sure) (subst (λ (z : Sizes). IsVolumeFor detail z.inodes change v) (sym looks.geometry) volume));
-  damaged = λ disk settled v stands can is. last.damaged disk settled v (looks.kept disk settled v stands) can is;
+  reads = λ {detail} disk settled v sure. last.reads {detail = detail} disk settled v (surely detail disk settled v sure);
+  damaged = λ {detail} disk settled v stands reads is. last.damaged {detail = detail} disk settled v (looks.kept disk settled v stands) reads is;
 }

@@ -1,13 +1,15 @@
 -- What is known of volumes and objects in so much detail.
-use Rattle.std.proofs.Common.{◌≡◌, ◌⊎◌, ◌<◌, ◌≤◌, ℕ, List, Option, IsSome}
-use Rattle.layout.specs.declared.inode.Inode.{Inode}
+use Rattle.std.proofs.Common.{◌≡◌, ◌⊎◌, ◌*◌, ◌<◌, ◌≤◌, ◌∙◌, ℕ, List, [], Option, Some, IsSome, length, refl, sym, ap, subst, arith}
+use Rattle.std.proofs.lemmas.List.{get_or_past}
+use Rattle.layout.specs.FileBytes.{byte_in, first_bytes}
+use Rattle.layout.specs.declared.kind.Kind.TheVariants as kinds
 use Rattle.model.specs.Records.{Change}
-use Rattle.model.specs.Volumes.{IsGraph, Node, Volume}
+use Rattle.model.specs.Volumes.{IsGraph, Node, Volume, file_node, link_node}
+use Rattle.images.specs.Contents.{Content, StandsAs, content_bytes}
+use Rattle.images.specs.Sizes.{CanReadBlock, StandsAsIn}
 use Rattle.images.specs.Soundness.{Detail, by_bytes, by_sizes}
-use Rattle.inode.specs.declared.object.Object.{Object}
-use Rattle.inofile.specs.Objects.{EndsIn, IsObject, IsObjectIn}
-use Rattle.inofile.specs.Settled.{content_of_object}
-use Rattle.inofile.proofs.DetailLaws.{in_detail}
+use Rattle.inofile.specs.Objects.{EndsIn}
+use Rattle.inode.proofs.EdgeLaws.{length-first_bytes}
 use Rattle.inode.specs.Files.{IsFile}
 use Rattle.inode.specs.declared.file.File.{File}
 use Rattle.records.specs.Preparing.{IsKnownVolume, IsVolumeFor}
@@ -28,13 +30,29 @@ pub ends_of : (detail : Detail) (disk : ℕ → List ℕ) (file : File) → IsFi
 ends_of by_bytes disk file ends = ends
 ends_of by_sizes disk file ends = tt
 
--- an object that stands for one by its bytes, stands for it in whatever detail
-pub object_in : (detail : Detail) (disk : ℕ → List ℕ) (inodes : ℕ) (settled : Inode) (o : Object) (found : Option Node) → IsObject disk inodes settled o found → IsObjectIn detail disk inodes settled o found
-object_in detail disk inodes settled o found is = record {
-  kind = is.kind;
-  mode = is.mode;
-  fits = is.fits;
-  stands = in_detail detail o.attributes.kind inodes (content_of_object disk o) found is.stands;
-  ends = ends_of detail disk o.file is.ends;
-  base = is.base;
-}
+-- ---- what stands for an object in whatever detail
+
+pub can_read : (detail : Detail) (block : ℕ → List ℕ) → ((i : ℕ) → length (block i) ≡ 4096) → (i : ℕ) → CanReadBlock detail block i
+can_read by_bytes block whole i = tt
+can_read by_sizes block whole i = whole i
+
+pub still_read : (detail : Detail) (old new : ℕ → List ℕ) → (((i : ℕ) → length (old i) ≡ 4096) → (i : ℕ) → length (new i) ≡ 4096) → ((i : ℕ) → CanReadBlock detail old i) → (i : ℕ) → CanReadBlock detail new i
+still_read by_bytes old new keeps can i = tt
+still_read by_sizes old new keeps can i = keeps can i
+
+pub directory_in : (detail : Detail) (inodes : ℕ) (c : Content) (o : Option Node) → ((i : ℕ) → CanReadBlock detail c.block i) → StandsAs kinds.Directory inodes c o → StandsAsIn detail kinds.Directory inodes c o
+directory_in by_bytes inodes c o can stands = stands
+directory_in by_sizes inodes c o can stands = (can, stands)
+
+pub file_in : (detail : Detail) (inodes : ℕ) (c : Content) → c.size ≡ 0 → ((i : ℕ) → length (c.block i) ≡ 4096) → StandsAsIn detail kinds.File inodes c (Some (file_node c.mode c.links []))
+file_in by_bytes inodes c none whole = ap (λ (n : ℕ). Some (file_node c.mode c.links (first_bytes (byte_in c.block) n))) (sym none)
+file_in by_sizes inodes c none whole = (
+  [],
+  sym none,
+  λ i. (λ is. whole i, λ is. subst (λ (n : ℕ). n < 256) (sym (get_or_past [] (4096 * i) 0 (omega arith))) (omega arith)),
+  refl,
+)
+
+pub link_in : (detail : Detail) (inodes : ℕ) (c : Content) (text : List ℕ) → content_bytes c ≡ text → StandsAsIn detail kinds.Link inodes c (Some (link_node text))
+link_in by_bytes inodes c text is = ap (λ (l : List ℕ). Some (link_node l)) (sym is)
+link_in by_sizes inodes c text is = (text, ap length (sym is) ∙ length-first_bytes (byte_in c.block) c.size, refl)

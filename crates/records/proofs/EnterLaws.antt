@@ -14,7 +14,7 @@ use Rattle.model.specs.Volumes.{Node, directory_node, file_node, link_node, Volu
 use Rattle.model.proofs.CountLemmas.{counts_once}
 use Rattle.images.specs.Contents.{Content, IsDirectoryOf}
 use Rattle.inode.specs.declared.object.Object.{Object}
-use Rattle.inofile.specs.Objects.{IsObjectIn, IsObjectKind, IsObjectOrNone, IsSameOrNone, IsSizedAs}
+use Rattle.inofile.specs.Objects.{IsObjectIn, IsObjectKind, IsObjectOrNone, IsSameOrNone}
 use Rattle.images.specs.Soundness.{Detail}
 use Rattle.inofile.specs.Settled.{content_of_object}
 use Rattle.layout.specs.declared.entry.Entry.{Entry}
@@ -29,7 +29,7 @@ use Rattle.records.specs.Naming.{EditsNames}
 use Rattle.inode.proofs.BaseLaws.{same_itself}
 use Rattle.model.proofs.ObjectLaws.{node_here, node_other}
 use Rattle.model.proofs.ListingLemmas.{names_apart}
-use Rattle.inofile.proofs.DetailLaws.{by_size}
+use Rattle.inofile.proofs.DetailLaws.{HasSizeOf, by_size}
 use Rattle.records.proofs.KindLaws.{directory_kind}
 
 -- ---- a directory of a volume and one in memory
@@ -108,11 +108,11 @@ some_directory : (o : Option Node) (node : Node) → o ≡ Some node → is_dire
 some_directory o node some not is = both_ways (is_directory_node (Some node)) not (subst (λ (x : Option Node). IsTrue (is_directory_node x)) some is)
 
 -- a directory in memory, with its names
-pub directory_stands : (k : Kind) (inodes : ℕ) (c : Content) (o : Option Node) → k ≡ kinds.Directory → IsSizedAs k inodes c o
+pub directory_stands : (k : Kind) (inodes : ℕ) (c : Content) (o : Option Node) → k ≡ kinds.Directory → HasSizeOf k inodes c o
     → (names : NameMap) × IsDirectoryOf inodes c names × (o ≡ Some (directory_node c.mode names))
-directory_stands k inodes c o is stands = subst (λ (x : Kind). IsSizedAs x inodes c o) is stands
+directory_stands k inodes c o is stands = subst (λ (x : Kind). HasSizeOf x inodes c o) is stands
 
-pub not_directory : (k : Kind) (inodes : ℕ) (c : Content) (o : Option Node) → IsSizedAs k inodes c o → (k ≡ kinds.Directory → ⊥) → false ≡ is_directory_node o
+pub not_directory : (k : Kind) (inodes : ℕ) (c : Content) (o : Option Node) → HasSizeOf k inodes c o → (k ≡ kinds.Directory → ⊥) → false ≡ is_directory_node o
 not_directory k inodes c o stands other =
     elim (cases_Bool (is_directory_node o)) [ inl is ↦ absurd (other (directory_kind k inodes c o stands is)) | inr isnt ↦ sym isnt ]
 
@@ -127,10 +127,10 @@ nameless_file mode zero bytes = refl
 nameless_file mode (suc links) bytes = grind (arith, nat_tests)
 
 -- a file without links is vacant, and nothing else that stands there is
-pub file_vacancy : (inodes : ℕ) (c : Content) (o : Option Node) → IsSizedAs kinds.File inodes c o → (c.links == 0) ≡ is_vacant o
+pub file_vacancy : (inodes : ℕ) (c : Content) (o : Option Node) → HasSizeOf kinds.File inodes c o → (c.links == 0) ≡ is_vacant o
 file_vacancy inodes c o stands = nameless_file c.mode c.links _ ∙ ap is_vacant (sym stands.2)
 
-pub other_vacancy : (k : Kind) (inodes : ℕ) (c : Content) (o : Option Node) → (k ≡ kinds.File → ⊥) → IsObjectKind k → IsSizedAs k inodes c o → false ≡ is_vacant o
+pub other_vacancy : (k : Kind) (inodes : ℕ) (c : Content) (o : Option Node) → (k ≡ kinds.File → ⊥) → IsObjectKind k → HasSizeOf k inodes c o → false ≡ is_vacant o
 other_vacancy kinds.Free inodes c o other kind stands = absurd kind
 other_vacancy kinds.File inodes c o other kind stands = absurd (other refl)
 other_vacancy kinds.Directory inodes c o other kind stands = ap is_vacant (sym stands.2)

@@ -1,16 +1,15 @@
 -- Failures that are passed on.
 use Rattle.std.proofs.Common.{◌≡◌, Result, Ok, Err, IfErr, IfOk, subst, sym}
-use Rattle.std.specs.Result.{IsErrAnd}
+use Rattle.std.specs.Result.{IsErrAnd, IsErrOf}
 use Rattle.model.specs.declared.errno.Errno.{Errno}
 use Rattle.blocktree.specs.Errors.{IsFault}
 use Rattle.blocktree.specs.declared.error.ReadError.{ReadError}
+use Rattle.blocktree.specs.declared.error.ReadError.TheVariants.{Damaged}
 use Rattle.buffers.specs.declared.blocks.Blocks.{Ghosts}
-use Rattle.images.specs.Soundness.{Detail}
 use Rattle.inofile.specs.declared.inode_file.InodeFile.{InodeFile}
 use Rattle.paths.specs.Standing.{Looks}
 use Rattle.paths.proofs.Looks.{looks_err, looks_ok}
 use Rattle.records.specs.Failures.{told}
-use Rattle.records.specs.Shown.{NeverDamagedIn}
 use Rattle.records.specs.declared.failure.Failure.{Failure}
 use Rattle.records.specs.declared.failure.Failure.TheVariants.{Read, Refused}
 
@@ -31,11 +30,10 @@ pub looks_read : {B T U : Type 0} {G : Ghosts B} {a b : B} {s t : InodeFile} {e 
     → Looks {T = T} G IsFault a b s t (Err e) → Looks G IsFault a b s t (told q)
 looks_read {e = e} q is look = looks_err (told q) (read_failed e q is) look
 
-pub damaged_read : {B T U : Type 0} {detail : Detail} {G : Ghosts B} {a : B} {s : InodeFile} {e : ReadError} (q : Result U Failure) → IsErrAnd q (λ f. f ≡ Read e)
-    → NeverDamagedIn {T = T} detail G a s (Err e) → NeverDamagedIn detail G a s (told q)
-damaged_read (Ok x) is sound = absurd is
-damaged_read (Err (Refused errno)) is sound = absurd (cc)
-damaged_read (Err (Read f)) is sound = λ disk settled v stands can bad. sound disk settled v stands can (cc)
+pub damaged_read : {T U : Type 0} {e : ReadError} (q : Result U Failure) → IsErrAnd q (λ f. f ≡ Read e) → (IsErrOf {T = T} {E = ReadError} (Err e) Damaged → ⊥) → IsErrOf (told q) Damaged → ⊥
+damaged_read (Ok x) is sound bad = absurd is
+damaged_read (Err (Refused errno)) is sound bad = absurd (cc)
+damaged_read (Err (Read f)) is sound bad = sound (cc)
 
 -- ---- a step failed, and the whole by it
 
@@ -60,9 +58,9 @@ looks_failed {U = U} {G = G} {a = a} {b = b} {s = s} {t = t} (Refused errno) (Er
     subst (λ (h : Failure). Looks {T = Result U Errno} G IsFault a b s t (told (Err h))) (sym is) (looks_ok look)
 looks_failed (Read e) (Err g) is look = looks_read (Err g) is look
 
-pub damaged_failed : {B T U : Type 0} {detail : Detail} {G : Ghosts B} {a : B} {s : InodeFile} (f : Failure) (q : Result U Failure) → IsErrAnd q (λ g. g ≡ f) → NeverDamagedIn detail G a s (told {T = T} (Err f))
-    → NeverDamagedIn detail G a s (told q)
-damaged_failed f (Ok x) is sound = absurd is
-damaged_failed {U = U} {detail = detail} {G = G} {a = a} {s = s} (Refused errno) (Err g) is sound =
-    subst (λ (h : Failure). NeverDamagedIn {T = Result U Errno} detail G a s (told (Err h))) (sym is) (λ disk settled v stands can bad. cc)
-damaged_failed (Read e) (Err g) is sound = damaged_read (Err g) is sound
+pub damaged_by : {T U : Type 0} (f : Failure) (q : Result U Failure) → IsErrAnd q (λ g. g ≡ f) → (IsErrOf (told {T = T} (Err f)) Damaged → ⊥) → IsErrOf (told q) Damaged → ⊥
+damaged_by f (Ok x) is sound bad = absurd is
+damaged_by {U = U} (Refused errno) (Err g) is sound bad =
+    let none : IsErrOf (told {T = U} (Err (Refused errno))) Damaged = subst (λ (h : Failure). IsErrOf (told {T = U} (Err h)) Damaged) is bad in
+    absurd (cc)
+damaged_by (Read e) (Err g) is sound bad = damaged_read (Err g) is sound bad

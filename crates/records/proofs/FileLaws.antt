@@ -18,7 +18,7 @@ use Rattle.inode.specs.declared.object.Object.{Object}
 use Rattle.inofile.specs.Inodes.{loaded}
 use Rattle.inofile.specs.declared.inode_file.InodeFile.{InodeFile}
 use Rattle.images.specs.Soundness.{Detail}
-use Rattle.inofile.specs.Objects.{IsSizedAs}
+use Rattle.inofile.proofs.DetailLaws.{HasSizeOf}
 use Rattle.records.specs.Preparing.{IsKnownVolume}
 use Rattle.records.proofs.DetailLaws.{graph_of, numbers_of}
 use Rattle.records.specs.Entering.{with_node_names}
@@ -32,7 +32,7 @@ use Rattle.records.proofs.EnterLaws.{names_set, put_volume}
 use Rattle.model.proofs.OptionLaws.{none_some}
 
 -- what isn't a file is gone with its name
-pub gone_with_name : (k : Kind) (inodes : ℕ) (c : Content) (o : Option Node) → IsSizedAs k inodes c o → (k ≡ kinds.File → ⊥) → with_name_less o ≡ None
+pub gone_with_name : (k : Kind) (inodes : ℕ) (c : Content) (o : Option Node) → HasSizeOf k inodes c o → (k ≡ kinds.File → ⊥) → with_name_less o ≡ None
 gone_with_name kinds.Free inodes c o stands other = ap with_name_less stands
 gone_with_name kinds.File inodes c o stands other = absurd (other refl)
 gone_with_name kinds.Directory inodes c o stands other = ap with_name_less stands.2
@@ -69,7 +69,7 @@ file_apart v n d file directory same = apart (v d) (subst (λ k. IsTrue (is_file
 pub file_entry : (detail : Detail) (inodes : ℕ) (v : Volume) (n : ℕ) (x : Name) → IsKnownVolume detail inodes v → IsTrue (is_file_node (v n)) → IsName x → IsEntry inodes (record { number = n; name = x })
 file_entry detail inodes v n x volume file name =
     elim (numbers_of detail inodes v volume n (some (v n) file)) [
-      | inl root ↦ absurd (file_apart v n 3 file (graph_of detail inodes v volume).root root)
+      | inl root ↦ absurd (file_apart v n 3 file (graph_of detail inodes v volume).naming.root root)
       | inr within ↦ record { ordinary = within.0; below = within.1; name = name }
     ]
   where

@@ -18,3 +18,4 @@ pub mod MoveLaws
 pub mod SweepLaws
 pub mod FollowLaws
 pub mod PartLaws
+pub mod BlockLaws

@@ -36,7 +36,7 @@ module _ {B T : Type 0} {G : Ghosts B} {a b : B} {s t : InodeFile} {Known : Inod
     stays = brings.stays;
     keeps = brings.keeps;
     found = λ disk settled v stands. ok_so r (λ x. Unit {0}) (λ x. Unit {0}) (λ x is. is) (any r);
-    damaged = λ disk settled v stands can is. brings.damaged disk settled v stands is;
+    damaged = λ disk settled v stands is. brings.damaged disk settled v stands is;
   }
     where
       any : (r : Result T ReadError) → IfOk r (λ x. Unit {0})
@@ -63,7 +63,7 @@ module _ {B T U : Type 0} {G : Ghosts B} {a b : B} {s t : InodeFile} {P : Findin
     stays = finds.stays;
     keeps = finds.keeps;
     found = λ disk settled v stands. tt;
-    damaged = λ disk settled v stands can bad. finds.damaged disk settled v stands can (same_error f e Damaged is bad);
+    damaged = λ disk settled v stands bad. finds.damaged disk settled v stands (same_error f e Damaged is bad);
   }
 
   -- something else is told by what was found
@@ -75,7 +75,7 @@ module _ {B T U : Type 0} {G : Ghosts B} {a b : B} {s t : InodeFile} {P : Findin
     stays = finds.stays;
     keeps = finds.keeps;
     found = λ {detail} disk settled v stands. then detail disk settled v (finds.looks.kept disk settled v stands) (finds.found disk settled v stands);
-    damaged = λ disk settled v stands can is. cc;
+    damaged = λ disk settled v stands is. cc;
   }
 
 -- blocks are read behind what was found
@@ -86,7 +86,7 @@ read_on finds reads found damaged = record {
   stays = finds.stays;
   keeps = finds.keeps;
   found = λ {detail} disk settled v stands. found detail disk settled v (finds.looks.kept disk settled v stands);
-  damaged = λ {detail} disk settled v stands can is. damaged detail disk settled v (finds.looks.kept disk settled v stands) can is;
+  damaged = λ {detail} disk settled v stands is. damaged detail disk settled v (finds.looks.kept disk settled v stands) is;
 }
 
 module _ {B T U : Type 0} {G : Ghosts B} {a b c : B} {s t u : InodeFile} {P : Finding T} {Q : Finding U} {x : T} {r : Result U ReadError} where
@@ -99,7 +99,7 @@ module _ {B T U : Type 0} {G : Ghosts B} {a b c : B} {s t u : InodeFile} {P : Fi
     found = λ {detail} disk settled v stands.
         ok_so r (Q detail disk settled v) (λ y. P detail disk settled v x × Q detail disk settled v y) (λ y is. (first.found disk settled v stands, is))
         (last.found disk settled v (first.looks.kept disk settled v stands));
-    damaged = λ disk settled v stands can is. last.damaged disk settled v (first.looks.kept disk settled v stands) can is;
+    damaged = λ disk settled v stands is. last.damaged disk settled v (first.looks.kept disk settled v stands) is;
   }
 
   -- so is the last
@@ -109,7 +109,7 @@ module _ {B T U : Type 0} {G : Ghosts B} {a b c : B} {s t u : InodeFile} {P : Fi
     stays = λ n is. last.stays n (first.stays n is);
     keeps = λ n is. last.keeps n (first.keeps n is);
     found = λ disk settled v stands. last.found disk settled v (first.looks.kept disk settled v stands);
-    damaged = λ disk settled v stands can is. last.damaged disk settled v (first.looks.kept disk settled v stands) can is;
+    damaged = λ disk settled v stands is. last.damaged disk settled v (first.looks.kept disk settled v stands) is;
   }
 
 -- what is at hand stays so
@@ -121,4 +121,4 @@ some_at_hand_behind {s = s} {t = t} step finds is = some_stays_at_hand s t finds
 
 -- nothing was looked for
 pub found_nothing : {B : Type 0} {G : Ghosts B} {a : B} {s : InodeFile} → Finds {T = ℕ} G a a s s (λ detail disk settled v x. Unit {0}) (Ok 0)
-found_nothing = record { looks = no_look; stays = λ n is. is; keeps = λ n is. is; found = λ disk settled v stands. tt; damaged = λ disk settled v stands can is. cc }
+found_nothing = record { looks = no_look; stays = λ n is. is; keeps = λ n is. is; found = λ disk settled v stands. tt; damaged = λ disk settled v stands is. cc }

@@ -313,7 +313,7 @@ beside_none (Some step) = tt
 pub entry_named : (detail : Detail) (inodes : ℕ) (v : Volume) (d : ℕ) (x : Name) (n : ℕ) (y : Name) → IsKnownVolume detail inodes v → entries v d x ≡ Some n → IsName y → IsEntry inodes (record { number = n; name = y })
 entry_named detail inodes v d x n y volume there name =
     let graph = graph_of detail inodes v volume in
-    elim (numbers_of detail inodes v volume n (graph.used d n x there)) [
-      | inl root ↦ absurd (graph.not_root d x (there ∙ ap (λ k. Some k) root))
+    elim (numbers_of detail inodes v volume n (graph.naming.used d n x there)) [
+      | inl root ↦ absurd (graph.naming.not_root d x (there ∙ ap (λ k. Some k) root))
       | inr within ↦ record { ordinary = within.0; below = within.1; name = name }
     ]

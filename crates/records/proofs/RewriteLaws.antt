@@ -23,7 +23,7 @@ use Rattle.records.specs.declared.contents.Rewrite.{Rewrite}
 use Rattle.records.specs.declared.contents.Rewrite.TheVariants.{Write, Cut}
 use Rattle.images.specs.Contents.{Content}
 use Rattle.images.specs.Soundness.{Detail}
-use Rattle.inofile.specs.Objects.{StandsAsIn}
+use Rattle.images.specs.Sizes.{StandsAsIn}
 use Rattle.records.proofs.ContentLaws.{rewriting_applied}
 use Rattle.records.proofs.KindLaws.{held_file}
 use Rattle.model.proofs.ObjectLaws.{node_here, node_other}

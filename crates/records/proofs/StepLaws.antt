@@ -11,10 +11,11 @@ use Rattle.model.specs.Volumes.{Node, Volume, is_directory_node, is_file_node}
 use Rattle.images.specs.Contents.{Content, StandsAs}
 use Rattle.inode.specs.declared.object.Object.{Object}
 use Rattle.inofile.specs.Inodes.{loaded}
-use Rattle.inofile.specs.Objects.{IsObjectIn, IsSizedAs, StandsAsIn}
+use Rattle.inofile.specs.Objects.{IsObjectIn}
 use Rattle.inofile.specs.Room.{memory_room}
+use Rattle.images.specs.Sizes.{IsSizedAs, StandsAsIn}
 use Rattle.images.specs.Soundness.{Detail, by_bytes, by_sizes}
-use Rattle.inofile.proofs.DetailLaws.{by_size}
+use Rattle.inofile.proofs.DetailLaws.{HasSizeOf, by_size}
 use Rattle.inofile.specs.Settled.{content_of_object}
 use Rattle.inofile.specs.Volumes.{IsVolumeIn}
 use Rattle.inofile.specs.declared.inode_file.InodeFile.{InodeFile}
@@ -25,7 +26,7 @@ use Rattle.records.specs.Steps.{Commits, FitsUpdate, IsApart, Steps, StepsSome, 
 use Rattle.records.specs.declared.steps.Update.{Update}
 use Rattle.records.specs.declared.steps.Update.TheVariants as updates
 use Rattle.records.specs.declared.steps.Step.{Step}
-use Rattle.records.proofs.KindLaws.{file_stands, held_file, is_kind}
+use Rattle.records.proofs.KindLaws.{file_stands, is_kind}
 use Rattle.records.proofs.StandLaws.{stays_at_hand}
 
 -- an object that has a mode
@@ -39,7 +40,7 @@ module _ (inodes mode : ℕ) (c : Content) (found : Option Node) (is : HasMode f
   abbrev after : Content
   after = record { kind = c.kind; mode = mode; links = c.links; size = c.size; block = c.block }
 
-  fits_after : (k : Kind) (s : Sizes) → IsSizedAs k inodes c found → FitsKind k s c.mode c.links c.size → FitsKind k s mode c.links c.size
+  fits_after : (k : Kind) (s : Sizes) → HasSizeOf k inodes c found → FitsKind k s c.mode c.links c.size → FitsKind k s mode c.links c.size
   fits_after kinds.Free s stands fits = no_mode found _ stands refl is
   fits_after kinds.File s stands fits = fits
   fits_after kinds.Directory s stands fits = fits
@@ -58,10 +59,10 @@ module _ (inodes mode : ℕ) (c : Content) (found : Option Node) (is : HasMode f
   stands_after kinds.BlockMap stands = no_mode found _ stands refl is
 
   sized_after : (k : Kind) → IsSizedAs k inodes c found → IsSizedAs k inodes after (with_node_mode mode found)
-  sized_after kinds.File stands = (stands.0, stands.1, ap (with_node_mode mode) stands.2)
+  sized_after kinds.File stands = (stands.0, stands.1, stands.2, ap (with_node_mode mode) stands.3)
   sized_after kinds.Link stands = no_mode found _ stands.2 refl is
   sized_after kinds.Free stands = stands_after kinds.Free stands
-  sized_after kinds.Directory stands = stands_after kinds.Directory stands
+  sized_after kinds.Directory stands = (stands.0, stands_after kinds.Directory stands.1)
   sized_after kinds.InodeFile stands = stands_after kinds.InodeFile stands
   sized_after kinds.InodeMap stands = stands_after kinds.InodeMap stands
   sized_after kinds.BlockMap stands = stands_after kinds.BlockMap stands
@@ -109,9 +110,9 @@ module _ (inodes links : ℕ) (c : Content) (found : Option Node) (is : IsTrue (
 
   sized_counted : (k : Kind) → IsSizedAs k inodes c found → IsSizedAs k inodes counted (with_node_links links found)
   sized_counted k stands =
-      let held = held_file by_sizes k inodes c found stands is in
-      subst (λ (x : Kind). IsSizedAs x inodes counted (with_node_links links found)) (sym (is_kind by_sizes k inodes c found stands is))
-      (held.0, held.1, ap (with_node_links links) held.2)
+      let kind = is_kind by_sizes k inodes c found stands is in
+      let held = subst (λ (x : Kind). IsSizedAs x inodes c found) kind stands in
+      subst (λ (x : Kind). IsSizedAs x inodes counted (with_node_links links found)) (sym kind) (held.0, held.1, held.2, ap (with_node_links links) held.3)
 
   in_detail_counted : (detail : Detail) (k : Kind) → StandsAsIn detail k inodes c found → StandsAsIn detail k inodes counted (with_node_links links found)
   in_detail_counted by_bytes k stands = stands_counted k stands

@@ -1,6 +1,7 @@
 -- What becomes of a file's bytes.
-use Rattle.std.specs.Prelude.{ℕ, ◌≡◌, ◌+◌, ◌≤◌, List, length, Option, Some, None, Result, IfOk, IfSome, IsErrOf}
+use Rattle.std.specs.Prelude.{ℕ, ◌≡◌, ◌+◌, ◌≤◌, List, length, Option, Some, None, Result, IfOk, IfSome, IsErrOf, OnOk}
 use Rattle.layout.specs.FileBytes.{EndsAt}
+use Rattle.layout.specs.declared.kind.Kind.TheVariants as kinds
 use Rattle.model.specs.Edits.{resized, written}
 use Rattle.model.specs.Records as records
 use Rattle.model.specs.declared.limits.TheConstants.{GREATEST_FILE, TRANSFER_BYTES}
@@ -10,8 +11,10 @@ use Rattle.blocktree.specs.Errors.{IsFault}
 use Rattle.blocktree.specs.Trees.{IsSoundAt}
 use Rattle.blocktree.specs.declared.error.ReadError.{ReadError}
 use Rattle.blocktree.specs.declared.error.ReadError.TheVariants.{Damaged}
+use Rattle.images.specs.Edges.{EndsIn, IsPartlyWritten}
+use Rattle.images.specs.Sizes.{TellsBlocks}
 use Rattle.images.specs.Soundness.{Detail, by_bytes, by_sizes}
-use Rattle.inode.specs.Files.{Fits, IsFile, IsSameFile, bytes_of_file, bytes_with, byte_with}
+use Rattle.inode.specs.Files.{Fits, IsFile, IsSameFile, block_with, bytes_of_file, bytes_with, byte_with, file_block}
 use Rattle.inode.specs.Room.{StoresMore, size_room, write_room}
 use Rattle.inode.specs.declared.change.Change.{Change}
 use Rattle.inode.specs.declared.file.File.{File}
@@ -45,25 +48,50 @@ pub record Rewrites (disk : ℕ → List ℕ) (f : List ℕ → List ℕ) (file 
   pub ends : EndsAt change.size (byte_with disk file change)
   pub bytes : bytes_with disk file change ≡ f (bytes_of_file disk file)
 
--- of so many bytes as a file has, it makes as many as the file has then
-abbrev pub Resizes : (List ℕ → List ℕ) → File → Change → Type 0
-Resizes f file change = (bytes : List ℕ) → length bytes ≡ file.size → length (f bytes) ≡ change.size
+-- Of so many bytes as a file has, it makes as many as the file has then; and where they tell which blocks can be read, these do so
+-- too.
+abbrev pub Resizes : (ℕ → List ℕ) → (List ℕ → List ℕ) → File → Change → Type 0
+Resizes disk f file change =
+    (bytes : List ℕ) → length bytes ≡ file.size → TellsBlocks (file_block disk file) bytes
+    → (length (f bytes) ≡ change.size) × TellsBlocks (block_with disk file change) (f bytes)
 
 -- a change does so with a file's bytes, in so much detail
 abbrev pub RewritesFile : Detail → (ℕ → List ℕ) → (List ℕ → List ℕ) → File → Change → Type 0
 RewritesFile by_bytes disk f file change = Rewrites disk f file change
-RewritesFile by_sizes disk f file change = Resizes f file change
+RewritesFile by_sizes disk f file change = Resizes disk f file change
 
--- A change of a file's bytes is prepared that makes these of them, and stores so many blocks more at the most. The file stays the same until it is put in force.
-pub record PlansFile {B : Type 0} (G : Ghosts B) (blocks after : B) (file new : File) (f : List ℕ → List ℕ) (more : ℕ) (result : Result Change ReadError) : Type 0 where
+-- of a file of this size it leaves block i in part
+abbrev pub LeavesPart : ℕ → Rewrite → ℕ → Type 0
+LeavesPart size (Write offset bytes) i = IsPartlyWritten offset (length bytes.now) i
+LeavesPart size (Cut to) i = EndsIn size to i
+
+-- the blocks of a file that are left in part are sound
+abbrev pub ArePartsSound : ℕ → (ℕ → List ℕ) → (ℕ → Type 0) → File → Type 0
+ArePartsSound count disk Part file = (i : ℕ) → Part i → IsSoundAt count disk file.tree i
+
+-- they can be read
+abbrev pub ArePartsWhole : (ℕ → List ℕ) → (ℕ → Type 0) → File → Type 0
+ArePartsWhole disk Part file = (i : ℕ) → Part i → length (file_block disk file i) ≡ 4096
+
+-- the same of an object, where it is a file
+abbrev pub IsSoundIn : ℕ → (ℕ → List ℕ) → Rewrite → Object → Type 0
+IsSoundIn count disk rewrite o = o.attributes.kind ≡ kinds.File → ArePartsSound count disk (LeavesPart o.file.size rewrite) o.file
+
+abbrev pub IsWholeIn : (ℕ → List ℕ) → Rewrite → Object → Type 0
+IsWholeIn disk rewrite o = o.attributes.kind ≡ kinds.File → ArePartsWhole disk (LeavesPart o.file.size rewrite) o.file
+
+-- A change of a file's bytes is prepared that makes these of them, stores so many blocks more at the most, and reads those that it leaves
+-- in part. The file stays the same until it is put in force.
+pub record PlansFile {B : Type 0} (G : Ghosts B) (blocks after : B) (file new : File) (f : List ℕ → List ℕ) (more : ℕ) (Part : ℕ → Type 0) (result : Result Change ReadError) : Type 0 where
   pub reads : ReadsBlocks G IsFault blocks after result
   pub same : IsSameFile file new
   pub fits : IfOk result (Fits new.tree)
   pub stores : IfOk result (λ w. StoresMore new w more)
   pub rewrites : (disk : ℕ → List ℕ) → G.Shows blocks disk → IsFile disk file → IfOk result (Rewrites disk f new)
-  pub sizes : IfOk result (λ w. Resizes f new w)
+  pub sizes : (disk : ℕ → List ℕ) → G.Shows blocks disk → IfOk result (Resizes disk f new)
+  pub whole : (disk : ℕ → List ℕ) → G.Shows blocks disk → OnOk result (ArePartsWhole disk Part file)
   pub damaged : (disk : ℕ → List ℕ) → G.Shows blocks disk → IsErrOf result Damaged
-      → ((i : ℕ) → IsSoundAt (G.count blocks) disk file.tree i) → ⊥
+      → ArePartsSound (G.count blocks) disk Part file → ⊥
 
 -- there is an object, and a change does so with its bytes
 abbrev pub RewritesIn : Detail → (ℕ → List ℕ) → (List ℕ → List ℕ) → Option Object → Change → Type 0

@@ -1,17 +1,18 @@
 -- Functions that prepare a record.
-use Rattle.std.specs.Prelude.{ℕ, ◌≡◌, ◌⊎◌, ◌<◌, ◌≤◌, IsSome, IsTrue, List, Result, IfErr, IfOk}
+use Rattle.std.specs.Prelude.{ℕ, ◌≡◌, ◌⊎◌, ◌<◌, ◌≤◌, IsErrOf, IsSome, IsTrue, List, Result, IfErr, IfOk}
 use Rattle.layout.specs.declared.inode.Inode.{Inode}
 use Rattle.model.specs.Records.{Applies, Change}
 use Rattle.model.specs.Volumes.{Volume, IsGraph, IsVolume}
 use Rattle.model.specs.declared.limits.TheConstants.{FIRST_NUMBER, ROOT_NUMBER}
 use Rattle.buffers.specs.declared.blocks.Blocks.{Ghosts}
 use Rattle.blocktree.specs.Errors.{IsFault}
+use Rattle.blocktree.specs.declared.error.ReadError.TheVariants.{Damaged}
 use Rattle.images.specs.Soundness.{Detail, by_bytes, by_sizes}
 use Rattle.inofile.specs.declared.inode_file.InodeFile.{InodeFile}
-use Rattle.paths.specs.Standing.{Looks, NeverDamagedIn, StandsIn}
+use Rattle.paths.specs.Standing.{Looks, OnVolumesIn, StandsIn}
 use Rattle.records.specs.Failures.{told}
 use Rattle.records.specs.Obstacles.{IsObstacle, tells_obstacle}
-use Rattle.images.specs.Replaying.{LeavesPlace}
+use Rattle.images.specs.Replaying.{LeavesPlace, ReadsIn}
 use Rattle.records.specs.Prepared.{DoesIn, IsReady}
 use Rattle.records.specs.declared.failure.Failure.{Failure}
 use Rattle.records.specs.declared.prepared.Prepared.{Prepared}
@@ -49,7 +50,9 @@ pub record DecidesOn {B : Type 0} (Over Sure : Premise) (G : Ghosts B) (blocks a
       → IfOk result (λ _. LeavesPlace v change)
   pub refused : {detail : Detail} (disk : ℕ → List ℕ) (settled : ℕ → Inode) (v : Volume) → Sure detail disk settled v
       → IsVolumeFor detail s.geometry.inodes change v → IfOk (told result) (λ r. IfErr r (IsObstacle s.geometry.inodes v change))
-  pub damaged : {detail : Detail} → NeverDamagedIn detail G blocks s (told result)
+  pub reads : {detail : Detail} (disk : ℕ → List ℕ) (settled : ℕ → Inode) (v : Volume) → Sure detail disk settled v
+      → IfOk result (λ _. ReadsIn detail v change)
+  pub damaged : {detail : Detail} → OnVolumesIn detail G blocks s (λ disk settled v. ReadsIn detail v change → IsErrOf (told result) Damaged → ⊥)
 
 -- the same of each volume that memory stands for
 abbrev pub DecidesRecord : {B : Type 0} → Ghosts B → B → B → InodeFile → InodeFile → Change → Result Prepared Failure → Type 0

@@ -1,7 +1,6 @@
 -- What reading the file with a number comes to.
 use Rattle.std.specs.Prelude.{ℕ, ◌≡◌, IsTrue, IsFalse, List, [], Option, Some, None, unwrap_or}
 use Rattle.model.specs.Edits.{read_at}
-use Rattle.images.specs.Soundness.{Detail, by_bytes, by_sizes}
 use Rattle.model.specs.Volumes.{Volume, bytes_of_node, is_file_node}
 
 -- its bytes from an offset on, as far as there are any, or that it is none
@@ -9,8 +8,3 @@ abbrev pub ReadsNumber : Volume → ℕ → ℕ → ℕ → Option (List ℕ) �
 ReadsNumber v n offset count (Some bytes) =
     IsTrue (is_file_node (v n)) × (bytes ≡ read_at offset count (unwrap_or (bytes_of_node (v n)) []))
 ReadsNumber v n offset count None = IsFalse (is_file_node (v n))
-
--- the same where memory stands for the volume in so much detail: where the sizes alone are known, nothing is said of bytes
-abbrev pub ReadsNumberIn : Detail → Volume → ℕ → ℕ → ℕ → Option (List ℕ) → Type 0
-ReadsNumberIn by_bytes v n offset count read = ReadsNumber v n offset count read
-ReadsNumberIn by_sizes v n offset count read = Unit {0}

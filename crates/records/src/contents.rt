@@ -1,6 +1,6 @@
 //! Records that change a file's bytes.
 
-ghost use Rattle.std.specs.Prelude.{◌≡◌, ◌≤◌, ◌+◌, ◌↔◌, ℕ, List, Option, Some, IsTrue, IfErr, IfOk, IfSome, IsErrOf, is_some, length};
+ghost use Rattle.std.specs.Prelude.{◌≡◌, ◌≤◌, ◌+◌, ◌↔◌, ℕ, List, Option, Some, IsTrue, IfErr, IfOk, IfSome, IsErrOf, OnOk, is_some, length};
 ghost use Rattle.layout.specs.declared.inode.Inode.{Inode};
 ghost use Rattle.model.specs.Edits.{resized, written};
 ghost use Rattle.model.specs.Records.{with_file_bytes};
@@ -8,7 +8,8 @@ ghost use Rattle.model.specs.Volumes.{Node, is_file_node};
 ghost use Rattle.model.specs.declared.limits.TheConstants.{GREATEST_FILE};
 ghost use Rattle.buffers.specs.Reads.{ReadsBlocks};
 ghost use Rattle.blocktree.specs.Errors.{IsFault};
-ghost use Rattle.blocktree.specs.Trees.{IsSoundAt};
+ghost use Rattle.images.specs.Edges.{EndsIn as IsEnd, IsPartlyWritten};
+ghost use Rattle.images.specs.Replaying.{ReadsIn};
 ghost use Rattle.images.specs.Soundness.{Detail};
 ghost use Rattle.inode.specs.Files.{Fits};
 ghost use Rattle.inode.specs.Room.{StoresMore, size_room, write_room};
@@ -16,10 +17,11 @@ ghost use Rattle.inode.specs.declared.object.Object.{Object};
 ghost use Rattle.inofile.specs.Inodes.{loaded};
 ghost use Rattle.inofile.specs.Objects.{EndsIn, IsObjectIn, IsObjectOrNone, IsSameObject, IsSameOrNone};
 ghost use Rattle.paths.specs.Numbers.{IsNumber};
-ghost use Rattle.records.specs.Contents.{FitsFile, KeepsRewriteBounds, PlansFile, RewriteRoom, RewritesFile, RewritesIn, bytes_after, rewrite_room, rewriting};
+ghost use Rattle.paths.specs.Standing.{Looks};
+ghost use Rattle.records.specs.Contents.{FitsFile, IsSoundIn, IsWholeIn, KeepsRewriteBounds, LeavesPart, PlansFile, RewriteRoom, RewritesFile, RewritesIn, bytes_after, rewrite_room, rewriting};
 ghost use Rattle.records.specs.Failures.{told};
-ghost use Rattle.records.specs.Looking.{Finds};
 ghost use Rattle.records.specs.Preparing.{DecidesRecord};
+ghost use Rattle.records.specs.Shown.{OnVolumesIn};
 ghost use Rattle.records.specs.Room.{RaisesFile, StoresIn};
 ghost use Rattle.records.specs.Steps.{TakesUpdate};
 
@@ -100,9 +102,14 @@ fn plan_number<B: Blocks>(
 ) -> Result<Option<Change>, ReadError>
     requires bounds { KeepsRewriteBounds rewrite.now }
     requires number { IsNumber inodes.old.geometry.inodes number }
-    ensures planned { Finds B.Blocks blocks.old blocks.new inodes.old inodes.new (λ detail disk settled v w.
-        (is_some w ≡ is_file_node (v number))
-        × IfSome w (RewritesIn detail disk (bytes_after rewrite.now) (loaded inodes.new number))) result }
+    ensures looks { Looks B.Blocks IsFault blocks.old blocks.new inodes.old inodes.new result }
+    ensures planned { (detail : Detail) → OnVolumesIn detail B.Blocks blocks.old inodes.old (λ disk settled v.
+        IfOk result (λ w. (is_some w ≡ is_file_node (v number))
+        × IfSome w (RewritesIn detail disk (bytes_after rewrite.now) (loaded inodes.new number)))) }
+    ensures parts { (detail : Detail) → OnVolumesIn detail B.Blocks blocks.old inodes.old (λ disk settled v.
+        IsTrue (is_file_node (v number)) → OnOk result (ReadsIn detail v (rewriting number rewrite.now))) }
+    ensures damaged { (detail : Detail) → OnVolumesIn detail B.Blocks blocks.old inodes.old (λ disk settled v.
+        ReadsIn detail v (rewriting number rewrite.now) → IsErrOf result ReadError.Damaged → ⊥) }
     ensures ready { IfOk result
         (λ w. IfSome w (λ x. TakesUpdate inodes.new number (Update.Bytes x))) }
     ensures stores { IfOk result
@@ -136,9 +143,11 @@ fn plan_object<B: Blocks>(
         (found : Option Node) → B.Shows blocks.old disk
         → IsObjectOrNone detail disk inodes settled object.old found
         → IfOk result (λ w. IfSome w (RewritesIn detail disk (bytes_after rewrite.now) object.new)) }
+    ensures whole { (disk : ℕ → List ℕ) (o : Object) → B.Shows blocks.old disk → object.old ≡ Some o
+        → OnOk result (IsWholeIn disk rewrite.now o) }
     ensures damaged { (disk : ℕ → List ℕ) → B.Shows blocks.old disk
         → IsErrOf result ReadError.Damaged → ((o : Object) → object.old ≡ Some o
-        → (i : ℕ) → IsSoundAt (B.count blocks.old) disk o.file.tree i) → ⊥ }
+        → IsSoundIn (B.count blocks.old) disk rewrite.now o) → ⊥ }
 {
     let Some(mut taken) = object.take() else {
         return Ok(None);
@@ -167,9 +176,11 @@ fn plan_taken<B: Blocks>(
     ensures rewrites { (detail : Detail) (disk : ℕ → List ℕ) → B.Shows blocks.old disk
         → EndsIn detail disk object.old.file → IfOk result
         (λ w. IfSome w (RewritesFile detail disk (bytes_after rewrite.now) object.new.file)) }
+    ensures whole { (disk : ℕ → List ℕ) → B.Shows blocks.old disk
+        → OnOk result (IsWholeIn disk rewrite.now object.old) }
     ensures damaged { (disk : ℕ → List ℕ) → B.Shows blocks.old disk
         → IsErrOf result ReadError.Damaged
-        → ((i : ℕ) → IsSoundAt (B.count blocks.old) disk object.old.file.tree i) → ⊥ }
+        → IsSoundIn (B.count blocks.old) disk rewrite.now object.old → ⊥ }
 {
     match object.attributes.kind {
         Kind::File => {}
@@ -188,7 +199,8 @@ fn plan<B: Blocks>(
 ) -> Result<Change, ReadError>
     requires { KeepsRewriteBounds rewrite.now }
     ensures { PlansFile B.Blocks blocks.old blocks.new file.old file.new
-        (bytes_after rewrite.now) (rewrite_room file.old.size rewrite.now) result }
+        (bytes_after rewrite.now) (rewrite_room file.old.size rewrite.now)
+        (LeavesPart file.old.size rewrite.now) result }
 {
     match rewrite {
         Rewrite::Write { offset, bytes } => plan_write(alloc, file, blocks, *offset, bytes),
@@ -207,7 +219,8 @@ fn plan_write<B: Blocks>(
     requires some { 1 ≤ length bytes.now }
     requires within { offset + length bytes.now ≤ GREATEST_FILE }
     ensures { PlansFile B.Blocks blocks.old blocks.new file.old file.new
-        (written offset bytes.now) (write_room file.old.size offset (length bytes.now)) result }
+        (written offset bytes.now) (write_room file.old.size offset (length bytes.now))
+        (IsPartlyWritten offset (length bytes.now)) result }
 {
     match file.prepare_write(alloc, blocks, offset, bytes) {
         Ok(change) => Ok(change),
@@ -227,7 +240,8 @@ fn plan_cut<B: Blocks>(
 ) -> Result<Change, ReadError>
     requires { size ≤ GREATEST_FILE }
     ensures { PlansFile B.Blocks blocks.old blocks.new file.old file.new
-        (resized size) (size_room file.old.size size) result }
+        (resized size) (size_room file.old.size size)
+        (IsEnd file.old.size size) result }
 {
     match file.prepare_cut(alloc, blocks, size) {
         Ok(change) => Ok(change),

@@ -3,6 +3,7 @@
 ghost use Rattle.std.specs.Prelude.{◌≡◌, ◌≢◌, ◌+◌, ◌*◌, ◌↔◌, ℕ, List, Option, Some, IsTrue, IfOk, IfSome, IsErrOf};
 ghost use Rattle.layout.specs.DirectoryNames.{NameMap};
 ghost use Rattle.layout.specs.declared.inode.Inode.{Inode};
+ghost use Rattle.layout.specs.declared.kind.Kind.TheVariants as kinds;
 ghost use Rattle.model.specs.Volumes.{Node};
 ghost use Rattle.buffers.specs.Reads.{ReadsBlocks};
 ghost use Rattle.blocktree.specs.Errors.{IsFault};
@@ -94,7 +95,7 @@ fn edit_object<B: Blocks>(
     ensures damaged { (detail : Detail) (disk : ℕ → List ℕ) (settled : Inode) (found : Option Node)
         → B.Shows blocks.old disk → IsErrOf result ReadError.Damaged
         → IsObjectOrNone detail disk inodes settled object.old found
-        → ((o : Object) → object.old ≡ Some o
+        → ((o : Object) → object.old ≡ Some o → o.attributes.kind ≡ kinds.Directory
         → (i : ℕ) → IsSoundAt (B.count blocks.old) disk o.file.tree i) → ⊥ }
 {
     if !is_directory(object) {

@@ -31,7 +31,7 @@ use crate::steps::{Step, Update, commit_some, commit_step};
 use crate::unnaming::prepare_unname;
 use crate::vacancy::{is_made, is_vacant, new_object};
 use buffers::Blocks;
-use inode::{Object, based_trees_are_sound};
+use inode::Object;
 use inofile::InodeFile;
 use layout::{Entry, FIRST_NUMBER, InodeNumber, NewObject, Record};
 use model::Errno;
@@ -120,7 +120,6 @@ fn prepare_create<B: Blocks>(
     if !vacant {
         return Err(Failure::Refused(Errno::DAMAGED));
     }
-    based_trees_are_sound();
     let new = new_object(alloc, blocks, object)?;
     prepare_new(alloc, inodes, blocks, number, parent, name, new)
 }

@@ -6,17 +6,17 @@ ghost use Rattle.buffers.specs.Reads.{ReadsBlocks};
 ghost use Rattle.blocktree.specs.Errors.{IsFault};
 ghost use Rattle.blocktree.specs.Trees.{IsSoundAt};
 ghost use Rattle.inode.specs.Files.{bytes_of_file};
+ghost use Rattle.paths.specs.Loads.{IsAny, LooksUp};
 ghost use Rattle.paths.specs.Numbers.{IsNumber};
-ghost use Rattle.records.specs.Looking.{Finds};
-ghost use Rattle.records.specs.Reading.{ReadsNumberIn};
+ghost use Rattle.records.specs.Reading.{ReadsNumber};
 
-use crate::loading::load;
 use blocktree::ReadError;
 use buffers::Blocks;
 use inode::File;
 use inofile::{InodeFile, objects_stand_in_their_grammar};
 use layout::{InodeNumber, Kind};
 use model::Text;
+use paths::load;
 use std::alloc::Global;
 
 /// As many bytes as asked and there, from an offset on, of the file with a number; None where it is none. NoMemory; Device where a
@@ -30,8 +30,8 @@ pub fn read_bytes<B: Blocks>(
     count: u32,
 ) -> Result<Option<Text>, ReadError>
     requires { IsNumber inodes.old.geometry.inodes number }
-    ensures { Finds B.Blocks blocks.old blocks.new inodes.old inodes.new
-        (λ detail disk settled v. ReadsNumberIn detail v number offset count) result }
+    ensures { LooksUp B.Blocks blocks.old blocks.new inodes.old inodes.new IsAny
+        (λ v. ReadsNumber v number offset count) result }
 {
     objects_stand_in_their_grammar();
     load(alloc, inodes, blocks, number)?;

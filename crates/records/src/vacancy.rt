@@ -9,12 +9,10 @@ ghost use Rattle.model.specs.Volumes.{directory_node, file_node, link_node};
 ghost use Rattle.model.specs.declared.limits.TheConstants.{MODE_BITS};
 ghost use Rattle.buffers.specs.Reads.{ReadsBlocks};
 ghost use Rattle.blocktree.specs.Errors.{IsFault};
-ghost use Rattle.blocktree.specs.Trees.{IsSoundAt};
-ghost use Rattle.blocktree.specs.declared.tree.BlockTree.{BlockTree};
-ghost use Rattle.inode.specs.Bases.{IsBased};
+ghost use Rattle.images.specs.Soundness.{Detail};
 ghost use Rattle.inode.specs.Room.{file_room};
 ghost use Rattle.records.specs.Room.{HasRoomOfNew};
-ghost use Rattle.inofile.specs.Objects.{IsObject};
+ghost use Rattle.inofile.specs.Objects.{IsObjectIn};
 ghost use Rattle.records.specs.Looking.{Finds};
 
 use crate::loading::load;
@@ -67,14 +65,12 @@ pub fn new_object<B: Blocks>(
 ) -> Result<Object, ReadError>
     requires { IsMade (made_of object.now) }
     ensures reads { ReadsBlocks B.Blocks IsFault blocks.old blocks.new result }
-    ensures object { (disk : ℕ → List ℕ) → B.Shows blocks.old disk → IfOk result
+    ensures object { (detail : Detail) (disk : ℕ → List ℕ) → B.Shows blocks.old disk → IfOk result
         (λ o. (inodes : ℕ) (settled : Inode)
-        → IsObject disk inodes settled o (Some (node_of (made_of object.now)))) }
+        → IsObjectIn detail disk inodes settled o (Some (node_of (made_of object.now)))) }
     ensures room { IfOk result HasRoomOfNew }
     ensures damaged { (disk : ℕ → List ℕ) → B.Shows blocks.old disk
-        → IsErrOf result ReadError.Damaged
-        → ((t : BlockTree) (i : ℕ) → ((settled : Inode) → IsBased settled t)
-        → IsSoundAt (B.count blocks.old) disk t i) → ⊥ }
+        → IsErrOf result ReadError.Damaged → ⊥ }
 {
     match object {
         NewObject::Directory { mode } => Ok(new_directory(alloc, *mode)),
@@ -87,14 +83,12 @@ pub fn new_object<B: Blocks>(
 fn new_link<B: Blocks>(alloc: Global, blocks: &mut B, text: &[u8]) -> Result<Object, ReadError>
     requires { IsLinkText text.now }
     ensures reads { ReadsBlocks B.Blocks IsFault blocks.old blocks.new result }
-    ensures object { (disk : ℕ → List ℕ) → B.Shows blocks.old disk → IfOk result
+    ensures object { (detail : Detail) (disk : ℕ → List ℕ) → B.Shows blocks.old disk → IfOk result
         (λ o. (inodes : ℕ) (settled : Inode)
-        → IsObject disk inodes settled o (Some (link_node text.now))) }
+        → IsObjectIn detail disk inodes settled o (Some (link_node text.now))) }
     ensures room { IfOk result HasRoomOfNew }
     ensures damaged { (disk : ℕ → List ℕ) → B.Shows blocks.old disk
-        → IsErrOf result ReadError.Damaged
-        → ((t : BlockTree) (i : ℕ) → ((settled : Inode) → IsBased settled t)
-        → IsSoundAt (B.count blocks.old) disk t i) → ⊥ }
+        → IsErrOf result ReadError.Damaged → ⊥ }
 {
     let Some(mode) = Mode::new(LINK_MODE) else {
         unreachable!()
@@ -120,8 +114,8 @@ fn new_link<B: Blocks>(alloc: Global, blocks: &mut B, text: &[u8]) -> Result<Obj
 
 // A file of one name without bytes.
 fn new_file(alloc: Global, mode: Mode) -> Object
-    ensures object { (disk : ℕ → List ℕ) (inodes : ℕ) (settled : Inode)
-        → IsObject disk inodes settled result (Some (file_node mode 1 [])) }
+    ensures object { (detail : Detail) (disk : ℕ → List ℕ) (inodes : ℕ) (settled : Inode)
+        → IsObjectIn detail disk inodes settled result (Some (file_node mode 1 [])) }
     ensures room { file_room result.file ≡ 0 }
     ensures good { mode ≤ MODE_BITS }
 {
@@ -139,8 +133,9 @@ fn new_file(alloc: Global, mode: Mode) -> Object
 
 /// A directory without names.
 pub(crate) fn new_directory(alloc: Global, mode: Mode) -> Object
-    ensures object { (disk : ℕ → List ℕ) (inodes : ℕ) (settled : Inode)
-        → IsObject disk inodes settled result (Some (directory_node mode (λ name. None))) }
+    ensures object { (detail : Detail) (disk : ℕ → List ℕ) (inodes : ℕ) (settled : Inode)
+        → IsObjectIn detail disk inodes settled result
+        (Some (directory_node mode (λ name. None))) }
     ensures room { file_room result.file ≡ 0 }
     ensures good { mode ≤ MODE_BITS }
 {

@@ -9,7 +9,7 @@ use Rattle.model.proofs.MoveLemmas.{bytes_by, bytes_names, graph-moved, made_bar
 use Rattle.model.proofs.UnnameLemmas.{volume-unnamed}
 use Rattle.model.proofs.VolumeLemmas.{enters_directory}
 use Rattle.images.specs.Soundness.{Detail, by_bytes, by_sizes}
-use Rattle.images.specs.Replaying.{LeavesPlace}
+use Rattle.images.specs.Replaying.{LeavesPlace, ReadsIn}
 use Rattle.records.specs.Preparing.{HasGraph, IsKnownVolume, IsVolumeFor}
 use Rattle.replay.specs.Volumes.{AppliesIn, ReplaysFor, ReplaysIn}
 
@@ -101,19 +101,23 @@ known_swept by_sizes inodes v keeps volume = sweep_kept inodes v volume
 -- a record applies to a volume that has what is known of it
 pub volume_for : (detail : Detail) (inodes : ℕ) (change : Change) (v : Volume) → IsKnownVolume detail inodes v → AppliesIn detail inodes v change → IsVolumeFor detail inodes change v
 volume_for by_bytes inodes change v volume can = volume
-volume_for by_sizes inodes change v volume can = (volume, can.1)
+volume_for by_sizes inodes change v volume can = (volume, can.place)
 
 pub applies_so : (detail : Detail) (inodes : ℕ) (v : Volume) (change : Change) → AppliesIn detail inodes v change → Applies inodes v change
 applies_so by_bytes inodes v change can = can
-applies_so by_sizes inodes v change can = can.0
+applies_so by_sizes inodes v change can = can.can
 
-pub applies_within : (detail : Detail) (inodes : ℕ) (v : Volume) (change : Change) → Applies inodes v change → LeavesPlace v change → AppliesIn detail inodes v change
-applies_within by_bytes inodes v change can place = can
-applies_within by_sizes inodes v change can place = (can, place)
+pub applies_within : (detail : Detail) (inodes : ℕ) (v : Volume) (change : Change) → Applies inodes v change → LeavesPlace v change → ReadsIn detail v change → AppliesIn detail inodes v change
+applies_within by_bytes inodes v change can place reads = can
+applies_within by_sizes inodes v change can place reads = record { can = can; place = place; reads = reads }
+
+pub reads_in : (detail : Detail) (inodes : ℕ) (v : Volume) (change : Change) → AppliesIn detail inodes v change → ReadsIn detail v change
+reads_in by_bytes inodes v change can = tt
+reads_in by_sizes inodes v change can = can.reads
 
 -- record by record
 pub replays_by_one : (detail : Detail) (inodes : ℕ) (changes : List Change) (v w : Volume) → ReplaysFor detail inodes v changes w → ReplaysIn detail inodes v changes w
 replays_by_one by_bytes inodes [] v w replays = replays
 replays_by_one by_bytes inodes (change ∷ changes) v w replays = (replays.0, replays_by_one by_bytes inodes changes (applied change v) w replays.1)
 replays_by_one by_sizes inodes [] v w replays = replays
-replays_by_one by_sizes inodes (change ∷ changes) v w replays = ((replays.0, replays.1), replays_by_one by_sizes inodes changes (applied change v) w replays.2)
+replays_by_one by_sizes inodes (change ∷ changes) v w replays = (replays.0, replays_by_one by_sizes inodes changes (applied change v) w replays.1)

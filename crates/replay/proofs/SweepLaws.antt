@@ -60,7 +60,7 @@ one_more m v = fun_ext {f = with_node m (swept_node false (dropped_below m v m))
 pub starts : (inodes : ℕ) (v : Volume) → HasGraph inodes v → HasNoOwn v → v ≡ dropped_below 4 v
 starts inodes v is own = fun_ext {f = v} {g = dropped_below 4 v} (λ k. elim (cases_lt k 4) [
   | inl low ↦ elim (cases_eq k 3) [
-    | inl root ↦ sym (directory_stays (v k) (subst (λ n. IsTrue (is_directory_node (v n))) (sym root) is.graph.root)) ∙ sym (below 4 k v low)
+    | inl root ↦ sym (directory_stays (v k) (subst (λ n. IsTrue (is_directory_node (v n))) (sym root) is.graph.naming.root)) ∙ sym (below 4 k v low)
     | inr other ↦
         let none : v k ≡ None = own k (omega (arith, other)) in
         none ∙ sym (ap (swept_node false) none) ∙ sym (below 4 k v low)
@@ -92,7 +92,7 @@ none_here n v is = let here = ap (λ (b : Bool). count_nameless n v + (if b then
 -- the numbers before the first that an object may have are none
 pub none_counted : (inodes : ℕ) (v : Volume) → HasGraph inodes v → HasNoOwn v → 0 ≡ count_nameless 4 v
 none_counted inodes v is own = sym (
-    none_here 3 v (directory_named (v 3) is.graph.root) ∙ none_here 2 v (ap is_nameless (own 2 (omega arith)))
+    none_here 3 v (directory_named (v 3) is.graph.naming.root) ∙ none_here 2 v (ap is_nameless (own 2 (omega arith)))
     ∙ none_here 1 v (ap is_nameless (own 1 (omega arith))) ∙ none_here 0 v (ap is_nameless (own 0 (omega arith)))
     )
 

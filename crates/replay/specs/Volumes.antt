@@ -7,7 +7,7 @@ use Rattle.model.specs.Records.{Applies, Replays, applied, costs}
 use Rattle.model.specs.Volumes.{Volume}
 use Rattle.blocktree.specs.declared.error.ReadError.{ReadError}
 use Rattle.blocktree.specs.declared.error.ReadError.TheVariants.{NoMemory, Device}
-use Rattle.images.specs.Replaying.{LeavesPlace, ReplaysWithin}
+use Rattle.images.specs.Replaying.{AppliesWithin, ReplaysWithin}
 use Rattle.images.specs.Soundness.{Detail, by_bytes, by_sizes}
 use Rattle.inofile.specs.Room.{memory_room}
 use Rattle.inofile.specs.Volumes.{IsVolumeIn}
@@ -49,7 +49,7 @@ ReplaysFor by_sizes inodes v changes w = ReplaysWithin inodes v changes w
 -- the same record by record
 abbrev pub AppliesIn : Detail → ℕ → Volume → Change → Type 0
 AppliesIn by_bytes inodes v change = Applies inodes v change
-AppliesIn by_sizes inodes v change = Applies inodes v change × LeavesPlace v change
+AppliesIn by_sizes inodes v change = AppliesWithin inodes v change
 
 abbrev pub ReplaysIn : Detail → ℕ → Volume → List Change → Volume → Type 0
 ReplaysIn detail inodes v [] w = w ≡ v

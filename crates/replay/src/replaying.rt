@@ -9,7 +9,6 @@ ghost use Rattle.model.specs.Volumes.{Volume};
 ghost use Rattle.buffers.specs.Reads.{ReadsBlocks};
 ghost use Rattle.blocktree.specs.Errors.{IsFault};
 ghost use Rattle.images.specs.Soundness.{Detail};
-ghost use Rattle.inofile.specs.Settled.{CanRead};
 ghost use Rattle.oplog.specs.SavedLog.{HoldsLeaving};
 ghost use Rattle.replay.specs.Volumes.{AppliesIn, ComesTo, HasReplayed, HasVolumeIn, LeadTo, RaisesRoom, SpellsRecord};
 ghost use Rattle.replay.specs.declared.costs.TheConstants.{MOST_COST};
@@ -48,7 +47,6 @@ pub(crate) fn replay_all<B: Blocks>(
     ensures replays { (detail : Detail) (disk : ℕ → List ℕ) (settled : ℕ → Inode) (v w : Volume)
         (changes : List Change) → B.Shows blocks.old disk
         → HasVolumeIn detail (B.count blocks.old) disk settled inodes.old v
-        → CanRead detail disk settled
         → LeadTo detail inodes.old.geometry.inodes records.now changes v w
         → ComesTo result (λ r. HasReplayed records.now changes v r
         × HasVolumeIn detail (B.count blocks.old) disk settled inodes.new w
@@ -89,7 +87,6 @@ pub fn replay_record<B: Blocks>(
     ensures replays { (detail : Detail) (disk : ℕ → List ℕ) (settled : ℕ → Inode) (v : Volume) (change : Change)
         → B.Shows blocks.old disk
         → HasVolumeIn detail (B.count blocks.old) disk settled inodes.old v
-        → CanRead detail disk settled
         → SpellsRecord body.now change
         → AppliesIn detail inodes.old.geometry.inodes v change
         → ComesTo result (λ cost. (cost ≡ room.cost (work_of v change))

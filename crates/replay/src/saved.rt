@@ -9,7 +9,6 @@ ghost use Rattle.blocktree.specs.Errors.{IsFault};
 ghost use Rattle.images.specs.Soundness.{Detail};
 ghost use Rattle.inofile.specs.Inodes.{HasNoChange};
 ghost use Rattle.inofile.specs.Room.{memory_room};
-ghost use Rattle.inofile.specs.Settled.{CanRead};
 ghost use Rattle.oplog.specs.SavedLog.{StandsBehind, TellsLog};
 ghost use Rattle.replay.specs.Volumes.{ComesTo, HasVolumeIn, RaisesRoom, SavesRecordsIn, bodies_of};
 
@@ -50,7 +49,7 @@ pub fn replay<B: Blocks>(
     ensures few { IfOk result (λ r. r.pledged < 2 ^ 32) }
     ensures replays { (detail : Detail) (disk : ℕ → List ℕ) (settled : ℕ → Inode) (v w : Volume)
         (changes : List Change) (nvram : List ℕ) → B.Shows blocks.old disk
-        → HasVolumeIn detail (B.count blocks.old) disk settled inodes.old v → CanRead detail disk settled
+        → HasVolumeIn detail (B.count blocks.old) disk settled inodes.old v
         → TellsLog nvram saved
         → SavesRecordsIn detail inodes.old.geometry.inodes nvram saved changes v w
         → ComesTo result (λ r. StandsBehind r.log saved.generation nvram (bodies_of changes)
@@ -58,7 +57,7 @@ pub fn replay<B: Blocks>(
         × (r.pledged ≡ pledged_for inodes.old.geometry.inodes v changes)) }
     ensures room { (detail : Detail) (disk : ℕ → List ℕ) (settled : ℕ → Inode) (v w : Volume)
         (changes : List Change) (nvram : List ℕ) → B.Shows blocks.old disk
-        → HasVolumeIn detail (B.count blocks.old) disk settled inodes.old v → CanRead detail disk settled
+        → HasVolumeIn detail (B.count blocks.old) disk settled inodes.old v
         → TellsLog nvram saved
         → SavesRecordsIn detail inodes.old.geometry.inodes nvram saved changes v w
         → HasNoChange inodes.old → IfOk result
@@ -94,7 +93,7 @@ fn replay_records<B: Blocks>(
     ensures few { IfOk result (λ r. r.cost < 2 ^ 31) }
     ensures replays { (detail : Detail) (disk : ℕ → List ℕ) (settled : ℕ → Inode) (v w : Volume)
         (changes : List Change) (nvram : List ℕ) → B.Shows blocks.old disk
-        → HasVolumeIn detail (B.count blocks.old) disk settled inodes.old v → CanRead detail disk settled
+        → HasVolumeIn detail (B.count blocks.old) disk settled inodes.old v
         → TellsLog nvram saved
         → SavesRecordsIn detail inodes.old.geometry.inodes nvram saved changes v w
         → ComesTo result (λ r. StandsBehind r.log saved.generation nvram (bodies_of changes)

@@ -25,14 +25,13 @@ use Rattle.descriptors.specs.Fits.{FitsVolume}
 use Rattle.descriptors.specs.Tables.{open_at}
 use Rattle.descriptors.specs.declared.table.Descriptors.{Descriptors}
 use Rattle.images.specs.Nodes.{held}
-use Rattle.images.specs.Roots.{tree, whole}
+use Rattle.images.specs.Roots.{whole}
 use Rattle.inofile.specs.Room.{memory_room}
-use Rattle.inofile.specs.Settled.{CanRead}
 use Rattle.inofile.specs.Volumes.{IsVolumeIn, IsVolumeOf}
 use Rattle.inofile.specs.declared.inode_file.InodeFile.{InodeFile}
 use Rattle.images.specs.Faults.{IsFaultlessUnder}
 use Rattle.images.specs.Replaying.{ReplaysWithin}
-use Rattle.images.specs.Soundness.{IsReadable, by_sizes}
+use Rattle.images.specs.Soundness.{by_sizes}
 use Rattle.loading.specs.Images.{IsLoadedIn, IsLoadedUnder, IsReadableIn, inodes_of}
 use Rattle.records.specs.Preparing.{HasGraph}
 use Rattle.replay.specs.Volumes.{HasVolume, HasVolumeIn, SavesRecords, SavesRecordsIn, bodies_of}
@@ -133,11 +132,6 @@ module _ (disk : Blocks) (r : Root) (nvram : List ℕ) (first last : Volume) (sn
 module _ (disk : Blocks) (r : Root) (nvram : List ℕ) (changes : List Change) (under : IsFaultlessUnder r (whole disk r) nvram changes) where
   pub grammar_read : IsReadableIn by_sizes disk r
   grammar_read = record { sound = (under.active.grammar, under.active.numbers); root = under.active.grammar.root }
-
-  -- the files of a tree are those of its inodes
-  pub can_read : ((n : ℕ) → IsReadable ((whole disk r).active n)) → CanRead by_sizes disk (inodes_of (whole disk r).active)
-  unfolding whole tree held
-  can_read readable = readable
 
   module _ (saved : Saved) (half : saved.half ≡ r.geometry.half) (generation : saved.generation ≡ r.generation) (inodes : InodeFile) (geometry : inodes.geometry ≡ r.geometry) where
     pub saves_within : SavesRecordsIn by_sizes inodes.geometry.inodes nvram saved changes under.log.first under.log.last

@@ -1,5 +1,5 @@
 -- What is planned of a consistency point for a system.
-use Rattle.std.specs.Prelude.{ℕ, ◌≡◌, ◌⊎◌, ◌+◌, ◌*◌, ◌-◌, ◌≤◌, ◌^◌, List, Option, Result, OnOk, IfErr, IsErrOf, MatchResult}
+use Rattle.std.specs.Prelude.{ℕ, ◌≡◌, ◌⊎◌, ◌+◌, ◌*◌, ◌≤◌, ◌^◌, List, Option, Result, OnOk, IfErr, IsErrOf, MatchResult}
 use Rattle.station.specs.Images.{Unchanged}
 use Rattle.station.specs.Moments.{Goes, LeavesOnly}
 use Rattle.station.specs.declared.station.Station.{Ghosts}

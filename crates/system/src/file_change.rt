@@ -1,7 +1,7 @@
 //! What calls on descriptors are to do.
 
 ghost use Rattle.std.specs.Prelude.{◌≡◌, ◌≤◌, ◌+◌, length};
-ghost use Rattle.layout.specs.Record.{body_of, change_of, IsChange, KeepsLimits};
+ghost use Rattle.layout.specs.Record.{body_of, change_of, IsChange, KeepsLimits, write};
 ghost use Rattle.model.specs.declared.limits.TheConstants.{TRANSFER_BYTES};
 
 use crate::table_move::TableMove;
@@ -55,14 +55,23 @@ impl CallRecord<'_> {
                 number,
                 offset,
                 bytes,
-            } => {
-                let _ = (number.get(), *offset);
-                Record::Write {
-                    number: *number,
-                    offset: *offset,
-                    bytes,
-                }
-            }
+            } => write_record(*number, *offset, bytes),
         }
+    }
+}
+
+/// The record of a write, as the log takes it.
+fn write_record(number: InodeNumber, offset: u64, bytes: &[u8]) -> Record<'_>
+    requires some { 1 ≤ length bytes.now }
+    requires most { length bytes.now ≤ TRANSFER_BYTES }
+    ensures says { change_of result ≡ write number offset bytes.now }
+    ensures is { IsChange (change_of result) }
+{
+    // Its type holds the number to what its field has room for.
+    let _ = number.get();
+    Record::Write {
+        number,
+        offset,
+        bytes,
     }
 }

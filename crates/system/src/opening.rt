@@ -16,7 +16,7 @@ ghost use Rattle.model.specs.States.{Forgets, State};
 ghost use Rattle.model.specs.Trees.{Tree};
 ghost use Rattle.model.specs.Volumes.{Volume};
 ghost use Rattle.buffers.specs.Reads.{ReadsBlocks};
-ghost use Rattle.images.specs.Faults.{HasNoFault, HasReadableFiles, IsFaultlessUnder};
+ghost use Rattle.images.specs.Faults.{HasNoFault, IsFaultlessUnder};
 ghost use Rattle.images.specs.Roots.{whole};
 ghost use Rattle.loading.specs.Slots.{FitsStation, HasNoRoot};
 ghost use Rattle.oplog.specs.SavedLog.{TellsLog};
@@ -108,7 +108,6 @@ fn read_image<B: Blocks>(
     ensures faultless { (disk : Blocks) (nvram : List ℕ) (changes : List Change)
         → B.Shows blocks.old disk → TellsLog nvram saved
         → IsFaultlessUnder root.now (whole disk root.now) nvram changes
-        → HasReadableFiles (whole disk root.now).active
         → MatchResult result (λ _. Unit {0}) SaysNothing }
 {
     volumes_are_readable();
@@ -160,8 +159,6 @@ fn open_found<S: Station>(
         → (changes : List Change) → IsFaultlessUnder found.newest.root
         (whole (blocks_of (S.meaning station).seen.disk) found.newest.root)
         (S.meaning station).seen.nvram changes
-        → HasReadableFiles
-        (whole (blocks_of (S.meaning station).seen.disk) found.newest.root).active
         → MatchResult result (λ _. Unit {0}) (λ e. SaysNothing e.0) }
 {
     mounts_find_volumes();
@@ -225,9 +222,8 @@ impl<S: Station> System<S> {
             → MatchResult result (λ f. (t : State) × Forgets s t × HasState f (λ d. None) t)
             (λ e. SaysNothing e.0) }
         ensures faultless { (S.meaning station).is_honest
-            → (fine : HasNoFault (S.meaning station).sectors (S.meaning station).seen.disk
-            (S.meaning station).seen.nvram)
-            → HasReadableFiles (whole (blocks_of (S.meaning station).seen.disk) fine.root).active
+            → HasNoFault (S.meaning station).sectors (S.meaning station).seen.disk
+            (S.meaning station).seen.nvram
             → MatchResult result (λ _. Unit {0}) (λ e. SaysNothing e.0) }
     {
         match find(alloc, &mut station) {

@@ -1,4 +1,4 @@
-use Rattle.std.proofs.Common.{◌≡◌, ℕ, ◌+◌, ◌*◌, length, ◌∙◌, sym, ap, arith, rules, false}
+use Rattle.std.proofs.Common.{◌≡◌, ◌+◌, ◌*◌, length, ◌∙◌, sym, ap, arith, rules, false}
 use Rattle.station.specs.Images.{Images, unreadable}
 use Rattle.buffers.proofs.SectorLaws.{block_read, told_lost, whole_sectors}
 use Rattle.buffers.proofs.cache.read_block.Goals as goal

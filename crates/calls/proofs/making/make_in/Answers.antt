@@ -4,7 +4,6 @@ use Rattle.layout.specs.Limits.{Sizes}
 use Rattle.model.specs.Records.{Made, IsMade, TakesName, create, is_vacant, node_of}
 use Rattle.model.specs.Volumes.{IsVolume}
 use Rattle.model.specs.declared.errno.Errno.TheVariants.{DIRFULL}
-use Rattle.blocktree.specs.Trees.{IsSoundAt}
 use Rattle.inofile.specs.Objects.{IsObject}
 use Rattle.paths.proofs.Looks.{looks_more}
 use Rattle.records.specs.Failures.{told}
@@ -19,11 +18,7 @@ use Rattle.calls.proofs.PrepareSteps.{fails_by, follows, grants, refuses, stops,
 use Rattle.calls.proofs.making.make_in.Goals as goal
 
 pub returns-in_err-new-clause-prepares : goal.returns-in_err-new-clause-prepares
-returns-in_err-new-clause-prepares g c = stops c.from_residual.result c.from_residual.ensures.1 (looks_of_reads c.in_err-new.ensures.reads) (λ disk settled v stands is.
-    let inodes = stands.volume.inodes in
-    c.in_err-new.ensures.damaged disk stands.shows is
-    (λ t i based. subst (λ (n : ℕ). IsSoundAt n disk t i) inodes.count
-    (c.based_trees_are_sound.ensures.at _ c.args.inodes.now.geometry disk (settled 4) t i (inodes.sound 4) (inodes.sound 4).bytes.readable (based (settled 4)))))
+returns-in_err-new-clause-prepares g c = stops c.from_residual.result c.from_residual.ensures.1 (looks_of_reads c.in_err-new.ensures.reads) (λ disk settled v stands. c.in_err-new.ensures.damaged disk stands.shows)
 
 pub returns-in_default-clause-prepares : goal.returns-in_default-clause-prepares
 returns-in_default-clause-prepares g c =
@@ -36,7 +31,7 @@ returns-in_default-clause-prepares g c =
 pub returns-in_err-vacant-clause-prepares : goal.returns-in_err-vacant-clause-prepares
 returns-in_err-vacant-clause-prepares g c =
     stops_later c.from_residual-in_err-vacant.result c.from_residual-in_err-vacant.ensures.1
-    (looks_beside c.in_ok-new.ensures.reads c.least_free.ensures.geometry c.least_free.ensures.slots c.least_free.ensures.volume) c.in_err-vacant.ensures.looks (λ disk settled v stands. c.in_err-vacant.ensures.damaged disk settled v stands tt)
+    (looks_beside c.in_ok-new.ensures.reads c.least_free.ensures.geometry c.least_free.ensures.slots c.least_free.ensures.volume) c.in_err-vacant.ensures.looks (λ disk settled v stands. c.in_err-vacant.ensures.damaged disk settled v stands)
 
 pub returns-then-not-vacant-clause-prepares : goal.returns-then-not-vacant-clause-prepares
 returns-then-not-vacant-clause-prepares g c =
@@ -69,7 +64,7 @@ returns-in_err-prepared-clause-prepares g c =
     let before = looks_more (looks_beside c.in_ok-new.ensures.reads c.least_free.ensures.geometry c.least_free.ensures.slots c.least_free.ensures.volume) c.in_ok-vacant.ensures.looks in
     let all = c.in_err-prepared.ensures in
     fails_by {X = Prepared} DIRFULL refl _ c.from_residual-in_err-prepared.result c.from_residual-in_err-prepared.ensures.1 (looks_more before all.looks) all.full
-    (λ disk settled v stands is. all.damaged by_bytes disk settled v (before.kept disk settled v stands) tt is)
+    (λ disk settled v stands is. all.damaged by_bytes disk settled v (before.kept disk settled v stands) is)
     (λ disk settled v table stands volume mounted is.
     let not = subst (λ (f : Failure). IfOk (told {T = Prepared} (Err f)) (λ r. IfErr r (λ _. TakesName v c.args.parent c.deref.result.now → ⊥))) is
     (all.refused by_bytes disk settled v (before.kept disk settled v stands) (subst (λ (s : Sizes). IsVolume s.inodes v) (sym before.geometry) volume)) in
@@ -85,7 +80,7 @@ returns-clause-prepares g c =
     (λ disk settled v stands.
     let read = stands_over {G = g.B.Blocks} c.args.blocks.now c.new_object.new.blocks c.args.inodes.now c.new_object.ensures.reads.count (c.new_object.ensures.reads.same disk stands.shows) stands.volume in
     let free = ap v c.new-number.ensures ∙ c.in-Some.ensures.free _ disk settled v read.volume in
-    let there = λ (k : ℕ). subst (λ (m : Made). IsObject disk k (settled n) c.in_ok-new.new (Some (node_of m))) c.as_new.ensures.says (c.in_ok-new.ensures.object disk stands.shows k (settled n)) in
+    let there = λ (k : ℕ). subst (λ (m : Made). IsObject disk k (settled n) c.in_ok-new.new (Some (node_of m))) c.as_new.ensures.says (c.in_ok-new.ensures.object by_bytes disk stands.shows k (settled n)) in
     subst (λ (x : List ℕ). Does disk settled c.prepare_new.new.inodes v c.in_ok-prepared.prepared (create n c.args.parent made x)) c.deref.ensures.value
     (c.in_ok-prepared.ensures.does _ disk settled v made (before.kept disk settled v stands) (ap is_vacant free) there c.in_ok-new.ensures.room))
     (λ disk settled v table stands volume mounted.

@@ -11,7 +11,7 @@ use Rattle.calls.proofs.making.refuse_in.Goals as goal
 pub returns-in_err-_prepared-clause-prepares : goal.returns-in_err-_prepared-clause-prepares
 returns-in_err-_prepared-clause-prepares g c =
     let all = c.in_err-_prepared.ensures in
-    fails_by {X = Prepared} DIRFULL refl _ c.from_residual.result c.from_residual.ensures.1 all.looks all.full (λ disk settled v stands. all.damaged by_bytes disk settled v stands tt) (λ disk settled v table stands volume mounted is made none.
+    fails_by {X = Prepared} DIRFULL refl _ c.from_residual.result c.from_residual.ensures.1 all.looks all.full (λ disk settled v stands. all.damaged by_bytes disk settled v stands) (λ disk settled v table stands volume mounted is made none.
     inl (refl, subst (λ (f : Failure). IfOk (told {T = Prepared} (Err f)) (λ r. IfErr r (λ _. TakesName v c.args.parent c.args.name.now → ⊥))) is (all.refused by_bytes disk settled v stands volume)))
 
 pub returns-clause-prepares : goal.returns-clause-prepares

@@ -16,7 +16,7 @@ pub returns-in-Ok-None-clause-opens : goal.returns-in-Ok-None-clause-opens
 returns-in-Ok-None-clause-opens g c honest s opens =
     let m = g.S.Station.meaning c.args.station in
     let none = c.images_that_open_have_no_fault.ensures.under m.sectors m.seen.disk m.seen.nvram s opens in
-    is_good m.sectors m.seen.disk m.seen.nvram opens.root none.0 opens.changes none.1 (λ n. (opens.holds.sound.active.files n).bytes.readable) c.report.result
+    is_good m.sectors m.seen.disk m.seen.nvram opens.root none.0 opens.changes none.1 c.report.result
     (subst (Reports m.sectors m.seen.disk m.seen.nvram) (sym c.report.ensures)
     (reports_roots m.sectors m.seen.disk m.seen.nvram c.find_root.new.findings.first (c.in-Ok-None.ensures.some c.in-Ok-None.field-0-is) (c.in-Ok-None.ensures.none honest c.new-findings.ensures c.in-Ok-None.field-0-is)))
 
@@ -40,7 +40,7 @@ pub returns-in-Ok-clause-opens : goal.returns-in-Ok-clause-opens
 returns-in-Ok-clause-opens g c honest s opens =
     let m = g.S.Station.meaning c.args.station in
     let none = c.images_that_open_have_no_fault.ensures.under m.sectors m.seen.disk m.seen.nvram s opens in
-    is_good m.sectors m.seen.disk m.seen.nvram opens.root none.0 opens.changes none.1 (λ n. (opens.holds.sound.active.files n).bytes.readable) c.report-in-Ok.result
+    is_good m.sectors m.seen.disk m.seen.nvram opens.root none.0 opens.changes none.1 c.report-in-Ok.result
     (returns-in-Ok-clause-reports g c honest)
 
 pub returns-in-Err-check_image-clause-device : goal.returns-in-Err-check_image-clause-device

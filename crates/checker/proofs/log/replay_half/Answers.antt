@@ -20,11 +20,11 @@ loop-body-preserved g c =
       look = looked_more before.look (looked_of g.met.B.Blocks.reads_nothing g.met.B.LetsGo.grows c.replay_record.ensures.reads);
       geometry = c.replay_record.ensures.geometry ∙ before.geometry;
       few = omega (arith, before.few, ap length c.in-Open.ensures.1, length-append (record_of c.in-Open.body.now) c.in-Open.after.now);
-      leads = λ disk settled v w changes shows has can leads.
-          let back = before.leads disk settled v w changes shows has can leads in
+      leads = λ disk settled v w changes shows has leads.
+          let back = before.leads disk settled v w changes shows has leads in
           let next = step by_sizes inodes c.loop-body.rest.now c.in-Open.body.now c.in-Open.after.now back.0 back.1 w c.in-Open.ensures.0 c.in-Open.ensures.1 back.3 in
           let did = c.in-Ok.ensures.replays by_sizes disk settled back.1 next.change (before.look.same disk shows)
-          (subst (λ (n : ℕ). HasVolumeIn by_sizes n disk settled c.loop-body.inodes back.1) (sym before.look.count) back.2) can next.spells
+          (subst (λ (n : ℕ). HasVolumeIn by_sizes n disk settled c.loop-body.inodes back.1) (sym before.look.count) back.2) next.spells
           (subst (λ (s : Sizes). AppliesIn by_sizes s.inodes back.1 next.change) (sym before.geometry) next.applies) in
           (next.more, applied next.change back.1, subst (λ (n : ℕ). HasVolumeIn by_sizes n disk settled c.replay_record.new.inodes (applied next.change back.1)) before.look.count did.1, next.leads);
       led = λ disk settled v shows has.
@@ -42,8 +42,8 @@ loop-body-preserved g c =
     }
 
 pub returns-in-Closed-clause-replays : goal.returns-in-Closed-clause-replays
-returns-in-Closed-clause-replays g c disk settled v w changes shows has can leads =
-    let back = c.loop-body.invariant.leads disk settled v w changes shows has can leads in
+returns-in-Closed-clause-replays g c disk settled v w changes shows has leads =
+    let back = c.loop-body.invariant.leads disk settled v w changes shows has leads in
     let done = ends by_sizes c.args.inodes.now.geometry.inodes c.loop-body.rest.now back.0 back.1 w c.in-Closed.ensures back.3 in
     subst (λ (u : Volume). HasVolumeIn by_sizes (g.B.Blocks.count c.args.blocks.now) disk settled c.loop-body.inodes u) (sym done.1) back.2
 
@@ -54,8 +54,8 @@ returns-in-Closed-clause-applies g c disk settled v shows has =
     (all.0, back.0, all.1, omega (arith, all.2), back.1)
 
 pub returns-in-Malformed-clause-replays : goal.returns-in-Malformed-clause-replays
-returns-in-Malformed-clause-replays g c disk settled v w changes shows has can leads =
-    let back = c.loop-body.invariant.leads disk settled v w changes shows has can leads in
+returns-in-Malformed-clause-replays g c disk settled v w changes shows has leads =
+    let back = c.loop-body.invariant.leads disk settled v w changes shows has leads in
     c.in-Malformed.ensures (bodies_of back.0) back.3.held
 
 pub returns-in-Err-NoMemory-clause-reads : goal.returns-in-Err-NoMemory-clause-reads
@@ -67,13 +67,13 @@ returns-in-Err-Damaged-clause-reads g c =
     looks_err c.loop-body.invariant.look (looked_of g.met.B.Blocks.reads_nothing g.met.B.LetsGo.grows c.replay_record.ensures.reads) (λ is. absurd (cc))
 
 pub returns-in-Err-Damaged-clause-replays : goal.returns-in-Err-Damaged-clause-replays
-returns-in-Err-Damaged-clause-replays g c disk settled v w changes shows has can leads =
+returns-in-Err-Damaged-clause-replays g c disk settled v w changes shows has leads =
     let before = c.loop-body.invariant in
     let inodes = c.args.inodes.now.geometry.inodes in
-    let back = before.leads disk settled v w changes shows has can leads in
+    let back = before.leads disk settled v w changes shows has leads in
     let next = step by_sizes inodes c.loop-body.rest.now c.in-Open.body.now c.in-Open.after.now back.0 back.1 w c.in-Open.ensures.0 c.in-Open.ensures.1 back.3 in
     let why = c.in-Err-Damaged.ensures.replays by_sizes disk settled back.1 next.change (before.look.same disk shows)
-    (subst (λ (n : ℕ). HasVolumeIn by_sizes n disk settled c.loop-body.inodes back.1) (sym before.look.count) back.2) can next.spells
+    (subst (λ (n : ℕ). HasVolumeIn by_sizes n disk settled c.loop-body.inodes back.1) (sym before.look.count) back.2) next.spells
     (subst (λ (s : Sizes). AppliesIn by_sizes s.inodes back.1 next.change) (sym before.geometry) next.applies) in
     elim why [ inl memory ↦ absurd (cc) | inr device ↦ absurd (cc) ]
 

@@ -3,7 +3,6 @@ use Rattle.layout.specs.Record.{Change}
 use Rattle.layout.specs.declared.inode.Inode.{Inode}
 use Rattle.model.specs.Volumes.{Volume}
 use Rattle.images.specs.Soundness.{by_sizes}
-use Rattle.inofile.specs.Settled.{CanRead}
 use Rattle.replay.specs.Volumes.{HasVolumeIn, LeadTo}
 use Rattle.checker.proofs.ReadLaws.{HasLooked}
 use Rattle.checker.proofs.log.replay_half.Given as goal
@@ -14,7 +13,7 @@ invariant-loop-body g l = record {
   geometry : l.inodes.geometry ≡ l.fn.inodes.geometry;
   few : l.count + length l.rest ≤ length l.records;
   leads : (disk : ℕ → List ℕ) (settled : ℕ → Inode) (v w : Volume) (changes : List Change) → g.B.Blocks.Shows l.fn.blocks disk
-      → HasVolumeIn by_sizes (g.B.Blocks.count l.fn.blocks) disk settled l.fn.inodes v → CanRead by_sizes disk settled → LeadTo by_sizes l.fn.inodes.geometry.inodes l.records changes v w
+      → HasVolumeIn by_sizes (g.B.Blocks.count l.fn.blocks) disk settled l.fn.inodes v → LeadTo by_sizes l.fn.inodes.geometry.inodes l.records changes v w
       → (more : List Change) × (now : Volume) × HasVolumeIn by_sizes (g.B.Blocks.count l.fn.blocks) disk settled l.inodes now
       × LeadTo by_sizes l.fn.inodes.geometry.inodes l.rest more now w;
   led : (disk : ℕ → List ℕ) (settled : ℕ → Inode) (v : Volume) → g.B.Blocks.Shows l.fn.blocks disk

@@ -5,7 +5,7 @@ use Rattle.loading.specs.Images.{AreInodesIn, inodes_of}
 use Rattle.replay.specs.Volumes.{HasVolumeIn}
 use Rattle.checker.specs.declared.fault.Fault.TheVariants as faults
 use Rattle.checker.specs.declared.fault.TreeFault.TheVariants.{InodeMap}
-use Rattle.checker.proofs.LogLaws.{can_read, failed, has_log, has_volume, lead_over, load_device, loaded, log_leads, not_loaded, refuted}
+use Rattle.checker.proofs.LogLaws.{failed, has_log, has_volume, lead_over, load_device, loaded, log_leads, not_loaded, refuted}
 use Rattle.checker.proofs.ReadLaws.{looked, looked_more, looked_none, looked_of, looks_ok, looks_passed}
 use Rattle.checker.proofs.log.replay_saved.Goals as goal
 
@@ -25,19 +25,17 @@ returns-in_err-first-clause-passes g c disk nvram shows tells faultless =
     let r = c.args.root.now in
     let w = whole disk r in
     let saved = c.args.saved.now in
-    let v = faultless.names.names.volume in
-    let holds = faultless.names.names.holds in
     let told = c.load_inodes-loaded.ensures.loads by_sizes disk shows r refl refl (record { sound = (faultless.grammar, faultless.numbers); root = faultless.grammar.root }) in
     let are = loaded (AreInodesIn by_sizes disk r.geometry w.active) _ (faults.Tree InodeMap) c.load_inodes-loaded.result c.in_ok-inodes.inodes c.in_ok-inodes.ensures told in
     let graphs = c.faultless_trees_hold_graphs.ensures in
     let read = c.load_inodes-loaded.ensures.reads in
-    let has = has_volume disk r (g.B.Blocks.count c.load_inodes-loaded.new.blocks) c.in_ok-inodes.inodes v (read.count ∙ c.requires.size) are holds
-    (graphs.graph disk r v c.requires.root faultless holds) (graphs.numbers disk r v c.requires.root faultless holds) in
-    failed r w nvram c.from_residual-in_err-first.result c.in_err-first.field-0.0 c.from_residual-in_err-first.ensures.1 c.in_err-first.ensures.faults (λ readable changes log.
-    let same = c.files_hold_one_volume.ensures r.geometry.inodes _ log.first v (omega (arith, c.requires.root.head.sizes.most_inodes)) log.holds holds in
-    let both = log_leads r w nvram saved c.requires.half c.requires.generation tells v holds changes log same in
+    failed r w nvram c.from_residual-in_err-first.result c.in_err-first.field-0.0 c.from_residual-in_err-first.ensures.1 c.in_err-first.ensures.faults (λ changes log.
+    let v = log.first in
+    let has = has_volume disk r (g.B.Blocks.count c.load_inodes-loaded.new.blocks) c.in_ok-inodes.inodes v (read.count ∙ c.requires.size) are log.holds
+    (graphs.graph disk r v c.requires.root faultless log.holds) (graphs.numbers disk r v c.requires.root faultless log.holds) in
+    let both = log_leads r w nvram saved c.requires.half c.requires.generation tells changes log in
     refuted (λ _. HasVolumeIn by_sizes (g.B.Blocks.count c.load_inodes-loaded.new.blocks) disk (inodes_of w.active) c.replay_half.new.inodes both.mid) c.in_err-first.field-0.0
-    (c.in_err-first.ensures.replays disk (inodes_of w.active) v both.mid both.one (read.same disk shows) has (can_read disk r readable)
+    (c.in_err-first.ensures.replays disk (inodes_of w.active) v both.mid both.one (read.same disk shows) has
     (lead_over c.in_ok-inodes.inodes.geometry r.geometry c.first_records.result.now saved.first.records both.one v both.mid are.geometry c.first_records.ensures.records both.leads)))
 
 pub returns-in_err-second-clause-passes : goal.returns-in_err-second-clause-passes
@@ -45,23 +43,21 @@ returns-in_err-second-clause-passes g c disk nvram shows tells faultless =
     let r = c.args.root.now in
     let w = whole disk r in
     let saved = c.args.saved.now in
-    let v = faultless.names.names.volume in
-    let holds = faultless.names.names.holds in
     let told = c.load_inodes-loaded.ensures.loads by_sizes disk shows r refl refl (record { sound = (faultless.grammar, faultless.numbers); root = faultless.grammar.root }) in
     let are = loaded (AreInodesIn by_sizes disk r.geometry w.active) _ (faults.Tree InodeMap) c.load_inodes-loaded.result c.in_ok-inodes.inodes c.in_ok-inodes.ensures told in
     let graphs = c.faultless_trees_hold_graphs.ensures in
     let read = c.load_inodes-loaded.ensures.reads in
-    let has = has_volume disk r (g.B.Blocks.count c.load_inodes-loaded.new.blocks) c.in_ok-inodes.inodes v (read.count ∙ c.requires.size) are holds
-    (graphs.graph disk r v c.requires.root faultless holds) (graphs.numbers disk r v c.requires.root faultless holds) in
     let one = c.in_ok-first.ensures in
-    failed r w nvram c.from_residual-in_err-second.result c.in_err-second.field-0.0 c.from_residual-in_err-second.ensures.1 c.in_err-second.ensures.faults (λ readable changes log.
-    let same = c.files_hold_one_volume.ensures r.geometry.inodes _ log.first v (omega (arith, c.requires.root.head.sizes.most_inodes)) log.holds holds in
-    let both = log_leads r w nvram saved c.requires.half c.requires.generation tells v holds changes log same in
-    let mid = one.replays disk (inodes_of w.active) v both.mid both.one (read.same disk shows) has (can_read disk r readable)
+    failed r w nvram c.from_residual-in_err-second.result c.in_err-second.field-0.0 c.from_residual-in_err-second.ensures.1 c.in_err-second.ensures.faults (λ changes log.
+    let v = log.first in
+    let has = has_volume disk r (g.B.Blocks.count c.load_inodes-loaded.new.blocks) c.in_ok-inodes.inodes v (read.count ∙ c.requires.size) are log.holds
+    (graphs.graph disk r v c.requires.root faultless log.holds) (graphs.numbers disk r v c.requires.root faultless log.holds) in
+    let both = log_leads r w nvram saved c.requires.half c.requires.generation tells changes log in
+    let mid = one.replays disk (inodes_of w.active) v both.mid both.one (read.same disk shows) has
     (lead_over c.in_ok-inodes.inodes.geometry r.geometry c.first_records.result.now saved.first.records both.one v both.mid are.geometry c.first_records.ensures.records both.leads) in
     refuted (λ _. HasVolumeIn by_sizes (g.B.Blocks.count c.replay_half.new.blocks) disk (inodes_of w.active) c.replay_half-2.new.inodes log.last) c.in_err-second.field-0.0
     (c.in_err-second.ensures.replays disk (inodes_of w.active) both.mid log.last both.two (one.reads.same disk (read.same disk shows))
-    (subst (λ (n : ℕ). HasVolumeIn by_sizes n disk (inodes_of w.active) c.replay_half.new.inodes both.mid) (sym one.reads.count) mid) (can_read disk r readable)
+    (subst (λ (n : ℕ). HasVolumeIn by_sizes n disk (inodes_of w.active) c.replay_half.new.inodes both.mid) (sym one.reads.count) mid)
     (lead_over c.replay_half.new.inodes.geometry r.geometry c.second_records.result.now saved.second.records both.two both.mid log.last (one.geometry ∙ are.geometry) c.second_records.ensures.records both.leads_on)))
 
 pub returns-clause-passes : goal.returns-clause-passes
@@ -69,8 +65,9 @@ returns-clause-passes g c disk nvram shows tells faultless =
     let r = c.args.root.now in
     let w = whole disk r in
     let saved = c.args.saved.now in
-    let v = faultless.names.names.volume in
-    let holds = faultless.names.names.holds in
+    let sized = c.faultless_trees_hold_graphs.ensures.holds disk r faultless in
+    let v = sized.0 in
+    let holds = sized.1 in
     let told = c.load_inodes-loaded.ensures.loads by_sizes disk shows r refl refl (record { sound = (faultless.grammar, faultless.numbers); root = faultless.grammar.root }) in
     let are = loaded (AreInodesIn by_sizes disk r.geometry w.active) _ (faults.Tree InodeMap) c.load_inodes-loaded.result c.in_ok-inodes.inodes c.in_ok-inodes.ensures told in
     let graphs = c.faultless_trees_hold_graphs.ensures in

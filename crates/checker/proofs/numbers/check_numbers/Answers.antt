@@ -1,6 +1,10 @@
-use Rattle.std.proofs.Common.{refl, inl}
+use Rattle.std.proofs.Common.{rules, ◌≡◌, ◌∙◌, ℕ, refl, inl, subst, sym}
+use Rattle.std.specs.Int.{div_ceil}
+use Rattle.layout.specs.declared.TheConstants.{INODES_PER_BLOCK}
+use Rattle.checker.specs.Rows.{ArePlacesOfTrees, AreSeenTo}
 use Rattle.checker.proofs.ReadLaws.{looked}
 use Rattle.checker.proofs.RowLaws.{kept_more, kept_of, trees_none}
+use Rattle.checker.proofs.RowReads.{places_kept}
 use Rattle.checker.proofs.SeenLaws.{stays_none}
 use Rattle.checker.proofs.numbers.check_numbers.Goals as goal
 
@@ -18,6 +22,14 @@ loop-i-preserved g c = record {
       (kept_more (kept_of (looked c.check_block.ensures.reads) c.check_block.ensures.length c.check_block.ensures.trees c.check_block.ensures.others)
       (kept_of (record { count = c.forget.ensures.count; grown = inl c.forget.ensures.counted; reads = c.forget.ensures.reads; same = c.forget.ensures.same }) refl
       (trees_none c.check_block.new.trees.items) (λ k none. stays_none k c.check_block.new.marks c.check_block.new.shared.of)));
+  places = λ disk shows.
+      subst (λ (n : ℕ). ArePlacesOfTrees n disk c.check_block.new.trees.items c.in_ok-places.places.items) (sym (c.forget.ensures.count ∙ c.check_block.ensures.reads.count))
+      (places_kept _ disk c.loop-i.trees.items c.check_block.new.trees.items c.in_ok-places.places.items c.check_block.ensures.trees (c.loop-i.invariant.places disk shows));
   seen = λ disk r shows root same seen.
-      c.in_ok-check_block.ensures.seen disk r (c.loop-i.invariant.kept.looked.same disk shows) root same (c.loop-i.invariant.seen disk r shows root same seen);
+      c.in_ok-check_block.ensures.seen disk r (c.loop-i.invariant.kept.looked.same disk shows) root same (c.loop-i.invariant.places disk shows) (c.loop-i.invariant.seen disk r shows root same seen);
 }
+
+pub returns-clause-seen : goal.returns-clause-seen
+returns-clause-seen g c = λ disk r shows root same seen.
+    let all : c.loop-i.i ≡ div_ceil c.args.geometry.inodes INODES_PER_BLOCK = search rules in
+    subst (λ (n : ℕ). AreSeenTo disk r n c.loop-i.marks c.loop-i.shared.of c.loop-i.trees.items) all (c.loop-i.invariant.seen disk r shows root same seen)

@@ -1,10 +1,11 @@
-use Rattle.std.proofs.Common.{◌≡◌, ◌∙◌, ℕ, ◌+◌, ◌*◌, ◌<◌, length, ap, arith}
+use Rattle.std.proofs.Common.{◌≡◌, ◌∙◌, ℕ, ◌+◌, ◌*◌, ◌<◌, length, ap, arith, subst, sym}
 use Rattle.std.specs.Prelude.{Some, slice_get}
 use Rattle.std.proofs.lemmas.List.{length_push}
+use Rattle.layout.specs.Pointer.{PointsBelow}
 use Rattle.checker.proofs.EachLaws.{each_set, get_at}
 use Rattle.checker.proofs.ReadLaws.{looked, looked_more}
 use Rattle.checker.proofs.RowLaws.{IsSame, keeps_part}
-use Rattle.checker.proofs.RowReads.{rows_done, rows_more}
+use Rattle.checker.proofs.RowReads.{leads_to_row, rows_done, rows_more}
 use Rattle.checker.proofs.numbers.read_rows.Goals as goal
 
 pub returns-in_err-row-clause-trees : goal.returns-in_err-row-clause-trees
@@ -29,17 +30,28 @@ loop-k-preserved g c =
       looked = looked_more c.loop-k.invariant.looked (looked c.read_row.ensures.reads);
       each = each_set (λ j t q. IsSame t q) c.loop-k.k c.args.trees.now.items c.loop-k.trees.items c.index_mut.result.now c.read_row.new.tree c.loop-k.invariant.each lt here c.read_row.ensures.same;
       rows_length = ap length c.in_ok-push.ensures.items ∙ length_push c.loop-k.rows.items c.in_ok-row.row ∙ ap (λ (n : ℕ). n + 1) c.loop-k.invariant.rows_length;
-      rows_are = λ disk r marks shared shows same.
+      rows_are = λ disk r marks shared shows root same are.
           rows_more disk r c.args.i marks shared c.loop-k.k c.args.trees.now.items c.loop-k.trees.items c.index_mut.result.now c.read_row.new.tree c.loop-k.rows.items c.push.new.self.items c.in_ok-row.row
-          c.loop-k.invariant.each lt here c.loop-k.invariant.rows_length c.in_ok-push.ensures.items (c.loop-k.invariant.rows_are disk r marks shared shows same)
-          (c.in_ok-row.ensures.row disk r c.args.i (21 * c.args.i) marks shared (c.loop-k.invariant.looked.same disk shows) (c.loop-k.invariant.looked.count ∙ same));
+          c.loop-k.invariant.each lt here c.loop-k.invariant.rows_length c.in_ok-push.ensures.items (c.loop-k.invariant.rows_are disk r marks shared shows root same are)
+          (λ known.
+          let start : slice_get c.args.trees.now.items c.loop-k.k ≡ Some c.index_mut.result.now = sym (c.loop-k.invariant.each.rest c.loop-k.k (omega arith)) ∙ here in
+          c.in_ok-row.ensures.row disk r c.args.i (21 * c.args.i) marks shared (c.loop-k.invariant.looked.same disk shows) root
+          (leads_to_row disk r c.args.i (21 * c.args.i) c.args.i marks shared c.index_mut.result.now known c.based_trees_are_sound.ensures.all (g.B.Blocks.count c.args.blocks.now)
+          c.index.result.now c.at-place.result same (omega (arith, root.head.sizes.least_inodes)) c.at-place.ensures (are c.loop-k.k c.index_mut.result.now c.index.result.now start
+          (get_at c.args.places.now.items c.loop-k.k c.index.result.now (omega (arith, c.loop-k-test.true, c.len-k-end.ensures, c.requires.places)) c.index.ensures)))
+          known);
     }
 
 pub returns-clause-trees : goal.returns-clause-trees
 returns-clause-trees g c = keeps_part c.loop-k.k c.args.trees.now.items c.loop-k.trees.items c.loop-k.invariant.each
 
 pub returns-clause-rows : goal.returns-clause-rows
-returns-clause-rows g c = λ disk r marks shared shows root same seen.
+returns-clause-rows g c = λ disk r marks shared shows root same are seen.
     rows_done disk r c.args.i marks shared c.loop-k.k c.args.trees.now.items c.loop-k.trees.items c.loop-k.rows.items
     (keeps_part c.loop-k.k c.args.trees.now.items c.loop-k.trees.items c.loop-k.invariant.each) c.loop-k.invariant.rows_length
-    (omega (arith, c.loop-k-test.false, c.loop-k.auto.k-end, c.len-k-end.ensures)) (c.loop-k.invariant.rows_are disk r marks shared shows same) seen
+    (omega (arith, c.loop-k-test.false, c.loop-k.auto.k-end, c.len-k-end.ensures)) (c.loop-k.invariant.rows_are disk r marks shared shows root same are) seen
+
+pub read_row-requires : goal.read_row-requires
+read_row-requires g c =
+    subst (λ (n : ℕ). PointsBelow n c.at-place.result) (sym c.loop-k.invariant.looked.count) (subst (PointsBelow _) (sym c.at-place.ensures) (c.requires.below c.loop-k.k c.index.result.now
+    (get_at c.args.places.now.items c.loop-k.k c.index.result.now (omega (arith, c.loop-k-test.true, c.len-k-end.ensures, c.requires.places)) c.index.ensures) c.args.i))

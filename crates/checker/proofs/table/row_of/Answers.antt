@@ -1,13 +1,11 @@
-use Rattle.std.proofs.Common.{◌∙◌, ap}
+use Rattle.std.proofs.Common.{◌∙◌, ℕ, ap}
 use Rattle.std.specs.Option.{unwrap_or}
 use Rattle.std.specs.Prelude.{Option}
 use Rattle.layout.specs.declared.kind.Kind.{Kind}
 use Rattle.layout.specs.declared.kind.Kind.TheVariants.{Free}
-use Rattle.checker.proofs.TableLaws.{kind_read, links_read}
 use Rattle.checker.proofs.table.row_of.Goals as goal
 
 pub returns-clause-inode : goal.returns-clause-inode
-returns-clause-inode c = λ s i fits is. (
-  c.unwrap_or.ensures ∙ ap (λ (found : Option Kind). unwrap_or found Free) c.from_code.ensures ∙ kind_read i c.args.bytes.now is,
-  c.from_le_bytes.ensures ∙ links_read s i c.args.bytes.now fits is,
-)
+returns-clause-inode c = λ s i fits is.
+    let read = c.unwrap_or-kind.ensures ∙ ap (λ (found : Option (Kind × ℕ)). unwrap_or found (Free, 0)) (c.kind_and_links.ensures.only s i fits is) in
+    (ap (λ (x : Kind × ℕ). x.0) read, ap (λ (x : Kind × ℕ). x.1) read)

@@ -1,4 +1,4 @@
-use Rattle.std.proofs.Common.{◌≡◌, ℕ, false, sym, subst, ◌∙◌, ◌<◌, ◌≤◌, arith}
+use Rattle.std.proofs.Common.{ℕ, false, sym, subst, ◌∙◌, ◌<◌, ◌≤◌, arith}
 use Rattle.model.specs.Volumes.{Volume, swept_node, with_node}
 use Rattle.inofile.specs.Room.{memory_room}
 use Rattle.inofile.specs.Volumes.{IsVolumeOf}

@@ -5,7 +5,7 @@ use Rattle.calls.proofs.SeeSteps.{tells_all, tells_none, tells_refusal}
 use Rattle.files.proofs.reading.read_file.Goals as goal
 
 pub returns-in_err-found : goal.returns-in_err-found
-returns-in_err-found g c = tells_none c.from_residual.result c.from_residual.ensures.1 c.in_err-found.ensures.looks (λ disk settled v stands. c.in_err-found.ensures.damaged disk settled v stands tt)
+returns-in_err-found g c = tells_none c.from_residual.result c.from_residual.ensures.1 c.in_err-found.ensures.looks (λ disk settled v stands. c.in_err-found.ensures.damaged disk settled v stands)
 
 pub returns-in-Some : goal.returns-in-Some
 returns-in-Some g c = tells_all c.in_ok-found.ensures.looks (λ disk settled v stands is.

@@ -1,4 +1,4 @@
-use Rattle.std.proofs.Common.{◌≡◌, ◌*◌, length, arith, sym, subst, ◌∙◌}
+use Rattle.std.proofs.Common.{◌≡◌, ◌*◌, length, sym, subst, ◌∙◌}
 use Rattle.model.specs.States.{empty}
 use Rattle.layout.specs.Limits.{Sizes}
 use Rattle.making.specs.Images.{HoldsMade, OpensAlone}

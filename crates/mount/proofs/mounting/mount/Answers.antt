@@ -15,7 +15,7 @@ returns-in-Err-clause-opens g c honest s opens = elim (c.in-Err.ensures.opens ho
 ]
 
 pub returns-in-Err-clause-faultless : goal.returns-in-Err-clause-faultless
-returns-in-Err-clause-faultless g c honest none readable = elim (c.in-Err.ensures.faultless honest none readable) [
+returns-in-Err-clause-faultless g c honest none = elim (c.in-Err.ensures.faultless honest none) [
   | inl memory ↦ inl (c.from.ensures ∙ ap mount_error memory)
   | inr device ↦ inr (c.from.ensures ∙ ap mount_error device)
 ]

@@ -5,12 +5,12 @@ use Rattle.inofile.specs.Objects.{IsObjectIn}
 use Rattle.layout.specs.declared.kind.Kind.TheVariants as kinds
 use Rattle.model.specs.Volumes.{names_in}
 use Rattle.paths.proofs.LookingUp.{fails_into, finds_into}
-use Rattle.paths.proofs.Objects.{of_names, blocks_of, without_names}
+use Rattle.paths.proofs.Objects.{of_names, blocks_of, can_read, without_names}
 use Rattle.paths.proofs.Looks.{looks_reads}
 use Rattle.paths.proofs.lookup.number_at.Goals as goal
 
 pub returns-in_err-load : goal.returns-in_err-load
-returns-in_err-load g c = fails_into c.from_residual.result c.from_residual.ensures.1 c.in_err-load.ensures.looks c.load.ensures.loads (λ detail disk settled v stands can. c.in_err-load.ensures.damaged {detail = detail} disk settled v stands)
+returns-in_err-load g c = fails_into c.from_residual.result c.from_residual.ensures.1 c.in_err-load.ensures.looks c.load.ensures.loads (λ detail disk settled v stands. c.in_err-load.ensures.damaged {detail = detail} disk settled v stands)
 
 pub returns-in_default : goal.returns-in_default
 returns-in_default g c = finds_into c.in_ok-load.ensures.looks c.load.ensures.loads tt (λ detail disk settled v stands.
@@ -38,12 +38,12 @@ returns g c =
           let is_object = c.in-Some.ensures.stands _ _ disk settled v now.volume in
           let counted = subst (λ n. IsObjectIn detail disk n (settled c.args.directory) o (v c.args.directory)) same is_object in
           of_names disk c.inodes-count.result (settled c.args.directory) o (v c.args.directory) counted (λ names. IfOk c.find.result (λ n. n ≡ names c.args.name.now)) kind (λ names are. c.find.ensures.found disk names now.shows are);
-      damaged = λ {detail} disk settled v stands can is.
+      damaged = λ {detail} disk settled v stands is.
           let o = c.in-Some.object.now in
           let now = c.load.ensures.looks.kept disk settled v stands in
           let is_object = c.in-Some.ensures.stands _ _ disk settled v now.volume in
           let blocks = blocks_of disk c.load.new.inodes.geometry.inodes (settled c.args.directory) o (v c.args.directory) is_object kind in
           c.find.ensures.damaged disk now.shows is
-          (λ i below. c.objects_stand_in_their_grammar.ensures _ _ disk settled c.load.new.inodes v c.args.directory i o (v c.args.directory) now.volume is_object can)
+          (λ i below. c.objects_stand_in_their_grammar.ensures _ _ disk settled c.load.new.inodes v c.args.directory i o (v c.args.directory) now.volume is_object (can_read disk c.load.new.inodes.geometry.inodes (settled c.args.directory) o (v c.args.directory) is_object kind i))
           (subst (λ n. AreDirectoryBlocks n (o.file.size / 4096) (file_block disk o.file)) same blocks);
     })

@@ -7,7 +7,7 @@ use Rattle.paths.proofs.Objects.{found_is}
 use Rattle.paths.proofs.lookup.object_at.Goals as goal
 
 pub returns-in_err-load : goal.returns-in_err-load
-returns-in_err-load g c = fails_into c.from_residual.result c.from_residual.ensures.1 c.in_err-load.ensures.looks c.load.ensures.loads (λ detail disk settled v stands can. c.in_err-load.ensures.damaged {detail = detail} disk settled v stands)
+returns-in_err-load g c = fails_into c.from_residual.result c.from_residual.ensures.1 c.in_err-load.ensures.looks c.load.ensures.loads (λ detail disk settled v stands. c.in_err-load.ensures.damaged {detail = detail} disk settled v stands)
 
 pub returns-in_default : goal.returns-in_default
 returns-in_default g c = finds_into c.in_ok-load.ensures.looks c.load.ensures.loads tt (λ detail disk settled v stands.

@@ -10,7 +10,7 @@ use Rattle.paths.proofs.Walks.{turned_to_nothing, turned_to}
 use Rattle.paths.proofs.step.step_by.Goals as goal
 
 pub returns-in_err-number : goal.returns-in_err-number
-returns-in_err-number g c = fails c.from_residual.result c.from_residual.ensures.1 c.in_err-number.ensures.looks c.number_at.ensures.loads (λ disk settled v stands. c.in_err-number.ensures.damaged disk settled v stands tt)
+returns-in_err-number g c = fails c.from_residual.result c.from_residual.ensures.1 c.in_err-number.ensures.looks c.number_at.ensures.loads (λ disk settled v stands. c.in_err-number.ensures.damaged disk settled v stands)
 
 pub returns-in_default : goal.returns-in_default
 returns-in_default g c = finds c.in_ok-number.ensures.looks c.number_at.ensures.loads (c.step_to_nothing.ensures.within c.args.inodes.now.geometry.inodes)

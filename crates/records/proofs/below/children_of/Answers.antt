@@ -12,15 +12,15 @@ use Rattle.records.proofs.below.children_of.Goals.{in-Some+in_ok-push, in_defaul
 use Rattle.records.proofs.below.children_of.Goals as goal
 
 pub returns-in_err-names-clause-damaged : goal.returns-in_err-names-clause-damaged
-returns-in_err-names-clause-damaged g c = λ detail disk settled v stands can is. c.in_err-names.ensures.damaged disk settled v stands can (search rules)
+returns-in_err-names-clause-damaged g c = λ detail disk settled v stands is. c.in_err-names.ensures.damaged disk settled v stands (search rules)
 
 pub returns-in_err-found-clause-looks : goal.returns-in_err-found-clause-looks
 returns-in_err-found-clause-looks g c =
     looks_err c.from_residual-in_err-found.result c.from_residual-in_err-found.ensures.1 (looks_then c.loop-name.invariant.looked c.in_err-found.ensures.looks)
 
 pub returns-in_err-found-clause-damaged : goal.returns-in_err-found-clause-damaged
-returns-in_err-found-clause-damaged g c = λ detail disk settled v stands can is.
-    c.in_err-found.ensures.damaged disk settled v (c.loop-name.invariant.looked.kept disk settled v stands) can (search rules)
+returns-in_err-found-clause-damaged g c = λ detail disk settled v stands is.
+    c.in_err-found.ensures.damaged disk settled v (c.loop-name.invariant.looked.kept disk settled v stands) (search rules)
 
 pub returns-in_err-push-clause-looks : goal.returns-in_err-push-clause-looks
 returns-in_err-push-clause-looks g c =

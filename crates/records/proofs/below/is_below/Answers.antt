@@ -37,8 +37,8 @@ returns-in_err-children-clause-looks g c =
     looks_err c.from_residual-in_err-children.result c.from_residual-in_err-children.ensures.1 (looks_then c.loop-here.invariant.looked c.in_err-children.ensures.looks)
 
 pub returns-in_err-children-clause-damaged : goal.returns-in_err-children-clause-damaged
-returns-in_err-children-clause-damaged g c = λ detail disk settled v stands can is.
-    c.in_err-children.ensures.damaged detail disk settled v (c.loop-here.invariant.looked.kept disk settled v stands) can (search rules)
+returns-in_err-children-clause-damaged g c = λ detail disk settled v stands is.
+    c.in_err-children.ensures.damaged detail disk settled v (c.loop-here.invariant.looked.kept disk settled v stands) (search rules)
 
 pub returns-in_err-mark_all-clause-looks : goal.returns-in_err-mark_all-clause-looks
 returns-in_err-mark_all-clause-looks g c =

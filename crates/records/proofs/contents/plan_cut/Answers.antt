@@ -4,7 +4,8 @@ use Rattle.model.specs.Edits.{resized}
 use Rattle.inode.specs.Files.{byte_at, byte_with, bytes_of_file}
 use Rattle.inode.proofs.ComposingLaws.{cut_ends}
 use Rattle.model.proofs.EditLaws.{length-resized}
-use Rattle.records.proofs.ContentLaws.{resized_is, rewrites_same}
+use Rattle.records.proofs.BlockLaws.{cut_tells}
+use Rattle.records.proofs.ContentLaws.{resized_is, resizes_same, rewrites_same}
 use Rattle.records.proofs.contents.plan_cut.Goals as goal
 
 pub returns-in-Ok : goal.returns-in-Ok
@@ -21,6 +22,10 @@ returns-in-Ok g c =
           rewrites_same disk (resized c.args.size) old c.prepare_cut.new.self change told.same
           (subst (λ (n : ℕ). EndsAt n (byte_with disk old change)) (sym told.size) (cut_ends (byte_at disk old) (byte_with disk old change) c.args.size (told.bytes disk shows whole)))
           (told.list disk shows whole ∙ resized_is c.args.size (bytes_of_file disk old));
-      sizes = λ bytes long. length-resized c.args.size bytes ∙ sym told.size;
+      sizes = λ disk shows. resizes_same disk (resized c.args.size) old c.prepare_cut.new.self change told.same (λ bytes long tells. (
+        length-resized c.args.size bytes ∙ sym told.size,
+        cut_tells disk old change c.args.size bytes long told.size tells (told.blocks disk shows),
+      ));
+      whole = λ disk shows. (told.blocks disk shows).read;
       damaged = search rules;
     }

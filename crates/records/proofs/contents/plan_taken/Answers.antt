@@ -20,4 +20,10 @@ returns-clause-stores g c = subst (λ (n : ℕ). StoresMore c.plan.new.file c.in
 
 pub returns-clause-rewrites : goal.returns-clause-rewrites
 returns-clause-rewrites g c by_bytes = c.in_ok-change.ensures.rewrites
-returns-clause-rewrites g c by_sizes = λ disk shows ends. c.in_ok-change.ensures.sizes
+returns-clause-rewrites g c by_sizes = λ disk shows ends. c.in_ok-change.ensures.sizes disk shows
+
+pub returns-in_default-clause-whole : goal.returns-in_default-clause-whole
+returns-in_default-clause-whole g c = λ disk shows kind. absurd (c.in_default.not-File kind)
+
+pub returns-clause-whole : goal.returns-clause-whole
+returns-clause-whole g c = λ disk shows kind. c.in_ok-change.ensures.whole disk shows

@@ -22,11 +22,11 @@ returns-then-not-is_number-clause-decides g c = obstructs no_look (tells_rewriti
     (file_changed c.args.inodes.now.geometry.inodes v c.args.number c.args.rewrite.now can))))
 
 pub returns-in_err-planned-clause-decides : goal.returns-in_err-planned-clause-decides
-returns-in_err-planned-clause-decides g c = stops c.from_residual.result c.from_residual.ensures.1 c.in_err-planned.ensures.planned.looks (λ detail. c.in_err-planned.ensures.planned.damaged {detail = detail})
+returns-in_err-planned-clause-decides g c = stops c.from_residual.result c.from_residual.ensures.1 c.in_err-planned.ensures.looks c.in_err-planned.ensures.damaged
 
 pub returns-in_default-clause-decides : goal.returns-in_default-clause-decides
-returns-in_default-clause-decides g c = obstructs c.in_ok-planned.ensures.planned.looks (tells_rewriting c.args.number c.args.rewrite.now) (λ detail disk settled v stands volume. bars_rewriting _ v c.args.number c.args.rewrite.now (λ can.
-    both_ways (is_file_node (v c.args.number)) (sym (c.in_ok-planned.ensures.planned.found disk settled v stands).0 ∙ ap is_some c.in_default.is)
+returns-in_default-clause-decides g c = obstructs c.in_ok-planned.ensures.looks (tells_rewriting c.args.number c.args.rewrite.now) (λ detail disk settled v stands volume. bars_rewriting _ v c.args.number c.args.rewrite.now (λ can.
+    both_ways (is_file_node (v c.args.number)) (sym (c.in_ok-planned.ensures.planned detail disk settled v stands).0 ∙ ap is_some c.in_default.is)
     (file_changed c.args.inodes.now.geometry.inodes v c.args.number c.args.rewrite.now can)))
 
 pub returns-clause-decides : goal.returns-clause-decides
@@ -35,7 +35,7 @@ returns-clause-decides g c =
     let planned = c.in_ok-planned.ensures in
     let s = c.plan_number.new.inodes in
     let f = bytes_after c.args.rewrite.now in
-    decides planned.planned.looks
+    decides planned.looks
     (record {
       first = subst (λ o. IfSome o (λ x. TakesUpdate s n (updates.Bytes x))) c.in-Some.is planned.ready;
       next = tt;
@@ -45,7 +45,7 @@ returns-clause-decides g c =
       apart = tt;
     })
     (λ detail disk settled v stands.
-    let told = planned.planned.found disk settled v stands in
+    let told = planned.planned detail disk settled v stands in
     let is : IsTrue (is_file_node (v n)) = sym told.0 ∙ ap is_some c.in-Some.is in
     let gives = subst (λ o. IfSome o (RewritesIn detail disk f (loaded s n))) c.in-Some.is told.1 in
     let w = with_node n (with_file_bytes f (v n)) v in
@@ -69,6 +69,7 @@ returns-clause-decides g c =
       knows = rewriting_knows n c.args.rewrite.now s (subst (λ o. IfSome o (λ x. TakesUpdate s n (updates.Bytes x))) c.in-Some.is planned.ready).at_hand.known;
     })
     (λ detail disk settled v stands.
-    rewriting_applies c.args.inodes.now.geometry.inodes v n c.args.rewrite.now (sym (planned.planned.found disk settled v stands).0 ∙ ap is_some c.in-Some.is)
+    rewriting_applies c.args.inodes.now.geometry.inodes v n c.args.rewrite.now (sym (planned.planned detail disk settled v stands).0 ∙ ap is_some c.in-Some.is)
     (c.keeps_bounds.ensures.0 c.if-not-keeps_bounds.false))
     (λ detail disk settled v stands. rewriting_place v n c.args.rewrite.now)
+    (λ detail disk settled v stands. planned.parts detail disk settled v stands (sym (planned.planned detail disk settled v stands).0 ∙ ap is_some c.in-Some.is))

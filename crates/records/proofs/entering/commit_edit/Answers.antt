@@ -1,14 +1,15 @@
 use Rattle.std.proofs.Common.{◌≡◌, ℕ, ◌+◌, ◌*◌, ◌%◌, Option, ap, sym, subst, ◌∙◌, arith}
 use Rattle.layout.specs.Inode.{FitsKind}
 use Rattle.layout.specs.declared.kind.Kind.{Kind}
-use Rattle.images.specs.Contents.{StandsAs}
+use Rattle.images.specs.Sizes.{StandsAsIn}
 use Rattle.dirs.specs.Room.{piece_count}
+use Rattle.inode.specs.Files.{file_block}
 use Rattle.inode.specs.declared.object.Object.{Object}
 use Rattle.inofile.specs.Objects.{IsObjectOrNone}
 use Rattle.inofile.specs.Settled.{content_of_object}
 use Rattle.records.specs.Entering.{EditsIn, with_node_names}
-use Rattle.inofile.proofs.DetailLaws.{in_detail}
-use Rattle.records.proofs.DetailLaws.{ends_of}
+use Rattle.inofile.proofs.DetailLaws.{directory_readable}
+use Rattle.records.proofs.DetailLaws.{directory_in, ends_of, still_read}
 use Rattle.records.proofs.RoomLaws.{raises_to}
 use Rattle.records.proofs.entering.commit_edit.Goals as goal
 
@@ -28,8 +29,10 @@ returns-in-Some-clause-edits c = λ detail disk inodes settled found f stands ed
           let was = subst (λ (k : Kind). FitsKind k s c.in-Some.directory.attributes.mode c.in-Some.directory.attributes.links c.in-Some.directory.file.size) e.kind (o.fits s) in
           subst (λ (k : Kind). FitsKind k s c.in-Some.directory.attributes.mode c.in-Some.directory.attributes.links c.commit.new.file.size) (sym e.kind)
           (was.0, ap (λ (n : ℕ). n % 4096) c.commit.ensures.size ∙ whole c.args.edit.count);
-      stands = in_detail detail after.attributes.kind inodes (content_of_object disk after) (with_node_names f found)
-          (subst (λ (k : Kind). StandsAs k inodes (content_of_object disk after) (with_node_names f found)) (sym e.kind)
+      stands = subst (λ (k : Kind). StandsAsIn detail k inodes (content_of_object disk after) (with_node_names f found)) (sym e.kind)
+          (directory_in detail inodes (content_of_object disk after) (with_node_names f found)
+          (still_read detail (file_block disk c.in-Some.directory.file) (file_block disk c.commit.new.file) (c.commit.ensures.whole disk)
+          (directory_readable detail c.in-Some.directory.attributes.kind inodes (content_of_object disk c.in-Some.directory) found o.stands e.kind))
           (names, c.commit.ensures.names inodes disk names e.edited, ap (with_node_names f) e.stands));
       ends = ends_of detail disk c.commit.new.file (c.commit.ensures.ends disk);
       base = c.commit.ensures.base settled o.base;

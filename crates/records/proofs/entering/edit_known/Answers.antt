@@ -2,6 +2,8 @@ use Rattle.std.proofs.Common.{◌≡◌, ℕ, Option, IfOk, ap, sym, subst, ◌�
 use Rattle.layout.specs.Limits.{Sizes}
 use Rattle.inode.specs.declared.object.Object.{Object}
 use Rattle.inofile.specs.Objects.{IsObjectOrNone}
+use Rattle.inofile.specs.Settled.{content_of_object}
+use Rattle.inofile.proofs.DetailLaws.{directory_readable}
 use Rattle.inofile.proofs.RoomLaws.{back_needs}
 use Rattle.records.specs.Entering.{PreparesEdit}
 use Rattle.records.proofs.EnterLaws.{object_or_none}
@@ -34,9 +36,11 @@ returns-clause-edit g c =
           subst (λ (x : Option Object). IfOk c.edit_object-edit.result (PreparesEdit disk c.put_back.new.self.geometry.inodes c.args.wanted.now (v n) x)) (sym c.put_back.ensures.loaded)
           (subst (λ (k : ℕ). IfOk c.edit_object-edit.result (PreparesEdit disk k c.args.wanted.now (v n) c.edit_object-edit.new.object)) (same ∙ sym after)
           (edit.edits detail disk (settled n) (v n) stands.shows at));
-      damaged = λ {detail} disk settled v stands can is.
+      damaged = λ {detail} disk settled v stands is.
           let o = object_or_none detail disk before (settled n) c.take-object.result (v n) (take.stands _ count disk settled v stands.volume) (take.stands_for_none _ count disk settled v stands.volume) in
           edit.damaged detail disk (settled n) (v n) stands.shows is (subst (λ (k : ℕ). IsObjectOrNone detail disk k (settled n) c.take-object.result (v n)) (sym same) o)
-          (λ object some i. c.objects_stand_in_their_grammar.ensures _ count disk settled c.args.inodes.now v n i object (v n) stands.volume
-          (subst (λ (x : Option Object). IsObjectOrNone detail disk before (settled n) x (v n)) some o) can);
+          (λ object some kind i.
+          let stands_for = subst (λ (x : Option Object). IsObjectOrNone detail disk before (settled n) x (v n)) some o in
+          c.objects_stand_in_their_grammar.ensures _ count disk settled c.args.inodes.now v n i object (v n) stands.volume stands_for
+          (directory_readable detail object.attributes.kind before (content_of_object disk object) (v n) stands_for.stands kind i));
     })

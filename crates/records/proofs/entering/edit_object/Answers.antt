@@ -32,7 +32,7 @@ returns-clause-damaged g c = λ detail disk settled found shows is stands sound.
     let o = subst (λ (x : Option Object). IsObjectOrNone detail disk c.args.inodes settled x found) was stands in
     let kind = subst IsDirectoryObject was (c.is_directory.ensures.0 c.if-not-is_directory.false) in
     let d = directory_stands c.in-Some.directory.attributes.kind c.args.inodes (content_of_object disk c.in-Some.directory) found kind (by_size detail c.in-Some.directory.attributes.kind c.args.inodes (content_of_object disk c.in-Some.directory) found o.stands) in
-    c.edit_file-edit.ensures.damaged disk d.0 shows is d.1 (λ i. sound c.in-Some.directory was i)
+    c.edit_file-edit.ensures.damaged disk d.0 shows is d.1 (λ i. sound c.in-Some.directory was kind i)
 
 pub returns-then-not-is_directory-clause-same : goal.returns-then-not-is_directory-clause-same
 returns-then-not-is_directory-clause-same g c = same_object c.args.object.now

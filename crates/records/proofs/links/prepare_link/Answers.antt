@@ -16,7 +16,7 @@ use Rattle.records.proofs.DetailLaws.{known_of}
 use Rattle.records.proofs.EnterLaws.{accepts_entry, found_directory, takes_accepted}
 use Rattle.records.proofs.FileLaws.{both_steps, file_apart, file_entry, file_is, more_links}
 use Rattle.records.proofs.Looking.{at_hand_behind}
-use Rattle.records.proofs.Deciding.{decides, follows, obstructs, stops}
+use Rattle.records.proofs.Deciding.{decides, follows, obstructs, reads_in, stops}
 use Rattle.records.proofs.StandLaws.{no_look}
 use Rattle.records.proofs.links.prepare_link.Goals as goal
 use Rattle.model.proofs.ObjectLaws.{node_other}
@@ -35,7 +35,7 @@ returns-then-not-fits g c = obstructs no_look refl (λ detail disk settled v sta
 ])
 
 pub returns-in_err-load_to_change : goal.returns-in_err-load_to_change
-returns-in_err-load_to_change g c = stops c.from_residual.result c.from_residual.ensures.1 c.in_err-load_to_change.ensures.looks (λ detail disk settled v stands can. c.in_err-load_to_change.ensures.damaged {detail = detail} disk settled v stands)
+returns-in_err-load_to_change g c = stops c.from_residual.result c.from_residual.ensures.1 c.in_err-load_to_change.ensures.looks (λ detail disk settled v stands reads. c.in_err-load_to_change.ensures.damaged {detail = detail} disk settled v stands)
 
 pub returns-in_default : goal.returns-in_default
 returns-in_default g c = obstructs c.in_ok-load_to_change.ensures.looks refl (λ detail disk settled v stands volume.
@@ -61,7 +61,7 @@ returns-then-not-is_number g c = obstructs c.in_ok-load_to_change.ensures.looks 
 pub returns-in_err-planned : goal.returns-in_err-planned
 returns-in_err-planned g c =
     follows c.in_ok-load_to_change.ensures.looks
-    (stops c.from_residual-in_err-planned.result c.from_residual-in_err-planned.ensures.1 c.in_err-planned.ensures.edit.looks (λ detail. c.in_err-planned.ensures.edit.damaged {detail = detail}))
+    (stops c.from_residual-in_err-planned.result c.from_residual-in_err-planned.ensures.1 c.in_err-planned.ensures.edit.looks (λ detail disk settled v stands reads. c.in_err-planned.ensures.edit.damaged {detail = detail} disk settled v stands))
     (λ detail. c.in_ok-load_to_change.ensures.looks.kept {detail = detail}) (λ detail. c.in_ok-load_to_change.ensures.looks.kept {detail = detail})
 
 pub returns-in_default-planned : goal.returns-in_default-planned
@@ -137,3 +137,4 @@ returns g c =
       takes = takes_accepted v d entry (c.fits.ensures.0 c.if-not-fits.false).name edit.1;
     })
     (λ detail disk settled v stands. tt)
+    (λ detail disk settled v stands. reads_in detail v (link n d x) tt)

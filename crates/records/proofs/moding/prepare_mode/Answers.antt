@@ -2,7 +2,7 @@ use Rattle.std.proofs.Common.{◌≤◌, ◌||◌, ℕ, Option, refl, ap, sym, s
 use Rattle.model.specs.Records.{change_mode, with_node_mode}
 use Rattle.model.specs.Volumes.{Node, is_directory_node, is_file_node, with_node}
 use Rattle.records.proofs.DetailLaws.{known_of}
-use Rattle.records.proofs.Deciding.{decides, obstructs, stops}
+use Rattle.records.proofs.Deciding.{decides, obstructs, reads_in, stops}
 use Rattle.records.proofs.StandLaws.{no_look}
 use Rattle.records.proofs.moding.prepare_mode.Goals as goal
 
@@ -11,7 +11,7 @@ returns-then-not-is_number g c = obstructs no_look refl (λ detail disk settled 
     ap (λ (o : Option Node). is_file_node o || is_directory_node o) (c.is_number.ensures.no c.if-not-is_number.true detail v (known_of detail c.args.inodes.now.geometry.inodes (change_mode c.args.number c.args.mode) v volume)))
 
 pub returns-in_err-load_to_change : goal.returns-in_err-load_to_change
-returns-in_err-load_to_change g c = stops c.from_residual.result c.from_residual.ensures.1 c.in_err-load_to_change.ensures.looks (λ detail disk settled v stands can. c.in_err-load_to_change.ensures.damaged {detail = detail} disk settled v stands)
+returns-in_err-load_to_change g c = stops c.from_residual.result c.from_residual.ensures.1 c.in_err-load_to_change.ensures.looks (λ detail disk settled v stands reads. c.in_err-load_to_change.ensures.damaged {detail = detail} disk settled v stands)
 
 pub returns-then-not-has_mode : goal.returns-then-not-has_mode
 returns-then-not-has_mode g c = obstructs c.in_ok-load_to_change.ensures.looks refl (λ detail disk settled v stands volume.
@@ -48,3 +48,4 @@ returns g c =
       subst (λ (m : ℕ). m ≤ 4095) c.bits.ensures.same c.bits.ensures.fits,
     ))
     (λ detail disk settled v stands. tt)
+    (λ detail disk settled v stands. reads_in detail v (change_mode n c.args.mode) tt)

@@ -1,20 +1,18 @@
-use Rattle.std.proofs.Common.{Some, rules, ◌≡◌, ◌≤◌, ◌<◌, ℕ, List, IsTrue, refl, sym, subst, ◌∙◌}
+use Rattle.std.proofs.Common.{rules, ◌≡◌, ◌≤◌, ◌<◌, ℕ, List, IsTrue, refl, sym, subst, ◌∙◌}
 use Rattle.std.proofs.lemmas.Bool.{both_ways}
-use Rattle.blocktree.specs.Trees.{IsSoundAt}
 use Rattle.layout.specs.Limits.{Sizes}
 use Rattle.layout.specs.Record.{made_of}
 use Rattle.layout.specs.declared.inode.Inode.{Inode}
-use Rattle.model.specs.Records.{IsMade, TakesName, create, node_of}
+use Rattle.model.specs.Records.{IsMade, TakesName, create}
 use Rattle.model.specs.Volumes.{Volume}
 use Rattle.model.specs.declared.errno.Errno.TheVariants.{DIRFULL}
 use Rattle.paths.specs.Standing.{StandsIn}
 use Rattle.paths.proofs.Looks.{looks_more, looks_reads}
 use Rattle.records.specs.Obstacles.{IsObstacle, tells_obstacle}
 use Rattle.images.specs.Soundness.{Detail}
-use Rattle.inofile.proofs.DetailLaws.{readable_in}
 use Rattle.records.specs.Preparing.{IsKnownVolume}
-use Rattle.records.proofs.DetailLaws.{known_of, object_in}
-use Rattle.records.proofs.Deciding.{obstructs, stops}
+use Rattle.records.proofs.DetailLaws.{known_of}
+use Rattle.records.proofs.Deciding.{obstructs, reads_in, stops}
 use Rattle.records.proofs.Failures.{refusal_is}
 use Rattle.records.proofs.Looking.{ok_so}
 use Rattle.records.proofs.StandLaws.{no_look}
@@ -24,20 +22,15 @@ pub returns-then-not-is_made : goal.returns-then-not-is_made
 returns-then-not-is_made g c = obstructs no_look refl (λ detail disk settled v stands volume may. both_ways c.is_made.result c.if-not-is_made.true (c.is_made.ensures.1 may.2))
 
 pub returns-in_err-vacant : goal.returns-in_err-vacant
-returns-in_err-vacant g c = stops c.from_residual.result c.from_residual.ensures.1 c.in_err-vacant.ensures.looks (λ detail. c.in_err-vacant.ensures.damaged {detail = detail})
+returns-in_err-vacant g c = stops c.from_residual.result c.from_residual.ensures.1 c.in_err-vacant.ensures.looks (λ detail disk settled v stands reads. c.in_err-vacant.ensures.damaged {detail = detail} disk settled v stands)
 
 pub returns-then-not-vacant : goal.returns-then-not-vacant
 returns-then-not-vacant g c = obstructs c.in_ok-vacant.ensures.looks refl (λ detail disk settled v stands volume may.
     both_ways c.in_ok-vacant.vacant c.if-not-vacant.true (c.in_ok-vacant.ensures.found disk settled v stands ∙ may.3))
 
 pub returns-in_err-new : goal.returns-in_err-new
-returns-in_err-new g c = stops c.from_residual-in_err-new.result c.from_residual-in_err-new.ensures.1 (looks_reads c.in_ok-vacant.ensures.looks c.in_err-new.ensures.reads) (λ detail disk settled v stands can is.
-    let now = c.in_ok-vacant.ensures.looks.kept disk settled v stands in
-    let s = c.is_vacant.new.inodes in
-    let inodes = now.volume.inodes in
-    c.in_err-new.ensures.damaged disk now.shows is
-    (λ t i based. subst (λ (n : ℕ). IsSoundAt n disk t i) inodes.count
-    (c.based_trees_are_sound.ensures.at _ s.geometry disk (settled c.args.number) t i (inodes.sound c.args.number) (readable_in detail s.geometry disk settled c.args.number (inodes.sound c.args.number) can) (based (settled c.args.number)))))
+returns-in_err-new g c = stops c.from_residual-in_err-new.result c.from_residual-in_err-new.ensures.1 (looks_reads c.in_ok-vacant.ensures.looks c.in_err-new.ensures.reads) (λ detail disk settled v stands reads is.
+    c.in_err-new.ensures.damaged disk (c.in_ok-vacant.ensures.looks.kept disk settled v stands).shows is)
 
 pub returns : goal.returns
 returns g c =
@@ -56,7 +49,7 @@ returns g c =
       ready = new.ready;
       does = λ {detail} disk settled v stands.
           new.does detail disk settled v (made_of c.args.object.now) (before.kept disk settled v stands) (is_free detail disk settled v stands)
-          (λ k. object_in detail disk k (settled c.args.number) c.in_ok-new.new (Some (node_of (made_of c.args.object.now))) (made.object disk (vacant.looks.kept disk settled v stands).shows k (settled c.args.number))) made.room;
+          (λ k. made.object detail disk (vacant.looks.kept disk settled v stands).shows k (settled c.args.number)) made.room;
       applies = λ {detail} disk settled v stands.
           ok_so c.prepare_new.result _ _ (λ p taken. record { low = low; high = high; vacant = is_free detail disk settled v stands; takes = taken; good = good })
           (new.takes detail disk settled v (before.kept disk settled v stands));
@@ -66,5 +59,8 @@ returns g c =
           (λ e. TakesName v c.args.parent c.args.name.now → ⊥) c.prepare_new.result new.full
           (new.refused detail disk settled v (before.kept disk settled v stands) (subst (λ (s : Sizes). IsKnownVolume detail s.inodes v) (sym before.geometry) (known_of detail c.args.inodes.now.geometry.inodes (create c.args.number c.args.parent (made_of c.args.object.now) c.args.name.now) v volume)))
           (λ full. ((low, high, good, is_free detail disk settled v stands), full));
-      damaged = λ {detail} disk settled v stands can is. new.damaged detail disk settled v (before.kept disk settled v stands) can is;
+      reads = λ {detail} disk settled v stands.
+          ok_so c.prepare_new.result _ _ (λ p taken. reads_in detail v (create c.args.number c.args.parent (made_of c.args.object.now) c.args.name.now) tt)
+          (new.takes detail disk settled v (before.kept disk settled v stands));
+      damaged = λ {detail} disk settled v stands reads is. new.damaged detail disk settled v (before.kept disk settled v stands) is;
     }

@@ -22,15 +22,15 @@ pub returns-in_err-load_to_change-clause-looks : goal.returns-in_err-load_to_cha
 returns-in_err-load_to_change-clause-looks g c = looks_read c.from_residual.result c.from_residual.ensures.1 c.in_err-load_to_change.ensures.looks
 
 pub returns-in_err-load_to_change-clause-damaged : goal.returns-in_err-load_to_change-clause-damaged
-returns-in_err-load_to_change-clause-damaged g c = λ detail. damaged_read c.from_residual.result c.from_residual.ensures.1 (λ disk settled v stands can. c.in_err-load_to_change.ensures.damaged {detail = detail} disk settled v stands)
+returns-in_err-load_to_change-clause-damaged g c = λ detail disk settled v stands. damaged_read c.from_residual.result c.from_residual.ensures.1 (c.in_err-load_to_change.ensures.damaged {detail = detail} disk settled v stands)
 
 pub returns-in_err-planned-clause-looks : goal.returns-in_err-planned-clause-looks
 returns-in_err-planned-clause-looks g c =
     looks_read c.from_residual-in_err-planned.result c.from_residual-in_err-planned.ensures.1 (looks_more c.in_ok-load_to_change.ensures.looks c.in_err-planned.ensures.edit.looks)
 
 pub returns-in_err-planned-clause-damaged : goal.returns-in_err-planned-clause-damaged
-returns-in_err-planned-clause-damaged g c = λ detail. damaged_read c.from_residual-in_err-planned.result c.from_residual-in_err-planned.ensures.1 (λ disk settled v stands.
-    c.in_err-planned.ensures.edit.damaged disk settled v (c.in_ok-load_to_change.ensures.looks.kept disk settled v stands))
+returns-in_err-planned-clause-damaged g c = λ detail disk settled v stands. damaged_read c.from_residual-in_err-planned.result c.from_residual-in_err-planned.ensures.1
+    (c.in_err-planned.ensures.edit.damaged {detail = detail} disk settled v (c.in_ok-load_to_change.ensures.looks.kept disk settled v stands))
 
 pub returns-in_default-clause-looks : goal.returns-in_default-clause-looks
 returns-in_default-clause-looks g c = looks_ok (looks_more c.in_ok-load_to_change.ensures.looks c.in_ok-planned.ensures.edit.looks)

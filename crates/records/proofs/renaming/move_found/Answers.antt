@@ -31,7 +31,7 @@ returns-then-not-fits g c = obstructs no_look refl (λ detail disk settled v kno
     absurd (both_ways c.fits.result c.if-not-fits.true (c.fits.ensures.1 (subst (λ (k : ℕ). IsEntry k (record { number = n; name = c.args.new_name.now })) (sym count) is))))
 
 pub returns-in_err-target : goal.returns-in_err-target
-returns-in_err-target g c = stops c.from_residual.result c.from_residual.ensures.1 c.in_err-target.ensures.number.looks (λ detail. c.in_err-target.ensures.number.damaged {detail = detail})
+returns-in_err-target g c = stops c.from_residual.result c.from_residual.ensures.1 c.in_err-target.ensures.number.looks (λ detail disk settled v stands reads. c.in_err-target.ensures.number.damaged {detail = detail} disk settled v stands)
 
 -- where nothing has the new name
 pub returns-in_default : goal.returns-in_default
@@ -69,7 +69,7 @@ returns-in_err-step g c =
     bars_rename c.args.inodes.now.geometry.inodes v d x n m k y errno known.1 (sym (target.found disk settled v known.0) ∙ c.in-Some.is)
     (bars_replacing detail disk settled v d n m k y errno known.2 bars))
     (failed.replaced.found disk settled v (target.looks.kept disk settled v known.0)))
-    (λ detail disk settled v stands can is. failed.replaced.damaged disk settled v (target.looks.kept disk settled v stands) can is)
+    (λ detail disk settled v stands reads is. failed.replaced.damaged disk settled v (target.looks.kept disk settled v stands) is)
 
 pub returns : goal.returns
 returns g c =

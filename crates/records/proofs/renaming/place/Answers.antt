@@ -1,5 +1,6 @@
 use Rattle.std.proofs.Common.{◌≡◌, ◌∙◌, ◌≤◌, inl, inr, ℕ, Option, None, Some, IfSome, IfNone, IsTrue, refl, ap, sym, subst, arith}
 use Rattle.layout.specs.declared.entry.Entry.{Entry}
+use Rattle.model.specs.Records.{rename}
 use Rattle.model.specs.Volumes.{Node, Volume, entries, is_directory_node, released, with_entry, with_node}
 use Rattle.dirs.specs.Directory.{with_name}
 use Rattle.dirs.specs.Room.{piece_count}
@@ -14,7 +15,7 @@ use Rattle.records.proofs.EnterLaws.{found_directory, takes_accepted}
 use Rattle.records.proofs.FileLaws.{alone_some, alone_some_apart, apart_none, named_directory}
 use Rattle.records.proofs.Looking.{some_at_hand_behind}
 use Rattle.records.proofs.MoveLaws.{accepts_move, accepts_other, aside_new, aside_old, beside_new, beside_none, beside_old, can_rename, few_pieces, moved_across, moved_inside, names_for, room_on, steps_on, wanted_none, wanted_some}
-use Rattle.records.proofs.Deciding.{decides, obstructs, stops}
+use Rattle.records.proofs.Deciding.{decides, obstructs, reads_in, stops}
 use Rattle.records.proofs.ObstacleLaws.{no_place}
 use Rattle.records.proofs.PlaceLaws.{leaves_inside, leaves_other}
 use Rattle.records.proofs.renaming.place.Goals.{then-is_some, else-is_some}
@@ -22,7 +23,7 @@ use Rattle.records.proofs.renaming.place.Goals as goal
 use Rattle.model.proofs.ObjectLaws.{node_other}
 
 pub returns-in_err-planned : goal.returns-in_err-planned
-returns-in_err-planned g c = stops c.from_residual.result c.from_residual.ensures.1 c.in_err-planned.ensures.edit.looks (λ detail. c.in_err-planned.ensures.edit.damaged {detail = detail})
+returns-in_err-planned g c = stops c.from_residual.result c.from_residual.ensures.1 c.in_err-planned.ensures.edit.looks (λ detail disk settled v stands reads. c.in_err-planned.ensures.edit.damaged {detail = detail} disk settled v stands)
 
 pub returns-in_default : goal.returns-in_default
 returns-in_default g c = obstructs c.in_ok-planned.ensures.edit.looks refl (λ detail disk settled v known volume.
@@ -85,9 +86,10 @@ returns-then-is_same g c =
     (λ detail disk settled v known.
     let edit = subst (PreparesEdit disk s.geometry.inodes (edits.Move c.args.name entry) (v k) (loaded s k)) c.in-Some.is (planned.edit.found disk settled v known.0) in
     leaves_inside v d x k y edit.1.mode edit.1.names edit.1.is (c.is_same.ensures.yes c.if-is_same.true) edit.1.takes)
+    (λ detail disk settled v known. reads_in detail v (rename d x k y) tt)
 
 pub returns-in_err-both : goal.returns-in_err-both
-returns-in_err-both g c = stops c.from_residual-in_err-both.result c.from_residual-in_err-both.ensures.1 c.in_err-both.ensures.both.looks (λ detail. c.in_err-both.ensures.both.damaged {detail = detail})
+returns-in_err-both g c = stops c.from_residual-in_err-both.result c.from_residual-in_err-both.ensures.1 c.in_err-both.ensures.both.looks (λ detail disk settled v stands reads. c.in_err-both.ensures.both.damaged {detail = detail} disk settled v stands)
 
 pub returns-in_default-both : goal.returns-in_default-both
 returns-in_default-both g c = obstructs c.in_ok-both.ensures.both.looks refl (λ detail disk settled v known volume.
@@ -176,3 +178,4 @@ returns g c =
     let edits_are = subst (λ o. IfSome o (λ e. PreparesEdit disk s.geometry.inodes c.if-is_some.wanted (v k) (loaded s k) (Some e.0) × EditsIn disk s.geometry.inodes h (v d) (loaded s d) e.1 × (piece_count e.1 ≤ 1))) c.in-Some-both.is
     (both.both.found disk settled v known.0).0 in
     leaves_other v d x k step entry other (subst (λ (e : NameEdit). Accepts e (v k)) wanted edits_are.0.1))
+    (λ detail disk settled v known. reads_in detail v (rename d x k y) tt)

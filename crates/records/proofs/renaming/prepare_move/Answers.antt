@@ -3,7 +3,7 @@ use Rattle.records.proofs.Deciding.{follows, obstructs, stops}
 use Rattle.records.proofs.renaming.prepare_move.Goals as goal
 
 pub returns-in_err-found : goal.returns-in_err-found
-returns-in_err-found g c = stops c.from_residual.result c.from_residual.ensures.1 c.in_err-found.ensures.number.looks (λ detail. c.in_err-found.ensures.number.damaged {detail = detail})
+returns-in_err-found g c = stops c.from_residual.result c.from_residual.ensures.1 c.in_err-found.ensures.number.looks (λ detail disk settled v stands reads. c.in_err-found.ensures.number.damaged {detail = detail} disk settled v stands)
 
 pub returns-in_default : goal.returns-in_default
 returns-in_default g c = obstructs c.in_ok-found.ensures.number.looks refl (λ detail disk settled v known volume.

@@ -19,7 +19,7 @@ returns-then-not-is_number g c = obstructs no_look refl (λ detail disk settled 
     ap (λ (o : Option Node). names_in o c.args.name.now) (c.is_number.ensures.no c.if-not-is_number.true detail v (known_of detail c.args.inodes.now.geometry.inodes (rename c.args.parent c.args.name.now c.args.new_parent c.args.new_name.now) v volume)))
 
 pub returns-in_err-found : goal.returns-in_err-found
-returns-in_err-found g c = stops c.from_residual.result c.from_residual.ensures.1 c.in_err-found.ensures.number.looks (λ detail. c.in_err-found.ensures.number.damaged {detail = detail})
+returns-in_err-found g c = stops c.from_residual.result c.from_residual.ensures.1 c.in_err-found.ensures.number.looks (λ detail disk settled v stands reads. c.in_err-found.ensures.number.damaged {detail = detail} disk settled v stands)
 
 pub returns-in_default : goal.returns-in_default
 returns-in_default g c = obstructs c.in_ok-found.ensures.number.looks refl (λ detail disk settled v stands volume.
@@ -44,7 +44,7 @@ returns-then-not-is_number-2 g c =
       subst (λ (o : Option ℕ). BarsMove v c.args.parent n k y o DIRFULL) (sym none) (
         (λ at. none_some at),
         (λ below.
-            let some = closed_below (entries v) (λ j. IsSome (v j)) (λ d m some child. graph.used d m child.0 child.1) n k (graph.used c.args.parent n x there) below in
+            let some = closed_below (entries v) (λ j. IsSome (v j)) (λ d m some child. graph.naming.used d m child.0 child.1) n k (graph.naming.used c.args.parent n x there) below in
             false≢true (subst IsSome nothing some)),
         (
           (λ same. none_some (sym (ap (λ (j : ℕ). entries v j x) same ∙ ap (λ (o : Option Node). names_in o x) nothing) ∙ there)),
@@ -56,7 +56,7 @@ returns-then-not-is_number-2 g c =
 pub returns-in_err-below : goal.returns-in_err-below
 returns-in_err-below g c =
     follows c.in_ok-found.ensures.number.looks
-    (stops c.from_residual-in_err-below.result c.from_residual-in_err-below.ensures.1 c.in_err-below.ensures.looks c.in_err-below.ensures.damaged)
+    (stops c.from_residual-in_err-below.result c.from_residual-in_err-below.ensures.1 c.in_err-below.ensures.looks (λ detail disk settled v stands reads. c.in_err-below.ensures.damaged detail disk settled v stands))
     (λ detail. c.in_ok-found.ensures.number.looks.kept {detail = detail}) (λ detail. c.in_ok-found.ensures.number.looks.kept {detail = detail})
 
 pub returns-then-below : goal.returns-then-below

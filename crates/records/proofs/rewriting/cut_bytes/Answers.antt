@@ -7,13 +7,13 @@ use Rattle.model.specs.declared.errno.Errno.TheVariants.{EFBIG}
 use Rattle.paths.proofs.Looks.{looks_more, looks_ok}
 use Rattle.records.specs.Obstacles.{IsObstacle}
 use Rattle.records.specs.declared.contents.Rewrite.TheVariants.{Cut}
-use Rattle.records.proofs.Failures.{damaged_failed, damaged_read, looks_failed, looks_read, refusal_is, refused_by}
+use Rattle.records.proofs.Failures.{damaged_by, damaged_read, looks_failed, looks_read, refusal_is, refused_by}
 use Rattle.records.proofs.RewriteLaws.{cuts_all, cuts_nothing, other_size, rewritten}
 use Rattle.records.proofs.rewriting.cut_bytes.Goals as goal
 use Rattle.std.proofs.lemmas.Bool.{eq-eqb}
 
 pub returns-in_err-now-clause-damaged : goal.returns-in_err-now-clause-damaged
-returns-in_err-now-clause-damaged g c = λ disk settled v stands. damaged_read c.from_residual.result c.from_residual.ensures.1 c.in_err-now.ensures.damaged disk settled v stands tt
+returns-in_err-now-clause-damaged g c = λ disk settled v stands. damaged_read c.from_residual.result c.from_residual.ensures.1 (c.in_err-now.ensures.damaged disk settled v stands)
 
 pub returns-then-now-size-clause-answers : goal.returns-then-now-size-clause-answers
 returns-then-now-size-clause-answers g c = λ disk settled v table stands volume mounted is.
@@ -36,7 +36,7 @@ returns-in_err-prepared-clause-answers g c = λ disk settled v table stands volu
 
 pub returns-in_err-prepared-clause-damaged : goal.returns-in_err-prepared-clause-damaged
 returns-in_err-prepared-clause-damaged g c = λ disk settled v stands.
-    damaged_failed _ c.from_residual-in_err-prepared.result c.from_residual-in_err-prepared.ensures.1 c.in_err-prepared.ensures.decides.damaged disk settled v (c.in_ok-now.ensures.looks.kept disk settled v stands) tt
+    damaged_by _ c.from_residual-in_err-prepared.result c.from_residual-in_err-prepared.ensures.1 (c.in_err-prepared.ensures.decides.damaged disk settled v (c.in_ok-now.ensures.looks.kept disk settled v stands) tt)
 
 pub returns-clause-looks : goal.returns-clause-looks
 returns-clause-looks g c = looks_ok (looks_more c.in_ok-now.ensures.looks c.in_ok-prepared.ensures.decides.looks)

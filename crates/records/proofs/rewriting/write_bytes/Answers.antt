@@ -9,7 +9,7 @@ use Rattle.model.specs.declared.limits.TheConstants.{GREATEST_FILE}
 use Rattle.records.specs.Obstacles.{IsObstacle}
 use Rattle.records.specs.Rewriting.{PutsBytes}
 use Rattle.records.specs.declared.contents.Rewrite.TheVariants.{Write}
-use Rattle.records.proofs.Failures.{damaged_failed, looks_failed, refusal_is, refused_by}
+use Rattle.records.proofs.Failures.{damaged_by, looks_failed, refusal_is, refused_by}
 use Rattle.records.proofs.RewriteLaws.{filled, past_limit, puts_all, puts_nothing, puts_too_much, rewritten, some_bytes, within_limit}
 use Rattle.records.proofs.rewriting.write_bytes.Goals as goal
 
@@ -40,7 +40,7 @@ returns-in_err-prepared-clause-answers g c = λ disk settled v table stands volu
     (λ never also. puts_too_much (tree_of v table) c.args.number offset bytes also none (past never)))
 
 pub returns-in_err-prepared-clause-damaged : goal.returns-in_err-prepared-clause-damaged
-returns-in_err-prepared-clause-damaged g c = λ disk settled v stands. damaged_failed _ c.from_residual.result c.from_residual.ensures.1 c.in_err-prepared.ensures.decides.damaged disk settled v stands tt
+returns-in_err-prepared-clause-damaged g c = λ disk settled v stands. damaged_by _ c.from_residual.result c.from_residual.ensures.1 (c.in_err-prepared.ensures.decides.damaged disk settled v stands tt)
 
 pub returns-clause-answers : goal.returns-clause-answers
 returns-clause-answers g c = λ disk settled v table stands volume mounted is.

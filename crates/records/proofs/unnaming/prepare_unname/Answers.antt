@@ -13,7 +13,7 @@ use Rattle.records.proofs.DetailLaws.{known_of}
 use Rattle.records.proofs.EnterLaws.{directory_is}
 use Rattle.records.proofs.FileLaws.{alone_apart, alone_takes, both_steps, empty_apart, named_directory}
 use Rattle.records.proofs.Looking.{at_hand_behind}
-use Rattle.records.proofs.Deciding.{decides, follows, obstructs, stops}
+use Rattle.records.proofs.Deciding.{decides, follows, obstructs, reads_in, stops}
 use Rattle.records.proofs.StandLaws.{no_look}
 use Rattle.records.proofs.unnaming.prepare_unname.Goals as goal
 use Rattle.model.proofs.ObjectLaws.{node_other}
@@ -23,7 +23,7 @@ returns-then-not-is_number g c = obstructs no_look refl (λ detail disk settled 
     ap (λ (o : Option Node). names_in o c.args.name.now) (c.is_number.ensures.no c.if-not-is_number.true detail v (known_of detail c.args.inodes.now.geometry.inodes (unname c.args.parent c.args.name.now) v volume)))
 
 pub returns-in_err-found : goal.returns-in_err-found
-returns-in_err-found g c = stops c.from_residual.result c.from_residual.ensures.1 c.in_err-found.ensures.number.looks (λ detail. c.in_err-found.ensures.number.damaged {detail = detail})
+returns-in_err-found g c = stops c.from_residual.result c.from_residual.ensures.1 c.in_err-found.ensures.number.looks (λ detail disk settled v stands reads. c.in_err-found.ensures.number.damaged {detail = detail} disk settled v stands)
 
 pub returns-in_default : goal.returns-in_default
 returns-in_default g c = obstructs c.in_ok-found.ensures.number.looks refl (λ detail disk settled v stands volume.
@@ -32,7 +32,7 @@ returns-in_default g c = obstructs c.in_ok-found.ensures.number.looks refl (λ d
 pub returns-in_err-released : goal.returns-in_err-released
 returns-in_err-released g c =
     follows c.in_ok-found.ensures.number.looks
-    (stops c.from_residual-in_err-released.result c.from_residual-in_err-released.ensures.1 c.in_err-released.ensures.released.looks (λ detail. c.in_err-released.ensures.released.damaged {detail = detail}))
+    (stops c.from_residual-in_err-released.result c.from_residual-in_err-released.ensures.1 c.in_err-released.ensures.released.looks (λ detail disk settled v stands reads. c.in_err-released.ensures.released.damaged {detail = detail} disk settled v stands))
     (λ detail. c.in_ok-found.ensures.number.looks.kept {detail = detail}) (λ detail. c.in_ok-found.ensures.number.looks.kept {detail = detail})
 
 pub returns-in_default-released : goal.returns-in_default-released
@@ -47,7 +47,7 @@ pub returns-in_err-planned : goal.returns-in_err-planned
 returns-in_err-planned g c =
     let before = looks_more c.in_ok-found.ensures.number.looks c.in_ok-released.ensures.released.looks in
     follows before
-    (stops c.from_residual-in_err-planned.result c.from_residual-in_err-planned.ensures.1 c.in_err-planned.ensures.edit.looks (λ detail. c.in_err-planned.ensures.edit.damaged {detail = detail}))
+    (stops c.from_residual-in_err-planned.result c.from_residual-in_err-planned.ensures.1 c.in_err-planned.ensures.edit.looks (λ detail disk settled v stands reads. c.in_err-planned.ensures.edit.damaged {detail = detail} disk settled v stands))
     (λ detail. before.kept {detail = detail}) (λ detail. before.kept {detail = detail})
 
 pub returns-in_default-planned : goal.returns-in_default-planned
@@ -117,3 +117,4 @@ returns g c =
       empty = (subst (Releases detail disk settled v n) c.in-Some-released.is (told.released.found disk settled v (found.number.looks.kept disk settled v stands))).1;
     })
     (λ detail disk settled v stands. tt)
+    (λ detail disk settled v stands. reads_in detail v (unname d x) tt)

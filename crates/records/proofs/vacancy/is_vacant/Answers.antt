@@ -1,4 +1,4 @@
-use Rattle.std.proofs.Common.{ap, sym, subst}
+use Rattle.std.proofs.Common.{ap, sym}
 use Rattle.model.specs.Records.{is_vacant}
 use Rattle.inofile.specs.Settled.{content_of_object}
 use Rattle.inofile.proofs.DetailLaws.{by_size}

@@ -1,19 +1,24 @@
-use Rattle.std.proofs.Common.{◌≡◌, ℕ, ◌/◌, ◌%◌, List, [], None, Some, ◌≤◌, slice_index, refl, ap, subst, arith, ◌∙◌}
+use Rattle.std.proofs.Common.{◌≡◌, ℕ, ◌/◌, ◌%◌, List, [], None, Some, ◌≤◌, length, slice_index, refl, ap, subst, arith, ◌∙◌}
 use Rattle.inode.proofs.BytePositions.{slice_index-zeros}
 use Rattle.inode.proofs.RoomLaws.{empty_room}
+use Rattle.layout.proofs.ZeroLaws.{length-zeros}
+use Rattle.inode.specs.Files.{file_block}
+use Rattle.layout.specs.declared.kind.Kind.TheVariants as kinds
+use Rattle.model.specs.Volumes.{directory_node}
+use Rattle.records.proofs.DetailLaws.{can_read, directory_in, ends_of}
 use Rattle.records.proofs.vacancy.new_directory.Goals as goal
 
 none_some : {X : Type 0} {n : ℕ} → None ≡ Some n → X
 none_some e = cc
 
 pub returns-clause-object : goal.returns-clause-object
-returns-clause-object c = λ disk inodes settled.
+returns-clause-object c = λ detail disk inodes settled.
     let none : c.empty.result.size / 4096 ≡ 0 = ap (λ s. s / 4096) c.empty.ensures.size in
     record {
       kind = tt;
       mode = subst (λ (m : ℕ). m ≤ 4095) c.bits.ensures.same c.bits.ensures.fits;
       fits = λ s. (refl, ap (λ (n : ℕ). n % 4096) c.empty.ensures.size);
-      stands = (
+      stands = directory_in detail inodes (record { kind = kinds.Directory; mode = c.args.mode; links = 1; size = c.empty.result.size; block = file_block disk c.empty.result }) (Some (directory_node c.args.mode (λ name. None))) (can_read detail (file_block disk c.empty.result) (λ i. ap length (c.empty.ensures.blocks disk i) ∙ length-zeros 4096)) (
         λ name. None,
         record {
           entries = λ i. [];
@@ -28,7 +33,7 @@ returns-clause-object c = λ disk inodes settled.
         },
         refl,
       );
-      ends = λ p beyond. ap (λ (b : List ℕ). slice_index b (p % 4096)) (c.empty.ensures.blocks disk (p / 4096)) ∙ slice_index-zeros 4096 (p % 4096);
+      ends = ends_of detail disk c.empty.result (λ p beyond. ap (λ (b : List ℕ). slice_index b (p % 4096)) (c.empty.ensures.blocks disk (p / 4096)) ∙ slice_index-zeros 4096 (p % 4096));
       base = c.empty.ensures.base settled;
     }
 

@@ -1,18 +1,19 @@
-use Rattle.std.proofs.Common.{ℕ, ◌/◌, ◌%◌, List, Some, ◌≤◌, slice_index, ap, sym, subst, arith, ◌∙◌}
-use Rattle.layout.specs.FileBytes.{byte_in, first_bytes}
-use Rattle.model.specs.Volumes.{file_node}
+use Rattle.std.proofs.Common.{ℕ, ◌/◌, ◌%◌, List, ◌≤◌, length, slice_index, ap, subst, arith, ◌∙◌}
+use Rattle.layout.proofs.ZeroLaws.{length-zeros}
+use Rattle.layout.specs.declared.kind.Kind.TheVariants as kinds
 use Rattle.inode.specs.Files.{file_block}
 use Rattle.inode.proofs.BytePositions.{slice_index-zeros}
 use Rattle.inode.proofs.RoomLaws.{empty_room}
+use Rattle.records.proofs.DetailLaws.{ends_of, file_in}
 use Rattle.records.proofs.vacancy.new_file.Goals as goal
 
 pub returns-clause-object : goal.returns-clause-object
-returns-clause-object c = λ disk inodes settled. record {
+returns-clause-object c = λ detail disk inodes settled. record {
   kind = tt;
   mode = subst (λ (m : ℕ). m ≤ 4095) c.bits.ensures.same c.bits.ensures.fits;
   fits = λ s. omega arith;
-  stands = ap (λ (n : ℕ). Some (file_node c.args.mode 1 (first_bytes (byte_in (file_block disk c.empty.result)) n))) (sym c.empty.ensures.size);
-  ends = λ p beyond. ap (λ (b : List ℕ). slice_index b (p % 4096)) (c.empty.ensures.blocks disk (p / 4096)) ∙ slice_index-zeros 4096 (p % 4096);
+  stands = file_in detail inodes (record { kind = kinds.File; mode = c.args.mode; links = 1; size = c.empty.result.size; block = file_block disk c.empty.result }) c.empty.ensures.size (λ i. ap length (c.empty.ensures.blocks disk i) ∙ length-zeros 4096);
+  ends = ends_of detail disk c.empty.result (λ p beyond. ap (λ (b : List ℕ). slice_index b (p % 4096)) (c.empty.ensures.blocks disk (p / 4096)) ∙ slice_index-zeros 4096 (p % 4096));
   base = c.empty.ensures.base settled;
 }
 

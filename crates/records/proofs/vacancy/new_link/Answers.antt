@@ -1,19 +1,28 @@
-use Rattle.std.proofs.Common.{rules, ◌≡◌, ◌+◌, ◌≤◌, ℕ, ◌/◌, ◌%◌, List, length, max, Some, slice_index, refl, ap, sym, ◌∙◌, arith}
+use Rattle.std.proofs.Common.{rules, ◌≡◌, ◌+◌, ◌≤◌, ℕ, ◌/◌, ◌%◌, List, length, max, slice_index, refl, ap, ◌∙◌, arith}
 use Rattle.layout.specs.FileBytes.{EndsAt, first_bytes}
 use Rattle.model.specs.Room.{touched}
-use Rattle.model.specs.Volumes.{link_node}
 use Rattle.buffers.specs.Positions.{with_bytes_at}
 use Rattle.inode.specs.Edges.{written_list}
-use Rattle.inode.specs.Files.{byte_at}
+use Rattle.inode.specs.Files.{byte_at, file_block}
 use Rattle.inode.proofs.BytePositions.{slice_index-zeros}
 use Rattle.inode.proofs.ComposingLaws.{committed_byte, written_ends}
 use Rattle.inode.proofs.EdgeLaws.{list_of_write}
 use Rattle.inode.proofs.RoomLaws.{empty_room, same_room}
 use Rattle.records.proofs.FileLaws.{written_first}
+use Rattle.blocktree.specs.declared.tree.BlockTree.{BlockTree}
+use Rattle.images.specs.Roots.{free_inode}
+use Rattle.inode.specs.Bases.{IsBased, anew, over}
+use Rattle.layout.specs.declared.kind.Kind.TheVariants as kinds
+use Rattle.records.proofs.DetailLaws.{ends_of, link_in}
 use Rattle.records.proofs.vacancy.new_link.Goals as goal
 
+-- a tree that is based on an inode without pointers has no settled blocks
+no_blocks : (t : BlockTree) → IsBased free_inode t → t.count ≡ 0
+no_blocks t (anew none) = none
+no_blocks t (over pointers body has) = absurd (cc)
+
 pub returns-clause-object : goal.returns-clause-object
-returns-clause-object g c = λ disk shows inodes settled.
+returns-clause-object g c = λ detail disk shows inodes settled.
     let text = c.args.text.now in
     let old = c.empty-file.result in
     let new = c.commit.new.self in
@@ -31,8 +40,8 @@ returns-clause-object g c = λ disk shows inodes settled.
       kind = tt;
       mode = omega (arith, c.in-Some.ensures.value);
       fits = λ s. (c.in-Some.ensures.value, refl, omega (arith, many, some), omega (arith, many, short));
-      stands = ap (λ (l : List ℕ). Some (link_node l)) (sym bytes);
-      ends = written_ends (byte_at disk old) (byte_at disk new) old.size new.size 0 text size ends byte;
+      stands = link_in detail inodes (record { kind = kinds.Link; mode = c.in-Some.mode; links = 1; size = new.size; block = file_block disk new }) text bytes;
+      ends = ends_of detail disk new (written_ends (byte_at disk old) (byte_at disk new) old.size new.size 0 text size ends byte);
       base = c.commit.ensures.base settled (c.prepare_write.ensures.same.base settled (c.empty-file.ensures.base settled));
     }
 
@@ -46,5 +55,6 @@ returns-clause-room g c =
     omega (arith, none, same, stores, one)
 
 pub returns-in-Err-Damaged-clause-damaged : goal.returns-in-Err-Damaged-clause-damaged
-returns-in-Err-Damaged-clause-damaged g c = λ disk shows is sound.
-    c.in-Err-Damaged.ensures.damaged disk shows (search rules) (λ i. sound c.empty-file.result.tree i c.empty-file.ensures.base)
+returns-in-Err-Damaged-clause-damaged g c = λ disk shows is.
+    let t = c.empty-file.result.tree in
+    c.in-Err-Damaged.ensures.damaged disk shows (search rules) (λ i part unchanged lt. absurd (omega (arith, lt, t.fits.1, no_blocks t (c.empty-file.ensures.base free_inode))))

@@ -14,7 +14,7 @@ loop-body-init g c = record {
   geometry = refl;
   shorter = search rules;
   few = omega arith;
-  leads = λ detail disk settled v w changes shows has readable leads. (v, has, record { more = changes; leads = leads; length_is = omega arith }, omega arith, λ base. omega arith);
+  leads = λ detail disk settled v w changes shows has leads. (v, has, record { more = changes; leads = leads; length_is = omega arith }, omega arith, λ base. omega arith);
   held = λ bodies left holds. (bodies, holds);
 }
 
@@ -24,15 +24,15 @@ loop-body-preserved g c = record {
   geometry = c.in_ok-cost-in-Open.ensures.geometry ∙ c.loop-body.invariant.geometry;
   shorter = omega (arith, c.loop-body.invariant.shorter, ap length c.in-Open.ensures.1, length-append (record_of c.in-Open.body.now) c.in-Open.after.now);
   few = omega (arith, c.loop-body.invariant.few, c.in_ok-cost-in-Open.ensures.few, ap length c.in-Open.ensures.1, length-append (record_of c.in-Open.body.now) c.in-Open.after.now);
-  leads = λ detail disk settled v w changes shows has readable leads.
+  leads = λ detail disk settled v w changes shows has leads.
       let read = c.loop-body.invariant.read in
       let count = g.B.Blocks.count c.args.blocks.now in
       let inodes = c.args.inodes.now.geometry.inodes in
       let sizes = c.loop-body.invariant.geometry in
-      let back = c.loop-body.invariant.leads detail disk settled v w changes shows has readable leads in
+      let back = c.loop-body.invariant.leads detail disk settled v w changes shows has leads in
       let next = one_more detail inodes c.args.records.now c.loop-body.rest.now changes back.0 w back.2 c.in-Open.body.now c.in-Open.after.now c.in-Open.ensures.0 c.in-Open.ensures.1 in
       let did = c.in_ok-cost-in-Open.ensures.replays detail disk settled back.0 next.0.change (read.same disk shows)
-      (subst (λ (n : ℕ). HasVolumeIn detail n disk settled c.loop-body.inodes back.0) (sym read.count) back.1) readable next.0.spells
+      (subst (λ (n : ℕ). HasVolumeIn detail n disk settled c.loop-body.inodes back.0) (sym read.count) back.1) next.0.spells
       (subst (λ (s : Sizes). AppliesIn detail s.inodes back.0 next.0.change) (sym sizes) next.0.applies) in (
         applied next.0.change back.0,
         subst (λ (n : ℕ). HasVolumeIn detail n disk settled c.replay_record.new.inodes (applied next.0.change back.0)) read.count did.1,
@@ -46,8 +46,8 @@ loop-body-preserved g c = record {
 }
 
 pub returns-in-Closed-clause-replays : goal.returns-in-Closed-clause-replays
-returns-in-Closed-clause-replays g c detail disk settled v w changes shows has readable leads =
-    let back = c.loop-body.invariant.leads detail disk settled v w changes shows has readable leads in
+returns-in-Closed-clause-replays g c detail disk settled v w changes shows has leads =
+    let back = c.loop-body.invariant.leads detail disk settled v w changes shows has leads in
     let done = all_done detail c.args.inodes.now.geometry.inodes c.args.records.now c.loop-body.rest.now changes back.0 w back.2 leads.held c.in-Closed.ensures in (
       record { held = done.0; cost = omega (arith, back.3, ap (costs back.0) done.2) },
       subst (λ (u : Volume). HasVolumeIn detail (g.B.Blocks.count c.args.blocks.now) disk settled c.loop-body.inodes u) (sym done.1) back.1,
@@ -58,17 +58,17 @@ pub returns-in-Closed-clause-holds : goal.returns-in-Closed-clause-holds
 returns-in-Closed-clause-holds g c = c.loop-body.invariant.held [] (length c.loop-body.rest.now) (none_behind c.loop-body.rest.now c.in-Closed.ensures)
 
 pub returns-in-Malformed-clause-replays : goal.returns-in-Malformed-clause-replays
-returns-in-Malformed-clause-replays g c detail disk settled v w changes shows has readable leads =
-    let back = c.loop-body.invariant.leads detail disk settled v w changes shows has readable leads in
+returns-in-Malformed-clause-replays g c detail disk settled v w changes shows has leads =
+    let back = c.loop-body.invariant.leads detail disk settled v w changes shows has leads in
     absurd (c.in-Malformed.ensures (bodies_of back.2.more) back.2.leads.held)
 
 pub returns-in_err-cost-in-Open-clause-replays : goal.returns-in_err-cost-in-Open-clause-replays
-returns-in_err-cost-in-Open-clause-replays g c detail disk settled v w changes shows has readable leads =
+returns-in_err-cost-in-Open-clause-replays g c detail disk settled v w changes shows has leads =
     let read = c.loop-body.invariant.read in
     let inodes = c.args.inodes.now.geometry.inodes in
-    let back = c.loop-body.invariant.leads detail disk settled v w changes shows has readable leads in
+    let back = c.loop-body.invariant.leads detail disk settled v w changes shows has leads in
     let next = one_more detail inodes c.args.records.now c.loop-body.rest.now changes back.0 w back.2 c.in-Open.body.now c.in-Open.after.now c.in-Open.ensures.0 c.in-Open.ensures.1 in
     let why = c.in_err-cost-in-Open.ensures.replays detail disk settled back.0 next.0.change (read.same disk shows)
-    (subst (λ (n : ℕ). HasVolumeIn detail n disk settled c.loop-body.inodes back.0) (sym read.count) back.1) readable next.0.spells
+    (subst (λ (n : ℕ). HasVolumeIn detail n disk settled c.loop-body.inodes back.0) (sym read.count) back.1) next.0.spells
     (subst (λ (s : Sizes). AppliesIn detail s.inodes back.0 next.0.change) (sym c.loop-body.invariant.geometry) next.0.applies) in
     passed _ c.from_residual.result c.in_err-cost-in-Open.field-0.0 (search rules) why

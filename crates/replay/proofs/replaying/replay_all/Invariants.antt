@@ -5,7 +5,6 @@ use Rattle.model.specs.Records.{costs}
 use Rattle.model.specs.Volumes.{Volume}
 use Rattle.buffers.specs.Reads.{HasOnlyRead}
 use Rattle.images.specs.Soundness.{Detail}
-use Rattle.inofile.specs.Settled.{CanRead}
 use Rattle.oplog.specs.SavedLog.{HoldsLeaving}
 use Rattle.replay.specs.Volumes.{HasVolumeIn, LeadTo, RaisesRoom}
 use Rattle.replay.specs.declared.costs.TheConstants.{MOST_COST}
@@ -19,7 +18,7 @@ invariant-loop-body g l = record {
   shorter : length l.rest ≤ length l.records;
   few : l.cost + MOST_COST * length l.rest ≤ MOST_COST * length l.records;
   leads : (detail : Detail) (disk : ℕ → List ℕ) (settled : ℕ → Inode) (v w : Volume) (changes : List Change) → g.B.Blocks.Shows l.fn.blocks disk
-      → HasVolumeIn detail (g.B.Blocks.count l.fn.blocks) disk settled l.fn.inodes v → CanRead detail disk settled → LeadTo detail l.fn.inodes.geometry.inodes l.records changes v w
+      → HasVolumeIn detail (g.B.Blocks.count l.fn.blocks) disk settled l.fn.inodes v → LeadTo detail l.fn.inodes.geometry.inodes l.records changes v w
       → (now : Volume) × HasVolumeIn detail (g.B.Blocks.count l.fn.blocks) disk settled l.inodes now
       × (left : IsLeft detail l.fn.inodes.geometry.inodes l.records l.rest changes now w)
       × (l.cost + costs now left.more ≡ costs v changes)

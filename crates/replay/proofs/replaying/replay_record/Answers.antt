@@ -7,13 +7,13 @@ use Rattle.model.specs.Room.{cost}
 use Rattle.model.specs.declared.errno.Errno.{Errno}
 use Rattle.blocktree.specs.declared.error.ReadError.{ReadError}
 use Rattle.blocktree.specs.declared.error.ReadError.TheVariants.{Damaged, Device, NoMemory}
-use Rattle.images.specs.Replaying.{LeavesPlace}
+use Rattle.images.specs.Replaying.{LeavesPlace, ReadsIn}
 use Rattle.inofile.specs.Volumes.{IsVolumeIn}
 use Rattle.inofile.proofs.RoomLaws.{needs_room}
 use Rattle.records.specs.Failures.{told}
 use Rattle.records.specs.Obstacles.{IsObstacle}
 use Rattle.records.specs.Preparing.{IsKnownVolume, IsVolumeFor}
-use Rattle.replay.proofs.GraphLaws.{applies_so, applies_within, known_after, volume_for}
+use Rattle.replay.proofs.GraphLaws.{applies_so, applies_within, known_after, reads_in, volume_for}
 use Rattle.records.specs.Prepared.{DoesIn}
 use Rattle.records.specs.Standing.{StandsIn}
 use Rattle.records.specs.declared.failure.Failure.{Failure}
@@ -23,7 +23,7 @@ use Rattle.replay.proofs.Errors.{undamaged}
 use Rattle.replay.proofs.replaying.replay_record.Goals as goal
 
 pub returns-in-Err-Refused-clause-replays : goal.returns-in-Err-Refused-clause-replays
-returns-in-Err-Refused-clause-replays g c detail disk settled v change shows has readable spells applies =
+returns-in-Err-Refused-clause-replays g c detail disk settled v change shows has spells applies =
     let n = c.args.inodes.now.geometry.inodes in
     let logged = change_of c.in-Some.logged in
     let same : logged ≡ change = c.in-Some.ensures.only change spells.is spells.spelled in
@@ -34,14 +34,16 @@ returns-in-Err-Refused-clause-replays g c detail disk settled v change shows has
     (subst (λ (r : Result Prepared Failure). IfOk (told r) (λ q. IfErr q (IsObstacle n v logged))) is bars) (subst (Applies n v) (sym same) (applies_so detail n v change applies)))
 
 pub returns-in-Err-Read-clause-replays : goal.returns-in-Err-Read-clause-replays
-returns-in-Err-Read-clause-replays g c detail disk settled v change shows has readable spells applies =
+returns-in-Err-Read-clause-replays g c detail disk settled v change shows has spells applies =
+    let same : change_of c.in-Some.logged ≡ change = c.in-Some.ensures.only change spells.is spells.spelled in
     let failed = c.in-Err-Read.is ∙ ap (λ (f : Failure). Err f) c.in-Err-Read.field-0-is in
     subst (λ (e : ReadError). (e ≡ NoMemory) ⊎ (e ≡ Device)) (cc) (undamaged (λ (_ : Result Prepared Errno). Unit {0}) (Err c.in-Err-Read.error) refl (λ is.
-    c.prepare.ensures.damaged {detail = detail} disk settled v (record { shows = shows; volume = has.memory }) readable
+    c.prepare.ensures.damaged {detail = detail} disk settled v (record { shows = shows; volume = has.memory })
+    (subst (ReadsIn detail v) (sym same) (reads_in detail c.args.inodes.now.geometry.inodes v change applies))
     (subst (λ (r : Result Prepared Failure). IsErrOf (told r) Damaged) (sym failed) is)))
 
 pub returns-clause-replays : goal.returns-clause-replays
-returns-clause-replays g c detail disk settled v change shows has readable spells applies =
+returns-clause-replays g c detail disk settled v change shows has spells applies =
     let n = c.args.inodes.now.geometry.inodes in
     let count = g.B.Blocks.count c.args.blocks.now in
     let logged = change_of c.in-Some.logged in
@@ -74,11 +76,12 @@ returns-clause-applies g c detail disk settled v shows has =
     let does = subst (λ (r : Result Prepared Failure). IfOk r (λ x. DoesIn detail disk settled c.prepare.new.inodes v x logged)) c.in-Ok.is (c.prepare.ensures.does disk settled v stands) in
     let can = subst (λ (r : Result Prepared Failure). IfOk r (λ _. Applies n v logged)) c.in-Ok.is (c.prepare.ensures.applies disk settled v stands) in
     let place = subst (λ (r : Result Prepared Failure). IfOk r (λ _. LeavesPlace v logged)) c.in-Ok.is (c.prepare.ensures.place disk settled v stands) in
+    let reads = subst (λ (r : Result Prepared Failure). IfOk r (λ _. ReadsIn detail v logged)) c.in-Ok.is (c.prepare.ensures.reads disk settled v stands) in
     let count = g.B.Blocks.count c.args.blocks.now in
     let memory = subst (λ (k : ℕ). IsVolumeIn detail k disk settled c.prepare.new.inodes v) looks.reads.count kept.volume in (
       logged,
       record { is = c.in-Some.ensures.found.0; spelled = c.in-Some.ensures.found.1 },
-      applies_within detail n v logged can place,
+      applies_within detail n v logged can place reads,
       record {
         memory = c.commit.ensures.volume detail count disk settled v logged memory does;
         volume = subst (λ (s : Sizes). IsKnownVolume detail s.inodes (applied logged v)) (sym (c.commit.ensures.geometry ∙ looks.geometry))

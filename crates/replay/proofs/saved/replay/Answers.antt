@@ -7,22 +7,22 @@ use Rattle.replay.proofs.Errors.{passed}
 use Rattle.replay.proofs.saved.replay.Goals as goal
 
 pub returns-in_err-nameless-clause-replays : goal.returns-in_err-nameless-clause-replays
-returns-in_err-nameless-clause-replays g c detail disk settled v w changes nvram shows has readable tells saves =
+returns-in_err-nameless-clause-replays g c detail disk settled v w changes nvram shows has tells saves =
     passed _ c.from_residual.result c.in_err-nameless.field-0.0 (search rules) (c.in_err-nameless.ensures.counts detail disk settled v shows has)
 
 pub returns-in_err-log-clause-replays : goal.returns-in_err-log-clause-replays
-returns-in_err-log-clause-replays g c detail disk settled v w changes nvram shows has readable tells saves =
+returns-in_err-log-clause-replays g c detail disk settled v w changes nvram shows has tells saves =
     let told = c.in_ok-nameless.ensures in
     let before = told.counts detail disk settled v shows has in
     passed _ c.from_residual-in_err-log.result c.in_err-log.field-0.0 (search rules)
-    (c.in_err-log.ensures.replays detail disk settled v w changes nvram (told.reads.same disk shows) (subst (λ (k : ℕ). HasVolumeIn detail k disk settled c.count_nameless.new.inodes v) (sym told.reads.count) before.1) readable tells
+    (c.in_err-log.ensures.replays detail disk settled v w changes nvram (told.reads.same disk shows) (subst (λ (k : ℕ). HasVolumeIn detail k disk settled c.count_nameless.new.inodes v) (sym told.reads.count) before.1) tells
     (subst (λ (s : Sizes). SavesRecordsIn detail s.inodes nvram c.args.saved changes v w) (sym told.geometry) saves))
 
 pub returns-clause-replays : goal.returns-clause-replays
-returns-clause-replays g c detail disk settled v w changes nvram shows has readable tells saves =
+returns-clause-replays g c detail disk settled v w changes nvram shows has tells saves =
     let told = c.in_ok-nameless.ensures in
     let before = told.counts detail disk settled v shows has in
-    let end = c.in_ok-log.ensures.replays detail disk settled v w changes nvram (told.reads.same disk shows) (subst (λ (k : ℕ). HasVolumeIn detail k disk settled c.count_nameless.new.inodes v) (sym told.reads.count) before.1) readable tells
+    let end = c.in_ok-log.ensures.replays detail disk settled v w changes nvram (told.reads.same disk shows) (subst (λ (k : ℕ). HasVolumeIn detail k disk settled c.count_nameless.new.inodes v) (sym told.reads.count) before.1) tells
     (subst (λ (s : Sizes). SavesRecordsIn detail s.inodes nvram c.args.saved changes v w) (sym told.geometry) saves) in
     (end.0, subst (λ (k : ℕ). HasVolumeIn detail k disk settled c.replay_records.new.inodes (without_nameless w)) told.reads.count end.1, omega (arith, before.0, end.2, c.from.ensures))
 
@@ -30,11 +30,11 @@ pub returns-clause-holds : goal.returns-clause-holds
 returns-clause-holds g c nvram tells = c.in_ok-log.ensures.holds nvram tells
 
 pub returns-clause-room : goal.returns-clause-room
-returns-clause-room g c detail disk settled v w changes nvram shows has readable tells saves none =
+returns-clause-room g c detail disk settled v w changes nvram shows has tells saves none =
     let told = c.in_ok-nameless.ensures in
     let s = c.args.inodes.now in
     let before = told.counts detail disk settled v shows has in
     let stands = subst (λ (k : ℕ). HasVolumeIn detail k disk settled c.count_nameless.new.inodes v) (sym told.reads.count) before.1 in
     let leads = subst (λ (s : Sizes). SavesRecordsIn detail s.inodes nvram c.args.saved changes v w) (sym told.geometry) saves in
-    let end = c.in_ok-log.ensures.replays detail disk settled v w changes nvram (told.reads.same disk shows) stands readable tells leads in
+    let end = c.in_ok-log.ensures.replays detail disk settled v w changes nvram (told.reads.same disk shows) stands tells leads in
     omega (arith, end.3 v, before.0, end.2, c.from.ensures, needs_room v v s c.count_nameless.new.inodes told.geometry told.needs, clean_room s v none s.geometry.inodes)

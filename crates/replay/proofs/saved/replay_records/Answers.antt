@@ -9,53 +9,53 @@ use Rattle.replay.proofs.SavedLaws.{costs_joined, joined_bodies, lead_on}
 use Rattle.replay.proofs.saved.replay_records.Goals as goal
 
 pub returns-in_err-first-clause-replays : goal.returns-in_err-first-clause-replays
-returns-in_err-first-clause-replays g c detail disk settled v w changes nvram shows has readable tells saves =
+returns-in_err-first-clause-replays g c detail disk settled v w changes nvram shows has tells saves =
     let n = c.args.inodes.now.geometry.inodes in
     let both = lead_on detail n nvram c.args.saved changes v w tells saves in
     let leads = subst (λ (l : List ℕ). LeadTo detail n l both.one v both.mid) (sym c.first_records.ensures.records) both.leads in
-    passed _ c.from_residual.result c.in_err-first.field-0.0 (search rules) (c.in_err-first.ensures.replays detail disk settled v both.mid both.one shows has readable leads)
+    passed _ c.from_residual.result c.in_err-first.field-0.0 (search rules) (c.in_err-first.ensures.replays detail disk settled v both.mid both.one shows has leads)
 
 pub returns-in_err-second-clause-replays : goal.returns-in_err-second-clause-replays
-returns-in_err-second-clause-replays g c detail disk settled v w changes nvram shows has readable tells saves =
+returns-in_err-second-clause-replays g c detail disk settled v w changes nvram shows has tells saves =
     let n = c.args.inodes.now.geometry.inodes in
     let both = lead_on detail n nvram c.args.saved changes v w tells saves in
     let leads = subst (λ (l : List ℕ). LeadTo detail n l both.one v both.mid) (sym c.first_records.ensures.records) both.leads in
     let read = c.in_ok-first.ensures.reads in
-    let mid = c.in_ok-first.ensures.replays detail disk settled v both.mid both.one shows has readable leads in
+    let mid = c.in_ok-first.ensures.replays detail disk settled v both.mid both.one shows has leads in
     let leads_on = subst (λ (s : Sizes). LeadTo detail s.inodes c.second_records.result.now both.two both.mid w) (sym c.in_ok-first.ensures.geometry)
     (subst (λ (l : List ℕ). LeadTo detail n l both.two both.mid w) (sym c.second_records.ensures.records) both.leads_on) in
     passed _ c.from_residual-in_err-second.result c.in_err-second.field-0.0 (search rules)
     (c.in_err-second.ensures.replays detail disk settled both.mid w both.two (read.same disk shows)
-    (subst (λ (k : ℕ). HasVolumeIn detail k disk settled c.replay_all.new.inodes both.mid) (sym read.count) mid.1) readable leads_on)
+    (subst (λ (k : ℕ). HasVolumeIn detail k disk settled c.replay_all.new.inodes both.mid) (sym read.count) mid.1) leads_on)
 
 pub returns-in_err-drop_nameless-clause-replays : goal.returns-in_err-drop_nameless-clause-replays
-returns-in_err-drop_nameless-clause-replays g c detail disk settled v w changes nvram shows has readable tells saves =
+returns-in_err-drop_nameless-clause-replays g c detail disk settled v w changes nvram shows has tells saves =
     let n = c.args.inodes.now.geometry.inodes in
     let both = lead_on detail n nvram c.args.saved changes v w tells saves in
     let leads = subst (λ (l : List ℕ). LeadTo detail n l both.one v both.mid) (sym c.first_records.ensures.records) both.leads in
     let read = c.in_ok-first.ensures.reads in
     let again = c.in_ok-second.ensures.reads in
-    let mid = c.in_ok-first.ensures.replays detail disk settled v both.mid both.one shows has readable leads in
+    let mid = c.in_ok-first.ensures.replays detail disk settled v both.mid both.one shows has leads in
     let leads_on = subst (λ (s : Sizes). LeadTo detail s.inodes c.second_records.result.now both.two both.mid w) (sym c.in_ok-first.ensures.geometry)
     (subst (λ (l : List ℕ). LeadTo detail n l both.two both.mid w) (sym c.second_records.ensures.records) both.leads_on) in
     let end = c.in_ok-second.ensures.replays detail disk settled both.mid w both.two (read.same disk shows)
-    (subst (λ (k : ℕ). HasVolumeIn detail k disk settled c.replay_all.new.inodes both.mid) (sym read.count) mid.1) readable leads_on in
+    (subst (λ (k : ℕ). HasVolumeIn detail k disk settled c.replay_all.new.inodes both.mid) (sym read.count) mid.1) leads_on in
     passed _ c.from_residual-in_err-drop_nameless.result c.in_err-drop_nameless.field-0.0 (search rules)
     (c.in_err-drop_nameless.ensures.drops detail disk settled w (again.same disk (read.same disk shows))
     (subst (λ (k : ℕ). HasVolumeIn detail k disk settled c.replay_all-2.new.inodes w) (sym again.count) end.1))
 
 pub returns-clause-replays : goal.returns-clause-replays
-returns-clause-replays g c detail disk settled v w changes nvram shows has readable tells saves =
+returns-clause-replays g c detail disk settled v w changes nvram shows has tells saves =
     let n = c.args.inodes.now.geometry.inodes in
     let both = lead_on detail n nvram c.args.saved changes v w tells saves in
     let leads = subst (λ (l : List ℕ). LeadTo detail n l both.one v both.mid) (sym c.first_records.ensures.records) both.leads in
     let read = c.in_ok-first.ensures.reads in
     let again = c.in_ok-second.ensures.reads in
-    let mid = c.in_ok-first.ensures.replays detail disk settled v both.mid both.one shows has readable leads in
+    let mid = c.in_ok-first.ensures.replays detail disk settled v both.mid both.one shows has leads in
     let leads_on = subst (λ (s : Sizes). LeadTo detail s.inodes c.second_records.result.now both.two both.mid w) (sym c.in_ok-first.ensures.geometry)
     (subst (λ (l : List ℕ). LeadTo detail n l both.two both.mid w) (sym c.second_records.ensures.records) both.leads_on) in
     let end = c.in_ok-second.ensures.replays detail disk settled both.mid w both.two (read.same disk shows)
-    (subst (λ (k : ℕ). HasVolumeIn detail k disk settled c.replay_all.new.inodes both.mid) (sym read.count) mid.1) readable leads_on in
+    (subst (λ (k : ℕ). HasVolumeIn detail k disk settled c.replay_all.new.inodes both.mid) (sym read.count) mid.1) leads_on in
     let stands_on = subst (λ (k : ℕ). HasVolumeIn detail k disk settled c.replay_all-2.new.inodes w) (sym again.count) end.1 in
     let swept = c.in_ok-drop_nameless.ensures.drops detail disk settled w (again.same disk (read.same disk shows)) stands_on in
     let first = subst (λ (l : List ℕ). HoldsLeaving l (bodies_of both.one) c.in_ok-first.first.left) c.first_records.ensures.records mid.0.held in

@@ -51,8 +51,8 @@ pub returns-in-Ok-clause-found : goal.returns-in-Ok-clause-found
 returns-in-Ok-clause-found g c = (refl, refl, c.in-Ok.ensures.log)
 
 pub returns-in-Err-clause-faultless : goal.returns-in-Err-clause-faultless
-returns-in-Err-clause-faultless g c honest of changes under readable =
+returns-in-Err-clause-faultless g c honest of changes under =
     let m = g.S.Station.meaning c.args.station in
     let i = m.seen in
     let shows = c.new-blocks.ensures.shows (blocks_of i.disk) honest (λ place within. refl) in
-    c.in-Err.ensures.faultless (blocks_of i.disk) i.nvram changes shows of.saved under readable
+    c.in-Err.ensures.faultless (blocks_of i.disk) i.nvram changes shows of.saved under

@@ -4,7 +4,7 @@ use Rattle.images.specs.Soundness.{by_sizes}
 use Rattle.loading.specs.Images.{inodes_of}
 use Rattle.records.specs.Preparing.{HasGraph}
 use Rattle.system.specs.Opening.{HoldsSome}
-use Rattle.system.proofs.OpenLaws.{can_read, grammar_read, has_image, has_volume, not_damaged, read_refused, saves, saves_within, stands_by_sizes}
+use Rattle.system.proofs.OpenLaws.{grammar_read, has_image, has_volume, not_damaged, read_refused, saves, saves_within, stands_by_sizes}
 use Rattle.system.proofs.opening.read_image.Goals as goal
 
 pub returns-in_err-check_snapshots-clause-has : goal.returns-in_err-check_snapshots-clause-has
@@ -30,7 +30,7 @@ returns-in_err-log-clause-has g c disk nvram first last snapshots changes shows 
     read_refused _ c.from_residual-in_err-log.result c.in_err-log.field-0.0 c.from_residual-in_err-log.ensures.1
     (c.in_err-log.ensures.replays _ disk (inodes_of (whole disk r).active) first last changes nvram (c.in_ok-map.ensures.reads.same disk (tested.same disk shows))
     (has_volume disk r nvram first last snapshots changes c.args.saved c.requires.half c.requires.generation holds inodes c.in_ok-map.field-0.map (g.B.Blocks.count c.load.new.blocks) geometry count loaded)
-    tt tells (saves disk r nvram first last snapshots changes c.args.saved c.requires.half c.requires.generation holds inodes geometry))
+    tells (saves disk r nvram first last snapshots changes c.args.saved c.requires.half c.requires.generation holds inodes geometry))
 
 pub returns-clause-has : goal.returns-clause-has
 returns-clause-has g c disk nvram first last snapshots changes shows tells holds =
@@ -45,11 +45,11 @@ returns-clause-has g c disk nvram first last snapshots changes shows tells holds
     let has = has_volume disk r nvram first last snapshots changes c.args.saved c.requires.half c.requires.generation holds inodes c.in_ok-map.field-0.map (g.B.Blocks.count c.load.new.blocks) geometry count loaded in
     let saved = saves disk r nvram first last snapshots changes c.args.saved c.requires.half c.requires.generation holds inodes geometry in
     let under = inodes_of (whole disk r).active in
-    let did = c.in_ok-log.ensures.replays _ disk under first last changes nvram shown has tt tells saved in
+    let did = c.in_ok-log.ensures.replays _ disk under first last changes nvram shown has tells saved in
     has_image disk r nvram first last snapshots changes c.args.saved c.requires.half c.requires.generation holds inodes
     (record { inodes = c.replay.new.inodes; map = c.in_ok-map.field-0.map; log = c.in_ok-log.field-0.log; pledged = c.in_ok-log.field-0.pledged })
     (g.B.Blocks.count c.load.new.blocks) (c.in_ok-log.ensures.geometry ∙ geometry) count loaded did.0 did.1 did.2
-    (c.in_ok-log.ensures.room _ disk under first last changes nvram shown has tt tells saved c.in_ok-map.ensures.clean) geometry
+    (c.in_ok-log.ensures.room _ disk under first last changes nvram shown has tells saved c.in_ok-map.ensures.clean) geometry
 
 pub returns-clause-log : goal.returns-clause-log
 returns-clause-log g c nvram tells =
@@ -58,17 +58,17 @@ returns-clause-log g c nvram tells =
 -- ---- without a fault
 
 pub returns-in_err-check_snapshots-clause-faultless : goal.returns-in_err-check_snapshots-clause-faultless
-returns-in_err-check_snapshots-clause-faultless g c disk nvram changes shows tells under readable =
+returns-in_err-check_snapshots-clause-faultless g c disk nvram changes shows tells under =
     not_damaged _ c.from_residual.result c.in_err-check_snapshots.field-0.0 c.from_residual.ensures.1
     (λ damaged. c.in_err-check_snapshots.ensures.damaged disk shows damaged under.snapshots)
 
 pub returns-in_err-map-clause-faultless : goal.returns-in_err-map-clause-faultless
-returns-in_err-map-clause-faultless g c disk nvram changes shows tells under readable =
+returns-in_err-map-clause-faultless g c disk nvram changes shows tells under =
     read_refused _ c.from_residual-in_err-map.result c.in_err-map.field-0.0 c.from_residual-in_err-map.ensures.1
     (c.in_err-map.ensures.loads disk (c.in_ok-check_snapshots.ensures.reads.same disk shows) (grammar_read disk c.args.root.now nvram changes under) under.readable)
 
 pub returns-in_err-log-clause-faultless : goal.returns-in_err-log-clause-faultless
-returns-in_err-log-clause-faultless g c disk nvram changes shows tells under readable =
+returns-in_err-log-clause-faultless g c disk nvram changes shows tells under =
     let r = c.args.root.now in
     let inodes = c.in_ok-map.field-0.inodes in
     let geometry = c.in_ok-map.ensures.geometry in
@@ -82,5 +82,4 @@ returns-in_err-log-clause-faultless g c disk nvram changes shows tells under rea
     read_refused _ c.from_residual-in_err-log.result c.in_err-log.field-0.0 c.from_residual-in_err-log.ensures.1
     (c.in_err-log.ensures.replays by_sizes disk (inodes_of (whole disk r).active) under.log.first under.log.last changes nvram (c.in_ok-map.ensures.reads.same disk (tested.same disk shows))
     (stands_by_sizes disk r nvram changes under c.args.saved c.requires.half c.requires.generation inodes geometry c.in_ok-map.field-0.map (g.B.Blocks.count c.load.new.blocks) count loaded graph)
-    (can_read disk r nvram changes under (c.faultless_trees_hold_graphs.ensures.readable disk r under.active under.readable readable))
     tells (saves_within disk r nvram changes under c.args.saved c.requires.half c.requires.generation inodes geometry))

@@ -1,5 +1,3 @@
-use Rattle.std.proofs.Common.{subst, ℕ}
-use Rattle.buffers.specs.Disks.{ShowsDisk, disk_with_sector}
 use Rattle.buffers.proofs.DiskLaws.{sector_stored}
 use Rattle.buffers.proofs.cache.Buffers.store_sector.Goals as goal
 

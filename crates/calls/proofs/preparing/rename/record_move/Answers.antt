@@ -11,7 +11,7 @@ use Rattle.calls.proofs.preparing.rename.record_move.Goals as goal
 -- what is no name isn't there
 pub returns-in_default : goal.returns-in_default
 returns-in_default g c = refuses no_look refl (λ disk settled v table stands volume mounted apart. elim (some_or_none (entries v c.args.parent c.args.name.items)) [
-  | inl there ↦ absurd (c.in_default.ensures.none (volume.graph.names c.args.parent c.args.name.items there))
+  | inl there ↦ absurd (c.in_default.ensures.none (volume.graph.naming.names c.args.parent c.args.name.items there))
   | inr none ↦ none
 ])
 

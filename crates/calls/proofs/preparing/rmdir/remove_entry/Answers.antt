@@ -3,7 +3,7 @@ use Rattle.calls.proofs.PrepareSteps.{follows, refuses, stops}
 use Rattle.calls.proofs.preparing.rmdir.remove_entry.Goals as goal
 
 pub returns-in_err-found : goal.returns-in_err-found
-returns-in_err-found g c = stops c.from_residual.result c.from_residual.ensures.1 c.in_err-found.ensures.looks (λ disk settled v stands. c.in_err-found.ensures.damaged disk settled v stands tt)
+returns-in_err-found g c = stops c.from_residual.result c.from_residual.ensures.1 c.in_err-found.ensures.looks (λ disk settled v stands. c.in_err-found.ensures.damaged disk settled v stands)
 
 pub returns-in-Directory : goal.returns-in-Directory
 returns-in-Directory g c = follows c.in_ok-found.ensures.looks c.remove_name.ensures

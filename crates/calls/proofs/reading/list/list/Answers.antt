@@ -11,7 +11,7 @@ returns-in_err-number g c = passes _ c.from_residual.result c.from_residual.ensu
 
 pub returns-in_err-found : goal.returns-in_err-found
 returns-in_err-found g c =
-    stops_later c.from_residual-in_err-found.result c.from_residual-in_err-found.ensures.1 c.in_ok-number.ensures.looks c.in_err-found.ensures.looks (λ disk settled v stands. c.in_err-found.ensures.damaged disk settled v stands tt)
+    stops_later c.from_residual-in_err-found.result c.from_residual-in_err-found.ensures.1 c.in_ok-number.ensures.looks c.in_err-found.ensures.looks (λ disk settled v stands. c.in_err-found.ensures.damaged disk settled v stands)
 
 pub returns-then-not-found : goal.returns-then-not-found
 returns-then-not-found g c = refuses (looks_more c.in_ok-number.ensures.looks c.in_ok-found.ensures.looks) refl (λ disk settled v table stands volume.
@@ -23,7 +23,7 @@ returns-then-not-found g c = refuses (looks_more c.in_ok-number.ensures.looks c.
 pub returns-in_err-names : goal.returns-in_err-names
 returns-in_err-names g c =
     stops_later c.from_residual-in_err-names.result c.from_residual-in_err-names.ensures.1
-    (looks_more c.in_ok-number.ensures.looks c.in_ok-found.ensures.looks) c.in_err-names.ensures.looks (λ disk settled v stands. c.in_err-names.ensures.damaged disk settled v stands tt)
+    (looks_more c.in_ok-number.ensures.looks c.in_ok-found.ensures.looks) c.in_err-names.ensures.looks (λ disk settled v stands. c.in_err-names.ensures.damaged disk settled v stands)
 
 pub returns : goal.returns
 returns g c = grants (looks_more (looks_more c.in_ok-number.ensures.looks c.in_ok-found.ensures.looks) c.in_ok-names.ensures.looks) (λ disk settled v table stands volume.

@@ -11,7 +11,7 @@ returns-in_err-number g c = passes _ c.from_residual.result c.from_residual.ensu
 
 pub returns-in_err-found : goal.returns-in_err-found
 returns-in_err-found g c =
-    stops_later c.from_residual-in_err-found.result c.from_residual-in_err-found.ensures.1 c.in_ok-number.ensures.looks c.in_err-found.ensures.looks (λ disk settled v stands. c.in_err-found.ensures.damaged disk settled v stands tt)
+    stops_later c.from_residual-in_err-found.result c.from_residual-in_err-found.ensures.1 c.in_ok-number.ensures.looks c.in_err-found.ensures.looks (λ disk settled v stands. c.in_err-found.ensures.damaged disk settled v stands)
 
 pub returns-in_err-text-in-Link : goal.returns-in_err-text-in-Link
 returns-in_err-text-in-Link g c =

@@ -1,7 +1,8 @@
-use Rattle.std.proofs.Common.{rules, ◌+◌, ◌≡◌, ◌∙◌, ℕ, ◌*◌, ◌/◌, ◌%◌, ◌≤◌, List, slice_index, ap, arith, ltb}
+use Rattle.std.proofs.Common.{rules, ◌+◌, ◌≡◌, ◌∙◌, ℕ, ◌*◌, ◌/◌, ◌%◌, ◌≤◌, ◌==◌, if◌then◌else◌, List, length, slice_index, ap, sym, arith, inl, inr, ltb}
 use Rattle.std.specs.BTreeMap as tree
-use Rattle.std.proofs.lemmas.Bool.{le-ltb, cond-false}
+use Rattle.std.proofs.lemmas.Bool.{cases_eq, cases_lt, cond-false, cond-true, eq-eqb, le-ltb, lt-ltb, ne_eqb}
 use Rattle.layout.specs.Bytes.{zeros}
+use Rattle.layout.proofs.ZeroLaws.{length-zeros}
 use Rattle.blocktree.specs.Places.{block_count}
 use Rattle.inode.specs.Files.{file_block}
 use Rattle.inode.specs.Room.{changed_below}
@@ -18,17 +19,34 @@ returns-clause-ends c = λ disk p past.
     c.set_size.ensures.blocks disk (p / 4096) ∙ cond-false (ltb (p / 4096) (block_count size)) (file_block disk c.loop-i.file (p / 4096)) (zeros 4096) (le-ltb (p / 4096) (block_count size) beyond) in
     ap (λ (b : List ℕ). slice_index b (p % 4096)) gone ∙ slice_index-zeros 4096 (p % 4096)
 
+put_whole : (i j : ℕ) (old : ℕ → List ℕ) (block after : List ℕ) → length block ≡ 4096 → after ≡ (if j == i then block else old j) → length (old j) ≡ 4096 → length after ≡ 4096
+put_whole i j old block after long is was = elim (cases_eq j i) [
+  | inl here ↦ ap length (is ∙ cond-true (j == i) block (old j) (eq-eqb j i here)) ∙ long
+  | inr other ↦ ap length (is ∙ cond-false (j == i) block (old j) (ne_eqb j i other)) ∙ was
+]
+
 pub loop-i-preserved : goal.loop-i-preserved
 loop-i-preserved c = record {
   fits = search rules;
   same = search rules;
   base = λ settled based. c.set_block.ensures.base settled (c.loop-i.invariant.base settled based);
+  whole = λ disk was j.
+      let now = c.loop-i.invariant.whole disk was in
+      put_whole c.in-Some.i j (file_block disk c.loop-i.file) c.in-Some.block (file_block disk c.set_block.new.self j) (ap length (sym c.bytes.ensures) ∙ c.is_whole.ensures) (c.set_block.ensures.blocks disk j) (now j);
   sound = λ blocks disk i is. c.set_block.ensures.sound blocks disk i (c.loop-i.invariant.sound blocks disk i is);
   few = λ n.
       let one = one_changed c.loop-i.file.tree c.set_block.new.self.tree c.in-Some.i c.set_block.ensures.only n in
       let len : tree.btree_map_len c.pop_first.new.self + 1 ≡ tree.btree_map_len c.loop-i.changed = c.in-Some.ensures.len in
       omega (arith, one, len, c.loop-i.invariant.few n);
 }
+
+pub returns-clause-whole : goal.returns-clause-whole
+returns-clause-whole c = λ disk was j.
+    let size = 4096 * c.from.result in
+    elim (cases_lt j (block_count size)) [
+      | inl lt ↦ ap length (c.set_size.ensures.blocks disk j ∙ cond-true (ltb j (block_count size)) (file_block disk c.loop-i.file j) (zeros 4096) (lt-ltb j (block_count size) lt)) ∙ c.loop-i.invariant.whole disk was j
+      | inr le ↦ ap length (c.set_size.ensures.blocks disk j ∙ cond-false (ltb j (block_count size)) (file_block disk c.loop-i.file j) (zeros 4096) (le-ltb j (block_count size) (omega (arith, le)))) ∙ length-zeros 4096
+    ]
 
 pub returns-clause-base : goal.returns-clause-base
 returns-clause-base c = λ settled based. c.set_size.ensures.base settled (c.loop-i.invariant.base settled based)

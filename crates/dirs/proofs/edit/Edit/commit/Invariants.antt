@@ -5,6 +5,7 @@ use Rattle.blocktree.specs.Trees.{HasRoom, KeepsSound}
 use Rattle.inode.specs.Bases.{KeepsBase}
 use Rattle.inode.specs.Files.{file_block}
 use Rattle.inode.specs.Room.{changed_below}
+use Rattle.dirs.specs.Edits.{AreWhole}
 use Rattle.dirs.proofs.edit.Edit.commit.Given as goal
 
 abbrev pub decreases-loop-i : goal.decreases-loop-i
@@ -16,6 +17,7 @@ invariant-loop-i l = record {
   same : (disk : ℕ → List ℕ) (i : ℕ) → unwrap_or (tree.get nat_cmp l.changed i) (file_block disk l.file i)
       ≡ unwrap_or (tree.get nat_cmp l.initial.changed i) (file_block disk l.initial.file i);
   base : KeepsBase l.initial.file.tree l.file.tree;
+  whole : (disk : ℕ → List ℕ) → AreWhole (file_block disk l.initial.file) → AreWhole (file_block disk l.file);
   sound : KeepsSound l.initial.file.tree l.file.tree;
   few : (n : ℕ) → changed_below l.file.tree n + tree.btree_map_len l.changed
       ≤ changed_below l.initial.file.tree n + tree.btree_map_len l.initial.changed;

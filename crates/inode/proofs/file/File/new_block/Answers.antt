@@ -1,13 +1,16 @@
 use Rattle.std.proofs.Common.{rules, length, inl, inr, arith, ◌∙◌, ap, sym, slice_index, List, ℕ, refl, ◌+◌, ◌-◌, ◌*◌, ◌≡◌, ◌≢◌}
-use Rattle.inode.specs.Edges.{IsPartlyWritten}
+use Rattle.images.specs.Edges.{IsPartlyWritten}
 use Rattle.buffers.specs.Positions.{with_bytes_at}
 use Rattle.inode.specs.Files.{file_block, byte_at}
 use Rattle.inode.proofs.BytePositions.{written_piece, byte_in_block}
+use Rattle.inode.proofs.ChangeLaws.{leaves_part}
 use Rattle.inode.proofs.file.File.new_block.Goals as goal
 
 pub returns-in_err-block-clause-damaged : goal.returns-in_err-block-clause-damaged
 returns-in_err-block-clause-damaged g c = λ disk shows bad sound.
-    c.in_err-block.ensures.damaged disk shows (search rules) (c.make_room.ensures.sound (g.B.Blocks.count c.args.blocks.now) disk c.args.i sound)
+    c.in_err-block.ensures.damaged disk shows (search rules)
+    (λ some. c.make_room.ensures.sound (g.B.Blocks.count c.args.blocks.now) disk c.args.i
+    (sound (leaves_part c.args.offset (length c.args.bytes.now) c.args.i c.requires.above c.requires.below (λ reached past. some (omega (arith, reached, past))))))
 
 pub returns-clause-read : goal.returns-clause-read
 returns-clause-read g c = λ disk shows part.

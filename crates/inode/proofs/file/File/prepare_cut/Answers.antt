@@ -1,4 +1,4 @@
-use Rattle.std.proofs.Common.{rules, arith, length, ◌≡◌, ◌≤◌, ◌⊎◌, ◌+◌, ◌∙◌, ap, slice_index, List, ℕ, refl, subst, sym, ◌/◌, ◌%◌}
+use Rattle.std.proofs.Common.{rules, arith, length, ◌≡◌, ◌<◌, ◌≤◌, ◌⊎◌, inl, inr, ◌+◌, ◌∙◌, ap, slice_index, List, [], ℕ, refl, subst, sym, ◌/◌, ◌%◌}
 use Rattle.blocktree.specs.Trees.{IsSoundAt}
 use Rattle.inode.specs.Files.{file_block, byte_at}
 use Rattle.inode.proofs.BytePositions.{cut_laid_hole, cut_laid_none, cut_laid_one, cut_same}
@@ -6,6 +6,10 @@ use Rattle.std.proofs.lemmas.List.{length_push}
 use Rattle.layout.specs.Version.{level_of}
 use Rattle.inode.proofs.EdgeLaws.{list_of_cut}
 use Rattle.inode.proofs.RoomLaws.{stores_pieces, stores_kept, keeps_level}
+use Rattle.std.proofs.lemmas.Bool.{cases_eq, cases_lt, false≢true}
+use Rattle.layout.proofs.ZeroLaws.{length-zeros}
+use Rattle.images.specs.Edges.{EndsIn}
+use Rattle.inode.proofs.ChangeLaws.{AreWhole, cut_level, kept_block, one_more, past_length, put_length, same_length}
 use Rattle.inode.proofs.file.File.prepare_cut.Goals as goal
 
 pub returns-then-keeps_last_block-clause-bytes : goal.returns-then-keeps_last_block-clause-bytes
@@ -31,11 +35,11 @@ returns-clause-sound g c = λ disk shows cuts.
 pub returns-in_err-block-clause-damaged : goal.returns-in_err-block-clause-damaged
 returns-in_err-block-clause-damaged g c = λ disk shows bad sound.
     c.in_err-block.ensures.damaged disk (c.in_ok-in_hole.ensures.reads.same disk shows) (search rules) (c.make_room.ensures.sound (g.B.Blocks.count c.ends_in_hole.new.blocks) disk (c.args.size / 4096)
-    (subst (λ (n : ℕ). IsSoundAt n disk c.args.self.now.tree (c.args.size / 4096)) (sym c.in_ok-in_hole.ensures.reads.count) (sound (c.args.size / 4096))))
+    (subst (λ (n : ℕ). IsSoundAt n disk c.args.self.now.tree (c.args.size / 4096)) (sym c.in_ok-in_hole.ensures.reads.count) (sound (c.keeps_last_block.ensures.cuts c.if-keeps_last_block.false))))
 
 pub returns-clause-bytes : goal.returns-clause-bytes
 returns-clause-bytes g c = λ disk shows whole p.
-    cut_laid_one (file_block disk c.args.self.now) c.args.size (c.args.size / 4096) (c.args.size % 4096) c.cut.new.self _ refl refl (c.keeps_last_block.ensures.within c.if-keeps_last_block.false) (search rules)
+    cut_laid_one (file_block disk c.args.self.now) c.args.size (c.args.size / 4096) (c.args.size % 4096) c.cut.new.self _ refl refl (c.keeps_last_block.ensures.cuts c.if-keeps_last_block.false).within (search rules)
     (λ r lt. c.cut.ensures.bytes r ∙ cut_same (slice_index c.in_ok-block.block) (slice_index (file_block disk c.args.self.now (c.args.size / 4096))) (c.args.size % 4096) r
     (ap (λ (b : List ℕ). slice_index b r) (c.in_ok-block.ensures.bytes disk (c.in_ok-in_hole.ensures.reads.same disk shows) ∙ c.make_room.ensures.same.blocks disk (c.args.size / 4096))))
     p
@@ -60,4 +64,59 @@ returns-clause-stores g c =
     let one : length c.push.new.self.items ≡ length c.new-pieces.result.items + 1 = ap length c.in_ok-push.ensures.items ∙ length_push c.new-pieces.result.items c.cut.new.self in
     stores_kept c.make_room.new.self _ 3 (omega (arith, none, one))
     (subst (λ (n : ℕ). (1 ≤ level_of n) ⊎ (level_of c.args.size ≡ 0)) (sym c.make_room.ensures.same.size)
-    (keeps_level c.args.self.now.size c.args.size (c.keeps_last_block.ensures.level c.if-keeps_last_block.false)))
+    (keeps_level c.args.self.now.size c.args.size (cut_level c.args.self.now.size c.args.size (c.keeps_last_block.ensures.cuts c.if-keeps_last_block.false).how)))
+
+-- a change without pieces
+none_put : (blocks : ℕ → List ℕ) (size : ℕ) (pieces : List (List ℕ)) (i : ℕ) → pieces ≡ [] → (i < size / 4096) ⊎ (size / 4096 + length pieces ≤ i)
+none_put blocks size pieces i none =
+    let few : length pieces ≡ 0 = ap length none in
+    elim (cases_lt i (size / 4096)) [
+      | inl below ↦ inl below
+      | inr reached ↦ inr (omega (arith, few, reached))
+    ]
+
+pub returns-then-keeps_last_block-clause-blocks : goal.returns-then-keeps_last_block-clause-blocks
+returns-then-keeps_last_block-clause-blocks g c = λ disk shows.
+    let blocks = file_block disk c.args.self.now in
+    let never : (i : ℕ) → EndsIn c.args.self.now.size c.args.size i → ⊥ = λ i is. false≢true (sym (c.keeps_last_block.ensures.only is.0) ∙ c.if-keeps_last_block.true) in
+    record {
+      read = λ i is. absurd (never i is);
+      put = λ i is. absurd (never i is);
+      past = λ i past. past_length blocks c.args.size (c.args.size / 4096) c.new-pieces.result.items i past;
+      rest = λ i out lt. kept_block blocks c.args.size (c.args.size / 4096) c.new-pieces.result.items i lt (none_put blocks c.args.size c.new-pieces.result.items i c.new-pieces.ensures.items);
+    }
+
+pub returns-then-in_hole-clause-blocks : goal.returns-then-in_hole-clause-blocks
+returns-then-in_hole-clause-blocks g c = λ disk shows.
+    let blocks = file_block disk c.args.self.now in
+    let hole : (i : ℕ) → EndsIn c.args.self.now.size c.args.size i → length (blocks i) ≡ 4096 =
+    λ i is. ap (λ (k : ℕ). length (blocks k)) is.1 ∙ ap length (c.in_ok-in_hole.ensures.hole disk shows c.if-in_hole.true) ∙ length-zeros 4096 in
+    record {
+      read = hole;
+      put = λ i is.
+          same_length blocks c.args.size (c.args.size / 4096) c.new-pieces.result.items i (none_put blocks c.args.size c.new-pieces.result.items i c.new-pieces.ensures.items) (hole i is);
+      past = λ i past. past_length blocks c.args.size (c.args.size / 4096) c.new-pieces.result.items i past;
+      rest = λ i out lt. kept_block blocks c.args.size (c.args.size / 4096) c.new-pieces.result.items i lt (none_put blocks c.args.size c.new-pieces.result.items i c.new-pieces.ensures.items);
+    }
+
+pub returns-clause-blocks : goal.returns-clause-blocks
+returns-clause-blocks g c = λ disk shows.
+    let blocks = file_block disk c.args.self.now in
+    let none : length c.new-pieces.result.items ≡ 0 = ap length c.new-pieces.ensures.items in
+    let one : length c.push.new.self.items ≡ length c.new-pieces.result.items + 1 = ap length c.in_ok-push.ensures.items ∙ length_push c.new-pieces.result.items c.cut.new.self in
+    let whole : AreWhole c.push.new.self.items =
+    one_more c.new-pieces.result.items c.push.new.self.items c.cut.new.self c.in_ok-push.ensures.items (λ j lt. absurd (omega (arith, none, lt))) c.cut.ensures.length in
+    record {
+      read = λ i is. ap (λ (k : ℕ). length (blocks k)) is.1
+          ∙ ap length (sym (c.in_ok-block.ensures.bytes disk (c.in_ok-in_hole.ensures.reads.same disk shows) ∙ c.make_room.ensures.same.blocks disk (c.args.size / 4096)))
+          ∙ c.in_ok-block.ensures.whole;
+      put = λ i is. put_length blocks c.args.size (c.args.size / 4096) c.push.new.self.items i (omega (arith, is.1)) (omega (arith, is.1, none, one)) whole;
+      past = λ i past. past_length blocks c.args.size (c.args.size / 4096) c.push.new.self.items i past;
+      rest = λ i out lt. kept_block blocks c.args.size (c.args.size / 4096) c.push.new.self.items i lt (elim (cases_lt i (c.args.size / 4096)) [
+        | inl below ↦ inl below
+        | inr reached ↦ elim (cases_eq i (c.args.size / 4096)) [
+          | inl is ↦ absurd (out (c.keeps_last_block.ensures.cuts c.if-keeps_last_block.false, is))
+          | inr other ↦ inr (omega (arith, none, one, reached, other))
+        ]
+      ]);
+    }

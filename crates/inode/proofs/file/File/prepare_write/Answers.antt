@@ -1,13 +1,15 @@
 use Rattle.std.proofs.Common.{rules, subst, arith, length, ◌∙◌, ap, slice_index, List, ℕ, refl, sym, ◌/◌, ◌+◌, ◌*◌, ◌%◌, ◌≡◌}
 use Rattle.buffers.specs.Positions.{with_bytes_at}
 use Rattle.std.proofs.lemmas.List.{length_push}
+use Rattle.blocktree.specs.Places.{block_count}
 use Rattle.blocktree.specs.Trees.{HasRoom, IsSoundAt}
-use Rattle.inode.specs.Edges.{IsPartlyWritten}
+use Rattle.images.specs.Edges.{IsPartlyWritten}
 use Rattle.inode.specs.Files.{file_block, byte_at}
 use Rattle.inode.proofs.BaseLaws.{same_itself, still_same}
 use Rattle.inode.proofs.BytePositions.{write_laid, piece_more, each_more, at_edge, written_same}
 use Rattle.inode.proofs.EdgeLaws.{list_of_write}
 use Rattle.inode.proofs.RoomLaws.{stores_pieces, touches}
+use Rattle.inode.proofs.ChangeLaws.{kept_block, one_more, past_length, put_length, written_in, written_out}
 use Rattle.inode.proofs.file.File.prepare_write.Given.{Over}
 use Rattle.inode.proofs.file.File.prepare_write.Goals as goal
 
@@ -33,6 +35,8 @@ loop-i-init g c = record {
   same = same_itself c.args.self.now;
   count = search rules;
   sound = search rules;
+  parts = search rules;
+  whole = search rules;
   room = search rules;
   bytes = search rules;
 }
@@ -48,6 +52,11 @@ loop-i-preserved g c = record {
       (λ part. c.loop-i.invariant.same.was_sound (g.B.Blocks.count c.args.blocks.now) disk c.loop-i.i
       (subst (λ (n : ℕ). IsSoundAt n disk c.loop-i.self.tree c.loop-i.i) c.loop-i.invariant.read.count
       (c.in_ok-block.ensures.read disk (c.loop-i.invariant.read.same disk shows) part)));
+  parts = λ disk shows.
+      each_more (λ i. IsPartlyWritten c.args.offset (length c.args.bytes.now) i → length (file_block disk c.args.self.now i) ≡ 4096)
+      (c.args.offset / 4096) (length c.loop-i.pieces.items) (length c.push.new.self.items) c.loop-i.i (more g c) c.loop-i.invariant.count (c.loop-i.invariant.parts disk shows)
+      (λ part. ap length (sym (c.loop-i.invariant.same.blocks disk c.loop-i.i)) ∙ c.in_ok-block.ensures.whole disk (c.loop-i.invariant.read.same disk shows) part);
+  whole = one_more c.loop-i.pieces.items c.push.new.self.items c.in_ok-block.block c.in_ok-push.ensures.items c.loop-i.invariant.whole c.in_ok-block.ensures.length;
   room = each_more (HasRoom c.new_block.new.self.tree) (c.args.offset / 4096) (length c.loop-i.pieces.items) (length c.push.new.self.items) c.loop-i.i (more g c) c.loop-i.invariant.count
       (λ j lt. c.in_ok-block.ensures.keeps (c.args.offset / 4096 + j) (c.loop-i.invariant.room j lt)) c.in_ok-block.ensures.room;
   bytes = λ disk shows. piece_more c.loop-i.pieces.items c.push.new.self.items c.in_ok-block.block (c.args.offset / 4096) c.loop-i.i (with_bytes_at (byte_at disk c.args.self.now) c.args.offset c.args.bytes.now) c.in_ok-push.ensures.items c.loop-i.invariant.count (c.loop-i.invariant.bytes disk shows)
@@ -69,5 +78,22 @@ returns-clause-stores g c =
 pub returns-in_err-block-clause-damaged : goal.returns-in_err-block-clause-damaged
 returns-in_err-block-clause-damaged g c = λ disk shows bad sound.
     c.in_err-block.ensures.damaged disk (c.loop-i.invariant.read.same disk shows) (search rules)
-    (subst (λ (n : ℕ). IsSoundAt n disk c.loop-i.self.tree c.loop-i.i) (sym c.loop-i.invariant.read.count)
-    (c.loop-i.invariant.same.sound (g.B.Blocks.count c.args.blocks.now) disk c.loop-i.i (sound c.loop-i.i)))
+    (λ part. subst (λ (n : ℕ). IsSoundAt n disk c.loop-i.self.tree c.loop-i.i) (sym c.loop-i.invariant.read.count)
+    (c.loop-i.invariant.same.sound (g.B.Blocks.count c.args.blocks.now) disk c.loop-i.i (sound c.loop-i.i part)))
+
+pub returns-clause-blocks : goal.returns-clause-blocks
+returns-clause-blocks g c = λ disk shows.
+    let blocks = file_block disk c.args.self.now in
+    let first = c.args.offset / 4096 in
+    let pieces = c.loop-i.pieces.items in
+    let are : c.args.offset / 4096 + length c.loop-i.pieces.items ≡ block_count (c.args.offset + length c.args.bytes.now) = search rules in
+    record {
+      read = λ i part.
+          at_edge (λ i. IsPartlyWritten c.args.offset (length c.args.bytes.now) i → length (file_block disk c.args.self.now i) ≡ 4096)
+          c.args.offset (length c.args.bytes.now) (length c.loop-i.pieces.items) i are (c.loop-i.invariant.parts disk shows) part part;
+      put = λ i is.
+          let (from, to) = written_in c.args.offset (length c.args.bytes.now) (length c.loop-i.pieces.items) i are is in
+          put_length blocks c.max.result first pieces i from to c.loop-i.invariant.whole;
+      past = λ i past. past_length blocks c.max.result first pieces i past;
+      rest = λ i out lt. kept_block blocks c.max.result first pieces i lt (written_out c.args.offset (length c.args.bytes.now) (length c.loop-i.pieces.items) i are c.requires out);
+    }

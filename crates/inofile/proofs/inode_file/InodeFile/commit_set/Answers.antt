@@ -1,4 +1,4 @@
-use Rattle.std.proofs.Common.{refl, ap, sym, subst, ◌≡◌, ◌+◌, ◌∙◌, ℕ, Some, IsSome, Bool}
+use Rattle.std.proofs.Common.{refl, ap, sym, subst, ◌≡◌, ◌+◌, ◌∙◌, Some, IsSome, Bool}
 use Rattle.std.specs.Ordering.{nat_cmp}
 use Rattle.std.specs.BTreeMap.{get}
 use Rattle.std.specs.Option.{option_map}

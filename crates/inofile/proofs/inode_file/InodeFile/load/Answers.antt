@@ -2,8 +2,8 @@ use Rattle.std.proofs.Common.{rules, ◌∙◌, ◌≡◌, sym, subst, ap, refl,
 use Rattle.std.proofs.lemmas.Bool.{false≢true}
 use Rattle.layout.specs.declared.inode.Inode.{Inode}
 use Rattle.images.specs.Nodes.{held}
+use Rattle.images.specs.Sizes.{StandsForIn}
 use Rattle.images.specs.Soundness.{IsHeldFile, IsOrdinary}
-use Rattle.inofile.specs.Objects.{StandsForIn}
 use Rattle.inofile.specs.Settled.{held_content, settled_content}
 use Rattle.inofile.specs.declared.inode_file.ObjectSlot.TheVariants.{Loaded}
 use Rattle.inofile.proofs.VolumeLaws.{all_stand, load_stands, load_same, unknown_stands}

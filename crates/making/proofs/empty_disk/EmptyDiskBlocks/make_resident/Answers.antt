@@ -1,4 +1,4 @@
-use Rattle.std.proofs.Common.{ℕ, List, length, ap, ◌∙◌}
+use Rattle.std.proofs.Common.{length, ap, ◌∙◌}
 use Rattle.layout.proofs.ZeroLaws.{length-zeros}
 use Rattle.making.proofs.empty_disk.EmptyDiskBlocks.make_resident.Goals as goal
 

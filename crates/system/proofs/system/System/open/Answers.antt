@@ -7,7 +7,7 @@ use Rattle.layout.specs.Places.{blocks_of}
 use Rattle.layout.specs.declared.root.Root.{Root}
 use Rattle.model.specs.Records.{without_nameless}
 use Rattle.model.specs.States.{Forgets}
-use Rattle.images.specs.Faults.{HasReadableFiles, IsFaultlessUnder}
+use Rattle.images.specs.Faults.{IsFaultlessUnder}
 use Rattle.images.specs.Roots.{whole}
 use Rattle.loading.specs.Slots.{FitsStation, IsNewestAt}
 use Rattle.replay.specs.Volumes.{bodies_of}
@@ -72,7 +72,7 @@ returns-in-Ok-clause-found g c honest =
     }) c.open_found.ensures.found
 
 pub returns-in-Ok-clause-faultless : goal.returns-in-Ok-clause-faultless
-returns-in-Ok-clause-faultless g c honest none readable =
+returns-in-Ok-clause-faultless g c honest none =
     let r = none.root in
     let m = g.S.Station.meaning c.args.station in
     let sized = g.met.S.Station.sized c.args.station honest m.seen (g.met.S.Station.seen_may_be_left c.args.station honest) in
@@ -83,11 +83,9 @@ returns-in-Ok-clause-faultless g c honest none readable =
     c.open_found.ensures.faultless went.honest of none.changes
     (subst (λ (i : Images). IsFaultlessUnder c.in-Ok.found.newest.root (whole (blocks_of i.disk) c.in-Ok.found.newest.root) i.nvram none.changes) (sym went.seen)
     (subst (λ (x : Root). IsFaultlessUnder x (whole (blocks_of m.seen.disk) x) m.seen.nvram none.changes) (sym is) none.under))
-    (subst (λ (i : Images). HasReadableFiles (whole (blocks_of i.disk) c.in-Ok.found.newest.root).active) (sym went.seen)
-    (subst (λ (x : Root). HasReadableFiles (whole (blocks_of m.seen.disk) x).active) (sym is) readable))
 
 pub returns-in-Err-clause-faultless : goal.returns-in-Err-clause-faultless
-returns-in-Err-clause-faultless g c honest none readable =
+returns-in-Err-clause-faultless g c honest none =
     let m = g.S.Station.meaning c.args.station in
     let sized = g.met.S.Station.sized c.args.station honest m.seen (g.met.S.Station.seen_may_be_left c.args.station honest) in
     let fits : FitsStation none.root m = record { sectors = none.roots.sizes.disk; nvram = sym sized.nvram ∙ none.roots.sizes.nvram } in

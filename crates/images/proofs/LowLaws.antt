@@ -1,0 +1,230 @@
+-- The volume of the lowest bytes: that of the same objects, where each number in a file is its lowest byte. Records of bytes do the same to
+-- both, and each block of a file can be read in it.
+use Rattle.std.proofs.Common.{◌≡◌, ◌⊎◌, inl, inr, ℕ, zero, suc, ◌+◌, ◌-◌, ◌*◌, ◌/◌, ◌%◌, ◌<◌, ◌≢◌, List, [], ◌∷◌, ◌++◌, length, map, take, drop, replicate, slice_index, Option, Some, None, Bool, true, false, IsSome, ◌||◌, ◌==◌, if◌then◌else◌, refl, ap, sym, subst, ◌∙◌, arith}
+use Rattle.std.proofs.Math.Path.{fun_ext}
+use Rattle.std.proofs.lemmas.List.{map-append, take-map, drop-map, length-map}
+use Rattle.layout.specs.Bytes.{IsBytes}
+use Rattle.layout.specs.Record.{IsChange}
+use Rattle.model.specs.Counting.{Counts}
+use Rattle.model.specs.Edits.{resized, written}
+use Rattle.model.specs.Paths.{Name}
+use Rattle.model.specs.Records.{Applies, CanReplace, Change, IsBelow, IsEmpty, Made, TakesName, applied, change_mode, create, cut, directory, file, is_vacant, link, node_of, rename, symbolic_link, unname, with_file_bytes, with_node_mode, write}
+use Rattle.model.specs.Volumes.{Entries, Node, Volume, directory_node, entries, file_node, is_directory_node, is_file_node, link_node, names_in, released, set_name, with_entry, with_name_less, with_name_more, with_node}
+use Rattle.model.specs.declared.limits.TheConstants.{DIRECTORY_NAMES}
+use Rattle.model.proofs.MoveLemmas.{bytes_by, bytes_names}
+use Rattle.images.specs.Replaying.{LeavesPlace, ReadsParts, bytes_of_node}
+
+unfoldable pub low_bytes : List ℕ → List ℕ
+low_bytes bytes = map (λ b. b % 256) bytes
+
+abbrev pub low_node : Option Node → Option Node
+low_node o = with_file_bytes low_bytes o
+
+abbrev pub low : Volume → Volume
+low v n = low_node (v n)
+
+-- ---- bytes
+
+pub length-low : (bytes : List ℕ) → length (low_bytes bytes) ≡ length bytes
+unfolding low_bytes
+length-low bytes = length-map bytes (λ b. b % 256)
+
+pub low_byte : (bytes : List ℕ) (k : ℕ) → slice_index (low_bytes bytes) k < 256
+unfolding low_bytes
+low_byte [] k = omega arith
+low_byte (b ∷ bytes) zero = omega arith
+low_byte (b ∷ bytes) (suc k) = low_byte bytes k
+
+low_same : (bytes : List ℕ) → IsBytes bytes → low_bytes bytes ≡ bytes
+unfolding low_bytes
+low_same [] are = refl
+low_same (b ∷ bytes) are =
+    let first : b % 256 ≡ b = let small : b < 256 = are 0 in omega (arith, small) in
+    let rest = low_same bytes (λ i. are (suc i)) in
+    λ i. first i ∷ rest i
+
+low_zeros : (n : ℕ) → low_bytes (replicate n 0) ≡ replicate n 0
+unfolding low_bytes
+low_zeros zero = refl
+low_zeros (suc n) = ap (λ (xs : List ℕ). 0 ∷ xs) (low_zeros n)
+
+low_resized : (size : ℕ) (bytes : List ℕ) → low_bytes (resized size bytes) ≡ resized size (low_bytes bytes)
+unfolding low_bytes
+low_resized size bytes =
+    map-append (λ b. b % 256) (take size bytes) (replicate (size - length bytes) 0)
+    ∙ ap (λ (xs : List ℕ). xs ++ low_bytes (replicate (size - length bytes) 0)) (sym (take-map (λ b. b % 256) size bytes))
+    ∙ ap (λ (xs : List ℕ). take size (low_bytes bytes) ++ xs) (low_zeros (size - length bytes))
+    ∙ ap (λ (n : ℕ). take size (low_bytes bytes) ++ replicate (size - n) 0) (sym (length-low bytes))
+
+low_written : (offset : ℕ) (given bytes : List ℕ) → IsBytes given → low_bytes (written offset given bytes) ≡ written offset given (low_bytes bytes)
+unfolding low_bytes
+low_written offset given bytes are =
+    let behind = drop (offset + length given) bytes in
+    map-append (λ b. b % 256) (resized offset bytes ++ given) behind
+    ∙ ap (λ (xs : List ℕ). xs ++ low_bytes behind) (map-append (λ b. b % 256) (resized offset bytes) given
+    ∙ ap (λ (xs : List ℕ). xs ++ low_bytes given) (low_resized offset bytes)
+    ∙ ap (λ (xs : List ℕ). resized offset (low_bytes bytes) ++ xs) (low_same given are))
+    ∙ ap (λ (xs : List ℕ). (resized offset (low_bytes bytes) ++ given) ++ xs) (sym (drop-map (λ b. b % 256) (offset + length given) bytes))
+
+-- ---- what a record makes of both
+
+-- a function of objects does the same before and behind
+Commutes : (Option Node → Option Node) → Type 0
+Commutes f = (o : Option Node) → low_node (f o) ≡ f (low_node o)
+
+named : (x : Name) (to : Option ℕ) → Commutes (set_name x to)
+unfolding Commutes
+named x to None = refl
+named x to (Some (directory_node mode names)) = refl
+named x to (Some (file_node mode links bytes)) = refl
+named x to (Some (link_node text)) = refl
+
+more : Commutes with_name_more
+unfolding Commutes
+more None = refl
+more (Some (directory_node mode names)) = refl
+more (Some (file_node mode links bytes)) = refl
+more (Some (link_node text)) = refl
+
+less : Commutes with_name_less
+unfolding Commutes
+less None = refl
+less (Some (directory_node mode names)) = refl
+less (Some (file_node mode links bytes)) = refl
+less (Some (link_node text)) = refl
+
+moded : (bits : ℕ) → Commutes (with_node_mode bits)
+unfolding Commutes
+moded bits None = refl
+moded bits (Some (directory_node mode names)) = refl
+moded bits (Some (file_node mode links bytes)) = refl
+moded bits (Some (link_node text)) = refl
+
+with_bytes : (f : List ℕ → List ℕ) → ((bytes : List ℕ) → low_bytes (f bytes) ≡ f (low_bytes bytes)) → Commutes (with_file_bytes f)
+unfolding Commutes
+with_bytes f same None = refl
+with_bytes f same (Some (directory_node mode names)) = refl
+with_bytes f same (Some (file_node mode links bytes)) = ap (λ (b : List ℕ). Some (file_node mode links b)) (same bytes)
+with_bytes f same (Some (link_node text)) = refl
+
+made_low : (made : Made) → low_node (Some (node_of made)) ≡ Some (node_of made)
+unfolding low_bytes
+made_low (file mode) = refl
+made_low (directory mode) = refl
+made_low (symbolic_link text) = refl
+
+pub low_entries : (v : Volume) → entries (low v) ≡ entries v
+low_entries v = fun_ext (λ n. fun_ext (λ x. bytes_names low_bytes (v n) x))
+
+node_low : (n : ℕ) (o : Option Node) (v : Volume) → low (with_node n o v) ≡ with_node n (low_node o) (low v)
+node_low n o v = fun_ext (λ k. chosen (k == n) o (v k))
+  where
+    chosen : (b : Bool) (x y : Option Node) → low_node (if b then x else y) ≡ (if b then low_node x else low_node y)
+    chosen true x y = refl
+    chosen false x y = refl
+
+change_low : (f : Option Node → Option Node) → Commutes f → (n : ℕ) (v : Volume) → low (with_node n (f (v n)) v) ≡ with_node n (f (low v n)) (low v)
+unfolding Commutes
+change_low f same n v = node_low n (f (v n)) v ∙ ap (λ (o : Option Node). with_node n o (low v)) (same (v n))
+
+released_low : (o : Option ℕ) (v : Volume) → low (released o v) ≡ released o (low v)
+released_low None v = refl
+released_low (Some n) v = change_low with_name_less less n v
+
+entry_low : (d : ℕ) (x : Name) (to : Option ℕ) (v w : Volume) → low v ≡ w → low (with_entry d x to v) ≡ with_entry d x to w
+entry_low d x to v w same = change_low (set_name x to) (named x to) d v ∙ ap (λ (u : Volume). with_entry d x to u) same
+
+pub low_applied : (change : Change) (v : Volume) → IsChange change → low (applied change v) ≡ applied change (low v)
+low_applied (create number parent made name) v is =
+    entry_low parent name (Some number) _ _ (node_low number (Some (node_of made)) v ∙ ap (λ (o : Option Node). with_node number o (low v)) (made_low made))
+low_applied (link number parent name) v is = entry_low parent name (Some number) _ _ (change_low with_name_more more number v)
+low_applied (unname parent name) v is =
+    entry_low parent name None _ _ (released_low (entries v parent name) v ∙ ap (λ (e : Entries). released (e parent name) (low v)) (sym (low_entries v)))
+low_applied (rename d x k y) v is =
+    entry_low k y (entries v d x) _ _ (entry_low d x None _ _ (released_low (entries v k y) v ∙ ap (λ (e : Entries). released (e k y) (low v)) (sym (low_entries v))))
+    ∙ ap (λ (e : Entries). with_entry k y (e d x) (with_entry d x None (released (entries (low v) k y) (low v)))) (sym (low_entries v))
+low_applied (write number offset bytes) v is = change_low (with_file_bytes (written offset bytes)) (with_bytes (written offset bytes) (λ b. low_written offset bytes b is.fields.1)) number v
+low_applied (cut number size) v is = change_low (with_file_bytes (resized size)) (with_bytes (resized size) (low_resized size)) number v
+low_applied (change_mode number mode) v is = change_low (with_node_mode mode) (moded mode) number v
+
+-- ---- a record that applies to the one applies to the other
+
+vacant_alike : (mode links : ℕ) (a b : List ℕ) → is_vacant (Some (file_node mode links a)) ≡ is_vacant (Some (file_node mode links b))
+vacant_alike mode zero a b = refl
+vacant_alike mode (suc links) a b = refl
+
+module _ (v : Volume) where
+  abbrev Low : (Entries → Type 0) → Type 0
+  Low P = P (entries v) → P (entries (low v))
+
+  by_entries : (P : Entries → Type 0) → Low P
+  by_entries P = subst P (sym (low_entries v))
+
+  is_directory : (n : ℕ) → is_directory_node (low v n) ≡ is_directory_node (v n)
+  is_directory n = bytes_by is_directory_node (λ mode links a b. refl) low_bytes (v n)
+
+  is_file : (n : ℕ) → is_file_node (low v n) ≡ is_file_node (v n)
+  is_file n = bytes_by is_file_node (λ mode links a b. refl) low_bytes (v n)
+
+  takes : (d : ℕ) (x : Name) → TakesName v d x → TakesName (low v) d x
+  takes d x t = record {
+    directory = is_directory d ∙ t.directory;
+    missing = by_entries (λ e. e d x ≡ None) t.missing;
+    name = t.name;
+    count = t.count;
+    counts = by_entries (λ e. Counts (λ (y : Name). IsSome (e d y)) t.count) t.counts;
+    room = t.room;
+  }
+
+  empty : (n : ℕ) → IsEmpty v n → IsEmpty (low v) n
+  empty n = by_entries (λ e. (x : Name) → e n x ≡ None)
+
+  replaces : (d k : ℕ) (y : Name) (n : ℕ) (o : Option ℕ) → CanReplace v d k y n o → CanReplace (low v) d k y n o
+  replaces d k y n None (inl same) = inl same
+  replaces d k y n None (inr t) = inr (takes k y t)
+  replaces d k y n (Some m) (other, kinds, none) = (other, is_directory m ∙ kinds ∙ sym (is_directory n), empty m none)
+
+  pub low_applies : (inodes : ℕ) (change : Change) → Applies inodes v change → Applies inodes (low v) change
+  low_applies inodes (create number parent made name) c =
+      record { low = c.low; high = c.high; vacant = bytes_by is_vacant vacant_alike low_bytes (v number) ∙ c.vacant; takes = takes parent name c.takes; good = c.good }
+  low_applies inodes (link number parent name) c =
+      record { mode = c.mode; links = c.links; bytes = low_bytes c.bytes; file = ap low_node c.file; few = c.few; takes = takes parent name c.takes }
+  low_applies inodes (unname parent name) c =
+      record { number = c.number; there = by_entries (λ e. e parent name ≡ Some c.number) c.there; empty = empty c.number c.empty }
+  low_applies inodes (rename d x k y) c = record {
+    number = c.number;
+    there = by_entries (λ e. e d x ≡ Some c.number) c.there;
+    directory = is_directory k ∙ c.directory;
+    name = c.name;
+    outside = by_entries (λ e. ¬ IsBelow e c.number k) c.outside;
+    replaces = by_entries (λ e. CanReplace (low v) d k y c.number (e k y)) (replaces d k y c.number (entries v k y) c.replaces);
+  }
+  low_applies inodes (write number offset bytes) can = (is_file number ∙ can.0, can.1, can.2, can.3)
+  low_applies inodes (cut number size) can = (is_file number ∙ can.0, can.1)
+  low_applies inodes (change_mode number mode) can =
+      (bytes_by (λ o. is_file_node o || is_directory_node o) (λ mode links a b. refl) low_bytes (v number) ∙ can.0, can.1)
+
+  pub low_place : (change : Change) → LeavesPlace v change → LeavesPlace (low v) change
+  low_place (create number parent made name) place = tt
+  low_place (link number parent name) place = tt
+  low_place (unname parent name) place = tt
+  low_place (rename d x k y) place = by_entries
+      (λ e. (count : ℕ) × Counts (λ (z : Name). IsSome (e k z) × (z ≢ y) × (d ≡ k → z ≢ x)) count × (count < DIRECTORY_NAMES)) place
+  low_place (write number offset bytes) place = tt
+  low_place (cut number size) place = tt
+  low_place (change_mode number mode) place = tt
+
+  read : (o : Option Node) (k : ℕ) → slice_index (bytes_of_node (low_node o)) k < 256
+  read None k = omega arith
+  read (Some (directory_node mode names)) k = omega arith
+  read (Some (file_node mode links bytes)) k = low_byte bytes k
+  read (Some (link_node text)) k = omega arith
+
+  pub low_reads : (change : Change) → ReadsParts (low v) change
+  low_reads (create number parent made name) = tt
+  low_reads (link number parent name) = tt
+  low_reads (unname parent name) = tt
+  low_reads (rename d x k y) = tt
+  low_reads (write number offset bytes) = λ i part. read (v number) (4096 * i)
+  low_reads (cut number size) = λ cuts. read (v number) (4096 * (size / 4096))
+  low_reads (change_mode number mode) = tt
